@@ -1,0 +1,15 @@
+//! The lines of a report, one variant a form.
+
+use crate::msg::Msg;
+use zr_id::zid::Zid;
+
+/// What was seen of one step. A tag is the number of the script line that the message comes from.
+#[derive(Debug, Drop)]
+pub enum ReportLine {
+    /// A router has handled a message of a client.
+    Handled { router: Zid, from: Zid, msg: Msg, tag: u64 },
+    /// A router's message was sent to a client.
+    Taken { router: Zid, to: Zid, msg: Msg, tag: u64 },
+    /// A phase has begun with this line.
+    Mark { line: u64 },
+}

@@ -1,0 +1,62 @@
+-- The run of a script: a fold over its lines, which stops at the first one that is refused.
+use Rattle.std.specs.Prelude.{ℕ, ◌+◌, Bool, if◌then◌else◌, List, [], ◌++◌, take, Option, Some, None, is_some, Result, Ok, Err}
+use Rattle.std.specs.List.{fold}
+use Rattle.zr_msg.specs.declared.error.ScriptError.{ScriptError}
+use Rattle.zr_msg.specs.declared.command.Command.{Command}
+use Rattle.zr_msg.specs.declared.report.ReportLine.{ReportLine}
+use Rattle.zr_network.specs.Lines.{lines, ended_lines}
+use Rattle.zr_network.specs.Command.{command_of}
+use Rattle.zr_network.specs.World.{WorldState, Outcome, empty_world, outcome}
+use Rattle.zr_network.specs.Report.{line_text}
+
+-- a script up to a line
+pub record Run : Type 0 where
+  pub world : WorldState
+  -- how many lines were read, a refused one among them
+  pub number : ℕ
+  -- the report so far
+  pub text : List ℕ
+  -- why the last of these lines was refused, if it was: then no line after it counts
+  pub refusal : Option ScriptError
+
+abbrev pub start : Run
+start = record { world = empty_world; number = 0; text = []; refusal = None }
+
+-- the text of a report line, if there is one
+abbrev pub told : Option ReportLine → List ℕ
+told None = []
+told (Some line) = line_text line
+
+-- what a step did to the run
+abbrev pub stepped : Run → Outcome → Run
+stepped r (Ok x) = record { world = x.1; number = r.number + 1; text = r.text ++ told x.0; refusal = None }
+stepped r (Err e) = record { world = r.world; number = r.number + 1; text = r.text; refusal = Some e }
+
+-- what a line's command did to the run
+abbrev pub commanded : Run → Result Command ScriptError → Run
+commanded r (Ok command) = stepped r (outcome r.world (r.number + 1) command)
+commanded r (Err e) = record { world = r.world; number = r.number + 1; text = r.text; refusal = Some e }
+
+-- one more line
+abbrev pub on_line : Run → List ℕ → Run
+on_line r line = if is_some r.refusal then r else commanded r (command_of line)
+
+-- the run of some lines
+abbrev pub run_lines : List (List ℕ) → Run
+run_lines ls = fold on_line start ls
+
+-- the run of a whole script
+abbrev pub run_of : List ℕ → Run
+run_of bytes = run_lines (lines bytes)
+
+-- the run of the lines that end within the bytes
+abbrev pub run_of_ended : List ℕ → Run
+run_of_ended bytes = run_lines (ended_lines bytes)
+
+-- how many bytes a script has at most
+abbrev pub most_bytes : ℕ
+most_bytes = 67108864
+
+-- the bytes that count: those within the limit
+abbrev pub within : List ℕ → List ℕ
+within bytes = take most_bytes bytes

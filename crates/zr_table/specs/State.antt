@@ -1,0 +1,23 @@
+-- The state of a router as plain data.
+use Rattle.std.specs.Prelude.{ℕ, Bool, false, List, []}
+use Rattle.zr_id.specs.declared.link.LinkNo.{LinkNo}
+
+-- what a client has declared under an id of its own: it subscribes to a key
+pub record Subscription : Type 0 where
+  pub id : ℕ
+  pub key : List ℕ
+
+-- a link that is up, with what its client has declared, the latest last
+pub record LinkState : Type 0 where
+  pub link : LinkNo
+  pub subs : List Subscription
+
+-- a router: its links in the order in which they came up
+pub record NodeState : Type 0 where
+  pub links : List LinkState
+  -- an earlier event wanted memory and had none: nothing is said of the links, and the router answers no more
+  pub spent : Bool
+
+-- a router without links
+abbrev pub new_node : NodeState
+new_node = record { links = []; spent = false }
