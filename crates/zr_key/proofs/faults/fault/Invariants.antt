@@ -3,7 +3,7 @@ use Rattle.std.proofs.Common.{◌≡◌, ◌+◌, length}
 use Rattle.std.specs.Option.{option_copied, option_map_or}
 use Rattle.zr_text.specs.Cut.{parts}
 use Rattle.zr_key.specs.Key.{first_fault, chunks}
-use Rattle.zr_key.proofs.key.fault.Given as goal
+use Rattle.zr_key.proofs.faults.fault.Given as goal
 
 abbrev pub invariant-loop-rest : goal.invariant-loop-rest
 invariant-loop-rest l = first_fault (parts 47 (option_copied l.rest)) ≡ first_fault (chunks l.text)
