@@ -4,3 +4,8 @@ pub mod Command
 pub mod World
 pub mod Report
 pub mod Run
+pub mod Phase
+pub mod Broker
+pub mod Moments
+pub mod Refines
+pub mod Accepted

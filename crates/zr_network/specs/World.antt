@@ -189,11 +189,14 @@ client_step w id router = do
     joined r =
         if is_taken w id then Err NameTaken
         else if nat_le most_clients (length w.names) then Err Limit
-        else Ok (None, record {
+        else Ok (
+          None,
+          record {
             routers = with_router w.routers router (record { node = after r.node (Up (record { 0 = length w.names })); weight = r.weight });
             clients = insert_entry (slice_cmp nat_cmp) w.clients id (record { router = router; link = length w.names; ids = []; wire = []; queue = [] });
             names = w.names ++ id ∷ [];
-        })
+          },
+        )
 
 -- a client declares a subscriber under a new id
 unfoldable pub sub_step : WorldState → ℕ → List ℕ → ℕ → List ℕ → Outcome
@@ -205,11 +208,15 @@ sub_step w line name id key = do
     weighed s None = Err UnknownName
     weighed s (Some r) =
         if nat_lt most_weight (r.weight + weight_of key) then Err Limit
-        else Ok (None, record {
+        else Ok (
+          None,
+          record {
             routers = with_router w.routers s.router (record { node = r.node; weight = r.weight + weight_of key });
             clients = with_client w.clients name (sent (declaring s id) (m.Sub id key) line);
             names = w.names;
-        })
+          },
+        )
+
     fresh : ClientState → Outcome
     fresh s = if list_any (λ i. i == id) s.ids then Err NameTaken else weighed s (router_of w.routers s.router)
 
@@ -225,11 +232,14 @@ handle_step w router from = do
   r ← router_at (router_of w.routers router)
   s ← end_at (client_of w.clients from) (is_some (router_of w.routers from)) router
   x ← oldest s.wire
-  Ok (Some (Handled router from x.0.msg x.0.tag), record {
-    routers = with_router w.routers router (record { node = after r.node (From (record { 0 = s.link }) x.0.msg); weight = r.weight });
-    clients = all_queued (with_client w.clients from (with_wire s x.1)) w.names (sends r.node (From (record { 0 = s.link }) x.0.msg)) x.0.tag;
-    names = w.names;
-  })
+  Ok (
+    Some (Handled router from x.0.msg x.0.tag),
+    record {
+      routers = with_router w.routers router (record { node = after r.node (From (record { 0 = s.link }) x.0.msg); weight = r.weight });
+      clients = all_queued (with_client w.clients from (with_wire s x.1)) w.names (sends r.node (From (record { 0 = s.link }) x.0.msg)) x.0.tag;
+      names = w.names;
+    },
+  )
 
 -- a router's oldest queued message for a client is sent to it
 unfoldable pub take_step : WorldState → List ℕ → List ℕ → Outcome

@@ -1,0 +1,5 @@
+//! Laws of the network: theorems over its definitions, each the `ensures` of a function without parameters and with an
+//! empty body. Who needs a law calls its function.
+#![tactic(auto)]
+
+pub mod rows;
