@@ -169,56 +169,78 @@ abbrev pub oldest : List Tagged → Result (Tagged × List Tagged) ScriptError
 oldest [] = Err NothingThere
 oldest (x ∷ more) = Ok (x, more)
 
--- a router without links; at this stage a world has one
+-- a name that nobody has yet
+abbrev pub free_name : WorldState → List ℕ → Result (Unit {0}) ScriptError
+free_name w name = if is_taken w name then Err NameTaken else Ok tt
+
+-- at this stage a world has one router
+abbrev pub first_router : Routers → Result (Unit {0}) ScriptError
+first_router [] = Ok tt
+first_router (r ∷ more) = Err Limit
+
+-- room for one more client
+abbrev pub room_for_client : List (List ℕ) → Result (Unit {0}) ScriptError
+room_for_client names = if nat_le most_clients (length names) then Err Limit else Ok tt
+
+-- an id that the client hasn't declared
+abbrev pub fresh_id : ClientState → ℕ → Result (Unit {0}) ScriptError
+fresh_id s id = if list_any (λ i. i == id) s.ids then Err NameTaken else Ok tt
+
+-- room for what one more declaration weighs
+abbrev pub room_for_key : RouterState → List ℕ → Result (Unit {0}) ScriptError
+room_for_key r key = if nat_lt most_weight (r.weight + weight_of key) then Err Limit else Ok tt
+
+-- a router without links
+abbrev pub new_router : RouterState
+new_router = record { node = new_node; weight = 0 }
+
+-- a link of the router has come up
+abbrev pub linked : RouterState → ℕ → RouterState
+linked r link = record { node = after r.node (Up (record { 0 = link })); weight = r.weight }
+
+-- one more declaration weighs on the router
+abbrev pub weighing : RouterState → List ℕ → RouterState
+weighing r key = record { node = r.node; weight = r.weight + weight_of key }
+
+-- a message has come to the router over a link
+abbrev pub having : RouterState → ℕ → Msg → RouterState
+having r link msg = record { node = after r.node (From (record { 0 = link }) msg); weight = r.weight }
+
+-- a client of the router, which has its place among the names as link number
+abbrev pub new_client : List ℕ → ℕ → ClientState
+new_client router link = record { router = router; link = link; ids = []; wire = []; queue = [] }
+
+-- a router without links
 unfoldable pub router_step : WorldState → List ℕ → Outcome
-router_step w id =
-    if is_taken w id then Err NameTaken
-    else router_first w.routers
-  where
-    router_first : Routers → Outcome
-    router_first [] = Ok (None, record { routers = insert_entry (slice_cmp nat_cmp) w.routers id (record { node = new_node; weight = 0 }); clients = w.clients; names = w.names })
-    router_first (r ∷ more) = Err Limit
+router_step w id = do
+  u ← free_name w id
+  v ← first_router w.routers
+  Ok (None, record { routers = insert_entry (slice_cmp nat_cmp) w.routers id new_router; clients = w.clients; names = w.names })
 
 -- a client whose link is up at once
 unfoldable pub client_step : WorldState → List ℕ → List ℕ → Outcome
 client_step w id router = do
   r ← router_at (router_of w.routers router)
-  joined r
-  where
-    joined : RouterState → Outcome
-    joined r =
-        if is_taken w id then Err NameTaken
-        else if nat_le most_clients (length w.names) then Err Limit
-        else Ok (
-          None,
-          record {
-            routers = with_router w.routers router (record { node = after r.node (Up (record { 0 = length w.names })); weight = r.weight });
-            clients = insert_entry (slice_cmp nat_cmp) w.clients id (record { router = router; link = length w.names; ids = []; wire = []; queue = [] });
-            names = w.names ++ id ∷ [];
-          },
-        )
+  u ← free_name w id
+  v ← room_for_client w.names
+  Ok (None, record {
+    routers = with_router w.routers router (linked r (length w.names));
+    clients = insert_entry (slice_cmp nat_cmp) w.clients id (new_client router (length w.names));
+    names = w.names ++ id ∷ [];
+  })
 
 -- a client declares a subscriber under a new id
 unfoldable pub sub_step : WorldState → ℕ → List ℕ → ℕ → List ℕ → Outcome
 sub_step w line name id key = do
   s ← client_at (client_of w.clients name)
-  fresh s
-  where
-    weighed : ClientState → Option RouterState → Outcome
-    weighed s None = Err UnknownName
-    weighed s (Some r) =
-        if nat_lt most_weight (r.weight + weight_of key) then Err Limit
-        else Ok (
-          None,
-          record {
-            routers = with_router w.routers s.router (record { node = r.node; weight = r.weight + weight_of key });
-            clients = with_client w.clients name (sent (declaring s id) (m.Sub id key) line);
-            names = w.names;
-          },
-        )
-
-    fresh : ClientState → Outcome
-    fresh s = if list_any (λ i. i == id) s.ids then Err NameTaken else weighed s (router_of w.routers s.router)
+  u ← fresh_id s id
+  r ← router_at (router_of w.routers s.router)
+  v ← room_for_key r key
+  Ok (None, record {
+    routers = with_router w.routers s.router (weighing r key);
+    clients = with_client w.clients name (sent (declaring s id) (m.Sub id key) line);
+    names = w.names;
+  })
 
 -- a client publishes a sample
 unfoldable pub put_step : WorldState → ℕ → List ℕ → List ℕ → List ℕ → Outcome
@@ -232,14 +254,11 @@ handle_step w router from = do
   r ← router_at (router_of w.routers router)
   s ← end_at (client_of w.clients from) (is_some (router_of w.routers from)) router
   x ← oldest s.wire
-  Ok (
-    Some (Handled router from x.0.msg x.0.tag),
-    record {
-      routers = with_router w.routers router (record { node = after r.node (From (record { 0 = s.link }) x.0.msg); weight = r.weight });
-      clients = all_queued (with_client w.clients from (with_wire s x.1)) w.names (sends r.node (From (record { 0 = s.link }) x.0.msg)) x.0.tag;
-      names = w.names;
-    },
-  )
+  Ok (Some (Handled router from x.0.msg x.0.tag), record {
+    routers = with_router w.routers router (having r s.link x.0.msg);
+    clients = all_queued (with_client w.clients from (with_wire s x.1)) w.names (sends r.node (From (record { 0 = s.link }) x.0.msg)) x.0.tag;
+    names = w.names;
+  })
 
 -- a router's oldest queued message for a client is sent to it
 unfoldable pub take_step : WorldState → List ℕ → List ℕ → Outcome
