@@ -188,7 +188,7 @@ fresh_id s id = if list_any (λ i. i == id) s.ids then Err NameTaken else Ok tt
 
 -- room for what one more declaration weighs
 abbrev pub room_for_key : RouterState → List ℕ → Result (Unit {0}) ScriptError
-room_for_key r key = if nat_lt most_weight (r.weight + weight_of key) then Err Limit else Ok tt
+room_for_key r key = if nat_le (r.weight + weight_of key) most_weight then Ok tt else Err Limit
 
 -- a router without links
 abbrev pub new_router : RouterState
@@ -223,11 +223,14 @@ client_step w id router = do
   r ← router_at (router_of w.routers router)
   u ← free_name w id
   v ← room_for_client w.names
-  Ok (None, record {
-    routers = with_router w.routers router (linked r (length w.names));
-    clients = insert_entry (slice_cmp nat_cmp) w.clients id (new_client router (length w.names));
-    names = w.names ++ id ∷ [];
-  })
+  Ok (
+    None,
+    record {
+      routers = with_router w.routers router (linked r (length w.names));
+      clients = insert_entry (slice_cmp nat_cmp) w.clients id (new_client router (length w.names));
+      names = w.names ++ id ∷ [];
+    },
+  )
 
 -- a client declares a subscriber under a new id
 unfoldable pub sub_step : WorldState → ℕ → List ℕ → ℕ → List ℕ → Outcome
@@ -236,11 +239,14 @@ sub_step w line name id key = do
   u ← fresh_id s id
   r ← router_at (router_of w.routers s.router)
   v ← room_for_key r key
-  Ok (None, record {
-    routers = with_router w.routers s.router (weighing r key);
-    clients = with_client w.clients name (sent (declaring s id) (m.Sub id key) line);
-    names = w.names;
-  })
+  Ok (
+    None,
+    record {
+      routers = with_router w.routers s.router (weighing r key);
+      clients = with_client w.clients name (sent (declaring s id) (m.Sub id key) line);
+      names = w.names;
+    },
+  )
 
 -- a client publishes a sample
 unfoldable pub put_step : WorldState → ℕ → List ℕ → List ℕ → List ℕ → Outcome
@@ -254,11 +260,14 @@ handle_step w router from = do
   r ← router_at (router_of w.routers router)
   s ← end_at (client_of w.clients from) (is_some (router_of w.routers from)) router
   x ← oldest s.wire
-  Ok (Some (Handled router from x.0.msg x.0.tag), record {
-    routers = with_router w.routers router (having r s.link x.0.msg);
-    clients = all_queued (with_client w.clients from (with_wire s x.1)) w.names (sends r.node (From (record { 0 = s.link }) x.0.msg)) x.0.tag;
-    names = w.names;
-  })
+  Ok (
+    Some (Handled router from x.0.msg x.0.tag),
+    record {
+      routers = with_router w.routers router (having r s.link x.0.msg);
+      clients = all_queued (with_client w.clients from (with_wire s x.1)) w.names (sends r.node (From (record { 0 = s.link }) x.0.msg)) x.0.tag;
+      names = w.names;
+    },
+  )
 
 -- a router's oldest queued message for a client is sent to it
 unfoldable pub take_step : WorldState → List ℕ → List ℕ → Outcome
