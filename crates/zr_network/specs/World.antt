@@ -186,10 +186,6 @@ room_for_client names = if nat_le most_clients (length names) then Err Limit els
 abbrev pub fresh_id : ClientState → ℕ → Result (Unit {0}) ScriptError
 fresh_id s id = if list_any (λ i. i == id) s.ids then Err NameTaken else Ok tt
 
--- room for what one more declaration weighs
-abbrev pub room_for_key : RouterState → List ℕ → Result (Unit {0}) ScriptError
-room_for_key r key = if nat_le (r.weight + weight_of key) most_weight then Ok tt else Err Limit
-
 -- a router without links
 abbrev pub new_router : RouterState
 new_router = record { node = new_node; weight = 0 }
@@ -201,6 +197,12 @@ linked r link = record { node = after r.node (Up (record { 0 = link })); weight 
 -- one more declaration weighs on the router
 abbrev pub weighing : RouterState → List ℕ → RouterState
 weighing r key = record { node = r.node; weight = r.weight + weight_of key }
+
+-- the declaration of a key weighs on its router, if there is room for it
+abbrev pub weighed : Routers → List ℕ → List ℕ → Option RouterState → Result Routers ScriptError
+weighed routers name key None = Err UnknownName
+weighed routers name key (Some r) =
+    if nat_le (r.weight + weight_of key) most_weight then Ok (with_router routers name (weighing r key)) else Err Limit
 
 -- a message has come to the router over a link
 abbrev pub having : RouterState → ℕ → Msg → RouterState
@@ -237,16 +239,8 @@ unfoldable pub sub_step : WorldState → ℕ → List ℕ → ℕ → List ℕ �
 sub_step w line name id key = do
   s ← client_at (client_of w.clients name)
   u ← fresh_id s id
-  r ← router_at (router_of w.routers s.router)
-  v ← room_for_key r key
-  Ok (
-    None,
-    record {
-      routers = with_router w.routers s.router (weighing r key);
-      clients = with_client w.clients name (sent (declaring s id) (m.Sub id key) line);
-      names = w.names;
-    },
-  )
+  routers ← weighed w.routers s.router key (router_of w.routers s.router)
+  Ok (None, record { routers = routers; clients = with_client w.clients name (sent (declaring s id) (m.Sub id key) line); names = w.names })
 
 -- a client publishes a sample
 unfoldable pub put_step : WorldState → ℕ → List ℕ → List ℕ → List ℕ → Outcome
