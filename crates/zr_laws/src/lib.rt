@@ -2,4 +2,5 @@
 //! empty body. Who needs a law calls its function.
 #![tactic(auto)]
 
+pub mod refines;
 pub mod rows;
