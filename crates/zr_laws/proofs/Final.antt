@@ -29,7 +29,7 @@ use Rattle.zr_msg.specs.declared.report.ReportLine.TheVariants as line
 -- ---- to the mark
 
 -- nothing follows a refused line
-refused_stays : (lines : List Numbered) → fold onward None lines ≡ None
+pub refused_stays : (lines : List Numbered) → fold onward None lines ≡ None
 refused_stays [] = refl
 refused_stays (x ∷ xs) = refused_stays xs
 

@@ -13,3 +13,4 @@ pub mod Known
 pub mod Tables
 pub mod Start
 pub mod Final
+pub mod Lines
