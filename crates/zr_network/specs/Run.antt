@@ -1,5 +1,5 @@
 -- The run of a script: a fold over its lines, which stops at the first one that is refused.
-use Rattle.std.specs.Prelude.{ℕ, ◌+◌, Bool, if◌then◌else◌, List, [], ◌++◌, take, Option, Some, None, is_some, Result, Ok, Err}
+use Rattle.std.specs.Prelude.{ℕ, ◌+◌, ◌||◌, nat_lt, Bool, if◌then◌else◌, List, [], ◌++◌, length, take, Option, Some, None, is_some, Result, Ok, Err}
 use Rattle.std.specs.List.{fold}
 use Rattle.zr_msg.specs.declared.error.ScriptError.{ScriptError}
 use Rattle.zr_msg.specs.declared.command.Command.{Command}
@@ -7,7 +7,7 @@ use Rattle.zr_msg.specs.declared.report.ReportLine.{ReportLine}
 use Rattle.zr_network.specs.Lines.{lines, ended_lines}
 use Rattle.zr_network.specs.Command.{command_of}
 use Rattle.zr_network.specs.World.{WorldState, Outcome, empty_world, outcome}
-use Rattle.zr_network.specs.Report.{line_text}
+use Rattle.zr_network.specs.Report.{line_text, refused_text, too_long_text}
 
 -- a script up to a line
 pub record Run : Type 0 where
@@ -60,3 +60,25 @@ most_bytes = 67108864
 -- the bytes that count: those within the limit
 abbrev pub within : List ℕ → List ℕ
 within bytes = take most_bytes bytes
+
+-- the run that counts where these bytes were read: within the limit that of the whole script, and else that of the lines that
+-- end within the limit
+abbrev pub judged : List ℕ → Run
+judged bytes = if nat_lt most_bytes (length bytes) then run_of_ended (within bytes) else run_of bytes
+
+-- whether a script is refused: one of its lines is, or it is too long
+abbrev pub is_refused : List ℕ → Bool
+is_refused bytes = is_some (judged bytes).refusal || nat_lt most_bytes (length bytes)
+
+-- what is said of a script whose lines were not refused
+abbrev pub complaint_of_length : Bool → List ℕ
+complaint_of_length too_long = if too_long then too_long_text else []
+
+-- what is said of a refused line, or else of the length
+abbrev pub complaint_of : Option ScriptError → ℕ → Bool → List ℕ
+complaint_of (Some e) number too_long = refused_text number e
+complaint_of None number too_long = complaint_of_length too_long
+
+-- the line that tells why a script is refused; nothing where it isn't
+abbrev pub complaint : List ℕ → List ℕ
+complaint bytes = complaint_of (judged bytes).refusal (judged bytes).number (nat_lt most_bytes (length bytes))

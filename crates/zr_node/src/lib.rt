@@ -1,0 +1,6 @@
+//! One router as a pure state machine: an event in, messages for links out.
+//! What an event means is the table of the definitions; threads, clocks and bytes are not known here.
+#![tactic(auto)]
+
+mod link;
+pub mod node;

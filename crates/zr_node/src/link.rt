@@ -1,0 +1,86 @@
+//! One link of a router, with what its client has declared.
+
+ghost use Rattle.std.specs.Prelude.{◌≡◌, ◌==◌, not, OnOk, [], filter};
+ghost use Rattle.zr_table.specs.Table.{subscribes, is_for, declared};
+
+use std::alloc::{AllocError, Global};
+use std::marker::Model;
+use zr_id::link::LinkNo;
+use zr_key::key::KeyExpr;
+
+/// What a client subscribes to, under an id of its own.
+#[derive(Debug, Drop)]
+pub struct Subscriber {
+    id: u32,
+    key: KeyExpr,
+}
+
+impl Model for Subscriber {
+    ghost use Rattle.zr_table.specs.State.{Subscription};
+
+    ghost Value = { Subscription };
+
+    ghost view = { λ s. record { id = s.id; key = s.key } };
+}
+
+/// A link that is up.
+#[derive(Debug, Drop)]
+pub struct Link {
+    number: LinkNo,
+    subs: Vec<Subscriber>,
+}
+
+impl Model for Link {
+    ghost use Rattle.zr_table.specs.State.{LinkState};
+
+    ghost Value = { LinkState };
+
+    ghost view = { λ l. record { link = l.number; subs = l.subs.items } };
+}
+
+impl Link {
+    /// A link without declarations.
+    pub fn new(alloc: Global, number: LinkNo) -> Link
+        ensures { result ≡ record { link = number; subs = [] } }
+    {
+        Link {
+            number,
+            subs: Vec::new(alloc),
+        }
+    }
+
+    /// The link's number.
+    pub fn number(&self) -> LinkNo
+        ensures { result ≡ self.now.link }
+    {
+        self.number
+    }
+
+    /// Whether the client subscribes to the key.
+    pub fn subscribes(&self, key: &KeyExpr) -> bool
+        ensures { result ≡ subscribes self.now key.now }
+    {
+        self.subs.iter().any(|s| is_for(key, s))
+    }
+
+    /// The client subscribes to a key, in place of what it had under the same id.
+    pub fn declare(&mut self, id: u32, key: KeyExpr) -> Result<(), AllocError>
+        ensures { OnOk result (self.new ≡ record { link = self.old.link; subs = declared self.old.subs id key }) }
+    {
+        forget(&mut self.subs, id);
+        self.subs.push(Subscriber { id, key })?;
+        Ok(())
+    }
+}
+
+fn is_for(key: &KeyExpr, sub: &Subscriber) -> bool
+    ensures { result ≡ is_for key.now sub.now }
+{
+    sub.key == *key
+}
+
+fn forget(subs: &mut Vec<Subscriber>, id: u32)
+    ensures { subs.new.items ≡ filter (λ s. not (s.id == id)) subs.old.items }
+{
+    subs.retain(|s| s.id != id);
+}

@@ -1,0 +1,166 @@
+//! `Node`: a router's state, and what it does with each event.
+
+ghost use Rattle.std.specs.Prelude.{◌≡◌, ◌==◌, ◌&&◌, ◌++◌, ◌↔◌, not, true, false, OnOk, map, filter};
+ghost use Rattle.zr_table.specs.State.{new_node};
+ghost use Rattle.zr_table.specs.Table.{sends, after, to_each, subscribes, declared_on};
+
+use crate::link::Link;
+use std::alloc::{AllocError, Global};
+use std::marker::Model;
+use thiserror::Error;
+use zr_id::link::LinkNo;
+use zr_key::key::KeyExpr;
+use zr_msg::msg::{Body, Event, Msg};
+
+/// A router: its links and what their clients have declared.
+#[derive(Debug, Drop)]
+pub struct Node {
+    links: Vec<Link>,
+    spent: bool,
+}
+
+/// Why an event wasn't handled.
+#[derive(Clone, Copy, Debug, PartialEq, Eq, Error)]
+pub enum NodeError {
+    /// An earlier event wanted memory and had none. Node and messages are as before.
+    #[error("the router is spent")]
+    Spent,
+    /// Memory ran out. The node is spent from now on.
+    #[error("out of memory")]
+    NoMemory,
+}
+
+impl Model for Node {
+    ghost use Rattle.zr_table.specs.State.{NodeState};
+
+    ghost Value = { NodeState };
+
+    ghost view = { λ n. record { links = n.links.items; spent = n.spent } };
+}
+
+impl Node {
+    /// A router without links.
+    pub fn new(alloc: Global) -> Node
+        ensures { result ≡ new_node }
+    {
+        Node {
+            links: Vec::new(alloc),
+            spent: false,
+        }
+    }
+
+    /// Handles an event, and appends what it sends, each message with its link, in the order of the links.
+    pub fn handle(
+        &mut self,
+        alloc: Global,
+        event: Event,
+        out: &mut Vec<(LinkNo, Msg)>,
+    ) -> Result<(), NodeError>
+        ensures state { OnOk result (self.new ≡ after self.old event) }
+        ensures sends { OnOk result (out.new.items ≡ out.old.items ++ sends self.old event) }
+        ensures spent { (result ≡ Err NodeError.Spent) ↔ (self.old.spent ≡ true) }
+        ensures unchanged { result ≡ Err NodeError.Spent → (self.new ≡ self.old) × (out.new.items ≡ out.old.items) }
+        ensures memory { result ≡ Err NodeError.NoMemory → self.new.spent ≡ true }
+    {
+        if self.spent {
+            return Err(NodeError::Spent);
+        }
+        match self.react(alloc, event, out) {
+            Ok(()) => Ok(()),
+            Err(_) => {
+                self.spent = true;
+                Err(NodeError::NoMemory)
+            }
+        }
+    }
+
+    fn react(
+        &mut self,
+        alloc: Global,
+        event: Event,
+        out: &mut Vec<(LinkNo, Msg)>,
+    ) -> Result<(), AllocError>
+        ensures { OnOk result ((self.new ≡ after self.old event) × (out.new.items ≡ out.old.items ++ sends self.old event)) }
+    {
+        match event {
+            Event::Up { link } => self.up(alloc, link),
+            Event::From { link, msg } => match msg {
+                Msg::Sub { id, key } => self.declare(alloc, link, id, &key),
+                Msg::Push { key, body } => self.push(alloc, link, &key, &body, out),
+            },
+        }
+    }
+
+    fn up(&mut self, alloc: Global, link: LinkNo) -> Result<(), AllocError>
+        ensures { OnOk result (self.new ≡ after self.old (Event.Up link)) }
+    {
+        self.links.push(Link::new(alloc, link))?;
+        Ok(())
+    }
+
+    fn declare(
+        &mut self,
+        alloc: Global,
+        link: LinkNo,
+        id: u32,
+        key: &KeyExpr,
+    ) -> Result<(), AllocError>
+        ensures { OnOk result (self.new ≡ after self.old (Event.From link (Msg.Sub id key.now))) }
+    {
+        declare_on(alloc, &mut self.links, link, id, key)
+    }
+
+    fn push(
+        &self,
+        alloc: Global,
+        link: LinkNo,
+        key: &KeyExpr,
+        body: &Body,
+        out: &mut Vec<(LinkNo, Msg)>,
+    ) -> Result<(), AllocError>
+        ensures { OnOk result (out.new.items ≡ out.old.items ++ sends self.now (Event.From link (Msg.Push key.now body.now))) }
+    {
+        push_to(alloc, self.links.as_slice(), link, key, body, out)
+    }
+}
+
+// The client of a link declares a subscription.
+fn declare_on(
+    alloc: Global,
+    links: &mut [Link],
+    from: LinkNo,
+    id: u32,
+    key: &KeyExpr,
+) -> Result<(), AllocError>
+    ensures { OnOk result (links.new ≡ map (λ l. declared_on from.0 id key.now l) links.old) }
+{
+    for link in links.iter_mut() {
+        if link.number().0 == from.0 {
+            link.declare(id, key.copy(alloc)?)?;
+        }
+    }
+    Ok(())
+}
+
+// A sample goes once to each other link whose client subscribes to its key.
+fn push_to(
+    alloc: Global,
+    links: &[Link],
+    from: LinkNo,
+    key: &KeyExpr,
+    body: &Body,
+    out: &mut Vec<(LinkNo, Msg)>,
+) -> Result<(), AllocError>
+    ensures { OnOk result (out.new.items ≡ out.old.items ++ to_each (Msg.Push key.now body.now) (filter (λ l. not (l.link.0 == from.0) && subscribes l key.now) links.now)) }
+{
+    for link in links {
+        if link.number().0 != from.0 && link.subscribes(key) {
+            let msg = Msg::Push {
+                key: key.copy(alloc)?,
+                body: body.copy(alloc)?,
+            };
+            out.push((link.number(), msg))?;
+        }
+    }
+    Ok(())
+}

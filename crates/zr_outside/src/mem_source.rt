@@ -1,0 +1,75 @@
+//! A source over bytes in memory, some of whose reads fail or are quiet.
+
+ghost use Rattle.std.specs.Prelude.{◌≡◌, ℕ, ◌≤◌, Some, drop, vec_len};
+
+use crate::source::{Got, Source};
+
+/// Gives its bytes in order. The reads with these numbers, counted from 0, fail or are quiet.
+#[derive(Debug, Drop)]
+pub struct MemSource {
+    bytes: Vec<u8>,
+    at: usize,
+    most: usize,
+    calls: u64,
+    failing: Vec<u64>,
+    quiet: Vec<u64>,
+    faults: u64,
+    quiets: u64,
+    ends: u64,
+    ghost in_range: { at ≤ vec_len bytes },
+}
+
+impl MemSource {
+    ghost use Rattle.zr_outside.specs.Memory.{source_left};
+
+    /// A source of these bytes, which gives at most `most` of them a read (1 where that is 0).
+    pub fn new(bytes: Vec<u8>, most: usize, failing: Vec<u64>, quiet: Vec<u64>) -> MemSource
+        ensures { source_left result ≡ bytes.items }
+    {
+        MemSource {
+            bytes,
+            at: 0,
+            most,
+            calls: 0,
+            failing,
+            quiet,
+            faults: 0,
+            quiets: 0,
+            ends: 0,
+        }
+    }
+}
+
+impl Source for MemSource {
+    ghost left = { λ s. Some (drop s.at s.bytes.items) };
+
+    ghost faults = { λ s. s.faults };
+
+    ghost quiets = { λ s. s.quiets };
+
+    ghost ends = { λ s. s.ends };
+
+    fn read(&mut self, into: &mut [u8]) -> Got {
+        let call = self.calls;
+        self.calls = self.calls.saturating_add(1);
+        if self.failing.contains(&call) {
+            self.faults = self.faults.saturating_add(1);
+            return Got::Failed;
+        }
+        if self.quiet.contains(&call) {
+            self.quiets = self.quiets.saturating_add(1);
+            return Got::Quiet;
+        }
+        let count = into
+            .len()
+            .min(self.bytes.len() - self.at)
+            .min(self.most.max(1));
+        if count == 0 {
+            self.ends = self.ends.saturating_add(1);
+            return Got::End;
+        }
+        into[..count].copy_from_slice(&self.bytes[self.at..self.at + count]);
+        self.at += count;
+        Got::Bytes(count)
+    }
+}

@@ -1,0 +1,39 @@
+//! `Source`: where bytes come from.
+
+ghost use Rattle.std.specs.Prelude.{ℕ, List, length, ◌<◌};
+ghost use Rattle.std.specs.declared.option.Option.{Option};
+ghost use Rattle.zr_outside.specs.Counts.{Counted};
+ghost use Rattle.zr_outside.specs.Source.{Reads, IsFailed, IsQuiet, IsEnd};
+
+/// What a read gave.
+#[derive(Clone, Copy, Debug, PartialEq, Eq)]
+pub enum Got {
+    /// So many bytes stand at the front of the buffer, at least one: the next that were left.
+    Bytes(usize),
+    /// Nothing has come yet.
+    Quiet,
+    /// Nothing is left.
+    End,
+    /// The outside has failed; nothing was read.
+    Failed,
+}
+
+/// Where bytes come from. Each of its counts rises by one at most in a call, never falls, and tells how often that answer came.
+pub trait Source {
+    // the bytes that are left, where the source tells them
+    ghost left: { Self → Option (List ℕ) };
+
+    ghost faults: { Self → ℕ };
+
+    ghost quiets: { Self → ℕ };
+
+    ghost ends: { Self → ℕ };
+
+    /// Reads into a buffer that isn't empty. What is behind the bytes that came is left open.
+    fn read(&mut self, into: &mut [u8]) -> Got
+        requires { 0 < length into.old }
+        ensures bytes { Reads result into.old into.new (left self.old) (left self.new) }
+        ensures failed { Counted (faults self.old) (faults self.new) (IsFailed result) }
+        ensures quiet { Counted (quiets self.old) (quiets self.new) (IsQuiet result) }
+        ensures ended { Counted (ends self.old) (ends self.new) (IsEnd result) };
+}

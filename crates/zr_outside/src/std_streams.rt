@@ -1,0 +1,80 @@
+//! A reader of std as a source and a writer of std as a sink. What they give and take isn't told.
+
+ghost use Rattle.std.specs.Prelude.{None};
+
+use crate::sink::{Put, Sink};
+use crate::source::{Got, Source};
+use std::io::{Read, Write};
+
+/// A reader of std as a source.
+#[derive(Drop)]
+pub struct ReadSource<R: Read + Drop> {
+    reader: R,
+    faults: u64,
+    ends: u64,
+}
+
+impl<R: Read + Drop> ReadSource<R> {
+    /// The reader as a source.
+    pub fn new(reader: R) -> ReadSource<R> {
+        ReadSource {
+            reader,
+            faults: 0,
+            ends: 0,
+        }
+    }
+}
+
+impl<R: Read + Drop> Source for ReadSource<R> {
+    ghost left = { λ _. None };
+
+    ghost faults = { λ s. s.faults };
+
+    ghost quiets = { λ _. 0 };
+
+    ghost ends = { λ s. s.ends };
+
+    fn read(&mut self, into: &mut [u8]) -> Got {
+        match self.reader.read(into) {
+            Ok(0) => {
+                self.ends = self.ends.saturating_add(1);
+                Got::End
+            }
+            Ok(count) => Got::Bytes(count),
+            Err(_) => {
+                self.faults = self.faults.saturating_add(1);
+                Got::Failed
+            }
+        }
+    }
+}
+
+/// A writer of std as a sink. A write that takes nothing has failed.
+#[derive(Drop)]
+pub struct WriteSink<W: Write + Drop> {
+    writer: W,
+    faults: u64,
+}
+
+impl<W: Write + Drop> WriteSink<W> {
+    /// The writer as a sink.
+    pub fn new(writer: W) -> WriteSink<W> {
+        WriteSink { writer, faults: 0 }
+    }
+}
+
+impl<W: Write + Drop> Sink for WriteSink<W> {
+    ghost held = { λ _. None };
+
+    ghost faults = { λ s. s.faults };
+
+    fn write(&mut self, from: &[u8]) -> Put {
+        match self.writer.write(from) {
+            Ok(0) | Err(_) => {
+                self.faults = self.faults.saturating_add(1);
+                Put::Failed
+            }
+            Ok(count) => Put::Took(count),
+        }
+    }
+}

@@ -1,0 +1,9 @@
+//! The script language: a line to its command, a report line and a refusal to their texts.
+//! What a command does stands in the world's crate.
+#![tactic(auto)]
+
+pub mod line;
+pub mod text;
+mod word;
+
+pub use zr_msg::{command, error, report};

@@ -1,0 +1,136 @@
+//! The texts that a run writes: report lines, the line that tells a refusal, and what is said of a script that is too long.
+
+ghost use Rattle.std.specs.Prelude.{◌≡◌, ◌++◌, codes, OnOk};
+ghost use Rattle.std.specs.Fmt.{decimal};
+ghost use Rattle.zr_network.specs.Report.{line_end, line_text, msg_text, payload_text, id_text, refusal_text, refused_text};
+
+use std::alloc::{AllocError, Global};
+use zr_id::zid::Zid;
+use zr_msg::error::ScriptError;
+use zr_msg::msg::{Body, Msg};
+use zr_msg::report::ReportLine;
+
+/// Appends the text of a report line, its end included.
+pub fn line_text(alloc: Global, line: &ReportLine, out: &mut Vec<u8>) -> Result<(), AllocError>
+    ensures { OnOk result (out.new.items ≡ out.old.items ++ line_text line.now) }
+{
+    match line {
+        ReportLine::Handled {
+            router,
+            from,
+            msg,
+            tag,
+        } => put_step(alloc, router, b" < ", from, msg, *tag, out),
+        ReportLine::Taken {
+            router,
+            to,
+            msg,
+            tag,
+        } => put_step(alloc, router, b" > ", to, msg, *tag, out),
+        ReportLine::Mark { line } => put_mark(alloc, *line, out),
+    }
+}
+
+/// Appends `line N: NUMBER NAME`, its end included.
+pub fn refused_text(
+    alloc: Global,
+    number: u64,
+    error: ScriptError,
+    out: &mut Vec<u8>,
+) -> Result<(), AllocError>
+    ensures { OnOk result (out.new.items ≡ out.old.items ++ refused_text number error) }
+{
+    out.extend_from_slice(b"line ")?;
+    put_number(alloc, number, out)?;
+    out.extend_from_slice(b": ")?;
+    out.extend_from_slice(refusal_text(error))?;
+    out.extend_from_slice(b"\n")
+}
+
+fn put_step(
+    alloc: Global,
+    router: &Zid,
+    arrow: &[u8],
+    other: &Zid,
+    msg: &Msg,
+    tag: u64,
+    out: &mut Vec<u8>,
+) -> Result<(), AllocError>
+    ensures { OnOk result (out.new.items ≡ out.old.items ++ (id_text router.now ++ arrow.now ++ id_text other.now ++ codes ": " ++ msg_text msg.now ++ codes " #" ++ decimal tag ++ line_end)) }
+{
+    put_id(alloc, router, out)?;
+    out.extend_from_slice(arrow)?;
+    put_id(alloc, other, out)?;
+    out.extend_from_slice(b": ")?;
+    put_msg(alloc, msg, out)?;
+    out.extend_from_slice(b" #")?;
+    put_number(alloc, tag, out)?;
+    out.extend_from_slice(b"\n")
+}
+
+fn put_mark(alloc: Global, line: u64, out: &mut Vec<u8>) -> Result<(), AllocError>
+    ensures { OnOk result (out.new.items ≡ out.old.items ++ (codes "mark #" ++ decimal line ++ line_end)) }
+{
+    out.extend_from_slice(b"mark #")?;
+    put_number(alloc, line, out)?;
+    out.extend_from_slice(b"\n")
+}
+
+fn put_msg(alloc: Global, msg: &Msg, out: &mut Vec<u8>) -> Result<(), AllocError>
+    ensures { OnOk result (out.new.items ≡ out.old.items ++ msg_text msg.now) }
+{
+    match msg {
+        Msg::Sub { id, key } => {
+            out.extend_from_slice(b"sub ")?;
+            put_number(alloc, u64::from(*id), out)?;
+            out.extend_from_slice(b" ")?;
+            out.extend_from_slice(key.text().as_bytes())
+        }
+        Msg::Push { key, body } => {
+            out.extend_from_slice(b"put - ")?;
+            out.extend_from_slice(key.text().as_bytes())?;
+            out.extend_from_slice(b" ")?;
+            put_payload(body, out)
+        }
+    }
+}
+
+fn put_payload(body: &Body, out: &mut Vec<u8>) -> Result<(), AllocError>
+    ensures { OnOk result (out.new.items ≡ out.old.items ++ payload_text body.now) }
+{
+    match body.bytes() {
+        [] => out.extend_from_slice(b"-"),
+        payload => out.extend_from_slice(payload),
+    }
+}
+
+fn put_id(alloc: Global, id: &Zid, out: &mut Vec<u8>) -> Result<(), AllocError>
+    ensures { OnOk result (out.new.items ≡ out.old.items ++ id_text id.now) }
+{
+    let text = id.text(alloc)?;
+    out.extend_from_slice(text.as_bytes())
+}
+
+fn put_number(alloc: Global, number: u64, out: &mut Vec<u8>) -> Result<(), AllocError>
+    ensures { OnOk result (out.new.items ≡ out.old.items ++ decimal number) }
+{
+    let text = number.to_string(alloc)?;
+    out.extend_from_slice(text.as_bytes())
+}
+
+fn refusal_text(error: ScriptError) -> &'static [u8]
+    ensures { result.now ≡ refusal_text error }
+{
+    match error {
+        ScriptError::UnknownCommand => b"1 UnknownCommand",
+        ScriptError::BadWords => b"2 BadWords",
+        ScriptError::UnknownName => b"3 UnknownName",
+        ScriptError::NameTaken => b"4 NameTaken",
+        ScriptError::BadKey => b"5 BadKey",
+        ScriptError::NotLinked => b"7 NotLinked",
+        ScriptError::NothingThere => b"8 NothingThere",
+        ScriptError::NotSettled => b"10 NotSettled",
+        ScriptError::Limit => b"12 Limit",
+        ScriptError::NoMemory => b"",
+    }
+}

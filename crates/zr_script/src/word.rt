@@ -1,0 +1,148 @@
+//! The words of a line, and what one word spells: an identifier, a number, a key, a payload.
+
+ghost use Rattle.std.specs.Prelude.{◌≡◌, ◌==◌, ◌&&◌, ◌+◌, ◌*◌, ◌-◌, ◌^◌, not, nat_lt, Some, None, map, IfOk, if◌then◌else◌};
+ghost use Rattle.std.specs.List.{list_all};
+ghost use Rattle.std.specs.Option.{option_copied};
+ghost use Rattle.zr_network.specs.Step.{Gives, GivesBy};
+ghost use Rattle.zr_network.specs.Command.{words, is_clean, is_space, is_printable, is_digit, is_number, value_of, number_at, zid_at, key_at, payload_of, one_of, two_of, three_of};
+
+use std::alloc::{AllocError, Global};
+use zr_id::zid::Zid;
+use zr_key::key::{KeyError, KeyExpr};
+use zr_msg::error::ScriptError;
+use zr_msg::msg::Body;
+
+/// The words of a line, parted by one or more spaces.
+pub fn words_of(alloc: Global, line: &[u8]) -> Result<Vec<&[u8]>, AllocError>
+    ensures { IfOk result (λ v. map (λ w. w.now) v.items ≡ words line.now) }
+{
+    line.split(|b| *b == b' ')
+        .filter(|word| !word.is_empty())
+        .collect(alloc)
+}
+
+/// Whether a line has printable bytes alone, and no space in front or at its end.
+pub fn is_clean(line: &[u8]) -> bool
+    ensures { result ≡ is_clean line.now }
+{
+    are_printable(line) && !is_space(line.first()) && !is_space(line.last())
+}
+
+/// The identifier that a word names.
+pub fn zid(word: &[u8]) -> Result<Zid, ScriptError>
+    ensures { Gives result (zid_at word.now) }
+{
+    match Zid::from_hex(word) {
+        Ok(id) => Ok(id),
+        Err(_) => Err(ScriptError::BadWords),
+    }
+}
+
+/// The number that a word spells.
+pub fn number(word: &[u8]) -> Result<u32, ScriptError>
+    ensures { Gives result (number_at word.now) }
+{
+    if !is_number(word) {
+        return Err(ScriptError::BadWords);
+    }
+    match value(word) {
+        Some(n) => Ok(n),
+        None => Err(ScriptError::BadWords),
+    }
+}
+
+/// The key that a word spells.
+pub fn key(alloc: Global, word: &[u8]) -> Result<KeyExpr, ScriptError>
+    ensures { Gives result (key_at word.now) }
+{
+    match KeyExpr::read(alloc, word) {
+        Ok(key) => Ok(key),
+        Err(KeyError::NoMemory) => Err(ScriptError::NoMemory),
+        Err(_) => Err(ScriptError::BadKey),
+    }
+}
+
+/// The payload that a word spells.
+pub fn payload(alloc: Global, word: &[u8]) -> Result<Body, AllocError>
+    ensures { IfOk result (λ b. b ≡ payload_of word.now) }
+{
+    if word == b"-".as_slice() {
+        return Ok(Body::new(Vec::new(alloc)));
+    }
+    Ok(Body::new(Vec::from_slice(alloc, word)?))
+}
+
+/// The one word that there is.
+pub fn one<'a>(words: &[&'a [u8]]) -> Result<&'a [u8], ScriptError>
+    ensures { GivesBy (λ w. w.now) result (one_of (map (λ w. w.now) words.now)) }
+{
+    match words {
+        [a] => Ok(a),
+        _ => Err(ScriptError::BadWords),
+    }
+}
+
+/// The two words that there are.
+pub fn two<'a>(words: &[&'a [u8]]) -> Result<(&'a [u8], &'a [u8]), ScriptError>
+    ensures { GivesBy (λ x. (x.0.now, x.1.now)) result (two_of (map (λ w. w.now) words.now)) }
+{
+    match words {
+        [a, b] => Ok((a, b)),
+        _ => Err(ScriptError::BadWords),
+    }
+}
+
+/// The three words that there are.
+pub fn three<'a>(words: &[&'a [u8]]) -> Result<(&'a [u8], &'a [u8], &'a [u8]), ScriptError>
+    ensures { GivesBy (λ x. (x.0.now, x.1.now, x.2.now)) result (three_of (map (λ w. w.now) words.now)) }
+{
+    match words {
+        [a, b, c] => Ok((a, b, c)),
+        _ => Err(ScriptError::BadWords),
+    }
+}
+
+fn are_printable(line: &[u8]) -> bool
+    ensures { result ≡ list_all is_printable line.now }
+{
+    line.iter().all(|b| (b' '..=b'~').contains(b))
+}
+
+fn is_space(byte: Option<&u8>) -> bool
+    ensures { result ≡ is_space (option_copied byte.entry) }
+{
+    match byte {
+        Some(b) => *b == b' ',
+        None => false,
+    }
+}
+
+fn is_number(word: &[u8]) -> bool
+    ensures { result ≡ is_number word.now }
+{
+    match word {
+        [] => false,
+        [digit] => digit.is_ascii_digit(),
+        [first, ..] => *first != b'0' && are_digits(word),
+    }
+}
+
+fn are_digits(word: &[u8]) -> bool
+    ensures { result ≡ list_all is_digit word.now }
+{
+    word.iter().all(|b| b.is_ascii_digit())
+}
+
+// The value of some digits, where it fits.
+fn value(word: &[u8]) -> Option<u32>
+    ensures { result ≡ (if nat_lt (value_of word.now) (2 ^ 32) then Some (value_of word.now) else None) }
+{
+    let mut n: u64 = 0;
+    for b in word {
+        n = n * 10 + u64::from(b.saturating_sub(b'0'));
+        if n > u64::from(u32::MAX) {
+            return None;
+        }
+    }
+    Some(n as u32)
+}

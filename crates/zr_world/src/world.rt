@@ -1,0 +1,100 @@
+//! `World`: what a script's commands make, one after another.
+
+ghost use Rattle.std.specs.Prelude.{◌≡◌, true, false};
+ghost use Rattle.zr_network.specs.World.{outcome};
+ghost use Rattle.zr_world.specs.Steps.{Steps, Applies, Reports, new_world};
+ghost use Rattle.zr_world.specs.State.{state_of};
+
+use crate::tables::Tables;
+use std::alloc::Global;
+use std::marker::Model;
+use zr_msg::command::Command;
+use zr_msg::error::ScriptError;
+use zr_msg::report::ReportLine;
+
+/// The routers and clients of a script, with what waits between them.
+#[derive(Debug, Drop)]
+pub struct World {
+    tables: Tables,
+    spent: bool,
+}
+
+impl Model for World {
+    ghost use Rattle.zr_world.specs.Steps.{Living};
+    ghost use Rattle.zr_world.specs.State.{state_of};
+
+    ghost Value = { Living };
+
+    ghost view = { λ w. record { state = state_of w.tables; spent = w.spent } };
+}
+
+impl World {
+    /// A world in which nothing has come yet.
+    pub fn new(alloc: Global) -> World
+        ensures { result ≡ new_world }
+    {
+        World {
+            tables: Tables::new(alloc),
+            spent: false,
+        }
+    }
+
+    /// Applies the command of a line, and appends its report line, if it has one.
+    ///
+    /// A refusal is the first that applies, and leaves the world as it was: `UnknownName`, `NameTaken`, `NotLinked`, `NothingThere`,
+    /// `NotSettled`, `Limit`. After `NoMemory` the world is spent, and answers `NoMemory` from then on.
+    pub fn apply(
+        &mut self,
+        line: u64,
+        command: &Command,
+        report: &mut Vec<ReportLine>,
+    ) -> Result<(), ScriptError>
+        ensures applies { self.old.spent ≡ false → Applies result (outcome self.old.state line command.now) self.old self.new report.old.items report.new.items }
+        ensures spent { self.old.spent ≡ true → (result ≡ Err ScriptError.NoMemory) × (self.new ≡ self.old) × (report.new.items ≡ report.old.items) }
+    {
+        if self.spent {
+            return Err(ScriptError::NoMemory);
+        }
+        match stepped(&mut self.tables, line, command, report) {
+            Err(ScriptError::NoMemory) => {
+                self.spent = true;
+                Err(ScriptError::NoMemory)
+            }
+            done => done,
+        }
+    }
+}
+
+// The step of a command, with its report line.
+fn stepped(
+    tables: &mut Tables,
+    line: u64,
+    command: &Command,
+    report: &mut Vec<ReportLine>,
+) -> Result<(), ScriptError>
+    ensures { Reports result (outcome (state_of tables.old) line command.now) (state_of tables.old) (state_of tables.new) report.old.items report.new.items }
+{
+    if let Some(told) = step(tables, line, command)? {
+        report.push(told)?;
+    }
+    Ok(())
+}
+
+#[tactic(auto, unfolding(zr_network::specs::World::outcome))]
+fn step(
+    tables: &mut Tables,
+    line: u64,
+    command: &Command,
+) -> Result<Option<ReportLine>, ScriptError>
+    ensures { Steps result (outcome (state_of tables.old) line command.now) (state_of tables.old) (state_of tables.new) }
+{
+    match command {
+        Command::Router { id } => tables.router(*id),
+        Command::Client { id, router } => tables.client(*id, *router),
+        Command::Sub { client, id, key } => tables.sub(line, *client, *id, key),
+        Command::Put { client, key, body } => tables.put(line, *client, key, body),
+        Command::Handle { router, from } => tables.handle(*router, *from),
+        Command::Take { router, to } => tables.take(*router, *to),
+        Command::Mark => tables.mark(line),
+    }
+}
