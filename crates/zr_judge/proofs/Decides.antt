@@ -1,10 +1,10 @@
 -- The judgement is right: it looks at each author of a line of the phase and each client that is attached or was sent
 -- anything, and for all other names there is nothing to have and nothing was sent.
 use Rattle.std.proofs.Common.{◌≡◌, ℕ, Bool, true, false, cond, List, [], ◌∷◌, ◌++◌, refl, sym, ap, ◌∙◌, subst, inl, inr}
-use Rattle.std.specs.Prelude.{◌==◌, ◌&&◌, ◌||◌, ◌⊎◌, ◌↔◌, not, nat_eq, nat_lt, filter, Result, Ok, Err, IfOk}
+use Rattle.std.specs.Prelude.{◌==◌, ◌&&◌, ◌||◌, ◌⊎◌, not, nat_eq, nat_lt, filter, Result, Ok, Err, IfOk}
 use Rattle.std.specs.List.{list_any, list_all}
 use Rattle.std.specs.Cmp.Lexicographic.{pointwise, bytes_decides, nat_list_eq_equiv}
-use Rattle.std.proofs.lemmas.Bool.{false≢true, true≢false, and_parts, and_from, and_left, and_right, or_parts, or_from, or_left, or_right, or_cases, eqb-true, eq-eqb}
+use Rattle.std.proofs.lemmas.Bool.{false≢true, and_parts, and_from, and_left, and_right, or_parts, or_from, or_right, or_cases, eqb-true, eq-eqb}
 use Rattle.zr_msg.specs.declared.msg.Msg.{Msg}
 use Rattle.zr_msg.specs.declared.msg.Msg.TheVariants as m
 use Rattle.zr_msg.specs.declared.command.Command.{Command}
@@ -102,9 +102,9 @@ none_wanted before (x ∷ xs) a d h = ap (λ z. z ++ from before xs a d) (by x.1
     by : (command : Command) → for_receiver before a d (x.0, command) ≡ []
     by (c.Put client key body) =
         ap (λ b. cond b (record { line = x.0; key = key; body = body } ∷ []) [])
-          (and_right (is_named a client) (wants before a d key)
-            (and_right (not (is_named a d)) (is_attached before d && list_any (λ s. asks_for key s) (declarations before d))
-              (and_left (is_attached before d) (list_any (λ s. asks_for key s) (declarations before d)) h)))
+        (and_right (is_named a client) (wants before a d key)
+        (and_right (not (is_named a d)) (is_attached before d && list_any (λ s. asks_for key s) (declarations before d))
+        (and_left (is_attached before d) (list_any (λ s. asks_for key s) (declarations before d)) h)))
     by (c.Router id) = refl
     by (c.Client id router) = refl
     by (c.Sub client id key) = refl
@@ -140,8 +140,8 @@ module _ (j : Judged) where
   author_found [] a h k = absurd (false≢true h)
   author_found (x ∷ xs) a h k =
       by x.1 (and_parts (holds_for_author j x.1) (list_all (λ y. holds_for_author j y.1) xs) k).0
-        (λ later. author_found xs a later (and_parts (holds_for_author j x.1) (list_all (λ y. holds_for_author j y.1) xs) k).1)
-        (or_cases (is_author a x.1) (list_any (λ y. is_author a y.1) xs) h)
+      (λ later. author_found xs a later (and_parts (holds_for_author j x.1) (list_all (λ y. holds_for_author j y.1) xs) k).1)
+      (or_cases (is_author a x.1) (list_any (λ y. is_author a y.1) xs) h)
     where
       by : (command : Command) → holds_for_author j command ≡ true → (list_any (λ y. is_author a y.1) xs ≡ true → (list_all (λ y. holds_for_client j a y.1) j.before && list_all (λ y. holds_for_receiver j a y) j.report) ≡ true) →
           (is_author a command ≡ true) ⊎ (list_any (λ y. is_author a y.1) xs ≡ true) →
@@ -160,8 +160,8 @@ module _ (j : Judged) where
   client_found [] a d h k = absurd (false≢true h)
   client_found (x ∷ xs) a d h k =
       by x.1 (and_parts (holds_for_client j a x.1) (list_all (λ y. holds_for_client j a y.1) xs) k).0
-        (λ later. client_found xs a d later (and_parts (holds_for_client j a x.1) (list_all (λ y. holds_for_client j a y.1) xs) k).1)
-        (or_cases (attaches d x.1) (is_attached xs d) h)
+      (λ later. client_found xs a d later (and_parts (holds_for_client j a x.1) (list_all (λ y. holds_for_client j a y.1) xs) k).1)
+      (or_cases (attaches d x.1) (is_attached xs d) h)
     where
       by : (command : Command) → holds_for_client j a command ≡ true → (is_attached xs d ≡ true → pair_holds j a d ≡ true) →
           (attaches d command ≡ true) ⊎ (is_attached xs d ≡ true) → pair_holds j a d ≡ true
@@ -178,8 +178,8 @@ module _ (j : Judged) where
   receiver_found [] a d h k = absurd (false≢true h)
   receiver_found (x ∷ xs) a d h k =
       by x (and_parts (holds_for_receiver j a x) (list_all (λ y. holds_for_receiver j a y) xs) k).0
-        (λ later. receiver_found xs a d later (and_parts (holds_for_receiver j a x) (list_all (λ y. holds_for_receiver j a y) xs) k).1)
-        (or_cases (tells_of d x) (list_any (tells_of d) xs) h)
+      (λ later. receiver_found xs a d later (and_parts (holds_for_receiver j a x) (list_all (λ y. holds_for_receiver j a y) xs) k).1)
+      (or_cases (tells_of d x) (list_any (tells_of d) xs) h)
     where
       by : (line : ReportLine) → holds_for_receiver j a line ≡ true → (list_any (tells_of d) xs ≡ true → pair_holds j a d ≡ true) →
           (tells_of d line ≡ true) ⊎ (list_any (tells_of d) xs ≡ true) → pair_holds j a d ≡ true
@@ -194,12 +194,15 @@ module _ (j : Judged) where
     where
       authors : list_all (λ x. holds_for_author j x.1) j.phase ≡ true
       authors = (and_parts (list_all (λ x. holds_for_author j x.1) j.phase) (list_all (λ x. may_be_sent j x) j.report) h).0
+
       by_report : list_all (λ x. holds_for_receiver j a x) j.report ≡ true → is_attached j.before d ≡ false → (b : Bool) → list_any (tells_of d) j.report ≡ b → pair_holds j a d ≡ true
       by_report all away true e = receiver_found j.report a d e all
       by_report all away false e = nothing_holds a d (ap (filter (λ i. is_line_of j.phase a i.line)) (none_sent j.report d e)) (none_wanted j.before j.phase a d away)
+
       by_client : list_all (λ x. holds_for_client j a x.1) j.before ≡ true → list_all (λ x. holds_for_receiver j a x) j.report ≡ true → (b : Bool) → is_attached j.before d ≡ b → pair_holds j a d ≡ true
       by_client clients all true e = client_found j.before a d e clients
       by_client clients all false e = by_report all e (list_any (tells_of d) j.report) refl
+
       by_author : (b : Bool) → list_any (λ x. is_author a x.1) j.phase ≡ b → pair_holds j a d ≡ true
       by_author true e =
           let found = and_parts (list_all (λ x. holds_for_client j a x.1) j.before) (list_all (λ x. holds_for_receiver j a x) j.report) (author_found j.phase a e authors) in
@@ -221,9 +224,11 @@ module _ (j : Judged) where
       by_name false msg tag k = refl
       by_name true (m.Sub id key) tag k = refl
       by_name true (m.Push key body) tag k = and_from (nat_lt tag j.mark || is_sample_line j.phase tag) true k refl
+
       by_msg : (b : Bool) (router to : List ℕ) (msg : Msg) (tag : ℕ) → may_be_sent j (r.Taken router to msg tag) ≡ true → list_all may_be (cond b (item_of msg tag) []) ≡ true
       by_msg b router to (m.Sub id key) tag k = by_name b (m.Sub id key) tag refl
       by_msg b router to (m.Push key body) tag k = by_name b (m.Push key body) tag k
+
       by : (line : ReportLine) → may_be_sent j line ≡ true → list_all may_be (sent_in d line) ≡ true
       by (r.Handled router name msg tag) k = refl
       by (r.Taken router to msg tag) k = by_msg (is_named d to) router to msg tag k
@@ -233,14 +238,14 @@ module _ (j : Judged) where
   may_all [] h = refl
   may_all (x ∷ xs) h =
       and_from (may_be_sent j x) (list_all (λ y. may_be_sent j y) xs) (by x (λ d. (all_parts may_be (sent_in d x) (sent_to xs d) (h d)).0))
-        (may_all xs (λ d. (all_parts may_be (sent_in d x) (sent_to xs d) (h d)).1))
+      (may_all xs (λ d. (all_parts may_be (sent_in d x) (sent_to xs d) (h d)).1))
     where
       by : (line : ReportLine) → ((d : List ℕ) → list_all may_be (sent_in d line) ≡ true) → may_be_sent j line ≡ true
       by (r.Handled router name msg tag) k = refl
       by (r.Taken router to (m.Sub id key) tag) k = refl
       by (r.Taken router to (m.Push key body) tag) k =
           (and_parts (nat_lt tag j.mark || is_sample_line j.phase tag) true
-            (ap (λ b. list_all may_be (cond b (record { line = tag; key = key; body = body } ∷ []) [])) (sym (names.refl to)) ∙ k to)).0
+          (ap (λ b. list_all may_be (cond b (record { line = tag; key = key; body = body } ∷ []) [])) (sym (names.refl to)) ∙ k to)).0
       by (r.Mark n) k = refl
 
   -- ---- both ways
@@ -248,11 +253,11 @@ module _ (j : Judged) where
   module _ (w : WorldState) (quiet_is : is_quiet w ≡ j.quiet) where
     sound : judgement j ≡ true → Refines j.before j.mark j.phase (record { world = w; report = j.report })
     sound h = record {
-        prefix = λ a d. front_means (sent_by j a d) (from j.before j.phase a d) (pair a d).0;
-        nothing_else = λ d. all_may j.report d (and_parts (list_all (λ x. holds_for_author j x.1) j.phase) (list_all (λ x. may_be_sent j x) j.report) h).1;
-        whole = λ quiet a d. both_fronts (sent_by j a d) (from j.before j.phase a d) (pair a d).0
-            (ap (λ b. not b || is_front (from j.before j.phase a d) (sent_by j a d)) (sym (sym quiet_is ∙ quiet)) ∙ (pair a d).1);
-      }
+      prefix = λ a d. front_means (sent_by j a d) (from j.before j.phase a d) (pair a d).0;
+      nothing_else = λ d. all_may j.report d (and_parts (list_all (λ x. holds_for_author j x.1) j.phase) (list_all (λ x. may_be_sent j x) j.report) h).1;
+      whole = λ quiet a d. both_fronts (sent_by j a d) (from j.before j.phase a d) (pair a d).0
+          (ap (λ b. not b || is_front (from j.before j.phase a d) (sent_by j a d)) (sym (sym quiet_is ∙ quiet)) ∙ (pair a d).1);
+    }
       where
         pair : (a d : List ℕ) → (is_front (sent_by j a d) (from j.before j.phase a d) ≡ true) × ((not j.quiet || is_front (from j.before j.phase a d) (sent_by j a d)) ≡ true)
         pair a d = and_parts (is_front (sent_by j a d) (from j.before j.phase a d)) (not j.quiet || is_front (from j.before j.phase a d) (sent_by j a d)) (every_pair h a d)
@@ -267,11 +272,14 @@ module _ (j : Judged) where
           where
             sent : List Item
             sent = sent_by j a d
+
             due : List Item
             due = from j.before j.phase a d
+
             by : (b : Bool) → j.quiet ≡ b → (not b || is_front due sent) ≡ true
             by false e = refl
             by true e = ap (is_front due) (h.whole (quiet_is ∙ e) a d) ∙ front_self due
+
         client : (a : List ℕ) (command : Command) → holds_for_client j a command ≡ true
         client a (c.Client id router) = pair a id
         client a (c.Put name key body) = refl
@@ -280,10 +288,12 @@ module _ (j : Judged) where
         client a (c.Handle router name) = refl
         client a (c.Take router to) = refl
         client a c.Mark = refl
+
         receiver : (a : List ℕ) (line : ReportLine) → holds_for_receiver j a line ≡ true
         receiver a (r.Taken router to msg tag) = pair a to
         receiver a (r.Handled router name msg tag) = refl
         receiver a (r.Mark n) = refl
+
         author : (command : Command) → holds_for_author j command ≡ true
         author (c.Put name key body) = and_from (list_all (λ x. holds_for_client j name x.1) j.before) (list_all (λ x. holds_for_receiver j name x) j.report)
             (all_true (λ x. holds_for_client j name x.1) (λ x. client name x.1) j.before) (all_true (λ x. holds_for_receiver j name x) (λ x. receiver name x) j.report)

@@ -2,8 +2,7 @@
 use Rattle.std.specs.Prelude.{◌≡◌, ℕ, ◌==◌, ◌&&◌, ◌||◌, not, nat_eq, nat_lt, Bool, true, false, List, [], ◌∷◌, ◌↔◌, filter}
 use Rattle.std.specs.List.{list_all}
 use Rattle.std.specs.Cmp.Lexicographic.{pointwise}
-use Rattle.zr_msg.specs.declared.msg.Msg.{Msg}
-use Rattle.zr_msg.specs.declared.msg.Msg.TheVariants.{Sub, Push}
+use Rattle.zr_msg.specs.declared.msg.Msg.TheVariants.{Push}
 use Rattle.zr_msg.specs.declared.command.Command.{Command}
 use Rattle.zr_msg.specs.declared.command.Command.TheVariants as c
 use Rattle.zr_msg.specs.declared.report.ReportLine.{ReportLine}

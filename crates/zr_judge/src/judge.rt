@@ -141,12 +141,7 @@ fn holds_for_receiver(
     }
 }
 
-fn pair_holds(
-    alloc: Global,
-    case: &Case,
-    author: &Zid,
-    receiver: &Zid,
-) -> Result<bool, AllocError>
+fn pair_holds(alloc: Global, case: &Case, author: &Zid, receiver: &Zid) -> Result<bool, AllocError>
     ensures { IfOk result (λ answer. answer ≡ pair_holds case.now author.now receiver.now) }
 {
     let before = case.before.as_slice();

@@ -4,3 +4,5 @@
 
 pub mod judge;
 mod sample;
+#[cfg(test)]
+mod tests;

@@ -192,9 +192,7 @@ fn asks(name: &Zid, wanted: &KeyExpr, command: &Command) -> bool
 fn is_line_of(phase: &[(u64, Command)], author: &Zid, line: u64) -> bool
     ensures { result ≡ is_line_of phase.now author.now line }
 {
-    phase
-        .iter()
-        .any(|x| x.0 == line && is_author(author, &x.1))
+    phase.iter().any(|x| x.0 == line && is_author(author, &x.1))
 }
 
 fn is_author(author: &Zid, command: &Command) -> bool
