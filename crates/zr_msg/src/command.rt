@@ -8,17 +8,36 @@ use zr_key::key::KeyExpr;
 #[derive(Debug, Drop)]
 pub enum Command {
     /// A router without links.
-    Router { id: Zid },
+    Router {
+        id: Zid,
+    },
     /// A client whose link to its router is up at once.
-    Client { id: Zid, router: Zid },
+    Client {
+        id: Zid,
+        router: Zid,
+    },
     /// A client declares a subscriber under an id.
-    Sub { client: Zid, id: u32, key: KeyExpr },
+    Sub {
+        client: Zid,
+        id: u32,
+        key: KeyExpr,
+    },
     /// A client publishes a sample.
-    Put { client: Zid, key: KeyExpr, body: Body },
+    Put {
+        client: Zid,
+        key: KeyExpr,
+        body: Body,
+    },
     /// A router handles the oldest message on the wire from a client.
-    Handle { router: Zid, from: Zid },
+    Handle {
+        router: Zid,
+        from: Zid,
+    },
     /// A router's oldest queued message for a client is sent to it.
-    Take { router: Zid, to: Zid },
+    Take {
+        router: Zid,
+        to: Zid,
+    },
     /// A phase begins.
     Mark,
 }

@@ -7,9 +7,21 @@ use zr_id::zid::Zid;
 #[derive(Debug, Drop)]
 pub enum ReportLine {
     /// A router has handled a message of a client.
-    Handled { router: Zid, from: Zid, msg: Msg, tag: u64 },
+    Handled {
+        router: Zid,
+        from: Zid,
+        msg: Msg,
+        tag: u64,
+    },
     /// A router's message was sent to a client.
-    Taken { router: Zid, to: Zid, msg: Msg, tag: u64 },
+    Taken {
+        router: Zid,
+        to: Zid,
+        msg: Msg,
+        tag: u64,
+    },
     /// A phase has begun with this line.
-    Mark { line: u64 },
+    Mark {
+        line: u64,
+    },
 }

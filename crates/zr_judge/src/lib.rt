@@ -1,0 +1,8 @@
+//! A judge of reports: a plain slow program that answers whether the network refines one broker at a moment.
+//! It is no part of the product. It shows that the definition can be evaluated, and which reports it refuses.
+#![tactic(auto)]
+
+pub mod judge;
+mod sample;
+#[cfg(test)]
+mod tests;

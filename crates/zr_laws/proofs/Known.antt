@@ -1,0 +1,161 @@
+-- At every moment of a script the router's tables are what the lines say: a client that is attached has one link, and what
+-- the router has of it, with what is still on its wire, is what it has declared. `Holds` says it of one name over plain
+-- values; that each step keeps it stands in `Tables`.
+use Rattle.std.proofs.Common.{◌≡◌, ℕ, zero, suc, Bool, true, false, cond, List, [], ◌∷◌, ◌++◌, map, length, Option, Some, None, refl, sym, ap, ◌∙◌, append-nil}
+use Rattle.std.specs.Prelude.{◌==◌, ◌&&◌, ◌||◌, not, filter, flat_map, is_some, slice_get}
+use Rattle.std.specs.List.{list_all, list_any}
+use Rattle.std.specs.Cmp.{nat_eq_equiv}
+use Rattle.std.proofs.Math.Bool.{or-false}
+use Rattle.std.proofs.lemmas.Bool.{false≢true, and_parts, and_from, or_parts, or_from, not-true, not_from_false}
+use Rattle.std.proofs.lemmas.Grind.{flat_map-append}
+use Rattle.std.proofs.lemmas.List.Folds.{list_any-append}
+use Rattle.zr_msg.specs.declared.msg.Msg.{Msg}
+use Rattle.zr_msg.specs.declared.msg.Msg.TheVariants as m
+use Rattle.zr_msg.specs.declared.command.Command.{Command}
+use Rattle.zr_table.specs.State.{Subscription, LinkState}
+use Rattle.zr_network.specs.World.{Tagged, ClientState, RouterState, WorldState, Routers, is_named, router_of, client_of, with_router}
+use Rattle.zr_network.specs.Phase.{Numbered}
+use Rattle.zr_network.specs.Broker.{Declaration, attaches, is_attached, declares, declarations}
+use Rattle.zr_laws.proofs.Queues.{is_at, links_at}
+
+-- ---- the invariant
+
+-- whether a world has one router at most
+abbrev pub is_single : Routers → Bool
+is_single [] = true
+is_single (e ∷ []) = true
+is_single (e ∷ f ∷ more) = false
+
+-- the links of all routers
+abbrev pub all_links : Routers → List LinkState
+all_links routers = flat_map (λ e. e.1.node.links) routers
+
+-- a row of a router as a declaration
+abbrev pub as_declaration : Subscription → Declaration
+as_declaration s = record { id = s.id; key = s.key }
+
+-- the declaration that a message is, if it is one
+abbrev pub declaration_of : Msg → List Declaration
+declaration_of (m.Sub id key) = record { id = id; key = key } ∷ []
+declaration_of (m.Push key body) = []
+
+-- the declarations that wait on a wire
+abbrev pub waiting : List Tagged → List Declaration
+waiting xs = flat_map (λ x. declaration_of x.msg) xs
+
+-- whether no two numbers are equal
+abbrev pub distinct : List ℕ → Bool
+distinct [] = true
+distinct (x ∷ xs) = not (list_any (λ y. y == x) xs) && distinct xs
+
+-- what of a client matters: its link, its ids, the declarations on its wire
+pub record View : Type 0 where
+  pub link : ℕ
+  pub ids : List ℕ
+  pub on_way : List Declaration
+
+abbrev pub view_of : ClientState → View
+view_of s = record { link = s.link; ids = s.ids; on_way = waiting s.wire }
+
+abbrev pub view : Option ClientState → Option View
+view None = None
+view (Some s) = Some (view_of s)
+
+-- a client that is there
+pub record Joins (attached : Bool) (said : List Declaration) (ns : List (List ℕ)) (links : List LinkState) (d : List ℕ) (v : View) : Type 0 where
+  pub is_there : attached ≡ true
+  -- it has one link, with these rows
+  pub rows : List Subscription
+  pub one : links_at ns d links ≡ record { link = record { 0 = v.link }; subs = rows } ∷ []
+  pub own : is_at (slice_get ns v.link) d ≡ true
+  -- what it has declared stands in the rows and on its wire
+  pub flow : map as_declaration rows ++ v.on_way ≡ said
+  pub ids_are : v.ids ≡ map (λ s. s.id) said
+  pub apart : distinct v.ids ≡ true
+
+-- a name, of a client or of none
+abbrev pub Holds : Bool → List Declaration → List (List ℕ) → List LinkState → List ℕ → Option View → Type 0
+Holds attached said ns links d None = (attached ≡ false) × (said ≡ []) × (links_at ns d links ≡ [])
+Holds attached said ns links d (Some v) = Joins attached said ns links d v
+
+pub record Known (lines : List Numbered) (w : WorldState) : Type 0 where
+  pub one_router : is_single w.routers ≡ true
+  pub named : list_all (λ l. is_some (slice_get w.names l.link.0)) (all_links w.routers) ≡ true
+  pub each : (d : List ℕ) → Holds (is_attached lines d) (declarations lines d) w.names (all_links w.routers) d (view (client_of w.clients d))
+
+-- ---- plain lists
+
+module _ {X : Type 0} where
+  -- an element that is there stays behind which more stand
+  pub get_more : (xs more : List X) (k : ℕ) → is_some (slice_get xs k) ≡ true → slice_get (xs ++ more) k ≡ slice_get xs k
+  get_more [] more k h = absurd (false≢true h)
+  get_more (x ∷ xs) more zero h = refl
+  get_more (x ∷ xs) more (suc k) h = get_more xs more k h
+
+  pub get_end : (xs : List X) (x : X) → slice_get (xs ++ x ∷ []) (length xs) ≡ Some x
+  get_end [] x = refl
+  get_end (y ∷ ys) x = get_end ys x
+
+pub distinct_more : (xs : List ℕ) (i : ℕ) → distinct xs ≡ true → list_any (λ y. y == i) xs ≡ false → distinct (xs ++ i ∷ []) ≡ true
+distinct_more [] i h k = refl
+distinct_more (x ∷ xs) i h k =
+    and_from (not (list_any (λ y. y == x) (xs ++ i ∷ []))) (distinct (xs ++ i ∷ []))
+    (not_from_false (list_any (λ y. y == x) (xs ++ i ∷ []))
+    (list_any-append (λ y. y == x) xs (i ∷ [])
+    ∙ or_from (list_any (λ y. y == x) xs) ((i == x) || false) (not-true (list_any (λ y. y == x) xs) here.0) (or_from (i == x) false (nat_eq_equiv.symm i x ∙ free.0) refl)))
+    (distinct_more xs i here.1 free.1)
+  where
+    here : (not (list_any (λ y. y == x) xs) ≡ true) × (distinct xs ≡ true)
+    here = and_parts (not (list_any (λ y. y == x) xs)) (distinct xs) h
+
+    free : ((x == i) ≡ false) × (list_any (λ y. y == i) xs ≡ false)
+    free = or_parts (x == i) (list_any (λ y. y == i) xs) k
+
+pub distinct_before : (xs ys : List ℕ) (i : ℕ) → distinct (xs ++ i ∷ ys) ≡ true → list_any (λ y. y == i) xs ≡ false
+distinct_before [] ys i h = refl
+distinct_before (x ∷ xs) ys i h =
+    or_from (x == i) (list_any (λ y. y == i) xs) (nat_eq_equiv.symm x i ∙ among.0) (distinct_before xs ys i here.1)
+  where
+    here : (not (list_any (λ y. y == x) (xs ++ i ∷ ys)) ≡ true) × (distinct (xs ++ i ∷ ys) ≡ true)
+    here = and_parts (not (list_any (λ y. y == x) (xs ++ i ∷ ys))) (distinct (xs ++ i ∷ ys)) h
+
+    among : ((i == x) ≡ false) × (list_any (λ y. y == x) ys ≡ false)
+    among = or_parts (i == x) (list_any (λ y. y == x) ys)
+        (or_parts (list_any (λ y. y == x) xs) ((i == x) || list_any (λ y. y == x) ys)
+        (sym (list_any-append (λ y. y == x) xs (i ∷ ys)) ∙ not-true (list_any (λ y. y == x) (xs ++ i ∷ ys)) here.0)).1
+
+-- a new id replaces no row
+pub nothing_replaced : (rows : List Subscription) (id : ℕ) → list_any (λ y. y == id) (map (λ s. s.id) (map as_declaration rows)) ≡ false →
+    filter (λ s. not (s.id == id)) rows ≡ rows
+nothing_replaced [] id h = refl
+nothing_replaced (s ∷ rows) id h =
+    let parts = or_parts (s.id == id) (list_any (λ y. y == id) (map (λ s. s.id) (map as_declaration rows))) h in
+    rw (parts.0) (ap (λ z. s ∷ z) (nothing_replaced rows id parts.1))
+
+-- ---- lines
+
+pub attached_more : (lines : List Numbered) (n : ℕ) (command : Command) (d : List ℕ) → is_attached (lines ++ (n, command) ∷ []) d ≡ (is_attached lines d || attaches d command)
+attached_more lines n command d =
+    list_any-append (λ x. attaches d x.1) lines ((n, command) ∷ []) ∙ ap (λ z. is_attached lines d || z) (or-false (attaches d command))
+
+pub declarations_more : (lines : List Numbered) (n : ℕ) (command : Command) (d : List ℕ) → declarations (lines ++ (n, command) ∷ []) d ≡ declarations lines d ++ declares d command
+declarations_more lines n command d =
+    flat_map-append (λ x. declares d x.1) lines ((n, command) ∷ []) ∙ ap (λ z. declarations lines d ++ z) (append-nil (declares d command))
+
+-- ---- links
+
+-- the router that is found has all the links
+pub the_links : (routers : Routers) (name : List ℕ) (r w : RouterState) → is_single routers ≡ true → router_of routers name ≡ Some r →
+    (all_links routers ≡ r.node.links) × (all_links (with_router routers name w) ≡ w.node.links) × (is_single (with_router routers name w) ≡ true)
+the_links [] name r w one h = absurd (false≢true (ap is_some h))
+the_links (e ∷ f ∷ more) name r w one h = absurd (false≢true one)
+the_links (e ∷ []) name r w one h = by (is_named name e.0) h
+  where
+    by : (b : Bool) → cond b (Some e.1) None ≡ Some r →
+        (e.1.node.links ++ [] ≡ r.node.links) × (all_links (cond b ((e.0, w) ∷ []) (e ∷ [])) ≡ w.node.links) × (is_single (cond b ((e.0, w) ∷ []) (e ∷ [])) ≡ true)
+    by true k = (append-nil e.1.node.links ∙ ap links_of k, append-nil w.node.links, refl)
+      where
+        links_of : Option RouterState → List LinkState
+        links_of None = []
+        links_of (Some x) = x.node.links
+    by false k = absurd (false≢true (ap is_some k))

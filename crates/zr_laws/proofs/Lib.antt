@@ -1,0 +1,16 @@
+pub mod OnLiterals
+pub mod Names
+pub mod Lists
+pub mod Places
+pub mod Queues
+pub mod Cases
+pub mod Pair
+pub mod Steps
+pub mod Phases
+pub mod Numbers
+pub mod Tags
+pub mod Known
+pub mod Tables
+pub mod Start
+pub mod Final
+pub mod Lines

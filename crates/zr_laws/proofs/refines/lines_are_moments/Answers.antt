@@ -1,0 +1,5 @@
+use Rattle.zr_laws.proofs.Lines as law
+use Rattle.zr_laws.proofs.refines.lines_are_moments.Goals as goal
+
+pub returns : goal.returns
+returns c = law.lines_are_moments

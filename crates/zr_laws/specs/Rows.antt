@@ -1,0 +1,78 @@
+-- Whole scripts worked out: what the definitions say of them.
+use Rattle.std.specs.Prelude.{◌≡◌, ℕ, List, [], ◌∷◌, ◌++◌, codes, true, Option, Some, None}
+use Rattle.std.specs.List.{flat_map}
+use Rattle.std.specs.Option.{option_map}
+use Rattle.zr_msg.specs.declared.error.ScriptError.{ScriptError}
+use Rattle.zr_msg.specs.declared.error.ScriptError.TheVariants.{NothingThere}
+use Rattle.zr_msg.specs.declared.command.Command.TheVariants.{Router, Client, Sub, Put, Handle, Take, Mark}
+use Rattle.zr_network.specs.Lines.{lines}
+use Rattle.zr_network.specs.Run.{run_of}
+use Rattle.zr_network.specs.Phase.{Numbered}
+use Rattle.zr_network.specs.Broker.{Item, from}
+use Rattle.zr_network.specs.Moments.{reached, is_quiet, sent_to}
+use Rattle.zr_network.specs.Accepted.{accepted}
+
+-- the text of some lines, each with its end
+abbrev pub text_of : List (List ℕ) → List ℕ
+text_of lines = flat_map (λ line. line ++ 10 ∷ []) lines
+
+-- what a script's run comes to: its report, how many of its lines were read, and the refusal of the last one
+pub record ComesTo (script report : List (List ℕ)) (number : ℕ) (refusal : Option ScriptError) : Type 0 where
+  pub report_is : (run_of (text_of script)).text ≡ text_of report
+  pub number_is : (run_of (text_of script)).number ≡ number
+  pub refusal_is : (run_of (text_of script)).refusal ≡ refusal
+
+-- a subscriber, and a sample of another client that it is sent
+abbrev pub first_script : List (List ℕ)
+first_script =
+    codes "router 0a" ∷ codes "client c1 0a" ∷ codes "client c2 0a" ∷ codes "sub c2 1 a/b" ∷ codes "handle 0a c2" ∷ codes "mark"
+    ∷ codes "put c1 a/b hi" ∷ codes "handle 0a c1" ∷ codes "take 0a c2" ∷ []
+
+-- a subscriber is sent another client's sample
+abbrev pub SampleArrives : Type 0
+SampleArrives = ComesTo first_script
+    (codes "0a < c2: sub 1 a/b #4" ∷ codes "mark #6" ∷ codes "0a < c1: put - a/b hi #7" ∷ codes "0a > c2: put - a/b hi #7" ∷ [])
+    9 None
+
+-- the router of that script, and its two clients
+abbrev pub a : List ℕ
+a = 10 ∷ []
+
+abbrev pub c1 : List ℕ
+c1 = 193 ∷ []
+
+abbrev pub c2 : List ℕ
+c2 = 194 ∷ []
+
+-- the lines of that script before its mark, and those after it
+abbrev pub before : List Numbered
+before = (1, Router a) ∷ (2, Client c1 a) ∷ (3, Client c2 a) ∷ (4, Sub c2 1 (codes "a/b")) ∷ (5, Handle a c2) ∷ []
+
+abbrev pub phase : List Numbered
+phase = (7, Put c1 (codes "a/b") (codes "hi")) ∷ (8, Handle a c1) ∷ (9, Take a c2) ∷ []
+
+-- what the one broker sends in that script
+abbrev pub sample : Item
+sample = record { line = 7; key = codes "a/b"; body = codes "hi" }
+
+-- in that script the one broker sends the sample to the subscriber alone, and so does the network
+pub record BrokerSendsIt : Type 0 where
+  pub accepted_is : accepted (lines (text_of first_script)) ≡ before ++ (6, Mark) ∷ phase
+  pub for_subscriber : from before phase c1 c2 ≡ sample ∷ []
+  pub for_author : from before phase c1 c1 ≡ []
+  pub of_subscriber : from before phase c2 c1 ≡ []
+  pub subscriber_sent : option_map (λ m. sent_to m.report c2) (reached (before ++ (6, Mark) ∷ phase)) ≡ Some (sample ∷ [])
+  pub author_sent : option_map (λ m. sent_to m.report c1) (reached (before ++ (6, Mark) ∷ phase)) ≡ Some []
+  pub quiet_at_end : option_map (λ m. is_quiet m.world) (reached (before ++ (6, Mark) ∷ phase)) ≡ Some true
+
+-- the empty script has the empty report
+abbrev pub NothingIsReported : Type 0
+NothingIsReported = ComesTo [] [] 0 None
+
+-- a client is not sent its own sample
+abbrev pub AuthorHearsNothing : Type 0
+AuthorHearsNothing = ComesTo
+    (codes "router 0a" ∷ codes "client c1 0a" ∷ codes "sub c1 1 a/b" ∷ codes "handle 0a c1" ∷ codes "put c1 a/b hi" ∷ codes "handle 0a c1"
+    ∷ codes "take 0a c1" ∷ [])
+    (codes "0a < c1: sub 1 a/b #3" ∷ codes "0a < c1: put - a/b hi #5" ∷ [])
+    7 (Some NothingThere)

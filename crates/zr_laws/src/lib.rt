@@ -1,0 +1,6 @@
+//! Laws of the network: theorems over its definitions, each the `ensures` of a function without parameters and with an
+//! empty body. Who needs a law calls its function.
+#![tactic(auto)]
+
+pub mod refines;
+pub mod rows;

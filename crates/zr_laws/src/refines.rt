@@ -1,0 +1,20 @@
+//! The network refines one broker: what each client was sent is, author by author, a prefix of what one broker that holds
+//! all clients sends it, and the whole where nothing is under way.
+
+ghost use Rattle.zr_network.specs.Accepted.{LinesAreMoments, LinesRefine};
+ghost use Rattle.zr_network.specs.Refines.{SamplesRefine};
+
+/// From each accepted mark on, at every moment of its phase, in every order of steps.
+pub fn samples_refine()
+    ensures { SamplesRefine }
+{}
+
+/// The accepted commands of a script's lines lead to a moment, whose world and report are those of the run of the lines.
+pub fn lines_are_moments()
+    ensures { LinesAreMoments }
+{}
+
+/// Every script's lines refine one broker, a refused script's up to the line that is refused.
+pub fn lines_refine()
+    ensures { LinesRefine }
+{}
