@@ -1,5 +1,5 @@
 -- The order of identifiers: what one comparison says of all tests on the two.
-use Rattle.std.proofs.Common.{◌≡◌, ℕ, List, Bool, true, false, Decides, Ordering, Less, Equal, Greater, refl, sym, ap, ◌∙◌, subst}
+use Rattle.std.proofs.Common.{◌≡◌, ℕ, List, true, false, Less, Equal, Greater, refl, sym, ap, ◌∙◌}
 use Rattle.std.specs.Cmp.Lexicographic.{slice_cmp, nat_list_cmp_total}
 use Rattle.std.specs.Ordering.{nat_cmp, is_lt, ordering_reverse}
 use Rattle.std.proofs.lemmas.Bool.{false_from_ne_true}

@@ -1,5 +1,5 @@
 -- A router's base: the newest record of each router that it was told of, and its own.
-use Rattle.std.specs.Prelude.{◌≡◌, ℕ, ◌+◌, Bool, true, ◌&&◌, not, nat_lt, List, [], ◌∷◌, Option, Some, None, is_some, if◌then◌else◌}
+use Rattle.std.specs.Prelude.{◌≡◌, ℕ, ◌+◌, Bool, true, ◌&&◌, not, nat_lt, List, [], ◌∷◌, is_some, if◌then◌else◌}
 use Rattle.std.specs.Option.{option_map_or}
 use Rattle.zr_id.specs.declared.record.LinkRecord.{LinkRecord}
 use Rattle.zr_graph.specs.Record.{same, record_of, put, ids, IsAscending}

@@ -1,8 +1,8 @@
 //! The base of a router: which records it keeps, and how its own record changes.
 
-ghost use Rattle.std.specs.Prelude.{◌≡◌, ◌+◌, ◌-◌, ◌^◌, ◌↔◌, false, IfOk, OnOk, OnErr, if◌then◌else◌};
+ghost use Rattle.std.specs.Prelude.{◌≡◌, ◌-◌, ◌^◌, ◌↔◌, IfOk, OnOk, OnErr, if◌then◌else◌};
 ghost use Rattle.std.specs.Option.{option_copied};
-ghost use Rattle.zr_graph.specs.Record.{has, has_edge, lists, record_of, IsAscending};
+ghost use Rattle.zr_graph.specs.Record.{has_edge, lists, record_of};
 ghost use Rattle.zr_graph.specs.Base.{IsInOrder, is_newer, after_record, kept, relinked, own_seq, fresh};
 
 use crate::place::{place_of, put};
@@ -89,9 +89,9 @@ impl Base {
     }
 
     /// Gives the own record its next number and these links.
+    ///
+    /// They are to be strictly ascending and without this router, as in each record; nothing here rests on it.
     pub fn change(&mut self, links: &[Zid]) -> Result<(), ChangeError>
-        requires ascending { IsAscending links.now }
-        requires others { has links.now self.old.me ≡ false }
         ensures ok { OnOk result (self.new ≡ relinked self.old links.now) }
         ensures worn { (result ≡ Err ChangeError.Worn) ↔ (own_seq self.old ≡ 2 ^ 64 - 1) }
         ensures unchanged { OnErr result (self.new ≡ self.old) }

@@ -62,6 +62,7 @@ fn an_edge_is_listed_by_both(rt: HostRuntime) -> Result<(), Fail> {
     assert!(rt; !base.edge(me, three));
     base.change(&[three])?;
     assert!(rt; !base.edge(one, me));
+    assert_eq!(rt; base.records().len(), 3);
     assert_eq!(rt; base.records()[1].seq, 2);
     Ok(())
 }
