@@ -1,0 +1,5 @@
+pub mod Spelling
+pub mod Number
+pub mod Text
+pub mod Reading
+pub mod Laws
