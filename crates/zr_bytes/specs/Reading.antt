@@ -1,7 +1,7 @@
 -- What a reading call answers, as a function of the bytes that are left. `Laws` ties it to the spellings.
-use Rattle.std.specs.Prelude.{◌≡◌, ℕ, zero, suc, ◌+◌, ◌-◌, ◌*◌, List, [], ◌∷◌, length, take, drop, Result, Ok, Err, nat_lt, if◌then◌else◌}
+use Rattle.std.specs.Prelude.{◌≡◌, ℕ, zero, suc, ◌+◌, ◌-◌, ◌*◌, List, [], ◌∷◌, length, take, drop, Result, Ok, Err, ◌⊎◌, nat_lt, if◌then◌else◌}
 use Rattle.zr_bytes.specs.declared.read_error.ReadError.{ReadError}
-use Rattle.zr_bytes.specs.declared.read_error.ReadError.TheVariants.{Short, TooBig}
+use Rattle.zr_bytes.specs.declared.read_error.ReadError.TheVariants.{Short, TooBig, NoMemory}
 
 -- A value and the bytes behind it, or why there is none.
 abbrev pub Read : Type 0 → Type 0
@@ -26,6 +26,20 @@ Reads (Err e) said old new = (said ≡ Err e) × (new ≡ old)
 abbrev pub ReadsBy : {X Y : Type 0} → (X → Y) → Result X ReadError → Read Y → List ℕ → List ℕ → Type 0
 ReadsBy view (Ok x) said old new = said ≡ Ok (view x, new)
 ReadsBy view (Err e) said old new = (said ≡ Err e) × (new ≡ old)
+
+-- A call that keeps what it reads is refused so too, unless memory ran out.
+abbrev pub Fails : {X : Type 0} → ReadError → Read X → Type 0
+Fails e said = (e ≡ NoMemory) ⊎ (said ≡ Err e)
+
+-- A call that keeps what it reads gave what is said, seen by a view, unless memory ran out; at a refusal all is left.
+abbrev pub Keeps : {X Y : Type 0} → (X → Y) → Result X ReadError → Read Y → List ℕ → List ℕ → Type 0
+Keeps view (Ok x) said old new = said ≡ Ok (view x, new)
+Keeps view (Err e) said old new = Fails e said × (new ≡ old)
+
+-- A step of such a call gave what is said, seen by a view; where it is refused the call is.
+abbrev pub Steps : {X Y : Type 0} → (X → Y) → Result X ReadError → Read Y → List ℕ → Type 0
+Steps view (Ok x) said new = said ≡ Ok (view x, new)
+Steps view (Err e) said new = Fails e said
 
 -- one byte
 unfoldable pub byte_of : List ℕ → Read ℕ

@@ -37,6 +37,13 @@ impl<'a> Cursor<'a> {
         self.bytes.len()
     }
 
+    /// Another cursor at the same place, to read ahead.
+    pub fn fork(&self) -> Cursor<'a>
+        ensures { result ≡ self.now }
+    {
+        Cursor { bytes: self.bytes }
+    }
+
     /// Hands out all that is left.
     pub fn rest(&mut self) -> &'a [u8]
         ensures value { result.now ≡ self.old }
