@@ -44,6 +44,13 @@ impl<'a> Cursor<'a> {
         Cursor { bytes: self.bytes }
     }
 
+    /// All that is left, with the cursor where it stands.
+    pub fn as_slice(&self) -> &'a [u8]
+        ensures { result.now ≡ self.now }
+    {
+        self.bytes
+    }
+
     /// Hands out all that is left.
     pub fn rest(&mut self) -> &'a [u8]
         ensures value { result.now ≡ self.old }
