@@ -1,0 +1,119 @@
+//! The worked rows of the first path, and the statuses, over sources and sinks in memory.
+
+use crate::run::run;
+use std::alloc::{AllocError, Global};
+use std::test::Fail;
+use zr_netrun::status::Status;
+use zr_outside::mem_sink::MemSink;
+use zr_outside::mem_source::MemSource;
+
+const ONE_SAMPLE: &str = "router 0a\nclient c1 0a\nclient c2 0a\nsub c2 1 a/b\nhandle 0a c2\nmark\nput c1 a/b hi\nhandle 0a c1\ntake 0a c2\n";
+
+const ONE_SAMPLE_REPORT: &str = "0a < c2: sub 1 a/b #4\nmark #6\n0a < c1: put - a/b hi #7\n0a > c2: put - a/b hi #7\n";
+
+const USAGE: &str = "usage: zrd net [--summary] / serve --id ID --listen ADDRESS [DIAL]... / make --number N --routers R --clients C --messages M\n";
+
+// Which calls fail, and how many bytes a read gives at most.
+#[derive(Clone, Copy)]
+struct Outside<'a> {
+    most: usize,
+    failing_read: &'a [u64],
+    quiet_read: &'a [u64],
+    failing_write: &'a [u64],
+    failing_error: &'a [u64],
+}
+
+const SOUND: Outside<'static> = Outside {
+    most: 65_536,
+    failing_read: &[],
+    quiet_read: &[],
+    failing_write: &[],
+    failing_error: &[],
+};
+
+// What a run gave: its status, and whether out and err hold these texts.
+fn gives(alloc: Global, word: &str, script: &str, outside: &Outside, out_text: &str, err_text: &str) -> Result<(Status, bool, bool), AllocError> {
+    let words = vec![in alloc; String::from_str(alloc, word)?]?;
+    let mut input = MemSource::new(
+        Vec::from_slice(alloc, script.as_bytes())?,
+        outside.most,
+        Vec::from_slice(alloc, outside.failing_read)?,
+        Vec::from_slice(alloc, outside.quiet_read)?,
+    );
+    let mut out = MemSink::new(alloc, Vec::from_slice(alloc, outside.failing_write)?);
+    let mut err = MemSink::new(alloc, Vec::from_slice(alloc, outside.failing_error)?);
+    let status = run(alloc, words.as_slice(), &mut input, &mut out, &mut err);
+    Ok((status, out.bytes() == out_text.as_bytes(), err.bytes() == err_text.as_bytes()))
+}
+
+#[test]
+fn scripts_give_their_reports(rt: HostRuntime) -> Result<(), Fail> {
+    for (script, out, err, status) in [
+        (ONE_SAMPLE, ONE_SAMPLE_REPORT, "", Status::Done),
+        ("", "", "", Status::Done),
+        (
+            "router 0a\nclient c1 0a\nsub c1 1 a/b\nhandle 0a c1\nput c1 a/b hi\nhandle 0a c1\ntake 0a c1\n",
+            "0a < c1: sub 1 a/b #3\n0a < c1: put - a/b hi #5\n",
+            "line 7: 8 NothingThere\n",
+            Status::Refused,
+        ),
+        ("bogus", "", "line 1: 1 UnknownCommand\n", Status::Refused),
+        ("sub c1 1 a//b", "", "line 1: 5 BadKey\n", Status::Refused),
+        ("router 0A", "", "line 1: 2 BadWords\n", Status::Refused),
+        ("router 0a\nrouter 0b\n", "", "line 2: 12 Limit\n", Status::Refused),
+    ] {
+        let given = gives(rt.alloc(), "net", script, &SOUND, out, err)?;
+        assert_eq!(&rt; given.0, status, "{script}");
+        assert!(&rt; given.1 && given.2, "{script}");
+    }
+    Ok(())
+}
+
+#[test]
+fn pieces_make_no_difference(rt: HostRuntime) -> Result<(), Fail> {
+    let outside = Outside {
+        most: 1,
+        quiet_read: &[0, 7, 8],
+        ..SOUND
+    };
+    let given = gives(rt.alloc(), "net", ONE_SAMPLE, &outside, ONE_SAMPLE_REPORT, "")?;
+    assert_eq!(&rt; given.0, Status::Done);
+    assert!(&rt; given.1 && given.2);
+    Ok(())
+}
+
+#[test]
+fn faults_end_the_run(rt: HostRuntime) -> Result<(), Fail> {
+    let reads = Outside {
+        failing_read: &[0],
+        ..SOUND
+    };
+    let writes = Outside {
+        failing_write: &[0],
+        ..SOUND
+    };
+    let errors = Outside {
+        failing_error: &[0],
+        ..SOUND
+    };
+    let read = gives(rt.alloc(), "net", ONE_SAMPLE, &reads, "", "")?;
+    assert!(&rt; read.0 == Status::ReadFault && read.1 && read.2);
+    let written = gives(rt.alloc(), "net", ONE_SAMPLE, &writes, "", "")?;
+    assert!(&rt; written.0 == Status::WriteFault && written.1 && written.2);
+    let told = gives(rt.alloc(), "net", "bogus", &errors, "", "")?;
+    assert!(&rt; told.0 == Status::WriteFault && told.1 && told.2);
+    Ok(())
+}
+
+#[test]
+fn other_words_are_told_the_usage(rt: HostRuntime) -> Result<(), Fail> {
+    let given = gives(rt.alloc(), "nets", ONE_SAMPLE, &SOUND, "", USAGE)?;
+    assert!(&rt; given.0 == Status::Words && given.1 && given.2);
+    let errors = Outside {
+        failing_error: &[0],
+        ..SOUND
+    };
+    let failed = gives(rt.alloc(), "nets", ONE_SAMPLE, &errors, "", "")?;
+    assert!(&rt; failed.0 == Status::Words && failed.1 && failed.2);
+    Ok(())
+}
