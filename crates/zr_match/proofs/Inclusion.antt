@@ -9,6 +9,7 @@ use Rattle.zr_match.specs.Table.{is_any_chunks, chunk_signs}
 use Rattle.zr_match.specs.Laws.{IsFresh, piece_passes, chunk_passes}
 use Rattle.zr_key.proofs.SameKeys.{Matches-parted}
 use Rattle.zr_match.proofs.Globs.{one_nil, one_cons}
+use Rattle.zr_match.proofs.Right.{all_chunks}
 use Rattle.zr_match.proofs.ChunkTable.{filled, piece_filled, filled_fits, filled_key, filled_verbatim, matches_law, chunk_one_in, takes_together}
 
 -- a text is cut where the pieces that it fits are cut
@@ -230,10 +231,6 @@ key_known alphabet z [] h g = refl
 key_known alphabet z (x ∷ b) h g =
     let parts = and_parts (chunk_passes alphabet x) (list_all (chunk_passes alphabet) b) g in
     and_from (list_all alphabet (chunk_filled z x)) (list_all (λ chunk. list_all alphabet chunk) (key_of z b)) (chunk_known alphabet z x h parts.0) (key_known alphabet z b h parts.1)
-
-all_chunks : (e : List Chunk) → is_expression e ≡ true → list_all is_chunk e ≡ true
-all_chunks [] h = cc
-all_chunks (x ∷ e) h = h
 
 pub inclusion_covers : (alphabet : ℕ → Bool) (a b : List Chunk) (z : ℕ) → IsFresh alphabet a z → list_all (chunk_passes alphabet) b ≡ true
     → is_expression a ≡ true → is_canonical a ≡ true → is_expression b ≡ true → list_any is_any_chunks b ≡ false

@@ -10,3 +10,4 @@ pub mod Steps
 pub mod Plain
 pub mod Inclusion
 pub mod Right
+pub mod Fresh

@@ -6,6 +6,7 @@ use Rattle.std.proofs.lemmas.Bool.{and_parts, and_from, eqb-true, eq-eqb, false�
 use Rattle.std.proofs.lemmas.List.{reverse-append, reverse-reverse}
 use Rattle.std.proofs.lemmas.List.Folds.{list_all-append}
 use Rattle.zr_key.specs.Expression.{Piece, Char, AnyChars, is_plain, is_piece, is_any_chars, Fits}
+use Rattle.zr_key.proofs.Spelling.{same_bytes}
 use Rattle.zr_match.specs.Match.{Takes}
 use Rattle.zr_match.specs.Table.{same_char, piece_signs, pieces_compare}
 use Rattle.zr_match.proofs.Globs.{Gapped, Headed, Matching, Common, OpenLetter, SharedLetter, Sharing, Taking, barred, reverse_matches, table_sound, table_complete, table_takes, table_taken}
@@ -170,17 +171,7 @@ pub takes_compare : (p q : List Piece) → Takes p q → pieces_compare false p 
 takes_compare p q m =
     table_taken (piece_signs false) TakesPiece Takes takes_law takes_tests (reverse p) (reverse q) (reverse_matches (piece_signs false) (barred (piece_signs false)) TakesPiece Takes takes_law p q m)
 
--- bytes compare equal where they are the same
-pub same_bytes : (xs ys : List ℕ) → pointwise nat_eq xs ys ≡ true → xs ≡ ys
-same_bytes [] [] h = refl
-same_bytes [] (y ∷ ys) h = cc
-same_bytes (x ∷ xs) [] h = cc
-same_bytes (x ∷ xs) (y ∷ ys) h =
-    let parts = and_parts (x == y) (pointwise nat_eq xs ys) h in
-    let e : x ≡ y = eqb-true x y parts.0 in
-    let es : xs ≡ ys = same_bytes xs ys parts.1 in
-    cc
-
+-- bytes that are the same compare equal
 pub bytes_same : (xs ys : List ℕ) → xs ≡ ys → pointwise nat_eq xs ys ≡ true
 bytes_same xs ys e = ap (λ z. pointwise nat_eq xs z) (sym e) ∙ itself xs
   where

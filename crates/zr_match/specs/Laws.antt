@@ -1,7 +1,7 @@
 -- What meeting and covering promise of keys.
-use Rattle.std.specs.Prelude.{◌≡◌, ◌↔◌, ℕ, ◌==◌, not, Bool, true, false, List}
+use Rattle.std.specs.Prelude.{◌≡◌, ◌↔◌, ℕ, ◌==◌, ◌≤◌, ◌&&◌, ◌||◌, not, nat_lt, nat_le, Bool, true, false, List, length}
 use Rattle.std.specs.List.{list_any, list_all}
-use Rattle.zr_key.specs.Expression.{Piece, Char, AnyChars, Chunk, Any, AnyChunks, Pieces, is_plain, is_key, is_expression, is_canonical, Matches}
+use Rattle.zr_key.specs.Expression.{Piece, Char, AnyChars, Chunk, Any, AnyChunks, Pieces, is_plain, is_key, is_expression, is_canonical, Matches, spelled}
 use Rattle.zr_key.specs.Key.{expression_of, IsKeyText}
 use Rattle.zr_match.specs.Match.{Meets, Covers}
 use Rattle.zr_match.specs.Table.{is_any_chunks, texts_meet, texts_cover}
@@ -39,3 +39,11 @@ abbrev pub InclusionIsCovering : Type 0
 InclusionIsCovering = (alphabet : ℕ → Bool) (a b : List Chunk) (z : ℕ) → IsFresh alphabet a z → list_all (chunk_passes alphabet) b ≡ true
     → is_expression a ≡ true → is_canonical a ≡ true → is_expression b ≡ true → list_any is_any_chunks b ≡ false
     → ((key : List (List ℕ)) → is_key key ≡ true → list_all (λ chunk. list_all alphabet chunk) key ≡ true → Matches b key → Matches a key) → Covers a b
+
+-- a Unicode scalar value
+abbrev pub is_scalar : ℕ → Bool
+is_scalar c = nat_lt c 0xd800 || nat_le 0xe000 c && nat_lt c 0x110000
+
+-- Of the Unicode characters there is such a one for each expression of at most 2,048 bytes.
+abbrev pub FreshIsThere : Type 0
+FreshIsThere = (a : List Chunk) → is_expression a ≡ true → length (spelled a) ≤ 2048 → (z : ℕ) × IsFresh is_scalar a z

@@ -1,6 +1,6 @@
 //! Laws of meeting and covering: each is a call that does nothing, whose contract is the law.
 
-ghost use Rattle.zr_match.specs.Laws.{TestsAreRight, CoveringIsInclusion, InclusionIsCovering};
+ghost use Rattle.zr_match.specs.Laws.{TestsAreRight, CoveringIsInclusion, InclusionIsCovering, FreshIsThere};
 
 /// The tests that definitions above cite say what meeting and covering mean.
 pub fn tests_are_right()
@@ -15,4 +15,9 @@ pub fn covering_is_inclusion()
 /// An expression covers each one without `**` whose keys it matches.
 pub fn inclusion_is_covering()
     ensures { InclusionIsCovering }
+{}
+
+/// Unicode has a character more than an expression uses.
+pub fn fresh_is_there()
+    ensures { FreshIsThere }
 {}

@@ -18,6 +18,9 @@ use walk::compare;
 use zr_key::key::KeyExpr;
 
 /// Whether some key is matched by both expressions (Zenoh key expressions RFC, "Intersection").
+///
+/// It takes no memory. Two keys are compared as texts, and expressions without `**` chunk by chunk; at worst there are as many steps as
+/// the product of the two lengths.
 pub fn meets(a: &KeyExpr, b: &KeyExpr) -> bool
     ensures test { result ≡ texts_meet a.now b.now }
     ensures meaning { IsTrue result ↔ Meets (expression_of a.now) (expression_of b.now) }
@@ -25,7 +28,10 @@ pub fn meets(a: &KeyExpr, b: &KeyExpr) -> bool
     compare_texts(true, a, b)
 }
 
-/// Whether the first expression covers the second, chunk by chunk (Zenoh key expressions RFC, "Inclusion").
+/// Whether the first expression covers the second, chunk by chunk (Zenoh key expressions RFC, "Inclusion"): then it matches each key that
+/// the second matches.
+///
+/// It takes no memory, and no more steps than `meets`.
 pub fn covers(a: &KeyExpr, b: &KeyExpr) -> bool
     ensures test { result ≡ texts_cover a.now b.now }
     ensures meaning { IsTrue result ↔ Covers (expression_of a.now) (expression_of b.now) }

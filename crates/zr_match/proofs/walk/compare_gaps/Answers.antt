@@ -2,7 +2,7 @@ use Rattle.std.proofs.Common.{◌∷◌, [], true, sym, ap, ◌∙◌}
 use Rattle.zr_key.specs.Key.{expression_of}
 use Rattle.zr_match.specs.Table.{compare_chunks}
 use Rattle.zr_match.proofs.Ends.{gap_first, gap_second}
-use Rattle.zr_match.proofs.PieceTable.{same_bytes}
+use Rattle.zr_key.proofs.Spelling.{same_bytes}
 use Rattle.zr_match.proofs.walk.compare_gaps.Goals as goal
 
 pub returns-then-is_any_chunks : goal.returns-then-is_any_chunks
