@@ -1,0 +1,13 @@
+pub mod Globs
+pub mod PieceTable
+pub mod ChunkTable
+pub mod Rows
+pub mod PieceSteps
+pub mod GoTogether
+pub mod ChunkSteps
+pub mod Ends
+pub mod Steps
+pub mod Plain
+pub mod Inclusion
+pub mod Right
+pub mod Fresh

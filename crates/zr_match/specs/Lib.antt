@@ -1,0 +1,3 @@
+pub mod Match
+pub mod Table
+pub mod Laws
