@@ -57,6 +57,7 @@ fn bodies_are_kept_byte_for_byte(rt: HostRuntime) -> Result<(), Fail> {
         let mut out = Vec::new(rt.alloc());
         write_body(&mut out, &body.copy(rt.alloc())?)?;
         assert_eq!(rt; out.as_slice(), bytes);
+        assert_eq!(rt; Body::new(out).as_slice(), bytes);
     }
     Ok(())
 }

@@ -3,6 +3,7 @@ use Rattle.std.specs.Prelude.{◌≡◌, ℕ, zero, suc, ◌+◌, ◌*◌, ◌/�
 
 -- Groups of seven bits, the lowest first. A byte below 128 is the last one. One from 128 on has the low seven
 -- bits, and the bytes after it spell the rest. After `more` bytes the next one gives all its eight bits and is the last.
+-- Bytes are below 256, as those of a slice are: no case repeats it.
 abbrev pub SpellsWithin : ℕ → ℕ → List ℕ → Type 0
 SpellsWithin more value [] = ⊥
 SpellsWithin zero value (b ∷ []) = value ≡ b

@@ -78,3 +78,20 @@ fn the_shortest_spelling_is_written(rt: HostRuntime) -> Result<(), Fail> {
     assert_eq!(rt; out.len(), 8);
     Ok(())
 }
+
+#[test]
+fn bytes_are_kept_and_given_back(rt: HostRuntime) -> Result<(), Fail> {
+    let mut vec = b"hi".to_vec(rt.alloc())?;
+    vec.push(33)?;
+    let kept = ByteString::new(vec);
+    let copy = kept.copy(rt.alloc())?;
+    assert_eq!(rt; copy.as_slice(), b"hi!".as_slice());
+    assert_eq!(rt; kept.into_vec().as_slice(), b"hi!".as_slice());
+    let fresh = ByteString::from_slice(rt.alloc(), b"")?;
+    assert_eq!(rt; fresh.as_slice().len(), 0);
+    let mut cursor = Cursor::new(b"hi");
+    assert_eq!(rt; cursor.fork().u8()?, 104);
+    assert_eq!(rt; cursor.as_slice(), b"hi".as_slice());
+    assert_eq!(rt; cursor.rest(), b"hi".as_slice());
+    Ok(())
+}

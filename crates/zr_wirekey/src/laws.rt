@@ -1,0 +1,18 @@
+//! The laws of numbered keys, over their definitions alone.
+
+ghost use Rattle.zr_wirekey.specs.Laws.{KeysAreRead, KeysHaveOneReading, WritesKeys};
+
+/// A key is read exactly where the bytes begin with one, and refused exactly for its first fault.
+pub fn keys_are_read()
+    ensures { KeysAreRead }
+{}
+
+/// No key begins another one.
+pub fn keys_have_one_reading()
+    ensures { KeysHaveOneReading }
+{}
+
+/// What is written is read again.
+pub fn written_keys_are_read()
+    ensures { WritesKeys }
+{}

@@ -1,0 +1,15 @@
+//! Key expressions on the wire: a number that stands for a text that was declared before, and a suffix behind it.
+#![tactic(auto)]
+
+mod laws;
+mod reading;
+mod scopes;
+mod writing;
+
+pub use laws::{keys_are_read, keys_have_one_reading, written_keys_are_read};
+pub use reading::read_key;
+pub use scopes::{ScopeError, Scopes};
+pub use writing::write_key;
+
+#[cfg(test)]
+mod tests;
