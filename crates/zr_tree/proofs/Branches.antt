@@ -1,0 +1,160 @@
+-- Parents are one nearer to the root, so what a router is below is a line of which each distance has one.
+use Rattle.std.proofs.Common.{◌≡◌, ℕ, ◌+◌, ◌<◌, ◌≤◌, zero, suc, Bool, true, false, cond, ◌&&◌, ◌||◌, ◌==◌, List, [], ◌∷◌, Option, Some, None, ◌⊎◌, inl, inr, length, is_some, unwrap_or, refl, sym, ap, ◌∙◌, subst, arith}
+use Rattle.std.specs.List.{filter, find, list_any}
+use Rattle.std.specs.Option.{option_or, option_map_or}
+use Rattle.std.proofs.lemmas.Bool.{true≢false, false≢true, cases_lt, eq-eqb, eqb-true, or_cases, or_right, or_left}
+use Rattle.zr_graph.specs.Record.{same}
+use Rattle.zr_graph.proofs.Names.{same_is, same_refl}
+use Rattle.zr_tree.specs.Walk.{Graph, near, edge_length}
+use Rattle.zr_tree.specs.Tree.{leads, least, dist, is_sum, parent, climbs, below, is_child, children, toward, reached}
+use Rattle.zr_tree.proofs.Finds.{In, find_in, in_find, none_find}
+use Rattle.zr_tree.proofs.Distances.{within, step_back, root_at_zero, zero_is_root}
+
+-- how a parent stands to its child
+pub record IsParent (g : Graph) (root x p : List ℕ) (m : ℕ) : Type 0 where
+  pub neighbour : In p (near g x)
+  pub from_parent : dist g root p ≡ Some m
+  pub to_child : dist g root x ≡ Some (suc m)
+
+module _ (g : Graph) (root : List ℕ) where
+  sum_parts : (a b : Option ℕ) → is_sum a 1 b ≡ true → (m : ℕ) × (a ≡ Some m) × (b ≡ Some (suc m))
+  sum_parts (Some m) (Some n) h = let e : n ≡ suc m = omega (arith, eqb-true (m + 1) n h) in (m, refl, ap Some e)
+  sum_parts (Some m) None h = absurd (false≢true h)
+  sum_parts None b h = absurd (false≢true h)
+
+  sum_from : (a b : Option ℕ) (m : ℕ) → a ≡ Some m → b ≡ Some (suc m) → is_sum a 1 b ≡ true
+  sum_from a b m e f = rw (e, f) (eq-eqb (m + 1) (suc m) (omega arith))
+
+  pub parent_is : (x p : List ℕ) → parent g root x ≡ Some p → (m : ℕ) × IsParent g root x p m
+  parent_is x p h =
+      let f = find_in (λ y. is_sum (dist g root y) (edge_length g y x) (dist g root x)) (near g x) p h in
+      let s = sum_parts (dist g root p) (dist g root x) f.1 in
+      (s.0, record { neighbour = f.0; from_parent = s.1; to_child = s.2 })
+
+  pub has_parent : (x : List ℕ) (m : ℕ) → dist g root x ≡ Some (suc m) → (p : List ℕ) × (parent g root x ≡ Some p)
+  has_parent x m h =
+      let y = step_back g root (suc (length g.names)) m x h in
+      in_find (λ z. is_sum (dist g root z) (edge_length g z x) (dist g root x)) (near g x) y.0 y.1 (sum_from (dist g root y.0) (dist g root x) m y.2 h)
+
+  -- nothing is one nearer than the root, or than what isn't reached
+  no_parent : (x : List ℕ) → ((m : ℕ) → dist g root x ≡ Some (suc m) → ⊥) → parent g root x ≡ None
+  no_parent x h = none_find _ (near g x) (λ y i. by_test y (is_sum (dist g root y) 1 (dist g root x)) refl)
+    where
+      by_test : (y : List ℕ) (t : Bool) → is_sum (dist g root y) 1 (dist g root x) ≡ t → is_sum (dist g root y) 1 (dist g root x) ≡ false
+      by_test y false e = e
+      by_test y true e = let s = sum_parts (dist g root y) (dist g root x) e in absurd (h s.0 s.2)
+
+  pub unreached_no_parent : (x : List ℕ) → dist g root x ≡ None → parent g root x ≡ None
+  unreached_no_parent x e = no_parent x (λ m f. cc)
+
+  pub zero_no_parent : (x : List ℕ) → dist g root x ≡ Some 0 → parent g root x ≡ None
+  zero_no_parent x e = no_parent x (λ m f. let i : Some 0 ≡ Some (suc m) = sym e ∙ f in cc)
+
+  pub child_is : (x y : List ℕ) → is_child g root x y ≡ true → parent g root y ≡ Some x
+  child_is x y h = by_parent (parent g root y) h
+    where
+      by_parent : (o : Option (List ℕ)) → option_map_or (λ p. same p x) o false ≡ true → o ≡ Some x
+      by_parent None h = absurd (false≢true h)
+      by_parent (Some p) h = ap Some (same_is p x h)
+
+  pub child_from : (x y : List ℕ) → parent g root y ≡ Some x → is_child g root x y ≡ true
+  child_from x y h = rw h (same_refl x)
+
+  or_false : (b : Bool) → (b || false) ≡ b
+  or_false true = refl
+  or_false false = refl
+
+  -- below, by its own words
+  pub below_step : (y x : List ℕ) → below g root y x ≡ (same x y || option_map_or (λ p. below g root y p) (parent g root x) false)
+  below_step y x = by_dist (dist g root x) refl
+    where
+      by_parent : (m : ℕ) → dist g root x ≡ Some (suc m) → (o : Option (List ℕ)) → parent g root x ≡ o →
+          (same x y || option_map_or (λ p. climbs g m root y p) o false) ≡ (same x y || option_map_or (λ p. below g root y p) o false)
+      by_parent m e None f = refl
+      by_parent m e (Some p) f =
+          let q = parent_is x p f in
+          let s : Some (suc q.0) ≡ Some (suc m) = sym (q.1.to_child) ∙ e in
+          let i : q.0 ≡ m = cc in
+          let j : dist g root p ≡ Some m = q.1.from_parent ∙ ap Some i in
+          ap (λ (d : Option ℕ). same x y || climbs g (unwrap_or d 0) root y p) (sym j)
+      by_dist : (o : Option ℕ) → dist g root x ≡ o →
+          climbs g (unwrap_or o 0) root y x ≡ (same x y || option_map_or (λ p. below g root y p) (parent g root x) false)
+      by_dist None e = rw (unreached_no_parent x e) (sym (or_false (same x y)))
+      by_dist (Some zero) e = rw (zero_no_parent x e) (sym (or_false (same x y)))
+      by_dist (Some (suc m)) e = by_parent m e (parent g root x) refl
+
+  pub below_itself : (x : List ℕ) → below g root x x ≡ true
+  below_itself x = below_step x x ∙ or_left (same x x) _ (same_refl x)
+
+  pub below_parent : (y x p : List ℕ) → parent g root x ≡ Some p → below g root y p ≡ true → below g root y x ≡ true
+  below_parent y x p e h = below_step y x ∙ or_right (same x y) _ (rw e h)
+
+  -- x is y, or a parent of x is below y
+  pub below_cases : (y x : List ℕ) → below g root y x ≡ true → (x ≡ y) ⊎ ((p : List ℕ) × (parent g root x ≡ Some p) × (below g root y p ≡ true))
+  below_cases y x h = elim (or_cases (same x y) (option_map_or (λ p. below g root y p) (parent g root x) false) (sym (below_step y x) ∙ h)) [
+      inl s ↦ inl (same_is x y s)
+    | inr s ↦ inr (by_parent (parent g root x) refl s)
+    ]
+    where
+      by_parent : (o : Option (List ℕ)) → parent g root x ≡ o → option_map_or (λ p. below g root y p) o false ≡ true → (p : List ℕ) × (parent g root x ≡ Some p) × (below g root y p ≡ true)
+      by_parent None e s = absurd (false≢true s)
+      by_parent (Some p) e s = (p, e, s)
+
+  -- the same, where x is at a known distance: at zero it is y itself
+  below_at : (n : ℕ) (y x : List ℕ) → dist g root x ≡ Some n → below g root y x ≡ true →
+      (x ≡ y) ⊎ ((p : List ℕ) × (m : ℕ) × (n ≡ suc m) × (dist g root p ≡ Some m) × (parent g root x ≡ Some p) × (below g root y p ≡ true))
+  below_at n y x d h = elim (below_cases y x h) [
+      inl i ↦ inl i
+    | inr f ↦ (let q = parent_is x f.0 f.1 in
+        let s : Some n ≡ Some (suc q.0) = sym d ∙ q.1.to_child in
+        let e : n ≡ suc q.0 = cc in
+        inr (f.0, q.0, e, q.1.from_parent, f.1, f.2))
+    ]
+
+  pub below_trans : (n : ℕ) (z y x : List ℕ) → dist g root x ≡ Some n → below g root z y ≡ true → below g root y x ≡ true → below g root z x ≡ true
+  below_trans zero z y x d u v = elim (below_at zero y x d v) [
+      inl i ↦ (let P : List ℕ → Type 0 = λ w. below g root z w ≡ true in subst P (sym i) u)
+    | inr f ↦ absurd (omega (arith, f.2))
+    ]
+  below_trans (suc n) z y x d u v = elim (below_at (suc n) y x d v) [
+      inl i ↦ (let P : List ℕ → Type 0 = λ w. below g root z w ≡ true in subst P (sym i) u)
+    | inr f ↦ (let e : f.1 ≡ n = omega (arith, f.2) in
+        below_parent z x f.0 f.4 (below_trans n z y f.0 (f.3 ∙ ap Some e) u f.5))
+    ]
+
+  -- what x is below is at some distance, no farther than x, and as far only where it is x
+  pub below_nearer : (n : ℕ) (y x : List ℕ) → dist g root x ≡ Some n → below g root y x ≡ true → (m : ℕ) × (dist g root y ≡ Some m) × (m ≤ n) × (m ≡ n → x ≡ y)
+  below_nearer zero y x d v = elim (below_at zero y x d v) [
+      inl i ↦ (let P : List ℕ → Type 0 = λ w. dist g root w ≡ Some zero in (zero, subst P i d, omega arith, λ _. i))
+    | inr f ↦ absurd (omega (arith, f.2))
+    ]
+  below_nearer (suc n) y x d v = elim (below_at (suc n) y x d v) [
+      inl i ↦ (let P : List ℕ → Type 0 = λ w. dist g root w ≡ Some (suc n) in (suc n, subst P i d, omega arith, λ _. i))
+    | inr f ↦ (let e : f.1 ≡ n = omega (arith, f.2) in
+        let r = below_nearer n y f.0 (f.3 ∙ ap Some e) f.5 in
+        (r.0, r.1, omega (arith, r.2), λ s. absurd (omega (arith, r.2, s))))
+    ]
+
+  -- of those that x is below, one is at each distance
+  pub below_one : (n : ℕ) (y z x : List ℕ) (m : ℕ) → dist g root x ≡ Some n → below g root y x ≡ true → below g root z x ≡ true → dist g root y ≡ Some m → dist g root z ≡ Some m → y ≡ z
+  below_one zero y z x m d u v a b =
+      let p = below_nearer zero y x d u in
+      let q = below_nearer zero z x d v in
+      sym (p.3 (omega (arith, p.2))) ∙ q.3 (omega (arith, q.2))
+  below_one (suc n) y z x m d u v a b = elim (below_at (suc n) y x d u) [
+      inl i ↦ (let q = below_nearer (suc n) z x d v in
+        let s : Some (suc n) ≡ Some q.0 = sym d ∙ (let P : List ℕ → Type 0 = λ w. dist g root w ≡ Some m in subst P (sym i) a) ∙ sym b ∙ q.1 in
+        let e : q.0 ≡ suc n = cc in
+        sym i ∙ q.3 e)
+    | inr f ↦ elim (below_at (suc n) z x d v) [
+        inl j ↦ (let q = below_nearer (suc n) y x d u in
+          let s : Some (suc n) ≡ Some q.0 = sym d ∙ (let P : List ℕ → Type 0 = λ w. dist g root w ≡ Some m in subst P (sym j) b) ∙ sym a ∙ q.1 in
+          let e : q.0 ≡ suc n = cc in
+          sym (q.3 e) ∙ j)
+      | inr h ↦ (let e : f.1 ≡ n = omega (arith, f.2) in
+          let i : Some f.0 ≡ Some h.0 = sym f.4 ∙ h.4 in
+          let j : h.0 ≡ f.0 = cc in
+          let P : List ℕ → Type 0 = λ w. below g root z w ≡ true in
+          below_one n y z f.0 m (f.3 ∙ ap Some e) f.5 (subst P j h.5) a b)
+      ]
+    ]

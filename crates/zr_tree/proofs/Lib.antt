@@ -1,0 +1,11 @@
+pub mod Ancestors
+pub mod Branches
+pub mod Distances
+pub mod Finds
+pub mod Indexes
+pub mod Jumps
+pub mod Levels
+pub mod Rows
+pub mod Unknown
+pub mod Visiting
+pub mod Ways

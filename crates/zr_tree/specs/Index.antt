@@ -1,0 +1,26 @@
+-- Routers by their index in ascending order.
+use Rattle.std.specs.Prelude.{◌≡◌, ℕ, ◌<◌, ◌-◌, ◌^◌, List, [], length, map, All, slice_index_or}
+use Rattle.zr_id.specs.declared.record.LinkRecord.{LinkRecord}
+use Rattle.zr_graph.specs.Record.{ids, IsAscending}
+use Rattle.zr_tree.specs.Walk.{graph_of, near}
+
+-- the identifier at an index
+abbrev pub name : List LinkRecord → ℕ → List ℕ
+name records i = slice_index_or (ids records) i []
+
+-- the list at an index
+abbrev pub row : List (List ℕ) → ℕ → List ℕ
+row rows i = slice_index_or rows i []
+
+-- the neighbours of each router of the records, by index
+pub record EdgeTable : Type 0 where
+  pub records : List LinkRecord
+  pub rows : List (List ℕ)
+
+-- the rows list the neighbours, and their indexes fit 32 bits
+pub record AreEdges (e : EdgeTable) : Type 0 where
+  pub ascending : IsAscending (ids e.records)
+  pub small : length e.records < 2 ^ 32 - 1
+  pub long : length e.rows ≡ length e.records
+  pub neighbours : (i : ℕ) → i < length e.records → map (name e.records) (row e.rows i) ≡ near (graph_of e.records) (name e.records i)
+  pub within : (i : ℕ) → i < length e.records → All (λ j. j < length e.records) (row e.rows i)

@@ -1,0 +1,7 @@
+pub mod Climb
+pub mod Hop
+pub mod Index
+pub mod Lists
+pub mod Search
+pub mod Tree
+pub mod Walk

@@ -1,0 +1,9 @@
+//! Shortest-walk trees: along which edges the messages of each source travel.
+//! What travels along them is not known here.
+#![tactic(auto)]
+
+mod edges;
+mod lists;
+mod search;
+mod tree;
+pub mod trees;

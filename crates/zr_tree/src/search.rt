@@ -1,0 +1,73 @@
+//! How far each router is from a root: the search goes from one distance to the next.
+
+ghost use Rattle.std.specs.Prelude.{◌≡◌, ◌<◌, ℕ, IfOk, OnOk, length, flat_map, All};
+ghost use Rattle.zr_tree.specs.Index.{row};
+ghost use Rattle.zr_tree.specs.Search.{Visits, AreDistances};
+
+use crate::edges::{Edges, Row};
+use std::alloc::{AllocError, Global};
+
+/// What a search from a root found.
+#[derive(Drop)]
+pub struct Reach {
+    /// The distance of each router, by index.
+    pub distances: Vec<Option<u32>>,
+    /// The routers that are reached, the nearer ones first.
+    pub order: Vec<usize>,
+}
+
+/// Searches from a root.
+pub fn search_from(alloc: Global, edges: &Edges, root: usize) -> Result<Reach, AllocError>
+    requires { root < length edges.now.records }
+    ensures distances { IfOk result (λ r. AreDistances edges.now root r.distances.items) }
+    ensures order { IfOk result (λ r. All (λ x. x < length edges.now.records) r.order.items) }
+{
+    let rows = edges.rows();
+    let mut distances = vec![in alloc; None; rows.len()]?;
+    distances[root] = Some(0);
+    let mut frontier = vec![in alloc; root]?;
+    let mut order = vec![in alloc; root]?;
+    for depth in 1..rows.len() as u32 + 1 {
+        let mut next = Vec::new(alloc);
+        spread(rows, &frontier, depth, &mut distances, &mut next)?;
+        order.extend_from_slice(&next)?;
+        frontier = next;
+    }
+    Ok(Reach { distances, order })
+}
+
+// The neighbours of these routers get a distance, where they have none yet, and are added to those found.
+fn spread(
+    rows: &[Row],
+    from: &[usize],
+    depth: u32,
+    distances: &mut [Option<u32>],
+    found: &mut Vec<usize>,
+) -> Result<(), AllocError>
+    requires from { All (λ x. x < length rows.now) from.now }
+    requires rows { (x : ℕ) → x < length rows.now → All (λ j. j < length distances.old) (row rows.now x) }
+    ensures { OnOk result (Visits distances.old distances.new found.old.items found.new.items (flat_map (row rows.now) from.now) depth) }
+{
+    for x in from {
+        visit(rows[*x].indexes(), depth, distances, found)?;
+    }
+    Ok(())
+}
+
+fn visit(
+    neighbours: &[usize],
+    depth: u32,
+    distances: &mut [Option<u32>],
+    found: &mut Vec<usize>,
+) -> Result<(), AllocError>
+    requires { All (λ x. x < length distances.old) neighbours.now }
+    ensures { OnOk result (Visits distances.old distances.new found.old.items found.new.items neighbours.now depth) }
+{
+    for x in neighbours {
+        if distances[*x].is_none() {
+            distances[*x] = Some(depth);
+            found.push(*x)?;
+        }
+    }
+    Ok(())
+}

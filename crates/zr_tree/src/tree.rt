@@ -1,0 +1,227 @@
+//! The tree of one root, by the routers' indexes.
+
+ghost use Rattle.std.specs.Prelude.{◌≡◌, ◌<◌, ◌^◌, ◌⊎◌, ℕ, IfOk, OnOk, length, unwrap_or, map, [], All, slice_index_or};
+ghost use Rattle.std.specs.List.{filter, find, range_with_len};
+ghost use Rattle.zr_graph.specs.Record.{ids};
+ghost use Rattle.zr_tree.specs.Climb.{at, nearer, AreIndexes, AreJumps, is_child_index};
+ghost use Rattle.zr_tree.specs.Hop.{AreWays};
+ghost use Rattle.zr_tree.specs.Index.{row};
+ghost use Rattle.zr_tree.specs.Lists.{Keeps};
+ghost use Rattle.zr_tree.specs.Search.{kept_at};
+ghost use Rattle.zr_tree.specs.Tree.{is_sum};
+
+use crate::edges::{Edges, Row};
+use crate::lists::Lists;
+use crate::search::{Reach, search_from};
+use std::alloc::{AllocError, Global};
+use std::marker::Model;
+use zr_id::zid::Zid;
+
+/// The depth of a router that its root doesn't reach.
+pub const UNREACHED: u32 = u32::MAX;
+
+/// Where a router stands in the tree of a root.
+#[derive(Clone, Copy)]
+pub struct Hop {
+    /// How far it is from the root, or [`UNREACHED`].
+    pub depth: u32,
+    /// The index of its parent, or its own where it has none.
+    pub parent: u32,
+    /// The index of a router at or above its parent, by which a way up is shortened.
+    pub jump: u32,
+    /// The number of the list of its children.
+    pub children: u32,
+}
+
+// By index, what is known of the tree of a root.
+#[derive(Drop)]
+struct Ways {
+    distances: Vec<Option<u32>>,
+    parents: Vec<usize>,
+    jumps: Vec<usize>,
+}
+
+/// What is kept of each router in the tree of a root, by index.
+#[derive(Drop)]
+pub struct Tree {
+    hops: Vec<Hop>,
+}
+
+impl Model for Tree {
+    ghost use Rattle.std.specs.Prelude.{List};
+    ghost use Rattle.zr_tree.specs.declared.tree.Hop.{Hop};
+
+    ghost Value = { List Hop };
+
+    ghost view = { λ t. t.hops.items };
+}
+
+impl Tree {
+    ghost use Rattle.zr_tree.specs.Hop.{IsTree};
+
+    /// The tree of a root; its lists of children are put to those of the other trees.
+    pub fn of(
+        alloc: Global,
+        edges: &Edges,
+        names: &[Zid],
+        root: usize,
+        lists: &mut Lists,
+    ) -> Result<Tree, AllocError>
+        requires root { root < length edges.now.records }
+        requires names { names.now ≡ ids edges.now.records }
+        requires routers { lists.old.routers ≡ length edges.now.records }
+        ensures tree { IfOk result (λ t. IsTree edges.now.records root lists.new.lists t) }
+        ensures kept { OnOk result (Keeps lists.old.lists lists.new.lists) }
+        ensures routers { OnOk result (lists.new.routers ≡ lists.old.routers) }
+    {
+        let rows = edges.rows();
+        let ways = ways_of(alloc, edges, root)?;
+        let mut hops = Vec::new(alloc);
+        for x in 0..rows.len() {
+            let neighbours = rows[x].indexes();
+            let children = children_of(alloc, names, neighbours, &ways.parents, x)?;
+            let number = lists.put(x, children)?;
+            hops.push(hop_of(&ways, x, number))?;
+        }
+        Ok(Tree { hops })
+    }
+
+    /// What is kept of each router.
+    pub fn hops(&self) -> &[Hop]
+        ensures { result.now ≡ self.now }
+    {
+        self.hops.as_slice()
+    }
+}
+
+// The ways in the tree of a root.
+fn ways_of(alloc: Global, edges: &Edges, root: usize) -> Result<Ways, AllocError>
+    requires { root < length edges.now.records }
+    ensures { IfOk result (λ w. AreWays edges.now.records root w.distances.items w.parents.items w.jumps.items) }
+{
+    let rows = edges.rows();
+    let Reach { distances, order } = search_from(alloc, edges, root)?;
+    let parents = parents_of(alloc, rows, &distances)?;
+    let jumps = jumps_of(alloc, &distances, &order, &parents)?;
+    Ok(Ways {
+        distances,
+        parents,
+        jumps,
+    })
+}
+
+fn hop_of(ways: &Ways, x: usize, children: u32) -> Hop
+    requires distances { x < length ways.now.distances.items }
+    requires parents { x < length ways.now.parents.items }
+    requires jumps { x < length ways.now.jumps.items }
+    requires parent { at ways.now.parents.items x < 2 ^ 32 }
+    requires jump { at ways.now.jumps.items x < 2 ^ 32 }
+    ensures depth { result.depth ≡ unwrap_or (kept_at ways.now.distances.items x) UNREACHED }
+    ensures parent { result.parent ≡ at ways.now.parents.items x }
+    ensures jump { result.jump ≡ at ways.now.jumps.items x }
+    ensures children { result.children ≡ children }
+{
+    Hop {
+        depth: ways.distances[x].unwrap_or(UNREACHED),
+        parent: ways.parents[x] as u32,
+        jump: ways.jumps[x] as u32,
+        children,
+    }
+}
+
+// Each router's parent by index, or its own where it has none.
+fn parents_of(
+    alloc: Global,
+    rows: &[Row],
+    distances: &[Option<u32>],
+) -> Result<Vec<usize>, AllocError>
+    requires long { length distances.now ≡ length rows.now }
+    requires within { (x : ℕ) → x < length rows.now → All (λ y. y < length rows.now) (row rows.now x) }
+    ensures { IfOk result (λ v. v.items ≡ map (nearer rows.now distances.now) (range_with_len 0 (length rows.now))) }
+{
+    let mut parents = Vec::new(alloc);
+    for x in 0..rows.len() {
+        let neighbours = rows[x].indexes();
+        parents.push(nearer_of(neighbours, distances, x).unwrap_or(x))?;
+    }
+    Ok(parents)
+}
+
+// The first of these neighbours that is one nearer than router x.
+fn nearer_of(neighbours: &[usize], distances: &[Option<u32>], x: usize) -> Option<usize>
+    requires within { All (λ y. y < length distances.now) neighbours.now }
+    requires x { x < length distances.now }
+    ensures { result ≡ find (λ y. is_sum (kept_at distances.now y) 1 (kept_at distances.now x)) neighbours.now }
+{
+    for y in neighbours {
+        if is_next(distances[*y], distances[x]) {
+            return Some(*y);
+        }
+    }
+    None
+}
+
+fn is_next(near: Option<u32>, far: Option<u32>) -> bool
+    ensures { result ≡ is_sum near 1 far }
+{
+    match (near, far) {
+        (Some(near), Some(far)) => u64::from(near) + 1 == u64::from(far),
+        _ => false,
+    }
+}
+
+// For each router one at or above its parent. The longer the way up, the farther the jumps go, so that
+// a way of n steps takes about twice the logarithm of n.
+fn jumps_of(
+    alloc: Global,
+    distances: &[Option<u32>],
+    order: &[usize],
+    parents: &[usize],
+) -> Result<Vec<usize>, AllocError>
+    requires long { length distances.now ≡ length parents.now }
+    requires order { All (λ x. x < length parents.now) order.now }
+    requires parents { AreIndexes parents.now }
+    ensures { IfOk result (λ v. AreJumps parents.now v.items) }
+{
+    let mut jumps = parents.to_vec(alloc)?;
+    for x in order {
+        jumps[*x] = jump_over(distances, &jumps, parents[*x]);
+    }
+    Ok(jumps)
+}
+
+// The jump of a router by those of its parent: over both, where they are of one length.
+fn jump_over(distances: &[Option<u32>], jumps: &[usize], parent: usize) -> usize
+    requires long { length distances.now ≡ length jumps.now }
+    requires jumps { AreIndexes jumps.now }
+    requires parent { parent < length jumps.now }
+    ensures { (result ≡ parent) ⊎ (result ≡ at jumps.now (at jumps.now parent)) }
+{
+    let near = jumps[parent];
+    let far = jumps[near];
+    match (distances[parent], distances[near], distances[far]) {
+        (Some(a), Some(b), Some(c)) if a.abs_diff(b) == b.abs_diff(c) => far,
+        _ => parent,
+    }
+}
+
+// The neighbours of router x whose parent it is.
+fn children_of(
+    alloc: Global,
+    names: &[Zid],
+    neighbours: &[usize],
+    parents: &[usize],
+    x: usize,
+) -> Result<Vec<Zid>, AllocError>
+    requires long { length parents.now ≡ length names.now }
+    requires within { All (λ y. y < length names.now) neighbours.now }
+    ensures { IfOk result (λ v. v.items ≡ map (λ y. slice_index_or names.now y []) (filter (is_child_index parents.now x) neighbours.now)) }
+{
+    let mut children = Vec::new(alloc);
+    for y in neighbours {
+        if parents[*y] == x && *y != x {
+            children.push(names[*y])?;
+        }
+    }
+    Ok(children)
+}

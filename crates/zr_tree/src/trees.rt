@@ -1,0 +1,185 @@
+//! The shortest-walk trees of all routers that a base knows: parents, children and next steps.
+
+ghost use Rattle.std.specs.Prelude.{◌≡◌, ◌<◌, ◌≤◌, true, false, Some, IfOk, IfSome, IsSome, MatchOption, length};
+ghost use Rattle.std.specs.Option.{option_map};
+ghost use Rattle.zr_graph.specs.Record.{has, ids, IsAscending};
+ghost use Rattle.zr_tree.specs.Index.{name};
+ghost use Rattle.zr_tree.specs.Tree.{dist, parent, children, below, toward, reached};
+ghost use Rattle.zr_tree.specs.Walk.{graph_of};
+
+use crate::edges::Edges;
+use crate::lists::Lists;
+use crate::tree::{Hop, Tree, UNREACHED};
+use std::alloc::{AllocError, Global};
+use std::marker::Model;
+use std::snapshot::Snapshot;
+use zr_graph::base::Base;
+use zr_id::record::LinkRecord;
+use zr_id::zid::Zid;
+
+/// The trees of a base's routers, each by the edges alone.
+///
+/// Contracts see the records that the trees were made of; a router that they don't know is reached by none.
+#[derive(Drop)]
+pub struct Trees {
+    base: Snapshot<Base>,
+    names: Vec<Zid>,
+    trees: Vec<Tree>,
+    lists: Lists,
+}
+
+impl Model for Trees {
+    ghost use Rattle.std.specs.Prelude.{List};
+    ghost use Rattle.zr_id.specs.declared.record.LinkRecord.{LinkRecord};
+    ghost use Rattle.zr_tree.specs.Hop.{AreTrees};
+
+    ghost Value = { List LinkRecord };
+
+    ghost view = { λ t. t.base.value.records };
+
+    ghost invariant = { λ t. AreTrees t.base.value.records t.names.items t.trees.items t.lists.lists };
+}
+
+impl Trees {
+    ghost use Rattle.zr_tree.specs.Hop.{IsSomeHop};
+
+    /// Works out the trees of all routers.
+    pub fn of(alloc: Global, base: &Base) -> Result<Trees, AllocError>
+        ensures { IfOk result (λ t. t ≡ base.now.records) }
+    {
+        let edges = Edges::of(alloc, base)?;
+        let names = names_of(alloc, base.records())?;
+        let mut lists = Lists::new(alloc, names.len())?;
+        let mut trees = Vec::new(alloc);
+        for root in 0..names.len() {
+            trees.push(Tree::of(alloc, &edges, &names, root, &mut lists)?)?;
+        }
+        Ok(Trees {
+            base: Snapshot::of(base),
+            names,
+            trees,
+            lists,
+        })
+    }
+
+    /// The router from which a message of the root comes to this one; the root and what isn't reached have none.
+    pub fn parent(&self, root: Zid, at: Zid) -> Option<Zid>
+        ensures { result ≡ parent (graph_of self.now) root at }
+    {
+        let root = self.index_of(&root)?;
+        let at = self.index_of(&at)?;
+        let parent = self.hop(root, at).parent as usize;
+        if parent == at {
+            return None;
+        }
+        Some(self.names[parent])
+    }
+
+    /// The routers to which this one sends a message of the root on, in ascending order.
+    pub fn children(&self, root: Zid, at: Zid) -> &[Zid]
+        ensures { result.now ≡ children (graph_of self.now) root at }
+    {
+        match (self.index_of(&root), self.index_of(&at)) {
+            (Some(root), Some(at)) => self.children_at(root, at),
+            _ => &[],
+        }
+    }
+
+    /// The child of this router at or above the destination in the tree of the root.
+    pub fn toward(&self, root: Zid, at: Zid, dest: Zid) -> Option<Zid>
+        ensures { result ≡ toward (graph_of self.now) root at dest }
+    {
+        let root = self.index_of(&root)?;
+        let at = self.index_of(&at)?;
+        let dest = self.index_of(&dest)?;
+        let child = self.child_toward(root, at, dest)?;
+        Some(self.names[child])
+    }
+
+    /// Whether a walk leads from one router to the other.
+    pub fn reached(&self, from: Zid, to: Zid) -> bool
+        ensures { result ≡ reached (graph_of self.now) from to }
+    {
+        if from == to {
+            return true;
+        }
+        match (self.index_of(&from), self.index_of(&to)) {
+            (Some(from), Some(to)) => self.hop(from, to).depth != UNREACHED,
+            _ => false,
+        }
+    }
+
+    fn index_of(&self, id: &Zid) -> Option<usize>
+        ensures { MatchOption result (has (ids self.now) id.now ≡ false) (λ i. (i < length self.now) × (name self.now i ≡ id.now)) }
+    {
+        self.names.binary_search(id).ok()
+    }
+
+    fn child_toward(&self, root: usize, at: usize, dest: usize) -> Option<usize>
+        requires root { root < length self.now }
+        requires at { at < length self.now }
+        requires dest { dest < length self.now }
+        ensures within { IfSome result (λ x. x < length self.now) }
+        ensures child { option_map (name self.now) result ≡ toward (graph_of self.now) (name self.now root) (name self.now at) (name self.now dest) }
+    {
+        let depth = self.hop(root, at).depth;
+        let far = self.hop(root, dest).depth;
+        if far == UNREACHED || far <= depth {
+            return None;
+        }
+        let child = self.ancestor(root, dest, depth + 1);
+        if self.hop(root, child).parent as usize == at {
+            Some(child)
+        } else {
+            None
+        }
+    }
+
+    // The router at this depth that the destination is below.
+    fn ancestor(&self, root: usize, dest: usize, depth: u32) -> usize
+        requires root { root < length self.now }
+        requires dest { dest < length self.now }
+        requires reached { IsSome (dist (graph_of self.now) (name self.now root) (name self.now dest)) }
+        requires depth { IfSome (dist (graph_of self.now) (name self.now root) (name self.now dest)) (λ far. depth ≤ far) }
+        ensures within { result < length self.now }
+        ensures depth { dist (graph_of self.now) (name self.now root) (name self.now result) ≡ Some depth }
+        ensures above { below (graph_of self.now) (name self.now root) (name self.now result) (name self.now dest) ≡ true }
+    {
+        let mut x = dest;
+        let mut hop = self.hop(root, x);
+        while hop.depth > depth {
+            let jump = hop.jump as usize;
+            if self.hop(root, jump).depth >= depth {
+                x = jump;
+            } else {
+                x = hop.parent as usize;
+            }
+            hop = self.hop(root, x);
+        }
+        x
+    }
+
+    // What is kept of a router in the tree of a root.
+    fn hop(&self, root: usize, at: usize) -> Hop
+        requires root { root < length self.now }
+        requires at { at < length self.now }
+        ensures kept { IsSomeHop self.now root at result }
+        ensures ascending { IsAscending (ids self.now) }
+    {
+        self.trees[root].hops()[at]
+    }
+
+    fn children_at(&self, root: usize, at: usize) -> &[Zid]
+        requires root { root < length self.now }
+        requires at { at < length self.now }
+        ensures { result.now ≡ children (graph_of self.now) (name self.now root) (name self.now at) }
+    {
+        self.lists.get(self.trees[root].hops()[at].children)
+    }
+}
+
+fn names_of(alloc: Global, records: &[LinkRecord]) -> Result<Vec<Zid>, AllocError>
+    ensures { IfOk result (λ v. v.items ≡ ids records.now) }
+{
+    records.iter().map(|r| r.id).collect(alloc)
+}
