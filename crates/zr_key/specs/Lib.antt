@@ -1,1 +1,3 @@
+pub mod Expression
 pub mod Key
+pub mod Laws

@@ -1,23 +1,28 @@
 //! `KeyExpr`: a key expression that was read, and why a text is none.
 
-ghost use Rattle.std.specs.Prelude.{◌≡◌, ◌==◌, ◌||◌, true, false, IfOk, MatchOption};
+ghost use Rattle.std.specs.Prelude.{◌≡◌, ◌==◌, ◌||◌, not, true, false, IfOk, MatchOption};
 ghost use Rattle.std.specs.List.{list_any};
-ghost use Rattle.std.specs.Str.{is_utf8};
-ghost use Rattle.zr_key.specs.Key.{fault_of, first_fault, chunks, Answers, read_key};
+ghost use Rattle.std.specs.Str.{IsUtf8, is_utf8};
+ghost use Rattle.std.specs.String.{string_bytes};
+ghost use Rattle.zr_key.specs.Key.{Answers, read_key, IsKeyText, is_plain_text};
 
+use crate::canonical::canonical_text;
+use crate::faults::fault;
 use std::alloc::{AllocError, Global};
 use std::marker::Model;
 use thiserror::Error;
-use zr_text::cut;
 
 /// How many bytes the text of an expression has at most (this profile's limit).
 pub const MOST_BYTES: usize = 2048;
 
-/// A key expression. At this stage it is a key: chunks joined by `/`, none empty, with none of `# ? * $` in them
-/// (Zenoh key expressions RFC, "Key expressions").
+/// A key expression in its canonical form (Zenoh key expressions RFC): chunks joined by `/`, none empty, with no `#` or `?`. A chunk `*` stands
+/// for any one chunk, a chunk `**` for any number of them, and `$*` within a chunk for any characters. A chunk that begins with `@` is
+/// verbatim: it has no `$*`, and no wildcard matches it.
 #[derive(Debug, Drop)]
 pub struct KeyExpr {
     text: String,
+    // whether it has no wildcard, which is asked at each comparison
+    plain: bool,
 }
 
 /// Why a text is no key expression. The first that applies is answered: `Empty`, `TooLong`, `NotUtf8`, and then, for the first
@@ -58,10 +63,15 @@ impl Model for KeyExpr {
     ghost Value = { List ℕ };
 
     ghost view = { λ k. string_bytes k.text };
+
+    ghost use Rattle.std.specs.Prelude.{◌≡◌};
+    ghost use Rattle.zr_key.specs.Key.{IsKeyText, is_plain_text};
+
+    ghost invariant = { λ k. IsKeyText (string_bytes k.text) × (k.plain ≡ is_plain_text (string_bytes k.text)) };
 }
 
 impl KeyExpr {
-    /// The expression of a text.
+    /// The canonical form of the expression that a text spells.
     pub fn read(alloc: Global, bytes: &[u8]) -> Result<KeyExpr, KeyError>
         ensures { Answers result (read_key bytes.now) }
     {
@@ -71,22 +81,32 @@ impl KeyExpr {
         if bytes.len() > MOST_BYTES {
             return Err(KeyError::TooLong);
         }
-        let Some(text) = utf8(bytes) else {
+        if !is_utf8(bytes) {
             return Err(KeyError::NotUtf8);
-        };
+        }
         match fault(bytes) {
             Some(e) => Err(e),
-            None => Ok(KeyExpr {
-                text: String::from_str(alloc, text)?,
-            }),
+            None => {
+                let text = text_of(canonical_text(alloc, bytes)?);
+                let plain = !has_star(text.as_bytes());
+                Ok(KeyExpr { text, plain })
+            }
         }
     }
 
-    /// The text of the expression.
+    /// The canonical text of the expression.
     pub fn text(&self) -> &str
-        ensures { result.now ≡ self.now }
+        ensures value { result.now ≡ self.now }
+        ensures key { IsKeyText self.now }
     {
         self.text.as_str()
+    }
+
+    /// Whether the expression is a key: it has no wildcard.
+    pub fn is_plain(&self) -> bool
+        ensures { result ≡ is_plain_text self.now }
+    {
+        self.plain
     }
 
     /// The same expression again.
@@ -95,6 +115,7 @@ impl KeyExpr {
     {
         Ok(KeyExpr {
             text: String::from_str(alloc, self.text.as_str())?,
+            plain: self.plain,
         })
     }
 }
@@ -119,54 +140,25 @@ impl Eq for KeyExpr {
     ghost laws = { nat_list_eq_equiv };
 }
 
-// The bytes as text, where they are UTF-8.
-fn utf8(bytes: &[u8]) -> Option<&str>
-    ensures { MatchOption result (is_utf8 bytes.now ≡ false) (λ text. (is_utf8 bytes.now ≡ true) × (text.now ≡ bytes.now)) }
+fn is_utf8(bytes: &[u8]) -> bool
+    ensures { result ≡ is_utf8 bytes.now }
 {
-    match str::from_utf8(bytes) {
-        Ok(text) => Some(text),
-        Err(_) => None,
+    str::from_utf8(bytes).is_ok()
+}
+
+// The bytes as text.
+fn text_of(bytes: Vec<u8>) -> String
+    requires { IsUtf8 bytes.items }
+    ensures { string_bytes result ≡ bytes.items }
+{
+    match String::from_utf8(bytes) {
+        Ok(text) => text,
+        Err(_) => unreachable!(),
     }
 }
 
-// What is wrong with the first faulty chunk from the left.
-fn fault(text: &[u8]) -> Option<KeyError>
-    ensures { result ≡ first_fault (chunks text.now) }
+fn has_star(text: &[u8]) -> bool
+    ensures { result ≡ list_any (λ b. b == 42 || b == 36) text.now }
 {
-    let mut rest = Some(text);
-    while let Some(bytes) = rest {
-        let (chunk, more) = cut(bytes, b'/');
-        let fault = chunk_fault(chunk);
-        if fault.is_some() {
-            return fault;
-        }
-        rest = more;
-    }
-    None
-}
-
-fn chunk_fault(chunk: &[u8]) -> Option<KeyError>
-    ensures { result ≡ fault_of chunk.now }
-{
-    if chunk.is_empty() {
-        Some(KeyError::EmptyChunk)
-    } else if has_bad_char(chunk) {
-        Some(KeyError::BadChar)
-    } else if has_star(chunk) {
-        Some(KeyError::BadStar)
-    } else {
-        None
-    }
-}
-
-fn has_bad_char(chunk: &[u8]) -> bool
-    ensures { result ≡ list_any (λ b. b == 35 || b == 63) chunk.now }
-{
-    chunk.iter().any(|b| *b == b'#' || *b == b'?')
-}
-
-fn has_star(chunk: &[u8]) -> bool
-    ensures { result ≡ list_any (λ b. b == 42 || b == 36) chunk.now }
-{
-    chunk.iter().any(|b| *b == b'*' || *b == b'$')
+    text.iter().any(|b| *b == b'*' || *b == b'$')
 }

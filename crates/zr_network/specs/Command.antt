@@ -4,7 +4,7 @@ use Rattle.std.specs.Prelude.{ℕ, ◌+◌, ◌-◌, ◌*◌, ◌^◌, ◌==◌,
 use Rattle.std.specs.List.{fold, list_all, slice_split, slice_get}
 use Rattle.std.specs.Cmp.Lexicographic.{pointwise}
 use Rattle.zr_id.specs.Zid.{zid_of_hex}
-use Rattle.zr_key.specs.Key.{read_key}
+use Rattle.zr_key.specs.Key.{read_key, is_plain_text}
 use Rattle.zr_key.specs.declared.key.KeyError.{KeyError}
 use Rattle.zr_msg.specs.declared.error.ScriptError.{ScriptError}
 use Rattle.zr_msg.specs.declared.error.ScriptError.TheVariants.{UnknownCommand, BadWords, BadKey, Limit}
@@ -64,12 +64,12 @@ value_of digits = fold (λ n b. n * 10 + (b - 48)) 0 digits
 abbrev pub number_at : List ℕ → Result ℕ ScriptError
 number_at word = if is_number word && nat_lt (value_of word) (2 ^ 32) then Ok (value_of word) else Err BadWords
 
--- the key that a word was read as
+-- the key that a word was read as; an expression with wildcards is none at this stage
 abbrev pub key_of_word : Result (List ℕ) KeyError → Result (List ℕ) ScriptError
-key_of_word (Ok key) = Ok key
+key_of_word (Ok key) = if is_plain_text key then Ok key else Err BadKey
 key_of_word (Err e) = Err BadKey
 
--- a key expression
+-- a key
 abbrev pub key_at : List ℕ → Result (List ℕ) ScriptError
 key_at word = key_of_word (read_key word)
 

@@ -56,7 +56,8 @@ pub fn key(alloc: Global, word: &[u8]) -> Result<KeyExpr, ScriptError>
     ensures { Gives result (key_at word.now) }
 {
     match KeyExpr::read(alloc, word) {
-        Ok(key) => Ok(key),
+        Ok(key) if key.is_plain() => Ok(key),
+        Ok(_) => Err(ScriptError::BadKey),
         Err(KeyError::NoMemory) => Err(ScriptError::NoMemory),
         Err(_) => Err(ScriptError::BadKey),
     }

@@ -5,6 +5,7 @@ use Rattle.std.proofs.lemmas.List.Sums.{position_or_len_is, fails_before_first}
 use Rattle.std.proofs.lemmas.Bool.Decides.{nat_tests}
 use Rattle.std.proofs.lemmas.List.Quantifiers.{position-Some}
 use Rattle.std.proofs.lemmas.List.Splits.{slice_split_first, slice_split_none}
+use Rattle.std.proofs.lemmas.List.{get_or-take, length-take}
 use Rattle.std.proofs.lemmas.List.Elements.{All-from_get_or}
 
 -- at the first place that passes, the list is what is before it and the parts of what is behind it
@@ -30,3 +31,12 @@ pub none_cut : {X : Type 0} (p : X → Bool) (xs : List X) (d : X) → position 
 none_cut p xs d none =
     let long : length xs ≤ position_or_len p xs = fails_all p xs d none in
     slice_split_none p xs (All-from_get_or (λ x. p x ≡ false) xs d (λ i lt. fails_before_first p xs i d (omega arith)))
+
+-- what is before the first place that passes is one part
+pub open_front : {X : Type 0} (p : X → Bool) (xs : List X) (i : ℕ) (d : X) → position p xs ≡ Some i → slice_split p (take i xs) ≡ take i xs ∷ []
+open_front p xs i d found =
+    let at = position-Some p xs i d found in
+    slice_split_none p (take i xs)
+      (All-from_get_or (λ x. p x ≡ false) (take i xs) d (λ k lt.
+        let below : k < i = omega (arith, length-take i xs) in
+        ap p (get_or-take i xs k d below) ∙ at.2 k below))

@@ -1,0 +1,24 @@
+//! Reading a body.
+
+ghost use Rattle.std.specs.Prelude.{◌≡◌};
+ghost use Rattle.zr_bytes.specs.Reading.{Keeps};
+ghost use Rattle.zr_body.specs.Reading.{skip_body, body_of};
+
+use crate::place::Place;
+use crate::skipping;
+use crate::wire_body::Body;
+use std::alloc::Global;
+use zr_bytes::{Cursor, ReadError};
+
+/// The body at the front, in a message of this kind. Its bytes are copied once, as they stand.
+#[tactic(auto, unfolding(crate::specs::Reading::body_of))]
+pub fn read_body(alloc: Global, c: &mut Cursor<'_>, place: Place) -> Result<Body, ReadError>
+    ensures { Keeps (λ body. body) result (body_of place c.old) c.old c.new }
+{
+    let mut ahead = c.fork();
+    skipping::body(alloc, &mut ahead, place)?;
+    let length = c.left() - ahead.left();
+    let bytes = c.as_slice()[..length].to_vec(alloc)?;
+    *c = ahead;
+    Ok(Body::new(bytes))
+}

@@ -1,0 +1,4 @@
+pub mod Found
+pub mod One
+pub mod Many
+pub mod Written

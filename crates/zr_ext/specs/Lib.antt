@@ -1,0 +1,7 @@
+pub mod Header
+pub mod Chain
+pub mod Reading
+pub mod Finding
+pub mod Writing
+pub mod Refusals
+pub mod Laws

@@ -1,0 +1,7 @@
+pub mod Lines
+pub mod Runs
+pub mod Writing
+pub mod Keeping
+pub mod Feeding
+pub mod Reading
+pub mod Telling

@@ -1,0 +1,67 @@
+use Rattle.std.proofs.Common.{◌≡◌, ℕ, ◌+◌, ◌-◌, ◌<◌, ◌≤◌, List, length, min, Option, refl, sym, ap, ◌∙◌, rules, arith, subst}
+use Rattle.std.proofs.lemmas.List.{length-take}
+use Rattle.std.proofs.lemmas.Bool.{false≢true}
+use Rattle.zr_world.specs.Steps.{Living}
+use Rattle.zr_network.specs.Report.{too_long_text}
+use Rattle.zr_network.specs.Lines.{ended_lines, open_line}
+use Rattle.zr_network.specs.Run.{on_line}
+use Rattle.std.specs.List.{fold}
+use Rattle.zr_outside.specs.Source.{Consumes}
+use Rattle.zr_netrun.specs.Kept.{Tells, Complains}
+use Rattle.zr_netrun.proofs.Reading.{reads_piece, after_nothing}
+use Rattle.zr_netrun.proofs.Telling.{stops_reading, passes_limit, ends_reading, stops_at_end}
+use Rattle.zr_netrun.proofs.netrun.run_script.Goals as goal
+
+pub returns-in-Err-clause-report : goal.returns-in-Err-clause-report
+returns-in-Err-clause-report g c =
+    let fits : c.in-Bytes.count ≤ length c.read.new.into = grind (arith, c.in-Bytes.ensures.bytes.1, c.reading.invariant.sized) in
+    let cut : c.min-used.result ≡ min c.in-Bytes.count (67108864 - c.reading.total) = search rules in
+    let told = subst (λ (z : Option (List ℕ)). Tells c.in-Err.stop c.tell.result c.feed.new.self.number c.feed.new.self.pending (g.K.Sink.held c.feed.new.out) (g.K.Sink.held c.tell.new.out) z (g.E.Sink.held c.tell.new.err))
+    c.reading.invariant.err_same c.tell.ensures.tells in
+    stops_reading _ _ _ c.in-Bytes.count c.min-used.result c.reading.total c.read.new.into c.reading.runner c.feed.new.self _ _ _ _ _ _ c.in-Err.stop c.tell.result
+    c.reading.invariant.read c.in-Bytes.ensures.bytes.2 fits c.reading.invariant.most cut c.in-Err.ensures.turn told
+
+pub returns-then-used-count-clause-report : goal.returns-then-used-count-clause-report
+returns-then-used-count-clause-report g c =
+    let fits : c.in-Bytes.count ≤ length c.read.new.into = grind (arith, c.in-Bytes.ensures.bytes.1, c.reading.invariant.sized) in
+    let cut : c.min-used.result ≡ min c.in-Bytes.count (67108864 - c.reading.total) = search rules in
+    let told = subst (λ (z : Option (List ℕ)). Complains c.tell_too_long.result too_long_text z (g.E.Sink.held c.tell_too_long.new.err)) c.reading.invariant.err_same c.tell_too_long.ensures.tells in
+    passes_limit _ _ _ c.in-Bytes.count c.min-used.result c.reading.total c.read.new.into c.reading.runner c.feed.new.self _ _ _ _ _ _ c.tell_too_long.result
+    c.reading.invariant.read c.in-Bytes.ensures.bytes.2 fits c.reading.invariant.most cut c.if-used-count.true c.in-Ok.ensures.turn c.in-Ok.ensures.flushed told
+
+pub reading-preserved-else-used-count : goal.reading-preserved-else-used-count
+reading-preserved-else-used-count g c =
+    let fits : c.in-Bytes.count ≤ length c.read.new.into = grind (arith, c.in-Bytes.ensures.bytes.1, c.reading.invariant.sized) in
+    let cut : c.min-used.result ≡ min c.in-Bytes.count (67108864 - c.reading.total) = search rules in
+    let whole : c.in-Bytes.count ≡ c.min-used.result = omega (arith, c.if-used-count.false, cut) in
+    let short : c.min-used.result ≤ length c.read.new.into = omega (arith, fits, whole) in
+    let took = subst (λ (n : ℕ). Consumes n c.read.new.into (g.S.Source.left c.reading.input) (g.S.Source.left c.read.new.self)) whole c.in-Bytes.ensures.bytes.2 in
+    record {
+      lines = omega (arith, c.in-Ok.ensures.count, c.reading.invariant.lines, length-take c.min-used.result c.read.new.into);
+      alive = ap (λ (w : Living). w.spent) c.in-Ok.ensures.turn.world;
+      most = omega (arith, cut, c.reading.invariant.most);
+      sized = search rules;
+      quiet = omega arith;
+      quiets = omega (arith, c.in-Bytes.ensures.quiet.later, c.reading.invariant.quiets);
+      ends = omega (arith, c.in-Bytes.ensures.ended.later, c.reading.invariant.ends);
+      ended = λ t. absurd (false≢true (sym c.reading-test.true ∙ t));
+      going = λ t. omega arith;
+      input = omega (arith, c.in-Bytes.ensures.failed.later, c.reading.invariant.input);
+      out = omega (arith, c.in-Ok.ensures.later, c.reading.invariant.out);
+      err = c.reading.invariant.err;
+      err_same = c.reading.invariant.err_same;
+      read = reads_piece _ _ _ c.min-used.result c.reading.total c.read.new.into c.reading.runner c.feed.new.self _ _ _ c.in-Ok.field-0
+          c.reading.invariant.read took short c.in-Ok.ensures.flushed c.in-Ok.ensures.turn;
+    }
+
+pub returns-in-Ok-finish-clause-report : goal.returns-in-Ok-finish-clause-report
+returns-in-Ok-finish-clause-report g c =
+    ends_reading _ _ _ c.reading.total c.reading.runner c.finish.new.self _ _ _ _ _ _ c.reading.invariant.read refl c.reading.invariant.most
+    c.in-Ok-finish.ensures.turn c.in-Ok-finish.ensures.flushed c.reading.invariant.err_same
+
+pub returns-clause-report : goal.returns-clause-report
+returns-clause-report g c =
+    let told = subst (λ (z : Option (List ℕ)). Tells c.in-Err-finish.stop c.tell-in-Err-finish.result c.finish.new.self.number c.finish.new.self.pending (g.K.Sink.held c.finish.new.out) (g.K.Sink.held c.tell-in-Err-finish.new.out) z (g.E.Sink.held c.tell-in-Err-finish.new.err))
+    c.reading.invariant.err_same c.tell-in-Err-finish.ensures.tells in
+    stops_at_end _ _ _ c.reading.total c.reading.runner c.finish.new.self _ _ _ _ _ _ c.in-Err-finish.stop c.tell-in-Err-finish.result
+    c.reading.invariant.read refl c.reading.invariant.most c.in-Err-finish.ensures.turn told

@@ -1,0 +1,27 @@
+-- While it is read: what was kept is the run of what was read, all of its report was written, and the counts tell what happened.
+use Rattle.std.proofs.Common.{◌≡◌, ◌+◌, ◌-◌, ◌*◌, ◌^◌, ◌≤◌, true, false, min, length, if◌then◌else◌}
+use Rattle.zr_outside.specs.Counts.{Rose}
+use Rattle.zr_netrun.specs.Clauses.{OfRead, IsReadToEnd}
+use Rattle.zr_netrun.proofs.Reading.{IsAfter}
+use Rattle.zr_netrun.proofs.netrun.run_script.Given as goal
+
+abbrev pub invariant-reading : goal.invariant-reading
+invariant-reading g l = record {
+  lines : l.runner.number ≤ l.total;
+  alive : l.runner.world.spent ≡ false;
+  most : l.total ≤ 67108864;
+  sized : length l.piece ≡ 65536;
+  quiet : l.quiet ≤ 2 ^ 32;
+  quiets : min (g.S.Source.quiets l.fn.input + l.quiet) (2 ^ 64 - 1) ≤ g.S.Source.quiets l.input;
+  ends : g.S.Source.ends l.fn.input ≤ g.S.Source.ends l.input;
+  ended : l.is_ended ≡ true → IsReadToEnd (g.S.Source.ends l.fn.input) (g.S.Source.ends l.input) (g.S.Source.quiets l.fn.input) (g.S.Source.quiets l.input);
+  going : l.is_ended ≡ false → l.quiet + 1 ≤ 2 ^ 32;
+  input : g.S.Source.faults l.fn.input ≤ g.S.Source.faults l.input;
+  out : g.K.Sink.faults l.fn.out ≤ g.K.Sink.faults l.out;
+  err : g.E.Sink.faults l.fn.err ≤ g.E.Sink.faults l.err;
+  err_same : g.E.Sink.held l.err ≡ g.E.Sink.held l.fn.err;
+  read : OfRead (g.S.Source.left l.fn.input) (g.S.Source.left l.input) (IsAfter l.runner l.total (g.K.Sink.held l.fn.out) (g.K.Sink.held l.out));
+}
+
+abbrev pub decreases-reading : goal.decreases-reading
+decreases-reading g l = (67108864 - l.total) * (2 ^ 32 + 1) + (2 ^ 32 - l.quiet) + (if l.is_ended then 0 else 1)

@@ -1,0 +1,136 @@
+//! `run_script`: a script from a source, its report to a sink, and why it is refused to another sink.
+
+ghost use Rattle.std.specs.Prelude.{◌≡◌, ◌≤◌, ◌⊎◌};
+ghost use Rattle.zr_outside.specs.Counts.{Rose};
+ghost use Rattle.zr_network.specs.Report.{refused_text, too_long_text};
+ghost use Rattle.zr_netrun.specs.Kept.{Tells, Complains};
+ghost use Rattle.zr_netrun.specs.Clauses.{OfRead, Reports, IsReadToEnd};
+
+use crate::runner::{Runner, Stop};
+use crate::status::Status;
+use std::alloc::Global;
+use zr_msg::error::ScriptError;
+use zr_outside::sink::{Sink, write_all};
+use zr_outside::source::{Got, Source};
+use zr_script::text::refused_text;
+
+/// How many bytes a script has at most.
+pub const MOST_BYTES: usize = 67_108_864;
+
+/// So many quiet reads in a row count as the end.
+const MOST_QUIET: u64 = 4_294_967_296;
+
+/// How many bytes are asked for in a read.
+const PIECE: usize = 65_536;
+
+/// Reads a script to its end, applies its lines as they come, and writes each report line before the next read.
+///
+/// A refused line ends the run: `err` then has `line N: NUMBER NAME`. So does a script of more than 67,108,864 bytes, none of whose
+/// lines within them is refused: `err` has `script too long`. A status of fault comes only where that count rose in this call.
+pub fn run_script<S: Source, K: Sink, E: Sink>(
+    alloc: Global,
+    input: &mut S,
+    out: &mut K,
+    err: &mut E,
+) -> Status
+    ensures report { OfRead (S.left input.old) (S.left input.new) (Reports result (K.held out.old) (K.held out.new) (E.held err.old) (E.held err.new)) }
+    ensures whole { result ≡ Status.Done → IsReadToEnd (S.ends input.old) (S.ends input.new) (S.quiets input.old) (S.quiets input.new) }
+    ensures read { result ≡ Status.ReadFault → Rose (S.faults input.old) (S.faults input.new) }
+    ensures write { result ≡ Status.WriteFault → Rose (K.faults out.old) (K.faults out.new) ⊎ Rose (E.faults err.old) (E.faults err.new) }
+    ensures words { (result ≡ Status.Words) → ⊥ }
+    ensures input_later { S.faults input.old ≤ S.faults input.new }
+    ensures out_later { K.faults out.old ≤ K.faults out.new }
+    ensures err_later { E.faults err.old ≤ E.faults err.new }
+{
+    let mut runner = Runner::new(alloc);
+    let mut piece = [0; PIECE];
+    let mut total: usize = 0;
+    let mut quiet: u64 = 0;
+    let mut is_ended = false;
+    'reading: while !is_ended {
+        match input.read(&mut piece) {
+            Got::Bytes(count) => {
+                quiet = 0;
+                let used = count.min(MOST_BYTES - total);
+                total += used;
+                match runner.feed(&piece[..used], out) {
+                    Ok(()) => {}
+                    Err(stop) => return tell(alloc, &mut runner, stop, out, err),
+                }
+                if used < count {
+                    return tell_too_long(err);
+                }
+            }
+            Got::Quiet => {
+                quiet += 1;
+                is_ended = quiet == MOST_QUIET;
+            }
+            Got::End => {
+                is_ended = true;
+            }
+            Got::Failed => return Status::ReadFault,
+        }
+    }
+    match runner.finish(out) {
+        Ok(()) => Status::Done,
+        Err(stop) => tell(alloc, &mut runner, stop, out, err),
+    }
+}
+
+// A run has stopped: what waits is written, and then why its last line is refused, where it is.
+fn tell<K: Sink, E: Sink>(
+    alloc: Global,
+    runner: &mut Runner,
+    stop: Stop,
+    out: &mut K,
+    err: &mut E,
+) -> Status
+    ensures tells { Tells stop result runner.old.number runner.old.pending (K.held out.old) (K.held out.new) (E.held err.old) (E.held err.new) }
+    ensures write { result ≡ Status.WriteFault → (stop ≡ Stop.WriteFault) ⊎ (Rose (K.faults out.old) (K.faults out.new) ⊎ Rose (E.faults err.old) (E.faults err.new)) }
+    ensures out_later { K.faults out.old ≤ K.faults out.new }
+    ensures err_later { E.faults err.old ≤ E.faults err.new }
+{
+    match stop {
+        Stop::NoMemory => Status::NoMemory,
+        Stop::WriteFault => Status::WriteFault,
+        Stop::Refused(error) => {
+            if runner.flush(out).is_err() {
+                return Status::WriteFault;
+            }
+            tell_refusal(alloc, runner.number(), error, err)
+        }
+    }
+}
+
+fn tell_refusal<E: Sink>(alloc: Global, number: u64, error: ScriptError, err: &mut E) -> Status
+    ensures tells { Complains result (refused_text number error) (E.held err.old) (E.held err.new) }
+    ensures write { result ≡ Status.WriteFault → Rose (E.faults err.old) (E.faults err.new) }
+    ensures later { E.faults err.old ≤ E.faults err.new }
+{
+    let mut text = Vec::new(alloc);
+    if refused_text(alloc, number, error, &mut text).is_err() {
+        return Status::NoMemory;
+    }
+    complain(&text, err)
+}
+
+fn tell_too_long<E: Sink>(err: &mut E) -> Status
+    ensures tells { Complains result too_long_text (E.held err.old) (E.held err.new) }
+    ensures write { result ≡ Status.WriteFault → Rose (E.faults err.old) (E.faults err.new) }
+    ensures memory { result ≡ Status.NoMemory → ⊥ }
+    ensures later { E.faults err.old ≤ E.faults err.new }
+{
+    complain(b"script too long\n", err)
+}
+
+fn complain<E: Sink>(text: &[u8], err: &mut E) -> Status
+    ensures tells { Complains result text.now (E.held err.old) (E.held err.new) }
+    ensures write { result ≡ Status.WriteFault → Rose (E.faults err.old) (E.faults err.new) }
+    ensures memory { result ≡ Status.NoMemory → ⊥ }
+    ensures later { E.faults err.old ≤ E.faults err.new }
+{
+    match write_all(err, text) {
+        Ok(()) => Status::Refused,
+        Err(_) => Status::WriteFault,
+    }
+}
