@@ -1,8 +1,8 @@
 -- Filters and tests of lists.
 use Rattle.std.proofs.Common.{◌≡◌, Bool, true, false, cond, List, [], ◌∷◌, ◌++◌, refl, sym, ap, ◌∙◌}
 use Rattle.std.specs.Prelude.{filter}
-use Rattle.std.specs.List.{list_all, list_any}
-use Rattle.std.proofs.lemmas.Bool.{false≢true, and_parts, and_from, or_parts}
+use Rattle.std.specs.List.{list_all}
+use Rattle.std.proofs.lemmas.Bool.{and_parts, and_from}
 use Rattle.std.proofs.lemmas.List.Folds.{list_all-append}
 
 module _ {X : Type 0} where
@@ -18,23 +18,7 @@ module _ {X : Type 0} where
       by false ea true eb ih = rw ea ih
       by false ea false eb ih = ih
 
-  -- where no element passes, the filter keeps none
-  pub filter_none : (p : X → Bool) (xs : List X) → list_any p xs ≡ false → filter p xs ≡ []
-  filter_none p [] h = refl
-  filter_none p (x ∷ xs) h = rw (or_parts (p x) (list_any p xs) h).0 (filter_none p xs (or_parts (p x) (list_any p xs) h).1)
-
-  -- filters by tests that are equal at each element
-  pub filter_same : (p q : X → Bool) → ((x : X) → p x ≡ q x) → (xs : List X) → filter p xs ≡ filter q xs
-  filter_same p q e [] = refl
-  filter_same p q e (x ∷ xs) = by (p x) (q x) (e x) (filter_same p q e xs)
-    where
-      by : (a b : Bool) → a ≡ b → filter p xs ≡ filter q xs → cond a (x ∷ filter p xs) (filter p xs) ≡ cond b (x ∷ filter q xs) (filter q xs)
-      by true true k ih = ap (λ z. x ∷ z) ih
-      by false false k ih = ih
-      by true false k ih = absurd (false≢true (sym k))
-      by false true k ih = absurd (false≢true k)
-
-  -- a filter that follows from another one's passing test
+  -- a filter keeps nothing where each element passes a test that rules it out
   pub filter_none_of_all : (p t : X → Bool) → ((x : X) → t x ≡ true → p x ≡ false) → (xs : List X) → list_all t xs ≡ true → filter p xs ≡ []
   filter_none_of_all p t f [] h = refl
   filter_none_of_all p t f (x ∷ xs) h =

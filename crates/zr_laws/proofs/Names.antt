@@ -1,4 +1,6 @@
--- Names, and what a look-up by name finds after a replacement or an insertion.
+-- Names, and what a look-up by name finds after a replacement or an insertion. Two lemmas serve nearly all steps, over any
+-- reading of what was found: what a replacement does to the reading (`read_after`), and that it does nothing where the
+-- reading cannot tell the two values apart (`read_kept`); `test_after` is the first for tests.
 use Rattle.std.proofs.Common.{◌≡◌, ℕ, Bool, true, false, cond, List, [], ◌∷◌, Option, Some, None, Ordering, refl, sym, ap, ◌∙◌}
 use Rattle.std.specs.Prelude.{IsSome, is_some}
 use Rattle.std.specs.List.{list_all}

@@ -1,4 +1,6 @@
--- The numbers of lines ascend: what stands before a mark, what follows it, and whose line a number is. Lists alone.
+-- The numbers of lines ascend: what stands before a mark, what follows it, and whose line a number is. Lists alone, by
+-- induction on them. The tests speak of the whole phase, `done ++ rest`, so that no filter changes as the phase goes on;
+-- that a number is used once is needed here and nowhere else.
 use Rattle.std.proofs.Common.{◌≡◌, ℕ, Bool, true, false, List, [], ◌∷◌, ◌++◌, refl, sym, ap, ◌∙◌, ◌<◌, ◌≤◌, arith, append_assoc, inl, inr}
 use Rattle.std.specs.Prelude.{◌==◌, ◌&&◌, ◌||◌, ◌⊎◌, not, nat_lt, nat_le}
 use Rattle.std.specs.List.{list_all}

@@ -1,4 +1,6 @@
--- One author and one receiver in a phase: what does not change in it, and what holds at each of its moments.
+-- One author and one receiver in a phase: what does not change in it (`Pair`), and what holds at each of its moments
+-- (`Flows`). Its heart is one equation: what stands in the places from the receiver back to the author, joined, is what
+-- is to be had. What has to be known of the router's tables at the mark is `IsRouted`, and nothing else of them is used.
 use Rattle.std.proofs.Common.{◌≡◌, ℕ, Bool, true, false, List, [], ◌∷◌, ◌++◌, Option, Some, None, ◌∙◌, ap, append-nil}
 use Rattle.std.specs.Prelude.{◌==◌, ◌&&◌, not, filter, flat_map, is_some, option_to_list}
 use Rattle.std.specs.List.{list_all}

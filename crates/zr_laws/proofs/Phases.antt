@@ -1,4 +1,5 @@
--- The flow is kept over a whole phase: by each command that may stand in it, and so by any number of them.
+-- The flow is kept over a whole phase: by each command that may stand in it, and so by any number of them. A refused step
+-- leads to no moment, and owes nothing; a declaration that is handled cannot be there.
 use Rattle.std.proofs.Common.{◌≡◌, ℕ, true, List, [], ◌∷◌, ◌++◌, Option, Some, None, sym, ap, ◌∙◌, subst, append_assoc, append-nil}
 use Rattle.std.specs.Prelude.{IfSome}
 use Rattle.std.specs.List.{list_all, fold}

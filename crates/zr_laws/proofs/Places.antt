@@ -1,5 +1,6 @@
--- The places that a message passes, from its receiver back to its author, over a path of any length, and what a step that
--- moves messages from one place to the next does to all that stands in them: nothing. No world is in this file.
+-- The places that a message passes, from its receiver back to its author, over a path of any length, and what a step does to
+-- all that stands in them: moved from one place to the next nothing is changed (`keeps`), and what the author writes comes
+-- last (`gains`). Both go by induction on the path, two places at a time. No world is in this file.
 use Rattle.std.proofs.Common.{◌≡◌, ℕ, List, [], ◌∷◌, ◌++◌, refl, sym, ap, ◌∙◌, append_assoc, append-nil}
 use Rattle.std.specs.Prelude.{◌⊎◌}
 use Rattle.std.proofs.Common.{inl, inr}

@@ -1,4 +1,6 @@
--- What a router sends comes to the queues of the clients at its links, and to nothing else.
+-- What a router sends comes to the queues of the clients at its links, and to nothing else: a reading that looks at no queue
+-- stays (`all_kept`), and a queue gains one copy for each link at which its client is (`queue_adds`). Both go by induction
+-- over what is sent, by cases on the link's name and on the client of that name.
 use Rattle.std.proofs.Common.{◌≡◌, ℕ, Bool, true, false, cond, List, [], ◌∷◌, ◌++◌, map, Option, Some, None, refl, sym, ap, ◌∙◌, append_assoc, append-nil}
 use Rattle.std.specs.Prelude.{filter, is_some, slice_get}
 use Rattle.std.specs.List.{list_all}

@@ -1,5 +1,5 @@
 -- Whole scripts worked out: what the definitions say of them.
-use Rattle.std.specs.Prelude.{◌≡◌, ℕ, List, [], ◌∷◌, ◌++◌, codes, true, Option, Some, None}
+use Rattle.std.specs.Prelude.{◌≡◌, ℕ, List, [], ◌∷◌, ◌++◌, codes, true, map, take, drop, Option, Some, None}
 use Rattle.std.specs.List.{flat_map}
 use Rattle.std.specs.Option.{option_map}
 use Rattle.zr_msg.specs.declared.error.ScriptError.{ScriptError}
@@ -10,6 +10,7 @@ use Rattle.zr_network.specs.Run.{run_of}
 use Rattle.zr_network.specs.Phase.{Numbered}
 use Rattle.zr_network.specs.Broker.{Item, from}
 use Rattle.zr_network.specs.Moments.{reached, is_quiet, sent_to}
+use Rattle.zr_network.specs.Refines.{sent_of}
 use Rattle.zr_network.specs.Accepted.{accepted}
 
 -- the text of some lines, each with its end
@@ -76,3 +77,21 @@ AuthorHearsNothing = ComesTo
     ∷ codes "take 0a c1" ∷ [])
     (codes "0a < c1: sub 1 a/b #3" ∷ codes "0a < c1: put - a/b hi #5" ∷ [])
     7 (Some NothingThere)
+
+-- a client that subscribes twice to a key is sent one copy
+abbrev pub OneCopyArrives : Type 0
+OneCopyArrives = ComesTo
+    (codes "router 0a" ∷ codes "client c1 0a" ∷ codes "client c2 0a" ∷ codes "sub c2 1 a/b" ∷ codes "sub c2 2 a/b" ∷ codes "handle 0a c2" ∷ codes "handle 0a c2"
+    ∷ codes "mark" ∷ codes "put c1 a/b hi" ∷ codes "handle 0a c1" ∷ codes "take 0a c2" ∷ codes "take 0a c2" ∷ [])
+    (codes "0a < c2: sub 1 a/b #4" ∷ codes "0a < c2: sub 2 a/b #5" ∷ codes "mark #8" ∷ codes "0a < c1: put - a/b hi #9" ∷ codes "0a > c2: put - a/b hi #9" ∷ [])
+    12 (Some NothingThere)
+
+-- a sample from before the mark, and one of its phase
+abbrev pub old_and_new : List Numbered
+old_and_new = (6, Put c1 (codes "a/b") (codes "old")) ∷ (7, Mark) ∷ (8, Put c1 (codes "a/b") (codes "new")) ∷ (9, Handle a c1) ∷ (10, Handle a c1) ∷ (11, Take a c2) ∷ (12, Take a c2) ∷ []
+
+-- a sample from before the mark is sent in the phase too; it is none of the author's lines of the phase
+pub record OldSampleArrives : Type 0 where
+  pub sent_is : option_map (λ m. map (λ i. i.line) (sent_to m.report c2)) (reached (before ++ old_and_new)) ≡ Some (6 ∷ 8 ∷ [])
+  pub of_phase : option_map (λ m. map (λ i. i.line) (sent_of (drop 2 old_and_new) m c1 c2)) (reached (before ++ old_and_new)) ≡ Some (8 ∷ [])
+  pub due_is : map (λ i. i.line) (from (before ++ take 1 old_and_new) (drop 2 old_and_new) c1 c2) ≡ 8 ∷ []

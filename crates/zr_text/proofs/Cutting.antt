@@ -37,6 +37,6 @@ pub open_front : {X : Type 0} (p : X → Bool) (xs : List X) (i : ℕ) (d : X) �
 open_front p xs i d found =
     let at = position-Some p xs i d found in
     slice_split_none p (take i xs)
-      (All-from_get_or (λ x. p x ≡ false) (take i xs) d (λ k lt.
-        let below : k < i = omega (arith, length-take i xs) in
-        ap p (get_or-take i xs k d below) ∙ at.2 k below))
+    (All-from_get_or (λ x. p x ≡ false) (take i xs) d (λ k lt.
+    let below : k < i = omega (arith, length-take i xs) in
+    ap p (get_or-take i xs k d below) ∙ at.2 k below))
