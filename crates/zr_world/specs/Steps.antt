@@ -1,9 +1,10 @@
 -- What a call that steps has done: what is said, or the refusal that is said and nothing else.
-use Rattle.std.specs.Prelude.{◌≡◌, Bool, true, false, List, ◌++◌, Option, option_to_list, Result, Ok, Err, IfOk, is_ok}
+use Rattle.std.specs.Prelude.{◌≡◌, ℕ, Bool, true, false, List, ◌++◌, Option, option_to_list, Result, Ok, Err, IfOk, is_ok}
 use Rattle.zr_msg.specs.declared.error.ScriptError.{ScriptError}
 use Rattle.zr_msg.specs.declared.error.ScriptError.TheVariants.{NoMemory}
 use Rattle.zr_msg.specs.declared.report.ReportLine.{ReportLine}
-use Rattle.zr_network.specs.World.{WorldState, Outcome, empty_world}
+use Rattle.zr_network.specs.Step.{◌>>=◌}
+use Rattle.zr_network.specs.World.{Tagged, Clients, WorldState, Outcome, empty_world, client_of, with_client, with_wire, end_at, oldest}
 
 -- What a step did is what is said; a refusal changes nothing; where memory ran out nothing is said.
 abbrev pub Steps : {A S : Type 0} → Result A ScriptError → Result (A × S) ScriptError → S → S → Type 0
@@ -16,6 +17,13 @@ abbrev pub Changes : {S : Type 0} → Result (Unit {0}) ScriptError → Result S
 Changes (Ok u) said old new = said ≡ Ok new
 Changes (Err NoMemory) said old new = Unit {0}
 Changes (Err e) said old new = (said ≡ Err e) × (new ≡ old)
+
+-- the oldest message on the wire from a client to a router, with the number of its link, and the clients without it
+unfoldable pub from_wire : Clients → List ℕ → List ℕ → Bool → Result ((Tagged × ℕ) × Clients) ScriptError
+from_wire clients from router is_router = do
+  s ← end_at (client_of clients from) is_router router
+  x ← oldest s.wire
+  Ok ((x.0, s.link), with_client clients from (with_wire s x.1))
 
 -- a report line, if there is one, stands last
 abbrev pub told_in : List ReportLine → Option ReportLine → List ReportLine

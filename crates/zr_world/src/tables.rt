@@ -3,9 +3,9 @@
 ghost use Rattle.std.specs.Prelude.{◌≡◌, if◌then◌else◌, OnOk};
 ghost use Rattle.std.specs.List.{slice_get};
 ghost use Rattle.zr_network.specs.World.{router_of, weighed, all_queued, queued_for, all_settled, is_named};
-ghost use Rattle.zr_world.specs.Steps.{Steps, Changes};
+ghost use Rattle.zr_world.specs.Steps.{Steps, Changes, from_wire};
 
-use crate::client::Client;
+use crate::client::{Client, Tagged};
 use crate::router::Router;
 use std::alloc::{AllocError, Global};
 use std::collections::BTreeMap;
@@ -130,7 +130,7 @@ impl Tables {
     }
 
     /// A router handles the oldest message on the wire from a client.
-    #[tactic(auto, using(std::proofs::lemmas::Map::Steps::set_value_same), unfolding(zr_network::specs::World::handle_step))]
+    #[tactic(auto, using(std::proofs::lemmas::Map::Steps::set_value_same, crate::proofs::Handling::handle_is, crate::proofs::Handling::handle_refused))]
     pub fn handle(&mut self, router: Zid, from: Zid) -> Result<Option<ReportLine>, ScriptError>
         ensures { Steps result (handle_step (state_of self.old) router from) (state_of self.old) (state_of self.new) }
     {
@@ -138,16 +138,7 @@ impl Tables {
         let Some(r) = self.routers.get_mut(&router) else {
             return Err(ScriptError::UnknownName);
         };
-        let Some(c) = self.clients.get_mut(&from) else {
-            return Err(absent(is_router));
-        };
-        if !is_same(&c.router(), &router) {
-            return Err(ScriptError::NotLinked);
-        }
-        let link = c.link();
-        let Some(x) = c.next_sent() else {
-            return Err(ScriptError::NothingThere);
-        };
+        let (x, link) = next_from(&mut self.clients, &from, &router, is_router)?;
         let msg = x.msg.copy(self.alloc)?;
         let mut out = Vec::new(self.alloc);
         r.hear(self.alloc, link, msg, &mut out)?;
@@ -202,6 +193,29 @@ impl Tables {
     {
         self.routers.contains_key(name) || self.clients.contains_key(name)
     }
+}
+
+// The oldest message on the wire from a client, with the number of its link.
+#[tactic(auto, using(std::proofs::lemmas::Map::Steps::set_value_same), unfolding(crate::specs::Steps::from_wire))]
+fn next_from(
+    clients: &mut BTreeMap<Zid, Client>,
+    from: &Zid,
+    router: &Zid,
+    is_router: bool,
+) -> Result<(Tagged, u32), ScriptError>
+    ensures { Steps result (from_wire clients.old.entries from.now router.now is_router) clients.old.entries clients.new.entries }
+{
+    let Some(c) = clients.get_mut(from) else {
+        return Err(absent(is_router));
+    };
+    if !is_same(&c.router(), router) {
+        return Err(ScriptError::NotLinked);
+    }
+    let link = c.link();
+    let Some(x) = c.next_sent() else {
+        return Err(ScriptError::NothingThere);
+    };
+    Ok((x, link))
 }
 
 // The declaration of a key weighs on its router, if there is room for it.
