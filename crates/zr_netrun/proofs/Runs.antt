@@ -10,7 +10,10 @@ use Rattle.zr_msg.specs.declared.error.ScriptError.TheVariants as e
 use Rattle.zr_msg.specs.declared.command.Command.{Command}
 use Rattle.zr_network.specs.Lines.{parts, all_but_last, last_part, ended_lines, open_line, unless_empty}
 use Rattle.zr_network.specs.Command.{command_of}
-use Rattle.zr_network.specs.World.{Outcome, outcome}
+use Rattle.zr_msg.specs.declared.report.ReportLine.{ReportLine}
+use Rattle.zr_network.specs.Step.{◌>>=◌}
+use Rattle.zr_network.specs.World.{WorldState, Outcome, outcome}
+use Rattle.zr_netrun.specs.Kept.{advanced}
 use Rattle.zr_network.specs.Run.{Run, told, stepped, commanded, on_line}
 use Rattle.zr_netrun.proofs.Lines.{IsOpen, behind, parts_behind, open_take}
 
@@ -118,3 +121,17 @@ on_line_front r line = ap (λ c. cond (is_some r.refusal) r (commanded r c)) (co
 pub last_kept : (r : Run) (line : List ℕ) → fold on_line r (unless_empty (take 4097 line)) ≡ fold on_line r (unless_empty line)
 last_kept r [] = ap (λ z. fold on_line r (unless_empty z)) (take_all 4097 [] (omega arith))
 last_kept r (b ∷ bs) = on_line_front r (b ∷ bs)
+
+-- ---- what a line does, by what its command does to the world
+
+commanded_by : (r : Run) (c : Result Command ScriptError) → commanded r c ≡ stepped r (c >>= (λ command. outcome r.world (r.number + 1) command))
+commanded_by r (Ok command) = refl
+commanded_by r (Err e) = refl
+
+pub commanded_ok : (r : Run) (line : List ℕ) (line_told : Option ReportLine) (world : WorldState) → advanced r.world (r.number + 1) line ≡ Ok (line_told, world) →
+    commanded r (command_of line) ≡ record { world = world; number = r.number + 1; text = r.text ++ told line_told; refusal = None }
+commanded_ok r line line_told world h = commanded_by r (command_of line) ∙ ap (stepped r) h
+
+pub commanded_err : (r : Run) (line : List ℕ) (e : ScriptError) → advanced r.world (r.number + 1) line ≡ Err e →
+    commanded r (command_of line) ≡ record { world = r.world; number = r.number + 1; text = r.text; refusal = Some e }
+commanded_err r line e h = commanded_by r (command_of line) ∙ ap (stepped r) h

@@ -9,7 +9,7 @@ use Rattle.zr_network.specs.Run.{Run, on_line}
 use Rattle.zr_world.specs.Steps.{Living}
 use Rattle.zr_netrun.specs.declared.runner.Stop.{Stop}
 use Rattle.zr_netrun.specs.declared.runner.Stop.TheVariants.{Refused, NoMemory, WriteFault}
-use Rattle.zr_netrun.specs.Kept.{Kept, fresh, Written, IsAt, Stopped, Turns}
+use Rattle.zr_netrun.specs.Kept.{Adds, Kept, fresh, Written, IsAt, Stopped, Turns}
 use Rattle.zr_netrun.proofs.Runs.{with_text, fold_with, text_grows, refused_stays}
 
 -- ---- texts
@@ -127,3 +127,31 @@ flush_after r l earlier k m a b c (Ok u) at ok err = record {
 flush_after r l earlier k m a b c (Err WriteFault) at ok err = front_flushed (earlier ++ r.text) k.pending a b c at.text err.2
 flush_after r l earlier k m a b c (Err NoMemory) at ok err = absurd (cc)
 flush_after r l earlier k m a b c (Err (Refused e)) at ok err = absurd (cc)
+
+-- ---- a line that was applied
+
+-- the whole text waits
+pub all_waits : (t : List ℕ) (a : Option (List ℕ)) → Written t t a a
+all_waits t None = refl
+all_waits t (Some held) = ([], refl, ap Some (sym (append-nil held)))
+
+-- a line whose applying stopped the run
+pub adds_stops : (run : Run) (k m : Kept) (l : List ℕ) (a : Option (List ℕ)) (stop : Stop) → Adds (Err stop) run k m → Turns (Err stop) run l k.pending m a a
+adds_stops run k m l a (Refused e) h = (h.0, h.1, subst (λ (z : List ℕ). Written (k.pending ++ run.text) z a a) (sym h.2) (all_waits (k.pending ++ run.text) a))
+adds_stops run k m l a NoMemory h = front_none (k.pending ++ run.text) a
+adds_stops run k m l a WriteFault h = absurd h
+
+-- a line was applied, and what waits was written as far as it was
+pub adds_turns : (run : Run) (k m n : Kept) (a b : Option (List ℕ)) (result : Result (Unit {0}) Stop) (u : Unit {0}) → Adds (Ok u) run k m →
+    OnOk result ((n ≡ record { world = m.world; number = m.number; line = m.line; pending = n.pending }) × Written m.pending n.pending a b) →
+    OnErr result ((result ≡ Err WriteFault) × (n ≡ m) × AppendsFront m.pending a b) → Turns result run k.line k.pending n a b
+adds_turns run k m n a b (Ok v) u h ok err = record {
+  world = ap (λ (z : Kept). z.world) ok.0 ∙ ap (λ (z : Kept). z.world) h.0;
+  number = ap (λ (z : Kept). z.number) ok.0 ∙ ap (λ (z : Kept). z.number) h.0;
+  line_is = ap (λ (z : Kept). z.line) ok.0 ∙ ap (λ (z : Kept). z.line) h.0;
+  refusal = h.1;
+  text = subst (λ (z : List ℕ). Written z n.pending a b) (ap (λ (z : Kept). z.pending) h.0) ok.1;
+}
+adds_turns run k m n a b (Err WriteFault) u h ok err = subst (λ (z : List ℕ). AppendsFront z a b) (ap (λ (z : Kept). z.pending) h.0) err.2
+adds_turns run k m n a b (Err NoMemory) u h ok err = absurd (cc)
+adds_turns run k m n a b (Err (Refused e)) u h ok err = absurd (cc)

@@ -54,6 +54,14 @@ abbrev pub Turns : Result (Unit {0}) Stop → Run → List ℕ → List ℕ → 
 Turns (Ok u) run line earlier new before after = IsAt run line earlier new before after
 Turns (Err stop) run line earlier new before after = Stopped stop run earlier new before after
 
+-- What applying a line has done: what it reports waits behind what waited.
+abbrev pub Adds : Result (Unit {0}) Stop → Run → Kept → Kept → Type 0
+Adds (Ok u) run old new =
+    (new ≡ record { world = record { state = run.world; spent = false }; number = run.number; line = old.line; pending = old.pending ++ run.text }) × (run.refusal ≡ None)
+Adds (Err (Refused e)) run old new = (run.refusal ≡ Some e) × (new.number ≡ run.number) × (new.pending ≡ old.pending ++ run.text)
+Adds (Err NoMemory) run old new = Unit {0}
+Adds (Err WriteFault) run old new = ⊥
+
 -- what the command of a line does to a world
 abbrev pub advanced : WorldState → ℕ → List ℕ → Outcome
 advanced w number line = command_of line >>= (λ command. outcome w number command)

@@ -4,10 +4,10 @@ ghost use Rattle.std.specs.Prelude.{◌≡◌, ◌==◌, ◌+◌, ◌^◌, ◌<�
 ghost use Rattle.std.specs.List.{fold};
 ghost use Rattle.zr_outside.specs.Counts.{Rose};
 ghost use Rattle.zr_network.specs.Lines.{ended_lines, open_line, parts, unless_empty};
-ghost use Rattle.zr_network.specs.Run.{on_line};
+ghost use Rattle.zr_network.specs.Run.{on_line, told};
 ghost use Rattle.zr_outside.specs.Sink.{Appends, AppendsFront};
 ghost use Rattle.zr_world.specs.Steps.{new_world};
-ghost use Rattle.zr_netrun.specs.Kept.{fresh, Turns, Advances, advanced, stop_of};
+ghost use Rattle.zr_netrun.specs.Kept.{fresh, Adds, Advances, Turns, Written, advanced, stop_of};
 
 use std::alloc::{AllocError, Global};
 use std::marker::Model;
@@ -172,8 +172,7 @@ impl Runner {
         self.on_line(&line, out)
     }
 
-    // A line is applied, and its report is written once enough waits.
-    #[tactic(auto, using(crate::proofs::Writing::front_none))]
+    // A line is applied, and what waits is written once it is enough.
     fn on_line<K: Sink>(&mut self, line: &[u8], out: &mut K) -> Result<(), Stop>
         requires alive { self.old.world.spent ≡ false }
         requires room { self.old.number < 2 ^ 63 }
@@ -182,14 +181,35 @@ impl Runner {
         ensures count { self.new.number ≤ self.old.number + 1 }
         ensures later { K.faults out.old ≤ K.faults out.new }
     {
+        self.apply_line(line)?;
+        self.relieve(out)
+    }
+
+    // A line is applied; what it reports waits.
+    #[tactic(auto, using(crate::proofs::Runs::commanded_ok, crate::proofs::Runs::commanded_err))]
+    fn apply_line(&mut self, line: &[u8]) -> Result<(), Stop>
+        requires alive { self.old.world.spent ≡ false }
+        requires room { self.old.number < 2 ^ 63 }
+        ensures adds { Adds result (on_line (fresh self.old) line.now) self.old self.new }
+        ensures count { self.new.number ≤ self.old.number + 1 }
+    {
         self.number += 1;
-        if let Some(told) = advance(self.alloc, &mut self.world, self.number, line)? {
-            line_text(self.alloc, &told, &mut self.pending)?;
-            if self.pending.len() >= MOST_PENDING {
-                self.flush(out)?;
-            }
-        }
+        let told = advance(self.alloc, &mut self.world, self.number, line)?;
+        put_told(self.alloc, told, &mut self.pending)?;
         Ok(())
+    }
+
+    // Enough may wait to be written.
+    fn relieve<K: Sink>(&mut self, out: &mut K) -> Result<(), Stop>
+        ensures ok { OnOk result ((self.new ≡ record { world = self.old.world; number = self.old.number; line = self.old.line; pending = self.new.pending }) × Written self.old.pending self.new.pending (K.held out.old) (K.held out.new)) }
+        ensures err { OnErr result ((result ≡ Err Stop.WriteFault) × (self.new ≡ self.old) × AppendsFront self.old.pending (K.held out.old) (K.held out.new)) }
+        ensures fault { OnErr result (Rose (K.faults out.old) (K.faults out.new)) }
+        ensures later { K.faults out.old ≤ K.faults out.new }
+    {
+        if self.pending.len() < MOST_PENDING {
+            return Ok(());
+        }
+        self.flush(out)
     }
 
     // What has come of a line is kept, as far as it matters.
@@ -242,6 +262,20 @@ fn advance(
     match world.apply(number, &command, &mut report) {
         Ok(()) => Ok(report.pop()),
         Err(e) => Err(stopping(e)),
+    }
+}
+
+// What is to be reported waits behind what waited.
+fn put_told(
+    alloc: Global,
+    line: Option<ReportLine>,
+    pending: &mut Vec<u8>,
+) -> Result<(), AllocError>
+    ensures { OnOk result (pending.new.items ≡ pending.old.items ++ told line) }
+{
+    match &line {
+        Some(line) => line_text(alloc, line, pending),
+        None => Ok(()),
     }
 }
 

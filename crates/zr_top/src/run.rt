@@ -1,0 +1,62 @@
+//! `run`: the whole program over the sources and sinks that it is given.
+
+ghost use Rattle.std.specs.Prelude.{◌≡◌, ◌≤◌, ◌⊎◌, ◌↔◌, true, false, map, IsTrue};
+ghost use Rattle.std.specs.String.{string_bytes};
+ghost use Rattle.zr_outside.specs.Counts.{Rose};
+ghost use Rattle.zr_network.specs.Lines.{lines};
+ghost use Rattle.zr_network.specs.Accepted.{IsRefined};
+ghost use Rattle.zr_netrun.specs.Clauses.{OfRead, Reports, IsReadToEnd};
+ghost use Rattle.zr_top.specs.Words.{is_net, TellsUsage};
+
+use std::alloc::Global;
+use zr_laws::refines::lines_refine;
+use zr_netrun::netrun::run_script;
+use zr_netrun::status::Status;
+use zr_outside::sink::{Sink, write_all};
+use zr_outside::source::Source;
+
+/// The forms of the program's words.
+const USAGE: &str =
+    "usage: zrd net [--summary] / serve --id ID --listen ADDRESS [DIAL]... / make --number N --routers R --clients C --messages M\n";
+
+/// The whole program. At this stage its words are exactly `net`: it reads a script from `input`, and writes the report to `out`.
+///
+/// `words` are without the program's name. With other words the status is `Words`, and `err` has the usage line.
+pub fn run<S: Source, K: Sink, E: Sink>(
+    alloc: Global,
+    words: &[String],
+    input: &mut S,
+    out: &mut K,
+    err: &mut E,
+) -> Status
+    ensures report { is_net (map string_bytes words.now) ≡ true → OfRead (S.left input.old) (S.left input.new) (Reports result (K.held out.old) (K.held out.new) (E.held err.old) (E.held err.new)) }
+    ensures headline { is_net (map string_bytes words.now) ≡ true → OfRead (S.left input.old) (S.left input.new) (λ read. IsRefined (lines read)) }
+    ensures whole { result ≡ Status.Done → IsReadToEnd (S.ends input.old) (S.ends input.new) (S.quiets input.old) (S.quiets input.new) }
+    ensures read { result ≡ Status.ReadFault → Rose (S.faults input.old) (S.faults input.new) }
+    ensures write { result ≡ Status.WriteFault → Rose (K.faults out.old) (K.faults out.new) ⊎ Rose (E.faults err.old) (E.faults err.new) }
+    ensures words { (result ≡ Status.Words) ↔ (is_net (map string_bytes words.now) ≡ false) }
+    ensures usage { result ≡ Status.Words → TellsUsage (E.held err.old) (E.held err.new) (E.faults err.old) (E.faults err.new) × (K.held out.new ≡ K.held out.old) × (S.left input.new ≡ S.left input.old) }
+{
+    if !is_net(words) {
+        return usage(err);
+    }
+    lines_refine();
+    run_script(alloc, input, out, err)
+}
+
+fn is_net(words: &[String]) -> bool
+    ensures { result ≡ is_net (map string_bytes words.now) }
+{
+    match words {
+        [word] => word.as_bytes() == b"net".as_slice(),
+        _ => false,
+    }
+}
+
+fn usage<E: Sink>(err: &mut E) -> Status
+    ensures words { result ≡ Status.Words }
+    ensures tells { TellsUsage (E.held err.old) (E.held err.new) (E.faults err.old) (E.faults err.new) }
+{
+    let _ = write_all(err, USAGE.as_bytes());
+    Status::Words
+}
