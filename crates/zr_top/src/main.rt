@@ -7,9 +7,8 @@ mod run;
 mod tests;
 
 use crate::run::run;
-use std::env;
-use std::io;
 use std::process::ExitCode;
+use std::{env, io};
 use zr_netrun::status::Status;
 use zr_outside::std_streams::{ReadSource, WriteSink};
 
@@ -17,7 +16,9 @@ fn main(rt: HostRuntime) -> ExitCode {
     let alloc = rt.alloc();
     let words = match words(&rt) {
         Ok(words) => words,
-        Err(e) if e.kind() == io::ErrorKind::OutOfMemory => return ExitCode::from(Status::NoMemory.number()),
+        Err(e) if e.kind() == io::ErrorKind::OutOfMemory => return ExitCode::from(
+            Status::NoMemory.number(),
+        ),
         // a word that is not UTF-8 is none that the program takes, and so is no word
         Err(_) => Vec::new(alloc),
     };

@@ -7,11 +7,14 @@ use zr_netrun::status::Status;
 use zr_outside::mem_sink::MemSink;
 use zr_outside::mem_source::MemSource;
 
-const ONE_SAMPLE: &str = "router 0a\nclient c1 0a\nclient c2 0a\nsub c2 1 a/b\nhandle 0a c2\nmark\nput c1 a/b hi\nhandle 0a c1\ntake 0a c2\n";
+const ONE_SAMPLE: &str =
+    "router 0a\nclient c1 0a\nclient c2 0a\nsub c2 1 a/b\nhandle 0a c2\nmark\nput c1 a/b hi\nhandle 0a c1\ntake 0a c2\n";
 
-const ONE_SAMPLE_REPORT: &str = "0a < c2: sub 1 a/b #4\nmark #6\n0a < c1: put - a/b hi #7\n0a > c2: put - a/b hi #7\n";
+const ONE_SAMPLE_REPORT: &str =
+    "0a < c2: sub 1 a/b #4\nmark #6\n0a < c1: put - a/b hi #7\n0a > c2: put - a/b hi #7\n";
 
-const USAGE: &str = "usage: zrd net [--summary] / serve --id ID --listen ADDRESS [DIAL]... / make --number N --routers R --clients C --messages M\n";
+const USAGE: &str =
+    "usage: zrd net [--summary] / serve --id ID --listen ADDRESS [DIAL]... / make --number N --routers R --clients C --messages M\n";
 
 // Which calls fail, and how many bytes a read gives at most.
 #[derive(Clone, Copy)]
@@ -32,10 +35,17 @@ const SOUND: Outside<'static> = Outside {
 };
 
 // What a run gave: its status, and whether out and err hold these texts.
-fn gives(alloc: Global, word: &str, script: &str, outside: &Outside, out_text: &str, err_text: &str) -> Result<(Status, bool, bool), AllocError> {
+fn gives(
+    alloc: Global,
+    word: &str,
+    script: &[u8],
+    outside: &Outside,
+    out_text: &str,
+    err_text: &str,
+) -> Result<(Status, bool, bool), AllocError> {
     let words = vec![in alloc; String::from_str(alloc, word)?]?;
     let mut input = MemSource::new(
-        Vec::from_slice(alloc, script.as_bytes())?,
+        Vec::from_slice(alloc, script)?,
         outside.most,
         Vec::from_slice(alloc, outside.failing_read)?,
         Vec::from_slice(alloc, outside.quiet_read)?,
@@ -43,7 +53,11 @@ fn gives(alloc: Global, word: &str, script: &str, outside: &Outside, out_text: &
     let mut out = MemSink::new(alloc, Vec::from_slice(alloc, outside.failing_write)?);
     let mut err = MemSink::new(alloc, Vec::from_slice(alloc, outside.failing_error)?);
     let status = run(alloc, words.as_slice(), &mut input, &mut out, &mut err);
-    Ok((status, out.bytes() == out_text.as_bytes(), err.bytes() == err_text.as_bytes()))
+    Ok((
+        status,
+        out.bytes() == out_text.as_bytes(),
+        err.bytes() == err_text.as_bytes(),
+    ))
 }
 
 #[test]
@@ -60,9 +74,79 @@ fn scripts_give_their_reports(rt: HostRuntime) -> Result<(), Fail> {
         ("bogus", "", "line 1: 1 UnknownCommand\n", Status::Refused),
         ("sub c1 1 a//b", "", "line 1: 5 BadKey\n", Status::Refused),
         ("router 0A", "", "line 1: 2 BadWords\n", Status::Refused),
-        ("router 0a\nrouter 0b\n", "", "line 2: 12 Limit\n", Status::Refused),
+        (
+            "router 0a\nrouter 0b\n",
+            "",
+            "line 2: 12 Limit\n",
+            Status::Refused,
+        ),
+        (
+            "\nrouter 0a\n",
+            "",
+            "line 1: 1 UnknownCommand\n",
+            Status::Refused,
+        ),
+        (
+            "# a router\n",
+            "",
+            "line 1: 1 UnknownCommand\n",
+            Status::Refused,
+        ),
+        ("   \n", "", "line 1: 1 UnknownCommand\n", Status::Refused),
+        ("router 0a \n", "", "line 1: 2 BadWords\n", Status::Refused),
+        (" router 0a\n", "", "line 1: 2 BadWords\n", Status::Refused),
+        ("sub c1 01 a", "", "line 1: 2 BadWords\n", Status::Refused),
+        (
+            "sub c1 4294967296 a//b",
+            "",
+            "line 1: 2 BadWords\n",
+            Status::Refused,
+        ),
+        ("sub c1 1 a/*", "", "line 1: 5 BadKey\n", Status::Refused),
+        (
+            "put c1 a hi",
+            "",
+            "line 1: 3 UnknownName\n",
+            Status::Refused,
+        ),
+        (
+            "router 0a\nclient 0a 0a\n",
+            "",
+            "line 2: 4 NameTaken\n",
+            Status::Refused,
+        ),
+        (
+            "router 0a\nclient c1 0b\n",
+            "",
+            "line 2: 3 UnknownName\n",
+            Status::Refused,
+        ),
+        (
+            "router 0a\nhandle 0a 0a\n",
+            "",
+            "line 2: 7 NotLinked\n",
+            Status::Refused,
+        ),
+        (
+            "router 0a\nclient c1 0a\nhandle c1 0a\n",
+            "",
+            "line 3: 3 UnknownName\n",
+            Status::Refused,
+        ),
+        (
+            "router 0a\nclient c1 0a\nsub c1 1 a\nmark\n",
+            "",
+            "line 4: 10 NotSettled\n",
+            Status::Refused,
+        ),
+        (
+            "router 0a\nclient c1 0a\nsub c1 1 a\nsub c1 1 b\n",
+            "",
+            "line 4: 4 NameTaken\n",
+            Status::Refused,
+        ),
     ] {
-        let given = gives(rt.alloc(), "net", script, &SOUND, out, err)?;
+        let given = gives(rt.alloc(), "net", script.as_bytes(), &SOUND, out, err)?;
         assert_eq!(&rt; given.0, status, "{script}");
         assert!(&rt; given.1 && given.2, "{script}");
     }
@@ -76,9 +160,32 @@ fn pieces_make_no_difference(rt: HostRuntime) -> Result<(), Fail> {
         quiet_read: &[0, 7, 8],
         ..SOUND
     };
-    let given = gives(rt.alloc(), "net", ONE_SAMPLE, &outside, ONE_SAMPLE_REPORT, "")?;
+    let given = gives(
+        rt.alloc(),
+        "net",
+        ONE_SAMPLE.as_bytes(),
+        &outside,
+        ONE_SAMPLE_REPORT,
+        "",
+    )?;
     assert_eq!(&rt; given.0, Status::Done);
     assert!(&rt; given.1 && given.2);
+    Ok(())
+}
+
+#[test]
+fn a_long_line_is_refused_whatever_it_says(rt: HostRuntime) -> Result<(), Fail> {
+    let line = vec![in rt.alloc(); b'#'; 5_000]?;
+    let outside = Outside { most: 7, ..SOUND };
+    let given = gives(
+        rt.alloc(),
+        "net",
+        line.as_slice(),
+        &outside,
+        "",
+        "line 1: 12 Limit\n",
+    )?;
+    assert!(&rt; given.0 == Status::Refused && given.1 && given.2);
     Ok(())
 }
 
@@ -96,24 +203,24 @@ fn faults_end_the_run(rt: HostRuntime) -> Result<(), Fail> {
         failing_error: &[0],
         ..SOUND
     };
-    let read = gives(rt.alloc(), "net", ONE_SAMPLE, &reads, "", "")?;
+    let read = gives(rt.alloc(), "net", ONE_SAMPLE.as_bytes(), &reads, "", "")?;
     assert!(&rt; read.0 == Status::ReadFault && read.1 && read.2);
-    let written = gives(rt.alloc(), "net", ONE_SAMPLE, &writes, "", "")?;
+    let written = gives(rt.alloc(), "net", ONE_SAMPLE.as_bytes(), &writes, "", "")?;
     assert!(&rt; written.0 == Status::WriteFault && written.1 && written.2);
-    let told = gives(rt.alloc(), "net", "bogus", &errors, "", "")?;
+    let told = gives(rt.alloc(), "net", b"bogus", &errors, "", "")?;
     assert!(&rt; told.0 == Status::WriteFault && told.1 && told.2);
     Ok(())
 }
 
 #[test]
 fn other_words_are_told_the_usage(rt: HostRuntime) -> Result<(), Fail> {
-    let given = gives(rt.alloc(), "nets", ONE_SAMPLE, &SOUND, "", USAGE)?;
+    let given = gives(rt.alloc(), "nets", ONE_SAMPLE.as_bytes(), &SOUND, "", USAGE)?;
     assert!(&rt; given.0 == Status::Words && given.1 && given.2);
     let errors = Outside {
         failing_error: &[0],
         ..SOUND
     };
-    let failed = gives(rt.alloc(), "nets", ONE_SAMPLE, &errors, "", "")?;
+    let failed = gives(rt.alloc(), "nets", ONE_SAMPLE.as_bytes(), &errors, "", "")?;
     assert!(&rt; failed.0 == Status::Words && failed.1 && failed.2);
     Ok(())
 }

@@ -202,11 +202,11 @@ module _ (rs : List LinkRecord) (r at dest : List ℕ) where
       toward (graph_of rs) r at dest ≡ Some x
   toward_found n x d above to i =
       only_find _ (ids rs) x i (and_from _ _ (child_from (graph_of rs) r at x to) above) (λ y j t.
-        let p = passes y t in
-        let q = parent_is (graph_of rs) r x at to in
-        let s : Some q.0 ≡ Some p.k = sym q.1.from_parent ∙ p.at_is in
-        let e : q.0 ≡ p.k = cc in
-        only n x y d above p (q.1.to_child ∙ ap (λ (k : ℕ). Some (suc k)) e))
+      let p = passes y t in
+      let q = parent_is (graph_of rs) r x at to in
+      let s : Some q.0 ≡ Some p.k = sym q.1.from_parent ∙ p.at_is in
+      let e : q.0 ≡ p.k = cc in
+      only n x y d above p (q.1.to_child ∙ ap (λ (k : ℕ). Some (suc k)) e))
 
   pub toward_other : (n depth : ℕ) (x q : List ℕ) → dist (graph_of rs) r dest ≡ Some n → below (graph_of rs) r x dest ≡ true → depth_of depth ≡ dist (graph_of rs) r at →
       dist (graph_of rs) r x ≡ Some (depth + 1) → parent (graph_of rs) r x ≡ Some q → (q ≡ at → ⊥) → toward (graph_of rs) r at dest ≡ None
@@ -219,6 +219,6 @@ module _ (rs : List LinkRecord) (r at dest : List ℕ) where
 
   pub toward_no_farther : (n depth : ℕ) → dist (graph_of rs) r dest ≡ Some n → depth_of depth ≡ dist (graph_of rs) r at → n ≤ depth → toward (graph_of rs) r at dest ≡ None
   toward_no_farther n depth d e le = elim (cases_eq depth UNREACHED) [
-      inl u ↦ toward_unreached_at (sym e ∙ depth_unreached depth u)
+    | inl u ↦ toward_unreached_at (sym e ∙ depth_unreached depth u)
     | inr u ↦ toward_short n depth d (sym e ∙ depth_reached depth u) le
-    ]
+  ]

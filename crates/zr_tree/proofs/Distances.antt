@@ -82,12 +82,15 @@ module _ (g : Graph) (root : List ℕ) where
   pub step_back : (n m : ℕ) (x : List ℕ) → within n x ≡ Some (suc m) → (y : List ℕ) × In y (near g x) × (within n y ≡ Some m)
   step_back n m x h =
       let l = least_some (λ k. leads g k root x) n (suc m) h in
-      let y = any_in (λ y. leads g m root y) (near g x) l.passes in
-      (y.0, y.1, least_is (λ k. leads g k root y.0) n m (record {
-        below = omega (arith, l.below);
-        passes = y.2;
-        first = λ k lt. any_none (λ z. leads g k root z) (near g x) y.0 (l.first (suc k) (omega arith)) y.1;
-      }))
+      let y = any_in (λ y. leads g m root y) (near g x) l.passes in (
+        y.0,
+        y.1,
+        least_is (λ k. leads g k root y.0) n m (record {
+          below = omega (arith, l.below);
+          passes = y.2;
+          first = λ k lt. any_none (λ z. leads g k root z) (near g x) y.0 (l.first (suc k) (omega arith)) y.1;
+        }),
+      )
 
   -- what isn't reached by walks of at most m edges is by one of m and one more just where a neighbour is at distance m
   pub step_on : (m : ℕ) (x : List ℕ) → within (suc m) x ≡ None → leads g (suc m) root x ≡ list_any (λ y. is_at (within (suc m) y) m) (near g x)
@@ -98,8 +101,8 @@ module _ (g : Graph) (root : List ℕ) where
       agree y i (Some k) e =
           let l = least_some (λ k. leads g k root y) (suc m) k e in
           elim (cases_lt k m) [
-            inl lt ↦ absurd (false≢true (sym (least_none (λ k. leads g k root x) (suc m) h (suc k) (omega arith)) ∙ in_any (λ z. leads g k root z) (near g x) y i l.passes))
-          | inr ge ↦ (let i : k ≡ m = omega (arith, l.below) in ap (λ (j : ℕ). leads g j root y) (sym i) ∙ l.passes ∙ sym (eq-eqb k m i))
+            | inl lt ↦ absurd (false≢true (sym (least_none (λ k. leads g k root x) (suc m) h (suc k) (omega arith)) ∙ in_any (λ z. leads g k root z) (near g x) y i l.passes))
+            | inr ge ↦ (let i : k ≡ m = omega (arith, l.below) in ap (λ (j : ℕ). leads g j root y) (sym i) ∙ l.passes ∙ sym (eq-eqb k m i))
           ]
 
   pub root_at_zero : (n : ℕ) → within (suc n) root ≡ Some 0

@@ -81,9 +81,9 @@ module _ {X : Type 0} where
   -- the only element that passes is found
   pub only_find : (p : X → Bool) (xs : List X) (y : X) → In y xs → p y ≡ true → ((z : X) → In z xs → p z ≡ true → z ≡ y) → find p xs ≡ Some y
   only_find p xs y i e only =
-    let f = in_find p xs y i e in
-    let g = find_in p xs f.0 f.1 in
-    f.1 ∙ ap Some (only f.0 g.0 g.1)
+      let f = in_find p xs y i e in
+      let g = find_in p xs f.0 f.1 in
+      f.1 ∙ ap Some (only f.0 g.0 g.1)
 
   -- two tests that agree on the elements
   pub same_any : (p q : X → Bool) (xs : List X) → ((y : X) → In y xs → p y ≡ q y) → list_any p xs ≡ list_any q xs

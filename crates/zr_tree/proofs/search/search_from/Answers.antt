@@ -23,7 +23,7 @@ loop-depth-preserved c =
     let e = c.args.edges.now in
     let right = c.rows-rows.ensures.right in
     let v : Visits c.loop-depth.distances.items c.spread.new.distances [] c.spread.new.found.items (flat_map (row e.rows) c.loop-depth.frontier.items) c.loop-depth.depth =
-      rw (c.rows-rows.ensures.value, c.deref.ensures.value, c.deref_mut.ensures.value, c.new-next.ensures.items) at c.in_ok-spread.ensures in
+    rw (c.rows-rows.ensures.value, c.deref.ensures.value, c.deref_mut.ensures.value, c.new-next.ensures.items) at c.in_ok-spread.ensures in
     let level = round e right c.args.root c.loop-depth.depth _ _ _ _ (omega arith) c.loop-depth.invariant.level v in
     let back : take c.loop-depth.distances.len (c.spread.new.distances ++ drop (length c.spread.new.distances) c.loop-depth.distances.items) ≡ c.spread.new.distances = take_at _ _ _ (omega (arith, c.spread.auto.distances, c.deref_mut.ensures.len)) in
     record {

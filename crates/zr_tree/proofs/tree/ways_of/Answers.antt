@@ -15,7 +15,7 @@ jumps_of-requires-clause-order c k d lt =
     let known = c.in_ok-distances.ensures.distances in
     let is = rw (c.rows-rows.ensures.value, c.deref.ensures.value) at c.in_ok-parents.ensures in
     let long : length c.deref-4.result.now ≡ length c.args.edges.now.records =
-      ap length c.deref-4.ensures.value ∙ ap length is ∙ parents_long c.args.edges.now c.rows-rows.ensures.right c.args.root _ known in
+    ap length c.deref-4.ensures.value ∙ ap length is ∙ parents_long c.args.edges.now c.rows-rows.ensures.right c.args.root _ known in
     let lt' = rw c.deref-3.ensures.value at lt in
     rw (c.deref-3.ensures.value, long) (c.in_ok-distances.ensures.order k d lt')
 
