@@ -35,6 +35,9 @@ pub fn run<S: Source, K: Sink, E: Sink>(
     ensures read { result ≡ Status.ReadFault → Rose (S.faults input.old) (S.faults input.new) }
     ensures write { result ≡ Status.WriteFault → Rose (K.faults out.old) (K.faults out.new) ⊎ Rose (E.faults err.old) (E.faults err.new) }
     ensures words { (result ≡ Status.Words) ↔ (is_net (map string_bytes words.now) ≡ false) }
+    ensures input_later { S.faults input.old ≤ S.faults input.new }
+    ensures out_later { K.faults out.old ≤ K.faults out.new }
+    ensures err_later { E.faults err.old ≤ E.faults err.new }
     ensures usage { result ≡ Status.Words → TellsUsage (E.held err.old) (E.held err.new) (E.faults err.old) (E.faults err.new) × (K.held out.new ≡ K.held out.old) × (S.left input.new ≡ S.left input.old) }
 {
     if !is_net(words) {
@@ -56,6 +59,7 @@ fn is_net(words: &[String]) -> bool
 fn usage<E: Sink>(err: &mut E) -> Status
     ensures words { result ≡ Status.Words }
     ensures tells { TellsUsage (E.held err.old) (E.held err.new) (E.faults err.old) (E.faults err.new) }
+    ensures later { E.faults err.old ≤ E.faults err.new }
 {
     let _ = write_all(err, USAGE.as_bytes());
     Status::Words
