@@ -1,18 +1,16 @@
 -- One step of a way up the tree by what is kept of each router, and where it ends.
-use Rattle.std.proofs.Common.{◌≡◌, ℕ, ◌+◌, ◌<◌, ◌≤◌, zero, suc, Bool, true, false, cond, ◌&&◌, ◌==◌, List, [], Option, Some, None, IsSome, IfSome, ◌⊎◌, inl, inr, length, refl, sym, ap, ◌∙◌, subst, arith}
-use Rattle.std.specs.List.{find}
-use Rattle.std.proofs.lemmas.Bool.{true≢false, false≢true, cases_eq, cases_Bool, eq-eqb, eqb-true, ne_eqb, and_parts, and_from, false_from_ne_true}
+use Rattle.std.proofs.Common.{◌≡◌, ℕ, ◌+◌, ◌<◌, ◌≤◌, zero, suc, Bool, true, false, cond, ◌&&◌, ◌==◌, List, Option, Some, None, IsSome, IfSome, ◌⊎◌, inl, inr, length, refl, sym, ap, ◌∙◌, arith}
+use Rattle.std.proofs.lemmas.Bool.{false≢true, cases_eq, eq-eqb, ne_eqb, and_parts, and_from, false_from_ne_true}
 use Rattle.zr_id.specs.declared.record.LinkRecord.{LinkRecord}
-use Rattle.zr_graph.specs.Record.{ids, IsAscending}
+use Rattle.zr_graph.specs.Record.{ids}
 use Rattle.zr_tree.specs.declared.tree.Hop.{Hop}
 use Rattle.zr_tree.specs.declared.tree.TheConstants.{UNREACHED}
-use Rattle.zr_tree.specs.Hop.{IsHop, depth_of, parent_name}
+use Rattle.zr_tree.specs.Hop.{IsHop, depth_of}
 use Rattle.zr_tree.specs.Index.{name}
 use Rattle.zr_tree.specs.Tree.{dist, parent, below, is_child, toward}
 use Rattle.zr_tree.specs.Walk.{graph_of}
 use Rattle.zr_tree.proofs.Finds.{In, none_find, only_find, some_same}
 use Rattle.zr_tree.proofs.Branches.{parent_is, has_parent, child_is, child_from, below_itself, below_parent, below_trans, below_nearer, below_one, below_cases, unreached_no_parent}
-use Rattle.zr_tree.proofs.Levels.{name_in}
 
 -- the number that is kept of a known distance
 pub depth_value : (depth k : ℕ) → depth_of depth ≡ Some k → depth ≡ k
@@ -202,11 +200,11 @@ module _ (rs : List LinkRecord) (r at dest : List ℕ) where
       toward (graph_of rs) r at dest ≡ Some x
   toward_found n x d above to i =
       only_find _ (ids rs) x i (and_from _ _ (child_from (graph_of rs) r at x to) above) (λ y j t.
-        let p = passes y t in
-        let q = parent_is (graph_of rs) r x at to in
-        let s : Some q.0 ≡ Some p.k = sym q.1.from_parent ∙ p.at_is in
-        let e : q.0 ≡ p.k = cc in
-        only n x y d above p (q.1.to_child ∙ ap (λ (k : ℕ). Some (suc k)) e))
+      let p = passes y t in
+      let q = parent_is (graph_of rs) r x at to in
+      let s : Some q.0 ≡ Some p.k = sym q.1.from_parent ∙ p.at_is in
+      let e : q.0 ≡ p.k = cc in
+      only n x y d above p (q.1.to_child ∙ ap (λ (k : ℕ). Some (suc k)) e))
 
   pub toward_other : (n depth : ℕ) (x q : List ℕ) → dist (graph_of rs) r dest ≡ Some n → below (graph_of rs) r x dest ≡ true → depth_of depth ≡ dist (graph_of rs) r at →
       dist (graph_of rs) r x ≡ Some (depth + 1) → parent (graph_of rs) r x ≡ Some q → (q ≡ at → ⊥) → toward (graph_of rs) r at dest ≡ None
@@ -219,6 +217,6 @@ module _ (rs : List LinkRecord) (r at dest : List ℕ) where
 
   pub toward_no_farther : (n depth : ℕ) → dist (graph_of rs) r dest ≡ Some n → depth_of depth ≡ dist (graph_of rs) r at → n ≤ depth → toward (graph_of rs) r at dest ≡ None
   toward_no_farther n depth d e le = elim (cases_eq depth UNREACHED) [
-      inl u ↦ toward_unreached_at (sym e ∙ depth_unreached depth u)
+    | inl u ↦ toward_unreached_at (sym e ∙ depth_unreached depth u)
     | inr u ↦ toward_short n depth d (sym e ∙ depth_reached depth u) le
-    ]
+  ]

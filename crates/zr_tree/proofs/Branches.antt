@@ -1,14 +1,13 @@
 -- Parents are one nearer to the root, so what a router is below is a line of which each distance has one.
-use Rattle.std.proofs.Common.{◌≡◌, ℕ, ◌+◌, ◌<◌, ◌≤◌, zero, suc, Bool, true, false, cond, ◌&&◌, ◌||◌, ◌==◌, List, [], ◌∷◌, Option, Some, None, ◌⊎◌, inl, inr, length, is_some, unwrap_or, refl, sym, ap, ◌∙◌, subst, arith}
-use Rattle.std.specs.List.{filter, find, list_any}
-use Rattle.std.specs.Option.{option_or, option_map_or}
-use Rattle.std.proofs.lemmas.Bool.{true≢false, false≢true, cases_lt, eq-eqb, eqb-true, or_cases, or_right, or_left}
+use Rattle.std.proofs.Common.{◌≡◌, ℕ, ◌+◌, ◌≤◌, zero, suc, Bool, true, false, ◌||◌, List, Option, Some, None, ◌⊎◌, inl, inr, length, unwrap_or, refl, sym, ap, ◌∙◌, subst, arith}
+use Rattle.std.specs.Option.{option_map_or}
+use Rattle.std.proofs.lemmas.Bool.{false≢true, eq-eqb, eqb-true, or_cases, or_right, or_left}
 use Rattle.zr_graph.specs.Record.{same}
 use Rattle.zr_graph.proofs.Names.{same_is, same_refl}
 use Rattle.zr_tree.specs.Walk.{Graph, near, edge_length}
-use Rattle.zr_tree.specs.Tree.{leads, least, dist, is_sum, parent, climbs, below, is_child, children, toward, reached}
+use Rattle.zr_tree.specs.Tree.{dist, is_sum, parent, climbs, below, is_child}
 use Rattle.zr_tree.proofs.Finds.{In, find_in, in_find, none_find}
-use Rattle.zr_tree.proofs.Distances.{within, step_back, root_at_zero, zero_is_root}
+use Rattle.zr_tree.proofs.Distances.{step_back}
 
 -- how a parent stands to its child
 pub record IsParent (g : Graph) (root x p : List ℕ) (m : ℕ) : Type 0 where
@@ -77,6 +76,7 @@ module _ (g : Graph) (root : List ℕ) where
           let i : q.0 ≡ m = cc in
           let j : dist g root p ≡ Some m = q.1.from_parent ∙ ap Some i in
           ap (λ (d : Option ℕ). same x y || climbs g (unwrap_or d 0) root y p) (sym j)
+
       by_dist : (o : Option ℕ) → dist g root x ≡ o →
           climbs g (unwrap_or o 0) root y x ≡ (same x y || option_map_or (λ p. below g root y p) (parent g root x) false)
       by_dist None e = rw (unreached_no_parent x e) (sym (or_false (same x y)))
@@ -92,48 +92,48 @@ module _ (g : Graph) (root : List ℕ) where
   -- x is y, or a parent of x is below y
   pub below_cases : (y x : List ℕ) → below g root y x ≡ true → (x ≡ y) ⊎ ((p : List ℕ) × (parent g root x ≡ Some p) × (below g root y p ≡ true))
   below_cases y x h = elim (or_cases (same x y) (option_map_or (λ p. below g root y p) (parent g root x) false) (sym (below_step y x) ∙ h)) [
-      inl s ↦ inl (same_is x y s)
+    | inl s ↦ inl (same_is x y s)
     | inr s ↦ inr (by_parent (parent g root x) refl s)
-    ]
+  ]
     where
       by_parent : (o : Option (List ℕ)) → parent g root x ≡ o → option_map_or (λ p. below g root y p) o false ≡ true → (p : List ℕ) × (parent g root x ≡ Some p) × (below g root y p ≡ true)
       by_parent None e s = absurd (false≢true s)
       by_parent (Some p) e s = (p, e, s)
 
   -- the same, where x is at a known distance: at zero it is y itself
-  below_at : (n : ℕ) (y x : List ℕ) → dist g root x ≡ Some n → below g root y x ≡ true →
+  pub below_at : (n : ℕ) (y x : List ℕ) → dist g root x ≡ Some n → below g root y x ≡ true →
       (x ≡ y) ⊎ ((p : List ℕ) × (m : ℕ) × (n ≡ suc m) × (dist g root p ≡ Some m) × (parent g root x ≡ Some p) × (below g root y p ≡ true))
   below_at n y x d h = elim (below_cases y x h) [
-      inl i ↦ inl i
+    | inl i ↦ inl i
     | inr f ↦ (let q = parent_is x f.0 f.1 in
         let s : Some n ≡ Some (suc q.0) = sym d ∙ q.1.to_child in
         let e : n ≡ suc q.0 = cc in
         inr (f.0, q.0, e, q.1.from_parent, f.1, f.2))
-    ]
+  ]
 
   pub below_trans : (n : ℕ) (z y x : List ℕ) → dist g root x ≡ Some n → below g root z y ≡ true → below g root y x ≡ true → below g root z x ≡ true
   below_trans zero z y x d u v = elim (below_at zero y x d v) [
-      inl i ↦ (let P : List ℕ → Type 0 = λ w. below g root z w ≡ true in subst P (sym i) u)
+    | inl i ↦ (let P : List ℕ → Type 0 = λ w. below g root z w ≡ true in subst P (sym i) u)
     | inr f ↦ absurd (omega (arith, f.2))
-    ]
+  ]
   below_trans (suc n) z y x d u v = elim (below_at (suc n) y x d v) [
-      inl i ↦ (let P : List ℕ → Type 0 = λ w. below g root z w ≡ true in subst P (sym i) u)
+    | inl i ↦ (let P : List ℕ → Type 0 = λ w. below g root z w ≡ true in subst P (sym i) u)
     | inr f ↦ (let e : f.1 ≡ n = omega (arith, f.2) in
         below_parent z x f.0 f.4 (below_trans n z y f.0 (f.3 ∙ ap Some e) u f.5))
-    ]
+  ]
 
   -- what x is below is at some distance, no farther than x, and as far only where it is x
   pub below_nearer : (n : ℕ) (y x : List ℕ) → dist g root x ≡ Some n → below g root y x ≡ true → (m : ℕ) × (dist g root y ≡ Some m) × (m ≤ n) × (m ≡ n → x ≡ y)
   below_nearer zero y x d v = elim (below_at zero y x d v) [
-      inl i ↦ (let P : List ℕ → Type 0 = λ w. dist g root w ≡ Some zero in (zero, subst P i d, omega arith, λ _. i))
+    | inl i ↦ (let P : List ℕ → Type 0 = λ w. dist g root w ≡ Some zero in (zero, subst P i d, omega arith, λ _. i))
     | inr f ↦ absurd (omega (arith, f.2))
-    ]
+  ]
   below_nearer (suc n) y x d v = elim (below_at (suc n) y x d v) [
-      inl i ↦ (let P : List ℕ → Type 0 = λ w. dist g root w ≡ Some (suc n) in (suc n, subst P i d, omega arith, λ _. i))
+    | inl i ↦ (let P : List ℕ → Type 0 = λ w. dist g root w ≡ Some (suc n) in (suc n, subst P i d, omega arith, λ _. i))
     | inr f ↦ (let e : f.1 ≡ n = omega (arith, f.2) in
         let r = below_nearer n y f.0 (f.3 ∙ ap Some e) f.5 in
         (r.0, r.1, omega (arith, r.2), λ s. absurd (omega (arith, r.2, s))))
-    ]
+  ]
 
   -- of those that x is below, one is at each distance
   pub below_one : (n : ℕ) (y z x : List ℕ) (m : ℕ) → dist g root x ≡ Some n → below g root y x ≡ true → below g root z x ≡ true → dist g root y ≡ Some m → dist g root z ≡ Some m → y ≡ z
@@ -142,12 +142,12 @@ module _ (g : Graph) (root : List ℕ) where
       let q = below_nearer zero z x d v in
       sym (p.3 (omega (arith, p.2))) ∙ q.3 (omega (arith, q.2))
   below_one (suc n) y z x m d u v a b = elim (below_at (suc n) y x d u) [
-      inl i ↦ (let q = below_nearer (suc n) z x d v in
+    | inl i ↦ (let q = below_nearer (suc n) z x d v in
         let s : Some (suc n) ≡ Some q.0 = sym d ∙ (let P : List ℕ → Type 0 = λ w. dist g root w ≡ Some m in subst P (sym i) a) ∙ sym b ∙ q.1 in
         let e : q.0 ≡ suc n = cc in
         sym i ∙ q.3 e)
     | inr f ↦ elim (below_at (suc n) z x d v) [
-        inl j ↦ (let q = below_nearer (suc n) y x d u in
+      | inl j ↦ (let q = below_nearer (suc n) y x d u in
           let s : Some (suc n) ≡ Some q.0 = sym d ∙ (let P : List ℕ → Type 0 = λ w. dist g root w ≡ Some m in subst P (sym j) b) ∙ sym a ∙ q.1 in
           let e : q.0 ≡ suc n = cc in
           sym (q.3 e) ∙ j)
@@ -156,5 +156,5 @@ module _ (g : Graph) (root : List ℕ) where
           let j : h.0 ≡ f.0 = cc in
           let P : List ℕ → Type 0 = λ w. below g root z w ≡ true in
           below_one n y z f.0 m (f.3 ∙ ap Some e) f.5 (subst P j h.5) a b)
-      ]
     ]
+  ]

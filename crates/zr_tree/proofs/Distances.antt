@@ -1,12 +1,11 @@
 -- The least length of a walk: what it says of all lengths, and the step from one length to the next.
-use Rattle.std.proofs.Common.{◌≡◌, ℕ, ◌+◌, ◌<◌, ◌≤◌, zero, suc, Bool, true, false, cond, ◌&&◌, ◌||◌, ◌==◌, List, [], ◌∷◌, Option, Some, None, ◌⊎◌, inl, inr, length, is_some, refl, sym, ap, ◌∙◌, subst, arith}
-use Rattle.std.specs.List.{filter, find, list_any}
+use Rattle.std.proofs.Common.{◌≡◌, ℕ, ◌<◌, ◌≤◌, zero, suc, Bool, true, false, cond, ◌==◌, List, Option, Some, None, ◌⊎◌, inl, inr, refl, sym, ap, ◌∙◌, arith}
+use Rattle.std.specs.List.{list_any}
 use Rattle.std.specs.Option.{option_or}
-use Rattle.std.proofs.lemmas.Bool.{true≢false, false≢true, cases_Bool, cases_lt, eq-eqb}
-use Rattle.zr_graph.specs.Record.{same}
+use Rattle.std.proofs.lemmas.Bool.{false≢true, cases_lt, eq-eqb}
 use Rattle.zr_graph.proofs.Names.{same_is, same_refl}
 use Rattle.zr_tree.specs.Walk.{Graph, near}
-use Rattle.zr_tree.specs.Tree.{leads, least, dist}
+use Rattle.zr_tree.specs.Tree.{leads, least}
 use Rattle.zr_tree.proofs.Finds.{In, any_in, in_any, any_none, same_any}
 
 -- what the least number below a bound is
@@ -82,12 +81,15 @@ module _ (g : Graph) (root : List ℕ) where
   pub step_back : (n m : ℕ) (x : List ℕ) → within n x ≡ Some (suc m) → (y : List ℕ) × In y (near g x) × (within n y ≡ Some m)
   step_back n m x h =
       let l = least_some (λ k. leads g k root x) n (suc m) h in
-      let y = any_in (λ y. leads g m root y) (near g x) l.passes in
-      (y.0, y.1, least_is (λ k. leads g k root y.0) n m (record {
-        below = omega (arith, l.below);
-        passes = y.2;
-        first = λ k lt. any_none (λ z. leads g k root z) (near g x) y.0 (l.first (suc k) (omega arith)) y.1;
-      }))
+      let y = any_in (λ y. leads g m root y) (near g x) l.passes in (
+        y.0,
+        y.1,
+        least_is (λ k. leads g k root y.0) n m (record {
+          below = omega (arith, l.below);
+          passes = y.2;
+          first = λ k lt. any_none (λ z. leads g k root z) (near g x) y.0 (l.first (suc k) (omega arith)) y.1;
+        }),
+      )
 
   -- what isn't reached by walks of at most m edges is by one of m and one more just where a neighbour is at distance m
   pub step_on : (m : ℕ) (x : List ℕ) → within (suc m) x ≡ None → leads g (suc m) root x ≡ list_any (λ y. is_at (within (suc m) y) m) (near g x)
@@ -98,8 +100,8 @@ module _ (g : Graph) (root : List ℕ) where
       agree y i (Some k) e =
           let l = least_some (λ k. leads g k root y) (suc m) k e in
           elim (cases_lt k m) [
-            inl lt ↦ absurd (false≢true (sym (least_none (λ k. leads g k root x) (suc m) h (suc k) (omega arith)) ∙ in_any (λ z. leads g k root z) (near g x) y i l.passes))
-          | inr ge ↦ (let i : k ≡ m = omega (arith, l.below) in ap (λ (j : ℕ). leads g j root y) (sym i) ∙ l.passes ∙ sym (eq-eqb k m i))
+            | inl lt ↦ absurd (false≢true (sym (least_none (λ k. leads g k root x) (suc m) h (suc k) (omega arith)) ∙ in_any (λ z. leads g k root z) (near g x) y i l.passes))
+            | inr ge ↦ (let i : k ≡ m = omega (arith, l.below) in ap (λ (j : ℕ). leads g j root y) (sym i) ∙ l.passes ∙ sym (eq-eqb k m i))
           ]
 
   pub root_at_zero : (n : ℕ) → within (suc n) root ≡ Some 0

@@ -1,8 +1,8 @@
 -- Lists as sets: what a test, a filter and a search find in them.
-use Rattle.std.proofs.Common.{◌≡◌, ℕ, ◌+◌, ◌<◌, ◌≤◌, zero, suc, Bool, true, false, cond, ◌&&◌, ◌||◌, List, [], ◌∷◌, ◌++◌, Option, Some, None, ◌⊎◌, inl, inr, length, get_or, map, refl, sym, ap, ◌∙◌, subst, arith}
+use Rattle.std.proofs.Common.{◌≡◌, ℕ, ◌<◌, zero, suc, Bool, true, false, cond, ◌||◌, List, [], ◌∷◌, ◌++◌, Some, None, ◌⊎◌, inl, inr, length, get_or, map, refl, sym, ap, ◌∙◌, arith}
 use Rattle.std.specs.List.{filter, find, list_any, slice_get}
 use Rattle.std.specs.Option.{option_map}
-use Rattle.std.proofs.lemmas.Bool.{true≢false, false≢true, cases_Bool}
+use Rattle.std.proofs.lemmas.Bool.{false≢true}
 
 module _ {X : Type 0} where
   -- an element of a list
@@ -81,9 +81,9 @@ module _ {X : Type 0} where
   -- the only element that passes is found
   pub only_find : (p : X → Bool) (xs : List X) (y : X) → In y xs → p y ≡ true → ((z : X) → In z xs → p z ≡ true → z ≡ y) → find p xs ≡ Some y
   only_find p xs y i e only =
-    let f = in_find p xs y i e in
-    let g = find_in p xs f.0 f.1 in
-    f.1 ∙ ap Some (only f.0 g.0 g.1)
+      let f = in_find p xs y i e in
+      let g = find_in p xs f.0 f.1 in
+      f.1 ∙ ap Some (only f.0 g.0 g.1)
 
   -- two tests that agree on the elements
   pub same_any : (p q : X → Bool) (xs : List X) → ((y : X) → In y xs → p y ≡ q y) → list_any p xs ≡ list_any q xs

@@ -1,22 +1,22 @@
 -- One round of the search: from the distances up to m and the routers at m to those up to m + 1 and at m + 1.
-use Rattle.std.proofs.Common.{◌≡◌, ℕ, ◌+◌, ◌-◌, ◌<◌, ◌≤◌, zero, suc, Bool, true, false, cond, ◌&&◌, ◌||◌, ◌==◌, List, [], ◌∷◌, ◌++◌, Option, Some, None, is_none, Less, All, ◌⊎◌, inl, inr, length, get_or, set, replicate, map, flat_map, get_or-set_same, get_or-set_other, refl, sym, ap, ◌∙◌, subst, arith}
+use Rattle.std.proofs.Common.{◌≡◌, ℕ, ◌+◌, ◌-◌, ◌<◌, zero, suc, Bool, true, false, cond, ◌&&◌, ◌||◌, ◌==◌, List, [], ◌∷◌, Option, Some, None, is_none, Less, All, ◌⊎◌, inl, inr, length, get_or, set, replicate, map, flat_map, get_or-set_same, get_or-set_other, refl, sym, ap, ◌∙◌, subst, arith}
 use Rattle.std.specs.Cmp.Lexicographic.{slice_cmp}
-use Rattle.std.specs.List.{list_any, filter}
+use Rattle.std.specs.List.{list_any}
 use Rattle.std.specs.Option.{option_or}
 use Rattle.std.specs.Ordering.{nat_cmp}
-use Rattle.std.proofs.lemmas.Bool.{true≢false, false≢true, cases_order, cases_eq, and_parts, false_from_ne_true, eq-eqb, eqb-true, ne_eqb}
+use Rattle.std.proofs.lemmas.Bool.{false≢true, cases_order, cases_eq, and_parts, false_from_ne_true, eq-eqb, eqb-true, ne_eqb}
 use Rattle.std.proofs.lemmas.List.{length-map, length-replicate, get_or-replicate}
 use Rattle.std.proofs.lemmas.List.Folds.{list_any-append}
 use Rattle.std.proofs.lemmas.Map.Keys.{Less-from_sorted}
 use Rattle.zr_id.specs.declared.record.LinkRecord.{LinkRecord}
 use Rattle.zr_graph.specs.Record.{ids, same, has_edge, lists, IsAscending}
 use Rattle.zr_graph.proofs.Names.{same_is, same_refl, comes}
-use Rattle.zr_tree.specs.Walk.{Graph, graph_of, near}
-use Rattle.zr_tree.specs.Tree.{leads, least, dist}
+use Rattle.zr_tree.specs.Walk.{graph_of, near}
+use Rattle.zr_tree.specs.Tree.{leads}
 use Rattle.zr_tree.specs.Index.{EdgeTable, AreEdges, name, row}
 use Rattle.zr_tree.specs.Search.{Visits, AreDistances, has_index, kept_at}
 use Rattle.zr_tree.proofs.Finds.{In, any_in, in_any, in_filter, filter_in, place_in, in_place, map_in, in_map}
-use Rattle.zr_tree.proofs.Distances.{within, is_at, step_on, least_some, IsLeast}
+use Rattle.zr_tree.proofs.Distances.{within, is_at, step_on, least_some}
 
 -- an edge leads both ways
 pub joined_back : (rs : List LinkRecord) (x y : List ℕ) → has_edge rs x y ≡ true → has_edge rs y x ≡ true
@@ -46,9 +46,9 @@ pub one_index : (rs : List LinkRecord) (i j : ℕ) → IsAscending (ids rs) → 
 one_index rs i j up a b e =
     let m : length (ids rs) ≡ length rs = length-map rs (λ (r : LinkRecord). r.id) in
     elim (cases_order i j) [
-      inl s ↦ s
-    | inr (inl l) ↦ absurd (apart i j e (Less-from_sorted (slice_cmp nat_cmp) (ids rs) i j [] up l (omega arith)))
-    | inr (inr l) ↦ absurd (apart j i (sym e) (Less-from_sorted (slice_cmp nat_cmp) (ids rs) j i [] up l (omega arith)))
+      | inl s ↦ s
+      | inr (inl l) ↦ absurd (apart i j e (Less-from_sorted (slice_cmp nat_cmp) (ids rs) i j [] up l (omega arith)))
+      | inr (inr l) ↦ absurd (apart j i (sym e) (Less-from_sorted (slice_cmp nat_cmp) (ids rs) j i [] up l (omega arith)))
     ]
   where
     apart : (k l : ℕ) → name rs k ≡ name rs l → slice_cmp nat_cmp (name rs k) (name rs l) ≡ Less → ⊥
@@ -84,6 +84,7 @@ module _ (e : EdgeTable) (right : AreEdges e) where
           let i = map_in (name e.records) (row e.rows u) x (index_in (row e.rows u) x h) in
           let j : In (name e.records x) (near (graph_of e.records) (name e.records u)) = rw (right.neighbours u a) at i in
           (in_filter (has_edge e.records (name e.records u)) (ids e.records) (name e.records x) j).1
+
       back : has_edge e.records (name e.records u) (name e.records x) ≡ true → has_index (row e.rows u) x ≡ true
       back h =
           let i = filter_in (has_edge e.records (name e.records u)) (ids e.records) (name e.records x) (name_in e.records x b) h in
@@ -106,6 +107,7 @@ module _ (e : EdgeTable) (right : AreEdges e) where
     where
       here : ℕ → Option ℕ
       here x = within (graph_of e.records) (name e.records root) (suc m) (name e.records x)
+
       reached_by : (x : ℕ) → x < length e.records → here x ≡ None → has_index (flat_map (row e.rows) frontier) x ≡ leads (graph_of e.records) (suc m) (name e.records root) (name e.records x)
       reached_by x lt none =
           any-flat_map (λ j. j == x) (row e.rows) frontier ∙ same_truth _ _ forth back ∙ sym (step_on (graph_of e.records) (name e.records root) m (name e.records x) none)
@@ -116,8 +118,9 @@ module _ (e : EdgeTable) (right : AreEdges e) where
               let within_all = all_in frontier (length e.records) f.0 h.indexes f.1 in
               let edge = joined_back e.records (name e.records f.0) (name e.records x) (sym (row_has f.0 x within_all lt) ∙ f.2) in
               in_any (λ y. is_at (within (graph_of e.records) (name e.records root) (suc m) y) m) (near (graph_of e.records) (name e.records x)) (name e.records f.0)
-                (filter_in (has_edge e.records (name e.records x)) (ids e.records) (name e.records f.0) (name_in e.records f.0 within_all) edge)
-                (sym (h.front f.0 within_all) ∙ in_index frontier f.0 f.1)
+              (filter_in (has_edge e.records (name e.records x)) (ids e.records) (name e.records f.0) (name_in e.records f.0 within_all) edge)
+              (sym (h.front f.0 within_all) ∙ in_index frontier f.0 f.1)
+
           back : list_any (λ y. is_at (within (graph_of e.records) (name e.records root) (suc m) y) m) (near (graph_of e.records) (name e.records x)) ≡ true → list_any (λ u. has_index (row e.rows u) x) frontier ≡ true
           back t =
               let f = any_in (λ y. is_at (within (graph_of e.records) (name e.records root) (suc m) y) m) (near (graph_of e.records) (name e.records x)) t in
@@ -126,19 +129,23 @@ module _ (e : EdgeTable) (right : AreEdges e) where
               let at = h.front u.0 u.1 ∙ ap (λ (z : List ℕ). is_at (within (graph_of e.records) (name e.records root) (suc m) z) m) u.2 ∙ f.2 in
               let edge : has_edge e.records (name e.records x) (name e.records u.0) ≡ true = ap (λ (z : List ℕ). has_edge e.records (name e.records x) z) u.2 ∙ i.1 in
               in_any (λ v. has_index (row e.rows v) x) frontier u.0 (index_in frontier u.0 at) (row_has u.0 x u.1 lt ∙ joined_back e.records (name e.records x) (name e.records u.0) edge)
+
       known_at : (x : ℕ) → x < length e.records → (o : Option ℕ) → here x ≡ o →
           option_or o (cond (has_index (flat_map (row e.rows) frontier) x) (Some (suc m)) None) ≡ option_or o (cond (leads (graph_of e.records) (suc m) (name e.records root) (name e.records x)) (Some (suc m)) None)
       known_at x lt (Some k) f = refl
       known_at x lt None f = ap (λ t. cond t (Some (suc m)) None) (reached_by x lt f)
+
       at_itself : (t : Bool) → t ≡ is_at (cond t (Some (suc m)) None) (suc m)
       at_itself true = sym (eq-eqb (suc m) (suc m) refl)
       at_itself false = refl
+
       front_at : (x : ℕ) → x < length e.records → (o : Option ℕ) → here x ≡ o →
           (is_none o && has_index (flat_map (row e.rows) frontier) x) ≡ is_at (option_or o (cond (leads (graph_of e.records) (suc m) (name e.records root) (name e.records x)) (Some (suc m)) None)) (suc m)
       front_at x lt (Some k) f =
           let l = least_some (λ j. leads (graph_of e.records) j (name e.records root) (name e.records x)) (suc m) k f in
           sym (ne_eqb k (suc m) (λ i. absurd (omega (arith, l.below, i))))
       front_at x lt None f = reached_by x lt f ∙ at_itself (leads (graph_of e.records) (suc m) (name e.records root) (name e.records x))
+
       inside : (k d : ℕ) → k < length next → get_or next k d < length e.records
       inside k d lt =
           let x : ℕ = get_or next k d in
@@ -158,6 +165,7 @@ module _ (e : EdgeTable) (right : AreEdges e) where
     where
       same_name : (x : ℕ) → x < length e.records → (x ≡ root → ⊥) → same (name e.records root) (name e.records x) ≡ false
       same_name x l ne = false_from_ne_true _ (λ t. ne (sym (one_index e.records root x right.ascending lt l (same_is _ _ t))))
+
       known_at : (x : ℕ) → x < length e.records → (x ≡ root) ⊎ (x ≡ root → ⊥) →
           kept_at (set (replicate (length e.records) None) root (Some 0)) x ≡ cond (same (name e.records root) (name e.records x)) (Some 0) None
       known_at x l (inl i) =
@@ -166,6 +174,7 @@ module _ (e : EdgeTable) (right : AreEdges e) where
           rw (t, i) (get_or-set_same (replicate (length e.records) None) root (Some 0) None n)
       known_at x l (inr ne) =
           rw (same_name x l ne) (get_or-set_other (replicate (length e.records) None) root x (Some 0) None ne ∙ get_or-replicate (length e.records) x None None l)
+
       front_at : (x : ℕ) → x < length e.records → (x ≡ root) ⊎ (x ≡ root → ⊥) →
           ((root == x) || false) ≡ is_at (cond (same (name e.records root) (name e.records x)) (Some 0) None) 0
       front_at x l (inl i) =
@@ -193,6 +202,6 @@ module _ (e : EdgeTable) (right : AreEdges e) where
   level_last root depth distances frontier last long h = record {
     long = long;
     exact = λ x lt.
-      let n : depth ≡ suc (length (ids e.records)) = omega (arith, last, length-map e.records (λ (r : LinkRecord). r.id)) in
-      h.known x lt ∙ ap (λ (k : ℕ). within (graph_of e.records) (name e.records root) k (name e.records x)) n;
+        let n : depth ≡ suc (length (ids e.records)) = omega (arith, last, length-map e.records (λ (r : LinkRecord). r.id)) in
+        h.known x lt ∙ ap (λ (k : ℕ). within (graph_of e.records) (name e.records root) k (name e.records x)) n;
   }

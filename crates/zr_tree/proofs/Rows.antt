@@ -1,11 +1,10 @@
 -- The indexes of the neighbours, one record after the other.
-use Rattle.std.proofs.Common.{◌≡◌, ℕ, ◌+◌, ◌<◌, Bool, true, false, cond, ◌&&◌, List, [], ◌∷◌, ◌++◌, Option, Some, All, length, get_or, map, take, refl, sym, ap, ◌∙◌, arith, append-nil}
+use Rattle.std.proofs.Common.{◌≡◌, ℕ, ◌+◌, ◌<◌, Bool, true, false, cond, ◌&&◌, List, [], ◌∷◌, ◌++◌, Some, All, length, get_or, map, take, refl, sym, ap, ◌∙◌, arith, append-nil}
 use Rattle.std.specs.Cmp.Lexicographic.{slice_cmp, nat_list_cmp_total}
-use Rattle.std.specs.List.{filter, slice_get}
-use Rattle.std.specs.Option.{option_map_or}
+use Rattle.std.specs.List.{filter}
 use Rattle.std.specs.Ordering.{nat_cmp}
 use Rattle.std.proofs.lemmas.Cmp.{tied_itself}
-use Rattle.std.proofs.lemmas.List.{length-map, get_or-map, get_or_default, get_or_read, map_push}
+use Rattle.std.proofs.lemmas.List.{length-map, get_or-map, get_or_default, map_push}
 use Rattle.std.proofs.lemmas.List.Elements.{filter_more, All-append}
 use Rattle.std.proofs.lemmas.Option.{slice_get-get_or}
 use Rattle.zr_id.specs.declared.record.LinkRecord.{LinkRecord}
@@ -17,7 +16,7 @@ use Rattle.zr_tree.specs.Index.{name}
 pub record_at : (rs : List LinkRecord) (i : ℕ) (d : LinkRecord) → IsAscending (ids rs) → i < length rs → record_of rs (get_or rs i d).id ≡ Some (get_or rs i d)
 record_at rs i d up lt =
     let here = at_place rs (get_or rs i d).id i up lt (λ q.
-      ap (λ (r : LinkRecord). slice_cmp nat_cmp r.id (get_or rs i d).id) (get_or_default rs i q d lt) ∙ tied_itself nat_list_cmp_total (get_or rs i d).id) in
+    ap (λ (r : LinkRecord). slice_cmp nat_cmp r.id (get_or rs i d).id) (get_or_default rs i q d lt) ∙ tied_itself nat_list_cmp_total (get_or rs i d).id) in
     here.found ∙ slice_get-get_or rs i d lt
 
 pub record_there : (rs : List LinkRecord) (i : ℕ) (r : LinkRecord) → IsAscending (ids rs) → i < length rs → r ≡ get_or rs i r → record_of rs r.id ≡ Some r
@@ -37,12 +36,15 @@ front_more rs a b i indexes up among lt at h t is = record { neighbours = by_tes
   where
     there : record_of rs b.id ≡ Some b
     there = record_there rs i b up lt at
+
     edge : has_edge rs a.id (name rs i) ≡ (has a.links b.id && has b.links a.id)
     edge =
         let n : name rs i ≡ b.id = name_at rs i b lt ∙ ap (λ (r : LinkRecord). r.id) (sym at) in
         rw (n, among, there) refl
+
     step : filter (λ y. has_edge rs a.id y) (take (i + 1) (ids rs)) ≡ filter (λ y. has_edge rs a.id y) (take i (ids rs)) ++ cond (has_edge rs a.id (name rs i)) (name rs i ∷ []) []
     step = let n : i < length (ids rs) = omega (arith, length-map rs (λ (r : LinkRecord). r.id)) in filter_more (λ y. has_edge rs a.id y) (ids rs) i [] n
+
     by_test : (s : Bool) → s ≡ (has a.links b.id && has b.links a.id) → map (name rs) (cond s (indexes ++ i ∷ []) indexes) ≡ filter (λ y. has_edge rs a.id y) (take (i + 1) (ids rs))
     by_test true e =
         let f : has_edge rs a.id (name rs i) ≡ true = edge ∙ sym e in
@@ -50,10 +52,13 @@ front_more rs a b i indexes up among lt at h t is = record { neighbours = by_tes
     by_test false e =
         let f : has_edge rs a.id (name rs i) ≡ false = edge ∙ sym e in
         h.neighbours ∙ sym (step ∙ ap (λ s. filter (λ y. has_edge rs a.id y) (take i (ids rs)) ++ cond s (name rs i ∷ []) []) f ∙ append-nil _)
+
     smaller : All (λ j. j < i + 1) indexes
     smaller k d l = omega (arith, h.within k d l)
+
     alone : All (λ j. j < i + 1) (i ∷ [])
     alone k d l = let z : k ≡ 0 = omega arith in rw z (omega arith)
+
     within_test : (s : Bool) → All (λ j. j < i + 1) (cond s (indexes ++ i ∷ []) indexes)
     within_test true = All-append (λ j. j < i + 1) indexes (i ∷ []) smaller alone
     within_test false = smaller

@@ -1,6 +1,5 @@
 -- Visits of neighbours, one list after the other, are the visits of both.
-use Rattle.std.proofs.Common.{◌≡◌, ℕ, ◌+◌, ◌<◌, Bool, true, false, cond, ◌&&◌, ◌||◌, ◌==◌, List, [], ◌∷◌, ◌++◌, Option, Some, None, is_none, ◌⊎◌, inl, inr, length, get_or, set, take, flat_map, refl, sym, ap, ◌∙◌, arith, get_or-set_same, get_or-set_other}
-use Rattle.std.specs.List.{list_any}
+use Rattle.std.proofs.Common.{◌≡◌, ℕ, ◌+◌, ◌<◌, Bool, true, false, cond, ◌&&◌, ◌||◌, ◌==◌, List, [], ◌∷◌, ◌++◌, Option, Some, None, is_none, ◌⊎◌, inl, inr, length, get_or, set, take, flat_map, refl, sym, ap, ◌∙◌, get_or-set_same, get_or-set_other}
 use Rattle.std.specs.Option.{option_or}
 use Rattle.std.proofs.lemmas.Bool.{cases_eq, eq-eqb, ne_eqb}
 use Rattle.std.proofs.lemmas.List.{take_more, flat_map_more}
@@ -37,6 +36,7 @@ visits_new a f i d lt none = record { distances = λ x. at x (cases_eq i x); fou
     at x (inr e) =
         let t : (i == x) ≡ false = ne_eqb i x e in
         rw t (get_or-set_other a i x (Some d) None (λ k. e (sym k)) ∙ or_none (kept_at a x))
+
     found_at : (x : ℕ) → (i ≡ x) ⊎ (i ≡ x → ⊥) → (has_index f x || ((i == x) || false)) ≡ (has_index f x || (is_none (kept_at a x) && ((i == x) || false)))
     found_at x (inl e) = let n : kept_at a x ≡ None = ap (kept_at a) (sym e) ∙ none in rw n refl
     found_at x (inr e) = let t : (i == x) ≡ false = ne_eqb i x e in rw t (ap (λ b. has_index f x || b) (sym (and_false (is_none (kept_at a x)))))
@@ -48,6 +48,7 @@ visits_old a f i k d some = record { distances = λ x. at x (cases_eq i x); foun
     at : (x : ℕ) → (i ≡ x) ⊎ (i ≡ x → ⊥) → kept_at a x ≡ option_or (kept_at a x) (cond ((i == x) || false) (Some d) None)
     at x (inl e) = let n : kept_at a x ≡ Some k = ap (kept_at a) (sym e) ∙ some in rw n refl
     at x (inr e) = let t : (i == x) ≡ false = ne_eqb i x e in rw t (or_none (kept_at a x))
+
     found_at : (x : ℕ) → (i ≡ x) ⊎ (i ≡ x → ⊥) → has_index f x ≡ (has_index f x || (is_none (kept_at a x) && ((i == x) || false)))
     found_at x (inl e) = let n : kept_at a x ≡ Some k = ap (kept_at a) (sym e) ∙ some in rw n (or_false (has_index f x))
     found_at x (inr e) = let t : (i == x) ≡ false = ne_eqb i x e in rw t (or_false (has_index f x) ∙ ap (λ b. has_index f x || b) (sym (and_false (is_none (kept_at a x)))))
@@ -66,11 +67,11 @@ both_found false None false t d = refl
 pub visits_both : (a b c : List (Option ℕ)) (f g h : List ℕ) (xs ys : List ℕ) (d : ℕ) → Visits a b f g xs d → Visits b c g h ys d → Visits a c f h (xs ++ ys) d
 visits_both a b c f g h xs ys d u v = record {
   distances = λ x.
-    let e : has_index (xs ++ ys) x ≡ (has_index xs x || has_index ys x) = list_any-append (λ j. j == x) xs ys in
-    rw e (v.distances x ∙ ap (λ o. option_or o (cond (has_index ys x) (Some d) None)) (u.distances x) ∙ both_distances (kept_at a x) (has_index xs x) (has_index ys x) d);
+      let e : has_index (xs ++ ys) x ≡ (has_index xs x || has_index ys x) = list_any-append (λ j. j == x) xs ys in
+      rw e (v.distances x ∙ ap (λ o. option_or o (cond (has_index ys x) (Some d) None)) (u.distances x) ∙ both_distances (kept_at a x) (has_index xs x) (has_index ys x) d);
   found = λ x.
-    let e : has_index (xs ++ ys) x ≡ (has_index xs x || has_index ys x) = list_any-append (λ j. j == x) xs ys in
-    rw e (v.found x ∙ ap (λ t. t || (is_none (kept_at b x) && has_index ys x)) (u.found x)
+      let e : has_index (xs ++ ys) x ≡ (has_index xs x || has_index ys x) = list_any-append (λ j. j == x) xs ys in
+      rw e (v.found x ∙ ap (λ t. t || (is_none (kept_at b x) && has_index ys x)) (u.found x)
       ∙ ap (λ o. (has_index f x || (is_none (kept_at a x) && has_index xs x)) || (is_none o && has_index ys x)) (u.distances x)
       ∙ both_found (has_index f x) (kept_at a x) (has_index xs x) (has_index ys x) d);
 }

@@ -1,8 +1,8 @@
 -- From the distances to parents and jumps, by index and by name.
-use Rattle.std.proofs.Common.{◌≡◌, ℕ, ◌+◌, ◌-◌, ◌<◌, ◌≤◌, zero, suc, Bool, true, false, cond, not, ◌&&◌, ◌||◌, ◌==◌, List, [], ◌∷◌, ◌++◌, Option, Some, None, unwrap_or, All, ◌⊎◌, inl, inr, length, get_or, map, refl, sym, ap, ◌∙◌, subst, arith}
+use Rattle.std.proofs.Common.{◌≡◌, ℕ, ◌+◌, ◌<◌, zero, suc, Bool, true, false, not, ◌&&◌, ◌==◌, List, [], ◌∷◌, ◌++◌, Option, Some, None, unwrap_or, ◌⊎◌, inl, inr, length, get_or, map, refl, sym, ap, ◌∙◌, subst, arith}
 use Rattle.std.specs.List.{filter, find, range_with_len, slice_get}
 use Rattle.std.specs.Option.{option_map, option_map_or}
-use Rattle.std.proofs.lemmas.Bool.{true≢false, false≢true, cases_eq, cases_lt, eq-eqb, eqb-true, ne_eqb, false_from_ne_true}
+use Rattle.std.proofs.lemmas.Bool.{false≢true, cases_eq, cases_lt, eq-eqb, eqb-true, ne_eqb, false_from_ne_true}
 use Rattle.std.proofs.lemmas.List.{length-map, get_or_append_left, get_or_push, get_or_read}
 use Rattle.std.proofs.lemmas.List.FromFn.{get_or-map-range_with_len, length-map-range_with_len}
 use Rattle.zr_id.specs.declared.record.LinkRecord.{LinkRecord}
@@ -16,11 +16,11 @@ use Rattle.zr_tree.specs.declared.tree.TheConstants.{UNREACHED}
 use Rattle.zr_tree.specs.Index.{EdgeTable, AreEdges, name, row}
 use Rattle.zr_tree.specs.Search.{AreDistances, kept_at}
 use Rattle.zr_tree.specs.Tree.{dist, leads, is_sum, parent, below, is_child, children}
-use Rattle.zr_tree.specs.Walk.{graph_of, near, edge_length}
-use Rattle.zr_tree.proofs.Finds.{In, find_in, in_filter, find-map, same_find, same_filter, filter-filter, filter-map, in_place}
-use Rattle.zr_tree.proofs.Branches.{IsParent, parent_is, child_is, below_itself, below_parent}
+use Rattle.zr_tree.specs.Walk.{graph_of}
+use Rattle.zr_tree.proofs.Finds.{In, find_in, in_filter, find-map, same_find, same_filter, filter-filter, filter-map}
+use Rattle.zr_tree.proofs.Branches.{parent_is, child_is, below_itself, below_parent}
 use Rattle.zr_tree.proofs.Distances.{least_some}
-use Rattle.zr_tree.proofs.Levels.{all_in, one_index, joined_back, name_in}
+use Rattle.zr_tree.proofs.Levels.{all_in, one_index, joined_back}
 
 module _ (e : EdgeTable) (right : AreEdges e) (root : ℕ) (distances : List (Option ℕ)) (known : AreDistances e root distances) where
   -- no neighbour is nearer than itself
@@ -43,7 +43,7 @@ module _ (e : EdgeTable) (right : AreEdges e) (root : ℕ) (distances : List (Op
       let test : List ℕ → Bool = λ y. is_sum (dist (graph_of e.records) (name e.records root) y) 1 (dist (graph_of e.records) (name e.records root) (name e.records x)) in
       ap (find test) (sym (right.neighbours x lt)) ∙ find-map test (name e.records) (row e.rows x) ∙
       ap (option_map (name e.records)) (same_find (λ y. test (name e.records y)) (λ y. is_sum (kept_at distances y) 1 (kept_at distances x)) (row e.rows x)
-        (λ y i. let l = all_in (row e.rows x) (length e.records) y (right.within x lt) i in rw (← known.exact y l, ← known.exact x lt) refl))
+      (λ y i. let l = all_in (row e.rows x) (length e.records) y (right.within x lt) i in rw (← known.exact y l, ← known.exact x lt) refl))
 
   pub parents_long : length (map (nearer e.rows distances) (range_with_len 0 (length e.rows))) ≡ length e.records
   parents_long = length-map-range_with_len (nearer e.rows distances) 0 (length e.rows) ∙ right.long
@@ -84,7 +84,7 @@ ways_from e right root distances parents jumps known is up =
     let long : length parents ≡ length e.records = ap length is ∙ parents_long e right root distances known in
     let within : (x : ℕ) → x < length e.records → at parents x < length e.records = λ x lt. rw is (parents_within e right root distances known x lt) in
     let exact : (x : ℕ) → x < length e.records → parent (graph_of e.records) (name e.records root) (name e.records x) ≡ parent_name e.records x (at parents x) =
-      λ x lt. rw is (parents_exact e right root distances known x lt) in
+    λ x lt. rw is (parents_exact e right root distances known x lt) in
     record {
       distances_long = known.long;
       parents_long = long;
@@ -94,9 +94,9 @@ ways_from e right root distances parents jumps known is up =
       parent_is = exact;
       jump_within = λ x lt. rw (← long) (up.within x (rw long lt));
       jump_above = λ x lt.
-        let u = up.up x (rw long lt) in
-        let P : ℕ → Type 0 = λ z. below (graph_of e.records) (name e.records root) (name e.records z) (name e.records (at parents x)) ≡ true in
-        subst P u.1 (climb_above e.records root parents within exact u.0 (at parents x) (within x lt));
+          let u = up.up x (rw long lt) in
+          let P : ℕ → Type 0 = λ z. below (graph_of e.records) (name e.records root) (name e.records z) (name e.records (at parents x)) ≡ true in
+          subst P u.1 (climb_above e.records root parents within exact u.0 (at parents x) (within x lt));
     }
 
 -- ---- children
@@ -139,7 +139,7 @@ module _ (e : EdgeTable) (right : AreEdges e) (root : ℕ) (parents : List ℕ)
   children_are x lt =
       let test : List ℕ → Bool = is_child (graph_of e.records) (name e.records root) (name e.records x) in
       ap (map (name e.records)) (same_filter (is_child_index parents x) (λ j. test (name e.records j)) (row e.rows x)
-        (λ j i. sym (child_test x j lt (all_in (row e.rows x) (length e.records) j (right.within x lt) i))))
+      (λ j i. sym (child_test x j lt (all_in (row e.rows x) (length e.records) j (right.within x lt) i))))
       ∙ sym (filter-map test (name e.records) (row e.rows x))
       ∙ ap (filter test) (right.neighbours x lt)
       ∙ filter-filter test (has_edge e.records (name e.records x)) (ids e.records) joined
@@ -162,15 +162,15 @@ pub hop_from : (e : EdgeTable) (right : AreEdges e) (root x : ℕ) (distances : 
     IsHop e.records root lists x hop
 hop_from e right root x distances parents jumps lists hop list w lt d p j found is = record {
   depth = rw (d, w.distance x lt) (depth_is (dist (graph_of e.records) (name e.records root) (name e.records x)) (λ k i.
-    let l = least_some (λ n. leads (graph_of e.records) n (name e.records root) (name e.records x)) (suc (length (ids e.records))) k i in
-    omega (arith, l.below, right.small, length-map e.records (λ (r : LinkRecord). r.id))));
+      let l = least_some (λ n. leads (graph_of e.records) n (name e.records root) (name e.records x)) (suc (length (ids e.records))) k i in
+      omega (arith, l.below, right.small, length-map e.records (λ (r : LinkRecord). r.id))));
   parent_within = rw p (w.parent_within x lt);
   parent_is = rw p (w.parent_is x lt);
   jump_within = rw j (w.jump_within x lt);
   jump_above =
-    let P : ℕ → Type 0 = λ z. below (graph_of e.records) (name e.records root) (name e.records z) (name e.records hop.parent) ≡ true in
-    let Q : ℕ → Type 0 = λ z. below (graph_of e.records) (name e.records root) (name e.records (at jumps x)) (name e.records z) ≡ true in
-    subst P (sym j) (subst Q (sym p) (w.jump_above x lt));
+      let P : ℕ → Type 0 = λ z. below (graph_of e.records) (name e.records root) (name e.records z) (name e.records hop.parent) ≡ true in
+      let Q : ℕ → Type 0 = λ z. below (graph_of e.records) (name e.records root) (name e.records (at jumps x)) (name e.records z) ≡ true in
+      subst P (sym j) (subst Q (sym p) (w.jump_above x lt));
   children_are = found ∙ ap Some (is ∙ children_are e right root parents w.parent_within w.parent_is x lt);
 }
 
@@ -189,11 +189,11 @@ pub hops_more : (rs : List LinkRecord) (root x : ℕ) (old new : List (List (Lis
     ((k : ℕ) (d : Hop) → k < x → IsHop rs root old k (get_or hops k d)) → IsHop rs root new x hop →
     (k : ℕ) (d : Hop) → k < x + 1 → IsHop rs root new k (get_or (hops ++ hop ∷ []) k d)
 hops_more rs root x old new hops hop keeps long each here k d lt = elim (cases_lt k x) [
-    inl l ↦ (let n : k < length hops = omega (arith, long) in rw (get_or_append_left hops (hop ∷ []) d k n) (hop_kept rs root k old new (get_or hops k d) keeps (each k d l)))
+  | inl l ↦ (let n : k < length hops = omega (arith, long) in rw (get_or_append_left hops (hop ∷ []) d k n) (hop_kept rs root k old new (get_or hops k d) keeps (each k d l)))
   | inr g ↦ (let i : x ≡ k = omega arith in
       let P : ℕ → Type 0 = λ z. IsHop rs root new z hop in
       rw (get_or_push hops hop d k (long ∙ i)) (subst P i here))
-  ]
+]
 
 -- what is kept of a router in the tree of a root
 pub kept_hop : (rs : List LinkRecord) (names : List (List ℕ)) (trees : List (List Hop)) (lists : List (List (List ℕ))) (root x : ℕ) (hops : List Hop) (d : Hop) →
@@ -207,11 +207,11 @@ pub trees_more : (rs : List LinkRecord) (root : ℕ) (old new : List (List (List
     ((r : ℕ) → r < root → IsTree rs r old (get_or trees r [])) → IsTree rs root new tree →
     (r : ℕ) → r < root + 1 → IsTree rs r new (get_or (trees ++ tree ∷ []) r [])
 trees_more rs root old new trees tree keeps long each here r lt = elim (cases_lt r root) [
-    inl l ↦ (let n : r < length trees = omega (arith, long) in
+  | inl l ↦ (let n : r < length trees = omega (arith, long) in
       let h = each r l in
       rw (get_or_append_left trees (tree ∷ []) [] r n)
-        (record { long = h.long; each = λ x d b. hop_kept rs r x old new (get_or (get_or trees r []) x d) keeps (h.each x d b) }))
+      (record { long = h.long; each = λ x d b. hop_kept rs r x old new (get_or (get_or trees r []) x d) keeps (h.each x d b) }))
   | inr g ↦ (let i : root ≡ r = omega arith in
       let P : ℕ → Type 0 = λ z. IsTree rs z new tree in
       rw (get_or_push trees tree [] r (long ∙ i)) (subst P i here))
-  ]
+]

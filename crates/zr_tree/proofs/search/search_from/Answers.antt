@@ -1,9 +1,9 @@
-use Rattle.std.proofs.Common.{◌≡◌, ℕ, ◌+◌, ◌-◌, ◌<◌, ◌≤◌, List, [], ◌∷◌, ◌++◌, Option, Some, None, All, length, take, drop, set, replicate, flat_map, refl, sym, ap, ◌∙◌, rules, arith, length-set, length-append}
+use Rattle.std.proofs.Common.{◌≡◌, ℕ, ◌<◌, [], ◌++◌, Option, None, length, take, drop, replicate, flat_map, ap, ◌∙◌, rules, arith, length-set}
 use Rattle.std.proofs.lemmas.List.{take_at, length-replicate}
 use Rattle.std.proofs.lemmas.List.Elements.{All-append}
 use Rattle.zr_tree.specs.Index.{row}
 use Rattle.zr_tree.specs.Search.{Visits}
-use Rattle.zr_tree.proofs.Levels.{IsLevel, level_first, round, level_last}
+use Rattle.zr_tree.proofs.Levels.{level_first, round, level_last}
 use Rattle.zr_tree.proofs.search.search_from.Goals as goal
 
 pub loop-depth-init : goal.loop-depth-init
@@ -23,7 +23,7 @@ loop-depth-preserved c =
     let e = c.args.edges.now in
     let right = c.rows-rows.ensures.right in
     let v : Visits c.loop-depth.distances.items c.spread.new.distances [] c.spread.new.found.items (flat_map (row e.rows) c.loop-depth.frontier.items) c.loop-depth.depth =
-      rw (c.rows-rows.ensures.value, c.deref.ensures.value, c.deref_mut.ensures.value, c.new-next.ensures.items) at c.in_ok-spread.ensures in
+    rw (c.rows-rows.ensures.value, c.deref.ensures.value, c.deref_mut.ensures.value, c.new-next.ensures.items) at c.in_ok-spread.ensures in
     let level = round e right c.args.root c.loop-depth.depth _ _ _ _ (omega arith) c.loop-depth.invariant.level v in
     let back : take c.loop-depth.distances.len (c.spread.new.distances ++ drop (length c.spread.new.distances) c.loop-depth.distances.items) ≡ c.spread.new.distances = take_at _ _ _ (omega (arith, c.spread.auto.distances, c.deref_mut.ensures.len)) in
     record {

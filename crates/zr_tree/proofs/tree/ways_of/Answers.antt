@@ -1,6 +1,4 @@
-use Rattle.std.proofs.Common.{◌≡◌, ℕ, length, map, sym, ap, ◌∙◌, arith}
-use Rattle.std.specs.List.{range_with_len}
-use Rattle.zr_tree.specs.Climb.{nearer}
+use Rattle.std.proofs.Common.{◌≡◌, length, sym, ap, ◌∙◌}
 use Rattle.zr_tree.proofs.Ways.{ways_from, parents_long, parents_indexes}
 use Rattle.zr_tree.proofs.tree.ways_of.Goals as goal
 
@@ -15,7 +13,7 @@ jumps_of-requires-clause-order c k d lt =
     let known = c.in_ok-distances.ensures.distances in
     let is = rw (c.rows-rows.ensures.value, c.deref.ensures.value) at c.in_ok-parents.ensures in
     let long : length c.deref-4.result.now ≡ length c.args.edges.now.records =
-      ap length c.deref-4.ensures.value ∙ ap length is ∙ parents_long c.args.edges.now c.rows-rows.ensures.right c.args.root _ known in
+    ap length c.deref-4.ensures.value ∙ ap length is ∙ parents_long c.args.edges.now c.rows-rows.ensures.right c.args.root _ known in
     let lt' = rw c.deref-3.ensures.value at lt in
     rw (c.deref-3.ensures.value, long) (c.in_ok-distances.ensures.order k d lt')
 
