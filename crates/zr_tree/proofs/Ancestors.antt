@@ -1,18 +1,16 @@
 -- One step of a way up the tree by what is kept of each router, and where it ends.
-use Rattle.std.proofs.Common.{◌≡◌, ℕ, ◌+◌, ◌<◌, ◌≤◌, zero, suc, Bool, true, false, cond, ◌&&◌, ◌==◌, List, [], Option, Some, None, IsSome, IfSome, ◌⊎◌, inl, inr, length, refl, sym, ap, ◌∙◌, subst, arith}
-use Rattle.std.specs.List.{find}
-use Rattle.std.proofs.lemmas.Bool.{true≢false, false≢true, cases_eq, cases_Bool, eq-eqb, eqb-true, ne_eqb, and_parts, and_from, false_from_ne_true}
+use Rattle.std.proofs.Common.{◌≡◌, ℕ, ◌+◌, ◌<◌, ◌≤◌, zero, suc, Bool, true, false, cond, ◌&&◌, ◌==◌, List, Option, Some, None, IsSome, IfSome, ◌⊎◌, inl, inr, length, refl, sym, ap, ◌∙◌, arith}
+use Rattle.std.proofs.lemmas.Bool.{false≢true, cases_eq, eq-eqb, ne_eqb, and_parts, and_from, false_from_ne_true}
 use Rattle.zr_id.specs.declared.record.LinkRecord.{LinkRecord}
-use Rattle.zr_graph.specs.Record.{ids, IsAscending}
+use Rattle.zr_graph.specs.Record.{ids}
 use Rattle.zr_tree.specs.declared.tree.Hop.{Hop}
 use Rattle.zr_tree.specs.declared.tree.TheConstants.{UNREACHED}
-use Rattle.zr_tree.specs.Hop.{IsHop, depth_of, parent_name}
+use Rattle.zr_tree.specs.Hop.{IsHop, depth_of}
 use Rattle.zr_tree.specs.Index.{name}
 use Rattle.zr_tree.specs.Tree.{dist, parent, below, is_child, toward}
 use Rattle.zr_tree.specs.Walk.{graph_of}
 use Rattle.zr_tree.proofs.Finds.{In, none_find, only_find, some_same}
 use Rattle.zr_tree.proofs.Branches.{parent_is, has_parent, child_is, child_from, below_itself, below_parent, below_trans, below_nearer, below_one, below_cases, unreached_no_parent}
-use Rattle.zr_tree.proofs.Levels.{name_in}
 
 -- the number that is kept of a known distance
 pub depth_value : (depth k : ℕ) → depth_of depth ≡ Some k → depth ≡ k

@@ -1,14 +1,13 @@
 -- Parents are one nearer to the root, so what a router is below is a line of which each distance has one.
-use Rattle.std.proofs.Common.{◌≡◌, ℕ, ◌+◌, ◌<◌, ◌≤◌, zero, suc, Bool, true, false, cond, ◌&&◌, ◌||◌, ◌==◌, List, [], ◌∷◌, Option, Some, None, ◌⊎◌, inl, inr, length, is_some, unwrap_or, refl, sym, ap, ◌∙◌, subst, arith}
-use Rattle.std.specs.List.{filter, find, list_any}
-use Rattle.std.specs.Option.{option_or, option_map_or}
-use Rattle.std.proofs.lemmas.Bool.{true≢false, false≢true, cases_lt, eq-eqb, eqb-true, or_cases, or_right, or_left}
+use Rattle.std.proofs.Common.{◌≡◌, ℕ, ◌+◌, ◌≤◌, zero, suc, Bool, true, false, ◌||◌, List, Option, Some, None, ◌⊎◌, inl, inr, length, unwrap_or, refl, sym, ap, ◌∙◌, subst, arith}
+use Rattle.std.specs.Option.{option_map_or}
+use Rattle.std.proofs.lemmas.Bool.{false≢true, eq-eqb, eqb-true, or_cases, or_right, or_left}
 use Rattle.zr_graph.specs.Record.{same}
 use Rattle.zr_graph.proofs.Names.{same_is, same_refl}
 use Rattle.zr_tree.specs.Walk.{Graph, near, edge_length}
-use Rattle.zr_tree.specs.Tree.{leads, least, dist, is_sum, parent, climbs, below, is_child, children, toward, reached}
+use Rattle.zr_tree.specs.Tree.{dist, is_sum, parent, climbs, below, is_child}
 use Rattle.zr_tree.proofs.Finds.{In, find_in, in_find, none_find}
-use Rattle.zr_tree.proofs.Distances.{within, step_back, root_at_zero, zero_is_root}
+use Rattle.zr_tree.proofs.Distances.{step_back}
 
 -- how a parent stands to its child
 pub record IsParent (g : Graph) (root x p : List ℕ) (m : ℕ) : Type 0 where
@@ -102,7 +101,7 @@ module _ (g : Graph) (root : List ℕ) where
       by_parent (Some p) e s = (p, e, s)
 
   -- the same, where x is at a known distance: at zero it is y itself
-  below_at : (n : ℕ) (y x : List ℕ) → dist g root x ≡ Some n → below g root y x ≡ true →
+  pub below_at : (n : ℕ) (y x : List ℕ) → dist g root x ≡ Some n → below g root y x ≡ true →
       (x ≡ y) ⊎ ((p : List ℕ) × (m : ℕ) × (n ≡ suc m) × (dist g root p ≡ Some m) × (parent g root x ≡ Some p) × (below g root y p ≡ true))
   below_at n y x d h = elim (below_cases y x h) [
     | inl i ↦ inl i

@@ -1,12 +1,11 @@
 -- The least length of a walk: what it says of all lengths, and the step from one length to the next.
-use Rattle.std.proofs.Common.{◌≡◌, ℕ, ◌+◌, ◌<◌, ◌≤◌, zero, suc, Bool, true, false, cond, ◌&&◌, ◌||◌, ◌==◌, List, [], ◌∷◌, Option, Some, None, ◌⊎◌, inl, inr, length, is_some, refl, sym, ap, ◌∙◌, subst, arith}
-use Rattle.std.specs.List.{filter, find, list_any}
+use Rattle.std.proofs.Common.{◌≡◌, ℕ, ◌<◌, ◌≤◌, zero, suc, Bool, true, false, cond, ◌==◌, List, Option, Some, None, ◌⊎◌, inl, inr, refl, sym, ap, ◌∙◌, arith}
+use Rattle.std.specs.List.{list_any}
 use Rattle.std.specs.Option.{option_or}
-use Rattle.std.proofs.lemmas.Bool.{true≢false, false≢true, cases_Bool, cases_lt, eq-eqb}
-use Rattle.zr_graph.specs.Record.{same}
+use Rattle.std.proofs.lemmas.Bool.{false≢true, cases_lt, eq-eqb}
 use Rattle.zr_graph.proofs.Names.{same_is, same_refl}
 use Rattle.zr_tree.specs.Walk.{Graph, near}
-use Rattle.zr_tree.specs.Tree.{leads, least, dist}
+use Rattle.zr_tree.specs.Tree.{leads, least}
 use Rattle.zr_tree.proofs.Finds.{In, any_in, in_any, any_none, same_any}
 
 -- what the least number below a bound is

@@ -1,5 +1,5 @@
 -- A search in ascending identifiers finds an index, or there is none.
-use Rattle.std.proofs.Common.{◌≡◌, ℕ, ◌+◌, ◌<◌, ◌≤◌, Bool, true, false, List, [], Option, Some, None, Result, Ok, Err, MatchOption, ◌⊎◌, inl, inr, length, get_or, refl, sym, ap, ◌∙◌, subst, arith}
+use Rattle.std.proofs.Common.{◌≡◌, ℕ, ◌+◌, ◌<◌, false, List, [], Result, Ok, Err, MatchOption, inl, inr, length, get_or, subst, arith}
 use Rattle.std.specs.Cmp.Lexicographic.{slice_cmp, nat_list_cmp_total}
 use Rattle.std.specs.List.Sorted.{IsNonDecreasingBy, IsBinarySearchResult, IsSearchInRange}
 use Rattle.std.specs.Ordering.{nat_cmp, ordering_index}
@@ -9,7 +9,7 @@ use Rattle.std.proofs.lemmas.List.Sorted.{searchable_from_sorted}
 use Rattle.std.proofs.lemmas.Map.Keys.{Less-from_sorted}
 use Rattle.zr_graph.specs.Record.{same, has, IsAscending}
 use Rattle.zr_graph.proofs.Names.{comes, comes_back, equal_is}
-use Rattle.zr_tree.proofs.Finds.{In, none_any, in_place}
+use Rattle.zr_tree.proofs.Finds.{none_any, in_place}
 
 rising : (names : List (List ℕ)) (id : List ℕ) → IsAscending names → IsNonDecreasingBy (λ y. ordering_index (slice_cmp nat_cmp y id)) names
 rising names id up =

@@ -1,5 +1,5 @@
 -- Jumps go up by parents, also where one is set from two others.
-use Rattle.std.proofs.Common.{◌≡◌, ℕ, ◌+◌, ◌<◌, zero, suc, List, ◌⊎◌, inl, inr, length, get_or, set, get_or-set_same, get_or-set_other, length-set, zero-add, refl, sym, ap, ◌∙◌, subst, arith}
+use Rattle.std.proofs.Common.{◌≡◌, ℕ, ◌+◌, ◌<◌, zero, suc, List, ◌⊎◌, inl, inr, length, set, get_or-set_same, get_or-set_other, length-set, zero-add, refl, sym, ap, ◌∙◌, arith}
 use Rattle.std.proofs.lemmas.Bool.{cases_eq}
 use Rattle.zr_tree.specs.Climb.{at, climb, AreIndexes, AreJumps}
 

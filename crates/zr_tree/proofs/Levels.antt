@@ -1,22 +1,22 @@
 -- One round of the search: from the distances up to m and the routers at m to those up to m + 1 and at m + 1.
-use Rattle.std.proofs.Common.{◌≡◌, ℕ, ◌+◌, ◌-◌, ◌<◌, ◌≤◌, zero, suc, Bool, true, false, cond, ◌&&◌, ◌||◌, ◌==◌, List, [], ◌∷◌, ◌++◌, Option, Some, None, is_none, Less, All, ◌⊎◌, inl, inr, length, get_or, set, replicate, map, flat_map, get_or-set_same, get_or-set_other, refl, sym, ap, ◌∙◌, subst, arith}
+use Rattle.std.proofs.Common.{◌≡◌, ℕ, ◌+◌, ◌-◌, ◌<◌, zero, suc, Bool, true, false, cond, ◌&&◌, ◌||◌, ◌==◌, List, [], ◌∷◌, Option, Some, None, is_none, Less, All, ◌⊎◌, inl, inr, length, get_or, set, replicate, map, flat_map, get_or-set_same, get_or-set_other, refl, sym, ap, ◌∙◌, subst, arith}
 use Rattle.std.specs.Cmp.Lexicographic.{slice_cmp}
-use Rattle.std.specs.List.{list_any, filter}
+use Rattle.std.specs.List.{list_any}
 use Rattle.std.specs.Option.{option_or}
 use Rattle.std.specs.Ordering.{nat_cmp}
-use Rattle.std.proofs.lemmas.Bool.{true≢false, false≢true, cases_order, cases_eq, and_parts, false_from_ne_true, eq-eqb, eqb-true, ne_eqb}
+use Rattle.std.proofs.lemmas.Bool.{false≢true, cases_order, cases_eq, and_parts, false_from_ne_true, eq-eqb, eqb-true, ne_eqb}
 use Rattle.std.proofs.lemmas.List.{length-map, length-replicate, get_or-replicate}
 use Rattle.std.proofs.lemmas.List.Folds.{list_any-append}
 use Rattle.std.proofs.lemmas.Map.Keys.{Less-from_sorted}
 use Rattle.zr_id.specs.declared.record.LinkRecord.{LinkRecord}
 use Rattle.zr_graph.specs.Record.{ids, same, has_edge, lists, IsAscending}
 use Rattle.zr_graph.proofs.Names.{same_is, same_refl, comes}
-use Rattle.zr_tree.specs.Walk.{Graph, graph_of, near}
-use Rattle.zr_tree.specs.Tree.{leads, least, dist}
+use Rattle.zr_tree.specs.Walk.{graph_of, near}
+use Rattle.zr_tree.specs.Tree.{leads}
 use Rattle.zr_tree.specs.Index.{EdgeTable, AreEdges, name, row}
 use Rattle.zr_tree.specs.Search.{Visits, AreDistances, has_index, kept_at}
 use Rattle.zr_tree.proofs.Finds.{In, any_in, in_any, in_filter, filter_in, place_in, in_place, map_in, in_map}
-use Rattle.zr_tree.proofs.Distances.{within, is_at, step_on, least_some, IsLeast}
+use Rattle.zr_tree.proofs.Distances.{within, is_at, step_on, least_some}
 
 -- an edge leads both ways
 pub joined_back : (rs : List LinkRecord) (x y : List ℕ) → has_edge rs x y ≡ true → has_edge rs y x ≡ true

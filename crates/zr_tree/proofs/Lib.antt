@@ -5,7 +5,9 @@ pub mod Finds
 pub mod Indexes
 pub mod Jumps
 pub mod Levels
+pub mod Paths
 pub mod Rows
+pub mod SameEdges
 pub mod Unknown
 pub mod Visiting
 pub mod Ways

@@ -1,15 +1,14 @@
 -- A router that the records don't know has no neighbours, so it is in no tree but its own, and that has no other.
-use Rattle.std.proofs.Common.{◌≡◌, ℕ, ◌+◌, ◌<◌, zero, suc, Bool, true, false, ◌&&◌, List, [], ◌∷◌, Option, Some, None, is_some, ◌⊎◌, inl, inr, length, refl, sym, ap, ◌∙◌, subst, arith}
-use Rattle.std.specs.List.{filter, find, list_any}
-use Rattle.std.specs.Option.{option_map_or}
-use Rattle.std.proofs.lemmas.Bool.{true≢false, false≢true, false_from_ne_true, and_left, and_right}
+use Rattle.std.proofs.Common.{◌≡◌, ℕ, zero, suc, Bool, true, false, List, [], ◌∷◌, Option, Some, None, is_some, ◌⊎◌, inl, inr, length, refl, sym, ap, ◌∙◌, subst}
+use Rattle.std.specs.List.{filter}
+use Rattle.std.proofs.lemmas.Bool.{false≢true, false_from_ne_true, and_left, and_right}
 use Rattle.zr_id.specs.declared.record.LinkRecord.{LinkRecord}
 use Rattle.zr_graph.specs.Record.{ids, same, has, lists, has_edge, record_of}
 use Rattle.zr_graph.proofs.Names.{same_is, same_refl}
 use Rattle.zr_tree.specs.Walk.{graph_of, near}
 use Rattle.zr_tree.specs.Tree.{dist, parent, is_child, children, below, toward, reached}
 use Rattle.zr_tree.proofs.Finds.{In, any_none, none_find, in_filter, map_in}
-use Rattle.zr_tree.proofs.Distances.{within, step_back, root_at_zero, zero_is_root}
+use Rattle.zr_tree.proofs.Distances.{step_back, root_at_zero, zero_is_root}
 use Rattle.zr_tree.proofs.Branches.{parent_is, child_is, below_cases}
 
 module _ {X : Type 0} where
@@ -21,7 +20,7 @@ module _ (rs : List LinkRecord) where
   not_in : (x : List ℕ) → has (ids rs) x ≡ false → In x (ids rs) → ⊥
   not_in x h i = false≢true (sym (any_none (λ y. same y x) (ids rs) x h i) ∙ same_refl x)
 
-  record_none : (x : List ℕ) → has (ids rs) x ≡ false → record_of rs x ≡ None
+  pub record_none : (x : List ℕ) → has (ids rs) x ≡ false → record_of rs x ≡ None
   record_none x h = none_find (λ r. same r.id x) rs (λ r i. any_none (λ y. same y x) (ids rs) r.id h (map_in (λ (q : LinkRecord). q.id) rs r i))
 
   near_none : (x y : List ℕ) → has (ids rs) x ≡ false → In y (near (graph_of rs) x) → ⊥

@@ -1,8 +1,8 @@
 -- From the distances to parents and jumps, by index and by name.
-use Rattle.std.proofs.Common.{◌≡◌, ℕ, ◌+◌, ◌-◌, ◌<◌, ◌≤◌, zero, suc, Bool, true, false, cond, not, ◌&&◌, ◌||◌, ◌==◌, List, [], ◌∷◌, ◌++◌, Option, Some, None, unwrap_or, All, ◌⊎◌, inl, inr, length, get_or, map, refl, sym, ap, ◌∙◌, subst, arith}
+use Rattle.std.proofs.Common.{◌≡◌, ℕ, ◌+◌, ◌<◌, zero, suc, Bool, true, false, not, ◌&&◌, ◌==◌, List, [], ◌∷◌, ◌++◌, Option, Some, None, unwrap_or, ◌⊎◌, inl, inr, length, get_or, map, refl, sym, ap, ◌∙◌, subst, arith}
 use Rattle.std.specs.List.{filter, find, range_with_len, slice_get}
 use Rattle.std.specs.Option.{option_map, option_map_or}
-use Rattle.std.proofs.lemmas.Bool.{true≢false, false≢true, cases_eq, cases_lt, eq-eqb, eqb-true, ne_eqb, false_from_ne_true}
+use Rattle.std.proofs.lemmas.Bool.{false≢true, cases_eq, cases_lt, eq-eqb, eqb-true, ne_eqb, false_from_ne_true}
 use Rattle.std.proofs.lemmas.List.{length-map, get_or_append_left, get_or_push, get_or_read}
 use Rattle.std.proofs.lemmas.List.FromFn.{get_or-map-range_with_len, length-map-range_with_len}
 use Rattle.zr_id.specs.declared.record.LinkRecord.{LinkRecord}
@@ -16,11 +16,11 @@ use Rattle.zr_tree.specs.declared.tree.TheConstants.{UNREACHED}
 use Rattle.zr_tree.specs.Index.{EdgeTable, AreEdges, name, row}
 use Rattle.zr_tree.specs.Search.{AreDistances, kept_at}
 use Rattle.zr_tree.specs.Tree.{dist, leads, is_sum, parent, below, is_child, children}
-use Rattle.zr_tree.specs.Walk.{graph_of, near, edge_length}
-use Rattle.zr_tree.proofs.Finds.{In, find_in, in_filter, find-map, same_find, same_filter, filter-filter, filter-map, in_place}
-use Rattle.zr_tree.proofs.Branches.{IsParent, parent_is, child_is, below_itself, below_parent}
+use Rattle.zr_tree.specs.Walk.{graph_of}
+use Rattle.zr_tree.proofs.Finds.{In, find_in, in_filter, find-map, same_find, same_filter, filter-filter, filter-map}
+use Rattle.zr_tree.proofs.Branches.{parent_is, child_is, below_itself, below_parent}
 use Rattle.zr_tree.proofs.Distances.{least_some}
-use Rattle.zr_tree.proofs.Levels.{all_in, one_index, joined_back, name_in}
+use Rattle.zr_tree.proofs.Levels.{all_in, one_index, joined_back}
 
 module _ (e : EdgeTable) (right : AreEdges e) (root : ℕ) (distances : List (Option ℕ)) (known : AreDistances e root distances) where
   -- no neighbour is nearer than itself

@@ -1,6 +1,7 @@
 pub mod Climb
 pub mod Hop
 pub mod Index
+pub mod Laws
 pub mod Lists
 pub mod Search
 pub mod Tree

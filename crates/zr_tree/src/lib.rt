@@ -3,7 +3,10 @@
 #![tactic(auto)]
 
 mod edges;
+pub mod laws;
 mod lists;
 mod search;
+#[cfg(test)]
+mod tests;
 mod tree;
 pub mod trees;

@@ -1,4 +1,3 @@
-use Rattle.std.proofs.Common.{◌≡◌, sym}
 use Rattle.zr_tree.proofs.Rows.{front_more}
 use Rattle.zr_tree.proofs.edges.row_of.Goals as goal
 use Rattle.zr_tree.proofs.edges.row_of.Goals.{then-list_each_other+in_ok-push, else-list_each_other}

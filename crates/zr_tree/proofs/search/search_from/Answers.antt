@@ -1,9 +1,9 @@
-use Rattle.std.proofs.Common.{◌≡◌, ℕ, ◌+◌, ◌-◌, ◌<◌, ◌≤◌, List, [], ◌∷◌, ◌++◌, Option, Some, None, All, length, take, drop, set, replicate, flat_map, refl, sym, ap, ◌∙◌, rules, arith, length-set, length-append}
+use Rattle.std.proofs.Common.{◌≡◌, ℕ, ◌<◌, [], ◌++◌, Option, None, length, take, drop, replicate, flat_map, ap, ◌∙◌, rules, arith, length-set}
 use Rattle.std.proofs.lemmas.List.{take_at, length-replicate}
 use Rattle.std.proofs.lemmas.List.Elements.{All-append}
 use Rattle.zr_tree.specs.Index.{row}
 use Rattle.zr_tree.specs.Search.{Visits}
-use Rattle.zr_tree.proofs.Levels.{IsLevel, level_first, round, level_last}
+use Rattle.zr_tree.proofs.Levels.{level_first, round, level_last}
 use Rattle.zr_tree.proofs.search.search_from.Goals as goal
 
 pub loop-depth-init : goal.loop-depth-init

@@ -1,4 +1,4 @@
-use Rattle.std.proofs.Common.{◌≡◌, ℕ, get_or, arith}
+use Rattle.std.proofs.Common.{ℕ, get_or}
 use Rattle.zr_tree.proofs.Jumps.{jumps_set}
 use Rattle.zr_tree.proofs.tree.jumps_of.Goals as goal
 

@@ -1,6 +1,4 @@
-use Rattle.std.proofs.Common.{◌≡◌, ℕ, length, map, sym, ap, ◌∙◌, arith}
-use Rattle.std.specs.List.{range_with_len}
-use Rattle.zr_tree.specs.Climb.{nearer}
+use Rattle.std.proofs.Common.{◌≡◌, length, sym, ap, ◌∙◌}
 use Rattle.zr_tree.proofs.Ways.{ways_from, parents_long, parents_indexes}
 use Rattle.zr_tree.proofs.tree.ways_of.Goals as goal
 

@@ -1,4 +1,4 @@
-use Rattle.std.proofs.Common.{◌≡◌, inl, inr, sym, ap, ◌∙◌}
+use Rattle.std.proofs.Common.{inl, inr, sym, ◌∙◌}
 use Rattle.zr_tree.proofs.Unknown.{toward_unknown, toward_unknown_dest}
 use Rattle.zr_tree.proofs.trees.Trees.toward.Goals as goal
 
