@@ -87,13 +87,36 @@ not_verbatim p c m h = by (begins_verbatim p) refl
     by true e = absurd (false≢true (sym h ∙ verbatim_fits p c m e))
     by false e = refl
 
+-- A further test of the chunks of keys that are made, and of the chunks of expressions that they are made from: none, or that they are text.
+pub record Passes (extra : List ℕ → Bool) (from : Chunk → Bool) : Type 0 where
+  pub any : extra (97 ∷ []) ≡ true
+  pub filled_passes : (p : List Piece) → from (Pieces p) ≡ true → extra (filled 97 p) ≡ true
+  pub common_passes : (p q : List Piece) → from (Pieces p) ≡ true → from (Pieces q) ≡ true → list_all is_piece p ≡ true → list_all is_piece q ≡ true → pieces_compare true p q ≡ true
+      → (c : Common is_plain Fits p q) × (extra c.word ≡ true) × (extra (97 ∷ c.word) ≡ true)
+
+abbrev pub good_key : (List ℕ → Bool) → List ℕ → Bool
+good_key extra c = is_key_chunk c && extra c
+
+abbrev pub good_chunk : (Chunk → Bool) → Chunk → Bool
+good_chunk from x = is_chunk x && from x
+
+no_more : Passes (λ c. true) (λ x. true)
+no_more = record { any = refl; filled_passes = λ p h. refl; common_passes = λ p q h g okp okq t. (compare_sound p q okp okq t, refl, refl) }
+
 -- a letter for each chunk that is not verbatim
-open_chunk : (x : Chunk) → is_chunk x ≡ true → is_any_chunks x ≡ false → not (is_verbatim_chunk x) ≡ true → OpenLetter is_verbatim is_key_chunk MatchesChunk x
-open_chunk Any ok g o = record { letter = 97 ∷ []; is_good = refl; opened = refl; matches = refl }
-open_chunk AnyChunks ok g o = cc
-open_chunk (Pieces p) ok g o =
+open_chunk : (extra : List ℕ → Bool) (from : Chunk → Bool) → Passes extra from
+    → (x : Chunk) → good_chunk from x ≡ true → is_any_chunks x ≡ false → not (is_verbatim_chunk x) ≡ true → OpenLetter is_verbatim (good_key extra) MatchesChunk x
+open_chunk extra from passes Any ok g o = record { letter = 97 ∷ []; is_good = passes.any; opened = refl; matches = refl }
+open_chunk extra from passes AnyChunks ok g o = cc
+open_chunk extra from passes (Pieces p) ok g o =
+    let oks = and_parts (is_chunk (Pieces p)) (from (Pieces p)) ok in
     let plain : is_verbatim (filled 97 p) ≡ false = filled_verbatim 97 p refl ∙ not-true (begins_verbatim p) o in
-    record { letter = filled 97 p; is_good = filled_key 97 p refl ok; opened = plain; matches = (filled_fits 97 p, λ w. plain) }
+    record {
+      letter = filled 97 p;
+      is_good = and_from (is_key_chunk (filled 97 p)) (extra (filled 97 p)) (filled_key 97 p refl oks.0) (passes.filled_passes p oks.1);
+      opened = plain;
+      matches = (filled_fits 97 p, λ w. plain);
+    }
 
 chunk_open : (x : Chunk) (c : List ℕ) → MatchesChunk x c → is_verbatim c ≡ false → not (is_verbatim_chunk x) ≡ true
 chunk_open Any c l o = refl
@@ -106,15 +129,16 @@ char_first c p q [] good m = absurd m
 char_first c p q (b ∷ w) good m = (good, ap (λ z. z == 64) (sym m.0))
 
 shared_pieces : (p q : List Piece) → is_chunk (Pieces p) ≡ true → is_chunk (Pieces q) ≡ true
-    → not (is_wild p && begins_verbatim q) ≡ true → not (is_wild q && begins_verbatim p) ≡ true → Common is_plain Fits p q → SharedLetter is_key_chunk MatchesChunk (Pieces p) (Pieces q)
-shared_pieces [] q okp okq v w c = cc
-shared_pieces (x ∷ p) [] okp okq v w c = cc
-shared_pieces (Char d ∷ p) (y ∷ q) okp okq v w c =
+    → not (is_wild p && begins_verbatim q) ≡ true → not (is_wild q && begins_verbatim p) ≡ true → (extra : List ℕ → Bool) (c : Common is_plain Fits p q) → extra c.word ≡ true → extra (97 ∷ c.word) ≡ true
+    → SharedLetter (good_key extra) MatchesChunk (Pieces p) (Pieces q)
+shared_pieces [] q okp okq v w extra c e1 e2 = cc
+shared_pieces (x ∷ p) [] okp okq v w extra c e1 e2 = cc
+shared_pieces (Char d ∷ p) (y ∷ q) okp okq v w extra c e1 e2 =
     let first = char_first d p (y ∷ q) c.word c.is_good c.first_matches in
     let parts = and_parts (list_all is_piece (Char d ∷ p)) (not (begins_verbatim (Char d ∷ p) && is_wild (Char d ∷ p))) okp in
     record {
       letter = c.word;
-      is_good = first.0;
+      is_good = and_from (is_key_chunk c.word) (extra c.word) first.0 e1;
       first_matches = (c.first_matches, λ e. first.1 ∙ by (d == 64) (is_wild p) (not-true (d == 64 && is_wild p) parts.1) e);
       second_matches = (c.second_matches, λ e. first.1 ∙ by (d == 64) (is_wild (y ∷ q)) (swap (is_wild (y ∷ q)) (d == 64) (not-true (is_wild (y ∷ q) && d == 64) w)) e);
     }
@@ -128,22 +152,22 @@ shared_pieces (Char d ∷ p) (y ∷ q) okp okq v w c =
     swap true false e = refl
     swap false true e = refl
     swap false false e = refl
-shared_pieces (AnyChars ∷ p) (Char d ∷ q) okp okq v w c =
+shared_pieces (AnyChars ∷ p) (Char d ∷ q) okp okq v w extra c e1 e2 =
     let first = char_first d q (AnyChars ∷ p) c.word c.is_good c.second_matches in
     let parts = and_parts (list_all is_piece (Char d ∷ q)) (not (begins_verbatim (Char d ∷ q) && is_wild (Char d ∷ q))) okq in
     let at : (d == 64) ≡ false = not-true (d == 64) v in
     record {
       letter = c.word;
-      is_good = first.0;
+      is_good = and_from (is_key_chunk c.word) (extra c.word) first.0 e1;
       first_matches = (c.first_matches, λ e. first.1 ∙ at);
       second_matches = (c.second_matches, λ e. first.1 ∙ at);
     }
-shared_pieces (AnyChars ∷ p) (AnyChars ∷ q) okp okq v w c =
+shared_pieces (AnyChars ∷ p) (AnyChars ∷ q) okp okq v w extra c e1 e2 =
     let m = c.first_matches in
     let n = c.second_matches in
     record {
       letter = 97 ∷ c.word;
-      is_good = c.is_good;
+      is_good = and_from (is_key_chunk (97 ∷ c.word)) (extra (97 ∷ c.word)) c.is_good e2;
       first_matches = ((97 ∷ m.0, m.1, ap (λ z. 97 ∷ z) m.2, m.3), λ e. refl);
       second_matches = ((97 ∷ n.0, n.1, ap (λ z. 97 ∷ z) n.2, n.3), λ e. refl);
     }
@@ -152,21 +176,25 @@ pieces_ok : (p : List Piece) → is_chunk (Pieces p) ≡ true → list_all is_pi
 pieces_ok [] h = cc
 pieces_ok (x ∷ p) h = (and_parts (list_all is_piece (x ∷ p)) (not (begins_verbatim (x ∷ p) && is_wild (x ∷ p))) h).0
 
-shared_chunk : (x y : Chunk) → is_chunk x ≡ true → is_chunk y ≡ true → is_any_chunks x ≡ false → is_any_chunks y ≡ false → chunks_go_together true x y ≡ true → SharedLetter is_key_chunk MatchesChunk x y
-shared_chunk AnyChunks y okx oky g h t = cc
-shared_chunk Any Any okx oky g h t = record { letter = 97 ∷ []; is_good = refl; first_matches = refl; second_matches = refl }
-shared_chunk Any AnyChunks okx oky g h t = cc
-shared_chunk Any (Pieces q) okx oky g h t =
-    let l = open_chunk (Pieces q) oky refl (and_parts (not (begins_verbatim q)) true t).0 in
+shared_chunk : (extra : List ℕ → Bool) (from : Chunk → Bool) → Passes extra from
+    → (x y : Chunk) → good_chunk from x ≡ true → good_chunk from y ≡ true → is_any_chunks x ≡ false → is_any_chunks y ≡ false → chunks_go_together true x y ≡ true → SharedLetter (good_key extra) MatchesChunk x y
+shared_chunk extra from passes AnyChunks y okx oky g h t = cc
+shared_chunk extra from passes Any Any okx oky g h t = record { letter = 97 ∷ []; is_good = passes.any; first_matches = refl; second_matches = refl }
+shared_chunk extra from passes Any AnyChunks okx oky g h t = cc
+shared_chunk extra from passes Any (Pieces q) okx oky g h t =
+    let l = open_chunk extra from passes (Pieces q) oky refl (and_parts (not (begins_verbatim q)) true t).0 in
     record { letter = l.letter; is_good = l.is_good; first_matches = l.opened; second_matches = l.matches }
-shared_chunk (Pieces p) Any okx oky g h t =
-    let l = open_chunk (Pieces p) okx refl t in
+shared_chunk extra from passes (Pieces p) Any okx oky g h t =
+    let l = open_chunk extra from passes (Pieces p) okx refl t in
     record { letter = l.letter; is_good = l.is_good; first_matches = l.matches; second_matches = l.opened }
-shared_chunk (Pieces p) AnyChunks okx oky g h t = cc
-shared_chunk (Pieces p) (Pieces q) okx oky g h t =
+shared_chunk extra from passes (Pieces p) AnyChunks okx oky g h t = cc
+shared_chunk extra from passes (Pieces p) (Pieces q) okx oky g h t =
     let outer = and_parts (not (is_wild p && begins_verbatim q) && not (is_wild q && begins_verbatim p)) (pieces_compare true p q) t in
     let inner = and_parts (not (is_wild p && begins_verbatim q)) (not (is_wild q && begins_verbatim p)) outer.0 in
-    shared_pieces p q okx oky inner.0 inner.1 (compare_sound p q (pieces_ok p okx) (pieces_ok q oky) outer.1)
+    let oks = and_parts (is_chunk (Pieces p)) (from (Pieces p)) okx in
+    let okt = and_parts (is_chunk (Pieces q)) (from (Pieces q)) oky in
+    let c = passes.common_passes p q oks.1 okt.1 (pieces_ok p oks.0) (pieces_ok q okt.0) outer.1 in
+    shared_pieces p q oks.0 okt.0 inner.0 inner.1 extra c.0 c.1 c.2
 
 -- wild pieces do not go with verbatim ones
 wild_apart : (p q : List Piece) (c : List ℕ) → (is_wild p ≡ true → is_verbatim c ≡ false) → Fits q c → not (is_wild p && begins_verbatim q) ≡ true
@@ -193,18 +221,18 @@ gap_is_open Any g = refl
 gap_is_open AnyChunks g = refl
 gap_is_open (Pieces p) g = cc
 
-matches_tests : Sharing (chunk_signs true) is_verbatim is_key_chunk is_chunk MatchesChunk
-matches_tests = record {
+matches_tests : (extra : List ℕ → Bool) (from : Chunk → Bool) → Passes extra from → Sharing (chunk_signs true) is_verbatim (good_key extra) (good_chunk from) MatchesChunk
+matches_tests extra from passes = record {
   expands = refl;
   gap_open = gap_is_open;
-  open_letter = open_chunk;
+  open_letter = open_chunk extra from passes;
   letter_open = chunk_open;
-  shared = shared_chunk;
+  shared = shared_chunk extra from passes;
   together = chunk_together;
 }
 
 -- a key of two expressions that both match no chunk too
-gap_more : (e : List Chunk) → Matches e [] → (is_some : (e ≡ []) → ⊥) → Matches e ((97 ∷ []) ∷ [])
+pub gap_more : (e : List Chunk) → Matches e [] → (is_some : (e ≡ []) → ⊥) → Matches e ((97 ∷ []) ∷ [])
 gap_more [] m some = absurd (some refl)
 gap_more (Any ∷ e) m some = absurd m
 gap_more (Pieces p ∷ e) m some = absurd m
@@ -215,19 +243,46 @@ meets_word x a y b [] good m n = ((97 ∷ []) ∷ [], refl, gap_more (x ∷ a) m
 meets_word x a y b (c ∷ k) good m n = (c ∷ k, good, m, n)
 
 -- where the table says so, a list of chunks is matched by both, and the other way round
-pub compare_common : (a b : List Chunk) → list_all is_chunk a ≡ true → list_all is_chunk b ≡ true → compare_chunks true a b ≡ true → Common is_key_chunk Matches a b
-compare_common a b oka okb h =
-    let c = table_sound (chunk_signs true) is_verbatim is_key_chunk is_chunk MatchesChunk Matches (matches_law true) matches_tests (reverse a) (reverse b) (list_all-reverse is_chunk a oka) (list_all-reverse is_chunk b okb) h in
+pub compare_passes : (extra : List ℕ → Bool) (from : Chunk → Bool) → Passes extra from
+    → (a b : List Chunk) → list_all (good_chunk from) a ≡ true → list_all (good_chunk from) b ≡ true → compare_chunks true a b ≡ true → Common (good_key extra) Matches a b
+compare_passes extra from passes a b oka okb h =
+    let c = table_sound (chunk_signs true) is_verbatim (good_key extra) (good_chunk from) MatchesChunk Matches (matches_law true) (matches_tests extra from passes) (reverse a) (reverse b)
+    (list_all-reverse (good_chunk from) a oka) (list_all-reverse (good_chunk from) b okb) h in
     record {
       word = reverse c.word;
-      is_good = list_all-reverse is_key_chunk c.word c.is_good;
+      is_good = list_all-reverse (good_key extra) c.word c.is_good;
       first_matches = subst (λ z. Matches z (reverse c.word)) (reverse-reverse a) (reverse_matches (chunk_signs true) is_verbatim MatchesChunk Matches (matches_law true) (reverse a) c.word c.first_matches);
       second_matches = subst (λ z. Matches z (reverse c.word)) (reverse-reverse b) (reverse_matches (chunk_signs true) is_verbatim MatchesChunk Matches (matches_law true) (reverse b) c.word c.second_matches);
     }
 
+-- two tests of all of a list, together and apart
+pub all_both : {X : Type 0} (f g : X → Bool) (xs : List X) → list_all f xs ≡ true → list_all g xs ≡ true → list_all (λ x. f x && g x) xs ≡ true
+all_both f g [] h k = refl
+all_both f g (x ∷ xs) h k =
+    let a = and_parts (f x) (list_all f xs) h in
+    let b = and_parts (g x) (list_all g xs) k in
+    and_from (f x && g x) (list_all (λ y. f y && g y) xs) (and_from (f x) (g x) a.0 b.0) (all_both f g xs a.1 b.1)
+
+pub both_all : {X : Type 0} (f g : X → Bool) (xs : List X) → list_all (λ x. f x && g x) xs ≡ true → (list_all f xs ≡ true) × (list_all g xs ≡ true)
+both_all f g [] h = (refl, refl)
+both_all f g (x ∷ xs) h =
+    let a = and_parts (f x && g x) (list_all (λ y. f y && g y) xs) h in
+    let b = and_parts (f x) (g x) a.0 in
+    let c = both_all f g xs a.1 in
+    (and_from (f x) (list_all f xs) b.0 c.0, and_from (g x) (list_all g xs) b.1 c.1)
+
+all_pass : {X : Type 0} (xs : List X) → list_all (λ (x : X). true) xs ≡ true
+all_pass [] = refl
+all_pass (x ∷ xs) = all_pass xs
+
+pub compare_common : (a b : List Chunk) → list_all is_chunk a ≡ true → list_all is_chunk b ≡ true → compare_chunks true a b ≡ true → Common is_key_chunk Matches a b
+compare_common a b oka okb h =
+    let c = compare_passes (λ c. true) (λ x. true) no_more a b (all_both is_chunk (λ x. true) a oka (all_pass a)) (all_both is_chunk (λ x. true) b okb (all_pass b)) h in
+    record { word = c.word; is_good = (both_all is_key_chunk (λ c. true) c.word c.is_good).0; first_matches = c.first_matches; second_matches = c.second_matches }
+
 pub common_compare : (a b : List Chunk) (k : List (List ℕ)) → Matches a k → Matches b k → compare_chunks true a b ≡ true
 common_compare a b k m n =
-    table_complete (chunk_signs true) is_verbatim is_key_chunk is_chunk MatchesChunk Matches (matches_law true) matches_tests (reverse a) (reverse b) (reverse k)
+    table_complete (chunk_signs true) is_verbatim (good_key (λ c. true)) (good_chunk (λ x. true)) MatchesChunk Matches (matches_law true) (matches_tests (λ c. true) (λ x. true) no_more) (reverse a) (reverse b) (reverse k)
     (reverse_matches (chunk_signs true) is_verbatim MatchesChunk Matches (matches_law true) a k m) (reverse_matches (chunk_signs true) is_verbatim MatchesChunk Matches (matches_law true) b k n)
 
 -- so it tells whether expressions meet
@@ -255,7 +310,7 @@ front_shared : (x y : Chunk) (a b : List Chunk) → is_any_chunks x ≡ false �
 front_shared x y a b g h oka okb t u =
     let oks = and_parts (is_chunk x) (list_all is_chunk a) oka in
     let okt = and_parts (is_chunk y) (list_all is_chunk b) okb in
-    let l = shared_chunk x y oks.0 okt.0 g h t in
+    let l = shared_chunk (λ c. true) (λ z. true) no_more x y (and_from (is_chunk x) true oks.0 refl) (and_from (is_chunk y) true okt.0 refl) g h t in
     let c = compare_common a b oks.1 okt.1 u in
     common_compare (x ∷ a) (y ∷ b) (l.letter ∷ c.word) (chunk_one_in x a l.letter c.word g l.first_matches c.first_matches) (chunk_one_in y b l.letter c.word h l.second_matches c.second_matches)
 

@@ -11,3 +11,5 @@ pub mod Plain
 pub mod Inclusion
 pub mod Right
 pub mod Fresh
+pub mod Characters
+pub mod TextKeys

@@ -8,7 +8,7 @@ use Rattle.zr_match.specs.Match.{Meets, Covers}
 use Rattle.zr_match.specs.Table.{compare_chunks}
 use Rattle.zr_match.proofs.ChunkTable.{compare_meets, meets_compare, compare_covers, covers_compare}
 
-some_chunks : (e : List Chunk) → is_expression e ≡ true → (e ≡ []) → ⊥
+pub some_chunks : (e : List Chunk) → is_expression e ≡ true → (e ≡ []) → ⊥
 some_chunks [] h g = false≢true h
 some_chunks (x ∷ e) h g = cc
 

@@ -1,6 +1,7 @@
 -- What meeting and covering promise of keys.
 use Rattle.std.specs.Prelude.{◌≡◌, ◌↔◌, ℕ, ◌==◌, ◌≤◌, ◌&&◌, ◌||◌, not, nat_lt, nat_le, Bool, true, false, List, length}
 use Rattle.std.specs.List.{list_any, list_all}
+use Rattle.std.specs.Str.{is_utf8}
 use Rattle.zr_key.specs.Expression.{Piece, Char, AnyChars, Chunk, Any, AnyChunks, Pieces, is_plain, is_key, is_expression, is_canonical, Matches, spelled}
 use Rattle.zr_key.specs.Key.{expression_of, IsKeyText}
 use Rattle.zr_match.specs.Match.{Meets, Covers}
@@ -47,3 +48,8 @@ is_scalar c = nat_lt c 0xd800 || nat_le 0xe000 c && nat_lt c 0x110000
 -- Of the Unicode characters there is such a one for each expression of at most 2,048 bytes.
 abbrev pub FreshIsThere : Type 0
 FreshIsThere = (a : List Chunk) → is_expression a ≡ true → length (spelled a) ≤ 2048 → (z : ℕ) × IsFresh is_scalar a z
+
+-- Where the expressions of two texts meet, a key of characters is matched by both: each of its chunks is UTF-8.
+abbrev pub MeetingHasText : Type 0
+MeetingHasText = (a b : List ℕ) → IsKeyText a → IsKeyText b → Meets (expression_of a) (expression_of b)
+    → (key : List (List ℕ)) × (is_key key ≡ true) × (list_all is_utf8 key ≡ true) × Matches (expression_of a) key × Matches (expression_of b) key

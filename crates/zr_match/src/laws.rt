@@ -1,6 +1,6 @@
 //! Laws of meeting and covering: each is a call that does nothing, whose contract is the law.
 
-ghost use Rattle.zr_match.specs.Laws.{TestsAreRight, CoveringIsInclusion, InclusionIsCovering, FreshIsThere};
+ghost use Rattle.zr_match.specs.Laws.{MeetingHasText, TestsAreRight, CoveringIsInclusion, InclusionIsCovering, FreshIsThere};
 
 /// The tests that definitions above cite say what meeting and covering mean.
 pub fn tests_are_right()
@@ -20,4 +20,9 @@ pub fn inclusion_is_covering()
 /// Unicode has a character more than an expression uses.
 pub fn fresh_is_there()
     ensures { FreshIsThere }
+{}
+
+/// Expressions that meet have a key of characters in common.
+pub fn meeting_has_text()
+    ensures { MeetingHasText }
 {}
