@@ -142,14 +142,6 @@ module _ (rs : List LinkRecord) (root : ℕ) where
       let e = depth_value next.depth at.0 (j.depth ∙ at.1) in
       omega (arith, e, u.1, at.2)
 
-  -- where the way ends
-  pub way_last : (lists : List (List (List ℕ))) (dest depth x : ℕ) (hop : Hop) → IsOnWay dest depth x → IsHop rs root lists x hop → hop.depth ≤ depth →
-      dist (graph_of rs) (name rs root) (name rs x) ≡ Some depth
-  way_last lists dest depth x hop w h le =
-      let e = far_is lists dest depth x hop w h in
-      let f : w.far ≡ depth = omega (arith, e, w.no_nearer) in
-      w.distance ∙ ap Some f
-
 -- ---- the child toward a destination
 
 module _ (rs : List LinkRecord) (r at dest : List ℕ) where

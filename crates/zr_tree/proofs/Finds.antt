@@ -120,10 +120,6 @@ module _ {X : Type 0} where
   in_place (x ∷ xs) y d (inr i) = let f = in_place xs y d i in (suc f.0, omega (arith, f.1), f.2)
 
 module _ {X Y : Type 0} where
-  pub list_any-map : (p : Y → Bool) (f : X → Y) (xs : List X) → list_any p (map f xs) ≡ list_any (λ x. p (f x)) xs
-  list_any-map p f [] = refl
-  list_any-map p f (x ∷ xs) = ap (λ t. p (f x) || t) (list_any-map p f xs)
-
   pub find-map : (p : Y → Bool) (f : X → Y) (xs : List X) → find p (map f xs) ≡ option_map f (find (λ x. p (f x)) xs)
   find-map p f [] = refl
   find-map p f (x ∷ xs) = by_test (p (f x)) (find-map p f xs)

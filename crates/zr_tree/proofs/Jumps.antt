@@ -9,10 +9,6 @@ climb-climb parents (suc n) m x =
     let e : suc n + m ≡ suc (n + m) = omega arith in
     rw e (climb-climb parents n m (at parents x))
 
--- the parents themselves are jumps
-pub jumps_first : (parents : List ℕ) → AreIndexes parents → AreJumps parents parents
-jumps_first parents h = record { long = refl; within = h.within; up = λ x lt. (0, refl) }
-
 pub jumps_set : (parents jumps : List ℕ) (x j : ℕ) → AreIndexes parents → AreJumps parents jumps → x < length parents →
     (j ≡ at parents x) ⊎ (j ≡ at jumps (at jumps (at parents x))) → AreJumps parents (set jumps x j)
 jumps_set parents jumps x j right h lt is = record {

@@ -9,5 +9,4 @@ pub mod Paths
 pub mod Rows
 pub mod SameEdges
 pub mod Unknown
-pub mod Visiting
 pub mod Ways

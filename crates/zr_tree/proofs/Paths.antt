@@ -22,9 +22,6 @@ has_in names x h =
     let f = any_in (λ y. same y x) names h in
     subst (λ (z : List ℕ). In z names) (same_is f.0 x f.2) f.1
 
-pub in_has : (names : List (List ℕ)) (x : List ℕ) → In x names → has names x ≡ true
-in_has names x i = in_any (λ y. same y x) names x i (same_refl x)
-
 pub graph_is : (rs : List LinkRecord) → IsAscending (ids rs) → IsGraph (graph_of rs)
 graph_is rs up = record {
   ascending = up;

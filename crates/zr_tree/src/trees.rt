@@ -19,7 +19,7 @@ use zr_id::zid::Zid;
 
 /// The trees of a base's routers, each by the edges alone.
 ///
-/// Contracts see the records that the trees were made of; a router that they don't know is reached by none.
+/// Contracts see the records that the trees were made of. A router that they don't know reaches none but itself.
 #[derive(Drop)]
 pub struct Trees {
     base: Snapshot<Base>,

@@ -14,5 +14,5 @@ nearer_of-requires-clause-within c k d lt =
 pub loop-x-preserved : goal.loop-x-preserved
 loop-x-preserved c =
     let e : c.indexes-neighbours.result.now ≡ row c.args.rows.now c.loop-x.x = c.indexes-neighbours.ensures ∙ get_or_read c.args.rows.now c.loop-x.x c.index-rows-x.result c.loop-x-test.true c.index-rows-x.is [] in
-    let r : c.unwrap_or.result ≡ nearer c.args.rows.now c.args.distances.now c.loop-x.x = c.unwrap_or.ensures ∙ rw (c.nearer_of.ensures, e) refl in
+    let r : c.unwrap_or.result ≡ nearer c.args.rows.now c.args.distances.now c.loop-x.x = rw (c.unwrap_or.ensures, c.nearer_of.ensures, e) refl in
     c.in_ok-push.ensures.items ∙ rw (r, c.loop-x.invariant) refl ∙ sym (map-range_with_len_more (nearer c.args.rows.now c.args.distances.now) 0 c.loop-x.x c.loop-x.x (omega arith))
