@@ -15,11 +15,11 @@ pub struct MemSink {
 }
 
 impl MemSink {
-    ghost use Rattle.zr_outside.specs.Memory.{sink_held};
+    ghost use Rattle.zr_outside.specs.Memory.{sink_held, failing_writes};
 
     /// A sink without bytes.
     pub fn new(alloc: Global, failing: Vec<u64>) -> MemSink
-        ensures { sink_held result ≡ [] }
+        ensures { (sink_held result ≡ []) × (failing_writes result ≡ failing.items) }
     {
         MemSink {
             bytes: Vec::new(alloc),

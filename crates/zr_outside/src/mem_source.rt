@@ -20,11 +20,11 @@ pub struct MemSource {
 }
 
 impl MemSource {
-    ghost use Rattle.zr_outside.specs.Memory.{source_left};
+    ghost use Rattle.zr_outside.specs.Memory.{source_left, most_a_read, failing_reads, quiet_reads};
 
     /// A source of these bytes, which gives at most `most` of them a read (1 where that is 0).
     pub fn new(bytes: Vec<u8>, most: usize, failing: Vec<u64>, quiet: Vec<u64>) -> MemSource
-        ensures { source_left result ≡ bytes.items }
+        ensures { (source_left result ≡ bytes.items) × (most_a_read result ≡ most) × (failing_reads result ≡ failing.items) × (quiet_reads result ≡ quiet.items) }
     {
         MemSource {
             bytes,

@@ -1,6 +1,6 @@
 //! A reader of std as a source and a writer of std as a sink. What they give and take isn't told.
 
-ghost use Rattle.std.specs.Prelude.{None};
+ghost use Rattle.std.specs.Prelude.{◌≡◌, None};
 
 use crate::sink::{Put, Sink};
 use crate::source::{Got, Source};
@@ -15,8 +15,12 @@ pub struct ReadSource<R: Read + Drop> {
 }
 
 impl<R: Read + Drop> ReadSource<R> {
+    ghost use Rattle.zr_outside.specs.Streams.{read_faults, read_ends};
+
     /// The reader as a source.
-    pub fn new(reader: R) -> ReadSource<R> {
+    pub fn new(reader: R) -> ReadSource<R>
+        ensures { (read_faults result ≡ 0) × (read_ends result ≡ 0) }
+    {
         ReadSource {
             reader,
             faults: 0,
@@ -57,8 +61,12 @@ pub struct WriteSink<W: Write + Drop> {
 }
 
 impl<W: Write + Drop> WriteSink<W> {
+    ghost use Rattle.zr_outside.specs.Streams.{write_faults};
+
     /// The writer as a sink.
-    pub fn new(writer: W) -> WriteSink<W> {
+    pub fn new(writer: W) -> WriteSink<W>
+        ensures { write_faults result ≡ 0 }
+    {
         WriteSink { writer, faults: 0 }
     }
 }
