@@ -1,6 +1,6 @@
 //! The commands of a script, one variant a command, with its words as fields.
 
-use crate::msg::Body;
+use crate::msg::Payload;
 use zr_id::zid::Zid;
 use zr_key::key::KeyExpr;
 
@@ -22,11 +22,21 @@ pub enum Command {
         id: u32,
         key: KeyExpr,
     },
+    /// A client takes back what it declared under an id.
+    Unsub {
+        client: Zid,
+        id: u32,
+    },
     /// A client publishes a sample.
     Put {
         client: Zid,
         key: KeyExpr,
-        body: Body,
+        payload: Payload,
+    },
+    /// A client publishes a deletion.
+    Del {
+        client: Zid,
+        key: KeyExpr,
     },
     /// A router handles the oldest message on the wire from a client.
     Handle {
@@ -37,6 +47,10 @@ pub enum Command {
     Take {
         router: Zid,
         to: Zid,
+    },
+    /// The network moves on by itself, by at most so many steps.
+    Run {
+        steps: u32,
     },
     /// A phase begins.
     Mark,

@@ -7,26 +7,26 @@ use std::marker::Model;
 use zr_id::link::LinkNo;
 use zr_key::key::KeyExpr;
 
-/// What a sample carries, passed on unread. At this stage it is the payload alone.
+/// What was published with a sample, passed on unread.
 #[derive(Debug, Drop)]
-pub struct Body {
+pub struct Payload {
     bytes: Vec<u8>,
 }
 
-impl Model for Body {
+impl Model for Payload {
     ghost use Rattle.std.specs.Prelude.{ℕ, List};
 
     ghost Value = { List ℕ };
 
-    ghost view = { λ b. b.bytes.items };
+    ghost view = { λ p. p.bytes.items };
 }
 
-impl Body {
-    /// The body that has these bytes.
-    pub fn new(bytes: Vec<u8>) -> Body
+impl Payload {
+    /// The payload that has these bytes.
+    pub fn new(bytes: Vec<u8>) -> Payload
         ensures { result ≡ bytes.items }
     {
-        Body { bytes }
+        Payload { bytes }
     }
 
     /// The bytes.
@@ -36,12 +36,35 @@ impl Body {
         self.bytes.as_slice()
     }
 
+    /// The same payload again.
+    pub fn copy(&self, alloc: Global) -> Result<Payload, AllocError>
+        ensures { IfOk result (λ p. p ≡ self.now) }
+    {
+        Ok(Payload {
+            bytes: Vec::from_slice(alloc, self.bytes.as_slice())?,
+        })
+    }
+}
+
+/// What a sample says of its key (Zenoh protocol 1.0, "Zenoh messages": PUT and DEL).
+#[derive(Debug, Drop)]
+pub enum Body {
+    /// The key has a value.
+    Put { payload: Payload },
+    /// The key's value is gone.
+    Del,
+}
+
+impl Body {
     /// The same body again.
     pub fn copy(&self, alloc: Global) -> Result<Body, AllocError>
         ensures { IfOk result (λ b. b ≡ self.now) }
     {
-        Ok(Body {
-            bytes: Vec::from_slice(alloc, self.bytes.as_slice())?,
+        Ok(match self {
+            Body::Put { payload } => Body::Put {
+                payload: payload.copy(alloc)?,
+            },
+            Body::Del => Body::Del,
         })
     }
 }
@@ -49,8 +72,10 @@ impl Body {
 /// A message on a link (Zenoh protocol 1.0, "Network messages").
 #[derive(Debug, Drop)]
 pub enum Msg {
-    /// A client subscribes to a key, under an id of its own.
+    /// A client subscribes to an expression, under an id of its own.
     Sub { id: u32, key: KeyExpr },
+    /// A client no longer subscribes to what it declared under the id.
+    Unsub { id: u32 },
     /// A sample.
     Push { key: KeyExpr, body: Body },
 }
@@ -65,6 +90,7 @@ impl Msg {
                 id: *id,
                 key: key.copy(alloc)?,
             },
+            Msg::Unsub { id } => Msg::Unsub { id: *id },
             Msg::Push { key, body } => Msg::Push {
                 key: key.copy(alloc)?,
                 body: body.copy(alloc)?,

@@ -3,7 +3,7 @@
 use crate::msg::Msg;
 use zr_id::zid::Zid;
 
-/// What was seen of one step. A tag is the number of the script line that the message comes from.
+/// What was seen of one step, or of a whole run. A tag is the number of the script line that the message comes from.
 #[derive(Debug, Drop)]
 pub enum ReportLine {
     /// A router has handled a message of a client.
@@ -19,6 +19,11 @@ pub enum ReportLine {
         to: Zid,
         msg: Msg,
         tag: u64,
+    },
+    /// A run has ended after so many steps; it is quiet where no step is possible any more.
+    Ran {
+        steps: u32,
+        quiet: bool,
     },
     /// A phase has begun with this line.
     Mark {

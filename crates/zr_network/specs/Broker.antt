@@ -1,20 +1,22 @@
 -- The one broker: what each client is to have of each other's samples, as one broker that all clients are attached to
 -- sends them. The lines of the script alone say it.
-use Rattle.std.specs.Prelude.{ℕ, ◌==◌, ◌&&◌, not, nat_eq, Bool, true, false, if◌then◌else◌, List, [], ◌∷◌}
-use Rattle.std.specs.List.{list_any, flat_map}
-use Rattle.std.specs.Cmp.Lexicographic.{pointwise}
+use Rattle.std.specs.Prelude.{ℕ, ◌==◌, ◌&&◌, not, Bool, true, false, if◌then◌else◌, List, [], ◌∷◌, ◌++◌, filter}
+use Rattle.std.specs.List.{list_any, flat_map, fold}
+use Rattle.zr_match.specs.Table.{texts_meet}
+use Rattle.zr_msg.specs.declared.msg.Body.{Body}
+use Rattle.zr_msg.specs.declared.msg.Body.TheVariants as b
 use Rattle.zr_msg.specs.declared.command.Command.{Command}
 use Rattle.zr_msg.specs.declared.command.Command.TheVariants as c
 use Rattle.zr_network.specs.World.{is_named}
 use Rattle.zr_network.specs.Phase.{Numbered}
 
--- a sample: the number of the line that publishes it, its key and its payload
+-- a sample: the number of the line that publishes it, its key, and the value or the deletion
 pub record Item : Type 0 where
   pub line : ℕ
   pub key : List ℕ
-  pub body : List ℕ
+  pub body : Body
 
--- what a client declares: it subscribes to a key, under an id of its own
+-- what a client declares: it subscribes to a key expression, under an id of its own
 pub record Declaration : Type 0 where
   pub id : ℕ
   pub key : List ℕ
@@ -28,32 +30,36 @@ attaches name other = false
 abbrev pub is_attached : List Numbered → List ℕ → Bool
 is_attached lines name = list_any (λ x. attaches name x.1) lines
 
--- what a command declares for a client
-abbrev pub declares : List ℕ → Command → List Declaration
-declares name (c.Sub client id key) = if is_named name client then record { id = id; key = key } ∷ [] else []
-declares name other = []
+-- what a client has declared, once one more command was given: what its lines declared less what its lines undeclared
+abbrev pub declared_by : List ℕ → List Declaration → Command → List Declaration
+declared_by name so_far (c.Sub client id key) = if is_named name client then so_far ++ record { id = id; key = key } ∷ [] else so_far
+declared_by name so_far (c.Unsub client id) = if is_named name client then filter (λ d. not (d.id == id)) so_far else so_far
+declared_by name so_far other = so_far
 
 -- what a client has declared
 abbrev pub declarations : List Numbered → List ℕ → List Declaration
-declarations lines name = flat_map (λ x. declares name x.1) lines
+declarations lines name = fold (λ so_far x. declared_by name so_far x.1) [] lines
 
--- whether a declaration asks for the samples on a key
+-- whether a declaration asks for the samples on a key: its expression meets the key, which is that some key is matched by both
 abbrev pub asks_for : List ℕ → Declaration → Bool
-asks_for key declaration = pointwise nat_eq declaration.key key
+asks_for key declaration = texts_meet declaration.key key
 
--- whether a sample of a client on a key is for a receiver: another client, attached, that subscribes to the key
+-- whether a sample of a client on a key is for a receiver: another client, attached, that subscribes to an expression
+-- that meets the key
 abbrev pub wants : List Numbered → List ℕ → List ℕ → List ℕ → Bool
 wants lines author receiver key =
     not (is_named author receiver) && (is_attached lines receiver && list_any (λ s. asks_for key s) (declarations lines receiver))
 
 -- whether a command publishes a sample
 abbrev pub publishes : Command → Bool
-publishes (c.Put client key body) = true
+publishes (c.Put client key payload) = true
+publishes (c.Del client key) = true
 publishes other = false
 
 -- whether a command is a sample of the author
 abbrev pub is_author : List ℕ → Command → Bool
-is_author author (c.Put client key body) = is_named author client
+is_author author (c.Put client key payload) = is_named author client
+is_author author (c.Del client key) = is_named author client
 is_author author other = false
 
 -- whether a line of the phase is a sample of the author
@@ -64,13 +70,18 @@ is_line_of phase author line = list_any (λ x. x.0 == line && is_author author x
 abbrev pub is_sample_line : List Numbered → ℕ → Bool
 is_sample_line phase line = list_any (λ x. x.0 == line && publishes x.1) phase
 
--- the sample of a line, if it is one of the author that the receiver is to have
+-- the sample of a client's line, if it is one of the author that the receiver is to have
+abbrev pub item_for : List Numbered → List ℕ → List ℕ → ℕ → List ℕ → List ℕ → Body → List Item
+item_for before author receiver line client key body =
+    if is_named author client && wants before author receiver key then record { line = line; key = key; body = body } ∷ [] else []
+
+-- the sample of a line, if it has one that the receiver is to have of the author
 abbrev pub for_receiver : List Numbered → List ℕ → List ℕ → Numbered → List Item
 for_receiver before author receiver x = by_command x.1
   where
     by_command : Command → List Item
-    by_command (c.Put client key body) =
-        if is_named author client && wants before author receiver key then record { line = x.0; key = key; body = body } ∷ [] else []
+    by_command (c.Put client key payload) = item_for before author receiver x.0 client key (b.Put payload)
+    by_command (c.Del client key) = item_for before author receiver x.0 client key b.Del
     by_command other = []
 
 -- what the receiver is to have of the author's lines in a phase so far, in their order;

@@ -1,15 +1,15 @@
 -- What a line of a script asks, or why it is refused: first a line that is too long, then a first word that is no command,
--- then words that do not fit the command, then a word that is no key.
+-- then words that do not fit the command, then a word that is no key expression. An empty line and a comment ask nothing.
 use Rattle.std.specs.Prelude.{ℕ, ◌+◌, ◌-◌, ◌*◌, ◌^◌, ◌==◌, ◌&&◌, ◌||◌, not, nat_eq, nat_lt, nat_le, Bool, true, false, if◌then◌else◌, List, [], ◌∷◌, length, filter, codes, Option, Some, None, Result, Ok, Err}
 use Rattle.std.specs.List.{fold, list_all, slice_split, slice_get}
 use Rattle.std.specs.Cmp.Lexicographic.{pointwise}
 use Rattle.zr_id.specs.Zid.{zid_of_hex}
-use Rattle.zr_key.specs.Key.{read_key, is_plain_text}
+use Rattle.zr_key.specs.Key.{read_key}
 use Rattle.zr_key.specs.declared.key.KeyError.{KeyError}
 use Rattle.zr_msg.specs.declared.error.ScriptError.{ScriptError}
 use Rattle.zr_msg.specs.declared.error.ScriptError.TheVariants.{UnknownCommand, BadWords, BadKey, Limit}
 use Rattle.zr_msg.specs.declared.command.Command.{Command}
-use Rattle.zr_msg.specs.declared.command.Command.TheVariants.{Router, Client, Sub, Put, Handle, Take, Mark}
+use Rattle.zr_msg.specs.declared.command.Command.TheVariants.{Router, Client, Sub, Unsub, Put, Del, Handle, Take, Run, Mark}
 use Rattle.zr_network.specs.Step.{◌>>=◌}
 
 -- how many bytes a line has at most, without its end
@@ -64,12 +64,12 @@ value_of digits = fold (λ n b. n * 10 + (b - 48)) 0 digits
 abbrev pub number_at : List ℕ → Result ℕ ScriptError
 number_at word = if is_number word && nat_lt (value_of word) (2 ^ 32) then Ok (value_of word) else Err BadWords
 
--- the key that a word was read as; an expression with wildcards is none at this stage
+-- the key expression that a word was read as
 abbrev pub key_of_word : Result (List ℕ) KeyError → Result (List ℕ) ScriptError
-key_of_word (Ok key) = if is_plain_text key then Ok key else Err BadKey
+key_of_word (Ok key) = Ok key
 key_of_word (Err e) = Err BadKey
 
--- a key
+-- a key expression, in its canonical form
 abbrev pub key_at : List ℕ → Result (List ℕ) ScriptError
 key_at word = key_of_word (read_key word)
 
@@ -113,6 +113,14 @@ sub_of args = do
   key ← key_at w.2
   Ok (Sub client id key)
 
+-- unsub CLIENT N
+unfoldable pub unsub_of : List (List ℕ) → Result Command ScriptError
+unsub_of args = do
+  w ← two_of args
+  client ← zid_at w.0
+  id ← number_at w.1
+  Ok (Unsub client id)
+
 -- put CLIENT KEY PAYLOAD
 unfoldable pub put_of : List (List ℕ) → Result Command ScriptError
 put_of args = do
@@ -120,6 +128,14 @@ put_of args = do
   client ← zid_at w.0
   key ← key_at w.1
   Ok (Put client key (payload_of w.2))
+
+-- del CLIENT KEY
+unfoldable pub del_of : List (List ℕ) → Result Command ScriptError
+del_of args = do
+  w ← two_of args
+  client ← zid_at w.0
+  key ← key_at w.1
+  Ok (Del client key)
 
 -- handle ROUTER FROM
 unfoldable pub handle_of : List (List ℕ) → Result Command ScriptError
@@ -137,6 +153,13 @@ take_of args = do
   to ← zid_at w.1
   Ok (Take router to)
 
+-- run N
+unfoldable pub run_of : List (List ℕ) → Result Command ScriptError
+run_of args = do
+  w ← one_of args
+  steps ← number_at w
+  Ok (Run steps)
+
 -- mark
 unfoldable pub mark_of : List (List ℕ) → Result Command ScriptError
 mark_of [] = Ok Mark
@@ -145,8 +168,9 @@ mark_of (a ∷ more) = Err BadWords
 -- whether a word names a command
 abbrev pub is_command : List ℕ → Bool
 is_command name =
-    is_word name (codes "router") || is_word name (codes "client") || is_word name (codes "sub") || is_word name (codes "put")
-    || is_word name (codes "handle") || is_word name (codes "take") || is_word name (codes "mark")
+    is_word name (codes "router") || is_word name (codes "client") || is_word name (codes "sub") || is_word name (codes "unsub")
+    || is_word name (codes "put") || is_word name (codes "del") || is_word name (codes "handle") || is_word name (codes "take")
+    || is_word name (codes "run") || is_word name (codes "mark")
 
 -- what a command's name and its words ask
 unfoldable pub by_name : List ℕ → List (List ℕ) → Result Command ScriptError
@@ -154,9 +178,12 @@ by_name name args =
     if is_word name (codes "router") then router_of args
     else if is_word name (codes "client") then client_of args
     else if is_word name (codes "sub") then sub_of args
+    else if is_word name (codes "unsub") then unsub_of args
     else if is_word name (codes "put") then put_of args
+    else if is_word name (codes "del") then del_of args
     else if is_word name (codes "handle") then handle_of args
     else if is_word name (codes "take") then take_of args
+    else if is_word name (codes "run") then run_of args
     else mark_of args
 
 -- what the words of a line ask
@@ -167,6 +194,14 @@ by_words clean (name ∷ args) =
     else if not clean then Err BadWords
     else by_name name args
 
--- what a line asks
-unfoldable pub command_of : List ℕ → Result Command ScriptError
-command_of line = if nat_lt most_line (length line) then Err Limit else by_words (is_clean line) (words line)
+-- whether a line asks nothing: it is empty, or a comment
+abbrev pub is_silent : List ℕ → Bool
+is_silent [] = true
+is_silent (b ∷ bs) = b == 35
+
+-- what a line asks, if it asks anything
+unfoldable pub command_of : List ℕ → Result (Option Command) ScriptError
+command_of line =
+    if nat_lt most_line (length line) then Err Limit
+    else if is_silent line then Ok None
+    else by_words (is_clean line) (words line) >>= (λ command. Ok (Some command))

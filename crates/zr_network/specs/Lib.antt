@@ -2,6 +2,7 @@ pub mod Step
 pub mod Lines
 pub mod Command
 pub mod World
+pub mod Acts
 pub mod Report
 pub mod Run
 pub mod Phase

@@ -1,16 +1,16 @@
 -- The moments of a script: what accepted steps lead to, whether anything is under way there, and what clients were sent.
-use Rattle.std.specs.Prelude.{ℕ, ◌&&◌, Bool, true, false, if◌then◌else◌, List, [], ◌∷◌, ◌++◌, Option, Some, None, option_to_list, Ok, Err}
+use Rattle.std.specs.Prelude.{ℕ, ◌&&◌, Bool, if◌then◌else◌, List, [], ◌∷◌, ◌++◌, Option, Some, None, option_to_list, Ok, Err}
 use Rattle.std.specs.List.{fold, list_all, flat_map}
 use Rattle.std.specs.Map.{values_of}
 use Rattle.zr_msg.specs.declared.msg.Msg.{Msg}
-use Rattle.zr_msg.specs.declared.msg.Msg.TheVariants.{Sub, Push}
+use Rattle.zr_msg.specs.declared.msg.Msg.TheVariants.{Sub, Unsub, Push}
 use Rattle.zr_msg.specs.declared.report.ReportLine.{ReportLine}
 use Rattle.zr_msg.specs.declared.report.ReportLine.TheVariants as r
-use Rattle.zr_network.specs.World.{Tagged, ClientState, WorldState, Outcome, empty_world, is_named, outcome}
+use Rattle.zr_network.specs.World.{ClientState, WorldState, Outcome, empty_world, is_named, is_empty, outcome}
 use Rattle.zr_network.specs.Phase.{Numbered}
 use Rattle.zr_network.specs.Broker.{Item}
 
--- a moment between two steps: the world there, and the report so far
+-- a moment between two steps, also of one run: the world there, and what was reported of each step and mark so far
 pub record Moment : Type 0 where
   pub world : WorldState
   pub report : List ReportLine
@@ -33,11 +33,6 @@ onward (Some m) x = went m (outcome m.world x.0 x.1)
 abbrev pub reached : List Numbered → Option Moment
 reached lines = fold onward (Some beginning) lines
 
--- no message waits
-abbrev pub is_empty : List Tagged → Bool
-is_empty [] = true
-is_empty (x ∷ xs) = false
-
 -- no message is under way to or from the client
 abbrev pub is_idle : ClientState → Bool
 is_idle s = is_empty s.wire && is_empty s.queue
@@ -49,12 +44,14 @@ is_quiet w = list_all is_idle (values_of w.clients)
 -- the sample that a message is, if it is one
 abbrev pub item_of : Msg → ℕ → List Item
 item_of (Sub id key) tag = []
+item_of (Unsub id) tag = []
 item_of (Push key body) tag = record { line = tag; key = key; body = body } ∷ []
 
 -- the sample that a report line says was sent to the receiver, if it says so
 abbrev pub sent_in : List ℕ → ReportLine → List Item
 sent_in receiver (r.Handled router from msg tag) = []
 sent_in receiver (r.Taken router to msg tag) = if is_named receiver to then item_of msg tag else []
+sent_in receiver (r.Ran steps quiet) = []
 sent_in receiver (r.Mark line) = []
 
 -- the samples that the receiver was sent, in order, by the report alone

@@ -1,11 +1,12 @@
 -- The text of a report's lines, and of the line that tells a refusal.
-use Rattle.std.specs.Prelude.{ℕ, List, [], ◌∷◌, ◌++◌, codes}
+use Rattle.std.specs.Prelude.{ℕ, Bool, if◌then◌else◌, List, [], ◌∷◌, ◌++◌, codes}
 use Rattle.std.specs.Fmt.{decimal}
 use Rattle.hex.specs.Hex.{encode_lower}
 use Rattle.zr_msg.specs.declared.msg.Msg.{Msg}
-use Rattle.zr_msg.specs.declared.msg.Msg.TheVariants.{Sub, Push}
+use Rattle.zr_msg.specs.declared.msg.Msg.TheVariants.{Sub, Unsub, Push}
+use Rattle.zr_msg.specs.declared.msg.Body.TheVariants.{Put, Del}
 use Rattle.zr_msg.specs.declared.report.ReportLine.{ReportLine}
-use Rattle.zr_msg.specs.declared.report.ReportLine.TheVariants.{Handled, Taken, Mark}
+use Rattle.zr_msg.specs.declared.report.ReportLine.TheVariants.{Handled, Taken, Ran, Mark}
 use Rattle.zr_msg.specs.declared.error.ScriptError.{ScriptError}
 use Rattle.zr_msg.specs.declared.error.ScriptError.TheVariants as e
 
@@ -22,15 +23,23 @@ abbrev pub payload_text : List ℕ → List ℕ
 payload_text [] = codes "-"
 payload_text (b ∷ bs) = b ∷ bs
 
--- a message: `sub ID KEY`, or `put - KEY PAYLOAD`; on a client's link no tree is named, which `-` says
+-- a message: `sub ID KEY`, `unsub ID`, `put - KEY PAYLOAD` or `del - KEY`; on a client's link no tree is named, which `-` says
 abbrev pub msg_text : Msg → List ℕ
 msg_text (Sub id key) = codes "sub " ++ decimal id ++ codes " " ++ key
-msg_text (Push key body) = codes "put - " ++ key ++ codes " " ++ payload_text body
+msg_text (Unsub id) = codes "unsub " ++ decimal id
+msg_text (Push key (Put payload)) = codes "put - " ++ key ++ codes " " ++ payload_text payload
+msg_text (Push key Del) = codes "del - " ++ key
 
--- a report line: `ROUTER < CLIENT: MESSAGE #TAG` for a handled message, `ROUTER > CLIENT: MESSAGE #TAG` for one that was sent
+-- how a run has ended: no step is possible any more, or more are
+abbrev pub rest_text : Bool → List ℕ
+rest_text quiet = if quiet then codes " quiet" else codes " more"
+
+-- a report line: `ROUTER < CLIENT: MESSAGE #TAG` for a handled message, `ROUTER > CLIENT: MESSAGE #TAG` for one that was sent,
+-- `run STEPS quiet` or `run STEPS more` at the end of a run, `mark #LINE` where a phase begins
 abbrev pub line_text : ReportLine → List ℕ
 line_text (Handled router from msg tag) = id_text router ++ codes " < " ++ id_text from ++ codes ": " ++ msg_text msg ++ codes " #" ++ decimal tag ++ line_end
 line_text (Taken router to msg tag) = id_text router ++ codes " > " ++ id_text to ++ codes ": " ++ msg_text msg ++ codes " #" ++ decimal tag ++ line_end
+line_text (Ran steps quiet) = codes "run " ++ decimal steps ++ rest_text quiet ++ line_end
 line_text (Mark line) = codes "mark #" ++ decimal line ++ line_end
 
 -- the number and the name of a refusal

@@ -1,12 +1,12 @@
 -- The run of a script: a fold over its lines, which stops at the first one that is refused.
 use Rattle.std.specs.Prelude.{ℕ, ◌+◌, ◌||◌, nat_lt, Bool, if◌then◌else◌, List, [], ◌++◌, length, take, Option, Some, None, is_some, Result, Ok, Err}
-use Rattle.std.specs.List.{fold}
+use Rattle.std.specs.List.{fold, flat_map}
 use Rattle.zr_msg.specs.declared.error.ScriptError.{ScriptError}
 use Rattle.zr_msg.specs.declared.command.Command.{Command}
-use Rattle.zr_msg.specs.declared.report.ReportLine.{ReportLine}
 use Rattle.zr_network.specs.Lines.{lines, ended_lines}
 use Rattle.zr_network.specs.Command.{command_of}
-use Rattle.zr_network.specs.World.{WorldState, Outcome, empty_world, outcome}
+use Rattle.zr_network.specs.World.{WorldState, empty_world}
+use Rattle.zr_network.specs.Acts.{Done, applied}
 use Rattle.zr_network.specs.Report.{line_text, refused_text, too_long_text}
 
 -- a script up to a line
@@ -22,19 +22,15 @@ pub record Run : Type 0 where
 abbrev pub start : Run
 start = record { world = empty_world; number = 0; text = []; refusal = None }
 
--- the text of a report line, if there is one
-abbrev pub told : Option ReportLine → List ℕ
-told None = []
-told (Some line) = line_text line
-
--- what a step did to the run
-abbrev pub stepped : Run → Outcome → Run
-stepped r (Ok x) = record { world = x.1; number = r.number + 1; text = r.text ++ told x.0; refusal = None }
+-- what a command did to the run
+abbrev pub stepped : Run → Done → Run
+stepped r (Ok x) = record { world = x.1; number = r.number + 1; text = r.text ++ flat_map line_text x.0; refusal = None }
 stepped r (Err e) = record { world = r.world; number = r.number + 1; text = r.text; refusal = Some e }
 
--- what a line's command did to the run
-abbrev pub commanded : Run → Result Command ScriptError → Run
-commanded r (Ok command) = stepped r (outcome r.world (r.number + 1) command)
+-- what a line did to the run by what it asks
+abbrev pub commanded : Run → Result (Option Command) ScriptError → Run
+commanded r (Ok None) = record { world = r.world; number = r.number + 1; text = r.text; refusal = None }
+commanded r (Ok (Some command)) = stepped r (applied r.world (r.number + 1) command)
 commanded r (Err e) = record { world = r.world; number = r.number + 1; text = r.text; refusal = Some e }
 
 -- one more line

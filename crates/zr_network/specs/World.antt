@@ -1,5 +1,5 @@
 -- The world of a script: its routers and clients as lists of plain records, and the step of each command.
-use Rattle.std.specs.Prelude.{ℕ, ◌+◌, ◌==◌, ◌&&◌, ◌||◌, not, nat_lt, nat_le, Bool, true, false, if◌then◌else◌, List, [], ◌∷◌, ◌++◌, length, Option, Some, None, is_some, Result, Ok, Err}
+use Rattle.std.specs.Prelude.{ℕ, ◌+◌, ◌==◌, ◌&&◌, ◌||◌, not, nat_le, Bool, true, false, if◌then◌else◌, List, [], ◌∷◌, ◌++◌, length, filter, Option, Some, None, is_some, Result, Ok, Err}
 use Rattle.std.specs.List.{list_any, list_all, slice_get}
 use Rattle.std.specs.Ordering.{is_eq, nat_cmp}
 use Rattle.std.specs.Cmp.Lexicographic.{slice_cmp}
@@ -8,7 +8,8 @@ use Rattle.std.specs.BTreeMap.{insert_entry}
 use Rattle.zr_id.specs.declared.link.LinkNo.{LinkNo}
 use Rattle.zr_msg.specs.declared.msg.Msg.{Msg}
 use Rattle.zr_msg.specs.declared.msg.Msg.TheVariants as m
-use Rattle.zr_msg.specs.declared.msg.Event.{Event}
+use Rattle.zr_msg.specs.declared.msg.Body.{Body}
+use Rattle.zr_msg.specs.declared.msg.Body.TheVariants as b
 use Rattle.zr_msg.specs.declared.msg.Event.TheVariants.{Up, From}
 use Rattle.zr_msg.specs.declared.error.ScriptError.{ScriptError}
 use Rattle.zr_msg.specs.declared.error.ScriptError.TheVariants.{UnknownName, NameTaken, NotLinked, NothingThere, NotSettled, Limit}
@@ -31,7 +32,7 @@ pub record Tagged : Type 0 where
 pub record ClientState : Type 0 where
   pub router : List ℕ
   pub link : ℕ
-  -- the ids that the client has declared
+  -- the ids under which the client has something declared
   pub ids : List ℕ
   pub wire : List Tagged
   pub queue : List Tagged
@@ -41,12 +42,13 @@ pub record RouterState : Type 0 where
   pub node : NodeState
   pub weight : ℕ
 
--- a world: routers and clients by ascending name, and the clients' names in the order in which they came:
--- a client's link has its place there as number
+-- a world: routers and clients by ascending name, the clients' names in the order in which they came (a client's link has
+-- its place there as number), and how many steps all runs so far asked for
 pub record WorldState : Type 0 where
   pub routers : List (List ℕ × RouterState)
   pub clients : List (List ℕ × ClientState)
   pub names : List (List ℕ)
+  pub booked : ℕ
 
 abbrev pub Routers : Type 0
 Routers = List (List ℕ × RouterState)
@@ -55,7 +57,11 @@ abbrev pub Clients : Type 0
 Clients = List (List ℕ × ClientState)
 
 abbrev pub empty_world : WorldState
-empty_world = record { routers = []; clients = []; names = [] }
+empty_world = record { routers = []; clients = []; names = []; booked = 0 }
+
+-- the same world with other routers and clients
+abbrev pub with_tables : WorldState → Routers → Clients → WorldState
+with_tables w routers clients = record { routers = routers; clients = clients; names = w.names; booked = w.booked }
 
 -- ---- names
 
@@ -89,6 +95,10 @@ most_clients = 1024
 abbrev pub most_weight : ℕ
 most_weight = 4194304
 
+-- how many steps all runs ask for at most
+abbrev pub most_steps : ℕ
+most_steps = 10000000
+
 -- what the declaration of a key weighs
 abbrev pub weight_of : List ℕ → ℕ
 weight_of key = length key + 16
@@ -109,9 +119,16 @@ with_wire s wire = record { router = s.router; link = s.link; ids = s.ids; wire 
 abbrev pub with_queue : ClientState → List Tagged → ClientState
 with_queue s queue = record { router = s.router; link = s.link; ids = s.ids; wire = s.wire; queue = queue }
 
+abbrev pub with_ids : ClientState → List ℕ → ClientState
+with_ids s ids = record { router = s.router; link = s.link; ids = ids; wire = s.wire; queue = s.queue }
+
 -- the client has declared the id
 abbrev pub declaring : ClientState → ℕ → ClientState
-declaring s id = record { router = s.router; link = s.link; ids = s.ids ++ id ∷ []; wire = s.wire; queue = s.queue }
+declaring s id = with_ids s (s.ids ++ id ∷ [])
+
+-- the client has taken the id back
+abbrev pub undeclaring : ClientState → ℕ → ClientState
+undeclaring s id = with_ids s (filter (λ i. not (i == id)) s.ids)
 
 -- a message for a client, where it is there
 abbrev pub queued_at : Clients → List ℕ → Option ClientState → Msg → ℕ → Clients
@@ -128,6 +145,11 @@ abbrev pub all_queued : Clients → List (List ℕ) → List (LinkNo × Msg) →
 all_queued clients names [] tag = clients
 all_queued clients names (x ∷ more) tag = all_queued (queued_for clients (slice_get names x.0.0) x.1 tag) names more tag
 
+-- no message waits
+abbrev pub is_empty : List Tagged → Bool
+is_empty [] = true
+is_empty (x ∷ xs) = false
+
 -- ---- settled
 
 -- a message that may be under way where a world is settled: a sample
@@ -136,6 +158,7 @@ is_sample x = by_msg x.msg
   where
     by_msg : Msg → Bool
     by_msg (m.Sub id key) = false
+    by_msg (m.Unsub id) = false
     by_msg (m.Push key body) = true
 
 -- no declaration is under way to or from the client
@@ -186,6 +209,10 @@ room_for_client names = if nat_le most_clients (length names) then Err Limit els
 abbrev pub fresh_id : ClientState → ℕ → Result (Unit {0}) ScriptError
 fresh_id s id = if list_any (λ i. i == id) s.ids then Err NameTaken else Ok tt
 
+-- an id that the client has declared
+abbrev pub known_id : ClientState → ℕ → Result (Unit {0}) ScriptError
+known_id s id = if list_any (λ i. i == id) s.ids then Ok tt else Err UnknownName
+
 -- a router without links
 abbrev pub new_router : RouterState
 new_router = record { node = new_node; weight = 0 }
@@ -217,7 +244,7 @@ unfoldable pub router_step : WorldState → List ℕ → Outcome
 router_step w id = do
   u ← free_name w id
   v ← first_router w.routers
-  Ok (None, record { routers = insert_entry (slice_cmp nat_cmp) w.routers id new_router; clients = w.clients; names = w.names })
+  Ok (None, with_tables w (insert_entry (slice_cmp nat_cmp) w.routers id new_router) w.clients)
 
 -- a client whose link is up at once
 unfoldable pub client_step : WorldState → List ℕ → List ℕ → Outcome
@@ -231,6 +258,7 @@ client_step w id router = do
       routers = with_router w.routers router (linked r (length w.names));
       clients = insert_entry (slice_cmp nat_cmp) w.clients id (new_client router (length w.names));
       names = w.names ++ id ∷ [];
+      booked = w.booked;
     },
   )
 
@@ -240,13 +268,20 @@ sub_step w line name id key = do
   s ← client_at (client_of w.clients name)
   u ← fresh_id s id
   routers ← weighed w.routers s.router key (router_of w.routers s.router)
-  Ok (None, record { routers = routers; clients = with_client w.clients name (sent (declaring s id) (m.Sub id key) line); names = w.names })
+  Ok (None, with_tables w routers (with_client w.clients name (sent (declaring s id) (m.Sub id key) line)))
+
+-- a client takes back what it declared under an id
+unfoldable pub unsub_step : WorldState → ℕ → List ℕ → ℕ → Outcome
+unsub_step w line name id = do
+  s ← client_at (client_of w.clients name)
+  u ← known_id s id
+  Ok (None, with_tables w w.routers (with_client w.clients name (sent (undeclaring s id) (m.Unsub id) line)))
 
 -- a client publishes a sample
-unfoldable pub put_step : WorldState → ℕ → List ℕ → List ℕ → List ℕ → Outcome
-put_step w line name key body = do
+unfoldable pub push_step : WorldState → ℕ → List ℕ → List ℕ → Body → Outcome
+push_step w line name key body = do
   s ← client_at (client_of w.clients name)
-  Ok (None, record { routers = w.routers; clients = with_client w.clients name (sent s (m.Push key body) line); names = w.names })
+  Ok (None, with_tables w w.routers (with_client w.clients name (sent s (m.Push key body) line)))
 
 -- a router handles the oldest message on the wire from a client
 unfoldable pub handle_step : WorldState → List ℕ → List ℕ → Outcome
@@ -256,11 +291,8 @@ handle_step w router from = do
   x ← oldest s.wire
   Ok (
     Some (Handled router from x.0.msg x.0.tag),
-    record {
-      routers = with_router w.routers router (having r s.link x.0.msg);
-      clients = all_queued (with_client w.clients from (with_wire s x.1)) w.names (sends r.node (From (record { 0 = s.link }) x.0.msg)) x.0.tag;
-      names = w.names;
-    },
+    with_tables w (with_router w.routers router (having r s.link x.0.msg))
+        (all_queued (with_client w.clients from (with_wire s x.1)) w.names (sends r.node (From (record { 0 = s.link }) x.0.msg)) x.0.tag),
   )
 
 -- a router's oldest queued message for a client is sent to it
@@ -269,18 +301,29 @@ take_step w router to = do
   r ← router_at (router_of w.routers router)
   s ← end_at (client_of w.clients to) (is_some (router_of w.routers to)) router
   x ← oldest s.queue
-  Ok (Some (Taken router to x.0.msg x.0.tag), record { routers = w.routers; clients = with_client w.clients to (with_queue s x.1); names = w.names })
+  Ok (Some (Taken router to x.0.msg x.0.tag), with_tables w w.routers (with_client w.clients to (with_queue s x.1)))
+
+-- a run's steps are counted
+abbrev pub booking : WorldState → ℕ → WorldState
+booking w steps = record { routers = w.routers; clients = w.clients; names = w.names; booked = w.booked + steps }
+
+-- the steps that a run asks for are counted, where there is room for them
+unfoldable pub book_step : WorldState → ℕ → Result WorldState ScriptError
+book_step w steps = if nat_le (w.booked + steps) most_steps then Ok (booking w steps) else Err Limit
 
 -- a phase begins, where no declaration is under way
 unfoldable pub mark_step : WorldState → ℕ → Outcome
 mark_step w line = if all_settled w.clients then Ok (Some (Mark line), w) else Err NotSettled
 
--- what the command of a line does
+-- what the command of a line does at once; of a run, that its steps are counted
 unfoldable pub outcome : WorldState → ℕ → Command → Outcome
 outcome w line (c.Router id) = router_step w id
 outcome w line (c.Client id router) = client_step w id router
 outcome w line (c.Sub client id key) = sub_step w line client id key
-outcome w line (c.Put client key body) = put_step w line client key body
+outcome w line (c.Unsub client id) = unsub_step w line client id
+outcome w line (c.Put client key payload) = push_step w line client key (b.Put payload)
+outcome w line (c.Del client key) = push_step w line client key b.Del
 outcome w line (c.Handle router from) = handle_step w router from
 outcome w line (c.Take router to) = take_step w router to
+outcome w line (c.Run steps) = book_step w steps >>= (λ counted. Ok (None, counted))
 outcome w line c.Mark = mark_step w line

@@ -1,12 +1,13 @@
 //! One link of a router, with what its client has declared.
 
-ghost use Rattle.std.specs.Prelude.{◌≡◌, ◌==◌, not, OnOk, [], filter};
-ghost use Rattle.zr_table.specs.Table.{subscribes, is_for, declared};
+ghost use Rattle.std.specs.Prelude.{◌≡◌, OnOk, []};
+ghost use Rattle.zr_table.specs.Table.{subscribes, is_for, declared, undeclared};
 
 use std::alloc::{AllocError, Global};
 use std::marker::Model;
 use zr_id::link::LinkNo;
 use zr_key::key::KeyExpr;
+use zr_match::meets;
 
 /// What a client subscribes to, under an id of its own.
 #[derive(Debug, Drop)]
@@ -56,14 +57,14 @@ impl Link {
         self.number
     }
 
-    /// Whether the client subscribes to the key.
+    /// Whether the client subscribes to an expression that meets the key.
     pub fn subscribes(&self, key: &KeyExpr) -> bool
         ensures { result ≡ subscribes self.now key.now }
     {
         self.subs.iter().any(|s| is_for(key, s))
     }
 
-    /// The client subscribes to a key, in place of what it had under the same id.
+    /// The client subscribes to an expression, in place of what it had under the same id.
     pub fn declare(&mut self, id: u32, key: KeyExpr) -> Result<(), AllocError>
         ensures { OnOk result (self.new ≡ record { link = self.old.link; subs = declared self.old.subs id key }) }
     {
@@ -71,16 +72,23 @@ impl Link {
         self.subs.push(Subscriber { id, key })?;
         Ok(())
     }
+
+    /// The client no longer subscribes to what it had under the id.
+    pub fn undeclare(&mut self, id: u32)
+        ensures { self.new ≡ record { link = self.old.link; subs = undeclared self.old.subs id } }
+    {
+        forget(&mut self.subs, id);
+    }
 }
 
 fn is_for(key: &KeyExpr, sub: &Subscriber) -> bool
     ensures { result ≡ is_for key.now sub.now }
 {
-    sub.key == *key
+    meets(&sub.key, key)
 }
 
 fn forget(subs: &mut Vec<Subscriber>, id: u32)
-    ensures { subs.new.items ≡ filter (λ s. not (s.id == id)) subs.old.items }
+    ensures { subs.new.items ≡ undeclared subs.old.items id }
 {
     subs.retain(|s| s.id != id);
 }

@@ -2,7 +2,7 @@
 
 ghost use Rattle.std.specs.Prelude.{◌≡◌, ◌==◌, ◌&&◌, ◌++◌, ◌↔◌, not, true, false, OnOk, map, filter};
 ghost use Rattle.zr_table.specs.State.{new_node};
-ghost use Rattle.zr_table.specs.Table.{sends, after, to_each, subscribes, declared_on};
+ghost use Rattle.zr_table.specs.Table.{sends, after, to_each, subscribes, changed_on, declared, undeclared};
 
 use crate::link::Link;
 use std::alloc::{AllocError, Global};
@@ -86,6 +86,10 @@ impl Node {
             Event::Up { link } => self.up(alloc, link),
             Event::From { link, msg } => match msg {
                 Msg::Sub { id, key } => self.declare(alloc, link, id, &key),
+                Msg::Unsub { id } => {
+                    self.undeclare(link, id);
+                    Ok(())
+                }
                 Msg::Push { key, body } => self.push(alloc, link, &key, &body, out),
             },
         }
@@ -110,6 +114,12 @@ impl Node {
         declare_on(alloc, &mut self.links, link, id, key)
     }
 
+    fn undeclare(&mut self, link: LinkNo, id: u32)
+        ensures { self.new ≡ after self.old (Event.From link (Msg.Unsub id)) }
+    {
+        undeclare_on(&mut self.links, link, id);
+    }
+
     fn push(
         &self,
         alloc: Global,
@@ -132,7 +142,7 @@ fn declare_on(
     id: u32,
     key: &KeyExpr,
 ) -> Result<(), AllocError>
-    ensures { OnOk result (links.new ≡ map (λ l. declared_on from.0 id key.now l) links.old) }
+    ensures { OnOk result (links.new ≡ map (λ l. changed_on from.0 (λ subs. declared subs id key.now) l) links.old) }
 {
     for link in links.iter_mut() {
         if link.number().0 == from.0 {
@@ -142,7 +152,18 @@ fn declare_on(
     Ok(())
 }
 
-// A sample goes once to each other link whose client subscribes to its key.
+// The client of a link takes a subscription back.
+fn undeclare_on(links: &mut [Link], from: LinkNo, id: u32)
+    ensures { links.new ≡ map (λ l. changed_on from.0 (λ subs. undeclared subs id) l) links.old }
+{
+    for link in links.iter_mut() {
+        if link.number().0 == from.0 {
+            link.undeclare(id);
+        }
+    }
+}
+
+// A sample goes once to each other link whose client subscribes to an expression that meets its key.
 fn push_to(
     alloc: Global,
     links: &[Link],

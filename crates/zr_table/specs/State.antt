@@ -2,7 +2,7 @@
 use Rattle.std.specs.Prelude.{ℕ, Bool, false, List, []}
 use Rattle.zr_id.specs.declared.link.LinkNo.{LinkNo}
 
--- what a client has declared under an id of its own: it subscribes to a key
+-- what a client has declared under an id of its own: it subscribes to an expression, of which this is the text
 pub record Subscription : Type 0 where
   pub id : ℕ
   pub key : List ℕ
