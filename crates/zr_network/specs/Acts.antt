@@ -1,5 +1,5 @@
 -- What a command does, act by act: a run is counted, and then come its steps, each the next one; any other command is one act.
-use Rattle.std.specs.Prelude.{ℕ, zero, suc, not, Bool, List, [], ◌∷◌, ◌++◌, length, map, filter, Option, Some, None, is_none, option_to_list, Result, Ok, Err}
+use Rattle.std.specs.Prelude.{ℕ, zero, suc, not, Bool, true, false, List, [], ◌∷◌, ◌++◌, length, map, filter, Option, Some, None, is_none, option_to_list, Result, Ok, Err}
 use Rattle.std.specs.List.{reduce}
 use Rattle.std.specs.declared.cmp.Ordering.{Ordering}
 use Rattle.std.specs.Ordering.{nat_cmp, ordering_then, min_by_ordering}
@@ -73,6 +73,11 @@ with_more (Some step) more = step ∷ more step
 unfoldable pub run_steps : ℕ → ℕ → WorldState → List Command
 run_steps line zero w = []
 run_steps line (suc n) w = with_more (next w) (λ step. run_steps line n (world_after w (outcome w line step)))
+
+-- whether a command is a run
+abbrev pub is_run : Command → Bool
+is_run (c.Run steps) = true
+is_run other = false
 
 -- what a line's command does, one act after another
 abbrev pub acts : WorldState → ℕ → Command → List Command

@@ -2,9 +2,11 @@
 use Rattle.std.specs.Prelude.{◌≡◌, ℕ, Bool, true, false, List, ◌++◌, Option, option_to_list, Result, Ok, Err, IfOk, is_ok}
 use Rattle.zr_msg.specs.declared.error.ScriptError.{ScriptError}
 use Rattle.zr_msg.specs.declared.error.ScriptError.TheVariants.{NoMemory}
+use Rattle.zr_msg.specs.declared.command.Command.{Command}
 use Rattle.zr_msg.specs.declared.report.ReportLine.{ReportLine}
 use Rattle.zr_network.specs.Step.{◌>>=◌}
-use Rattle.zr_network.specs.World.{Tagged, Clients, WorldState, Outcome, empty_world, client_of, with_client, with_wire, end_at, oldest}
+use Rattle.zr_network.specs.World.{Tagged, Clients, WorldState, Outcome, empty_world, client_of, with_client, with_wire, end_at, oldest, outcome}
+use Rattle.zr_network.specs.Acts.{Done}
 
 -- What a step did is what is said; a refusal changes nothing; where memory ran out nothing is said.
 abbrev pub Steps : {A S : Type 0} → Result A ScriptError → Result (A × S) ScriptError → S → S → Type 0
@@ -25,29 +27,38 @@ from_wire clients from router is_router = do
   x ← oldest s.wire
   Ok ((x.0, s.link), with_client clients from (with_wire s x.1))
 
--- a report line, if there is one, stands last
-abbrev pub told_in : List ReportLine → Option ReportLine → List ReportLine
-told_in before line = before ++ option_to_list line
-
--- What a step with its report line has done; where memory ran out the report is as it was.
-abbrev pub Reports : Result (Unit {0}) ScriptError → Outcome → WorldState → WorldState → List ReportLine → List ReportLine → Type 0
-Reports (Ok u) said old new before after = IfOk said (λ x. (new ≡ x.1) × (after ≡ told_in before x.0)) × (is_ok said ≡ true)
-Reports (Err NoMemory) said old new before after = after ≡ before
-Reports (Err e) said old new before after = (said ≡ Err e) × (new ≡ old) × (after ≡ before)
-
--- a world as a value: its state, and whether an earlier command wanted memory and had none
+-- a world as a value: its state, and whether an earlier call wanted memory and had none
 pub record Living : Type 0 where
   pub state : WorldState
   pub spent : Bool
 
+-- a world that is not spent
+abbrev pub alive : WorldState → Living
+alive w = record { state = w; spent = false }
+
 -- a world in which nothing has come yet
 abbrev pub new_world : Living
-new_world = record { state = empty_world; spent = false }
+new_world = alive empty_world
 
--- What applying a command did to a world that isn't spent: the world and the report are those that are said; a refusal changes
--- nothing; where memory ran out the world is spent and the report as it was.
-abbrev pub Applies : Result (Unit {0}) ScriptError → Outcome → Living → Living → List ReportLine → List ReportLine → Type 0
-Applies (Ok u) said old new before after =
-    IfOk said (λ x. (new ≡ record { state = x.1; spent = false }) × (after ≡ told_in before x.0)) × (is_ok said ≡ true)
-Applies (Err NoMemory) said old new before after = (new.spent ≡ true) × (after ≡ before)
+-- report lines came behind those that were there: a front of those that are said, where any are
+pub record AddsFront (said : Done) (before after : List ReportLine) : Type 0 where
+  pub added : List ReportLine
+  pub is_behind : after ≡ before ++ added
+  pub is_front : IfOk said (λ x. (rest : List ReportLine) × (x.0 ≡ added ++ rest))
+
+-- What applying a command did to a world that isn't spent: the world is the one that is said, and the report lines that are said
+-- came behind those that were there; a refusal changes nothing; where memory ran out the world is spent, and a front of the report
+-- lines came.
+abbrev pub Applies : Result (Unit {0}) ScriptError → Done → Living → Living → List ReportLine → List ReportLine → Type 0
+Applies (Ok u) said old new before after = IfOk said (λ x. (new ≡ alive x.1) × (after ≡ before ++ x.0)) × (is_ok said ≡ true)
+Applies (Err NoMemory) said old new before after = (new.spent ≡ true) × AddsFront said before after
 Applies (Err e) said old new before after = (said ≡ Err e) × (new ≡ old) × (after ≡ before)
+
+-- What counting the steps of a run did to a world that isn't spent: a refusal changes nothing, and memory does not run out.
+abbrev pub Books : Result (Unit {0}) ScriptError → Result WorldState ScriptError → Living → Living → Type 0
+Books (Ok u) said old new = IfOk said (λ w. new ≡ alive w) × (is_ok said ≡ true)
+Books (Err e) said old new = (said ≡ Err e) × (new ≡ old)
+
+-- a step that is not refused, whatever line asks for it
+abbrev pub IsPossible : WorldState → Command → Type 0
+IsPossible w step = (line : ℕ) → is_ok (outcome w line step) ≡ true

@@ -1,8 +1,9 @@
 //! `World`: what a script's commands make, one after another.
 
-ghost use Rattle.std.specs.Prelude.{◌≡◌, true, false};
-ghost use Rattle.zr_network.specs.World.{outcome};
-ghost use Rattle.zr_world.specs.Steps.{Steps, Applies, Reports, new_world};
+ghost use Rattle.std.specs.Prelude.{◌≡◌, true, false, IfSome};
+ghost use Rattle.zr_network.specs.World.{outcome, book_step};
+ghost use Rattle.zr_network.specs.Acts.{applied, next};
+ghost use Rattle.zr_world.specs.Steps.{Steps, Applies, Books, IsPossible, new_world};
 ghost use Rattle.zr_world.specs.State.{state_of};
 
 use crate::tables::Tables;
@@ -39,7 +40,24 @@ impl World {
         }
     }
 
-    /// Applies the command of a line, and appends its report line, if it has one.
+    /// The step that a run does next: the `handle` of the first router and client, by name, at which a message waits to be handled, else
+    /// the `take` of the first at which one waits to be taken. None where no step is possible. Of a spent world nothing is said.
+    pub fn next(&self) -> Option<Command>
+        ensures step { self.now.spent ≡ false → result ≡ next self.now.state }
+        ensures possible { self.now.spent ≡ false → IfSome result (λ step. IsPossible self.now.state step) }
+    {
+        None
+    }
+
+    /// Counts the steps that a run asks for. The refusal `Limit` leaves the world as it was.
+    pub fn book(&mut self, steps: u32) -> Result<(), ScriptError>
+        ensures books { self.old.spent ≡ false → Books result (book_step self.old.state steps) self.old self.new }
+        ensures spent { self.old.spent ≡ true → (result ≡ Err ScriptError.NoMemory) × (self.new ≡ self.old) }
+    {
+        Ok(())
+    }
+
+    /// Applies the command of a line, and appends its report lines. A `run` is counted, and then does its steps, each the next one.
     ///
     /// A refusal is the first that applies, and leaves the world as it was: `UnknownName`, `NameTaken`, `NotLinked`, `NothingThere`,
     /// `NotSettled`, `Limit`. After `NoMemory` the world is spent, and answers `NoMemory` from then on.
@@ -49,7 +67,7 @@ impl World {
         command: &Command,
         report: &mut Vec<ReportLine>,
     ) -> Result<(), ScriptError>
-        ensures applies { self.old.spent ≡ false → Applies result (outcome self.old.state line command.now) self.old self.new report.old.items report.new.items }
+        ensures applies { self.old.spent ≡ false → Applies result (applied self.old.state line command.now) self.old self.new report.old.items report.new.items }
         ensures spent { self.old.spent ≡ true → (result ≡ Err ScriptError.NoMemory) × (self.new ≡ self.old) × (report.new.items ≡ report.old.items) }
     {
         if self.spent {
