@@ -2,12 +2,14 @@
 
 ghost use Rattle.std.specs.Prelude.{◌≡◌, ◌++◌, codes, OnOk};
 ghost use Rattle.std.specs.Fmt.{decimal};
-ghost use Rattle.zr_network.specs.Report.{line_end, line_text, msg_text, payload_text, id_text, refusal_text, refused_text};
+ghost use Rattle.zr_network.specs.Report.{line_end, line_text, msg_text, rest_text, payload_text, id_text, refusal_text, refused_text};
+ghost use Rattle.zr_msg.specs.declared.msg.Msg.TheVariants.{Push};
 
 use std::alloc::{AllocError, Global};
 use zr_id::zid::Zid;
+use zr_key::key::KeyExpr;
 use zr_msg::error::ScriptError;
-use zr_msg::msg::{Body, Msg};
+use zr_msg::msg::{Body, Msg, Payload};
 use zr_msg::report::ReportLine;
 
 /// Appends the text of a report line, its end included.
@@ -27,6 +29,7 @@ pub fn line_text(alloc: Global, line: &ReportLine, out: &mut Vec<u8>) -> Result<
             msg,
             tag,
         } => put_step(alloc, router, b" > ", to, msg, *tag, out),
+        ReportLine::Ran { steps, quiet } => put_ran(alloc, *steps, *quiet, out),
         ReportLine::Mark { line } => put_mark(alloc, *line, out),
     }
 }
@@ -68,6 +71,21 @@ fn put_step(
     out.extend_from_slice(b"\n")
 }
 
+fn put_ran(alloc: Global, steps: u32, quiet: bool, out: &mut Vec<u8>) -> Result<(), AllocError>
+    ensures { OnOk result (out.new.items ≡ out.old.items ++ (codes "run " ++ decimal steps ++ rest_text quiet ++ line_end)) }
+{
+    out.extend_from_slice(b"run ")?;
+    put_number(alloc, u64::from(steps), out)?;
+    out.extend_from_slice(rest_text(quiet))?;
+    out.extend_from_slice(b"\n")
+}
+
+fn rest_text(quiet: bool) -> &'static [u8]
+    ensures { result.now ≡ rest_text quiet }
+{
+    if quiet { b" quiet" } else { b" more" }
+}
+
 fn put_mark(alloc: Global, line: u64, out: &mut Vec<u8>) -> Result<(), AllocError>
     ensures { OnOk result (out.new.items ≡ out.old.items ++ (codes "mark #" ++ decimal line ++ line_end)) }
 {
@@ -86,21 +104,37 @@ fn put_msg(alloc: Global, msg: &Msg, out: &mut Vec<u8>) -> Result<(), AllocError
             out.extend_from_slice(b" ")?;
             out.extend_from_slice(key.text().as_bytes())
         }
-        Msg::Push { key, body } => {
+        Msg::Unsub { id } => {
+            out.extend_from_slice(b"unsub ")?;
+            put_number(alloc, u64::from(*id), out)
+        }
+        Msg::Push { key, body } => put_sample(key, body, out),
+    }
+}
+
+fn put_sample(key: &KeyExpr, body: &Body, out: &mut Vec<u8>) -> Result<(), AllocError>
+    ensures { OnOk result (out.new.items ≡ out.old.items ++ msg_text (Push key.now body.now)) }
+{
+    match body {
+        Body::Put { payload } => {
             out.extend_from_slice(b"put - ")?;
             out.extend_from_slice(key.text().as_bytes())?;
             out.extend_from_slice(b" ")?;
-            put_payload(body, out)
+            put_payload(payload, out)
+        }
+        Body::Del => {
+            out.extend_from_slice(b"del - ")?;
+            out.extend_from_slice(key.text().as_bytes())
         }
     }
 }
 
-fn put_payload(body: &Body, out: &mut Vec<u8>) -> Result<(), AllocError>
-    ensures { OnOk result (out.new.items ≡ out.old.items ++ payload_text body.now) }
+fn put_payload(payload: &Payload, out: &mut Vec<u8>) -> Result<(), AllocError>
+    ensures { OnOk result (out.new.items ≡ out.old.items ++ payload_text payload.now) }
 {
-    match body.bytes() {
+    match payload.bytes() {
         [] => out.extend_from_slice(b"-"),
-        payload => out.extend_from_slice(payload),
+        bytes => out.extend_from_slice(bytes),
     }
 }
 

@@ -10,7 +10,7 @@ use std::alloc::{AllocError, Global};
 use zr_id::zid::Zid;
 use zr_key::key::{KeyError, KeyExpr};
 use zr_msg::error::ScriptError;
-use zr_msg::msg::Body;
+use zr_msg::msg::Payload;
 
 /// The words of a line, parted by one or more spaces.
 pub fn words_of(alloc: Global, line: &[u8]) -> Result<Vec<&[u8]>, AllocError>
@@ -51,26 +51,25 @@ pub fn number(word: &[u8]) -> Result<u32, ScriptError>
     }
 }
 
-/// The key that a word spells.
+/// The key expression that a word spells.
 pub fn key(alloc: Global, word: &[u8]) -> Result<KeyExpr, ScriptError>
     ensures { Gives result (key_at word.now) }
 {
     match KeyExpr::read(alloc, word) {
-        Ok(key) if key.is_plain() => Ok(key),
-        Ok(_) => Err(ScriptError::BadKey),
+        Ok(key) => Ok(key),
         Err(KeyError::NoMemory) => Err(ScriptError::NoMemory),
         Err(_) => Err(ScriptError::BadKey),
     }
 }
 
 /// The payload that a word spells.
-pub fn payload(alloc: Global, word: &[u8]) -> Result<Body, AllocError>
-    ensures { IfOk result (λ b. b ≡ payload_of word.now) }
+pub fn payload(alloc: Global, word: &[u8]) -> Result<Payload, AllocError>
+    ensures { IfOk result (λ p. p ≡ payload_of word.now) }
 {
     if word == b"-".as_slice() {
-        return Ok(Body::new(Vec::new(alloc)));
+        return Ok(Payload::new(Vec::new(alloc)));
     }
-    Ok(Body::new(Vec::from_slice(alloc, word)?))
+    Ok(Payload::new(Vec::from_slice(alloc, word)?))
 }
 
 /// The one word that there is.

@@ -1,5 +1,5 @@
 -- The links so far are changed, and those that are left are to be.
-use Rattle.std.proofs.Common.{◌≡◌, List, ◌++◌, map, take, drop}
+use Rattle.std.proofs.Common.{◌≡◌, ◌++◌, map, take, drop}
 use Rattle.zr_table.specs.Table.{changed_on, declared}
 use Rattle.zr_node.proofs.node.declare_on.Given as goal
 

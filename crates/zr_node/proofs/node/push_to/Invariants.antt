@@ -1,5 +1,5 @@
 -- What was sent, and what the links that are left get, is what all get.
-use Rattle.std.proofs.Common.{◌≡◌, ◌==◌, ◌&&◌, not, List, ◌++◌, filter, drop}
+use Rattle.std.proofs.Common.{◌≡◌, ◌==◌, ◌&&◌, not, ◌++◌, filter, drop}
 use Rattle.zr_msg.specs.declared.msg.Msg.TheVariants.{Push}
 use Rattle.zr_table.specs.Table.{subscribes, to_each}
 use Rattle.zr_node.proofs.node.push_to.Given as goal

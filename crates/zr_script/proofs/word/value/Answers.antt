@@ -1,5 +1,4 @@
-use Rattle.std.proofs.Common.{◌≡◌, ◌-◌, ◌*◌, ◌+◌, ◌^◌, ◌<◌, ◌≤◌, length, get_or, Option, Some, None, if◌then◌else◌, refl, arith}
-use Rattle.zr_network.specs.Command.{value_of}
+use Rattle.std.proofs.Common.{◌-◌, ◌*◌, ◌+◌, ◌^◌, ◌<◌, ◌≤◌, length, get_or, refl, arith}
 use Rattle.zr_script.proofs.Digits.{too_large}
 use Rattle.zr_script.proofs.word.value.Goals as goal
 
