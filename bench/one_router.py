@@ -1,8 +1,9 @@
 #!/usr/bin/env python3
 """Writes a script with one router, and on demand the report that it is to have.
 
-Clients subscribe to one key each, all is handled, and a mark follows. Then samples come in batches: the `put` lines of a
-batch, a `handle` for each, and a `take` for each copy that was queued. The same arguments give the same script.
+Clients subscribe to one key each, or with `--wildcards` to all keys of one robot; all is handled, and a mark follows. Then
+samples come in batches: the `put` lines of a batch, a `handle` for each, and a `take` for each copy that was queued, or with
+`--run` one `run` line for all these steps. The same arguments give the same script.
 """
 import argparse
 import collections
@@ -47,32 +48,51 @@ class Script:
         if self.report:
             self.report.write(text + "\n")
 
-    def sub(self, client, key):
+    def sub(self, client, robot, key):
         self.write(f"sub {client} 1 {key}")
-        self.wires[client].append(("sub", key, f"sub 1 {key} #{self.line}"))
+        self.wires[client].append(("sub", robot, f"sub 1 {key} #{self.line}"))
 
-    def put(self, client, key, payload):
+    def put(self, client, robot, payload):
+        key = f"fleet/{robot}/pose"
         self.write(f"put {client} {key} {payload}")
-        self.wires[client].append(("put", key, f"put - {key} {payload} #{self.line}"))
+        self.wires[client].append(("put", robot, f"put - {key} {payload} #{self.line}"))
 
-    def handle(self, client):
-        """Handles a message, and gives the clients that it is queued for, in the order in which they came."""
-        self.write(f"handle {ROUTER} {client}")
+    def handled(self, client):
+        """A message is handled: its report line, and the clients that it is queued for, in the order in which they came."""
         self.steps += 1
-        kind, key, message = self.wires[client].popleft()
-        self.tell(f"{ROUTER} < {client}: {message}")
+        kind, robot, message = self.wires[client].popleft()
+        line = f"{ROUTER} < {client}: {message}"
         if kind == "sub":
-            self.subscribers[key].append(client)
-            return []
-        receivers = [c for c in self.subscribers[key] if c != client]
+            self.subscribers[robot].append(client)
+            return line, []
+        receivers = [c for c in self.subscribers[robot] if c != client]
         for receiver in receivers:
             self.queues[receiver].append(message)
+        return line, receivers
+
+    def taken(self, client):
+        """A message is taken: its report line."""
+        self.steps += 1
+        return f"{ROUTER} > {client}: {self.queues[client].popleft()}"
+
+    def handle(self, client):
+        self.write(f"handle {ROUTER} {client}")
+        line, receivers = self.handled(client)
+        self.tell(line)
         return receivers
 
     def take(self, client):
         self.write(f"take {ROUTER} {client}")
-        self.steps += 1
-        self.tell(f"{ROUTER} > {client}: {self.queues[client].popleft()}")
+        self.tell(self.taken(client))
+
+    def run(self):
+        """All that waits is handled, client by client, and then all that is queued is taken, in one line."""
+        lines = [self.handled(c)[0] for c in sorted(self.wires) for _ in range(len(self.wires[c]))]
+        lines += [self.taken(c) for c in sorted(self.queues) for _ in range(len(self.queues[c]))]
+        self.write(f"run {len(lines)}")
+        for line in lines:
+            self.tell(line)
+        self.tell(f"run {len(lines)} quiet")
 
     def mark(self):
         self.write("mark")
@@ -85,6 +105,8 @@ def arguments():
     parser.add_argument("--keys", type=int, default=100, help="keys that are subscribed to (100)")
     parser.add_argument("--samples", type=int, default=100_000, help="samples (100,000)")
     parser.add_argument("--batch", type=int, default=100, help="samples that are published before they are handled (100)")
+    parser.add_argument("--wildcards", action="store_true", help="subscriptions are to fleet/ROBOT/*, and not to fleet/ROBOT/pose")
+    parser.add_argument("--run", action="store_true", help="one run line a batch, and no handle and take lines")
     parser.add_argument("--seed", type=int, default=1, help="where the numbers begin (1)")
     parser.add_argument("--report", help="a file for the report that the script is to have")
     words = parser.parse_args()
@@ -98,12 +120,13 @@ def arguments():
 def write_script(script, words):
     numbers = Numbers(words.seed)
     clients = [f"{FIRST_CLIENT + i:04x}" for i in range(words.clients)]
-    keys = [f"fleet/{i}/pose" for i in range(words.keys)]
+    chunk = "*" if words.wildcards else "pose"
     script.write(f"router {ROUTER}")
     for client in clients:
         script.write(f"client {client} {ROUTER}")
     for client in clients:
-        script.sub(client, keys[numbers.below(len(keys))])
+        robot = numbers.below(words.keys)
+        script.sub(client, robot, f"fleet/{robot}/{chunk}")
     for client in clients:
         script.handle(client)
     script.mark()
@@ -112,8 +135,11 @@ def write_script(script, words):
         batch = min(words.batch, words.samples - written)
         authors = [clients[numbers.below(len(clients))] for _ in range(batch)]
         for author in authors:
-            script.put(author, keys[numbers.below(len(keys))], f"x{written}")
+            script.put(author, numbers.below(words.keys), f"x{written}")
             written += 1
+        if words.run:
+            script.run()
+            continue
         receivers = [receiver for author in authors for receiver in script.handle(author)]
         for receiver in receivers:
             script.take(receiver)

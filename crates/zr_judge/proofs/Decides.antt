@@ -7,33 +7,45 @@ use Rattle.std.specs.Cmp.Lexicographic.{pointwise, bytes_decides, nat_list_eq_eq
 use Rattle.std.proofs.lemmas.Bool.{false≢true, and_parts, and_from, and_left, and_right, or_parts, or_from, or_right, or_cases, eqb-true, eq-eqb}
 use Rattle.zr_msg.specs.declared.msg.Msg.{Msg}
 use Rattle.zr_msg.specs.declared.msg.Msg.TheVariants as m
+use Rattle.zr_msg.specs.declared.msg.Body.{Body}
+use Rattle.zr_msg.specs.declared.msg.Body.TheVariants.{Put, Del}
 use Rattle.zr_msg.specs.declared.command.Command.{Command}
 use Rattle.zr_msg.specs.declared.command.Command.TheVariants as c
 use Rattle.zr_msg.specs.declared.report.ReportLine.{ReportLine}
 use Rattle.zr_msg.specs.declared.report.ReportLine.TheVariants as r
 use Rattle.zr_network.specs.World.{WorldState, is_named}
 use Rattle.zr_network.specs.Phase.{Numbered}
-use Rattle.zr_network.specs.Broker.{Item, attaches, is_attached, declarations, asks_for, wants, is_author, is_line_of, is_sample_line, for_receiver, from}
+use Rattle.zr_network.specs.Broker.{Item, attaches, is_attached, declarations, asks_for, wants, is_author, is_line_of, is_sample_line, item_for, for_receiver, from}
 use Rattle.zr_network.specs.Moments.{is_quiet, item_of, sent_in, sent_to}
 use Rattle.zr_network.specs.Refines.{IsPrefixOf, Refines}
 use Rattle.zr_laws.proofs.Names.{names, same_name}
 use Rattle.zr_laws.proofs.Lists.{all_both, all_parts}
-use Rattle.zr_judge.specs.Judge.{Judged, Judges, is_same, is_front, sent_by, pair_holds, holds_for_client, holds_for_receiver, holds_for_author, may_be_sent, judgement}
+use Rattle.zr_judge.specs.Judge.{Judged, Judges, is_same_body, is_same, is_front, sent_by, pair_holds, holds_for_client, holds_for_receiver, holds_for_all, holds_for_author, may_be_sent, judgement}
 
 -- ---- fronts
 
+same_body : (a b : Body) → is_same_body a b ≡ true → a ≡ b
+same_body (Put p) (Put q) h = ap Put ((bytes_decides p q).0 h)
+same_body (Put p) Del h = absurd (false≢true h)
+same_body Del (Put q) h = absurd (false≢true h)
+same_body Del Del h = refl
+
+body_itself : (a : Body) → is_same_body a a ≡ true
+body_itself (Put p) = nat_list_eq_equiv.refl p
+body_itself Del = refl
+
 same_item : (a b : Item) → is_same a b ≡ true → a ≡ b
 same_item a b h =
-    let parts = and_parts (a.line == b.line) (pointwise nat_eq a.key b.key && pointwise nat_eq a.body b.body) h in
-    let texts = and_parts (pointwise nat_eq a.key b.key) (pointwise nat_eq a.body b.body) parts.1 in
-    equal (eqb-true a.line b.line parts.0) ((bytes_decides a.key b.key).0 texts.0) ((bytes_decides a.body b.body).0 texts.1)
+    let parts = and_parts (a.line == b.line) (pointwise nat_eq a.key b.key && is_same_body a.body b.body) h in
+    let texts = and_parts (pointwise nat_eq a.key b.key) (is_same_body a.body b.body) parts.1 in
+    equal (eqb-true a.line b.line parts.0) ((bytes_decides a.key b.key).0 texts.0) (same_body a.body b.body texts.1)
   where
     equal : a.line ≡ b.line → a.key ≡ b.key → a.body ≡ b.body → a ≡ b
     equal el ek eb i = record { line = el i; key = ek i; body = eb i }
 
 itself : (a : Item) → is_same a a ≡ true
-itself a = and_from (a.line == a.line) (pointwise nat_eq a.key a.key && pointwise nat_eq a.body a.body) (eq-eqb a.line a.line refl)
-    (and_from (pointwise nat_eq a.key a.key) (pointwise nat_eq a.body a.body) (nat_list_eq_equiv.refl a.key) (nat_list_eq_equiv.refl a.body))
+itself a = and_from (a.line == a.line) (pointwise nat_eq a.key a.key && is_same_body a.body a.body) (eq-eqb a.line a.line refl)
+    (and_from (pointwise nat_eq a.key a.key) (is_same_body a.body a.body) (nat_list_eq_equiv.refl a.key) (body_itself a.body))
 
 front_means : (xs ys : List Item) → is_front xs ys ≡ true → IsPrefixOf xs ys
 front_means [] ys h = (ys, refl)
@@ -86,12 +98,15 @@ none_due before (x ∷ xs) a d h =
     ap (λ z. z ++ from before xs a d) (by x.1 parts.0) ∙ none_due before xs a d parts.1
   where
     by : (command : Command) → is_author a command ≡ false → for_receiver before a d (x.0, command) ≡ []
-    by (c.Put client key body) k = rw k refl
+    by (c.Put client key payload) k = rw k refl
+    by (c.Del client key) k = rw k refl
     by (c.Router id) k = refl
     by (c.Client id router) k = refl
     by (c.Sub client id key) k = refl
+    by (c.Unsub client id) k = refl
     by (c.Handle router name) k = refl
     by (c.Take router to) k = refl
+    by (c.Run steps) k = refl
     by c.Mark k = refl
 
 -- who is not attached is to have nothing
@@ -99,17 +114,23 @@ none_wanted : (before phase : List Numbered) (a d : List ℕ) → is_attached be
 none_wanted before [] a d h = refl
 none_wanted before (x ∷ xs) a d h = ap (λ z. z ++ from before xs a d) (by x.1) ∙ none_wanted before xs a d h
   where
-    by : (command : Command) → for_receiver before a d (x.0, command) ≡ []
-    by (c.Put client key body) =
+    unwanted : (client key : List ℕ) (body : Body) → item_for before a d x.0 client key body ≡ []
+    unwanted client key body =
         ap (λ b. cond b (record { line = x.0; key = key; body = body } ∷ []) [])
         (and_right (is_named a client) (wants before a d key)
         (and_right (not (is_named a d)) (is_attached before d && list_any (λ s. asks_for key s) (declarations before d))
         (and_left (is_attached before d) (list_any (λ s. asks_for key s) (declarations before d)) h)))
+
+    by : (command : Command) → for_receiver before a d (x.0, command) ≡ []
+    by (c.Put client key payload) = unwanted client key (Put payload)
+    by (c.Del client key) = unwanted client key Del
     by (c.Router id) = refl
     by (c.Client id router) = refl
     by (c.Sub client id key) = refl
+    by (c.Unsub client id) = refl
     by (c.Handle router name) = refl
     by (c.Take router to) = refl
+    by (c.Run steps) = refl
     by c.Mark = refl
 
 -- whether a report line says that something was sent to a name
@@ -126,6 +147,7 @@ none_sent (x ∷ xs) d h =
     by : (line : ReportLine) → tells_of d line ≡ false → sent_in d line ≡ []
     by (r.Handled router name msg tag) k = refl
     by (r.Taken router to msg tag) k = rw k refl
+    by (r.Ran steps quiet) k = refl
     by (r.Mark n) k = refl
 
 module _ (j : Judged) where
@@ -136,23 +158,25 @@ module _ (j : Judged) where
   -- ---- names that are looked at
 
   author_found : (lines : List Numbered) (a : List ℕ) → list_any (λ x. is_author a x.1) lines ≡ true → list_all (λ x. holds_for_author j x.1) lines ≡ true →
-      (list_all (λ x. holds_for_client j a x.1) j.before && list_all (λ x. holds_for_receiver j a x) j.report) ≡ true
+      holds_for_all j a ≡ true
   author_found [] a h k = absurd (false≢true h)
   author_found (x ∷ xs) a h k =
       by x.1 (and_parts (holds_for_author j x.1) (list_all (λ y. holds_for_author j y.1) xs) k).0
       (λ later. author_found xs a later (and_parts (holds_for_author j x.1) (list_all (λ y. holds_for_author j y.1) xs) k).1)
       (or_cases (is_author a x.1) (list_any (λ y. is_author a y.1) xs) h)
     where
-      by : (command : Command) → holds_for_author j command ≡ true → (list_any (λ y. is_author a y.1) xs ≡ true → (list_all (λ y. holds_for_client j a y.1) j.before && list_all (λ y. holds_for_receiver j a y) j.report) ≡ true) →
+      by : (command : Command) → holds_for_author j command ≡ true → (list_any (λ y. is_author a y.1) xs ≡ true → holds_for_all j a ≡ true) →
           (is_author a command ≡ true) ⊎ (list_any (λ y. is_author a y.1) xs ≡ true) →
-          (list_all (λ y. holds_for_client j a y.1) j.before && list_all (λ y. holds_for_receiver j a y) j.report) ≡ true
-      by (c.Put client key body) here ih (inl e) =
-          subst (λ (name : List ℕ). (list_all (λ y. holds_for_client j name y.1) j.before && list_all (λ y. holds_for_receiver j name y) j.report) ≡ true) (sym (same_name a client e)) here
+          holds_for_all j a ≡ true
+      by (c.Put client key payload) here ih (inl e) = subst (λ (name : List ℕ). holds_for_all j name ≡ true) (sym (same_name a client e)) here
+      by (c.Del client key) here ih (inl e) = subst (λ (name : List ℕ). holds_for_all j name ≡ true) (sym (same_name a client e)) here
       by (c.Router id) here ih (inl e) = absurd (false≢true e)
       by (c.Client id router) here ih (inl e) = absurd (false≢true e)
       by (c.Sub client id key) here ih (inl e) = absurd (false≢true e)
+      by (c.Unsub client id) here ih (inl e) = absurd (false≢true e)
       by (c.Handle router name) here ih (inl e) = absurd (false≢true e)
       by (c.Take router to) here ih (inl e) = absurd (false≢true e)
+      by (c.Run steps) here ih (inl e) = absurd (false≢true e)
       by c.Mark here ih (inl e) = absurd (false≢true e)
       by command here ih (inr e) = ih e
 
@@ -166,11 +190,14 @@ module _ (j : Judged) where
       by : (command : Command) → holds_for_client j a command ≡ true → (is_attached xs d ≡ true → pair_holds j a d ≡ true) →
           (attaches d command ≡ true) ⊎ (is_attached xs d ≡ true) → pair_holds j a d ≡ true
       by (c.Client id router) here ih (inl e) = subst (λ (name : List ℕ). pair_holds j a name ≡ true) (sym (same_name d id e)) here
-      by (c.Put client key body) here ih (inl e) = absurd (false≢true e)
+      by (c.Put client key payload) here ih (inl e) = absurd (false≢true e)
+      by (c.Del client key) here ih (inl e) = absurd (false≢true e)
       by (c.Router id) here ih (inl e) = absurd (false≢true e)
       by (c.Sub client id key) here ih (inl e) = absurd (false≢true e)
+      by (c.Unsub client id) here ih (inl e) = absurd (false≢true e)
       by (c.Handle router name) here ih (inl e) = absurd (false≢true e)
       by (c.Take router to) here ih (inl e) = absurd (false≢true e)
+      by (c.Run steps) here ih (inl e) = absurd (false≢true e)
       by c.Mark here ih (inl e) = absurd (false≢true e)
       by command here ih (inr e) = ih e
 
@@ -185,6 +212,7 @@ module _ (j : Judged) where
           (tells_of d line ≡ true) ⊎ (list_any (tells_of d) xs ≡ true) → pair_holds j a d ≡ true
       by (r.Taken router to msg tag) here ih (inl e) = subst (λ (name : List ℕ). pair_holds j a name ≡ true) (sym (same_name d to e)) here
       by (r.Handled router name msg tag) here ih (inl e) = absurd (false≢true e)
+      by (r.Ran steps quiet) here ih (inl e) = absurd (false≢true e)
       by (r.Mark n) here ih (inl e) = absurd (false≢true e)
       by line here ih (inr e) = ih e
 
@@ -223,15 +251,18 @@ module _ (j : Judged) where
       by_name : (b : Bool) (msg : Msg) (tag : ℕ) → may_be_sent j (r.Taken [] d msg tag) ≡ true → list_all may_be (cond b (item_of msg tag) []) ≡ true
       by_name false msg tag k = refl
       by_name true (m.Sub id key) tag k = refl
+      by_name true (m.Unsub id) tag k = refl
       by_name true (m.Push key body) tag k = and_from (nat_lt tag j.mark || is_sample_line j.phase tag) true k refl
 
       by_msg : (b : Bool) (router to : List ℕ) (msg : Msg) (tag : ℕ) → may_be_sent j (r.Taken router to msg tag) ≡ true → list_all may_be (cond b (item_of msg tag) []) ≡ true
       by_msg b router to (m.Sub id key) tag k = by_name b (m.Sub id key) tag refl
+      by_msg b router to (m.Unsub id) tag k = by_name b (m.Unsub id) tag refl
       by_msg b router to (m.Push key body) tag k = by_name b (m.Push key body) tag k
 
       by : (line : ReportLine) → may_be_sent j line ≡ true → list_all may_be (sent_in d line) ≡ true
       by (r.Handled router name msg tag) k = refl
       by (r.Taken router to msg tag) k = by_msg (is_named d to) router to msg tag k
+      by (r.Ran steps quiet) k = refl
       by (r.Mark n) k = refl
 
   may_all : (report : List ReportLine) → ((d : List ℕ) → list_all may_be (sent_to report d) ≡ true) → list_all (λ x. may_be_sent j x) report ≡ true
@@ -243,9 +274,11 @@ module _ (j : Judged) where
       by : (line : ReportLine) → ((d : List ℕ) → list_all may_be (sent_in d line) ≡ true) → may_be_sent j line ≡ true
       by (r.Handled router name msg tag) k = refl
       by (r.Taken router to (m.Sub id key) tag) k = refl
+      by (r.Taken router to (m.Unsub id) tag) k = refl
       by (r.Taken router to (m.Push key body) tag) k =
           (and_parts (nat_lt tag j.mark || is_sample_line j.phase tag) true
           (ap (λ b. list_all may_be (cond b (record { line = tag; key = key; body = body } ∷ []) [])) (sym (names.refl to)) ∙ k to)).0
+      by (r.Ran steps quiet) k = refl
       by (r.Mark n) k = refl
 
   -- ---- both ways
@@ -282,26 +315,36 @@ module _ (j : Judged) where
 
         client : (a : List ℕ) (command : Command) → holds_for_client j a command ≡ true
         client a (c.Client id router) = pair a id
-        client a (c.Put name key body) = refl
         client a (c.Router id) = refl
         client a (c.Sub name id key) = refl
+        client a (c.Unsub name id) = refl
+        client a (c.Put name key payload) = refl
+        client a (c.Del name key) = refl
         client a (c.Handle router name) = refl
         client a (c.Take router to) = refl
+        client a (c.Run steps) = refl
         client a c.Mark = refl
 
         receiver : (a : List ℕ) (line : ReportLine) → holds_for_receiver j a line ≡ true
         receiver a (r.Taken router to msg tag) = pair a to
         receiver a (r.Handled router name msg tag) = refl
+        receiver a (r.Ran steps quiet) = refl
         receiver a (r.Mark n) = refl
 
-        author : (command : Command) → holds_for_author j command ≡ true
-        author (c.Put name key body) = and_from (list_all (λ x. holds_for_client j name x.1) j.before) (list_all (λ x. holds_for_receiver j name x) j.report)
+        all : (name : List ℕ) → holds_for_all j name ≡ true
+        all name = and_from (list_all (λ x. holds_for_client j name x.1) j.before) (list_all (λ x. holds_for_receiver j name x) j.report)
             (all_true (λ x. holds_for_client j name x.1) (λ x. client name x.1) j.before) (all_true (λ x. holds_for_receiver j name x) (λ x. receiver name x) j.report)
+
+        author : (command : Command) → holds_for_author j command ≡ true
+        author (c.Put name key payload) = all name
+        author (c.Del name key) = all name
         author (c.Router id) = refl
         author (c.Client id router) = refl
         author (c.Sub name id key) = refl
+        author (c.Unsub name id) = refl
         author (c.Handle router name) = refl
         author (c.Take router to) = refl
+        author (c.Run steps) = refl
         author c.Mark = refl
 
   pub judges : Judges (judgement j) j

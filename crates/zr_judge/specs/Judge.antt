@@ -3,6 +3,8 @@ use Rattle.std.specs.Prelude.{◌≡◌, ℕ, ◌==◌, ◌&&◌, ◌||◌, not,
 use Rattle.std.specs.List.{list_all}
 use Rattle.std.specs.Cmp.Lexicographic.{pointwise}
 use Rattle.zr_msg.specs.declared.msg.Msg.TheVariants.{Push}
+use Rattle.zr_msg.specs.declared.msg.Body.{Body}
+use Rattle.zr_msg.specs.declared.msg.Body.TheVariants.{Put, Del}
 use Rattle.zr_msg.specs.declared.command.Command.{Command}
 use Rattle.zr_msg.specs.declared.command.Command.TheVariants as c
 use Rattle.zr_msg.specs.declared.report.ReportLine.{ReportLine}
@@ -27,9 +29,16 @@ abbrev pub Judges : Bool → Judged → Type 0
 Judges answer j =
     (w : WorldState) → is_quiet w ≡ j.quiet → (answer ≡ true) ↔ Refines j.before j.mark j.phase (record { world = w; report = j.report })
 
+-- whether two bodies are one
+abbrev pub is_same_body : Body → Body → Bool
+is_same_body (Put p) (Put q) = pointwise nat_eq p q
+is_same_body (Put p) Del = false
+is_same_body Del (Put q) = false
+is_same_body Del Del = true
+
 -- whether two items are one
 abbrev pub is_same : Item → Item → Bool
-is_same a b = a.line == b.line && (pointwise nat_eq a.key b.key && pointwise nat_eq a.body b.body)
+is_same a b = a.line == b.line && (pointwise nat_eq a.key b.key && is_same_body a.body b.body)
 
 -- whether some items begin others
 abbrev pub is_front : List Item → List Item → Bool
@@ -57,9 +66,14 @@ abbrev pub holds_for_receiver : Judged → List ℕ → ReportLine → Bool
 holds_for_receiver j author (r.Taken router to msg tag) = pair_holds j author to
 holds_for_receiver j author other = true
 
--- the same for all clients that are attached or were sent anything, and the author of a line
+-- the same for an author and all clients that are attached or were sent anything
+abbrev pub holds_for_all : Judged → List ℕ → Bool
+holds_for_all j author = list_all (λ x. holds_for_client j author x.1) j.before && list_all (λ x. holds_for_receiver j author x) j.report
+
+-- the same for the author of a line
 abbrev pub holds_for_author : Judged → Command → Bool
-holds_for_author j (c.Put client key body) = list_all (λ x. holds_for_client j client x.1) j.before && list_all (λ x. holds_for_receiver j client x) j.report
+holds_for_author j (c.Put client key payload) = holds_for_all j client
+holds_for_author j (c.Del client key) = holds_for_all j client
 holds_for_author j other = true
 
 -- whether a sample that was sent is a line of the phase, or comes from before the mark

@@ -1,9 +1,9 @@
 //! The judgement.
 
-ghost use Rattle.std.specs.Prelude.{◌≡◌, ◌&&◌, IfOk};
+ghost use Rattle.std.specs.Prelude.{◌≡◌, IfOk};
 ghost use Rattle.std.specs.List.{list_all};
 ghost use Rattle.zr_network.specs.Broker.{publishes, is_sample_line};
-ghost use Rattle.zr_judge.specs.Judge.{Judges, pair_holds, holds_for_client, holds_for_receiver, holds_for_author, may_be_sent, judgement};
+ghost use Rattle.zr_judge.specs.Judge.{Judges, pair_holds, holds_for_client, holds_for_receiver, holds_for_all, holds_for_author, may_be_sent, judgement};
 
 use crate::sample::{due, is_front, sent};
 use std::alloc::{AllocError, Global};
@@ -68,13 +68,15 @@ fn holds_for_author(alloc: Global, case: &Case, command: &Command) -> Result<boo
     ensures { IfOk result (λ answer. answer ≡ holds_for_author case.now command.now) }
 {
     match command {
-        Command::Put { client, .. } => holds_for_receivers(alloc, case, client),
+        Command::Put { client, .. } | Command::Del { client, .. } => {
+            holds_for_all(alloc, case, client)
+        }
         _ => Ok(true),
     }
 }
 
-fn holds_for_receivers(alloc: Global, case: &Case, author: &Zid) -> Result<bool, AllocError>
-    ensures { IfOk result (λ answer. answer ≡ (list_all (λ x. holds_for_client case.now author.now x.1) case.now.before && list_all (λ x. holds_for_receiver case.now author.now x) case.now.report)) }
+fn holds_for_all(alloc: Global, case: &Case, author: &Zid) -> Result<bool, AllocError>
+    ensures { IfOk result (λ answer. answer ≡ holds_for_all case.now author.now) }
 {
     let clients = holds_for_clients(alloc, case, author, case.before.as_slice())?;
     let reported = holds_for_reported(alloc, case, author, case.report.as_slice())?;
@@ -165,7 +167,7 @@ fn may_be_sent(case: &Case, line: &ReportLine) -> bool
     match line {
         ReportLine::Taken { msg, tag, .. } => match msg {
             Msg::Push { .. } => *tag < case.mark || is_sample_line(case.phase.as_slice(), *tag),
-            Msg::Sub { .. } => true,
+            Msg::Sub { .. } | Msg::Unsub { .. } => true,
         },
         _ => true,
     }
@@ -181,7 +183,7 @@ fn publishes(command: &Command) -> bool
     ensures { result ≡ publishes command.now }
 {
     match command {
-        Command::Put { .. } => true,
+        Command::Put { .. } | Command::Del { .. } => true,
         _ => false,
     }
 }

@@ -1,16 +1,17 @@
 //! Samples as the one broker sends them, and as a report says that they were sent.
 
-ghost use Rattle.std.specs.Prelude.{◌≡◌, ◌==◌, ◌++◌, ◌∷◌, [], IfOk, OnOk, filter};
+ghost use Rattle.std.specs.Prelude.{◌≡◌, ◌==◌, ◌++◌, ◌∷◌, [], not, IfOk, OnOk, filter};
 ghost use Rattle.std.specs.List.{list_any};
-ghost use Rattle.zr_network.specs.Broker.{attaches, asks_for, declares, declarations, is_attached, wants, is_author, is_line_of, for_receiver, from};
+ghost use Rattle.zr_network.specs.Broker.{attaches, asks_for, declared_by, declarations, is_attached, wants, is_author, is_line_of, item_for, for_receiver, from};
 ghost use Rattle.zr_network.specs.Moments.{sent_in, sent_to};
 ghost use Rattle.zr_network.specs.World.{is_named};
-ghost use Rattle.zr_judge.specs.Judge.{is_same, is_front};
+ghost use Rattle.zr_judge.specs.Judge.{is_same, is_same_body, is_front};
 
 use std::alloc::{AllocError, Global};
 use std::marker::Model;
 use zr_id::zid::Zid;
 use zr_key::key::KeyExpr;
+use zr_match::meets;
 use zr_msg::command::Command;
 use zr_msg::msg::{Body, Msg};
 use zr_msg::report::ReportLine;
@@ -29,6 +30,21 @@ impl Model for Sample {
     ghost Value = { Item };
 
     ghost view = { λ s. record { line = s.line; key = s.key; body = s.body } };
+}
+
+// What a client has declared under an id of its own.
+#[derive(Drop)]
+struct Declared {
+    id: u32,
+    key: KeyExpr,
+}
+
+impl Model for Declared {
+    ghost use Rattle.zr_network.specs.Broker.{Declaration};
+
+    ghost Value = { Declaration };
+
+    ghost view = { λ d. record { id = d.id; key = d.key } };
 }
 
 /// What the receiver is to have of the author's lines in a phase.
@@ -92,10 +108,48 @@ fn add_due(
 ) -> Result<(), AllocError>
     ensures { OnOk result (out.new.items ≡ out.old.items ++ for_receiver before.now author.now receiver.now x.now) }
 {
-    if let Command::Put { client, key, body } = &x.1 {
-        if is_named(author, client) && wants(before, author, receiver, key) {
-            add(alloc, x.0, key, body, out)?;
+    match &x.1 {
+        Command::Put {
+            client,
+            key,
+            payload,
+        } => {
+            let body = Body::Put {
+                payload: payload.copy(alloc)?,
+            };
+            add_item(alloc, before, x.0, client, key, &body, author, receiver, out)
         }
+        Command::Del { client, key } => add_item(
+            alloc,
+            before,
+            x.0,
+            client,
+            key,
+            &Body::Del,
+            author,
+            receiver,
+            out,
+        ),
+        _ => Ok(()),
+    }
+}
+
+// The sample of a client's line, if it is one of the author that the receiver is to have.
+fn add_item(
+    alloc: Global,
+    before: &[(u64, Command)],
+    line: u64,
+    client: &Zid,
+    key: &KeyExpr,
+    body: &Body,
+    author: &Zid,
+    receiver: &Zid,
+    out: &mut Vec<Sample>,
+) -> Result<(), AllocError>
+    ensures { OnOk result (out.new.items ≡ out.old.items ++ item_for before.now author.now receiver.now line client.now key.now body.now) }
+{
+    if is_named(author, client) && wants(alloc, before, author, receiver, key)? {
+        add(alloc, line, key, body, out)?;
     }
     Ok(())
 }
@@ -138,13 +192,33 @@ fn add(
 fn is_same(a: &Sample, b: &Sample) -> bool
     ensures { result ≡ is_same a.now b.now }
 {
-    a.line == b.line && a.key == b.key && a.body.bytes() == b.body.bytes()
+    a.line == b.line && a.key == b.key && is_same_body(&a.body, &b.body)
 }
 
-fn wants(before: &[(u64, Command)], author: &Zid, receiver: &Zid, key: &KeyExpr) -> bool
-    ensures { result ≡ wants before.now author.now receiver.now key.now }
+fn is_same_body(a: &Body, b: &Body) -> bool
+    ensures { result ≡ is_same_body a.now b.now }
 {
-    !is_named(author, receiver) && is_attached(before, receiver) && has_asked(before, receiver, key)
+    match (a, b) {
+        (Body::Put { payload: p }, Body::Put { payload: q }) => p.bytes() == q.bytes(),
+        (Body::Del, Body::Del) => true,
+        _ => false,
+    }
+}
+
+fn wants(
+    alloc: Global,
+    before: &[(u64, Command)],
+    author: &Zid,
+    receiver: &Zid,
+    key: &KeyExpr,
+) -> Result<bool, AllocError>
+    ensures { IfOk result (λ answer. answer ≡ wants before.now author.now receiver.now key.now) }
+{
+    if is_named(author, receiver) || !is_attached(before, receiver) {
+        return Ok(false);
+    }
+    let declared = declarations(alloc, before, receiver)?;
+    Ok(does_any_ask(declared.as_slice(), key))
 }
 
 fn is_named(a: &Zid, b: &Zid) -> bool
@@ -168,25 +242,57 @@ fn attaches(name: &Zid, command: &Command) -> bool
     }
 }
 
-fn has_asked(lines: &[(u64, Command)], name: &Zid, key: &KeyExpr) -> bool
-    ensures { result ≡ list_any (λ s. asks_for key.now s) (declarations lines.now name.now) }
+// What a client has declared.
+fn declarations(
+    alloc: Global,
+    lines: &[(u64, Command)],
+    name: &Zid,
+) -> Result<Vec<Declared>, AllocError>
+    ensures { IfOk result (λ v. v.items ≡ declarations lines.now name.now) }
 {
-    does_any_ask(lines, name, key)
+    let mut so_far = Vec::new(alloc);
+    for x in lines {
+        declare(alloc, name, &x.1, &mut so_far)?;
+    }
+    Ok(so_far)
 }
 
-fn does_any_ask(lines: &[(u64, Command)], name: &Zid, key: &KeyExpr) -> bool
-    ensures { result ≡ list_any (λ x. list_any (λ s. asks_for key.now s) (declares name.now x.1)) lines.now }
-{
-    lines.iter().any(|x| asks(name, key, &x.1))
-}
-
-fn asks(name: &Zid, wanted: &KeyExpr, command: &Command) -> bool
-    ensures { result ≡ list_any (λ s. asks_for wanted.now s) (declares name.now command.now) }
+// One more command is given.
+fn declare(
+    alloc: Global,
+    name: &Zid,
+    command: &Command,
+    so_far: &mut Vec<Declared>,
+) -> Result<(), AllocError>
+    ensures { OnOk result (so_far.new.items ≡ declared_by name.now so_far.old.items command.now) }
 {
     match command {
-        Command::Sub { client, key, .. } => is_named(name, client) && *key == *wanted,
-        _ => false,
+        Command::Sub { client, id, key } if is_named(name, client) => {
+            let key = key.copy(alloc)?;
+            so_far.push(Declared { id: *id, key })?;
+        }
+        Command::Unsub { client, id } if is_named(name, client) => forget(so_far, *id),
+        _ => {}
     }
+    Ok(())
+}
+
+fn forget(so_far: &mut Vec<Declared>, id: u32)
+    ensures { so_far.new.items ≡ filter (λ d. not (d.id == id)) so_far.old.items }
+{
+    so_far.retain(|d| d.id != id);
+}
+
+fn does_any_ask(declared: &[Declared], key: &KeyExpr) -> bool
+    ensures { result ≡ list_any (λ s. asks_for key.now s) declared.now }
+{
+    declared.iter().any(|d| asks_for(key, d))
+}
+
+fn asks_for(key: &KeyExpr, declared: &Declared) -> bool
+    ensures { result ≡ asks_for key.now declared.now }
+{
+    meets(&declared.key, key)
 }
 
 fn is_line_of(phase: &[(u64, Command)], author: &Zid, line: u64) -> bool
@@ -199,7 +305,7 @@ fn is_author(author: &Zid, command: &Command) -> bool
     ensures { result ≡ is_author author.now command.now }
 {
     match command {
-        Command::Put { client, .. } => is_named(author, client),
+        Command::Put { client, .. } | Command::Del { client, .. } => is_named(author, client),
         _ => false,
     }
 }

@@ -6,7 +6,7 @@ use std::test::Fail;
 use zr_id::zid::Zid;
 use zr_key::key::KeyExpr;
 use zr_msg::command::Command;
-use zr_msg::msg::{Body, Msg};
+use zr_msg::msg::{Body, Msg, Payload};
 use zr_msg::report::ReportLine;
 
 const ROUTER: u8 = 0x0a;
@@ -23,12 +23,12 @@ fn name(byte: u8) -> Result<Zid, Fail> {
     Ok(Zid::from_bytes(&[byte])?)
 }
 
-fn key(alloc: Global) -> Result<KeyExpr, Fail> {
-    Ok(KeyExpr::read(alloc, b"a/b".as_slice())?)
+fn key(alloc: Global, text: &[u8]) -> Result<KeyExpr, Fail> {
+    Ok(KeyExpr::read(alloc, text)?)
 }
 
-fn body(alloc: Global, text: &[u8]) -> Result<Body, Fail> {
-    Ok(Body::new(Vec::from_slice(alloc, text)?))
+fn payload(alloc: Global, text: &[u8]) -> Result<Payload, Fail> {
+    Ok(Payload::new(Vec::from_slice(alloc, text)?))
 }
 
 fn client(byte: u8) -> Result<Command, Fail> {
@@ -51,23 +51,35 @@ fn take(byte: u8) -> Result<Command, Fail> {
 
 fn sub(alloc: Global) -> Result<Command, Fail> {
     let client = name(SUBSCRIBER)?;
-    let key = key(alloc)?;
+    let key = key(alloc, b"a/*".as_slice())?;
     Ok(Command::Sub { client, id: 1, key })
+}
+
+fn unsub(id: u32) -> Result<Command, Fail> {
+    let client = name(SUBSCRIBER)?;
+    Ok(Command::Unsub { client, id })
 }
 
 fn put(alloc: Global) -> Result<Command, Fail> {
     let client = name(PUBLISHER)?;
-    let key = key(alloc)?;
-    let body = body(alloc, b"hi".as_slice())?;
-    Ok(Command::Put { client, key, body })
+    let key = key(alloc, b"a/b".as_slice())?;
+    let payload = payload(alloc, b"hi".as_slice())?;
+    Ok(Command::Put {
+        client,
+        key,
+        payload,
+    })
 }
 
 fn taken(alloc: Global, to: u8, text: &[u8], tag: u64) -> Result<ReportLine, Fail> {
     let router = name(ROUTER)?;
     let to = name(to)?;
-    let key = key(alloc)?;
-    let body = body(alloc, text)?;
-    let msg = Msg::Push { key, body };
+    let key = key(alloc, b"a/b".as_slice())?;
+    let payload = payload(alloc, text)?;
+    let msg = Msg::Push {
+        key,
+        body: Body::Put { payload },
+    };
     Ok(ReportLine::Taken {
         router,
         to,
@@ -105,7 +117,17 @@ fn phase(alloc: Global, count: usize) -> Result<Vec<(u64, Command)>, Fail> {
 
 // Whether the definition holds after so many lines of the phase, where these report lines tell what was sent.
 fn holds(alloc: Global, count: usize, report: Vec<ReportLine>, quiet: bool) -> Result<bool, Fail> {
-    let before = before(alloc)?;
+    holds_behind(alloc, before(alloc)?, count, report, quiet)
+}
+
+// The same where other lines stand before the mark.
+fn holds_behind(
+    alloc: Global,
+    before: Vec<(u64, Command)>,
+    count: usize,
+    report: Vec<ReportLine>,
+    quiet: bool,
+) -> Result<bool, Fail> {
     let phase = phase(alloc, count)?;
     let case = Case {
         before,
@@ -166,5 +188,18 @@ fn refuses_forged_reports(rt: HostRuntime) -> Result<(), Fail> {
     assert!(rt; !holds(alloc, 3, report, false)?, "sent twice");
     let report = lines(alloc, &[])?;
     assert!(rt; !holds(alloc, 3, report, true)?, "never sent");
+    Ok(())
+}
+
+#[test]
+fn undeclared_asks_for_nothing(rt: HostRuntime) -> Result<(), Fail> {
+    let alloc = rt.alloc();
+    for (id, is_due) in [(1, false), (2, true)] {
+        let mut lines_before = before(alloc)?;
+        lines_before.push((5, unsub(id)?))?;
+        let report = lines(alloc, &[(SUBSCRIBER, b"hi".as_slice(), SAMPLE)])?;
+        let answer = holds_behind(alloc, lines_before, 3, report, true)?;
+        assert!(rt; answer == is_due, "id {id} undeclared");
+    }
     Ok(())
 }

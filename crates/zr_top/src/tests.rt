@@ -1,4 +1,4 @@
-//! The worked rows of the first path, and the statuses, over sources and sinks in memory.
+//! Worked rows, refusals and statuses, over sources and sinks in memory.
 
 use crate::run::run;
 use std::alloc::{AllocError, Global};
@@ -62,93 +62,100 @@ fn gives(
 
 #[test]
 fn scripts_give_their_reports(rt: HostRuntime) -> Result<(), Fail> {
-    for (script, out, err, status) in [
-        (ONE_SAMPLE, ONE_SAMPLE_REPORT, "", Status::Done),
-        ("", "", "", Status::Done),
+    for (script, report) in [
+        (ONE_SAMPLE, ONE_SAMPLE_REPORT),
+        ("", ""),
+        (
+            "router 0a\nclient c1 0a\nclient c2 0a\nsub c2 1 a/*\nsub c2 2 **\nrun 2\nmark\nput c1 a/b hi\nrun 9\n",
+            "0a < c2: sub 1 a/* #4\n0a < c2: sub 2 ** #5\nrun 2 quiet\nmark #7\n0a < c1: put - a/b hi #8\n0a > c2: put - a/b hi #8\nrun 2 quiet\n",
+        ),
+        (
+            "router 0a\nclient c1 0a\nclient c2 0a\nsub c2 1 a\nunsub c2 1\nsub c2 1 b\nrun 9\nmark\nput c1 a x\ndel c1 b\nrun 9\n",
+            "0a < c2: sub 1 a #4\n0a < c2: unsub 1 #5\n0a < c2: sub 1 b #6\nrun 3 quiet\nmark #8\n0a < c1: put - a x #9\n0a < c1: del - b #10\n0a > c2: del - b #10\nrun 3 quiet\n",
+        ),
+        (
+            "router 0a\nclient c2 0a\nclient c1 0a\nsub c1 1 **\nrun 1\nput c2 a x\nput c1 b y\nrun 1\nrun 9\n",
+            "0a < c1: sub 1 ** #4\nrun 1 quiet\n0a < c1: put - b y #7\nrun 1 more\n0a < c2: put - a x #6\n0a > c1: put - a x #6\nrun 2 quiet\n",
+        ),
+        (
+            "router 0a\nclient c1 0a\nput c1 a -\nrun 0\nrun 1\n",
+            "run 0 more\n0a < c1: put - a - #3\nrun 1 quiet\n",
+        ),
+        (
+            "router 0a\nclient c1 0a\nsub c1 1 **/*/$*\nrun 1\n",
+            "0a < c1: sub 1 */*/** #3\nrun 1 quiet\n",
+        ),
+        ("\n# a router\nrouter 0a\n\nmark", "mark #5\n"),
+    ] {
+        let given = gives(rt.alloc(), "net", script.as_bytes(), &SOUND, report, "")?;
+        assert!(&rt; given.0 == Status::Done && given.1 && given.2, "{script}");
+    }
+    Ok(())
+}
+
+#[test]
+fn refused_scripts_say_why(rt: HostRuntime) -> Result<(), Fail> {
+    for (script, report, why) in [
         (
             "router 0a\nclient c1 0a\nsub c1 1 a/b\nhandle 0a c1\nput c1 a/b hi\nhandle 0a c1\ntake 0a c1\n",
             "0a < c1: sub 1 a/b #3\n0a < c1: put - a/b hi #5\n",
             "line 7: 8 NothingThere\n",
-            Status::Refused,
         ),
-        ("bogus", "", "line 1: 1 UnknownCommand\n", Status::Refused),
-        ("sub c1 1 a//b", "", "line 1: 5 BadKey\n", Status::Refused),
-        ("router 0A", "", "line 1: 2 BadWords\n", Status::Refused),
+        ("bogus", "", "line 1: 1 UnknownCommand\n"),
+        ("\n# a router\nbogus\n", "", "line 3: 1 UnknownCommand\n"),
+        ("   \n", "", "line 1: 1 UnknownCommand\n"),
+        (" # a router\n", "", "line 1: 1 UnknownCommand\n"),
+        ("router 0A", "", "line 1: 2 BadWords\n"),
+        ("router 0a \n", "", "line 1: 2 BadWords\n"),
+        (" router 0a\n", "", "line 1: 2 BadWords\n"),
+        ("sub c1 01 a", "", "line 1: 2 BadWords\n"),
+        ("sub c1 4294967296 a//b", "", "line 1: 2 BadWords\n"),
+        ("del c1 a x", "", "line 1: 2 BadWords\n"),
+        ("run -1", "", "line 1: 2 BadWords\n"),
+        ("sub c1 1 a//b", "", "line 1: 5 BadKey\n"),
+        ("sub c1 1 a*", "", "line 1: 5 BadKey\n"),
+        ("del c1 @$*", "", "line 1: 5 BadKey\n"),
+        ("put c1 a hi", "", "line 1: 3 UnknownName\n"),
+        ("router 0a\nclient c1 0b\n", "", "line 2: 3 UnknownName\n"),
         (
-            "router 0a\nrouter 0b\n",
+            "router 0a\nclient c1 0a\nunsub c1 1\n",
             "",
-            "line 2: 12 Limit\n",
-            Status::Refused,
-        ),
-        (
-            "\nrouter 0a\n",
-            "",
-            "line 1: 1 UnknownCommand\n",
-            Status::Refused,
-        ),
-        (
-            "# a router\n",
-            "",
-            "line 1: 1 UnknownCommand\n",
-            Status::Refused,
-        ),
-        ("   \n", "", "line 1: 1 UnknownCommand\n", Status::Refused),
-        ("router 0a \n", "", "line 1: 2 BadWords\n", Status::Refused),
-        (" router 0a\n", "", "line 1: 2 BadWords\n", Status::Refused),
-        ("sub c1 01 a", "", "line 1: 2 BadWords\n", Status::Refused),
-        (
-            "sub c1 4294967296 a//b",
-            "",
-            "line 1: 2 BadWords\n",
-            Status::Refused,
-        ),
-        ("sub c1 1 a/*", "", "line 1: 5 BadKey\n", Status::Refused),
-        (
-            "put c1 a hi",
-            "",
-            "line 1: 3 UnknownName\n",
-            Status::Refused,
-        ),
-        (
-            "router 0a\nclient 0a 0a\n",
-            "",
-            "line 2: 4 NameTaken\n",
-            Status::Refused,
-        ),
-        (
-            "router 0a\nclient c1 0b\n",
-            "",
-            "line 2: 3 UnknownName\n",
-            Status::Refused,
-        ),
-        (
-            "router 0a\nhandle 0a 0a\n",
-            "",
-            "line 2: 7 NotLinked\n",
-            Status::Refused,
+            "line 3: 3 UnknownName\n",
         ),
         (
             "router 0a\nclient c1 0a\nhandle c1 0a\n",
             "",
             "line 3: 3 UnknownName\n",
-            Status::Refused,
         ),
-        (
-            "router 0a\nclient c1 0a\nsub c1 1 a\nmark\n",
-            "",
-            "line 4: 10 NotSettled\n",
-            Status::Refused,
-        ),
+        ("router 0a\nclient 0a 0a\n", "", "line 2: 4 NameTaken\n"),
         (
             "router 0a\nclient c1 0a\nsub c1 1 a\nsub c1 1 b\n",
             "",
             "line 4: 4 NameTaken\n",
-            Status::Refused,
+        ),
+        ("router 0a\nhandle 0a 0a\n", "", "line 2: 7 NotLinked\n"),
+        (
+            "router 0a\nclient c1 0a\nsub c1 1 a\nmark\n",
+            "",
+            "line 4: 10 NotSettled\n",
+        ),
+        (
+            "router 0a\nclient c1 0a\nsub c1 1 a\nrun 1\nunsub c1 1\nmark\n",
+            "0a < c1: sub 1 a #3\nrun 1 quiet\n",
+            "line 6: 10 NotSettled\n",
+        ),
+        ("router 0a\nrouter 0b\n", "", "line 2: 12 Limit\n"),
+        (
+            "run 10000000\nrun 1\n",
+            "run 0 quiet\n",
+            "line 2: 12 Limit\n",
         ),
     ] {
-        let given = gives(rt.alloc(), "net", script.as_bytes(), &SOUND, out, err)?;
-        assert_eq!(&rt; given.0, status, "{script}");
-        assert!(&rt; given.1 && given.2, "{script}");
+        let given = gives(rt.alloc(), "net", script.as_bytes(), &SOUND, report, why)?;
+        assert!(&rt;
+            given.0 == Status::Refused && given.1 && given.2,
+            "{script}"
+        );
     }
     Ok(())
 }
