@@ -9,20 +9,21 @@ use Rattle.std.specs.BTreeMap.{insert_entry}
 use Rattle.std.proofs.lemmas.Bool.{true≢false, false≢true, or_parts}
 use Rattle.zr_msg.specs.declared.msg.Msg.{Msg}
 use Rattle.zr_msg.specs.declared.msg.Msg.TheVariants as m
+use Rattle.zr_msg.specs.declared.msg.Body.{Body}
 use Rattle.zr_msg.specs.declared.msg.Event.TheVariants.{From}
 use Rattle.zr_msg.specs.declared.error.ScriptError.{ScriptError}
 use Rattle.zr_msg.specs.declared.error.ScriptError.TheVariants.{NameTaken, NotLinked, NotSettled, Limit}
 use Rattle.zr_msg.specs.declared.report.ReportLine.TheVariants as line
 use Rattle.zr_table.specs.Table.{sends}
 use Rattle.zr_network.specs.Step.{◌>>=◌}
-use Rattle.zr_network.specs.World.{Tagged, ClientState, RouterState, Routers, Outcome, is_named, is_taken, router_of, client_of, with_router, with_client, sent, declaring, with_wire, with_queue, all_queued, all_settled, router_at, client_at, end_at, oldest, free_name, first_router, room_for_client, fresh_id, weighed, most_weight, weight_of, new_router, linked, weighing, having, new_client, router_step, client_step, sub_step, put_step, handle_step, take_step, mark_step}
+use Rattle.zr_network.specs.World.{Tagged, ClientState, RouterState, WorldState, Routers, Outcome, is_named, is_taken, router_of, client_of, with_tables, with_router, with_client, sent, declaring, undeclaring, with_wire, with_queue, all_queued, all_settled, router_at, client_at, end_at, oldest, free_name, first_router, room_for_client, fresh_id, known_id, weighed, most_weight, weight_of, new_router, linked, weighing, having, new_client, booking, most_steps, router_step, client_step, sub_step, unsub_step, push_step, handle_step, take_step, book_step, mark_step}
 use Rattle.zr_network.specs.Moments.{Moment, went}
 
 -- ---- the moments
 
 abbrev pub on_router : Moment → List ℕ → Moment
 on_router now id = record {
-  world = record { routers = insert_entry (slice_cmp nat_cmp) now.world.routers id new_router; clients = now.world.clients; names = now.world.names };
+  world = with_tables now.world (insert_entry (slice_cmp nat_cmp) now.world.routers id new_router) now.world.clients;
   report = now.report ++ [];
 }
 
@@ -32,41 +33,44 @@ on_client now id router r = record {
     routers = with_router now.world.routers router (linked r (length now.world.names));
     clients = insert_entry (slice_cmp nat_cmp) now.world.clients id (new_client router (length now.world.names));
     names = now.world.names ++ id ∷ [];
+    booked = now.world.booked;
   };
   report = now.report ++ [];
 }
 
 abbrev pub on_sub : Moment → ℕ → List ℕ → ℕ → List ℕ → ClientState → RouterState → Moment
 on_sub now n name id key s r = record {
-  world = record {
-    routers = with_router now.world.routers s.router (weighing r key);
-    clients = with_client now.world.clients name (sent (declaring s id) (m.Sub id key) n);
-    names = now.world.names;
-  };
+  world = with_tables now.world (with_router now.world.routers s.router (weighing r key)) (with_client now.world.clients name (sent (declaring s id) (m.Sub id key) n));
   report = now.report ++ [];
 }
 
-abbrev pub on_put : Moment → ℕ → List ℕ → List ℕ → List ℕ → ClientState → Moment
-on_put now n name key body s = record {
-  world = record { routers = now.world.routers; clients = with_client now.world.clients name (sent s (m.Push key body) n); names = now.world.names };
+abbrev pub on_unsub : Moment → ℕ → List ℕ → ℕ → ClientState → Moment
+on_unsub now n name id s = record {
+  world = with_tables now.world now.world.routers (with_client now.world.clients name (sent (undeclaring s id) (m.Unsub id) n));
+  report = now.report ++ [];
+}
+
+abbrev pub on_push : Moment → ℕ → List ℕ → List ℕ → Body → ClientState → Moment
+on_push now n name key body s = record {
+  world = with_tables now.world now.world.routers (with_client now.world.clients name (sent s (m.Push key body) n));
   report = now.report ++ [];
 }
 
 abbrev pub on_handle : Moment → List ℕ → List ℕ → RouterState → ClientState → Msg → ℕ → List Tagged → Moment
 on_handle now router name r s msg tag xs = record {
-  world = record {
-    routers = with_router now.world.routers router (having r s.link msg);
-    clients = all_queued (with_client now.world.clients name (with_wire s xs)) now.world.names (sends r.node (From (record { 0 = s.link }) msg)) tag;
-    names = now.world.names;
-  };
+  world = with_tables now.world (with_router now.world.routers router (having r s.link msg))
+      (all_queued (with_client now.world.clients name (with_wire s xs)) now.world.names (sends r.node (From (record { 0 = s.link }) msg)) tag);
   report = now.report ++ line.Handled router name msg tag ∷ [];
 }
 
 abbrev pub on_take : Moment → List ℕ → List ℕ → ClientState → Tagged → List Tagged → Moment
 on_take now router to s x xs = record {
-  world = record { routers = now.world.routers; clients = with_client now.world.clients to (with_queue s xs); names = now.world.names };
+  world = with_tables now.world now.world.routers (with_client now.world.clients to (with_queue s xs));
   report = now.report ++ line.Taken router to x.msg x.tag ∷ [];
 }
+
+abbrev pub on_book : Moment → ℕ → Moment
+on_book now steps = record { world = booking now.world steps; report = now.report ++ [] }
 
 abbrev pub on_mark : Moment → ℕ → Moment
 on_mark now n = record { world = now.world; report = now.report ++ line.Mark n ∷ [] }
@@ -102,6 +106,10 @@ oldest_found (y ∷ ys) x h = cc
 free_found : (b : Bool) (u : Unit {0}) → cond b (Err NameTaken) (Ok tt) ≡ Ok u → b ≡ false
 free_found true u h = absurd (false≢true (ap is_ok h))
 free_found false u h = refl
+
+booked_found : (w : WorldState) (steps : ℕ) (b : Bool) (counted : WorldState) → cond b (Ok (booking w steps)) (Err Limit) ≡ Ok counted → booking w steps ≡ counted
+booked_found w steps true counted h = cc
+booked_found w steps false counted h = absurd (false≢true (ap is_ok h))
 
 weighed_found : (routers : Routers) (name key : List ℕ) (o : Option RouterState) (rs : Routers) → weighed routers name key o ≡ Ok rs →
     (r : RouterState) × (o ≡ Some r) × (rs ≡ with_router routers name (weighing r key))
@@ -148,14 +156,20 @@ module _ (now : Moment) (Q : Moment → Type 0) where
     where
       sub_moment : ℕ → List ℕ → ℕ → List ℕ → ClientState → Routers → Moment
       sub_moment n name id key s z = record {
-        world = record { routers = z; clients = with_client now.world.clients name (sent (declaring s id) (m.Sub id key) n); names = now.world.names };
+        world = with_tables now.world z (with_client now.world.clients name (sent (declaring s id) (m.Sub id key) n));
         report = now.report ++ [];
       }
 
-  pub for_put : (n : ℕ) (name key body : List ℕ) → ((s : ClientState) → client_of now.world.clients name ≡ Some s → Q (on_put now n name key body s)) →
-      IfSome (went now (put_step now.world n name key body)) Q
-  unfolding put_step
-  for_put n name key body step = for_bind (client_at (client_of now.world.clients name)) _ (λ s es. step s (client_found (client_of now.world.clients name) s es))
+  pub for_unsub : (n : ℕ) (name : List ℕ) (id : ℕ) → ((s : ClientState) → client_of now.world.clients name ≡ Some s → Q (on_unsub now n name id s)) →
+      IfSome (went now (unsub_step now.world n name id)) Q
+  unfolding unsub_step
+  for_unsub n name id step =
+      for_bind (client_at (client_of now.world.clients name)) _ (λ s es. for_bind (known_id s id) _ (λ u eu. step s (client_found (client_of now.world.clients name) s es)))
+
+  pub for_push : (n : ℕ) (name key : List ℕ) (body : Body) → ((s : ClientState) → client_of now.world.clients name ≡ Some s → Q (on_push now n name key body s)) →
+      IfSome (went now (push_step now.world n name key body)) Q
+  unfolding push_step
+  for_push n name key body step = for_bind (client_at (client_of now.world.clients name)) _ (λ s es. step s (client_found (client_of now.world.clients name) s es))
 
   pub for_handle : (router name : List ℕ) →
       ((r : RouterState) → router_of now.world.routers router ≡ Some r → (s : ClientState) → client_of now.world.clients name ≡ Some s →
@@ -179,6 +193,12 @@ module _ (now : Moment) (Q : Moment → Type 0) where
       for_bind (end_at (client_of now.world.clients to) (is_some (router_of now.world.routers to)) router) _ (λ s es.
       for_bind (oldest s.queue) _ (λ x ex.
       step s (end_found (client_of now.world.clients to) (is_some (router_of now.world.routers to)) router s es) x.0 x.1 (oldest_found s.queue x ex))))
+
+  pub for_run : (steps : ℕ) → Q (on_book now steps) → IfSome (went now (book_step now.world steps >>= (λ counted. Ok (None, counted)))) Q
+  unfolding book_step
+  for_run steps step =
+      for_bind (book_step now.world steps) _ (λ counted e.
+      subst (λ (z : WorldState). Q (record { world = z; report = now.report ++ [] })) (booked_found now.world steps (nat_le (now.world.booked + steps) most_steps) counted e) step)
 
   pub for_mark : (n : ℕ) → (all_settled now.world.clients ≡ true → Q (on_mark now n)) → IfSome (went now (mark_step now.world n)) Q
   unfolding mark_step

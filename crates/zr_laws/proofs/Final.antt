@@ -7,10 +7,10 @@ use Rattle.std.specs.List.{fold, list_all}
 use Rattle.std.proofs.lemmas.Bool.{false≢true, and_parts, or_left}
 use Rattle.std.proofs.lemmas.List.Sums.{fold-append}
 use Rattle.zr_msg.specs.declared.command.Command.TheVariants as c
-use Rattle.zr_network.specs.World.{Tagged, ClientState, client_of, empty_world, mark_step, outcome}
+use Rattle.zr_network.specs.World.{Tagged, ClientState, client_of, empty_world, is_empty, mark_step, outcome}
 use Rattle.zr_network.specs.Phase.{Numbered, ascends}
 use Rattle.zr_network.specs.Broker.{is_sample_line}
-use Rattle.zr_network.specs.Moments.{Moment, beginning, went, onward, reached, is_empty, is_idle, is_quiet, sent_to}
+use Rattle.zr_network.specs.Moments.{Moment, beginning, went, onward, reached, is_idle, is_quiet, sent_to}
 use Rattle.zr_network.specs.Refines.{sent_of, Refines, SamplesRefine}
 use Rattle.zr_laws.proofs.Names.{of_some, found}
 use Rattle.zr_laws.proofs.Lists.{weaker}
@@ -34,7 +34,7 @@ refused_stays [] = refl
 refused_stays (x ∷ xs) = refused_stays xs
 
 -- what holds of a moment where there is one
-at_some : (P : Moment → Type 0) (o : Option Moment) (m : Moment) → o ≡ Some m → IfSome o P → P m
+pub at_some : (P : Moment → Type 0) (o : Option Moment) (m : Moment) → o ≡ Some m → IfSome o P → P m
 at_some P o m e h = subst (λ (z : Option Moment). IfSome z P) e h
 
 begins : Known [] empty_world

@@ -1,21 +1,21 @@
 -- At every moment of a script the router's tables are what the lines say: a client that is attached has one link, and what
--- the router has of it, with what is still on its wire, is what it has declared. `Holds` says it of one name over plain
--- values; that each step keeps it stands in `Tables`.
-use Rattle.std.proofs.Common.{◌≡◌, ℕ, zero, suc, Bool, true, false, cond, List, [], ◌∷◌, ◌++◌, map, length, Option, Some, None, refl, sym, ap, ◌∙◌, append-nil}
-use Rattle.std.specs.Prelude.{◌==◌, ◌&&◌, ◌||◌, not, filter, flat_map, is_some, slice_get}
-use Rattle.std.specs.List.{list_all, list_any}
-use Rattle.std.specs.Cmp.{nat_eq_equiv}
+-- the router has of it, once it has heard what is still on the client's wire, is what the client has declared. `Holds` says
+-- it of one name over plain values; that each step keeps it stands in `Tables`.
+use Rattle.std.proofs.Common.{◌≡◌, ℕ, zero, suc, Bool, true, false, cond, List, [], ◌∷◌, ◌++◌, map, length, Option, Some, None, refl, ap, ◌∙◌, append-nil}
+use Rattle.std.specs.Prelude.{◌==◌, ◌||◌, flat_map, is_some, slice_get}
+use Rattle.std.specs.List.{fold, list_all, list_any}
 use Rattle.std.proofs.Math.Bool.{or-false}
-use Rattle.std.proofs.lemmas.Bool.{false≢true, and_parts, and_from, or_parts, or_from, not-true, not_from_false}
-use Rattle.std.proofs.lemmas.Grind.{flat_map-append}
+use Rattle.std.proofs.lemmas.Bool.{false≢true, or_parts}
 use Rattle.std.proofs.lemmas.List.Folds.{list_any-append}
+use Rattle.std.proofs.lemmas.List.Sums.{fold-append}
 use Rattle.zr_msg.specs.declared.msg.Msg.{Msg}
 use Rattle.zr_msg.specs.declared.msg.Msg.TheVariants as m
 use Rattle.zr_msg.specs.declared.command.Command.{Command}
 use Rattle.zr_table.specs.State.{Subscription, LinkState}
+use Rattle.zr_table.specs.Table.{undeclared, declared}
 use Rattle.zr_network.specs.World.{Tagged, ClientState, RouterState, WorldState, Routers, is_named, router_of, client_of, with_router}
 use Rattle.zr_network.specs.Phase.{Numbered}
-use Rattle.zr_network.specs.Broker.{Declaration, attaches, is_attached, declares, declarations}
+use Rattle.zr_network.specs.Broker.{Declaration, attaches, is_attached, declared_by, declarations}
 use Rattle.zr_laws.proofs.Queues.{is_at, links_at}
 
 -- ---- the invariant
@@ -34,25 +34,27 @@ all_links routers = flat_map (λ e. e.1.node.links) routers
 abbrev pub as_declaration : Subscription → Declaration
 as_declaration s = record { id = s.id; key = s.key }
 
--- the declaration that a message is, if it is one
-abbrev pub declaration_of : Msg → List Declaration
-declaration_of (m.Sub id key) = record { id = id; key = key } ∷ []
-declaration_of (m.Push key body) = []
+-- what a message does to the rows of its client's link
+abbrev pub hear : List Subscription → Msg → List Subscription
+hear rows (m.Sub id key) = declared rows id key
+hear rows (m.Unsub id) = undeclared rows id
+hear rows (m.Push key body) = rows
 
--- the declarations that wait on a wire
-abbrev pub waiting : List Tagged → List Declaration
-waiting xs = flat_map (λ x. declaration_of x.msg) xs
+-- a message, if it is no sample
+abbrev pub news_of : Msg → List Msg
+news_of (m.Sub id key) = m.Sub id key ∷ []
+news_of (m.Unsub id) = m.Unsub id ∷ []
+news_of (m.Push key body) = []
 
--- whether no two numbers are equal
-abbrev pub distinct : List ℕ → Bool
-distinct [] = true
-distinct (x ∷ xs) = not (list_any (λ y. y == x) xs) && distinct xs
+-- the messages on a wire that are no samples
+abbrev pub waiting : List Tagged → List Msg
+waiting xs = flat_map (λ x. news_of x.msg) xs
 
--- what of a client matters: its link, its ids, the declarations on its wire
+-- what of a client matters: its link, its ids, and what is on its wire that is no sample
 pub record View : Type 0 where
   pub link : ℕ
   pub ids : List ℕ
-  pub on_way : List Declaration
+  pub on_way : List Msg
 
 abbrev pub view_of : ClientState → View
 view_of s = record { link = s.link; ids = s.ids; on_way = waiting s.wire }
@@ -68,10 +70,9 @@ pub record Joins (attached : Bool) (said : List Declaration) (ns : List (List �
   pub rows : List Subscription
   pub one : links_at ns d links ≡ record { link = record { 0 = v.link }; subs = rows } ∷ []
   pub own : is_at (slice_get ns v.link) d ≡ true
-  -- what it has declared stands in the rows and on its wire
-  pub flow : map as_declaration rows ++ v.on_way ≡ said
+  -- they are what it has declared, once its wire is heard
+  pub flow : map as_declaration (fold hear rows v.on_way) ≡ said
   pub ids_are : v.ids ≡ map (λ s. s.id) said
-  pub apart : distinct v.ids ≡ true
 
 -- a name, of a client or of none
 abbrev pub Holds : Bool → List Declaration → List (List ℕ) → List LinkState → List ℕ → Option View → Type 0
@@ -96,37 +97,9 @@ module _ {X : Type 0} where
   get_end [] x = refl
   get_end (y ∷ ys) x = get_end ys x
 
-pub distinct_more : (xs : List ℕ) (i : ℕ) → distinct xs ≡ true → list_any (λ y. y == i) xs ≡ false → distinct (xs ++ i ∷ []) ≡ true
-distinct_more [] i h k = refl
-distinct_more (x ∷ xs) i h k =
-    and_from (not (list_any (λ y. y == x) (xs ++ i ∷ []))) (distinct (xs ++ i ∷ []))
-    (not_from_false (list_any (λ y. y == x) (xs ++ i ∷ []))
-    (list_any-append (λ y. y == x) xs (i ∷ [])
-    ∙ or_from (list_any (λ y. y == x) xs) ((i == x) || false) (not-true (list_any (λ y. y == x) xs) here.0) (or_from (i == x) false (nat_eq_equiv.symm i x ∙ free.0) refl)))
-    (distinct_more xs i here.1 free.1)
-  where
-    here : (not (list_any (λ y. y == x) xs) ≡ true) × (distinct xs ≡ true)
-    here = and_parts (not (list_any (λ y. y == x) xs)) (distinct xs) h
-
-    free : ((x == i) ≡ false) × (list_any (λ y. y == i) xs ≡ false)
-    free = or_parts (x == i) (list_any (λ y. y == i) xs) k
-
-pub distinct_before : (xs ys : List ℕ) (i : ℕ) → distinct (xs ++ i ∷ ys) ≡ true → list_any (λ y. y == i) xs ≡ false
-distinct_before [] ys i h = refl
-distinct_before (x ∷ xs) ys i h =
-    or_from (x == i) (list_any (λ y. y == i) xs) (nat_eq_equiv.symm x i ∙ among.0) (distinct_before xs ys i here.1)
-  where
-    here : (not (list_any (λ y. y == x) (xs ++ i ∷ ys)) ≡ true) × (distinct (xs ++ i ∷ ys) ≡ true)
-    here = and_parts (not (list_any (λ y. y == x) (xs ++ i ∷ ys))) (distinct (xs ++ i ∷ ys)) h
-
-    among : ((i == x) ≡ false) × (list_any (λ y. y == x) ys ≡ false)
-    among = or_parts (i == x) (list_any (λ y. y == x) ys)
-        (or_parts (list_any (λ y. y == x) xs) ((i == x) || list_any (λ y. y == x) ys)
-        (sym (list_any-append (λ y. y == x) xs (i ∷ ys)) ∙ not-true (list_any (λ y. y == x) (xs ++ i ∷ ys)) here.0)).1
-
 -- a new id replaces no row
 pub nothing_replaced : (rows : List Subscription) (id : ℕ) → list_any (λ y. y == id) (map (λ s. s.id) (map as_declaration rows)) ≡ false →
-    filter (λ s. not (s.id == id)) rows ≡ rows
+    undeclared rows id ≡ rows
 nothing_replaced [] id h = refl
 nothing_replaced (s ∷ rows) id h =
     let parts = or_parts (s.id == id) (list_any (λ y. y == id) (map (λ s. s.id) (map as_declaration rows))) h in
@@ -138,9 +111,8 @@ pub attached_more : (lines : List Numbered) (n : ℕ) (command : Command) (d : L
 attached_more lines n command d =
     list_any-append (λ x. attaches d x.1) lines ((n, command) ∷ []) ∙ ap (λ z. is_attached lines d || z) (or-false (attaches d command))
 
-pub declarations_more : (lines : List Numbered) (n : ℕ) (command : Command) (d : List ℕ) → declarations (lines ++ (n, command) ∷ []) d ≡ declarations lines d ++ declares d command
-declarations_more lines n command d =
-    flat_map-append (λ x. declares d x.1) lines ((n, command) ∷ []) ∙ ap (λ z. declarations lines d ++ z) (append-nil (declares d command))
+pub declarations_more : (lines : List Numbered) (n : ℕ) (command : Command) (d : List ℕ) → declarations (lines ++ (n, command) ∷ []) d ≡ declared_by d (declarations lines d) command
+declarations_more lines n command d = fold-append (λ so_far x. declared_by d so_far x.1) [] lines ((n, command) ∷ [])
 
 -- ---- links
 

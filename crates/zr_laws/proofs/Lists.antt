@@ -1,5 +1,5 @@
--- Filters and tests of lists.
-use Rattle.std.proofs.Common.{◌≡◌, Bool, true, false, cond, List, [], ◌∷◌, ◌++◌, refl, sym, ap, ◌∙◌}
+-- Filters, maps and tests of lists.
+use Rattle.std.proofs.Common.{◌≡◌, Bool, true, false, cond, List, [], ◌∷◌, ◌++◌, map, refl, sym, ap, ◌∙◌}
 use Rattle.std.specs.Prelude.{filter}
 use Rattle.std.specs.List.{list_all}
 use Rattle.std.proofs.lemmas.Bool.{and_parts, and_from}
@@ -17,6 +17,37 @@ module _ {X : Type 0} where
       by true ea false eb ih = rw eb ih
       by false ea true eb ih = rw ea ih
       by false ea false eb ih = ih
+
+  -- a filter keeps all that passes its test
+  pub filter_all : (t : X → Bool) (xs : List X) → list_all t xs ≡ true → filter t xs ≡ xs
+  filter_all t [] h = refl
+  filter_all t (x ∷ xs) h =
+      let parts = and_parts (t x) (list_all t xs) h in
+      rw parts.0 (ap (λ z. x ∷ z) (filter_all t xs parts.1))
+
+  -- what a filter keeps passes its test
+  pub all_of_filter : (t : X → Bool) (xs : List X) → list_all t (filter t xs) ≡ true
+  all_of_filter t [] = refl
+  all_of_filter t (x ∷ xs) = by (t x) refl (all_of_filter t xs)
+    where
+      by : (b : Bool) → t x ≡ b → list_all t (filter t xs) ≡ true → list_all t (cond b (x ∷ filter t xs) (filter t xs)) ≡ true
+      by true e ih = and_from (t x) (list_all t (filter t xs)) e ih
+      by false e ih = ih
+
+  -- two tests that say the same
+  pub filter_same : (t u : X → Bool) → ((x : X) → t x ≡ u x) → (xs : List X) → filter t xs ≡ filter u xs
+  filter_same t u f [] = refl
+  filter_same t u f (x ∷ xs) = ap (λ b. cond b (x ∷ filter t xs) (filter t xs)) (f x) ∙ ap (λ z. cond (u x) (x ∷ z) z) (filter_same t u f xs)
+
+  -- a filter goes through a map
+  pub filter_mapped : {Y : Type 0} (f : X → Y) (t : Y → Bool) (xs : List X) → filter t (map f xs) ≡ map f (filter (λ x. t (f x)) xs)
+  filter_mapped f t [] = refl
+  filter_mapped f t (x ∷ xs) = by (t (f x)) (filter_mapped f t xs)
+    where
+      by : (b : Bool) → filter t (map f xs) ≡ map f (filter (λ y. t (f y)) xs) →
+          cond b (f x ∷ filter t (map f xs)) (filter t (map f xs)) ≡ map f (cond b (x ∷ filter (λ y. t (f y)) xs) (filter (λ y. t (f y)) xs))
+      by true ih = ap (λ z. f x ∷ z) ih
+      by false ih = ih
 
   -- a filter keeps nothing where each element passes a test that rules it out
   pub filter_none_of_all : (p t : X → Bool) → ((x : X) → t x ≡ true → p x ≡ false) → (xs : List X) → list_all t xs ≡ true → filter p xs ≡ []

@@ -1,6 +1,6 @@
 -- The numbers of lines ascend: what stands before a mark, what follows it, and whose line a number is. Lists alone, by
 -- induction on them. The tests speak of the whole phase, `done ++ rest`, so that no filter changes as the phase goes on;
--- that a number is used once is needed here and nowhere else.
+-- that no other line has a sample's number is needed here and nowhere else (a run's steps share theirs).
 use Rattle.std.proofs.Common.{◌≡◌, ℕ, Bool, true, false, List, [], ◌∷◌, ◌++◌, refl, sym, ap, ◌∙◌, ◌<◌, ◌≤◌, arith, append_assoc, inl, inr}
 use Rattle.std.specs.Prelude.{◌==◌, ◌&&◌, ◌||◌, ◌⊎◌, not, nat_lt, nat_le}
 use Rattle.std.specs.List.{list_all}
@@ -62,13 +62,19 @@ none_later a t last (x ∷ xs) le h =
     parts : (is_later last x ≡ true) × (ascends x.0 xs ≡ true)
     parts = ascending last x xs h
 
+    sample : (n : ℕ) (client : List ℕ) → last < n → (n == t && is_named a client) ≡ false
+    sample n client lt = and_left (n == t) (is_named a client) (ne_eqb n t (λ e. absurd (omega arith)))
+
     by_command : (n : ℕ) (command : Command) → is_later last (n, command) ≡ true → (n == t && is_author a command) ≡ false
-    by_command n (c.Put client key body) k = and_left (n == t) (is_named a client) (ne_eqb n t (λ e. let lt : last < n = later_lt last n (c.Put client key body) refl k in absurd (omega arith)))
+    by_command n (c.Put client key payload) k = sample n client (later_lt last n (c.Put client key payload) refl k)
+    by_command n (c.Del client key) k = sample n client (later_lt last n (c.Del client key) refl k)
     by_command n (c.Router id) k = and_right (n == t) false refl
     by_command n (c.Client id router) k = and_right (n == t) false refl
     by_command n (c.Sub client id key) k = and_right (n == t) false refl
+    by_command n (c.Unsub client id) k = and_right (n == t) false refl
     by_command n (c.Handle router from) k = and_right (n == t) false refl
     by_command n (c.Take router to) k = and_right (n == t) false refl
+    by_command n (c.Run steps) k = and_right (n == t) false refl
     by_command n c.Mark k = and_right (n == t) false refl
 
 -- a number above those of all lines is none of theirs
@@ -97,25 +103,32 @@ agrees_from p (x ∷ xs) done last tags below h = (
     parts : (is_later last x ≡ true) × (ascends x.0 xs ≡ true)
     parts = ascending last x xs h
 
+    sample : (command : Command) → last < x.0 → ((t : ℕ) → p.by t ≡ is_line_of (done ++ (x.0, command) ∷ xs) p.author t) → p.by x.0 ≡ is_author p.author command
+    sample command lt all =
+        all x.0 ∙ list_any-append (λ y. y.0 == x.0 && is_author p.author y.1) done ((x.0, command) ∷ xs)
+        ∙ ap (λ z. z || ((x.0 == x.0 && is_author p.author command) || is_line_of xs p.author x.0)) (none_before p.author x.0 last done lt below)
+        ∙ ap (λ z. (z && is_author p.author command) || is_line_of xs p.author x.0) (eq-eqb x.0 x.0 refl)
+        ∙ ap (λ z. is_author p.author command || z) (none_later p.author x.0 x.0 xs (omega arith) parts.1)
+        ∙ or-false (is_author p.author command)
+
     by_command : (command : Command) → is_later last (x.0, command) ≡ true → ((t : ℕ) → p.by t ≡ is_line_of (done ++ (x.0, command) ∷ xs) p.author t) → Agrees p x.0 command
-    by_command (c.Put client key body) k all =
-        all x.0 ∙ list_any-append (λ y. y.0 == x.0 && is_author p.author y.1) done ((x.0, c.Put client key body) ∷ xs)
-        ∙ ap (λ z. z || ((x.0 == x.0 && is_named p.author client) || is_line_of xs p.author x.0))
-        (none_before p.author x.0 last done (later_lt last x.0 (c.Put client key body) refl k) below)
-        ∙ ap (λ z. (z && is_named p.author client) || is_line_of xs p.author x.0) (eq-eqb x.0 x.0 refl)
-        ∙ ap (λ z. is_named p.author client || z) (none_later p.author x.0 x.0 xs (omega arith) parts.1)
-        ∙ or-false (is_named p.author client)
+    by_command (c.Put client key payload) k all = sample (c.Put client key payload) (later_lt last x.0 (c.Put client key payload) refl k) all
+    by_command (c.Del client key) k all = sample (c.Del client key) (later_lt last x.0 (c.Del client key) refl k) all
     by_command (c.Router id) k all = tt
     by_command (c.Client id router) k all = tt
     by_command (c.Sub client id key) k all = tt
+    by_command (c.Unsub client id) k all = tt
     by_command (c.Handle router from) k all = tt
     by_command (c.Take router to) k all = tt
+    by_command (c.Run steps) k all = tt
     by_command c.Mark k all = tt
 
 -- whether a line gives a message its tag
 abbrev pub writes : Command → Bool
 writes (c.Sub client id key) = true
-writes (c.Put client key body) = true
+writes (c.Unsub client id) = true
+writes (c.Put client key payload) = true
+writes (c.Del client key) = true
 writes other = false
 
 -- each line of some that gives a message its tag passes a test
@@ -139,15 +152,21 @@ tagging_phase mark (x ∷ xs) done st =
     parts : (stays x.1 ≡ true) × (is_phase xs ≡ true)
     parts = and_parts (stays x.1) (is_phase xs) st
 
-    by_command : (command : Command) → stays command ≡ true → x.1 ≡ command → (not (writes command) || (nat_lt x.0 mark || is_sample_line (done ++ x ∷ xs) x.0)) ≡ true
-    by_command (c.Put client key body) k e =
+    sample : publishes x.1 ≡ true → (nat_lt x.0 mark || is_sample_line (done ++ x ∷ xs) x.0) ≡ true
+    sample e =
         or_right (nat_lt x.0 mark) (is_sample_line (done ++ x ∷ xs) x.0)
         (list_any-append (λ y. y.0 == x.0 && publishes y.1) done (x ∷ xs)
         ∙ or_right (is_sample_line done x.0) (is_sample_line (x ∷ xs) x.0)
-        (or_left (x.0 == x.0 && publishes x.1) (is_sample_line xs x.0) (and_from (x.0 == x.0) (publishes x.1) (eq-eqb x.0 x.0 refl) (ap publishes e))))
+        (or_left (x.0 == x.0 && publishes x.1) (is_sample_line xs x.0) (and_from (x.0 == x.0) (publishes x.1) (eq-eqb x.0 x.0 refl) e)))
+
+    by_command : (command : Command) → stays command ≡ true → x.1 ≡ command → (not (writes command) || (nat_lt x.0 mark || is_sample_line (done ++ x ∷ xs) x.0)) ≡ true
+    by_command (c.Put client key payload) k e = sample (ap publishes e)
+    by_command (c.Del client key) k e = sample (ap publishes e)
     by_command (c.Router id) k e = absurd (false≢true k)
     by_command (c.Client id router) k e = absurd (false≢true k)
     by_command (c.Sub client id key) k e = absurd (false≢true k)
+    by_command (c.Unsub client id) k e = absurd (false≢true k)
     by_command (c.Handle router from) k e = refl
     by_command (c.Take router to) k e = refl
+    by_command (c.Run steps) k e = refl
     by_command c.Mark k e = refl

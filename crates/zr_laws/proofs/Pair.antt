@@ -83,7 +83,8 @@ pub record IsRouted (p : Pair) : Type 0 where
 
 -- a line has the author's tag exactly where it is the author's
 abbrev pub Agrees : Pair → ℕ → Command → Type 0
-Agrees p n (c.Put client key body) = p.by n ≡ is_named p.author client
+Agrees p n (c.Put client key payload) = p.by n ≡ is_named p.author client
+Agrees p n (c.Del client key) = p.by n ≡ is_named p.author client
 Agrees p n other = Unit {0}
 
 abbrev pub AllAgree : Pair → List Numbered → Type 0

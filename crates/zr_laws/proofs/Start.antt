@@ -1,8 +1,8 @@
 -- At an accepted mark the flow begins: nothing under way has a tag of the phase, no declaration is under way, so the
 -- router's rows are what the clients have declared, and it sends a sample to a client exactly where the one broker does.
-use Rattle.std.proofs.Common.{◌≡◌, ℕ, Bool, true, false, List, [], ◌∷◌, ◌++◌, map, Option, Some, None, ◌<◌, refl, sym, ap, ◌∙◌, subst, append-nil, arith}
+use Rattle.std.proofs.Common.{◌≡◌, ℕ, Bool, true, false, List, [], ◌∷◌, map, Option, Some, None, ◌<◌, refl, sym, ap, ◌∙◌, subst, arith}
 use Rattle.std.specs.Prelude.{◌==◌, ◌&&◌, ◌||◌, not, nat_lt, filter, is_some, slice_get, option_to_list, unwrap_or}
-use Rattle.std.specs.List.{list_all, list_any}
+use Rattle.std.specs.List.{fold, list_all, list_any}
 use Rattle.std.proofs.lemmas.Bool.{false≢true, true≢false, and_parts, and_left, and_right, not_from_false, ltb-true, eqb-true, eq-eqb}
 use Rattle.zr_msg.specs.declared.msg.Msg.{Msg}
 use Rattle.zr_msg.specs.declared.msg.Msg.TheVariants as m
@@ -18,7 +18,7 @@ use Rattle.zr_laws.proofs.Queues.{queue_of, wire_of, on_wire, is_at, links_at}
 use Rattle.zr_laws.proofs.Pair.{Pair, items, link_at, Flows, goes_to, IsRouted}
 use Rattle.zr_laws.proofs.Numbers.{none_later}
 use Rattle.zr_laws.proofs.Tags.{Tags}
-use Rattle.zr_laws.proofs.Known.{all_links, as_declaration, waiting, View, view_of, view, Joins, Holds, Known, the_links}
+use Rattle.zr_laws.proofs.Known.{all_links, as_declaration, hear, waiting, View, view_of, view, Joins, Holds, Known, the_links}
 
 -- what is known of a moment right after a mark
 pub record Marked (before : List Numbered) (mark : ℕ) (now : Moment) : Type 0 where
@@ -56,15 +56,17 @@ items_pass t (x ∷ xs) h =
   where
     by : (msg : Msg) (tag : ℕ) → t tag ≡ true → list_all (λ i. t i.line) (item_of msg tag) ≡ true
     by (m.Sub id key) tag k = refl
+    by (m.Unsub id) tag k = refl
     by (m.Push key body) tag k = rw k refl
 
--- no declaration waits among samples
+-- among samples nothing waits that is heard
 none_waits : (ws : List Tagged) → list_all is_sample ws ≡ true → waiting ws ≡ []
 none_waits [] h = refl
 none_waits (x ∷ xs) h = by x.msg x.tag (and_parts (is_sample x) (list_all is_sample xs) h).0 (none_waits xs (and_parts (is_sample x) (list_all is_sample xs) h).1)
   where
     by : (msg : Msg) (tag : ℕ) → is_sample (record { msg = msg; tag = tag }) ≡ true → waiting xs ≡ [] → waiting (record { msg = msg; tag = tag } ∷ xs) ≡ []
     by (m.Sub id key) tag k ih = absurd (false≢true k)
+    by (m.Unsub id) tag k ih = absurd (false≢true k)
     by (m.Push key body) tag k ih = ih
 
 -- rows and declarations ask alike
@@ -138,7 +140,7 @@ module _ (before phase : List Numbered) (mark : ℕ) (later : ascends mark phase
       ja = subst (λ (v : Option View). Holds (is_attached before author) (declarations before author) now.world.names (all_links now.world.routers) author v) (ap view ea) (h.known.each author)
 
       said_is : declarations before receiver ≡ map as_declaration j.rows
-      said_is = sym j.flow ∙ ap (λ z. map as_declaration j.rows ++ z) (none_waits s.wire (ap (on_wire is_sample) (sym e) ∙ wires_settled receiver)) ∙ append-nil (map as_declaration j.rows)
+      said_is = sym j.flow ∙ ap (λ z. map as_declaration (fold hear j.rows z)) (none_waits s.wire (ap (on_wire is_sample) (sym e) ∙ wires_settled receiver))
 
   pub routed : IsRouted (pair_of before phase author receiver now)
   routed = record {

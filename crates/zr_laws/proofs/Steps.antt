@@ -1,6 +1,6 @@
 -- Each step of a phase keeps the flow: a sample is written to the author's wire, handled into the receiver's queue, or
--- sent to the receiver. One lemma a kind of step; the value that the step looks up is an argument with its equation, so
--- that each case computes, and a refused step owes nothing.
+-- sent to the receiver; a mark and a run's counting move nothing. One lemma a kind of step; the value that the step looks
+-- up is an argument with its equation, so that each case computes, and a refused step owes nothing.
 use Rattle.std.proofs.Common.{◌≡◌, ℕ, Bool, true, false, cond, List, [], ◌∷◌, ◌++◌, map, Option, Some, None, refl, sym, ap, ◌∙◌, append-nil, inl, inr}
 use Rattle.std.specs.Prelude.{◌==◌, ◌&&◌, not, filter, is_some, slice_get, option_to_list}
 use Rattle.std.specs.List.{list_all}
@@ -10,19 +10,22 @@ use Rattle.std.proofs.lemmas.List.Elements.{filter-append}
 use Rattle.std.proofs.lemmas.Map.Steps.{set_value_same}
 use Rattle.zr_msg.specs.declared.msg.Msg.{Msg}
 use Rattle.zr_msg.specs.declared.msg.Msg.TheVariants as m
+use Rattle.zr_msg.specs.declared.msg.Body.{Body}
+use Rattle.zr_msg.specs.declared.command.Command.{Command}
 use Rattle.zr_msg.specs.declared.command.Command.TheVariants as c
+use Rattle.zr_msg.specs.declared.report.ReportLine.{ReportLine}
 use Rattle.zr_msg.specs.declared.report.ReportLine.TheVariants as line
 use Rattle.zr_table.specs.State.{LinkState}
 use Rattle.zr_table.specs.Table.{subscribes, targets, to_each}
 use Rattle.zr_network.specs.World.{Tagged, ClientState, RouterState, Clients, is_named, router_of, client_of, with_client, sent, with_wire, with_queue, queued, all_queued, is_sample}
 use Rattle.zr_network.specs.Phase.{Numbered}
-use Rattle.zr_network.specs.Broker.{Item, wants, for_receiver}
+use Rattle.zr_network.specs.Broker.{Item, wants, item_for, for_receiver}
 use Rattle.zr_network.specs.Moments.{Moment, item_of, sent_to}
 use Rattle.zr_laws.proofs.Names.{names, same_name, read_after, read_kept, test_after}
 use Rattle.zr_laws.proofs.Lists.{all_both, filter_swap}
 use Rattle.zr_laws.proofs.Places.{Sent, Queue, Wire, Hop, hops, along, keeps, gains}
 use Rattle.zr_laws.proofs.Queues.{queue_of, wire_of, on_wire, is_at, links_at, all_kept, queue_adds}
-use Rattle.zr_laws.proofs.Cases.{on_put, on_handle, on_take, on_mark}
+use Rattle.zr_laws.proofs.Cases.{on_push, on_handle, on_take}
 use Rattle.zr_laws.proofs.Pair.{Pair, items, link_at, of_author, wanted_of, held, way, Flows, goes_to, IsRouted, sent_more, from_more, from_same}
 
 items_both : (xs ys : List Tagged) → items (xs ++ ys) ≡ items xs ++ items ys
@@ -32,9 +35,9 @@ module _ (p : Pair) (done : List Numbered) (now : Moment) (h : Flows p done now)
   -- ---- put
 
   -- what the author writes for the receiver
-  wire_gains : (n : ℕ) (client key body : List ℕ) → p.by n ≡ is_named p.author client → (ws : List Tagged) →
+  wire_gains : (n : ℕ) (client key : List ℕ) (body : Body) → p.by n ≡ is_named p.author client → (ws : List Tagged) →
       wanted_of p (items (cond (is_named client p.author) (ws ++ record { msg = m.Push key body; tag = n } ∷ []) ws))
-      ≡ wanted_of p (items ws) ++ for_receiver p.before p.author p.receiver (n, c.Put client key body)
+      ≡ wanted_of p (items ws) ++ item_for p.before p.author p.receiver n client key body
   wire_gains n client key body agrees ws = by (is_named client p.author) refl
     where
       item : Item
@@ -54,9 +57,12 @@ module _ (p : Pair) (done : List Numbered) (now : Moment) (h : Flows p done now)
           sym (append-nil (wanted_of p (items ws)))
           ∙ ap (λ z. wanted_of p (items ws) ++ cond (z && w) (item ∷ []) []) (sym (names.symm p.author client ∙ e))
 
-  pub put_keeps : (n : ℕ) (client key body : List ℕ) → p.by n ≡ is_named p.author client → (s : ClientState) → client_of now.world.clients client ≡ Some s →
-      Flows p (done ++ (n, c.Put client key body) ∷ []) (on_put now n client key body s)
-  put_keeps n client key body agrees s e = record {
+  -- the sample of a line, whatever its command
+  pub put_keeps : (n : ℕ) (command : Command) (client key : List ℕ) (body : Body) →
+      for_receiver p.before p.author p.receiver (n, command) ≡ item_for p.before p.author p.receiver n client key body →
+      p.by n ≡ is_named p.author client → (s : ClientState) → client_of now.world.clients client ≡ Some s →
+      Flows p (done ++ (n, command) ∷ []) (on_push now n client key body s)
+  put_keeps n command client key body publishes agrees s e = record {
     routers_is = h.routers_is;
     names_is = h.names_is;
     from_is = kept link_at refl p.author ∙ h.from_is;
@@ -64,9 +70,9 @@ module _ (p : Pair) (done : List Numbered) (now : Moment) (h : Flows p done now)
     samples = λ q. test_after (on_wire is_sample) clients client q s s' e (h.samples q) (λ same all. all_both is_sample s.wire (x ∷ []) all refl);
     others = λ q other. test_after (on_wire (λ y. not (p.by y.tag))) clients client q s s' e (h.others q other)
         (λ same all. all_both (λ y. not (p.by y.tag)) s.wire (x ∷ []) all (and_from (not (p.by n)) true (not_from_false (p.by n) (foreign q same other)) refl));
-    flow = gains (held p now) (held p next) (for_receiver p.before p.author p.receiver (n, c.Put client key body)) (way p) (sent_is, (queue_is, wire_is))
-        ∙ ap (λ z. z ++ for_receiver p.before p.author p.receiver (n, c.Put client key body)) h.flow
-        ∙ sym (from_more p.before done (n, c.Put client key body) p.author p.receiver);
+    flow = gains (held p now) (held p next) (for_receiver p.before p.author p.receiver (n, command)) (way p) (sent_is, (queue_is, wire_is))
+        ∙ ap (λ z. z ++ for_receiver p.before p.author p.receiver (n, command)) h.flow
+        ∙ sym (from_more p.before done (n, command) p.author p.receiver);
   }
     where
       clients : Clients
@@ -79,7 +85,7 @@ module _ (p : Pair) (done : List Numbered) (now : Moment) (h : Flows p done now)
       s' = sent s (m.Push key body) n
 
       next : Moment
-      next = on_put now n client key body s
+      next = on_push now n client key body s
 
       kept : {Y : Type 0} (f : Option ClientState → Y) → f (Some s') ≡ f (Some s) → (q : List ℕ) → f (client_of (with_client clients client s') q) ≡ f (client_of clients q)
       kept f same q = read_kept f clients client q s s' e same
@@ -97,9 +103,10 @@ module _ (p : Pair) (done : List Numbered) (now : Moment) (h : Flows p done now)
       own true same = ap (λ z. z ++ x ∷ []) (ap wire_of (sym e) ∙ ap (λ z. wire_of (client_of clients z)) (same_name client p.author same))
       own false same = refl
 
-      wire_is : held p next (Wire p.router p.author) ≡ held p now (Wire p.router p.author) ++ for_receiver p.before p.author p.receiver (n, c.Put client key body)
+      wire_is : held p next (Wire p.router p.author) ≡ held p now (Wire p.router p.author) ++ for_receiver p.before p.author p.receiver (n, command)
       wire_is = ap (λ z. wanted_of p (items z)) (read_after wire_of clients client p.author s s' e ∙ own (is_named client p.author) refl)
           ∙ wire_gains n client key body agrees (wire_of (client_of clients p.author))
+          ∙ ap (λ z. held p now (Wire p.router p.author) ++ z) (sym publishes)
 
   -- ---- take
 
@@ -152,28 +159,31 @@ module _ (p : Pair) (done : List Numbered) (now : Moment) (h : Flows p done now)
         queue_is ∙ ap (λ b. of_author p (items (cond b xs (queue_of (client_of clients p.receiver))))) other,
       )
 
-  -- ---- mark
+  -- ---- nothing moves
 
-  pub mark_keeps : (n : ℕ) → Flows p (done ++ (n, c.Mark) ∷ []) (on_mark now n)
-  mark_keeps n = record {
+  -- a line of no sample that leaves routers, clients and names, and reports nothing that was sent
+  pub idle_keeps : (n : ℕ) (command : Command) (booked : ℕ) (report : List ReportLine) → sent_to report p.receiver ≡ sent_to now.report p.receiver →
+      for_receiver p.before p.author p.receiver (n, command) ≡ [] →
+      Flows p (done ++ (n, command) ∷ []) (record { world = record { routers = now.world.routers; clients = now.world.clients; names = now.world.names; booked = booked }; report = report })
+  idle_keeps n command booked report same none = record {
     routers_is = h.routers_is;
     names_is = h.names_is;
     from_is = h.from_is;
     to_is = h.to_is;
     samples = h.samples;
     others = h.others;
-    flow = ap (λ z. of_author p z ++ along (held p now) (hops p.receiver (p.router ∷ []) p.author)) (sent_more now.report (line.Mark n) p.receiver ∙ append-nil (sent_to now.report p.receiver))
-        ∙ h.flow ∙ sym (from_same p.before done (n, c.Mark) p.author p.receiver refl);
+    flow = ap (λ z. of_author p z ++ along (held p now) (hops p.receiver (p.router ∷ []) p.author)) same
+        ∙ h.flow ∙ sym (from_same p.before done (n, command) p.author p.receiver none);
   }
 
   -- ---- handle
 
   -- copies of a sample, one for each link that the router picks of the receiver's
-  abbrev pub picked : Option LinkState → ℕ → List ℕ → List ℕ → ℕ → List Tagged
+  abbrev pub picked : Option LinkState → ℕ → List ℕ → Body → ℕ → List Tagged
   picked to link key body tag = map (λ l. record { msg = m.Push key body; tag = tag }) (filter (λ l. not (l.link.0 == link) && subscribes l key) (option_to_list to))
 
   -- the author's sample is among them exactly where the router sends it to the receiver's link
-  picked_is : (to : Option LinkState) (link : ℕ) (key body : List ℕ) (tag : ℕ) →
+  picked_is : (to : Option LinkState) (link : ℕ) (key : List ℕ) (body : Body) (tag : ℕ) →
       of_author p (items (picked to link key body tag)) ≡ cond (p.by tag && goes_to to link key) (record { line = tag; key = key; body = body } ∷ []) []
   picked_is None link key body tag = by (p.by tag)
     where
@@ -204,7 +214,7 @@ module _ (p : Pair) (done : List Numbered) (now : Moment) (h : Flows p done now)
           own false = refl
 
   pub push_keeps : IsRouted p → (n : ℕ) (router name : List ℕ) (r : RouterState) → router_of now.world.routers router ≡ Some r →
-      (s : ClientState) → client_of now.world.clients name ≡ Some s → (key body : List ℕ) (tag : ℕ) (xs : List Tagged) → s.wire ≡ record { msg = m.Push key body; tag = tag } ∷ xs →
+      (s : ClientState) → client_of now.world.clients name ≡ Some s → (key : List ℕ) (body : Body) (tag : ℕ) (xs : List Tagged) → s.wire ≡ record { msg = m.Push key body; tag = tag } ∷ xs →
       Flows p (done ++ (n, c.Handle router name) ∷ []) (on_handle now router name r s (m.Push key body) tag xs)
   push_keeps routed n router name r found_r s e key body tag xs front = record {
     routers_is = set_value_same (is_named router) now.world.routers r found_r ∙ h.routers_is;

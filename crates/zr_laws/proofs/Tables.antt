@@ -1,29 +1,34 @@
 -- Each step keeps what is known of the router's tables. Most steps are no news: they change no link, no name, no
--- declaration and nothing that matters of a client (`unchanged`). The news are a client that comes, a declaration that is
--- written to a wire, and one that is handled: it goes from the wire to the rows of that client's link and no other.
+-- declaration and nothing that matters of a client (`unchanged`). The news are a client that comes (`client_known`), a
+-- declaration or its end that is written to a wire, where it is heard last (`says_known`), and one that is handled: what is
+-- heard first on the wire goes into the rows of that client's link and no other (`heard_known`).
 use Rattle.std.proofs.Common.{◌≡◌, ℕ, Bool, true, false, cond, List, [], ◌∷◌, ◌++◌, map, length, Option, Some, None, Ok, refl, sym, ap, ◌∙◌, subst, append_assoc, append-nil}
-use Rattle.std.specs.Prelude.{◌==◌, ◌||◌, is_some, is_ok, slice_get, IfSome}
+use Rattle.std.specs.Prelude.{◌==◌, ◌||◌, not, filter, is_some, is_ok, slice_get, IfSome}
 use Rattle.std.specs.List.{list_all, list_any, fold}
 use Rattle.std.proofs.Math.Bool.{or-false}
 use Rattle.std.proofs.lemmas.Bool.{false≢true, true≢false, and_parts, and_from, or_right, eqb-true, eq-eqb}
 use Rattle.std.proofs.lemmas.Grind.{flat_map-append}
 use Rattle.std.proofs.lemmas.List.{map-append}
 use Rattle.std.proofs.lemmas.List.Elements.{filter-append}
+use Rattle.std.proofs.lemmas.List.Sums.{fold-append}
 use Rattle.zr_msg.specs.declared.msg.Msg.{Msg}
 use Rattle.zr_msg.specs.declared.msg.Msg.TheVariants as m
+use Rattle.zr_msg.specs.declared.msg.Body.{Body}
+use Rattle.zr_msg.specs.declared.msg.Body.TheVariants as b
+use Rattle.zr_msg.specs.declared.msg.Event.TheVariants.{From}
 use Rattle.zr_msg.specs.declared.command.Command.{Command}
 use Rattle.zr_msg.specs.declared.command.Command.TheVariants as c
-use Rattle.zr_table.specs.State.{LinkState}
-use Rattle.zr_table.specs.Table.{declared, declared_on, targets, to_each}
-use Rattle.zr_network.specs.World.{Tagged, ClientState, RouterState, WorldState, Routers, is_named, router_of, client_of, with_client, sent, declaring, with_wire, with_queue, first_router, having, linked, weighing, new_client, outcome}
+use Rattle.zr_table.specs.State.{Subscription, LinkState}
+use Rattle.zr_table.specs.Table.{sends, undeclared, declared, changed_on, targets, to_each}
+use Rattle.zr_network.specs.World.{Tagged, ClientState, Clients, RouterState, WorldState, Routers, is_named, router_of, client_of, with_tables, with_router, with_client, sent, declaring, undeclaring, with_wire, with_queue, first_router, having, linked, weighing, new_client, outcome}
 use Rattle.zr_network.specs.Phase.{Numbered}
-use Rattle.zr_network.specs.Broker.{Declaration, attaches, is_attached, declares, declarations}
+use Rattle.zr_network.specs.Broker.{Declaration, attaches, is_attached, declared_by, declarations}
 use Rattle.zr_network.specs.Moments.{Moment, went, onward}
 use Rattle.zr_laws.proofs.Names.{names, same_name, value_new, read_after, read_kept}
-use Rattle.zr_laws.proofs.Lists.{weaker, all_both}
+use Rattle.zr_laws.proofs.Lists.{filter_same, filter_mapped, weaker, all_both}
 use Rattle.zr_laws.proofs.Queues.{is_at, links_at, all_kept}
-use Rattle.zr_laws.proofs.Cases.{on_router, on_client, on_sub, on_put, on_handle, on_take, for_router, for_client, for_sub, for_put, for_handle, for_take, for_mark}
-use Rattle.zr_laws.proofs.Known.{is_single, all_links, as_declaration, declaration_of, waiting, distinct, View, view_of, view, Joins, Holds, Known, get_more, get_end, distinct_more, distinct_before, nothing_replaced, attached_more, declarations_more, the_links}
+use Rattle.zr_laws.proofs.Cases.{on_router, on_client, on_sub, on_unsub, on_push, on_handle, on_take, on_book, for_router, for_client, for_sub, for_unsub, for_push, for_handle, for_take, for_run, for_mark}
+use Rattle.zr_laws.proofs.Known.{is_single, all_links, as_declaration, hear, news_of, waiting, View, view_of, view, Joins, Holds, Known, get_more, get_end, nothing_replaced, attached_more, declarations_more, the_links}
 
 -- ---- no news
 
@@ -33,7 +38,7 @@ same_holds : (att att' : Bool) (said said' : List Declaration) (ns ns' : List (L
 same_holds att att' said said' ns ns' links links' d v v' ea es en el ev h = rw (ea, es, en, el, ev) h
 
 -- a line that brings no client and no declaration, where nothing changes that matters
-unchanged : (lines : List Numbered) (n : ℕ) (command : Command) (w w' : WorldState) → ((d : List ℕ) → attaches d command ≡ false) → ((d : List ℕ) → declares d command ≡ []) →
+unchanged : (lines : List Numbered) (n : ℕ) (command : Command) (w w' : WorldState) → ((d : List ℕ) → attaches d command ≡ false) → ((d : List ℕ) (so_far : List Declaration) → declared_by d so_far command ≡ so_far) →
     is_single w'.routers ≡ true → w'.names ≡ w.names → all_links w'.routers ≡ all_links w.routers →
     ((d : List ℕ) → view (client_of w'.clients d) ≡ view (client_of w.clients d)) → Known lines w → Known (lines ++ (n, command) ∷ []) w'
 unchanged lines n command w w' no_client no_sub one en el ev h = record {
@@ -42,7 +47,7 @@ unchanged lines n command w w' no_client no_sub one en el ev h = record {
   each = λ d. same_holds (is_attached lines d) (is_attached (lines ++ (n, command) ∷ []) d) (declarations lines d) (declarations (lines ++ (n, command) ∷ []) d)
       w.names w'.names (all_links w.routers) (all_links w'.routers) d (view (client_of w.clients d)) (view (client_of w'.clients d))
       (attached_more lines n command d ∙ ap (λ z. is_attached lines d || z) (no_client d) ∙ or-false (is_attached lines d))
-      (declarations_more lines n command d ∙ ap (λ z. declarations lines d ++ z) (no_sub d) ∙ append-nil (declarations lines d))
+      (declarations_more lines n command d ∙ no_sub d (declarations lines d))
       en el (ev d) (h.each d);
 }
 
@@ -53,7 +58,7 @@ module _ (lines : List Numbered) (now : Moment) (h : Known lines now.world) wher
   router_known n id first = by now.world.routers first refl
     where
       by : (rs : Routers) → first_router rs ≡ Ok tt → now.world.routers ≡ rs → Known (lines ++ (n, c.Router id) ∷ []) (on_router now id).world
-      by [] k e = unchanged lines n (c.Router id) now.world (on_router now id).world (λ d. refl) (λ d. refl) (rw e refl) refl (rw e refl) (λ d. refl) h
+      by [] k e = unchanged lines n (c.Router id) now.world (on_router now id).world (λ d. refl) (λ d so_far. refl) (rw e refl) refl (rw e refl) (λ d. refl) h
       by (x ∷ xs) k e = absurd (false≢true (ap is_ok k))
 
   -- ---- a client
@@ -112,7 +117,7 @@ module _ (lines : List Numbered) (now : Moment) (h : Known lines now.world) wher
           ∙ ap (λ o. links_at ns d (all_links now.world.routers) ++ cond (is_at o d) (new ∷ []) []) (get_end ns id)
 
       said_now : (d : List ℕ) → declarations (lines ++ (n, c.Client id router) ∷ []) d ≡ declarations lines d
-      said_now d = declarations_more lines n (c.Client id router) d ∙ append-nil (declarations lines d)
+      said_now d = declarations_more lines n (c.Client id router) d
 
       view_now : (d : List ℕ) (b : Bool) → is_named d id ≡ b → view (client_of w'.clients d) ≡ view (cond b (Some fresh) (client_of now.world.clients d))
       view_now d b e = ap view (value_new now.world.clients id d fresh free ∙ ap (λ z. cond z (Some fresh) (client_of now.world.clients d)) e)
@@ -127,7 +132,6 @@ module _ (lines : List Numbered) (now : Moment) (h : Known lines now.world) wher
         own = ap (λ o. is_at o d) (get_end ns id) ∙ names.symm id d ∙ same;
         flow = sym (said_now d ∙ k.1);
         ids_are = ap (map (λ s. s.id)) (sym (said_now d ∙ k.1));
-        apart = refl;
       }
 
       -- the others
@@ -147,7 +151,6 @@ module _ (lines : List Numbered) (now : Moment) (h : Known lines now.world) wher
         own = at_more ns (id ∷ []) v.link d k.own;
         flow = k.flow ∙ sym (said_now d);
         ids_are = k.ids_are ∙ ap (map (λ s. s.id)) (sym (said_now d));
-        apart = k.apart;
       }
 
       at : (d : List ℕ) (b : Bool) → is_named d id ≡ b →
@@ -162,71 +165,118 @@ module _ (lines : List Numbered) (now : Moment) (h : Known lines now.world) wher
       Joins (is_attached lines d) (declarations lines d) now.world.names (all_links now.world.routers) d (view_of s)
   known_of d s e = subst (λ (v : Option View). Holds (is_attached lines d) (declarations lines d) now.world.names (all_links now.world.routers) d v) (ap view e) (h.each d)
 
-  -- ---- a declaration is written
+  -- ---- a declaration is written, or its end
 
-  sub_known : (n : ℕ) (name : List ℕ) (id : ℕ) (key : List ℕ) (s : ClientState) → client_of now.world.clients name ≡ Some s → list_any (λ i. i == id) s.ids ≡ false →
-      (r : RouterState) → router_of now.world.routers s.router ≡ Some r → Known (lines ++ (n, c.Sub name id key) ∷ []) (on_sub now n name id key s r).world
-  sub_known n name id key s e fresh r er = record {
-    one_router = rows.2;
+  -- a client s writes a message that is no sample, and is s' then
+  says_known : (n : ℕ) (command : Command) (name : List ℕ) (s s' : ClientState) (msg : Msg) (routers : Routers) (change : List Declaration → List Declaration) →
+      client_of now.world.clients name ≡ Some s → s'.link ≡ s.link → s'.wire ≡ s.wire ++ record { msg = msg; tag = n } ∷ [] → news_of msg ≡ msg ∷ [] →
+      is_single routers ≡ true → all_links routers ≡ all_links now.world.routers →
+      ((d : List ℕ) → attaches d command ≡ false) → ((d : List ℕ) (so_far : List Declaration) → declared_by d so_far command ≡ cond (is_named d name) (change so_far) so_far) →
+      ((rows : List Subscription) → s.ids ≡ map (λ y. y.id) (map as_declaration rows) →
+      (map as_declaration (hear rows msg) ≡ change (map as_declaration rows)) × (s'.ids ≡ map (λ y. y.id) (change (map as_declaration rows)))) →
+      Known (lines ++ (n, command) ∷ []) (with_tables now.world routers (with_client now.world.clients name s'))
+  says_known n command name s s' msg routers change e link_is wire_is news one links_are no_client says hears = record {
+    one_router = one;
     named = ap (list_all (λ l. is_some (slice_get now.world.names l.link.0))) links_are ∙ h.named;
     each = λ d. at d (is_named name d) refl;
   }
     where
-      declaration : Declaration
-      declaration = record { id = id; key = key }
+      lines' : List Numbered
+      lines' = lines ++ (n, command) ∷ []
 
-      s' : ClientState
-      s' = sent (declaring s id) (m.Sub id key) n
+      attached_now : (d : List ℕ) → is_attached lines' d ≡ is_attached lines d
+      attached_now d = attached_more lines n command d ∙ ap (λ z. is_attached lines d || z) (no_client d) ∙ or-false (is_attached lines d)
 
-      w' : WorldState
-      w' = (on_sub now n name id key s r).world
+      said_now : (d : List ℕ) (b : Bool) → is_named name d ≡ b → declarations lines' d ≡ cond b (change (declarations lines d)) (declarations lines d)
+      said_now d b k = declarations_more lines n command d ∙ says d (declarations lines d) ∙ ap (λ z. cond z (change (declarations lines d)) (declarations lines d)) (names.symm d name ∙ k)
 
-      rows : (all_links now.world.routers ≡ r.node.links) × (all_links w'.routers ≡ r.node.links) × (is_single w'.routers ≡ true)
-      rows = the_links now.world.routers s.router r (weighing r key) h.one_router er
-
-      links_are : all_links w'.routers ≡ all_links now.world.routers
-      links_are = rows.1 ∙ sym rows.0
-
-      attached_now : (d : List ℕ) → is_attached (lines ++ (n, c.Sub name id key) ∷ []) d ≡ is_attached lines d
-      attached_now d = attached_more lines n (c.Sub name id key) d ∙ or-false (is_attached lines d)
-
-      said_now : (d : List ℕ) (b : Bool) → is_named name d ≡ b → declarations (lines ++ (n, c.Sub name id key) ∷ []) d ≡ declarations lines d ++ cond b (declaration ∷ []) []
-      said_now d b k = declarations_more lines n (c.Sub name id key) d ∙ ap (λ z. declarations lines d ++ cond z (declaration ∷ []) []) (names.symm d name ∙ k)
-
-      view_now : (d : List ℕ) (b : Bool) → is_named name d ≡ b → view (client_of w'.clients d) ≡ cond b (Some (view_of s')) (view (client_of now.world.clients d))
+      view_now : (d : List ℕ) (b : Bool) → is_named name d ≡ b → view (client_of (with_client now.world.clients name s') d) ≡ cond b (Some (view_of s')) (view (client_of now.world.clients d))
       view_now d b k = read_after view now.world.clients name d s s' e ∙ ap (λ z. cond z (Some (view_of s')) (view (client_of now.world.clients d))) k
 
+      -- what is on the wire then
+      on_way : waiting s'.wire ≡ waiting s.wire ++ msg ∷ []
+      on_way = ap waiting wire_is ∙ flat_map-append (λ x. news_of x.msg) s.wire (record { msg = msg; tag = n } ∷ []) ∙ ap (λ z. waiting s.wire ++ (z ++ [])) news
+
       at : (d : List ℕ) (b : Bool) → is_named name d ≡ b →
-          Holds (is_attached (lines ++ (n, c.Sub name id key) ∷ []) d) (declarations (lines ++ (n, c.Sub name id key) ∷ []) d) now.world.names (all_links w'.routers) d (view (client_of w'.clients d))
+          Holds (is_attached lines' d) (declarations lines' d) now.world.names (all_links routers) d (view (client_of (with_client now.world.clients name s') d))
       at d true same = rw (view_now d true same) joins
         where
           j : Joins (is_attached lines d) (declarations lines d) now.world.names (all_links now.world.routers) d (view_of s)
           j = known_of d s (ap (client_of now.world.clients) (sym (same_name name d same)) ∙ e)
 
-          joins : Joins (is_attached (lines ++ (n, c.Sub name id key) ∷ []) d) (declarations (lines ++ (n, c.Sub name id key) ∷ []) d) now.world.names (all_links w'.routers) d (view_of s')
+          heard : List Subscription
+          heard = fold hear j.rows (waiting s.wire)
+
+          news_is : (map as_declaration (hear heard msg) ≡ change (map as_declaration heard)) × (s'.ids ≡ map (λ y. y.id) (change (map as_declaration heard)))
+          news_is = hears heard (j.ids_are ∙ ap (map (λ y. y.id)) (sym j.flow))
+
+          said_is : change (map as_declaration heard) ≡ declarations lines' d
+          said_is = ap change j.flow ∙ sym (said_now d true same)
+
+          joins : Joins (is_attached lines' d) (declarations lines' d) now.world.names (all_links routers) d (view_of s')
           joins = record {
             is_there = attached_now d ∙ j.is_there;
             rows = j.rows;
-            one = ap (links_at now.world.names d) links_are ∙ j.one;
-            own = j.own;
-            flow = ap (λ z. map as_declaration j.rows ++ z) (flat_map-append (λ x. declaration_of x.msg) s.wire (record { msg = m.Sub id key; tag = n } ∷ []))
-                ∙ sym (append_assoc (map as_declaration j.rows) (waiting s.wire) (declaration ∷ []))
-                ∙ ap (λ z. z ++ declaration ∷ []) j.flow ∙ sym (said_now d true same);
-            ids_are = ap (λ z. z ++ id ∷ []) j.ids_are ∙ sym (map-append (λ y. y.id) (declarations lines d) (declaration ∷ [])) ∙ ap (map (λ y. y.id)) (sym (said_now d true same));
-            apart = distinct_more s.ids id j.apart fresh;
+            one = ap (links_at now.world.names d) links_are ∙ j.one ∙ ap (λ z. record { link = record { 0 = z }; subs = j.rows } ∷ []) (sym link_is);
+            own = ap (λ z. is_at (slice_get now.world.names z) d) link_is ∙ j.own;
+            flow = ap (λ z. map as_declaration (fold hear j.rows z)) on_way
+                ∙ ap (map as_declaration) (fold-append hear j.rows (waiting s.wire) (msg ∷ []))
+                ∙ news_is.0 ∙ said_is;
+            ids_are = news_is.1 ∙ ap (map (λ y. y.id)) said_is;
           }
-      at d false other = same_holds (is_attached lines d) (is_attached (lines ++ (n, c.Sub name id key) ∷ []) d) (declarations lines d) (declarations (lines ++ (n, c.Sub name id key) ∷ []) d)
-          now.world.names now.world.names (all_links now.world.routers) (all_links w'.routers) d (view (client_of now.world.clients d)) (view (client_of w'.clients d))
-          (attached_now d) (said_now d false other ∙ append-nil (declarations lines d)) refl links_are (view_now d false other) (h.each d)
+      at d false other = same_holds (is_attached lines d) (is_attached lines' d) (declarations lines d) (declarations lines' d)
+          now.world.names now.world.names (all_links now.world.routers) (all_links routers) d (view (client_of now.world.clients d)) (view (client_of (with_client now.world.clients name s') d))
+          (attached_now d) (said_now d false other) refl links_are (view_now d false other) (h.each d)
+
+  sub_known : (n : ℕ) (name : List ℕ) (id : ℕ) (key : List ℕ) (s : ClientState) → client_of now.world.clients name ≡ Some s → list_any (λ i. i == id) s.ids ≡ false →
+      (r : RouterState) → router_of now.world.routers s.router ≡ Some r → Known (lines ++ (n, c.Sub name id key) ∷ []) (on_sub now n name id key s r).world
+  sub_known n name id key s e fresh r er =
+      says_known n (c.Sub name id key) name s (sent (declaring s id) (m.Sub id key) n) (m.Sub id key) (with_router now.world.routers s.router (weighing r key))
+      (λ said. said ++ declaration ∷ []) e refl refl refl rows.2 (rows.1 ∙ sym rows.0) (λ d. refl) (λ d so_far. refl) hears
+    where
+      declaration : Declaration
+      declaration = record { id = id; key = key }
+
+      rows : (all_links now.world.routers ≡ r.node.links) × (all_links (with_router now.world.routers s.router (weighing r key)) ≡ r.node.links)
+          × (is_single (with_router now.world.routers s.router (weighing r key)) ≡ true)
+      rows = the_links now.world.routers s.router r (weighing r key) h.one_router er
+
+      -- a new id comes behind the others
+      hears : (rows : List Subscription) → s.ids ≡ map (λ y. y.id) (map as_declaration rows) →
+          (map as_declaration (declared rows id key) ≡ map as_declaration rows ++ declaration ∷ [])
+          × (s.ids ++ id ∷ [] ≡ map (λ y. y.id) (map as_declaration rows ++ declaration ∷ []))
+      hears rows ids_are = (
+        ap (λ z. map as_declaration (z ++ record { id = id; key = key } ∷ [])) (nothing_replaced rows id (ap (list_any (λ i. i == id)) (sym ids_are) ∙ fresh))
+            ∙ map-append as_declaration rows (record { id = id; key = key } ∷ []),
+        ap (λ z. z ++ id ∷ []) ids_are ∙ sym (map-append (λ y. y.id) (map as_declaration rows) (declaration ∷ [])),
+      )
+
+  unsub_known : (n : ℕ) (name : List ℕ) (id : ℕ) (s : ClientState) → client_of now.world.clients name ≡ Some s → Known (lines ++ (n, c.Unsub name id) ∷ []) (on_unsub now n name id s).world
+  unsub_known n name id s e =
+      says_known n (c.Unsub name id) name s (sent (undeclaring s id) (m.Unsub id) n) (m.Unsub id) now.world.routers
+      (filter (λ y. not (y.id == id))) e refl refl refl h.one_router refl (λ d. refl) (λ d so_far. refl)
+      (λ rows ids_are. (
+        sym (filter_mapped as_declaration (λ y. not (y.id == id)) rows),
+        ap (filter (λ i. not (i == id))) ids_are ∙ filter_mapped (λ y. y.id) (λ i. not (i == id)) (map as_declaration rows),
+      ))
+
+  -- a sample is written
+  written_known : (n : ℕ) (command : Command) (name key : List ℕ) (body : Body) → ((d : List ℕ) → attaches d command ≡ false) →
+      ((d : List ℕ) (so_far : List Declaration) → declared_by d so_far command ≡ so_far) →
+      (s : ClientState) → client_of now.world.clients name ≡ Some s → Known (lines ++ (n, command) ∷ []) (on_push now n name key body s).world
+  written_known n command name key body no_client no_sub s e =
+      unchanged lines n command now.world (on_push now n name key body s).world no_client no_sub h.one_router refl refl
+      (λ d. read_kept view now.world.clients name d s (sent s (m.Push key body) n) e
+      (ap (λ z. Some (record { link = s.link; ids = s.ids; on_way = z })) (flat_map-append (λ x. news_of x.msg) s.wire (record { msg = m.Push key body; tag = n } ∷ []) ∙ append-nil (waiting s.wire)))) h
 
   -- ---- a message is handled
 
   -- a sample
   push_known : (n : ℕ) (router name : List ℕ) (r : RouterState) → router_of now.world.routers router ≡ Some r → (s : ClientState) → client_of now.world.clients name ≡ Some s →
-      (key body : List ℕ) (tag : ℕ) (xs : List Tagged) → s.wire ≡ record { msg = m.Push key body; tag = tag } ∷ xs →
+      (key : List ℕ) (body : Body) (tag : ℕ) (xs : List Tagged) → s.wire ≡ record { msg = m.Push key body; tag = tag } ∷ xs →
       Known (lines ++ (n, c.Handle router name) ∷ []) (on_handle now router name r s (m.Push key body) tag xs).world
   push_known n router name r er s e key body tag xs front =
-      unchanged lines n (c.Handle router name) now.world w' (λ d. refl) (λ d. refl) rows.2 refl (rows.1 ∙ sym rows.0)
+      unchanged lines n (c.Handle router name) now.world w' (λ d. refl) (λ d so_far. refl) rows.2 refl (rows.1 ∙ sym rows.0)
       (λ d. all_kept view tag (λ y z. refl) (with_client now.world.clients name (with_wire s xs)) now.world.names (to_each (m.Push key body) (targets r.node s.link key)) d
       ∙ read_kept view now.world.clients name d s (with_wire s xs) e (ap (λ z. Some (record { link = s.link; ids = s.ids; on_way = waiting z })) (sym front)))
       h
@@ -238,103 +288,91 @@ module _ (lines : List Numbered) (now : Moment) (h : Known lines now.world) wher
       rows = the_links now.world.routers router r (having r s.link (m.Push key body)) h.one_router er
 
   -- a link's number stays, whatever its client declares
-  keeps_link : (from id : ℕ) (key : List ℕ) (l : LinkState) → (declared_on from id key l).link ≡ l.link
-  keeps_link from id key l = by (l.link.0 == from)
+  keeps_link : (from : ℕ) (change : List Subscription → List Subscription) (l : LinkState) → (changed_on from change l).link ≡ l.link
+  keeps_link from change l = by (l.link.0 == from)
     where
-      by : (b : Bool) → (cond b (record { link = l.link; subs = declared l.subs id key }) l).link ≡ l.link
+      by : (b : Bool) → (cond b (record { link = l.link; subs = change l.subs }) l).link ≡ l.link
       by true = refl
       by false = refl
 
-  links_map : (ns : List (List ℕ)) (d : List ℕ) (from id : ℕ) (key : List ℕ) (links : List LinkState) →
-      links_at ns d (map (declared_on from id key) links) ≡ map (declared_on from id key) (links_at ns d links)
-  links_map ns d from id key [] = refl
-  links_map ns d from id key (l ∷ ls) =
-      ap (λ z. cond (is_at (slice_get ns z.0) d) (declared_on from id key l ∷ links_at ns d (map (declared_on from id key) ls)) (links_at ns d (map (declared_on from id key) ls))) (keeps_link from id key l)
-      ∙ by (links_map ns d from id key ls) (is_at (slice_get ns l.link.0) d)
-    where
-      by : links_at ns d (map (declared_on from id key) ls) ≡ map (declared_on from id key) (links_at ns d ls) → (b : Bool) →
-          cond b (declared_on from id key l ∷ links_at ns d (map (declared_on from id key) ls)) (links_at ns d (map (declared_on from id key) ls))
-          ≡ map (declared_on from id key) (cond b (l ∷ links_at ns d ls) (links_at ns d ls))
-      by ih true = ap (λ z. declared_on from id key l ∷ z) ih
-      by ih false = ih
+  links_map : (ns : List (List ℕ)) (d : List ℕ) (from : ℕ) (change : List Subscription → List Subscription) (links : List LinkState) →
+      links_at ns d (map (changed_on from change) links) ≡ map (changed_on from change) (links_at ns d links)
+  links_map ns d from change links =
+      filter_mapped (changed_on from change) (λ l. is_at (slice_get ns l.link.0) d) links
+      ∙ ap (map (changed_on from change)) (filter_same (λ l. is_at (slice_get ns (changed_on from change l).link.0) d) (λ l. is_at (slice_get ns l.link.0) d)
+      (λ l. ap (λ z. is_at (slice_get ns z.0) d) (keeps_link from change l)) links)
 
-  named_map : (ns : List (List ℕ)) (from id : ℕ) (key : List ℕ) (links : List LinkState) → list_all (λ l. is_some (slice_get ns l.link.0)) links ≡ true →
-      list_all (λ l. is_some (slice_get ns l.link.0)) (map (declared_on from id key) links) ≡ true
-  named_map ns from id key [] k = refl
-  named_map ns from id key (l ∷ ls) k =
+  named_map : (ns : List (List ℕ)) (from : ℕ) (change : List Subscription → List Subscription) (links : List LinkState) → list_all (λ l. is_some (slice_get ns l.link.0)) links ≡ true →
+      list_all (λ l. is_some (slice_get ns l.link.0)) (map (changed_on from change) links) ≡ true
+  named_map ns from change [] k = refl
+  named_map ns from change (l ∷ ls) k =
       let parts = and_parts (is_some (slice_get ns l.link.0)) (list_all (λ x. is_some (slice_get ns x.link.0)) ls) k in
-      and_from (is_some (slice_get ns (declared_on from id key l).link.0)) (list_all (λ x. is_some (slice_get ns x.link.0)) (map (declared_on from id key) ls))
-      (ap (λ z. is_some (slice_get ns z.0)) (keeps_link from id key l) ∙ parts.0) (named_map ns from id key ls parts.1)
+      and_from (is_some (slice_get ns (changed_on from change l).link.0)) (list_all (λ x. is_some (slice_get ns x.link.0)) (map (changed_on from change) ls))
+      (ap (λ z. is_some (slice_get ns z.0)) (keeps_link from change l) ∙ parts.0) (named_map ns from change ls parts.1)
 
-  -- a declaration: it goes from the wire to the rows of its client
-  declared_known : (n : ℕ) (router name : List ℕ) (r : RouterState) → router_of now.world.routers router ≡ Some r → (s : ClientState) → client_of now.world.clients name ≡ Some s →
-      (id : ℕ) (key : List ℕ) (tag : ℕ) (xs : List Tagged) → s.wire ≡ record { msg = m.Sub id key; tag = tag } ∷ xs →
-      Known (lines ++ (n, c.Handle router name) ∷ []) (on_handle now router name r s (m.Sub id key) tag xs).world
-  declared_known n router name r er s e id key tag xs front = record {
+  -- a message that is no sample: it is heard, and its client's rows are changed
+  heard_known : (n : ℕ) (router name : List ℕ) (r : RouterState) → router_of now.world.routers router ≡ Some r → (s : ClientState) → client_of now.world.clients name ≡ Some s →
+      (msg : Msg) (tag : ℕ) (xs : List Tagged) → s.wire ≡ record { msg = msg; tag = tag } ∷ xs → (change : List Subscription → List Subscription) →
+      (having r s.link msg).node.links ≡ map (changed_on s.link change) r.node.links → news_of msg ≡ msg ∷ [] → ((rows : List Subscription) → hear rows msg ≡ change rows) →
+      Known (lines ++ (n, c.Handle router name) ∷ []) (on_handle now router name r s msg tag xs).world
+  heard_known n router name r er s e msg tag xs front change changes news hears = record {
     one_router = rows.2;
-    named = ap (list_all (λ l. is_some (slice_get ns l.link.0))) links_are ∙ named_map ns s.link id key (all_links now.world.routers) h.named;
+    named = ap (list_all (λ l. is_some (slice_get ns l.link.0))) links_are ∙ named_map ns s.link change (all_links now.world.routers) h.named;
     each = λ d. at d (is_named name d) refl;
   }
     where
       ns : List (List ℕ)
       ns = now.world.names
 
-      declaration : Declaration
-      declaration = record { id = id; key = key }
+      clients : Clients
+      clients = with_client now.world.clients name (with_wire s xs)
 
-      f : LinkState → LinkState
-      f l = declared_on s.link id key l
+      lines' : List Numbered
+      lines' = lines ++ (n, c.Handle router name) ∷ []
 
       w' : WorldState
-      w' = (on_handle now router name r s (m.Sub id key) tag xs).world
+      w' = (on_handle now router name r s msg tag xs).world
 
-      rows : (all_links now.world.routers ≡ r.node.links) × (all_links w'.routers ≡ map (declared_on s.link id key) r.node.links) × (is_single w'.routers ≡ true)
-      rows = the_links now.world.routers router r (having r s.link (m.Sub id key)) h.one_router er
+      rows : (all_links now.world.routers ≡ r.node.links) × (all_links w'.routers ≡ (having r s.link msg).node.links) × (is_single w'.routers ≡ true)
+      rows = the_links now.world.routers router r (having r s.link msg) h.one_router er
 
-      links_are : all_links w'.routers ≡ map (declared_on s.link id key) (all_links now.world.routers)
-      links_are = rows.1 ∙ ap (map (declared_on s.link id key)) (sym rows.0)
+      links_are : all_links w'.routers ≡ map (changed_on s.link change) (all_links now.world.routers)
+      links_are = rows.1 ∙ changes ∙ ap (map (changed_on s.link change)) (sym rows.0)
 
-      links_now : (d : List ℕ) → links_at ns d (all_links w'.routers) ≡ map (declared_on s.link id key) (links_at ns d (all_links now.world.routers))
-      links_now d = ap (links_at ns d) links_are ∙ links_map ns d s.link id key (all_links now.world.routers)
+      links_now : (d : List ℕ) → links_at ns d (all_links w'.routers) ≡ map (changed_on s.link change) (links_at ns d (all_links now.world.routers))
+      links_now d = ap (links_at ns d) links_are ∙ links_map ns d s.link change (all_links now.world.routers)
 
-      attached_now : (d : List ℕ) → is_attached (lines ++ (n, c.Handle router name) ∷ []) d ≡ is_attached lines d
+      attached_now : (d : List ℕ) → is_attached lines' d ≡ is_attached lines d
       attached_now d = attached_more lines n (c.Handle router name) d ∙ or-false (is_attached lines d)
 
-      said_now : (d : List ℕ) → declarations (lines ++ (n, c.Handle router name) ∷ []) d ≡ declarations lines d
-      said_now d = declarations_more lines n (c.Handle router name) d ∙ append-nil (declarations lines d)
+      said_now : (d : List ℕ) → declarations lines' d ≡ declarations lines d
+      said_now d = declarations_more lines n (c.Handle router name) d
 
       view_now : (d : List ℕ) (b : Bool) → is_named name d ≡ b → view (client_of w'.clients d) ≡ cond b (Some (view_of (with_wire s xs))) (view (client_of now.world.clients d))
-      view_now d b k = read_after view now.world.clients name d s (with_wire s xs) e ∙ ap (λ z. cond z (Some (view_of (with_wire s xs))) (view (client_of now.world.clients d))) k
+      view_now d b k =
+          all_kept view tag (λ y z. refl) clients ns (sends r.node (From (record { 0 = s.link }) msg)) d
+          ∙ read_after view now.world.clients name d s (with_wire s xs) e ∙ ap (λ z. cond z (Some (view_of (with_wire s xs))) (view (client_of now.world.clients d))) k
 
-      on_way : waiting s.wire ≡ declaration ∷ waiting xs
-      on_way = ap waiting front
+      -- the link of a client that has these rows
+      link_with : ℕ → List Subscription → LinkState
+      link_with link subs = record { link = record { 0 = link }; subs = subs }
 
-      -- the client that declares
-      declares_it : (d : List ℕ) → is_named name d ≡ true →
-          Joins (is_attached (lines ++ (n, c.Handle router name) ∷ []) d) (declarations (lines ++ (n, c.Handle router name) ∷ []) d) ns (all_links w'.routers) d (view_of (with_wire s xs))
-      declares_it d same = record {
+      -- the client whose message it is
+      hears_it : (d : List ℕ) → is_named name d ≡ true → Joins (is_attached lines' d) (declarations lines' d) ns (all_links w'.routers) d (view_of (with_wire s xs))
+      hears_it d same = record {
         is_there = attached_now d ∙ j.is_there;
-        rows = declared j.rows id key;
-        one = links_now d ∙ ap (map (declared_on s.link id key)) j.one
-            ∙ ap (λ b. cond b (record { link = record { 0 = s.link }; subs = declared j.rows id key }) (record { link = record { 0 = s.link }; subs = j.rows }) ∷ []) (eq-eqb s.link s.link refl);
+        rows = change j.rows;
+        one = links_now d ∙ ap (map (changed_on s.link change)) j.one
+            ∙ ap (λ b. cond b (link_with s.link (change j.rows)) (link_with s.link j.rows) ∷ []) (eq-eqb s.link s.link refl);
         own = j.own;
-        flow = ap (λ z. map as_declaration (z ++ record { id = id; key = key } ∷ []) ++ waiting xs) (nothing_replaced j.rows id free)
-            ∙ ap (λ z. z ++ waiting xs) (map-append as_declaration j.rows (record { id = id; key = key } ∷ []))
-            ∙ append_assoc (map as_declaration j.rows) (declaration ∷ []) (waiting xs)
-            ∙ said_is ∙ sym (said_now d);
+        flow = ap (λ z. map as_declaration (fold hear z (waiting xs))) (sym (hears j.rows))
+            ∙ ap (λ z. map as_declaration (fold hear j.rows z)) (sym (ap waiting front ∙ ap (λ z. z ++ waiting xs) news))
+            ∙ j.flow ∙ sym (said_now d);
         ids_are = j.ids_are ∙ ap (map (λ y. y.id)) (sym (said_now d));
-        apart = j.apart;
       }
         where
           j : Joins (is_attached lines d) (declarations lines d) ns (all_links now.world.routers) d (view_of s)
           j = known_of d s (ap (client_of now.world.clients) (sym (same_name name d same)) ∙ e)
-
-          said_is : map as_declaration j.rows ++ declaration ∷ waiting xs ≡ declarations lines d
-          said_is = ap (λ z. map as_declaration j.rows ++ z) (sym on_way) ∙ j.flow
-
-          free : list_any (λ y. y == id) (map (λ y. y.id) (map as_declaration j.rows)) ≡ false
-          free = distinct_before (map (λ y. y.id) (map as_declaration j.rows)) (map (λ y. y.id) (waiting xs)) id
-              (ap distinct (sym (map-append (λ y. y.id) (map as_declaration j.rows) (declaration ∷ waiting xs)) ∙ ap (map (λ y. y.id)) said_is ∙ sym j.ids_are) ∙ j.apart)
 
       -- another client's link is another one
       apart : (d : List ℕ) (link : ℕ) → is_at (slice_get ns link) d ≡ true → is_named name d ≡ false → (link == s.link) ≡ false
@@ -349,22 +387,20 @@ module _ (lines : List Numbered) (now : Moment) (h : Known lines now.world) wher
           by true k = absurd (true≢false (sym (both_at (slice_get ns link) own (ap (λ z. is_at (slice_get ns z) name) (eqb-true link s.link k) ∙ (known_of name s e).own)) ∙ other))
 
       stays : (d : List ℕ) → is_named name d ≡ false → (v : Option View) → Holds (is_attached lines d) (declarations lines d) ns (all_links now.world.routers) d v →
-          Holds (is_attached (lines ++ (n, c.Handle router name) ∷ []) d) (declarations (lines ++ (n, c.Handle router name) ∷ []) d) ns (all_links w'.routers) d v
-      stays d other None k = (attached_now d ∙ k.0, said_now d ∙ k.1, links_now d ∙ ap (map (declared_on s.link id key)) k.2)
+          Holds (is_attached lines' d) (declarations lines' d) ns (all_links w'.routers) d v
+      stays d other None k = (attached_now d ∙ k.0, said_now d ∙ k.1, links_now d ∙ ap (map (changed_on s.link change)) k.2)
       stays d other (Some v) k = record {
         is_there = attached_now d ∙ k.is_there;
         rows = k.rows;
-        one = links_now d ∙ ap (map (declared_on s.link id key)) k.one
-            ∙ ap (λ b. cond b (record { link = record { 0 = v.link }; subs = declared k.rows id key }) (record { link = record { 0 = v.link }; subs = k.rows }) ∷ []) (apart d v.link k.own other);
+        one = links_now d ∙ ap (map (changed_on s.link change)) k.one
+            ∙ ap (λ b. cond b (link_with v.link (change k.rows)) (link_with v.link k.rows) ∷ []) (apart d v.link k.own other);
         own = k.own;
         flow = k.flow ∙ sym (said_now d);
         ids_are = k.ids_are ∙ ap (map (λ y. y.id)) (sym (said_now d));
-        apart = k.apart;
       }
 
-      at : (d : List ℕ) (b : Bool) → is_named name d ≡ b →
-          Holds (is_attached (lines ++ (n, c.Handle router name) ∷ []) d) (declarations (lines ++ (n, c.Handle router name) ∷ []) d) ns (all_links w'.routers) d (view (client_of w'.clients d))
-      at d true same = rw (view_now d true same) (declares_it d same)
+      at : (d : List ℕ) (b : Bool) → is_named name d ≡ b → Holds (is_attached lines' d) (declarations lines' d) ns (all_links w'.routers) d (view (client_of w'.clients d))
+      at d true same = rw (view_now d true same) (hears_it d same)
       at d false other = rw (view_now d false other) (stays d other (view (client_of now.world.clients d)) (h.each d))
 
   -- ---- all commands
@@ -374,22 +410,26 @@ module _ (lines : List Numbered) (now : Moment) (h : Known lines now.world) wher
   command_known n (c.Router id) = for_router now (λ next. Known (lines ++ (n, c.Router id) ∷ []) next.world) id (router_known n id)
   command_known n (c.Client id router) = for_client now (λ next. Known (lines ++ (n, c.Client id router) ∷ []) next.world) id router (client_known n id router)
   command_known n (c.Sub client id key) = for_sub now (λ next. Known (lines ++ (n, c.Sub client id key) ∷ []) next.world) n client id key (sub_known n client id key)
-  command_known n (c.Put client key body) = for_put now (λ next. Known (lines ++ (n, c.Put client key body) ∷ []) next.world) n client key body
-      (λ s e. unchanged lines n (c.Put client key body) now.world (on_put now n client key body s).world (λ d. refl) (λ d. refl) h.one_router refl refl
-      (λ d. read_kept view now.world.clients client d s (sent s (m.Push key body) n) e
-      (ap (λ z. Some (record { link = s.link; ids = s.ids; on_way = z })) (flat_map-append (λ x. declaration_of x.msg) s.wire (record { msg = m.Push key body; tag = n } ∷ []) ∙ append-nil (waiting s.wire)))) h)
+  command_known n (c.Unsub client id) = for_unsub now (λ next. Known (lines ++ (n, c.Unsub client id) ∷ []) next.world) n client id (unsub_known n client id)
+  command_known n (c.Put client key payload) = for_push now (λ next. Known (lines ++ (n, c.Put client key payload) ∷ []) next.world) n client key (b.Put payload)
+      (written_known n (c.Put client key payload) client key (b.Put payload) (λ d. refl) (λ d so_far. refl))
+  command_known n (c.Del client key) = for_push now (λ next. Known (lines ++ (n, c.Del client key) ∷ []) next.world) n client key b.Del
+      (written_known n (c.Del client key) client key b.Del (λ d. refl) (λ d so_far. refl))
   command_known n (c.Handle router name) = for_handle now (λ next. Known (lines ++ (n, c.Handle router name) ∷ []) next.world) router name by_message
     where
       by_message : (r : RouterState) → router_of now.world.routers router ≡ Some r → (s : ClientState) → client_of now.world.clients name ≡ Some s →
           (msg : Msg) (tag : ℕ) (xs : List Tagged) → s.wire ≡ record { msg = msg; tag = tag } ∷ xs →
           Known (lines ++ (n, c.Handle router name) ∷ []) (on_handle now router name r s msg tag xs).world
-      by_message r er s e (m.Sub id key) tag xs front = declared_known n router name r er s e id key tag xs front
+      by_message r er s e (m.Sub id key) tag xs front = heard_known n router name r er s e (m.Sub id key) tag xs front (λ rows. declared rows id key) refl refl (λ rows. refl)
+      by_message r er s e (m.Unsub id) tag xs front = heard_known n router name r er s e (m.Unsub id) tag xs front (λ rows. undeclared rows id) refl refl (λ rows. refl)
       by_message r er s e (m.Push key body) tag xs front = push_known n router name r er s e key body tag xs front
   command_known n (c.Take router to) = for_take now (λ next. Known (lines ++ (n, c.Take router to) ∷ []) next.world) router to
-      (λ s e x xs front. unchanged lines n (c.Take router to) now.world (on_take now router to s x xs).world (λ d. refl) (λ d. refl) h.one_router refl refl
+      (λ s e x xs front. unchanged lines n (c.Take router to) now.world (on_take now router to s x xs).world (λ d. refl) (λ d so_far. refl) h.one_router refl refl
       (λ d. read_kept view now.world.clients to d s (with_queue s xs) e refl) h)
+  command_known n (c.Run steps) = for_run now (λ next. Known (lines ++ (n, c.Run steps) ∷ []) next.world) steps
+      (unchanged lines n (c.Run steps) now.world (on_book now steps).world (λ d. refl) (λ d so_far. refl) h.one_router refl refl (λ d. refl) h)
   command_known n c.Mark = for_mark now (λ next. Known (lines ++ (n, c.Mark) ∷ []) next.world) n
-      (λ settled. unchanged lines n c.Mark now.world now.world (λ d. refl) (λ d. refl) h.one_router refl refl (λ d. refl) h)
+      (λ settled. unchanged lines n c.Mark now.world now.world (λ d. refl) (λ d so_far. refl) h.one_router refl refl (λ d. refl) h)
 
 -- over any lines
 pub known_after : (rest done : List Numbered) (o : Option Moment) → IfSome o (λ now. Known done now.world) → IfSome (fold onward o rest) (λ now. Known (done ++ rest) now.world)

@@ -7,19 +7,21 @@ use Rattle.std.proofs.lemmas.Bool.{and_parts, and_from}
 use Rattle.zr_id.specs.declared.link.LinkNo.{LinkNo}
 use Rattle.zr_msg.specs.declared.msg.Msg.{Msg}
 use Rattle.zr_msg.specs.declared.msg.Msg.TheVariants as m
+use Rattle.zr_msg.specs.declared.msg.Body.{Body}
+use Rattle.zr_msg.specs.declared.msg.Body.TheVariants as b
 use Rattle.zr_msg.specs.declared.msg.Event.TheVariants.{From}
 use Rattle.zr_msg.specs.declared.command.Command.{Command}
 use Rattle.zr_msg.specs.declared.command.Command.TheVariants as c
 use Rattle.zr_msg.specs.declared.report.ReportLine.{ReportLine}
 use Rattle.zr_msg.specs.declared.report.ReportLine.TheVariants as line
 use Rattle.zr_table.specs.Table.{sends}
-use Rattle.zr_network.specs.World.{Tagged, ClientState, RouterState, Clients, is_named, client_of, with_client, sent, declaring, with_wire, with_queue, new_client, outcome}
+use Rattle.zr_network.specs.World.{Tagged, ClientState, RouterState, Clients, is_named, client_of, with_client, sent, declaring, undeclaring, with_wire, with_queue, new_client, outcome}
 use Rattle.zr_network.specs.Phase.{Numbered}
 use Rattle.zr_network.specs.Moments.{Moment, went, onward, item_of, sent_in, sent_to}
 use Rattle.zr_laws.proofs.Names.{value_new, read_kept, test_after}
 use Rattle.zr_laws.proofs.Lists.{all_both}
 use Rattle.zr_laws.proofs.Queues.{on_wire, on_queue, all_kept, all_tested}
-use Rattle.zr_laws.proofs.Cases.{on_client, on_handle, on_take, for_router, for_client, for_sub, for_put, for_handle, for_take, for_mark}
+use Rattle.zr_laws.proofs.Cases.{on_client, on_push, on_handle, on_take, for_router, for_client, for_sub, for_unsub, for_push, for_handle, for_take, for_run, for_mark}
 use Rattle.zr_laws.proofs.Pair.{sent_more}
 use Rattle.zr_laws.proofs.Numbers.{writes, Tagging}
 
@@ -46,6 +48,7 @@ one_tag t tag h (x ∷ xs) = and_from (t tag) (list_all (λ y. t tag) xs) h (one
 -- the sample that a message is has its tag
 item_tag : (t : ℕ → Bool) (msg : Msg) (tag : ℕ) → t tag ≡ true → list_all (λ i. t i.line) (item_of msg tag) ≡ true
 item_tag t (m.Sub id key) tag h = refl
+item_tag t (m.Unsub id) tag h = refl
 item_tag t (m.Push key body) tag h = and_from (t tag) true h refl
 
 module _ (t : ℕ → Bool) (now : Moment) (h : Tags t now) where
@@ -80,6 +83,12 @@ module _ (t : ℕ → Bool) (now : Moment) (h : Tags t now) where
         (λ same all. ap (list_all (λ x. t x.tag)) ew ∙ all_both (λ x. t x.tag) s.wire (record { msg = msg; tag = n } ∷ []) all (and_from (t n) true tn refl)),
     λ q. read_kept (on_queue (λ x. t x.tag)) now.world.clients name q s s' e (ap (list_all (λ x. t x.tag)) eq) ∙ h.queues q,
   )
+
+  -- a sample is written
+  push_tags : (n : ℕ) (name key : List ℕ) (body : Body) → t n ≡ true → (s : ClientState) → client_of now.world.clients name ≡ Some s → Tags t (on_push now n name key body s)
+  push_tags n name key body tn s e =
+      let w = writing_tags name s (sent s (m.Push key body) n) (m.Push key body) n e tn refl refl in
+      record { wires = w.0; queues = w.1; sends = λ q. same_report t now.report q (h.sends q) }
 
   handle_tags : (router name : List ℕ) (r : RouterState) (s : ClientState) → client_of now.world.clients name ≡ Some s →
       (msg : Msg) (tag : ℕ) (xs : List Tagged) → s.wire ≡ record { msg = msg; tag = tag } ∷ xs → Tags t (on_handle now router name r s msg tag xs)
@@ -123,12 +132,15 @@ module _ (t : ℕ → Bool) (now : Moment) (h : Tags t now) where
       (λ s e fresh r er.
       let w = writing_tags client s (sent (declaring s id) (m.Sub id key) n) (m.Sub id key) n e k refl refl in
       record { wires = w.0; queues = w.1; sends = λ q. same_report t now.report q (h.sends q) })
-  command_tags n (c.Put client key body) k = for_put now (Tags t) n client key body
+  command_tags n (c.Unsub client id) k = for_unsub now (Tags t) n client id
       (λ s e.
-      let w = writing_tags client s (sent s (m.Push key body) n) (m.Push key body) n e k refl refl in
+      let w = writing_tags client s (sent (undeclaring s id) (m.Unsub id) n) (m.Unsub id) n e k refl refl in
       record { wires = w.0; queues = w.1; sends = λ q. same_report t now.report q (h.sends q) })
+  command_tags n (c.Put client key payload) k = for_push now (Tags t) n client key (b.Put payload) (push_tags n client key (b.Put payload) k)
+  command_tags n (c.Del client key) k = for_push now (Tags t) n client key b.Del (push_tags n client key b.Del k)
   command_tags n (c.Handle router from) k = for_handle now (Tags t) router from (λ r er s e msg tag xs front. handle_tags router from r s e msg tag xs front)
   command_tags n (c.Take router to) k = for_take now (Tags t) router to (take_tags router to)
+  command_tags n (c.Run steps) k = for_run now (Tags t) steps (record { wires = h.wires; queues = h.queues; sends = λ q. same_report t now.report q (h.sends q) })
   command_tags n c.Mark k = for_mark now (Tags t) n (λ settled. record { wires = h.wires; queues = h.queues; sends = λ q. more_report t now.report (line.Mark n) q (h.sends q) refl })
 
 -- over any lines

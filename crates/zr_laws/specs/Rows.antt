@@ -4,7 +4,8 @@ use Rattle.std.specs.List.{flat_map}
 use Rattle.std.specs.Option.{option_map}
 use Rattle.zr_msg.specs.declared.error.ScriptError.{ScriptError}
 use Rattle.zr_msg.specs.declared.error.ScriptError.TheVariants.{NothingThere}
-use Rattle.zr_msg.specs.declared.command.Command.TheVariants.{Router, Client, Sub, Put, Handle, Take, Mark}
+use Rattle.zr_msg.specs.declared.msg.Body.TheVariants as b
+use Rattle.zr_msg.specs.declared.command.Command.TheVariants.{Router, Client, Sub, Unsub, Put, Del, Handle, Take, Run, Mark}
 use Rattle.zr_network.specs.Lines.{lines}
 use Rattle.zr_network.specs.Run.{run_of}
 use Rattle.zr_network.specs.Phase.{Numbered}
@@ -54,7 +55,7 @@ phase = (7, Put c1 (codes "a/b") (codes "hi")) ∷ (8, Handle a c1) ∷ (9, Take
 
 -- what the one broker sends in that script
 abbrev pub sample : Item
-sample = record { line = 7; key = codes "a/b"; body = codes "hi" }
+sample = record { line = 7; key = codes "a/b"; body = b.Put (codes "hi") }
 
 -- in that script the one broker sends the sample to the subscriber alone, and so does the network
 pub record BrokerSendsIt : Type 0 where
@@ -95,3 +96,54 @@ pub record OldSampleArrives : Type 0 where
   pub sent_is : option_map (λ m. map (λ i. i.line) (sent_to m.report c2)) (reached (before ++ old_and_new)) ≡ Some (6 ∷ 8 ∷ [])
   pub of_phase : option_map (λ m. map (λ i. i.line) (sent_of (drop 2 old_and_new) m c1 c2)) (reached (before ++ old_and_new)) ≡ Some (8 ∷ [])
   pub due_is : map (λ i. i.line) (from (before ++ take 1 old_and_new) (drop 2 old_and_new) c1 c2) ≡ 8 ∷ []
+
+-- a subscriber by two expressions, and a sample on a key that both match
+abbrev pub wildcards : List (List ℕ)
+wildcards =
+    codes "router 0a" ∷ codes "client c1 0a" ∷ codes "client c2 0a" ∷ codes "sub c2 1 a/*" ∷ codes "sub c2 2 **" ∷ codes "run 2" ∷ codes "mark"
+    ∷ codes "put c1 a/b hi" ∷ codes "run 9" ∷ []
+
+-- the subscriber is sent one copy
+abbrev pub WildcardsArriveOnce : Type 0
+WildcardsArriveOnce = ComesTo wildcards
+    (codes "0a < c2: sub 1 a/* #4" ∷ codes "0a < c2: sub 2 ** #5" ∷ codes "run 2 quiet" ∷ codes "mark #7"
+    ∷ codes "0a < c1: put - a/b hi #8" ∷ codes "0a > c2: put - a/b hi #8" ∷ codes "run 2 quiet" ∷ [])
+    9 None
+
+-- a run is among the accepted acts, and so is each of its steps, with the number of its line
+abbrev pub StepsAreAccepted : Type 0
+StepsAreAccepted = accepted (lines (text_of wildcards))
+    ≡ (1, Router a) ∷ (2, Client c1 a) ∷ (3, Client c2 a) ∷ (4, Sub c2 1 (codes "a/*")) ∷ (5, Sub c2 2 (codes "**"))
+    ∷ (6, Run 2) ∷ (6, Handle a c2) ∷ (6, Handle a c2) ∷ (7, Mark)
+    ∷ (8, Put c1 (codes "a/b") (codes "hi")) ∷ (9, Run 9) ∷ (9, Handle a c1) ∷ (9, Take a c2) ∷ []
+
+-- a subscriber that takes one of two declarations back, and a sample and a deletion behind that
+abbrev pub taken_back : List (List ℕ)
+taken_back =
+    codes "# two clients" ∷ [] ∷ codes "router 0a" ∷ codes "client c1 0a" ∷ codes "client c2 0a" ∷ codes "sub c2 1 a" ∷ codes "sub c2 2 b/**" ∷ codes "run 2"
+    ∷ codes "unsub c2 1" ∷ codes "run 1" ∷ codes "mark" ∷ codes "put c1 a x" ∷ codes "del c1 b/c" ∷ codes "run 3" ∷ []
+
+-- the subscriber is not sent what it asks for no more
+abbrev pub UnsubscribedHearsNothing : Type 0
+UnsubscribedHearsNothing = ComesTo taken_back
+    (codes "0a < c2: sub 1 a #6" ∷ codes "0a < c2: sub 2 b/** #7" ∷ codes "run 2 quiet" ∷ codes "0a < c2: unsub 1 #9" ∷ codes "run 1 quiet" ∷ codes "mark #11"
+    ∷ codes "0a < c1: put - a x #12" ∷ codes "0a < c1: del - b/c #13" ∷ codes "0a > c2: del - b/c #13" ∷ codes "run 3 quiet" ∷ [])
+    14 None
+
+-- the lines of that script that declare and undeclare, and those that publish
+abbrev pub said_before : List Numbered
+said_before = (3, Router a) ∷ (4, Client c1 a) ∷ (5, Client c2 a) ∷ (6, Sub c2 1 (codes "a")) ∷ (7, Sub c2 2 (codes "b/**")) ∷ (9, Unsub c2 1) ∷ []
+
+abbrev pub said_after : List Numbered
+said_after = (12, Put c1 (codes "a") (codes "x")) ∷ (13, Del c1 (codes "b/c")) ∷ []
+
+-- of them the one broker sends the deletion alone
+abbrev pub DeletionIsDue : Type 0
+DeletionIsDue = from said_before said_after c1 c2 ≡ record { line = 13; key = codes "b/c"; body = b.Del } ∷ []
+
+-- a run does as many steps as it asks for, and the next one goes on where it stopped, up to the last step that is possible
+abbrev pub RunsGoOn : Type 0
+RunsGoOn = ComesTo
+    (codes "router 0a" ∷ codes "client c1 0a" ∷ codes "put c1 a x" ∷ codes "put c1 a y" ∷ codes "run 1" ∷ codes "run 2" ∷ [])
+    (codes "0a < c1: put - a x #3" ∷ codes "run 1 more" ∷ codes "0a < c1: put - a y #4" ∷ codes "run 1 quiet" ∷ [])
+    6 None

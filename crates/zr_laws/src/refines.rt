@@ -9,7 +9,8 @@ pub fn samples_refine()
     ensures { SamplesRefine }
 {}
 
-/// The accepted commands of a script's lines lead to a moment, whose world and report are those of the run of the lines.
+/// The accepted acts of a script's lines, a run's steps among them, have ascending numbers and lead to a moment. Its world is
+/// that of the run of the lines, and so is its report, but for the lines at the ends of runs.
 pub fn lines_are_moments()
     ensures { LinesAreMoments }
 {}
