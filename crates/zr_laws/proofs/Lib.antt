@@ -14,3 +14,5 @@ pub mod Tables
 pub mod Start
 pub mod Final
 pub mod Lines
+pub mod KeyTexts
+pub mod AtRest

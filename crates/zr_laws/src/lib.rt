@@ -2,5 +2,7 @@
 //! empty body. Who needs a law calls its function.
 #![tactic(auto)]
 
+pub mod keys;
+pub mod quiet;
 pub mod refines;
 pub mod rows;
