@@ -117,7 +117,9 @@ fn add_due(
             let body = Body::Put {
                 payload: payload.copy(alloc)?,
             };
-            add_item(alloc, before, x.0, client, key, &body, author, receiver, out)
+            add_item(
+                alloc, before, x.0, client, key, &body, author, receiver, out,
+            )
         }
         Command::Del { client, key } => add_item(
             alloc,
