@@ -16,3 +16,4 @@ pub mod Final
 pub mod Lines
 pub mod KeyTexts
 pub mod AtRest
+pub mod Sound

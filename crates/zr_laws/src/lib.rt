@@ -3,6 +3,6 @@
 #![tactic(auto)]
 
 pub mod keys;
-pub mod quiet;
 pub mod refines;
 pub mod rows;
+pub mod runs;
