@@ -1,1 +1,3 @@
 pub mod Handling
+pub mod Ends
+pub mod Linked
