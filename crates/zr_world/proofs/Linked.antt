@@ -236,16 +236,13 @@ pub counted_links : (r : Result (Unit {0}) ScriptError) (w w' : WorldState) (ste
 counted_links (Ok u) w w' steps e h = if_ok (book_step w steps) AreLinked w' (book_links w steps h) e
 counted_links (Err e) w w' steps k h = subst AreLinked (sym k.1) h
 
--- a command that did not run out of memory
-pub done_links : (r : Result (Unit {0}) ScriptError) (w w' : WorldState) (line : ℕ) (command : Command) (before after : List ReportLine) → AppliesTo r (applied w line command) w w' before after →
-    (r ≡ Err NoMemory → ⊥) → AreLinked w → AreLinked w'
-done_links (Ok u) w w' line command before after k n h = by (applied w line command) k (applied_links w line command h)
+-- a command that was accepted
+pub done_links : (w w' : WorldState) (line : ℕ) (command : Command) (before after : List ReportLine) → Adds (applied w line command) w' before after → AreLinked w → AreLinked w'
+done_links w w' line command before after k h = by (applied w line command) k (applied_links w line command h)
   where
     by : (d : Done) → Adds d w' before after → IfOk d (λ x. AreLinked x.1) → AreLinked w'
     by (Ok x) a l = subst AreLinked (sym a.0.0) l
     by (Err e) a l = absurd (false≢true a.1)
-done_links (Err e.NoMemory) w w' line command before after k n h = absurd (n refl)
-done_links (Err e) w w' line command before after k n h = subst AreLinked (sym k.1) h
 
 -- ---- what is possible
 

@@ -41,7 +41,7 @@ fn run(
 {
     tables.book(steps)?;
     let done = advance_all(tables, line, steps, report)?;
-    let quiet = tables.next().is_none();
+    let quiet = tables.is_quiet();
     report.push(ReportLine::Ran { steps: done, quiet })?;
     Ok(())
 }

@@ -1,6 +1,6 @@
 //! The world's tables, and the step of each command on them. A refusal is found before anything is changed.
 
-ghost use Rattle.std.specs.Prelude.{◌≡◌, IfSome, OnOk};
+ghost use Rattle.std.specs.Prelude.{◌≡◌, is_none, IfSome, OnOk};
 ghost use Rattle.std.specs.List.{slice_get};
 ghost use Rattle.zr_network.specs.World.{router_of, weighed, all_queued, queued_for};
 ghost use Rattle.zr_world.specs.Steps.{Steps, Changes, Counts};
@@ -226,6 +226,13 @@ impl Tables {
         }
         let (router, to) = self.clients.first_to_take()?;
         Some(Command::Take { router, to })
+    }
+
+    /// Whether no step is possible.
+    pub fn is_quiet(&self) -> bool
+        ensures { result ≡ is_none (next (state_of self.now)) }
+    {
+        self.clients.first_to_handle().is_none() && self.clients.first_to_take().is_none()
     }
 
     fn is_taken(&self, name: &Zid) -> bool

@@ -81,11 +81,12 @@ impl World {
             return Err(ScriptError::NoMemory);
         }
         match steps::apply(&mut self.tables, line, command, report) {
+            Ok(()) => Ok(()),
             Err(ScriptError::NoMemory) => {
                 self.spent = true;
                 Err(ScriptError::NoMemory)
             }
-            done => done,
+            Err(refusal) => Err(refusal),
         }
     }
 }
