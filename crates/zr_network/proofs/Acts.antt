@@ -98,7 +98,7 @@ ahead_by_step line steps start done left more now lines step x h is_left found i
     }
 
 -- where no step is left
-none_left : (line left : ℕ) (now : WorldState) → (next now ≡ None) ⊎ (left ≡ 0) → run_steps line left now ≡ []
+pub none_left : (line left : ℕ) (now : WorldState) → (next now ≡ None) ⊎ (left ≡ 0) → run_steps line left now ≡ []
 unfolding run_steps
 none_left line zero now h = refl
 none_left line (suc left) now (inl none) = ap (λ o. with_more o (λ s. run_steps line left (world_after now (outcome now line s)))) none
@@ -109,7 +109,7 @@ abbrev with_steps : WorldState → ℕ → ℕ → Option ReportLine × WorldSta
 with_steps w line steps x = behind (option_to_list x.0) (all_done x.1 line (run_steps line steps (booking w steps)))
 
 -- the end of a run
-abbrev closes : WorldState → ℕ → ℕ → List ReportLine × WorldState → Done
+abbrev pub closes : WorldState → ℕ → ℕ → List ReportLine × WorldState → Done
 closes w line steps x = Ok (x.0 ++ Ran (length (run_steps line steps (booking w steps))) (is_none (next x.1)) ∷ [], x.1)
 
 abbrev counts : WorldState → Outcome
@@ -120,7 +120,7 @@ unfolding applied outcome
 applied_by line steps w = refl
 
 -- what a run that is not refused comes to
-applied_run : (line steps : ℕ) (w : WorldState) → book_step w steps ≡ Ok (booking w steps) → applied w line (c.Run steps) ≡ (ran line steps (booking w steps) >>= closes w line steps)
+pub applied_run : (line steps : ℕ) (w : WorldState) → book_step w steps ≡ Ok (booking w steps) → applied w line (c.Run steps) ≡ (ran line steps (booking w steps) >>= closes w line steps)
 applied_run line steps w fits =
     applied_by line steps w ∙ ap (λ (b : Result WorldState ScriptError). ((b >>= counts) >>= with_steps w line steps) >>= closes w line steps) fits
     ∙ ap (λ (d : Done). d >>= closes w line steps) (sym (behind_nothing (ran line steps (booking w steps))))

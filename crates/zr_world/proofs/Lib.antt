@@ -1,1 +1,4 @@
 pub mod Handling
+pub mod Ends
+pub mod Linked
+pub mod Runs

@@ -1,2 +1,4 @@
 pub mod Steps
 pub mod State
+pub mod Ends
+pub mod Linked

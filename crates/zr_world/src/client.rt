@@ -1,8 +1,10 @@
 //! One client: its link, the ids that it has declared, and what waits on its wire and in its queue.
 
-ghost use Rattle.std.specs.Prelude.{◌≡◌, ◌==◌, ◌∷◌, ◌++◌, [], IfNone, IfSome, OnOk};
+ghost use Rattle.std.specs.Prelude.{◌≡◌, ◌==◌, ◌∷◌, ◌++◌, [], not, filter, IfNone, IfSome, OnOk};
 ghost use Rattle.std.specs.List.{list_any, list_all};
-ghost use Rattle.zr_network.specs.World.{sent, queued, with_wire, with_queue, declaring, is_sample, is_settled, new_client};
+ghost use Rattle.zr_network.specs.World.{queued, with_wire, with_queue, is_empty, is_sample, is_settled, new_client};
+ghost use Rattle.zr_network.specs.Acts.{has_sent, has_queued};
+ghost use Rattle.zr_world.specs.Ends.{ids_after, sending};
 
 use std::alloc::{AllocError, Global};
 use std::collections::VecDeque;
@@ -78,25 +80,20 @@ impl Client {
         self.ids.iter().any(|i| *i == id)
     }
 
-    /// It declares the id.
-    pub fn declare(&mut self, id: u32) -> Result<(), AllocError>
-        ensures { OnOk result (self.new ≡ declaring self.old id) }
-    {
-        self.ids.push(id)?;
-        Ok(())
-    }
-
-    /// It sends a message, which waits on its wire.
+    /// It sends a message, which waits on its wire, and keeps account of what it has declared.
     pub fn send(&mut self, msg: Msg, tag: u64) -> Result<(), AllocError>
-        ensures { OnOk result (self.new ≡ sent self.old msg tag) }
+        ensures sent { OnOk result (self.new ≡ sending self.old msg tag) }
+        ensures end { (self.new.router ≡ self.old.router) × (self.new.queue ≡ self.old.queue) }
     {
+        account(&mut self.ids, &msg)?;
         self.wire.push_back(Tagged { msg, tag })?;
         Ok(())
     }
 
     /// Its router queues a message for it.
     pub fn enqueue(&mut self, msg: Msg, tag: u64) -> Result<(), AllocError>
-        ensures { OnOk result (self.new ≡ queued self.old msg tag) }
+        ensures queued { OnOk result (self.new ≡ queued self.old msg tag) }
+        ensures end { (self.new.router ≡ self.old.router) × (self.new.wire ≡ self.old.wire) }
     {
         self.queue.push_back(Tagged { msg, tag })?;
         Ok(())
@@ -118,12 +115,50 @@ impl Client {
         self.queue.pop_front()
     }
 
+    /// Whether a message waits on its wire.
+    pub fn has_sent(&self) -> bool
+        ensures { result ≡ has_sent self.now }
+    {
+        are_waiting(&self.wire)
+    }
+
+    /// Whether a message is queued for it.
+    pub fn has_queued(&self) -> bool
+        ensures { result ≡ has_queued self.now }
+    {
+        are_waiting(&self.queue)
+    }
+
     /// Whether no declaration is under way on its link.
     pub fn is_settled(&self) -> bool
         ensures { result ≡ is_settled self.now }
     {
         are_samples(&self.wire) && are_samples(&self.queue)
     }
+}
+
+// What a message that is sent does to the ids that are declared.
+fn account(ids: &mut Vec<u32>, msg: &Msg) -> Result<(), AllocError>
+    ensures { OnOk result (ids.new.items ≡ ids_after ids.old.items msg.now) }
+{
+    match msg {
+        Msg::Sub { id, .. } => ids.push(*id)?,
+        Msg::Unsub { id } => forget(ids, *id),
+        Msg::Push { .. } => {}
+    }
+    Ok(())
+}
+
+fn forget(ids: &mut Vec<u32>, id: u32)
+    ensures { ids.new.items ≡ filter (λ i. not (i == id)) ids.old.items }
+{
+    ids.retain(|i| *i != id);
+}
+
+fn are_waiting(waiting: &VecDeque<Tagged>) -> bool
+    ensures { result ≡ not (is_empty waiting.now.items) }
+{
+    !waiting.is_empty()
 }
 
 fn are_samples(waiting: &VecDeque<Tagged>) -> bool
@@ -137,6 +172,7 @@ fn is_sample(x: &Tagged) -> bool
 {
     match &x.msg {
         Msg::Sub { .. } => false,
+        Msg::Unsub { .. } => false,
         Msg::Push { .. } => true,
     }
 }

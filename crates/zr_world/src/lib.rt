@@ -3,6 +3,8 @@
 #![tactic(auto)]
 
 mod client;
+mod clients;
 mod router;
+mod steps;
 mod tables;
 pub mod world;

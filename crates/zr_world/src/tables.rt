@@ -1,17 +1,18 @@
 //! The world's tables, and the step of each command on them. A refusal is found before anything is changed.
 
-ghost use Rattle.std.specs.Prelude.{◌≡◌, if◌then◌else◌, OnOk};
+ghost use Rattle.std.specs.Prelude.{◌≡◌, is_none, IfSome, OnOk};
 ghost use Rattle.std.specs.List.{slice_get};
-ghost use Rattle.zr_network.specs.World.{router_of, weighed, all_queued, queued_for, all_settled, is_named};
-ghost use Rattle.zr_world.specs.Steps.{Steps, Changes, from_wire};
+ghost use Rattle.zr_network.specs.World.{router_of, weighed, all_queued, queued_for};
+ghost use Rattle.zr_world.specs.Steps.{Steps, Changes, Counts};
 
-use crate::client::{Client, Tagged};
+use crate::clients::Clients;
 use crate::router::Router;
 use std::alloc::{AllocError, Global};
 use std::collections::BTreeMap;
 use zr_id::link::LinkNo;
 use zr_id::zid::Zid;
 use zr_key::key::KeyExpr;
+use zr_msg::command::Command;
 use zr_msg::error::ScriptError;
 use zr_msg::msg::{Body, Msg};
 use zr_msg::report::ReportLine;
@@ -19,17 +20,23 @@ use zr_msg::report::ReportLine;
 /// How many clients a world has at most, all that ever came.
 const MOST_CLIENTS: usize = 1024;
 
-/// Routers and clients by name, and the clients' names by link number.
+/// How many steps all runs ask for at most.
+const MOST_STEPS: u64 = 10_000_000;
+
+/// Routers and clients by name, the clients' names by link number, and how many steps all runs so far asked for.
 #[derive(Debug, Drop)]
 pub struct Tables {
     pub alloc: Global,
     pub routers: BTreeMap<Zid, Router>,
-    pub clients: BTreeMap<Zid, Client>,
+    pub clients: Clients,
     pub names: Vec<Zid>,
+    pub booked: u64,
 }
 
 impl Tables {
-    ghost use Rattle.zr_network.specs.World.{router_step, client_step, sub_step, put_step, handle_step, take_step, mark_step, is_taken, empty_world};
+    ghost use Rattle.zr_network.specs.World.{router_step, client_step, sub_step, unsub_step, push_step, handle_step, take_step, book_step, mark_step, is_taken, empty_world};
+    ghost use Rattle.zr_network.specs.Acts.{next};
+    ghost use Rattle.zr_world.specs.Linked.{IsReady};
     ghost use Rattle.zr_world.specs.State.{state_of};
 
     /// Tables in which nothing has come yet.
@@ -39,8 +46,9 @@ impl Tables {
         Tables {
             alloc,
             routers: BTreeMap::new(alloc),
-            clients: BTreeMap::new(alloc),
+            clients: Clients::new(alloc),
             names: Vec::new(alloc),
+            booked: 0,
         }
     }
 
@@ -77,14 +85,13 @@ impl Tables {
         }
         let link = count as u32;
         r.link_up(self.alloc, link)?;
-        self.clients
-            .insert(id, Client::new(self.alloc, router, link))?;
+        self.clients.add(self.alloc, id, router, link)?;
         self.names.push(id)?;
         Ok(None)
     }
 
     /// A client declares a subscriber.
-    #[tactic(auto, using(std::proofs::lemmas::Map::Steps::set_value_same), unfolding(zr_network::specs::World::sub_step))]
+    #[tactic(auto, unfolding(zr_network::specs::World::sub_step))]
     pub fn sub(
         &mut self,
         line: u64,
@@ -94,7 +101,7 @@ impl Tables {
     ) -> Result<Option<ReportLine>, ScriptError>
         ensures { Steps result (sub_step (state_of self.old) line client id key.now) (state_of self.old) (state_of self.new) }
     {
-        let Some(c) = self.clients.get_mut(&client) else {
+        let Some(c) = self.clients.get(&client) else {
             return Err(ScriptError::UnknownName);
         };
         if c.has(id) {
@@ -102,30 +109,46 @@ impl Tables {
         }
         weigh(&mut self.routers, &c.router(), key)?;
         let key = key.copy(self.alloc)?;
-        c.declare(id)?;
-        c.send(Msg::Sub { id, key }, line)?;
+        self.clients.send(&client, Msg::Sub { id, key }, line)?;
+        Ok(None)
+    }
+
+    /// A client takes back what it declared under an id.
+    #[tactic(auto, unfolding(zr_network::specs::World::unsub_step))]
+    pub fn unsub(
+        &mut self,
+        line: u64,
+        client: Zid,
+        id: u32,
+    ) -> Result<Option<ReportLine>, ScriptError>
+        ensures { Steps result (unsub_step (state_of self.old) line client id) (state_of self.old) (state_of self.new) }
+    {
+        let Some(c) = self.clients.get(&client) else {
+            return Err(ScriptError::UnknownName);
+        };
+        if !c.has(id) {
+            return Err(ScriptError::UnknownName);
+        }
+        self.clients.send(&client, Msg::Unsub { id }, line)?;
         Ok(None)
     }
 
     /// A client publishes a sample.
-    #[tactic(auto, using(std::proofs::lemmas::Map::Steps::set_value_same), unfolding(zr_network::specs::World::put_step))]
-    pub fn put(
+    #[tactic(auto, unfolding(zr_network::specs::World::push_step))]
+    pub fn push(
         &mut self,
         line: u64,
         client: Zid,
         key: &KeyExpr,
-        body: &Body,
+        body: Body,
     ) -> Result<Option<ReportLine>, ScriptError>
-        ensures { Steps result (put_step (state_of self.old) line client key.now body.now) (state_of self.old) (state_of self.new) }
+        ensures { Steps result (push_step (state_of self.old) line client key.now body) (state_of self.old) (state_of self.new) }
     {
-        let Some(c) = self.clients.get_mut(&client) else {
+        if !self.clients.has(&client) {
             return Err(ScriptError::UnknownName);
-        };
-        let msg = Msg::Push {
-            key: key.copy(self.alloc)?,
-            body: body.copy(self.alloc)?,
-        };
-        c.send(msg, line)?;
+        }
+        let key = key.copy(self.alloc)?;
+        self.clients.send(&client, Msg::Push { key, body }, line)?;
         Ok(None)
     }
 
@@ -138,7 +161,7 @@ impl Tables {
         let Some(r) = self.routers.get_mut(&router) else {
             return Err(ScriptError::UnknownName);
         };
-        let (x, link) = next_from(&mut self.clients, &from, &router, is_router)?;
+        let (x, link) = self.clients.next_sent(&from, &router, is_router)?;
         let msg = x.msg.copy(self.alloc)?;
         let mut out = Vec::new(self.alloc);
         r.hear(self.alloc, link, msg, &mut out)?;
@@ -152,23 +175,15 @@ impl Tables {
     }
 
     /// A router's oldest queued message for a client is sent to it.
-    #[tactic(auto, using(std::proofs::lemmas::Map::Steps::set_value_same), unfolding(zr_network::specs::World::take_step))]
+    #[tactic(auto, using(crate::proofs::Handling::take_is, crate::proofs::Handling::take_steps))]
     pub fn take(&mut self, router: Zid, to: Zid) -> Result<Option<ReportLine>, ScriptError>
         ensures { Steps result (take_step (state_of self.old) router to) (state_of self.old) (state_of self.new) }
     {
-        let Some(_) = self.routers.get(&router) else {
+        if !self.routers.contains_key(&router) {
             return Err(ScriptError::UnknownName);
-        };
-        let is_router = self.routers.contains_key(&to);
-        let Some(c) = self.clients.get_mut(&to) else {
-            return Err(absent(is_router));
-        };
-        if !is_same(&c.router(), &router) {
-            return Err(ScriptError::NotLinked);
         }
-        let Some(x) = c.next_queued() else {
-            return Err(ScriptError::NothingThere);
-        };
+        let is_router = self.routers.contains_key(&to);
+        let x = self.clients.next_queued(&to, &router, is_router)?;
         Ok(Some(ReportLine::Taken {
             router,
             to,
@@ -182,40 +197,49 @@ impl Tables {
     pub fn mark(&mut self, line: u64) -> Result<Option<ReportLine>, ScriptError>
         ensures { Steps result (mark_step (state_of self.old) line) (state_of self.old) (state_of self.new) }
     {
-        if !are_settled(&self.clients) {
+        if !self.clients.are_settled() {
             return Err(ScriptError::NotSettled);
         }
         Ok(Some(ReportLine::Mark { line }))
     }
 
+    /// Counts the steps that a run asks for, where there is room for them.
+    #[tactic(auto, unfolding(zr_network::specs::World::book_step))]
+    pub fn book(&mut self, steps: u32) -> Result<(), ScriptError>
+        ensures { Counts result (book_step (state_of self.old) steps) (state_of self.old) (state_of self.new) }
+    {
+        let sum = self.booked.saturating_add(u64::from(steps));
+        if sum > MOST_STEPS {
+            return Err(ScriptError::Limit);
+        }
+        self.booked = sum;
+        Ok(())
+    }
+
+    /// The step that a run does next. None where no step is possible.
+    pub fn next(&self) -> Option<Command>
+        ensures step { result ≡ next (state_of self.now) }
+        ensures ready { IfSome result (IsReady (state_of self.now)) }
+    {
+        if let Some((router, from)) = self.clients.first_to_handle() {
+            return Some(Command::Handle { router, from });
+        }
+        let (router, to) = self.clients.first_to_take()?;
+        Some(Command::Take { router, to })
+    }
+
+    /// Whether no step is possible.
+    pub fn is_quiet(&self) -> bool
+        ensures { result ≡ is_none (next (state_of self.now)) }
+    {
+        self.clients.first_to_handle().is_none() && self.clients.first_to_take().is_none()
+    }
+
     fn is_taken(&self, name: &Zid) -> bool
         ensures { result ≡ is_taken (state_of self.now) name.now }
     {
-        self.routers.contains_key(name) || self.clients.contains_key(name)
+        self.routers.contains_key(name) || self.clients.has(name)
     }
-}
-
-// The oldest message on the wire from a client, with the number of its link.
-#[tactic(auto, using(std::proofs::lemmas::Map::Steps::set_value_same), unfolding(crate::specs::Steps::from_wire))]
-fn next_from(
-    clients: &mut BTreeMap<Zid, Client>,
-    from: &Zid,
-    router: &Zid,
-    is_router: bool,
-) -> Result<(Tagged, u32), ScriptError>
-    ensures { Steps result (from_wire clients.old.entries from.now router.now is_router) clients.old.entries clients.new.entries }
-{
-    let Some(c) = clients.get_mut(from) else {
-        return Err(absent(is_router));
-    };
-    if !is_same(&c.router(), router) {
-        return Err(ScriptError::NotLinked);
-    }
-    let link = c.link();
-    let Some(x) = c.next_sent() else {
-        return Err(ScriptError::NothingThere);
-    };
-    Ok((x, link))
 }
 
 // The declaration of a key weighs on its router, if there is room for it.
@@ -233,37 +257,14 @@ fn weigh(routers: &mut BTreeMap<Zid, Router>, name: &Zid, key: &KeyExpr) -> Resu
     Ok(())
 }
 
-// Why a name that is no client's is refused as the other end of a link.
-fn absent(is_router: bool) -> ScriptError
-    ensures { result ≡ (if is_router then ScriptError.NotLinked else ScriptError.UnknownName) }
-{
-    if is_router {
-        ScriptError::NotLinked
-    } else {
-        ScriptError::UnknownName
-    }
-}
-
-fn is_same(a: &Zid, b: &Zid) -> bool
-    ensures { result ≡ is_named a.now b.now }
-{
-    a.cmp(b).is_eq()
-}
-
-fn are_settled(clients: &BTreeMap<Zid, Client>) -> bool
-    ensures { result ≡ all_settled clients.now.entries }
-{
-    clients.values().all(|c| c.is_settled())
-}
-
 // Each message goes to the queue of its link's client.
 fn enqueue_all(
-    clients: &mut BTreeMap<Zid, Client>,
+    clients: &mut Clients,
     names: &[Zid],
     out: Vec<(LinkNo, Msg)>,
     tag: u64,
 ) -> Result<(), AllocError>
-    ensures { OnOk result (clients.new.entries ≡ all_queued clients.old.entries names.now out.items tag) }
+    ensures { OnOk result (clients.new ≡ all_queued clients.old names.now out.items tag) }
 {
     for (link, msg) in out {
         enqueue(clients, name_at(names, link), msg, tag)?;
@@ -271,22 +272,13 @@ fn enqueue_all(
     Ok(())
 }
 
-#[tactic(auto, using(std::proofs::lemmas::Map::Steps::set_value_same))]
-fn enqueue(
-    clients: &mut BTreeMap<Zid, Client>,
-    name: Option<Zid>,
-    msg: Msg,
-    tag: u64,
-) -> Result<(), AllocError>
-    ensures { OnOk result (clients.new.entries ≡ queued_for clients.old.entries name msg tag) }
+fn enqueue(clients: &mut Clients, name: Option<Zid>, msg: Msg, tag: u64) -> Result<(), AllocError>
+    ensures { OnOk result (clients.new ≡ queued_for clients.old name msg tag) }
 {
-    let Some(name) = name else {
-        return Ok(());
-    };
-    if let Some(client) = clients.get_mut(&name) {
-        client.enqueue(msg, tag)?;
+    match name {
+        Some(name) => clients.enqueue(&name, msg, tag),
+        None => Ok(()),
     }
-    Ok(())
 }
 
 fn name_at(names: &[Zid], link: LinkNo) -> Option<Zid>

@@ -1,11 +1,11 @@
 //! `World`: what a script's commands make, one after another.
 
 ghost use Rattle.std.specs.Prelude.{◌≡◌, true, false, IfSome};
-ghost use Rattle.zr_network.specs.World.{outcome, book_step};
+ghost use Rattle.zr_network.specs.World.{book_step};
 ghost use Rattle.zr_network.specs.Acts.{applied, next};
-ghost use Rattle.zr_world.specs.Steps.{Steps, Applies, Books, IsPossible, new_world};
-ghost use Rattle.zr_world.specs.State.{state_of};
+ghost use Rattle.zr_world.specs.Steps.{Applies, Books, IsPossible, new_world};
 
+use crate::steps;
 use crate::tables::Tables;
 use std::alloc::Global;
 use std::marker::Model;
@@ -21,12 +21,16 @@ pub struct World {
 }
 
 impl Model for World {
+    ghost use Rattle.std.specs.Prelude.{◌≡◌, false};
     ghost use Rattle.zr_world.specs.Steps.{Living};
+    ghost use Rattle.zr_world.specs.Linked.{AreLinked};
     ghost use Rattle.zr_world.specs.State.{state_of};
 
     ghost Value = { Living };
 
     ghost view = { λ w. record { state = state_of w.tables; spent = w.spent } };
+
+    ghost invariant = { λ w. w.spent ≡ false → AreLinked (state_of w.tables) };
 }
 
 impl World {
@@ -46,7 +50,7 @@ impl World {
         ensures step { self.now.spent ≡ false → result ≡ next self.now.state }
         ensures possible { self.now.spent ≡ false → IfSome result (λ step. IsPossible self.now.state step) }
     {
-        None
+        self.tables.next()
     }
 
     /// Counts the steps that a run asks for. The refusal `Limit` leaves the world as it was.
@@ -54,7 +58,10 @@ impl World {
         ensures books { self.old.spent ≡ false → Books result (book_step self.old.state steps) self.old self.new }
         ensures spent { self.old.spent ≡ true → (result ≡ Err ScriptError.NoMemory) × (self.new ≡ self.old) }
     {
-        Ok(())
+        if self.spent {
+            return Err(ScriptError::NoMemory);
+        }
+        self.tables.book(steps)
     }
 
     /// Applies the command of a line, and appends its report lines. A `run` is counted, and then does its steps, each the next one.
@@ -73,46 +80,13 @@ impl World {
         if self.spent {
             return Err(ScriptError::NoMemory);
         }
-        match stepped(&mut self.tables, line, command, report) {
+        match steps::apply(&mut self.tables, line, command, report) {
+            Ok(()) => Ok(()),
             Err(ScriptError::NoMemory) => {
                 self.spent = true;
                 Err(ScriptError::NoMemory)
             }
-            done => done,
+            Err(refusal) => Err(refusal),
         }
-    }
-}
-
-// The step of a command, with its report line.
-fn stepped(
-    tables: &mut Tables,
-    line: u64,
-    command: &Command,
-    report: &mut Vec<ReportLine>,
-) -> Result<(), ScriptError>
-    ensures { Reports result (outcome (state_of tables.old) line command.now) (state_of tables.old) (state_of tables.new) report.old.items report.new.items }
-{
-    if let Some(told) = step(tables, line, command)? {
-        report.push(told)?;
-    }
-    Ok(())
-}
-
-#[tactic(auto, unfolding(zr_network::specs::World::outcome))]
-fn step(
-    tables: &mut Tables,
-    line: u64,
-    command: &Command,
-) -> Result<Option<ReportLine>, ScriptError>
-    ensures { Steps result (outcome (state_of tables.old) line command.now) (state_of tables.old) (state_of tables.new) }
-{
-    match command {
-        Command::Router { id } => tables.router(*id),
-        Command::Client { id, router } => tables.client(*id, *router),
-        Command::Sub { client, id, key } => tables.sub(line, *client, *id, key),
-        Command::Put { client, key, body } => tables.put(line, *client, key, body),
-        Command::Handle { router, from } => tables.handle(*router, *from),
-        Command::Take { router, to } => tables.take(*router, *to),
-        Command::Mark => tables.mark(line),
     }
 }

@@ -5,4 +5,4 @@ use Rattle.zr_world.proofs.tables.enqueue_all.Given as goal
 
 abbrev pub invariant-loop-link : goal.invariant-loop-link
 invariant-loop-link l =
-    all_queued l.clients.entries l.names l.link-iterator.rest.items l.tag ≡ all_queued l.fn.clients.entries l.names l.fn.out.items l.tag
+    all_queued l.clients l.names l.link-iterator.rest.items l.tag ≡ all_queued l.fn.clients l.names l.fn.out.items l.tag

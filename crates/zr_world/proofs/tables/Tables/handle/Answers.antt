@@ -22,23 +22,23 @@ returns-in_err-x c =
     let er : router_of c.args.self.now.routers.entries c.args.router ≡ Some c.in-Some.r.now = search rules in
     let back : (c.get_mut.follows.lender c.in-Some.r.now).entries ≡ c.args.self.now.routers.entries = search (rules, set_value_same) in
     rw (p.1, p.2) (handle_steps (state_of c.args.self.now) _ c.args.router c.args.from c.in-Some.r.now c.contains_key-is_router.result _ _ er c.contains_key-is_router.ensures
-    c.in_err-x.ensures (λ h. λ i. record { routers = back i; clients = h i; names = c.args.self.now.names.items }))
+    c.in_err-x.ensures (λ h. λ i. record { routers = back i; clients = h i; names = c.args.self.now.names.items; booked = c.args.self.now.booked }))
 
 pub returns : goal.returns
 returns c =
     let er : router_of c.args.self.now.routers.entries c.args.router ≡ Some c.in-Some.r.now = search rules in
     let x : Tagged = record { msg = c.x.inside.msg; tag = c.x.inside.tag } in
-    let told : from_wire c.args.self.now.clients.entries c.args.from c.args.router c.contains_key-is_router.result ≡ Ok ((x, c.in_ok-x.link), c.next_from.new.clients.entries) =
-    c.in_ok-x.ensures ∙ ap (λ (z : Tagged). Ok ((z, c.in_ok-x.link), c.next_from.new.clients.entries)) (sym c.x.view_is) in
+    let told : from_wire c.args.self.now.clients c.args.from c.args.router c.contains_key-is_router.result ≡ Ok ((x, c.in_ok-x.link), c.next_sent.new.self) =
+    c.in_ok-x.ensures ∙ ap (λ (z : Tagged). Ok ((z, c.in_ok-x.link), c.next_sent.new.self)) (sym c.x.view_is) in
     let msg : c.in_ok-msg.msg ≡ x.msg = c.in_ok-msg.ensures in
     let lent : (c.get_mut.follows.lender c.hear.new.self).entries ≡ with_router c.args.self.now.routers.entries c.args.router c.hear.new.self = search rules in
     let routers : with_router c.args.self.now.routers.entries c.args.router (having c.in-Some.r.now c.in_ok-x.link x.msg) ≡ (c.get_mut.follows.lender c.hear.new.self).entries =
     ap (λ (r : RouterState). with_router c.args.self.now.routers.entries c.args.router r) (ap (λ m. having c.in-Some.r.now c.in_ok-x.link m) (sym msg) ∙ sym c.in_ok-hear.ensures.state) ∙ sym lent in
     let event = λ (m : Msg). sends c.in-Some.r.now.node (From (record { 0 = c.in_ok-x.link }) m) in
     let out : c.hear.new.out.items ≡ event x.msg = c.in_ok-hear.ensures.sends ∙ ap (λ z. z ++ event c.in_ok-msg.msg) c.new-out.ensures.items ∙ ap event msg in
-    let clients : all_queued c.next_from.new.clients.entries c.args.self.now.names.items (event x.msg) x.tag ≡ c.enqueue_all.new.clients.entries =
-    sym (c.in_ok-enqueue_all.ensures ∙ ap (λ n. all_queued c.next_from.new.clients.entries n c.hear.new.out.items x.tag) c.deref.ensures.value
-    ∙ ap (λ o. all_queued c.next_from.new.clients.entries c.args.self.now.names.items o x.tag) out) in
-    handle_is (state_of c.args.self.now) c.args.router c.args.from c.in-Some.r.now c.contains_key-is_router.result x c.in_ok-x.link c.next_from.new.clients.entries er
+    let clients : all_queued c.next_sent.new.self c.args.self.now.names.items (event x.msg) x.tag ≡ c.enqueue_all.new.clients =
+    sym (c.in_ok-enqueue_all.ensures ∙ ap (λ n. all_queued c.next_sent.new.self n c.hear.new.out.items x.tag) c.deref.ensures.value
+    ∙ ap (λ o. all_queued c.next_sent.new.self c.args.self.now.names.items o x.tag) out) in
+    handle_is (state_of c.args.self.now) c.args.router c.args.from c.in-Some.r.now c.contains_key-is_router.result x c.in_ok-x.link c.next_sent.new.self er
     c.contains_key-is_router.ensures told
-    ∙ (λ i. Ok (Some (Handled c.args.router c.args.from x.msg x.tag), record { routers = routers i; clients = clients i; names = c.args.self.now.names.items }))
+    ∙ (λ i. Ok (Some (Handled c.args.router c.args.from x.msg x.tag), record { routers = routers i; clients = clients i; names = c.args.self.now.names.items; booked = c.args.self.now.booked }))
