@@ -109,7 +109,7 @@ abbrev with_steps : WorldState → ℕ → ℕ → Option ReportLine × WorldSta
 with_steps w line steps x = behind (option_to_list x.0) (all_done x.1 line (run_steps line steps (booking w steps)))
 
 -- the end of a run
-abbrev closes : WorldState → ℕ → ℕ → List ReportLine × WorldState → Done
+abbrev pub closes : WorldState → ℕ → ℕ → List ReportLine × WorldState → Done
 closes w line steps x = Ok (x.0 ++ Ran (length (run_steps line steps (booking w steps))) (is_none (next x.1)) ∷ [], x.1)
 
 abbrev counts : WorldState → Outcome
@@ -120,7 +120,7 @@ unfolding applied outcome
 applied_by line steps w = refl
 
 -- what a run that is not refused comes to
-applied_run : (line steps : ℕ) (w : WorldState) → book_step w steps ≡ Ok (booking w steps) → applied w line (c.Run steps) ≡ (ran line steps (booking w steps) >>= closes w line steps)
+pub applied_run : (line steps : ℕ) (w : WorldState) → book_step w steps ≡ Ok (booking w steps) → applied w line (c.Run steps) ≡ (ran line steps (booking w steps) >>= closes w line steps)
 applied_run line steps w fits =
     applied_by line steps w ∙ ap (λ (b : Result WorldState ScriptError). ((b >>= counts) >>= with_steps w line steps) >>= closes w line steps) fits
     ∙ ap (λ (d : Done). d >>= closes w line steps) (sym (behind_nothing (ran line steps (booking w steps))))
