@@ -12,12 +12,15 @@ use Rattle.zr_outside.specs.Sink.{Appends, AppendsFront}
 use Rattle.zr_network.specs.Lines.{ended_lines, open_line, unless_empty}
 use Rattle.zr_network.specs.Report.{refused_text}
 use Rattle.zr_network.specs.Run.{Run, start, on_line, run_of, run_of_ended, most_bytes, within, judged, complaint, complaint_of}
+use Rattle.zr_world.specs.Steps.{Living}
 use Rattle.zr_netrun.specs.declared.status.Status.{Status}
 use Rattle.zr_netrun.specs.declared.status.Status.TheVariants as s
 use Rattle.zr_netrun.specs.declared.runner.Stop.{Stop}
 use Rattle.zr_netrun.specs.declared.runner.Stop.TheVariants.{Refused, NoMemory, WriteFault}
 use Rattle.zr_netrun.specs.Kept.{Kept, fresh, IsAt, Stopped, Turns, Tells}
+use Rattle.zr_netrun.specs.Sound.{IsSound}
 use Rattle.zr_netrun.specs.Clauses.{OfRead, Reports}
+use Rattle.zr_netrun.proofs.Sound.{lines_keep}
 use Rattle.zr_netrun.proofs.Lines.{ended_append, open_after, open_last}
 use Rattle.zr_netrun.proofs.Runs.{fold_kept, open_kept}
 use Rattle.zr_netrun.proofs.Writing.{turn_more, turn_stops, all_written, written_all, written_flushed, front_flushed, front_none}
@@ -91,6 +94,12 @@ reads_piece left now next n total buffer k m a b c u h took le flushed turn =
       flushed = flushed;
       total_is = omega (arith, length-append read (take n buffer), length-take n buffer, p.total_is);
     })
+
+-- the world after a piece is sound
+pub sound_piece : (n : ℕ) (buffer l : List ℕ) (k m : Kept) (a b : Option (List ℕ)) → IsSound k.world.state →
+    IsAt (fold on_line (fresh k) (ended_lines (k.line ++ take n buffer))) l k.pending m a b → IsSound m.world.state
+sound_piece n buffer l k m a b sound turn =
+    subst (λ (w : Living). IsSound w.state) (sym turn.world) (lines_keep (ended_lines (k.line ++ take n buffer)) (fresh k) sound)
 
 -- ---- what is told at the end
 

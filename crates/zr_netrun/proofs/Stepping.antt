@@ -2,7 +2,7 @@
 -- report lines so far are behind what waited before, and with what the steps that are left come to they are what the whole run says (`IsAhead`).
 -- `starts` begins it, `goes_on` is a step that was done, `ends` the last line; `stops` is a step at which memory or a write failed.
 use Rattle.std.proofs.Common.{◌≡◌, ℕ, zero, suc, ◌+◌, ◌<◌, Bool, true, false, cond, List, [], ◌∷◌, ◌++◌, Option, Some, None, Result, Ok, Err, refl, sym, ap, ◌∙◌, ◌⊎◌, inl, inr, append_assoc, append-nil, arith, subst}
-use Rattle.std.specs.Prelude.{nat_le, is_none, is_ok, option_to_list, IfOk, IfSome}
+use Rattle.std.specs.Prelude.{nat_le, is_none, is_ok, option_to_list, IfOk}
 use Rattle.std.specs.List.{flat_map}
 use Rattle.std.proofs.lemmas.Bool.{true≢false, false≢true}
 use Rattle.std.proofs.lemmas.Grind.{flat_map-append}
@@ -15,19 +15,19 @@ use Rattle.zr_msg.specs.declared.report.ReportLine.TheVariants.{Ran}
 use Rattle.zr_outside.specs.Sink.{AppendsFront}
 use Rattle.zr_network.specs.Step.{◌>>=◌}
 use Rattle.zr_network.specs.Command.{command_of}
-use Rattle.zr_network.specs.World.{WorldState, booking, book_step, most_steps, outcome}
+use Rattle.zr_network.specs.World.{WorldState, Outcome, booking, book_step, most_steps, outcome}
 use Rattle.zr_network.specs.Acts.{Done, next, all_done, run_steps, applied}
 use Rattle.zr_network.specs.Report.{line_text}
 use Rattle.zr_network.specs.Run.{Run, stepped, commanded, on_line}
 use Rattle.zr_network.proofs.Acts.{one_act, next_is_step, done_of, IsAhead, ahead_at_start, ahead_by_step, closes, applied_run, run_ends, run_front, run_refused}
-use Rattle.zr_world.specs.Steps.{Living, alive, IsPossible}
+use Rattle.zr_world.specs.Steps.{Living, alive}
 use Rattle.zr_netrun.specs.declared.runner.Stop.{Stop}
 use Rattle.zr_netrun.specs.declared.runner.Stop.TheVariants.{Refused, NoMemory, WriteFault}
 use Rattle.zr_netrun.specs.Kept.{Kept, fresh, obeyed, Written, IsAt, Stopped, Turns, Asks, Begins, Moves}
 use Rattle.zr_netrun.specs.Sound.{IsSound}
 use Rattle.zr_netrun.proofs.Runs.{with_text}
 use Rattle.zr_netrun.proofs.Writing.{turn_behind, all_waits, front_none, front_more, front_longer}
-use Rattle.zr_netrun.proofs.Sound.{run_goes}
+use Rattle.zr_netrun.proofs.Sound.{act_keeps, next_goes, run_goes}
 
 -- ---- a line, by what it asks
 
@@ -101,6 +101,7 @@ ok_is (Err e) h = absurd (false≢true h)
 
 pub record IsRunning (k0 : Kept) (steps done : ℕ) (k : Kept) (a b : Option (List ℕ)) : Type 0 where
   pub fits : book_step k0.world.state steps ≡ Ok (booking k0.world.state steps)
+  pub sound : IsSound k.world.state
   pub left : ℕ
   pub sum : done + left ≡ steps
   pub lines : List ReportLine
@@ -113,11 +114,11 @@ record IsStep (k0 k : Kept) (step : Command) (x : Option ReportLine × WorldStat
   is_done : outcome k.world.state k0.number step ≡ Ok x
   is_all : applied k.world.state k.number step ≡ Ok (option_to_list x.0, x.1)
 
--- the step that is next
-the_step : (k0 k : Kept) (step : Command) → k.number ≡ k0.number → next k.world.state ≡ Some step → IsPossible k.world.state step →
+-- the step that is next is possible
+the_step : (k0 k : Kept) (step : Command) → k.number ≡ k0.number → IsSound k.world.state → next k.world.state ≡ Some step →
     (x : Option ReportLine × WorldState) × IsStep k0 k step x
-the_step k0 k step number is_next possible =
-    let x = ok_is (outcome k.world.state k0.number step) (possible k0.number) in (
+the_step k0 k step number sound is_next =
+    let x = ok_is (outcome k.world.state k0.number step) (next_goes k.world.state k0.number step sound is_next) in (
       x.0,
       record {
         is_next = is_next;
@@ -145,19 +146,24 @@ module _ (k0 : Kept) (steps : ℕ) (a : Option (List ℕ)) where
   begins_not m l WriteFault h same = absurd h
 
   -- they were counted
-  pub starts : (m : Kept) (u : Unit {0}) → Begins (Ok u) steps k0.world m.world →
+  pub starts : (m : Kept) (u : Unit {0}) → IsSound k0.world.state → Begins (Ok u) steps k0.world m.world →
       m ≡ record { world = m.world; number = k0.number; line = k0.line; pending = k0.pending } → IsRunning k0 steps 0 m a a
-  starts m u h same =
+  starts m u sound h same =
       let now : m ≡ record { world = alive (booking k0.world.state steps); number = k0.number; line = k0.line; pending = k0.pending } =
       same ∙ ap (λ (z : Living). record { world = z; number = k0.number; line = k0.line; pending = k0.pending }) h.1 in
       subst (λ (z : Kept). IsRunning k0 steps 0 z a a) (sym now) (record {
         fits = h.0;
+        sound = sound;
         left = steps;
         sum = omega arith;
         lines = [];
         ahead = ahead_at_start k0.number steps (booking k0.world.state steps);
         at = record { world = refl; number = refl; line_is = refl; refusal = refl; text = nothing_said k0.pending a };
       })
+
+  -- what the loop asks of the world that is kept
+  pub lives : (done : ℕ) (k : Kept) (b : Option (List ℕ)) → IsRunning k0 steps done k a b → k.world.spent ≡ false
+  lives done k b h = ap (λ (w : Living). w.spent) h.at.world
 
   -- the text so far, and that of one more part
   text_more : (lines more : List ReportLine) (p : List ℕ) (b : Option (List ℕ)) → Written (k0.pending ++ (flat_map line_text lines ++ flat_map line_text more)) p a b →
@@ -175,6 +181,7 @@ module _ (k0 : Kept) (steps : ℕ) (a : Option (List ℕ)) where
       let spent : m.world.spent ≡ false = ap (λ (z : Living). z.spent) both.world in
       record {
         fits = h.fits;
+        sound = subst IsSound (sym state) (subst (λ (o : Outcome). IfOk o (λ y. IsSound y.1)) s.is_done (act_keeps k.world.state k0.number step h.sound));
         left = more;
         sum = let sum : done + h.left ≡ steps = h.sum in omega arith;
         lines = h.lines ++ option_to_list x.0;
@@ -195,14 +202,14 @@ module _ (k0 : Kept) (steps : ℕ) (a : Option (List ℕ)) where
   one_left done (suc more) sum less = (more, refl)
 
   -- a step was done
-  pub goes_on : (done : ℕ) (k m : Kept) (b c : Option (List ℕ)) → IsRunning k0 steps done k a b → done < steps → IfSome (next k.world.state) (λ step. IsPossible k.world.state step) →
-      Moves (next k.world.state) (Ok true) k m b c → IsRunning k0 steps (done + 1) m a c
-  goes_on done k m b c h less possible moves = by (next k.world.state) refl possible moves
+  pub goes_on : (done : ℕ) (k m : Kept) (b c : Option (List ℕ)) → IsRunning k0 steps done k a b → done < steps → Moves (next k.world.state) (Ok true) k m b c →
+      IsRunning k0 steps (done + 1) m a c
+  goes_on done k m b c h less moves = by (next k.world.state) refl moves
     where
-      by : (o : Option Command) → next k.world.state ≡ o → IfSome o (λ step. IsPossible k.world.state step) → Moves o (Ok true) k m b c → IsRunning k0 steps (done + 1) m a c
-      by None e p t = absurd (true≢false t.0)
-      by (Some step) e p t =
-          let s = the_step k0 k step h.at.number e p in
+      by : (o : Option Command) → next k.world.state ≡ o → Moves o (Ok true) k m b c → IsRunning k0 steps (done + 1) m a c
+      by None e t = absurd (true≢false t.0)
+      by (Some step) e t =
+          let s = the_step k0 k step h.at.number h.sound e in
           let l = one_left done h.left h.sum less in
           step_behind done k m b c step s.0 l.0 h l.1 s.1 t.1
 
@@ -247,8 +254,8 @@ module _ (k0 : Kept) (steps : ℕ) (a : Option (List ℕ)) where
 
   -- memory or a write failed at a step
   pub stops : (done : ℕ) (k m : Kept) (l : List ℕ) (b c : Option (List ℕ)) (stop : Stop) → IsSound k0.world.state → IsRunning k0 steps done k a b → done < steps →
-      IfSome (next k.world.state) (λ step. IsPossible k.world.state step) → Moves (next k.world.state) (Err stop) k m b c → Turns (Err stop) (obeyed k0 whole) l k0.pending m a c
-  stops done k m l b c stop sound h less possible moves = by (next k.world.state) refl possible moves
+      Moves (next k.world.state) (Err stop) k m b c → Turns (Err stop) (obeyed k0 whole) l k0.pending m a c
+  stops done k m l b c stop sound h less moves = by (next k.world.state) refl moves
     where
       at_step : (step : Command) (x : Option ReportLine × WorldState) → IsStep k0 k step x → (more : ℕ) → h.left ≡ suc more → (stop : Stop) →
           Stopped stop (obeyed k (Ok (option_to_list x.0, x.1))) k.pending m b c → Stopped stop (obeyed k0 whole) k0.pending m a c
@@ -260,10 +267,10 @@ module _ (k0 : Kept) (steps : ℕ) (a : Option (List ℕ)) where
           front_of (done + 1) more x.1 h.lines (option_to_list x.0) b c k.pending sound h.fits
           (ahead_by_step k0.number steps (booking k0.world.state steps) done h.left more k.world.state h.lines step x h.ahead is_left s.is_next s.is_done) h.at.text t
 
-      by : (o : Option Command) → next k.world.state ≡ o → IfSome o (λ step. IsPossible k.world.state step) → Moves o (Err stop) k m b c → Stopped stop (obeyed k0 whole) k0.pending m a c
-      by None e p t = absurd t
-      by (Some step) e p t =
-          let s = the_step k0 k step h.at.number e p in
+      by : (o : Option Command) → next k.world.state ≡ o → Moves o (Err stop) k m b c → Stopped stop (obeyed k0 whole) k0.pending m a c
+      by None e t = absurd t
+      by (Some step) e t =
+          let s = the_step k0 k step h.at.number h.sound e in
           let left = one_left done h.left h.sum less in
           at_step step s.0 s.1 left.0 left.1 stop (subst (λ (d : Done). Stopped stop (obeyed k d) k.pending m b c) s.1.is_all t)
 

@@ -1,6 +1,6 @@
 //! `Runner`: a script's run so far. It is fed pieces of the script, and writes the report of each line that ends.
 
-ghost use Rattle.std.specs.Prelude.{◌≡◌, ◌==◌, ◌+◌, ◌^◌, ◌<◌, ◌≤◌, ◌∷◌, ◌++◌, [], false, length, take, position, is_none, OnOk, OnErr, IfSome};
+ghost use Rattle.std.specs.Prelude.{◌≡◌, ◌==◌, ◌+◌, ◌^◌, ◌<◌, ◌≤◌, ◌∷◌, ◌++◌, [], false, length, take, position, is_none, OnOk, OnErr};
 ghost use Rattle.std.specs.List.{fold, flat_map};
 ghost use Rattle.zr_outside.specs.Counts.{Rose};
 ghost use Rattle.zr_network.specs.Lines.{ended_lines, open_line, parts, unless_empty};
@@ -9,7 +9,7 @@ ghost use Rattle.zr_network.specs.Acts.{applied, next};
 ghost use Rattle.zr_network.specs.Report.{line_text};
 ghost use Rattle.zr_network.specs.Run.{on_line};
 ghost use Rattle.zr_outside.specs.Sink.{Appends, AppendsFront};
-ghost use Rattle.zr_world.specs.Steps.{new_world, IsPossible};
+ghost use Rattle.zr_world.specs.Steps.{new_world};
 ghost use Rattle.zr_netrun.specs.Kept.{fresh, obeyed, Adds, Advances, Asks, Begins, Moves, Turns, Written, stop_of};
 ghost use Rattle.zr_netrun.specs.Sound.{IsSound};
 
@@ -257,7 +257,6 @@ impl Runner {
     fn step<K: Sink>(&mut self, report: &mut Vec<ReportLine>, out: &mut K) -> Result<bool, Stop>
         requires alive { self.old.world.spent ≡ false }
         ensures moves { Moves (next self.old.world.state) result self.old self.new (K.held out.old) (K.held out.new) }
-        ensures possible { IfSome (next self.old.world.state) (λ step. IsPossible self.old.world.state step) }
         ensures fault { result ≡ Err Stop.WriteFault → Rose (K.faults out.old) (K.faults out.new) }
         ensures count { self.new.number ≡ self.old.number }
         ensures later { K.faults out.old ≤ K.faults out.new }

@@ -1,14 +1,11 @@
-use Rattle.std.proofs.Common.{◌≡◌, ℕ, ◌-◌, ◌≤◌, List, ◌++◌, length, take, min, Option, refl, sym, ap, ◌∙◌, rules, arith, subst}
+use Rattle.std.proofs.Common.{◌≡◌, ℕ, ◌-◌, ◌≤◌, List, length, min, Option, refl, sym, ap, ◌∙◌, rules, arith, subst}
 use Rattle.std.proofs.lemmas.List.{length-take}
 use Rattle.std.proofs.lemmas.Bool.{false≢true}
 use Rattle.zr_world.specs.Steps.{Living}
 use Rattle.zr_network.specs.Report.{too_long_text}
-use Rattle.zr_network.specs.Lines.{ended_lines}
 use Rattle.zr_outside.specs.Source.{Consumes}
-use Rattle.zr_netrun.specs.Kept.{Tells, Complains, fresh}
-use Rattle.zr_netrun.specs.Sound.{IsSound}
-use Rattle.zr_netrun.proofs.Sound.{lines_keep}
-use Rattle.zr_netrun.proofs.Reading.{reads_piece}
+use Rattle.zr_netrun.specs.Kept.{Tells, Complains}
+use Rattle.zr_netrun.proofs.Reading.{reads_piece, sound_piece}
 use Rattle.zr_netrun.proofs.Telling.{stops_reading, passes_limit, ends_reading, stops_at_end}
 use Rattle.zr_netrun.proofs.netrun.run_script.Goals as goal
 
@@ -39,7 +36,7 @@ reading-preserved-else-used-count g c =
     record {
       lines = omega (arith, c.in-Ok.ensures.count, c.reading.invariant.lines, length-take c.min-used.result c.read.new.into);
       alive = ap (λ (w : Living). w.spent) c.in-Ok.ensures.turn.world;
-      sound = subst (λ (w : Living). IsSound w.state) (sym c.in-Ok.ensures.turn.world) (lines_keep (ended_lines (c.reading.runner.line ++ take c.min-used.result c.read.new.into)) (fresh c.reading.runner) c.reading.invariant.sound);
+      sound = sound_piece c.min-used.result c.read.new.into _ c.reading.runner c.feed.new.self _ _ c.reading.invariant.sound c.in-Ok.ensures.turn;
       most = omega (arith, cut, c.reading.invariant.most);
       sized = search rules;
       quiet = omega arith;
