@@ -199,6 +199,7 @@ impl Runner {
         }
     }
 
+    // One more line has ended. This stands apart, as `book` does, so that what follows has to do with a whole runner.
     fn count(&mut self)
         requires room { self.old.number < 2 ^ 63 }
         ensures { self.new ≡ record { world = self.old.world; number = self.old.number + 1; line = self.old.line; pending = self.old.pending } }
@@ -222,7 +223,8 @@ impl Runner {
         }
     }
 
-    // The steps of a run are counted and then done one by one, so that no more than one step's report is held beside what waits.
+    // The steps of a run are done one by one, and what waits is written between them: a run of any length takes no more memory than
+    // one step and what may wait. The report lines come into the same vector at each step.
     fn run<K: Sink>(
         &mut self,
         steps: u32,
@@ -245,6 +247,7 @@ impl Runner {
         self.end_run(steps, out)
     }
 
+    // The steps that a run asks for are counted, which is all for which it may be refused.
     fn book(&mut self, steps: u32) -> Result<(), Stop>
         requires alive { self.old.world.spent ≡ false }
         ensures begins { Begins result steps self.old.world self.new.world }
@@ -282,6 +285,7 @@ impl Runner {
         self.relieve(out)
     }
 
+    // The last line of a run waits.
     fn tell_end(&mut self, done: u32) -> Result<(), Stop>
         requires alive { self.old.world.spent ≡ false }
         ensures adds { Adds result (obeyed self.old (Ok (ReportLine.Ran done (is_none (next self.old.world.state)) ∷ [], self.old.world.state))) self.old self.new }
