@@ -1,20 +1,19 @@
 -- A piece is fed line by line. At each turn what is kept is a run's (`IsAt`), and the lines that are left lead this run to the same
 -- end (`goal_run`) and to the same open line (`goal_open`) as the whole piece leads the first one.
-use Rattle.std.proofs.Common.{◌≡◌, ℕ, ◌+◌, ◌-◌, ◌<◌, ◌≤◌, ◌==◌, Bool, true, false, List, [], ◌∷◌, ◌++◌, length, take, drop, Option, Some, None, is_some, Result, Ok, Err, refl, sym, ap, ◌∙◌, append_assoc, append-nil, arith, subst}
+use Rattle.std.proofs.Common.{◌≡◌, ℕ, ◌+◌, ◌-◌, ◌<◌, ◌≤◌, ◌==◌, false, List, [], ◌∷◌, ◌++◌, length, take, drop, Option, Some, None, Result, Ok, Err, refl, sym, ap, ◌∙◌, append-nil, arith, subst}
 use Rattle.std.specs.List.{fold, position}
 use Rattle.std.specs.Prelude.{OnOk, OnErr}
 use Rattle.std.proofs.lemmas.List.{length-drop, length-take, take_all}
 use Rattle.std.proofs.lemmas.List.Quantifiers.{position-Some}
-use Rattle.zr_text.proofs.Cutting.{cut_some, none_cut}
+use Rattle.zr_text.proofs.Cutting.{cut_some}
 use Rattle.zr_outside.specs.Sink.{AppendsFront}
 use Rattle.zr_network.specs.Lines.{parts, ended_lines, open_line}
 use Rattle.zr_network.specs.Run.{Run, on_line}
-use Rattle.zr_world.specs.Steps.{Living}
 use Rattle.zr_netrun.specs.declared.runner.Stop.{Stop}
 use Rattle.zr_netrun.specs.declared.runner.Stop.TheVariants.{Refused, NoMemory, WriteFault}
-use Rattle.zr_netrun.specs.Kept.{Kept, fresh, Written, IsAt, Stopped, Turns}
+use Rattle.zr_netrun.specs.Kept.{Kept, fresh, Written, IsAt, Turns}
 use Rattle.zr_netrun.proofs.Lines.{IsOpen, open_append, ended_at, open_at, ended_none, open_none}
-use Rattle.zr_netrun.proofs.Writing.{turn_more, turn_stops, front_written, front_none}
+use Rattle.zr_netrun.proofs.Writing.{turn_more, turn_stops, front_written}
 
 -- nothing has been written since
 nothing_gone : (t : List ℕ) (a : Option (List ℕ)) → Written (t ++ []) t a a

@@ -1,8 +1,7 @@
 -- Keeping the front of a line that comes in parts.
-use Rattle.std.proofs.Common.{◌≡◌, ℕ, ◌+◌, ◌-◌, ◌≤◌, min, List, [], ◌∷◌, ◌++◌, length, take, refl, sym, ap, ◌∙◌, arith, subst}
+use Rattle.std.proofs.Common.{◌≡◌, ℕ, ◌+◌, ◌-◌, ◌≤◌, min, List, ◌++◌, length, take, sym, ap, ◌∙◌, arith}
 use Rattle.std.proofs.Math.Seq.{take-append-add}
 use Rattle.std.proofs.lemmas.List.{length-append, length-take, take_min}
-use Rattle.zr_network.specs.Lines.{parts}
 use Rattle.zr_netrun.proofs.Lines.{IsOpen, open_append, open_take}
 
 -- what there is room for makes a front of 4,097 bytes

@@ -1,6 +1,8 @@
 pub mod Lines
 pub mod Runs
 pub mod Writing
+pub mod Sound
+pub mod Stepping
 pub mod Keeping
 pub mod Feeding
 pub mod Reading

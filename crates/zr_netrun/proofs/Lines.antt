@@ -1,11 +1,10 @@
 -- Lines of bytes that come in pieces. An open line is one without a line end.
 -- The parts of an open line and what follows it are the parts of what follows, the first one behind the open line;
 -- so what ends in a piece, and what is open behind it, depends on the open line before it alone.
-use Rattle.std.proofs.Common.{◌≡◌, ℕ, zero, suc, ◌+◌, ◌<◌, ◌≤◌, ◌==◌, Bool, true, false, cond, not, List, [], ◌∷◌, ◌++◌, length, take, drop, position, Option, Some, None, refl, sym, ap, ◌∙◌, append_assoc, append-nil, arith, subst}
-use Rattle.std.specs.List.{slice_split, onto_first, fold}
-use Rattle.std.proofs.lemmas.List.Splits.{slice_split-cons_yes, slice_split-cons_no}
-use Rattle.std.proofs.lemmas.List.{length-append}
-use Rattle.zr_network.specs.Lines.{parts, all_but_last, last_part, ended_lines, open_line, unless_empty, lines}
+use Rattle.std.proofs.Common.{◌≡◌, ℕ, zero, suc, ◌==◌, Bool, true, false, cond, List, [], ◌∷◌, ◌++◌, take, refl, sym, ap, ◌∙◌}
+use Rattle.std.specs.List.{onto_first}
+use Rattle.std.proofs.lemmas.List.Splits.{slice_split-cons_no}
+use Rattle.zr_network.specs.Lines.{parts, all_but_last, last_part, ended_lines, open_line}
 
 -- a line without a line end
 abbrev pub IsOpen : List ℕ → Type 0

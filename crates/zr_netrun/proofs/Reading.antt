@@ -1,27 +1,29 @@
 -- The script that was read so far, what is kept of it, and what is told at its end.
 -- `IsAfter` holds whenever the loop reads: what is kept is the run of the lines that have ended, and all of its report was written.
-use Rattle.std.proofs.Common.{◌≡◌, ℕ, ◌+◌, ◌-◌, ◌<◌, ◌≤◌, ◌||◌, min, nat_lt, Bool, true, false, cond, List, [], ◌∷◌, ◌++◌, length, take, drop, Option, Some, None, is_some, Result, Ok, Err, refl, sym, ap, ◌∙◌, append_assoc, append-nil, arith, subst, inl, inr}
+use Rattle.std.proofs.Common.{◌≡◌, ℕ, ◌+◌, ◌-◌, ◌≤◌, ◌||◌, min, nat_lt, true, false, cond, List, [], ◌++◌, length, take, drop, Option, Some, None, is_some, Result, Ok, Err, refl, sym, ap, ◌∙◌, append_assoc, append-nil, arith, subst, inl, inr}
 use Rattle.std.specs.List.{fold}
 use Rattle.std.proofs.lemmas.List.Sums.{fold-append}
 use Rattle.std.proofs.lemmas.Bool.Decides.{nat_tests}
-use Rattle.std.proofs.lemmas.Bool.{cases_lt, false≢true}
-use Rattle.std.proofs.lemmas.List.{length-append, length-take, take-append-le, take_all, take-take}
+use Rattle.std.proofs.lemmas.Bool.{cases_lt}
+use Rattle.std.proofs.lemmas.List.{length-append, length-take, take_all, take-take}
 use Rattle.std.proofs.Math.Seq.{take-append-add}
-use Rattle.zr_msg.specs.declared.error.ScriptError.{ScriptError}
 use Rattle.zr_outside.specs.Source.{Consumes}
 use Rattle.zr_outside.specs.Sink.{Appends, AppendsFront}
-use Rattle.zr_network.specs.Lines.{ended_lines, open_line, unless_empty, lines}
-use Rattle.zr_network.specs.Report.{refused_text, too_long_text}
-use Rattle.zr_network.specs.Run.{Run, start, on_line, run_of, run_of_ended, most_bytes, within, judged, is_refused, complaint, complaint_of}
+use Rattle.zr_network.specs.Lines.{ended_lines, open_line, unless_empty}
+use Rattle.zr_network.specs.Report.{refused_text}
+use Rattle.zr_network.specs.Run.{Run, start, on_line, run_of, run_of_ended, most_bytes, within, judged, complaint, complaint_of}
+use Rattle.zr_world.specs.Steps.{Living}
 use Rattle.zr_netrun.specs.declared.status.Status.{Status}
 use Rattle.zr_netrun.specs.declared.status.Status.TheVariants as s
 use Rattle.zr_netrun.specs.declared.runner.Stop.{Stop}
 use Rattle.zr_netrun.specs.declared.runner.Stop.TheVariants.{Refused, NoMemory, WriteFault}
-use Rattle.zr_netrun.specs.Kept.{Kept, fresh, Written, IsAt, Stopped, Turns, Complains, TellsRefusal, Tells}
+use Rattle.zr_netrun.specs.Kept.{Kept, fresh, IsAt, Stopped, Turns, Tells}
+use Rattle.zr_netrun.specs.Sound.{IsSound}
 use Rattle.zr_netrun.specs.Clauses.{OfRead, Reports}
-use Rattle.zr_netrun.proofs.Lines.{IsOpen, ended_append, open_after, open_last}
-use Rattle.zr_netrun.proofs.Runs.{fold_kept, open_kept, on_line_kept}
-use Rattle.zr_netrun.proofs.Writing.{turn_more, turn_stops, all_written, written_all, written_flushed, front_flushed, front_none, front_written, front_longer}
+use Rattle.zr_netrun.proofs.Sound.{lines_keep}
+use Rattle.zr_netrun.proofs.Lines.{ended_append, open_after, open_last}
+use Rattle.zr_netrun.proofs.Runs.{fold_kept, open_kept}
+use Rattle.zr_netrun.proofs.Writing.{turn_more, turn_stops, all_written, written_all, written_flushed, front_flushed, front_none}
 
 -- ---- what is kept of the bytes that were read
 
@@ -92,6 +94,12 @@ reads_piece left now next n total buffer k m a b c u h took le flushed turn =
       flushed = flushed;
       total_is = omega (arith, length-append read (take n buffer), length-take n buffer, p.total_is);
     })
+
+-- the world after a piece is sound
+pub sound_piece : (n : ℕ) (buffer l : List ℕ) (k m : Kept) (a b : Option (List ℕ)) → IsSound k.world.state →
+    IsAt (fold on_line (fresh k) (ended_lines (k.line ++ take n buffer))) l k.pending m a b → IsSound m.world.state
+sound_piece n buffer l k m a b sound turn =
+    subst (λ (w : Living). IsSound w.state) (sym turn.world) (lines_keep (ended_lines (k.line ++ take n buffer)) (fresh k) sound)
 
 -- ---- what is told at the end
 

@@ -1,8 +1,8 @@
 -- How the run of lines depends on the run before them: text that was written before stands in front of what they add,
 -- a refused run stays as it is, and of a line that is not whole yet the front of 4,097 bytes is enough.
-use Rattle.std.proofs.Common.{◌≡◌, ℕ, ◌+◌, ◌<◌, ◌≤◌, Bool, true, false, cond, nat_lt, List, [], ◌∷◌, ◌++◌, length, take, Option, Some, None, is_some, Result, Ok, Err, refl, sym, ap, ◌∙◌, append_assoc, append-nil, arith, subst, inl, inr}
-use Rattle.std.specs.List.{fold}
-use Rattle.std.proofs.lemmas.Bool.{cases_lt, false≢true}
+use Rattle.std.proofs.Common.{◌≡◌, ℕ, ◌+◌, ◌<◌, ◌≤◌, Bool, true, false, cond, nat_lt, List, [], ◌∷◌, ◌++◌, length, take, Option, Some, None, is_some, Result, Ok, Err, refl, sym, ap, ◌∙◌, append_assoc, append-nil, arith, inl, inr}
+use Rattle.std.specs.List.{fold, flat_map}
+use Rattle.std.proofs.lemmas.Bool.{cases_lt}
 use Rattle.std.proofs.lemmas.Bool.Decides.{nat_tests}
 use Rattle.std.proofs.lemmas.List.{length-append, length-take, take-append-le, take_all}
 use Rattle.zr_msg.specs.declared.error.ScriptError.{ScriptError}
@@ -10,23 +10,22 @@ use Rattle.zr_msg.specs.declared.error.ScriptError.TheVariants as e
 use Rattle.zr_msg.specs.declared.command.Command.{Command}
 use Rattle.zr_network.specs.Lines.{parts, all_but_last, last_part, ended_lines, open_line, unless_empty}
 use Rattle.zr_network.specs.Command.{command_of}
-use Rattle.zr_msg.specs.declared.report.ReportLine.{ReportLine}
-use Rattle.zr_network.specs.Step.{◌>>=◌}
-use Rattle.zr_network.specs.World.{WorldState, Outcome, outcome}
-use Rattle.zr_netrun.specs.Kept.{advanced}
-use Rattle.zr_network.specs.Run.{Run, told, stepped, commanded, on_line}
+use Rattle.zr_network.specs.Acts.{Done, applied}
+use Rattle.zr_network.specs.Report.{line_text}
+use Rattle.zr_network.specs.Run.{Run, stepped, commanded, on_line}
 use Rattle.zr_netrun.proofs.Lines.{IsOpen, behind, parts_behind, open_take}
 
 -- a run with a text in front of its own
 abbrev pub with_text : List ℕ → Run → Run
 with_text t r = record { world = r.world; number = r.number; text = t ++ r.text; refusal = r.refusal }
 
-stepped_with : (t : List ℕ) (r : Run) (o : Outcome) → stepped (with_text t r) o ≡ with_text t (stepped r o)
-stepped_with t r (Ok x) = ap (λ z. record { world = x.1; number = r.number + 1; text = z; refusal = None }) (append_assoc t r.text (told x.0))
+stepped_with : (t : List ℕ) (r : Run) (d : Done) → stepped (with_text t r) d ≡ with_text t (stepped r d)
+stepped_with t r (Ok x) = ap (λ z. record { world = x.1; number = r.number + 1; text = z; refusal = None }) (append_assoc t r.text (flat_map line_text x.0))
 stepped_with t r (Err e) = refl
 
-commanded_with : (t : List ℕ) (r : Run) (c : Result Command ScriptError) → commanded (with_text t r) c ≡ with_text t (commanded r c)
-commanded_with t r (Ok command) = stepped_with t r (outcome r.world (r.number + 1) command)
+commanded_with : (t : List ℕ) (r : Run) (c : Result (Option Command) ScriptError) → commanded (with_text t r) c ≡ with_text t (commanded r c)
+commanded_with t r (Ok None) = refl
+commanded_with t r (Ok (Some command)) = stepped_with t r (applied r.world (r.number + 1) command)
 commanded_with t r (Err e) = refl
 
 on_line_with : (t : List ℕ) (r : Run) (line : List ℕ) → on_line (with_text t r) line ≡ with_text t (on_line r line)
@@ -121,17 +120,3 @@ on_line_front r line = ap (λ c. cond (is_some r.refusal) r (commanded r c)) (co
 pub last_kept : (r : Run) (line : List ℕ) → fold on_line r (unless_empty (take 4097 line)) ≡ fold on_line r (unless_empty line)
 last_kept r [] = ap (λ z. fold on_line r (unless_empty z)) (take_all 4097 [] (omega arith))
 last_kept r (b ∷ bs) = on_line_front r (b ∷ bs)
-
--- ---- what a line does, by what its command does to the world
-
-commanded_by : (r : Run) (c : Result Command ScriptError) → commanded r c ≡ stepped r (c >>= (λ command. outcome r.world (r.number + 1) command))
-commanded_by r (Ok command) = refl
-commanded_by r (Err e) = refl
-
-pub commanded_ok : (r : Run) (line : List ℕ) (line_told : Option ReportLine) (world : WorldState) → advanced r.world (r.number + 1) line ≡ Ok (line_told, world) →
-    commanded r (command_of line) ≡ record { world = world; number = r.number + 1; text = r.text ++ told line_told; refusal = None }
-commanded_ok r line line_told world h = commanded_by r (command_of line) ∙ ap (stepped r) h
-
-pub commanded_err : (r : Run) (line : List ℕ) (e : ScriptError) → advanced r.world (r.number + 1) line ≡ Err e →
-    commanded r (command_of line) ≡ record { world = r.world; number = r.number + 1; text = r.text; refusal = Some e }
-commanded_err r line e h = commanded_by r (command_of line) ∙ ap (stepped r) h

@@ -1,5 +1,5 @@
 -- What is told when the loop has ended: at each of its exits the report is that of the bytes that were read.
-use Rattle.std.proofs.Common.{◌≡◌, ℕ, ◌+◌, ◌-◌, ◌<◌, ◌≤◌, ◌||◌, ◌^◌, ◌⊎◌, min, nat_lt, Bool, true, false, List, [], ◌∷◌, ◌++◌, length, take, Option, Some, None, is_some, Result, Ok, Err, refl, sym, ap, ◌∙◌, arith, subst, inl, inr}
+use Rattle.std.proofs.Common.{◌≡◌, ℕ, ◌-◌, ◌<◌, ◌≤◌, ◌||◌, min, nat_lt, true, false, List, [], ◌++◌, length, take, Option, Some, None, is_some, Result, Ok, Err, sym, ap, ◌∙◌, arith, subst}
 use Rattle.std.specs.List.{fold}
 use Rattle.std.proofs.lemmas.List.Sums.{fold-append}
 use Rattle.std.proofs.lemmas.Bool.Decides.{nat_tests}
@@ -12,8 +12,7 @@ use Rattle.zr_network.specs.Run.{Run, start, on_line, run_of_ended, most_bytes, 
 use Rattle.zr_netrun.specs.declared.status.Status.{Status}
 use Rattle.zr_netrun.specs.declared.status.Status.TheVariants as s
 use Rattle.zr_netrun.specs.declared.runner.Stop.{Stop}
-use Rattle.zr_netrun.specs.declared.runner.Stop.TheVariants.{WriteFault}
-use Rattle.zr_netrun.specs.Kept.{Kept, fresh, Written, IsAt, Stopped, Turns, Complains, Tells}
+use Rattle.zr_netrun.specs.Kept.{Kept, fresh, Written, IsAt, Turns, Complains, Tells}
 use Rattle.zr_netrun.specs.Clauses.{OfRead, Reports}
 use Rattle.zr_netrun.proofs.Runs.{last_kept}
 use Rattle.zr_netrun.proofs.Writing.{turn_more, all_written, front_written}

@@ -1,9 +1,7 @@
 -- What has been written when one turn follows another: the text before stands in front of what a turn adds.
-use Rattle.std.proofs.Common.{◌≡◌, ℕ, ◌+◌, Bool, true, false, List, [], ◌∷◌, ◌++◌, Option, Some, None, is_some, Result, Ok, Err, refl, sym, ap, ◌∙◌, append_assoc, append-nil, arith, subst}
+use Rattle.std.proofs.Common.{◌≡◌, ℕ, true, List, [], ◌++◌, Option, Some, None, is_some, Result, Ok, Err, refl, sym, ap, ◌∙◌, append_assoc, append-nil, subst}
 use Rattle.std.specs.List.{fold}
 use Rattle.std.specs.Prelude.{OnOk, OnErr}
-use Rattle.std.proofs.lemmas.List.Sums.{fold-append}
-use Rattle.zr_msg.specs.declared.error.ScriptError.{ScriptError}
 use Rattle.zr_outside.specs.Sink.{Appends, AppendsFront}
 use Rattle.zr_network.specs.Run.{Run, on_line}
 use Rattle.zr_world.specs.Steps.{Living}
@@ -70,7 +68,7 @@ run_is r line earlier k a b h i =
     record { world = (sym (ap (λ (w : Living). w.state) h.world)) i; number = (sym h.number) i; text = (sym (append-nil r.text)) i; refusal = h.refusal i }
 
 -- a turn behind an earlier text
-turn_behind : (t earlier : List ℕ) (q : Run) (l p : List ℕ) (m : Kept) (a b c : Option (List ℕ)) (result : Result (Unit {0}) Stop) →
+pub turn_behind : (t earlier : List ℕ) (q : Run) (l p : List ℕ) (m : Kept) (a b c : Option (List ℕ)) (result : Result (Unit {0}) Stop) →
     Written (earlier ++ t) p a b → Turns result q l p m b c → Turns result (with_text t q) l earlier m a c
 turn_behind t earlier q l p m a b c (Ok u) h k = record {
   world = k.world;

@@ -1,15 +1,16 @@
 -- What the running code keeps of a script's run, and what a turn of it has done.
-use Rattle.std.specs.Prelude.{◌≡◌, ℕ, Bool, false, List, [], ◌++◌, Option, Some, None, Result, Ok, Err}
+use Rattle.std.specs.Prelude.{◌≡◌, ℕ, Bool, true, false, List, [], ◌++◌, Option, Some, None, Result, Ok, Err}
+use Rattle.std.specs.List.{flat_map}
 use Rattle.zr_msg.specs.declared.error.ScriptError.{ScriptError}
 use Rattle.zr_msg.specs.declared.error.ScriptError.TheVariants as e
+use Rattle.zr_msg.specs.declared.command.Command.{Command}
 use Rattle.zr_msg.specs.declared.report.ReportLine.{ReportLine}
-use Rattle.zr_network.specs.Step.{◌>>=◌}
-use Rattle.zr_network.specs.Command.{command_of}
-use Rattle.zr_network.specs.World.{WorldState, Outcome, outcome}
+use Rattle.zr_network.specs.World.{booking, book_step}
+use Rattle.zr_network.specs.Acts.{Done, applied}
 use Rattle.zr_network.specs.Run.{Run}
-use Rattle.zr_network.specs.Report.{refused_text}
+use Rattle.zr_network.specs.Report.{line_text, refused_text}
 use Rattle.zr_outside.specs.Sink.{Appends, AppendsFront}
-use Rattle.zr_world.specs.Steps.{Living}
+use Rattle.zr_world.specs.Steps.{Living, alive}
 use Rattle.zr_netrun.specs.declared.status.Status.{Status}
 use Rattle.zr_netrun.specs.declared.status.Status.TheVariants as s
 use Rattle.zr_netrun.specs.declared.runner.Stop.{Stop}
@@ -54,7 +55,7 @@ abbrev pub Turns : Result (Unit {0}) Stop → Run → List ℕ → List ℕ → 
 Turns (Ok u) run line earlier new before after = IsAt run line earlier new before after
 Turns (Err stop) run line earlier new before after = Stopped stop run earlier new before after
 
--- What applying a line has done: what it reports waits behind what waited.
+-- What an act has done: what it reports waits behind what waited.
 abbrev pub Adds : Result (Unit {0}) Stop → Run → Kept → Kept → Type 0
 Adds (Ok u) run old new =
     (new ≡ record { world = record { state = run.world; spent = false }; number = run.number; line = old.line; pending = old.pending ++ run.text }) × (run.refusal ≡ None)
@@ -62,16 +63,38 @@ Adds (Err (Refused e)) run old new = (run.refusal ≡ Some e) × (new.number ≡
 Adds (Err NoMemory) run old new = Unit {0}
 Adds (Err WriteFault) run old new = ⊥
 
--- what the command of a line does to a world
-abbrev pub advanced : WorldState → ℕ → List ℕ → Outcome
-advanced w number line = command_of line >>= (λ command. outcome w number command)
+-- the run that a command led to from what is kept, where its line has been counted already
+abbrev pub obeyed : Kept → Done → Run
+obeyed k (Ok x) = record { world = x.1; number = k.number; text = flat_map line_text x.0; refusal = None }
+obeyed k (Err e) = record { world = k.world.state; number = k.number; text = []; refusal = Some e }
 
--- What applying a line has done to a world that isn't spent.
-abbrev pub Advances : Result (Option ReportLine) Stop → Outcome → Living → Living → Type 0
-Advances (Ok told) said old new = (said ≡ Ok (told, new.state)) × (new.spent ≡ false)
-Advances (Err (Refused e)) said old new = (said ≡ Err e) × (new ≡ old)
-Advances (Err NoMemory) said old new = Unit {0}
-Advances (Err WriteFault) said old new = ⊥
+-- What reading a line has given: what it asks, if it asks anything.
+abbrev pub Asks : Result (Option Command) Stop → Result (Option Command) ScriptError → Type 0
+Asks (Ok command) said = said ≡ Ok command
+Asks (Err (Refused e)) said = said ≡ Err e
+Asks (Err NoMemory) said = Unit {0}
+Asks (Err WriteFault) said = ⊥
+
+-- What applying a command has done to a world that isn't spent, with the report lines that came.
+abbrev pub Advances : Result (Unit {0}) Stop → Done → Living → Living → List ReportLine → Type 0
+Advances (Ok u) said old new report = (said ≡ Ok (report, new.state)) × (new.spent ≡ false)
+Advances (Err (Refused e)) said old new report = (said ≡ Err e) × (new ≡ old)
+Advances (Err NoMemory) said old new report = Unit {0}
+Advances (Err WriteFault) said old new report = ⊥
+
+-- What counting a run's steps has done to a world that isn't spent.
+abbrev pub Begins : Result (Unit {0}) Stop → ℕ → Living → Living → Type 0
+Begins (Ok u) steps old new = (book_step old.state steps ≡ Ok (booking old.state steps)) × (new ≡ alive (booking old.state steps))
+Begins (Err (Refused e)) steps old new = (book_step old.state steps ≡ Err e) × (new ≡ old)
+Begins (Err NoMemory) steps old new = Unit {0}
+Begins (Err WriteFault) steps old new = ⊥
+
+-- What one more step of a run has done, where this is the next one: without one nothing is done.
+abbrev pub Moves : Option Command → Result Bool Stop → Kept → Kept → Option (List ℕ) → Option (List ℕ) → Type 0
+Moves None (Ok moved) old new before after = (moved ≡ false) × (new ≡ old) × (after ≡ before)
+Moves None (Err stop) old new before after = ⊥
+Moves (Some step) (Ok moved) old new before after = (moved ≡ true) × IsAt (obeyed old (applied old.world.state old.number step)) old.line old.pending new before after
+Moves (Some step) (Err stop) old new before after = Stopped stop (obeyed old (applied old.world.state old.number step)) old.pending new before after
 
 -- why a run stops where an error comes: memory ran out, or the line is refused
 abbrev pub stop_of : ScriptError → Stop

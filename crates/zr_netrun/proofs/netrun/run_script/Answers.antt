@@ -1,14 +1,11 @@
-use Rattle.std.proofs.Common.{◌≡◌, ℕ, ◌+◌, ◌-◌, ◌<◌, ◌≤◌, List, length, min, Option, refl, sym, ap, ◌∙◌, rules, arith, subst}
+use Rattle.std.proofs.Common.{◌≡◌, ℕ, ◌-◌, ◌≤◌, List, length, min, Option, refl, sym, ap, ◌∙◌, rules, arith, subst}
 use Rattle.std.proofs.lemmas.List.{length-take}
 use Rattle.std.proofs.lemmas.Bool.{false≢true}
 use Rattle.zr_world.specs.Steps.{Living}
 use Rattle.zr_network.specs.Report.{too_long_text}
-use Rattle.zr_network.specs.Lines.{ended_lines, open_line}
-use Rattle.zr_network.specs.Run.{on_line}
-use Rattle.std.specs.List.{fold}
 use Rattle.zr_outside.specs.Source.{Consumes}
 use Rattle.zr_netrun.specs.Kept.{Tells, Complains}
-use Rattle.zr_netrun.proofs.Reading.{reads_piece, after_nothing}
+use Rattle.zr_netrun.proofs.Reading.{reads_piece, sound_piece}
 use Rattle.zr_netrun.proofs.Telling.{stops_reading, passes_limit, ends_reading, stops_at_end}
 use Rattle.zr_netrun.proofs.netrun.run_script.Goals as goal
 
@@ -39,6 +36,7 @@ reading-preserved-else-used-count g c =
     record {
       lines = omega (arith, c.in-Ok.ensures.count, c.reading.invariant.lines, length-take c.min-used.result c.read.new.into);
       alive = ap (λ (w : Living). w.spent) c.in-Ok.ensures.turn.world;
+      sound = sound_piece c.min-used.result c.read.new.into _ c.reading.runner c.feed.new.self _ _ c.reading.invariant.sound c.in-Ok.ensures.turn;
       most = omega (arith, cut, c.reading.invariant.most);
       sized = search rules;
       quiet = omega arith;

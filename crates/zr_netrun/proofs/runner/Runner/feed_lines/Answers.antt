@@ -1,11 +1,12 @@
-use Rattle.std.proofs.Common.{◌≡◌, ℕ, ◌+◌, ◌-◌, ◌<◌, ◌≤◌, ◌==◌, false, List, [], ◌∷◌, ◌++◌, length, take, drop, Some, None, refl, sym, ap, ◌∙◌, rules, arith, subst}
+use Rattle.std.proofs.Common.{◌≡◌, ◌+◌, ◌-◌, ◌<◌, ◌==◌, [], length, take, drop, None, refl, sym, ap, rules, arith, subst}
 use Rattle.std.specs.List.{position}
-use Rattle.std.proofs.lemmas.List.{length-drop, length-take}
 use Rattle.std.proofs.lemmas.Result.{err_from_is_err_and}
 use Rattle.std.proofs.Math.Nat.{le_trans}
 use Rattle.zr_text.proofs.Cutting.{none_cut, open_front}
 use Rattle.zr_world.specs.Steps.{Living}
-use Rattle.zr_netrun.specs.Kept.{Kept, fresh}
+use Rattle.zr_netrun.specs.Kept.{fresh}
+use Rattle.zr_netrun.specs.Sound.{IsSound}
+use Rattle.zr_netrun.proofs.Sound.{line_keeps}
 use Rattle.zr_netrun.proofs.Lines.{IsOpen}
 use Rattle.zr_netrun.proofs.Feeding.{left_shorter, start_at, cut_rest, place_within, next_at, stops_at, keeps_at}
 use Rattle.zr_netrun.proofs.runner.Runner.feed_lines.Goals as goal
@@ -13,6 +14,7 @@ use Rattle.zr_netrun.proofs.runner.Runner.feed_lines.Goals as goal
 pub loop-place-init : goal.loop-place-init
 loop-place-init g c = record {
   alive = c.requires.alive;
+  sound = c.requires.sound;
   is_open = rw (← c.self.view_is) c.self.invariant.1;
   count = omega arith;
   later = omega arith;
@@ -35,6 +37,7 @@ loop-place-preserved g c =
     let turn = c.in_ok-end_line.ensures.turn in
     record {
       alive = ap (λ (w : Living). w.spent) turn.world;
+      sound = subst (λ (w : Living). IsSound w.state) (sym turn.world) (line_keeps (fresh c.loop-place.self) _ c.loop-place.invariant.sound);
       is_open = subst IsOpen (sym turn.line_is) refl;
       count = le_trans (left_shorter c.end_line.new.self.number c.loop-place.self.number c.in-Some.place _ c.loop-place.rest.now within c.in_ok-end_line.ensures.count)
           c.loop-place.invariant.count;

@@ -1,5 +1,4 @@
-use Rattle.std.proofs.Common.{◌≡◌, ◌≤◌, ◌-◌, ◌++◌, ℕ, List, length, min, take, rules, arith, sym, ap, ◌∙◌}
-use Rattle.zr_netrun.specs.Kept.{Kept}
+use Rattle.std.proofs.Common.{◌≡◌, ◌≤◌, ◌-◌, ◌++◌, ℕ, List, length, min, take, rules, arith, ap, ◌∙◌}
 use Rattle.zr_netrun.proofs.Keeping.{kept_front, kept_short, kept_open}
 use Rattle.zr_netrun.proofs.runner.Runner.keep.Goals as goal
 
