@@ -26,17 +26,9 @@ use Rattle.zr_network.specs.World.{Tagged, ClientState, RouterState, Routers, Cl
 use Rattle.zr_network.specs.Acts.{Done, End, end_cmp, lesser, ends_where, first_where, has_sent, has_queued, handling, taking, next, world_after, with_more, run_steps, all_done, acts, closing, applied}
 use Rattle.zr_network.specs.Run.{Run, start, stepped, commanded, on_line, run_lines}
 use Rattle.zr_network.specs.Moments.{Moment, went}
-use Rattle.zr_laws.specs.Runs.{StepsArePossible}
+use Rattle.zr_laws.specs.Runs.{AreSound, IsSound, StepsArePossible}
 use Rattle.zr_laws.proofs.Names.{names, same_name, value_new}
 use Rattle.zr_laws.proofs.Cases.{not_there, for_router, for_client, for_sub, for_unsub, for_push, for_handle, for_take, for_run, for_mark}
-
--- each client has a name of its own, and its router is there
-abbrev pub AreSound : Routers → Clients → Type 0
-AreSound routers [] = Unit {0}
-AreSound routers (e ∷ es) = (client_of es e.0 ≡ None) × (is_some (router_of routers e.1.router) ≡ true) × AreSound routers es
-
-abbrev pub IsSound : WorldState → Type 0
-IsSound w = AreSound w.routers w.clients
 
 -- ---- names
 

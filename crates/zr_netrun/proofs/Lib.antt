@@ -1,7 +1,6 @@
 pub mod Lines
 pub mod Runs
 pub mod Writing
-pub mod Sound
 pub mod Stepping
 pub mod Keeping
 pub mod Feeding

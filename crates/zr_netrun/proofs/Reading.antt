@@ -18,9 +18,9 @@ use Rattle.zr_netrun.specs.declared.status.Status.TheVariants as s
 use Rattle.zr_netrun.specs.declared.runner.Stop.{Stop}
 use Rattle.zr_netrun.specs.declared.runner.Stop.TheVariants.{Refused, NoMemory, WriteFault}
 use Rattle.zr_netrun.specs.Kept.{Kept, fresh, IsAt, Stopped, Turns, Tells}
-use Rattle.zr_netrun.specs.Sound.{IsSound}
+use Rattle.zr_laws.specs.Runs.{IsSound}
 use Rattle.zr_netrun.specs.Clauses.{OfRead, Reports}
-use Rattle.zr_netrun.proofs.Sound.{lines_keep}
+use Rattle.zr_laws.proofs.Sound.{lines_keep}
 use Rattle.zr_netrun.proofs.Lines.{ended_append, open_after, open_last}
 use Rattle.zr_netrun.proofs.Runs.{fold_kept, open_kept}
 use Rattle.zr_netrun.proofs.Writing.{turn_more, turn_stops, all_written, written_all, written_flushed, front_flushed, front_none}

@@ -24,10 +24,10 @@ use Rattle.zr_world.specs.Steps.{Living, alive}
 use Rattle.zr_netrun.specs.declared.runner.Stop.{Stop}
 use Rattle.zr_netrun.specs.declared.runner.Stop.TheVariants.{Refused, NoMemory, WriteFault}
 use Rattle.zr_netrun.specs.Kept.{Kept, fresh, obeyed, Written, IsAt, Stopped, Turns, Asks, Begins, Moves}
-use Rattle.zr_netrun.specs.Sound.{IsSound}
+use Rattle.zr_laws.specs.Runs.{IsSound}
 use Rattle.zr_netrun.proofs.Runs.{with_text}
 use Rattle.zr_netrun.proofs.Writing.{turn_behind, all_waits, front_none, front_more, front_longer}
-use Rattle.zr_netrun.proofs.Sound.{act_keeps, next_goes, run_goes}
+use Rattle.zr_laws.proofs.Sound.{act_keeps, next_goes, run_goes}
 
 -- ---- a line, by what it asks
 

@@ -1,4 +1,3 @@
 pub mod Status
 pub mod Kept
-pub mod Sound
 pub mod Clauses

@@ -11,7 +11,7 @@ ghost use Rattle.zr_network.specs.Run.{on_line};
 ghost use Rattle.zr_outside.specs.Sink.{Appends, AppendsFront};
 ghost use Rattle.zr_world.specs.Steps.{new_world};
 ghost use Rattle.zr_netrun.specs.Kept.{fresh, obeyed, Adds, Advances, Asks, Begins, Moves, Turns, Written, stop_of};
-ghost use Rattle.zr_netrun.specs.Sound.{IsSound};
+ghost use Rattle.zr_laws.specs.Runs.{IsSound};
 
 use std::alloc::{AllocError, Global};
 use std::marker::Model;

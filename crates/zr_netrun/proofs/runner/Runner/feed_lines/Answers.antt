@@ -5,8 +5,8 @@ use Rattle.std.proofs.Math.Nat.{le_trans}
 use Rattle.zr_text.proofs.Cutting.{none_cut, open_front}
 use Rattle.zr_world.specs.Steps.{Living}
 use Rattle.zr_netrun.specs.Kept.{fresh}
-use Rattle.zr_netrun.specs.Sound.{IsSound}
-use Rattle.zr_netrun.proofs.Sound.{line_keeps}
+use Rattle.zr_laws.specs.Runs.{IsSound}
+use Rattle.zr_laws.proofs.Sound.{line_keeps}
 use Rattle.zr_netrun.proofs.Lines.{IsOpen}
 use Rattle.zr_netrun.proofs.Feeding.{left_shorter, start_at, cut_rest, place_within, next_at, stops_at, keeps_at}
 use Rattle.zr_netrun.proofs.runner.Runner.feed_lines.Goals as goal

@@ -4,7 +4,7 @@ use Rattle.std.specs.List.{fold}
 use Rattle.zr_network.specs.Lines.{ended_lines, open_line}
 use Rattle.zr_network.specs.Run.{Run, on_line}
 use Rattle.zr_netrun.specs.Kept.{fresh, IsAt}
-use Rattle.zr_netrun.specs.Sound.{IsSound}
+use Rattle.zr_laws.specs.Runs.{IsSound}
 use Rattle.zr_netrun.proofs.Lines.{IsOpen}
 use Rattle.zr_netrun.proofs.runner.Runner.feed_lines.Given as goal
 
