@@ -1,13 +1,12 @@
 -- The steps of a `handle` and of a `take`, by the message that is taken from the client's wire or queue.
-use Rattle.std.proofs.Common.{◌≡◌, ℕ, Bool, true, false, cond, List, [], ◌∷◌, Option, Some, None, Result, Ok, Err, is_some, refl, ap, sym, ◌∙◌}
+use Rattle.std.proofs.Common.{◌≡◌, ℕ, Bool, true, false, List, Option, Some, None, Result, Ok, Err, is_some, refl, ap, sym, ◌∙◌}
 use Rattle.std.proofs.lemmas.Bool.{false≢true, true≢false}
-use Rattle.zr_id.specs.declared.link.LinkNo.{LinkNo}
 use Rattle.zr_msg.specs.declared.error.ScriptError.{ScriptError}
 use Rattle.zr_msg.specs.declared.msg.Event.TheVariants.{From}
 use Rattle.zr_msg.specs.declared.report.ReportLine.TheVariants.{Handled, Taken}
 use Rattle.zr_table.specs.Table.{sends}
 use Rattle.zr_network.specs.Step.{◌>>=◌}
-use Rattle.zr_network.specs.World.{Tagged, Clients, WorldState, Outcome, RouterState, ClientState, handle_step, is_named, router_of, client_of, with_router, with_client, with_wire, with_queue, with_tables, take_step, having, all_queued, router_at, end_at, oldest}
+use Rattle.zr_network.specs.World.{Tagged, Clients, WorldState, Outcome, RouterState, ClientState, handle_step, router_of, client_of, with_router, with_client, with_wire, with_queue, with_tables, take_step, having, all_queued, router_at, end_at, oldest}
 use Rattle.zr_msg.specs.declared.error.ScriptError.TheVariants as e
 use Rattle.zr_msg.specs.declared.report.ReportLine.{ReportLine}
 use Rattle.zr_world.specs.Steps.{Steps, from_wire, from_queue}

@@ -1,8 +1,7 @@
 -- That the router of each client is there, whatever the commands; so a step for which a message waits is possible.
-use Rattle.std.proofs.Common.{◌≡◌, ℕ, Bool, true, false, cond, ◌||◌, List, [], ◌∷◌, Option, Some, None, Result, Ok, Err, refl, sym, ap, ◌∙◌, subst, not, length}
-use Rattle.std.specs.Prelude.{IfOk, IfSome, is_ok, is_some, option_to_list, nat_le, ◌+◌}
+use Rattle.std.proofs.Common.{◌≡◌, ℕ, Bool, true, false, cond, List, [], ◌∷◌, Option, Some, None, Result, Ok, Err, refl, sym, ap, ◌∙◌, subst, not, length}
+use Rattle.std.specs.Prelude.{IfOk, IfSome, is_ok, is_some, nat_le, ◌+◌}
 use Rattle.std.specs.List.{list_any, slice_get}
-use Rattle.std.specs.Map.{keys_of}
 use Rattle.std.specs.BTreeMap.{insert_entry}
 use Rattle.std.specs.Ordering.{nat_cmp}
 use Rattle.std.specs.Cmp.Lexicographic.{slice_cmp}
@@ -14,8 +13,7 @@ use Rattle.zr_msg.specs.declared.msg.Msg.{Msg}
 use Rattle.zr_msg.specs.declared.msg.Body.{Body}
 use Rattle.zr_msg.specs.declared.msg.Body.TheVariants as b
 use Rattle.zr_msg.specs.declared.error.ScriptError.{ScriptError}
-use Rattle.zr_msg.specs.declared.error.ScriptError.TheVariants.{NameTaken, NotLinked, NotSettled, Limit, NoMemory}
-use Rattle.zr_msg.specs.declared.error.ScriptError.TheVariants as e
+use Rattle.zr_msg.specs.declared.error.ScriptError.TheVariants.{NameTaken, NotLinked, NotSettled, Limit}
 use Rattle.zr_msg.specs.declared.command.Command.{Command}
 use Rattle.zr_msg.specs.declared.command.Command.TheVariants as c
 use Rattle.zr_msg.specs.declared.report.ReportLine.{ReportLine}
@@ -24,9 +22,9 @@ use Rattle.zr_msg.specs.declared.msg.Event.TheVariants.{From}
 use Rattle.zr_table.specs.Table.{sends}
 use Rattle.zr_network.specs.Step.{◌>>=◌}
 use Rattle.zr_network.specs.World.{Tagged, ClientState, RouterState, Routers, Clients, WorldState, Outcome, is_named, router_of, client_of, with_router, with_client, with_wire, is_taken, most_weight, most_steps, weight_of, queued, queued_at, queued_for, all_queued, is_empty, all_settled, router_at, client_at, end_at, oldest, free_name, first_router, room_for_client, fresh_id, known_id, new_router, linked, weighing, weighed, having, new_client, booking, router_step, client_step, sub_step, unsub_step, push_step, handle_step, take_step, book_step, mark_step, outcome}
-use Rattle.zr_network.specs.Acts.{Done, has_sent, has_queued, all_done, acts, closing, applied}
+use Rattle.zr_network.specs.Acts.{Done, has_sent, has_queued, all_done, acts, applied}
 use Rattle.zr_world.specs.Ends.{waits}
-use Rattle.zr_world.specs.Steps.{Counts, AppliesTo, Adds, IsPossible}
+use Rattle.zr_world.specs.Steps.{Counts, Adds, IsPossible}
 use Rattle.zr_world.specs.Linked.{is_linked, AreLinked, IsReady}
 use Rattle.zr_world.proofs.Ends.{names, same_name, value_after, value_new}
 
@@ -136,29 +134,29 @@ router_links : (w : WorldState) (id : List ℕ) → AreLinked w → IfOk (router
 unfolding router_step
 router_links w id h =
     bind (free_name w id) _ (λ x. AreLinked x.1) (λ u eu. bind (first_router w.routers) _ (λ x. AreLinked x.1) (λ v ev.
-      routers_stay w.routers (insert_entry (slice_cmp nat_cmp) w.routers id new_router) w.clients (router_new w.routers id new_router (free w id u eu).0) h))
+    routers_stay w.routers (insert_entry (slice_cmp nat_cmp) w.routers id new_router) w.clients (router_new w.routers id new_router (free w id u eu).0) h))
 
 client_links : (w : WorldState) (id router : List ℕ) → AreLinked w → IfOk (client_step w id router) (λ x. AreLinked x.1)
 unfolding client_step
 client_links w id router h =
     bind (router_at (router_of w.routers router)) _ (λ x. AreLinked x.1) (λ r er. bind (free_name w id) _ (λ x. AreLinked x.1) (λ u eu. bind (room_for_client w.names) _ (λ x. AreLinked x.1) (λ v ev.
-      client_added (with_router w.routers router (linked r (length w.names))) w.clients id router (length w.names) (free w id u eu).1
-        (router_changed w.routers router (linked r (length w.names)) router (router_is (router_of w.routers router) r er))
-        (routers_stay w.routers (with_router w.routers router (linked r (length w.names))) w.clients (router_changed w.routers router (linked r (length w.names))) h))))
+    client_added (with_router w.routers router (linked r (length w.names))) w.clients id router (length w.names) (free w id u eu).1
+    (router_changed w.routers router (linked r (length w.names)) router (router_is (router_of w.routers router) r er))
+    (routers_stay w.routers (with_router w.routers router (linked r (length w.names))) w.clients (router_changed w.routers router (linked r (length w.names))) h))))
 
 sub_links : (w : WorldState) (line : ℕ) (name : List ℕ) (id : ℕ) (key : List ℕ) → AreLinked w → IfOk (sub_step w line name id key) (λ x. AreLinked x.1)
 unfolding sub_step
 sub_links w line name id key h =
     bind (client_at (client_of w.clients name)) _ (λ x. AreLinked x.1) (λ s es. bind (fresh_id s id) _ (λ x. AreLinked x.1) (λ u eu.
-      bind (weighed w.routers s.router key (router_of w.routers s.router)) _ (λ x. AreLinked x.1) (λ routers er.
-        client_changed routers w.clients name s _ (client_is (client_of w.clients name) s es) refl
-          (routers_stay w.routers routers w.clients (weighed_stay w.routers routers s.router key (router_of w.routers s.router) er) h))))
+    bind (weighed w.routers s.router key (router_of w.routers s.router)) _ (λ x. AreLinked x.1) (λ routers er.
+    client_changed routers w.clients name s _ (client_is (client_of w.clients name) s es) refl
+    (routers_stay w.routers routers w.clients (weighed_stay w.routers routers s.router key (router_of w.routers s.router) er) h))))
 
 unsub_links : (w : WorldState) (line : ℕ) (name : List ℕ) (id : ℕ) → AreLinked w → IfOk (unsub_step w line name id) (λ x. AreLinked x.1)
 unfolding unsub_step
 unsub_links w line name id h =
     bind (client_at (client_of w.clients name)) _ (λ x. AreLinked x.1) (λ s es. bind (known_id s id) _ (λ x. AreLinked x.1) (λ u eu.
-      client_changed w.routers w.clients name s _ (client_is (client_of w.clients name) s es) refl h))
+    client_changed w.routers w.clients name s _ (client_is (client_of w.clients name) s es) refl h))
 
 push_links : (w : WorldState) (line : ℕ) (name key : List ℕ) (body : Body) → AreLinked w → IfOk (push_step w line name key body) (λ x. AreLinked x.1)
 unfolding push_step
@@ -169,17 +167,17 @@ handle_links : (w : WorldState) (router from : List ℕ) → AreLinked w → IfO
 unfolding handle_step
 handle_links w router from h =
     bind (router_at (router_of w.routers router)) _ (λ x. AreLinked x.1) (λ r er.
-      bind (end_at (client_of w.clients from) (is_some (router_of w.routers from)) router) _ (λ x. AreLinked x.1) (λ s es. bind (oldest s.wire) _ (λ x. AreLinked x.1) (λ x ex.
-        queues_changed (with_router w.routers router (having r s.link x.0.msg)) (with_client w.clients from (with_wire s x.1)) w.names (sends r.node (From (record { 0 = s.link }) x.0.msg)) x.0.tag
-          (client_changed (with_router w.routers router (having r s.link x.0.msg)) w.clients from s (with_wire s x.1) (end_is (client_of w.clients from) (is_some (router_of w.routers from)) router s es) refl
-            (routers_stay w.routers (with_router w.routers router (having r s.link x.0.msg)) w.clients (router_changed w.routers router (having r s.link x.0.msg)) h)))))
+    bind (end_at (client_of w.clients from) (is_some (router_of w.routers from)) router) _ (λ x. AreLinked x.1) (λ s es. bind (oldest s.wire) _ (λ x. AreLinked x.1) (λ x ex.
+    queues_changed (with_router w.routers router (having r s.link x.0.msg)) (with_client w.clients from (with_wire s x.1)) w.names (sends r.node (From (record { 0 = s.link }) x.0.msg)) x.0.tag
+    (client_changed (with_router w.routers router (having r s.link x.0.msg)) w.clients from s (with_wire s x.1) (end_is (client_of w.clients from) (is_some (router_of w.routers from)) router s es) refl
+    (routers_stay w.routers (with_router w.routers router (having r s.link x.0.msg)) w.clients (router_changed w.routers router (having r s.link x.0.msg)) h)))))
 
 take_links : (w : WorldState) (router to : List ℕ) → AreLinked w → IfOk (take_step w router to) (λ x. AreLinked x.1)
 unfolding take_step
 take_links w router to h =
     bind (router_at (router_of w.routers router)) _ (λ x. AreLinked x.1) (λ r er.
-      bind (end_at (client_of w.clients to) (is_some (router_of w.routers to)) router) _ (λ x. AreLinked x.1) (λ s es. bind (oldest s.queue) _ (λ x. AreLinked x.1) (λ x ex.
-        client_changed w.routers w.clients to s _ (end_is (client_of w.clients to) (is_some (router_of w.routers to)) router s es) refl h)))
+    bind (end_at (client_of w.clients to) (is_some (router_of w.routers to)) router) _ (λ x. AreLinked x.1) (λ s es. bind (oldest s.queue) _ (λ x. AreLinked x.1) (λ x ex.
+    client_changed w.routers w.clients to s _ (end_is (client_of w.clients to) (is_some (router_of w.routers to)) router s es) refl h)))
 
 book_links : (w : WorldState) (steps : ℕ) → AreLinked w → IfOk (book_step w steps) AreLinked
 unfolding book_step
@@ -221,7 +219,7 @@ all_link : (line : ℕ) (all : List Command) (w : WorldState) → AreLinked w �
 all_link line [] w h = h
 all_link line (a ∷ more) w h =
     bind (outcome w line a) _ (λ x. AreLinked x.1) (λ x ex. bind (all_done x.1 line more) _ (λ x. AreLinked x.1) (λ y ey.
-      if_ok (all_done x.1 line more) (λ x. AreLinked x.1) y (all_link line more x.1 (if_ok (outcome w line a) (λ x. AreLinked x.1) x (act_links w line a h) ex)) ey))
+    if_ok (all_done x.1 line more) (λ x. AreLinked x.1) y (all_link line more x.1 (if_ok (outcome w line a) (λ x. AreLinked x.1) x (act_links w line a h) ex)) ey))
 
 -- a whole command
 applied_links : (w : WorldState) (line : ℕ) (command : Command) → AreLinked w → IfOk (applied w line command) (λ x. AreLinked x.1)
@@ -281,7 +279,7 @@ handle_goes w router from h k =
     let x = oldest_goes e.0.wire e.3 in
     bind_goes (router_at (router_of w.routers router)) _ r.0 r.1
     (bind_goes (end_at (client_of w.clients from) (is_some (router_of w.routers from)) router) _ e.0 (end_goes (client_of w.clients from) (is_some (router_of w.routers from)) router e.0 e.1 e.2)
-      (bind_goes (oldest e.0.wire) _ x.0 x.1 refl))
+    (bind_goes (oldest e.0.wire) _ x.0 x.1 refl))
 
 take_goes : (w : WorldState) (router to : List ℕ) → AreLinked w → waits has_queued router (client_of w.clients to) ≡ true → is_ok (take_step w router to) ≡ true
 unfolding take_step
@@ -291,7 +289,7 @@ take_goes w router to h k =
     let x = oldest_goes e.0.queue e.3 in
     bind_goes (router_at (router_of w.routers router)) _ r.0 r.1
     (bind_goes (end_at (client_of w.clients to) (is_some (router_of w.routers to)) router) _ e.0 (end_goes (client_of w.clients to) (is_some (router_of w.routers to)) router e.0 e.1 e.2)
-      (bind_goes (oldest e.0.queue) _ x.0 x.1 refl))
+    (bind_goes (oldest e.0.queue) _ x.0 x.1 refl))
 
 pub possible : (w : WorldState) (step : Command) → AreLinked w → IsReady w step → IsPossible w step
 unfolding outcome

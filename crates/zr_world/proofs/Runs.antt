@@ -1,6 +1,6 @@
 -- A run as code does it: counted, step by step, and told at the end.
-use Rattle.std.proofs.Common.{◌≡◌, ℕ, suc, ◌+◌, ◌-◌, ◌<◌, ◌≤◌, Bool, true, false, cond, List, [], ◌∷◌, ◌++◌, length, Option, Some, None, Result, Ok, Err, refl, sym, ap, ◌∙◌, ◌⊎◌, inl, inr, subst, append_assoc, append-nil, arith}
-use Rattle.std.specs.Prelude.{IfOk, is_ok, is_none, option_to_list, nat_le}
+use Rattle.std.proofs.Common.{◌≡◌, ℕ, ◌+◌, ◌-◌, ◌<◌, ◌≤◌, Bool, true, false, cond, List, [], ◌∷◌, ◌++◌, length, None, Result, Ok, Err, refl, sym, ap, ◌∙◌, ◌⊎◌, inl, subst, append_assoc, append-nil, arith}
+use Rattle.std.specs.Prelude.{IfOk, is_none, option_to_list, nat_le}
 use Rattle.std.proofs.lemmas.Bool.{false≢true, true≢false}
 use Rattle.zr_msg.specs.declared.error.ScriptError.{ScriptError}
 use Rattle.zr_msg.specs.declared.error.ScriptError.TheVariants.{Limit}
@@ -76,9 +76,10 @@ pub no_more : (b : Bool) (line steps : ℕ) (start : WorldState) (done : ℕ) (n
     IsOnTheWay line steps start done now before mid → Adds (ran line steps start) then before after × (length (run_steps line steps start) ≡ done)
 no_more b line steps start done now then before mid after e step h =
     let s = stopped b line now then mid after e step in
-    let told : Adds (ran line steps start) now before mid = all_told line steps start done now before mid (inl s.0) h in
-    (subst (λ (z : List ReportLine). Adds (ran line steps start) then before z) (sym s.2) (subst (λ (z : WorldState). Adds (ran line steps start) z before mid) (sym s.1) told),
-      all_counted line steps start done now before mid (inl s.0) h)
+    let told : Adds (ran line steps start) now before mid = all_told line steps start done now before mid (inl s.0) h in (
+      subst (λ (z : List ReportLine). Adds (ran line steps start) then before z) (sym s.2) (subst (λ (z : WorldState). Adds (ran line steps start) z before mid) (sym s.1) told),
+      all_counted line steps start done now before mid (inl s.0) h,
+    )
 
 -- what was said so far begins what all say
 pub so_far : (line steps : ℕ) (start : WorldState) (done : ℕ) (now : WorldState) (before after : List ReportLine) →

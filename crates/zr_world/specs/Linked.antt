@@ -2,7 +2,7 @@
 use Rattle.std.specs.Prelude.{◌≡◌, ℕ, Bool, true, List, Option, Some, None, is_some}
 use Rattle.zr_msg.specs.declared.command.Command.{Command}
 use Rattle.zr_msg.specs.declared.command.Command.TheVariants as c
-use Rattle.zr_network.specs.World.{ClientState, Routers, Clients, WorldState, router_of, client_of}
+use Rattle.zr_network.specs.World.{ClientState, Routers, WorldState, router_of, client_of}
 use Rattle.zr_network.specs.Acts.{has_sent, has_queued}
 use Rattle.zr_world.specs.Ends.{waits}
 

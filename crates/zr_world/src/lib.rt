@@ -7,4 +7,6 @@ mod clients;
 mod router;
 mod steps;
 mod tables;
+#[cfg(test)]
+mod tests;
 pub mod world;

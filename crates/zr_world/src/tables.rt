@@ -175,7 +175,7 @@ impl Tables {
     }
 
     /// A router's oldest queued message for a client is sent to it.
-    #[tactic(auto, using(crate::proofs::Handling::take_is, crate::proofs::Handling::take_steps))]
+
     pub fn take(&mut self, router: Zid, to: Zid) -> Result<Option<ReportLine>, ScriptError>
         ensures { Steps result (take_step (state_of self.old) router to) (state_of self.old) (state_of self.new) }
     {

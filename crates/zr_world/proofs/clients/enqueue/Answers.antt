@@ -12,4 +12,4 @@ returns-clause-index c = λ to_handle h.
     let lent : (c.get_mut.follows.lender c.enqueue-done.new.self).entries ≡ with_client c.args.map.now.entries c.args.name.now c.enqueue-done.new.self = search rules in
     subst (λ (z : Clients). IsIndexed z to_handle c.settle.new.ends.keys) (sym lent)
     (queue_put c.args.map.now.entries c.args.to_take.now.keys c.put.new.ends.keys c.settle.new.ends.keys to_handle c.args.name.now s s' there c.enqueue-done.ensures.end.0 c.enqueue-done.ensures.end.1
-      (λ q. rw (← c.router.ensures) (c.in_ok-put.ensures.put q)) (λ q. rw (← (c.router-2.ensures ∙ c.enqueue-done.ensures.end.0), ← c.has_queued.ensures) (c.settle.ensures q)) h)
+    (λ q. rw (← c.router.ensures) (c.in_ok-put.ensures.put q)) (λ q. rw (← (c.router-2.ensures ∙ c.enqueue-done.ensures.end.0), ← c.has_queued.ensures) (c.settle.ensures q)) h)

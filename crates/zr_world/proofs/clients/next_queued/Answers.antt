@@ -14,4 +14,4 @@ returns-clause-index c = λ to_handle h.
     let router = ap (λ (z : ClientState). z.router) got.1 in
     subst (λ (z : Clients). IsIndexed z to_handle c.settle.new.ends.keys) (sym lent)
     (queue_got c.args.map.now.entries c.args.to_take.now.keys c.settle.new.ends.keys to_handle c.args.to.now s s' there router (ap (λ (z : ClientState). z.wire) got.1)
-      (ap (λ (z : List Tagged). not (is_empty z)) got.0) (λ q. rw (← (c.router-2.ensures ∙ router), ← c.has_queued.ensures) (c.settle.ensures q)) h)
+    (ap (λ (z : List Tagged). not (is_empty z)) got.0) (λ q. rw (← (c.router-2.ensures ∙ router), ← c.has_queued.ensures) (c.settle.ensures q)) h)

@@ -14,4 +14,4 @@ returns-clause-index c = λ to_take h.
     let router = ap (λ (z : ClientState). z.router) got.1 in
     subst (λ (z : Clients). IsIndexed z c.settle.new.ends.keys to_take) (sym lent)
     (wire_got c.args.map.now.entries c.args.to_handle.now.keys c.settle.new.ends.keys to_take c.args.from.now s s' there router (ap (λ (z : ClientState). z.queue) got.1)
-      (ap (λ (z : List Tagged). not (is_empty z)) got.0) (λ q. rw (← (c.router-2.ensures ∙ router), ← c.has_sent.ensures) (c.settle.ensures q)) h)
+    (ap (λ (z : List Tagged). not (is_empty z)) got.0) (λ q. rw (← (c.router-2.ensures ∙ router), ← c.has_sent.ensures) (c.settle.ensures q)) h)

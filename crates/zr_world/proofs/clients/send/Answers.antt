@@ -12,4 +12,4 @@ returns-clause-index c = λ to_take h.
     let lent : (c.get_mut.follows.lender c.send-done.new.self).entries ≡ with_client c.args.map.now.entries c.args.name.now c.send-done.new.self = search rules in
     subst (λ (z : Clients). IsIndexed z c.settle.new.ends.keys to_take) (sym lent)
     (wire_put c.args.map.now.entries c.args.to_handle.now.keys c.put.new.ends.keys c.settle.new.ends.keys to_take c.args.name.now s s' there c.send-done.ensures.end.0 c.send-done.ensures.end.1
-      (λ q. rw (← c.router.ensures) (c.in_ok-put.ensures.put q)) (λ q. rw (← (c.router-2.ensures ∙ c.send-done.ensures.end.0), ← c.has_sent.ensures) (c.settle.ensures q)) h)
+    (λ q. rw (← c.router.ensures) (c.in_ok-put.ensures.put q)) (λ q. rw (← (c.router-2.ensures ∙ c.send-done.ensures.end.0), ← c.has_sent.ensures) (c.settle.ensures q)) h)

@@ -1,4 +1,4 @@
-use Rattle.std.proofs.Common.{◌≡◌, ◌-◌, inr, sym, subst, length, arith}
+use Rattle.std.proofs.Common.{◌≡◌, ◌-◌, inr, length, arith}
 use Rattle.zr_network.specs.Acts.{run_steps}
 use Rattle.zr_world.specs.State.{state_of}
 use Rattle.zr_world.proofs.Runs.{begins, more, no_more, all_told, all_counted}

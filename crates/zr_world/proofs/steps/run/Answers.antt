@@ -1,11 +1,6 @@
-use Rattle.std.proofs.Common.{List, sym, subst}
 use Rattle.std.proofs.lemmas.Result.{err_from_is_err_and}
-use Rattle.zr_msg.specs.declared.report.ReportLine.{ReportLine}
-use Rattle.zr_msg.specs.declared.command.Command.TheVariants as c
-use Rattle.zr_network.specs.Acts.{applied}
 use Rattle.zr_network.proofs.Acts.{ran}
 use Rattle.zr_world.specs.State.{state_of}
-use Rattle.zr_world.specs.Steps.{AddsFront}
 use Rattle.zr_world.proofs.Runs.{run_not, run_begun, run_told, all_front}
 use Rattle.zr_world.proofs.steps.run.Goals as goal
 

@@ -1,4 +1,4 @@
-use Rattle.std.proofs.Common.{◌≡◌, List, None, ap, ◌∙◌, subst, sym}
+use Rattle.std.proofs.Common.{◌≡◌, None, ap, ◌∙◌, subst, sym}
 use Rattle.std.specs.List.Sorted.{IsStrictlySortedBy}
 use Rattle.std.specs.Map.{keys_of}
 use Rattle.std.specs.BTreeMap.{insert_entry}
@@ -17,4 +17,4 @@ invariant_of-self-2 c =
     let none : client_of c.self.inside.map.entries c.args.name ≡ None = ap (λ (z : Clients). client_of z c.args.name) c.self.view_is ∙ c.requires in
     subst (λ (z : Clients). IsIndexed z c.self.inside.to_handle.keys c.self.inside.to_take.keys) (sym new)
     (indexed_new clients c.self.inside.to_handle.keys c.self.inside.to_take.keys c.args.name c.args.router c.args.link none
-      (subst (λ (z : Clients). IsStrictlySortedBy (slice_cmp nat_cmp) (keys_of z)) new c.insert.ensures.ordered) c.self.invariant)
+    (subst (λ (z : Clients). IsStrictlySortedBy (slice_cmp nat_cmp) (keys_of z)) new c.insert.ensures.ordered) c.self.invariant)
