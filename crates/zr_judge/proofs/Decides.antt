@@ -18,7 +18,7 @@ use Rattle.zr_network.specs.Phase.{Numbered}
 use Rattle.zr_network.specs.Broker.{Item, attaches, is_attached, declarations, asks_for, wants, is_author, is_line_of, is_sample_line, item_for, for_receiver, from}
 use Rattle.zr_network.specs.Moments.{is_quiet, item_of, sent_in, sent_to}
 use Rattle.zr_network.specs.Refines.{IsPrefixOf, Refines}
-use Rattle.zr_laws.proofs.Names.{names, same_name}
+use Rattle.zr_network.proofs.Names.{names, same_name}
 use Rattle.zr_laws.proofs.Lists.{all_both, all_parts}
 use Rattle.zr_judge.specs.Judge.{Judged, Judges, is_same_body, is_same, is_front, sent_by, pair_holds, holds_for_client, holds_for_receiver, holds_for_all, holds_for_author, may_be_sent, judgement}
 

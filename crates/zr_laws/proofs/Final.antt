@@ -12,7 +12,7 @@ use Rattle.zr_network.specs.Phase.{Numbered, ascends}
 use Rattle.zr_network.specs.Broker.{is_sample_line}
 use Rattle.zr_network.specs.Moments.{Moment, beginning, went, onward, reached, is_idle, is_quiet, sent_to}
 use Rattle.zr_network.specs.Refines.{sent_of, Refines, SamplesRefine}
-use Rattle.zr_laws.proofs.Names.{of_some, found}
+use Rattle.zr_network.proofs.Names.{of_some, found}
 use Rattle.zr_laws.proofs.Lists.{weaker}
 use Rattle.zr_laws.proofs.Places.{hops, along}
 use Rattle.zr_laws.proofs.Queues.{queue_of, wire_of}

@@ -1,5 +1,4 @@
 pub mod OnLiterals
-pub mod Names
 pub mod Lists
 pub mod Places
 pub mod Queues

@@ -27,7 +27,7 @@ use Rattle.zr_network.specs.Acts.{Done, End, end_cmp, lesser, ends_where, first_
 use Rattle.zr_network.specs.Run.{Run, start, stepped, commanded, on_line, run_lines}
 use Rattle.zr_network.specs.Moments.{Moment, went}
 use Rattle.zr_laws.specs.Runs.{AreSound, IsSound, StepsArePossible}
-use Rattle.zr_laws.proofs.Names.{names, same_name, value_new}
+use Rattle.zr_network.proofs.Names.{names, same_name, value_new}
 use Rattle.zr_laws.proofs.Cases.{not_there, for_router, for_client, for_sub, for_unsub, for_push, for_handle, for_take, for_run, for_mark}
 
 -- ---- names
@@ -207,7 +207,7 @@ acts_keep line (a ∷ more) w h = by (outcome w line a) (act_keeps w line a h) (
         at (Err e) m = tt
         at (Ok y) m = m
 
-applied_keeps : (w : WorldState) (line : ℕ) (command : Command) → IsSound w → IfOk (applied w line command) (λ x. IsSound x.1)
+pub applied_keeps : (w : WorldState) (line : ℕ) (command : Command) → IsSound w → IfOk (applied w line command) (λ x. IsSound x.1)
 unfolding applied
 applied_keeps w line command h = by (all_done w line (acts w line command)) (acts_keep line (acts w line command) w h)
   where

@@ -12,7 +12,7 @@ use Rattle.zr_network.specs.World.{Tagged, ClientState, is_named, client_of, is_
 use Rattle.zr_network.specs.Phase.{Numbered, ascends}
 use Rattle.zr_network.specs.Broker.{is_attached, declarations, asks_for, wants, is_line_of}
 use Rattle.zr_network.specs.Moments.{Moment, item_of, sent_to}
-use Rattle.zr_laws.proofs.Names.{names, same_name, of_some, found}
+use Rattle.zr_network.proofs.Names.{names, same_name, of_some, found}
 use Rattle.zr_laws.proofs.Lists.{filter_none_of_all, weaker, all_both}
 use Rattle.zr_laws.proofs.Queues.{queue_of, wire_of, on_wire, is_at, links_at}
 use Rattle.zr_laws.proofs.Pair.{Pair, items, link_at, Flows, goes_to, IsRouted}

@@ -21,7 +21,7 @@ use Rattle.zr_network.specs.World.{Tagged, ClientState, RouterState, Clients, is
 use Rattle.zr_network.specs.Phase.{Numbered}
 use Rattle.zr_network.specs.Broker.{Item, wants, item_for, for_receiver}
 use Rattle.zr_network.specs.Moments.{Moment, item_of, sent_to}
-use Rattle.zr_laws.proofs.Names.{names, same_name, read_after, read_kept, test_after}
+use Rattle.zr_network.proofs.Names.{names, same_name, read_after, read_kept, test_after}
 use Rattle.zr_laws.proofs.Lists.{all_both, filter_swap}
 use Rattle.zr_laws.proofs.Places.{Sent, Queue, Wire, Hop, hops, along, keeps, gains}
 use Rattle.zr_laws.proofs.Queues.{queue_of, wire_of, on_wire, is_at, links_at, all_kept, queue_adds}

@@ -24,7 +24,7 @@ use Rattle.zr_network.specs.World.{Tagged, ClientState, Clients, RouterState, Wo
 use Rattle.zr_network.specs.Phase.{Numbered}
 use Rattle.zr_network.specs.Broker.{Declaration, attaches, is_attached, declared_by, declarations}
 use Rattle.zr_network.specs.Moments.{Moment, went, onward}
-use Rattle.zr_laws.proofs.Names.{names, same_name, value_new, read_after, read_kept}
+use Rattle.zr_network.proofs.Names.{names, same_name, value_new, read_after, read_kept}
 use Rattle.zr_laws.proofs.Lists.{filter_same, filter_mapped, weaker, all_both}
 use Rattle.zr_laws.proofs.Queues.{is_at, links_at, all_kept}
 use Rattle.zr_laws.proofs.Cases.{on_router, on_client, on_sub, on_unsub, on_push, on_handle, on_take, on_book, for_router, for_client, for_sub, for_unsub, for_push, for_handle, for_take, for_run, for_mark}

@@ -18,7 +18,7 @@ use Rattle.zr_table.specs.Table.{sends}
 use Rattle.zr_network.specs.World.{Tagged, ClientState, RouterState, Clients, is_named, client_of, with_client, sent, declaring, undeclaring, with_wire, with_queue, new_client, outcome}
 use Rattle.zr_network.specs.Phase.{Numbered}
 use Rattle.zr_network.specs.Moments.{Moment, went, onward, item_of, sent_in, sent_to}
-use Rattle.zr_laws.proofs.Names.{value_new, read_kept, test_after}
+use Rattle.zr_network.proofs.Names.{value_new, read_kept, test_after}
 use Rattle.zr_laws.proofs.Lists.{all_both}
 use Rattle.zr_laws.proofs.Queues.{on_wire, on_queue, all_kept, all_tested}
 use Rattle.zr_laws.proofs.Cases.{on_client, on_push, on_handle, on_take, for_router, for_client, for_sub, for_unsub, for_push, for_handle, for_take, for_run, for_mark}

@@ -14,22 +14,17 @@ use Rattle.std.proofs.lemmas.Bool.{false≢true, true≢false, or_left, or_right
 use Rattle.std.proofs.lemmas.Map.{lookup-set_value, keys-set_value}
 use Rattle.std.proofs.lemmas.Map.Keys.{IsDistinct-from_sorted, IsDistinct-head, IsDistinct-tail}
 use Rattle.std.proofs.lemmas.Map.Lookups.{exact_bytes, exact_pairs}
+use Rattle.zr_network.proofs.Names.{names, same_name, value_after, value_new}
 use Rattle.zr_network.specs.World.{ClientState, Clients, is_named, client_of, with_client, is_empty, new_client}
 use Rattle.zr_network.specs.Acts.{End, end_cmp, lesser, ends_where, first_where, has_sent, has_queued}
 use Rattle.zr_world.specs.Ends.{waits, has_end, HasJust, IsIndexed}
 
 -- ---- names and ends
 
-pub names : IsEquivalence is_named
-names = eq_by_cmp_equiv nat_list_cmp_total
-
 equal : (o : Ordering) → is_eq o ≡ true → o ≡ Equal
 equal Less e = absurd (false≢true e)
 equal Equal e = refl
 equal Greater e = absurd (false≢true e)
-
-pub same_name : (a b : List ℕ) → is_named a b ≡ true → a ≡ b
-same_name a b h = exact_bytes a b (equal (slice_cmp nat_cmp a b) h)
 
 ends_total : IsTotalOrder end_cmp
 ends_total = then_total (on_total (λ (e : End). e.0) nat_list_cmp_total) (on_total (λ (e : End). e.1) nat_list_cmp_total)
@@ -54,33 +49,6 @@ and_true false = refl
 -- ---- look-ups
 
 module _ {X : Type 0} where
-  -- after the value of a name was replaced
-  pub value_after : (es : List (List ℕ × X)) (name q : List ℕ) (w : X) → IsSome (lookup (is_named name) es) →
-      lookup (is_named q) (set_value (is_named name) es w) ≡ cond (is_named name q) (Some w) (lookup (is_named q) es)
-  value_after es name q w h = lookup-set_value names (is_named name) (names.congr name) q w es h
-
-  -- after a value was put in under a new name
-  pub value_new : (es : List (List ℕ × X)) (name q : List ℕ) (w : X) → lookup (is_named name) es ≡ None →
-      lookup (is_named q) (insert_entry (slice_cmp nat_cmp) es name w) ≡ cond (is_named q name) (Some w) (lookup (is_named q) es)
-  value_new [] name q w none = refl
-  value_new (e ∷ es) name q w none = by (slice_cmp nat_cmp name e.0) refl none (value_new es name q w)
-    where
-      swap : (b c : Bool) → (c ≡ true → b ≡ false) → (x y : Option X) → cond b x (cond c (Some w) y) ≡ cond c (Some w) (cond b x y)
-      swap false c n x y = refl
-      swap true false n x y = refl
-      swap true true n x y = absurd (true≢false (n refl))
-
-      by : (o : Ordering) → slice_cmp nat_cmp name e.0 ≡ o → cond (is_eq o) (Some e.1) (lookup (is_named name) es) ≡ None
-          → (lookup (is_named name) es ≡ None → lookup (is_named q) (insert_entry (slice_cmp nat_cmp) es name w) ≡ cond (is_named q name) (Some w) (lookup (is_named q) es))
-          → lookup (is_named q) (match_ordering o ((name, w) ∷ e ∷ es) ((e.0, w) ∷ es) (e ∷ insert_entry (slice_cmp nat_cmp) es name w))
-          ≡ cond (is_named q name) (Some w) (lookup (is_named q) (e ∷ es))
-      by Less eq n ih = refl
-      by Equal eq n ih = absurd (true≢false (ap is_some n))
-      by Greater eq n ih = ap (λ z. cond (is_named q e.0) (Some e.1) z) (ih n) ∙ swap (is_named q e.0) (is_named q name) apart (Some e.1) (lookup (is_named q) es)
-        where
-          apart : is_named q name ≡ true → is_named q e.0 ≡ false
-          apart h = names.congr q name e.0 h ∙ ap is_eq eq
-
   -- a name that no key has
   not_there : (name : List ℕ) (es : List (List ℕ × X)) → AllByRecursion (λ k. is_named name k ≡ false) (keys_of es) → lookup (is_named name) es ≡ None
   not_there name [] h = refl

@@ -1,4 +1,4 @@
 pub mod Handling
 pub mod Ends
-pub mod Linked
+pub mod Possible
 pub mod Runs

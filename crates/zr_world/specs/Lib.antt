@@ -1,4 +1,3 @@
 pub mod Steps
 pub mod State
 pub mod Ends
-pub mod Linked

@@ -8,7 +8,7 @@ ghost use Rattle.std.specs.Cmp.Lexicographic.{slice_cmp};
 ghost use Rattle.zr_network.specs.World.{is_named, client_of, queued_at, all_settled, new_client};
 ghost use Rattle.zr_network.specs.Acts.{End, end_cmp, has_sent, has_queued, first_where};
 ghost use Rattle.zr_world.specs.Steps.{Steps, from_wire, from_queue};
-ghost use Rattle.zr_world.specs.Ends.{waits, has_end, sent_by, IsIndexed};
+ghost use Rattle.zr_world.specs.Ends.{has_end, sent_by, IsIndexed};
 
 use crate::client::{Client, Tagged};
 use std::alloc::{AllocError, Global};
@@ -119,16 +119,14 @@ impl Clients {
 
     /// The first end, by router and then by client, at which a message waits to be handled.
     pub fn first_to_handle(&self) -> Option<(Zid, Zid)>
-        ensures first { result ≡ first_where has_sent self.now }
-        ensures waits { IfSome result (λ e. waits has_sent e.0 (client_of self.now e.1) ≡ true) }
+        ensures { result ≡ first_where has_sent self.now }
     {
         first(&self.to_handle)
     }
 
     /// The first end, by router and then by client, at which a message waits to be taken.
     pub fn first_to_take(&self) -> Option<(Zid, Zid)>
-        ensures first { result ≡ first_where has_queued self.now }
-        ensures waits { IfSome result (λ e. waits has_queued e.0 (client_of self.now e.1) ≡ true) }
+        ensures { result ≡ first_where has_queued self.now }
     {
         first(&self.to_take)
     }

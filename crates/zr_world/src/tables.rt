@@ -1,6 +1,6 @@
 //! The world's tables, and the step of each command on them. A refusal is found before anything is changed.
 
-ghost use Rattle.std.specs.Prelude.{◌≡◌, is_none, IfSome, OnOk};
+ghost use Rattle.std.specs.Prelude.{◌≡◌, is_none, OnOk};
 ghost use Rattle.std.specs.List.{slice_get};
 ghost use Rattle.zr_network.specs.World.{router_of, weighed, all_queued, queued_for};
 ghost use Rattle.zr_world.specs.Steps.{Steps, Changes, Counts};
@@ -36,7 +36,6 @@ pub struct Tables {
 impl Tables {
     ghost use Rattle.zr_network.specs.World.{router_step, client_step, sub_step, unsub_step, push_step, handle_step, take_step, book_step, mark_step, is_taken, empty_world};
     ghost use Rattle.zr_network.specs.Acts.{next};
-    ghost use Rattle.zr_world.specs.Linked.{IsReady};
     ghost use Rattle.zr_world.specs.State.{state_of};
 
     /// Tables in which nothing has come yet.
@@ -218,8 +217,7 @@ impl Tables {
 
     /// The step that a run does next. None where no step is possible.
     pub fn next(&self) -> Option<Command>
-        ensures step { result ≡ next (state_of self.now) }
-        ensures ready { IfSome result (IsReady (state_of self.now)) }
+        ensures { result ≡ next (state_of self.now) }
     {
         if let Some((router, from)) = self.clients.first_to_handle() {
             return Some(Command::Handle { router, from });

@@ -23,14 +23,14 @@ pub struct World {
 impl Model for World {
     ghost use Rattle.std.specs.Prelude.{◌≡◌, false};
     ghost use Rattle.zr_world.specs.Steps.{Living};
-    ghost use Rattle.zr_world.specs.Linked.{AreLinked};
+    ghost use Rattle.zr_laws.specs.Runs.{IsSound};
     ghost use Rattle.zr_world.specs.State.{state_of};
 
     ghost Value = { Living };
 
     ghost view = { λ w. record { state = state_of w.tables; spent = w.spent } };
 
-    ghost invariant = { λ w. w.spent ≡ false → AreLinked (state_of w.tables) };
+    ghost invariant = { λ w. w.spent ≡ false → IsSound (state_of w.tables) };
 }
 
 impl World {

@@ -1,7 +1,7 @@
 use Rattle.zr_world.specs.State.{state_of}
-use Rattle.zr_world.proofs.Linked.{done_links}
+use Rattle.zr_world.proofs.Possible.{done_sound}
 use Rattle.zr_world.proofs.world.World.apply.Goals as goal
 
 pub invariant_of-self : goal.invariant_of-self
 invariant_of-self c = λ alive.
-    done_links (state_of c.self.inside.tables) (state_of c.apply.new.tables) c.args.line c.args.command.now c.args.report.now.items c.apply.new.report.items c.in-Ok.ensures (c.self.invariant alive)
+    done_sound (state_of c.self.inside.tables) (state_of c.apply.new.tables) c.args.line c.args.command.now c.args.report.now.items c.apply.new.report.items c.in-Ok.ensures (c.self.invariant alive)

@@ -1,6 +1,6 @@
 use Rattle.zr_world.specs.State.{state_of}
-use Rattle.zr_world.proofs.Linked.{counted_links}
+use Rattle.zr_world.proofs.Possible.{counted_sound}
 use Rattle.zr_world.proofs.world.World.book.Goals as goal
 
 pub invariant_of-self : goal.invariant_of-self
-invariant_of-self c = λ alive. counted_links c.book.result (state_of c.self.inside.tables) (state_of c.book.new.self) c.args.steps c.book.ensures (c.self.invariant alive)
+invariant_of-self c = λ alive. counted_sound c.book.result (state_of c.self.inside.tables) (state_of c.book.new.self) c.args.steps c.book.ensures (c.self.invariant alive)

@@ -2,10 +2,10 @@ use Rattle.std.proofs.Common.{ap, ◌∙◌, subst}
 use Rattle.std.specs.Prelude.{IfSome}
 use Rattle.zr_world.specs.State.{state_of}
 use Rattle.zr_world.specs.Steps.{Living, IsPossible}
-use Rattle.zr_world.proofs.Linked.{some_possible}
+use Rattle.zr_world.proofs.Possible.{next_possible}
 use Rattle.zr_world.proofs.world.World.next.Goals as goal
 
 pub returns-clause-possible : goal.returns-clause-possible
 returns-clause-possible c = λ alive.
     subst (λ (l : Living). IfSome c.next.result (λ step. IsPossible l.state step)) c.self.view_is
-    (some_possible c.next.result (state_of c.self.inside.tables) (c.self.invariant (ap (λ (l : Living). l.spent) c.self.view_is ∙ alive)) c.next.ensures.ready)
+    (next_possible c.next.result (state_of c.self.inside.tables) (c.self.invariant (ap (λ (l : Living). l.spent) c.self.view_is ∙ alive)) c.next.ensures)
