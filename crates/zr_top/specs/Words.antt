@@ -1,5 +1,5 @@
 -- The program's words, and what is said of others.
-use Rattle.std.specs.Prelude.{◌≡◌, ℕ, nat_eq, Bool, false, List, [], ◌∷◌, Option, codes, ◌⊎◌}
+use Rattle.std.specs.Prelude.{ℕ, nat_eq, Bool, false, List, [], ◌∷◌, Option, codes, ◌⊎◌}
 use Rattle.std.specs.Cmp.Lexicographic.{pointwise}
 use Rattle.zr_outside.specs.Counts.{Rose}
 use Rattle.zr_outside.specs.Sink.{Appends, AppendsFront}

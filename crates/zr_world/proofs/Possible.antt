@@ -1,5 +1,5 @@
 -- What code has done keeps a world sound, and in a sound world the next step is possible. That it is so stands in the laws.
-use Rattle.std.proofs.Common.{◌≡◌, ℕ, true, List, Option, Some, None, Result, Ok, Err, sym, subst}
+use Rattle.std.proofs.Common.{◌≡◌, ℕ, List, Option, Some, None, Result, Ok, Err, sym, subst}
 use Rattle.std.specs.Prelude.{IfOk, IfSome}
 use Rattle.std.proofs.lemmas.Bool.{false≢true}
 use Rattle.zr_msg.specs.declared.error.ScriptError.{ScriptError}
@@ -7,7 +7,7 @@ use Rattle.zr_msg.specs.declared.command.Command.{Command}
 use Rattle.zr_msg.specs.declared.command.Command.TheVariants as c
 use Rattle.zr_msg.specs.declared.report.ReportLine.{ReportLine}
 use Rattle.zr_network.specs.Step.{◌>>=◌}
-use Rattle.zr_network.specs.World.{WorldState, Outcome, book_step, outcome}
+use Rattle.zr_network.specs.World.{WorldState, book_step, outcome}
 use Rattle.zr_network.specs.Acts.{Done, next, applied}
 use Rattle.zr_laws.specs.Runs.{IsSound}
 use Rattle.zr_laws.proofs.Sound.{Keeps, act_keeps, applied_keeps, next_goes}
