@@ -4,3 +4,6 @@
 
 mod link;
 pub mod node;
+mod routes;
+#[cfg(test)]
+mod tests;

@@ -1,10 +1,12 @@
 //! `Node`: a router's state, and what it does with each event.
 
-ghost use Rattle.std.specs.Prelude.{◌≡◌, ◌==◌, ◌&&◌, ◌++◌, ◌↔◌, not, true, false, OnOk, map, filter};
+ghost use Rattle.std.specs.Prelude.{◌≡◌, ◌==◌, ◌&&◌, ◌++◌, ◌↔◌, not, true, false, OnOk, IfOk, map, filter};
 ghost use Rattle.zr_table.specs.State.{new_node};
-ghost use Rattle.zr_table.specs.Table.{sends, after, to_each, subscribes, changed_on, declared, undeclared};
+ghost use Rattle.zr_table.specs.Table.{sends, after, changed_on, declared, undeclared};
+ghost use Rattle.zr_node.specs.Routes.{route};
 
 use crate::link::Link;
+use crate::routes::Routes;
 use std::alloc::{AllocError, Global};
 use std::marker::Model;
 use thiserror::Error;
@@ -16,6 +18,8 @@ use zr_msg::msg::{Body, Event, Msg};
 #[derive(Debug, Drop)]
 pub struct Node {
     links: Vec<Link>,
+    // what the links answered for the keys of earlier samples; no contract sees it
+    routes: Routes,
     spent: bool,
 }
 
@@ -36,6 +40,10 @@ impl Model for Node {
     ghost Value = { NodeState };
 
     ghost view = { λ n. record { links = n.links.items; spent = n.spent } };
+
+    ghost use Rattle.zr_node.specs.Routes.{AreRoutes};
+
+    ghost invariant = { λ n. AreRoutes n.routes n.links.items };
 }
 
 impl Node {
@@ -45,6 +53,7 @@ impl Node {
     {
         Node {
             links: Vec::new(alloc),
+            routes: Routes::new(alloc),
             spent: false,
         }
     }
@@ -98,6 +107,7 @@ impl Node {
     fn up(&mut self, alloc: Global, link: LinkNo) -> Result<(), AllocError>
         ensures { OnOk result (self.new ≡ after self.old (Event.Up link)) }
     {
+        self.routes.clear(); // they are of the links so far
         self.links.push(Link::new(alloc, link))?;
         Ok(())
     }
@@ -111,26 +121,35 @@ impl Node {
     ) -> Result<(), AllocError>
         ensures { OnOk result (self.new ≡ after self.old (Event.From link (Msg.Sub id key.now))) }
     {
+        self.routes.clear(); // the client may have to stand on any of them
         declare_on(alloc, &mut self.links, link, id, key)
     }
 
     fn undeclare(&mut self, link: LinkNo, id: u32)
         ensures { self.new ≡ after self.old (Event.From link (Msg.Unsub id)) }
     {
+        self.routes.clear(); // the client may stand on any of them
         undeclare_on(&mut self.links, link, id);
     }
 
+    // A key that samples came on before, since the links last changed, is not asked of the links again.
     fn push(
-        &self,
+        &mut self,
         alloc: Global,
         link: LinkNo,
         key: &KeyExpr,
         body: &Body,
         out: &mut Vec<(LinkNo, Msg)>,
     ) -> Result<(), AllocError>
-        ensures { OnOk result (out.new.items ≡ out.old.items ++ sends self.now (Event.From link (Msg.Push key.now body.now))) }
+        ensures state { OnOk result (self.new ≡ self.old) }
+        ensures sends { OnOk result (out.new.items ≡ out.old.items ++ sends self.old (Event.From link (Msg.Push key.now body.now))) }
     {
-        push_to(alloc, self.links.as_slice(), link, key, body, out)
+        if let Some(numbers) = self.routes.find(key) {
+            return push_to(alloc, numbers, link, key, body, out);
+        }
+        let numbers = ask(alloc, self.links.as_slice(), key)?;
+        push_to(alloc, numbers.as_slice(), link, key, body, out)?;
+        self.routes.remember(alloc, key, numbers)
     }
 }
 
@@ -163,24 +182,35 @@ fn undeclare_on(links: &mut [Link], from: LinkNo, id: u32)
     }
 }
 
-// A sample goes once to each other link whose client subscribes to an expression that meets its key.
+// The numbers of the links whose clients subscribe to an expression that meets a key.
+fn ask(alloc: Global, links: &[Link], key: &KeyExpr) -> Result<Vec<LinkNo>, AllocError>
+    ensures { IfOk result (λ numbers. numbers.items ≡ route links.now key.now) }
+{
+    links
+        .iter()
+        .filter(|link| link.subscribes(key))
+        .map(|link| link.number())
+        .collect(alloc)
+}
+
+// A sample goes once to each link of its key's route, but for the author's.
 fn push_to(
     alloc: Global,
-    links: &[Link],
+    numbers: &[LinkNo],
     from: LinkNo,
     key: &KeyExpr,
     body: &Body,
     out: &mut Vec<(LinkNo, Msg)>,
 ) -> Result<(), AllocError>
-    ensures { OnOk result (out.new.items ≡ out.old.items ++ to_each (Msg.Push key.now body.now) (filter (λ l. not (l.link.0 == from.0) && subscribes l key.now) links.now)) }
+    ensures { OnOk result (out.new.items ≡ out.old.items ++ map (λ n. (n, Msg.Push key.now body.now)) (filter (λ n. not (n.0 == from.0)) numbers.now)) }
 {
-    for link in links {
-        if link.number().0 != from.0 && link.subscribes(key) {
+    for number in numbers {
+        if number.0 != from.0 {
             let msg = Msg::Push {
                 key: key.copy(alloc)?,
                 body: body.copy(alloc)?,
             };
-            out.push((link.number(), msg))?;
+            out.push((*number, msg))?;
         }
     }
     Ok(())

@@ -1,0 +1,19 @@
+-- What a router remembers of the keys on which samples came.
+use Rattle.std.specs.Prelude.{◌≡◌, ℕ, List, map, filter, Option, option_map, IfSome}
+use Rattle.std.specs.BTreeMap.{get_by_text}
+use Rattle.zr_id.specs.declared.link.LinkNo.{LinkNo}
+use Rattle.zr_table.specs.State.{LinkState}
+use Rattle.zr_table.specs.Table.{subscribes}
+use Rattle.zr_node.specs.declared.routes.Routes.{Routes}
+
+-- the numbers of the links whose clients subscribe to an expression that meets the key, in the order of the links
+abbrev pub route : List LinkState → List ℕ → List LinkNo
+route links key = map (λ l. l.link) (filter (λ l. subscribes l key) links)
+
+-- what is remembered for a key
+abbrev pub remembered : Routes → List ℕ → Option (List LinkNo)
+remembered routes key = option_map (λ numbers. numbers.items) (get_by_text routes.known key)
+
+-- each route that is remembered is that of its key over these links
+abbrev pub AreRoutes : Routes → List LinkState → Type 0
+AreRoutes routes links = (key : List ℕ) → IfSome (remembered routes key) (λ numbers. numbers ≡ route links key)
