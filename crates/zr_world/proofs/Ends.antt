@@ -115,6 +115,16 @@ there_before : (test : ClientState → Bool) (ends : List End) (clients : Client
 there_before test ends clients name s there passed just q =
     was_there test ends clients name s there just q ∙ ap (λ b. cond (is_eq (end_cmp (s.router, name) q)) b (has_end ends q)) passed
 
+-- so it is put in only where it didn't
+pub put_once : (test : ClientState → Bool) (ends mid : List End) (clients : Clients) (name : List ℕ) (s : ClientState) → client_of clients name ≡ Some s → HasJust test ends clients →
+    ((q : End) → has_end mid q ≡ cond (is_eq (end_cmp (s.router, name) q) && not (test s)) true (has_end ends q)) →
+    (q : End) → has_end mid q ≡ cond (is_eq (end_cmp (s.router, name) q)) true (has_end ends q)
+put_once test ends mid clients name s there just first q = first q ∙ by (test s) refl
+  where
+    by : (b : Bool) → test s ≡ b → cond (is_eq (end_cmp (s.router, name) q) && not b) true (has_end ends q) ≡ cond (is_eq (end_cmp (s.router, name) q)) true (has_end ends q)
+    by true e = ap (λ z. cond z true (has_end ends q)) (and_false (is_eq (end_cmp (s.router, name) q))) ∙ there_before test ends clients name s there e just q
+    by false e = ap (λ z. cond z true (has_end ends q)) (and_true (is_eq (end_cmp (s.router, name) q)))
+
 -- the names stay as they are
 still_ordered : (clients : Clients) (name : List ℕ) (s : ClientState) → IsStrictlySortedBy (slice_cmp nat_cmp) (keys_of clients) → IsStrictlySortedBy (slice_cmp nat_cmp) (keys_of (with_client clients name s))
 still_ordered clients name s h = subst (λ (ks : List (List ℕ)). IsStrictlySortedBy (slice_cmp nat_cmp) ks) (sym (keys-set_value (is_named name) clients s)) h

@@ -160,7 +160,7 @@ fn send(
     let Some(c) = map.get_mut(name) else {
         return Ok(());
     };
-    put(to_handle, c.router(), *name)?;
+    put(to_handle, c.router(), *name, c.has_sent())?;
     let done = c.send(msg, tag);
     settle(to_handle, c.router(), *name, c.has_sent());
     done
@@ -180,7 +180,7 @@ fn enqueue(
     let Some(c) = map.get_mut(name) else {
         return Ok(());
     };
-    put(to_take, c.router(), *name)?;
+    put(to_take, c.router(), *name, c.has_queued())?;
     let done = c.enqueue(msg, tag);
     settle(to_take, c.router(), *name, c.has_queued());
     done
@@ -235,11 +235,19 @@ fn next_queued(
     Ok(x)
 }
 
-fn put(ends: &mut BTreeSet<(Zid, Zid)>, router: Zid, client: Zid) -> Result<(), AllocError>
-    ensures put { OnOk result ((q : End) → has_end ends.new.keys q ≡ cond (is_eq (end_cmp (router, client) q)) true (has_end ends.old.keys q)) }
+// An end at which nothing waited before comes into the set.
+fn put(
+    ends: &mut BTreeSet<(Zid, Zid)>,
+    router: Zid,
+    client: Zid,
+    waited: bool,
+) -> Result<(), AllocError>
+    ensures put { OnOk result ((q : End) → has_end ends.new.keys q ≡ cond (is_eq (end_cmp (router, client) q) && not waited) true (has_end ends.old.keys q)) }
     ensures err { OnErr result (ends.new.keys ≡ ends.old.keys) }
 {
-    ends.insert((router, client))?;
+    if !waited {
+        ends.insert((router, client))?;
+    }
     Ok(())
 }
 

@@ -1,7 +1,8 @@
 use Rattle.std.proofs.Common.{◌≡◌, Some, sym, ◌∙◌, subst, rules}
 use Rattle.zr_network.specs.World.{Clients, client_of, with_client}
+use Rattle.zr_network.specs.Acts.{has_queued}
 use Rattle.zr_world.specs.Ends.{IsIndexed}
-use Rattle.zr_world.proofs.Ends.{queue_put}
+use Rattle.zr_world.proofs.Ends.{put_once, queue_put}
 use Rattle.zr_world.proofs.clients.enqueue.Goals as goal
 
 pub returns-clause-index : goal.returns-clause-index
@@ -12,4 +13,5 @@ returns-clause-index c = λ to_handle h.
     let lent : (c.get_mut.follows.lender c.enqueue-done.new.self).entries ≡ with_client c.args.map.now.entries c.args.name.now c.enqueue-done.new.self = search rules in
     subst (λ (z : Clients). IsIndexed z to_handle c.settle.new.ends.keys) (sym lent)
     (queue_put c.args.map.now.entries c.args.to_take.now.keys c.put.new.ends.keys c.settle.new.ends.keys to_handle c.args.name.now s s' there c.enqueue-done.ensures.end.0 c.enqueue-done.ensures.end.1
-    (λ q. rw (← c.router.ensures) (c.in_ok-put.ensures.put q)) (λ q. rw (← (c.router-2.ensures ∙ c.enqueue-done.ensures.end.0), ← c.has_queued.ensures) (c.settle.ensures q)) h)
+    (put_once has_queued c.args.to_take.now.keys c.put.new.ends.keys c.args.map.now.entries c.args.name.now s there h.takes (λ q. rw (← c.router.ensures, ← c.has_queued.ensures) (c.in_ok-put.ensures.put q)))
+    (λ q. rw (← (c.router-2.ensures ∙ c.enqueue-done.ensures.end.0), ← c.has_queued-2.ensures) (c.settle.ensures q)) h)

@@ -1,7 +1,8 @@
 use Rattle.std.proofs.Common.{◌≡◌, Some, sym, ◌∙◌, subst, rules}
 use Rattle.zr_network.specs.World.{Clients, client_of, with_client}
+use Rattle.zr_network.specs.Acts.{has_sent}
 use Rattle.zr_world.specs.Ends.{IsIndexed}
-use Rattle.zr_world.proofs.Ends.{wire_put}
+use Rattle.zr_world.proofs.Ends.{put_once, wire_put}
 use Rattle.zr_world.proofs.clients.send.Goals as goal
 
 pub returns-clause-index : goal.returns-clause-index
@@ -12,4 +13,5 @@ returns-clause-index c = λ to_take h.
     let lent : (c.get_mut.follows.lender c.send-done.new.self).entries ≡ with_client c.args.map.now.entries c.args.name.now c.send-done.new.self = search rules in
     subst (λ (z : Clients). IsIndexed z c.settle.new.ends.keys to_take) (sym lent)
     (wire_put c.args.map.now.entries c.args.to_handle.now.keys c.put.new.ends.keys c.settle.new.ends.keys to_take c.args.name.now s s' there c.send-done.ensures.end.0 c.send-done.ensures.end.1
-    (λ q. rw (← c.router.ensures) (c.in_ok-put.ensures.put q)) (λ q. rw (← (c.router-2.ensures ∙ c.send-done.ensures.end.0), ← c.has_sent.ensures) (c.settle.ensures q)) h)
+    (put_once has_sent c.args.to_handle.now.keys c.put.new.ends.keys c.args.map.now.entries c.args.name.now s there h.handles (λ q. rw (← c.router.ensures, ← c.has_sent.ensures) (c.in_ok-put.ensures.put q)))
+    (λ q. rw (← (c.router-2.ensures ∙ c.send-done.ensures.end.0), ← c.has_sent-2.ensures) (c.settle.ensures q)) h)
