@@ -5,11 +5,16 @@ ghost use Rattle.std.specs.String.{string_bytes};
 ghost use Rattle.zr_outside.specs.Counts.{Rose};
 ghost use Rattle.zr_network.specs.Lines.{lines};
 ghost use Rattle.zr_network.specs.Accepted.{IsRefined};
+ghost use Rattle.zr_laws.specs.Keys.{AskingIsMeeting};
+ghost use Rattle.zr_laws.specs.Runs.{RestIsQuiet};
 ghost use Rattle.zr_netrun.specs.Clauses.{OfRead, Reports, IsReadToEnd};
+ghost use Rattle.zr_top.specs.Means.{HaveKeyTexts};
 ghost use Rattle.zr_top.specs.Words.{is_net, TellsUsage};
 
 use std::alloc::Global;
+use zr_laws::keys::{asking_is_meeting, keys_are_texts};
 use zr_laws::refines::lines_refine;
+use zr_laws::runs::rest_is_quiet;
 use zr_netrun::netrun::run_script;
 use zr_netrun::status::Status;
 use zr_outside::sink::{Sink, write_all};
@@ -22,6 +27,10 @@ const USAGE: &str =
 /// The whole program. At this stage its words are exactly `net`: it reads a script from `input`, and writes the report to `out`.
 ///
 /// `words` are without the program's name. With other words the status is `Words`, and `err` has the usage line.
+///
+/// The clause `headline` says what clients were sent. Beside it stand what its words mean: the keys of a script are texts of expressions
+/// (`keys`), the one broker sends to a subscription exactly where some key is matched by both expressions (`meeting`), and nothing is under
+/// way exactly where no step is possible, which a run tells by `quiet` (`rest`).
 pub fn run<S: Source, K: Sink, E: Sink>(
     alloc: Global,
     words: &[String],
@@ -31,6 +40,9 @@ pub fn run<S: Source, K: Sink, E: Sink>(
 ) -> Status
     ensures report { is_net (map string_bytes words.now) ≡ true → OfRead (S.left input.old) (S.left input.new) (Reports result (K.held out.old) (K.held out.new) (E.held err.old) (E.held err.new)) }
     ensures headline { is_net (map string_bytes words.now) ≡ true → OfRead (S.left input.old) (S.left input.new) (λ read. IsRefined (lines read)) }
+    ensures keys { is_net (map string_bytes words.now) ≡ true → OfRead (S.left input.old) (S.left input.new) (λ read. HaveKeyTexts (lines read)) }
+    ensures meeting { AskingIsMeeting }
+    ensures rest { RestIsQuiet }
     ensures whole { result ≡ Status.Done → IsReadToEnd (S.ends input.old) (S.ends input.new) (S.quiets input.old) (S.quiets input.new) }
     ensures read { result ≡ Status.ReadFault → Rose (S.faults input.old) (S.faults input.new) }
     ensures write { result ≡ Status.WriteFault → Rose (K.faults out.old) (K.faults out.new) ⊎ Rose (E.faults err.old) (E.faults err.new) }
@@ -40,10 +52,13 @@ pub fn run<S: Source, K: Sink, E: Sink>(
     ensures err_later { E.faults err.old ≤ E.faults err.new }
     ensures usage { result ≡ Status.Words → TellsUsage (E.held err.old) (E.held err.new) (E.faults err.old) (E.faults err.new) × (K.held out.new ≡ K.held out.old) × (S.left input.new ≡ S.left input.old) }
 {
+    asking_is_meeting();
+    rest_is_quiet();
     if !is_net(words) {
         return usage(err);
     }
     lines_refine();
+    keys_are_texts();
     run_script(alloc, input, out, err)
 }
 
