@@ -1,0 +1,160 @@
+//! The one spelling of a transport message that is written.
+
+ghost use Rattle.std.specs.Prelude.{◌≡◌, ◌<◌, ◌∷◌, ◌++◌, OnOk, OnErr};
+ghost use Rattle.zr_bytes.specs.Writing.{KeepsFront};
+ghost use Rattle.zr_trans.specs.Writing.{writes_header, writes_tag, writes_sizes, writes_cookie, writes_speaks, header_of, fields_of, writes_trans, Fits};
+
+use crate::parts::{
+    CLOSE, EXTENSIONS, FIRST, FRAGMENT, FRAME, INIT, KEEP_ALIVE, LENGTH_STEP, OPEN, SECOND, SPEAKS,
+};
+use crate::trans::{Sizes, Trans};
+use std::alloc::AllocError;
+use zr_bytes::{ByteString, put_bytes, put_zint};
+use zr_ext::{Content, Ext, write_chain};
+use zr_id::zid::Zid;
+
+/// Appends a message that has a spelling (Zenoh protocol 1.0, "Transport messages"): a role below 4, resolutions below 16,
+/// and a cookie exactly where the message has one. Where memory runs out nothing is appended.
+pub fn write_trans(out: &mut Vec<u8>, t: &Trans) -> Result<(), AllocError>
+    requires { Fits t.now }
+    ensures ok { OnOk result (out.new.items ≡ out.old.items ++ writes_trans t.now) }
+    ensures err { OnErr result (out.new.items ≡ out.old.items) }
+{
+    let start = out.len();
+    let put = put_trans(out, t);
+    if put.is_err() {
+        out.truncate(start);
+    }
+    put
+}
+
+fn put_trans(out: &mut Vec<u8>, t: &Trans) -> Result<(), AllocError>
+    requires { Fits t.now }
+    ensures ok { OnOk result (out.new.items ≡ out.old.items ++ writes_trans t.now) }
+    ensures err { OnErr result (KeepsFront out.old.items out.new.items) }
+{
+    out.push(header(t))?;
+    put_fields(out, t)
+}
+
+fn header(t: &Trans) -> u8
+    ensures { result ≡ header_of t.now }
+{
+    match t {
+        Trans::Init {
+            answer,
+            sizes,
+            speaks,
+            ..
+        } => header_byte(INIT, *answer, sizes.is_some(), speaks.is_some()),
+        Trans::Open {
+            answer,
+            seconds,
+            ..
+        } => header_byte(OPEN, *answer, *seconds, false),
+        Trans::Close { session, .. } => header_byte(CLOSE, *session, false, false),
+        Trans::KeepAlive => header_byte(KEEP_ALIVE, false, false, false),
+        Trans::Frame { reliable, .. } => header_byte(FRAME, *reliable, false, false),
+        Trans::Fragment { reliable, more, .. } => header_byte(FRAGMENT, *reliable, *more, false),
+    }
+}
+
+/// What stands behind the header.
+fn put_fields(out: &mut Vec<u8>, t: &Trans) -> Result<(), AllocError>
+    requires { Fits t.now }
+    ensures ok { OnOk result (out.new.items ≡ out.old.items ++ fields_of t.now) }
+    ensures err { OnErr result (KeepsFront out.old.items out.new.items) }
+{
+    match t {
+        Trans::Init {
+            version,
+            role,
+            id,
+            sizes,
+            cookie,
+            speaks,
+            ..
+        } => {
+            out.push(*version)?;
+            put_identifier(out, *role, id)?;
+            put_sizes(out, sizes)?;
+            put_cookie(out, cookie)?;
+            put_speaks(out, speaks)
+        }
+        Trans::Open {
+            lease,
+            number,
+            cookie,
+            ..
+        } => {
+            put_zint(out, *lease)?;
+            put_zint(out, *number)?;
+            put_cookie(out, cookie)
+        }
+        Trans::Close { reason, .. } => Ok(out.push(*reason)?),
+        Trans::KeepAlive => Ok(()),
+        Trans::Frame { number, .. } => put_zint(out, *number),
+        Trans::Fragment { number, piece, .. } => {
+            put_zint(out, *number)?;
+            out.extend_from_slice(piece.as_slice())
+        }
+    }
+}
+
+fn header_byte(id: u8, first: bool, second: bool, extended: bool) -> u8
+    ensures { result ≡ writes_header id first second extended }
+{
+    let first = if first { FIRST } else { 0 };
+    let second = if second { SECOND } else { 0 };
+    let extended = if extended { EXTENSIONS } else { 0 };
+    id | first | second | extended
+}
+
+/// The length of an identifier with the role, and the identifier.
+fn put_identifier(out: &mut Vec<u8>, role: u8, id: &Zid) -> Result<(), AllocError>
+    requires { role < 4 }
+    ensures ok { OnOk result (out.new.items ≡ out.old.items ++ writes_tag role id.now ∷ id.now) }
+    ensures err { OnErr result (KeepsFront out.old.items out.new.items) }
+{
+    let bytes = id.bytes();
+    out.push((bytes.len() - 1) as u8 * LENGTH_STEP + role)?;
+    out.extend_from_slice(bytes)
+}
+
+fn put_sizes(out: &mut Vec<u8>, sizes: &Option<Sizes>) -> Result<(), AllocError>
+    ensures ok { OnOk result (out.new.items ≡ out.old.items ++ writes_sizes sizes.now) }
+    ensures err { OnErr result (out.new.items ≡ out.old.items) }
+{
+    let Some(sizes) = sizes else {
+        return Ok(());
+    };
+    let low = (sizes.batch % 256) as u8;
+    let high = (sizes.batch / 256) as u8;
+    out.extend_from_slice(&[sizes.bits, low, high])
+}
+
+fn put_cookie(out: &mut Vec<u8>, cookie: &Option<ByteString>) -> Result<(), AllocError>
+    ensures ok { OnOk result (out.new.items ≡ out.old.items ++ writes_cookie cookie.now) }
+    ensures err { OnErr result (out.new.items ≡ out.old.items) }
+{
+    match cookie {
+        Some(cookie) => put_bytes(out, cookie.as_slice()),
+        None => Ok(()),
+    }
+}
+
+/// The extension by which a router says that it tells others its links.
+fn put_speaks(out: &mut Vec<u8>, speaks: &Option<u64>) -> Result<(), AllocError>
+    ensures ok { OnOk result (out.new.items ≡ out.old.items ++ writes_speaks speaks.now) }
+    ensures err { OnErr result (out.new.items ≡ out.old.items) }
+{
+    let Some(value) = speaks else {
+        return Ok(());
+    };
+    let ext = Ext {
+        id: SPEAKS,
+        mandatory: false,
+        content: Content::Number(*value),
+    };
+    write_chain(out, &[ext])
+}
