@@ -1,0 +1,5 @@
+pub mod Tests
+pub mod Free
+pub mod Branches
+pub mod Sound
+pub mod OneRow
