@@ -1,12 +1,12 @@
 -- Lists of branches that are distinct: what holds of their parts and of what a filter leaves.
-use Rattle.std.proofs.Common.{◌≡◌, ℕ, ◌==◌, ◌&&◌, ◌||◌, not, Bool, true, false, cond, List, [], ◌∷◌, ◌++◌, filter, refl, sym, ap, ◌∙◌}
+use Rattle.std.proofs.Common.{◌≡◌, ◌||◌, Bool, true, false, cond, List, [], ◌∷◌, ◌++◌, filter, refl, sym, ap, ◌∙◌}
 use Rattle.std.specs.List.{list_any}
 use Rattle.std.proofs.lemmas.Bool.{eqb-true, eq-eqb, false_from_ne_true}
 use Rattle.std.proofs.lemmas.List.Folds.{list_any-append}
 use Rattle.zr_pend.specs.declared.branch.Branch.{Branch}
 use Rattle.zr_pend.specs.Row.{is_branch}
 use Rattle.zr_pend.specs.Pending.{are_distinct}
-use Rattle.zr_pend.proofs.Tests.{and_left, and_right, and_both, or_left, or_right, or_none, or_first, or_second, not_true, true_not}
+use Rattle.zr_pend.proofs.Parts.{and_left, and_right, and_both, or_left, or_right, or_none, or_first, or_second, not_true, true_not}
 
 pub is_branch_itself : (x : Branch) → is_branch x x ≡ true
 is_branch_itself x = and_both _ _ (eq-eqb x.link.0 x.link.0 refl) (eq-eqb x.number x.number refl)

@@ -1,12 +1,12 @@
 -- The least number that isn't pending on a link. The search for it takes as many steps as numbers are pending: were it to end at a
 -- pending one, one more number than there are would be pending (`pigeons`).
-use Rattle.std.proofs.Common.{◌≡◌, ℕ, zero, suc, ◌+◌, ◌-◌, ◌<◌, ◌≤◌, ◌==◌, ◌&&◌, ◌||◌, not, Bool, true, false, cond, List, [], ◌∷◌, ◌++◌, length, map, filter, refl, sym, ap, ◌∙◌, arith}
-use Rattle.std.specs.List.{list_any, flat_map}
+use Rattle.std.proofs.Common.{◌≡◌, ℕ, zero, suc, ◌+◌, ◌<◌, ◌≤◌, ◌==◌, ◌&&◌, ◌||◌, not, Bool, true, false, cond, List, [], ◌∷◌, length, map, filter, refl, sym, ap, ◌∙◌, arith}
+use Rattle.std.specs.List.{list_any}
 use Rattle.std.proofs.lemmas.Bool.{eqb-true, eqb-false, false_from_ne_true}
 use Rattle.std.proofs.lemmas.List.Folds.{list_any-append}
 use Rattle.zr_id.specs.declared.link.LinkNo.{LinkNo}
 use Rattle.zr_pend.specs.declared.branch.Branch.{Branch}
-use Rattle.zr_pend.specs.Row.{RowState, has, numbers_of}
+use Rattle.zr_pend.specs.Row.{RowState, numbers_of}
 use Rattle.zr_pend.specs.Laws.{IsLeastFree}
 use Rattle.zr_pend.specs.Pending.{first_free, is_pending, branch, numbers_on, free_number}
 

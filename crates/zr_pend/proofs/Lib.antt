@@ -1,4 +1,4 @@
-pub mod Tests
+pub mod Parts
 pub mod Free
 pub mod Branches
 pub mod Sound

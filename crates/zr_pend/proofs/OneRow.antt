@@ -1,7 +1,7 @@
 -- Each branch is of one row, so what is said of a branch is said of that row: who asked, what its end leaves, and that its asker gets one
 -- final when all branches of the row have ended.
-use Rattle.std.proofs.Common.{◌≡◌, ℕ, suc, ◌==◌, ◌&&◌, ◌||◌, ◌<◌, not, Bool, true, false, cond, List, [], ◌∷◌, ◌++◌, map, filter, length, Option, Some, None, refl, sym, ap, ◌∙◌, append-nil, append_assoc, subst, arith}
-use Rattle.std.specs.List.{list_any, list_all, flat_map, find}
+use Rattle.std.proofs.Common.{◌≡◌, suc, ◌==◌, not, Bool, true, false, cond, List, [], ◌∷◌, ◌++◌, map, filter, length, Option, Some, None, refl, sym, ap, ◌∙◌, append-nil, append_assoc, subst, arith}
+use Rattle.std.specs.List.{list_any, list_all, find}
 use Rattle.std.specs.Option.{option_and_then, option_to_list}
 use Rattle.std.proofs.lemmas.Bool.{eqb-true, false_from_ne_true}
 use Rattle.std.proofs.lemmas.Grind.{flat_map-append}
@@ -12,8 +12,8 @@ use Rattle.zr_pend.specs.declared.branch.Asker.{Asker}
 use Rattle.zr_pend.specs.declared.branch.Branch.{Branch}
 use Rattle.zr_pend.specs.Laws.{rest_of, IsOfRow, IsEnded}
 use Rattle.zr_pend.specs.Row.{RowState, is_branch, has, is_last, is_done, without}
-use Rattle.zr_pend.specs.Pending.{is_pending, branches, are_distinct, IsSound, asker_of, final_to, finished, all_finished, finals}
-use Rattle.zr_pend.proofs.Tests.{and_left, and_right, and_both, or_left, or_right, or_none, or_first, or_second, not_true, true_not}
+use Rattle.zr_pend.specs.Pending.{is_pending, branches, are_distinct, IsSound, final_to, finished, all_finished, finals}
+use Rattle.zr_pend.proofs.Parts.{and_left, and_right, or_left, or_right, or_first, not_true}
 use Rattle.zr_pend.proofs.Branches.{is_branch_itself, distinct_behind, distinct_apart, distinct_apart_back}
 use Rattle.zr_pend.proofs.Sound.{any_branch, finished_sound}
 

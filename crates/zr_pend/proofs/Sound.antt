@@ -1,6 +1,6 @@
 -- Every call leaves a table sound: each row has a branch, and no branch stands twice.
 use Rattle.std.proofs.Common.{◌≡◌, ℕ, suc, ◌==◌, ◌&&◌, ◌||◌, ◌<◌, not, Bool, true, false, cond, List, [], ◌∷◌, ◌++◌, map, filter, length, Option, Some, None, refl, sym, ap, ◌∙◌, append-nil, arith}
-use Rattle.std.specs.List.{list_any, list_all, flat_map}
+use Rattle.std.specs.List.{list_any, list_all}
 use Rattle.std.specs.Option.{option_map_or}
 use Rattle.std.proofs.lemmas.Bool.{eqb-true, eq-eqb, false_from_ne_true}
 use Rattle.std.proofs.lemmas.Grind.{flat_map-append}
@@ -11,7 +11,7 @@ use Rattle.zr_pend.specs.declared.branch.Asker.{Asker}
 use Rattle.zr_pend.specs.declared.branch.Branch.{Branch}
 use Rattle.zr_pend.specs.Row.{RowState, is_branch, has, is_done, is_of, is_asked_by, without, orphaned}
 use Rattle.zr_pend.specs.Pending.{asked, askers_differ, is_pending, branch, branches, are_distinct, IsSound, free_number, opened, begun, differ, finished, all_finished, all_orphaned, dropped, branches_on}
-use Rattle.zr_pend.proofs.Tests.{and_left, and_right, and_both, or_left, or_right, or_none, or_first, or_second, not_true, true_not}
+use Rattle.zr_pend.proofs.Parts.{and_left, and_right, and_both, or_left, or_right, or_none, or_first, or_second, not_true, true_not}
 use Rattle.zr_pend.proofs.Branches.{any_alike, distinct_filtered, distinct_joined}
 use Rattle.zr_pend.proofs.Free.{free_is_free}
 

@@ -1,5 +1,5 @@
 -- The pending requests of a router, as a list of rows in the order in which they began, and what each call makes of it.
-use Rattle.std.specs.Prelude.{◌≡◌, ℕ, zero, suc, ◌+◌, ◌-◌, ◌^◌, ◌==◌, ◌&&◌, not, nat_le, Bool, true, false, List, [], ◌∷◌, ◌++◌, length, map, filter, Option, Some, None, if◌then◌else◌}
+use Rattle.std.specs.Prelude.{◌≡◌, ℕ, zero, suc, ◌+◌, ◌-◌, ◌^◌, ◌==◌, ◌&&◌, not, nat_le, Bool, true, false, List, [], ◌∷◌, ◌++◌, length, map, filter, Option, Some, if◌then◌else◌}
 use Rattle.std.specs.List.{list_any, list_all, find, fold, flat_map}
 use Rattle.std.specs.Option.{option_and_then, option_map_or, option_to_list}
 use Rattle.zr_id.specs.declared.link.LinkNo.{LinkNo}

@@ -1,5 +1,5 @@
 -- The rows so far are changed, and those that are left are to be.
-use Rattle.std.proofs.Common.{◌≡◌, ◌++◌, map, take, drop}
+use Rattle.std.proofs.Common.{◌≡◌, ◌++◌, take, drop}
 use Rattle.zr_pend.specs.Pending.{all_orphaned}
 use Rattle.zr_pend.proofs.rows.orphan.Given as goal
 
