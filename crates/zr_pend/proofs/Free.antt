@@ -64,7 +64,7 @@ all_taken p (suc steps) n h k le up = by (p n) refl (λ q l u. all_taken p steps
     by false e ih q = let no : false ≡ true = sym e ∙ q in cc
 
 -- a number is among these
-abbrev is_in : ℕ → List ℕ → Bool
+abbrev pub is_in : ℕ → List ℕ → Bool
 is_in k ns = list_any (λ m. m == k) ns
 
 abbrev but : ℕ → List ℕ → List ℕ

@@ -3,3 +3,4 @@ pub mod Free
 pub mod Branches
 pub mod Sound
 pub mod OneRow
+pub mod Dropped

@@ -173,7 +173,7 @@ orphaned_branches link r = by (is_of link r)
     by true = refl
     by false = refl
 
-all_orphaned_branches : (link : LinkNo) (rows : List RowState) → branches (all_orphaned link rows) ≡ branches rows
+pub all_orphaned_branches : (link : LinkNo) (rows : List RowState) → branches (all_orphaned link rows) ≡ branches rows
 all_orphaned_branches link [] = refl
 all_orphaned_branches link (r ∷ rows) =
     ap (λ z. z ++ branches (all_orphaned link rows)) (orphaned_branches link r) ∙ ap (λ z. r.branches ++ z) (all_orphaned_branches link rows)

@@ -1,12 +1,12 @@
 -- What follows of the rows of pending requests, for the proofs above.
-use Rattle.std.specs.Prelude.{◌≡◌, ℕ, ◌+◌, ◌==◌, ◌<◌, ◌≤◌, true, false, List, [], ◌∷◌, ◌++◌, length, if◌then◌else◌}
-use Rattle.std.specs.List.{list_any}
+use Rattle.std.specs.Prelude.{◌≡◌, ℕ, ◌+◌, ◌==◌, ◌<◌, ◌≤◌, ◌&&◌, nat_le, Bool, true, false, List, [], ◌∷◌, ◌++◌, length, if◌then◌else◌}
+use Rattle.std.specs.List.{list_any, list_all}
 use Rattle.std.specs.Option.{option_to_list}
 use Rattle.zr_id.specs.declared.link.LinkNo.{LinkNo}
 use Rattle.zr_pend.specs.declared.branch.Asker.{Asker}
 use Rattle.zr_pend.specs.declared.branch.Branch.{Branch}
 use Rattle.zr_pend.specs.Row.{RowState, has, is_done, without}
-use Rattle.zr_pend.specs.Pending.{IsSound, asked, is_pending, numbers_on, branch, free_number, begun, asker_of, finished, all_finished, finals, differ, dropped}
+use Rattle.zr_pend.specs.Pending.{IsSound, asked, is_pending, numbers_on, branch, free_number, begun, asker_of, finished, all_finished, finals, differ, dropped, count, ascending}
 
 -- the number that a link gives next is the least one from 1 that isn't pending there, so at most one above how many are
 pub record IsLeastFree (rows : List RowState) (link : LinkNo) (n : ℕ) : Type 0 where
@@ -53,3 +53,26 @@ pub record IsEnded (before : List RowState) (r : RowState) (after : List RowStat
 
 abbrev pub RowsEndOnce : Type 0
 RowsEndOnce = (before : List RowState) (r : RowState) (after : List RowState) → IsSound (before ++ r ∷ after) → IsEnded before r after
+
+-- once a link went down none of its numbers is pending and no row is its own, and the branches on other links are as before
+pub record IsGone (link : LinkNo) (rows : List RowState) : Type 0 where
+  pub none : (n : ℕ) → is_pending (branch link n) (dropped link rows) ≡ false
+  pub unasked : count link (dropped link rows) ≡ 0
+  pub others : (b : Branch) → (b.link.0 == link.0) ≡ false → is_pending b (dropped link rows) ≡ is_pending b rows
+
+abbrev pub DroppedLinksAreGone : Type 0
+DroppedLinksAreGone = (link : LinkNo) (rows : List RowState) → IsGone link rows
+
+-- no number comes before a smaller one
+abbrev pub ascends : List ℕ → Bool
+ascends [] = true
+ascends (n ∷ ns) = list_all (λ m. nat_le n m) ns && ascends ns
+
+-- numbers in ascending order ascend, and are the same ones
+pub record IsInOrder (ns : List ℕ) : Type 0 where
+  pub up : ascends (ascending ns) ≡ true
+  pub same : (p : ℕ → Bool) → list_any p (ascending ns) ≡ list_any p ns
+  pub as_many : length (ascending ns) ≡ length ns
+
+abbrev pub AscendingNumbersAscend : Type 0
+AscendingNumbersAscend = (ns : List ℕ) → IsInOrder ns

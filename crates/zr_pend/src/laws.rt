@@ -1,6 +1,6 @@
 //! Laws of pending requests, for the proofs of the crates above.
 
-ghost use Rattle.zr_pend.specs.Laws.{NumbersAreLeast, NumbersAreTaken, BeginKeeps, FinishKeeps, DropKeeps, BranchesAreOfOneRow, RowsEndOnce};
+ghost use Rattle.zr_pend.specs.Laws.{NumbersAreLeast, NumbersAreTaken, BeginKeeps, FinishKeeps, DropKeeps, BranchesAreOfOneRow, RowsEndOnce, DroppedLinksAreGone, AscendingNumbersAscend};
 
 /// The number that a request is given on a link is the least one, from 1, that isn't pending there.
 pub fn numbers_are_least()
@@ -35,4 +35,14 @@ pub fn branches_are_of_one_row()
 /// When all branches of a row have ended the row is gone, and its asker got one final, if it has one.
 pub fn rows_end_once()
     ensures { RowsEndOnce }
+{}
+
+/// Once a link went down nothing is left of it, and the branches on other links are as before.
+pub fn dropped_links_are_gone()
+    ensures { DroppedLinksAreGone }
+{}
+
+/// Numbers in ascending order ascend, and are the same ones.
+pub fn ascending_numbers_ascend()
+    ensures { AscendingNumbersAscend }
 {}
