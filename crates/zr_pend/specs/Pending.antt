@@ -40,11 +40,11 @@ abbrev pub first_free : (ℕ → Bool) → ℕ → ℕ → ℕ
 first_free taken zero n = n
 first_free taken (suc steps) n = if taken n then first_free taken steps (n + 1) else n
 
--- the least number, from 1, that isn't pending on a link: it comes after as many steps as numbers are pending there at the latest
+-- the least number, from 1, that isn't pending on a link; it is found after at most as many steps as numbers are pending there
 abbrev pub free_number : LinkNo → List RowState → ℕ
 free_number link rows = first_free (λ n. is_pending (branch link n) rows) (length (numbers_on link rows)) 1
 
--- each number of 32 bits but 0 is pending on the link
+-- as many numbers are pending on the link as there are of 32 bits from 1 on
 abbrev pub is_full : LinkNo → List RowState → Bool
 is_full link rows = nat_le (2 ^ 32 - 1) (length (numbers_on link rows))
 
