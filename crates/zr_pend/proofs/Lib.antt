@@ -1,0 +1,6 @@
+pub mod Parts
+pub mod Free
+pub mod Branches
+pub mod Sound
+pub mod OneRow
+pub mod Dropped

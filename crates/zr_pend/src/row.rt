@@ -1,0 +1,132 @@
+//! One request that was passed on: a row of the pending requests, and what is asked of several rows.
+
+ghost use Rattle.std.specs.Prelude.{◌≡◌, not, length, filter};
+ghost use Rattle.std.specs.List.{list_all};
+ghost use Rattle.zr_pend.specs.Row.{is_branch, has, is_done, is_last, is_of, is_asked_by, branches_of, without, orphaned};
+
+use crate::branch::{Asker, Branch};
+use std::marker::Model;
+use zr_id::link::LinkNo;
+
+/// A request that was passed on: who asked it, unless that link went down, and its pending branches.
+#[derive(Debug, Drop)]
+pub struct Row {
+    asker: Option<Asker>,
+    branches: Vec<Branch>,
+}
+
+impl Model for Row {
+    ghost use Rattle.zr_pend.specs.Row.{RowState};
+
+    ghost Value = { RowState };
+
+    ghost view = { λ r. record { asker = r.asker; branches = r.branches.items } };
+}
+
+impl Row {
+    /// A request that this asker sent, with its branches.
+    pub fn new(asker: Asker, branches: Vec<Branch>) -> Row
+        ensures { result ≡ record { asker = Some asker; branches = branches.items } }
+    {
+        Row {
+            asker: Some(asker),
+            branches,
+        }
+    }
+
+    /// Who asked, where its link is still up.
+    pub fn asker(&self) -> Option<Asker>
+        ensures { result ≡ self.now.asker }
+    {
+        self.asker
+    }
+
+    /// Whether the request came from this link.
+    pub fn is_of(&self, link: LinkNo) -> bool
+        ensures { result ≡ is_of link self.now }
+    {
+        match &self.asker {
+            Some(asker) => asker.link.0 == link.0,
+            None => false,
+        }
+    }
+
+    /// Whether the request came from this asker, under this number.
+    pub fn is_asked_by(&self, from: Asker) -> bool
+        ensures { result ≡ is_asked_by from self.now }
+    {
+        match &self.asker {
+            Some(asker) => asker.link.0 == from.link.0 && asker.number == from.number,
+            None => false,
+        }
+    }
+
+    /// Whether this branch is pending.
+    pub fn has(&self, branch: Branch) -> bool
+        ensures { result ≡ has branch self.now }
+    {
+        self.branches.iter().any(|b| is_branch(branch, b))
+    }
+
+    /// Whether this branch is pending and no other one.
+    pub fn is_last(&self, branch: Branch) -> bool
+        ensures { result ≡ is_last branch self.now }
+    {
+        self.has(branch) && self.has_no_other(branch)
+    }
+
+    /// Whether no branch is pending.
+    pub fn is_done(&self) -> bool
+        ensures { result ≡ is_done self.now }
+    {
+        self.branches.is_empty()
+    }
+
+    /// Ends a branch.
+    pub fn end(&mut self, branch: Branch)
+        ensures { self.new ≡ without branch self.old }
+    {
+        end_branch(&mut self.branches, branch);
+    }
+
+    /// The asker is forgotten where it is this link.
+    pub fn orphan(&mut self, link: LinkNo)
+        ensures { self.new ≡ orphaned link self.old }
+    {
+        if self.is_of(link) {
+            self.asker = None;
+        }
+    }
+
+    /// The pending branches.
+    pub fn branches(&self) -> &[Branch]
+        ensures { result.now ≡ self.now.branches }
+    {
+        self.branches.as_slice()
+    }
+
+    /// How many branches it has on a link.
+    pub fn count_on(&self, link: LinkNo) -> u64
+        ensures { result ≡ length (branches_of link self.now) }
+    {
+        self.branches.iter().filter(|b| b.link.0 == link.0).count() as u64
+    }
+
+    fn has_no_other(&self, branch: Branch) -> bool
+        ensures { result ≡ list_all (is_branch branch) self.now.branches }
+    {
+        self.branches.iter().all(|b| is_branch(branch, b))
+    }
+}
+
+fn is_branch(branch: Branch, b: &Branch) -> bool
+    ensures { result ≡ is_branch branch b.now }
+{
+    b.link.0 == branch.link.0 && b.number == branch.number
+}
+
+fn end_branch(branches: &mut Vec<Branch>, branch: Branch)
+    ensures { branches.new.items ≡ filter (λ b. not (is_branch branch b)) branches.old.items }
+{
+    branches.retain(|b| !is_branch(branch, b));
+}
