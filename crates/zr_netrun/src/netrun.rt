@@ -108,7 +108,7 @@ fn tell_refusal<E: Sink>(alloc: Global, number: u64, error: ScriptError, err: &m
     ensures later { E.faults err.old ≤ E.faults err.new }
 {
     let mut text = Vec::new(alloc);
-    if refused_text(alloc, number, error, &mut text).is_err() {
+    if refused_text(number, error, &mut text).is_err() {
         return Status::NoMemory;
     }
     complain(&text, err)

@@ -292,7 +292,7 @@ impl Runner {
         ensures count { self.new.number ≡ self.old.number }
     {
         let quiet = is_quiet(&self.world);
-        put_end(self.alloc, done, quiet, &mut self.pending)?;
+        put_end(done, quiet, &mut self.pending)?;
         Ok(())
     }
 
@@ -320,7 +320,7 @@ impl Runner {
         ensures count { self.new.number ≡ self.old.number }
     {
         advance(&mut self.world, self.number, command, report)?;
-        put_lines(self.alloc, report, &mut self.pending)?;
+        put_lines(report, &mut self.pending)?;
         Ok(())
     }
 
@@ -417,19 +417,19 @@ fn is_quiet(world: &World) -> bool
 }
 
 // What is to be reported waits behind what waited.
-fn put_lines(alloc: Global, lines: &[ReportLine], pending: &mut Vec<u8>) -> Result<(), AllocError>
+fn put_lines(lines: &[ReportLine], pending: &mut Vec<u8>) -> Result<(), AllocError>
     ensures { OnOk result (pending.new.items ≡ pending.old.items ++ flat_map line_text lines.now) }
 {
     for line in lines {
-        line_text(alloc, line, pending)?;
+        line_text(line, pending)?;
     }
     Ok(())
 }
 
-fn put_end(alloc: Global, done: u32, quiet: bool, pending: &mut Vec<u8>) -> Result<(), AllocError>
+fn put_end(done: u32, quiet: bool, pending: &mut Vec<u8>) -> Result<(), AllocError>
     ensures { OnOk result (pending.new.items ≡ pending.old.items ++ line_text (ReportLine.Ran done quiet)) }
 {
-    line_text(alloc, &ReportLine::Ran { steps: done, quiet }, pending)
+    line_text(&ReportLine::Ran { steps: done, quiet }, pending)
 }
 
 fn stopping(error: ScriptError) -> Stop
