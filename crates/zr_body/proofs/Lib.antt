@@ -1,2 +1,4 @@
 pub mod Follows
+pub mod Carries
 pub mod Bodies
+pub mod Payloads

@@ -60,3 +60,7 @@ body_format place = headed (behind place)
 -- A body is its bytes.
 abbrev pub SpellsBody : Place → List ℕ → List ℕ → Type 0
 SpellsBody place body bytes = (body ≡ bytes) × (body_format place).spelled bytes
+
+-- The bytes are a body of some kind of message.
+abbrev pub IsBody : List ℕ → Type 0
+IsBody body = (place : Place) × (body_format place).spelled body

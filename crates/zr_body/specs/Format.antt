@@ -34,8 +34,8 @@ when flag p = choose flag p nothing
 infixr 20 ◌then◌
 abbrev pub ◌then◌ : Format → Format → Format
 p then q = record {
-  spelled = λ bytes. (front : List ℕ) × (back : List ℕ) × (bytes ≡ front ++ back) × p.spelled front × q.spelled back;
-  refused = λ e bytes. p.refused e bytes ⊎ ((front : List ℕ) × (back : List ℕ) × (bytes ≡ front ++ back) × p.spelled front × q.refused e back);
+  spelled = λ bytes. (prefix : List ℕ) × (rest : List ℕ) × (bytes ≡ prefix ++ rest) × p.spelled prefix × q.spelled rest;
+  refused = λ e bytes. p.refused e bytes ⊎ ((prefix : List ℕ) × (rest : List ℕ) × (bytes ≡ prefix ++ rest) × p.spelled prefix × q.refused e rest);
 }
 
 -- a header byte, which tells the format of what follows
@@ -60,10 +60,10 @@ number = record {
 -- a number below 2^32, which tells the format of what follows
 abbrev pub numbered : (ℕ → Format) → Format
 numbered body = record {
-  spelled = λ bytes. (n : ℕ) × (front : List ℕ) × (back : List ℕ) × (bytes ≡ front ++ back) × (n < 2 ^ 32) × Spells n front × (body n).spelled back;
+  spelled = λ bytes. (n : ℕ) × (prefix : List ℕ) × (rest : List ℕ) × (bytes ≡ prefix ++ rest) × (n < 2 ^ 32) × Spells n prefix × (body n).spelled rest;
   refused = λ e bytes. ((e ≡ Short) × EndsInside Spells bytes)
       ⊎ (((e ≡ TooBig) × (n : ℕ) × (rest : List ℕ) × (2 ^ 32 ≤ n) × Begins Spells n bytes rest)
-      ⊎ ((n : ℕ) × (front : List ℕ) × (back : List ℕ) × (bytes ≡ front ++ back) × (n < 2 ^ 32) × Spells n front × (body n).refused e back));
+      ⊎ ((n : ℕ) × (prefix : List ℕ) × (rest : List ℕ) × (bytes ≡ prefix ++ rest) × (n < 2 ^ 32) × Spells n prefix × (body n).refused e rest));
 }
 
 -- The bytes end inside a byte string of at most so many bytes, or its length is above that.

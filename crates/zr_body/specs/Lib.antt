@@ -1,4 +1,5 @@
 pub mod Format
 pub mod Body
 pub mod Reading
+pub mod Payload
 pub mod Laws

@@ -1,4 +1,5 @@
 -- What reading a body answers, as a function of the bytes that are left. `Laws` ties it to the formats.
+-- The value of a part is that of what stands last in it: of a body it is the payload, where there is one.
 use Rattle.std.specs.Prelude.{ℕ, ◌-◌, ◌%◌, ◌^◌, Bool, List, [], length, take, Ok, Err, ◌==◌, if◌then◌else◌}
 use Rattle.zr_bytes.specs.declared.read_error.ReadError.TheVariants.{UnknownId, BadText}
 use Rattle.zr_bytes.specs.Flag.{has_flag}
@@ -39,52 +40,59 @@ skip_encoding bytes = do
 unfoldable pub skip_extensions : List ℕ → Read (Unit {0})
 skip_extensions bytes = passed (chain_of [] bytes)
 
-unfoldable pub skip_put : ℕ → List ℕ → Read (Unit {0})
-skip_put header bytes = do
+-- of a body without a payload
+abbrev pub no_payload : Read (Unit {0}) → Read (List ℕ)
+no_payload said = said >>= λ x. Ok ([], x.1)
+
+unfoldable pub read_payload : List ℕ → Read (List ℕ)
+read_payload bytes = text_of (2 ^ 32 - 1) bytes
+
+unfoldable pub read_put : ℕ → List ℕ → Read (List ℕ)
+read_put header bytes = do
   a ← passed_if (has_flag header 0x20) skip_timestamp bytes
   b ← passed_if (has_flag header 0x40) skip_encoding a.1
   c ← passed_if (has_flag header 0x80) skip_extensions b.1
-  skip_text (2 ^ 32 - 1) c.1
+  read_payload c.1
 
-unfoldable pub skip_del : ℕ → List ℕ → Read (Unit {0})
-skip_del header bytes = do
+unfoldable pub read_del : ℕ → List ℕ → Read (List ℕ)
+read_del header bytes = do
   a ← passed_if (has_flag header 0x20) skip_timestamp bytes
-  passed_if (has_flag header 0x80) skip_extensions a.1
+  no_payload (passed_if (has_flag header 0x80) skip_extensions a.1)
 
-unfoldable pub skip_query : ℕ → List ℕ → Read (Unit {0})
-skip_query header bytes = do
+unfoldable pub read_query : ℕ → List ℕ → Read (List ℕ)
+read_query header bytes = do
   a ← passed_if (has_flag header 0x20) skip_number bytes
   b ← passed_if (has_flag header 0x40) (skip_text (2 ^ 16 - 1)) a.1
-  passed_if (has_flag header 0x80) skip_extensions b.1
+  no_payload (passed_if (has_flag header 0x80) skip_extensions b.1)
 
-unfoldable pub skip_sample : ℕ → List ℕ → Read (Unit {0})
-skip_sample header bytes =
-    if has_id header 1 then skip_put header bytes else (if has_id header 2 then skip_del header bytes else Err UnknownId)
+unfoldable pub read_sample : ℕ → List ℕ → Read (List ℕ)
+read_sample header bytes =
+    if has_id header 1 then read_put header bytes else (if has_id header 2 then read_del header bytes else Err UnknownId)
 
-unfoldable pub skip_reply : ℕ → List ℕ → Read (Unit {0})
-skip_reply header bytes = do
+unfoldable pub read_reply : ℕ → List ℕ → Read (List ℕ)
+read_reply header bytes = do
   a ← passed_if (has_flag header 0x20) skip_number bytes
   b ← passed_if (has_flag header 0x80) skip_extensions a.1
   c ← byte_of b.1
-  skip_sample c.0 c.1
+  read_sample c.0 c.1
 
-unfoldable pub skip_err : ℕ → List ℕ → Read (Unit {0})
-skip_err header bytes = do
+unfoldable pub read_err : ℕ → List ℕ → Read (List ℕ)
+read_err header bytes = do
   a ← passed_if (has_flag header 0x40) skip_encoding bytes
   b ← passed_if (has_flag header 0x80) skip_extensions a.1
-  skip_text (2 ^ 32 - 1) b.1
+  read_payload b.1
 
-unfoldable pub skip_behind : Place → ℕ → List ℕ → Read (Unit {0})
-skip_behind Push header bytes = skip_sample header bytes
-skip_behind Request header bytes = if has_id header 3 then skip_query header bytes else Err UnknownId
-skip_behind Response header bytes =
-    if has_id header 4 then skip_reply header bytes else (if has_id header 5 then skip_err header bytes else Err UnknownId)
+unfoldable pub read_behind : Place → ℕ → List ℕ → Read (List ℕ)
+read_behind Push header bytes = read_sample header bytes
+read_behind Request header bytes = if has_id header 3 then read_query header bytes else Err UnknownId
+read_behind Response header bytes =
+    if has_id header 4 then read_reply header bytes else (if has_id header 5 then read_err header bytes else Err UnknownId)
 
-unfoldable pub skip_body : Place → List ℕ → Read (Unit {0})
-skip_body place bytes = do
+unfoldable pub payload_in : Place → List ℕ → Read (List ℕ)
+payload_in place bytes = do
   b ← byte_of bytes
-  skip_behind place b.0 b.1
+  read_behind place b.0 b.1
 
 -- the bytes that were passed over
 unfoldable pub body_of : Place → List ℕ → Read (List ℕ)
-body_of place bytes = skip_body place bytes >>= λ x. Ok (take (length bytes - length x.1) bytes, x.1)
+body_of place bytes = payload_in place bytes >>= λ x. Ok (take (length bytes - length x.1) bytes, x.1)

@@ -12,6 +12,3 @@ pub use laws::{bodies_are_read, bodies_have_one_reading};
 pub use place::Place;
 pub use reading::read_body;
 pub use wire_body::{Body, write_body};
-
-#[cfg(test)]
-mod tests;

@@ -2,7 +2,7 @@
 
 ghost use Rattle.std.specs.Prelude.{◌≡◌};
 ghost use Rattle.zr_bytes.specs.Reading.{Keeps};
-ghost use Rattle.zr_body.specs.Reading.{skip_body, body_of};
+ghost use Rattle.zr_body.specs.Reading.{payload_in, body_of};
 
 use crate::place::Place;
 use crate::skipping;
@@ -10,15 +10,15 @@ use crate::wire_body::Body;
 use std::alloc::Global;
 use zr_bytes::{Cursor, ReadError};
 
-/// The body at the front, in a message of this kind. Its bytes are copied once, as they stand.
+/// The body at which the cursor stands, in a message of this kind. Its bytes are copied once, as they stand.
 #[tactic(auto, unfolding(crate::specs::Reading::body_of))]
 pub fn read_body(alloc: Global, c: &mut Cursor<'_>, place: Place) -> Result<Body, ReadError>
     ensures { Keeps (λ body. body) result (body_of place c.old) c.old c.new }
 {
     let mut ahead = c.fork();
-    skipping::body(alloc, &mut ahead, place)?;
+    let payload = skipping::body(alloc, &mut ahead, place)?;
     let length = c.left() - ahead.left();
-    let bytes = c.as_slice()[..length].to_vec(alloc)?;
+    let body = Body::of(alloc, &c.as_slice()[..length], length - payload.len())?;
     *c = ahead;
-    Ok(Body::new(bytes))
+    Ok(body)
 }

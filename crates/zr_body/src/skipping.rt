@@ -1,20 +1,20 @@
-//! Passing over bodies, part by part. Each part is there where its flag is set in the header.
+//! Passing over bodies, part by part, to the payload. Each part is there where its flag is set in the header.
 
 ghost use Rattle.std.specs.Prelude.{◌≡◌, ◌^◌, ◌-◌, ◌%◌, ◌==◌};
 ghost use Rattle.zr_bytes.specs.Flag.{has_flag};
 ghost use Rattle.zr_bytes.specs.Reading.{Steps};
-ghost use Rattle.zr_body.specs.Reading.{passed_if, skip_number, skip_text, skip_some_text, skip_timestamp, skip_encoding, skip_extensions, skip_put, skip_del, skip_query, skip_sample, skip_reply, skip_err, skip_behind, skip_body};
+ghost use Rattle.zr_body.specs.Reading.{passed_if, skip_number, skip_text, skip_some_text, skip_timestamp, skip_encoding, skip_extensions, read_payload, read_put, read_del, read_query, read_sample, read_reply, read_err, read_behind, payload_in};
 
 use crate::place::Place;
 use std::alloc::Global;
 use zr_bytes::{Cursor, ReadError};
 use zr_ext::read_chain;
 
-const ID: u8 = 0x1F;
+pub(crate) const ID: u8 = 0x1F;
 
-const PUT: u8 = 1;
+pub(crate) const PUT: u8 = 1;
 
-const DEL: u8 = 2;
+pub(crate) const DEL: u8 = 2;
 
 const QUERY: u8 = 3;
 
@@ -42,18 +42,27 @@ const MOST_PARAMETERS: u64 = (1 << 16) - 1;
 
 const MOST_PAYLOAD: u64 = (1 << 32) - 1;
 
-/// A body of a message of this kind.
-#[tactic(auto, unfolding(crate::specs::Reading::skip_body))]
-pub(crate) fn body(alloc: Global, c: &mut Cursor<'_>, place: Place) -> Result<(), ReadError>
-    ensures { Steps (λ x. x) result (skip_body place c.old) c.new }
+/// The payload of a body of a message of this kind, with the cursor behind the body; no bytes where it has none.
+#[tactic(auto, unfolding(crate::specs::Reading::payload_in))]
+pub(crate) fn body<'a>(
+    alloc: Global,
+    c: &mut Cursor<'a>,
+    place: Place,
+) -> Result<&'a [u8], ReadError>
+    ensures { Steps (λ payload. payload.now) result (payload_in place c.old) c.new }
 {
     let header = c.u8()?;
     behind(alloc, c, place, header)
 }
 
-#[tactic(auto, unfolding(crate::specs::Reading::skip_behind))]
-fn behind(alloc: Global, c: &mut Cursor<'_>, place: Place, header: u8) -> Result<(), ReadError>
-    ensures { Steps (λ x. x) result (skip_behind place header c.old) c.new }
+#[tactic(auto, unfolding(crate::specs::Reading::read_behind))]
+fn behind<'a>(
+    alloc: Global,
+    c: &mut Cursor<'a>,
+    place: Place,
+    header: u8,
+) -> Result<&'a [u8], ReadError>
+    ensures { Steps (λ payload. payload.now) result (read_behind place header c.old) c.new }
 {
     match (place, header & ID) {
         (Place::Push, _) => sample(alloc, c, header),
@@ -64,9 +73,9 @@ fn behind(alloc: Global, c: &mut Cursor<'_>, place: Place, header: u8) -> Result
     }
 }
 
-#[tactic(auto, unfolding(crate::specs::Reading::skip_sample))]
-fn sample(alloc: Global, c: &mut Cursor<'_>, header: u8) -> Result<(), ReadError>
-    ensures { Steps (λ x. x) result (skip_sample header c.old) c.new }
+#[tactic(auto, unfolding(crate::specs::Reading::read_sample))]
+fn sample<'a>(alloc: Global, c: &mut Cursor<'a>, header: u8) -> Result<&'a [u8], ReadError>
+    ensures { Steps (λ payload. payload.now) result (read_sample header c.old) c.new }
 {
     match header & ID {
         PUT => put(alloc, c, header),
@@ -75,36 +84,38 @@ fn sample(alloc: Global, c: &mut Cursor<'_>, header: u8) -> Result<(), ReadError
     }
 }
 
-#[tactic(auto, unfolding(crate::specs::Reading::skip_put))]
-fn put(alloc: Global, c: &mut Cursor<'_>, header: u8) -> Result<(), ReadError>
-    ensures { Steps (λ x. x) result (skip_put header c.old) c.new }
+#[tactic(auto, unfolding(crate::specs::Reading::read_put))]
+fn put<'a>(alloc: Global, c: &mut Cursor<'a>, header: u8) -> Result<&'a [u8], ReadError>
+    ensures { Steps (λ payload. payload.now) result (read_put header c.old) c.new }
 {
     timestamp(c, header)?;
     encoding(c, header)?;
     extensions(alloc, c, header)?;
-    text(c, MOST_PAYLOAD)
+    payload(c)
 }
 
-#[tactic(auto, unfolding(crate::specs::Reading::skip_del))]
-fn del(alloc: Global, c: &mut Cursor<'_>, header: u8) -> Result<(), ReadError>
-    ensures { Steps (λ x. x) result (skip_del header c.old) c.new }
+#[tactic(auto, unfolding(crate::specs::Reading::read_del))]
+fn del<'a>(alloc: Global, c: &mut Cursor<'a>, header: u8) -> Result<&'a [u8], ReadError>
+    ensures { Steps (λ payload. payload.now) result (read_del header c.old) c.new }
 {
     timestamp(c, header)?;
-    extensions(alloc, c, header)
+    extensions(alloc, c, header)?;
+    Ok(&[])
 }
 
-#[tactic(auto, unfolding(crate::specs::Reading::skip_query))]
-fn query(alloc: Global, c: &mut Cursor<'_>, header: u8) -> Result<(), ReadError>
-    ensures { Steps (λ x. x) result (skip_query header c.old) c.new }
+#[tactic(auto, unfolding(crate::specs::Reading::read_query))]
+fn query<'a>(alloc: Global, c: &mut Cursor<'a>, header: u8) -> Result<&'a [u8], ReadError>
+    ensures { Steps (λ payload. payload.now) result (read_query header c.old) c.new }
 {
     consolidation(c, header)?;
     parameters(c, header)?;
-    extensions(alloc, c, header)
+    extensions(alloc, c, header)?;
+    Ok(&[])
 }
 
-#[tactic(auto, unfolding(crate::specs::Reading::skip_reply))]
-fn reply(alloc: Global, c: &mut Cursor<'_>, header: u8) -> Result<(), ReadError>
-    ensures { Steps (λ x. x) result (skip_reply header c.old) c.new }
+#[tactic(auto, unfolding(crate::specs::Reading::read_reply))]
+fn reply<'a>(alloc: Global, c: &mut Cursor<'a>, header: u8) -> Result<&'a [u8], ReadError>
+    ensures { Steps (λ payload. payload.now) result (read_reply header c.old) c.new }
 {
     consolidation(c, header)?;
     extensions(alloc, c, header)?;
@@ -112,13 +123,20 @@ fn reply(alloc: Global, c: &mut Cursor<'_>, header: u8) -> Result<(), ReadError>
     sample(alloc, c, inner)
 }
 
-#[tactic(auto, unfolding(crate::specs::Reading::skip_err))]
-fn err(alloc: Global, c: &mut Cursor<'_>, header: u8) -> Result<(), ReadError>
-    ensures { Steps (λ x. x) result (skip_err header c.old) c.new }
+#[tactic(auto, unfolding(crate::specs::Reading::read_err))]
+fn err<'a>(alloc: Global, c: &mut Cursor<'a>, header: u8) -> Result<&'a [u8], ReadError>
+    ensures { Steps (λ payload. payload.now) result (read_err header c.old) c.new }
 {
     encoding(c, header)?;
     extensions(alloc, c, header)?;
-    text(c, MOST_PAYLOAD)
+    payload(c)
+}
+
+#[tactic(auto, unfolding(crate::specs::Reading::read_payload))]
+fn payload<'a>(c: &mut Cursor<'a>) -> Result<&'a [u8], ReadError>
+    ensures { Steps (λ payload. payload.now) result (read_payload c.old) c.new }
+{
+    c.bytes(MOST_PAYLOAD)
 }
 
 #[tactic(auto, unfolding(crate::specs::Reading::skip_timestamp, crate::specs::Reading::skip_number, crate::specs::Reading::skip_some_text))]

@@ -7,12 +7,7 @@ use Rattle.std.proofs.lemmas.List.{take_more_set}
 use Rattle.zr_bytes.specs.declared.read_error.ReadError.{ReadError}
 use Rattle.zr_bytes.specs.Number.{writes_within}
 use Rattle.zr_bytes.specs.Reading.{Read, ◌>>=◌, byte_of, number_within}
-
-abbrev fine : {A : Type 0} → A → Result A ReadError
-fine x = Ok x
-
-pub ok_is : {A : Type 0} (x y : A) → fine x ≡ fine y → x ≡ y
-ok_is x y e = cc
+use Rattle.zr_bytes.proofs.Steps.{ok_is}
 
 -- a reading whose number has these low groups before it
 abbrev pub with_low : ℕ → ℕ → Read ℕ → Read ℕ

@@ -180,3 +180,12 @@ written_shortest (suc more) value (b ∷ c ∷ bytes) fits s =
           let inner : length (writes_within more (value / 128)) ≤ length (c ∷ bytes) = rw high (written_shortest more s.1 (c ∷ bytes) fits.1 s.3) in
           rw (le-ltb value 128 le) (omega (arith, inner))
     ]
+
+pub written_long : (more value : ℕ) → length (writes_within more value) ≤ more + 1
+unfolding writes_within
+written_long zero value = omega arith
+written_long (suc more) value =
+    elim (cases_lt value 128) [
+      | inl lt ↦ rw (lt-ltb value 128 lt) (omega arith)
+      | inr le ↦ let rest : length (writes_within more (value / 128)) ≤ more + 1 = written_long more (value / 128) in rw (le-ltb value 128 le) (omega (arith, rest))
+    ]

@@ -1,6 +1,6 @@
 //! Bytes that a value of the wire keeps.
 
-ghost use Rattle.std.specs.Prelude.{◌≡◌, IfOk};
+ghost use Rattle.std.specs.Prelude.{◌≡◌, ◌++◌, IfOk, OnOk, OnErr};
 
 use std::alloc::{AllocError, Global};
 use std::marker::Model;
@@ -41,6 +41,14 @@ impl ByteString {
         ensures { result.now ≡ self.now }
     {
         &self.bytes
+    }
+
+    /// Appends bytes. Where memory runs out nothing is appended.
+    pub fn append(&mut self, more: &[u8]) -> Result<(), AllocError>
+        ensures ok { OnOk result (self.new ≡ self.old ++ more.now) }
+        ensures err { OnErr result (self.new ≡ self.old) }
+    {
+        self.bytes.extend_from_slice(more)
     }
 
     /// The vector that holds the bytes.

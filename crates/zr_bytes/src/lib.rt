@@ -14,8 +14,5 @@ pub use cursor::Cursor;
 pub use laws::{
     have_one_reading, numbers_are_judged, numbers_are_read, texts_are_read, written_is_shortest,
 };
-pub use put::{put_bytes, put_zint};
+pub use put::{all_or_nothing, put_bytes, put_zint};
 pub use read_error::ReadError;
-
-#[cfg(test)]
-mod tests;

@@ -1,6 +1,6 @@
 //! The one spelling of a number or a byte string that is written.
 
-ghost use Rattle.std.specs.Prelude.{◌≡◌, ◌++◌, OnOk, OnErr};
+ghost use Rattle.std.specs.Prelude.{◌≡◌, ◌≤◌, ◌++◌, length, take, OnOk, OnErr};
 ghost use Rattle.zr_bytes.specs.Number.{writes};
 ghost use Rattle.zr_bytes.specs.Text.{writes_text};
 
@@ -34,6 +34,21 @@ pub fn put_bytes(out: &mut Vec<u8>, bytes: &[u8]) -> Result<(), AllocError>
     let start = out.len();
     put_zint(out, bytes.len() as u64)?;
     let put = out.extend_from_slice(bytes);
+    all_or_nothing(out, start, put)
+}
+
+/// Takes back what was appended behind the first `start` bytes where an append failed, so that a call of several appends
+/// leaves all of them or none.
+pub fn all_or_nothing(
+    out: &mut Vec<u8>,
+    start: usize,
+    put: Result<(), AllocError>,
+) -> Result<(), AllocError>
+    requires { start ≤ length out.old.items }
+    ensures same { result ≡ put }
+    ensures ok { OnOk put (out.new.items ≡ out.old.items) }
+    ensures err { OnErr put (out.new.items ≡ take start out.old.items) }
+{
     if put.is_err() {
         out.truncate(start);
     }

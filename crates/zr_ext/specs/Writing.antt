@@ -1,5 +1,5 @@
 -- The one spelling of a chain that is written.
-use Rattle.std.specs.Prelude.{ℕ, ◌<◌, ◌^◌, Bool, true, false, List, [], ◌∷◌, ◌++◌, length, if◌then◌else◌, bit_or}
+use Rattle.std.specs.Prelude.{ℕ, ◌+◌, ◌<◌, ◌^◌, ◌&&◌, nat_le, Bool, true, false, List, [], ◌∷◌, ◌++◌, length, if◌then◌else◌, bit_or}
 use Rattle.zr_bytes.specs.Number.{writes}
 use Rattle.zr_bytes.specs.Text.{writes_text}
 use Rattle.zr_ext.specs.declared.ext.Ext.{Ext}
@@ -33,3 +33,8 @@ ContentFits (content.Bytes b) = length b < 2 ^ 32
 -- the extension has a spelling
 abbrev pub Fits : Ext → Type 0
 Fits ext = (ext.id < 16) × ContentFits ext.content
+
+-- each id is above the one before it, and the first is `least` at least
+abbrev pub ascends_from : ℕ → List Ext → Bool
+ascends_from least [] = true
+ascends_from least (ext ∷ exts) = nat_le least ext.id && ascends_from (ext.id + 1) exts

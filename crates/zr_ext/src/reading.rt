@@ -56,7 +56,7 @@ fn extension(
 {
     let head = read_header(c.u8()?, known)?;
     if !knows(known, head.id, head.form) {
-        skip(c, head.form)?;
+        skip_content(c, head.form)?;
         return Ok((None, head.more));
     }
     let content = content(alloc, c, head.form)?;
@@ -80,9 +80,9 @@ fn content(alloc: Global, c: &mut Cursor<'_>, form: Form) -> Result<Content, Rea
     })
 }
 
-/// What stands behind a header, passed over.
+/// What stands behind a header, passed over. After a refusal the cursor may stand anywhere.
 #[tactic(auto, unfolding(crate::specs::Reading::content_of))]
-fn skip(c: &mut Cursor<'_>, form: Form) -> Result<(), ReadError>
+pub fn skip_content(c: &mut Cursor<'_>, form: Form) -> Result<(), ReadError>
     ensures { Steps (λ x. x) result (without_value (content_of form c.old)) c.new }
 {
     match form {

@@ -1,29 +1,27 @@
 //! The one spelling of a chain of extensions that is written.
 
-ghost use Rattle.std.specs.Prelude.{◌≡◌, ◌<◌, ◌++◌, All, length, OnOk, OnErr};
+ghost use Rattle.std.specs.Prelude.{◌≡◌, ◌<◌, ◌++◌, All, length, true, OnOk, OnErr};
 ghost use Rattle.zr_bytes.specs.Writing.{KeepsFront};
 ghost use Rattle.zr_ext.specs.Header.{form_of, encoding_of};
-ghost use Rattle.zr_ext.specs.Writing.{Fits, writes_chain, writes_ext, writes_header};
+ghost use Rattle.zr_ext.specs.Writing.{Fits, ascends_from, writes_chain, writes_ext, writes_header};
 
 use crate::ext::{Content, Ext, Form};
 use crate::header::{MANDATORY, MORE};
 use std::alloc::AllocError;
-use zr_bytes::{put_bytes, put_zint};
+use zr_bytes::{all_or_nothing, put_bytes, put_zint};
 
-/// Appends a chain of at least one extension, in the order in which they stand. Where memory runs out nothing is
-/// appended.
+/// Appends a chain of at least one extension, which stand in ascending order of their ids (this profile's order). Where memory runs
+/// out nothing is appended.
 pub fn write_chain(out: &mut Vec<u8>, exts: &[Ext]) -> Result<(), AllocError>
     requires some { 0 < length exts.now }
     requires fit { All Fits exts.now }
+    requires ascending { ascends_from 0 exts.now ≡ true }
     ensures ok { OnOk result (out.new.items ≡ out.old.items ++ writes_chain exts.now) }
     ensures err { OnErr result (out.new.items ≡ out.old.items) }
 {
     let start = out.len();
     let put = put_all(out, exts);
-    if put.is_err() {
-        out.truncate(start);
-    }
-    put
+    all_or_nothing(out, start, put)
 }
 
 fn put_all(out: &mut Vec<u8>, exts: &[Ext]) -> Result<(), AllocError>

@@ -1,15 +1,17 @@
 //! The base of a router: which records it keeps, and how its own record changes.
 
-ghost use Rattle.std.specs.Prelude.{◌≡◌, ◌-◌, ◌^◌, ◌↔◌, IfOk, OnOk, OnErr, if◌then◌else◌};
+ghost use Rattle.std.specs.Prelude.{◌≡◌, ◌-◌, ◌^◌, ◌↔◌, true, nat_lt, IfOk, OnOk, OnErr, if◌then◌else◌};
+ghost use Rattle.zr_id.specs.Record.{are_links};
+ghost use Rattle.zr_id.specs.Zid.{is_named};
 ghost use Rattle.std.specs.Option.{option_copied};
-ghost use Rattle.zr_graph.specs.Record.{has_edge, lists, record_of};
+ghost use Rattle.zr_graph.specs.Record.{has, has_edge, lists, record_of};
 ghost use Rattle.zr_graph.specs.Base.{IsInOrder, is_newer, after_record, kept, relinked, own_seq, fresh};
 
 use crate::place::{place_of, put};
 use std::alloc::{AllocError, AllocFailed, Global};
 use std::marker::Model;
 use thiserror::Error;
-use zr_id::record::{LinkRecord, Zids};
+use zr_id::record::LinkRecord;
 use zr_id::zid::Zid;
 
 /// What became of a record that a base was given.
@@ -64,12 +66,15 @@ impl Base {
         ensures { IfOk result (λ b. b ≡ fresh me) }
     {
         let mut records = Vec::new(alloc);
-        records.push(LinkRecord {
-            id: me,
-            seq: 0,
-            links: Zids::new(Vec::new(alloc)),
-        })?;
+        records.push(LinkRecord::new(me, 0, Vec::new(alloc)))?;
         Ok(Base { me, records })
+    }
+
+    /// The router whose base it is.
+    pub fn me(&self) -> Zid
+        ensures { result ≡ self.now.me }
+    {
+        self.me
     }
 
     /// Keeps a copy of another router's record where it is newer than what the base has.
@@ -88,10 +93,9 @@ impl Base {
         Ok(Accepted::Newer)
     }
 
-    /// Gives the own record its next number and these links.
-    ///
-    /// They are to be strictly ascending and without this router, as in each record; nothing here rests on it.
+    /// Gives the own record its next number and these links, which are strictly ascending and without this router, as in each record.
     pub fn change(&mut self, links: &[Zid]) -> Result<(), ChangeError>
+        requires { are_links self.old.me links.now ≡ true }
         ensures ok { OnOk result (self.new ≡ relinked self.old links.now) }
         ensures worn { (result ≡ Err ChangeError.Worn) ↔ (own_seq self.old ≡ 2 ^ 64 - 1) }
         ensures unchanged { OnErr result (self.new ≡ self.old) }
@@ -101,11 +105,7 @@ impl Base {
             return Err(ChangeError::Worn);
         }
         let links = Vec::from_slice(*self.records.allocator(), links)?;
-        self.keep(LinkRecord {
-            id: self.me,
-            seq: seq + 1,
-            links: Zids::new(links),
-        })?;
+        self.keep(LinkRecord::new(self.me, seq + 1, links))?;
         Ok(())
     }
 
@@ -128,7 +128,7 @@ impl Base {
         ensures { result ≡ lists self.now.records from.now to.now }
     {
         match self.record_of(from) {
-            Some(r) => r.links.as_slice().contains(to),
+            Some(r) => has_link(r, to),
             None => false,
         }
     }
@@ -136,20 +136,27 @@ impl Base {
     fn is_newer(&self, links: &LinkRecord) -> bool
         ensures { result ≡ is_newer self.now links.now }
     {
-        if links.id == self.me {
+        if is_of(links, &self.me) {
             return false;
         }
-        match self.record_of(&links.id) {
-            Some(r) => r.seq < links.seq,
+        match self.record_like(links) {
+            Some(r) => is_older(r, links),
             None => true,
         }
+    }
+
+    // the record that the base has of the same router
+    fn record_like(&self, links: &LinkRecord) -> Option<&LinkRecord>
+        ensures { option_copied result ≡ record_of self.now.records links.now.id }
+    {
+        self.record_of(&links.id())
     }
 
     fn own_seq(&self) -> u64
         ensures { result ≡ own_seq self.now }
     {
         match self.record_of(&self.me) {
-            Some(r) => r.seq,
+            Some(r) => r.seq(),
             None => 0,
         }
     }
@@ -167,8 +174,26 @@ impl Base {
         ensures ok { OnOk result (self.new ≡ kept self.old new) }
         ensures err { OnErr result (self.new ≡ self.old) }
     {
-        let place = place_of(&self.records, &new.id);
+        let place = place_of(&self.records, &new.id());
         put(&mut self.records, place, new)?;
         Ok(())
     }
+}
+
+fn has_link(r: &LinkRecord, to: &Zid) -> bool
+    ensures { result ≡ has r.now.links to.now }
+{
+    r.links().contains(to)
+}
+
+fn is_of(r: &LinkRecord, id: &Zid) -> bool
+    ensures { result ≡ is_named r.now.id id.now }
+{
+    r.id() == *id
+}
+
+fn is_older(a: &LinkRecord, b: &LinkRecord) -> bool
+    ensures { result ≡ nat_lt a.now.seq b.now.seq }
+{
+    a.seq() < b.seq()
 }

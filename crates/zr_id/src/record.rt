@@ -1,7 +1,9 @@
 //! Link records: what a router tells all others of its links, and the lists of identifiers that they hold.
 //! How records are kept and which edges they make is not known here.
 
-ghost use Rattle.std.specs.Prelude.{◌≡◌, IfOk};
+ghost use Rattle.std.specs.Prelude.{◌≡◌, ◌&&◌, ◌^◌, nat_lt, length, drop, true, IfOk};
+ghost use Rattle.std.specs.Option.{option_copied};
+ghost use Rattle.zr_id.specs.Record.{are_in_order, are_links, may_follow};
 
 use crate::zid::Zid;
 use std::alloc::{AllocError, Global};
@@ -13,14 +15,24 @@ pub struct Zids {
     items: Vec<Zid>,
 }
 
-/// The links of one router, as it told them under a number that goes up with each change.
-///
-/// `links` is strictly ascending and without `id` in each record that a router makes or takes.
+/// The links of one router, as it told them under a number that goes up with each change: at most 65,535 of them, strictly ascending
+/// and without the router itself.
 #[derive(Debug, Drop)]
 pub struct LinkRecord {
-    pub id: Zid,
-    pub seq: u64,
-    pub links: Zids,
+    id: Zid,
+    seq: u64,
+    links: Vec<Zid>,
+}
+
+impl Model for LinkRecord {
+    ghost use Rattle.std.specs.Prelude.{◌≡◌, true};
+    ghost use Rattle.zr_id.specs.Record.{RecordState, are_links};
+
+    ghost Value = { RecordState };
+
+    ghost view = { λ r. record { id = r.id; seq = r.seq; links = r.links.items } };
+
+    ghost invariant = { λ r. are_links r.id r.links.items ≡ true };
 }
 
 impl Model for Zids {
@@ -65,6 +77,36 @@ impl Zids {
 }
 
 impl LinkRecord {
+    /// A record of these links, for which [`are_links`] is true.
+    pub fn new(id: Zid, seq: u64, links: Vec<Zid>) -> LinkRecord
+        requires { are_links id links.items ≡ true }
+        ensures { result ≡ record { id = id; seq = seq; links = links.items } }
+    {
+        LinkRecord { id, seq, links }
+    }
+
+    /// The router whose links these are.
+    pub fn id(&self) -> Zid
+        ensures { result ≡ self.now.id }
+    {
+        self.id
+    }
+
+    /// The number of the change.
+    pub fn seq(&self) -> u64
+        ensures { result ≡ self.now.seq }
+    {
+        self.seq
+    }
+
+    /// The routers that the links lead to.
+    pub fn links(&self) -> &[Zid]
+        ensures value { result.now ≡ self.now.links }
+        ensures in_order { are_links self.now.id self.now.links ≡ true }
+    {
+        self.links.as_slice()
+    }
+
     /// A second record, equal to this one.
     pub fn copy(&self, alloc: Global) -> Result<LinkRecord, AllocError>
         ensures { IfOk result (λ r. r ≡ self.now) }
@@ -72,7 +114,41 @@ impl LinkRecord {
         Ok(LinkRecord {
             id: self.id,
             seq: self.seq,
-            links: self.links.copy(alloc)?,
+            links: Vec::from_slice(alloc, self.links.as_slice())?,
         })
     }
+}
+
+/// How many links a record has at most: their number is 16 bits on the wire.
+pub const MOST_LINKS: usize = 65_535;
+
+/// Whether these are links of a record of this router: not too many, strictly ascending, and the router itself is none of them.
+pub fn are_links(id: &Zid, links: &[Zid]) -> bool
+    ensures { result ≡ are_links id.now links.now }
+{
+    links.len() <= MOST_LINKS && are_in_order(id, links)
+}
+
+fn are_in_order(id: &Zid, links: &[Zid]) -> bool
+    ensures { result ≡ are_in_order id.now None links.now }
+{
+    let mut last = None;
+    for link in links {
+        if !may_follow(id, last, link) {
+            return false;
+        }
+        last = Some(*link);
+    }
+    true
+}
+
+/// Whether an identifier may stand behind another one among the links of a router.
+pub fn may_follow(id: &Zid, last: Option<Zid>, link: &Zid) -> bool
+    ensures { result ≡ may_follow id.now last link.now }
+{
+    let is_after = match last {
+        Some(last) => last < *link,
+        None => true,
+    };
+    is_after && id != link
 }

@@ -151,13 +151,13 @@ impl fmt::Debug for Zid {
 }
 
 impl PartialEq for Zid {
-    ghost use Rattle.std.specs.Prelude.{nat_eq};
-    ghost use Rattle.std.specs.Cmp.{partial_equiv_from_equiv};
-    ghost use Rattle.std.specs.Cmp.Lexicographic.{pointwise, nat_list_eq_equiv};
+    ghost use Rattle.std.specs.Cmp.{partial_equiv_from_equiv, eq_by_cmp_equiv};
+    ghost use Rattle.std.specs.Cmp.Lexicographic.{nat_list_cmp_total};
+    ghost use Rattle.zr_id.specs.Zid.{is_named};
 
-    ghost eq = { pointwise nat_eq };
+    ghost eq = { is_named };
 
-    ghost laws = { partial_equiv_from_equiv nat_list_eq_equiv };
+    ghost laws = { partial_equiv_from_equiv (eq_by_cmp_equiv nat_list_cmp_total) };
 
     fn eq(&self, other: &Zid) -> bool {
         self.bytes() == other.bytes()
@@ -165,19 +165,21 @@ impl PartialEq for Zid {
 }
 
 impl Eq for Zid {
-    ghost use Rattle.std.specs.Cmp.Lexicographic.{nat_list_eq_equiv};
+    ghost use Rattle.std.specs.Cmp.{eq_by_cmp_equiv};
+    ghost use Rattle.std.specs.Cmp.Lexicographic.{nat_list_cmp_total};
 
-    ghost laws = { nat_list_eq_equiv };
+    ghost laws = { eq_by_cmp_equiv nat_list_cmp_total };
 }
 
 impl PartialOrd for Zid {
     ghost use Rattle.std.specs.Prelude.{Some};
     ghost use Rattle.std.specs.Ordering.{nat_cmp};
-    ghost use Rattle.std.specs.Cmp.Lexicographic.{slice_cmp, texts_po};
+    ghost use Rattle.std.specs.Cmp.{partial_order_from_total};
+    ghost use Rattle.std.specs.Cmp.Lexicographic.{slice_cmp, nat_list_cmp_total};
 
     ghost partial_cmp = { λ s t. Some (slice_cmp nat_cmp s t) };
 
-    ghost laws = { texts_po };
+    ghost laws = { partial_order_from_total nat_list_cmp_total };
 
     fn partial_cmp(&self, other: &Zid) -> Option<Ordering> {
         Some(self.cmp(other))
@@ -187,7 +189,7 @@ impl PartialOrd for Zid {
 impl Ord for Zid {
     ghost use Rattle.std.specs.Prelude.{refl};
     ghost use Rattle.std.specs.Ordering.{nat_cmp};
-    ghost use Rattle.std.specs.Cmp.Lexicographic.{slice_cmp, nat_list_cmp_total, texts_ties};
+    ghost use Rattle.std.specs.Cmp.Lexicographic.{slice_cmp, nat_list_cmp_total};
 
     ghost cmp = { slice_cmp nat_cmp };
 
@@ -195,7 +197,7 @@ impl Ord for Zid {
 
     ghost matches_partial_cmp = { λ s t. refl };
 
-    ghost matches_eq = { texts_ties };
+    ghost matches_eq = { λ s t. refl };
 
     fn cmp(&self, other: &Zid) -> Ordering {
         self.bytes().cmp(other.bytes())

@@ -6,5 +6,3 @@ mod canonical;
 mod faults;
 pub mod key;
 pub mod laws;
-#[cfg(test)]
-mod tests;

@@ -12,16 +12,16 @@ use Rattle.zr_match.proofs.Globs.{Common}
 use Rattle.zr_match.proofs.PieceTable.{chars}
 
 -- a byte that goes on in a character
-abbrev goes_on : ℕ → Bool
+abbrev pub goes_on : ℕ → Bool
 goes_on b = nat_le 128 b && nat_lt b 192
 
-record Shape (c : ℕ) : Type 0 where
-  lead : ℕ
-  tail : List ℕ
-  bytes : encode c ≡ lead ∷ tail
-  begins : goes_on lead ≡ false
-  rest : list_all goes_on tail ≡ true
-  high : 128 ≤ c → 128 ≤ lead
+pub record Shape (c : ℕ) : Type 0 where
+  pub lead : ℕ
+  pub tail : List ℕ
+  pub bytes : encode c ≡ lead ∷ tail
+  pub begins : goes_on lead ≡ false
+  pub rest : list_all goes_on tail ≡ true
+  pub high : 128 ≤ c → 128 ≤ lead
 
 next_goes_on : (n : ℕ) → goes_on (128 + n % 64) ≡ true
 next_goes_on n = and_from (nat_le 128 (128 + n % 64)) (nat_lt (128 + n % 64) 192) (le-leb 128 (128 + n % 64) (omega arith)) (lt-ltb (128 + n % 64) 192 (omega arith))
@@ -33,7 +33,7 @@ lead_begins k n h = rw (le-ltb (k + n) 192 (omega arith)) (and_false (nat_le 128
     and_false true = refl
     and_false false = refl
 
-shape : (c : ℕ) → Shape c
+pub shape : (c : ℕ) → Shape c
 unfolding encode
 shape c = by (nat_lt c 128) (nat_lt c 2048) (nat_lt c 65536) refl refl refl
   where
@@ -71,7 +71,7 @@ high_encode c h =
     ap (λ z. list_all (λ b. nat_le 128 b) z) s.bytes ∙ and_from (nat_le 128 s.lead) (list_all (λ b. nat_le 128 b) s.tail) (le-leb 128 s.lead (s.high h)) (high_rest s.tail s.rest)
 
 -- pieces of characters as pieces of bytes
-abbrev piece_bytes : Piece → List Piece
+abbrev pub piece_bytes : Piece → List Piece
 piece_bytes (Char c) = chars (encode c)
 piece_bytes AnyChars = AnyChars ∷ []
 

@@ -80,16 +80,16 @@ covered_matches (Pieces p ∷ a) [] h k m = absurd h
 covered_matches (Pieces p ∷ a) (y ∷ b) h k m = covered_one (Pieces p) a y b refl h.0 k m (λ l n. covered_matches a b h.1 l n)
 
 -- Back: the key of an expression that has a fresh character for `*` and in the place of each `$*`.
-abbrev chunk_filled : ℕ → Chunk → List ℕ
+abbrev pub chunk_filled : ℕ → Chunk → List ℕ
 chunk_filled z Any = z ∷ []
 chunk_filled z AnyChunks = []
 chunk_filled z (Pieces p) = filled z p
 
-abbrev key_of : ℕ → List Chunk → List (List ℕ)
+abbrev pub key_of : ℕ → List Chunk → List (List ℕ)
 key_of z b = map (chunk_filled z) b
 
 -- a list that is mapped is cut where its image is
-map_cut : {X Y : Type 0} (f : X → Y) (xs : List X) (u v : List Y) → map f xs ≡ u ++ v → (a : List X) × (b : List X) × (xs ≡ a ++ b) × (map f a ≡ u) × (map f b ≡ v)
+pub map_cut : {X Y : Type 0} (f : X → Y) (xs : List X) (u v : List Y) → map f xs ≡ u ++ v → (a : List X) × (b : List X) × (xs ≡ a ++ b) × (map f a ≡ u) × (map f b ≡ v)
 map_cut f xs [] v e = ([], xs, refl, refl, e)
 map_cut f [] (y ∷ u) v e = cc
 map_cut f (x ∷ xs) (y ∷ u) v e =
@@ -152,7 +152,7 @@ chunk_from z (Pieces p) Any at fresh ok canon g m =
 chunk_from z (Pieces p) AnyChunks at fresh ok canon g m = cc
 chunk_from z (Pieces p) (Pieces q) at fresh ok canon g m = (taken_from z p q fresh m.0, λ w. sym (filled_verbatim z q at) ∙ m.1 w)
 
-covers_from : (z : ℕ) (a b : List Chunk) → (z == 64) ≡ false → list_all (chunk_passes (λ c. not (c == z))) a ≡ true → list_all is_chunk a ≡ true → list_all is_canonical_chunk a ≡ true
+pub covers_from : (z : ℕ) (a b : List Chunk) → (z == 64) ≡ false → list_all (chunk_passes (λ c. not (c == z))) a ≡ true → list_all is_chunk a ≡ true → list_all is_canonical_chunk a ≡ true
     → list_any is_any_chunks b ≡ false → Matches a (key_of z b) → Covers a b
 covers_from z [] [] at fresh ok canon g m = refl
 covers_from z [] (y ∷ b) at fresh ok canon g m = cc
@@ -191,7 +191,7 @@ own_chunk z (Pieces (Char c ∷ p)) at ok g =
     (filled_fits z (Char c ∷ p), λ w. left_false (c == 64) (is_wild p) parts.1 w)
 own_chunk z (Pieces (AnyChars ∷ p)) at ok g = (filled_fits z (AnyChars ∷ p), λ w. at)
 
-own_key : (z : ℕ) (b : List Chunk) → (z == 64) ≡ false → list_all is_chunk b ≡ true → list_any is_any_chunks b ≡ false → Matches b (key_of z b)
+pub own_key : (z : ℕ) (b : List Chunk) → (z == 64) ≡ false → list_all is_chunk b ≡ true → list_any is_any_chunks b ≡ false → Matches b (key_of z b)
 own_key z [] at ok g = refl
 own_key z (x ∷ b) at ok g =
     let parts = and_parts (is_chunk x) (list_all is_chunk b) ok in
@@ -210,7 +210,7 @@ key_chunks_of z (x ∷ b) h ok g =
     let gaps = or_parts (is_any_chunks x) (list_any is_any_chunks b) g in
     and_from (is_key_chunk (chunk_filled z x)) (list_all is_key_chunk (key_of z b)) (key_chunk z x h parts.0 gaps.0) (key_chunks_of z b h parts.1 gaps.1)
 
-is_key_of : (z : ℕ) (b : List Chunk) → is_plain z ≡ true → is_expression b ≡ true → list_any is_any_chunks b ≡ false → is_key (key_of z b) ≡ true
+pub is_key_of : (z : ℕ) (b : List Chunk) → is_plain z ≡ true → is_expression b ≡ true → list_any is_any_chunks b ≡ false → is_key (key_of z b) ≡ true
 is_key_of z [] h ok g = cc
 is_key_of z (x ∷ b) h ok g = key_chunks_of z (x ∷ b) h ok g
 
@@ -226,7 +226,7 @@ chunk_known alphabet z Any h g = and_from (alphabet z) true h refl
 chunk_known alphabet z AnyChunks h g = refl
 chunk_known alphabet z (Pieces p) h g = pieces_known alphabet z p h g
 
-key_known : (alphabet : ℕ → Bool) (z : ℕ) (b : List Chunk) → alphabet z ≡ true → list_all (chunk_passes alphabet) b ≡ true → list_all (λ chunk. list_all alphabet chunk) (key_of z b) ≡ true
+pub key_known : (alphabet : ℕ → Bool) (z : ℕ) (b : List Chunk) → alphabet z ≡ true → list_all (chunk_passes alphabet) b ≡ true → list_all (λ chunk. list_all alphabet chunk) (key_of z b) ≡ true
 key_known alphabet z [] h g = refl
 key_known alphabet z (x ∷ b) h g =
     let parts = and_parts (chunk_passes alphabet x) (list_all (chunk_passes alphabet) b) g in

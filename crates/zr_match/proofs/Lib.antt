@@ -13,3 +13,4 @@ pub mod Right
 pub mod Fresh
 pub mod Characters
 pub mod TextKeys
+pub mod TextInclusion

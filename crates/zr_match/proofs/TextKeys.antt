@@ -63,7 +63,7 @@ pieces_back (Char c ∷ p) h =
 pieces_back (AnyChars ∷ p) h = ap (λ q. AnyChars ∷ q) (pieces_back p h)
 
 -- a good character: it is one, and its bytes may stand in a key
-abbrev good : ℕ → Bool
+abbrev pub good : ℕ → Bool
 good c = scalar c && list_all is_plain (encode c)
 
 scalar_pieces : (cs : List ℕ) → scalars cs ≡ true → list_all (piece_passes scalar) (pieces_of cs) ≡ true
@@ -92,12 +92,12 @@ good_pieces (Char c ∷ p) h k =
 good_pieces (AnyChars ∷ p) h k = good_pieces p h k
 
 -- pieces of a text, as those of its characters
-record OfChars (p : List Piece) : Type 0 where
-  pieces : List Piece
-  bytes : p ≡ bytes_of pieces
-  are_good : list_all (piece_passes good) pieces ≡ true
+pub record OfChars (p : List Piece) : Type 0 where
+  pub pieces : List Piece
+  pub bytes : p ≡ bytes_of pieces
+  pub are_good : list_all (piece_passes good) pieces ≡ true
 
-of_chars : (p : List Piece) → list_all is_piece p ≡ true → is_utf8 (flat_map piece_text p) ≡ true → OfChars p
+pub of_chars : (p : List Piece) → list_all is_piece p ≡ true → is_utf8 (flat_map piece_text p) ≡ true → OfChars p
 of_chars p h u =
     let text : List ℕ = flat_map piece_text p in
     let utf8 = IsUtf8-from_is_utf8 (flat_map piece_text p) u in
@@ -108,13 +108,13 @@ of_chars p h u =
       are_good = good_pieces (pieces_of (chars_of_text text)) (scalar_pieces (chars_of_text text) (scalars-chars (flat_map piece_text p) utf8)) (ap (λ z. list_all is_piece z) (sym same) ∙ h);
     }
 
-word_scalars : (v : List ℕ) → list_all good v ≡ true → scalars v ≡ true
+pub word_scalars : (v : List ℕ) → list_all good v ≡ true → scalars v ≡ true
 word_scalars [] h = refl
 word_scalars (c ∷ v) h =
     let parts = and_parts (good c) (list_all good v) h in
     and_from (scalar c) (scalars v) (and_parts (scalar c) (list_all is_plain (encode c)) parts.0).0 (word_scalars v parts.1)
 
-word_plain : (v : List ℕ) → list_all good v ≡ true → list_all is_plain (encodes v) ≡ true
+pub word_plain : (v : List ℕ) → list_all good v ≡ true → list_all is_plain (encodes v) ≡ true
 word_plain [] h = refl
 word_plain (c ∷ v) h =
     let parts = and_parts (good c) (list_all good v) h in
@@ -155,7 +155,7 @@ filled_text front (AnyChars ∷ p) u =
     let second = cut_at [] 42 (flat_map piece_text p) first.1 (omega arith) in
     IsUtf8-append front (97 ∷ filled 97 p) first.0 (with_a (filled 97 p) (filled_text [] p second.1))
 
-abbrev is_text : Chunk → Bool
+abbrev pub is_text : Chunk → Bool
 is_text x = is_utf8 (chunk_text x)
 
 text_passes : Passes is_utf8 is_text
@@ -185,7 +185,7 @@ texts_of (x ∷ y ∷ e) u =
     and_from (is_text x) (list_all is_text (y ∷ e)) (is_utf8-from_IsUtf8 (chunk_text x) bare.1)
     (texts_of (y ∷ e) (IsUtf8-append (47 ∷ []) (chunk_text y ++ slashed e) slash_text cut.1))
 
-text_chunks : (a : List ℕ) → IsKeyText a → list_all (good_chunk is_text) (expression_of a) ≡ true
+pub text_chunks : (a : List ℕ) → IsKeyText a → list_all (good_chunk is_text) (expression_of a) ≡ true
 text_chunks a h = all_both is_chunk is_text (expression_of a) (all_chunks (expression_of a) h.expression) (texts_of (expression_of a) (slashed_text (expression_of a) h.expression (subst IsUtf8 (sym h.spells) (IsUtf8-from_is_utf8 a h.utf8))))
 
 key_found : (a b : List Chunk) → (a ≡ [] → ⊥) → (b ≡ [] → ⊥) → Common (good_key is_utf8) Matches a b

@@ -53,3 +53,9 @@ FreshIsThere = (a : List Chunk) → is_expression a ≡ true → length (spelled
 abbrev pub MeetingHasText : Type 0
 MeetingHasText = (a b : List ℕ) → IsKeyText a → IsKeyText b → Meets (expression_of a) (expression_of b)
     → (key : List (List ℕ)) × (is_key key ≡ true) × (list_all is_utf8 key ≡ true) × Matches (expression_of a) key × Matches (expression_of b) key
+
+-- Of texts, as the code compares them byte by byte: one covers another without `**` exactly where it matches each key of characters that
+-- the other matches.
+abbrev pub CoveringIsInclusionOfTexts : Type 0
+CoveringIsInclusionOfTexts = (a b : List ℕ) → IsKeyText a → IsKeyText b → list_any is_any_chunks (expression_of b) ≡ false
+    → ((texts_cover a b ≡ true) ↔ ((key : List (List ℕ)) → is_key key ≡ true → list_all is_utf8 key ≡ true → Matches (expression_of b) key → Matches (expression_of a) key))

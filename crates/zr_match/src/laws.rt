@@ -1,6 +1,6 @@
 //! Laws of meeting and covering: each is a call that does nothing, whose contract is the law.
 
-ghost use Rattle.zr_match.specs.Laws.{MeetingHasText, TestsAreRight, CoveringIsInclusion, InclusionIsCovering, FreshIsThere};
+ghost use Rattle.zr_match.specs.Laws.{MeetingHasText, TestsAreRight, CoveringIsInclusion, InclusionIsCovering, CoveringIsInclusionOfTexts, FreshIsThere};
 
 /// The tests that definitions above cite say what meeting and covering mean.
 pub fn tests_are_right()
@@ -25,4 +25,9 @@ pub fn fresh_is_there()
 /// Expressions that meet have a key of characters in common.
 pub fn meeting_has_text()
     ensures { MeetingHasText }
+{}
+
+/// A text covers each one without `**` whose keys of characters it matches, and no other.
+pub fn covering_is_inclusion_of_texts()
+    ensures { CoveringIsInclusionOfTexts }
 {}

@@ -10,8 +10,6 @@ ghost use Rattle.zr_match.specs.Table.{compare_chunks, texts_meet, texts_cover};
 mod chunks;
 pub mod laws;
 mod pieces;
-#[cfg(test)]
-mod tests;
 mod walk;
 
 use walk::compare;

@@ -1,51 +1,14 @@
-//! Why a script's line is refused.
+//! Why a router doesn't handle an event.
 
-use std::alloc::{AllocError, AllocFailed};
 use thiserror::Error;
 
-/// A refusal. `NoMemory` is no refusal of the line: memory ran out while it was read or applied.
+/// Why an event wasn't handled.
 #[derive(Clone, Copy, Debug, PartialEq, Eq, Error)]
-pub enum ScriptError {
-    #[error("the first word is no command")]
-    UnknownCommand,
-    #[error("the words do not fit the command")]
-    BadWords,
-    #[error("no such router or client")]
-    UnknownName,
-    #[error("the name or the id is taken")]
-    NameTaken,
-    #[error("a word is no key")]
-    BadKey,
-    #[error("the two are not linked")]
-    NotLinked,
-    #[error("nothing waits there")]
-    NothingThere,
-    #[error("a declaration is still under way")]
-    NotSettled,
-    #[error("a limit would be passed")]
-    Limit,
+pub enum NodeError {
+    /// Memory ran out at an earlier event. Router and messages are as before.
+    #[error("the router is spent")]
+    Spent,
+    /// Memory ran out. The router is spent from now on.
     #[error("out of memory")]
     NoMemory,
-}
-
-impl From<AllocError> for ScriptError {
-    ghost use Rattle.std.specs.Prelude.{◌≡◌};
-    ghost use Rattle.zr_msg.specs.declared.error.ScriptError.TheVariants.{NoMemory};
-
-    ghost from_gives = { λ _ e. e ≡ NoMemory };
-
-    fn from(_e: AllocError) -> ScriptError {
-        ScriptError::NoMemory
-    }
-}
-
-impl<T: Drop> From<AllocFailed<T>> for ScriptError {
-    ghost use Rattle.std.specs.Prelude.{◌≡◌};
-    ghost use Rattle.zr_msg.specs.declared.error.ScriptError.TheVariants.{NoMemory};
-
-    ghost from_gives = { λ _ e. e ≡ NoMemory };
-
-    fn from(_e: AllocFailed<T>) -> ScriptError {
-        ScriptError::NoMemory
-    }
 }

@@ -1,8 +1,11 @@
-//! Plain data: messages, events of a router, and a script's commands, report lines and refusals.
-//! What they do stands above.
+//! Plain data of routers: messages, events and peers. What they do stands above.
 #![tactic(auto)]
 
-pub mod command;
+pub mod content;
+pub mod decl;
 pub mod error;
+pub mod event;
+pub mod extras;
 pub mod msg;
-pub mod report;
+pub mod peer;
+pub mod shared;

@@ -1,87 +1,146 @@
-//! Messages between a client and its router, and the events of which a router hears.
+//! Messages on a link.
 
 ghost use Rattle.std.specs.Prelude.{◌≡◌, IfOk};
 
+use crate::content::Content;
+use crate::decl::{Decl, Decls};
+use crate::extras::Extras;
+use crate::shared::Shared;
 use std::alloc::{AllocError, Global};
-use std::marker::Model;
-use zr_id::link::LinkNo;
+use zr_id::record::LinkRecord;
+use zr_id::zid::Zid;
 use zr_key::key::KeyExpr;
 
-/// What was published with a sample, passed on unread.
-#[derive(Debug, Drop)]
-pub struct Payload {
-    bytes: Vec<u8>,
-}
+/// What an interest is in: the sum of some of the constants below (Zenoh protocol 1.0, "INTEREST").
+#[derive(Clone, Copy, Debug, PartialEq, Eq)]
+pub struct Kinds(pub u8);
 
-impl Model for Payload {
-    ghost use Rattle.std.specs.Prelude.{ℕ, List};
+/// The bit of key expressions.
+pub const KEYS: u8 = 1;
 
-    ghost Value = { List ℕ };
+/// The bit of subscribers.
+pub const SUBSCRIBERS: u8 = 2;
 
-    ghost view = { λ p. p.bytes.items };
-}
+/// The bit of queryables.
+pub const QUERYABLES: u8 = 4;
 
-impl Payload {
-    /// The payload that has these bytes.
-    pub fn new(bytes: Vec<u8>) -> Payload
-        ensures { result ≡ bytes.items }
-    {
-        Payload { bytes }
-    }
+/// The bit of liveliness tokens.
+pub const TOKENS: u8 = 8;
 
-    /// The bytes.
-    pub fn bytes(&self) -> &[u8]
-        ensures { result.now ≡ self.now }
-    {
-        self.bytes.as_slice()
-    }
-
-    /// The same payload again.
-    pub fn copy(&self, alloc: Global) -> Result<Payload, AllocError>
-        ensures { IfOk result (λ p. p ≡ self.now) }
-    {
-        Ok(Payload {
-            bytes: Vec::from_slice(alloc, self.bytes.as_slice())?,
-        })
-    }
-}
-
-/// What a sample says of its key (Zenoh protocol 1.0, "Zenoh messages": PUT and DEL).
-#[derive(Debug, Drop)]
-pub enum Body {
-    /// The key has a value.
-    Put { payload: Payload },
-    /// The key's value is gone.
-    Del,
-}
-
-impl Body {
-    /// The same body again.
-    pub fn copy(&self, alloc: Global) -> Result<Body, AllocError>
-        ensures { IfOk result (λ b. b ≡ self.now) }
-    {
-        Ok(match self {
-            Body::Put { payload } => Body::Put {
-                payload: payload.copy(alloc)?,
-            },
-            Body::Del => Body::Del,
-        })
-    }
+/// Which queryables are to answer a request (Zenoh protocol 1.0, "REQUEST").
+#[derive(Clone, Copy, Debug, PartialEq, Eq)]
+pub enum Target {
+    /// The best matching one, for which all are taken.
+    Best,
+    /// All whose expression meets the key.
+    All,
+    /// All complete ones.
+    Complete,
 }
 
 /// A message on a link (Zenoh protocol 1.0, "Network messages").
 #[derive(Debug, Drop)]
 pub enum Msg {
     /// A client subscribes to an expression, under an id of its own.
-    Sub { id: u32, key: KeyExpr },
+    Sub {
+        id: u32,
+        key: KeyExpr,
+    },
     /// A client no longer subscribes to what it declared under the id.
-    Unsub { id: u32 },
-    /// A sample.
-    Push { key: KeyExpr, body: Body },
+    Unsub {
+        id: u32,
+    },
+    /// A client answers requests on an expression, under an id of its own.
+    Able {
+        id: u32,
+        key: KeyExpr,
+        complete: bool,
+    },
+    /// A client no longer answers what it declared under the id.
+    Unable {
+        id: u32,
+    },
+    /// A client wants to be told what others declare: what is declared now, later, or both.
+    Interest {
+        id: u32,
+        current: bool,
+        future: bool,
+        kinds: Kinds,
+        key: Option<KeyExpr>,
+        aggregate: bool,
+    },
+    /// A client no longer wants to be told what the interest was in.
+    EndInterest {
+        id: u32,
+    },
+    /// A client is told of a subscriber, in answer to an interest where it has one.
+    ToldSub {
+        id: u32,
+        key: KeyExpr,
+        interest: Option<u32>,
+    },
+    /// A client is told of a queryable, in answer to an interest where it has one.
+    ToldAble {
+        id: u32,
+        key: KeyExpr,
+        complete: bool,
+        interest: Option<u32>,
+    },
+    /// A client is told that a subscriber is gone.
+    ToldUnsub {
+        id: u32,
+    },
+    /// A client is told that a queryable is gone.
+    ToldUnable {
+        id: u32,
+    },
+    /// A client was told all that is declared now.
+    ToldEnd {
+        interest: u32,
+    },
+    /// A sample. Between routers it names the root of the tree along which it goes.
+    Push {
+        tree: Option<Zid>,
+        content: Content,
+    },
+    /// A request. Between routers it names the root of the tree along which it goes.
+    Request {
+        tree: Option<Zid>,
+        id: u32,
+        target: Target,
+        content: Content,
+    },
+    /// A reply to a request.
+    Response {
+        id: u32,
+        content: Content,
+    },
+    /// No more replies come to a request.
+    Final {
+        id: u32,
+        extras: Shared<Extras>,
+    },
+    /// The links of a router, from one router to another.
+    State {
+        links: Shared<LinkRecord>,
+    },
+    /// One change of what a router's clients declare, from one router to another.
+    Step {
+        source: Zid,
+        number: u64,
+        added: bool,
+        decl: Shared<Decl>,
+    },
+    /// All that a router's clients declare, from one router to another.
+    Snap {
+        source: Zid,
+        number: u64,
+        decls: Decls,
+    },
 }
 
 impl Msg {
-    /// The same message again.
+    /// The same message again. What it shares is not copied.
     pub fn copy(&self, alloc: Global) -> Result<Msg, AllocError>
         ensures { IfOk result (λ m. m ≡ self.now) }
     {
@@ -91,19 +150,104 @@ impl Msg {
                 key: key.copy(alloc)?,
             },
             Msg::Unsub { id } => Msg::Unsub { id: *id },
-            Msg::Push { key, body } => Msg::Push {
+            Msg::Able { id, key, complete } => Msg::Able {
+                id: *id,
                 key: key.copy(alloc)?,
-                body: body.copy(alloc)?,
+                complete: *complete,
+            },
+            Msg::Unable { id } => Msg::Unable { id: *id },
+            Msg::Interest {
+                id,
+                current,
+                future,
+                kinds,
+                key,
+                aggregate,
+            } => Msg::Interest {
+                id: *id,
+                current: *current,
+                future: *future,
+                kinds: *kinds,
+                key: copied(alloc, key)?,
+                aggregate: *aggregate,
+            },
+            Msg::EndInterest { id } => Msg::EndInterest { id: *id },
+            Msg::ToldSub { id, key, interest } => Msg::ToldSub {
+                id: *id,
+                key: key.copy(alloc)?,
+                interest: *interest,
+            },
+            Msg::ToldAble {
+                id,
+                key,
+                complete,
+                interest,
+            } => Msg::ToldAble {
+                id: *id,
+                key: key.copy(alloc)?,
+                complete: *complete,
+                interest: *interest,
+            },
+            Msg::ToldUnsub { id } => Msg::ToldUnsub { id: *id },
+            Msg::ToldUnable { id } => Msg::ToldUnable { id: *id },
+            Msg::ToldEnd { interest } => Msg::ToldEnd {
+                interest: *interest,
+            },
+            Msg::Push { tree, content } => Msg::Push {
+                tree: *tree,
+                content: content.copy()?,
+            },
+            Msg::Request {
+                tree,
+                id,
+                target,
+                content,
+            } => Msg::Request {
+                tree: *tree,
+                id: *id,
+                target: *target,
+                content: content.copy()?,
+            },
+            Msg::Response { id, content } => Msg::Response {
+                id: *id,
+                content: content.copy()?,
+            },
+            Msg::Final { id, extras } => Msg::Final {
+                id: *id,
+                extras: extras.copy()?,
+            },
+            Msg::State { links } => Msg::State {
+                links: links.copy()?,
+            },
+            Msg::Step {
+                source,
+                number,
+                added,
+                decl,
+            } => Msg::Step {
+                source: *source,
+                number: *number,
+                added: *added,
+                decl: decl.copy()?,
+            },
+            Msg::Snap {
+                source,
+                number,
+                decls,
+            } => Msg::Snap {
+                source: *source,
+                number: *number,
+                decls: decls.copy()?,
             },
         })
     }
 }
 
-/// What one router hears of in one atomic step.
-#[derive(Debug, Drop)]
-pub enum Event {
-    /// A client's link has come up.
-    Up { link: LinkNo },
-    /// A message has come over a link.
-    From { link: LinkNo, msg: Msg },
+fn copied(alloc: Global, key: &Option<KeyExpr>) -> Result<Option<KeyExpr>, AllocError>
+    ensures { IfOk result (λ k. k ≡ key.now) }
+{
+    Ok(match key {
+        Some(key) => Some(key.copy(alloc)?),
+        None => None,
+    })
 }

@@ -7,5 +7,3 @@ pub mod laws;
 pub mod pending;
 mod row;
 mod rows;
-#[cfg(test)]
-mod tests;

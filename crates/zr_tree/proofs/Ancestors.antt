@@ -1,7 +1,7 @@
 -- One step of a way up the tree by what is kept of each router, and where it ends.
 use Rattle.std.proofs.Common.{◌≡◌, ℕ, ◌+◌, ◌<◌, ◌≤◌, zero, suc, Bool, true, false, cond, ◌&&◌, ◌==◌, List, Option, Some, None, IsSome, IfSome, ◌⊎◌, inl, inr, length, refl, sym, ap, ◌∙◌, arith}
 use Rattle.std.proofs.lemmas.Bool.{false≢true, cases_eq, eq-eqb, ne_eqb, and_parts, and_from, false_from_ne_true}
-use Rattle.zr_id.specs.declared.record.LinkRecord.{LinkRecord}
+use Rattle.zr_id.specs.Record.{RecordState}
 use Rattle.zr_graph.specs.Record.{ids}
 use Rattle.zr_tree.specs.declared.tree.Hop.{Hop}
 use Rattle.zr_tree.specs.declared.tree.TheConstants.{UNREACHED}
@@ -26,7 +26,7 @@ depth_reached depth h = let t : (depth == UNREACHED) ≡ false = ne_eqb depth UN
 pub depth_unreached : (depth : ℕ) → depth ≡ UNREACHED → depth_of depth ≡ None
 depth_unreached depth h = let t : (depth == UNREACHED) ≡ true = eq-eqb depth UNREACHED h in rw t refl
 
-module _ (rs : List LinkRecord) (root : ℕ) where
+module _ (rs : List RecordState) (root : ℕ) where
   -- what is kept of a router that isn't the root: its parent is one nearer, and its jump at least that
   pub record IsStep (x k : ℕ) (hop : Hop) : Type 0 where
     pub parent_to : parent (graph_of rs) (name rs root) (name rs x) ≡ Some (name rs hop.parent)
@@ -144,7 +144,7 @@ module _ (rs : List LinkRecord) (root : ℕ) where
 
 -- ---- the child toward a destination
 
-module _ (rs : List LinkRecord) (r at dest : List ℕ) where
+module _ (rs : List RecordState) (r at dest : List ℕ) where
   -- what it says that y is the child of `at` above the destination
   record Passes (y : List ℕ) : Type 0 where
     parent_to : parent (graph_of rs) r y ≡ Some at

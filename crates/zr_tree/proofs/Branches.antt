@@ -2,7 +2,7 @@
 use Rattle.std.proofs.Common.{◌≡◌, ℕ, ◌+◌, ◌≤◌, zero, suc, Bool, true, false, ◌||◌, List, Option, Some, None, ◌⊎◌, inl, inr, length, unwrap_or, refl, sym, ap, ◌∙◌, subst, arith}
 use Rattle.std.specs.Option.{option_map_or}
 use Rattle.std.proofs.lemmas.Bool.{false≢true, eq-eqb, eqb-true, or_cases, or_right, or_left}
-use Rattle.zr_graph.specs.Record.{same}
+use Rattle.zr_id.specs.Zid.{is_named}
 use Rattle.zr_graph.proofs.Names.{same_is, same_refl}
 use Rattle.zr_tree.specs.Walk.{Graph, near, edge_length}
 use Rattle.zr_tree.specs.Tree.{dist, is_sum, parent, climbs, below, is_child}
@@ -52,7 +52,7 @@ module _ (g : Graph) (root : List ℕ) where
   pub child_is : (x y : List ℕ) → is_child g root x y ≡ true → parent g root y ≡ Some x
   child_is x y h = by_parent (parent g root y) h
     where
-      by_parent : (o : Option (List ℕ)) → option_map_or (λ p. same p x) o false ≡ true → o ≡ Some x
+      by_parent : (o : Option (List ℕ)) → option_map_or (λ p. is_named p x) o false ≡ true → o ≡ Some x
       by_parent None h = absurd (false≢true h)
       by_parent (Some p) h = ap Some (same_is p x h)
 
@@ -64,34 +64,34 @@ module _ (g : Graph) (root : List ℕ) where
   or_false false = refl
 
   -- below, by its own words
-  pub below_step : (y x : List ℕ) → below g root y x ≡ (same x y || option_map_or (λ p. below g root y p) (parent g root x) false)
+  pub below_step : (y x : List ℕ) → below g root y x ≡ (is_named x y || option_map_or (λ p. below g root y p) (parent g root x) false)
   below_step y x = by_dist (dist g root x) refl
     where
       by_parent : (m : ℕ) → dist g root x ≡ Some (suc m) → (o : Option (List ℕ)) → parent g root x ≡ o →
-          (same x y || option_map_or (λ p. climbs g m root y p) o false) ≡ (same x y || option_map_or (λ p. below g root y p) o false)
+          (is_named x y || option_map_or (λ p. climbs g m root y p) o false) ≡ (is_named x y || option_map_or (λ p. below g root y p) o false)
       by_parent m e None f = refl
       by_parent m e (Some p) f =
           let q = parent_is x p f in
           let s : Some (suc q.0) ≡ Some (suc m) = sym (q.1.to_child) ∙ e in
           let i : q.0 ≡ m = cc in
           let j : dist g root p ≡ Some m = q.1.from_parent ∙ ap Some i in
-          ap (λ (d : Option ℕ). same x y || climbs g (unwrap_or d 0) root y p) (sym j)
+          ap (λ (d : Option ℕ). is_named x y || climbs g (unwrap_or d 0) root y p) (sym j)
 
       by_dist : (o : Option ℕ) → dist g root x ≡ o →
-          climbs g (unwrap_or o 0) root y x ≡ (same x y || option_map_or (λ p. below g root y p) (parent g root x) false)
-      by_dist None e = rw (unreached_no_parent x e) (sym (or_false (same x y)))
-      by_dist (Some zero) e = rw (zero_no_parent x e) (sym (or_false (same x y)))
+          climbs g (unwrap_or o 0) root y x ≡ (is_named x y || option_map_or (λ p. below g root y p) (parent g root x) false)
+      by_dist None e = rw (unreached_no_parent x e) (sym (or_false (is_named x y)))
+      by_dist (Some zero) e = rw (zero_no_parent x e) (sym (or_false (is_named x y)))
       by_dist (Some (suc m)) e = by_parent m e (parent g root x) refl
 
   pub below_itself : (x : List ℕ) → below g root x x ≡ true
-  below_itself x = below_step x x ∙ or_left (same x x) _ (same_refl x)
+  below_itself x = below_step x x ∙ or_left (is_named x x) _ (same_refl x)
 
   pub below_parent : (y x p : List ℕ) → parent g root x ≡ Some p → below g root y p ≡ true → below g root y x ≡ true
-  below_parent y x p e h = below_step y x ∙ or_right (same x y) _ (rw e h)
+  below_parent y x p e h = below_step y x ∙ or_right (is_named x y) _ (rw e h)
 
   -- x is y, or a parent of x is below y
   pub below_cases : (y x : List ℕ) → below g root y x ≡ true → (x ≡ y) ⊎ ((p : List ℕ) × (parent g root x ≡ Some p) × (below g root y p ≡ true))
-  below_cases y x h = elim (or_cases (same x y) (option_map_or (λ p. below g root y p) (parent g root x) false) (sym (below_step y x) ∙ h)) [
+  below_cases y x h = elim (or_cases (is_named x y) (option_map_or (λ p. below g root y p) (parent g root x) false) (sym (below_step y x) ∙ h)) [
     | inl s ↦ inl (same_is x y s)
     | inr s ↦ inr (by_parent (parent g root x) refl s)
   ]

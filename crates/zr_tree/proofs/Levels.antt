@@ -8,8 +8,9 @@ use Rattle.std.proofs.lemmas.Bool.{false≢true, cases_order, cases_eq, and_part
 use Rattle.std.proofs.lemmas.List.{length-map, length-replicate, get_or-replicate}
 use Rattle.std.proofs.lemmas.List.Folds.{list_any-append}
 use Rattle.std.proofs.lemmas.Map.Keys.{Less-from_sorted}
-use Rattle.zr_id.specs.declared.record.LinkRecord.{LinkRecord}
-use Rattle.zr_graph.specs.Record.{ids, same, has_edge, lists, IsAscending}
+use Rattle.zr_id.specs.Record.{RecordState}
+use Rattle.zr_id.specs.Zid.{is_named}
+use Rattle.zr_graph.specs.Record.{ids, has_edge, lists, IsAscending}
 use Rattle.zr_graph.proofs.Names.{same_is, same_refl, comes}
 use Rattle.zr_tree.specs.Walk.{graph_of, near}
 use Rattle.zr_tree.specs.Tree.{leads}
@@ -19,7 +20,7 @@ use Rattle.zr_tree.proofs.Finds.{In, any_in, in_any, in_filter, filter_in, place
 use Rattle.zr_tree.proofs.Distances.{within, is_at, step_on, least_some}
 
 -- an edge leads both ways
-pub joined_back : (rs : List LinkRecord) (x y : List ℕ) → has_edge rs x y ≡ true → has_edge rs y x ≡ true
+pub joined_back : (rs : List RecordState) (x y : List ℕ) → has_edge rs x y ≡ true → has_edge rs y x ≡ true
 joined_back rs x y h = flip (lists rs x y) (lists rs y x) h
   where
     flip : (a b : Bool) → (a && b) ≡ true → (b && a) ≡ true
@@ -35,16 +36,16 @@ same_truth false false f g = refl
 
 -- ---- indexes and names
 
-pub name_in : (rs : List LinkRecord) (i : ℕ) → i < length rs → In (name rs i) (ids rs)
-name_in rs i lt = let n : i < length (ids rs) = omega (arith, length-map rs (λ (r : LinkRecord). r.id)) in place_in (ids rs) i [] n
+pub name_in : (rs : List RecordState) (i : ℕ) → i < length rs → In (name rs i) (ids rs)
+name_in rs i lt = let n : i < length (ids rs) = omega (arith, length-map rs (λ (r : RecordState). r.id)) in place_in (ids rs) i [] n
 
-pub in_name : (rs : List LinkRecord) (x : List ℕ) → In x (ids rs) → (i : ℕ) × (i < length rs) × (name rs i ≡ x)
-in_name rs x h = let f = in_place (ids rs) x [] h in (f.0, omega (arith, f.1, length-map rs (λ (r : LinkRecord). r.id)), f.2)
+pub in_name : (rs : List RecordState) (x : List ℕ) → In x (ids rs) → (i : ℕ) × (i < length rs) × (name rs i ≡ x)
+in_name rs x h = let f = in_place (ids rs) x [] h in (f.0, omega (arith, f.1, length-map rs (λ (r : RecordState). r.id)), f.2)
 
 -- no two indexes have one name
-pub one_index : (rs : List LinkRecord) (i j : ℕ) → IsAscending (ids rs) → i < length rs → j < length rs → name rs i ≡ name rs j → i ≡ j
+pub one_index : (rs : List RecordState) (i j : ℕ) → IsAscending (ids rs) → i < length rs → j < length rs → name rs i ≡ name rs j → i ≡ j
 one_index rs i j up a b e =
-    let m : length (ids rs) ≡ length rs = length-map rs (λ (r : LinkRecord). r.id) in
+    let m : length (ids rs) ≡ length rs = length-map rs (λ (r : RecordState). r.id) in
     elim (cases_order i j) [
       | inl s ↦ s
       | inr (inl l) ↦ absurd (apart i j e (Less-from_sorted (slice_cmp nat_cmp) (ids rs) i j [] up l (omega arith)))
@@ -54,7 +55,7 @@ one_index rs i j up a b e =
     apart : (k l : ℕ) → name rs k ≡ name rs l → slice_cmp nat_cmp (name rs k) (name rs l) ≡ Less → ⊥
     apart k l e less =
         let c = comes (name rs k) (name rs l) less in
-        false≢true (sym (c.apart) ∙ ap (λ z. same (name rs k) z) (sym e) ∙ same_refl (name rs k))
+        false≢true (sym (c.apart) ∙ ap (λ z. is_named (name rs k) z) (sym e) ∙ same_refl (name rs k))
 
 pub index_in : (xs : List ℕ) (x : ℕ) → has_index xs x ≡ true → In x xs
 index_in xs x h =
@@ -163,22 +164,22 @@ module _ (e : EdgeTable) (right : AreEdges e) where
     indexes = λ k d l. let z : k ≡ 0 = omega arith in rw z lt;
   }
     where
-      same_name : (x : ℕ) → x < length e.records → (x ≡ root → ⊥) → same (name e.records root) (name e.records x) ≡ false
+      same_name : (x : ℕ) → x < length e.records → (x ≡ root → ⊥) → is_named (name e.records root) (name e.records x) ≡ false
       same_name x l ne = false_from_ne_true _ (λ t. ne (sym (one_index e.records root x right.ascending lt l (same_is _ _ t))))
 
       known_at : (x : ℕ) → x < length e.records → (x ≡ root) ⊎ (x ≡ root → ⊥) →
-          kept_at (set (replicate (length e.records) None) root (Some 0)) x ≡ cond (same (name e.records root) (name e.records x)) (Some 0) None
+          kept_at (set (replicate (length e.records) None) root (Some 0)) x ≡ cond (is_named (name e.records root) (name e.records x)) (Some 0) None
       known_at x l (inl i) =
-          let t : same (name e.records root) (name e.records x) ≡ true = ap (λ z. same (name e.records root) (name e.records z)) i ∙ same_refl (name e.records root) in
+          let t : is_named (name e.records root) (name e.records x) ≡ true = ap (λ z. is_named (name e.records root) (name e.records z)) i ∙ same_refl (name e.records root) in
           let n : root < length (replicate (length e.records) None) = omega (arith, length-replicate {A = Option ℕ} (length e.records) None) in
           rw (t, i) (get_or-set_same (replicate (length e.records) None) root (Some 0) None n)
       known_at x l (inr ne) =
           rw (same_name x l ne) (get_or-set_other (replicate (length e.records) None) root x (Some 0) None ne ∙ get_or-replicate (length e.records) x None None l)
 
       front_at : (x : ℕ) → x < length e.records → (x ≡ root) ⊎ (x ≡ root → ⊥) →
-          ((root == x) || false) ≡ is_at (cond (same (name e.records root) (name e.records x)) (Some 0) None) 0
+          ((root == x) || false) ≡ is_at (cond (is_named (name e.records root) (name e.records x)) (Some 0) None) 0
       front_at x l (inl i) =
-          let t : same (name e.records root) (name e.records x) ≡ true = ap (λ z. same (name e.records root) (name e.records z)) i ∙ same_refl (name e.records root) in
+          let t : is_named (name e.records root) (name e.records x) ≡ true = ap (λ z. is_named (name e.records root) (name e.records z)) i ∙ same_refl (name e.records root) in
           let u : (root == x) ≡ true = eq-eqb root x (sym i) in
           rw (t, u) refl
       front_at x l (inr ne) =
@@ -202,6 +203,6 @@ module _ (e : EdgeTable) (right : AreEdges e) where
   level_last root depth distances frontier last long h = record {
     long = long;
     exact = λ x lt.
-        let n : depth ≡ suc (length (ids e.records)) = omega (arith, last, length-map e.records (λ (r : LinkRecord). r.id)) in
+        let n : depth ≡ suc (length (ids e.records)) = omega (arith, last, length-map e.records (λ (r : RecordState). r.id)) in
         h.known x lt ∙ ap (λ (k : ℕ). within (graph_of e.records) (name e.records root) k (name e.records x)) n;
   }

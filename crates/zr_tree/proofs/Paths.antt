@@ -1,13 +1,15 @@
 -- Walks and distances: a walk can be turned round and lengthened, a distance is below the number of routers since a
 -- router at each smaller distance stands before it, and so distances are the lengths of shortest walks.
 use Rattle.std.proofs.Common.{◌≡◌, ℕ, ◌+◌, ◌<◌, ◌≤◌, zero, suc, Bool, true, false, List, [], ◌∷◌, ◌++◌, Some, inl, inr, length, refl, sym, ap, ◌∙◌, subst, arith}
-use Rattle.std.specs.Cmp.Lexicographic.{nat_list_eq_equiv}
+use Rattle.std.specs.Cmp.{eq_by_cmp_equiv}
+use Rattle.std.specs.Cmp.Lexicographic.{nat_list_cmp_total}
 use Rattle.std.specs.List.{AllByRecursion, IsDistinct}
 use Rattle.std.proofs.lemmas.Bool.{false≢true, cases_lt, false_from_ne_true, and_parts}
 use Rattle.std.proofs.lemmas.Map.Keys.{IsDistinct-cons}
 use Rattle.std.proofs.lemmas.Map.Made.{length-le_from_is_member}
-use Rattle.zr_id.specs.declared.record.LinkRecord.{LinkRecord}
-use Rattle.zr_graph.specs.Record.{ids, same, has, has_edge, lists, IsAscending}
+use Rattle.zr_id.specs.Record.{RecordState}
+use Rattle.zr_id.specs.Zid.{is_named}
+use Rattle.zr_graph.specs.Record.{ids, has, has_edge, lists, IsAscending}
 use Rattle.zr_graph.proofs.Names.{same_is, same_refl}
 use Rattle.zr_tree.specs.Laws.{IsGraph, IsExact}
 use Rattle.zr_tree.specs.Tree.{leads, dist}
@@ -19,10 +21,10 @@ use Rattle.zr_tree.proofs.Unknown.{record_none}
 
 pub has_in : (names : List (List ℕ)) (x : List ℕ) → has names x ≡ true → In x names
 has_in names x h =
-    let f = any_in (λ y. same y x) names h in
+    let f = any_in (λ y. is_named y x) names h in
     subst (λ (z : List ℕ). In z names) (same_is f.0 x f.2) f.1
 
-pub graph_is : (rs : List LinkRecord) → IsAscending (ids rs) → IsGraph (graph_of rs)
+pub graph_is : (rs : List RecordState) → IsAscending (ids rs) → IsGraph (graph_of rs)
 graph_is rs up = record {
   ascending = up;
   known = λ x y h. by_has x y h (has (ids rs) x) refl;
@@ -35,7 +37,7 @@ graph_is rs up = record {
         let n : lists rs x y ≡ false = rw (record_none rs x e) refl in
         absurd (false≢true (sym n ∙ (and_parts (lists rs x y) (lists rs y x) h).0))
 
-none_distinct : IsDistinct same []
+none_distinct : IsDistinct is_named []
 unfolding IsDistinct
 none_distinct = tt
 
@@ -78,7 +80,7 @@ module _ (g : Graph) (is : IsGraph g) where
       in_any (λ z. leads g (suc n) root z) (near g x) f.0 f.1 (front_step n root y f.0 j f.2)
 
   pub walk_leads : (root x : List ℕ) (path : List (List ℕ)) → IsWalk g root path x → leads g (walk_length g root path) root x ≡ true
-  walk_leads root x [] h = let P : List ℕ → Type 0 = λ z. same root z ≡ true in subst P h (same_refl root)
+  walk_leads root x [] h = let P : List ℕ → Type 0 = λ z. is_named root z ≡ true in subst P h (same_refl root)
   walk_leads root x (y ∷ path) h =
       let ih = walk_leads y x path h.1 in
       let e : suc (walk_length g y path) ≡ 1 + walk_length g y path = omega arith in
@@ -91,13 +93,13 @@ module _ (g : Graph) (is : IsGraph g) where
     long : length routers ≡ m
     inside : AllByRecursion (λ z. In z g.names) routers
     nearer : AllByRecursion (λ z. (k : ℕ) × (k < m) × (leads g k root z ≡ true)) routers
-    distinct : IsDistinct same routers
+    distinct : IsDistinct is_named routers
 
   weaker : (root : List ℕ) (m : ℕ) (zs : List (List ℕ)) → AllByRecursion (λ z. (k : ℕ) × (k < m) × (leads g k root z ≡ true)) zs → AllByRecursion (λ z. (k : ℕ) × (k < suc m) × (leads g k root z ≡ true)) zs
   weaker root m [] h = h
   weaker root m (z ∷ zs) h = ((h.0.0, omega (arith, h.0.1), h.0.2), weaker root m zs h.1)
 
-  others : (root y : List ℕ) (m : ℕ) (zs : List (List ℕ)) → ((k : ℕ) → k < m → leads g k root y ≡ false) → AllByRecursion (λ z. (k : ℕ) × (k < m) × (leads g k root z ≡ true)) zs → AllByRecursion (λ z. same y z ≡ false) zs
+  others : (root y : List ℕ) (m : ℕ) (zs : List (List ℕ)) → ((k : ℕ) → k < m → leads g k root y ≡ false) → AllByRecursion (λ z. (k : ℕ) × (k < m) × (leads g k root z ≡ true)) zs → AllByRecursion (λ z. is_named y z ≡ false) zs
   others root y m [] first h = h
   others root y m (z ∷ zs) first h = (
     false_from_ne_true _ (λ t.
@@ -118,7 +120,7 @@ module _ (g : Graph) (is : IsGraph g) where
         long = let e = c.long in omega arith;
         inside = ((in_filter (λ z. g.joined x z) g.names s.0 s.1).0, c.inside);
         nearer = ((m, omega arith, l.passes), weaker root m c.routers c.nearer);
-        distinct = IsDistinct-cons same s.0 c.routers (others root s.0 m c.routers l.first c.nearer) c.distinct;
+        distinct = IsDistinct-cons is_named s.0 c.routers (others root s.0 m c.routers l.first c.nearer) c.distinct;
       }
 
   all_in : (P : List ℕ → Type 0) (xs : List (List ℕ)) (x : List ℕ) → AllByRecursion P xs → In x xs → P x
@@ -128,10 +130,10 @@ module _ (g : Graph) (is : IsGraph g) where
 
   chain_short : (root : List ℕ) (m : ℕ) → Chain root m → m ≤ length g.names
   chain_short root m c =
-      let l = length-le_from_is_member {eq = same} nat_list_eq_equiv c.routers g.names c.distinct (λ q t.
-      let f = any_in (same q) c.routers t in
+      let l = length-le_from_is_member {eq = is_named} (eq_by_cmp_equiv nat_list_cmp_total) c.routers g.names c.distinct (λ q t.
+      let f = any_in (is_named q) c.routers t in
       let i = all_in (λ z. In z g.names) c.routers f.0 c.inside f.1 in
-      in_any (same q) g.names f.0 i f.2) in
+      in_any (is_named q) g.names f.0 i f.2) in
       omega (arith, l, c.long)
 
   -- a walk of any length gives a distance

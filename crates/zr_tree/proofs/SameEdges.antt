@@ -8,7 +8,9 @@ use Rattle.std.proofs.lemmas.Bool.{false≢true, cases_Bool, and_from, and_parts
 use Rattle.std.proofs.lemmas.Cmp.{tied_itself}
 use Rattle.std.proofs.lemmas.List.Kept.{IsStrictlySortedBy-filter}
 use Rattle.std.proofs.lemmas.Map.Keys.{sorted_head, sorted_tail}
-use Rattle.zr_graph.specs.Record.{same, is_before, IsAscending}
+use Rattle.zr_id.specs.Zid.{is_named}
+use Rattle.zr_graph.specs.Record.{IsAscending}
+use Rattle.zr_id.specs.Record.{is_before}
 use Rattle.zr_graph.proofs.Names.{same_is, same_refl, comes}
 use Rattle.zr_tree.specs.Laws.{IsGraph, IsNext, HaveSameTrees, steps_toward}
 use Rattle.zr_tree.specs.Tree.{leads, dist, is_sum, parent, is_child, children, climbs, below, toward}
@@ -100,11 +102,11 @@ module _ (g : Graph) (is : IsGraph g) (root : List ℕ) where
   ]
   next_one (suc n) at dest d b ne = elim (below_at g root (suc n) at dest d b) [
     | inl e ↦ absurd (ne e)
-    | inr f ↦ elim (cases_Bool (same f.0 at)) [
+    | inr f ↦ elim (cases_Bool (is_named f.0 at)) [
       | inl t ↦ (let e = same_is f.0 at t in
           (dest, next_is (suc n) at dest dest d (child_from g root at dest (f.4 ∙ ap Some e)) (below_itself g root dest)))
       | inr t ↦ (let e : f.1 ≡ n = omega (arith, f.2) in
-          let r = next_one n at f.0 (f.3 ∙ ap Some e) f.5 (λ i. false≢true (sym t ∙ ap (λ z. same z at) i ∙ same_refl at)) in
+          let r = next_one n at f.0 (f.3 ∙ ap Some e) f.5 (λ i. false≢true (sym t ∙ ap (λ z. is_named z at) i ∙ same_refl at)) in
           (r.0, next_is (suc n) at dest r.0 d r.1.is_child_of (below_parent g root r.0 dest f.0 f.4 r.1.is_above)))
     ]
   ]
@@ -184,7 +186,7 @@ module _ (g h : Graph) (a : IsGraph g) (b : IsGraph h) (edges : (x y : List ℕ)
       ∙ same_find _ _ (near h x) (λ y i. ap (λ o. is_sum o 1 (dist g root x)) (same_dist root y) ∙ ap (λ o. is_sum (dist h root y) 1 o) (same_dist root x))
 
   same_child : (root x y : List ℕ) → is_child g root x y ≡ is_child h root x y
-  same_child root x y = ap (λ o. option_map_or (λ p. same p x) o false) (same_parent root y)
+  same_child root x y = ap (λ o. option_map_or (λ p. is_named p x) o false) (same_parent root y)
 
   child_goes : (u v : Graph) → IsGraph u → IsGraph v → ((x y : List ℕ) → u.joined x y ≡ v.joined x y) → (root x z : List ℕ) → is_child u root x z ≡ is_child v root x z → In z (children u root x) → In z (children v root x)
   child_goes u v i j e root x z s k =
@@ -198,7 +200,7 @@ module _ (g h : Graph) (a : IsGraph g) (b : IsGraph h) (edges : (x y : List ℕ)
 
   same_climbs : (n : ℕ) (root y x : List ℕ) → climbs g n root y x ≡ climbs h n root y x
   same_climbs zero root y x = refl
-  same_climbs (suc n) root y x = ap (λ t. same x y || t) (by_parent (parent g root x) (parent h root x) (same_parent root x) (λ q. same_climbs n root y q))
+  same_climbs (suc n) root y x = ap (λ t. is_named x y || t) (by_parent (parent g root x) (parent h root x) (same_parent root x) (λ q. same_climbs n root y q))
     where
       at : (z : Option (List ℕ)) → ((q : List ℕ) → climbs g n root y q ≡ climbs h n root y q) → option_map_or (λ q. climbs g n root y q) z false ≡ option_map_or (λ q. climbs h n root y q) z false
       at None ih = refl

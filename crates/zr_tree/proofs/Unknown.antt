@@ -2,8 +2,9 @@
 use Rattle.std.proofs.Common.{◌≡◌, ℕ, zero, suc, Bool, true, false, List, [], ◌∷◌, Option, Some, None, is_some, ◌⊎◌, inl, inr, length, refl, sym, ap, ◌∙◌, subst}
 use Rattle.std.specs.List.{filter}
 use Rattle.std.proofs.lemmas.Bool.{false≢true, false_from_ne_true, and_left, and_right}
-use Rattle.zr_id.specs.declared.record.LinkRecord.{LinkRecord}
-use Rattle.zr_graph.specs.Record.{ids, same, has, lists, has_edge, record_of}
+use Rattle.zr_id.specs.Record.{RecordState}
+use Rattle.zr_id.specs.Zid.{is_named}
+use Rattle.zr_graph.specs.Record.{ids, has, lists, has_edge, record_of}
 use Rattle.zr_graph.proofs.Names.{same_is, same_refl}
 use Rattle.zr_tree.specs.Walk.{graph_of, near}
 use Rattle.zr_tree.specs.Tree.{dist, parent, is_child, children, below, toward, reached}
@@ -16,12 +17,12 @@ module _ {X : Type 0} where
   none_filter p [] h = refl
   none_filter p (x ∷ xs) h = let e = h x (inl refl) in rw e (none_filter p xs (λ y i. h y (inr i)))
 
-module _ (rs : List LinkRecord) where
+module _ (rs : List RecordState) where
   not_in : (x : List ℕ) → has (ids rs) x ≡ false → In x (ids rs) → ⊥
-  not_in x h i = false≢true (sym (any_none (λ y. same y x) (ids rs) x h i) ∙ same_refl x)
+  not_in x h i = false≢true (sym (any_none (λ y. is_named y x) (ids rs) x h i) ∙ same_refl x)
 
   pub record_none : (x : List ℕ) → has (ids rs) x ≡ false → record_of rs x ≡ None
-  record_none x h = none_find (λ r. same r.id x) rs (λ r i. any_none (λ y. same y x) (ids rs) r.id h (map_in (λ (q : LinkRecord). q.id) rs r i))
+  record_none x h = none_find (λ r. is_named r.id x) rs (λ r i. any_none (λ y. is_named y x) (ids rs) r.id h (map_in (λ (q : RecordState). q.id) rs r i))
 
   near_none : (x y : List ℕ) → has (ids rs) x ≡ false → In y (near (graph_of rs) x) → ⊥
   near_none x y h i =
@@ -77,20 +78,20 @@ module _ (rs : List LinkRecord) where
       apart y i (inl e) = let P : List ℕ → Type 0 = λ z. In z (ids rs) in not_in dest h (subst P (sym e) i)
       apart y i (inr f) = no_parent_at root dest f.0 h f.1
 
-  pub reached_itself : (x y : List ℕ) → same x y ≡ true → reached (graph_of rs) x y ≡ true
+  pub reached_itself : (x y : List ℕ) → is_named x y ≡ true → reached (graph_of rs) x y ≡ true
   reached_itself x y h =
       let e = same_is x y h in
       let P : List ℕ → Type 0 = λ z. reached (graph_of rs) x z ≡ true in
       subst P e (ap is_some (root_at_zero (graph_of rs) x (length (ids rs))))
 
-  pub reached_unknown : (x y : List ℕ) → same x y ≡ false → (has (ids rs) x ≡ false) ⊎ (has (ids rs) y ≡ false) → reached (graph_of rs) x y ≡ false
+  pub reached_unknown : (x y : List ℕ) → is_named x y ≡ false → (has (ids rs) x ≡ false) ⊎ (has (ids rs) y ≡ false) → reached (graph_of rs) x y ≡ false
   reached_unknown x y ne h = by_dist (dist (graph_of rs) x y) refl h
     where
       by_dist : (o : Option ℕ) → dist (graph_of rs) x y ≡ o → (has (ids rs) x ≡ false) ⊎ (has (ids rs) y ≡ false) → is_some o ≡ false
       by_dist None d k = refl
       by_dist (Some zero) d k =
           let e = zero_is_root (graph_of rs) x (suc (length (ids rs))) y d in
-          absurd (false≢true (sym ne ∙ ap (same x) (sym e) ∙ same_refl x))
+          absurd (false≢true (sym ne ∙ ap (is_named x) (sym e) ∙ same_refl x))
       by_dist (Some (suc m)) d (inl k) =
           let s = step_back (graph_of rs) x (suc (length (ids rs))) m y d in
           absurd (far_none x k m s.0 (in_filter (has_edge rs y) (ids rs) s.0 s.1).0 s.2)

@@ -5,8 +5,9 @@ use Rattle.std.specs.Option.{option_map, option_map_or}
 use Rattle.std.proofs.lemmas.Bool.{false≢true, cases_eq, cases_lt, eq-eqb, eqb-true, ne_eqb, false_from_ne_true}
 use Rattle.std.proofs.lemmas.List.{length-map, get_or_append_left, get_or_push, get_or_read}
 use Rattle.std.proofs.lemmas.List.FromFn.{get_or-map-range_with_len, length-map-range_with_len}
-use Rattle.zr_id.specs.declared.record.LinkRecord.{LinkRecord}
-use Rattle.zr_graph.specs.Record.{ids, same, has_edge}
+use Rattle.zr_id.specs.Record.{RecordState}
+use Rattle.zr_id.specs.Zid.{is_named}
+use Rattle.zr_graph.specs.Record.{ids, has_edge}
 use Rattle.zr_graph.proofs.Names.{same_is, same_refl}
 use Rattle.zr_tree.specs.Climb.{at, climb, nearer, is_child_index, AreIndexes, AreJumps}
 use Rattle.zr_tree.specs.Hop.{AreTrees, AreWays, IsHop, IsTree, depth_of, parent_name}
@@ -62,7 +63,7 @@ module _ (e : EdgeTable) (right : AreEdges e) (root : ℕ) (distances : List (Op
   parents_indexes = record { within = λ x lt. let n = parents_long in omega (arith, parents_within x (omega arith)) }
 
 -- a way up by indexes is one by names
-pub climb_above : (rs : List LinkRecord) (root : ℕ) (parents : List ℕ) →
+pub climb_above : (rs : List RecordState) (root : ℕ) (parents : List ℕ) →
     ((x : ℕ) → x < length rs → at parents x < length rs) →
     ((x : ℕ) → x < length rs → parent (graph_of rs) (name rs root) (name rs x) ≡ parent_name rs x (at parents x)) →
     (n x : ℕ) → x < length rs → below (graph_of rs) (name rs root) (name rs (climb parents n x)) (name rs x) ≡ true
@@ -104,15 +105,15 @@ ways_from e right root distances parents jumps known is up =
 module _ (e : EdgeTable) (right : AreEdges e) (root : ℕ) (parents : List ℕ)
     (within : (x : ℕ) → x < length e.records → at parents x < length e.records)
     (exact : (x : ℕ) → x < length e.records → parent (graph_of e.records) (name e.records root) (name e.records x) ≡ parent_name e.records x (at parents x)) where
-  other_name : (i j : ℕ) → i < length e.records → j < length e.records → (i ≡ j → ⊥) → same (name e.records i) (name e.records j) ≡ false
+  other_name : (i j : ℕ) → i < length e.records → j < length e.records → (i ≡ j → ⊥) → is_named (name e.records i) (name e.records j) ≡ false
   other_name i j a b ne = false_from_ne_true _ (λ t. ne (one_index e.records i j right.ascending a b (same_is _ _ t)))
 
   child_test : (x j : ℕ) → x < length e.records → j < length e.records →
       is_child (graph_of e.records) (name e.records root) (name e.records x) (name e.records j) ≡ is_child_index parents x j
-  child_test x j a b = ap (λ o. option_map_or (λ p. same p (name e.records x)) o false) (exact j b) ∙ by_parent (cases_eq (at parents j) j) (cases_eq (at parents j) x)
+  child_test x j a b = ap (λ o. option_map_or (λ p. is_named p (name e.records x)) o false) (exact j b) ∙ by_parent (cases_eq (at parents j) j) (cases_eq (at parents j) x)
     where
       by_parent : (at parents j ≡ j) ⊎ (at parents j ≡ j → ⊥) → (at parents j ≡ x) ⊎ (at parents j ≡ x → ⊥) →
-          option_map_or (λ p. same p (name e.records x)) (parent_name e.records j (at parents j)) false ≡ (at parents j == x && not (j == x))
+          option_map_or (λ p. is_named p (name e.records x)) (parent_name e.records j (at parents j)) false ≡ (at parents j == x && not (j == x))
       by_parent (inl own) (inl i) =
           let t : (at parents j == j) ≡ true = eq-eqb _ _ own in
           let u : (at parents j == x) ≡ true = eq-eqb _ _ i in
@@ -126,12 +127,12 @@ module _ (e : EdgeTable) (right : AreEdges e) (root : ℕ) (parents : List ℕ)
           let t : (at parents j == j) ≡ false = ne_eqb _ _ other in
           let u : (at parents j == x) ≡ true = eq-eqb _ _ i in
           let v : (j == x) ≡ false = ne_eqb _ _ (λ k. other (i ∙ sym k)) in
-          let w : same (name e.records (at parents j)) (name e.records x) ≡ true = ap (λ z. same (name e.records z) (name e.records x)) i ∙ same_refl (name e.records x) in
+          let w : is_named (name e.records (at parents j)) (name e.records x) ≡ true = ap (λ z. is_named (name e.records z) (name e.records x)) i ∙ same_refl (name e.records x) in
           rw (t, u, v, w) refl
       by_parent (inr other) (inr ne) =
           let t : (at parents j == j) ≡ false = ne_eqb _ _ other in
           let u : (at parents j == x) ≡ false = ne_eqb _ _ ne in
-          let w : same (name e.records (at parents j)) (name e.records x) ≡ false = other_name (at parents j) x (within j b) a ne in
+          let w : is_named (name e.records (at parents j)) (name e.records x) ≡ false = other_name (at parents j) x (within j b) a ne in
           rw (t, u, w) refl
 
   pub children_are : (x : ℕ) → x < length e.records →
@@ -163,7 +164,7 @@ pub hop_from : (e : EdgeTable) (right : AreEdges e) (root x : ℕ) (distances : 
 hop_from e right root x distances parents jumps lists hop list w lt d p j found is = record {
   depth = rw (d, w.distance x lt) (depth_is (dist (graph_of e.records) (name e.records root) (name e.records x)) (λ k i.
       let l = least_some (λ n. leads (graph_of e.records) n (name e.records root) (name e.records x)) (suc (length (ids e.records))) k i in
-      omega (arith, l.below, right.small, length-map e.records (λ (r : LinkRecord). r.id))));
+      omega (arith, l.below, right.small, length-map e.records (λ (r : RecordState). r.id))));
   parent_within = rw p (w.parent_within x lt);
   parent_is = rw p (w.parent_is x lt);
   jump_within = rw j (w.jump_within x lt);
@@ -175,7 +176,7 @@ hop_from e right root x distances parents jumps lists hop list w lt d p j found 
 }
 
 -- a hop stays right when lists are added
-pub hop_kept : (rs : List LinkRecord) (root x : ℕ) (old new : List (List (List ℕ))) (hop : Hop) → Keeps old new → IsHop rs root old x hop → IsHop rs root new x hop
+pub hop_kept : (rs : List RecordState) (root x : ℕ) (old new : List (List (List ℕ))) (hop : Hop) → Keeps old new → IsHop rs root old x hop → IsHop rs root new x hop
 hop_kept rs root x old new hop keeps h = record {
   depth = h.depth;
   parent_within = h.parent_within;
@@ -185,7 +186,7 @@ hop_kept rs root x old new hop keeps h = record {
   children_are = keeps _ _ h.children_are;
 }
 
-pub hops_more : (rs : List LinkRecord) (root x : ℕ) (old new : List (List (List ℕ))) (hops : List Hop) (hop : Hop) → Keeps old new → length hops ≡ x →
+pub hops_more : (rs : List RecordState) (root x : ℕ) (old new : List (List (List ℕ))) (hops : List Hop) (hop : Hop) → Keeps old new → length hops ≡ x →
     ((k : ℕ) (d : Hop) → k < x → IsHop rs root old k (get_or hops k d)) → IsHop rs root new x hop →
     (k : ℕ) (d : Hop) → k < x + 1 → IsHop rs root new k (get_or (hops ++ hop ∷ []) k d)
 hops_more rs root x old new hops hop keeps long each here k d lt = elim (cases_lt k x) [
@@ -196,14 +197,14 @@ hops_more rs root x old new hops hop keeps long each here k d lt = elim (cases_l
 ]
 
 -- what is kept of a router in the tree of a root
-pub kept_hop : (rs : List LinkRecord) (names : List (List ℕ)) (trees : List (List Hop)) (lists : List (List (List ℕ))) (root x : ℕ) (hops : List Hop) (d : Hop) →
+pub kept_hop : (rs : List RecordState) (names : List (List ℕ)) (trees : List (List Hop)) (lists : List (List (List ℕ))) (root x : ℕ) (hops : List Hop) (d : Hop) →
     AreTrees rs names trees lists → root < length rs → x < length rs → hops ≡ get_or trees root hops → IsHop rs root lists x (get_or hops x d)
 kept_hop rs names trees lists root x hops d h a b at =
     let e : hops ≡ get_or trees root [] = get_or_read trees root hops (omega (arith, h.long)) at [] in
     rw e ((h.each root a).each x d b)
 
 -- one tree more, and its lists
-pub trees_more : (rs : List LinkRecord) (root : ℕ) (old new : List (List (List ℕ))) (trees : List (List Hop)) (tree : List Hop) → Keeps old new → length trees ≡ root →
+pub trees_more : (rs : List RecordState) (root : ℕ) (old new : List (List (List ℕ))) (trees : List (List Hop)) (tree : List Hop) → Keeps old new → length trees ≡ root →
     ((r : ℕ) → r < root → IsTree rs r old (get_or trees r [])) → IsTree rs root new tree →
     (r : ℕ) → r < root + 1 → IsTree rs r new (get_or (trees ++ tree ∷ []) r [])
 trees_more rs root old new trees tree keeps long each here r lt = elim (cases_lt r root) [

@@ -1,6 +1,6 @@
 -- What is kept of each router in the tree of a root.
 use Rattle.std.specs.Prelude.{◌≡◌, ℕ, ◌<◌, ◌==◌, true, List, [], Option, Some, None, length, slice_get, slice_index_or, if◌then◌else◌}
-use Rattle.zr_id.specs.declared.record.LinkRecord.{LinkRecord}
+use Rattle.zr_id.specs.Record.{RecordState}
 use Rattle.zr_graph.specs.Record.{ids, IsAscending}
 use Rattle.zr_tree.specs.declared.tree.Hop.{Hop}
 use Rattle.zr_tree.specs.declared.tree.TheConstants.{UNREACHED}
@@ -15,11 +15,11 @@ abbrev pub depth_of : ℕ → Option ℕ
 depth_of depth = if depth == UNREACHED then None else Some depth
 
 -- the index that stands for a router's parent; the router's own stands for none
-abbrev pub parent_name : List LinkRecord → ℕ → ℕ → Option (List ℕ)
+abbrev pub parent_name : List RecordState → ℕ → ℕ → Option (List ℕ)
 parent_name records x index = if index == x then None else Some (name records index)
 
 -- by index, what is known of the tree of a root: the distances, the parents and the jumps
-pub record AreWays (records : List LinkRecord) (root : ℕ) (distances : List (Option ℕ)) (parents jumps : List ℕ) : Type 0 where
+pub record AreWays (records : List RecordState) (root : ℕ) (distances : List (Option ℕ)) (parents jumps : List ℕ) : Type 0 where
   pub distances_long : length distances ≡ length records
   pub parents_long : length parents ≡ length records
   pub jumps_long : length jumps ≡ length records
@@ -31,7 +31,7 @@ pub record AreWays (records : List LinkRecord) (root : ℕ) (distances : List (O
       below (graph_of records) (name records root) (name records (at jumps x)) (name records (at parents x)) ≡ true
 
 -- what is kept of router x in the tree of a root
-pub record IsHop (records : List LinkRecord) (root : ℕ) (lists : List (List (List ℕ))) (x : ℕ) (hop : Hop) : Type 0 where
+pub record IsHop (records : List RecordState) (root : ℕ) (lists : List (List (List ℕ))) (x : ℕ) (hop : Hop) : Type 0 where
   pub depth : depth_of hop.depth ≡ dist (graph_of records) (name records root) (name records x)
   pub parent_within : hop.parent < length records
   pub parent_is : parent (graph_of records) (name records root) (name records x) ≡ parent_name records x hop.parent
@@ -40,16 +40,16 @@ pub record IsHop (records : List LinkRecord) (root : ℕ) (lists : List (List (L
   pub children_are : slice_get lists hop.children ≡ Some (children (graph_of records) (name records root) (name records x))
 
 -- the same, whatever the lists
-abbrev pub IsSomeHop : List LinkRecord → ℕ → ℕ → Hop → Type 0
+abbrev pub IsSomeHop : List RecordState → ℕ → ℕ → Hop → Type 0
 IsSomeHop records root x hop = (lists : List (List (List ℕ))) × IsHop records root lists x hop
 
 -- the tree of a root
-pub record IsTree (records : List LinkRecord) (root : ℕ) (lists : List (List (List ℕ))) (hops : List Hop) : Type 0 where
+pub record IsTree (records : List RecordState) (root : ℕ) (lists : List (List (List ℕ))) (hops : List Hop) : Type 0 where
   pub long : length hops ≡ length records
   pub each : (x : ℕ) (d : Hop) → x < length records → IsHop records root lists x (slice_index_or hops x d)
 
 -- the trees of all roots, in their order
-pub record AreTrees (records : List LinkRecord) (names : List (List ℕ)) (trees : List (List Hop)) (lists : List (List (List ℕ))) : Type 0 where
+pub record AreTrees (records : List RecordState) (names : List (List ℕ)) (trees : List (List Hop)) (lists : List (List (List ℕ))) : Type 0 where
   pub names_are : names ≡ ids records
   pub ascending : IsAscending (ids records)
   pub long : length trees ≡ length records

@@ -1,11 +1,11 @@
 -- Routers by their index in ascending order.
 use Rattle.std.specs.Prelude.{◌≡◌, ℕ, ◌<◌, ◌-◌, ◌^◌, List, [], length, map, All, slice_index_or}
-use Rattle.zr_id.specs.declared.record.LinkRecord.{LinkRecord}
+use Rattle.zr_id.specs.Record.{RecordState}
 use Rattle.zr_graph.specs.Record.{ids, IsAscending}
 use Rattle.zr_tree.specs.Walk.{graph_of, near}
 
 -- the identifier at an index
-abbrev pub name : List LinkRecord → ℕ → List ℕ
+abbrev pub name : List RecordState → ℕ → List ℕ
 name records i = slice_index_or (ids records) i []
 
 -- the list at an index
@@ -14,7 +14,7 @@ row rows i = slice_index_or rows i []
 
 -- the neighbours of each router of the records, by index
 pub record EdgeTable : Type 0 where
-  pub records : List LinkRecord
+  pub records : List RecordState
   pub rows : List (List ℕ)
 
 -- the rows list the neighbours, and their indexes fit 32 bits

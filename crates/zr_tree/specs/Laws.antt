@@ -1,8 +1,9 @@
 -- What follows of walks and trees, for the proofs above.
 use Rattle.std.specs.Prelude.{◌≡◌, ℕ, ◌+◌, ◌⊎◌, ◌||◌, zero, suc, true, false, List, Option, Some, is_some}
 use Rattle.std.specs.Option.{option_map_or, option_and_then}
-use Rattle.zr_id.specs.declared.record.LinkRecord.{LinkRecord}
-use Rattle.zr_graph.specs.Record.{ids, same, is_before, has, IsAscending}
+use Rattle.zr_id.specs.Record.{RecordState, is_before}
+use Rattle.zr_id.specs.Zid.{is_named}
+use Rattle.zr_graph.specs.Record.{ids, has, IsAscending}
 use Rattle.zr_tree.specs.Tree.{dist, reached, is_sum, parent, is_child, children, below, toward}
 use Rattle.zr_tree.specs.Walk.{Graph, graph_of, edge_length, IsWalk, walk_length, IsDistance}
 
@@ -14,7 +15,7 @@ pub record IsGraph (g : Graph) : Type 0 where
 
 -- records in order make a graph
 abbrev pub RecordsMakeGraphs : Type 0
-RecordsMakeGraphs = (records : List LinkRecord) → IsAscending (ids records) → IsGraph (graph_of records)
+RecordsMakeGraphs = (records : List RecordState) → IsAscending (ids records) → IsGraph (graph_of records)
 
 -- a walk leads back as well, and is as long
 abbrev pub WalksLeadBack : Type 0
@@ -39,7 +40,7 @@ ParentsAreOneNearer = (g : Graph) (root x p : List ℕ) → parent g root x ≡ 
 
 -- every router that is reached has a parent, but for the root
 abbrev pub ReachedHaveParents : Type 0
-ReachedHaveParents = (g : Graph) (root x : List ℕ) → reached g root x ≡ true → same root x ≡ false → is_some (parent g root x) ≡ true
+ReachedHaveParents = (g : Graph) (root x : List ℕ) → reached g root x ≡ true → is_named root x ≡ false → is_some (parent g root x) ≡ true
 
 -- of the neighbours that are one nearer the parent is the least
 abbrev pub ParentsAreLeast : Type 0
@@ -48,7 +49,7 @@ ParentsAreLeast = (g : Graph) → IsGraph g → (root x p y : List ℕ) → pare
 
 -- a router is below itself and what its parent is below
 abbrev pub BelowGoesByParents : Type 0
-BelowGoesByParents = (g : Graph) (root y x : List ℕ) → below g root y x ≡ (same x y || option_map_or (λ p. below g root y p) (parent g root x) false)
+BelowGoesByParents = (g : Graph) (root y x : List ℕ) → below g root y x ≡ (is_named x y || option_map_or (λ p. below g root y p) (parent g root x) false)
 
 -- a destination is below one child of each router that it is below, and that is the next one toward it
 pub record IsNext (g : Graph) (root at dest y : List ℕ) : Type 0 where
@@ -58,7 +59,7 @@ pub record IsNext (g : Graph) (root at dest y : List ℕ) : Type 0 where
   pub only : (z : List ℕ) → is_child g root at z ≡ true → below g root z dest ≡ true → z ≡ y
 
 abbrev pub DestinationsAreBelowOneChild : Type 0
-DestinationsAreBelowOneChild = (g : Graph) → IsGraph g → (root at dest : List ℕ) → reached g root dest ≡ true → below g root at dest ≡ true → same dest at ≡ false →
+DestinationsAreBelowOneChild = (g : Graph) → IsGraph g → (root at dest : List ℕ) → reached g root dest ≡ true → below g root at dest ≡ true → is_named dest at ≡ false →
     (y : List ℕ) × IsNext g root at dest y
 
 -- n steps toward a destination

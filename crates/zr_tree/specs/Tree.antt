@@ -2,12 +2,12 @@
 use Rattle.std.specs.Prelude.{ℕ, ◌+◌, suc, zero, Bool, false, ◌&&◌, ◌||◌, ◌==◌, List, length, Option, Some, None, is_some, unwrap_or, if◌then◌else◌}
 use Rattle.std.specs.List.{list_any, find, filter}
 use Rattle.std.specs.Option.{option_or, option_map_or}
-use Rattle.zr_graph.specs.Record.{same}
+use Rattle.zr_id.specs.Zid.{is_named}
 use Rattle.zr_tree.specs.Walk.{Graph, near, edge_length}
 
 -- a walk of length n leads from the root to x
 abbrev pub leads : Graph → ℕ → List ℕ → List ℕ → Bool
-leads g zero root x = same root x
+leads g zero root x = is_named root x
 leads g (suc n) root x = list_any (λ y. leads g n root y) (near g x)
 
 -- the least of the numbers below n that pass the test
@@ -35,7 +35,7 @@ parent g root x = find (λ y. is_sum (dist g root y) (edge_length g y x) (dist g
 
 -- the parent of y is x
 abbrev pub is_child : Graph → List ℕ → List ℕ → List ℕ → Bool
-is_child g root x y = option_map_or (λ p. same p x) (parent g root y) false
+is_child g root x y = option_map_or (λ p. is_named p x) (parent g root y) false
 
 -- the routers whose parent is x
 abbrev pub children : Graph → List ℕ → List ℕ → List (List ℕ)
@@ -43,8 +43,8 @@ children g root x = filter (λ y. is_child g root x y) g.names
 
 -- y is x, or its parent, or the parent of that, up to n times
 abbrev pub climbs : Graph → ℕ → List ℕ → List ℕ → List ℕ → Bool
-climbs g zero root y x = same x y
-climbs g (suc n) root y x = same x y || option_map_or (λ p. climbs g n root y p) (parent g root x) false
+climbs g zero root y x = is_named x y
+climbs g (suc n) root y x = is_named x y || option_map_or (λ p. climbs g n root y p) (parent g root x) false
 
 -- x is below y in the tree of the root: it is y, or its parent is below y; a parent is nearer to the root
 abbrev pub below : Graph → List ℕ → List ℕ → List ℕ → Bool

@@ -1,7 +1,7 @@
 -- Graphs of routers, and walks over their edges.
 use Rattle.std.specs.Prelude.{◌≡◌, ℕ, ◌+◌, ◌≤◌, Bool, true, List, [], ◌∷◌}
 use Rattle.std.specs.List.{filter}
-use Rattle.zr_id.specs.declared.record.LinkRecord.{LinkRecord}
+use Rattle.zr_id.specs.Record.{RecordState}
 use Rattle.zr_graph.specs.Record.{ids, has_edge}
 
 -- the routers in ascending order of their identifiers, and the test whether two of them have an edge
@@ -10,7 +10,7 @@ pub record Graph : Type 0 where
   pub joined : List ℕ → List ℕ → Bool
 
 -- the routers of these records, and the edges that the records make
-abbrev pub graph_of : List LinkRecord → Graph
+abbrev pub graph_of : List RecordState → Graph
 graph_of records = record { names = ids records; joined = has_edge records }
 
 -- the neighbours of x: those that it has an edge with, in ascending order

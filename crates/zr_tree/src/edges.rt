@@ -10,6 +10,7 @@ use std::marker::Model;
 use std::snapshot::Snapshot;
 use zr_graph::base::Base;
 use zr_id::record::LinkRecord;
+use zr_id::zid::Zid;
 
 /// A list of indexes.
 #[derive(Drop)]
@@ -96,5 +97,11 @@ fn row_of(alloc: Global, records: &[LinkRecord], from: &LinkRecord) -> Result<Ro
 fn list_each_other(a: &LinkRecord, b: &LinkRecord) -> bool
     ensures { result ≡ (has a.now.links b.now.id && has b.now.links a.now.id) }
 {
-    a.links.as_slice().contains(&b.id) && b.links.as_slice().contains(&a.id)
+    has_link(a, &b.id()) && has_link(b, &a.id())
+}
+
+fn has_link(r: &LinkRecord, to: &Zid) -> bool
+    ensures { result ≡ has r.now.links to.now }
+{
+    r.links().contains(to)
 }

@@ -6,7 +6,5 @@ mod edges;
 pub mod laws;
 mod lists;
 mod search;
-#[cfg(test)]
-mod tests;
 mod tree;
 pub mod trees;

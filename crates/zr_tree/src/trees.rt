@@ -30,10 +30,10 @@ pub struct Trees {
 
 impl Model for Trees {
     ghost use Rattle.std.specs.Prelude.{List};
-    ghost use Rattle.zr_id.specs.declared.record.LinkRecord.{LinkRecord};
+    ghost use Rattle.zr_id.specs.Record.{RecordState};
     ghost use Rattle.zr_tree.specs.Hop.{AreTrees};
 
-    ghost Value = { List LinkRecord };
+    ghost Value = { List RecordState };
 
     ghost view = { λ t. t.base.value.records };
 
@@ -181,5 +181,5 @@ impl Trees {
 fn names_of(alloc: Global, records: &[LinkRecord]) -> Result<Vec<Zid>, AllocError>
     ensures { IfOk result (λ v. v.items ≡ ids records.now) }
 {
-    records.iter().map(|r| r.id).collect(alloc)
+    records.iter().map(|r| r.id()).collect(alloc)
 }

@@ -1,5 +1,5 @@
 use Rattle.std.proofs.Common.{◌≡◌, List, subst, sym, ◌∙◌}
-use Rattle.zr_id.specs.declared.record.LinkRecord.{LinkRecord}
+use Rattle.zr_id.specs.Record.{RecordState}
 use Rattle.zr_tree.specs.Index.{name}
 use Rattle.zr_tree.specs.Tree.{children}
 use Rattle.zr_tree.specs.Walk.{graph_of}
@@ -20,5 +20,5 @@ returns c =
     let x = rw (← c.self.view_is) at c.requires.at in
     let h = kept_hop c.self.inside.base.value.records c.self.inside.names.items c.self.inside.trees.items c.self.inside.lists.lists c.args.root c.args.at c.index.result.now _ c.self.invariant root x c.index.ensures in
     let found = rw c.hops.ensures at c.get.ensures in
-    let P : List LinkRecord → Type 0 = λ rs. c.get.result.now ≡ children (graph_of rs) (name rs c.args.root) (name rs c.args.at) in
+    let P : List RecordState → Type 0 = λ rs. c.get.result.now ≡ children (graph_of rs) (name rs c.args.root) (name rs c.args.at) in
     subst P c.self.view_is (some_same _ _ (sym found ∙ h.children_are))

@@ -1,6 +1,6 @@
 use Rattle.std.proofs.Common.{◌≡◌, ℕ, ◌+◌, length, ap, ◌∙◌, arith}
 use Rattle.std.proofs.lemmas.List.{length_push, length-map}
-use Rattle.zr_id.specs.declared.record.LinkRecord.{LinkRecord}
+use Rattle.zr_id.specs.Record.{RecordState}
 use Rattle.zr_graph.specs.Record.{ids}
 use Rattle.zr_tree.proofs.Ways.{trees_more}
 use Rattle.zr_tree.proofs.trees.Trees.of.Goals as goal
@@ -17,7 +17,7 @@ loop-root-preserved c =
 pub invariant_of-result : goal.invariant_of-result
 invariant_of-result c =
     let names = c.in_ok-names.ensures ∙ ap ids c.records.ensures.value in
-    let last : c.loop-root.root ≡ length c.args.base.now.records = omega (arith, c.loop-root-test.false, c.loop-root.auto.root-end, ap length names, length-map c.args.base.now.records (λ (r : LinkRecord). r.id)) in
+    let last : c.loop-root.root ≡ length c.args.base.now.records = omega (arith, c.loop-root-test.false, c.loop-root.auto.root-end, ap length names, length-map c.args.base.now.records (λ (r : RecordState). r.id)) in
     rw c.of-2.ensures (record {
       names_are = names;
       ascending = c.records.ensures.in_order.ascending;

@@ -1,0 +1,32 @@
+//! The lines of a report, one variant a form.
+
+use zr_id::zid::Zid;
+use zr_msg::msg::Msg;
+
+/// What was seen of one step, or of a whole run. A tag is the number of the script line that the message comes from.
+#[derive(Debug, Drop)]
+pub enum ReportLine {
+    /// A router has handled a message of a client.
+    Handled {
+        router: Zid,
+        from: Zid,
+        msg: Msg,
+        tag: u64,
+    },
+    /// A router's message was sent to a client.
+    Taken {
+        router: Zid,
+        to: Zid,
+        msg: Msg,
+        tag: u64,
+    },
+    /// A run has ended after so many steps; it is quiet where no step is possible any more.
+    Ran {
+        steps: u32,
+        quiet: bool,
+    },
+    /// A phase has begun with this line.
+    Mark {
+        line: u64,
+    },
+}
