@@ -1,75 +1,116 @@
--- The judgement is right: it looks at each author of a line of the phase and each client that is attached or was sent
+-- The judgement is right: it looks at each publisher of a line of the phase and each client that is attached or was sent
 -- anything, and for all other names there is nothing to have and nothing was sent.
 use Rattle.std.proofs.Common.{◌≡◌, ℕ, Bool, true, false, cond, List, [], ◌∷◌, ◌++◌, refl, sym, ap, ◌∙◌, subst, inl, inr}
-use Rattle.std.specs.Prelude.{◌==◌, ◌&&◌, ◌||◌, ◌⊎◌, not, nat_eq, nat_lt, filter, Result, Ok, Err, IfOk}
+use Rattle.std.specs.Prelude.{◌==◌, ◌&&◌, ◌||◌, ◌⊎◌, not, nat_eq, nat_lt, filter, Option, Some, None, Result, Ok, Err, IfOk}
 use Rattle.std.specs.List.{list_any, list_all}
-use Rattle.std.specs.Cmp.Lexicographic.{pointwise, bytes_decides, nat_list_eq_equiv}
+use Rattle.std.specs.Option.{option_eq, option_map_or}
+use Rattle.std.specs.Cmp.Lexicographic.{bytes_decides, nat_list_eq_equiv}
 use Rattle.std.proofs.lemmas.Bool.{false≢true, and_parts, and_from, and_left, and_right, or_parts, or_from, or_right, or_cases, eqb-true, eq-eqb}
-use Rattle.zr_msg.specs.declared.msg.Msg.{Msg}
-use Rattle.zr_msg.specs.declared.msg.Msg.TheVariants as m
-use Rattle.zr_msg.specs.declared.msg.Body.{Body}
-use Rattle.zr_msg.specs.declared.msg.Body.TheVariants.{Put, Del}
-use Rattle.zr_msg.specs.declared.command.Command.{Command}
-use Rattle.zr_msg.specs.declared.command.Command.TheVariants as c
-use Rattle.zr_msg.specs.declared.report.ReportLine.{ReportLine}
-use Rattle.zr_msg.specs.declared.report.ReportLine.TheVariants as r
-use Rattle.zr_network.specs.World.{WorldState, is_named}
-use Rattle.zr_network.specs.Phase.{Numbered}
-use Rattle.zr_network.specs.Broker.{Item, attaches, is_attached, declarations, asks_for, wants, is_author, is_line_of, is_sample_line, item_for, for_receiver, from}
-use Rattle.zr_network.specs.Moments.{is_quiet, item_of, sent_in, sent_to}
-use Rattle.zr_network.specs.Refines.{IsPrefixOf, Refines}
+use Rattle.zr_id.specs.Zid.{is_named}
+use Rattle.zr_msg.specs.declared.content.Parts.{Parts}
+use Rattle.zr_msg.specs.declared.extras.Extras.{Extras}
+use Rattle.zr_command.specs.declared.command.Act.{Act}
+use Rattle.zr_command.specs.declared.command.Act.TheVariants as c
+use Rattle.zr_command.specs.declared.report.ReportLine.{ReportLine}
+use Rattle.zr_command.specs.declared.report.ReportLine.TheVariants as r
 use Rattle.zr_network.proofs.Names.{names, same_name}
+use Rattle.zr_table.specs.Prefix.{IsPrefixOf}
+use Rattle.zr_network.specs.World.{WorldState, is_quiet}
+use Rattle.zr_network.specs.Moments.{Numbered}
+use Rattle.zr_guarantee.specs.Item.{Item}
+use Rattle.zr_guarantee.specs.Broker.{attaches, is_attached, declarations, asks_for, wants, Publication, publication, is_publisher, is_line_of, is_sample_line, item_for, from}
+use Rattle.zr_guarantee.specs.Sent.{sample_of, items_of, item_of, sent_in, sent_to}
+use Rattle.zr_guarantee.specs.Refines.{Refines}
 use Rattle.zr_laws.proofs.Lists.{all_both, all_parts}
-use Rattle.zr_judge.specs.Judge.{Judged, Judges, is_same_body, is_same, is_front, sent_by, pair_holds, holds_for_client, holds_for_receiver, holds_for_all, holds_for_author, may_be_sent, judgement}
+use Rattle.zr_judge.specs.Judge.{Judged, Judges, is_same_bytes, is_same_extras, is_same_content, is_same, is_prefix, sent_by, pair_holds, holds_for_client, holds_for_receiver, holds_for_all, holds_for, holds_for_publisher, is_allowed, may_be_sent, judgement}
 
--- ---- fronts
+-- ---- prefixes
 
-same_body : (a b : Body) → is_same_body a b ≡ true → a ≡ b
-same_body (Put p) (Put q) h = ap Put ((bytes_decides p q).0 h)
-same_body (Put p) Del h = absurd (false≢true h)
-same_body Del (Put q) h = absurd (false≢true h)
-same_body Del Del h = refl
+same_bytes : (x y : List ℕ) → is_same_bytes x y ≡ true → x ≡ y
+same_bytes x y h = (bytes_decides x y).0 h
 
-body_itself : (a : Body) → is_same_body a a ≡ true
-body_itself (Put p) = nat_list_eq_equiv.refl p
-body_itself Del = refl
+same_option : {X : Type 0} (same : X → X → Bool) → ((x y : X) → same x y ≡ true → x ≡ y) → (o p : Option X) → option_eq same o p ≡ true → o ≡ p
+same_option same f None None h = refl
+same_option same f None (Some y) h = absurd (false≢true h)
+same_option same f (Some x) None h = absurd (false≢true h)
+same_option same f (Some x) (Some y) h = ap Some (f x y h)
 
-same_item : (a b : Item) → is_same a b ≡ true → a ≡ b
-same_item a b h =
-    let parts = and_parts (a.line == b.line) (pointwise nat_eq a.key b.key && is_same_body a.body b.body) h in
-    let texts = and_parts (pointwise nat_eq a.key b.key) (is_same_body a.body b.body) parts.1 in
-    equal (eqb-true a.line b.line parts.0) ((bytes_decides a.key b.key).0 texts.0) (same_body a.body b.body texts.1)
+same_extras : (x y : Extras) → is_same_extras x y ≡ true → x ≡ y
+same_extras x y h =
+    let qos = and_parts (option_eq nat_eq x.qos y.qos)
+    (option_eq is_same_bytes x.stamp y.stamp && (option_eq nat_eq x.budget y.budget && (option_eq nat_eq x.timeout y.timeout && (option_eq is_same_bytes x.responder y.responder && x.marks == y.marks)))) h in
+    let stamp = and_parts (option_eq is_same_bytes x.stamp y.stamp)
+    (option_eq nat_eq x.budget y.budget && (option_eq nat_eq x.timeout y.timeout && (option_eq is_same_bytes x.responder y.responder && x.marks == y.marks))) qos.1 in
+    let budget = and_parts (option_eq nat_eq x.budget y.budget) (option_eq nat_eq x.timeout y.timeout && (option_eq is_same_bytes x.responder y.responder && x.marks == y.marks)) stamp.1 in
+    let timeout = and_parts (option_eq nat_eq x.timeout y.timeout) (option_eq is_same_bytes x.responder y.responder && x.marks == y.marks) budget.1 in
+    let responder = and_parts (option_eq is_same_bytes x.responder y.responder) (x.marks == y.marks) timeout.1 in
+    equal (same_option nat_eq eqb-true x.qos y.qos qos.0) (same_option is_same_bytes same_bytes x.stamp y.stamp stamp.0) (same_option nat_eq eqb-true x.budget y.budget budget.0)
+    (same_option nat_eq eqb-true x.timeout y.timeout timeout.0) (same_option is_same_bytes same_bytes x.responder y.responder responder.0) (eqb-true x.marks y.marks responder.1)
   where
-    equal : a.line ≡ b.line → a.key ≡ b.key → a.body ≡ b.body → a ≡ b
-    equal el ek eb i = record { line = el i; key = ek i; body = eb i }
+    equal : x.qos ≡ y.qos → x.stamp ≡ y.stamp → x.budget ≡ y.budget → x.timeout ≡ y.timeout → x.responder ≡ y.responder → x.marks ≡ y.marks → x ≡ y
+    equal eq es eb et er em i = record { qos = eq i; stamp = es i; budget = eb i; timeout = et i; responder = er i; marks = em i }
 
-itself : (a : Item) → is_same a a ≡ true
-itself a = and_from (a.line == a.line) (pointwise nat_eq a.key a.key && is_same_body a.body a.body) (eq-eqb a.line a.line refl)
-    (and_from (pointwise nat_eq a.key a.key) (is_same_body a.body a.body) (nat_list_eq_equiv.refl a.key) (body_itself a.body))
+same_content : (x y : Parts) → is_same_content x y ≡ true → x ≡ y
+same_content x y h =
+    let key = and_parts (is_same_bytes x.key y.key) (is_same_extras x.extras y.extras && is_same_bytes x.body y.body) h in
+    let extras = and_parts (is_same_extras x.extras y.extras) (is_same_bytes x.body y.body) key.1 in
+    equal (same_bytes x.key y.key key.0) (same_extras x.extras y.extras extras.0) (same_bytes x.body y.body extras.1)
+  where
+    equal : x.key ≡ y.key → x.extras ≡ y.extras → x.body ≡ y.body → x ≡ y
+    equal ek ee eb i = record { key = ek i; extras = ee i; body = eb i }
 
-front_means : (xs ys : List Item) → is_front xs ys ≡ true → IsPrefixOf xs ys
-front_means [] ys h = (ys, refl)
-front_means (x ∷ xs) [] h = absurd (false≢true h)
-front_means (x ∷ xs) (y ∷ ys) h =
-    let parts = and_parts (is_same x y) (is_front xs ys) h in
-    let rest = front_means xs ys parts.1 in
+same_item : (x y : Item) → is_same x y ≡ true → x ≡ y
+same_item x y h =
+    let parts = and_parts (x.line == y.line) (is_same_content x.content y.content) h in
+    equal (eqb-true x.line y.line parts.0) (same_content x.content y.content parts.1)
+  where
+    equal : x.line ≡ y.line → x.content ≡ y.content → x ≡ y
+    equal el ec i = record { line = el i; content = ec i }
+
+option_itself : {X : Type 0} (same : X → X → Bool) → ((x : X) → same x x ≡ true) → (o : Option X) → option_eq same o o ≡ true
+option_itself same f None = refl
+option_itself same f (Some x) = f x
+
+-- two tests that hold
+both : (p q : Bool) → p ≡ true → q ≡ true → (p && q) ≡ true
+both p q h k = and_from p q h k
+
+number_itself : (n : ℕ) → (n == n) ≡ true
+number_itself n = eq-eqb n n refl
+
+extras_itself : (x : Extras) → is_same_extras x x ≡ true
+extras_itself x =
+    both _ _ (option_itself nat_eq number_itself x.qos) (both _ _ (option_itself is_same_bytes nat_list_eq_equiv.refl x.stamp)
+    (both _ _ (option_itself nat_eq number_itself x.budget) (both _ _ (option_itself nat_eq number_itself x.timeout)
+    (both _ _ (option_itself is_same_bytes nat_list_eq_equiv.refl x.responder) (number_itself x.marks)))))
+
+itself : (x : Item) → is_same x x ≡ true
+itself x =
+    both _ _ (number_itself x.line) (both _ _ (nat_list_eq_equiv.refl x.content.key) (both _ _ (extras_itself x.content.extras) (nat_list_eq_equiv.refl x.content.body)))
+
+prefix_means : (xs ys : List Item) → is_prefix xs ys ≡ true → IsPrefixOf xs ys
+prefix_means [] ys h = (ys, refl)
+prefix_means (x ∷ xs) [] h = absurd (false≢true h)
+prefix_means (x ∷ xs) (y ∷ ys) h =
+    let parts = and_parts (is_same x y) (is_prefix xs ys) h in
+    let rest = prefix_means xs ys parts.1 in
     (rest.0, ap (λ z. z ∷ ys) (sym (same_item x y parts.0)) ∙ ap (λ z. x ∷ z) rest.1)
 
-front_of : (xs rest : List Item) → is_front xs (xs ++ rest) ≡ true
-front_of [] rest = refl
-front_of (x ∷ xs) rest = and_from (is_same x x) (is_front xs (xs ++ rest)) (itself x) (front_of xs rest)
+prefix_of : (xs rest : List Item) → is_prefix xs (xs ++ rest) ≡ true
+prefix_of [] rest = refl
+prefix_of (x ∷ xs) rest = and_from (is_same x x) (is_prefix xs (xs ++ rest)) (itself x) (prefix_of xs rest)
 
-front_self : (xs : List Item) → is_front xs xs ≡ true
-front_self [] = refl
-front_self (x ∷ xs) = and_from (is_same x x) (is_front xs xs) (itself x) (front_self xs)
+prefix_self : (xs : List Item) → is_prefix xs xs ≡ true
+prefix_self [] = refl
+prefix_self (x ∷ xs) = and_from (is_same x x) (is_prefix xs xs) (itself x) (prefix_self xs)
 
-both_fronts : (xs ys : List Item) → is_front xs ys ≡ true → is_front ys xs ≡ true → xs ≡ ys
-both_fronts [] [] h k = refl
-both_fronts [] (y ∷ ys) h k = absurd (false≢true k)
-both_fronts (x ∷ xs) [] h k = absurd (false≢true h)
-both_fronts (x ∷ xs) (y ∷ ys) h k =
-    let parts = and_parts (is_same x y) (is_front xs ys) h in
-    ap (λ z. z ∷ xs) (same_item x y parts.0) ∙ ap (λ z. y ∷ z) (both_fronts xs ys parts.1 (and_parts (is_same y x) (is_front ys xs) k).1)
+both_prefixes : (xs ys : List Item) → is_prefix xs ys ≡ true → is_prefix ys xs ≡ true → xs ≡ ys
+both_prefixes [] [] h k = refl
+both_prefixes [] (y ∷ ys) h k = absurd (false≢true k)
+both_prefixes (x ∷ xs) [] h k = absurd (false≢true h)
+both_prefixes (x ∷ xs) (y ∷ ys) h k =
+    let parts = and_parts (is_same x y) (is_prefix xs ys) h in
+    ap (λ z. z ∷ xs) (same_item x y parts.0) ∙ ap (λ z. y ∷ z) (both_prefixes xs ys parts.1 (and_parts (is_same y x) (is_prefix ys xs) k).1)
 
 -- ---- lists
 
@@ -84,59 +125,42 @@ none_pass p h (x ∷ xs) = rw (h x) (none_pass p h xs)
 -- ---- names of which nothing is to be said
 
 -- who publishes nothing in a phase has no line there
-no_line : (phase : List Numbered) (a : List ℕ) (t : ℕ) → list_any (λ x. is_author a x.1) phase ≡ false → is_line_of phase a t ≡ false
+no_line : (phase : List Numbered) (a : List ℕ) (t : ℕ) → list_any (λ x. is_publisher a x.1) phase ≡ false → is_line_of phase a t ≡ false
 no_line [] a t h = refl
 no_line (x ∷ xs) a t h =
-    let parts = or_parts (is_author a x.1) (list_any (λ y. is_author a y.1) xs) h in
-    or_from (x.0 == t && is_author a x.1) (is_line_of xs a t) (and_right (x.0 == t) (is_author a x.1) parts.0) (no_line xs a t parts.1)
+    let parts = or_parts (is_publisher a x.1) (list_any (λ y. is_publisher a y.1) xs) h in
+    or_from (x.0 == t && is_publisher a x.1) (is_line_of xs a t) (and_right (x.0 == t) (is_publisher a x.1) parts.0) (no_line xs a t parts.1)
 
 -- and nothing of it is to be had
-none_due : (before phase : List Numbered) (a d : List ℕ) → list_any (λ x. is_author a x.1) phase ≡ false → from before phase a d ≡ []
+none_due : (before phase : List Numbered) (a d : List ℕ) → list_any (λ x. is_publisher a x.1) phase ≡ false → from before phase a d ≡ []
 none_due before [] a d h = refl
 none_due before (x ∷ xs) a d h =
-    let parts = or_parts (is_author a x.1) (list_any (λ y. is_author a y.1) xs) h in
-    ap (λ z. z ++ from before xs a d) (by x.1 parts.0) ∙ none_due before xs a d parts.1
+    let parts = or_parts (is_publisher a x.1) (list_any (λ y. is_publisher a y.1) xs) h in
+    ap (λ z. z ++ from before xs a d) (by (publication x.1) parts.0) ∙ none_due before xs a d parts.1
   where
-    by : (command : Command) → is_author a command ≡ false → for_receiver before a d (x.0, command) ≡ []
-    by (c.Put client key payload) k = rw k refl
-    by (c.Del client key) k = rw k refl
-    by (c.Router id) k = refl
-    by (c.Client id router) k = refl
-    by (c.Sub client id key) k = refl
-    by (c.Unsub client id) k = refl
-    by (c.Handle router name) k = refl
-    by (c.Take router to) k = refl
-    by (c.Run steps) k = refl
-    by c.Mark k = refl
+    by : (o : Option Publication) → option_map_or (λ p. is_named a p.client) o false ≡ false → item_for before a d x.0 o ≡ []
+    by None k = refl
+    by (Some p) k = rw k refl
 
 -- who is not attached is to have nothing
 none_wanted : (before phase : List Numbered) (a d : List ℕ) → is_attached before d ≡ false → from before phase a d ≡ []
 none_wanted before [] a d h = refl
-none_wanted before (x ∷ xs) a d h = ap (λ z. z ++ from before xs a d) (by x.1) ∙ none_wanted before xs a d h
+none_wanted before (x ∷ xs) a d h = ap (λ z. z ++ from before xs a d) (by (publication x.1)) ∙ none_wanted before xs a d h
   where
-    unwanted : (client key : List ℕ) (body : Body) → item_for before a d x.0 client key body ≡ []
-    unwanted client key body =
-        ap (λ b. cond b (record { line = x.0; key = key; body = body } ∷ []) [])
-        (and_right (is_named a client) (wants before a d key)
-        (and_right (not (is_named a d)) (is_attached before d && list_any (λ s. asks_for key s) (declarations before d))
-        (and_left (is_attached before d) (list_any (λ s. asks_for key s) (declarations before d)) h)))
-
-    by : (command : Command) → for_receiver before a d (x.0, command) ≡ []
-    by (c.Put client key payload) = unwanted client key (Put payload)
-    by (c.Del client key) = unwanted client key Del
-    by (c.Router id) = refl
-    by (c.Client id router) = refl
-    by (c.Sub client id key) = refl
-    by (c.Unsub client id) = refl
-    by (c.Handle router name) = refl
-    by (c.Take router to) = refl
-    by (c.Run steps) = refl
-    by c.Mark = refl
+    by : (o : Option Publication) → item_for before a d x.0 o ≡ []
+    by None = refl
+    by (Some p) =
+        ap (λ b. cond b (record { line = x.0; content = p.content } ∷ []) [])
+        (and_right (is_named a p.client) (wants before a d p.content.key)
+        (and_right (not (is_named a d)) (is_attached before d && list_any (λ s. asks_for p.content.key s) (declarations before d))
+        (and_left (is_attached before d) (list_any (λ s. asks_for p.content.key s) (declarations before d)) h)))
 
 -- whether a report line says that something was sent to a name
 abbrev pub tells_of : List ℕ → ReportLine → Bool
+tells_of d (r.Handled router from msg tag) = false
 tells_of d (r.Taken router to msg tag) = is_named d to
-tells_of d other = false
+tells_of d (r.Ran steps quiet) = false
+tells_of d (r.Mark line) = false
 
 none_sent : (report : List ReportLine) (d : List ℕ) → list_any (tells_of d) report ≡ false → sent_to report d ≡ []
 none_sent [] d h = refl
@@ -157,28 +181,19 @@ module _ (j : Judged) where
 
   -- ---- names that are looked at
 
-  author_found : (lines : List Numbered) (a : List ℕ) → list_any (λ x. is_author a x.1) lines ≡ true → list_all (λ x. holds_for_author j x.1) lines ≡ true →
+  publisher_found : (lines : List Numbered) (a : List ℕ) → list_any (λ x. is_publisher a x.1) lines ≡ true → list_all (λ x. holds_for_publisher j x.1) lines ≡ true →
       holds_for_all j a ≡ true
-  author_found [] a h k = absurd (false≢true h)
-  author_found (x ∷ xs) a h k =
-      by x.1 (and_parts (holds_for_author j x.1) (list_all (λ y. holds_for_author j y.1) xs) k).0
-      (λ later. author_found xs a later (and_parts (holds_for_author j x.1) (list_all (λ y. holds_for_author j y.1) xs) k).1)
-      (or_cases (is_author a x.1) (list_any (λ y. is_author a y.1) xs) h)
+  publisher_found [] a h k = absurd (false≢true h)
+  publisher_found (x ∷ xs) a h k =
+      by (publication x.1) (and_parts (holds_for_publisher j x.1) (list_all (λ y. holds_for_publisher j y.1) xs) k).0
+      (λ later. publisher_found xs a later (and_parts (holds_for_publisher j x.1) (list_all (λ y. holds_for_publisher j y.1) xs) k).1)
+      (or_cases (is_publisher a x.1) (list_any (λ y. is_publisher a y.1) xs) h)
     where
-      by : (command : Command) → holds_for_author j command ≡ true → (list_any (λ y. is_author a y.1) xs ≡ true → holds_for_all j a ≡ true) →
-          (is_author a command ≡ true) ⊎ (list_any (λ y. is_author a y.1) xs ≡ true) →
-          holds_for_all j a ≡ true
-      by (c.Put client key payload) here ih (inl e) = subst (λ (name : List ℕ). holds_for_all j name ≡ true) (sym (same_name a client e)) here
-      by (c.Del client key) here ih (inl e) = subst (λ (name : List ℕ). holds_for_all j name ≡ true) (sym (same_name a client e)) here
-      by (c.Router id) here ih (inl e) = absurd (false≢true e)
-      by (c.Client id router) here ih (inl e) = absurd (false≢true e)
-      by (c.Sub client id key) here ih (inl e) = absurd (false≢true e)
-      by (c.Unsub client id) here ih (inl e) = absurd (false≢true e)
-      by (c.Handle router name) here ih (inl e) = absurd (false≢true e)
-      by (c.Take router to) here ih (inl e) = absurd (false≢true e)
-      by (c.Run steps) here ih (inl e) = absurd (false≢true e)
-      by c.Mark here ih (inl e) = absurd (false≢true e)
-      by command here ih (inr e) = ih e
+      by : (o : Option Publication) → holds_for j o ≡ true → (list_any (λ y. is_publisher a y.1) xs ≡ true → holds_for_all j a ≡ true) →
+          (option_map_or (λ p. is_named a p.client) o false ≡ true) ⊎ (list_any (λ y. is_publisher a y.1) xs ≡ true) → holds_for_all j a ≡ true
+      by None here ih (inl e) = absurd (false≢true e)
+      by (Some p) here ih (inl e) = subst (λ (name : List ℕ). holds_for_all j name ≡ true) (sym (same_name a p.client e)) here
+      by o here ih (inr e) = ih e
 
   client_found : (lines : List Numbered) (a d : List ℕ) → is_attached lines d ≡ true → list_all (λ x. holds_for_client j a x.1) lines ≡ true → pair_holds j a d ≡ true
   client_found [] a d h k = absurd (false≢true h)
@@ -187,19 +202,11 @@ module _ (j : Judged) where
       (λ later. client_found xs a d later (and_parts (holds_for_client j a x.1) (list_all (λ y. holds_for_client j a y.1) xs) k).1)
       (or_cases (attaches d x.1) (is_attached xs d) h)
     where
-      by : (command : Command) → holds_for_client j a command ≡ true → (is_attached xs d ≡ true → pair_holds j a d ≡ true) →
-          (attaches d command ≡ true) ⊎ (is_attached xs d ≡ true) → pair_holds j a d ≡ true
+      by : (act : Act) → holds_for_client j a act ≡ true → (is_attached xs d ≡ true → pair_holds j a d ≡ true) →
+          (attaches d act ≡ true) ⊎ (is_attached xs d ≡ true) → pair_holds j a d ≡ true
       by (c.Client id router) here ih (inl e) = subst (λ (name : List ℕ). pair_holds j a name ≡ true) (sym (same_name d id e)) here
-      by (c.Put client key payload) here ih (inl e) = absurd (false≢true e)
-      by (c.Del client key) here ih (inl e) = absurd (false≢true e)
-      by (c.Router id) here ih (inl e) = absurd (false≢true e)
-      by (c.Sub client id key) here ih (inl e) = absurd (false≢true e)
-      by (c.Unsub client id) here ih (inl e) = absurd (false≢true e)
-      by (c.Handle router name) here ih (inl e) = absurd (false≢true e)
-      by (c.Take router to) here ih (inl e) = absurd (false≢true e)
-      by (c.Run steps) here ih (inl e) = absurd (false≢true e)
-      by c.Mark here ih (inl e) = absurd (false≢true e)
-      by command here ih (inr e) = ih e
+      by other here ih (inl e) = absurd (false≢true e)
+      by act here ih (inr e) = ih e
 
   receiver_found : (report : List ReportLine) (a d : List ℕ) → list_any (tells_of d) report ≡ true → list_all (λ x. holds_for_receiver j a x) report ≡ true → pair_holds j a d ≡ true
   receiver_found [] a d h k = absurd (false≢true h)
@@ -218,10 +225,10 @@ module _ (j : Judged) where
 
   -- so every pair of names holds
   every_pair : judgement j ≡ true → (a d : List ℕ) → pair_holds j a d ≡ true
-  every_pair h a d = by_author (list_any (λ x. is_author a x.1) j.phase) refl
+  every_pair h a d = by_publisher (list_any (λ x. is_publisher a x.1) j.phase) refl
     where
-      authors : list_all (λ x. holds_for_author j x.1) j.phase ≡ true
-      authors = (and_parts (list_all (λ x. holds_for_author j x.1) j.phase) (list_all (λ x. may_be_sent j x) j.report) h).0
+      publishers : list_all (λ x. holds_for_publisher j x.1) j.phase ≡ true
+      publishers = (and_parts (list_all (λ x. holds_for_publisher j x.1) j.phase) (list_all (λ x. may_be_sent j x) j.report) h).0
 
       by_report : list_all (λ x. holds_for_receiver j a x) j.report ≡ true → is_attached j.before d ≡ false → (b : Bool) → list_any (tells_of d) j.report ≡ b → pair_holds j a d ≡ true
       by_report all away true e = receiver_found j.report a d e all
@@ -231,11 +238,11 @@ module _ (j : Judged) where
       by_client clients all true e = client_found j.before a d e clients
       by_client clients all false e = by_report all e (list_any (tells_of d) j.report) refl
 
-      by_author : (b : Bool) → list_any (λ x. is_author a x.1) j.phase ≡ b → pair_holds j a d ≡ true
-      by_author true e =
-          let found = and_parts (list_all (λ x. holds_for_client j a x.1) j.before) (list_all (λ x. holds_for_receiver j a x) j.report) (author_found j.phase a e authors) in
+      by_publisher : (b : Bool) → list_any (λ x. is_publisher a x.1) j.phase ≡ b → pair_holds j a d ≡ true
+      by_publisher true e =
+          let found = and_parts (list_all (λ x. holds_for_client j a x.1) j.before) (list_all (λ x. holds_for_receiver j a x) j.report) (publisher_found j.phase a e publishers) in
           by_client found.0 found.1 (is_attached j.before d) refl
-      by_author false e = nothing_holds a d (none_pass (λ i. is_line_of j.phase a i.line) (λ i. no_line j.phase a i.line e) (sent_to j.report d)) (none_due j.before j.phase a d e)
+      by_publisher false e = nothing_holds a d (none_pass (λ i. is_line_of j.phase a i.line) (λ i. no_line j.phase a i.line e) (sent_to j.report d)) (none_due j.before j.phase a d e)
 
   -- ---- nothing else
 
@@ -248,20 +255,14 @@ module _ (j : Judged) where
       let parts = and_parts (may_be_sent j x) (list_all (λ y. may_be_sent j y) xs) h in
       all_both may_be (sent_in d x) (sent_to xs d) (by x parts.0) (all_may xs d parts.1)
     where
-      by_name : (b : Bool) (msg : Msg) (tag : ℕ) → may_be_sent j (r.Taken [] d msg tag) ≡ true → list_all may_be (cond b (item_of msg tag) []) ≡ true
-      by_name false msg tag k = refl
-      by_name true (m.Sub id key) tag k = refl
-      by_name true (m.Unsub id) tag k = refl
-      by_name true (m.Push key body) tag k = and_from (nat_lt tag j.mark || is_sample_line j.phase tag) true k refl
-
-      by_msg : (b : Bool) (router to : List ℕ) (msg : Msg) (tag : ℕ) → may_be_sent j (r.Taken router to msg tag) ≡ true → list_all may_be (cond b (item_of msg tag) []) ≡ true
-      by_msg b router to (m.Sub id key) tag k = by_name b (m.Sub id key) tag refl
-      by_msg b router to (m.Unsub id) tag k = by_name b (m.Unsub id) tag refl
-      by_msg b router to (m.Push key body) tag k = by_name b (m.Push key body) tag k
+      by_sample : (b : Bool) (o : Option Parts) (tag : ℕ) → is_allowed j o tag ≡ true → list_all may_be (cond b (items_of o tag) []) ≡ true
+      by_sample false o tag k = refl
+      by_sample true None tag k = refl
+      by_sample true (Some content) tag k = and_from (nat_lt tag j.mark || is_sample_line j.phase tag) true k refl
 
       by : (line : ReportLine) → may_be_sent j line ≡ true → list_all may_be (sent_in d line) ≡ true
       by (r.Handled router name msg tag) k = refl
-      by (r.Taken router to msg tag) k = by_msg (is_named d to) router to msg tag k
+      by (r.Taken router to msg tag) k = by_sample (is_named d to) (sample_of msg) tag k
       by (r.Ran steps quiet) k = refl
       by (r.Mark n) k = refl
 
@@ -273,11 +274,11 @@ module _ (j : Judged) where
     where
       by : (line : ReportLine) → ((d : List ℕ) → list_all may_be (sent_in d line) ≡ true) → may_be_sent j line ≡ true
       by (r.Handled router name msg tag) k = refl
-      by (r.Taken router to (m.Sub id key) tag) k = refl
-      by (r.Taken router to (m.Unsub id) tag) k = refl
-      by (r.Taken router to (m.Push key body) tag) k =
-          (and_parts (nat_lt tag j.mark || is_sample_line j.phase tag) true
-          (ap (λ b. list_all may_be (cond b (record { line = tag; key = key; body = body } ∷ []) [])) (sym (names.refl to)) ∙ k to)).0
+      by (r.Taken router to msg tag) k = by_sample (sample_of msg) (ap (λ b. list_all may_be (cond b (item_of msg tag) [])) (sym (names.refl to)) ∙ k to)
+        where
+          by_sample : (o : Option Parts) → list_all may_be (items_of o tag) ≡ true → is_allowed j o tag ≡ true
+          by_sample None e = refl
+          by_sample (Some content) e = (and_parts (nat_lt tag j.mark || is_sample_line j.phase tag) true e).0
       by (r.Ran steps quiet) k = refl
       by (r.Mark n) k = refl
 
@@ -286,22 +287,22 @@ module _ (j : Judged) where
   module _ (w : WorldState) (quiet_is : is_quiet w ≡ j.quiet) where
     sound : judgement j ≡ true → Refines j.before j.mark j.phase (record { world = w; report = j.report })
     sound h = record {
-      prefix = λ a d. front_means (sent_by j a d) (from j.before j.phase a d) (pair a d).0;
-      nothing_else = λ d. all_may j.report d (and_parts (list_all (λ x. holds_for_author j x.1) j.phase) (list_all (λ x. may_be_sent j x) j.report) h).1;
-      whole = λ quiet a d. both_fronts (sent_by j a d) (from j.before j.phase a d) (pair a d).0
-          (ap (λ b. not b || is_front (from j.before j.phase a d) (sent_by j a d)) (sym (sym quiet_is ∙ quiet)) ∙ (pair a d).1);
+      prefix = λ a d. prefix_means (sent_by j a d) (from j.before j.phase a d) (pair a d).0;
+      nothing_else = λ d. all_may j.report d (and_parts (list_all (λ x. holds_for_publisher j x.1) j.phase) (list_all (λ x. may_be_sent j x) j.report) h).1;
+      whole = λ quiet a d. both_prefixes (sent_by j a d) (from j.before j.phase a d) (pair a d).0
+          (ap (λ b. not b || is_prefix (from j.before j.phase a d) (sent_by j a d)) (sym (sym quiet_is ∙ quiet)) ∙ (pair a d).1);
     }
       where
-        pair : (a d : List ℕ) → (is_front (sent_by j a d) (from j.before j.phase a d) ≡ true) × ((not j.quiet || is_front (from j.before j.phase a d) (sent_by j a d)) ≡ true)
-        pair a d = and_parts (is_front (sent_by j a d) (from j.before j.phase a d)) (not j.quiet || is_front (from j.before j.phase a d) (sent_by j a d)) (every_pair h a d)
+        pair : (a d : List ℕ) → (is_prefix (sent_by j a d) (from j.before j.phase a d) ≡ true) × ((not j.quiet || is_prefix (from j.before j.phase a d) (sent_by j a d)) ≡ true)
+        pair a d = and_parts (is_prefix (sent_by j a d) (from j.before j.phase a d)) (not j.quiet || is_prefix (from j.before j.phase a d) (sent_by j a d)) (every_pair h a d)
 
     complete : Refines j.before j.mark j.phase (record { world = w; report = j.report }) → judgement j ≡ true
-    complete h = and_from (list_all (λ x. holds_for_author j x.1) j.phase) (list_all (λ x. may_be_sent j x) j.report)
-        (all_true (λ x. holds_for_author j x.1) (λ x. author x.1) j.phase) (may_all j.report h.nothing_else)
+    complete h = and_from (list_all (λ x. holds_for_publisher j x.1) j.phase) (list_all (λ x. may_be_sent j x) j.report)
+        (all_true (λ x. holds_for_publisher j x.1) (λ x. publisher x.1) j.phase) (may_all j.report h.nothing_else)
       where
         pair : (a d : List ℕ) → pair_holds j a d ≡ true
-        pair a d = and_from (is_front sent due) (not j.quiet || is_front due sent)
-            (ap (is_front sent) (h.prefix a d).1 ∙ front_of sent (h.prefix a d).0) (by j.quiet refl)
+        pair a d = and_from (is_prefix sent due) (not j.quiet || is_prefix due sent)
+            (ap (is_prefix sent) (h.prefix a d).1 ∙ prefix_of sent (h.prefix a d).0) (by j.quiet refl)
           where
             sent : List Item
             sent = sent_by j a d
@@ -309,21 +310,13 @@ module _ (j : Judged) where
             due : List Item
             due = from j.before j.phase a d
 
-            by : (b : Bool) → j.quiet ≡ b → (not b || is_front due sent) ≡ true
+            by : (b : Bool) → j.quiet ≡ b → (not b || is_prefix due sent) ≡ true
             by false e = refl
-            by true e = ap (is_front due) (h.whole (quiet_is ∙ e) a d) ∙ front_self due
+            by true e = ap (is_prefix due) (h.whole (quiet_is ∙ e) a d) ∙ prefix_self due
 
-        client : (a : List ℕ) (command : Command) → holds_for_client j a command ≡ true
+        client : (a : List ℕ) (act : Act) → holds_for_client j a act ≡ true
         client a (c.Client id router) = pair a id
-        client a (c.Router id) = refl
-        client a (c.Sub name id key) = refl
-        client a (c.Unsub name id) = refl
-        client a (c.Put name key payload) = refl
-        client a (c.Del name key) = refl
-        client a (c.Handle router name) = refl
-        client a (c.Take router to) = refl
-        client a (c.Run steps) = refl
-        client a c.Mark = refl
+        client a other = refl
 
         receiver : (a : List ℕ) (line : ReportLine) → holds_for_receiver j a line ≡ true
         receiver a (r.Taken router to msg tag) = pair a to
@@ -335,17 +328,12 @@ module _ (j : Judged) where
         all name = and_from (list_all (λ x. holds_for_client j name x.1) j.before) (list_all (λ x. holds_for_receiver j name x) j.report)
             (all_true (λ x. holds_for_client j name x.1) (λ x. client name x.1) j.before) (all_true (λ x. holds_for_receiver j name x) (λ x. receiver name x) j.report)
 
-        author : (command : Command) → holds_for_author j command ≡ true
-        author (c.Put name key payload) = all name
-        author (c.Del name key) = all name
-        author (c.Router id) = refl
-        author (c.Client id router) = refl
-        author (c.Sub name id key) = refl
-        author (c.Unsub name id) = refl
-        author (c.Handle router name) = refl
-        author (c.Take router to) = refl
-        author (c.Run steps) = refl
-        author c.Mark = refl
+        publisher : (act : Act) → holds_for_publisher j act ≡ true
+        publisher act = by (publication act)
+          where
+            by : (o : Option Publication) → holds_for j o ≡ true
+            by None = refl
+            by (Some p) = all p.client
 
   pub judges : Judges (judgement j) j
   judges w quiet_is = (sound w quiet_is, complete w quiet_is)

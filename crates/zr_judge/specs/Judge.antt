@@ -1,21 +1,22 @@
 -- What a judgement of a report says: whether the network has done what the one broker does.
-use Rattle.std.specs.Prelude.{◌≡◌, ℕ, ◌==◌, ◌&&◌, ◌||◌, not, nat_eq, nat_lt, Bool, true, false, List, [], ◌∷◌, ◌↔◌, filter}
+use Rattle.std.specs.Prelude.{◌≡◌, ℕ, ◌==◌, ◌&&◌, ◌||◌, not, nat_eq, nat_lt, Bool, true, false, List, [], ◌∷◌, ◌↔◌, filter, Option, Some, None}
 use Rattle.std.specs.List.{list_all}
+use Rattle.std.specs.Option.{option_eq}
 use Rattle.std.specs.Cmp.Lexicographic.{pointwise}
-use Rattle.zr_msg.specs.declared.msg.Msg.TheVariants.{Push}
-use Rattle.zr_msg.specs.declared.msg.Body.{Body}
-use Rattle.zr_msg.specs.declared.msg.Body.TheVariants.{Put, Del}
-use Rattle.zr_msg.specs.declared.command.Command.{Command}
-use Rattle.zr_msg.specs.declared.command.Command.TheVariants as c
-use Rattle.zr_msg.specs.declared.report.ReportLine.{ReportLine}
-use Rattle.zr_msg.specs.declared.report.ReportLine.TheVariants as r
-use Rattle.zr_network.specs.World.{WorldState}
-use Rattle.zr_network.specs.Phase.{Numbered}
-use Rattle.zr_network.specs.Broker.{Item, is_line_of, is_sample_line, from}
-use Rattle.zr_network.specs.Moments.{is_quiet, sent_to}
-use Rattle.zr_network.specs.Refines.{Refines}
+use Rattle.zr_msg.specs.declared.content.Parts.{Parts}
+use Rattle.zr_msg.specs.declared.extras.Extras.{Extras}
+use Rattle.zr_command.specs.declared.command.Act.{Act}
+use Rattle.zr_command.specs.declared.command.Act.TheVariants as a
+use Rattle.zr_command.specs.declared.report.ReportLine.{ReportLine}
+use Rattle.zr_command.specs.declared.report.ReportLine.TheVariants as r
+use Rattle.zr_network.specs.World.{WorldState, is_quiet}
+use Rattle.zr_network.specs.Moments.{Numbered}
+use Rattle.zr_guarantee.specs.Item.{Item}
+use Rattle.zr_guarantee.specs.Broker.{Publication, publication, is_line_of, is_sample_line, from}
+use Rattle.zr_guarantee.specs.Sent.{sample_of, sent_to}
+use Rattle.zr_guarantee.specs.Refines.{Refines}
 
--- what is judged: the lines before a mark, the number of its line, the lines after it, the report so far, and whether
+-- what is judged: the acts before a mark, the number of its line, the acts after it, the report so far, and whether
 -- nothing is under way
 pub record Judged : Type 0 where
   pub before : List Numbered
@@ -29,58 +30,91 @@ abbrev pub Judges : Bool → Judged → Type 0
 Judges answer j =
     (w : WorldState) → is_quiet w ≡ j.quiet → (answer ≡ true) ↔ Refines j.before j.mark j.phase (record { world = w; report = j.report })
 
--- whether two bodies are one
-abbrev pub is_same_body : Body → Body → Bool
-is_same_body (Put p) (Put q) = pointwise nat_eq p q
-is_same_body (Put p) Del = false
-is_same_body Del (Put q) = false
-is_same_body Del Del = true
+-- ---- samples
+
+-- whether two lists of bytes are one
+abbrev pub is_same_bytes : List ℕ → List ℕ → Bool
+is_same_bytes x y = pointwise nat_eq x y
+
+-- whether two messages have the same extensions
+abbrev pub is_same_extras : Extras → Extras → Bool
+is_same_extras x y =
+    option_eq nat_eq x.qos y.qos
+    && (option_eq is_same_bytes x.stamp y.stamp
+    && (option_eq nat_eq x.budget y.budget
+    && (option_eq nat_eq x.timeout y.timeout && (option_eq is_same_bytes x.responder y.responder && x.marks == y.marks))))
+
+-- whether two contents are one
+abbrev pub is_same_content : Parts → Parts → Bool
+is_same_content x y = is_same_bytes x.key y.key && (is_same_extras x.extras y.extras && is_same_bytes x.body y.body)
 
 -- whether two items are one
 abbrev pub is_same : Item → Item → Bool
-is_same a b = a.line == b.line && (pointwise nat_eq a.key b.key && is_same_body a.body b.body)
+is_same x y = x.line == y.line && is_same_content x.content y.content
 
 -- whether some items begin others
-abbrev pub is_front : List Item → List Item → Bool
-is_front [] ys = true
-is_front (x ∷ xs) [] = false
-is_front (x ∷ xs) (y ∷ ys) = is_same x y && is_front xs ys
+abbrev pub is_prefix : List Item → List Item → Bool
+is_prefix [] ys = true
+is_prefix (x ∷ xs) [] = false
+is_prefix (x ∷ xs) (y ∷ ys) = is_same x y && is_prefix xs ys
 
--- what a receiver was sent of an author's lines
+-- ---- a publisher and a receiver
+
+-- what a receiver was sent of a publisher's lines
 abbrev pub sent_by : Judged → List ℕ → List ℕ → List Item
-sent_by j author receiver = filter (λ i. is_line_of j.phase author i.line) (sent_to j.report receiver)
+sent_by j publisher receiver = filter (λ i. is_line_of j.phase publisher i.line) (sent_to j.report receiver)
 
 -- whether that begins what it is to have, and is the whole where nothing is under way
 abbrev pub pair_holds : Judged → List ℕ → List ℕ → Bool
-pair_holds j author receiver =
-    is_front (sent_by j author receiver) (from j.before j.phase author receiver)
-    && (not j.quiet || is_front (from j.before j.phase author receiver) (sent_by j author receiver))
+pair_holds j publisher receiver =
+    is_prefix (sent_by j publisher receiver) (from j.before j.phase publisher receiver)
+    && (not j.quiet || is_prefix (from j.before j.phase publisher receiver) (sent_by j publisher receiver))
 
--- the same for the client that a line attaches
-abbrev pub holds_for_client : Judged → List ℕ → Command → Bool
-holds_for_client j author (c.Client id router) = pair_holds j author id
-holds_for_client j author other = true
+-- the same for the client that an act attaches
+abbrev pub holds_for_client : Judged → List ℕ → Act → Bool
+holds_for_client j publisher (a.Router id) = true
+holds_for_client j publisher (a.Client id router) = pair_holds j publisher id
+holds_for_client j publisher (a.Sub client id key) = true
+holds_for_client j publisher (a.Unsub client id) = true
+holds_for_client j publisher (a.Publish client content) = true
+holds_for_client j publisher (a.Handle router from) = true
+holds_for_client j publisher (a.Take router to) = true
+holds_for_client j publisher a.Mark = true
 
 -- the same for the client that a report line tells of
 abbrev pub holds_for_receiver : Judged → List ℕ → ReportLine → Bool
-holds_for_receiver j author (r.Taken router to msg tag) = pair_holds j author to
-holds_for_receiver j author other = true
+holds_for_receiver j publisher (r.Handled router from msg tag) = true
+holds_for_receiver j publisher (r.Taken router to msg tag) = pair_holds j publisher to
+holds_for_receiver j publisher (r.Ran steps quiet) = true
+holds_for_receiver j publisher (r.Mark line) = true
 
--- the same for an author and all clients that are attached or were sent anything
+-- ---- all of them
+
+-- the same for a publisher and all clients that are attached or were sent anything
 abbrev pub holds_for_all : Judged → List ℕ → Bool
-holds_for_all j author = list_all (λ x. holds_for_client j author x.1) j.before && list_all (λ x. holds_for_receiver j author x) j.report
+holds_for_all j publisher = list_all (λ x. holds_for_client j publisher x.1) j.before && list_all (λ x. holds_for_receiver j publisher x) j.report
 
--- the same for the author of a line
-abbrev pub holds_for_author : Judged → Command → Bool
-holds_for_author j (c.Put client key payload) = holds_for_all j client
-holds_for_author j (c.Del client key) = holds_for_all j client
-holds_for_author j other = true
+-- the same for the client of what is published, if anything is
+abbrev pub holds_for : Judged → Option Publication → Bool
+holds_for j None = true
+holds_for j (Some p) = holds_for_all j p.client
 
--- whether a sample that was sent is a line of the phase, or comes from before the mark
+-- the same for the publisher of a line
+abbrev pub holds_for_publisher : Judged → Act → Bool
+holds_for_publisher j act = holds_for j (publication act)
+
+-- whether a sample, if it is one, is a line of the phase, or comes from before the mark
+abbrev pub is_allowed : Judged → Option Parts → ℕ → Bool
+is_allowed j None tag = true
+is_allowed j (Some content) tag = nat_lt tag j.mark || is_sample_line j.phase tag
+
+-- the same of what was sent
 abbrev pub may_be_sent : Judged → ReportLine → Bool
-may_be_sent j (r.Taken router to (Push key body) tag) = nat_lt tag j.mark || is_sample_line j.phase tag
-may_be_sent j other = true
+may_be_sent j (r.Handled router from msg tag) = true
+may_be_sent j (r.Taken router to msg tag) = is_allowed j (sample_of msg) tag
+may_be_sent j (r.Ran steps quiet) = true
+may_be_sent j (r.Mark line) = true
 
 -- the judgement
 abbrev pub judgement : Judged → Bool
-judgement j = list_all (λ x. holds_for_author j x.1) j.phase && list_all (λ x. may_be_sent j x) j.report
+judgement j = list_all (λ x. holds_for_publisher j x.1) j.phase && list_all (λ x. may_be_sent j x) j.report

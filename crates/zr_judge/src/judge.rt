@@ -2,26 +2,25 @@
 
 ghost use Rattle.std.specs.Prelude.{◌≡◌, IfOk};
 ghost use Rattle.std.specs.List.{list_all};
-ghost use Rattle.zr_network.specs.Broker.{publishes, is_sample_line};
-ghost use Rattle.zr_judge.specs.Judge.{Judges, pair_holds, holds_for_client, holds_for_receiver, holds_for_all, holds_for_author, may_be_sent, judgement};
+ghost use Rattle.zr_guarantee.specs.Broker.{publishes, is_sample_line};
+ghost use Rattle.zr_judge.specs.Judge.{Judges, pair_holds, holds_for_client, holds_for_receiver, holds_for_all, holds_for_publisher, may_be_sent, judgement};
 
-use crate::sample::{due, is_front, sent};
+use crate::sample::{due, is_prefix, sample_of, sent};
 use std::alloc::{AllocError, Global};
 use std::marker::Model;
+use zr_command::command::Act;
+use zr_command::report::ReportLine;
 use zr_id::zid::Zid;
-use zr_msg::command::Command;
-use zr_msg::msg::Msg;
-use zr_msg::report::ReportLine;
 
 /// What is judged.
 #[derive(Drop)]
 pub struct Case {
-    /// The accepted lines before a mark, each with its number.
-    pub before: Vec<(u64, Command)>,
+    /// The accepted acts before a mark, each with the number of its line.
+    pub before: Vec<(u64, Act)>,
     /// The number of the mark's line.
     pub mark: u64,
-    /// The accepted lines after it.
-    pub phase: Vec<(u64, Command)>,
+    /// The accepted acts after it.
+    pub phase: Vec<(u64, Act)>,
     /// The report so far.
     pub report: Vec<ReportLine>,
     /// Whether nothing is under way.
@@ -46,53 +45,47 @@ pub fn refines(alloc: Global, case: &Case) -> Result<bool, AllocError>
 fn judgement(alloc: Global, case: &Case) -> Result<bool, AllocError>
     ensures { IfOk result (λ answer. answer ≡ judgement case.now) }
 {
-    Ok(holds_for_authors(alloc, case, case.phase.as_slice())? && may_all_be_sent(case))
+    Ok(holds_for_publishers(alloc, case, case.phase.as_slice())? && may_all_be_sent(case))
 }
 
-fn holds_for_authors(
-    alloc: Global,
-    case: &Case,
-    lines: &[(u64, Command)],
-) -> Result<bool, AllocError>
-    ensures { IfOk result (λ answer. answer ≡ list_all (λ x. holds_for_author case.now x.1) lines.now) }
+fn holds_for_publishers(alloc: Global, case: &Case, acts: &[(u64, Act)]) -> Result<bool, AllocError>
+    ensures { IfOk result (λ answer. answer ≡ list_all (λ x. holds_for_publisher case.now x.1) acts.now) }
 {
-    for x in lines {
-        if !holds_for_author(alloc, case, &x.1)? {
+    for x in acts {
+        if !holds_for_publisher(alloc, case, &x.1)? {
             return Ok(false);
         }
     }
     Ok(true)
 }
 
-fn holds_for_author(alloc: Global, case: &Case, command: &Command) -> Result<bool, AllocError>
-    ensures { IfOk result (λ answer. answer ≡ holds_for_author case.now command.now) }
+fn holds_for_publisher(alloc: Global, case: &Case, act: &Act) -> Result<bool, AllocError>
+    ensures { IfOk result (λ answer. answer ≡ holds_for_publisher case.now act.now) }
 {
-    match command {
-        Command::Put { client, .. } | Command::Del { client, .. } => {
-            holds_for_all(alloc, case, client)
-        }
+    match act {
+        Act::Publish { client, .. } => holds_for_all(alloc, case, client),
         _ => Ok(true),
     }
 }
 
-fn holds_for_all(alloc: Global, case: &Case, author: &Zid) -> Result<bool, AllocError>
-    ensures { IfOk result (λ answer. answer ≡ holds_for_all case.now author.now) }
+fn holds_for_all(alloc: Global, case: &Case, publisher: &Zid) -> Result<bool, AllocError>
+    ensures { IfOk result (λ answer. answer ≡ holds_for_all case.now publisher.now) }
 {
-    let clients = holds_for_clients(alloc, case, author, case.before.as_slice())?;
-    let reported = holds_for_reported(alloc, case, author, case.report.as_slice())?;
+    let clients = holds_for_clients(alloc, case, publisher, case.before.as_slice())?;
+    let reported = holds_for_reported(alloc, case, publisher, case.report.as_slice())?;
     Ok(clients && reported)
 }
 
 fn holds_for_clients(
     alloc: Global,
     case: &Case,
-    author: &Zid,
-    lines: &[(u64, Command)],
+    publisher: &Zid,
+    acts: &[(u64, Act)],
 ) -> Result<bool, AllocError>
-    ensures { IfOk result (λ answer. answer ≡ list_all (λ x. holds_for_client case.now author.now x.1) lines.now) }
+    ensures { IfOk result (λ answer. answer ≡ list_all (λ x. holds_for_client case.now publisher.now x.1) acts.now) }
 {
-    for x in lines {
-        if !holds_for_client(alloc, case, author, &x.1)? {
+    for x in acts {
+        if !holds_for_client(alloc, case, publisher, &x.1)? {
             return Ok(false);
         }
     }
@@ -102,13 +95,13 @@ fn holds_for_clients(
 fn holds_for_reported(
     alloc: Global,
     case: &Case,
-    author: &Zid,
+    publisher: &Zid,
     report: &[ReportLine],
 ) -> Result<bool, AllocError>
-    ensures { IfOk result (λ answer. answer ≡ list_all (λ x. holds_for_receiver case.now author.now x) report.now) }
+    ensures { IfOk result (λ answer. answer ≡ list_all (λ x. holds_for_receiver case.now publisher.now x) report.now) }
 {
     for x in report {
-        if !holds_for_receiver(alloc, case, author, x)? {
+        if !holds_for_receiver(alloc, case, publisher, x)? {
             return Ok(false);
         }
     }
@@ -118,13 +111,13 @@ fn holds_for_reported(
 fn holds_for_client(
     alloc: Global,
     case: &Case,
-    author: &Zid,
-    command: &Command,
+    publisher: &Zid,
+    act: &Act,
 ) -> Result<bool, AllocError>
-    ensures { IfOk result (λ answer. answer ≡ holds_for_client case.now author.now command.now) }
+    ensures { IfOk result (λ answer. answer ≡ holds_for_client case.now publisher.now act.now) }
 {
-    match command {
-        Command::Client { id, .. } => pair_holds(alloc, case, author, id),
+    match act {
+        Act::Client { id, .. } => pair_holds(alloc, case, publisher, id),
         _ => Ok(true),
     }
 }
@@ -132,26 +125,31 @@ fn holds_for_client(
 fn holds_for_receiver(
     alloc: Global,
     case: &Case,
-    author: &Zid,
+    publisher: &Zid,
     line: &ReportLine,
 ) -> Result<bool, AllocError>
-    ensures { IfOk result (λ answer. answer ≡ holds_for_receiver case.now author.now line.now) }
+    ensures { IfOk result (λ answer. answer ≡ holds_for_receiver case.now publisher.now line.now) }
 {
     match line {
-        ReportLine::Taken { to, .. } => pair_holds(alloc, case, author, to),
+        ReportLine::Taken { to, .. } => pair_holds(alloc, case, publisher, to),
         _ => Ok(true),
     }
 }
 
-fn pair_holds(alloc: Global, case: &Case, author: &Zid, receiver: &Zid) -> Result<bool, AllocError>
-    ensures { IfOk result (λ answer. answer ≡ pair_holds case.now author.now receiver.now) }
+fn pair_holds(
+    alloc: Global,
+    case: &Case,
+    publisher: &Zid,
+    receiver: &Zid,
+) -> Result<bool, AllocError>
+    ensures { IfOk result (λ answer. answer ≡ pair_holds case.now publisher.now receiver.now) }
 {
     let before = case.before.as_slice();
     let phase = case.phase.as_slice();
-    let sent = sent(alloc, phase, case.report.as_slice(), author, receiver)?;
-    let due = due(alloc, before, phase, author, receiver)?;
-    let begins = is_front(sent.as_slice(), due.as_slice());
-    let ends = is_front(due.as_slice(), sent.as_slice());
+    let sent = sent(alloc, phase, case.report.as_slice(), publisher, receiver)?;
+    let due = due(alloc, before, phase, publisher, receiver)?;
+    let begins = is_prefix(sent.as_slice(), due.as_slice());
+    let ends = is_prefix(due.as_slice(), sent.as_slice());
     Ok(begins && (!case.quiet || ends))
 }
 
@@ -165,25 +163,25 @@ fn may_be_sent(case: &Case, line: &ReportLine) -> bool
     ensures { result ≡ may_be_sent case.now line.now }
 {
     match line {
-        ReportLine::Taken { msg, tag, .. } => match msg {
-            Msg::Push { .. } => *tag < case.mark || is_sample_line(case.phase.as_slice(), *tag),
-            Msg::Sub { .. } | Msg::Unsub { .. } => true,
+        ReportLine::Taken { msg, tag, .. } => match sample_of(msg) {
+            Some(_) => *tag < case.mark || is_sample_line(case.phase.as_slice(), *tag),
+            None => true,
         },
         _ => true,
     }
 }
 
-fn is_sample_line(phase: &[(u64, Command)], line: u64) -> bool
+fn is_sample_line(phase: &[(u64, Act)], line: u64) -> bool
     ensures { result ≡ is_sample_line phase.now line }
 {
     phase.iter().any(|x| x.0 == line && publishes(&x.1))
 }
 
-fn publishes(command: &Command) -> bool
-    ensures { result ≡ publishes command.now }
+fn publishes(act: &Act) -> bool
+    ensures { result ≡ publishes act.now }
 {
-    match command {
-        Command::Put { .. } | Command::Del { .. } => true,
+    match act {
+        Act::Publish { .. } => true,
         _ => false,
     }
 }

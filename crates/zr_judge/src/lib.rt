@@ -4,5 +4,3 @@
 
 pub mod judge;
 mod sample;
-#[cfg(test)]
-mod tests;

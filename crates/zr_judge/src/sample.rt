@@ -2,34 +2,36 @@
 
 ghost use Rattle.std.specs.Prelude.{◌≡◌, ◌==◌, ◌++◌, ◌∷◌, [], not, IfOk, OnOk, filter};
 ghost use Rattle.std.specs.List.{list_any};
-ghost use Rattle.zr_network.specs.Broker.{attaches, asks_for, declared_by, declarations, is_attached, wants, is_author, is_line_of, item_for, for_receiver, from};
-ghost use Rattle.zr_network.specs.Moments.{sent_in, sent_to};
-ghost use Rattle.zr_network.specs.World.{is_named};
-ghost use Rattle.zr_judge.specs.Judge.{is_same, is_same_body, is_front};
+ghost use Rattle.std.specs.Option.{option_copied, option_eq};
+ghost use Rattle.zr_guarantee.specs.Broker.{attaches, asks_for, declared_by, declarations, is_attached, publication, wants, is_publisher, is_line_of, item_for, from};
+ghost use Rattle.zr_guarantee.specs.Sent.{sample_of, sent_in, sent_to};
+ghost use Rattle.zr_judge.specs.Judge.{is_same, is_same_bytes, is_same_content, is_same_extras, is_prefix};
 
 use std::alloc::{AllocError, Global};
 use std::marker::Model;
+use zr_bytes::ByteString;
+use zr_command::command::Act;
+use zr_command::report::ReportLine;
 use zr_id::zid::Zid;
 use zr_key::key::KeyExpr;
 use zr_match::meets;
-use zr_msg::command::Command;
-use zr_msg::msg::{Body, Msg};
-use zr_msg::report::ReportLine;
+use zr_msg::content::Content;
+use zr_msg::extras::Extras;
+use zr_msg::msg::Msg;
 
 /// A sample, with the number of the line that publishes it.
 #[derive(Drop)]
 pub struct Sample {
     line: u64,
-    key: KeyExpr,
-    body: Body,
+    content: Content,
 }
 
 impl Model for Sample {
-    ghost use Rattle.zr_network.specs.Broker.{Item};
+    ghost use Rattle.zr_guarantee.specs.Item.{Item};
 
     ghost Value = { Item };
 
-    ghost view = { λ s. record { line = s.line; key = s.key; body = s.body } };
+    ghost view = { λ s. record { line = s.line; content = s.content } };
 }
 
 // What a client has declared under an id of its own.
@@ -40,53 +42,53 @@ struct Declared {
 }
 
 impl Model for Declared {
-    ghost use Rattle.zr_network.specs.Broker.{Declaration};
+    ghost use Rattle.zr_guarantee.specs.Broker.{Declaration};
 
     ghost Value = { Declaration };
 
     ghost view = { λ d. record { id = d.id; key = d.key } };
 }
 
-/// What the receiver is to have of the author's lines in a phase.
+/// What the receiver is to have of the publisher's lines in a phase.
 pub fn due(
     alloc: Global,
-    before: &[(u64, Command)],
-    phase: &[(u64, Command)],
-    author: &Zid,
+    before: &[(u64, Act)],
+    phase: &[(u64, Act)],
+    publisher: &Zid,
     receiver: &Zid,
 ) -> Result<Vec<Sample>, AllocError>
-    ensures { IfOk result (λ v. v.items ≡ from before.now phase.now author.now receiver.now) }
+    ensures { IfOk result (λ v. v.items ≡ from before.now phase.now publisher.now receiver.now) }
 {
     let mut due = Vec::new(alloc);
     for x in phase {
-        add_due(alloc, before, x, author, receiver, &mut due)?;
+        add_due(alloc, before, x, publisher, receiver, &mut due)?;
     }
     Ok(due)
 }
 
-/// What the receiver was sent of the author's lines in a phase.
+/// What the receiver was sent of the publisher's lines in a phase.
 pub fn sent(
     alloc: Global,
-    phase: &[(u64, Command)],
+    phase: &[(u64, Act)],
     report: &[ReportLine],
-    author: &Zid,
+    publisher: &Zid,
     receiver: &Zid,
 ) -> Result<Vec<Sample>, AllocError>
-    ensures { IfOk result (λ v. v.items ≡ filter (λ i. is_line_of phase.now author.now i.line) (sent_to report.now receiver.now)) }
+    ensures { IfOk result (λ v. v.items ≡ filter (λ i. is_line_of phase.now publisher.now i.line) (sent_to report.now receiver.now)) }
 {
     let mut sent = Vec::new(alloc);
     for x in report {
-        add_sent(alloc, phase, x, author, receiver, &mut sent)?;
+        add_sent(phase, x, publisher, receiver, &mut sent)?;
     }
     Ok(sent)
 }
 
 /// Whether some samples begin others.
-pub fn is_front(front: &[Sample], all: &[Sample]) -> bool
-    ensures { result ≡ is_front front.now all.now }
+pub fn is_prefix(prefix: &[Sample], all: &[Sample]) -> bool
+    ensures { result ≡ is_prefix prefix.now all.now }
 {
     let mut rest = all;
-    for x in front {
+    for x in prefix {
         let [y, more @ ..] = rest else {
             return false;
         };
@@ -98,182 +100,153 @@ pub fn is_front(front: &[Sample], all: &[Sample]) -> bool
     true
 }
 
-fn add_due(
-    alloc: Global,
-    before: &[(u64, Command)],
-    x: &(u64, Command),
-    author: &Zid,
-    receiver: &Zid,
-    out: &mut Vec<Sample>,
-) -> Result<(), AllocError>
-    ensures { OnOk result (out.new.items ≡ out.old.items ++ for_receiver before.now author.now receiver.now x.now) }
+/// What a message carries, if it is a sample.
+pub fn sample_of(msg: &Msg) -> Option<&Content>
+    ensures { option_copied result ≡ sample_of msg.now }
 {
-    match &x.1 {
-        Command::Put {
-            client,
-            key,
-            payload,
-        } => {
-            let body = Body::Put {
-                payload: payload.copy(alloc)?,
-            };
-            add_item(
-                alloc, before, x.0, client, key, &body, author, receiver, out,
-            )
-        }
-        Command::Del { client, key } => add_item(
-            alloc,
-            before,
-            x.0,
-            client,
-            key,
-            &Body::Del,
-            author,
-            receiver,
-            out,
-        ),
-        _ => Ok(()),
+    match msg {
+        Msg::Push { content, .. } => Some(content),
+        _ => None,
     }
 }
 
-// The sample of a client's line, if it is one of the author that the receiver is to have.
-fn add_item(
+fn add_due(
     alloc: Global,
-    before: &[(u64, Command)],
-    line: u64,
-    client: &Zid,
-    key: &KeyExpr,
-    body: &Body,
-    author: &Zid,
+    before: &[(u64, Act)],
+    x: &(u64, Act),
+    publisher: &Zid,
     receiver: &Zid,
     out: &mut Vec<Sample>,
 ) -> Result<(), AllocError>
-    ensures { OnOk result (out.new.items ≡ out.old.items ++ item_for before.now author.now receiver.now line client.now key.now body.now) }
+    ensures { OnOk result (out.new.items ≡ out.old.items ++ item_for before.now publisher.now receiver.now x.now.0 (publication x.now.1)) }
 {
-    if is_named(author, client) && wants(alloc, before, author, receiver, key)? {
-        add(alloc, line, key, body, out)?;
+    if let Act::Publish { client, content } = &x.1 {
+        if publisher == client && wants(alloc, before, publisher, receiver, content.key())? {
+            add(x.0, content, out)?;
+        }
     }
     Ok(())
 }
 
 fn add_sent(
-    alloc: Global,
-    phase: &[(u64, Command)],
+    phase: &[(u64, Act)],
     x: &ReportLine,
-    author: &Zid,
+    publisher: &Zid,
     receiver: &Zid,
     out: &mut Vec<Sample>,
 ) -> Result<(), AllocError>
-    ensures { OnOk result (out.new.items ≡ out.old.items ++ filter (λ i. is_line_of phase.now author.now i.line) (sent_in receiver.now x.now)) }
+    ensures { OnOk result (out.new.items ≡ out.old.items ++ filter (λ i. is_line_of phase.now publisher.now i.line) (sent_in receiver.now x.now)) }
 {
     if let ReportLine::Taken { to, msg, tag, .. } = x {
-        if let Msg::Push { key, body } = msg {
-            if is_named(receiver, to) && is_line_of(phase, author, *tag) {
-                add(alloc, *tag, key, body, out)?;
+        if let Some(content) = sample_of(msg) {
+            if receiver == to && is_line_of(phase, publisher, *tag) {
+                add(*tag, content, out)?;
             }
         }
     }
     Ok(())
 }
 
-fn add(
-    alloc: Global,
-    line: u64,
-    key: &KeyExpr,
-    body: &Body,
-    out: &mut Vec<Sample>,
-) -> Result<(), AllocError>
-    ensures { OnOk result (out.new.items ≡ out.old.items ++ record { line = line; key = key.now; body = body.now } ∷ []) }
+fn add(line: u64, content: &Content, out: &mut Vec<Sample>) -> Result<(), AllocError>
+    ensures { OnOk result (out.new.items ≡ out.old.items ++ record { line = line; content = content.now } ∷ []) }
 {
-    let key = key.copy(alloc)?;
-    let body = body.copy(alloc)?;
-    out.push(Sample { line, key, body })?;
+    let content = content.copy()?;
+    out.push(Sample { line, content })?;
     Ok(())
 }
 
 fn is_same(a: &Sample, b: &Sample) -> bool
     ensures { result ≡ is_same a.now b.now }
 {
-    a.line == b.line && a.key == b.key && is_same_body(&a.body, &b.body)
+    a.line == b.line && is_same_content(&a.content, &b.content)
 }
 
-fn is_same_body(a: &Body, b: &Body) -> bool
-    ensures { result ≡ is_same_body a.now b.now }
+fn is_same_content(a: &Content, b: &Content) -> bool
+    ensures { result ≡ is_same_content a.now b.now }
+{
+    a.key() == b.key()
+        && is_same_extras(a.extras(), b.extras())
+        && a.body().as_slice() == b.body().as_slice()
+}
+
+fn is_same_extras(a: &Extras, b: &Extras) -> bool
+    ensures { result ≡ is_same_extras a.now b.now }
+{
+    a.qos == b.qos
+        && is_same_text(&a.stamp, &b.stamp)
+        && a.budget == b.budget
+        && a.timeout == b.timeout
+        && is_same_text(&a.responder, &b.responder)
+        && a.marks == b.marks
+}
+
+fn is_same_text(a: &Option<ByteString>, b: &Option<ByteString>) -> bool
+    ensures { result ≡ option_eq is_same_bytes a.now b.now }
 {
     match (a, b) {
-        (Body::Put { payload: p }, Body::Put { payload: q }) => p.bytes() == q.bytes(),
-        (Body::Del, Body::Del) => true,
-        _ => false,
+        (Some(x), Some(y)) => x.as_slice() == y.as_slice(),
+        (None, None) => true,
+        (Some(_), None) | (None, Some(_)) => false,
     }
 }
 
 fn wants(
     alloc: Global,
-    before: &[(u64, Command)],
-    author: &Zid,
+    before: &[(u64, Act)],
+    publisher: &Zid,
     receiver: &Zid,
     key: &KeyExpr,
 ) -> Result<bool, AllocError>
-    ensures { IfOk result (λ answer. answer ≡ wants before.now author.now receiver.now key.now) }
+    ensures { IfOk result (λ answer. answer ≡ wants before.now publisher.now receiver.now key.now) }
 {
-    if is_named(author, receiver) || !is_attached(before, receiver) {
+    if publisher == receiver || !is_attached(before, receiver) {
         return Ok(false);
     }
     let declared = declarations(alloc, before, receiver)?;
     Ok(does_any_ask(declared.as_slice(), key))
 }
 
-fn is_named(a: &Zid, b: &Zid) -> bool
-    ensures { result ≡ is_named a.now b.now }
+fn is_attached(acts: &[(u64, Act)], name: &Zid) -> bool
+    ensures { result ≡ is_attached acts.now name.now }
 {
-    a.cmp(b).is_eq()
+    acts.iter().any(|x| attaches(name, &x.1))
 }
 
-fn is_attached(lines: &[(u64, Command)], name: &Zid) -> bool
-    ensures { result ≡ is_attached lines.now name.now }
+fn attaches(name: &Zid, act: &Act) -> bool
+    ensures { result ≡ attaches name.now act.now }
 {
-    lines.iter().any(|x| attaches(name, &x.1))
-}
-
-fn attaches(name: &Zid, command: &Command) -> bool
-    ensures { result ≡ attaches name.now command.now }
-{
-    match command {
-        Command::Client { id, .. } => is_named(name, id),
+    match act {
+        Act::Client { id, .. } => name == id,
         _ => false,
     }
 }
 
 // What a client has declared.
-fn declarations(
-    alloc: Global,
-    lines: &[(u64, Command)],
-    name: &Zid,
-) -> Result<Vec<Declared>, AllocError>
-    ensures { IfOk result (λ v. v.items ≡ declarations lines.now name.now) }
+fn declarations(alloc: Global, acts: &[(u64, Act)], name: &Zid) -> Result<Vec<Declared>, AllocError>
+    ensures { IfOk result (λ v. v.items ≡ declarations acts.now name.now) }
 {
     let mut so_far = Vec::new(alloc);
-    for x in lines {
+    for x in acts {
         declare(alloc, name, &x.1, &mut so_far)?;
     }
     Ok(so_far)
 }
 
-// One more command is given.
+// One more act is done.
 fn declare(
     alloc: Global,
     name: &Zid,
-    command: &Command,
+    act: &Act,
     so_far: &mut Vec<Declared>,
 ) -> Result<(), AllocError>
-    ensures { OnOk result (so_far.new.items ≡ declared_by name.now so_far.old.items command.now) }
+    ensures { OnOk result (so_far.new.items ≡ declared_by name.now so_far.old.items act.now) }
 {
-    match command {
-        Command::Sub { client, id, key } if is_named(name, client) => {
+    match act {
+        Act::Sub { client, id, key } if name == client => {
             let key = key.copy(alloc)?;
             so_far.push(Declared { id: *id, key })?;
         }
-        Command::Unsub { client, id } if is_named(name, client) => forget(so_far, *id),
+        Act::Unsub { client, id } if name == client => forget(so_far, *id),
         _ => {}
     }
     Ok(())
@@ -297,17 +270,19 @@ fn asks_for(key: &KeyExpr, declared: &Declared) -> bool
     meets(&declared.key, key)
 }
 
-fn is_line_of(phase: &[(u64, Command)], author: &Zid, line: u64) -> bool
-    ensures { result ≡ is_line_of phase.now author.now line }
+fn is_line_of(phase: &[(u64, Act)], publisher: &Zid, line: u64) -> bool
+    ensures { result ≡ is_line_of phase.now publisher.now line }
 {
-    phase.iter().any(|x| x.0 == line && is_author(author, &x.1))
+    phase
+        .iter()
+        .any(|x| x.0 == line && is_publisher(publisher, &x.1))
 }
 
-fn is_author(author: &Zid, command: &Command) -> bool
-    ensures { result ≡ is_author author.now command.now }
+fn is_publisher(publisher: &Zid, act: &Act) -> bool
+    ensures { result ≡ is_publisher publisher.now act.now }
 {
-    match command {
-        Command::Put { client, .. } | Command::Del { client, .. } => is_named(author, client),
+    match act {
+        Act::Publish { client, .. } => publisher == client,
         _ => false,
     }
 }

@@ -3,9 +3,8 @@ use Rattle.std.proofs.Common.{◌≡◌, Bool, true, false, cond, List, [], ◌�
 use Rattle.std.specs.Prelude.{ℕ, ◌&&◌, not, is_none, map, filter}
 use Rattle.std.specs.List.{list_all, reduce}
 use Rattle.std.specs.Map.{values_of}
-use Rattle.zr_network.specs.World.{ClientState, Clients, WorldState, is_empty}
-use Rattle.zr_network.specs.Acts.{End, lesser, ends_where, first_where, has_sent, has_queued, handling, taking, next}
-use Rattle.zr_network.specs.Moments.{is_idle, is_quiet}
+use Rattle.zr_network.specs.World.{ClientState, Clients, WorldState, is_empty, is_idle, is_quiet}
+use Rattle.zr_network.specs.Next.{End, lesser, ends_where, first_where, has_sent, has_queued, step_at, next}
 
 -- whether some ends are none
 abbrev none_of : List End → Bool
@@ -16,7 +15,7 @@ no_first : (es : List End) → is_none (reduce lesser es) ≡ none_of es
 no_first [] = refl
 no_first (e ∷ es) = refl
 
-no_step : (sent queued : Option End) → is_none (handling sent (taking queued)) ≡ (is_none sent && is_none queued)
+no_step : (sent queued : Option End) → is_none (step_at sent queued) ≡ (is_none sent && is_none queued)
 no_step (Some e) queued = refl
 no_step None (Some e) = refl
 no_step None None = refl

@@ -1,22 +1,24 @@
 -- The law on samples. The lines before the mark give what is known there, the lines of the phase keep the flow, and at any
--- moment the flow is the law: what was sent stands in front of what is still on the way, and where nothing is under way
+-- moment the flow is the law: what was sent is a prefix of all that stands in the places, and where nothing is under way
 -- nothing follows it. That nothing else was sent is the invariant of the tags.
 use Rattle.std.proofs.Common.{◌≡◌, ℕ, Bool, true, List, [], ◌∷◌, ◌++◌, Option, Some, None, refl, sym, ap, ◌∙◌, subst, append-nil}
 use Rattle.std.specs.Prelude.{◌||◌, nat_lt, is_some, IfSome}
 use Rattle.std.specs.List.{fold, list_all}
 use Rattle.std.proofs.lemmas.Bool.{false≢true, and_parts, or_left}
 use Rattle.std.proofs.lemmas.List.Sums.{fold-append}
-use Rattle.zr_msg.specs.declared.command.Command.TheVariants as c
-use Rattle.zr_network.specs.World.{Tagged, ClientState, client_of, empty_world, is_empty, mark_step, outcome}
-use Rattle.zr_network.specs.Phase.{Numbered, ascends}
-use Rattle.zr_network.specs.Broker.{is_sample_line}
-use Rattle.zr_network.specs.Moments.{Moment, beginning, went, onward, reached, is_idle, is_quiet, sent_to}
-use Rattle.zr_network.specs.Refines.{sent_of, Refines, SamplesRefine}
+use Rattle.zr_command.specs.declared.command.Act.TheVariants as c
 use Rattle.zr_network.proofs.Names.{of_some, found}
+use Rattle.zr_command.specs.declared.report.ReportLine.TheVariants as line
+use Rattle.zr_network.specs.World.{Tagged, ClientState, client_of, empty_world, is_empty, is_idle, is_quiet}
+use Rattle.zr_network.specs.Acts.{mark_step, outcome}
+use Rattle.zr_network.specs.Moments.{Numbered, ascends, Moment, beginning, went, onward, reached}
+use Rattle.zr_guarantee.specs.Broker.{is_sample_line}
+use Rattle.zr_guarantee.specs.Sent.{sent_to}
+use Rattle.zr_guarantee.specs.Refines.{sent_of, Refines, SamplesRefine}
+use Rattle.zr_network.proofs.Cases.{for_mark}
 use Rattle.zr_laws.proofs.Lists.{weaker}
 use Rattle.zr_laws.proofs.Places.{hops, along}
 use Rattle.zr_laws.proofs.Queues.{queue_of, wire_of}
-use Rattle.zr_laws.proofs.Cases.{for_mark}
 use Rattle.zr_laws.proofs.Pair.{held, Flows}
 use Rattle.zr_laws.proofs.Phases.{phase_keeps}
 use Rattle.zr_laws.proofs.Numbers.{around_mark, agrees_from, tagging_before, tagging_phase}
@@ -24,7 +26,6 @@ use Rattle.zr_laws.proofs.Tags.{Tags, tags_kept, more_report}
 use Rattle.zr_laws.proofs.Known.{Known}
 use Rattle.zr_laws.proofs.Tables.{known_after}
 use Rattle.zr_laws.proofs.Start.{Marked, pair_of, routed, starts}
-use Rattle.zr_msg.specs.declared.report.ReportLine.TheVariants as line
 
 -- ---- to the mark
 

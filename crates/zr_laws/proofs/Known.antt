@@ -8,15 +8,17 @@ use Rattle.std.proofs.Math.Bool.{or-false}
 use Rattle.std.proofs.lemmas.Bool.{false≢true, or_parts}
 use Rattle.std.proofs.lemmas.List.Folds.{list_any-append}
 use Rattle.std.proofs.lemmas.List.Sums.{fold-append}
+use Rattle.zr_id.specs.Zid.{is_named}
 use Rattle.zr_msg.specs.declared.msg.Msg.{Msg}
-use Rattle.zr_msg.specs.declared.msg.Msg.TheVariants as m
-use Rattle.zr_msg.specs.declared.command.Command.{Command}
+use Rattle.zr_msg.specs.declared.peer.Peer.{Peer}
+use Rattle.zr_command.specs.declared.command.Act.{Act}
 use Rattle.zr_table.specs.State.{Subscription, LinkState}
-use Rattle.zr_table.specs.Table.{undeclared, declared}
-use Rattle.zr_network.specs.World.{Tagged, ClientState, RouterState, WorldState, Routers, is_named, router_of, client_of, with_router}
-use Rattle.zr_network.specs.Phase.{Numbered}
-use Rattle.zr_network.specs.Broker.{Declaration, attaches, is_attached, declared_by, declarations}
+use Rattle.zr_table.specs.Table.{undeclared}
+use Rattle.zr_network.specs.World.{Tagged, ClientState, RouterState, WorldState, Routers, router_of, client_of, with_router}
+use Rattle.zr_network.specs.Moments.{Numbered}
+use Rattle.zr_guarantee.specs.Broker.{Declaration, attaches, is_attached, declared_by, declarations}
 use Rattle.zr_laws.proofs.Queues.{is_at, links_at}
+use Rattle.zr_laws.proofs.Messages.{hear, news_of}
 
 -- ---- the invariant
 
@@ -34,23 +36,11 @@ all_links routers = flat_map (λ e. e.1.node.links) routers
 abbrev pub as_declaration : Subscription → Declaration
 as_declaration s = record { id = s.id; key = s.key }
 
--- what a message does to the rows of its client's link
-abbrev pub hear : List Subscription → Msg → List Subscription
-hear rows (m.Sub id key) = declared rows id key
-hear rows (m.Unsub id) = undeclared rows id
-hear rows (m.Push key body) = rows
-
--- a message, if it is no sample
-abbrev pub news_of : Msg → List Msg
-news_of (m.Sub id key) = m.Sub id key ∷ []
-news_of (m.Unsub id) = m.Unsub id ∷ []
-news_of (m.Push key body) = []
-
--- the messages on a wire that are no samples
+-- the messages on a wire that change rows
 abbrev pub waiting : List Tagged → List Msg
 waiting xs = flat_map (λ x. news_of x.msg) xs
 
--- what of a client matters: its link, its ids, and what is on its wire that is no sample
+-- what of a client matters: its link, its ids, and what is on its wire that changes rows
 pub record View : Type 0 where
   pub link : ℕ
   pub ids : List ℕ
@@ -66,9 +56,10 @@ view (Some s) = Some (view_of s)
 -- a client that is there
 pub record Joins (attached : Bool) (said : List Declaration) (ns : List (List ℕ)) (links : List LinkState) (d : List ℕ) (v : View) : Type 0 where
   pub is_there : attached ≡ true
-  -- it has one link, with these rows
+  -- it has one link, with some peer and these rows
+  pub peer : Peer
   pub rows : List Subscription
-  pub one : links_at ns d links ≡ record { link = record { 0 = v.link }; subs = rows } ∷ []
+  pub one : links_at ns d links ≡ record { link = record { 0 = v.link }; peer = peer; subs = rows } ∷ []
   pub own : is_at (slice_get ns v.link) d ≡ true
   -- they are what it has declared, once its wire is heard
   pub flow : map as_declaration (fold hear rows v.on_way) ≡ said
@@ -107,12 +98,12 @@ nothing_replaced (s ∷ rows) id h =
 
 -- ---- lines
 
-pub attached_more : (lines : List Numbered) (n : ℕ) (command : Command) (d : List ℕ) → is_attached (lines ++ (n, command) ∷ []) d ≡ (is_attached lines d || attaches d command)
-attached_more lines n command d =
-    list_any-append (λ x. attaches d x.1) lines ((n, command) ∷ []) ∙ ap (λ z. is_attached lines d || z) (or-false (attaches d command))
+pub attached_more : (lines : List Numbered) (n : ℕ) (act : Act) (d : List ℕ) → is_attached (lines ++ (n, act) ∷ []) d ≡ (is_attached lines d || attaches d act)
+attached_more lines n act d =
+    list_any-append (λ x. attaches d x.1) lines ((n, act) ∷ []) ∙ ap (λ z. is_attached lines d || z) (or-false (attaches d act))
 
-pub declarations_more : (lines : List Numbered) (n : ℕ) (command : Command) (d : List ℕ) → declarations (lines ++ (n, command) ∷ []) d ≡ declared_by d (declarations lines d) command
-declarations_more lines n command d = fold-append (λ so_far x. declared_by d so_far x.1) [] lines ((n, command) ∷ [])
+pub declarations_more : (lines : List Numbered) (n : ℕ) (act : Act) (d : List ℕ) → declarations (lines ++ (n, act) ∷ []) d ≡ declared_by d (declarations lines d) act
+declarations_more lines n act d = fold-append (λ so_far x. declared_by d so_far x.1) [] lines ((n, act) ∷ [])
 
 -- ---- links
 

@@ -2,7 +2,7 @@ pub mod OnLiterals
 pub mod Lists
 pub mod Places
 pub mod Queues
-pub mod Cases
+pub mod Messages
 pub mod Pair
 pub mod Steps
 pub mod Phases
@@ -12,6 +12,7 @@ pub mod Known
 pub mod Tables
 pub mod Start
 pub mod Final
+pub mod Counting
 pub mod Lines
 pub mod KeyTexts
 pub mod AtRest

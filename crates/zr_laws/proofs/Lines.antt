@@ -1,67 +1,65 @@
 -- The accepted acts of a script's lines lead to a moment, which is what the run of the lines tells; so the law on samples
 -- holds of every script. A line either leaves the run as it was, but for its number and a refusal, or adds its acts and what
--- they do (`line_cases`); what a line's acts lead to is an induction over them (`acts_lead`), and so is each over lines.
-use Rattle.std.proofs.Common.{◌≡◌, ℕ, zero, suc, true, cond, List, [], ◌∷◌, ◌++◌, map, Option, Some, None, Result, Ok, Err, ◌≤◌, ◌<◌, ◌+◌, refl, sym, ap, ◌∙◌, subst, append_assoc, append-nil, arith}
-use Rattle.std.specs.Prelude.{◌&&◌, nat_lt, nat_le, filter, flat_map, is_some, option_to_list, IfSome}
+-- its command does (`line_cases`), which is what these acts do, whatever runs asked for before (`is_led`). What they lead to is an
+-- induction over them (`acts_lead`), and so is each over lines.
+use Rattle.std.proofs.Common.{◌≡◌, ℕ, zero, suc, Bool, true, false, cond, List, [], ◌∷◌, ◌++◌, length, map, Option, Some, None, Result, Ok, Err, ◌≤◌, ◌<◌, ◌+◌, refl, sym, ap, ◌∙◌, subst, append_assoc, append-nil, arith, inl, inr}
+use Rattle.std.specs.Prelude.{◌&&◌, ◌⊎◌, nat_lt, nat_le, filter, flat_map, is_some, is_none, option_to_list, IfSome}
 use Rattle.std.specs.List.{fold, list_all}
-use Rattle.std.proofs.lemmas.Bool.{false≢true, and_parts, and_from, or_left, or_right, lt-ltb, le-leb}
+use Rattle.std.proofs.lemmas.Bool.{false≢true, and_parts, and_from, or_left, or_right, or_cases, ltb-true, leb-true, lt-ltb, le-leb}
 use Rattle.std.proofs.lemmas.Grind.{flat_map-append}
 use Rattle.std.proofs.lemmas.List.Elements.{filter-append}
 use Rattle.std.proofs.lemmas.List.Sums.{fold-append}
-use Rattle.zr_msg.specs.declared.msg.Body.TheVariants as b
-use Rattle.zr_msg.specs.declared.error.ScriptError.{ScriptError}
-use Rattle.zr_msg.specs.declared.command.Command.{Command}
-use Rattle.zr_msg.specs.declared.command.Command.TheVariants as c
-use Rattle.zr_msg.specs.declared.report.ReportLine.{ReportLine}
-use Rattle.zr_network.specs.Command.{command_of}
-use Rattle.zr_network.specs.Step.{◌>>=◌}
-use Rattle.zr_network.specs.World.{WorldState, Outcome, booking, outcome}
-use Rattle.zr_network.specs.Acts.{End, handling, taking, has_sent, has_queued, first_where, world_after, with_more, run_steps, acts, closing, Done, all_done, applied}
-use Rattle.zr_network.specs.Report.{line_text}
+use Rattle.zr_command.specs.declared.error.ScriptError.{ScriptError}
+use Rattle.zr_command.specs.declared.error.ScriptError.TheVariants.{Limit}
+use Rattle.zr_command.specs.declared.command.Act.{Act}
+use Rattle.zr_command.specs.declared.command.Act.TheVariants as c
+use Rattle.zr_command.specs.declared.command.Command.{Command}
+use Rattle.zr_command.specs.declared.command.Command.TheVariants as command
+use Rattle.zr_command.specs.declared.report.ReportLine.{ReportLine}
+use Rattle.zr_command.specs.declared.report.ReportLine.TheVariants.{Ran}
+use Rattle.zr_language.specs.Step.{◌>>=◌}
+use Rattle.zr_language.specs.Command.{command_of}
+use Rattle.zr_language.specs.Report.{line_text}
+use Rattle.zr_network.specs.World.{WorldState, with_booked, most_steps}
+use Rattle.zr_network.specs.Acts.{Outcome, outcome}
+use Rattle.zr_network.specs.Next.{End, step_at, has_sent, has_queued, first_where, next, world_after, with_more, run_steps, acts, Done, all_done, book_step, run_done, act_done, applied}
 use Rattle.zr_network.specs.Run.{Run, start, stepped, commanded, on_line}
-use Rattle.zr_network.specs.Phase.{Numbered, is_step, is_later, ascends}
-use Rattle.zr_network.specs.Moments.{Moment, beginning, went, onward, reached}
-use Rattle.zr_network.specs.Refines.{Refines}
-use Rattle.zr_network.specs.Accepted.{entries, accepted_from, accepted, is_of_step, IsTold, LinesAreMoments, LinesRefine}
+use Rattle.zr_network.specs.Moments.{Numbered, is_step, is_later, ascends, Moment, beginning, went, onward, reached}
+use Rattle.zr_network.specs.Accepted.{entries, accepted_from, accepted, is_of_step, IsTold, LinesAreMoments}
+use Rattle.zr_guarantee.specs.Refines.{Refines}
+use Rattle.zr_guarantee.specs.Scripts.{LinesRefine}
+use Rattle.zr_network.proofs.Cases.{for_router, for_client, for_sub, for_unsub, for_publish, for_handle, for_take, for_mark}
 use Rattle.zr_laws.proofs.Lists.{filter_all, all_of_filter, all_both, all_parts}
-use Rattle.zr_laws.proofs.Cases.{for_router, for_client, for_sub, for_unsub, for_push, for_handle, for_take, for_run, for_mark}
 use Rattle.zr_laws.proofs.Final.{at_some, refused_stays, samples_refine}
+use Rattle.zr_laws.proofs.Counting.{recounted, outcome_recounted, steps_recounted, acts_recounted, done_recounted}
 
 -- ---- a line
 
 -- acts with the number of their line
-abbrev pub numbered : ℕ → List Command → List Numbered
+abbrev pub numbered : ℕ → List Act → List Numbered
 numbered n xs = map (λ a. (n, a)) xs
 
--- the run behind a line whose acts were done
-abbrev pub behind : Run → Command → List ReportLine × WorldState → Run
-behind r command x = record {
-  world = x.1;
-  number = r.number + 1;
-  text = r.text ++ flat_map line_text (x.0 ++ closing r.world (r.number + 1) command x.1);
-  refusal = None;
-}
+-- the run behind a line whose command was done
+abbrev pub behind : Run → List ReportLine × WorldState → Run
+behind r x = record { world = x.1; number = r.number + 1; text = r.text ++ flat_map line_text x.0; refusal = None }
 
 -- what one line does to a run, and which acts it adds
 line_cases : (r : Run) (line : List ℕ) (P : Run → List Numbered → Type 0) →
     ((r' : Run) → r'.world ≡ r.world → r'.text ≡ r.text → r.number ≤ r'.number → P r' []) →
-    ((command : Command) (x : List ReportLine × WorldState) → all_done r.world (r.number + 1) (acts r.world (r.number + 1) command) ≡ Ok x →
-    P (behind r command x) (numbered (r.number + 1) (acts r.world (r.number + 1) command))) →
+    ((asked : Command) (x : List ReportLine × WorldState) → applied r.world (r.number + 1) asked ≡ Ok x →
+    P (behind r x) (numbered (r.number + 1) (acts r.world (r.number + 1) asked))) →
     P (on_line r line) (entries (on_line r line).refusal (r.number + 1) r.world (command_of line))
-unfolding applied
 line_cases r line P same step = by_refusal r.refusal refl
   where
     n : ℕ
     n = r.number + 1
 
-    by_done : (command : Command) (o : Done) → all_done r.world n (acts r.world n command) ≡ o →
-        P (stepped r (o >>= (λ x. Ok (x.0 ++ closing r.world n command x.1, x.1))))
-        (entries (stepped r (o >>= (λ x. Ok (x.0 ++ closing r.world n command x.1, x.1)))).refusal n r.world (Ok (Some command)))
-    by_done command (Ok x) e = step command x e
-    by_done command (Err f) e = same (record { world = r.world; number = n; text = r.text; refusal = Some f }) refl refl (omega arith)
+    by_done : (asked : Command) (o : Done) → applied r.world n asked ≡ o → P (stepped r o) (entries (stepped r o).refusal n r.world (Ok (Some asked)))
+    by_done asked (Ok x) e = step asked x e
+    by_done asked (Err f) e = same (record { world = r.world; number = n; text = r.text; refusal = Some f }) refl refl (omega arith)
 
     by_command : (k : Result (Option Command) ScriptError) → P (commanded r k) (entries (commanded r k).refusal n r.world k)
-    by_command (Ok (Some command)) = by_done command (all_done r.world n (acts r.world n command)) refl
+    by_command (Ok (Some asked)) = by_done asked (applied r.world n asked) refl
     by_command (Ok None) = same (record { world = r.world; number = n; text = r.text; refusal = None }) refl refl (omega arith)
     by_command (Err f) = same (record { world = r.world; number = n; text = r.text; refusal = Some f }) refl refl (omega arith)
 
@@ -78,54 +76,53 @@ unfolding run_steps
 all_steps line zero w = refl
 all_steps line (suc n) w = by (first_where has_sent w.clients) (first_where has_queued w.clients) (λ step. all_steps line n (world_after w (outcome w line step)))
   where
-    by : (first second : Option End) → ((step : Command) → list_all is_step (run_steps line n (world_after w (outcome w line step))) ≡ true) →
-        list_all is_step (with_more (handling first (taking second)) (λ step. run_steps line n (world_after w (outcome w line step)))) ≡ true
+    by : (first second : Option End) → ((step : Act) → list_all is_step (run_steps line n (world_after w (outcome w line step))) ≡ true) →
+        list_all is_step (with_more (step_at first second) (λ step. run_steps line n (world_after w (outcome w line step)))) ≡ true
     by (Some e) second ih = ih (c.Handle e.0 e.1)
     by None (Some e) ih = ih (c.Take e.0 e.1)
     by None None ih = refl
 
--- one act of a new number
-one_ascends : (last n : ℕ) (command : Command) (rest : List Numbered) → last < n → ascends n rest ≡ true → ascends last ((n, command) ∷ rest) ≡ true
-one_ascends last n command rest lt h = and_from (is_later last (n, command)) (ascends n rest) (or_left (nat_lt last n) (is_step command && nat_le last n) (lt-ltb last n lt)) h
+-- what ascends from a number ascends from a lesser one
+ascends_from : (last n : ℕ) (rest : List Numbered) → last ≤ n → ascends n rest ≡ true → ascends last rest ≡ true
+ascends_from last n [] le h = refl
+ascends_from last n (x ∷ xs) le h =
+    let parts = and_parts (is_later n x) (ascends x.0 xs) h in
+    and_from (is_later last x) (ascends x.0 xs) (by (or_cases (nat_lt n x.0) (is_step x.1 && nat_le n x.0) parts.0)) parts.1
+  where
+    by : (nat_lt n x.0 ≡ true) ⊎ ((is_step x.1 && nat_le n x.0) ≡ true) → is_later last x ≡ true
+    by (inl k) = let lt : n < x.0 = ltb-true n x.0 k in or_left (nat_lt last x.0) (is_step x.1 && nat_le last x.0) (lt-ltb last x.0 (omega arith))
+    by (inr k) =
+        let both = and_parts (is_step x.1) (nat_le n x.0) k in
+        let most : n ≤ x.0 = leb-true n x.0 both.1 in
+        or_right (nat_lt last x.0) (is_step x.1 && nat_le last x.0) (and_from (is_step x.1) (nat_le last x.0) both.0 (le-leb last x.0 (omega arith)))
 
 -- steps of one number
-steps_ascend : (n : ℕ) (more : List Command) (rest : List Numbered) → list_all is_step more ≡ true → ascends n rest ≡ true → ascends n (numbered n more ++ rest) ≡ true
-steps_ascend n [] rest all h = h
-steps_ascend n (a ∷ more) rest all h =
+steps_ascend : (last n : ℕ) (more : List Act) (rest : List Numbered) → last ≤ n → list_all is_step more ≡ true → ascends n rest ≡ true → ascends last (numbered n more ++ rest) ≡ true
+steps_ascend last n [] rest le all h = ascends_from last n rest le h
+steps_ascend last n (a ∷ more) rest le all h =
     let parts = and_parts (is_step a) (list_all is_step more) all in
-    and_from (is_later n (n, a)) (ascends n (numbered n more ++ rest))
-    (or_right (nat_lt n n) (is_step a && nat_le n n) (and_from (is_step a) (nat_le n n) parts.0 (le-leb n n (omega arith))))
-    (steps_ascend n more rest parts.1 h)
+    and_from (is_later last (n, a)) (ascends n (numbered n more ++ rest))
+    (or_right (nat_lt last n) (is_step a && nat_le last n) (and_from (is_step a) (nat_le last n) parts.0 (le-leb last n le)))
+    (steps_ascend n n more rest (omega arith) parts.1 h)
 
 -- the acts of a line
-acts_ascend : (w : WorldState) (last n : ℕ) (command : Command) (rest : List Numbered) → last < n → ascends n rest ≡ true → ascends last (numbered n (acts w n command) ++ rest) ≡ true
-acts_ascend w last n (c.Run steps) rest lt h =
-    one_ascends last n (c.Run steps) (numbered n (run_steps n steps (booking w steps)) ++ rest) lt
-    (steps_ascend n (run_steps n steps (booking w steps)) rest (all_steps n steps (booking w steps)) h)
-acts_ascend w last n (c.Router id) rest lt h = one_ascends last n (c.Router id) rest lt h
-acts_ascend w last n (c.Client id router) rest lt h = one_ascends last n (c.Client id router) rest lt h
-acts_ascend w last n (c.Sub client id key) rest lt h = one_ascends last n (c.Sub client id key) rest lt h
-acts_ascend w last n (c.Unsub client id) rest lt h = one_ascends last n (c.Unsub client id) rest lt h
-acts_ascend w last n (c.Put client key payload) rest lt h = one_ascends last n (c.Put client key payload) rest lt h
-acts_ascend w last n (c.Del client key) rest lt h = one_ascends last n (c.Del client key) rest lt h
-acts_ascend w last n (c.Handle router from) rest lt h = one_ascends last n (c.Handle router from) rest lt h
-acts_ascend w last n (c.Take router to) rest lt h = one_ascends last n (c.Take router to) rest lt h
-acts_ascend w last n c.Mark rest lt h = one_ascends last n c.Mark rest lt h
+acts_ascend : (w : WorldState) (last n : ℕ) (asked : Command) (rest : List Numbered) → last < n → ascends n rest ≡ true → ascends last (numbered n (acts w n asked) ++ rest) ≡ true
+acts_ascend w last n (command.Run steps) rest lt h = steps_ascend last n (run_steps n steps w) rest (omega arith) (all_steps n steps w) h
+acts_ascend w last n (command.Act act) rest lt h = and_from (is_later last (n, act)) (ascends n rest) (or_left (nat_lt last n) (is_step act && nat_le last n) (lt-ltb last n lt)) h
 
 numbers_ascend : (ls : List (List ℕ)) (r : Run) (last : ℕ) → last ≤ r.number → ascends last (accepted_from r ls) ≡ true
 numbers_ascend [] r last le = refl
 numbers_ascend (l ∷ ls) r last le =
     line_cases r l (λ r' xs. ascends last (xs ++ accepted_from r' ls) ≡ true)
     (λ r' ew et le'. numbers_ascend ls r' last (omega arith))
-    (λ command x e.
-    acts_ascend r.world last (r.number + 1) command (accepted_from (behind r command x) ls) (omega arith) (numbers_ascend ls (behind r command x) (r.number + 1) (omega arith)))
+    (λ asked x e. acts_ascend r.world last (r.number + 1) asked (accepted_from (behind r x) ls) (omega arith) (numbers_ascend ls (behind r x) (r.number + 1) (omega arith)))
 
--- the front of ascending lines ascends
-front_ascends : (last : ℕ) (xs ys : List Numbered) → ascends last (xs ++ ys) ≡ true → ascends last xs ≡ true
-front_ascends last [] ys h = refl
-front_ascends last (x ∷ xs) ys h =
+-- the first of some ascending acts ascend
+prefix_ascends : (last : ℕ) (xs ys : List Numbered) → ascends last (xs ++ ys) ≡ true → ascends last xs ≡ true
+prefix_ascends last [] ys h = refl
+prefix_ascends last (x ∷ xs) ys h =
     let parts = and_parts (is_later last x) (ascends x.0 (xs ++ ys)) h in
-    and_from (is_later last x) (ascends x.0 xs) parts.0 (front_ascends x.0 xs ys parts.1)
+    and_from (is_later last x) (ascends x.0 xs) parts.0 (prefix_ascends x.0 xs ys parts.1)
 
 -- ---- moments
 
@@ -135,7 +132,7 @@ made m (Ok x) = Some (record { world = x.1; report = m.report ++ x.0 })
 made m (Err e) = None
 
 -- what some acts of a line do is the moment that they lead to
-acts_lead : (more : List Command) (n : ℕ) (m : Moment) → fold onward (Some m) (numbered n more) ≡ made m (all_done m.world n more)
+acts_lead : (more : List Act) (n : ℕ) (m : Moment) → fold onward (Some m) (numbered n more) ≡ made m (all_done m.world n more)
 acts_lead [] n m = ap (λ z. Some (record { world = m.world; report = z })) (sym (append-nil m.report))
 acts_lead (a ∷ more) n m = by_act (outcome m.world n a) (acts_lead more n)
   where
@@ -153,23 +150,21 @@ abbrev pub IsOfSteps : Moment → Type 0
 IsOfSteps m = list_all is_of_step m.report ≡ true
 
 -- each act reports a step, a mark or nothing
-act_tells : (now : Moment) → IsOfSteps now → (n : ℕ) (command : Command) → IfSome (went now (outcome now.world n command)) IsOfSteps
+act_tells : (now : Moment) → IsOfSteps now → (n : ℕ) (act : Act) → IfSome (went now (outcome now.world n act)) IsOfSteps
 unfolding outcome
-act_tells now h n command = by command
+act_tells now h n act = by act
   where
     more : (xs : List ReportLine) → list_all is_of_step xs ≡ true → list_all is_of_step (now.report ++ xs) ≡ true
     more xs k = all_both is_of_step now.report xs h k
 
-    by : (command : Command) → IfSome (went now (outcome now.world n command)) IsOfSteps
+    by : (act : Act) → IfSome (went now (outcome now.world n act)) IsOfSteps
     by (c.Router id) = for_router now IsOfSteps id (λ first. more [] refl)
     by (c.Client id router) = for_client now IsOfSteps id router (λ r er free. more [] refl)
     by (c.Sub client id key) = for_sub now IsOfSteps n client id key (λ s e fresh r er. more [] refl)
     by (c.Unsub client id) = for_unsub now IsOfSteps n client id (λ s e. more [] refl)
-    by (c.Put client key payload) = for_push now IsOfSteps n client key (b.Put payload) (λ s e. more [] refl)
-    by (c.Del client key) = for_push now IsOfSteps n client key b.Del (λ s e. more [] refl)
+    by (c.Publish client content) = for_publish now IsOfSteps n client content (λ s e. more [] refl)
     by (c.Handle router from) = for_handle now IsOfSteps router from (λ r er s e msg tag xs front. all_both is_of_step now.report _ h refl)
     by (c.Take router to) = for_take now IsOfSteps router to (λ s e x xs front. all_both is_of_step now.report _ h refl)
-    by (c.Run steps) = for_run now IsOfSteps steps (more [] refl)
     by c.Mark = for_mark now IsOfSteps n (λ settled. all_both is_of_step now.report _ h refl)
 
 -- so do any acts
@@ -181,37 +176,75 @@ acts_tell (x ∷ xs) o h = acts_tell xs (onward o x) (by o h)
     by None k = tt
     by (Some now) k = act_tells now k x.0 x.1
 
--- what is said at the end of a line is of no step
-closing_left_out : (w : WorldState) (n : ℕ) (command : Command) (after : WorldState) → filter is_of_step (closing w n command after) ≡ []
-closing_left_out w n (c.Run steps) after = refl
-closing_left_out w n (c.Router id) after = refl
-closing_left_out w n (c.Client id router) after = refl
-closing_left_out w n (c.Sub client id key) after = refl
-closing_left_out w n (c.Unsub client id) after = refl
-closing_left_out w n (c.Put client key payload) after = refl
-closing_left_out w n (c.Del client key) after = refl
-closing_left_out w n (c.Handle router from) after = refl
-closing_left_out w n (c.Take router to) after = refl
-closing_left_out w n c.Mark after = refl
+-- What the command of a line does is what its acts do, in a world with any count of steps, and then what is said of a run's end.
+record IsLed (w : WorldState) (n : ℕ) (asked : Command) (x : List ReportLine × WorldState) : Type 0 where
+  said : List ReportLine
+  after : WorldState
+  is_done : all_done w n (acts w n asked) ≡ Ok (said, after)
+  world_is : x.1 ≡ with_booked after x.1.booked
+  ends : List ReportLine
+  lines_are : x.0 ≡ said ++ ends
+  left_out : filter is_of_step ends ≡ []
+
+is_led : (w : WorldState) (booked n : ℕ) (asked : Command) (x : List ReportLine × WorldState) → applied (with_booked w booked) n asked ≡ Ok x → IsLed w n asked x
+unfolding applied run_done book_step
+is_led w booked n (command.Act act) x h = by (outcome w n act) refl (ap act_done (sym (outcome_recounted w booked n act)) ∙ h)
+  where
+    by : (o : Outcome) → outcome w n act ≡ o → act_done (recounted booked o) ≡ Ok x → IsLed w n (command.Act act) x
+    by (Err e) eq k = absurd (cc)
+    by (Ok y) eq k =
+        let same : (option_to_list y.0, with_booked y.1 booked) ≡ x = cc in
+        subst (λ (z : List ReportLine × WorldState). IsLed w n (command.Act act) z) same (record {
+          said = option_to_list y.0 ++ [];
+          after = y.1;
+          is_done = ap (λ (o : Outcome). o >>= (λ z. all_done z.1 n [] >>= (λ t. Ok (option_to_list z.0 ++ t.0, t.1)))) eq;
+          world_is = refl;
+          ends = [];
+          lines_are = sym (append-nil (option_to_list y.0 ++ []) ∙ append-nil (option_to_list y.0));
+          left_out = refl;
+        })
+is_led w booked n (command.Run steps) x h = by_room (nat_le (booked + steps) most_steps) h
+  where
+    counted : WorldState
+    counted = with_booked w (booked + steps)
+
+    end : WorldState → ReportLine
+    end v = Ran (length (run_steps n steps counted)) (is_none (next v))
+
+    by_room : (b : Bool) → (cond b (Ok counted) (Err Limit) >>= run_done n steps) ≡ Ok x → IsLed w n (command.Run steps) x
+    by_room false k = absurd (cc)
+    by_room true k = by_steps (all_done w n (run_steps n steps w)) refl (ap (λ (d : Done). d >>= (λ y. Ok (y.0 ++ end y.1 ∷ [], y.1))) (sym steps_are) ∙ k)
+      where
+        steps_are : all_done counted n (run_steps n steps counted) ≡ recounted (booked + steps) (all_done w n (run_steps n steps w))
+        steps_are = ap (all_done counted n) (steps_recounted n steps w (booked + steps)) ∙ done_recounted n (run_steps n steps w) w (booked + steps)
+
+        by_steps : (d : Done) → all_done w n (run_steps n steps w) ≡ d → (recounted (booked + steps) d >>= (λ y. Ok (y.0 ++ end y.1 ∷ [], y.1))) ≡ Ok x → IsLed w n (command.Run steps) x
+        by_steps (Err e) eq k = absurd (cc)
+        by_steps (Ok y) eq k =
+            let same : (y.0 ++ end (with_booked y.1 (booked + steps)) ∷ [], with_booked y.1 (booked + steps)) ≡ x = cc in
+            subst (λ (z : List ReportLine × WorldState). IsLed w n (command.Run steps) z) same (record {
+              said = y.0;
+              after = y.1;
+              is_done = eq;
+              world_is = refl;
+              ends = end (with_booked y.1 (booked + steps)) ∷ [];
+              lines_are = refl;
+              left_out = refl;
+            })
 
 -- the moment behind a line is told by the run behind it
-line_told : (r : Run) (m : Moment) (command : Command) (x : List ReportLine × WorldState) → (h : IsTold r m) → list_all is_of_step x.0 ≡ true →
-    IsTold (behind r command x) (record { world = x.1; report = m.report ++ x.0 })
-line_told r m command x h steps = record {
-  world_is = refl;
-  all = h.all ++ said;
-  text_is = ap (λ z. z ++ flat_map line_text said) h.text_is ∙ sym (flat_map-append line_text h.all said);
-  report_is = ap (λ z. z ++ x.0) h.report_is
-      ∙ ap (λ z. filter is_of_step h.all ++ z)
-      (sym (filter-append is_of_step x.0 ends ∙ ap (λ z. filter is_of_step x.0 ++ z) (closing_left_out r.world (r.number + 1) command x.1) ∙ append-nil (filter is_of_step x.0) ∙ filter_all is_of_step x.0 steps))
-      ∙ sym (filter-append is_of_step h.all said);
+line_told : (r : Run) (m : Moment) (asked : Command) (x : List ReportLine × WorldState) → (h : IsTold r m) → (led : IsLed m.world (r.number + 1) asked x) →
+    list_all is_of_step led.said ≡ true → IsTold (behind r x) (record { world = led.after; report = m.report ++ led.said })
+line_told r m asked x h led steps = record {
+  world_is = led.world_is;
+  all = h.all ++ x.0;
+  text_is = ap (λ z. z ++ flat_map line_text x.0) h.text_is ∙ sym (flat_map-append line_text h.all x.0);
+  report_is = ap (λ z. z ++ led.said) h.report_is ∙ ap (λ z. filter is_of_step h.all ++ z) (sym said_is) ∙ sym (filter-append is_of_step h.all x.0);
 }
   where
-    ends : List ReportLine
-    ends = closing r.world (r.number + 1) command x.1
-
-    said : List ReportLine
-    said = x.0 ++ ends
+    said_is : filter is_of_step x.0 ≡ led.said
+    said_is = ap (filter is_of_step) led.lines_are ∙ filter-append is_of_step led.said led.ends ∙ ap (λ z. filter is_of_step led.said ++ z) led.left_out
+        ∙ append-nil (filter is_of_step led.said) ∙ filter_all is_of_step led.said steps
 
 -- from a moment that a run tells, the run of more lines tells the moment that their accepted acts lead to
 lines_lead : (ls : List (List ℕ)) (r : Run) (m : Moment) → IsTold r m →
@@ -219,29 +252,33 @@ lines_lead : (ls : List (List ℕ)) (r : Run) (m : Moment) → IsTold r m →
 lines_lead [] r m h = (m, refl, h)
 lines_lead (l ∷ ls) r m h =
     line_cases r l (λ r' xs. (m' : Moment) × (fold onward (Some m) (xs ++ accepted_from r' ls) ≡ Some m') × IsTold (fold on_line r' ls) m')
-    (λ r' ew et le. lines_lead ls r' m (record { world_is = ew ∙ h.world_is; all = h.all; text_is = et ∙ h.text_is; report_is = h.report_is }))
-    (λ command x e. by command x e (lines_lead ls))
+    (λ r' ew et le. lines_lead ls r' m (record { world_is = ew ∙ h.world_is ∙ ap (λ w. with_booked m.world w.booked) (sym ew); all = h.all; text_is = et ∙ h.text_is; report_is = h.report_is }))
+    (λ asked x e. by asked x e (lines_lead ls))
   where
-    by : (command : Command) (x : List ReportLine × WorldState) → all_done r.world (r.number + 1) (acts r.world (r.number + 1) command) ≡ Ok x →
+    by : (asked : Command) (x : List ReportLine × WorldState) → applied r.world (r.number + 1) asked ≡ Ok x →
         ((q : Run) (k : Moment) → IsTold q k → (m' : Moment) × (fold onward (Some k) (accepted_from q ls) ≡ Some m') × IsTold (fold on_line q ls) m') →
-        (m' : Moment) × (fold onward (Some m) (numbered (r.number + 1) (acts r.world (r.number + 1) command) ++ accepted_from (behind r command x) ls) ≡ Some m')
-        × IsTold (fold on_line (behind r command x) ls) m'
-    by command x e ih =
-        let rest = ih (behind r command x) after (line_told r m command x h steps) in
-        (rest.0, fold-append onward (Some m) its_acts (accepted_from (behind r command x) ls) ∙ ap (λ o. fold onward o (accepted_from (behind r command x) ls)) leads ∙ rest.1, rest.2)
+        (m' : Moment) × (fold onward (Some m) (numbered (r.number + 1) (acts r.world (r.number + 1) asked) ++ accepted_from (behind r x) ls) ≡ Some m')
+        × IsTold (fold on_line (behind r x) ls) m'
+    by asked x e ih =
+        let rest = ih (behind r x) after (line_told r m asked x h led steps) in
+        (rest.0, fold-append onward (Some m) its_acts (accepted_from (behind r x) ls) ∙ ap (λ o. fold onward o (accepted_from (behind r x) ls)) leads ∙ rest.1, rest.2)
       where
         its_acts : List Numbered
-        its_acts = numbered (r.number + 1) (acts r.world (r.number + 1) command)
+        its_acts = numbered (r.number + 1) (acts r.world (r.number + 1) asked)
+
+        led : IsLed m.world (r.number + 1) asked x
+        led = is_led m.world r.world.booked (r.number + 1) asked x (ap (λ w. applied w (r.number + 1) asked) (sym h.world_is) ∙ e)
 
         after : Moment
-        after = record { world = x.1; report = m.report ++ x.0 }
+        after = record { world = led.after; report = m.report ++ led.said }
 
         leads : fold onward (Some m) its_acts ≡ Some after
-        leads = acts_lead (acts r.world (r.number + 1) command) (r.number + 1) m
-            ∙ ap (made m) (ap (λ w. all_done w (r.number + 1) (acts r.world (r.number + 1) command)) (sym h.world_is) ∙ e)
+        leads = ap (λ several. fold onward (Some m) (numbered (r.number + 1) several))
+            (ap (λ w. acts w (r.number + 1) asked) h.world_is ∙ acts_recounted m.world r.world.booked (r.number + 1) asked)
+            ∙ acts_lead (acts m.world (r.number + 1) asked) (r.number + 1) m ∙ ap (made m) led.is_done
 
-        steps : list_all is_of_step x.0 ≡ true
-        steps = (all_parts is_of_step m.report x.0 (at_some IsOfSteps (fold onward (Some m) its_acts) after leads
+        steps : list_all is_of_step led.said ≡ true
+        steps = (all_parts is_of_step m.report led.said (at_some IsOfSteps (fold onward (Some m) its_acts) after leads
             (acts_tell its_acts (Some m) (ap (list_all is_of_step) h.report_is ∙ all_of_filter is_of_step h.all)))).1
 
 pub lines_are_moments : LinesAreMoments
@@ -252,20 +289,20 @@ lines_are_moments ls =
 -- ---- every script
 
 pub lines_refine : LinesRefine
-lines_refine ls before phase rest mark cut stays = by_moment (reached front) refl
+lines_refine ls before phase rest mark cut stays = by_moment (reached prefix) refl
   where
-    front : List Numbered
-    front = before ++ (mark, c.Mark) ∷ phase
+    prefix : List Numbered
+    prefix = before ++ (mark, c.Mark) ∷ phase
 
-    cut_is : accepted ls ≡ front ++ rest
+    cut_is : accepted ls ≡ prefix ++ rest
     cut_is = cut ∙ sym (append_assoc before ((mark, c.Mark) ∷ phase) rest)
 
-    ascending : ascends 0 front ≡ true
-    ascending = front_ascends 0 front rest (ap (ascends 0) (sym cut_is) ∙ (lines_are_moments ls).0)
+    ascending : ascends 0 prefix ≡ true
+    ascending = prefix_ascends 0 prefix rest (ap (ascends 0) (sym cut_is) ∙ (lines_are_moments ls).0)
 
-    goes_on : fold onward (reached front) rest ≡ Some (lines_are_moments ls).1.0
-    goes_on = sym (fold-append onward (Some beginning) front rest) ∙ ap reached (sym cut_is) ∙ (lines_are_moments ls).1.1.is_reached
+    goes_on : fold onward (reached prefix) rest ≡ Some (lines_are_moments ls).1.0
+    goes_on = sym (fold-append onward (Some beginning) prefix rest) ∙ ap reached (sym cut_is) ∙ (lines_are_moments ls).1.1.is_reached
 
-    by_moment : (o : Option Moment) → reached front ≡ o → (m : Moment) × (reached (before ++ (mark, c.Mark) ∷ phase) ≡ Some m) × Refines before mark phase m
+    by_moment : (o : Option Moment) → reached prefix ≡ o → (m : Moment) × (reached (before ++ (mark, c.Mark) ∷ phase) ≡ Some m) × Refines before mark phase m
     by_moment None e = absurd (false≢true (ap is_some (sym (ap (λ z. fold onward z rest) e ∙ refused_stays rest) ∙ goes_on)))
     by_moment (Some m) e = (m, e, samples_refine before phase mark m ascending stays e)

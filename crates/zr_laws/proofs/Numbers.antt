@@ -7,29 +7,30 @@ use Rattle.std.specs.List.{list_all}
 use Rattle.std.proofs.Math.Bool.{or-false}
 use Rattle.std.proofs.lemmas.Bool.{false≢true, and_parts, and_from, and_left, and_right, or_from, or_left, or_right, or_cases, ltb-true, leb-true, lt-ltb, le-leb, ne_eqb, eq-eqb}
 use Rattle.std.proofs.lemmas.List.Folds.{list_any-append}
-use Rattle.zr_msg.specs.declared.command.Command.{Command}
-use Rattle.zr_msg.specs.declared.command.Command.TheVariants as c
-use Rattle.zr_network.specs.World.{is_named}
-use Rattle.zr_network.specs.Phase.{Numbered, is_step, is_later, ascends, stays, is_phase}
-use Rattle.zr_network.specs.Broker.{publishes, is_author, is_line_of, is_sample_line}
+use Rattle.zr_id.specs.Zid.{is_named}
+use Rattle.zr_command.specs.declared.command.Act.{Act}
+use Rattle.zr_command.specs.declared.command.Act.TheVariants as c
+use Rattle.zr_network.specs.Moments.{Numbered, is_step, is_later, ascends}
+use Rattle.zr_guarantee.specs.Phase.{stays, is_phase}
+use Rattle.zr_guarantee.specs.Broker.{publishes, is_publisher, is_line_of, is_sample_line}
 use Rattle.zr_laws.proofs.Pair.{Pair, Agrees, AllAgree}
 use Rattle.zr_laws.proofs.Lists.{weaker, all_both}
 
 -- a later line's number is no less
-later_le : (last n : ℕ) (command : Command) → is_later last (n, command) ≡ true → last ≤ n
-later_le last n command h = by (or_cases (nat_lt last n) (is_step command && nat_le last n) h)
+later_le : (last n : ℕ) (act : Act) → is_later last (n, act) ≡ true → last ≤ n
+later_le last n act h = by (or_cases (nat_lt last n) (is_step act && nat_le last n) h)
   where
-    by : (nat_lt last n ≡ true) ⊎ ((is_step command && nat_le last n) ≡ true) → last ≤ n
+    by : (nat_lt last n ≡ true) ⊎ ((is_step act && nat_le last n) ≡ true) → last ≤ n
     by (inl k) = let lt : last < n = ltb-true last n k in omega arith
-    by (inr k) = leb-true last n (and_parts (is_step command) (nat_le last n) k).1
+    by (inr k) = leb-true last n (and_parts (is_step act) (nat_le last n) k).1
 
 -- that of a line that is no step is greater
-later_lt : (last n : ℕ) (command : Command) → is_step command ≡ false → is_later last (n, command) ≡ true → last < n
-later_lt last n command e h = by (or_cases (nat_lt last n) (is_step command && nat_le last n) h)
+later_lt : (last n : ℕ) (act : Act) → is_step act ≡ false → is_later last (n, act) ≡ true → last < n
+later_lt last n act e h = by (or_cases (nat_lt last n) (is_step act && nat_le last n) h)
   where
-    by : (nat_lt last n ≡ true) ⊎ ((is_step command && nat_le last n) ≡ true) → last < n
+    by : (nat_lt last n ≡ true) ⊎ ((is_step act && nat_le last n) ≡ true) → last < n
     by (inl k) = ltb-true last n k
-    by (inr k) = absurd (false≢true (sym e ∙ (and_parts (is_step command) (nat_le last n) k).0))
+    by (inr k) = absurd (false≢true (sym e ∙ (and_parts (is_step act) (nat_le last n) k).0))
 
 -- the first line, and those behind it
 ascending : (last : ℕ) (x : Numbered) (xs : List Numbered) → ascends last (x ∷ xs) ≡ true → (is_later last x ≡ true) × (ascends x.0 xs ≡ true)
@@ -56,7 +57,7 @@ around_mark last mark (x ∷ xs) phase h =
 pub none_later : (a : List ℕ) (t last : ℕ) (xs : List Numbered) → t ≤ last → ascends last xs ≡ true → is_line_of xs a t ≡ false
 none_later a t last [] le h = refl
 none_later a t last (x ∷ xs) le h =
-    or_from (x.0 == t && is_author a x.1) (is_line_of xs a t) (by_command x.0 x.1 parts.0)
+    or_from (x.0 == t && is_publisher a x.1) (is_line_of xs a t) (by_act x.0 x.1 parts.0)
     (none_later a t x.0 xs (let more : last ≤ x.0 = later_le last x.0 x.1 parts.0 in omega arith) parts.1)
   where
     parts : (is_later last x ≡ true) × (ascends x.0 xs ≡ true)
@@ -65,17 +66,9 @@ none_later a t last (x ∷ xs) le h =
     sample : (n : ℕ) (client : List ℕ) → last < n → (n == t && is_named a client) ≡ false
     sample n client lt = and_left (n == t) (is_named a client) (ne_eqb n t (λ e. absurd (omega arith)))
 
-    by_command : (n : ℕ) (command : Command) → is_later last (n, command) ≡ true → (n == t && is_author a command) ≡ false
-    by_command n (c.Put client key payload) k = sample n client (later_lt last n (c.Put client key payload) refl k)
-    by_command n (c.Del client key) k = sample n client (later_lt last n (c.Del client key) refl k)
-    by_command n (c.Router id) k = and_right (n == t) false refl
-    by_command n (c.Client id router) k = and_right (n == t) false refl
-    by_command n (c.Sub client id key) k = and_right (n == t) false refl
-    by_command n (c.Unsub client id) k = and_right (n == t) false refl
-    by_command n (c.Handle router from) k = and_right (n == t) false refl
-    by_command n (c.Take router to) k = and_right (n == t) false refl
-    by_command n (c.Run steps) k = and_right (n == t) false refl
-    by_command n c.Mark k = and_right (n == t) false refl
+    by_act : (n : ℕ) (act : Act) → is_later last (n, act) ≡ true → (n == t && is_publisher a act) ≡ false
+    by_act n (c.Publish client content) k = sample n client (later_lt last n (c.Publish client content) refl k)
+    by_act n other k = and_right (n == t) false refl
 
 -- a number above those of all lines is none of theirs
 none_before : (a : List ℕ) (t last : ℕ) (done : List Numbered) → last < t → list_all (λ y. nat_le y.0 last) done ≡ true → is_line_of done a t ≡ false
@@ -83,19 +76,19 @@ none_before a t last [] lt h = refl
 none_before a t last (x ∷ xs) lt h =
     let parts = and_parts (nat_le x.0 last) (list_all (λ y. nat_le y.0 last) xs) h in
     let le : x.0 ≤ last = leb-true x.0 last parts.0 in
-    or_from (x.0 == t && is_author a x.1) (is_line_of xs a t) (and_left (x.0 == t) (is_author a x.1) (ne_eqb x.0 t (λ e. absurd (omega arith)))) (none_before a t last xs lt parts.1)
+    or_from (x.0 == t && is_publisher a x.1) (is_line_of xs a t) (and_left (x.0 == t) (is_publisher a x.1) (ne_eqb x.0 t (λ e. absurd (omega arith)))) (none_before a t last xs lt parts.1)
 
 -- a test of numbers up to one, and up to a greater one
 up_to : (last n : ℕ) (done : List Numbered) → last ≤ n → list_all (λ y. nat_le y.0 last) done ≡ true → list_all (λ y. nat_le y.0 n) done ≡ true
 up_to last n done le h = weaker (λ y. nat_le y.0 last) (λ y. nat_le y.0 n) (λ y k. let l : y.0 ≤ last = leb-true y.0 last k in le-leb y.0 n (omega arith)) done h
 
--- a tag is the author's exactly where its line is
-pub agrees_from : (p : Pair) (rest done : List Numbered) (last : ℕ) → ((t : ℕ) → p.by t ≡ is_line_of (done ++ rest) p.author t) →
+-- a tag is the publisher's exactly where its line is
+pub agrees_from : (p : Pair) (rest done : List Numbered) (last : ℕ) → ((t : ℕ) → p.by t ≡ is_line_of (done ++ rest) p.publisher t) →
     list_all (λ y. nat_le y.0 last) done ≡ true → ascends last rest ≡ true → AllAgree p rest
 agrees_from p [] done last tags below h = tt
 agrees_from p (x ∷ xs) done last tags below h = (
-  by_command x.1 parts.0 tags,
-  agrees_from p xs (done ++ x ∷ []) x.0 (λ t. tags t ∙ ap (λ z. is_line_of z p.author t) (sym (append_assoc done (x ∷ []) xs)))
+  by_act x.1 parts.0 tags,
+  agrees_from p xs (done ++ x ∷ []) x.0 (λ t. tags t ∙ ap (λ z. is_line_of z p.publisher t) (sym (append_assoc done (x ∷ []) xs)))
       (all_both (λ y. nat_le y.0 x.0) done (x ∷ []) (up_to last x.0 done (later_le last x.0 x.1 parts.0) below) (and_from (nat_le x.0 x.0) true (le-leb x.0 x.0 (omega arith)) refl))
       parts.1,
 )
@@ -103,33 +96,28 @@ agrees_from p (x ∷ xs) done last tags below h = (
     parts : (is_later last x ≡ true) × (ascends x.0 xs ≡ true)
     parts = ascending last x xs h
 
-    sample : (command : Command) → last < x.0 → ((t : ℕ) → p.by t ≡ is_line_of (done ++ (x.0, command) ∷ xs) p.author t) → p.by x.0 ≡ is_author p.author command
-    sample command lt all =
-        all x.0 ∙ list_any-append (λ y. y.0 == x.0 && is_author p.author y.1) done ((x.0, command) ∷ xs)
-        ∙ ap (λ z. z || ((x.0 == x.0 && is_author p.author command) || is_line_of xs p.author x.0)) (none_before p.author x.0 last done lt below)
-        ∙ ap (λ z. (z && is_author p.author command) || is_line_of xs p.author x.0) (eq-eqb x.0 x.0 refl)
-        ∙ ap (λ z. is_author p.author command || z) (none_later p.author x.0 x.0 xs (omega arith) parts.1)
-        ∙ or-false (is_author p.author command)
+    sample : (act : Act) → last < x.0 → ((t : ℕ) → p.by t ≡ is_line_of (done ++ (x.0, act) ∷ xs) p.publisher t) → p.by x.0 ≡ is_publisher p.publisher act
+    sample act lt all =
+        all x.0 ∙ list_any-append (λ y. y.0 == x.0 && is_publisher p.publisher y.1) done ((x.0, act) ∷ xs)
+        ∙ ap (λ z. z || ((x.0 == x.0 && is_publisher p.publisher act) || is_line_of xs p.publisher x.0)) (none_before p.publisher x.0 last done lt below)
+        ∙ ap (λ z. (z && is_publisher p.publisher act) || is_line_of xs p.publisher x.0) (eq-eqb x.0 x.0 refl)
+        ∙ ap (λ z. is_publisher p.publisher act || z) (none_later p.publisher x.0 x.0 xs (omega arith) parts.1)
+        ∙ or-false (is_publisher p.publisher act)
 
-    by_command : (command : Command) → is_later last (x.0, command) ≡ true → ((t : ℕ) → p.by t ≡ is_line_of (done ++ (x.0, command) ∷ xs) p.author t) → Agrees p x.0 command
-    by_command (c.Put client key payload) k all = sample (c.Put client key payload) (later_lt last x.0 (c.Put client key payload) refl k) all
-    by_command (c.Del client key) k all = sample (c.Del client key) (later_lt last x.0 (c.Del client key) refl k) all
-    by_command (c.Router id) k all = tt
-    by_command (c.Client id router) k all = tt
-    by_command (c.Sub client id key) k all = tt
-    by_command (c.Unsub client id) k all = tt
-    by_command (c.Handle router from) k all = tt
-    by_command (c.Take router to) k all = tt
-    by_command (c.Run steps) k all = tt
-    by_command c.Mark k all = tt
+    by_act : (act : Act) → is_later last (x.0, act) ≡ true → ((t : ℕ) → p.by t ≡ is_line_of (done ++ (x.0, act) ∷ xs) p.publisher t) → Agrees p x.0 act
+    by_act (c.Publish client content) k all = sample (c.Publish client content) (later_lt last x.0 (c.Publish client content) refl k) all
+    by_act other k all = tt
 
 -- whether a line gives a message its tag
-abbrev pub writes : Command → Bool
+abbrev pub writes : Act → Bool
+writes (c.Router id) = false
+writes (c.Client id router) = false
 writes (c.Sub client id key) = true
 writes (c.Unsub client id) = true
-writes (c.Put client key payload) = true
-writes (c.Del client key) = true
-writes other = false
+writes (c.Publish client content) = true
+writes (c.Handle router from) = false
+writes (c.Take router to) = false
+writes c.Mark = false
 
 -- each line of some that gives a message its tag passes a test
 abbrev pub Tagging : (ℕ → Bool) → List Numbered → Type 0
@@ -143,7 +131,7 @@ tagging_before mark before h = weaker (λ y. nat_lt y.0 mark) (λ x. not (writes
 pub tagging_phase : (mark : ℕ) (rest done : List Numbered) → is_phase rest ≡ true → Tagging (λ i. nat_lt i mark || is_sample_line (done ++ rest) i) rest
 tagging_phase mark [] done st = refl
 tagging_phase mark (x ∷ xs) done st =
-    and_from (test x) (list_all test xs) (by_command x.1 parts.0 refl)
+    and_from (test x) (list_all test xs) (by_act x.1 parts.0 refl)
     (ap (λ z. list_all (λ y. not (writes y.1) || (nat_lt y.0 mark || is_sample_line z y.0)) xs) (sym (append_assoc done (x ∷ []) xs)) ∙ tagging_phase mark xs (done ++ x ∷ []) parts.1)
   where
     test : Numbered → Bool
@@ -159,14 +147,12 @@ tagging_phase mark (x ∷ xs) done st =
         ∙ or_right (is_sample_line done x.0) (is_sample_line (x ∷ xs) x.0)
         (or_left (x.0 == x.0 && publishes x.1) (is_sample_line xs x.0) (and_from (x.0 == x.0) (publishes x.1) (eq-eqb x.0 x.0 refl) e)))
 
-    by_command : (command : Command) → stays command ≡ true → x.1 ≡ command → (not (writes command) || (nat_lt x.0 mark || is_sample_line (done ++ x ∷ xs) x.0)) ≡ true
-    by_command (c.Put client key payload) k e = sample (ap publishes e)
-    by_command (c.Del client key) k e = sample (ap publishes e)
-    by_command (c.Router id) k e = absurd (false≢true k)
-    by_command (c.Client id router) k e = absurd (false≢true k)
-    by_command (c.Sub client id key) k e = absurd (false≢true k)
-    by_command (c.Unsub client id) k e = absurd (false≢true k)
-    by_command (c.Handle router from) k e = refl
-    by_command (c.Take router to) k e = refl
-    by_command (c.Run steps) k e = refl
-    by_command c.Mark k e = refl
+    by_act : (act : Act) → stays act ≡ true → x.1 ≡ act → (not (writes act) || (nat_lt x.0 mark || is_sample_line (done ++ x ∷ xs) x.0)) ≡ true
+    by_act (c.Router id) k e = absurd (false≢true k)
+    by_act (c.Client id router) k e = absurd (false≢true k)
+    by_act (c.Sub client id key) k e = absurd (false≢true k)
+    by_act (c.Unsub client id) k e = absurd (false≢true k)
+    by_act (c.Publish client content) k e = sample (ap publishes e)
+    by_act (c.Handle router from) k e = refl
+    by_act (c.Take router to) k e = refl
+    by_act c.Mark k e = refl

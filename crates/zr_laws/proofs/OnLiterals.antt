@@ -4,11 +4,14 @@ use Rattle.std.specs.Str.{is_utf8, chars}
 use Rattle.std.specs.Fmt.{digits}
 use lib.Utf8.{encode}
 use Rattle.hex.proofs.OnLiterals.{hex_on_literals}
+use Rattle.zr_bytes.specs.Number.{writes_within}
+use Rattle.zr_bytes.specs.Reading.{byte_of, number_within, number_below, text_of}
+use Rattle.zr_body.specs.Reading.{read_payload, read_put, read_del, read_sample, read_reply, read_err}
 use Rattle.zr_match.specs.Table.{texts_meet}
-use Rattle.zr_network.specs.Command.{router_of, client_of, sub_of, unsub_of, put_of, del_of, handle_of, take_of, run_of, mark_of, by_name, by_words, command_of}
-use Rattle.zr_network.specs.World.{router_step, client_step, sub_step, unsub_step, push_step, handle_step, take_step, book_step, mark_step, outcome}
-use Rattle.zr_network.specs.Acts.{run_steps, applied}
+use Rattle.zr_language.specs.Command.{router_line, client_line, sub_line, unsub_line, put_line, del_line, handle_line, take_line, run_line, mark_line, by_name, by_words, command_of}
+use Rattle.zr_network.specs.Acts.{router_step, client_step, sub_step, unsub_step, publish_step, handle_step, take_step, mark_step, outcome}
+use Rattle.zr_network.specs.Next.{run_steps, book_step, run_done, applied}
 
 unfoldable pub scripts_on_literals : ⊤
-unfolding hex_on_literals is_utf8 chars encode digits texts_meet router_of client_of sub_of unsub_of put_of del_of handle_of take_of run_of mark_of by_name by_words command_of router_step client_step sub_step unsub_step push_step handle_step take_step book_step mark_step outcome run_steps applied
+unfolding hex_on_literals is_utf8 chars encode digits writes_within byte_of number_within number_below text_of read_payload read_put read_del read_sample read_reply read_err texts_meet router_line client_line sub_line unsub_line put_line del_line handle_line take_line run_line mark_line by_name by_words command_of router_step client_step sub_step unsub_step publish_step handle_step take_step mark_step outcome run_steps book_step run_done applied
 scripts_on_literals = tt

@@ -1,19 +1,21 @@
--- One author and one receiver in a phase: what does not change in it (`Pair`), and what holds at each of its moments
--- (`Flows`). Its heart is one equation: what stands in the places from the receiver back to the author, joined, is what
+-- One publisher and one receiver in a phase: what does not change in it (`Pair`), and what holds at each of its moments
+-- (`Flows`). Its heart is one equation: what stands in the places from the receiver back to the publisher, joined, is what
 -- is to be had. What has to be known of the router's tables at the mark is `IsRouted`, and nothing else of them is used.
 use Rattle.std.proofs.Common.{◌≡◌, ℕ, Bool, true, false, List, [], ◌∷◌, ◌++◌, Option, Some, None, ◌∙◌, ap, append-nil}
 use Rattle.std.specs.Prelude.{◌==◌, ◌&&◌, not, filter, flat_map, is_some, option_to_list}
 use Rattle.std.specs.List.{list_all}
 use Rattle.std.proofs.lemmas.Grind.{flat_map-append}
-use Rattle.zr_msg.specs.declared.command.Command.{Command}
-use Rattle.zr_msg.specs.declared.command.Command.TheVariants as c
-use Rattle.zr_msg.specs.declared.report.ReportLine.{ReportLine}
+use Rattle.zr_id.specs.Zid.{is_named}
+use Rattle.zr_command.specs.declared.command.Act.{Act}
+use Rattle.zr_command.specs.declared.command.Act.TheVariants as c
+use Rattle.zr_command.specs.declared.report.ReportLine.{ReportLine}
 use Rattle.zr_table.specs.State.{LinkState}
 use Rattle.zr_table.specs.Table.{subscribes}
-use Rattle.zr_network.specs.World.{Tagged, ClientState, RouterState, Routers, is_named, is_sample, router_of, client_of}
-use Rattle.zr_network.specs.Phase.{Numbered}
-use Rattle.zr_network.specs.Broker.{Item, wants, for_receiver, from}
-use Rattle.zr_network.specs.Moments.{Moment, item_of, sent_in, sent_to}
+use Rattle.zr_network.specs.World.{Tagged, ClientState, RouterState, Routers, is_calm, router_of, client_of}
+use Rattle.zr_network.specs.Moments.{Numbered, Moment}
+use Rattle.zr_guarantee.specs.Item.{Item}
+use Rattle.zr_guarantee.specs.Broker.{wants, publication, item_for, from}
+use Rattle.zr_guarantee.specs.Sent.{item_of, sent_in, sent_to}
 use Rattle.zr_laws.proofs.Places.{Spot, Sent, Queue, Wire, path, along}
 use Rattle.zr_laws.proofs.Queues.{queue_of, wire_of, links_at}
 
@@ -26,50 +28,50 @@ abbrev pub link_at : Option ClientState → Option ℕ
 link_at None = None
 link_at (Some s) = Some s.link
 
--- an author and a receiver, any names, and what no step of the phase changes
+-- a publisher and a receiver, any names, and what no step of the phase changes
 pub record Pair : Type 0 where
   pub before : List Numbered
-  -- whether a tag is one of the author's lines of the whole phase
+  -- whether a tag is one of the publisher's lines of the whole phase
   pub by : ℕ → Bool
-  pub author : List ℕ
+  pub publisher : List ℕ
   pub receiver : List ℕ
   pub routers : Routers
   pub names : List (List ℕ)
-  -- the router on the way, the receiver's link there, and the number of the author's, if they are there
+  -- the router on the way, the receiver's link there, and the number of the publisher's, if they are there
   pub router : List ℕ
   pub to : Option LinkState
   pub from_link : Option ℕ
 
--- the items that are the author's
-abbrev pub of_author : Pair → List Item → List Item
-of_author p xs = filter (λ i. p.by i.line) xs
+-- the items that are the publisher's
+abbrev pub of_publisher : Pair → List Item → List Item
+of_publisher p xs = filter (λ i. p.by i.line) xs
 
--- the items that are the author's and are for the receiver
+-- the items that are the publisher's and are for the receiver
 abbrev pub wanted_of : Pair → List Item → List Item
-wanted_of p xs = filter (λ i. p.by i.line && wants p.before p.author p.receiver i.key) xs
+wanted_of p xs = filter (λ i. p.by i.line && wants p.before p.publisher p.receiver i.content.key) xs
 
--- the author's items at a place; behind the last router's choice all that are there, before it those for the receiver
+-- the publisher's items at a place; behind the last router's choice all that are there, before it those for the receiver
 abbrev pub held : Pair → Moment → Spot → List Item
-held p m (Sent to) = of_author p (sent_to m.report to)
-held p m (Queue at to) = of_author p (items (queue_of (client_of m.world.clients to)))
+held p m (Sent to) = of_publisher p (sent_to m.report to)
+held p m (Queue at to) = of_publisher p (items (queue_of (client_of m.world.clients to)))
 held p m (Wire at source) = wanted_of p (items (wire_of (client_of m.world.clients source)))
 
--- the places from what the receiver was sent back to the author's wire
+-- the places from what the receiver was sent back to the publisher's wire
 abbrev pub way : Pair → List Spot
-way p = path p.receiver (p.router ∷ []) p.author
+way p = path p.receiver (p.router ∷ []) p.publisher
 
 -- what holds at a moment, where `done` are the lines of the phase so far
 pub record Flows (p : Pair) (done : List Numbered) (m : Moment) : Type 0 where
   pub routers_is : m.world.routers ≡ p.routers
   pub names_is : m.world.names ≡ p.names
-  pub from_is : link_at (client_of m.world.clients p.author) ≡ p.from_link
+  pub from_is : link_at (client_of m.world.clients p.publisher) ≡ p.from_link
   pub to_is : is_some (client_of m.world.clients p.receiver) ≡ is_some p.to
-  -- no declaration is under way
-  pub samples : (q : List ℕ) → list_all is_sample (wire_of (client_of m.world.clients q)) ≡ true
-  -- the author's lines are on the author's wire alone
-  pub others : (q : List ℕ) → is_named p.author q ≡ false → list_all (λ x. not (p.by x.tag)) (wire_of (client_of m.world.clients q)) ≡ true
+  -- nothing under way unsettles
+  pub calm : (q : List ℕ) → list_all is_calm (wire_of (client_of m.world.clients q)) ≡ true
+  -- the publisher's lines are on the publisher's wire alone
+  pub others : (q : List ℕ) → is_named p.publisher q ≡ false → list_all (λ x. not (p.by x.tag)) (wire_of (client_of m.world.clients q)) ≡ true
   -- all that is to be had stands in the places, the oldest nearest to the receiver
-  pub flow : along (held p m) (way p) ≡ from p.before done p.author p.receiver
+  pub flow : along (held p m) (way p) ≡ from p.before done p.publisher p.receiver
 
 -- whether the router sends a sample on a key from a link to the receiver's link
 abbrev pub goes_to : Option LinkState → ℕ → List ℕ → Bool
@@ -79,13 +81,18 @@ goes_to (Some l) link key = not (l.link.0 == link) && subscribes l key
 -- what has to be known of tables: the receiver has one link, and it gets what is for the receiver
 pub record IsRouted (p : Pair) : Type 0 where
   pub one : (name : List ℕ) (r : RouterState) → router_of p.routers name ≡ Some r → links_at p.names p.receiver r.node.links ≡ option_to_list p.to
-  pub wanted : (link : ℕ) → p.from_link ≡ Some link → (key : List ℕ) → goes_to p.to link key ≡ wants p.before p.author p.receiver key
+  pub wanted : (link : ℕ) → p.from_link ≡ Some link → (key : List ℕ) → goes_to p.to link key ≡ wants p.before p.publisher p.receiver key
 
--- a line has the author's tag exactly where it is the author's
-abbrev pub Agrees : Pair → ℕ → Command → Type 0
-Agrees p n (c.Put client key payload) = p.by n ≡ is_named p.author client
-Agrees p n (c.Del client key) = p.by n ≡ is_named p.author client
-Agrees p n other = Unit {0}
+-- a line's number is one of the publisher's exactly where the publisher's client publishes there
+abbrev pub Agrees : Pair → ℕ → Act → Type 0
+Agrees p n (c.Router id) = Unit {0}
+Agrees p n (c.Client id router) = Unit {0}
+Agrees p n (c.Sub client id key) = Unit {0}
+Agrees p n (c.Unsub client id) = Unit {0}
+Agrees p n (c.Publish client content) = p.by n ≡ is_named p.publisher client
+Agrees p n (c.Handle router from) = Unit {0}
+Agrees p n (c.Take router to) = Unit {0}
+Agrees p n c.Mark = Unit {0}
 
 abbrev pub AllAgree : Pair → List Numbered → Type 0
 AllAgree p [] = Unit {0}
@@ -94,6 +101,10 @@ AllAgree p (x ∷ xs) = Agrees p x.0 x.1 × AllAgree p xs
 -- one report line more
 pub sent_more : (report : List ReportLine) (line : ReportLine) (d : List ℕ) → sent_to (report ++ line ∷ []) d ≡ sent_to report d ++ sent_in d line
 sent_more report line d = flat_map-append (sent_in d) report (line ∷ []) ∙ ap (λ z. sent_to report d ++ z) (append-nil (sent_in d line))
+
+-- what a line of the phase has for the receiver
+abbrev pub for_receiver : List Numbered → List ℕ → List ℕ → Numbered → List Item
+for_receiver before publisher receiver x = item_for before publisher receiver x.0 (publication x.1)
 
 -- one line more in the phase
 pub from_more : (before done : List Numbered) (x : Numbered) (a d : List ℕ) → from before (done ++ x ∷ []) a d ≡ from before done a d ++ for_receiver before a d x

@@ -1,58 +1,56 @@
--- The flow is kept over a whole phase: by each command that may stand in it, and so by any number of them. A refused step
+-- The flow is kept over a whole phase: by each act that may stand in it, and so by any number of them. A refused step
 -- leads to no moment, and owes nothing; a declaration that is handled cannot be there.
-use Rattle.std.proofs.Common.{◌≡◌, ℕ, true, List, [], ◌∷◌, ◌++◌, Option, Some, None, ◌+◌, refl, sym, ap, ◌∙◌, subst, append_assoc, append-nil}
+use Rattle.std.proofs.Common.{◌≡◌, ℕ, true, List, [], ◌∷◌, ◌++◌, Option, Some, None, sym, ap, ◌∙◌, subst, append_assoc, append-nil}
 use Rattle.std.specs.Prelude.{IfSome}
 use Rattle.std.specs.List.{list_all, fold}
 use Rattle.std.proofs.lemmas.Bool.{false≢true, and_parts}
 use Rattle.zr_msg.specs.declared.msg.Msg.{Msg}
 use Rattle.zr_msg.specs.declared.msg.Msg.TheVariants as m
-use Rattle.zr_msg.specs.declared.msg.Body.TheVariants as b
-use Rattle.zr_msg.specs.declared.command.Command.{Command}
-use Rattle.zr_msg.specs.declared.command.Command.TheVariants as c
-use Rattle.zr_msg.specs.declared.report.ReportLine.TheVariants as line
-use Rattle.zr_network.specs.World.{Tagged, ClientState, RouterState, router_of, client_of, is_sample, outcome}
-use Rattle.zr_network.specs.Phase.{Numbered, stays, is_phase}
-use Rattle.zr_network.specs.Moments.{Moment, went, onward, sent_to}
-use Rattle.zr_laws.proofs.Pair.{Pair, Flows, IsRouted, Agrees, AllAgree, sent_more}
+use Rattle.zr_command.specs.declared.command.Act.{Act}
+use Rattle.zr_command.specs.declared.command.Act.TheVariants as c
+use Rattle.zr_network.specs.World.{Tagged, ClientState, RouterState, router_of, client_of, is_calm}
+use Rattle.zr_network.specs.Acts.{outcome}
+use Rattle.zr_network.specs.Moments.{Numbered, Moment, went, onward}
+use Rattle.zr_guarantee.specs.Phase.{stays, is_phase}
+use Rattle.zr_network.proofs.Cases.{on_handle, for_publish, for_handle, for_take, for_mark}
+use Rattle.zr_laws.proofs.Pair.{Pair, Flows, IsRouted, Agrees, AllAgree}
 use Rattle.zr_laws.proofs.Queues.{wire_of}
-use Rattle.zr_laws.proofs.Cases.{on_handle, for_push, for_handle, for_take, for_run, for_mark}
-use Rattle.zr_laws.proofs.Steps.{put_keeps, take_keeps, idle_keeps, push_keeps}
+use Rattle.zr_laws.proofs.Messages.{by_kind}
+use Rattle.zr_laws.proofs.Steps.{publish_keeps, take_keeps, mark_keeps, silent_keeps, push_keeps}
 
--- a declaration on the wire is none of a phase
-sample_on : (s : ClientState) (msg : Msg) (tag : ℕ) (xs : List Tagged) → list_all is_sample s.wire ≡ true → s.wire ≡ record { msg = msg; tag = tag } ∷ xs →
-    is_sample (record { msg = msg; tag = tag }) ≡ true
-sample_on s msg tag xs all front = (and_parts (is_sample (record { msg = msg; tag = tag })) (list_all is_sample xs) (ap (list_all is_sample) (sym front) ∙ all)).0
+-- no message that unsettles is on a wire in a phase
+calm_on : (s : ClientState) (msg : Msg) (tag : ℕ) (xs : List Tagged) → list_all is_calm s.wire ≡ true → s.wire ≡ record { msg = msg; tag = tag } ∷ xs →
+    is_calm (record { msg = msg; tag = tag }) ≡ true
+calm_on s msg tag xs all front = (and_parts (is_calm (record { msg = msg; tag = tag })) (list_all is_calm xs) (ap (list_all is_calm) (sym front) ∙ all)).0
 
 module _ (p : Pair) (routed : IsRouted p) where
-  command_keeps : (done : List Numbered) (now : Moment) → Flows p done now → (n : ℕ) (command : Command) → stays command ≡ true → Agrees p n command →
-      IfSome (went now (outcome now.world n command)) (Flows p (done ++ (n, command) ∷ []))
+  act_flows : (done : List Numbered) (now : Moment) → Flows p done now → (n : ℕ) (act : Act) → stays act ≡ true → Agrees p n act →
+      IfSome (went now (outcome now.world n act)) (Flows p (done ++ (n, act) ∷ []))
   unfolding outcome
-  command_keeps done now h n (c.Router id) st ag = absurd (false≢true st)
-  command_keeps done now h n (c.Client id router) st ag = absurd (false≢true st)
-  command_keeps done now h n (c.Sub client id key) st ag = absurd (false≢true st)
-  command_keeps done now h n (c.Unsub client id) st ag = absurd (false≢true st)
-  command_keeps done now h n (c.Put client key payload) st ag =
-      for_push now (Flows p (done ++ (n, c.Put client key payload) ∷ [])) n client key (b.Put payload) (put_keeps p done now h n (c.Put client key payload) client key (b.Put payload) refl ag)
-  command_keeps done now h n (c.Del client key) st ag =
-      for_push now (Flows p (done ++ (n, c.Del client key) ∷ [])) n client key b.Del (put_keeps p done now h n (c.Del client key) client key b.Del refl ag)
-  command_keeps done now h n (c.Handle router name) st ag = for_handle now (Flows p (done ++ (n, c.Handle router name) ∷ [])) router name by_message
+  act_flows done now h n (c.Router id) st ag = absurd (false≢true st)
+  act_flows done now h n (c.Client id router) st ag = absurd (false≢true st)
+  act_flows done now h n (c.Sub client id key) st ag = absurd (false≢true st)
+  act_flows done now h n (c.Unsub client id) st ag = absurd (false≢true st)
+  act_flows done now h n (c.Publish client content) st ag =
+      for_publish now (Flows p (done ++ (n, c.Publish client content) ∷ [])) n client content (publish_keeps p done now h n client content ag)
+  act_flows done now h n (c.Handle router name) st ag = for_handle now (Flows p (done ++ (n, c.Handle router name) ∷ [])) router name by_message
     where
       by_message : (r : RouterState) → router_of now.world.routers router ≡ Some r → (s : ClientState) → client_of now.world.clients name ≡ Some s →
           (msg : Msg) (tag : ℕ) (xs : List Tagged) → s.wire ≡ record { msg = msg; tag = tag } ∷ xs →
           Flows p (done ++ (n, c.Handle router name) ∷ []) (on_handle now router name r s msg tag xs)
-      by_message r er s es (m.Sub id key) tag xs front =
-          absurd (false≢true (sample_on s (m.Sub id key) tag xs (ap (λ o. list_all is_sample (wire_of o)) (sym es) ∙ h.samples name) front))
-      by_message r er s es (m.Unsub id) tag xs front =
-          absurd (false≢true (sample_on s (m.Unsub id) tag xs (ap (λ o. list_all is_sample (wire_of o)) (sym es) ∙ h.samples name) front))
-      by_message r er s es (m.Push key body) tag xs front = push_keeps p done now h routed n router name r er s es key body tag xs front
-  command_keeps done now h n (c.Take router to) st ag =
+      by_message r er s es msg tag xs =
+          by_kind (λ z. s.wire ≡ record { msg = z; tag = tag } ∷ xs → Flows p (done ++ (n, c.Handle router name) ∷ []) (on_handle now router name r s z tag xs))
+          (λ id key front. absurd (false≢true (calm_on s (m.Sub id key) tag xs all front)))
+          (λ id front. absurd (false≢true (calm_on s (m.Unsub id) tag xs all front)))
+          (λ tree content front. push_keeps p done now h routed n router name r er s es tree content tag xs front)
+          (λ z silent front. silent_keeps p done now h n router name r er s es z tag xs front silent)
+          msg
+        where
+          all : list_all is_calm s.wire ≡ true
+          all = ap (λ o. list_all is_calm (wire_of o)) (sym es) ∙ h.calm name
+  act_flows done now h n (c.Take router to) st ag =
       for_take now (Flows p (done ++ (n, c.Take router to) ∷ [])) router to (take_keeps p done now h n router to)
-  command_keeps done now h n (c.Run steps) st ag =
-      for_run now (Flows p (done ++ (n, c.Run steps) ∷ [])) steps
-      (idle_keeps p done now h n (c.Run steps) (now.world.booked + steps) (now.report ++ []) (ap (λ z. sent_to z p.receiver) (append-nil now.report)) refl)
-  command_keeps done now h n c.Mark st ag =
-      for_mark now (Flows p (done ++ (n, c.Mark) ∷ [])) n
-      (λ settled. idle_keeps p done now h n c.Mark now.world.booked (now.report ++ line.Mark n ∷ []) (sent_more now.report (line.Mark n) p.receiver ∙ append-nil (sent_to now.report p.receiver)) refl)
+  act_flows done now h n c.Mark st ag = for_mark now (Flows p (done ++ (n, c.Mark) ∷ [])) n (λ settled. mark_keeps p done now h n)
 
   -- the lines of the phase so far, and those that follow
   pub phase_keeps : (rest done : List Numbered) (o : Option Moment) → IfSome o (Flows p done) → is_phase rest ≡ true → AllAgree p rest →
@@ -68,4 +66,4 @@ module _ (p : Pair) (routed : IsRouted p) where
 
       next : (o : Option Moment) → IfSome o (Flows p done) → IfSome (onward o x) (Flows p (done ++ x ∷ []))
       next None h = tt
-      next (Some now) h = command_keeps done now h x.0 x.1 both.0 ag.0
+      next (Some now) h = act_flows done now h x.0 x.1 both.0 ag.0

@@ -1,5 +1,5 @@
--- The places that a message passes, from its receiver back to its author, over a path of any length, and what a step does to
--- all that stands in them: moved from one place to the next nothing is changed (`keeps`), and what the author writes comes
+-- The places that a message passes, from its receiver back to its publisher, over a path of any length, and what a step does to
+-- all that stands in them: moved from one place to the next nothing is changed (`keeps`), and what the publisher writes comes
 -- last (`gains`). Both go by induction on the path, two places at a time. No world is in this file.
 use Rattle.std.proofs.Common.{◌≡◌, ℕ, List, [], ◌∷◌, ◌++◌, refl, sym, ap, ◌∙◌, append_assoc, append-nil}
 use Rattle.std.specs.Prelude.{◌⊎◌}
@@ -14,19 +14,19 @@ pub data Spot : Type 0 where
   -- what is on its way to a router from a neighbour
   Wire : (at source : List ℕ) → Spot
 
--- the next neighbour on a way to the author along some routers
+-- the next neighbour on a way to the publisher along some routers
 abbrev pub next : List (List ℕ) → List ℕ → List ℕ
-next [] author = author
-next (r ∷ rs) author = r
+next [] publisher = publisher
+next (r ∷ rs) publisher = r
 
--- the places between a receiver and the author, along the routers from the receiver's to the author's
+-- the places between a receiver and the publisher, along the routers from the receiver's to the publisher's
 abbrev pub hops : List ℕ → List (List ℕ) → List ℕ → List Spot
-hops to [] author = []
-hops to (r ∷ rs) author = Queue r to ∷ Wire r (next rs author) ∷ hops r rs author
+hops to [] publisher = []
+hops to (r ∷ rs) publisher = Queue r to ∷ Wire r (next rs publisher) ∷ hops r rs publisher
 
--- all places from what the receiver was sent back to the author
+-- all places from what the receiver was sent back to the publisher
 abbrev pub path : List ℕ → List (List ℕ) → List ℕ → List Spot
-path receiver rs author = Sent receiver ∷ hops receiver rs author
+path receiver rs publisher = Sent receiver ∷ hops receiver rs publisher
 
 module _ {X : Type 0} where
   -- what stands in some places, joined

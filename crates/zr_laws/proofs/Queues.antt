@@ -6,11 +6,12 @@ use Rattle.std.specs.Prelude.{filter, is_some, slice_get}
 use Rattle.std.specs.List.{list_all}
 use Rattle.std.proofs.lemmas.Bool.{false≢true, true≢false, and_from, and_parts}
 use Rattle.zr_id.specs.declared.link.LinkNo.{LinkNo}
+use Rattle.zr_id.specs.Zid.{is_named}
 use Rattle.zr_msg.specs.declared.msg.Msg.{Msg}
+use Rattle.zr_network.proofs.Names.{same_name, read_after, read_kept}
 use Rattle.zr_table.specs.State.{LinkState}
 use Rattle.zr_table.specs.Table.{to_each}
-use Rattle.zr_network.specs.World.{Tagged, ClientState, Clients, is_named, client_of, queued, queued_at, queued_for, all_queued}
-use Rattle.zr_network.proofs.Names.{same_name, read_after, read_kept}
+use Rattle.zr_network.specs.World.{Tagged, ClientState, Clients, client_of, queued, queued_at, queued_for, all_queued}
 use Rattle.zr_laws.proofs.Lists.{all_both}
 
 -- what waits for a client, and what is on its wire: nothing where it is not there

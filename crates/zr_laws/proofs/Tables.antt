@@ -11,24 +11,26 @@ use Rattle.std.proofs.lemmas.Grind.{flat_map-append}
 use Rattle.std.proofs.lemmas.List.{map-append}
 use Rattle.std.proofs.lemmas.List.Elements.{filter-append}
 use Rattle.std.proofs.lemmas.List.Sums.{fold-append}
+use Rattle.zr_id.specs.Zid.{is_named}
+use Rattle.zr_msg.specs.declared.content.Parts.{Parts}
 use Rattle.zr_msg.specs.declared.msg.Msg.{Msg}
 use Rattle.zr_msg.specs.declared.msg.Msg.TheVariants as m
-use Rattle.zr_msg.specs.declared.msg.Body.{Body}
-use Rattle.zr_msg.specs.declared.msg.Body.TheVariants as b
-use Rattle.zr_msg.specs.declared.msg.Event.TheVariants.{From}
-use Rattle.zr_msg.specs.declared.command.Command.{Command}
-use Rattle.zr_msg.specs.declared.command.Command.TheVariants as c
-use Rattle.zr_table.specs.State.{Subscription, LinkState}
-use Rattle.zr_table.specs.Table.{sends, undeclared, declared, changed_on, targets, to_each}
-use Rattle.zr_network.specs.World.{Tagged, ClientState, Clients, RouterState, WorldState, Routers, is_named, router_of, client_of, with_tables, with_router, with_client, sent, declaring, undeclaring, with_wire, with_queue, first_router, having, linked, weighing, new_client, outcome}
-use Rattle.zr_network.specs.Phase.{Numbered}
-use Rattle.zr_network.specs.Broker.{Declaration, attaches, is_attached, declared_by, declarations}
-use Rattle.zr_network.specs.Moments.{Moment, went, onward}
+use Rattle.zr_msg.specs.declared.event.Event.TheVariants.{From}
+use Rattle.zr_msg.specs.declared.peer.Peer.{Peer}
+use Rattle.zr_command.specs.declared.command.Act.{Act}
+use Rattle.zr_command.specs.declared.command.Act.TheVariants as c
 use Rattle.zr_network.proofs.Names.{names, same_name, value_new, read_after, read_kept}
+use Rattle.zr_table.specs.State.{Subscription, LinkState}
+use Rattle.zr_table.specs.Table.{sends, undeclared, declared, changed_on}
+use Rattle.zr_network.specs.World.{Tagged, ClientState, Clients, RouterState, WorldState, Routers, router_of, client_of, with_tables, with_router, with_client, sent, declaring, undeclaring, with_wire, with_queue, new_client}
+use Rattle.zr_network.specs.Acts.{client_peer, first_router, having, linked, weighing, outcome}
+use Rattle.zr_network.specs.Moments.{Numbered, Moment, went, onward}
+use Rattle.zr_guarantee.specs.Broker.{Declaration, attaches, is_attached, declared_by, declarations}
+use Rattle.zr_network.proofs.Cases.{on_router, on_client, on_sub, on_unsub, on_publish, on_handle, on_take, for_router, for_client, for_sub, for_unsub, for_publish, for_handle, for_take, for_mark}
 use Rattle.zr_laws.proofs.Lists.{filter_same, filter_mapped, weaker, all_both}
 use Rattle.zr_laws.proofs.Queues.{is_at, links_at, all_kept}
-use Rattle.zr_laws.proofs.Cases.{on_router, on_client, on_sub, on_unsub, on_push, on_handle, on_take, on_book, for_router, for_client, for_sub, for_unsub, for_push, for_handle, for_take, for_run, for_mark}
-use Rattle.zr_laws.proofs.Known.{is_single, all_links, as_declaration, hear, news_of, waiting, View, view_of, view, Joins, Holds, Known, get_more, get_end, nothing_replaced, attached_more, declarations_more, the_links}
+use Rattle.zr_laws.proofs.Messages.{hear, news_of, by_kind}
+use Rattle.zr_laws.proofs.Known.{is_single, all_links, as_declaration, waiting, View, view_of, view, Joins, Holds, Known, get_more, get_end, nothing_replaced, attached_more, declarations_more, the_links}
 
 -- ---- no news
 
@@ -38,16 +40,16 @@ same_holds : (att att' : Bool) (said said' : List Declaration) (ns ns' : List (L
 same_holds att att' said said' ns ns' links links' d v v' ea es en el ev h = rw (ea, es, en, el, ev) h
 
 -- a line that brings no client and no declaration, where nothing changes that matters
-unchanged : (lines : List Numbered) (n : ℕ) (command : Command) (w w' : WorldState) → ((d : List ℕ) → attaches d command ≡ false) → ((d : List ℕ) (so_far : List Declaration) → declared_by d so_far command ≡ so_far) →
+unchanged : (lines : List Numbered) (n : ℕ) (act : Act) (w w' : WorldState) → ((d : List ℕ) → attaches d act ≡ false) → ((d : List ℕ) (so_far : List Declaration) → declared_by d so_far act ≡ so_far) →
     is_single w'.routers ≡ true → w'.names ≡ w.names → all_links w'.routers ≡ all_links w.routers →
-    ((d : List ℕ) → view (client_of w'.clients d) ≡ view (client_of w.clients d)) → Known lines w → Known (lines ++ (n, command) ∷ []) w'
-unchanged lines n command w w' no_client no_sub one en el ev h = record {
+    ((d : List ℕ) → view (client_of w'.clients d) ≡ view (client_of w.clients d)) → Known lines w → Known (lines ++ (n, act) ∷ []) w'
+unchanged lines n act w w' no_client no_sub one en el ev h = record {
   one_router = one;
   named = rw (en, el) h.named;
-  each = λ d. same_holds (is_attached lines d) (is_attached (lines ++ (n, command) ∷ []) d) (declarations lines d) (declarations (lines ++ (n, command) ∷ []) d)
+  each = λ d. same_holds (is_attached lines d) (is_attached (lines ++ (n, act) ∷ []) d) (declarations lines d) (declarations (lines ++ (n, act) ∷ []) d)
       w.names w'.names (all_links w.routers) (all_links w'.routers) d (view (client_of w.clients d)) (view (client_of w'.clients d))
-      (attached_more lines n command d ∙ ap (λ z. is_attached lines d || z) (no_client d) ∙ or-false (is_attached lines d))
-      (declarations_more lines n command d ∙ no_sub d (declarations lines d))
+      (attached_more lines n act d ∙ ap (λ z. is_attached lines d || z) (no_client d) ∙ or-false (is_attached lines d))
+      (declarations_more lines n act d ∙ no_sub d (declarations lines d))
       en el (ev d) (h.each d);
 }
 
@@ -94,7 +96,7 @@ module _ (lines : List Numbered) (now : Moment) (h : Known lines now.world) wher
       ns = now.world.names
 
       new : LinkState
-      new = record { link = record { 0 = length ns }; subs = [] }
+      new = record { link = record { 0 = length ns }; peer = client_peer id; subs = [] }
 
       fresh : ClientState
       fresh = new_client router (length ns)
@@ -102,8 +104,8 @@ module _ (lines : List Numbered) (now : Moment) (h : Known lines now.world) wher
       w' : WorldState
       w' = (on_client now id router r).world
 
-      rows : (all_links now.world.routers ≡ r.node.links) × (all_links w'.routers ≡ (linked r (length ns)).node.links) × (is_single w'.routers ≡ true)
-      rows = the_links now.world.routers router r (linked r (length ns)) h.one_router er
+      rows : (all_links now.world.routers ≡ r.node.links) × (all_links w'.routers ≡ (linked r (length ns) id).node.links) × (is_single w'.routers ≡ true)
+      rows = the_links now.world.routers router r (linked r (length ns) id) h.one_router er
 
       links_are : all_links w'.routers ≡ all_links now.world.routers ++ new ∷ []
       links_are = rows.1 ∙ ap (λ z. z ++ new ∷ []) (sym rows.0)
@@ -127,6 +129,7 @@ module _ (lines : List Numbered) (now : Moment) (h : Known lines now.world) wher
           Holds (is_attached (lines ++ (n, c.Client id router) ∷ []) d) (declarations (lines ++ (n, c.Client id router) ∷ []) d) (ns ++ id ∷ []) (all_links w'.routers) d (Some (view_of fresh))
       comes d same k = record {
         is_there = attached_more lines n (c.Client id router) d ∙ or_right (is_attached lines d) (is_named d id) same;
+        peer = client_peer id;
         rows = [];
         one = links_now d ∙ ap (λ z. z ++ cond (is_named id d) (new ∷ []) []) k.2 ∙ ap (λ b. cond b (new ∷ []) []) (names.symm id d ∙ same);
         own = ap (λ o. is_at o d) (get_end ns id) ∙ names.symm id d ∙ same;
@@ -146,6 +149,7 @@ module _ (lines : List Numbered) (now : Moment) (h : Known lines now.world) wher
           links_other d other = links_now d ∙ ap (λ b. links_at ns d (all_links now.world.routers) ++ cond b (new ∷ []) []) (names.symm id d ∙ other) ∙ append-nil (links_at ns d (all_links now.world.routers))
       stays d other (Some v) k = record {
         is_there = attached_more lines n (c.Client id router) d ∙ ap (λ z. is_attached lines d || z) other ∙ or-false (is_attached lines d) ∙ k.is_there;
+        peer = k.peer;
         rows = k.rows;
         one = links_now d ∙ ap (λ b. links_at ns d (all_links now.world.routers) ++ cond b (new ∷ []) []) (names.symm id d ∙ other) ∙ append-nil (links_at ns d (all_links now.world.routers)) ∙ k.one;
         own = at_more ns (id ∷ []) v.link d k.own;
@@ -168,27 +172,27 @@ module _ (lines : List Numbered) (now : Moment) (h : Known lines now.world) wher
   -- ---- a declaration is written, or its end
 
   -- a client s writes a message that is no sample, and is s' then
-  says_known : (n : ℕ) (command : Command) (name : List ℕ) (s s' : ClientState) (msg : Msg) (routers : Routers) (change : List Declaration → List Declaration) →
+  says_known : (n : ℕ) (act : Act) (name : List ℕ) (s s' : ClientState) (msg : Msg) (routers : Routers) (change : List Declaration → List Declaration) →
       client_of now.world.clients name ≡ Some s → s'.link ≡ s.link → s'.wire ≡ s.wire ++ record { msg = msg; tag = n } ∷ [] → news_of msg ≡ msg ∷ [] →
       is_single routers ≡ true → all_links routers ≡ all_links now.world.routers →
-      ((d : List ℕ) → attaches d command ≡ false) → ((d : List ℕ) (so_far : List Declaration) → declared_by d so_far command ≡ cond (is_named d name) (change so_far) so_far) →
+      ((d : List ℕ) → attaches d act ≡ false) → ((d : List ℕ) (so_far : List Declaration) → declared_by d so_far act ≡ cond (is_named d name) (change so_far) so_far) →
       ((rows : List Subscription) → s.ids ≡ map (λ y. y.id) (map as_declaration rows) →
       (map as_declaration (hear rows msg) ≡ change (map as_declaration rows)) × (s'.ids ≡ map (λ y. y.id) (change (map as_declaration rows)))) →
-      Known (lines ++ (n, command) ∷ []) (with_tables now.world routers (with_client now.world.clients name s'))
-  says_known n command name s s' msg routers change e link_is wire_is news one links_are no_client says hears = record {
+      Known (lines ++ (n, act) ∷ []) (with_tables now.world routers (with_client now.world.clients name s'))
+  says_known n act name s s' msg routers change e link_is wire_is news one links_are no_client says hears = record {
     one_router = one;
     named = ap (list_all (λ l. is_some (slice_get now.world.names l.link.0))) links_are ∙ h.named;
     each = λ d. at d (is_named name d) refl;
   }
     where
       lines' : List Numbered
-      lines' = lines ++ (n, command) ∷ []
+      lines' = lines ++ (n, act) ∷ []
 
       attached_now : (d : List ℕ) → is_attached lines' d ≡ is_attached lines d
-      attached_now d = attached_more lines n command d ∙ ap (λ z. is_attached lines d || z) (no_client d) ∙ or-false (is_attached lines d)
+      attached_now d = attached_more lines n act d ∙ ap (λ z. is_attached lines d || z) (no_client d) ∙ or-false (is_attached lines d)
 
       said_now : (d : List ℕ) (b : Bool) → is_named name d ≡ b → declarations lines' d ≡ cond b (change (declarations lines d)) (declarations lines d)
-      said_now d b k = declarations_more lines n command d ∙ says d (declarations lines d) ∙ ap (λ z. cond z (change (declarations lines d)) (declarations lines d)) (names.symm d name ∙ k)
+      said_now d b k = declarations_more lines n act d ∙ says d (declarations lines d) ∙ ap (λ z. cond z (change (declarations lines d)) (declarations lines d)) (names.symm d name ∙ k)
 
       view_now : (d : List ℕ) (b : Bool) → is_named name d ≡ b → view (client_of (with_client now.world.clients name s') d) ≡ cond b (Some (view_of s')) (view (client_of now.world.clients d))
       view_now d b k = read_after view now.world.clients name d s s' e ∙ ap (λ z. cond z (Some (view_of s')) (view (client_of now.world.clients d))) k
@@ -216,8 +220,9 @@ module _ (lines : List Numbered) (now : Moment) (h : Known lines now.world) wher
           joins : Joins (is_attached lines' d) (declarations lines' d) now.world.names (all_links routers) d (view_of s')
           joins = record {
             is_there = attached_now d ∙ j.is_there;
+            peer = j.peer;
             rows = j.rows;
-            one = ap (links_at now.world.names d) links_are ∙ j.one ∙ ap (λ z. record { link = record { 0 = z }; subs = j.rows } ∷ []) (sym link_is);
+            one = ap (links_at now.world.names d) links_are ∙ j.one ∙ ap (λ z. record { link = record { 0 = z }; peer = j.peer; subs = j.rows } ∷ []) (sym link_is);
             own = ap (λ z. is_at (slice_get now.world.names z) d) link_is ∙ j.own;
             flow = ap (λ z. map as_declaration (fold hear j.rows z)) on_way
                 ∙ ap (map as_declaration) (fold-append hear j.rows (waiting s.wire) (msg ∷ []))
@@ -261,37 +266,39 @@ module _ (lines : List Numbered) (now : Moment) (h : Known lines now.world) wher
       ))
 
   -- a sample is written
-  written_known : (n : ℕ) (command : Command) (name key : List ℕ) (body : Body) → ((d : List ℕ) → attaches d command ≡ false) →
-      ((d : List ℕ) (so_far : List Declaration) → declared_by d so_far command ≡ so_far) →
-      (s : ClientState) → client_of now.world.clients name ≡ Some s → Known (lines ++ (n, command) ∷ []) (on_push now n name key body s).world
-  written_known n command name key body no_client no_sub s e =
-      unchanged lines n command now.world (on_push now n name key body s).world no_client no_sub h.one_router refl refl
-      (λ d. read_kept view now.world.clients name d s (sent s (m.Push key body) n) e
-      (ap (λ z. Some (record { link = s.link; ids = s.ids; on_way = z })) (flat_map-append (λ x. news_of x.msg) s.wire (record { msg = m.Push key body; tag = n } ∷ []) ∙ append-nil (waiting s.wire)))) h
+  published_known : (n : ℕ) (name : List ℕ) (content : Parts) (s : ClientState) → client_of now.world.clients name ≡ Some s →
+      Known (lines ++ (n, c.Publish name content) ∷ []) (on_publish now n name content s).world
+  published_known n name content s e =
+      unchanged lines n (c.Publish name content) now.world (on_publish now n name content s).world (λ d. refl) (λ d so_far. refl) h.one_router refl refl
+      (λ d. read_kept view now.world.clients name d s (sent s (m.Push None content) n) e
+      (ap (λ z. Some (record { link = s.link; ids = s.ids; on_way = z })) (flat_map-append (λ x. news_of x.msg) s.wire (record { msg = m.Push None content; tag = n } ∷ []) ∙ append-nil (waiting s.wire)))) h
 
   -- ---- a message is handled
 
-  -- a sample
-  push_known : (n : ℕ) (router name : List ℕ) (r : RouterState) → router_of now.world.routers router ≡ Some r → (s : ClientState) → client_of now.world.clients name ≡ Some s →
-      (key : List ℕ) (body : Body) (tag : ℕ) (xs : List Tagged) → s.wire ≡ record { msg = m.Push key body; tag = tag } ∷ xs →
-      Known (lines ++ (n, c.Handle router name) ∷ []) (on_handle now router name r s (m.Push key body) tag xs).world
-  push_known n router name r er s e key body tag xs front =
-      unchanged lines n (c.Handle router name) now.world w' (λ d. refl) (λ d so_far. refl) rows.2 refl (rows.1 ∙ sym rows.0)
-      (λ d. all_kept view tag (λ y z. refl) (with_client now.world.clients name (with_wire s xs)) now.world.names (to_each (m.Push key body) (targets r.node s.link key)) d
-      ∙ read_kept view now.world.clients name d s (with_wire s xs) e (ap (λ z. Some (record { link = s.link; ids = s.ids; on_way = waiting z })) (sym front)))
+  -- one that changes no rows
+  unheard_known : (n : ℕ) (router name : List ℕ) (r : RouterState) → router_of now.world.routers router ≡ Some r → (s : ClientState) → client_of now.world.clients name ≡ Some s →
+      (msg : Msg) (tag : ℕ) (xs : List Tagged) → s.wire ≡ record { msg = msg; tag = tag } ∷ xs → news_of msg ≡ [] → (having r s.link msg).node.links ≡ r.node.links →
+      Known (lines ++ (n, c.Handle router name) ∷ []) (on_handle now router name r s msg tag xs).world
+  unheard_known n router name r er s e msg tag xs front news links =
+      unchanged lines n (c.Handle router name) now.world w' (λ d. refl) (λ d so_far. refl) rows.2 refl (rows.1 ∙ links ∙ sym rows.0)
+      (λ d. all_kept view tag (λ y z. refl) (with_client now.world.clients name (with_wire s xs)) now.world.names (sends r.node (From (record { 0 = s.link }) msg)) d
+      ∙ read_kept view now.world.clients name d s (with_wire s xs) e (ap (λ z. Some (record { link = s.link; ids = s.ids; on_way = z })) (sym on_way)))
       h
     where
       w' : WorldState
-      w' = (on_handle now router name r s (m.Push key body) tag xs).world
+      w' = (on_handle now router name r s msg tag xs).world
 
-      rows : (all_links now.world.routers ≡ r.node.links) × (all_links w'.routers ≡ r.node.links) × (is_single w'.routers ≡ true)
-      rows = the_links now.world.routers router r (having r s.link (m.Push key body)) h.one_router er
+      rows : (all_links now.world.routers ≡ r.node.links) × (all_links w'.routers ≡ (having r s.link msg).node.links) × (is_single w'.routers ≡ true)
+      rows = the_links now.world.routers router r (having r s.link msg) h.one_router er
+
+      on_way : waiting s.wire ≡ waiting xs
+      on_way = ap waiting front ∙ ap (λ z. z ++ waiting xs) news
 
   -- a link's number stays, whatever its client declares
   keeps_link : (from : ℕ) (change : List Subscription → List Subscription) (l : LinkState) → (changed_on from change l).link ≡ l.link
   keeps_link from change l = by (l.link.0 == from)
     where
-      by : (b : Bool) → (cond b (record { link = l.link; subs = change l.subs }) l).link ≡ l.link
+      by : (b : Bool) → (cond b (record { link = l.link; peer = l.peer; subs = change l.subs }) l).link ≡ l.link
       by true = refl
       by false = refl
 
@@ -310,7 +317,7 @@ module _ (lines : List Numbered) (now : Moment) (h : Known lines now.world) wher
       and_from (is_some (slice_get ns (changed_on from change l).link.0)) (list_all (λ x. is_some (slice_get ns x.link.0)) (map (changed_on from change) ls))
       (ap (λ z. is_some (slice_get ns z.0)) (keeps_link from change l) ∙ parts.0) (named_map ns from change ls parts.1)
 
-  -- a message that is no sample: it is heard, and its client's rows are changed
+  -- one that changes rows: it is heard, and the rows are those of its client
   heard_known : (n : ℕ) (router name : List ℕ) (r : RouterState) → router_of now.world.routers router ≡ Some r → (s : ClientState) → client_of now.world.clients name ≡ Some s →
       (msg : Msg) (tag : ℕ) (xs : List Tagged) → s.wire ≡ record { msg = msg; tag = tag } ∷ xs → (change : List Subscription → List Subscription) →
       (having r s.link msg).node.links ≡ map (changed_on s.link change) r.node.links → news_of msg ≡ msg ∷ [] → ((rows : List Subscription) → hear rows msg ≡ change rows) →
@@ -353,17 +360,18 @@ module _ (lines : List Numbered) (now : Moment) (h : Known lines now.world) wher
           all_kept view tag (λ y z. refl) clients ns (sends r.node (From (record { 0 = s.link }) msg)) d
           ∙ read_after view now.world.clients name d s (with_wire s xs) e ∙ ap (λ z. cond z (Some (view_of (with_wire s xs))) (view (client_of now.world.clients d))) k
 
-      -- the link of a client that has these rows
-      link_with : ℕ → List Subscription → LinkState
-      link_with link subs = record { link = record { 0 = link }; subs = subs }
+      -- the link of a client, with its peer and these rows
+      link_with : ℕ → Peer → List Subscription → LinkState
+      link_with link peer subs = record { link = record { 0 = link }; peer = peer; subs = subs }
 
       -- the client whose message it is
       hears_it : (d : List ℕ) → is_named name d ≡ true → Joins (is_attached lines' d) (declarations lines' d) ns (all_links w'.routers) d (view_of (with_wire s xs))
       hears_it d same = record {
         is_there = attached_now d ∙ j.is_there;
+        peer = j.peer;
         rows = change j.rows;
         one = links_now d ∙ ap (map (changed_on s.link change)) j.one
-            ∙ ap (λ b. cond b (link_with s.link (change j.rows)) (link_with s.link j.rows) ∷ []) (eq-eqb s.link s.link refl);
+            ∙ ap (λ b. cond b (link_with s.link j.peer (change j.rows)) (link_with s.link j.peer j.rows) ∷ []) (eq-eqb s.link s.link refl);
         own = j.own;
         flow = ap (λ z. map as_declaration (fold hear z (waiting xs))) (sym (hears j.rows))
             ∙ ap (λ z. map as_declaration (fold hear j.rows z)) (sym (ap waiting front ∙ ap (λ z. z ++ waiting xs) news))
@@ -391,9 +399,10 @@ module _ (lines : List Numbered) (now : Moment) (h : Known lines now.world) wher
       stays d other None k = (attached_now d ∙ k.0, said_now d ∙ k.1, links_now d ∙ ap (map (changed_on s.link change)) k.2)
       stays d other (Some v) k = record {
         is_there = attached_now d ∙ k.is_there;
+        peer = k.peer;
         rows = k.rows;
         one = links_now d ∙ ap (map (changed_on s.link change)) k.one
-            ∙ ap (λ b. cond b (link_with v.link (change k.rows)) (link_with v.link k.rows) ∷ []) (apart d v.link k.own other);
+            ∙ ap (λ b. cond b (link_with v.link k.peer (change k.rows)) (link_with v.link k.peer k.rows) ∷ []) (apart d v.link k.own other);
         own = k.own;
         flow = k.flow ∙ sym (said_now d);
         ids_are = k.ids_are ∙ ap (map (λ y. y.id)) (sym (said_now d));
@@ -403,32 +412,31 @@ module _ (lines : List Numbered) (now : Moment) (h : Known lines now.world) wher
       at d true same = rw (view_now d true same) (hears_it d same)
       at d false other = rw (view_now d false other) (stays d other (view (client_of now.world.clients d)) (h.each d))
 
-  -- ---- all commands
+  -- ---- all acts
 
-  command_known : (n : ℕ) (command : Command) → IfSome (went now (outcome now.world n command)) (λ next. Known (lines ++ (n, command) ∷ []) next.world)
+  act_known : (n : ℕ) (act : Act) → IfSome (went now (outcome now.world n act)) (λ next. Known (lines ++ (n, act) ∷ []) next.world)
   unfolding outcome
-  command_known n (c.Router id) = for_router now (λ next. Known (lines ++ (n, c.Router id) ∷ []) next.world) id (router_known n id)
-  command_known n (c.Client id router) = for_client now (λ next. Known (lines ++ (n, c.Client id router) ∷ []) next.world) id router (client_known n id router)
-  command_known n (c.Sub client id key) = for_sub now (λ next. Known (lines ++ (n, c.Sub client id key) ∷ []) next.world) n client id key (sub_known n client id key)
-  command_known n (c.Unsub client id) = for_unsub now (λ next. Known (lines ++ (n, c.Unsub client id) ∷ []) next.world) n client id (unsub_known n client id)
-  command_known n (c.Put client key payload) = for_push now (λ next. Known (lines ++ (n, c.Put client key payload) ∷ []) next.world) n client key (b.Put payload)
-      (written_known n (c.Put client key payload) client key (b.Put payload) (λ d. refl) (λ d so_far. refl))
-  command_known n (c.Del client key) = for_push now (λ next. Known (lines ++ (n, c.Del client key) ∷ []) next.world) n client key b.Del
-      (written_known n (c.Del client key) client key b.Del (λ d. refl) (λ d so_far. refl))
-  command_known n (c.Handle router name) = for_handle now (λ next. Known (lines ++ (n, c.Handle router name) ∷ []) next.world) router name by_message
+  act_known n (c.Router id) = for_router now (λ next. Known (lines ++ (n, c.Router id) ∷ []) next.world) id (router_known n id)
+  act_known n (c.Client id router) = for_client now (λ next. Known (lines ++ (n, c.Client id router) ∷ []) next.world) id router (client_known n id router)
+  act_known n (c.Sub client id key) = for_sub now (λ next. Known (lines ++ (n, c.Sub client id key) ∷ []) next.world) n client id key (sub_known n client id key)
+  act_known n (c.Unsub client id) = for_unsub now (λ next. Known (lines ++ (n, c.Unsub client id) ∷ []) next.world) n client id (unsub_known n client id)
+  act_known n (c.Publish client content) = for_publish now (λ next. Known (lines ++ (n, c.Publish client content) ∷ []) next.world) n client content (published_known n client content)
+  act_known n (c.Handle router name) = for_handle now (λ next. Known (lines ++ (n, c.Handle router name) ∷ []) next.world) router name by_message
     where
       by_message : (r : RouterState) → router_of now.world.routers router ≡ Some r → (s : ClientState) → client_of now.world.clients name ≡ Some s →
           (msg : Msg) (tag : ℕ) (xs : List Tagged) → s.wire ≡ record { msg = msg; tag = tag } ∷ xs →
           Known (lines ++ (n, c.Handle router name) ∷ []) (on_handle now router name r s msg tag xs).world
-      by_message r er s e (m.Sub id key) tag xs front = heard_known n router name r er s e (m.Sub id key) tag xs front (λ rows. declared rows id key) refl refl (λ rows. refl)
-      by_message r er s e (m.Unsub id) tag xs front = heard_known n router name r er s e (m.Unsub id) tag xs front (λ rows. undeclared rows id) refl refl (λ rows. refl)
-      by_message r er s e (m.Push key body) tag xs front = push_known n router name r er s e key body tag xs front
-  command_known n (c.Take router to) = for_take now (λ next. Known (lines ++ (n, c.Take router to) ∷ []) next.world) router to
+      by_message r er s e msg tag xs =
+          by_kind (λ z. s.wire ≡ record { msg = z; tag = tag } ∷ xs → Known (lines ++ (n, c.Handle router name) ∷ []) (on_handle now router name r s z tag xs).world)
+          (λ id key front. heard_known n router name r er s e (m.Sub id key) tag xs front (λ rows. declared rows id key) refl refl (λ rows. refl))
+          (λ id front. heard_known n router name r er s e (m.Unsub id) tag xs front (λ rows. undeclared rows id) refl refl (λ rows. refl))
+          (λ tree content front. unheard_known n router name r er s e (m.Push tree content) tag xs front refl refl)
+          (λ z silent front. unheard_known n router name r er s e z tag xs front silent.no_news (ap (λ node. node.links) (silent.keeps_nothing r.node (record { 0 = s.link }))))
+          msg
+  act_known n (c.Take router to) = for_take now (λ next. Known (lines ++ (n, c.Take router to) ∷ []) next.world) router to
       (λ s e x xs front. unchanged lines n (c.Take router to) now.world (on_take now router to s x xs).world (λ d. refl) (λ d so_far. refl) h.one_router refl refl
       (λ d. read_kept view now.world.clients to d s (with_queue s xs) e refl) h)
-  command_known n (c.Run steps) = for_run now (λ next. Known (lines ++ (n, c.Run steps) ∷ []) next.world) steps
-      (unchanged lines n (c.Run steps) now.world (on_book now steps).world (λ d. refl) (λ d so_far. refl) h.one_router refl refl (λ d. refl) h)
-  command_known n c.Mark = for_mark now (λ next. Known (lines ++ (n, c.Mark) ∷ []) next.world) n
+  act_known n c.Mark = for_mark now (λ next. Known (lines ++ (n, c.Mark) ∷ []) next.world) n
       (λ settled. unchanged lines n c.Mark now.world now.world (λ d. refl) (λ d so_far. refl) h.one_router refl refl (λ d. refl) h)
 
 -- over any lines
@@ -441,4 +449,4 @@ known_after (x ∷ xs) done o h =
   where
     next : (o : Option Moment) → IfSome o (λ now. Known done now.world) → IfSome (onward o x) (λ now. Known (done ++ x ∷ []) now.world)
     next None h = tt
-    next (Some now) h = command_known done now h x.0 x.1
+    next (Some now) h = act_known done now h x.0 x.1

@@ -1,27 +1,28 @@
 -- A message's tag is the number of the line that it comes from, wherever it waits and where it was sent: a test that all
--- lines pass which give tags, all tags pass. One lemma a kind of step, over all commands, and one induction.
+-- lines pass which give tags, all tags pass. One lemma a kind of step, over all acts, and one induction.
 use Rattle.std.proofs.Common.{◌≡◌, ℕ, Bool, true, false, cond, List, [], ◌∷◌, ◌++◌, Option, Some, None, refl, sym, ap, ◌∙◌, append-nil}
 use Rattle.std.specs.Prelude.{◌||◌, not, length, IfSome}
 use Rattle.std.specs.List.{list_all, fold}
 use Rattle.std.proofs.lemmas.Bool.{and_parts, and_from}
 use Rattle.zr_id.specs.declared.link.LinkNo.{LinkNo}
+use Rattle.zr_id.specs.Zid.{is_named}
+use Rattle.zr_msg.specs.declared.content.Parts.{Parts}
 use Rattle.zr_msg.specs.declared.msg.Msg.{Msg}
 use Rattle.zr_msg.specs.declared.msg.Msg.TheVariants as m
-use Rattle.zr_msg.specs.declared.msg.Body.{Body}
-use Rattle.zr_msg.specs.declared.msg.Body.TheVariants as b
-use Rattle.zr_msg.specs.declared.msg.Event.TheVariants.{From}
-use Rattle.zr_msg.specs.declared.command.Command.{Command}
-use Rattle.zr_msg.specs.declared.command.Command.TheVariants as c
-use Rattle.zr_msg.specs.declared.report.ReportLine.{ReportLine}
-use Rattle.zr_msg.specs.declared.report.ReportLine.TheVariants as line
-use Rattle.zr_table.specs.Table.{sends}
-use Rattle.zr_network.specs.World.{Tagged, ClientState, RouterState, Clients, is_named, client_of, with_client, sent, declaring, undeclaring, with_wire, with_queue, new_client, outcome}
-use Rattle.zr_network.specs.Phase.{Numbered}
-use Rattle.zr_network.specs.Moments.{Moment, went, onward, item_of, sent_in, sent_to}
+use Rattle.zr_msg.specs.declared.event.Event.TheVariants.{From}
+use Rattle.zr_command.specs.declared.command.Act.{Act}
+use Rattle.zr_command.specs.declared.command.Act.TheVariants as c
+use Rattle.zr_command.specs.declared.report.ReportLine.{ReportLine}
+use Rattle.zr_command.specs.declared.report.ReportLine.TheVariants as line
 use Rattle.zr_network.proofs.Names.{value_new, read_kept, test_after}
+use Rattle.zr_table.specs.Table.{sends}
+use Rattle.zr_network.specs.World.{Tagged, ClientState, RouterState, Clients, client_of, with_client, sent, declaring, undeclaring, with_wire, with_queue, new_client}
+use Rattle.zr_network.specs.Acts.{outcome}
+use Rattle.zr_network.specs.Moments.{Numbered, Moment, went, onward}
+use Rattle.zr_guarantee.specs.Sent.{sample_of, items_of, item_of, sent_in, sent_to}
+use Rattle.zr_network.proofs.Cases.{on_client, on_publish, on_handle, on_take, for_router, for_client, for_sub, for_unsub, for_publish, for_handle, for_take, for_mark}
 use Rattle.zr_laws.proofs.Lists.{all_both}
 use Rattle.zr_laws.proofs.Queues.{on_wire, on_queue, all_kept, all_tested}
-use Rattle.zr_laws.proofs.Cases.{on_client, on_push, on_handle, on_take, for_router, for_client, for_sub, for_unsub, for_push, for_handle, for_take, for_run, for_mark}
 use Rattle.zr_laws.proofs.Pair.{sent_more}
 use Rattle.zr_laws.proofs.Numbers.{writes, Tagging}
 
@@ -46,10 +47,12 @@ one_tag t tag h [] = refl
 one_tag t tag h (x ∷ xs) = and_from (t tag) (list_all (λ y. t tag) xs) h (one_tag t tag h xs)
 
 -- the sample that a message is has its tag
-item_tag : (t : ℕ → Bool) (msg : Msg) (tag : ℕ) → t tag ≡ true → list_all (λ i. t i.line) (item_of msg tag) ≡ true
-item_tag t (m.Sub id key) tag h = refl
-item_tag t (m.Unsub id) tag h = refl
-item_tag t (m.Push key body) tag h = and_from (t tag) true h refl
+pub item_tag : (t : ℕ → Bool) (msg : Msg) (tag : ℕ) → t tag ≡ true → list_all (λ i. t i.line) (item_of msg tag) ≡ true
+item_tag t msg tag h = by (sample_of msg)
+  where
+    by : (o : Option Parts) → list_all (λ i. t i.line) (items_of o tag) ≡ true
+    by None = refl
+    by (Some content) = and_from (t tag) true h refl
 
 module _ (t : ℕ → Bool) (now : Moment) (h : Tags t now) where
   client_tags : (id router : List ℕ) (r : RouterState) → client_of now.world.clients id ≡ None → Tags t (on_client now id router r)
@@ -85,9 +88,9 @@ module _ (t : ℕ → Bool) (now : Moment) (h : Tags t now) where
   )
 
   -- a sample is written
-  push_tags : (n : ℕ) (name key : List ℕ) (body : Body) → t n ≡ true → (s : ClientState) → client_of now.world.clients name ≡ Some s → Tags t (on_push now n name key body s)
-  push_tags n name key body tn s e =
-      let w = writing_tags name s (sent s (m.Push key body) n) (m.Push key body) n e tn refl refl in
+  publish_tags : (n : ℕ) (name : List ℕ) (content : Parts) → t n ≡ true → (s : ClientState) → client_of now.world.clients name ≡ Some s → Tags t (on_publish now n name content s)
+  publish_tags n name content tn s e =
+      let w = writing_tags name s (sent s (m.Push None content) n) (m.Push None content) n e tn refl refl in
       record { wires = w.0; queues = w.1; sends = λ q. same_report t now.report q (h.sends q) }
 
   handle_tags : (router name : List ℕ) (r : RouterState) (s : ClientState) → client_of now.world.clients name ≡ Some s →
@@ -124,24 +127,22 @@ module _ (t : ℕ → Bool) (now : Moment) (h : Tags t now) where
       by true = item_tag t x.msg x.tag (rest (ap (on_queue (λ y. t y.tag)) (sym e) ∙ h.queues to)).0
       by false = refl
 
-  command_tags : (n : ℕ) (command : Command) → (not (writes command) || t n) ≡ true → IfSome (went now (outcome now.world n command)) (Tags t)
+  act_tags : (n : ℕ) (act : Act) → (not (writes act) || t n) ≡ true → IfSome (went now (outcome now.world n act)) (Tags t)
   unfolding outcome
-  command_tags n (c.Router id) k = for_router now (Tags t) id (λ first. record { wires = h.wires; queues = h.queues; sends = λ q. same_report t now.report q (h.sends q) })
-  command_tags n (c.Client id router) k = for_client now (Tags t) id router (λ r er free. client_tags id router r free)
-  command_tags n (c.Sub client id key) k = for_sub now (Tags t) n client id key
+  act_tags n (c.Router id) k = for_router now (Tags t) id (λ first. record { wires = h.wires; queues = h.queues; sends = λ q. same_report t now.report q (h.sends q) })
+  act_tags n (c.Client id router) k = for_client now (Tags t) id router (λ r er free. client_tags id router r free)
+  act_tags n (c.Sub client id key) k = for_sub now (Tags t) n client id key
       (λ s e fresh r er.
       let w = writing_tags client s (sent (declaring s id) (m.Sub id key) n) (m.Sub id key) n e k refl refl in
       record { wires = w.0; queues = w.1; sends = λ q. same_report t now.report q (h.sends q) })
-  command_tags n (c.Unsub client id) k = for_unsub now (Tags t) n client id
+  act_tags n (c.Unsub client id) k = for_unsub now (Tags t) n client id
       (λ s e.
       let w = writing_tags client s (sent (undeclaring s id) (m.Unsub id) n) (m.Unsub id) n e k refl refl in
       record { wires = w.0; queues = w.1; sends = λ q. same_report t now.report q (h.sends q) })
-  command_tags n (c.Put client key payload) k = for_push now (Tags t) n client key (b.Put payload) (push_tags n client key (b.Put payload) k)
-  command_tags n (c.Del client key) k = for_push now (Tags t) n client key b.Del (push_tags n client key b.Del k)
-  command_tags n (c.Handle router from) k = for_handle now (Tags t) router from (λ r er s e msg tag xs front. handle_tags router from r s e msg tag xs front)
-  command_tags n (c.Take router to) k = for_take now (Tags t) router to (take_tags router to)
-  command_tags n (c.Run steps) k = for_run now (Tags t) steps (record { wires = h.wires; queues = h.queues; sends = λ q. same_report t now.report q (h.sends q) })
-  command_tags n c.Mark k = for_mark now (Tags t) n (λ settled. record { wires = h.wires; queues = h.queues; sends = λ q. more_report t now.report (line.Mark n) q (h.sends q) refl })
+  act_tags n (c.Publish client content) k = for_publish now (Tags t) n client content (publish_tags n client content k)
+  act_tags n (c.Handle router from) k = for_handle now (Tags t) router from (λ r er s e msg tag xs front. handle_tags router from r s e msg tag xs front)
+  act_tags n (c.Take router to) k = for_take now (Tags t) router to (take_tags router to)
+  act_tags n c.Mark k = for_mark now (Tags t) n (λ settled. record { wires = h.wires; queues = h.queues; sends = λ q. more_report t now.report (line.Mark n) q (h.sends q) refl })
 
 -- over any lines
 pub tags_kept : (t : ℕ → Bool) (lines : List Numbered) (o : Option Moment) → IfSome o (Tags t) → Tagging t lines → IfSome (fold onward o lines) (Tags t)
@@ -153,4 +154,4 @@ tags_kept t (x ∷ xs) o h k = tags_kept t xs (onward o x) (next o h) both.1
 
     next : (o : Option Moment) → IfSome o (Tags t) → IfSome (onward o x) (Tags t)
     next None h = tt
-    next (Some now) h = command_tags t now h x.0 x.1 both.0
+    next (Some now) h = act_tags t now h x.0 x.1 both.0

@@ -2,17 +2,21 @@
 use Rattle.std.specs.Prelude.{◌≡◌, ℕ, List, [], ◌∷◌, ◌++◌, codes, true, map, take, drop, Option, Some, None}
 use Rattle.std.specs.List.{flat_map}
 use Rattle.std.specs.Option.{option_map}
-use Rattle.zr_msg.specs.declared.error.ScriptError.{ScriptError}
-use Rattle.zr_msg.specs.declared.error.ScriptError.TheVariants.{NothingThere}
-use Rattle.zr_msg.specs.declared.msg.Body.TheVariants as b
-use Rattle.zr_msg.specs.declared.command.Command.TheVariants.{Router, Client, Sub, Unsub, Put, Del, Handle, Take, Run, Mark}
-use Rattle.zr_network.specs.Lines.{lines}
+use Rattle.zr_body.specs.Payload.{put_body, del_body}
+use Rattle.zr_msg.specs.declared.content.Parts.{Parts}
+use Rattle.zr_command.specs.declared.error.ScriptError.{ScriptError}
+use Rattle.zr_command.specs.declared.error.ScriptError.TheVariants.{NothingThere}
+use Rattle.zr_command.specs.declared.command.Act.TheVariants.{Router, Client, Sub, Unsub, Publish, Handle, Take, Mark}
+use Rattle.zr_language.specs.Lines.{lines}
+use Rattle.zr_language.specs.Command.{plain}
+use Rattle.zr_network.specs.World.{is_quiet}
 use Rattle.zr_network.specs.Run.{run_of}
-use Rattle.zr_network.specs.Phase.{Numbered}
-use Rattle.zr_network.specs.Broker.{Item, from}
-use Rattle.zr_network.specs.Moments.{reached, is_quiet, sent_to}
-use Rattle.zr_network.specs.Refines.{sent_of}
+use Rattle.zr_network.specs.Moments.{Numbered, reached}
 use Rattle.zr_network.specs.Accepted.{accepted}
+use Rattle.zr_guarantee.specs.Item.{Item}
+use Rattle.zr_guarantee.specs.Broker.{from}
+use Rattle.zr_guarantee.specs.Sent.{sent_to}
+use Rattle.zr_guarantee.specs.Refines.{sent_of}
 
 -- the text of some lines, each with its end
 abbrev pub text_of : List (List ℕ) → List ℕ
@@ -46,25 +50,32 @@ c1 = 193 ∷ []
 abbrev pub c2 : List ℕ
 c2 = 194 ∷ []
 
+-- a value and a deletion, as a script makes them
+abbrev pub value : List ℕ → List ℕ → Parts
+value key payload = plain key (put_body payload)
+
+abbrev pub deletion : List ℕ → Parts
+deletion key = plain key del_body
+
 -- the lines of that script before its mark, and those after it
 abbrev pub before : List Numbered
 before = (1, Router a) ∷ (2, Client c1 a) ∷ (3, Client c2 a) ∷ (4, Sub c2 1 (codes "a/b")) ∷ (5, Handle a c2) ∷ []
 
 abbrev pub phase : List Numbered
-phase = (7, Put c1 (codes "a/b") (codes "hi")) ∷ (8, Handle a c1) ∷ (9, Take a c2) ∷ []
+phase = (7, Publish c1 (value (codes "a/b") (codes "hi"))) ∷ (8, Handle a c1) ∷ (9, Take a c2) ∷ []
 
 -- what the one broker sends in that script
 abbrev pub sample : Item
-sample = record { line = 7; key = codes "a/b"; body = b.Put (codes "hi") }
+sample = record { line = 7; content = value (codes "a/b") (codes "hi") }
 
 -- in that script the one broker sends the sample to the subscriber alone, and so does the network
 pub record BrokerSendsIt : Type 0 where
   pub accepted_is : accepted (lines (text_of first_script)) ≡ before ++ (6, Mark) ∷ phase
   pub for_subscriber : from before phase c1 c2 ≡ sample ∷ []
-  pub for_author : from before phase c1 c1 ≡ []
+  pub for_publisher : from before phase c1 c1 ≡ []
   pub of_subscriber : from before phase c2 c1 ≡ []
   pub subscriber_sent : option_map (λ m. sent_to m.report c2) (reached (before ++ (6, Mark) ∷ phase)) ≡ Some (sample ∷ [])
-  pub author_sent : option_map (λ m. sent_to m.report c1) (reached (before ++ (6, Mark) ∷ phase)) ≡ Some []
+  pub publisher_sent : option_map (λ m. sent_to m.report c1) (reached (before ++ (6, Mark) ∷ phase)) ≡ Some []
   pub quiet_at_end : option_map (λ m. is_quiet m.world) (reached (before ++ (6, Mark) ∷ phase)) ≡ Some true
 
 -- the empty script has the empty report
@@ -72,8 +83,8 @@ abbrev pub NothingIsReported : Type 0
 NothingIsReported = ComesTo [] [] 0 None
 
 -- a client is not sent its own sample
-abbrev pub AuthorHearsNothing : Type 0
-AuthorHearsNothing = ComesTo
+abbrev pub PublisherHearsNothing : Type 0
+PublisherHearsNothing = ComesTo
     (codes "router 0a" ∷ codes "client c1 0a" ∷ codes "sub c1 1 a/b" ∷ codes "handle 0a c1" ∷ codes "put c1 a/b hi" ∷ codes "handle 0a c1"
     ∷ codes "take 0a c1" ∷ [])
     (codes "0a < c1: sub 1 a/b #3" ∷ codes "0a < c1: put - a/b hi #5" ∷ [])
@@ -89,9 +100,9 @@ OneCopyArrives = ComesTo
 
 -- a sample from before the mark, and one of its phase
 abbrev pub old_and_new : List Numbered
-old_and_new = (6, Put c1 (codes "a/b") (codes "old")) ∷ (7, Mark) ∷ (8, Put c1 (codes "a/b") (codes "new")) ∷ (9, Handle a c1) ∷ (10, Handle a c1) ∷ (11, Take a c2) ∷ (12, Take a c2) ∷ []
+old_and_new = (6, Publish c1 (value (codes "a/b") (codes "old"))) ∷ (7, Mark) ∷ (8, Publish c1 (value (codes "a/b") (codes "new"))) ∷ (9, Handle a c1) ∷ (10, Handle a c1) ∷ (11, Take a c2) ∷ (12, Take a c2) ∷ []
 
--- a sample from before the mark is sent in the phase too; it is none of the author's lines of the phase
+-- a sample from before the mark is sent in the phase too; it is none of the publisher's lines of the phase
 pub record OldSampleArrives : Type 0 where
   pub sent_is : option_map (λ m. map (λ i. i.line) (sent_to m.report c2)) (reached (before ++ old_and_new)) ≡ Some (6 ∷ 8 ∷ [])
   pub of_phase : option_map (λ m. map (λ i. i.line) (sent_of (drop 2 old_and_new) m c1 c2)) (reached (before ++ old_and_new)) ≡ Some (8 ∷ [])
@@ -110,12 +121,12 @@ WildcardsArriveOnce = ComesTo wildcards
     ∷ codes "0a < c1: put - a/b hi #8" ∷ codes "0a > c2: put - a/b hi #8" ∷ codes "run 2 quiet" ∷ [])
     9 None
 
--- a run is among the accepted acts, and so is each of its steps, with the number of its line
+-- each step of a run is among the accepted acts, with the number of the run's line
 abbrev pub StepsAreAccepted : Type 0
 StepsAreAccepted = accepted (lines (text_of wildcards))
     ≡ (1, Router a) ∷ (2, Client c1 a) ∷ (3, Client c2 a) ∷ (4, Sub c2 1 (codes "a/*")) ∷ (5, Sub c2 2 (codes "**"))
-    ∷ (6, Run 2) ∷ (6, Handle a c2) ∷ (6, Handle a c2) ∷ (7, Mark)
-    ∷ (8, Put c1 (codes "a/b") (codes "hi")) ∷ (9, Run 9) ∷ (9, Handle a c1) ∷ (9, Take a c2) ∷ []
+    ∷ (6, Handle a c2) ∷ (6, Handle a c2) ∷ (7, Mark)
+    ∷ (8, Publish c1 (value (codes "a/b") (codes "hi"))) ∷ (9, Handle a c1) ∷ (9, Take a c2) ∷ []
 
 -- a subscriber that takes one of two declarations back, and a sample and a deletion behind that
 abbrev pub taken_back : List (List ℕ)
@@ -135,11 +146,11 @@ abbrev pub said_before : List Numbered
 said_before = (3, Router a) ∷ (4, Client c1 a) ∷ (5, Client c2 a) ∷ (6, Sub c2 1 (codes "a")) ∷ (7, Sub c2 2 (codes "b/**")) ∷ (9, Unsub c2 1) ∷ []
 
 abbrev pub said_after : List Numbered
-said_after = (12, Put c1 (codes "a") (codes "x")) ∷ (13, Del c1 (codes "b/c")) ∷ []
+said_after = (12, Publish c1 (value (codes "a") (codes "x"))) ∷ (13, Publish c1 (deletion (codes "b/c"))) ∷ []
 
 -- of them the one broker sends the deletion alone
 abbrev pub DeletionIsDue : Type 0
-DeletionIsDue = from said_before said_after c1 c2 ≡ record { line = 13; key = codes "b/c"; body = b.Del } ∷ []
+DeletionIsDue = from said_before said_after c1 c2 ≡ record { line = 13; content = deletion (codes "b/c") } ∷ []
 
 -- a run does as many steps as it asks for, and the next one goes on where it stopped, up to the last step that is possible
 abbrev pub RunsGoOn : Type 0

@@ -6,3 +6,4 @@ pub mod keys;
 pub mod refines;
 pub mod rows;
 pub mod runs;
+pub mod texts;

@@ -1,8 +1,9 @@
-//! The network refines one broker: what each client was sent is, author by author, a prefix of what one broker that holds
+//! The network refines one broker: what each client was sent is, publisher by publisher, a prefix of what one broker that holds
 //! all clients sends it, and the whole where nothing is under way.
 
-ghost use Rattle.zr_network.specs.Accepted.{LinesAreMoments, LinesRefine};
-ghost use Rattle.zr_network.specs.Refines.{SamplesRefine};
+ghost use Rattle.zr_network.specs.Accepted.{LinesAreMoments};
+ghost use Rattle.zr_guarantee.specs.Refines.{SamplesRefine};
+ghost use Rattle.zr_guarantee.specs.Scripts.{LinesRefine};
 
 /// From each accepted mark on, at every moment of its phase, in every order of steps.
 pub fn samples_refine()

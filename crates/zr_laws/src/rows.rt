@@ -1,6 +1,6 @@
 //! Scripts worked out from their bytes, as a reader of the definitions works them out.
 
-ghost use Rattle.zr_laws.specs.Rows.{AuthorHearsNothing, BrokerSendsIt, DeletionIsDue, NothingIsReported, OldSampleArrives, OneCopyArrives, RunsGoOn, SampleArrives, StepsAreAccepted, UnsubscribedHearsNothing, WildcardsArriveOnce};
+ghost use Rattle.zr_laws.specs.Rows.{PublisherHearsNothing, BrokerSendsIt, DeletionIsDue, NothingIsReported, OldSampleArrives, OneCopyArrives, RunsGoOn, SampleArrives, StepsAreAccepted, UnsubscribedHearsNothing, WildcardsArriveOnce};
 
 /// A subscriber is sent another client's sample.
 pub fn sample_arrives()
@@ -18,8 +18,8 @@ pub fn nothing_is_reported()
 {}
 
 /// A client is not sent its own sample.
-pub fn author_hears_nothing()
-    ensures { AuthorHearsNothing }
+pub fn publisher_hears_nothing()
+    ensures { PublisherHearsNothing }
 {}
 
 /// A client that subscribes twice to a key is sent one copy.

@@ -1,2 +1,4 @@
 pub mod Names
-pub mod Acts
+pub mod Next
+pub mod Cases
+pub mod Sound

@@ -13,7 +13,7 @@ use Rattle.std.specs.Cmp.Lexicographic.{slice_cmp, nat_list_cmp_total}
 use Rattle.std.proofs.lemmas.Bool.{false≢true, true≢false, and_parts}
 use Rattle.std.proofs.lemmas.Map.{lookup-set_value}
 use Rattle.std.proofs.lemmas.Map.Lookups.{exact_bytes}
-use Rattle.zr_network.specs.World.{is_named}
+use Rattle.zr_id.specs.Zid.{is_named}
 
 pub names : IsEquivalence is_named
 names = eq_by_cmp_equiv nat_list_cmp_total

@@ -1,19 +1,16 @@
--- The accepted acts of a script's lines, and what holds of their moments.
-use Rattle.std.specs.Prelude.{◌≡◌, ℕ, ◌+◌, Bool, true, false, List, [], ◌∷◌, ◌++◌, map, filter, Option, Some, None, Result, Ok, Err}
+-- The accepted acts of a script's lines, and that they lead to a moment, which is what the run of the lines tells.
+use Rattle.std.specs.Prelude.{◌≡◌, ℕ, ◌+◌, Bool, true, false, List, [], ◌++◌, ◌∷◌, map, filter, Option, Some, None, Result, Ok, Err}
 use Rattle.std.specs.List.{flat_map}
-use Rattle.zr_msg.specs.declared.error.ScriptError.{ScriptError}
-use Rattle.zr_msg.specs.declared.command.Command.{Command}
-use Rattle.zr_msg.specs.declared.command.Command.TheVariants.{Mark}
-use Rattle.zr_msg.specs.declared.report.ReportLine.{ReportLine}
-use Rattle.zr_msg.specs.declared.report.ReportLine.TheVariants as r
-use Rattle.zr_network.specs.Command.{command_of}
-use Rattle.zr_network.specs.World.{WorldState}
-use Rattle.zr_network.specs.Acts.{acts}
-use Rattle.zr_network.specs.Report.{line_text}
+use Rattle.zr_command.specs.declared.error.ScriptError.{ScriptError}
+use Rattle.zr_command.specs.declared.command.Command.{Command}
+use Rattle.zr_command.specs.declared.report.ReportLine.{ReportLine}
+use Rattle.zr_command.specs.declared.report.ReportLine.TheVariants as r
+use Rattle.zr_language.specs.Command.{command_of}
+use Rattle.zr_language.specs.Report.{line_text}
+use Rattle.zr_network.specs.World.{WorldState, with_booked}
+use Rattle.zr_network.specs.Next.{acts}
 use Rattle.zr_network.specs.Run.{Run, start, on_line, run_lines}
-use Rattle.zr_network.specs.Phase.{Numbered, ascends, is_phase}
-use Rattle.zr_network.specs.Moments.{Moment, reached}
-use Rattle.zr_network.specs.Refines.{Refines}
+use Rattle.zr_network.specs.Moments.{Numbered, ascends, Moment, reached}
 
 -- what a line does in a world, act by act with the line's number, unless the run is refused there or was before
 abbrev pub entries : Option ScriptError → ℕ → WorldState → Result (Option Command) ScriptError → List Numbered
@@ -27,7 +24,7 @@ abbrev pub accepted_from : Run → List (List ℕ) → List Numbered
 accepted_from r [] = []
 accepted_from r (line ∷ more) = entries (on_line r line).refusal (r.number + 1) r.world (command_of line) ++ accepted_from (on_line r line) more
 
--- the accepted acts of a script's lines, each with the number of its line; a run is there with each of its steps
+-- the accepted acts of a script's lines, each with the number of its line; of a run these are its steps
 abbrev pub accepted : List (List ℕ) → List Numbered
 accepted ls = accepted_from start ls
 
@@ -38,9 +35,10 @@ is_of_step (r.Taken router to msg tag) = true
 is_of_step (r.Ran steps quiet) = false
 is_of_step (r.Mark line) = true
 
--- a run has the world of a moment, and its text is that of report lines which are the moment's, with the ends of runs between them
+-- A run has the world of a moment, but for the steps that runs asked for, which no act counts; and its text is that of report
+-- lines which are the moment's, with the ends of runs between them.
 pub record IsTold (r : Run) (m : Moment) : Type 0 where
-  pub world_is : r.world ≡ m.world
+  pub world_is : r.world ≡ with_booked m.world r.world.booked
   pub all : List ReportLine
   pub text_is : r.text ≡ flat_map line_text all
   pub report_is : m.report ≡ filter is_of_step all
@@ -53,14 +51,3 @@ pub record IsMoment (ls : List (List ℕ)) (m : Moment) : Type 0 where
 -- the accepted acts of any lines have ascending numbers and lead to a moment
 abbrev pub LinesAreMoments : Type 0
 LinesAreMoments = (ls : List (List ℕ)) → (ascends 0 (accepted ls) ≡ true) × ((m : Moment) × IsMoment ls m)
-
--- however the accepted acts of some lines are cut at a mark and in its phase, also within a run, there is a moment, and it refines
--- one broker
-abbrev pub IsRefined : List (List ℕ) → Type 0
-IsRefined ls = (before phase rest : List Numbered) (mark : ℕ) →
-    accepted ls ≡ before ++ (mark, Mark) ∷ (phase ++ rest) → is_phase phase ≡ true →
-    (m : Moment) × (reached (before ++ (mark, Mark) ∷ phase) ≡ Some m) × Refines before mark phase m
-
--- every script's lines refine one broker, a refused script's up to the refused one
-abbrev pub LinesRefine : Type 0
-LinesRefine = (ls : List (List ℕ)) → IsRefined ls

@@ -1,12 +1,7 @@
-pub mod Step
-pub mod Lines
-pub mod Command
 pub mod World
 pub mod Acts
-pub mod Report
+pub mod Next
 pub mod Run
-pub mod Phase
-pub mod Broker
 pub mod Moments
-pub mod Refines
+pub mod Sound
 pub mod Accepted

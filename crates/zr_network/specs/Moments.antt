@@ -1,16 +1,41 @@
--- The moments of a script: what accepted steps lead to, whether anything is under way there, and what clients were sent.
-use Rattle.std.specs.Prelude.{ℕ, ◌&&◌, Bool, if◌then◌else◌, List, [], ◌∷◌, ◌++◌, Option, Some, None, option_to_list, Ok, Err}
-use Rattle.std.specs.List.{fold, list_all, flat_map}
-use Rattle.std.specs.Map.{values_of}
-use Rattle.zr_msg.specs.declared.msg.Msg.{Msg}
-use Rattle.zr_msg.specs.declared.msg.Msg.TheVariants.{Sub, Unsub, Push}
-use Rattle.zr_msg.specs.declared.report.ReportLine.{ReportLine}
-use Rattle.zr_msg.specs.declared.report.ReportLine.TheVariants as r
-use Rattle.zr_network.specs.World.{ClientState, WorldState, Outcome, empty_world, is_named, is_empty, outcome}
-use Rattle.zr_network.specs.Phase.{Numbered}
-use Rattle.zr_network.specs.Broker.{Item}
+-- The moments of a script: what accepted acts lead to. A list of numbered acts names its moment.
+use Rattle.std.specs.Prelude.{ℕ, ◌&&◌, ◌||◌, nat_lt, nat_le, Bool, true, false, List, [], ◌∷◌, ◌++◌, Option, Some, None, option_to_list, Ok, Err}
+use Rattle.std.specs.List.{fold}
+use Rattle.zr_command.specs.declared.command.Act.{Act}
+use Rattle.zr_command.specs.declared.command.Act.TheVariants as a
+use Rattle.zr_command.specs.declared.report.ReportLine.{ReportLine}
+use Rattle.zr_network.specs.World.{WorldState, empty_world}
+use Rattle.zr_network.specs.Acts.{Outcome, outcome}
 
--- a moment between two steps, also of one run: the world there, and what was reported of each step and mark so far
+-- ---- numbered acts
+
+-- an accepted act with the number of its line: a line's own act, or a step of its run
+abbrev pub Numbered : Type 0
+Numbered = ℕ × Act
+
+-- whether an act only moves a message on
+abbrev pub is_step : Act → Bool
+is_step (a.Router id) = false
+is_step (a.Client id router) = false
+is_step (a.Sub client id key) = false
+is_step (a.Unsub client id) = false
+is_step (a.Publish client content) = false
+is_step (a.Handle router from) = true
+is_step (a.Take router to) = true
+is_step a.Mark = false
+
+-- whether an act may stand behind one of the line `last`: its line is a later one, but the steps of a run are of one line
+abbrev pub is_later : ℕ → Numbered → Bool
+is_later last x = nat_lt last x.0 || (is_step x.1 && nat_le last x.0)
+
+-- whether the numbers of some acts ascend
+abbrev pub ascends : ℕ → List Numbered → Bool
+ascends last [] = true
+ascends last (x ∷ xs) = is_later last x && ascends x.0 xs
+
+-- ---- moments
+
+-- a moment between two acts, also of one run: the world there, and what was reported of each step and mark so far
 pub record Moment : Type 0 where
   pub world : WorldState
   pub report : List ReportLine
@@ -19,41 +44,16 @@ pub record Moment : Type 0 where
 abbrev pub beginning : Moment
 beginning = record { world = empty_world; report = [] }
 
--- the moment that a step leads to: none where the step is refused
+-- the moment that an act leads to: none where the act is refused
 abbrev pub went : Moment → Outcome → Option Moment
 went m (Ok x) = Some (record { world = x.1; report = m.report ++ option_to_list x.0 })
 went m (Err e) = None
 
--- one more step
+-- one more act
 abbrev pub onward : Option Moment → Numbered → Option Moment
 onward None x = None
 onward (Some m) x = went m (outcome m.world x.0 x.1)
 
--- the moment that some steps lead to: none where one of them is refused
+-- the moment that some acts lead to: none where one of them is refused
 abbrev pub reached : List Numbered → Option Moment
-reached lines = fold onward (Some beginning) lines
-
--- no message is under way to or from the client
-abbrev pub is_idle : ClientState → Bool
-is_idle s = is_empty s.wire && is_empty s.queue
-
--- nothing is under way
-abbrev pub is_quiet : WorldState → Bool
-is_quiet w = list_all is_idle (values_of w.clients)
-
--- the sample that a message is, if it is one
-abbrev pub item_of : Msg → ℕ → List Item
-item_of (Sub id key) tag = []
-item_of (Unsub id) tag = []
-item_of (Push key body) tag = record { line = tag; key = key; body = body } ∷ []
-
--- the sample that a report line says was sent to the receiver, if it says so
-abbrev pub sent_in : List ℕ → ReportLine → List Item
-sent_in receiver (r.Handled router from msg tag) = []
-sent_in receiver (r.Taken router to msg tag) = if is_named receiver to then item_of msg tag else []
-sent_in receiver (r.Ran steps quiet) = []
-sent_in receiver (r.Mark line) = []
-
--- the samples that the receiver was sent, in order, by the report alone
-abbrev pub sent_to : List ReportLine → List ℕ → List Item
-sent_to report receiver = flat_map (sent_in receiver) report
+reached acts = fold onward (Some beginning) acts

@@ -1,13 +1,13 @@
 -- The run of a script: a fold over its lines, which stops at the first one that is refused.
 use Rattle.std.specs.Prelude.{ℕ, ◌+◌, ◌||◌, nat_lt, Bool, if◌then◌else◌, List, [], ◌++◌, length, take, Option, Some, None, is_some, Result, Ok, Err}
 use Rattle.std.specs.List.{fold, flat_map}
-use Rattle.zr_msg.specs.declared.error.ScriptError.{ScriptError}
-use Rattle.zr_msg.specs.declared.command.Command.{Command}
-use Rattle.zr_network.specs.Lines.{lines, ended_lines}
-use Rattle.zr_network.specs.Command.{command_of}
+use Rattle.zr_command.specs.declared.error.ScriptError.{ScriptError}
+use Rattle.zr_command.specs.declared.command.Command.{Command}
+use Rattle.zr_language.specs.Lines.{most_bytes, lines, ended_lines}
+use Rattle.zr_language.specs.Command.{command_of}
+use Rattle.zr_language.specs.Report.{line_text, refused_text, too_long_text}
 use Rattle.zr_network.specs.World.{WorldState, empty_world}
-use Rattle.zr_network.specs.Acts.{Done, applied}
-use Rattle.zr_network.specs.Report.{line_text, refused_text, too_long_text}
+use Rattle.zr_network.specs.Next.{Done, applied}
 
 -- a script up to a line
 pub record Run : Type 0 where
@@ -48,10 +48,6 @@ run_of bytes = run_lines (lines bytes)
 -- the run of the lines that end within the bytes
 abbrev pub run_of_ended : List ℕ → Run
 run_of_ended bytes = run_lines (ended_lines bytes)
-
--- how many bytes a script has at most
-abbrev pub most_bytes : ℕ
-most_bytes = 67108864
 
 -- the bytes that count: those within the limit
 abbrev pub within : List ℕ → List ℕ

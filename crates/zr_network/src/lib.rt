@@ -1,3 +1,3 @@
-//! Definitions of the network: a script's lines and commands, the world and its step, the report and the run.
-//! No code stands here: the crates above prove that their calls do what these say.
+//! Definitions of a script's network: the world, what each act does to it, runs, moments and accepted acts.
+//! How lines are read stands below, what clients are promised above. No code stands here.
 #![tactic(auto)]

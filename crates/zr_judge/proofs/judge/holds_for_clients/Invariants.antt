@@ -5,4 +5,4 @@ use Rattle.zr_judge.specs.Judge.{holds_for_client}
 use Rattle.zr_judge.proofs.judge.holds_for_clients.Given as goal
 
 abbrev pub invariant-loop-x : goal.invariant-loop-x
-invariant-loop-x l = list_all (λ x. holds_for_client l.case l.author x.1) (drop l.x-index l.lines) ≡ list_all (λ x. holds_for_client l.case l.author x.1) l.lines
+invariant-loop-x l = list_all (λ x. holds_for_client l.case l.publisher x.1) (drop l.x-index l.acts) ≡ list_all (λ x. holds_for_client l.case l.publisher x.1) l.acts

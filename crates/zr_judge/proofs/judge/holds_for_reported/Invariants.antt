@@ -5,4 +5,4 @@ use Rattle.zr_judge.specs.Judge.{holds_for_receiver}
 use Rattle.zr_judge.proofs.judge.holds_for_reported.Given as goal
 
 abbrev pub invariant-loop-x : goal.invariant-loop-x
-invariant-loop-x l = list_all (λ x. holds_for_receiver l.case l.author x) (drop l.x-index l.report) ≡ list_all (λ x. holds_for_receiver l.case l.author x) l.report
+invariant-loop-x l = list_all (λ x. holds_for_receiver l.case l.publisher x) (drop l.x-index l.report) ≡ list_all (λ x. holds_for_receiver l.case l.publisher x) l.report

@@ -1,0 +1,18 @@
+-- The guarantee, of scripts: it holds at each moment of each phase of their accepted acts.
+use Rattle.std.specs.Prelude.{◌≡◌, ℕ, true, List, ◌∷◌, ◌++◌, Some}
+use Rattle.zr_command.specs.declared.command.Act.TheVariants.{Mark}
+use Rattle.zr_network.specs.Moments.{Numbered, Moment, reached}
+use Rattle.zr_network.specs.Accepted.{accepted}
+use Rattle.zr_guarantee.specs.Phase.{is_phase}
+use Rattle.zr_guarantee.specs.Refines.{Refines}
+
+-- however the accepted acts of some lines are cut at a mark and in its phase, also within a run, there is a moment, and it refines
+-- one broker
+abbrev pub IsRefined : List (List ℕ) → Type 0
+IsRefined ls = (before phase rest : List Numbered) (mark : ℕ) →
+    accepted ls ≡ before ++ (mark, Mark) ∷ (phase ++ rest) → is_phase phase ≡ true →
+    (m : Moment) × (reached (before ++ (mark, Mark) ∷ phase) ≡ Some m) × Refines before mark phase m
+
+-- every script's lines refine one broker, a refused script's up to the refused one
+abbrev pub LinesRefine : Type 0
+LinesRefine = (ls : List (List ℕ)) → IsRefined ls

@@ -1,0 +1,155 @@
+-- What a line of a script asks, or why it is refused. An empty line and a comment ask nothing.
+--
+-- The order of refusals. A line is refused by the first of these that applies, whatever the order of its words; the first four are judged
+-- here, by the line alone, and the others by the world (`zr_network`, Acts and Next), in this order too.
+--
+--   Limit           the line is longer than `most_line` bytes
+--   UnknownCommand  the first word is no command
+--   BadWords        the words or the bytes don't fit the form of the command
+--   BadKey          a word that is to be a key expression is none
+--   UnknownName     a router or a client isn't there; an id to undeclare isn't declared
+--   NameTaken       the name is taken; the id is declared
+--   NotLinked       there is no such link
+--   NothingThere    nothing waits there
+--   NotSettled      a declaration is still under way
+--   Limit           a limit of the world would be passed
+--
+-- Out of memory, `NoMemory`, is no refusal: no definition says it.
+use Rattle.std.specs.Prelude.{ℕ, ◌==◌, ◌||◌, not, nat_lt, Bool, true, if◌then◌else◌, List, [], ◌∷◌, length, codes, Option, Some, None, Result, Ok, Err}
+use Rattle.zr_body.specs.Payload.{put_body, del_body}
+use Rattle.zr_msg.specs.declared.content.Parts.{Parts}
+use Rattle.zr_msg.specs.Extras.{no_extras}
+use Rattle.zr_command.specs.declared.error.ScriptError.{ScriptError}
+use Rattle.zr_command.specs.declared.error.ScriptError.TheVariants.{UnknownCommand, BadWords, Limit}
+use Rattle.zr_command.specs.declared.command.Act.TheVariants.{Router, Client, Sub, Unsub, Publish, Handle, Take, Mark}
+use Rattle.zr_command.specs.declared.command.Command.{Command}
+use Rattle.zr_command.specs.declared.command.Command.TheVariants.{Act, Run}
+use Rattle.zr_language.specs.Step.{◌>>=◌}
+use Rattle.zr_language.specs.Lines.{most_line}
+use Rattle.zr_language.specs.Words.{words, is_word, is_clean, one_of, two_of, three_of, zid_at, number_at, key_at, payload_at}
+
+-- ---- one command each, by the words behind its name
+
+-- router ID
+unfoldable pub router_line : List (List ℕ) → Result Command ScriptError
+router_line args = do
+  w ← one_of args
+  id ← zid_at w
+  Ok (Act (Router id))
+
+-- client ID ROUTER
+unfoldable pub client_line : List (List ℕ) → Result Command ScriptError
+client_line args = do
+  w ← two_of args
+  id ← zid_at w.0
+  router ← zid_at w.1
+  Ok (Act (Client id router))
+
+-- sub CLIENT N KEY
+unfoldable pub sub_line : List (List ℕ) → Result Command ScriptError
+sub_line args = do
+  w ← three_of args
+  client ← zid_at w.0
+  id ← number_at w.1
+  key ← key_at w.2
+  Ok (Act (Sub client id key))
+
+-- unsub CLIENT N
+unfoldable pub unsub_line : List (List ℕ) → Result Command ScriptError
+unsub_line args = do
+  w ← two_of args
+  client ← zid_at w.0
+  id ← number_at w.1
+  Ok (Act (Unsub client id))
+
+-- a sample as a script makes it: its body has no flags, and nothing stands beside key and body
+abbrev pub plain : List ℕ → List ℕ → Parts
+plain key body = record { key = key; extras = no_extras; body = body }
+
+-- put CLIENT KEY PAYLOAD
+unfoldable pub put_line : List (List ℕ) → Result Command ScriptError
+put_line args = do
+  w ← three_of args
+  client ← zid_at w.0
+  key ← key_at w.1
+  Ok (Act (Publish client (plain key (put_body (payload_at w.2)))))
+
+-- del CLIENT KEY
+unfoldable pub del_line : List (List ℕ) → Result Command ScriptError
+del_line args = do
+  w ← two_of args
+  client ← zid_at w.0
+  key ← key_at w.1
+  Ok (Act (Publish client (plain key del_body)))
+
+-- handle ROUTER FROM
+unfoldable pub handle_line : List (List ℕ) → Result Command ScriptError
+handle_line args = do
+  w ← two_of args
+  router ← zid_at w.0
+  from ← zid_at w.1
+  Ok (Act (Handle router from))
+
+-- take ROUTER TO
+unfoldable pub take_line : List (List ℕ) → Result Command ScriptError
+take_line args = do
+  w ← two_of args
+  router ← zid_at w.0
+  to ← zid_at w.1
+  Ok (Act (Take router to))
+
+-- run N
+unfoldable pub run_line : List (List ℕ) → Result Command ScriptError
+run_line args = do
+  w ← one_of args
+  steps ← number_at w
+  Ok (Run steps)
+
+-- mark
+unfoldable pub mark_line : List (List ℕ) → Result Command ScriptError
+mark_line [] = Ok (Act Mark)
+mark_line (a ∷ more) = Err BadWords
+
+-- ---- a line
+
+-- whether a word names a command
+abbrev pub is_command : List ℕ → Bool
+is_command name =
+    is_word name (codes "router") || is_word name (codes "client") || is_word name (codes "sub") || is_word name (codes "unsub")
+    || is_word name (codes "put") || is_word name (codes "del") || is_word name (codes "handle") || is_word name (codes "take")
+    || is_word name (codes "run") || is_word name (codes "mark")
+
+-- what a command's name and the words behind it ask
+unfoldable pub by_name : List ℕ → List (List ℕ) → Result Command ScriptError
+by_name name args =
+    if is_word name (codes "router") then router_line args
+    else if is_word name (codes "client") then client_line args
+    else if is_word name (codes "sub") then sub_line args
+    else if is_word name (codes "unsub") then unsub_line args
+    else if is_word name (codes "put") then put_line args
+    else if is_word name (codes "del") then del_line args
+    else if is_word name (codes "handle") then handle_line args
+    else if is_word name (codes "take") then take_line args
+    else if is_word name (codes "run") then run_line args
+    else if is_word name (codes "mark") then mark_line args
+    else Err UnknownCommand
+
+-- what the words of a line ask, where it is told whether its bytes are clean
+unfoldable pub by_words : Bool → List (List ℕ) → Result Command ScriptError
+by_words clean [] = Err UnknownCommand
+by_words clean (name ∷ args) =
+    if not (is_command name) then Err UnknownCommand
+    else if not clean then Err BadWords
+    else by_name name args
+
+-- whether a line asks nothing: it is empty, or a comment
+abbrev pub is_silent : List ℕ → Bool
+is_silent [] = true
+is_silent (b ∷ bs) = b == 35
+
+-- what a line asks, if it asks anything
+unfoldable pub command_of : List ℕ → Result (Option Command) ScriptError
+command_of line =
+    if nat_lt most_line (length line) then Err Limit
+    else if is_silent line then Ok None
+    else by_words (is_clean line) (words line) >>= (λ command. Ok (Some command))

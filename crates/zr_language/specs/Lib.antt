@@ -1,0 +1,5 @@
+pub mod Step
+pub mod Lines
+pub mod Words
+pub mod Command
+pub mod Report

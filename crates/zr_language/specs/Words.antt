@@ -1,0 +1,98 @@
+-- The words of a line, and what a word may be: a name, a number, a key expression or a payload.
+use Rattle.std.specs.Prelude.{ℕ, ◌+◌, ◌-◌, ◌*◌, ◌^◌, ◌==◌, ◌&&◌, not, nat_eq, nat_lt, nat_le, Bool, false, if◌then◌else◌, List, [], ◌∷◌, length, filter, codes, Option, Some, None, Result, Ok, Err}
+use Rattle.std.specs.List.{fold, list_all, slice_split, slice_get}
+use Rattle.std.specs.Cmp.Lexicographic.{pointwise}
+use Rattle.zr_id.specs.Zid.{zid_of_hex}
+use Rattle.zr_key.specs.Key.{read_key}
+use Rattle.zr_key.specs.declared.key.KeyError.{KeyError}
+use Rattle.zr_command.specs.declared.error.ScriptError.{ScriptError}
+use Rattle.zr_command.specs.declared.error.ScriptError.TheVariants.{BadWords, BadKey}
+
+-- ---- words
+
+-- the words of a line, parted by one or more spaces
+abbrev pub words : List ℕ → List (List ℕ)
+words line = filter (λ word. nat_lt 0 (length word)) (slice_split (λ b. b == 32) line)
+
+-- whether two words are one
+abbrev pub is_word : List ℕ → List ℕ → Bool
+is_word a b = pointwise nat_eq a b
+
+-- a byte that a line may have
+abbrev pub is_printable : ℕ → Bool
+is_printable b = nat_le 32 b && nat_le b 126
+
+-- a space, if there is a byte at all
+abbrev pub is_space : Option ℕ → Bool
+is_space None = false
+is_space (Some b) = b == 32
+
+-- whether a line has printable bytes alone, and neither begins nor ends with a space
+abbrev pub is_clean : List ℕ → Bool
+is_clean line = list_all is_printable line && not (is_space (slice_get line 0)) && not (is_space (slice_get line (length line - 1)))
+
+-- ---- how many words
+
+abbrev pub one_of : List (List ℕ) → Result (List ℕ) ScriptError
+one_of [] = Err BadWords
+one_of (a ∷ []) = Ok a
+one_of (a ∷ b ∷ more) = Err BadWords
+
+abbrev pub two_of : List (List ℕ) → Result (List ℕ × List ℕ) ScriptError
+two_of [] = Err BadWords
+two_of (a ∷ []) = Err BadWords
+two_of (a ∷ b ∷ []) = Ok (a, b)
+two_of (a ∷ b ∷ c ∷ more) = Err BadWords
+
+abbrev pub three_of : List (List ℕ) → Result (List ℕ × List ℕ × List ℕ) ScriptError
+three_of [] = Err BadWords
+three_of (a ∷ []) = Err BadWords
+three_of (a ∷ b ∷ []) = Err BadWords
+three_of (a ∷ b ∷ c ∷ []) = Ok (a, b, c)
+three_of (a ∷ b ∷ c ∷ d ∷ more) = Err BadWords
+
+-- ---- names
+
+-- the identifier that a word names
+abbrev pub zid_of_word : Option (List ℕ) → Result (List ℕ) ScriptError
+zid_of_word (Some id) = Ok id
+zid_of_word None = Err BadWords
+
+-- 2 to 32 lower-case hexadecimal digits, an even number, of an identifier
+abbrev pub zid_at : List ℕ → Result (List ℕ) ScriptError
+zid_at word = zid_of_word (zid_of_hex word)
+
+-- ---- numbers
+
+-- a decimal digit
+abbrev pub is_digit : ℕ → Bool
+is_digit b = nat_le 48 b && nat_le b 57
+
+-- whether a word is decimal digits without leading zeros
+abbrev pub is_number : List ℕ → Bool
+is_number [] = false
+is_number (b ∷ []) = is_digit b
+is_number (b ∷ c ∷ more) = not (b == 48) && list_all is_digit (b ∷ c ∷ more)
+
+-- the value of some digits
+abbrev pub value_of : List ℕ → ℕ
+value_of digits = fold (λ n b. n * 10 + (b - 48)) 0 digits
+
+-- a number of at most 32 bits
+abbrev pub number_at : List ℕ → Result ℕ ScriptError
+number_at word = if is_number word && nat_lt (value_of word) (2 ^ 32) then Ok (value_of word) else Err BadWords
+
+-- ---- keys and payloads
+
+-- the key expression that a word was read as
+abbrev pub key_of_word : Result (List ℕ) KeyError → Result (List ℕ) ScriptError
+key_of_word (Ok key) = Ok key
+key_of_word (Err e) = Err BadKey
+
+-- a key expression, in its canonical form
+abbrev pub key_at : List ℕ → Result (List ℕ) ScriptError
+key_at word = key_of_word (read_key word)
+
+-- the payload that a word spells: `-` is the empty one
+abbrev pub payload_at : List ℕ → List ℕ
+payload_at word = if is_word word (codes "-") then [] else word
