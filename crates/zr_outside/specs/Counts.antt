@@ -1,12 +1,13 @@
 -- Counts of what happened outside. A count never falls, and stands still at 2 ^ 64 - 1.
-use Rattle.std.specs.Prelude.{ℕ, ◌+◌, ◌-◌, ◌^◌, ◌≤◌, min}
+use Rattle.std.specs.Prelude.{ℕ, ◌+◌, ◌-◌, ◌^◌, ◌<◌, ◌≤◌, min}
 
 -- a count rose, or stands at its end
 abbrev pub Rose : ℕ → ℕ → Type 0
 Rose before now = min (before + 1) (2 ^ 64 - 1) ≤ now
 
--- A count over one call: it never falls, rises by one at most, and the event comes only where it rose.
+-- A count over one call: it never falls, rises by one at most, and rises where the event comes and only there.
 pub record Counted (before now : ℕ) (Event : Type 0) : Type 0 where
   pub later : before ≤ now
   pub one : now ≤ before + 1
   pub cause : Event → Rose before now
+  pub only : before < now → Event

@@ -1,4 +1,5 @@
 pub mod Counts
+pub mod Told
 pub mod Source
 pub mod Sink
 pub mod Memory

@@ -1,5 +1,8 @@
--- What the forms in memory hold.
-use Rattle.std.specs.Prelude.{ℕ, List, drop}
+-- What the forms in memory hold, and which of their calls fail.
+use Rattle.std.specs.Prelude.{ℕ, ◌==◌, ◌≤◌, Bool, List, drop, max}
+use Rattle.std.specs.List.{list_any}
+use Rattle.zr_outside.specs.declared.source.Got.{Got}
+use Rattle.zr_outside.specs.declared.source.Got.TheVariants.{Bytes, Quiet, End, Failed}
 use Rattle.zr_outside.specs.declared.mem_source.MemSource.{MemSource}
 use Rattle.zr_outside.specs.declared.mem_sink.MemSink.{MemSink}
 
@@ -22,6 +25,25 @@ failing_reads s = s.failing.items
 abbrev pub quiet_reads : MemSource → List ℕ
 quiet_reads s = s.quiet.items
 
+-- how many reads there have been, which is the number of the next one
+abbrev pub reads_of : MemSource → ℕ
+reads_of s = s.calls
+
 -- the numbers of the writes to a sink in memory that fail
 abbrev pub failing_writes : MemSink → List ℕ
 failing_writes s = s.failing.items
+
+-- how many writes there have been, which is the number of the next one
+abbrev pub writes_of : MemSink → ℕ
+writes_of s = s.calls
+
+-- whether a call of this number is among those
+abbrev pub is_among : ℕ → List ℕ → Bool
+is_among call calls = list_any (λ n. n == call) calls
+
+-- a read gives no more than so many bytes, or 1
+abbrev pub GivesAtMost : ℕ → Got → Type 0
+GivesAtMost most (Bytes n) = n ≤ max most 1
+GivesAtMost most Quiet = Unit {0}
+GivesAtMost most End = Unit {0}
+GivesAtMost most Failed = Unit {0}

@@ -1,5 +1,6 @@
 -- What a call of a source's `read` may give, by what it says of the bytes that are left.
-use Rattle.std.specs.Prelude.{◌≡◌, ℕ, ◌<◌, ◌≤◌, List, [], ◌++◌, length, take, drop, Option, Some, None, IfSome}
+use Rattle.std.specs.Prelude.{◌≡◌, ℕ, ◌<◌, ◌≤◌, List, [], length, Option, IfSome}
+use Rattle.zr_outside.specs.Told.{IsAsBefore, Consumes}
 use Rattle.zr_outside.specs.declared.source.Got.{Got}
 use Rattle.zr_outside.specs.declared.source.Got.TheVariants.{Bytes, Quiet, End, Failed}
 
@@ -12,14 +13,9 @@ IsQuiet got = got ≡ Quiet
 abbrev pub IsEnd : Got → Type 0
 IsEnd got = got ≡ End
 
--- the next n bytes of what was left stand at the front of the buffer now
-abbrev pub Consumes : ℕ → List ℕ → Option (List ℕ) → Option (List ℕ) → Type 0
-Consumes n buffer None after = after ≡ None
-Consumes n buffer (Some bytes) after = (bytes ≡ take n buffer ++ drop n bytes) × (after ≡ Some (drop n bytes))
-
 -- what a read gave, with the buffer and what is left before and after it
 abbrev pub Reads : Got → List ℕ → List ℕ → Option (List ℕ) → Option (List ℕ) → Type 0
 Reads (Bytes n) old new before after = (0 < n) × (n ≤ length old) × Consumes n new before after
-Reads Quiet old new before after = after ≡ before
-Reads End old new before after = (after ≡ before) × IfSome before (λ bytes. bytes ≡ [])
-Reads Failed old new before after = after ≡ before
+Reads Quiet old new before after = IsAsBefore before after
+Reads End old new before after = IsAsBefore before after × IfSome before (λ bytes. bytes ≡ [])
+Reads Failed old new before after = IsAsBefore before after

@@ -1,6 +1,6 @@
 //! A source over bytes in memory, some of whose reads fail or are quiet.
 
-ghost use Rattle.std.specs.Prelude.{◌≡◌, ℕ, ◌≤◌, Some, drop, vec_len};
+ghost use Rattle.std.specs.Prelude.{◌≡◌, ℕ, ◌≤◌, ◌<◌, ◌↔◌, true, false, Some, drop, vec_len, length};
 
 use crate::source::{Got, Source};
 
@@ -20,11 +20,15 @@ pub struct MemSource {
 }
 
 impl MemSource {
-    ghost use Rattle.zr_outside.specs.Memory.{source_left, most_a_read, failing_reads, quiet_reads};
+    ghost use Rattle.zr_outside.specs.Memory.{source_left, most_a_read, failing_reads, quiet_reads, reads_of};
 
     /// A source of these bytes, which gives at most `most` of them a read (1 where that is 0).
     pub fn new(bytes: Vec<u8>, most: usize, failing: Vec<u64>, quiet: Vec<u64>) -> MemSource
-        ensures { (source_left result ≡ bytes.items) × (most_a_read result ≡ most) × (failing_reads result ≡ failing.items) × (quiet_reads result ≡ quiet.items) }
+        ensures holds { source_left result ≡ bytes.items }
+        ensures most { most_a_read result ≡ most }
+        ensures failing { failing_reads result ≡ failing.items }
+        ensures quiet { quiet_reads result ≡ quiet.items }
+        ensures fresh { reads_of result ≡ 0 }
     {
         MemSource {
             bytes,
@@ -41,6 +45,10 @@ impl MemSource {
 }
 
 impl Source for MemSource {
+    ghost use Rattle.zr_outside.specs.Counts.{Counted};
+    ghost use Rattle.zr_outside.specs.Source.{Reads, IsFailed, IsQuiet, IsEnd};
+    ghost use Rattle.zr_outside.specs.Memory.{source_left, most_a_read, failing_reads, quiet_reads, reads_of, is_among, GivesAtMost};
+
     ghost left = { λ s. Some (drop s.at s.bytes.items) };
 
     ghost faults = { λ s. s.faults };
@@ -49,7 +57,16 @@ impl Source for MemSource {
 
     ghost ends = { λ s. s.ends };
 
-    fn read(&mut self, into: &mut [u8]) -> Got {
+    fn read(&mut self, into: &mut [u8]) -> Got
+        requires { 0 < length into.old }
+        ensures bytes { Reads result into.old into.new (Some (source_left self.old)) (Some (source_left self.new)) }
+        ensures failed { Counted self.old.faults self.new.faults (IsFailed result) }
+        ensures quiet { Counted self.old.quiets self.new.quiets (IsQuiet result) }
+        ensures ended { Counted self.old.ends self.new.ends (IsEnd result) }
+        ensures most { GivesAtMost (most_a_read self.old) result }
+        ensures failing { (result ≡ Got.Failed) ↔ (is_among (reads_of self.old) (failing_reads self.old) ≡ true) }
+        ensures silent { is_among (reads_of self.old) (failing_reads self.old) ≡ false → ((result ≡ Got.Quiet) ↔ (is_among (reads_of self.old) (quiet_reads self.old) ≡ true)) }
+    {
         let call = self.calls;
         self.calls = self.calls.saturating_add(1);
         if self.failing.contains(&call) {

@@ -3,12 +3,13 @@
 ghost use Rattle.std.specs.Prelude.{ℕ, ◌≤◌, ◌<◌, List, length, OnOk, OnErr};
 ghost use Rattle.std.specs.declared.option.Option.{Option};
 ghost use Rattle.zr_outside.specs.Counts.{Counted, Rose};
-ghost use Rattle.zr_outside.specs.Sink.{Writes, IsFailed, Appends, AppendsFront};
+ghost use Rattle.zr_outside.specs.Sink.{Writes, IsFailed};
+ghost use Rattle.zr_outside.specs.Told.{Appends, AppendsPrefix};
 
 /// What a write gave.
 #[derive(Clone, Copy, Debug, PartialEq, Eq)]
 pub enum Put {
-    /// So many bytes from the front, at least one, were appended.
+    /// The first so many bytes, at least one, were appended.
     Took(usize),
     /// The outside has failed; nothing was written.
     Failed,
@@ -18,24 +19,24 @@ pub enum Put {
 #[derive(Clone, Copy, Debug, PartialEq, Eq)]
 pub struct WriteFailed;
 
-/// Where bytes go. Its count of faults rises by one at most in a call, and never falls.
+/// Where bytes go. Its count of faults rises by one where a write failed, and only there.
 pub trait Sink {
     // the bytes that are held, where the sink tells them
     ghost held: { Self → Option (List ℕ) };
 
     ghost faults: { Self → ℕ };
 
-    /// Writes a front of some bytes, of which there is at least one.
+    /// Writes a prefix of some bytes, of which there is at least one.
     fn write(&mut self, from: &[u8]) -> Put
         requires { 0 < length from.now }
         ensures bytes { Writes result from.now (held self.old) (held self.new) }
         ensures failed { Counted (faults self.old) (faults self.new) (IsFailed result) };
 }
 
-/// Writes all of some bytes, in as many writes as it takes. After a fault a front of them was written.
+/// Writes all of some bytes, in as many writes as it takes. After a fault a prefix of them was written.
 pub fn write_all<K: Sink>(out: &mut K, text: &[u8]) -> Result<(), WriteFailed>
     ensures ok { OnOk result (Appends text.now (K.held out.old) (K.held out.new)) }
-    ensures err { OnErr result (AppendsFront text.now (K.held out.old) (K.held out.new)) }
+    ensures err { OnErr result (AppendsPrefix text.now (K.held out.old) (K.held out.new)) }
     ensures cause { OnErr result (Rose (K.faults out.old) (K.faults out.new)) }
     ensures later { K.faults out.old ≤ K.faults out.new }
 {

@@ -8,7 +8,7 @@ ghost use Rattle.zr_outside.specs.Source.{Reads, IsFailed, IsQuiet, IsEnd};
 /// What a read gave.
 #[derive(Clone, Copy, Debug, PartialEq, Eq)]
 pub enum Got {
-    /// So many bytes stand at the front of the buffer, at least one: the next that were left.
+    /// So many bytes are the first of the buffer, at least one: the next that were left.
     Bytes(usize),
     /// Nothing has come yet.
     Quiet,
@@ -18,7 +18,7 @@ pub enum Got {
     Failed,
 }
 
-/// Where bytes come from. Each of its counts rises by one at most in a call, never falls, and tells how often that answer came.
+/// Where bytes come from. Each of its counts rises by one where that answer came, and only there.
 pub trait Source {
     // the bytes that are left, where the source tells them
     ghost left: { Self → Option (List ℕ) };

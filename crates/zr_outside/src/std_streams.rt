@@ -1,6 +1,6 @@
-//! A reader of std as a source and a writer of std as a sink. What they give and take isn't told.
+//! A reader of std as a source and a writer of std as a sink. They tell of their bytes what the reader or the writer tells.
 
-ghost use Rattle.std.specs.Prelude.{◌≡◌, None};
+ghost use Rattle.std.specs.Prelude.{◌≡◌};
 
 use crate::sink::{Put, Sink};
 use crate::source::{Got, Source};
@@ -15,11 +15,12 @@ pub struct ReadSource<R: Read + Drop> {
 }
 
 impl<R: Read + Drop> ReadSource<R> {
-    ghost use Rattle.zr_outside.specs.Streams.{read_faults, read_ends};
+    ghost use Rattle.zr_outside.specs.Streams.{reader_of, read_faults, read_ends};
 
     /// The reader as a source.
     pub fn new(reader: R) -> ReadSource<R>
-        ensures { (read_faults result ≡ 0) × (read_ends result ≡ 0) }
+        ensures holds { reader_of result ≡ reader }
+        ensures counts { (read_faults result ≡ 0) × (read_ends result ≡ 0) }
     {
         ReadSource {
             reader,
@@ -30,7 +31,7 @@ impl<R: Read + Drop> ReadSource<R> {
 }
 
 impl<R: Read + Drop> Source for ReadSource<R> {
-    ghost left = { λ _. None };
+    ghost left = { λ s. R.remaining s.reader };
 
     ghost faults = { λ s. s.faults };
 
@@ -61,18 +62,19 @@ pub struct WriteSink<W: Write + Drop> {
 }
 
 impl<W: Write + Drop> WriteSink<W> {
-    ghost use Rattle.zr_outside.specs.Streams.{write_faults};
+    ghost use Rattle.zr_outside.specs.Streams.{writer_of, write_faults};
 
     /// The writer as a sink.
     pub fn new(writer: W) -> WriteSink<W>
-        ensures { write_faults result ≡ 0 }
+        ensures holds { writer_of result ≡ writer }
+        ensures counts { write_faults result ≡ 0 }
     {
         WriteSink { writer, faults: 0 }
     }
 }
 
 impl<W: Write + Drop> Sink for WriteSink<W> {
-    ghost held = { λ _. None };
+    ghost held = { λ s. W.contents s.writer };
 
     ghost faults = { λ s. s.faults };
 

@@ -1,5 +1,5 @@
 use Rattle.std.proofs.Common.{◌≤◌, ◌-◌, length, arith}
-use Rattle.zr_outside.proofs.Appending.{appends_more, front_stays}
+use Rattle.zr_outside.proofs.Appending.{appends_more, prefix_stays}
 use Rattle.zr_outside.proofs.sink.write_all.Goals as goal
 
 pub loop-at-preserved : goal.loop-at-preserved
@@ -11,4 +11,4 @@ loop-at-preserved g c =
     )
 
 pub returns-in-Failed-clause-err : goal.returns-in-Failed-clause-err
-returns-in-Failed-clause-err g c = front_stays c.args.text.now c.loop-at.at _ _ _ c.loop-at.invariant.2 c.in-Failed.ensures.bytes
+returns-in-Failed-clause-err g c = prefix_stays c.args.text.now c.loop-at.at _ _ _ c.loop-at.invariant.2 c.in-Failed.ensures.bytes

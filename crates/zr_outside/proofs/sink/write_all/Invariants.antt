@@ -1,5 +1,5 @@
 use Rattle.std.proofs.Common.{◌≤◌, ◌-◌, length, take}
-use Rattle.zr_outside.specs.Sink.{Appends}
+use Rattle.zr_outside.specs.Told.{Appends}
 use Rattle.zr_outside.proofs.sink.write_all.Given as goal
 
 abbrev pub invariant-loop-at : goal.invariant-loop-at
