@@ -6,18 +6,18 @@ use Rattle.std.specs.Prelude.{OnOk, OnErr}
 use Rattle.std.proofs.lemmas.List.{length-drop, length-take, take_all}
 use Rattle.std.proofs.lemmas.List.Quantifiers.{position-Some}
 use Rattle.zr_text.proofs.Cutting.{cut_some}
-use Rattle.zr_outside.specs.Sink.{AppendsFront}
-use Rattle.zr_network.specs.Lines.{parts, ended_lines, open_line}
+use Rattle.zr_outside.specs.Told.{AppendsPrefix}
+use Rattle.zr_language.specs.Lines.{most_kept, parts, ended_lines, open_line}
 use Rattle.zr_network.specs.Run.{Run, on_line}
 use Rattle.zr_netrun.specs.declared.runner.Stop.{Stop}
 use Rattle.zr_netrun.specs.declared.runner.Stop.TheVariants.{Refused, NoMemory, WriteFault}
 use Rattle.zr_netrun.specs.Kept.{Kept, fresh, Written, IsAt, Turns}
 use Rattle.zr_netrun.proofs.Lines.{IsOpen, open_append, ended_at, open_at, ended_none, open_none}
-use Rattle.zr_netrun.proofs.Writing.{turn_more, turn_stops, front_written}
+use Rattle.zr_netrun.proofs.Writing.{turn_more, turn_stops, prefix_written}
 
 -- nothing has been written since
 nothing_gone : (t : List ℕ) (a : Option (List ℕ)) → Written (t ++ []) t a a
-nothing_gone t None = refl
+nothing_gone t None = tt
 nothing_gone t (Some held) = ([], append-nil t, ap Some (sym (append-nil held)))
 
 -- what is kept is a fresh run's
@@ -78,16 +78,16 @@ module _ (earlier : List ℕ) (goal_run : Run) (goal_open : List ℕ) (a : Optio
 
   -- no line ends in what is left, which is kept
   pub keeps_at : (k m : Kept) (rest : List ℕ) (b : Option (List ℕ)) (result : Result (Unit {0}) Stop) → AtRest k rest b → IsOpen k.line → parts rest ≡ rest ∷ [] →
-      OnOk result (m ≡ record { world = k.world; number = k.number; line = take 4097 (k.line ++ rest); pending = k.pending }) → OnErr result (result ≡ Err NoMemory) →
-      Turns result goal_run (take 4097 goal_open) earlier m a b
+      OnOk result (m ≡ record { world = k.world; number = k.number; line = take most_kept (k.line ++ rest); pending = k.pending }) → OnErr result (result ≡ Err NoMemory) →
+      Turns result goal_run (take most_kept goal_open) earlier m a b
   keeps_at k m rest b (Ok u) at is_open whole ok err =
       let joined : IsOpen (k.line ++ rest) = open_append k.line rest is_open whole in
       let same : at.0 ≡ goal_run = sym (ap (fold on_line at.0) (ended_none (k.line ++ rest) joined)) ∙ at.2 in
       let left : k.line ++ rest ≡ goal_open = sym (open_none (k.line ++ rest) joined) ∙ at.3 in
-      subst (λ (r : Run). IsAt r (take 4097 goal_open) earlier m a b) same (record {
+      subst (λ (r : Run). IsAt r (take most_kept goal_open) earlier m a b) same (record {
         world = ap (λ (z : Kept). z.world) ok ∙ at.1.world;
         number = ap (λ (z : Kept). z.number) ok ∙ at.1.number;
-        line_is = ap (λ (z : Kept). z.line) ok ∙ ap (take 4097) left;
+        line_is = ap (λ (z : Kept). z.line) ok ∙ ap (take most_kept) left;
         refusal = at.1.refusal;
         text = subst (λ (z : List ℕ). Written (earlier ++ at.0.text) z a b) (sym (ap (λ (z : Kept). z.pending) ok)) at.1.text;
       })
@@ -96,4 +96,4 @@ module _ (earlier : List ℕ) (goal_run : Run) (goal_open : List ℕ) (a : Optio
   keeps_at k m rest b (Err NoMemory) at is_open whole ok err =
       let joined : IsOpen (k.line ++ rest) = open_append k.line rest is_open whole in
       let same : at.0 ≡ goal_run = sym (ap (fold on_line at.0) (ended_none (k.line ++ rest) joined)) ∙ at.2 in
-      subst (λ (r : Run). AppendsFront (earlier ++ r.text) a b) same (front_written (earlier ++ at.0.text) k.pending a b at.1.text)
+      subst (λ (r : Run). AppendsPrefix (earlier ++ r.text) a b) same (prefix_written (earlier ++ at.0.text) k.pending a b at.1.text)

@@ -1,6 +1,7 @@
 pub mod Lines
 pub mod Runs
 pub mod Writing
+pub mod Acting
 pub mod Stepping
 pub mod Keeping
 pub mod Feeding

@@ -4,7 +4,7 @@
 use Rattle.std.proofs.Common.{◌≡◌, ℕ, zero, suc, ◌==◌, Bool, true, false, cond, List, [], ◌∷◌, ◌++◌, take, refl, sym, ap, ◌∙◌}
 use Rattle.std.specs.List.{onto_first}
 use Rattle.std.proofs.lemmas.List.Splits.{slice_split-cons_no}
-use Rattle.zr_network.specs.Lines.{parts, all_but_last, last_part, ended_lines, open_line}
+use Rattle.zr_language.specs.Lines.{parts, all_but_last, last_part, ended_lines, open_line}
 
 -- a line without a line end
 abbrev pub IsOpen : List ℕ → Type 0
@@ -57,7 +57,7 @@ parts_behind (b ∷ bs) bytes h =
 pub open_append : (line more : List ℕ) → IsOpen line → IsOpen more → IsOpen (line ++ more)
 open_append line more h k = parts_behind line more h ∙ ap (behind line) k
 
--- a front of an open line is open
+-- a prefix of an open line is open
 pub open_take : (n : ℕ) (line : List ℕ) → IsOpen line → IsOpen (take n line)
 open_take zero line h = refl
 open_take (suc n) [] h = refl

@@ -1,34 +1,31 @@
 -- The script that was read so far, what is kept of it, and what is told at its end.
 -- `IsAfter` holds whenever the loop reads: what is kept is the run of the lines that have ended, and all of its report was written.
-use Rattle.std.proofs.Common.{◌≡◌, ℕ, ◌+◌, ◌-◌, ◌≤◌, ◌||◌, min, nat_lt, true, false, cond, List, [], ◌++◌, length, take, drop, Option, Some, None, is_some, Result, Ok, Err, refl, sym, ap, ◌∙◌, append_assoc, append-nil, arith, subst, inl, inr}
+use Rattle.std.proofs.Common.{◌≡◌, ℕ, ◌+◌, ◌-◌, ◌≤◌, ◌||◌, min, Bool, true, false, List, [], ◌++◌, length, take, drop, Option, Some, None, is_some, Result, Ok, refl, sym, ap, ◌∙◌, append_assoc, append-nil, arith, subst, inl, inr}
 use Rattle.std.specs.List.{fold}
 use Rattle.std.proofs.lemmas.List.Sums.{fold-append}
-use Rattle.std.proofs.lemmas.Bool.Decides.{nat_tests}
 use Rattle.std.proofs.lemmas.Bool.{cases_lt}
 use Rattle.std.proofs.lemmas.List.{length-append, length-take, take_all, take-take}
 use Rattle.std.proofs.Math.Seq.{take-append-add}
-use Rattle.zr_outside.specs.Source.{Consumes}
-use Rattle.zr_outside.specs.Sink.{Appends, AppendsFront}
-use Rattle.zr_network.specs.Lines.{ended_lines, open_line, unless_empty}
-use Rattle.zr_network.specs.Report.{refused_text}
-use Rattle.zr_network.specs.Run.{Run, start, on_line, run_of, run_of_ended, most_bytes, within, judged, complaint, complaint_of}
-use Rattle.zr_world.specs.Steps.{Living}
+use Rattle.zr_outside.specs.Told.{Consumes}
+use Rattle.zr_outside.specs.Told.{IsAsBefore, Appends, AppendsPrefix}
+use Rattle.zr_language.specs.Lines.{most_bytes, most_kept, ended_lines, open_line}
+use Rattle.zr_language.specs.Report.{refused_text}
+use Rattle.zr_network.specs.Run.{Run, start, on_line, run_of_ended, within}
 use Rattle.zr_netrun.specs.declared.status.Status.{Status}
 use Rattle.zr_netrun.specs.declared.status.Status.TheVariants as s
 use Rattle.zr_netrun.specs.declared.runner.Stop.{Stop}
 use Rattle.zr_netrun.specs.declared.runner.Stop.TheVariants.{Refused, NoMemory, WriteFault}
-use Rattle.zr_netrun.specs.Kept.{Kept, fresh, IsAt, Stopped, Turns, Tells}
-use Rattle.zr_laws.specs.Runs.{IsSound}
+use Rattle.zr_netrun.specs.Kept.{Kept, fresh, IsAt, Stopped, Turns, TellsRefusal, Tells}
+use Rattle.zr_netrun.specs.Judged.{judged, is_too_long, is_refused, complaint, complaint_of}
 use Rattle.zr_netrun.specs.Clauses.{OfRead, Reports}
-use Rattle.zr_laws.proofs.Sound.{lines_keep}
 use Rattle.zr_netrun.proofs.Lines.{ended_append, open_after, open_last}
 use Rattle.zr_netrun.proofs.Runs.{fold_kept, open_kept}
-use Rattle.zr_netrun.proofs.Writing.{turn_more, turn_stops, all_written, written_all, written_flushed, front_flushed, front_none}
+use Rattle.zr_netrun.proofs.Writing.{turn_more, all_written, written_all, written_flushed, appends_all, prefix_flushed}
 
 -- ---- what is kept of the bytes that were read
 
 pub record IsAfter (k : Kept) (total : ℕ) (a b : Option (List ℕ)) (read : List ℕ) : Type 0 where
-  pub at : IsAt (run_of_ended read) (take 4097 (open_line read)) [] k a b
+  pub at : IsAt (run_of_ended read) (take most_kept (open_line read)) [] k a b
   pub flushed : k.pending ≡ []
   pub total_is : length read ≡ total
 
@@ -49,30 +46,30 @@ after_nothing k a (Some bytes) e = (
 )
   where
     by : (o : Option (List ℕ)) → Appends [] o o
-    by None = refl
+    by None = tt
     by (Some held) = ap Some (sym (append-nil held))
 
 -- the run of bytes that come in two pieces
-run_piece : (k : Kept) (read piece : List ℕ) → k.line ≡ take 4097 (open_line read) →
+run_piece : (k : Kept) (read piece : List ℕ) → k.line ≡ take most_kept (open_line read) →
     fold on_line (run_of_ended read) (ended_lines (k.line ++ piece)) ≡ run_of_ended (read ++ piece)
 run_piece k read piece e =
     ap (λ z. fold on_line (run_of_ended read) (ended_lines (z ++ piece))) e ∙ fold_kept (run_of_ended read) (open_line read) piece (open_last read)
     ∙ sym (fold-append on_line start (ended_lines read) (ended_lines (open_line read ++ piece))) ∙ ap (fold on_line start) (sym (ended_append read piece))
 
-open_piece : (k : Kept) (read piece : List ℕ) → k.line ≡ take 4097 (open_line read) →
-    take 4097 (open_line (k.line ++ piece)) ≡ take 4097 (open_line (read ++ piece))
+open_piece : (k : Kept) (read piece : List ℕ) → k.line ≡ take most_kept (open_line read) →
+    take most_kept (open_line (k.line ++ piece)) ≡ take most_kept (open_line (read ++ piece))
 open_piece k read piece e =
-    ap (λ z. take 4097 (open_line (z ++ piece))) e ∙ open_kept (open_line read) piece (open_last read) ∙ ap (take 4097) (sym (open_after read piece))
+    ap (λ z. take most_kept (open_line (z ++ piece))) e ∙ open_kept (open_line read) piece (open_last read) ∙ ap (take most_kept) (sym (open_after read piece))
 
 -- one more piece
 pub piece_more : (k m : Kept) (total : ℕ) (a b c : Option (List ℕ)) (read piece : List ℕ) (result : Result (Unit {0}) Stop) → IsAfter k total a b read →
-    Turns result (fold on_line (fresh k) (ended_lines (k.line ++ piece))) (take 4097 (open_line (k.line ++ piece))) k.pending m b c →
-    Turns result (run_of_ended (read ++ piece)) (take 4097 (open_line (read ++ piece))) [] m a c
+    Turns result (fold on_line (fresh k) (ended_lines (k.line ++ piece))) (take most_kept (open_line (k.line ++ piece))) k.pending m b c →
+    Turns result (run_of_ended (read ++ piece)) (take most_kept (open_line (read ++ piece))) [] m a c
 piece_more k m total a b c read piece result h turn =
-    let more = turn_more (run_of_ended read) (ended_lines (k.line ++ piece)) (take 4097 (open_line read)) (take 4097 (open_line (k.line ++ piece))) [] k m a b c result h.at turn in
+    let more = turn_more (run_of_ended read) (ended_lines (k.line ++ piece)) (take most_kept (open_line read)) (take most_kept (open_line (k.line ++ piece))) [] k m a b c result h.at turn in
     let run = run_piece k read piece h.at.line_is in
     let line = open_piece k read piece h.at.line_is in
-    subst (λ (r : Run). Turns result r (take 4097 (open_line (read ++ piece))) [] m a c) run
+    subst (λ (r : Run). Turns result r (take most_kept (open_line (read ++ piece))) [] m a c) run
     (subst (λ (l : List ℕ). Turns result (fold on_line (run_of_ended read) (ended_lines (k.line ++ piece))) l [] m a c) line more)
 
 -- a source that told its bytes, and one more read
@@ -86,7 +83,7 @@ reads_more P Q (Some all) now next n buffer h took f =
 -- a piece was fed whole
 pub reads_piece : (left now next : Option (List ℕ)) (n total : ℕ) (buffer : List ℕ) (k m : Kept) (a b c : Option (List ℕ)) (u : Unit {0}) →
     OfRead left now (IsAfter k total a b) → Consumes n buffer now next → n ≤ length buffer → m.pending ≡ [] →
-    Turns (Ok u) (fold on_line (fresh k) (ended_lines (k.line ++ take n buffer))) (take 4097 (open_line (k.line ++ take n buffer))) k.pending m b c →
+    Turns (Ok u) (fold on_line (fresh k) (ended_lines (k.line ++ take n buffer))) (take most_kept (open_line (k.line ++ take n buffer))) k.pending m b c →
     OfRead left next (IsAfter m (total + n) a c)
 reads_piece left now next n total buffer k m a b c u h took le flushed turn =
     reads_more (IsAfter k total a b) (IsAfter m (total + n) a c) left now next n buffer h took (λ (read : List ℕ) (p : IsAfter k total a b read). record {
@@ -95,78 +92,40 @@ reads_piece left now next n total buffer k m a b c u h took le flushed turn =
       total_is = omega (arith, length-append read (take n buffer), length-take n buffer, p.total_is);
     })
 
--- the world after a piece is sound
-pub sound_piece : (n : ℕ) (buffer l : List ℕ) (k m : Kept) (a b : Option (List ℕ)) → IsSound k.world.state →
-    IsAt (fold on_line (fresh k) (ended_lines (k.line ++ take n buffer))) l k.pending m a b → IsSound m.world.state
-sound_piece n buffer l k m a b sound turn =
-    subst (λ (w : Living). IsSound w.state) (sym turn.world) (lines_keep (ended_lines (k.line ++ take n buffer)) (fresh k) sound)
-
 -- ---- what is told at the end
 
--- within the limit the whole script counts, and else the lines that end within it
-pub judged_short : (bytes : List ℕ) → length bytes ≤ most_bytes → judged bytes ≡ run_of bytes
-judged_short bytes short =
-    let t : nat_lt most_bytes (length bytes) ≡ false = grind (arith, nat_tests) in
-    ap (λ b. cond b (run_of_ended (within bytes)) (run_of bytes)) t
-
-pub judged_long : (bytes : List ℕ) → nat_lt most_bytes (length bytes) ≡ true → judged bytes ≡ run_of_ended (within bytes)
-judged_long bytes t = ap (λ b. cond b (run_of_ended (within bytes)) (run_of bytes)) t
-
--- the lines that end within the limit begin the run that counts
-judged_more : (bytes : List ℕ) → (ls : List (List ℕ)) × (judged bytes ≡ fold on_line (run_of_ended (within bytes)) ls)
-judged_more bytes =
-    elim (cases_lt most_bytes (length bytes)) [
-      | inl long ↦
-          let t : nat_lt most_bytes (length bytes) ≡ true = grind (arith, nat_tests) in
-          ([], judged_long bytes t)
-      | inr short ↦
-          let all : within bytes ≡ bytes = take_all most_bytes bytes short in (
-            unless_empty (open_line bytes),
-            judged_short bytes short ∙ fold-append on_line start (ended_lines bytes) (unless_empty (open_line bytes))
-                ∙ ap (λ z. fold on_line (run_of_ended z) (unless_empty (open_line bytes))) (sym all),
-          )
-    ]
+pub as_before : (e e' : Option (List ℕ)) → e' ≡ e → IsAsBefore e e'
+as_before None e' h = tt
+as_before (Some held) e' h = h
 
 -- what was told of a run that stopped is what is to be told
-pub tells_judged : (bytes : List ℕ) (m : Kept) (a b c e e' : Option (List ℕ)) (stop : Stop) (status : Status) →
-    Stopped stop (judged bytes) [] m a b → Tells stop status m.number m.pending b c e e' → Reports status a c e e' bytes
-tells_judged bytes m a b c e e' (Refused error) s.Refused h told =
-    let why : complaint bytes ≡ refused_text m.number error =
-    ap (λ r. complaint_of r (judged bytes).number (nat_lt most_bytes (length bytes))) h.0 ∙ ap (λ n. refused_text n error) (sym h.1) in (
-      ap (λ r. is_some r || nat_lt most_bytes (length bytes)) h.0,
-      all_written (judged bytes).text a c (written_flushed (judged bytes).text m.pending a b c h.2 told.0),
-      subst (λ (z : List ℕ). Appends z e e') (sym why) told.1,
-    )
-tells_judged bytes m a b c e e' (Refused error) s.WriteFault h told =
-    let why : complaint bytes ≡ refused_text m.number error =
-    ap (λ r. complaint_of r (judged bytes).number (nat_lt most_bytes (length bytes))) h.0 ∙ ap (λ n. refused_text n error) (sym h.1) in
-    (front_flushed (judged bytes).text m.pending a b c h.2 told.0, subst (λ (z : List ℕ). AppendsFront z e e') (sym why) told.1)
-tells_judged bytes m a b c e e' (Refused error) s.NoMemory h told =
-    let why : complaint bytes ≡ refused_text m.number error =
-    ap (λ r. complaint_of r (judged bytes).number (nat_lt most_bytes (length bytes))) h.0 ∙ ap (λ n. refused_text n error) (sym h.1) in
-    (front_flushed (judged bytes).text m.pending a b c h.2 told.0, subst (λ (z : List ℕ). AppendsFront z e e') (sym why) told.1)
-tells_judged bytes m a b c e e' (Refused error) s.Done h told = absurd told
-tells_judged bytes m a b c e e' (Refused error) s.Words h told = absurd told
-tells_judged bytes m a b c e e' (Refused error) s.ReadFault h told = absurd told
-tells_judged bytes m a b c e e' NoMemory status h told =
-    rw told.0 (
-      subst (λ (z : Option (List ℕ)). AppendsFront (judged bytes).text a z) (sym told.1) h,
-      subst (λ (z : Option (List ℕ)). AppendsFront (complaint bytes) e z) (sym told.2) (front_none (complaint bytes) e),
-    )
-tells_judged bytes m a b c e e' WriteFault status h told =
-    rw told.0 (
-      subst (λ (z : Option (List ℕ)). AppendsFront (judged bytes).text a z) (sym told.1) h,
-      subst (λ (z : Option (List ℕ)). AppendsFront (complaint bytes) e z) (sym told.2) (front_none (complaint bytes) e),
-    )
+pub tells_judged : (to_end : Bool) (bytes : List ℕ) (m : Kept) (a b c e e' : Option (List ℕ)) (stop : Stop) (status : Status) →
+    Stopped stop (judged to_end bytes) [] m a b → Tells stop status m.number m.pending b c e e' → Reports status to_end a c e e' bytes
+tells_judged to_end bytes m a b c e e' (Refused error) status h told = by status told
+  where
+    why : complaint to_end bytes ≡ refused_text m.number error
+    why = ap (λ r. complaint_of r (judged to_end bytes).number (is_too_long bytes)) h.0 ∙ ap (λ n. refused_text n error) (sym h.1)
 
--- a run that stopped within the limit
-pub stopped_within : (bytes l : List ℕ) (m : Kept) (a b : Option (List ℕ)) (stop : Stop) → Turns (Err stop) (run_of_ended (within bytes)) l [] m a b →
-    Stopped stop (judged bytes) [] m a b
-stopped_within bytes l m a b stop h =
-    let more = judged_more bytes in
-    subst (λ (r : Run). Stopped stop r [] m a b) (sym more.1) (turn_stops (run_of_ended (within bytes)) more.0 l [] [] m a b stop h)
+    refused : is_refused to_end bytes ≡ true
+    refused = ap (λ r. is_some r || is_too_long bytes) h.0
 
--- of a piece that passes the limit, the front within it
+    whole : Appends m.pending b c → Appends (judged to_end bytes).text a c
+    whole out = all_written (judged to_end bytes).text a c (written_flushed (judged to_end bytes).text m.pending a b c h.2 out)
+
+    by : (status : Status) → TellsRefusal status error m.number m.pending b c e e' → Reports status to_end a c e e' bytes
+    by s.Refused t = (refused, whole t.0, subst (λ (z : List ℕ). Appends z e e') (sym why) t.1)
+    by s.WriteFault (inl t) = inl (prefix_flushed (judged to_end bytes).text m.pending a b c h.2 t.0, as_before e e' t.1)
+    by s.WriteFault (inr t) = inr (refused, whole t.0, subst (λ (z : List ℕ). AppendsPrefix z e e') (sym why) t.1)
+    by s.NoMemory t = (prefix_flushed (judged to_end bytes).text m.pending a b c h.2 (appends_all m.pending b c t.0), as_before e e' t.1)
+    by s.Done t = absurd t
+    by s.Words t = absurd t
+    by s.ReadFault t = absurd t
+tells_judged to_end bytes m a b c e e' NoMemory status h told =
+    rw told.0 (subst (λ (z : Option (List ℕ)). AppendsPrefix (judged to_end bytes).text a z) (sym told.1) h, as_before e e' told.2)
+tells_judged to_end bytes m a b c e e' WriteFault status h told =
+    rw told.0 (inl (subst (λ (z : Option (List ℕ)). AppendsPrefix (judged to_end bytes).text a z) (sym told.1) h, as_before e e' told.2))
+
+-- of a piece that passes the limit, the prefix within it
 pub within_piece : (read piece : List ℕ) (used n : ℕ) → length read ≤ most_bytes → used ≡ min n (most_bytes - length read) → n ≤ length piece →
     within (read ++ take n piece) ≡ read ++ take used piece
 within_piece read piece used n le e fits =

@@ -1,3 +1,4 @@
 pub mod Status
 pub mod Kept
+pub mod Judged
 pub mod Clauses

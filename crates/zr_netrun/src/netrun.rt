@@ -2,14 +2,14 @@
 
 ghost use Rattle.std.specs.Prelude.{◌≡◌, ◌≤◌, ◌⊎◌};
 ghost use Rattle.zr_outside.specs.Counts.{Rose};
-ghost use Rattle.zr_network.specs.Report.{refused_text, too_long_text};
+ghost use Rattle.zr_language.specs.Report.{refused_text, too_long_text};
 ghost use Rattle.zr_netrun.specs.Kept.{Tells, Complains};
-ghost use Rattle.zr_netrun.specs.Clauses.{OfRead, Reports, IsReadToEnd};
+ghost use Rattle.zr_netrun.specs.Clauses.{OfRead, IsReported, IsReadToEnd};
 
 use crate::runner::{Runner, Stop};
 use crate::status::Status;
 use std::alloc::Global;
-use zr_msg::error::ScriptError;
+use zr_command::error::ScriptError;
 use zr_outside::sink::{Sink, write_all};
 use zr_outside::source::{Got, Source};
 use zr_script::text::refused_text;
@@ -33,7 +33,7 @@ pub fn run_script<S: Source, K: Sink, E: Sink>(
     out: &mut K,
     err: &mut E,
 ) -> Status
-    ensures report { OfRead (S.left input.old) (S.left input.new) (Reports result (K.held out.old) (K.held out.new) (E.held err.old) (E.held err.new)) }
+    ensures report { OfRead (S.left input.old) (S.left input.new) (IsReported (IsReadToEnd (S.ends input.old) (S.ends input.new) (S.quiets input.old) (S.quiets input.new)) result (K.held out.old) (K.held out.new) (E.held err.old) (E.held err.new)) }
     ensures whole { result ≡ Status.Done → IsReadToEnd (S.ends input.old) (S.ends input.new) (S.quiets input.old) (S.quiets input.new) }
     ensures read { result ≡ Status.ReadFault → Rose (S.faults input.old) (S.faults input.new) }
     ensures write { result ≡ Status.WriteFault → Rose (K.faults out.old) (K.faults out.new) ⊎ Rose (E.faults err.old) (E.faults err.new) }

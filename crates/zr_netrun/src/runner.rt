@@ -2,29 +2,28 @@
 
 ghost use Rattle.std.specs.Prelude.{◌≡◌, ◌==◌, ◌+◌, ◌^◌, ◌<◌, ◌≤◌, ◌∷◌, ◌++◌, [], false, length, take, position, is_none, OnOk, OnErr};
 ghost use Rattle.std.specs.List.{fold, flat_map};
-ghost use Rattle.zr_outside.specs.Counts.{Rose};
-ghost use Rattle.zr_network.specs.Lines.{ended_lines, open_line, parts, unless_empty};
-ghost use Rattle.zr_network.specs.Command.{command_of};
-ghost use Rattle.zr_network.specs.Acts.{applied, next};
-ghost use Rattle.zr_network.specs.Report.{line_text};
+ghost use Rattle.zr_language.specs.Lines.{most_kept, ended_lines, open_line, parts, unless_empty};
+ghost use Rattle.zr_language.specs.Report.{line_text};
+ghost use Rattle.zr_network.specs.Next.{applied, book_step, next};
 ghost use Rattle.zr_network.specs.Run.{on_line};
-ghost use Rattle.zr_outside.specs.Sink.{Appends, AppendsFront};
-ghost use Rattle.zr_world.specs.Steps.{new_world};
-ghost use Rattle.zr_netrun.specs.Kept.{fresh, obeyed, Adds, Advances, Asks, Begins, Moves, Turns, Written, stop_of};
-ghost use Rattle.zr_laws.specs.Runs.{IsSound};
+ghost use Rattle.zr_network.specs.Sound.{IsSound};
+ghost use Rattle.zr_outside.specs.Counts.{Rose};
+ghost use Rattle.zr_outside.specs.Told.{Appends, AppendsPrefix};
+ghost use Rattle.zr_world.specs.Living.{new_world, Books};
+ghost use Rattle.zr_netrun.specs.Kept.{fresh, most_pending, run_behind, run_by, StepsOn, Turns, Written};
 
 use std::alloc::{AllocError, Global};
 use std::marker::Model;
 use std::mem;
-use zr_msg::command::Command;
-use zr_msg::error::ScriptError;
-use zr_msg::report::ReportLine;
-use zr_outside::sink::{Sink, write_all};
+use zr_command::command::{Act, Command};
+use zr_command::error::ScriptError;
+use zr_command::report::ReportLine;
+use zr_outside::sink::{Sink, WriteFailed, write_all};
 use zr_script::line::{MOST_LINE, read_line};
 use zr_script::text::line_text;
 use zr_world::world::World;
 
-/// How much of a report waits at most before it is written, a line aside.
+/// How much of a report waits at most between two acts: behind an act that leaves more, all of it is written.
 const MOST_PENDING: usize = 65_536;
 
 /// How much of a line that has not ended is kept: one byte more than a line may have, which tells that it has too many.
@@ -48,19 +47,22 @@ pub struct Runner {
     world: World,
     number: u64,
     line: Vec<u8>,
+    // the report lines of an act, and the text of one of them: kept for their memory alone
+    report: Vec<ReportLine>,
+    text: Vec<u8>,
     pending: Vec<u8>,
 }
 
 impl Model for Runner {
-    ghost use Rattle.std.specs.Prelude.{◌≡◌, ◌≤◌, ◌∷◌, [], length};
-    ghost use Rattle.zr_network.specs.Lines.{parts};
-    ghost use Rattle.zr_netrun.specs.Kept.{Kept};
+    ghost use Rattle.std.specs.Prelude.{◌≡◌, ◌≤◌, ◌<◌, ◌∷◌, [], length};
+    ghost use Rattle.zr_language.specs.Lines.{most_kept, parts};
+    ghost use Rattle.zr_netrun.specs.Kept.{Kept, most_pending};
 
     ghost Value = { Kept };
 
     ghost view = { λ r. record { world = r.world; number = r.number; line = r.line.items; pending = r.pending.items } };
 
-    ghost invariant = { λ r. (length r.line.items ≤ 4097) × (parts r.line.items ≡ r.line.items ∷ []) };
+    ghost invariant = { λ r. (length r.line.items ≤ most_kept) × (parts r.line.items ≡ r.line.items ∷ []) × (length r.pending.items < most_pending) };
 }
 
 impl Runner {
@@ -73,6 +75,8 @@ impl Runner {
             world: World::new(alloc),
             number: 0,
             line: Vec::new(alloc),
+            report: Vec::new(alloc),
+            text: Vec::new(alloc),
             pending: Vec::new(alloc),
         }
     }
@@ -84,12 +88,12 @@ impl Runner {
         self.number
     }
 
-    /// A piece of the script has come: the lines that end in it are applied, their report is written, and the rest is kept.
+    /// A piece of the script has come: the lines that end in it are applied, their report is written, and the rest is kept. Between two
+    /// acts less than 64 KiB of the report wait.
     pub fn feed<K: Sink>(&mut self, piece: &[u8], out: &mut K) -> Result<(), Stop>
         requires alive { self.old.world.spent ≡ false }
-        requires sound { IsSound self.old.world.state }
         requires room { self.old.number + length piece.now < 2 ^ 63 }
-        ensures turn { Turns result (fold on_line (fresh self.old) (ended_lines (self.old.line ++ piece.now))) (take 4097 (open_line (self.old.line ++ piece.now))) self.old.pending self.new (K.held out.old) (K.held out.new) }
+        ensures turn { Turns result (fold on_line (fresh self.old) (ended_lines (self.old.line ++ piece.now))) (take most_kept (open_line (self.old.line ++ piece.now))) self.old.pending self.new (K.held out.old) (K.held out.new) }
         ensures flushed { OnOk result (self.new.pending ≡ []) }
         ensures fault { result ≡ Err Stop.WriteFault → Rose (K.faults out.old) (K.faults out.new) }
         ensures count { self.new.number ≤ self.old.number + length piece.now }
@@ -102,7 +106,6 @@ impl Runner {
     /// The script has ended: what was kept is its last line, unless that has no bytes.
     pub fn finish<K: Sink>(&mut self, out: &mut K) -> Result<(), Stop>
         requires alive { self.old.world.spent ≡ false }
-        requires sound { IsSound self.old.world.state }
         requires room { self.old.number < 2 ^ 63 }
         ensures turn { Turns result (fold on_line (fresh self.old) (unless_empty self.old.line)) [] self.old.pending self.new (K.held out.old) (K.held out.new) }
         ensures flushed { OnOk result (self.new.pending ≡ []) }
@@ -113,26 +116,23 @@ impl Runner {
         self.flush(out)
     }
 
-    /// Writes what waits.
+    /// Writes what waits. After a failure nothing waits any more, of which a prefix was written.
     pub fn flush<K: Sink>(&mut self, out: &mut K) -> Result<(), Stop>
-        ensures ok { OnOk result ((self.new ≡ record { world = self.old.world; number = self.old.number; line = self.old.line; pending = [] }) × Appends self.old.pending (K.held out.old) (K.held out.new)) }
-        ensures err { OnErr result ((result ≡ Err Stop.WriteFault) × (self.new ≡ self.old) × AppendsFront self.old.pending (K.held out.old) (K.held out.new)) }
+        ensures written { self.new ≡ record { world = self.old.world; number = self.old.number; line = self.old.line; pending = [] } }
+        ensures ok { OnOk result (Appends self.old.pending (K.held out.old) (K.held out.new)) }
+        ensures err { OnErr result ((result ≡ Err Stop.WriteFault) × AppendsPrefix self.old.pending (K.held out.old) (K.held out.new)) }
         ensures fault { OnErr result (Rose (K.faults out.old) (K.faults out.new)) }
         ensures later { K.faults out.old ≤ K.faults out.new }
     {
-        if write_all(out, &self.pending).is_err() {
-            return Err(Stop::WriteFault);
-        }
-        self.pending.clear();
+        write_out(&mut self.pending, out)?;
         Ok(())
     }
 
     // The lines that end in a piece are applied, and the rest is kept.
     fn feed_lines<K: Sink>(&mut self, piece: &[u8], out: &mut K) -> Result<(), Stop>
         requires alive { self.old.world.spent ≡ false }
-        requires sound { IsSound self.old.world.state }
         requires room { self.old.number + length piece.now < 2 ^ 63 }
-        ensures turn { Turns result (fold on_line (fresh self.old) (ended_lines (self.old.line ++ piece.now))) (take 4097 (open_line (self.old.line ++ piece.now))) self.old.pending self.new (K.held out.old) (K.held out.new) }
+        ensures turn { Turns result (fold on_line (fresh self.old) (ended_lines (self.old.line ++ piece.now))) (take most_kept (open_line (self.old.line ++ piece.now))) self.old.pending self.new (K.held out.old) (K.held out.new) }
         ensures fault { result ≡ Err Stop.WriteFault → Rose (K.faults out.old) (K.faults out.new) }
         ensures count { self.new.number ≤ self.old.number + length piece.now }
         ensures later { K.faults out.old ≤ K.faults out.new }
@@ -149,7 +149,6 @@ impl Runner {
     // What was kept is the last line, unless it has no bytes.
     fn end_last<K: Sink>(&mut self, out: &mut K) -> Result<(), Stop>
         requires alive { self.old.world.spent ≡ false }
-        requires sound { IsSound self.old.world.state }
         requires room { self.old.number < 2 ^ 63 }
         ensures turn { Turns result (fold on_line (fresh self.old) (unless_empty self.old.line)) [] self.old.pending self.new (K.held out.old) (K.held out.new) }
         ensures fault { result ≡ Err Stop.WriteFault → Rose (K.faults out.old) (K.faults out.new) }
@@ -166,7 +165,6 @@ impl Runner {
     #[tactic(auto, using(crate::proofs::Runs::command_kept))]
     fn end_line<K: Sink>(&mut self, part: &[u8], out: &mut K) -> Result<(), Stop>
         requires alive { self.old.world.spent ≡ false }
-        requires sound { IsSound self.old.world.state }
         requires room { self.old.number < 2 ^ 63 }
         requires open { parts part.now ≡ part.now ∷ [] }
         ensures turn { Turns result (on_line (fresh self.old) (self.old.line ++ part.now)) [] self.old.pending self.new (K.held out.old) (K.held out.new) }
@@ -185,7 +183,6 @@ impl Runner {
     // A line has ended: it is counted, and what it asks is done.
     fn on_line<K: Sink>(&mut self, line: &[u8], out: &mut K) -> Result<(), Stop>
         requires alive { self.old.world.spent ≡ false }
-        requires sound { IsSound self.old.world.state }
         requires room { self.old.number < 2 ^ 63 }
         ensures turn { Turns result (on_line (fresh self.old) line.now) self.old.line self.old.pending self.new (K.held out.old) (K.held out.new) }
         ensures fault { result ≡ Err Stop.WriteFault → Rose (K.faults out.old) (K.faults out.new) }
@@ -193,13 +190,14 @@ impl Runner {
         ensures later { K.faults out.old ≤ K.faults out.new }
     {
         self.count();
-        match asked(self.alloc, line)? {
+        match read_line(self.alloc, line)? {
             None => Ok(()),
-            Some(command) => self.obey(&command, out),
+            Some(Command::Act { act }) => self.apply(act, out),
+            Some(Command::Run { steps }) => self.run(steps, out),
         }
     }
 
-    // One more line has ended. This stands apart, as `book` does, so that what follows has to do with a whole runner.
+    // One more line has ended. This stands apart, so that what follows has to do with a whole runner.
     fn count(&mut self)
         requires room { self.old.number < 2 ^ 63 }
         ensures { self.new ≡ record { world = self.old.world; number = self.old.number + 1; line = self.old.line; pending = self.old.pending } }
@@ -207,40 +205,34 @@ impl Runner {
         self.number += 1;
     }
 
-    // A command is done: a run step by step, any other one at once.
-    fn obey<K: Sink>(&mut self, command: &Command, out: &mut K) -> Result<(), Stop>
+    // An act is applied; what it reports waits, and is written once enough waits.
+    fn apply<K: Sink>(&mut self, act: Act, out: &mut K) -> Result<(), Stop>
         requires alive { self.old.world.spent ≡ false }
-        requires sound { IsSound self.old.world.state }
-        ensures turn { Turns result (obeyed self.old (applied self.old.world.state self.old.number command.now)) self.old.line self.old.pending self.new (K.held out.old) (K.held out.new) }
+        ensures turn { Turns result (run_by self.old act) self.old.line self.old.pending self.new (K.held out.old) (K.held out.new) }
+        ensures waits { length self.new.pending < most_pending }
         ensures fault { result ≡ Err Stop.WriteFault → Rose (K.faults out.old) (K.faults out.new) }
         ensures count { self.new.number ≡ self.old.number }
         ensures later { K.faults out.old ≤ K.faults out.new }
     {
-        let mut report = Vec::new(self.alloc);
-        match command {
-            Command::Run { steps } => self.run(*steps, &mut report, out),
-            _ => self.act(command, &mut report, out),
-        }
+        self.report.clear();
+        self.world.apply(self.number, act, &mut self.report)?;
+        put_lines(&self.report, &mut self.text, &mut self.pending)?;
+        write_if_enough(&mut self.pending, out)?;
+        Ok(())
     }
 
     // The steps of a run are done one by one, and what waits is written between them: a run of any length takes no more memory than
-    // one step and what may wait. The report lines come into the same vector at each step.
-    fn run<K: Sink>(
-        &mut self,
-        steps: u32,
-        report: &mut Vec<ReportLine>,
-        out: &mut K,
-    ) -> Result<(), Stop>
+    // one step and what may wait.
+    fn run<K: Sink>(&mut self, steps: u32, out: &mut K) -> Result<(), Stop>
         requires alive { self.old.world.spent ≡ false }
-        requires sound { IsSound self.old.world.state }
-        ensures turn { Turns result (obeyed self.old (applied self.old.world.state self.old.number (Command.Run steps))) self.old.line self.old.pending self.new (K.held out.old) (K.held out.new) }
+        ensures turn { Turns result (run_behind self.old (applied self.old.world.state self.old.number (Command.Run steps))) self.old.line self.old.pending self.new (K.held out.old) (K.held out.new) }
         ensures fault { result ≡ Err Stop.WriteFault → Rose (K.faults out.old) (K.faults out.new) }
         ensures count { self.new.number ≡ self.old.number }
         ensures later { K.faults out.old ≤ K.faults out.new }
     {
         self.book(steps)?;
         for done in 0..steps {
-            if !self.step(report, out)? {
+            if !self.do_next(out)? {
                 return self.end_run(done, out);
             }
         }
@@ -248,18 +240,19 @@ impl Runner {
     }
 
     // The steps that a run asks for are counted, which is all for which it may be refused.
-    fn book(&mut self, steps: u32) -> Result<(), Stop>
+    fn book(&mut self, steps: u32) -> Result<(), ScriptError>
         requires alive { self.old.world.spent ≡ false }
-        ensures begins { Begins result steps self.old.world self.new.world }
+        ensures books { Books result (book_step self.old.world.state steps) self.old.world self.new.world }
+        ensures sound { OnOk result (IsSound self.new.world.state) }
         ensures rest { self.new ≡ record { world = self.new.world; number = self.old.number; line = self.old.line; pending = self.old.pending } }
     {
-        book(&mut self.world, steps)
+        self.world.book(steps)
     }
 
     // The next step of a run is done, where one is possible; the answer says whether it was.
-    fn step<K: Sink>(&mut self, report: &mut Vec<ReportLine>, out: &mut K) -> Result<bool, Stop>
+    fn do_next<K: Sink>(&mut self, out: &mut K) -> Result<bool, Stop>
         requires alive { self.old.world.spent ≡ false }
-        ensures moves { Moves (next self.old.world.state) result self.old self.new (K.held out.old) (K.held out.new) }
+        ensures steps { StepsOn (next self.old.world.state) result self.old self.new (K.held out.old) (K.held out.new) }
         ensures fault { result ≡ Err Stop.WriteFault → Rose (K.faults out.old) (K.faults out.new) }
         ensures count { self.new.number ≡ self.old.number }
         ensures later { K.faults out.old ≤ K.faults out.new }
@@ -267,7 +260,7 @@ impl Runner {
         match self.world.next() {
             None => Ok(false),
             Some(step) => {
-                self.act(&step, report, out)?;
+                self.apply(step, out)?;
                 Ok(true)
             }
         }
@@ -276,71 +269,21 @@ impl Runner {
     // A run has ended: its last line says how many steps it did, and whether no step is possible any more.
     fn end_run<K: Sink>(&mut self, done: u32, out: &mut K) -> Result<(), Stop>
         requires alive { self.old.world.spent ≡ false }
-        ensures turn { Turns result (obeyed self.old (Ok (ReportLine.Ran done (is_none (next self.old.world.state)) ∷ [], self.old.world.state))) self.old.line self.old.pending self.new (K.held out.old) (K.held out.new) }
+        ensures turn { Turns result (run_behind self.old (Ok (ReportLine.Ran done (is_none (next self.old.world.state)) ∷ [], self.old.world.state))) self.old.line self.old.pending self.new (K.held out.old) (K.held out.new) }
         ensures fault { result ≡ Err Stop.WriteFault → Rose (K.faults out.old) (K.faults out.new) }
         ensures count { self.new.number ≡ self.old.number }
         ensures later { K.faults out.old ≤ K.faults out.new }
-    {
-        self.tell_end(done)?;
-        self.relieve(out)
-    }
-
-    // The last line of a run waits.
-    fn tell_end(&mut self, done: u32) -> Result<(), Stop>
-        requires alive { self.old.world.spent ≡ false }
-        ensures adds { Adds result (obeyed self.old (Ok (ReportLine.Ran done (is_none (next self.old.world.state)) ∷ [], self.old.world.state))) self.old self.new }
-        ensures count { self.new.number ≡ self.old.number }
     {
         let quiet = is_quiet(&self.world);
-        put_end(done, quiet, &mut self.pending)?;
+        put_end(done, quiet, &mut self.text, &mut self.pending)?;
+        write_if_enough(&mut self.pending, out)?;
         Ok(())
-    }
-
-    // A command is applied at once, and what waits is written once it is enough.
-    fn act<K: Sink>(
-        &mut self,
-        command: &Command,
-        report: &mut Vec<ReportLine>,
-        out: &mut K,
-    ) -> Result<(), Stop>
-        requires alive { self.old.world.spent ≡ false }
-        ensures turn { Turns result (obeyed self.old (applied self.old.world.state self.old.number command.now)) self.old.line self.old.pending self.new (K.held out.old) (K.held out.new) }
-        ensures fault { result ≡ Err Stop.WriteFault → Rose (K.faults out.old) (K.faults out.new) }
-        ensures count { self.new.number ≡ self.old.number }
-        ensures later { K.faults out.old ≤ K.faults out.new }
-    {
-        self.apply(command, report)?;
-        self.relieve(out)
-    }
-
-    // A command is applied; what it reports waits.
-    fn apply(&mut self, command: &Command, report: &mut Vec<ReportLine>) -> Result<(), Stop>
-        requires alive { self.old.world.spent ≡ false }
-        ensures adds { Adds result (obeyed self.old (applied self.old.world.state self.old.number command.now)) self.old self.new }
-        ensures count { self.new.number ≡ self.old.number }
-    {
-        advance(&mut self.world, self.number, command, report)?;
-        put_lines(report, &mut self.pending)?;
-        Ok(())
-    }
-
-    // Enough may wait to be written.
-    fn relieve<K: Sink>(&mut self, out: &mut K) -> Result<(), Stop>
-        ensures ok { OnOk result ((self.new ≡ record { world = self.old.world; number = self.old.number; line = self.old.line; pending = self.new.pending }) × Written self.old.pending self.new.pending (K.held out.old) (K.held out.new)) }
-        ensures err { OnErr result ((result ≡ Err Stop.WriteFault) × (self.new ≡ self.old) × AppendsFront self.old.pending (K.held out.old) (K.held out.new)) }
-        ensures fault { OnErr result (Rose (K.faults out.old) (K.faults out.new)) }
-        ensures later { K.faults out.old ≤ K.faults out.new }
-    {
-        if self.pending.len() < MOST_PENDING {
-            return Ok(());
-        }
-        self.flush(out)
     }
 
     // What has come of a line is kept, as far as it matters.
     fn keep(&mut self, part: &[u8]) -> Result<(), Stop>
         requires { parts part.now ≡ part.now ∷ [] }
-        ensures ok { OnOk result (self.new ≡ record { world = self.old.world; number = self.old.number; line = take 4097 (self.old.line ++ part.now); pending = self.old.pending }) }
+        ensures ok { OnOk result (self.new ≡ record { world = self.old.world; number = self.old.number; line = take most_kept (self.old.line ++ part.now); pending = self.old.pending }) }
         ensures err { OnErr result (result ≡ Err Stop.NoMemory) }
         ensures count { self.new.number ≡ self.old.number }
     {
@@ -362,50 +305,36 @@ impl From<AllocError> for Stop {
     }
 }
 
+impl From<WriteFailed> for Stop {
+    ghost use Rattle.std.specs.Prelude.{◌≡◌};
+    ghost use Rattle.zr_netrun.specs.declared.runner.Stop.TheVariants.{WriteFault};
+
+    ghost from_gives = { λ _ e. e ≡ WriteFault };
+
+    fn from(_e: WriteFailed) -> Stop {
+        Stop::WriteFault
+    }
+}
+
+impl From<ScriptError> for Stop {
+    ghost use Rattle.std.specs.Prelude.{◌≡◌};
+    ghost use Rattle.zr_netrun.specs.Kept.{stop_of};
+
+    ghost from_gives = { λ error stop. stop ≡ stop_of error };
+
+    fn from(error: ScriptError) -> Stop {
+        match error {
+            ScriptError::NoMemory => Stop::NoMemory,
+            refusal => Stop::Refused(refusal),
+        }
+    }
+}
+
 // The place of the first line end.
 fn line_end(bytes: &[u8]) -> Option<usize>
     ensures { result ≡ position (λ b. b == 10) bytes.now }
 {
     bytes.iter().position(|b| *b == b'\n')
-}
-
-// What a line asks, if it asks anything.
-fn asked(alloc: Global, line: &[u8]) -> Result<Option<Command>, Stop>
-    ensures { Asks result (command_of line.now) }
-{
-    match read_line(alloc, line) {
-        Ok(command) => Ok(command),
-        Err(e) => Err(stopping(e)),
-    }
-}
-
-// A command is applied to the world; its report lines come in place of those that were there.
-fn advance(
-    world: &mut World,
-    number: u64,
-    command: &Command,
-    report: &mut Vec<ReportLine>,
-) -> Result<(), Stop>
-    requires { world.old.spent ≡ false }
-    ensures { Advances result (applied world.old.state number command.now) world.old world.new report.new.items }
-{
-    report.clear();
-    match world.apply(number, command, report) {
-        Ok(()) => Ok(()),
-        Err(e) => Err(stopping(e)),
-    }
-}
-
-// The steps of a run are counted.
-#[tactic(auto, using(crate::proofs::Stepping::books_fit))]
-fn book(world: &mut World, steps: u32) -> Result<(), Stop>
-    requires { world.old.spent ≡ false }
-    ensures { Begins result steps world.old world.new }
-{
-    match world.book(steps) {
-        Ok(()) => Ok(()),
-        Err(e) => Err(stopping(e)),
-    }
 }
 
 // Whether a run does no further step.
@@ -416,27 +345,68 @@ fn is_quiet(world: &World) -> bool
     world.next().is_none()
 }
 
-// What is to be reported waits behind what waited.
-fn put_lines(lines: &[ReportLine], pending: &mut Vec<u8>) -> Result<(), AllocError>
-    ensures { OnOk result (pending.new.items ≡ pending.old.items ++ flat_map line_text lines.now) }
+// The texts of report lines wait behind what waited. Where memory runs out nothing more waits.
+fn put_lines(
+    report: &[ReportLine],
+    text: &mut Vec<u8>,
+    pending: &mut Vec<u8>,
+) -> Result<(), AllocError>
+    ensures ok { OnOk result (pending.new.items ≡ pending.old.items ++ flat_map line_text report.now) }
+    ensures err { OnErr result (pending.new.items ≡ pending.old.items) }
 {
-    for line in lines {
-        line_text(line, pending)?;
+    let before = pending.len();
+    for line in report {
+        if put_line(line, text, pending).is_err() {
+            pending.truncate(before);
+            return Err(AllocError);
+        }
     }
     Ok(())
 }
 
-fn put_end(done: u32, quiet: bool, pending: &mut Vec<u8>) -> Result<(), AllocError>
-    ensures { OnOk result (pending.new.items ≡ pending.old.items ++ line_text (ReportLine.Ran done quiet)) }
+fn put_line(line: &ReportLine, text: &mut Vec<u8>, pending: &mut Vec<u8>) -> Result<(), AllocError>
+    ensures ok { OnOk result (pending.new.items ≡ pending.old.items ++ line_text line.now) }
+    ensures err { OnErr result (pending.new.items ≡ pending.old.items) }
 {
-    line_text(&ReportLine::Ran { steps: done, quiet }, pending)
+    line_text(line, text)?;
+    pending.extend_from_slice(text)
 }
 
-fn stopping(error: ScriptError) -> Stop
-    ensures { result ≡ stop_of error }
+fn put_end(
+    done: u32,
+    quiet: bool,
+    text: &mut Vec<u8>,
+    pending: &mut Vec<u8>,
+) -> Result<(), AllocError>
+    ensures ok { OnOk result (pending.new.items ≡ pending.old.items ++ line_text (ReportLine.Ran done quiet)) }
+    ensures err { OnErr result (pending.new.items ≡ pending.old.items) }
 {
-    match error {
-        ScriptError::NoMemory => Stop::NoMemory,
-        refusal => Stop::Refused(refusal),
+    put_line(&ReportLine::Ran { steps: done, quiet }, text, pending)
+}
+
+// What waits is written. After a failure nothing waits any more, of which a prefix was written.
+fn write_out<K: Sink>(pending: &mut Vec<u8>, out: &mut K) -> Result<(), WriteFailed>
+    ensures empty { pending.new.items ≡ [] }
+    ensures ok { OnOk result (Appends pending.old.items (K.held out.old) (K.held out.new)) }
+    ensures err { OnErr result (AppendsPrefix pending.old.items (K.held out.old) (K.held out.new)) }
+    ensures fault { OnErr result (Rose (K.faults out.old) (K.faults out.new)) }
+    ensures later { K.faults out.old ≤ K.faults out.new }
+{
+    let written = write_all(out, pending);
+    pending.clear();
+    written
+}
+
+// What waits is written, where it is enough.
+fn write_if_enough<K: Sink>(pending: &mut Vec<u8>, out: &mut K) -> Result<(), WriteFailed>
+    ensures waits { length pending.new.items < most_pending }
+    ensures ok { OnOk result (Written pending.old.items pending.new.items (K.held out.old) (K.held out.new)) }
+    ensures err { OnErr result (AppendsPrefix pending.old.items (K.held out.old) (K.held out.new)) }
+    ensures fault { OnErr result (Rose (K.faults out.old) (K.faults out.new)) }
+    ensures later { K.faults out.old ≤ K.faults out.new }
+{
+    if pending.len() < MOST_PENDING {
+        return Ok(());
     }
+    write_out(pending, out)
 }

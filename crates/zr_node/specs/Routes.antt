@@ -1,7 +1,10 @@
 -- What a router remembers of the keys on which samples came.
-use Rattle.std.specs.Prelude.{◌≡◌, ℕ, List, map, filter, Option, option_map, IfSome}
+use Rattle.std.specs.Prelude.{◌≡◌, ℕ, ◌==◌, not, List, map, filter, Option, None, option_map, IfSome}
 use Rattle.std.specs.BTreeMap.{get_by_text}
 use Rattle.zr_id.specs.declared.link.LinkNo.{LinkNo}
+use Rattle.zr_msg.specs.declared.content.Parts.{Parts}
+use Rattle.zr_msg.specs.declared.msg.Msg.{Msg}
+use Rattle.zr_msg.specs.declared.msg.Msg.TheVariants.{Push}
 use Rattle.zr_table.specs.State.{LinkState}
 use Rattle.zr_table.specs.Table.{subscribes}
 use Rattle.zr_node.specs.declared.routes.Routes.{Routes}
@@ -17,3 +20,7 @@ remembered routes key = option_map (λ numbers. numbers.items) (get_by_text rout
 -- each route that is remembered is that of its key over these links
 abbrev pub AreRoutes : Routes → List LinkState → Type 0
 AreRoutes routes links = (key : List ℕ) → IfSome (remembered routes key) (λ numbers. numbers ≡ route links key)
+
+-- a sample from a link, for each of these links but for that one
+abbrev pub sent_along : List LinkNo → ℕ → Parts → List (LinkNo × Msg)
+sent_along numbers from content = map (λ n. (n, Push None content)) (filter (λ n. not (n.0 == from)) numbers)

@@ -5,5 +5,3 @@
 mod link;
 pub mod node;
 mod routes;
-#[cfg(test)]
-mod tests;

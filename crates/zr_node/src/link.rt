@@ -1,6 +1,7 @@
-//! One link of a router, with what its client has declared.
+//! One link of a router, with who stands at its other end and what they have declared.
 
-ghost use Rattle.std.specs.Prelude.{◌≡◌, OnOk, []};
+ghost use Rattle.std.specs.Prelude.{◌≡◌, OnOk};
+ghost use Rattle.zr_table.specs.State.{new_link};
 ghost use Rattle.zr_table.specs.Table.{subscribes, is_for, declared, undeclared};
 
 use std::alloc::{AllocError, Global};
@@ -8,6 +9,7 @@ use std::marker::Model;
 use zr_id::link::LinkNo;
 use zr_key::key::KeyExpr;
 use zr_match::meets;
+use zr_msg::peer::Peer;
 
 /// What a client subscribes to, under an id of its own.
 #[derive(Debug, Drop)]
@@ -28,6 +30,7 @@ impl Model for Subscriber {
 #[derive(Debug, Drop)]
 pub struct Link {
     number: LinkNo,
+    peer: Peer,
     subs: Vec<Subscriber>,
 }
 
@@ -36,16 +39,17 @@ impl Model for Link {
 
     ghost Value = { LinkState };
 
-    ghost view = { λ l. record { link = l.number; subs = l.subs.items } };
+    ghost view = { λ l. record { link = l.number; peer = l.peer; subs = l.subs.items } };
 }
 
 impl Link {
     /// A link without declarations.
-    pub fn new(alloc: Global, number: LinkNo) -> Link
-        ensures { result ≡ record { link = number; subs = [] } }
+    pub fn new(alloc: Global, number: LinkNo, peer: Peer) -> Link
+        ensures { result ≡ new_link number peer }
     {
         Link {
             number,
+            peer,
             subs: Vec::new(alloc),
         }
     }
@@ -66,7 +70,7 @@ impl Link {
 
     /// The client subscribes to an expression, in place of what it had under the same id.
     pub fn declare(&mut self, id: u32, key: KeyExpr) -> Result<(), AllocError>
-        ensures { OnOk result (self.new ≡ record { link = self.old.link; subs = declared self.old.subs id key }) }
+        ensures { OnOk result (self.new ≡ record { link = self.old.link; peer = self.old.peer; subs = declared self.old.subs id key }) }
     {
         forget(&mut self.subs, id);
         self.subs.push(Subscriber { id, key })?;
@@ -75,7 +79,7 @@ impl Link {
 
     /// The client no longer subscribes to what it had under the id.
     pub fn undeclare(&mut self, id: u32)
-        ensures { self.new ≡ record { link = self.old.link; subs = undeclared self.old.subs id } }
+        ensures { self.new ≡ record { link = self.old.link; peer = self.old.peer; subs = undeclared self.old.subs id } }
     {
         forget(&mut self.subs, id);
     }

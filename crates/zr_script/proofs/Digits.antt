@@ -2,7 +2,7 @@
 use Rattle.std.proofs.Common.{◌≡◌, ℕ, ◌+◌, ◌-◌, ◌*◌, ◌^◌, ◌<◌, ◌≤◌, false, suc, nat_lt, List, [], ◌∷◌, length, drop, get_or, arith, drop-cons}
 use Rattle.std.proofs.lemmas.Bool.Decides.{nat_tests}
 use Rattle.std.specs.List.{fold}
-use Rattle.zr_network.specs.Command.{value_of}
+use Rattle.zr_language.specs.Words.{value_of}
 
 -- further digits never make a number less
 fold_grows : (n : ℕ) (digits : List ℕ) → n ≤ fold (λ n b. n * 10 + (b - 48)) n digits

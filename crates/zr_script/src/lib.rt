@@ -3,7 +3,7 @@
 #![tactic(auto)]
 
 pub mod line;
+mod message;
+mod part;
 pub mod text;
 mod word;
-
-pub use zr_msg::{command, error, report};

@@ -1,22 +1,29 @@
 //! `read_line`: what a line of a script asks, or why it is refused.
 
-ghost use Rattle.std.specs.Prelude.{◌≡◌, map};
-ghost use Rattle.zr_network.specs.Step.{Gives};
-ghost use Rattle.zr_network.specs.Command.{command_of, by_words, by_name, is_command, is_silent, router_of, client_of, sub_of, unsub_of, put_of, del_of, handle_of, take_of, run_of, mark_of};
+ghost use Rattle.std.specs.Prelude.{◌≡◌, ◌≤◌, length, true, map, Ok};
+ghost use Rattle.zr_language.specs.Lines.{most_line};
+ghost use Rattle.zr_language.specs.Step.{IsSaid};
+ghost use Rattle.zr_language.specs.Command.{command_of, by_words, by_name, is_command, is_silent, plain, router_line, client_line, sub_line, unsub_line, put_line, del_line, handle_line, take_line, run_line, mark_line};
+ghost use Rattle.zr_script.specs.Short.{are_short};
 
 use crate::word::{is_clean, key, number, one, payload, three, two, words_of, zid};
 use std::alloc::Global;
-use zr_msg::command::Command;
-use zr_msg::error::ScriptError;
+use zr_body::Body;
+use zr_command::command::{Act, Command};
+use zr_command::error::ScriptError;
+use zr_id::zid::Zid;
+use zr_key::key::KeyExpr;
+use zr_msg::content::Content;
+use zr_msg::extras::Extras;
 
 /// How many bytes a line has at most, without its end.
 pub const MOST_LINE: usize = 4096;
 
 /// The command of a line; none where the line is empty or a comment. A refusal is the first that applies: `Limit` for a line that
 /// is too long, `UnknownCommand`, `BadWords`, `BadKey`.
-#[tactic(auto, unfolding(zr_network::specs::Command::command_of))]
+#[tactic(auto, using(crate::proofs::Words::words_short), unfolding(zr_language::specs::Command::command_of))]
 pub fn read_line(alloc: Global, line: &[u8]) -> Result<Option<Command>, ScriptError>
-    ensures { Gives result (command_of line.now) }
+    ensures { IsSaid result (command_of line.now) }
 {
     if line.len() > MOST_LINE {
         return Err(ScriptError::Limit);
@@ -38,9 +45,10 @@ fn is_silent(line: &[u8]) -> bool
     }
 }
 
-#[tactic(auto, unfolding(zr_network::specs::Command::by_words))]
+#[tactic(auto, unfolding(zr_language::specs::Command::by_words))]
 fn command(alloc: Global, clean: bool, words: &[&[u8]]) -> Result<Command, ScriptError>
-    ensures { Gives result (by_words clean (map (λ w. w.now) words.now)) }
+    requires { are_short (map (λ w. w.now) words.now) ≡ true }
+    ensures { IsSaid result (by_words clean (map (λ w. w.now) words.now)) }
 {
     match words {
         [] => Err(ScriptError::UnknownCommand),
@@ -71,9 +79,10 @@ fn is_command(name: &[u8]) -> bool
         || name == b"mark".as_slice()
 }
 
-#[tactic(auto, unfolding(zr_network::specs::Command::by_name))]
+#[tactic(auto, unfolding(zr_language::specs::Command::by_name))]
 fn by_name(alloc: Global, name: &[u8], args: &[&[u8]]) -> Result<Command, ScriptError>
-    ensures { Gives result (by_name name.now (map (λ w. w.now) args.now)) }
+    requires { are_short (map (λ w. w.now) args.now) ≡ true }
+    ensures { IsSaid result (by_name name.now (map (λ w. w.now) args.now)) }
 {
     if name == b"router".as_slice() {
         router(args)
@@ -93,109 +102,124 @@ fn by_name(alloc: Global, name: &[u8], args: &[&[u8]]) -> Result<Command, Script
         take(args)
     } else if name == b"run".as_slice() {
         run(args)
-    } else {
+    } else if name == b"mark".as_slice() {
         mark(args)
+    } else {
+        Err(ScriptError::UnknownCommand)
     }
 }
 
-#[tactic(auto, unfolding(zr_network::specs::Command::router_of))]
+#[tactic(auto, unfolding(zr_language::specs::Command::router_line))]
 fn router(args: &[&[u8]]) -> Result<Command, ScriptError>
-    ensures { Gives result (router_of (map (λ w. w.now) args.now)) }
+    ensures { IsSaid result (router_line (map (λ w. w.now) args.now)) }
 {
     let id = zid(one(args)?)?;
-    Ok(Command::Router { id })
+    let act = Act::Router { id };
+    Ok(Command::Act { act })
 }
 
-#[tactic(auto, unfolding(zr_network::specs::Command::client_of))]
+#[tactic(auto, unfolding(zr_language::specs::Command::client_line))]
 fn client(args: &[&[u8]]) -> Result<Command, ScriptError>
-    ensures { Gives result (client_of (map (λ w. w.now) args.now)) }
+    ensures { IsSaid result (client_line (map (λ w. w.now) args.now)) }
 {
     let (id, router) = two(args)?;
     let id = zid(id)?;
     let router = zid(router)?;
-    Ok(Command::Client { id, router })
+    let act = Act::Client { id, router };
+    Ok(Command::Act { act })
 }
 
-#[tactic(auto, unfolding(zr_network::specs::Command::sub_of))]
+#[tactic(auto, unfolding(zr_language::specs::Command::sub_line))]
 fn sub(alloc: Global, args: &[&[u8]]) -> Result<Command, ScriptError>
-    ensures { Gives result (sub_of (map (λ w. w.now) args.now)) }
+    ensures { IsSaid result (sub_line (map (λ w. w.now) args.now)) }
 {
     let (client, id, text) = three(args)?;
     let client = zid(client)?;
     let id = number(id)?;
     let key = key(alloc, text)?;
-    Ok(Command::Sub { client, id, key })
+    let act = Act::Sub { client, id, key };
+    Ok(Command::Act { act })
 }
 
-#[tactic(auto, unfolding(zr_network::specs::Command::unsub_of))]
+#[tactic(auto, unfolding(zr_language::specs::Command::unsub_line))]
 fn unsub(args: &[&[u8]]) -> Result<Command, ScriptError>
-    ensures { Gives result (unsub_of (map (λ w. w.now) args.now)) }
+    ensures { IsSaid result (unsub_line (map (λ w. w.now) args.now)) }
 {
     let (client, id) = two(args)?;
     let client = zid(client)?;
     let id = number(id)?;
-    Ok(Command::Unsub { client, id })
+    let act = Act::Unsub { client, id };
+    Ok(Command::Act { act })
 }
 
-#[tactic(auto, unfolding(zr_network::specs::Command::put_of))]
+#[tactic(auto, unfolding(zr_language::specs::Command::put_line))]
 fn put(alloc: Global, args: &[&[u8]]) -> Result<Command, ScriptError>
-    ensures { Gives result (put_of (map (λ w. w.now) args.now)) }
+    requires { are_short (map (λ w. w.now) args.now) ≡ true }
+    ensures { IsSaid result (put_line (map (λ w. w.now) args.now)) }
 {
     let (client, text, word) = three(args)?;
     let client = zid(client)?;
     let key = key(alloc, text)?;
-    let payload = payload(alloc, word)?;
-    Ok(Command::Put {
-        client,
-        key,
-        payload,
-    })
+    let body = Body::put(alloc, payload(word))?;
+    publish(alloc, client, key, body)
 }
 
-#[tactic(auto, unfolding(zr_network::specs::Command::del_of))]
+#[tactic(auto, unfolding(zr_language::specs::Command::del_line))]
 fn del(alloc: Global, args: &[&[u8]]) -> Result<Command, ScriptError>
-    ensures { Gives result (del_of (map (λ w. w.now) args.now)) }
+    ensures { IsSaid result (del_line (map (λ w. w.now) args.now)) }
 {
     let (client, text) = two(args)?;
     let client = zid(client)?;
     let key = key(alloc, text)?;
-    Ok(Command::Del { client, key })
+    let body = Body::del(alloc)?;
+    publish(alloc, client, key, body)
 }
 
-#[tactic(auto, unfolding(zr_network::specs::Command::handle_of))]
+// The sample is made here as it goes through the network: neither its key nor its body is copied from here on.
+fn publish(alloc: Global, client: Zid, key: KeyExpr, body: Body) -> Result<Command, ScriptError>
+    ensures { IsSaid result (Ok (Command.Act (Act.Publish client (plain key body)))) }
+{
+    let content = Content::new(alloc, key, Extras::none(), body)?;
+    let act = Act::Publish { client, content };
+    Ok(Command::Act { act })
+}
+
+#[tactic(auto, unfolding(zr_language::specs::Command::handle_line))]
 fn handle(args: &[&[u8]]) -> Result<Command, ScriptError>
-    ensures { Gives result (handle_of (map (λ w. w.now) args.now)) }
+    ensures { IsSaid result (handle_line (map (λ w. w.now) args.now)) }
 {
     let (router, from) = two(args)?;
     let router = zid(router)?;
     let from = zid(from)?;
-    Ok(Command::Handle { router, from })
+    let act = Act::Handle { router, from };
+    Ok(Command::Act { act })
 }
 
-#[tactic(auto, unfolding(zr_network::specs::Command::take_of))]
+#[tactic(auto, unfolding(zr_language::specs::Command::take_line))]
 fn take(args: &[&[u8]]) -> Result<Command, ScriptError>
-    ensures { Gives result (take_of (map (λ w. w.now) args.now)) }
+    ensures { IsSaid result (take_line (map (λ w. w.now) args.now)) }
 {
     let (router, to) = two(args)?;
     let router = zid(router)?;
     let to = zid(to)?;
-    Ok(Command::Take { router, to })
+    let act = Act::Take { router, to };
+    Ok(Command::Act { act })
 }
 
-#[tactic(auto, unfolding(zr_network::specs::Command::run_of))]
+#[tactic(auto, unfolding(zr_language::specs::Command::run_line))]
 fn run(args: &[&[u8]]) -> Result<Command, ScriptError>
-    ensures { Gives result (run_of (map (λ w. w.now) args.now)) }
+    ensures { IsSaid result (run_line (map (λ w. w.now) args.now)) }
 {
     let steps = number(one(args)?)?;
     Ok(Command::Run { steps })
 }
 
-#[tactic(auto, unfolding(zr_network::specs::Command::mark_of))]
+#[tactic(auto, unfolding(zr_language::specs::Command::mark_line))]
 fn mark(args: &[&[u8]]) -> Result<Command, ScriptError>
-    ensures { Gives result (mark_of (map (λ w. w.now) args.now)) }
+    ensures { IsSaid result (mark_line (map (λ w. w.now) args.now)) }
 {
     match args {
-        [] => Ok(Command::Mark),
+        [] => Ok(Command::Act { act: Act::Mark }),
         _ => Err(ScriptError::BadWords),
     }
 }

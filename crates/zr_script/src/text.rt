@@ -1,23 +1,48 @@
-//! The texts that a run writes: report lines, the line that tells a refusal, and what is said of a script that is too long.
+//! The texts that a run writes: report lines, and the line that tells a refusal.
 
-ghost use Rattle.std.specs.Prelude.{◌≡◌, ◌++◌, codes, OnOk};
+ghost use Rattle.std.specs.Prelude.{◌≡◌, ◌++◌, [], codes, OnOk, OnErr};
 ghost use Rattle.std.specs.Fmt.{decimal};
-ghost use Rattle.zr_network.specs.Report.{line_end, line_text, msg_text, rest_text, payload_text, id_text, refusal_text, refused_text};
-ghost use Rattle.zr_msg.specs.declared.msg.Msg.TheVariants.{Push};
+ghost use Rattle.zr_language.specs.Report.{line_end, line_text, msg_text, rest_text, id_text, refusal_text, refused_text};
 
-use itoa::Buffer;
+use crate::message::put_msg;
+use crate::part::{put_id, put_number};
 use std::alloc::AllocError;
-use zr_id::zid::{MOST_BYTES, Zid};
-use zr_key::key::KeyExpr;
-use zr_msg::error::ScriptError;
-use zr_msg::msg::{Body, Msg, Payload};
-use zr_msg::report::ReportLine;
+use zr_command::error::ScriptError;
+use zr_command::report::ReportLine;
+use zr_id::zid::Zid;
+use zr_msg::msg::Msg;
 
-/// How many digits the text of an identifier has at most.
-const MOST_DIGITS: usize = 2 * MOST_BYTES;
+/// Writes the text of a report line, its end included, in the place of what was there. Where memory runs out nothing is there.
+pub fn line_text(line: &ReportLine, text: &mut Vec<u8>) -> Result<(), AllocError>
+    ensures ok { OnOk result (text.new.items ≡ line_text line.now) }
+    ensures err { OnErr result (text.new.items ≡ []) }
+{
+    text.clear();
+    match put_line(line, text) {
+        Ok(()) => Ok(()),
+        Err(_) => {
+            text.clear();
+            Err(AllocError)
+        }
+    }
+}
 
-/// Appends the text of a report line, its end included.
-pub fn line_text(line: &ReportLine, out: &mut Vec<u8>) -> Result<(), AllocError>
+/// Writes `line N: NUMBER NAME`, its end included, in the place of what was there. Where memory runs out nothing is there.
+pub fn refused_text(number: u64, error: ScriptError, text: &mut Vec<u8>) -> Result<(), AllocError>
+    ensures ok { OnOk result (text.new.items ≡ refused_text number error) }
+    ensures err { OnErr result (text.new.items ≡ []) }
+{
+    text.clear();
+    match put_refused(number, error, text) {
+        Ok(()) => Ok(()),
+        Err(_) => {
+            text.clear();
+            Err(AllocError)
+        }
+    }
+}
+
+fn put_line(line: &ReportLine, out: &mut Vec<u8>) -> Result<(), AllocError>
     ensures { OnOk result (out.new.items ≡ out.old.items ++ line_text line.now) }
 {
     match line {
@@ -36,17 +61,6 @@ pub fn line_text(line: &ReportLine, out: &mut Vec<u8>) -> Result<(), AllocError>
         ReportLine::Ran { steps, quiet } => put_ran(*steps, *quiet, out),
         ReportLine::Mark { line } => put_mark(*line, out),
     }
-}
-
-/// Appends `line N: NUMBER NAME`, its end included.
-pub fn refused_text(number: u64, error: ScriptError, out: &mut Vec<u8>) -> Result<(), AllocError>
-    ensures { OnOk result (out.new.items ≡ out.old.items ++ refused_text number error) }
-{
-    out.extend_from_slice(b"line ")?;
-    put_number(number, out)?;
-    out.extend_from_slice(b": ")?;
-    out.extend_from_slice(refusal_text(error))?;
-    out.extend_from_slice(b"\n")
 }
 
 fn put_step(
@@ -92,68 +106,14 @@ fn put_mark(line: u64, out: &mut Vec<u8>) -> Result<(), AllocError>
     out.extend_from_slice(b"\n")
 }
 
-fn put_msg(msg: &Msg, out: &mut Vec<u8>) -> Result<(), AllocError>
-    ensures { OnOk result (out.new.items ≡ out.old.items ++ msg_text msg.now) }
+fn put_refused(number: u64, error: ScriptError, out: &mut Vec<u8>) -> Result<(), AllocError>
+    ensures { OnOk result (out.new.items ≡ out.old.items ++ refused_text number error) }
 {
-    match msg {
-        Msg::Sub { id, key } => {
-            out.extend_from_slice(b"sub ")?;
-            put_number(u64::from(*id), out)?;
-            out.extend_from_slice(b" ")?;
-            out.extend_from_slice(key.text().as_bytes())
-        }
-        Msg::Unsub { id } => {
-            out.extend_from_slice(b"unsub ")?;
-            put_number(u64::from(*id), out)
-        }
-        Msg::Push { key, body } => put_sample(key, body, out),
-    }
-}
-
-fn put_sample(key: &KeyExpr, body: &Body, out: &mut Vec<u8>) -> Result<(), AllocError>
-    ensures { OnOk result (out.new.items ≡ out.old.items ++ msg_text (Push key.now body.now)) }
-{
-    match body {
-        Body::Put { payload } => {
-            out.extend_from_slice(b"put - ")?;
-            out.extend_from_slice(key.text().as_bytes())?;
-            out.extend_from_slice(b" ")?;
-            put_payload(payload, out)
-        }
-        Body::Del => {
-            out.extend_from_slice(b"del - ")?;
-            out.extend_from_slice(key.text().as_bytes())
-        }
-    }
-}
-
-fn put_payload(payload: &Payload, out: &mut Vec<u8>) -> Result<(), AllocError>
-    ensures { OnOk result (out.new.items ≡ out.old.items ++ payload_text payload.now) }
-{
-    match payload.bytes() {
-        [] => out.extend_from_slice(b"-"),
-        bytes => out.extend_from_slice(bytes),
-    }
-}
-
-// The digits are put together on the stack: a report line takes no memory but its own.
-fn put_id(id: &Zid, out: &mut Vec<u8>) -> Result<(), AllocError>
-    ensures { OnOk result (out.new.items ≡ out.old.items ++ id_text id.now) }
-{
-    let bytes = id.bytes();
-    let mut digits = [0; MOST_DIGITS];
-    let digits = &mut digits[..2 * bytes.len()];
-    match hex::encode_to_slice(bytes, digits) {
-        Ok(()) => out.extend_from_slice(digits),
-        Err(_) => unreachable!(),
-    }
-}
-
-fn put_number(number: u64, out: &mut Vec<u8>) -> Result<(), AllocError>
-    ensures { OnOk result (out.new.items ≡ out.old.items ++ decimal number) }
-{
-    let mut buffer = Buffer::new();
-    out.extend_from_slice(buffer.format(number).as_bytes())
+    out.extend_from_slice(b"line ")?;
+    put_number(number, out)?;
+    out.extend_from_slice(b": ")?;
+    out.extend_from_slice(refusal_text(error))?;
+    out.extend_from_slice(b"\n")
 }
 
 fn refusal_text(error: ScriptError) -> &'static [u8]

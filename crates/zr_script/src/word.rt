@@ -3,14 +3,13 @@
 ghost use Rattle.std.specs.Prelude.{◌≡◌, ◌==◌, ◌&&◌, ◌+◌, ◌*◌, ◌-◌, ◌^◌, not, nat_lt, Some, None, map, IfOk, if◌then◌else◌};
 ghost use Rattle.std.specs.List.{list_all};
 ghost use Rattle.std.specs.Option.{option_copied};
-ghost use Rattle.zr_network.specs.Step.{Gives, GivesBy};
-ghost use Rattle.zr_network.specs.Command.{words, is_clean, is_space, is_printable, is_digit, is_number, value_of, number_at, zid_at, key_at, payload_of, one_of, two_of, three_of};
+ghost use Rattle.zr_language.specs.Step.{IsSaid, IsSaidBy};
+ghost use Rattle.zr_language.specs.Words.{words, is_clean, is_space, is_printable, is_digit, is_number, value_of, number_at, zid_at, key_at, payload_at, one_of, two_of, three_of};
 
 use std::alloc::{AllocError, Global};
+use zr_command::error::ScriptError;
 use zr_id::zid::Zid;
 use zr_key::key::{KeyError, KeyExpr};
-use zr_msg::error::ScriptError;
-use zr_msg::msg::Payload;
 
 /// The words of a line, parted by one or more spaces.
 pub fn words_of(alloc: Global, line: &[u8]) -> Result<Vec<&[u8]>, AllocError>
@@ -21,7 +20,7 @@ pub fn words_of(alloc: Global, line: &[u8]) -> Result<Vec<&[u8]>, AllocError>
         .collect(alloc)
 }
 
-/// Whether a line has printable bytes alone, and no space in front or at its end.
+/// Whether a line has printable bytes alone, and neither begins nor ends with a space.
 pub fn is_clean(line: &[u8]) -> bool
     ensures { result ≡ is_clean line.now }
 {
@@ -30,7 +29,7 @@ pub fn is_clean(line: &[u8]) -> bool
 
 /// The identifier that a word names.
 pub fn zid(word: &[u8]) -> Result<Zid, ScriptError>
-    ensures { Gives result (zid_at word.now) }
+    ensures { IsSaid result (zid_at word.now) }
 {
     match Zid::from_hex(word) {
         Ok(id) => Ok(id),
@@ -40,7 +39,7 @@ pub fn zid(word: &[u8]) -> Result<Zid, ScriptError>
 
 /// The number that a word spells.
 pub fn number(word: &[u8]) -> Result<u32, ScriptError>
-    ensures { Gives result (number_at word.now) }
+    ensures { IsSaid result (number_at word.now) }
 {
     if !is_number(word) {
         return Err(ScriptError::BadWords);
@@ -53,7 +52,7 @@ pub fn number(word: &[u8]) -> Result<u32, ScriptError>
 
 /// The key expression that a word spells.
 pub fn key(alloc: Global, word: &[u8]) -> Result<KeyExpr, ScriptError>
-    ensures { Gives result (key_at word.now) }
+    ensures { IsSaid result (key_at word.now) }
 {
     match KeyExpr::read(alloc, word) {
         Ok(key) => Ok(key),
@@ -63,18 +62,15 @@ pub fn key(alloc: Global, word: &[u8]) -> Result<KeyExpr, ScriptError>
 }
 
 /// The payload that a word spells.
-pub fn payload(alloc: Global, word: &[u8]) -> Result<Payload, AllocError>
-    ensures { IfOk result (λ p. p ≡ payload_of word.now) }
+pub fn payload(word: &[u8]) -> &[u8]
+    ensures { result.now ≡ payload_at word.now }
 {
-    if word == b"-".as_slice() {
-        return Ok(Payload::new(Vec::new(alloc)));
-    }
-    Ok(Payload::new(Vec::from_slice(alloc, word)?))
+    if word == b"-".as_slice() { &[] } else { word }
 }
 
 /// The one word that there is.
 pub fn one<'a>(words: &[&'a [u8]]) -> Result<&'a [u8], ScriptError>
-    ensures { GivesBy (λ w. w.now) result (one_of (map (λ w. w.now) words.now)) }
+    ensures { IsSaidBy (λ w. w.now) result (one_of (map (λ w. w.now) words.now)) }
 {
     match words {
         [a] => Ok(a),
@@ -84,7 +80,7 @@ pub fn one<'a>(words: &[&'a [u8]]) -> Result<&'a [u8], ScriptError>
 
 /// The two words that there are.
 pub fn two<'a>(words: &[&'a [u8]]) -> Result<(&'a [u8], &'a [u8]), ScriptError>
-    ensures { GivesBy (λ x. (x.0.now, x.1.now)) result (two_of (map (λ w. w.now) words.now)) }
+    ensures { IsSaidBy (λ x. (x.0.now, x.1.now)) result (two_of (map (λ w. w.now) words.now)) }
 {
     match words {
         [a, b] => Ok((a, b)),
@@ -94,7 +90,7 @@ pub fn two<'a>(words: &[&'a [u8]]) -> Result<(&'a [u8], &'a [u8]), ScriptError>
 
 /// The three words that there are.
 pub fn three<'a>(words: &[&'a [u8]]) -> Result<(&'a [u8], &'a [u8], &'a [u8]), ScriptError>
-    ensures { GivesBy (λ x. (x.0.now, x.1.now, x.2.now)) result (three_of (map (λ w. w.now) words.now)) }
+    ensures { IsSaidBy (λ x. (x.0.now, x.1.now, x.2.now)) result (three_of (map (λ w. w.now) words.now)) }
 {
     match words {
         [a, b, c] => Ok((a, b, c)),

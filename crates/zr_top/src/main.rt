@@ -2,11 +2,14 @@
 //! What it promises stands at `run`.
 #![tactic(auto)]
 
+mod edge;
 mod run;
 #[cfg(test)]
 mod tests;
 
+use crate::edge::{collect_words, exit_code, without_name};
 use crate::run::run;
+use std::alloc::AllocError;
 use std::process::ExitCode;
 use std::{env, io};
 use zr_netrun::status::Status;
@@ -14,26 +17,20 @@ use zr_outside::std_streams::{ReadSource, WriteSink};
 
 fn main(rt: HostRuntime) -> ExitCode {
     let alloc = rt.alloc();
-    let words = match words(&rt) {
-        Ok(words) => words,
-        Err(e) if e.kind() == io::ErrorKind::OutOfMemory => return ExitCode::from(
-            Status::NoMemory.number(),
-        ),
-        // a word that is not UTF-8 is none that the program takes, and so is no word
-        Err(_) => Vec::new(alloc),
+    let Ok(words) = words(&rt) else {
+        return exit_code(Status::NoMemory);
     };
     let mut input = ReadSource::new(rt.stdin());
     let mut out = WriteSink::new(rt.stdout());
     let mut err = WriteSink::new(rt.stderr());
-    let status = run(alloc, words.as_slice(), &mut input, &mut out, &mut err);
-    ExitCode::from(status.number())
+    exit_code(run(alloc, without_name(&words), &mut input, &mut out, &mut err))
 }
 
-// The words without the program's name.
-fn words(rt: &HostRuntime) -> io::Result<Vec<String>> {
-    let mut words = Vec::new(rt.alloc());
-    for word in env::args(rt)?.skip(1) {
-        words.push(word)?;
+// The program's words, its name the first of them. One that is not UTF-8 is none that the program takes: then there are none.
+fn words(rt: &HostRuntime) -> Result<Vec<String>, AllocError> {
+    match env::args(rt) {
+        Ok(words) => collect_words(rt.alloc(), words),
+        Err(e) if e.kind() == io::ErrorKind::OutOfMemory => Err(AllocError),
+        Err(_) => Ok(Vec::new(rt.alloc())),
     }
-    Ok(words)
 }

@@ -3,17 +3,16 @@
 ghost use Rattle.std.specs.Prelude.{◌≡◌, ◌≤◌, ◌⊎◌, ◌↔◌, true, false, map, IsTrue};
 ghost use Rattle.std.specs.String.{string_bytes};
 ghost use Rattle.zr_outside.specs.Counts.{Rose};
-ghost use Rattle.zr_network.specs.Lines.{lines};
-ghost use Rattle.zr_network.specs.Accepted.{IsRefined};
+ghost use Rattle.zr_guarantee.specs.Scripts.{IsRefined};
 ghost use Rattle.zr_laws.specs.Keys.{AskingIsMeeting};
 ghost use Rattle.zr_laws.specs.Runs.{RestIsQuiet};
-ghost use Rattle.zr_netrun.specs.Clauses.{OfRead, Reports, IsReadToEnd};
-ghost use Rattle.zr_top.specs.Means.{HaveKeyTexts};
+ghost use Rattle.zr_netrun.specs.Clauses.{OfRead, OfLines, IsReported, IsReadToEnd};
+ghost use Rattle.zr_top.specs.Means.{HaveKeyTexts, LeadToTheirReport};
 ghost use Rattle.zr_top.specs.Words.{is_net, TellsUsage};
 
 use std::alloc::Global;
 use zr_laws::keys::{asking_is_meeting, keys_are_texts};
-use zr_laws::refines::lines_refine;
+use zr_laws::refines::{lines_are_moments, lines_refine};
 use zr_laws::runs::rest_is_quiet;
 use zr_netrun::netrun::run_script;
 use zr_netrun::status::Status;
@@ -28,9 +27,10 @@ const USAGE: &str =
 ///
 /// `words` are without the program's name. With other words the status is `Words`, and `err` has the usage line.
 ///
-/// The clause `headline` says what clients were sent. Beside it stand what its words mean: the keys of a script are texts of expressions
-/// (`keys`), the one broker sends to a subscription exactly where some key is matched by both expressions (`meeting`), and nothing is under
-/// way exactly where no step is possible, which a run tells by `quiet` (`rest`).
+/// The clause `headline` says what clients were sent, and `told` that the report, of which `report` speaks, tells just this: the accepted
+/// acts of the lines that were read lead to the moment that the report tells. Beside them stands what the headline's words mean: the keys
+/// of a script are texts of expressions (`keys`), the one broker sends to a subscription exactly where some key is matched by both
+/// expressions (`meeting`), and nothing is under way exactly where no step is possible, which a run tells by `quiet` (`rest`).
 pub fn run<S: Source, K: Sink, E: Sink>(
     alloc: Global,
     words: &[String],
@@ -38,9 +38,10 @@ pub fn run<S: Source, K: Sink, E: Sink>(
     out: &mut K,
     err: &mut E,
 ) -> Status
-    ensures report { is_net (map string_bytes words.now) ≡ true → OfRead (S.left input.old) (S.left input.new) (Reports result (K.held out.old) (K.held out.new) (E.held err.old) (E.held err.new)) }
-    ensures headline { is_net (map string_bytes words.now) ≡ true → OfRead (S.left input.old) (S.left input.new) (λ read. IsRefined (lines read)) }
-    ensures keys { is_net (map string_bytes words.now) ≡ true → OfRead (S.left input.old) (S.left input.new) (λ read. HaveKeyTexts (lines read)) }
+    ensures report { is_net (map string_bytes words.now) ≡ true → OfRead (S.left input.old) (S.left input.new) (IsReported (IsReadToEnd (S.ends input.old) (S.ends input.new) (S.quiets input.old) (S.quiets input.new)) result (K.held out.old) (K.held out.new) (E.held err.old) (E.held err.new)) }
+    ensures headline { is_net (map string_bytes words.now) ≡ true → OfLines (S.left input.old) (S.left input.new) IsRefined }
+    ensures told { is_net (map string_bytes words.now) ≡ true → OfLines (S.left input.old) (S.left input.new) LeadToTheirReport }
+    ensures keys { is_net (map string_bytes words.now) ≡ true → OfLines (S.left input.old) (S.left input.new) HaveKeyTexts }
     ensures meeting { AskingIsMeeting }
     ensures rest { RestIsQuiet }
     ensures whole { result ≡ Status.Done → IsReadToEnd (S.ends input.old) (S.ends input.new) (S.quiets input.old) (S.quiets input.new) }
@@ -58,6 +59,7 @@ pub fn run<S: Source, K: Sink, E: Sink>(
         return usage(err);
     }
     lines_refine();
+    lines_are_moments();
     keys_are_texts();
     run_script(alloc, input, out, err)
 }

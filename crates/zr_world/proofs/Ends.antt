@@ -15,8 +15,9 @@ use Rattle.std.proofs.lemmas.Map.{keys-set_value}
 use Rattle.std.proofs.lemmas.Map.Keys.{IsDistinct-from_sorted, IsDistinct-head, IsDistinct-tail}
 use Rattle.std.proofs.lemmas.Map.Lookups.{exact_bytes, exact_pairs}
 use Rattle.zr_network.proofs.Names.{names, same_name, value_after, value_new}
-use Rattle.zr_network.specs.World.{ClientState, Clients, is_named, client_of, with_client, is_empty, new_client}
-use Rattle.zr_network.specs.Acts.{End, end_cmp, lesser, ends_where, first_where, has_sent, has_queued}
+use Rattle.zr_id.specs.Zid.{is_named}
+use Rattle.zr_network.specs.World.{ClientState, Clients, client_of, with_client, is_empty, new_client}
+use Rattle.zr_network.specs.Next.{End, end_cmp, lesser, ends_where, first_where, has_sent, has_queued}
 use Rattle.zr_world.specs.Ends.{waits, has_end, HasJust, IsIndexed}
 
 -- ---- names and ends

@@ -1,15 +1,16 @@
 -- The steps of a `handle` and of a `take`, by the message that is taken from the client's wire or queue.
 use Rattle.std.proofs.Common.{◌≡◌, ℕ, Bool, true, false, List, Option, Some, None, Result, Ok, Err, is_some, refl, ap, sym, ◌∙◌}
 use Rattle.std.proofs.lemmas.Bool.{false≢true, true≢false}
-use Rattle.zr_msg.specs.declared.error.ScriptError.{ScriptError}
-use Rattle.zr_msg.specs.declared.msg.Event.TheVariants.{From}
-use Rattle.zr_msg.specs.declared.report.ReportLine.TheVariants.{Handled, Taken}
+use Rattle.zr_command.specs.declared.error.ScriptError.{ScriptError}
+use Rattle.zr_msg.specs.declared.event.Event.TheVariants.{From}
+use Rattle.zr_command.specs.declared.report.ReportLine.TheVariants.{Handled, Taken}
 use Rattle.zr_table.specs.Table.{sends}
-use Rattle.zr_network.specs.Step.{◌>>=◌}
-use Rattle.zr_network.specs.World.{Tagged, Clients, WorldState, Outcome, RouterState, ClientState, handle_step, router_of, client_of, with_router, with_client, with_wire, with_queue, with_tables, take_step, having, all_queued, router_at, end_at, oldest}
-use Rattle.zr_msg.specs.declared.error.ScriptError.TheVariants as e
-use Rattle.zr_msg.specs.declared.report.ReportLine.{ReportLine}
-use Rattle.zr_world.specs.Steps.{Steps, from_wire, from_queue}
+use Rattle.zr_language.specs.Step.{◌>>=◌}
+use Rattle.zr_network.specs.World.{Tagged, Clients, WorldState, RouterState, ClientState, router_of, client_of, with_router, with_client, with_wire, with_queue, with_tables, all_queued}
+use Rattle.zr_network.specs.Acts.{Outcome, router_at, end_at, oldest, having, handle_step, take_step}
+use Rattle.zr_command.specs.declared.error.ScriptError.TheVariants as e
+use Rattle.zr_command.specs.declared.report.ReportLine.{ReportLine}
+use Rattle.zr_world.specs.Steps.{Performs, from_wire, from_queue}
 
 -- what a router does with a message of a client
 abbrev handled_by : WorldState → List ℕ → List ℕ → RouterState → (Tagged × ℕ) × Clients → Outcome
@@ -60,8 +61,8 @@ handle_refused w router from r is_router e er eb ex =
 
 -- a call that takes no message has refused the whole step
 pub handle_steps : (w w' : WorldState) (router from : List ℕ) (r : RouterState) (is_router : Bool) (e : ScriptError) (clients : Clients) → router_of w.routers router ≡ Some r →
-    is_router ≡ is_some (router_of w.routers from) → Steps {A = Tagged × ℕ} {S = Clients} (Err e) (from_wire w.clients from router is_router) w.clients clients →
-    (clients ≡ w.clients → w' ≡ w) → Steps {A = Option ReportLine} {S = WorldState} (Err e) (handle_step w router from) w w'
+    is_router ≡ is_some (router_of w.routers from) → Performs {A = Tagged × ℕ} {S = Clients} (Err e) (from_wire w.clients from router is_router) w.clients clients →
+    (clients ≡ w.clients → w' ≡ w) → Performs {A = Option ReportLine} {S = WorldState} (Err e) (handle_step w router from) w w'
 handle_steps w w' router from r is_router e.NoMemory clients er eb h same = tt
 handle_steps w w' router from r is_router e clients er eb h same = (handle_refused w router from r is_router e er eb h.0, same h.1)
 
@@ -123,7 +124,7 @@ take_refused w router to is_router e er eb ex = by (router_of w.routers router) 
     by None i h = absurd (false≢true h)
 
 pub take_steps : (w w' : WorldState) (router to : List ℕ) (is_router : Bool) (e : ScriptError) (clients : Clients) → is_some (router_of w.routers router) ≡ true →
-    is_router ≡ is_some (router_of w.routers to) → Steps {A = Tagged} {S = Clients} (Err e) (from_queue w.clients to router is_router) w.clients clients →
-    (clients ≡ w.clients → w' ≡ w) → Steps {A = Option ReportLine} {S = WorldState} (Err e) (take_step w router to) w w'
+    is_router ≡ is_some (router_of w.routers to) → Performs {A = Tagged} {S = Clients} (Err e) (from_queue w.clients to router is_router) w.clients clients →
+    (clients ≡ w.clients → w' ≡ w) → Performs {A = Option ReportLine} {S = WorldState} (Err e) (take_step w router to) w w'
 take_steps w w' router to is_router e.NoMemory clients er eb h same = tt
 take_steps w w' router to is_router e clients er eb h same = (take_refused w router to is_router e er eb h.0, same h.1)

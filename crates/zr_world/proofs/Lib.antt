@@ -1,4 +1,3 @@
 pub mod Handling
 pub mod Ends
 pub mod Possible
-pub mod Runs

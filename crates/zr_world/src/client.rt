@@ -1,10 +1,10 @@
-//! One client: its link, the ids that it has declared, and what waits on its wire and in its queue.
+//! One client: its link, the ids under which it has something declared, and what waits on its wire and in its queue.
 
 ghost use Rattle.std.specs.Prelude.{◌≡◌, ◌==◌, ◌∷◌, ◌++◌, [], not, filter, IfNone, IfSome, OnOk};
 ghost use Rattle.std.specs.List.{list_any, list_all};
-ghost use Rattle.zr_network.specs.World.{queued, with_wire, with_queue, is_empty, is_sample, is_settled, new_client};
-ghost use Rattle.zr_network.specs.Acts.{has_sent, has_queued};
-ghost use Rattle.zr_world.specs.Ends.{ids_after, sending};
+ghost use Rattle.zr_network.specs.World.{queued, with_wire, with_queue, is_empty, unsettles, is_calm, is_settled, new_client};
+ghost use Rattle.zr_network.specs.Next.{has_sent, has_queued};
+ghost use Rattle.zr_world.specs.Sending.{ids_after, sending};
 
 use std::alloc::{AllocError, Global};
 use std::collections::VecDeque;
@@ -73,19 +73,19 @@ impl Client {
         self.link
     }
 
-    /// Whether it has declared the id.
+    /// Whether it has declared a subscriber under the id.
     pub fn has(&self, id: u32) -> bool
         ensures { result ≡ list_any (λ i. i == id) self.now.ids }
     {
         self.ids.iter().any(|i| *i == id)
     }
 
-    /// It sends a message, which waits on its wire, and keeps account of what it has declared.
+    /// It sends a message, which waits on its wire. The ids of its subscribers are those after the message.
     pub fn send(&mut self, msg: Msg, tag: u64) -> Result<(), AllocError>
         ensures sent { OnOk result (self.new ≡ sending self.old msg tag) }
         ensures end { (self.new.router ≡ self.old.router) × (self.new.queue ≡ self.old.queue) }
     {
-        account(&mut self.ids, &msg)?;
+        update_ids(&mut self.ids, &msg)?;
         self.wire.push_back(Tagged { msg, tag })?;
         Ok(())
     }
@@ -129,22 +129,37 @@ impl Client {
         are_waiting(&self.queue)
     }
 
-    /// Whether no declaration is under way on its link.
+    /// Whether nothing under way on its link changes what routers know.
     pub fn is_settled(&self) -> bool
         ensures { result ≡ is_settled self.now }
     {
-        are_samples(&self.wire) && are_samples(&self.queue)
+        are_calm(&self.wire) && are_calm(&self.queue)
     }
 }
 
-// What a message that is sent does to the ids that are declared.
-fn account(ids: &mut Vec<u32>, msg: &Msg) -> Result<(), AllocError>
+// What a message that a client sends does to the ids of its subscribers.
+fn update_ids(ids: &mut Vec<u32>, msg: &Msg) -> Result<(), AllocError>
     ensures { OnOk result (ids.new.items ≡ ids_after ids.old.items msg.now) }
 {
     match msg {
         Msg::Sub { id, .. } => ids.push(*id)?,
         Msg::Unsub { id } => forget(ids, *id),
-        Msg::Push { .. } => {}
+        Msg::Able { .. }
+        | Msg::Unable { .. }
+        | Msg::Interest { .. }
+        | Msg::EndInterest { .. }
+        | Msg::ToldSub { .. }
+        | Msg::ToldAble { .. }
+        | Msg::ToldUnsub { .. }
+        | Msg::ToldUnable { .. }
+        | Msg::ToldEnd { .. }
+        | Msg::Push { .. }
+        | Msg::Request { .. }
+        | Msg::Response { .. }
+        | Msg::Final { .. }
+        | Msg::State { .. }
+        | Msg::Step { .. }
+        | Msg::Snap { .. } => {}
     }
     Ok(())
 }
@@ -161,18 +176,40 @@ fn are_waiting(waiting: &VecDeque<Tagged>) -> bool
     !waiting.is_empty()
 }
 
-fn are_samples(waiting: &VecDeque<Tagged>) -> bool
-    ensures { result ≡ list_all is_sample waiting.now.items }
+fn are_calm(waiting: &VecDeque<Tagged>) -> bool
+    ensures { result ≡ list_all is_calm waiting.now.items }
 {
-    waiting.iter().all(|x| is_sample(x))
+    waiting.iter().all(|x| is_calm(x))
 }
 
-fn is_sample(x: &Tagged) -> bool
-    ensures { result ≡ is_sample x.now }
+fn is_calm(x: &Tagged) -> bool
+    ensures { result ≡ is_calm x.now }
 {
-    match &x.msg {
-        Msg::Sub { .. } => false,
-        Msg::Unsub { .. } => false,
-        Msg::Push { .. } => true,
+    !unsettles(&x.msg)
+}
+
+// Whether a message changes what routers know of links and declarations.
+fn unsettles(msg: &Msg) -> bool
+    ensures { result ≡ unsettles msg.now }
+{
+    match msg {
+        Msg::Sub { .. }
+        | Msg::Unsub { .. }
+        | Msg::Able { .. }
+        | Msg::Unable { .. }
+        | Msg::State { .. }
+        | Msg::Step { .. }
+        | Msg::Snap { .. } => true,
+        Msg::Interest { .. }
+        | Msg::EndInterest { .. }
+        | Msg::ToldSub { .. }
+        | Msg::ToldAble { .. }
+        | Msg::ToldUnsub { .. }
+        | Msg::ToldUnable { .. }
+        | Msg::ToldEnd { .. }
+        | Msg::Push { .. }
+        | Msg::Request { .. }
+        | Msg::Response { .. }
+        | Msg::Final { .. } => false,
     }
 }

@@ -1,12 +1,11 @@
 //! The world of a script as code: routers and clients in ordered maps, a wire and a queue for each client.
-//! What a command does is the step of the definitions; lines, texts and bytes are not known here.
+//! What an act does is the step of the definitions; runs, lines, texts and bytes are not known here.
 #![tactic(auto)]
 
 mod client;
 mod clients;
+mod end_set;
 mod router;
-mod steps;
 mod tables;
-#[cfg(test)]
-mod tests;
+mod waiting;
 pub mod world;

@@ -1,15 +1,18 @@
 //! One router of the world: its tables, and what all declarations of its clients so far weigh.
 
 ghost use Rattle.std.specs.Prelude.{◌≡◌, ◌+◌, ◌≤◌, ◌++◌, nat_le, OnOk};
-ghost use Rattle.zr_msg.specs.declared.msg.Event.TheVariants.{From};
 ghost use Rattle.zr_table.specs.Table.{sends};
-ghost use Rattle.zr_network.specs.World.{new_router, linked, weighing, having, weight_of, most_weight};
+ghost use Rattle.zr_network.specs.World.{new_router, weight_of, most_weight};
+ghost use Rattle.zr_network.specs.Acts.{weighing};
+ghost use Rattle.zr_world.specs.Hearing.{hearing};
 
 use std::alloc::{AllocError, Global};
 use std::marker::Model;
 use zr_id::link::LinkNo;
 use zr_key::key::KeyExpr;
-use zr_msg::msg::{Event, Msg};
+use zr_msg::error::NodeError;
+use zr_msg::event::Event;
+use zr_msg::msg::Msg;
 use zr_node::node::Node;
 
 /// What all declarations of one router's clients weigh together at most.
@@ -44,15 +47,19 @@ impl Router {
         }
     }
 
-    /// A client's link comes up.
-    pub fn link_up(&mut self, alloc: Global, link: u32) -> Result<(), AllocError>
-        ensures { OnOk result (self.new ≡ linked self.old link) }
+    /// The router hears of an event, and appends what it sends.
+    pub fn hear(
+        &mut self,
+        alloc: Global,
+        event: &Event,
+        out: &mut Vec<(LinkNo, Msg)>,
+    ) -> Result<(), AllocError>
+        ensures state { OnOk result (self.new ≡ hearing self.old event.now) }
+        ensures sends { OnOk result (out.new.items ≡ out.old.items ++ sends self.old.node event.now) }
     {
-        let mut out = Vec::new(alloc);
-        let event = Event::Up { link: LinkNo(link) };
-        match self.node.handle(alloc, event, &mut out) {
+        match self.node.handle(alloc, event, out) {
             Ok(()) => Ok(()),
-            Err(_) => Err(AllocError),
+            Err(e) => Err(out_of_memory(e)),
         }
     }
 
@@ -71,25 +78,12 @@ impl Router {
     {
         self.weight += key.text().len() as u64 + DECLARATION_WEIGHT;
     }
+}
 
-    /// The router handles a message from a link, and appends what it sends.
-    pub fn hear(
-        &mut self,
-        alloc: Global,
-        link: u32,
-        msg: Msg,
-        out: &mut Vec<(LinkNo, Msg)>,
-    ) -> Result<(), AllocError>
-        ensures state { OnOk result (self.new ≡ having self.old link msg) }
-        ensures sends { OnOk result (out.new.items ≡ out.old.items ++ sends self.old.node (From (record { 0 = link }) msg)) }
-    {
-        let event = Event::From {
-            link: LinkNo(link),
-            msg,
-        };
-        match self.node.handle(alloc, event, out) {
-            Ok(()) => Ok(()),
-            Err(_) => Err(AllocError),
-        }
+// A router is spent only where it was out of memory before.
+fn out_of_memory(error: NodeError) -> AllocError {
+    match error {
+        NodeError::Spent => AllocError,
+        NodeError::NoMemory => AllocError,
     }
 }

@@ -1,21 +1,26 @@
-//! The world's tables, and the step of each command on them. A refusal is found before anything is changed.
+//! The world's tables, and what each act does to them. A refusal is found before anything is changed.
 
-ghost use Rattle.std.specs.Prelude.{◌≡◌, is_none, OnOk};
+ghost use Rattle.std.specs.Prelude.{◌≡◌, IsSome, OnOk};
 ghost use Rattle.std.specs.List.{slice_get};
-ghost use Rattle.zr_network.specs.World.{router_of, weighed, all_queued, queued_for};
-ghost use Rattle.zr_world.specs.Steps.{Steps, Changes, Counts};
+ghost use Rattle.zr_network.specs.World.{router_of, all_queued, queued_for};
+ghost use Rattle.zr_network.specs.Acts.{linked, weighed};
+ghost use Rattle.zr_world.specs.Steps.{Performs, Changes, Counts};
+ghost use Rattle.zr_world.specs.Hearing.{message_of};
 
 use crate::clients::Clients;
 use crate::router::Router;
 use std::alloc::{AllocError, Global};
 use std::collections::BTreeMap;
+use zr_command::command::Act;
+use zr_command::error::ScriptError;
+use zr_command::report::ReportLine;
 use zr_id::link::LinkNo;
 use zr_id::zid::Zid;
 use zr_key::key::KeyExpr;
-use zr_msg::command::Command;
-use zr_msg::error::ScriptError;
-use zr_msg::msg::{Body, Msg};
-use zr_msg::report::ReportLine;
+use zr_msg::content::Content;
+use zr_msg::event::Event;
+use zr_msg::msg::Msg;
+use zr_msg::peer::{Peer, Role};
 
 /// How many clients a world has at most, all that ever came.
 const MOST_CLIENTS: usize = 1024;
@@ -34,8 +39,9 @@ pub struct Tables {
 }
 
 impl Tables {
-    ghost use Rattle.zr_network.specs.World.{router_step, client_step, sub_step, unsub_step, push_step, handle_step, take_step, book_step, mark_step, is_taken, empty_world};
-    ghost use Rattle.zr_network.specs.Acts.{next};
+    ghost use Rattle.zr_network.specs.World.{is_taken, empty_world};
+    ghost use Rattle.zr_network.specs.Acts.{router_step, client_step, sub_step, unsub_step, publish_step, handle_step, take_step, mark_step, outcome};
+    ghost use Rattle.zr_network.specs.Next.{next, book_step};
     ghost use Rattle.zr_world.specs.State.{state_of};
 
     /// Tables in which nothing has come yet.
@@ -51,10 +57,51 @@ impl Tables {
         }
     }
 
-    /// A router without links.
-    #[tactic(auto, unfolding(zr_network::specs::World::router_step))]
-    pub fn router(&mut self, id: Zid) -> Result<Option<ReportLine>, ScriptError>
-        ensures { Steps result (router_step (state_of self.old) id) (state_of self.old) (state_of self.new) }
+    /// Does an act of a line. Answers what is reported of it, if anything is.
+    #[tactic(auto, unfolding(zr_network::specs::Acts::outcome))]
+    pub fn act(&mut self, line: u64, act: Act) -> Result<Option<ReportLine>, ScriptError>
+        ensures { Performs result (outcome (state_of self.old) line act) (state_of self.old) (state_of self.new) }
+    {
+        match act {
+            Act::Router { id } => self.router(id),
+            Act::Client { id, router } => self.client(id, router),
+            Act::Sub { client, id, key } => self.sub(line, client, id, key),
+            Act::Unsub { client, id } => self.unsub(line, client, id),
+            Act::Publish { client, content } => self.publish(line, client, content),
+            Act::Handle { router, from } => self.handle(router, from),
+            Act::Take { router, to } => self.take(router, to),
+            Act::Mark => self.mark(line),
+        }
+    }
+
+    /// The step that a run does next. None where no step is possible.
+    pub fn next(&self) -> Option<Act>
+        ensures { result ≡ next (state_of self.now) }
+    {
+        if let Some((router, from)) = self.clients.first_to_handle() {
+            return Some(Act::Handle { router, from });
+        }
+        let (router, to) = self.clients.first_to_take()?;
+        Some(Act::Take { router, to })
+    }
+
+    /// Counts the steps that a run asks for, where there is room for them.
+    #[tactic(auto, unfolding(zr_network::specs::Next::book_step))]
+    pub fn book(&mut self, steps: u32) -> Result<(), ScriptError>
+        ensures { Counts result (book_step (state_of self.old) steps) (state_of self.old) (state_of self.new) }
+    {
+        let sum = self.booked.saturating_add(u64::from(steps));
+        if sum > MOST_STEPS {
+            return Err(ScriptError::Limit);
+        }
+        self.booked = sum;
+        Ok(())
+    }
+
+    // A router without links.
+    #[tactic(auto, unfolding(zr_network::specs::Acts::router_step))]
+    fn router(&mut self, id: Zid) -> Result<Option<ReportLine>, ScriptError>
+        ensures { Performs result (router_step (state_of self.old) id) (state_of self.old) (state_of self.new) }
     {
         if self.is_taken(&id) {
             return Err(ScriptError::NameTaken);
@@ -66,10 +113,10 @@ impl Tables {
         Ok(None)
     }
 
-    /// A client whose link is up at once.
-    #[tactic(auto, using(std::proofs::lemmas::Map::Steps::set_value_same), unfolding(zr_network::specs::World::client_step))]
-    pub fn client(&mut self, id: Zid, router: Zid) -> Result<Option<ReportLine>, ScriptError>
-        ensures { Steps result (client_step (state_of self.old) id router) (state_of self.old) (state_of self.new) }
+    // A client whose link is up at once.
+    #[tactic(auto, using(std::proofs::lemmas::Map::Steps::set_value_same), unfolding(zr_network::specs::Acts::client_step))]
+    fn client(&mut self, id: Zid, router: Zid) -> Result<Option<ReportLine>, ScriptError>
+        ensures { Performs result (client_step (state_of self.old) id router) (state_of self.old) (state_of self.new) }
     {
         let taken = self.is_taken(&id);
         let count = self.names.len();
@@ -83,22 +130,22 @@ impl Tables {
             return Err(ScriptError::Limit);
         }
         let link = count as u32;
-        r.link_up(self.alloc, link)?;
+        link_up(r, self.alloc, link, id)?;
         self.clients.add(self.alloc, id, router, link)?;
         self.names.push(id)?;
         Ok(None)
     }
 
-    /// A client declares a subscriber.
-    #[tactic(auto, unfolding(zr_network::specs::World::sub_step))]
-    pub fn sub(
+    // A client declares a subscriber.
+    #[tactic(auto, unfolding(zr_network::specs::Acts::sub_step))]
+    fn sub(
         &mut self,
         line: u64,
         client: Zid,
         id: u32,
-        key: &KeyExpr,
+        key: KeyExpr,
     ) -> Result<Option<ReportLine>, ScriptError>
-        ensures { Steps result (sub_step (state_of self.old) line client id key.now) (state_of self.old) (state_of self.new) }
+        ensures { Performs result (sub_step (state_of self.old) line client id key) (state_of self.old) (state_of self.new) }
     {
         let Some(c) = self.clients.get(&client) else {
             return Err(ScriptError::UnknownName);
@@ -106,21 +153,15 @@ impl Tables {
         if c.has(id) {
             return Err(ScriptError::NameTaken);
         }
-        weigh(&mut self.routers, &c.router(), key)?;
-        let key = key.copy(self.alloc)?;
+        weigh(&mut self.routers, &c.router(), &key)?;
         self.clients.send(&client, Msg::Sub { id, key }, line)?;
         Ok(None)
     }
 
-    /// A client takes back what it declared under an id.
-    #[tactic(auto, unfolding(zr_network::specs::World::unsub_step))]
-    pub fn unsub(
-        &mut self,
-        line: u64,
-        client: Zid,
-        id: u32,
-    ) -> Result<Option<ReportLine>, ScriptError>
-        ensures { Steps result (unsub_step (state_of self.old) line client id) (state_of self.old) (state_of self.new) }
+    // A client takes back the subscriber that it declared under an id.
+    #[tactic(auto, unfolding(zr_network::specs::Acts::unsub_step))]
+    fn unsub(&mut self, line: u64, client: Zid, id: u32) -> Result<Option<ReportLine>, ScriptError>
+        ensures { Performs result (unsub_step (state_of self.old) line client id) (state_of self.old) (state_of self.new) }
     {
         let Some(c) = self.clients.get(&client) else {
             return Err(ScriptError::UnknownName);
@@ -132,51 +173,55 @@ impl Tables {
         Ok(None)
     }
 
-    /// A client publishes a sample.
-    #[tactic(auto, unfolding(zr_network::specs::World::push_step))]
-    pub fn push(
+    // A client publishes a sample. On its link no tree is named.
+    #[tactic(auto, unfolding(zr_network::specs::Acts::publish_step))]
+    fn publish(
         &mut self,
         line: u64,
         client: Zid,
-        key: &KeyExpr,
-        body: Body,
+        content: Content,
     ) -> Result<Option<ReportLine>, ScriptError>
-        ensures { Steps result (push_step (state_of self.old) line client key.now body) (state_of self.old) (state_of self.new) }
+        ensures { Performs result (publish_step (state_of self.old) line client content) (state_of self.old) (state_of self.new) }
     {
         if !self.clients.has(&client) {
             return Err(ScriptError::UnknownName);
         }
-        let key = key.copy(self.alloc)?;
-        self.clients.send(&client, Msg::Push { key, body }, line)?;
+        let tree = None;
+        self.clients
+            .send(&client, Msg::Push { tree, content }, line)?;
         Ok(None)
     }
 
-    /// A router handles the oldest message on the wire from a client.
+    // A router handles the oldest message on the wire from a client.
     #[tactic(auto, using(std::proofs::lemmas::Map::Steps::set_value_same, crate::proofs::Handling::handle_is, crate::proofs::Handling::handle_refused))]
-    pub fn handle(&mut self, router: Zid, from: Zid) -> Result<Option<ReportLine>, ScriptError>
-        ensures { Steps result (handle_step (state_of self.old) router from) (state_of self.old) (state_of self.new) }
+    fn handle(&mut self, router: Zid, from: Zid) -> Result<Option<ReportLine>, ScriptError>
+        ensures { Performs result (handle_step (state_of self.old) router from) (state_of self.old) (state_of self.new) }
     {
         let is_router = self.routers.contains_key(&from);
         let Some(r) = self.routers.get_mut(&router) else {
             return Err(ScriptError::UnknownName);
         };
         let (x, link) = self.clients.next_sent(&from, &router, is_router)?;
-        let msg = x.msg.copy(self.alloc)?;
+        let tag = x.tag;
+        let event = Event::From {
+            link: LinkNo(link),
+            msg: x.msg,
+        };
         let mut out = Vec::new(self.alloc);
-        r.hear(self.alloc, link, msg, &mut out)?;
-        enqueue_all(&mut self.clients, &self.names, out, x.tag)?;
+        r.hear(self.alloc, &event, &mut out)?;
+        enqueue_all(&mut self.clients, &self.names, out, tag)?;
+        let msg = message_of(event);
         Ok(Some(ReportLine::Handled {
             router,
             from,
-            msg: x.msg,
-            tag: x.tag,
+            msg,
+            tag,
         }))
     }
 
-    /// A router's oldest queued message for a client is sent to it.
-
-    pub fn take(&mut self, router: Zid, to: Zid) -> Result<Option<ReportLine>, ScriptError>
-        ensures { Steps result (take_step (state_of self.old) router to) (state_of self.old) (state_of self.new) }
+    // A router's oldest queued message for a client is sent to it.
+    fn take(&mut self, router: Zid, to: Zid) -> Result<Option<ReportLine>, ScriptError>
+        ensures { Performs result (take_step (state_of self.old) router to) (state_of self.old) (state_of self.new) }
     {
         if !self.routers.contains_key(&router) {
             return Err(ScriptError::UnknownName);
@@ -191,10 +236,10 @@ impl Tables {
         }))
     }
 
-    /// A phase begins.
-    #[tactic(auto, unfolding(zr_network::specs::World::mark_step))]
-    pub fn mark(&mut self, line: u64) -> Result<Option<ReportLine>, ScriptError>
-        ensures { Steps result (mark_step (state_of self.old) line) (state_of self.old) (state_of self.new) }
+    // A phase begins.
+    #[tactic(auto, unfolding(zr_network::specs::Acts::mark_step))]
+    fn mark(&mut self, line: u64) -> Result<Option<ReportLine>, ScriptError>
+        ensures { Performs result (mark_step (state_of self.old) line) (state_of self.old) (state_of self.new) }
     {
         if !self.clients.are_settled() {
             return Err(ScriptError::NotSettled);
@@ -202,41 +247,35 @@ impl Tables {
         Ok(Some(ReportLine::Mark { line }))
     }
 
-    /// Counts the steps that a run asks for, where there is room for them.
-    #[tactic(auto, unfolding(zr_network::specs::World::book_step))]
-    pub fn book(&mut self, steps: u32) -> Result<(), ScriptError>
-        ensures { Counts result (book_step (state_of self.old) steps) (state_of self.old) (state_of self.new) }
-    {
-        let sum = self.booked.saturating_add(u64::from(steps));
-        if sum > MOST_STEPS {
-            return Err(ScriptError::Limit);
-        }
-        self.booked = sum;
-        Ok(())
-    }
-
-    /// The step that a run does next. None where no step is possible.
-    pub fn next(&self) -> Option<Command>
-        ensures { result ≡ next (state_of self.now) }
-    {
-        if let Some((router, from)) = self.clients.first_to_handle() {
-            return Some(Command::Handle { router, from });
-        }
-        let (router, to) = self.clients.first_to_take()?;
-        Some(Command::Take { router, to })
-    }
-
-    /// Whether no step is possible.
-    pub fn is_quiet(&self) -> bool
-        ensures { result ≡ is_none (next (state_of self.now)) }
-    {
-        self.clients.first_to_handle().is_none() && self.clients.first_to_take().is_none()
-    }
-
     fn is_taken(&self, name: &Zid) -> bool
         ensures { result ≡ is_taken (state_of self.now) name.now }
     {
         self.routers.contains_key(name) || self.clients.has(name)
+    }
+}
+
+// A client's link comes up at its router.
+fn link_up(router: &mut Router, alloc: Global, link: u32, client: Zid) -> Result<(), AllocError>
+    ensures { OnOk result (router.new ≡ linked router.old link client) }
+{
+    let event = Event::Up {
+        link: LinkNo(link),
+        peer: Peer {
+            id: client,
+            role: Role::Client,
+        },
+    };
+    router.hear(alloc, &event, &mut Vec::new(alloc))
+}
+
+// The message of an event that brings one.
+fn message_of(event: Event) -> Msg
+    requires { IsSome (message_of event) }
+    ensures { message_of event ≡ Some result }
+{
+    match event {
+        Event::From { msg, .. } => msg,
+        Event::Up { .. } | Event::Down { .. } => unreachable!(),
     }
 }
 

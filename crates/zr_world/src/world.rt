@@ -1,17 +1,19 @@
-//! `World`: what a script's commands make, one after another.
+//! `World`: what the acts of a script make, one after another.
 
 ghost use Rattle.std.specs.Prelude.{◌≡◌, true, false, IfSome};
-ghost use Rattle.zr_network.specs.World.{book_step};
-ghost use Rattle.zr_network.specs.Acts.{applied, next};
-ghost use Rattle.zr_world.specs.Steps.{Applies, Books, IsPossible, new_world};
+ghost use Rattle.zr_network.specs.Acts.{outcome};
+ghost use Rattle.zr_network.specs.Next.{next, book_step};
+ghost use Rattle.zr_network.specs.Sound.{IsSound};
+ghost use Rattle.zr_world.specs.Living.{Applies, Books, IsPossible, new_world};
+ghost use Rattle.zr_world.specs.Steps.{AppliesTo};
+ghost use Rattle.zr_world.specs.State.{state_of};
 
-use crate::steps;
 use crate::tables::Tables;
 use std::alloc::Global;
 use std::marker::Model;
-use zr_msg::command::Command;
-use zr_msg::error::ScriptError;
-use zr_msg::report::ReportLine;
+use zr_command::command::Act;
+use zr_command::error::ScriptError;
+use zr_command::report::ReportLine;
 
 /// The routers and clients of a script, with what waits between them.
 #[derive(Debug, Drop)]
@@ -22,8 +24,8 @@ pub struct World {
 
 impl Model for World {
     ghost use Rattle.std.specs.Prelude.{◌≡◌, false};
-    ghost use Rattle.zr_world.specs.Steps.{Living};
-    ghost use Rattle.zr_laws.specs.Runs.{IsSound};
+    ghost use Rattle.zr_network.specs.Sound.{IsSound};
+    ghost use Rattle.zr_world.specs.Living.{Living};
     ghost use Rattle.zr_world.specs.State.{state_of};
 
     ghost Value = { Living };
@@ -46,9 +48,10 @@ impl World {
 
     /// The step that a run does next: the `handle` of the first router and client, by name, at which a message waits to be handled, else
     /// the `take` of the first at which one waits to be taken. None where no step is possible. Of a spent world nothing is said.
-    pub fn next(&self) -> Option<Command>
+    pub fn next(&self) -> Option<Act>
         ensures step { self.now.spent ≡ false → result ≡ next self.now.state }
         ensures possible { self.now.spent ≡ false → IfSome result (λ step. IsPossible self.now.state step) }
+        ensures sound { self.now.spent ≡ false → IsSound self.now.state }
     {
         self.tables.next()
     }
@@ -56,6 +59,7 @@ impl World {
     /// Counts the steps that a run asks for. The refusal `Limit` leaves the world as it was.
     pub fn book(&mut self, steps: u32) -> Result<(), ScriptError>
         ensures books { self.old.spent ≡ false → Books result (book_step self.old.state steps) self.old self.new }
+        ensures sound { self.new.spent ≡ false → IsSound self.new.state }
         ensures spent { self.old.spent ≡ true → (result ≡ Err ScriptError.NoMemory) × (self.new ≡ self.old) }
     {
         if self.spent {
@@ -64,23 +68,24 @@ impl World {
         self.tables.book(steps)
     }
 
-    /// Applies the command of a line, and appends its report lines. A `run` is counted, and then does its steps, each the next one.
+    /// Does an act of a line, and appends what is reported of it.
     ///
     /// A refusal is the first that applies, and leaves the world as it was: `UnknownName`, `NameTaken`, `NotLinked`, `NothingThere`,
-    /// `NotSettled`, `Limit`. After `NoMemory` the world is spent, and answers `NoMemory` from then on.
+    /// `NotSettled`, `Limit`. After `NoMemory`, by which nothing is appended, the world is spent, and answers `NoMemory` from then on.
     pub fn apply(
         &mut self,
         line: u64,
-        command: &Command,
+        act: Act,
         report: &mut Vec<ReportLine>,
     ) -> Result<(), ScriptError>
-        ensures applies { self.old.spent ≡ false → Applies result (applied self.old.state line command.now) self.old self.new report.old.items report.new.items }
+        ensures applies { self.old.spent ≡ false → Applies result (outcome self.old.state line act) self.old self.new report.old.items report.new.items }
+        ensures sound { self.new.spent ≡ false → IsSound self.new.state }
         ensures spent { self.old.spent ≡ true → (result ≡ Err ScriptError.NoMemory) × (self.new ≡ self.old) × (report.new.items ≡ report.old.items) }
     {
         if self.spent {
             return Err(ScriptError::NoMemory);
         }
-        match steps::apply(&mut self.tables, line, command, report) {
+        match act_and_report(&mut self.tables, line, act, report) {
             Ok(()) => Ok(()),
             Err(ScriptError::NoMemory) => {
                 self.spent = true;
@@ -89,4 +94,19 @@ impl World {
             Err(refusal) => Err(refusal),
         }
     }
+}
+
+// An act is done, and what is reported of it comes behind the report's lines.
+fn act_and_report(
+    tables: &mut Tables,
+    line: u64,
+    act: Act,
+    report: &mut Vec<ReportLine>,
+) -> Result<(), ScriptError>
+    ensures { AppliesTo result (outcome (state_of tables.old) line act) (state_of tables.old) (state_of tables.new) report.old.items report.new.items }
+{
+    if let Some(told) = tables.act(line, act)? {
+        report.push(told)?;
+    }
+    Ok(())
 }

@@ -1,12 +1,12 @@
-use Rattle.std.proofs.Common.{◌≡◌, ℕ, ◌-◌, ◌≤◌, List, length, min, Option, refl, sym, ap, ◌∙◌, rules, arith, subst}
+use Rattle.std.proofs.Common.{◌≡◌, ℕ, ◌-◌, ◌≤◌, List, length, min, Option, sym, ap, ◌∙◌, rules, arith, subst}
 use Rattle.std.proofs.lemmas.List.{length-take}
 use Rattle.std.proofs.lemmas.Bool.{false≢true}
-use Rattle.zr_world.specs.Steps.{Living}
-use Rattle.zr_network.specs.Report.{too_long_text}
-use Rattle.zr_outside.specs.Source.{Consumes}
+use Rattle.zr_world.specs.Living.{Living}
+use Rattle.zr_language.specs.Report.{too_long_text}
+use Rattle.zr_outside.specs.Told.{Consumes}
 use Rattle.zr_netrun.specs.Kept.{Tells, Complains}
-use Rattle.zr_netrun.proofs.Reading.{reads_piece, sound_piece}
-use Rattle.zr_netrun.proofs.Telling.{stops_reading, passes_limit, ends_reading, stops_at_end}
+use Rattle.zr_netrun.proofs.Reading.{reads_piece}
+use Rattle.zr_netrun.proofs.Telling.{stops_reading, passes_limit, fails_reading, ends_reading, stops_at_end}
 use Rattle.zr_netrun.proofs.netrun.run_script.Goals as goal
 
 pub returns-in-Err-clause-report : goal.returns-in-Err-clause-report
@@ -15,7 +15,7 @@ returns-in-Err-clause-report g c =
     let cut : c.min-used.result ≡ min c.in-Bytes.count (67108864 - c.reading.total) = search rules in
     let told = subst (λ (z : Option (List ℕ)). Tells c.in-Err.stop c.tell.result c.feed.new.self.number c.feed.new.self.pending (g.K.Sink.held c.feed.new.out) (g.K.Sink.held c.tell.new.out) z (g.E.Sink.held c.tell.new.err))
     c.reading.invariant.err_same c.tell.ensures.tells in
-    stops_reading _ _ _ c.in-Bytes.count c.min-used.result c.reading.total c.read.new.into c.reading.runner c.feed.new.self _ _ _ _ _ _ c.in-Err.stop c.tell.result
+    stops_reading _ _ _ _ c.in-Bytes.count c.min-used.result c.reading.total c.read.new.into c.reading.runner c.feed.new.self _ _ _ _ _ _ c.in-Err.stop c.tell.result
     c.reading.invariant.read c.in-Bytes.ensures.bytes.2 fits c.reading.invariant.most cut c.in-Err.ensures.turn told
 
 pub returns-then-used-count-clause-report : goal.returns-then-used-count-clause-report
@@ -23,7 +23,7 @@ returns-then-used-count-clause-report g c =
     let fits : c.in-Bytes.count ≤ length c.read.new.into = grind (arith, c.in-Bytes.ensures.bytes.1, c.reading.invariant.sized) in
     let cut : c.min-used.result ≡ min c.in-Bytes.count (67108864 - c.reading.total) = search rules in
     let told = subst (λ (z : Option (List ℕ)). Complains c.tell_too_long.result too_long_text z (g.E.Sink.held c.tell_too_long.new.err)) c.reading.invariant.err_same c.tell_too_long.ensures.tells in
-    passes_limit _ _ _ c.in-Bytes.count c.min-used.result c.reading.total c.read.new.into c.reading.runner c.feed.new.self _ _ _ _ _ _ c.tell_too_long.result
+    passes_limit _ _ _ _ c.in-Bytes.count c.min-used.result c.reading.total c.read.new.into c.reading.runner c.feed.new.self _ _ _ _ _ _ c.tell_too_long.result
     c.reading.invariant.read c.in-Bytes.ensures.bytes.2 fits c.reading.invariant.most cut c.if-used-count.true c.in-Ok.ensures.turn c.in-Ok.ensures.flushed told
 
 pub reading-preserved-else-used-count : goal.reading-preserved-else-used-count
@@ -36,7 +36,6 @@ reading-preserved-else-used-count g c =
     record {
       lines = omega (arith, c.in-Ok.ensures.count, c.reading.invariant.lines, length-take c.min-used.result c.read.new.into);
       alive = ap (λ (w : Living). w.spent) c.in-Ok.ensures.turn.world;
-      sound = sound_piece c.min-used.result c.read.new.into _ c.reading.runner c.feed.new.self _ _ c.reading.invariant.sound c.in-Ok.ensures.turn;
       most = omega (arith, cut, c.reading.invariant.most);
       sized = search rules;
       quiet = omega arith;
@@ -54,7 +53,7 @@ reading-preserved-else-used-count g c =
 
 pub returns-in-Ok-finish-clause-report : goal.returns-in-Ok-finish-clause-report
 returns-in-Ok-finish-clause-report g c =
-    ends_reading _ _ _ c.reading.total c.reading.runner c.finish.new.self _ _ _ _ _ _ c.reading.invariant.read refl c.reading.invariant.most
+    ends_reading _ _ _ c.reading.total c.reading.runner c.finish.new.self _ _ _ _ _ _ (c.reading.invariant.ended c.reading-test.false) c.reading.invariant.read c.reading.invariant.most
     c.in-Ok-finish.ensures.turn c.in-Ok-finish.ensures.flushed c.reading.invariant.err_same
 
 pub returns-clause-report : goal.returns-clause-report
@@ -62,4 +61,8 @@ returns-clause-report g c =
     let told = subst (λ (z : Option (List ℕ)). Tells c.in-Err-finish.stop c.tell-in-Err-finish.result c.finish.new.self.number c.finish.new.self.pending (g.K.Sink.held c.finish.new.out) (g.K.Sink.held c.tell-in-Err-finish.new.out) z (g.E.Sink.held c.tell-in-Err-finish.new.err))
     c.reading.invariant.err_same c.tell-in-Err-finish.ensures.tells in
     stops_at_end _ _ _ c.reading.total c.reading.runner c.finish.new.self _ _ _ _ _ _ c.in-Err-finish.stop c.tell-in-Err-finish.result
-    c.reading.invariant.read refl c.reading.invariant.most c.in-Err-finish.ensures.turn told
+    (c.reading.invariant.ended c.reading-test.false) c.reading.invariant.read c.reading.invariant.most c.in-Err-finish.ensures.turn told
+
+pub returns-in-Failed-clause-report : goal.returns-in-Failed-clause-report
+returns-in-Failed-clause-report g c =
+    fails_reading _ _ _ _ c.reading.total c.reading.runner _ _ _ _ c.reading.invariant.read c.in-Failed.ensures.bytes c.reading.invariant.most c.reading.invariant.err_same

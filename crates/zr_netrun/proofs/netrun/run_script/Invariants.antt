@@ -1,6 +1,5 @@
 -- While it is read: what was kept is the run of what was read, all of its report was written, and the counts tell what happened.
 use Rattle.std.proofs.Common.{◌≡◌, ◌+◌, ◌-◌, ◌*◌, ◌^◌, ◌≤◌, true, false, min, length, if◌then◌else◌}
-use Rattle.zr_laws.specs.Runs.{IsSound}
 use Rattle.zr_netrun.specs.Clauses.{OfRead, IsReadToEnd}
 use Rattle.zr_netrun.proofs.Reading.{IsAfter}
 use Rattle.zr_netrun.proofs.netrun.run_script.Given as goal
@@ -9,7 +8,6 @@ abbrev pub invariant-reading : goal.invariant-reading
 invariant-reading g l = record {
   lines : l.runner.number ≤ l.total;
   alive : l.runner.world.spent ≡ false;
-  sound : IsSound l.runner.world.state;
   most : l.total ≤ 67108864;
   sized : length l.piece ≡ 65536;
   quiet : l.quiet ≤ 2 ^ 32;

@@ -3,10 +3,8 @@ use Rattle.std.specs.List.{position}
 use Rattle.std.proofs.lemmas.Result.{err_from_is_err_and}
 use Rattle.std.proofs.Math.Nat.{le_trans}
 use Rattle.zr_text.proofs.Cutting.{none_cut, open_front}
-use Rattle.zr_world.specs.Steps.{Living}
+use Rattle.zr_world.specs.Living.{Living}
 use Rattle.zr_netrun.specs.Kept.{fresh}
-use Rattle.zr_laws.specs.Runs.{IsSound}
-use Rattle.zr_laws.proofs.Sound.{line_keeps}
 use Rattle.zr_netrun.proofs.Lines.{IsOpen}
 use Rattle.zr_netrun.proofs.Feeding.{left_shorter, start_at, cut_rest, place_within, next_at, stops_at, keeps_at}
 use Rattle.zr_netrun.proofs.runner.Runner.feed_lines.Goals as goal
@@ -14,7 +12,6 @@ use Rattle.zr_netrun.proofs.runner.Runner.feed_lines.Goals as goal
 pub loop-place-init : goal.loop-place-init
 loop-place-init g c = record {
   alive = c.requires.alive;
-  sound = c.requires.sound;
   is_open = rw (← c.self.view_is) c.self.invariant.1;
   count = omega arith;
   later = omega arith;
@@ -37,7 +34,6 @@ loop-place-preserved g c =
     let turn = c.in_ok-end_line.ensures.turn in
     record {
       alive = ap (λ (w : Living). w.spent) turn.world;
-      sound = subst (λ (w : Living). IsSound w.state) (sym turn.world) (line_keeps (fresh c.loop-place.self) _ c.loop-place.invariant.sound);
       is_open = subst IsOpen (sym turn.line_is) refl;
       count = le_trans (left_shorter c.end_line.new.self.number c.loop-place.self.number c.in-Some.place _ c.loop-place.rest.now within c.in_ok-end_line.ensures.count)
           c.loop-place.invariant.count;

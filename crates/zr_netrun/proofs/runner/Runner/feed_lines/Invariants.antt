@@ -1,17 +1,15 @@
 -- What is kept is the run's of the lines so far, which the lines that are left lead to the same end as all of them.
 use Rattle.std.proofs.Common.{◌≡◌, ◌+◌, ◌≤◌, false, ◌++◌, length}
 use Rattle.std.specs.List.{fold}
-use Rattle.zr_network.specs.Lines.{ended_lines, open_line}
+use Rattle.zr_language.specs.Lines.{ended_lines, open_line}
 use Rattle.zr_network.specs.Run.{Run, on_line}
 use Rattle.zr_netrun.specs.Kept.{fresh, IsAt}
-use Rattle.zr_laws.specs.Runs.{IsSound}
 use Rattle.zr_netrun.proofs.Lines.{IsOpen}
 use Rattle.zr_netrun.proofs.runner.Runner.feed_lines.Given as goal
 
 abbrev pub invariant-loop-place : goal.invariant-loop-place
 invariant-loop-place g l = record {
   alive : l.self.world.spent ≡ false;
-  sound : IsSound l.self.world.state;
   is_open : IsOpen l.self.line;
   count : l.self.number + length l.rest ≤ l.fn.self.number + length l.fn.piece;
   later : g.K.Sink.faults l.fn.out ≤ g.K.Sink.faults l.out;

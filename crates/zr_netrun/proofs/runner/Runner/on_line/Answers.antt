@@ -1,20 +1,21 @@
-use Rattle.std.proofs.Common.{◌≡◌, Some, None, Ok, rules}
+use Rattle.std.proofs.Common.{◌≡◌, Some, Ok, rules}
 use Rattle.std.proofs.lemmas.Result.{err_from_is_err_and}
-use Rattle.zr_network.specs.Command.{command_of}
-use Rattle.zr_netrun.proofs.Stepping.{silent_turns, asking_stops, line_turns}
+use Rattle.zr_command.specs.declared.command.Command.TheVariants as k
+use Rattle.zr_language.specs.Command.{command_of}
+use Rattle.zr_netrun.proofs.Stepping.{reading_stops, act_line_turns, line_turns}
 use Rattle.zr_netrun.proofs.runner.Runner.on_line.Goals as goal
 
-pub returns-in_err-asked-clause-turn : goal.returns-in_err-asked-clause-turn
-returns-in_err-asked-clause-turn g c =
+pub returns-in_err-read_line-clause-turn : goal.returns-in_err-read_line-clause-turn
+returns-in_err-read_line-clause-turn g c =
     let p = err_from_is_err_and c.from_residual.result c.from_residual.ensures.1 in
-    rw (p.1, p.2) (asking_stops c.args.self.now c.count.new.self c.args.line.now c.args.self.now.line _ _ c.in_err-asked.ensures c.count.ensures)
+    rw (p.1, p.2) (reading_stops c.args.self.now c.count.new.self c.args.line.now c.args.self.now.line _ c.in_err-read_line.field-0.0 c.in_err-read_line.ensures c.count.ensures)
 
-pub returns-in-None-clause-turn : goal.returns-in-None-clause-turn
-returns-in-None-clause-turn g c =
-    let silent : command_of c.args.line.now ≡ Ok None = search rules in
-    silent_turns c.args.self.now c.count.new.self c.args.line.now _ c.requires.alive silent c.count.ensures
+pub returns-in-Some-Act-clause-turn : goal.returns-in-Some-Act-clause-turn
+returns-in-Some-Act-clause-turn g c =
+    let asks : command_of c.args.line.now ≡ Ok (Some (k.Act c.in-Some-Act.act)) = search rules in
+    act_line_turns c.args.self.now c.count.new.self c.apply.new.self c.args.line.now c.in-Some-Act.act _ _ c.apply.result asks c.count.ensures c.apply.ensures.turn
 
-pub returns-in-Some-clause-turn : goal.returns-in-Some-clause-turn
-returns-in-Some-clause-turn g c =
-    let asks : command_of c.args.line.now ≡ Ok (Some c.in-Some.command) = search rules in
-    line_turns c.args.self.now c.count.new.self c.obey.new.self c.args.line.now c.in-Some.command _ _ c.obey.result asks c.count.ensures c.obey.ensures.turn
+pub returns-in-Some-Run-clause-turn : goal.returns-in-Some-Run-clause-turn
+returns-in-Some-Run-clause-turn g c =
+    let asks : command_of c.args.line.now ≡ Ok (Some (k.Run c.in-Some-Run.steps)) = search rules in
+    line_turns c.args.self.now c.count.new.self c.run.new.self c.args.line.now (k.Run c.in-Some-Run.steps) _ _ c.run.result asks c.count.ensures c.run.ensures.turn

@@ -1,4 +1,4 @@
-use Rattle.zr_network.specs.Acts.{has_sent}
+use Rattle.zr_network.specs.Next.{has_sent}
 use Rattle.zr_world.proofs.Ends.{found_is}
 use Rattle.zr_world.proofs.clients.Clients.first_to_handle.Goals as goal
 

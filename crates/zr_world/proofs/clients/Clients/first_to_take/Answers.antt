@@ -1,4 +1,4 @@
-use Rattle.zr_network.specs.Acts.{has_queued}
+use Rattle.zr_network.specs.Next.{has_queued}
 use Rattle.zr_world.proofs.Ends.{found_is}
 use Rattle.zr_world.proofs.clients.Clients.first_to_take.Goals as goal
 

@@ -1,0 +1,75 @@
+-- The words of a line are no longer than the line.
+use Rattle.std.proofs.Common.{◌≡◌, ℕ, ◌≤◌, ◌<◌, ◌^◌, ◌==◌, Bool, true, false, cond, nat_lt, nat_le, List, [], ◌∷◌, length, Result, Ok, Err, refl, ap, subst, arith}
+use Rattle.std.specs.List.{list_all, filter, slice_split, onto_first}
+use Rattle.std.proofs.lemmas.Bool.{and_parts, and_from, leb-true, le-leb}
+use Rattle.zr_command.specs.declared.error.ScriptError.{ScriptError}
+use Rattle.zr_language.specs.Lines.{most_line}
+use Rattle.zr_language.specs.Words.{words, three_of, payload_at, is_word}
+use Rattle.zr_script.specs.Short.{are_short}
+
+abbrev within : ℕ → List (List ℕ) → Bool
+within most ws = list_all (λ w. nat_le (length w) most) ws
+
+within_more : (m n : ℕ) (ws : List (List ℕ)) → m ≤ n → within m ws ≡ true → within n ws ≡ true
+within_more m n [] le h = refl
+within_more m n (w ∷ ws) le h =
+    let parts = and_parts (nat_le (length w) m) (within m ws) h in
+    let short : length w ≤ m = leb-true (length w) m parts.0 in
+    and_from (nat_le (length w) n) (within n ws) (le-leb (length w) n (omega arith)) (within_more m n ws le parts.1)
+
+-- the parts of a list are no longer than the list
+parts_short : (p : ℕ → Bool) (xs : List ℕ) → within (length xs) (slice_split p xs) ≡ true
+parts_short p [] = and_from (nat_le 0 0) true (le-leb 0 0 (omega arith)) refl
+parts_short p (x ∷ xs) = by (p x) (parts_short p xs)
+  where
+    onto : (ps : List (List ℕ)) → within (length xs) ps ≡ true → within (length (x ∷ xs)) (onto_first x ps) ≡ true
+    onto [] h = and_from (nat_le (length (x ∷ [])) (length (x ∷ xs))) true (le-leb (length (x ∷ [])) (length (x ∷ xs)) (omega arith)) refl
+    onto (w ∷ ws) h =
+        let parts = and_parts (nat_le (length w) (length xs)) (within (length xs) ws) h in
+        let short : length w ≤ length xs = leb-true (length w) (length xs) parts.0 in
+        and_from (nat_le (length (x ∷ w)) (length (x ∷ xs))) (within (length (x ∷ xs)) ws) (le-leb (length (x ∷ w)) (length (x ∷ xs)) (omega arith))
+        (within_more (length xs) (length (x ∷ xs)) ws (omega arith) parts.1)
+
+    by : (t : Bool) → within (length xs) (slice_split p xs) ≡ true → within (length (x ∷ xs)) (cond t ([] ∷ slice_split p xs) (onto_first x (slice_split p xs))) ≡ true
+    by true h =
+        and_from (nat_le 0 (length (x ∷ xs))) (within (length (x ∷ xs)) (slice_split p xs)) (le-leb 0 (length (x ∷ xs)) (omega arith))
+        (within_more (length xs) (length (x ∷ xs)) (slice_split p xs) (omega arith) h)
+    by false h = onto (slice_split p xs) h
+
+filter_within : (most : ℕ) (q : List ℕ → Bool) (ws : List (List ℕ)) → within most ws ≡ true → within most (filter q ws) ≡ true
+filter_within most q [] h = refl
+filter_within most q (w ∷ ws) h = by (q w) (filter_within most q ws parts.1)
+  where
+    parts : (nat_le (length w) most ≡ true) × (within most ws ≡ true)
+    parts = and_parts (nat_le (length w) most) (within most ws) h
+
+    by : (t : Bool) → within most (filter q ws) ≡ true → within most (cond t (w ∷ filter q ws) (filter q ws)) ≡ true
+    by true k = and_from (nat_le (length w) most) (within most (filter q ws)) parts.0 k
+    by false k = k
+
+pub words_short : (line : List ℕ) → length line ≤ most_line → are_short (words line) ≡ true
+words_short line le =
+    filter_within most_line (λ word. nat_lt 0 (length word)) (slice_split (λ b. b == 32) line)
+    (within_more (length line) most_line (slice_split (λ b. b == 32) line) le (parts_short (λ b. b == 32) line))
+
+abbrev third_or_none : Result (List ℕ × List ℕ × List ℕ) ScriptError → List ℕ
+third_or_none (Ok w) = w.2
+third_or_none (Err e) = []
+
+-- the payload of the third of three words is short enough for a body
+pub third_short : (args : List (List ℕ)) (a b c : List ℕ) → are_short args ≡ true → three_of args ≡ Ok (a, b, c) → length (payload_at c) < 2 ^ 32
+third_short [] a b c h e = absurd (cc)
+third_short (x ∷ []) a b c h e = absurd (cc)
+third_short (x ∷ y ∷ []) a b c h e = absurd (cc)
+third_short (x ∷ y ∷ z ∷ []) a b c h e =
+    let same : z ≡ c = ap third_or_none e in
+    let first = and_parts (nat_le (length x) most_line) (are_short (y ∷ z ∷ [])) h in
+    let second = and_parts (nat_le (length y) most_line) (are_short (z ∷ [])) first.1 in
+    let third = and_parts (nat_le (length z) most_line) true second.1 in
+    let short : length z ≤ most_line = leb-true (length z) most_line third.0 in
+    subst (λ w. length (payload_at w) < 2 ^ 32) same (by (is_word z (45 ∷ [])) short)
+  where
+    by : (t : Bool) → length z ≤ most_line → length (cond t [] z) < 2 ^ 32
+    by true le = omega arith
+    by false le = omega arith
+third_short (x ∷ y ∷ z ∷ w ∷ more) a b c h e = absurd (cc)

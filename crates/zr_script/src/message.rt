@@ -1,0 +1,254 @@
+//! The text of a message, one form a variant.
+
+ghost use Rattle.std.specs.Prelude.{◌≡◌, ◌++◌, ◌∷◌, codes, OnOk};
+ghost use Rattle.std.specs.Fmt.{decimal};
+ghost use Rattle.std.specs.List.{flat_map};
+ghost use Rattle.zr_body.specs.Payload.{payload_of};
+ghost use Rattle.zr_language.specs.Report.{id_text, tree_text, payload_text, interest_text, kinds_text, target_text, sign_text, links_text, decl_text, msg_text};
+
+use crate::part::{
+    able_text, aggregate_text, kind_text, kinds_text, mode_text, put_id, put_interest, put_key,
+    put_number, put_payload, put_tree, sign_text, target_text,
+};
+use std::alloc::AllocError;
+use zr_id::record::LinkRecord;
+use zr_id::zid::Zid;
+use zr_key::key::KeyExpr;
+use zr_msg::content::Content;
+use zr_msg::decl::Decl;
+use zr_msg::msg::{Kinds, Msg, Target};
+
+/// Appends the text of a message.
+pub fn put_msg(msg: &Msg, out: &mut Vec<u8>) -> Result<(), AllocError>
+    ensures { OnOk result (out.new.items ≡ out.old.items ++ msg_text msg.now) }
+{
+    match msg {
+        Msg::Sub { id, key } => put_declared(b"sub", *id, key, out),
+        Msg::Unsub { id } => put_numbered(b"unsub ", *id, out),
+        Msg::Able { id, key, complete } => put_declared(able_text(*complete), *id, key, out),
+        Msg::Unable { id } => put_numbered(b"unable ", *id, out),
+        Msg::Interest {
+            id,
+            current,
+            future,
+            kinds,
+            key,
+            aggregate,
+        } => {
+            put_asked(*id, mode_text(*current, *future), *kinds, out)?;
+            put_key(key, out)?;
+            out.extend_from_slice(aggregate_text(*aggregate))
+        }
+        Msg::EndInterest { id } => put_numbered(b"uninterest ", *id, out),
+        Msg::ToldSub { id, key, interest } => put_told(b"sub", *id, key, *interest, out),
+        Msg::ToldAble {
+            id,
+            key,
+            complete,
+            interest,
+        } => put_told(able_text(*complete), *id, key, *interest, out),
+        Msg::ToldUnsub { id } => put_numbered(b"told unsub ", *id, out),
+        Msg::ToldUnable { id } => put_numbered(b"told unable ", *id, out),
+        Msg::ToldEnd { interest } => put_numbered(b"told end ", *interest, out),
+        Msg::Push { tree, content } => put_sample(tree, content, out),
+        Msg::Request {
+            tree,
+            id,
+            target,
+            content,
+        } => put_request(tree, *id, *target, content, out),
+        Msg::Response { id, content } => put_reply(*id, content, out),
+        Msg::Final { id, .. } => put_numbered(b"final ", *id, out),
+        Msg::State { links } => put_record(links.get(), out),
+        Msg::Step {
+            source,
+            number,
+            added,
+            decl,
+        } => put_entry(source, *number, *added, decl.get(), out),
+        Msg::Snap {
+            source,
+            number,
+            decls,
+        } => put_snapshot(source, *number, decls.as_slice(), out),
+    }
+}
+
+fn put_numbered(words: &[u8], id: u32, out: &mut Vec<u8>) -> Result<(), AllocError>
+    ensures { OnOk result (out.new.items ≡ out.old.items ++ (words.now ++ decimal id)) }
+{
+    out.extend_from_slice(words)?;
+    put_number(u64::from(id), out)
+}
+
+fn put_declared(word: &[u8], id: u32, key: &KeyExpr, out: &mut Vec<u8>) -> Result<(), AllocError>
+    ensures { OnOk result (out.new.items ≡ out.old.items ++ (word.now ++ codes " " ++ decimal id ++ codes " " ++ key.now)) }
+{
+    out.extend_from_slice(word)?;
+    out.extend_from_slice(b" ")?;
+    put_number(u64::from(id), out)?;
+    out.extend_from_slice(b" ")?;
+    out.extend_from_slice(key.text().as_bytes())
+}
+
+fn put_asked(id: u32, mode: &[u8], kinds: Kinds, out: &mut Vec<u8>) -> Result<(), AllocError>
+    ensures { OnOk result (out.new.items ≡ out.old.items ++ (codes "interest " ++ decimal id ++ codes " " ++ mode.now ++ codes " " ++ kinds_text kinds ++ codes " ")) }
+{
+    out.extend_from_slice(b"interest ")?;
+    put_number(u64::from(id), out)?;
+    out.extend_from_slice(b" ")?;
+    out.extend_from_slice(mode)?;
+    out.extend_from_slice(b" ")?;
+    out.extend_from_slice(kinds_text(kinds))?;
+    out.extend_from_slice(b" ")
+}
+
+fn put_told(
+    word: &[u8],
+    id: u32,
+    key: &KeyExpr,
+    interest: Option<u32>,
+    out: &mut Vec<u8>,
+) -> Result<(), AllocError>
+    ensures { OnOk result (out.new.items ≡ out.old.items ++ (codes "told " ++ word.now ++ codes " " ++ decimal id ++ codes " " ++ key.now ++ codes " " ++ interest_text interest)) }
+{
+    out.extend_from_slice(b"told ")?;
+    put_declared(word, id, key, out)?;
+    out.extend_from_slice(b" ")?;
+    put_interest(interest, out)
+}
+
+fn put_sample(tree: &Option<Zid>, content: &Content, out: &mut Vec<u8>) -> Result<(), AllocError>
+    ensures { OnOk result (out.new.items ≡ out.old.items ++ msg_text (Msg.Push tree.now content.now)) }
+{
+    if content.body().is_del() {
+        out.extend_from_slice(b"del ")?;
+        put_tree(tree, out)?;
+        out.extend_from_slice(b" ")?;
+        out.extend_from_slice(content.key().text().as_bytes())
+    } else {
+        out.extend_from_slice(b"put ")?;
+        put_tree(tree, out)?;
+        out.extend_from_slice(b" ")?;
+        put_content(content, out)
+    }
+}
+
+fn put_content(content: &Content, out: &mut Vec<u8>) -> Result<(), AllocError>
+    ensures { OnOk result (out.new.items ≡ out.old.items ++ (content.now.key ++ codes " " ++ payload_text (payload_of content.now.body))) }
+{
+    out.extend_from_slice(content.key().text().as_bytes())?;
+    out.extend_from_slice(b" ")?;
+    put_payload(content.body().payload(), out)
+}
+
+fn put_request(
+    tree: &Option<Zid>,
+    id: u32,
+    target: Target,
+    content: &Content,
+    out: &mut Vec<u8>,
+) -> Result<(), AllocError>
+    ensures { OnOk result (out.new.items ≡ out.old.items ++ (codes "get " ++ tree_text tree.now ++ codes " " ++ decimal id ++ codes " " ++ content.now.key ++ codes " " ++ target_text target)) }
+{
+    out.extend_from_slice(b"get ")?;
+    put_tree(tree, out)?;
+    out.extend_from_slice(b" ")?;
+    put_number(u64::from(id), out)?;
+    out.extend_from_slice(b" ")?;
+    out.extend_from_slice(content.key().text().as_bytes())?;
+    out.extend_from_slice(b" ")?;
+    out.extend_from_slice(target_text(target))
+}
+
+fn put_reply(id: u32, content: &Content, out: &mut Vec<u8>) -> Result<(), AllocError>
+    ensures { OnOk result (out.new.items ≡ out.old.items ++ (codes "reply " ++ decimal id ++ codes " " ++ content.now.key ++ codes " " ++ payload_text (payload_of content.now.body))) }
+{
+    put_numbered(b"reply ", id, out)?;
+    out.extend_from_slice(b" ")?;
+    put_content(content, out)
+}
+
+fn put_record(state: &LinkRecord, out: &mut Vec<u8>) -> Result<(), AllocError>
+    ensures { OnOk result (out.new.items ≡ out.old.items ++ (codes "record " ++ id_text state.now.id ++ codes " " ++ decimal state.now.seq ++ codes " " ++ links_text state.now.links)) }
+{
+    out.extend_from_slice(b"record ")?;
+    put_id(&state.id(), out)?;
+    out.extend_from_slice(b" ")?;
+    put_number(state.seq(), out)?;
+    out.extend_from_slice(b" ")?;
+    put_links(state.links(), out)
+}
+
+fn put_links(links: &[Zid], out: &mut Vec<u8>) -> Result<(), AllocError>
+    ensures { OnOk result (out.new.items ≡ out.old.items ++ links_text links.now) }
+{
+    match links {
+        [] => out.extend_from_slice(b"-"),
+        [first, others @ ..] => {
+            put_id(first, out)?;
+            put_others(others, out)
+        }
+    }
+}
+
+fn put_others(links: &[Zid], out: &mut Vec<u8>) -> Result<(), AllocError>
+    ensures { OnOk result (out.new.items ≡ out.old.items ++ flat_map (λ id. 44 ∷ id_text id) links.now) }
+{
+    for id in links {
+        out.extend_from_slice(b",")?;
+        put_id(id, out)?;
+    }
+    Ok(())
+}
+
+fn put_entry(
+    source: &Zid,
+    number: u64,
+    added: bool,
+    decl: &Decl,
+    out: &mut Vec<u8>,
+) -> Result<(), AllocError>
+    ensures { OnOk result (out.new.items ≡ out.old.items ++ (codes "entry " ++ id_text source.now ++ codes " " ++ decimal number ++ codes " " ++ sign_text added ++ decl_text decl.now)) }
+{
+    out.extend_from_slice(b"entry ")?;
+    put_id(source, out)?;
+    out.extend_from_slice(b" ")?;
+    put_number(number, out)?;
+    out.extend_from_slice(b" ")?;
+    out.extend_from_slice(sign_text(added))?;
+    put_decl(decl, out)
+}
+
+fn put_snapshot(
+    source: &Zid,
+    number: u64,
+    decls: &[Decl],
+    out: &mut Vec<u8>,
+) -> Result<(), AllocError>
+    ensures { OnOk result (out.new.items ≡ out.old.items ++ (codes "snap " ++ id_text source.now ++ codes " " ++ decimal number ++ flat_map decl_text decls.now)) }
+{
+    out.extend_from_slice(b"snap ")?;
+    put_id(source, out)?;
+    out.extend_from_slice(b" ")?;
+    put_number(number, out)?;
+    put_decls(decls, out)
+}
+
+fn put_decls(decls: &[Decl], out: &mut Vec<u8>) -> Result<(), AllocError>
+    ensures { OnOk result (out.new.items ≡ out.old.items ++ flat_map decl_text decls.now) }
+{
+    for decl in decls {
+        put_decl(decl, out)?;
+    }
+    Ok(())
+}
+
+fn put_decl(decl: &Decl, out: &mut Vec<u8>) -> Result<(), AllocError>
+    ensures { OnOk result (out.new.items ≡ out.old.items ++ decl_text decl.now) }
+{
+    out.extend_from_slice(b" ")?;
+    out.extend_from_slice(kind_text(decl.kind))?;
+    out.extend_from_slice(b" ")?;
+    out.extend_from_slice(decl.key.text().as_bytes())
+}

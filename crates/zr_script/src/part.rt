@@ -1,0 +1,147 @@
+//! The parts of a message's text: identifiers, numbers, and the words that stand for what may be left out.
+
+ghost use Rattle.std.specs.Prelude.{◌≡◌, ◌++◌, codes, OnOk};
+ghost use Rattle.std.specs.Fmt.{decimal};
+ghost use Rattle.zr_language.specs.Report.{id_text, tree_text, payload_text, key_text, interest_text, mode_text, in_subs, in_ables, kinds_text, if_so, able_text, target_text, kind_text, sign_text};
+
+use itoa::Buffer;
+use std::alloc::AllocError;
+use zr_id::zid::{MOST_BYTES, Zid};
+use zr_key::key::KeyExpr;
+use zr_msg::decl::Kind;
+use zr_msg::msg::{Kinds, QUERYABLES, SUBSCRIBERS, Target};
+
+/// How many digits the text of an identifier has at most.
+const MOST_DIGITS: usize = 2 * MOST_BYTES;
+
+// The digits are put together on the stack: a report line takes no memory but its own.
+pub fn put_id(id: &Zid, out: &mut Vec<u8>) -> Result<(), AllocError>
+    ensures { OnOk result (out.new.items ≡ out.old.items ++ id_text id.now) }
+{
+    let bytes = id.bytes();
+    let mut digits = [0; MOST_DIGITS];
+    let digits = &mut digits[..2 * bytes.len()];
+    match hex::encode_to_slice(bytes, digits) {
+        Ok(()) => out.extend_from_slice(digits),
+        Err(_) => unreachable!(),
+    }
+}
+
+pub fn put_number(number: u64, out: &mut Vec<u8>) -> Result<(), AllocError>
+    ensures { OnOk result (out.new.items ≡ out.old.items ++ decimal number) }
+{
+    let mut buffer = Buffer::new();
+    out.extend_from_slice(buffer.format(number).as_bytes())
+}
+
+pub fn put_tree(tree: &Option<Zid>, out: &mut Vec<u8>) -> Result<(), AllocError>
+    ensures { OnOk result (out.new.items ≡ out.old.items ++ tree_text tree.now) }
+{
+    match tree {
+        None => out.extend_from_slice(b"-"),
+        Some(root) => put_id(root, out),
+    }
+}
+
+pub fn put_payload(payload: &[u8], out: &mut Vec<u8>) -> Result<(), AllocError>
+    ensures { OnOk result (out.new.items ≡ out.old.items ++ payload_text payload.now) }
+{
+    match payload {
+        [] => out.extend_from_slice(b"-"),
+        bytes => out.extend_from_slice(bytes),
+    }
+}
+
+pub fn put_key(key: &Option<KeyExpr>, out: &mut Vec<u8>) -> Result<(), AllocError>
+    ensures { OnOk result (out.new.items ≡ out.old.items ++ key_text key.now) }
+{
+    match key {
+        None => out.extend_from_slice(b"-"),
+        Some(key) => out.extend_from_slice(key.text().as_bytes()),
+    }
+}
+
+pub fn put_interest(interest: Option<u32>, out: &mut Vec<u8>) -> Result<(), AllocError>
+    ensures { OnOk result (out.new.items ≡ out.old.items ++ interest_text interest) }
+{
+    match interest {
+        None => out.extend_from_slice(b"-"),
+        Some(id) => put_number(u64::from(id), out),
+    }
+}
+
+pub fn mode_text(current: bool, future: bool) -> &'static [u8]
+    ensures { result.now ≡ mode_text current future }
+{
+    if current {
+        if future { b"both" } else { b"now" }
+    } else if future {
+        b"later"
+    } else {
+        b"-"
+    }
+}
+
+pub fn kinds_text(kinds: Kinds) -> &'static [u8]
+    ensures { result.now ≡ kinds_text kinds }
+{
+    let subs = in_subs(kinds);
+    let ables = in_ables(kinds);
+    if subs {
+        if ables { b"all" } else { b"sub" }
+    } else if ables {
+        b"able"
+    } else {
+        b"-"
+    }
+}
+
+fn in_subs(kinds: Kinds) -> bool
+    ensures { result ≡ in_subs kinds }
+{
+    kinds.0 & SUBSCRIBERS != 0
+}
+
+fn in_ables(kinds: Kinds) -> bool
+    ensures { result ≡ in_ables kinds }
+{
+    kinds.0 & QUERYABLES != 0
+}
+
+pub fn aggregate_text(aggregate: bool) -> &'static [u8]
+    ensures { result.now ≡ if_so aggregate (codes "aggregate") }
+{
+    if aggregate { b" aggregate" } else { b"" }
+}
+
+pub fn able_text(complete: bool) -> &'static [u8]
+    ensures { result.now ≡ able_text complete }
+{
+    if complete { b"full" } else { b"able" }
+}
+
+pub fn target_text(target: Target) -> &'static [u8]
+    ensures { result.now ≡ target_text target }
+{
+    match target {
+        Target::Best => b"best",
+        Target::All => b"all",
+        Target::Complete => b"complete",
+    }
+}
+
+pub fn kind_text(kind: Kind) -> &'static [u8]
+    ensures { result.now ≡ kind_text kind }
+{
+    match kind {
+        Kind::Sub => b"sub",
+        Kind::Able => b"able",
+        Kind::Full => b"full",
+    }
+}
+
+pub fn sign_text(added: bool) -> &'static [u8]
+    ensures { result.now ≡ sign_text added }
+{
+    if added { b"+" } else { b"-" }
+}

@@ -1,0 +1,7 @@
+use Rattle.zr_netrun.specs.Judged.{judged_lines}
+use Rattle.zr_netrun.proofs.Telling.{of_read}
+use Rattle.zr_top.proofs.run.run.Goals as goal
+
+-- the lines that count lead to a moment, whichever they are
+pub returns-clause-told : goal.returns-clause-told
+returns-clause-told g c is_net = of_read _ _ _ _ (c.run_script.ensures.report) (λ read p to_end. (c.lines_are_moments.ensures (judged_lines to_end read)).1)

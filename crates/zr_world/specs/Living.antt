@@ -1,0 +1,37 @@
+-- A world as its callers see it, and what its calls have done.
+use Rattle.std.specs.Prelude.{◌≡◌, ℕ, Bool, true, false, List, ◌++◌, option_to_list, Result, Ok, Err, IfOk, is_ok}
+use Rattle.zr_command.specs.declared.command.Act.{Act}
+use Rattle.zr_command.specs.declared.error.ScriptError.{ScriptError}
+use Rattle.zr_command.specs.declared.error.ScriptError.TheVariants.{NoMemory}
+use Rattle.zr_command.specs.declared.report.ReportLine.{ReportLine}
+use Rattle.zr_network.specs.World.{WorldState, empty_world}
+use Rattle.zr_network.specs.Acts.{Outcome, outcome}
+
+-- a world as a value: its state, and whether an earlier call was out of memory
+pub record Living : Type 0 where
+  pub state : WorldState
+  pub spent : Bool
+
+-- a world that is not spent
+abbrev pub alive : WorldState → Living
+alive w = record { state = w; spent = false }
+
+-- a world in which nothing has come yet
+abbrev pub new_world : Living
+new_world = alive empty_world
+
+-- What an act did to a world that isn't spent, and to a report: the world is the one that is said, and the report line that is said, if
+-- there is one, came behind those that were there; a refusal changes nothing; out of memory the world is spent, and no report line came.
+abbrev pub Applies : Result (Unit {0}) ScriptError → Outcome → Living → Living → List ReportLine → List ReportLine → Type 0
+Applies (Ok u) said old new before after = IfOk said (λ x. (new ≡ alive x.1) × (after ≡ before ++ option_to_list x.0)) × (is_ok said ≡ true)
+Applies (Err NoMemory) said old new before after = (new.spent ≡ true) × (after ≡ before)
+Applies (Err refusal) said old new before after = (said ≡ Err refusal) × (new ≡ old) × (after ≡ before)
+
+-- What counting the steps of a run did to a world that isn't spent: a refusal changes nothing, and memory does not run out.
+abbrev pub Books : Result (Unit {0}) ScriptError → Result WorldState ScriptError → Living → Living → Type 0
+Books (Ok u) said old new = IfOk said (λ w. new ≡ alive w) × (is_ok said ≡ true)
+Books (Err refusal) said old new = (said ≡ Err refusal) × (new ≡ old)
+
+-- an act that is not refused, whatever line asks for it
+abbrev pub IsPossible : WorldState → Act → Type 0
+IsPossible w act = (line : ℕ) → is_ok (outcome w line act) ≡ true
