@@ -1,17 +1,16 @@
 -- The reader of transport messages follows their format, put together part by part.
-use Rattle.std.proofs.Common.{◌≡◌, ℕ, ◌+◌, ◌*◌, ◌/◌, ◌%◌, ◌-◌, ◌^◌, not, List, [], ◌++◌, sym, ap, ◌∙◌, Ok}
-use Rattle.std.proofs.lemmas.List.{append_cancel_right}
-use Rattle.zr_bytes.specs.Flag.{has_flag}
-use Rattle.zr_bytes.specs.Spelling.{Begins}
+use Rattle.std.proofs.Common.{ℕ, ◌+◌, ◌*◌, ◌/◌, ◌%◌, ◌-◌, ◌^◌, not, []}
+use Rattle.zr_bytes.specs.declared.read_error.ReadError.TheVariants.{BadText}
+use Rattle.zr_bytes.specs.Flag.{has_id, has_flag}
 use Rattle.zr_bytes.specs.Reading.{byte_of, number_of}
-use Rattle.zr_ext.specs.declared.ext.Form.{Form}
-use Rattle.zr_ext.specs.Reading.{chain_of}
-use Rattle.zr_trans.specs.declared.trans.Trans.{Trans}
+use Rattle.zr_format.specs.Format.{so_many, number, byte}
+use Rattle.zr_format.specs.Reading.{so_many_of}
+use Rattle.zr_format.specs.Laws.{anywhere}
+use Rattle.zr_format.proofs.Follows.{Follows, follows_gives, follows_unknown, follows_choose, follows_then, follows_checked, follows_optional, follows_byte, follows_number, follows_text, follows_so_many, follows_extensions, follows_the_rest}
+use Rattle.zr_id.specs.Zid.{is_zid}
 use Rattle.zr_trans.specs.declared.trans.Trans.TheVariants.{Init, Open, Close, KeepAlive, Frame, Fragment}
-use Rattle.zr_trans.specs.Format.{gives, chain, number, byte, identifier}
-use Rattle.zr_trans.specs.Trans.{has_id, first_number, number_ext, extensions, cookie, sizes, init, opening, close, keep_alive, frame, fragment, behind, trans_format, SpellsTrans, MayStandBefore}
-use Rattle.zr_trans.specs.Reading.{id_of, sizes_of, cookie_of, exts_of, init_of, open_of, close_of, keep_alive_of, frame_of, fragment_of, behind_of, trans_of}
-use Rattle.zr_trans.proofs.Follows.{Follows, anywhere, is_read, follows_gives, follows_unknown, follows_choose, follows_then, follows_optional, follows_byte, follows_number, follows_text, follows_chain, follows_identifier, follows_the_rest}
+use Rattle.zr_trans.specs.Trans.{first_number, number_ext, identifier, cookie, sizes, init, opening, close, keep_alive, frame, fragment, behind, trans_format, MayStandBefore}
+use Rattle.zr_trans.specs.Reading.{id_of, sizes_of, cookie_of, init_of, open_of, close_of, keep_alive_of, frame_of, fragment_of, behind_of, trans_of}
 
 follows_sizes : Follows anywhere sizes sizes_of
 unfolding sizes_of
@@ -25,9 +24,9 @@ follows_cookie : Follows anywhere cookie cookie_of
 unfolding cookie_of
 follows_cookie = follows_text (2 ^ 16 - 1)
 
-follows_extensions : (known : List (ℕ × Form)) (header : ℕ) → Follows anywhere (extensions known header) (exts_of known header)
-unfolding exts_of
-follows_extensions known header = follows_choose anywhere (has_flag header 0x80) (chain known) (gives []) (chain_of known) (λ bytes. Ok ([], bytes)) (follows_chain known) (follows_gives anywhere [] (λ rest. tt))
+follows_identifier : (count : ℕ) → Follows anywhere (identifier count) (id_of count)
+unfolding id_of
+follows_identifier count = follows_checked (so_many count) (so_many_of count) is_zid BadText (follows_so_many count)
 
 follows_init : (header : ℕ) → Follows MayStandBefore (init header) (init_of header)
 unfolding init_of
@@ -88,13 +87,3 @@ follows_behind header =
 pub follows_trans : Follows MayStandBefore trans_format trans_of
 unfolding trans_of
 follows_trans = follows_then MayStandBefore byte behind byte_of behind_of follows_byte follows_behind
-
-pub one_message : (x y : Trans) (a b c d : List ℕ) → SpellsTrans x a → SpellsTrans y b → MayStandBefore x c → MayStandBefore y d → a ++ c ≡ b ++ d → (a ≡ b) × (x ≡ y)
-one_message x y a b c d p q before_c before_d e =
-    let one : trans_of (a ++ c) ≡ Ok (x, c) = follows_trans.again a c x p before_c in
-    let two : trans_of (b ++ d) ≡ Ok (y, d) = follows_trans.again b d y q before_d in
-    let same = is_read x y c d (sym one ∙ ap trans_of e ∙ two) in
-    (append_cancel_right a b c (e ∙ ap (λ (xs : List ℕ). b ++ xs) (sym same.1)), same.0)
-
-pub message_read : (bytes rest : List ℕ) (t : Trans) → Begins SpellsTrans t bytes rest × MayStandBefore t rest → trans_of bytes ≡ Ok (t, rest)
-message_read bytes rest t b = ap trans_of b.0.2 ∙ follows_trans.again b.0.0 rest t b.0.1 b.1

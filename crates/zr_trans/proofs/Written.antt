@@ -1,10 +1,11 @@
 -- What is written spells the message, and a message that has a spelling can be written.
-use Rattle.std.proofs.Common.{◌≡◌, ℕ, ◌+◌, ◌*◌, ◌/◌, ◌%◌, ◌-◌, ◌<◌, not, List, [], ◌∷◌, ◌++◌, length, Option, Some, None, Bool, true, false, refl, sym, ap, subst, ◌∙◌, arith, Ok}
+use Rattle.std.proofs.Common.{◌≡◌, ℕ, ◌+◌, ◌*◌, ◌/◌, ◌%◌, ◌-◌, ◌<◌, not, List, [], ◌∷◌, ◌++◌, length, Option, Some, None, Bool, true, false, refl, sym, ap, subst, arith, Ok}
 use Rattle.std.specs.Prelude.{bit_and, is_some}
 use Rattle.std.proofs.lemmas.List.{append-nil}
-use Rattle.zr_bytes.specs.Flag.{has_flag}
+use Rattle.zr_bytes.specs.Flag.{has_id, has_flag}
 use Rattle.zr_bytes.specs.Number.{writes}
 use Rattle.zr_bytes.specs.Text.{writes_text}
+use Rattle.zr_bytes.specs.declared.read_error.ReadError.TheVariants.{BadText}
 use Rattle.zr_bytes.proofs.Numbers.{written_spells}
 use Rattle.zr_ext.specs.declared.ext.Ext.{Ext}
 use Rattle.zr_ext.specs.Header.{IsHeader}
@@ -12,11 +13,14 @@ use Rattle.zr_id.specs.Zid.{is_zid}
 use Rattle.zr_trans.specs.declared.trans.Sizes.{Sizes}
 use Rattle.zr_trans.specs.declared.trans.Trans.{Trans}
 use Rattle.zr_trans.specs.declared.trans.Trans.TheVariants.{Init, Open, Close, KeepAlive, Frame, Fragment}
-use Rattle.zr_trans.specs.Format.{Format, gives, choose, optional, unknown, chain}
-use Rattle.zr_trans.specs.Trans.{has_id, first_number, number_ext, extensions, cookie, sizes, init, opening, close, keep_alive, frame, fragment, behind, SpellsTrans, MayStandBefore}
+use Rattle.zr_format.specs.Format.{Format, gives, choose, optional, unknown, so_many, extensions, chain}
+use Rattle.zr_format.specs.Laws.{HasSpelling}
+use Rattle.zr_format.specs.Writing.{writes_header}
+use Rattle.zr_format.proofs.Spelled.{checked_spelled, spelled_checked}
+use Rattle.zr_trans.specs.Trans.{first_number, number_ext, cookie, sizes, init, opening, close, keep_alive, frame, fragment, behind, trans_format, SpellsTrans}
 use Rattle.zr_trans.specs.Reading.{trans_of}
-use Rattle.zr_trans.specs.Writing.{writes_header, writes_tag, writes_sizes, writes_cookie, speaks_ext, writes_speaks, writes_trans, SizesFit, CookieFits, Fits, IsNamed, HasSpelling}
 use Rattle.zr_trans.proofs.Messages.{follows_trans}
+use Rattle.zr_trans.specs.Writing.{writes_tag, writes_sizes, writes_cookie, speaks_ext, writes_speaks, writes_trans, SizesFit, CookieFits, Fits, IsNamed, HasFields}
 
 -- ---- the header
 
@@ -102,7 +106,7 @@ init_behind h answer version role id o k speaks one two more small named fit has
           id,
           writes_sizes o ++ (writes_cookie k ++ ends),
           refl,
-          (refl, sym says.0, named),
+          checked_spelled (so_many (tag / 16 + 1)) is_zid BadText id id (refl, sym says.0) named,
           (
             o,
             writes_sizes o,
@@ -167,32 +171,29 @@ open_says true false = record { name = refl; one = refl; two = refl; more = refl
 open_says false true = record { name = refl; one = refl; two = refl; more = refl }
 open_says false false = record { name = refl; one = refl; two = refl; more = refl }
 
-pub message_spelled : (t : Trans) → Fits t → IsNamed t → SpellsTrans t (writes_trans t)
-message_spelled (Init answer version role id o k speaks) fits named =
+message_said : (t : Trans) → Fits t → IsNamed t → SpellsTrans t (writes_trans t)
+message_said (Init answer version role id o k speaks) fits named =
     let says = init_says answer (is_some o) (is_some speaks) in
     let h : ℕ = writes_header 1 answer (is_some o) (is_some speaks) in
     is_init h (Init answer version role id o k speaks) _ says.name (init_behind h answer version role id o k speaks says.one says.two says.more fits.0 named fits.1 fits.2)
-message_spelled (Open answer seconds lease first k) fits named =
+message_said (Open answer seconds lease first k) fits named =
     let says = open_says answer seconds in
     let h : ℕ = writes_header 2 answer seconds false in
     is_open h (Open answer seconds lease first k) _ says.name (open_behind h answer seconds lease first k says.one says.two says.more fits)
-message_spelled (Close true reason) fits named = with_header 0x23 _ _ (reason, reason ∷ [], [], refl, refl, ([], [], [], refl, (refl, refl), (refl, refl)))
-message_spelled (Close false reason) fits named = with_header 0x03 _ _ (reason, reason ∷ [], [], refl, refl, ([], [], [], refl, (refl, refl), (refl, refl)))
-message_spelled KeepAlive fits named = with_header 0x04 _ _ ([], [], [], refl, (refl, refl), (refl, refl))
-message_spelled (Frame true n) fits named = with_header 0x25 _ _ (n, writes n, [], sym (append-nil (writes n)), written_spells 8 n, ([], [], [], refl, (refl, refl), (refl, refl)))
-message_spelled (Frame false n) fits named = with_header 0x05 _ _ (n, writes n, [], sym (append-nil (writes n)), written_spells 8 n, ([], [], [], refl, (refl, refl), (refl, refl)))
-message_spelled (Fragment true true n piece) fits named = with_header 0x66 _ _ (n, writes n, piece, refl, written_spells 8 n, ([], [], piece, refl, (refl, refl), refl))
-message_spelled (Fragment true false n piece) fits named = with_header 0x26 _ _ (n, writes n, piece, refl, written_spells 8 n, ([], [], piece, refl, (refl, refl), refl))
-message_spelled (Fragment false true n piece) fits named = with_header 0x46 _ _ (n, writes n, piece, refl, written_spells 8 n, ([], [], piece, refl, (refl, refl), refl))
-message_spelled (Fragment false false n piece) fits named = with_header 0x06 _ _ (n, writes n, piece, refl, written_spells 8 n, ([], [], piece, refl, (refl, refl), refl))
+message_said (Close true reason) fits named = with_header 0x23 _ _ (reason, reason ∷ [], [], refl, refl, ([], [], [], refl, (refl, refl), (refl, refl)))
+message_said (Close false reason) fits named = with_header 0x03 _ _ (reason, reason ∷ [], [], refl, refl, ([], [], [], refl, (refl, refl), (refl, refl)))
+message_said KeepAlive fits named = with_header 0x04 _ _ ([], [], [], refl, (refl, refl), (refl, refl))
+message_said (Frame true n) fits named = with_header 0x25 _ _ (n, writes n, [], sym (append-nil (writes n)), written_spells 8 n, ([], [], [], refl, (refl, refl), (refl, refl)))
+message_said (Frame false n) fits named = with_header 0x05 _ _ (n, writes n, [], sym (append-nil (writes n)), written_spells 8 n, ([], [], [], refl, (refl, refl), (refl, refl)))
+message_said (Fragment true true n piece) fits named = with_header 0x66 _ _ (n, writes n, piece, refl, written_spells 8 n, ([], [], piece, refl, (refl, refl), refl))
+message_said (Fragment true false n piece) fits named = with_header 0x26 _ _ (n, writes n, piece, refl, written_spells 8 n, ([], [], piece, refl, (refl, refl), refl))
+message_said (Fragment false true n piece) fits named = with_header 0x46 _ _ (n, writes n, piece, refl, written_spells 8 n, ([], [], piece, refl, (refl, refl), refl))
+message_said (Fragment false false n piece) fits named = with_header 0x06 _ _ (n, writes n, piece, refl, written_spells 8 n, ([], [], piece, refl, (refl, refl), refl))
 
-pub message_again : (t : Trans) (rest : List ℕ) → Fits t → IsNamed t → MayStandBefore t rest → trans_of (writes_trans t ++ rest) ≡ Ok (t, rest)
-message_again t rest fits named ends = follows_trans.again (writes_trans t) rest t (message_spelled t fits named) ends
+pub message_spelled : (t : Trans) → HasFields t → SpellsTrans t (writes_trans t)
+message_spelled t h = message_said t h.0 h.1
 
 -- ---- messages that have a spelling
-
-abbrev Good : Trans → Type 0
-Good t = Fits t × IsNamed t
 
 sizes_fit : (b : Bool) (o : Option Sizes) (bytes : List ℕ) → (optional b sizes).spelled o bytes → SizesFit o
 sizes_fit false o bytes s = subst SizesFit (sym s.0) tt
@@ -206,44 +207,44 @@ cookie_fits : (b : Bool) (o : Option (List ℕ)) (bytes : List ℕ) → (optiona
 cookie_fits false o bytes s = subst (λ (k : Option (List ℕ)). CookieFits false k) (sym s.0) refl
 cookie_fits true o bytes s = subst (λ (k : Option (List ℕ)). CookieFits true k) (sym s.5.0) (refl, s.4.0)
 
-init_good : (h : ℕ) (t : Trans) (bytes : List ℕ) → (init h).spelled t bytes → Good t
+init_good : (h : ℕ) (t : Trans) (bytes : List ℕ) → (init h).spelled t bytes → HasFields t
 init_good h t bytes s =
     let tag = s.5 in
     let id = tag.5 in
     let sized = id.5 in
     let kept = sized.5 in
     let ext = kept.5 in
-    let named : is_zid id.0 ≡ true = ap is_zid id.4.0 ∙ id.4.2 in
+    let named : is_zid id.0 ≡ true = (spelled_checked (so_many (tag.0 / 16 + 1)) is_zid BadText id.0 id.1 id.4).1 in
     let role : tag.0 % 4 < 4 = omega arith in
-    let good : Good (Init (has_flag h 0x20) s.0 (tag.0 % 4) id.0 sized.0 kept.0 (first_number ext.0)) =
+    let good : HasFields (Init (has_flag h 0x20) s.0 (tag.0 % 4) id.0 sized.0 kept.0 (first_number ext.0)) =
     ((role, sizes_fit (has_flag h 0x40) sized.0 sized.1 sized.4, cookie_fits (has_flag h 0x20) kept.0 kept.1 kept.4), named) in
-    subst Good (sym ext.5.0) good
+    subst HasFields (sym ext.5.0) good
 
-open_good : (h : ℕ) (t : Trans) (bytes : List ℕ) → (opening h).spelled t bytes → Good t
+open_good : (h : ℕ) (t : Trans) (bytes : List ℕ) → (opening h).spelled t bytes → HasFields t
 open_good h t bytes s =
     let kept = s.5.5 in
     let ext = kept.5 in
-    let good : Good (Open (has_flag h 0x20) (has_flag h 0x40) s.0 s.5.0 kept.0) = (cookie_fits (not (has_flag h 0x20)) kept.0 kept.1 kept.4, tt) in
-    subst Good (sym ext.5.0) good
+    let good : HasFields (Open (has_flag h 0x20) (has_flag h 0x40) s.0 s.5.0 kept.0) = (cookie_fits (not (has_flag h 0x20)) kept.0 kept.1 kept.4, tt) in
+    subst HasFields (sym ext.5.0) good
 
-close_good : (h : ℕ) (t : Trans) (bytes : List ℕ) → (close h).spelled t bytes → Good t
-close_good h t bytes s = subst Good (sym s.5.5.0) (tt, tt)
+close_good : (h : ℕ) (t : Trans) (bytes : List ℕ) → (close h).spelled t bytes → HasFields t
+close_good h t bytes s = subst HasFields (sym s.5.5.0) (tt, tt)
 
-keep_alive_good : (h : ℕ) (t : Trans) (bytes : List ℕ) → (keep_alive h).spelled t bytes → Good t
-keep_alive_good h t bytes s = subst Good (sym s.5.0) (tt, tt)
+keep_alive_good : (h : ℕ) (t : Trans) (bytes : List ℕ) → (keep_alive h).spelled t bytes → HasFields t
+keep_alive_good h t bytes s = subst HasFields (sym s.5.0) (tt, tt)
 
-frame_good : (h : ℕ) (t : Trans) (bytes : List ℕ) → (frame h).spelled t bytes → Good t
-frame_good h t bytes s = subst Good (sym s.5.5.0) (tt, tt)
+frame_good : (h : ℕ) (t : Trans) (bytes : List ℕ) → (frame h).spelled t bytes → HasFields t
+frame_good h t bytes s = subst HasFields (sym s.5.5.0) (tt, tt)
 
-fragment_good : (h : ℕ) (t : Trans) (bytes : List ℕ) → (fragment h).spelled t bytes → Good t
-fragment_good h t bytes s = subst Good (sym s.5.5) (tt, tt)
+fragment_good : (h : ℕ) (t : Trans) (bytes : List ℕ) → (fragment h).spelled t bytes → HasFields t
+fragment_good h t bytes s = subst HasFields (sym s.5.5) (tt, tt)
 
-chosen_good : (b : Bool) (p q : Format Trans) → ((t : Trans) (bytes : List ℕ) → p.spelled t bytes → Good t) → ((t : Trans) (bytes : List ℕ) → q.spelled t bytes → Good t)
-    → (t : Trans) (bytes : List ℕ) → (choose b p q).spelled t bytes → Good t
+chosen_good : (b : Bool) (p q : Format Trans) → ((t : Trans) (bytes : List ℕ) → p.spelled t bytes → HasFields t) → ((t : Trans) (bytes : List ℕ) → q.spelled t bytes → HasFields t)
+    → (t : Trans) (bytes : List ℕ) → (choose b p q).spelled t bytes → HasFields t
 chosen_good true p q f g = f
 chosen_good false p q f g = g
 
-behind_good : (h : ℕ) (t : Trans) (bytes : List ℕ) → (behind h).spelled t bytes → Good t
+behind_good : (h : ℕ) (t : Trans) (bytes : List ℕ) → (behind h).spelled t bytes → HasFields t
 behind_good h =
     chosen_good (has_id h 1) (init h) _ (init_good h)
     (chosen_good (has_id h 2) (opening h) _ (open_good h)
@@ -252,5 +253,9 @@ behind_good h =
     (chosen_good (has_id h 5) (frame h) _ (frame_good h)
     (chosen_good (has_id h 6) (fragment h) unknown (fragment_good h) (λ t bytes s. absurd s))))))
 
-pub message_fits : (t : Trans) → HasSpelling t → Fits t × IsNamed t
+pub message_fits : (t : Trans) → HasSpelling trans_format t → HasFields t
 message_fits t s = behind_good s.1.0 t s.1.2 s.1.5
+
+-- what was read has a spelling
+pub read_fits : (bytes rest : List ℕ) (t : Trans) → trans_of bytes ≡ Ok (t, rest) → Fits t
+read_fits bytes rest t e = let found = (follows_trans.found bytes rest t e).0 in (message_fits t (found.0, found.1)).0

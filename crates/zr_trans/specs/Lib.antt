@@ -1,4 +1,3 @@
-pub mod Format
 pub mod Trans
 pub mod Reading
 pub mod Writing

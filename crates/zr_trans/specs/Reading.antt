@@ -1,25 +1,18 @@
 -- What reading a transport message answers, as a function of the bytes that are left. `Laws` ties it to the formats.
-use Rattle.std.specs.Prelude.{ℕ, ◌+◌, ◌*◌, ◌/◌, ◌%◌, ◌-◌, ◌^◌, Bool, not, List, [], length, take, drop, Option, Some, None, Ok, Err, nat_lt, if◌then◌else◌}
-use Rattle.zr_bytes.specs.declared.read_error.ReadError.TheVariants.{Short, UnknownId, BadText}
-use Rattle.zr_bytes.specs.Flag.{has_flag}
+use Rattle.std.specs.Prelude.{ℕ, ◌+◌, ◌*◌, ◌/◌, ◌%◌, ◌-◌, ◌^◌, not, List, [], Ok, Err, if◌then◌else◌}
+use Rattle.zr_bytes.specs.declared.read_error.ReadError.TheVariants.{UnknownId, BadText}
+use Rattle.zr_bytes.specs.Flag.{has_id, has_flag}
 use Rattle.zr_bytes.specs.Reading.{Read, ◌>>=◌, byte_of, number_of, text_of}
-use Rattle.zr_ext.specs.declared.ext.Ext.{Ext}
-use Rattle.zr_ext.specs.declared.ext.Form.{Form}
-use Rattle.zr_ext.specs.Reading.{chain_of}
+use Rattle.zr_format.specs.Reading.{optional_of, checked_of, so_many_of, exts_of}
 use Rattle.zr_id.specs.Zid.{is_zid}
 use Rattle.zr_trans.specs.declared.trans.Sizes.{Sizes}
 use Rattle.zr_trans.specs.declared.trans.Trans.{Trans}
 use Rattle.zr_trans.specs.declared.trans.Trans.TheVariants.{Init, Open, Close, KeepAlive, Frame, Fragment}
-use Rattle.zr_trans.specs.Trans.{has_id, first_number, number_ext}
-
-abbrev pub optional_of : {X : Type 0} → Bool → (List ℕ → Read X) → List ℕ → Read (Option X)
-optional_of flag read bytes = if flag then (read bytes >>= λ x. Ok (Some x.0, x.1)) else Ok (None, bytes)
+use Rattle.zr_trans.specs.Trans.{first_number, number_ext}
 
 -- so many bytes, which have to be an identifier
 unfoldable pub id_of : ℕ → List ℕ → Read (List ℕ)
-id_of count bytes =
-    if nat_lt (length bytes) count then Err Short
-    else (if is_zid (take count bytes) then Ok (take count bytes, drop count bytes) else Err BadText)
+id_of count bytes = checked_of (so_many_of count) is_zid BadText bytes
 
 unfoldable pub sizes_of : List ℕ → Read Sizes
 sizes_of bytes = do
@@ -30,9 +23,6 @@ sizes_of bytes = do
 
 unfoldable pub cookie_of : List ℕ → Read (List ℕ)
 cookie_of bytes = text_of (2 ^ 16 - 1) bytes
-
-unfoldable pub exts_of : List (ℕ × Form) → ℕ → List ℕ → Read (List Ext)
-exts_of known header bytes = if has_flag header 0x80 then chain_of known bytes else Ok ([], bytes)
 
 unfoldable pub init_of : ℕ → List ℕ → Read Trans
 init_of header bytes = do

@@ -1,7 +1,7 @@
 -- Transport messages (Zenoh protocol 1.0, "Transport messages"). A header has the id in its low five bits, 0x80 where
 -- extensions follow, and two flags of the message's own; a flag that isn't named here is ignored.
-use Rattle.std.specs.Prelude.{◌≡◌, ℕ, ◌+◌, ◌*◌, ◌/◌, ◌%◌, ◌-◌, ◌^◌, Bool, not, List, [], ◌∷◌, Option, Some, None, ◌==◌, bit_and}
-use Rattle.zr_bytes.specs.Flag.{has_flag}
+use Rattle.std.specs.Prelude.{◌≡◌, ℕ, ◌+◌, ◌*◌, ◌/◌, ◌%◌, ◌-◌, ◌^◌, not, List, [], ◌∷◌, Option, Some, None}
+use Rattle.zr_bytes.specs.Flag.{has_id, has_flag}
 use Rattle.zr_ext.specs.declared.ext.Ext.{Ext}
 use Rattle.zr_ext.specs.declared.ext.Content.{Content}
 use Rattle.zr_ext.specs.declared.ext.Content.TheVariants as content
@@ -10,10 +10,9 @@ use Rattle.zr_ext.specs.declared.ext.Form.TheVariants as form
 use Rattle.zr_trans.specs.declared.trans.Sizes.{Sizes}
 use Rattle.zr_trans.specs.declared.trans.Trans.{Trans}
 use Rattle.zr_trans.specs.declared.trans.Trans.TheVariants.{Init, Open, Close, KeepAlive, Frame, Fragment}
-use Rattle.zr_trans.specs.Format.{Format, gives, unknown, choose, ◌then◌, optional, byte, number, text, identifier, chain, the_rest}
-
-abbrev pub has_id : ℕ → ℕ → Bool
-has_id header id = bit_and header 0x1F == id
+use Rattle.zr_bytes.specs.declared.read_error.ReadError.TheVariants.{BadText}
+use Rattle.zr_format.specs.Format.{Format, gives, unknown, choose, ◌then◌, checked, optional, byte, number, text, so_many, extensions, the_rest}
+use Rattle.zr_id.specs.Zid.{is_zid}
 
 -- the number that an extension says
 abbrev pub content_number : Content → Option ℕ
@@ -30,8 +29,9 @@ first_number (ext ∷ exts) = content_number ext.content
 abbrev pub number_ext : ℕ → List (ℕ × Form)
 number_ext id = (id, form.Number) ∷ []
 
-abbrev pub extensions : List (ℕ × Form) → ℕ → Format (List Ext)
-extensions known header = choose (has_flag header 0x80) (chain known) (gives [])
+-- an identifier of so many bytes, whose length stands elsewhere
+abbrev pub identifier : ℕ → Format (List ℕ)
+identifier count = checked (so_many count) is_zid BadText
 
 abbrev pub cookie : Format (List ℕ)
 cookie = text (2 ^ 16 - 1)

@@ -1,20 +1,15 @@
 -- The one spelling of a transport message that is written, and which messages have a spelling.
-use Rattle.std.specs.Prelude.{◌≡◌, ℕ, ◌+◌, ◌-◌, ◌*◌, ◌/◌, ◌%◌, ◌^◌, ◌<◌, ◌≤◌, Bool, true, false, not, List, [], ◌∷◌, ◌++◌, length, Option, Some, None, is_some, if◌then◌else◌, bit_or}
+use Rattle.std.specs.Prelude.{◌≡◌, ℕ, ◌+◌, ◌-◌, ◌*◌, ◌/◌, ◌%◌, ◌^◌, ◌<◌, ◌≤◌, Bool, true, false, not, List, [], ◌∷◌, ◌++◌, length, Option, Some, None, is_some}
 use Rattle.zr_bytes.specs.Number.{writes}
 use Rattle.zr_bytes.specs.Text.{writes_text}
 use Rattle.zr_ext.specs.declared.ext.Ext.{Ext}
 use Rattle.zr_ext.specs.declared.ext.Content.TheVariants as content
 use Rattle.zr_ext.specs.Writing.{writes_chain}
+use Rattle.zr_format.specs.Writing.{writes_header}
 use Rattle.zr_id.specs.Zid.{is_zid}
 use Rattle.zr_trans.specs.declared.trans.Sizes.{Sizes}
 use Rattle.zr_trans.specs.declared.trans.Trans.{Trans}
 use Rattle.zr_trans.specs.declared.trans.Trans.TheVariants.{Init, Open, Close, KeepAlive, Frame, Fragment}
-use Rattle.zr_trans.specs.Trans.{SpellsTrans}
-
--- the id, the two flags of a message's own, and whether extensions follow
-abbrev pub writes_header : ℕ → Bool → Bool → Bool → ℕ
-writes_header id first second extended =
-    bit_or (bit_or (bit_or id (if first then 0x20 else 0)) (if second then 0x40 else 0)) (if extended then 0x80 else 0)
 
 -- the identifier's length less one, and the role
 abbrev pub writes_tag : ℕ → List ℕ → ℕ
@@ -86,5 +81,6 @@ IsNamed KeepAlive = Unit {0}
 IsNamed (Frame reliable number) = Unit {0}
 IsNamed (Fragment reliable more number piece) = Unit {0}
 
-abbrev pub HasSpelling : Trans → Type 0
-HasSpelling t = (bytes : List ℕ) × SpellsTrans t bytes
+-- what a message that has a spelling has
+abbrev pub HasFields : Trans → Type 0
+HasFields t = Fits t × IsNamed t

@@ -12,6 +12,3 @@ pub use laws::{messages_are_read, messages_have_one_reading, written_messages_ar
 pub use reading::read_trans;
 pub use trans::{Sizes, Trans};
 pub use writing::write_trans;
-
-#[cfg(test)]
-mod tests;

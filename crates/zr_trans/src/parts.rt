@@ -1,10 +1,5 @@
 //! What the header bytes of transport messages are made of.
 
-/// The id in a header.
-pub(crate) const ID: u8 = 0x1F;
-/// Extensions follow, in each message.
-pub(crate) const EXTENSIONS: u8 = 0x80;
-
 pub(crate) const INIT: u8 = 0x01;
 
 pub(crate) const OPEN: u8 = 0x02;
@@ -16,11 +11,6 @@ pub(crate) const KEEP_ALIVE: u8 = 0x04;
 pub(crate) const FRAME: u8 = 0x05;
 
 pub(crate) const FRAGMENT: u8 = 0x06;
-
-/// A message's own first flag: A of INIT and OPEN, S of CLOSE, R of FRAME and FRAGMENT.
-pub(crate) const FIRST: u8 = 0x20;
-/// A message's own second flag: S of INIT, T of OPEN, M of FRAGMENT.
-pub(crate) const SECOND: u8 = 0x40;
 
 /// The byte of INIT that has the length of the identifier, less one, and the role: the length counts in steps of this.
 pub(crate) const LENGTH_STEP: u8 = 16;

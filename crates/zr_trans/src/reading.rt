@@ -1,27 +1,32 @@
 //! Reading a transport message.
 
-ghost use Rattle.std.specs.Prelude.{◌≡◌};
+ghost use Rattle.std.specs.Prelude.{◌≡◌, IfOk};
 ghost use Rattle.zr_bytes.specs.Reading.{Keeps, Steps};
 ghost use Rattle.zr_trans.specs.Trans.{first_number, content_number};
-ghost use Rattle.zr_trans.specs.Reading.{optional_of, id_of, sizes_of, cookie_of, exts_of, init_of, open_of, close_of, keep_alive_of, frame_of, fragment_of, behind_of, trans_of};
+ghost use Rattle.zr_format.specs.Reading.{optional_of};
+ghost use Rattle.zr_trans.specs.Reading.{id_of, sizes_of, cookie_of, init_of, open_of, close_of, keep_alive_of, frame_of, fragment_of, behind_of, trans_of};
+ghost use Rattle.zr_trans.specs.Writing.{Fits};
 
 use crate::parts::{
-    CLOSE, EXTENSIONS, FIRST, FRAGMENT, FRAME, ID, INIT, KEEP_ALIVE, LENGTH_STEP, OPEN, QOS,
-    RESOLUTIONS, ROLES, SECOND, SPEAKS,
+    CLOSE, FRAGMENT, FRAME, INIT, KEEP_ALIVE, LENGTH_STEP, OPEN, QOS, RESOLUTIONS, ROLES, SPEAKS,
 };
 use crate::trans::{Sizes, Trans};
 use std::alloc::Global;
 use zr_bytes::{ByteString, Cursor, ReadError};
-use zr_ext::{Content, Ext, Form, read_chain};
+use zr_ext::{Content, Ext, Form};
+use zr_format::header::{FIRST, ID, SECOND};
+use zr_format::read_extensions;
 use zr_id::zid::Zid;
 
 /// The most bytes of a cookie.
 const MOST_COOKIE: u64 = (1 << 16) - 1;
 
 /// The transport message at the front (Zenoh protocol 1.0, "Transport messages"). A frame ends before its first network
-/// message, and a fragment has the rest of the batch as its piece. `UnknownId` is for an id that has no message here.
+/// message, and a fragment has the rest of the batch as its piece. `UnknownId` is for an id that has no message here. What
+/// was read can be written.
 pub fn read_trans(alloc: Global, c: &mut Cursor<'_>) -> Result<Trans, ReadError>
-    ensures { Keeps (λ t. t) result (trans_of c.old) c.old c.new }
+    ensures value { Keeps (λ t. t) result (trans_of c.old) c.old c.new }
+    ensures fits { IfOk result (λ t. Fits t) }
 {
     let mut ahead = c.fork();
     let t = message(alloc, &mut ahead)?;
@@ -61,7 +66,7 @@ fn read_init(alloc: Global, c: &mut Cursor<'_>, header: u8) -> Result<Trans, Rea
     let id = identifier(c, usize::from(tag / LENGTH_STEP) + 1)?;
     let sizes = sizes(c, header & SECOND != 0)?;
     let cookie = cookie(alloc, c, header & FIRST != 0)?;
-    let exts = extensions(alloc, c, header, &[(SPEAKS, Form::Number)])?;
+    let exts = read_extensions(alloc, c, header, &[(SPEAKS, Form::Number)])?;
     Ok(Trans::Init {
         answer: header & FIRST != 0,
         version,
@@ -80,7 +85,7 @@ fn read_open(alloc: Global, c: &mut Cursor<'_>, header: u8) -> Result<Trans, Rea
     let lease = c.zint()?;
     let number = c.zint()?;
     let cookie = cookie(alloc, c, header & FIRST == 0)?;
-    extensions(alloc, c, header, &[])?;
+    read_extensions(alloc, c, header, &[])?;
     Ok(Trans::Open {
         answer: header & FIRST != 0,
         seconds: header & SECOND != 0,
@@ -95,7 +100,7 @@ fn read_close(alloc: Global, c: &mut Cursor<'_>, header: u8) -> Result<Trans, Re
     ensures { Steps (λ t. t) result (close_of header c.old) c.new }
 {
     let reason = c.u8()?;
-    extensions(alloc, c, header, &[])?;
+    read_extensions(alloc, c, header, &[])?;
     Ok(Trans::Close {
         session: header & FIRST != 0,
         reason,
@@ -106,7 +111,7 @@ fn read_close(alloc: Global, c: &mut Cursor<'_>, header: u8) -> Result<Trans, Re
 fn read_keep_alive(alloc: Global, c: &mut Cursor<'_>, header: u8) -> Result<Trans, ReadError>
     ensures { Steps (λ t. t) result (keep_alive_of header c.old) c.new }
 {
-    extensions(alloc, c, header, &[])?;
+    read_extensions(alloc, c, header, &[])?;
     Ok(Trans::KeepAlive)
 }
 
@@ -115,7 +120,7 @@ fn read_frame(alloc: Global, c: &mut Cursor<'_>, header: u8) -> Result<Trans, Re
     ensures { Steps (λ t. t) result (frame_of header c.old) c.new }
 {
     let number = c.zint()?;
-    extensions(alloc, c, header, &[(QOS, Form::Number)])?;
+    read_extensions(alloc, c, header, &[(QOS, Form::Number)])?;
     Ok(Trans::Frame {
         reliable: header & FIRST != 0,
         number,
@@ -127,7 +132,7 @@ fn read_fragment(alloc: Global, c: &mut Cursor<'_>, header: u8) -> Result<Trans,
     ensures { Steps (λ t. t) result (fragment_of header c.old) c.new }
 {
     let number = c.zint()?;
-    extensions(alloc, c, header, &[(QOS, Form::Number)])?;
+    read_extensions(alloc, c, header, &[(QOS, Form::Number)])?;
     let piece = ByteString::from_slice(alloc, c.rest())?;
     Ok(Trans::Fragment {
         reliable: header & FIRST != 0,
@@ -138,7 +143,7 @@ fn read_fragment(alloc: Global, c: &mut Cursor<'_>, header: u8) -> Result<Trans,
 }
 
 /// An identifier of `count` bytes.
-#[tactic(auto, unfolding(crate::specs::Reading::id_of))]
+#[tactic(auto, unfolding(crate::specs::Reading::id_of, zr_format::specs::Reading::so_many_of))]
 fn identifier(c: &mut Cursor<'_>, count: usize) -> Result<Zid, ReadError>
     ensures { Steps (λ id. id) result (id_of count c.old) c.new }
 {
@@ -179,22 +184,6 @@ fn cookie(alloc: Global, c: &mut Cursor<'_>, has: bool) -> Result<Option<ByteStr
     }
     let bytes = c.bytes(MOST_COOKIE)?;
     Ok(Some(ByteString::from_slice(alloc, bytes)?))
-}
-
-/// The extensions that are known, where any follow.
-#[tactic(auto, unfolding(crate::specs::Reading::exts_of))]
-fn extensions(
-    alloc: Global,
-    c: &mut Cursor<'_>,
-    header: u8,
-    known: &[(u8, Form)],
-) -> Result<Vec<Ext>, ReadError>
-    ensures { Steps (λ exts. exts.items) result (exts_of known.now header c.old) c.new }
-{
-    if header & EXTENSIONS == 0 {
-        return Ok(Vec::new(alloc));
-    }
-    read_chain(alloc, c, known)
 }
 
 /// The number that the first extension says.

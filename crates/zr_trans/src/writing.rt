@@ -2,15 +2,14 @@
 
 ghost use Rattle.std.specs.Prelude.{◌≡◌, ◌<◌, ◌∷◌, ◌++◌, OnOk, OnErr};
 ghost use Rattle.zr_bytes.specs.Writing.{KeepsFront};
-ghost use Rattle.zr_trans.specs.Writing.{writes_header, writes_tag, writes_sizes, writes_cookie, writes_speaks, header_of, fields_of, writes_trans, Fits};
+ghost use Rattle.zr_trans.specs.Writing.{writes_tag, writes_sizes, writes_cookie, writes_speaks, header_of, fields_of, writes_trans, Fits};
 
-use crate::parts::{
-    CLOSE, EXTENSIONS, FIRST, FRAGMENT, FRAME, INIT, KEEP_ALIVE, LENGTH_STEP, OPEN, SECOND, SPEAKS,
-};
+use crate::parts::{CLOSE, FRAGMENT, FRAME, INIT, KEEP_ALIVE, LENGTH_STEP, OPEN, SPEAKS};
 use crate::trans::{Sizes, Trans};
 use std::alloc::AllocError;
-use zr_bytes::{ByteString, put_bytes, put_zint};
+use zr_bytes::{ByteString, all_or_nothing, put_bytes, put_zint};
 use zr_ext::{Content, Ext, write_chain};
+use zr_format::header::header_byte;
 use zr_id::zid::Zid;
 
 /// Appends a message that has a spelling (Zenoh protocol 1.0, "Transport messages"): a role below 4, resolutions below 16,
@@ -22,10 +21,7 @@ pub fn write_trans(out: &mut Vec<u8>, t: &Trans) -> Result<(), AllocError>
 {
     let start = out.len();
     let put = put_trans(out, t);
-    if put.is_err() {
-        out.truncate(start);
-    }
-    put
+    all_or_nothing(out, start, put)
 }
 
 fn put_trans(out: &mut Vec<u8>, t: &Trans) -> Result<(), AllocError>
@@ -99,15 +95,6 @@ fn put_fields(out: &mut Vec<u8>, t: &Trans) -> Result<(), AllocError>
             out.extend_from_slice(piece.as_slice())
         }
     }
-}
-
-fn header_byte(id: u8, first: bool, second: bool, extended: bool) -> u8
-    ensures { result ≡ writes_header id first second extended }
-{
-    let first = if first { FIRST } else { 0 };
-    let second = if second { SECOND } else { 0 };
-    let extended = if extended { EXTENSIONS } else { 0 };
-    id | first | second | extended
 }
 
 /// The length of an identifier with the role, and the identifier.

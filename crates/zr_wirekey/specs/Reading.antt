@@ -1,15 +1,11 @@
--- What reading a numbered key answers, as a function of the bytes that are left. `Laws` ties it to the spellings.
-use Rattle.std.specs.Prelude.{◌≡◌, ◌⊎◌, ℕ, ◌^◌, ◌-◌, Bool, List, [], ◌++◌, Option, Some, None, Result, Ok, Err, if◌then◌else◌}
+-- What reading a numbered key answers, as a function of the bytes that are left. `Laws` ties it to the format.
+use Rattle.std.specs.Prelude.{◌≡◌, ◌⊎◌, ℕ, ◌^◌, ◌-◌, Bool, List, [], ◌++◌, Result, Ok, Err, if◌then◌else◌}
 use Rattle.zr_bytes.specs.declared.read_error.ReadError.{ReadError}
-use Rattle.zr_bytes.specs.declared.read_error.ReadError.TheVariants.{BadKey, UnknownScope, NoMemory}
+use Rattle.zr_bytes.specs.declared.read_error.ReadError.TheVariants.{NoMemory}
 use Rattle.zr_bytes.specs.Reading.{Read, ◌>>=◌, number_below, text_of}
-use Rattle.zr_key.specs.declared.key.KeyError.{KeyError}
 use Rattle.zr_key.specs.Key.{read_key}
 use Rattle.zr_wirekey.specs.Scopes.{Texts, text_at}
-
-abbrev pub scope_of : Option (List ℕ) → Result (List ℕ) ReadError
-scope_of None = Err UnknownScope
-scope_of (Some text) = Ok text
+use Rattle.zr_wirekey.specs.Spelling.{scope_of, or_bad_key}
 
 -- the suffix, where there is one
 abbrev pub suffix_of : Bool → List ℕ → Read (List ℕ)
@@ -22,10 +18,6 @@ parts_of named texts bytes = do
   scope ← scope_of (text_at texts n.0)
   suffix ← suffix_of named n.1
   Ok ((scope, suffix.0), suffix.1)
-
-abbrev pub or_bad_key : Result (List ℕ) KeyError → Result (List ℕ) ReadError
-or_bad_key (Ok key) = Ok key
-or_bad_key (Err e) = Err BadKey
 
 -- a key that was made is the one that is said, unless memory ran out
 abbrev pub Spelled : Result (List ℕ) ReadError → Result (List ℕ) ReadError → Type 0

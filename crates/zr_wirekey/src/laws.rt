@@ -1,6 +1,6 @@
 //! The laws of numbered keys, over their definitions alone.
 
-ghost use Rattle.zr_wirekey.specs.Laws.{KeysAreRead, KeysHaveOneReading, WritesKeys};
+ghost use Rattle.zr_wirekey.specs.Laws.{KeysAreRead, KeysHaveOneReading, WrittenKeysAreRead};
 
 /// A key is read exactly where the bytes begin with one, and refused exactly for its first fault.
 pub fn keys_are_read()
@@ -14,5 +14,5 @@ pub fn keys_have_one_reading()
 
 /// What is written is read again.
 pub fn written_keys_are_read()
-    ensures { WritesKeys }
+    ensures { WrittenKeysAreRead }
 {}

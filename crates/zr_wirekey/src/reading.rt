@@ -4,7 +4,8 @@ ghost use Rattle.std.specs.Prelude.{◌≡◌, ◌++◌, if◌then◌else◌};
 ghost use Rattle.zr_bytes.specs.Reading.{Keeps, Steps};
 ghost use Rattle.zr_key.specs.Key.{read_key};
 ghost use Rattle.zr_wirekey.specs.Scopes.{text_at};
-ghost use Rattle.zr_wirekey.specs.Reading.{parts_of, suffix_of, scope_of, key_of, or_bad_key, Spelled};
+ghost use Rattle.zr_wirekey.specs.Spelling.{scope_of, or_bad_key};
+ghost use Rattle.zr_wirekey.specs.Reading.{parts_of, suffix_of, key_of, Spelled};
 
 use crate::scopes::Scopes;
 use std::alloc::Global;
@@ -29,15 +30,16 @@ pub fn read_key(
 {
     let scopes = if sender { theirs } else { ours };
     let mut ahead = c.fork();
-    let (scope, suffix) = parts(&mut ahead, named, scopes)?;
+    let (scope, suffix) = read_parts(&mut ahead, named, scopes)?;
     let key = key(alloc, scope, suffix)?;
     *c = ahead;
     Ok(key)
 }
 
-/// The text of the scope, and the suffix.
+/// The text of a scope, and the suffix where the key is named: together they need not be an expression. After a refusal the cursor may
+/// stand anywhere.
 #[tactic(auto, unfolding(crate::specs::Reading::parts_of))]
-fn parts<'s, 'c>(
+pub fn read_parts<'s, 'c>(
     c: &mut Cursor<'c>,
     named: bool,
     scopes: &'s Scopes,

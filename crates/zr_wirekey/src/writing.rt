@@ -5,7 +5,7 @@ ghost use Rattle.zr_bytes.specs.Writing.{KeepsFront};
 ghost use Rattle.zr_wirekey.specs.Writing.{writes_key};
 
 use std::alloc::AllocError;
-use zr_bytes::{put_bytes, put_zint};
+use zr_bytes::{all_or_nothing, put_bytes, put_zint};
 use zr_key::key::KeyExpr;
 
 /// Appends a key: a number that was declared for its text, or 0 and the whole text. Where memory runs out nothing is appended.
@@ -15,10 +15,7 @@ pub fn write_key(out: &mut Vec<u8>, key: &KeyExpr, number: u16) -> Result<(), Al
 {
     let start = out.len();
     let put = put_key(out, key, number);
-    if put.is_err() {
-        out.truncate(start);
-    }
-    put
+    all_or_nothing(out, start, put)
 }
 
 fn put_key(out: &mut Vec<u8>, key: &KeyExpr, number: u16) -> Result<(), AllocError>

@@ -1,0 +1,6 @@
+use Rattle.zr_format.proofs.Follows.{format_is_read}
+use Rattle.zr_decl.proofs.Messages.{follows_interest}
+use Rattle.zr_decl.proofs.laws.interests_are_read.Goals as goal
+
+pub returns : goal.returns
+returns c theirs ours = format_is_read _ _ _ (follows_interest theirs ours)

@@ -1,0 +1,6 @@
+use Rattle.zr_format.proofs.Follows.{one_reading_anywhere}
+use Rattle.zr_decl.proofs.Messages.{follows_interest}
+use Rattle.zr_decl.proofs.laws.interests_have_one_reading.Goals as goal
+
+pub returns : goal.returns
+returns c theirs ours = one_reading_anywhere _ _ (follows_interest theirs ours)

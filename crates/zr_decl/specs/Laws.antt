@@ -1,0 +1,26 @@
+-- The laws of declarations and interests: what a reading call answers is what the bytes spell, and what is written is read again.
+use Rattle.zr_bytes.specs.Spelling.{HasOneReading}
+use Rattle.zr_format.specs.Laws.{anywhere, IsReadBy, WrittenIsRead}
+use Rattle.zr_wirekey.specs.Scopes.{Texts}
+use Rattle.zr_decl.specs.Declare.{declare_format, interest_format}
+use Rattle.zr_decl.specs.Reading.{message_of, interest_of}
+use Rattle.zr_decl.specs.Writing.{writes_decl, tells, Declares, Asks}
+
+abbrev pub DeclarationsAreRead : Type 0
+DeclarationsAreRead = (theirs ours : Texts) → IsReadBy anywhere (declare_format theirs ours) (message_of theirs ours)
+
+abbrev pub DeclarationsHaveOneReading : Type 0
+DeclarationsHaveOneReading = (theirs ours : Texts) → HasOneReading (declare_format theirs ours).spelled
+
+-- A told message is read as the declaration that it tells.
+abbrev pub WrittenDeclarationsAreRead : Type 0
+WrittenDeclarationsAreRead = (theirs ours : Texts) → WrittenIsRead anywhere (declare_format theirs ours) (message_of theirs ours) tells writes_decl Declares
+
+abbrev pub InterestsAreRead : Type 0
+InterestsAreRead = (theirs ours : Texts) → IsReadBy anywhere (interest_format theirs ours) (interest_of theirs ours)
+
+abbrev pub InterestsHaveOneReading : Type 0
+InterestsHaveOneReading = (theirs ours : Texts) → HasOneReading (interest_format theirs ours).spelled
+
+abbrev pub WrittenInterestsAreRead : Type 0
+WrittenInterestsAreRead = (theirs ours : Texts) → WrittenIsRead anywhere (interest_format theirs ours) (interest_of theirs ours) (λ m. m) writes_decl Asks

@@ -1,0 +1,33 @@
+//! The laws of declarations and interests, over their definitions alone.
+
+ghost use Rattle.zr_decl.specs.Laws.{DeclarationsAreRead, DeclarationsHaveOneReading, WrittenDeclarationsAreRead, InterestsAreRead, InterestsHaveOneReading, WrittenInterestsAreRead};
+
+/// A declaration is read exactly where the bytes begin with one, and refused exactly for its first fault.
+pub fn declarations_are_read()
+    ensures { DeclarationsAreRead }
+{}
+
+/// No declaration begins another one.
+pub fn declarations_have_one_reading()
+    ensures { DeclarationsHaveOneReading }
+{}
+
+/// What is written is read again; what a router tells is read as the declaration that it tells.
+pub fn written_declarations_are_read()
+    ensures { WrittenDeclarationsAreRead }
+{}
+
+/// An interest is read exactly where the bytes begin with one, and refused exactly for its first fault.
+pub fn interests_are_read()
+    ensures { InterestsAreRead }
+{}
+
+/// No interest begins another one.
+pub fn interests_have_one_reading()
+    ensures { InterestsHaveOneReading }
+{}
+
+/// What is written is read again.
+pub fn written_interests_are_read()
+    ensures { WrittenInterestsAreRead }
+{}

@@ -1,0 +1,3 @@
+pub mod Messages
+pub mod Kept
+pub mod Written

@@ -1,0 +1,5 @@
+pub mod Exts
+pub mod Net
+pub mod Reading
+pub mod Writing
+pub mod Laws

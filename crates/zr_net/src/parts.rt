@@ -1,0 +1,50 @@
+//! What the bytes of network messages are made of.
+
+pub(crate) const PUSH: u8 = 0x1D;
+
+pub(crate) const REQUEST: u8 = 0x1C;
+
+pub(crate) const RESPONSE: u8 = 0x1B;
+
+pub(crate) const RESPONSE_FINAL: u8 = 0x1A;
+
+pub(crate) const DECLARE: u8 = 0x1E;
+
+pub(crate) const INTEREST: u8 = 0x19;
+
+/// Extensions that are passed on, with the bit of each among the marks.
+pub(crate) const QOS: u8 = 1;
+
+pub(crate) const TIMESTAMP: u8 = 2;
+/// Of a RESPONSE, bytes.
+pub(crate) const RESPONDER: u8 = 3;
+/// Of a REQUEST.
+pub(crate) const TARGET: u8 = 4;
+
+pub(crate) const BUDGET: u8 = 5;
+
+pub(crate) const TIMEOUT: u8 = 6;
+
+/// A number that is not passed on, of all but a RESPONSE.
+pub(crate) const NODE_ID: u8 = 3;
+/// The root of the tree along which a message goes between routers.
+pub(crate) const TREE: u8 = 7;
+
+pub(crate) const QOS_MARK: u8 = 0x02;
+
+pub(crate) const TIMESTAMP_MARK: u8 = 0x04;
+
+pub(crate) const RESPONDER_MARK: u8 = 0x08;
+
+pub(crate) const TARGET_MARK: u8 = 0x10;
+
+pub(crate) const BUDGET_MARK: u8 = 0x20;
+
+pub(crate) const TIMEOUT_MARK: u8 = 0x40;
+
+/// The numbers of targets; the best matching one is 0, or absent.
+pub(crate) const BEST: u64 = 0;
+
+pub(crate) const ALL: u64 = 1;
+
+pub(crate) const COMPLETE: u64 = 2;

@@ -1,0 +1,197 @@
+-- What is written spells the message.
+use Rattle.std.proofs.Common.{◌≡◌, ℕ, ◌+◌, ◌-◌, ◌*◌, ◌^◌, ◌<◌, ◌≤◌, Bool, true, false, List, [], ◌∷◌, ◌++◌, length, Option, Some, None, Ok, refl, sym, ap, arith, append_assoc, ltb, eqb}
+use Rattle.std.specs.List.{flat_map, list_all}
+use Rattle.std.proofs.lemmas.Bool.{and_parts, lt-ltb, ltb-true}
+use Rattle.std.proofs.lemmas.List.{append-nil, length-append}
+use Rattle.zr_bytes.specs.declared.read_error.ReadError.TheVariants.{BadText}
+use Rattle.zr_bytes.specs.Number.{writes}
+use Rattle.zr_bytes.specs.Text.{writes_text}
+use Rattle.zr_bytes.proofs.Numbers.{written_spells, written_long}
+use Rattle.zr_format.specs.Format.{Format, gives, choose, ◌then◌, checked, series, byte, number, text}
+use Rattle.zr_format.proofs.Spelled.{checked_spelled, allows_spelled}
+use Rattle.zr_format.proofs.Series.{series_spelled}
+use Rattle.zr_id.specs.Zid.{is_zid}
+use Rattle.zr_id.specs.Record.{RecordState, may_follow, are_in_order, are_links}
+use Rattle.zr_msg.specs.declared.decl.Decl.{Decl}
+use Rattle.zr_msg.specs.declared.decl.Kind.{Kind}
+use Rattle.zr_msg.specs.declared.decl.Kind.TheVariants as kind
+use Rattle.zr_msg.specs.declared.msg.Msg.{Msg}
+use Rattle.zr_msg.specs.declared.msg.Msg.TheVariants.{Sub, Unsub, Able, Unable, Interest, EndInterest, ToldSub, ToldAble, ToldUnsub, ToldUnable, ToldEnd, Push, Request, Response, Final, State, Step, Snap}
+use Rattle.zr_oam.specs.Oam.{zid, kind_byte, kind_of, is_canonical, decl, decl_may_follow, link, record_format, next_decl, snapshot, change, declarations, own, state, oam_format}
+use Rattle.zr_oam.specs.Writing.{writes_decl, writes_record, writes_head, writes_step, writes_snap, writes_own, writes_oam, decls_in_order, is_decl, Fits, IsMade, CanBeWritten}
+use Rattle.zr_oam.proofs.Keys.{zid_small, key_small}
+
+text_spelled : (limit : ℕ) (t : List ℕ) → length t ≤ limit → (text limit).spelled t (writes_text t)
+text_spelled limit t le = (le, (writes (length t), written_spells 8 (length t), refl))
+
+zid_spelled : (id : List ℕ) → is_zid id ≡ true → zid.spelled id (writes_text id)
+zid_spelled id named = checked_spelled (text 255) is_zid BadText id (writes_text id) (text_spelled 255 id (zid_small id named)) named
+
+kind_back : (k : Kind) → kind_of (kind_byte k) ≡ Ok k
+kind_back kind.Sub = refl
+kind_back kind.Able = refl
+kind_back kind.Full = refl
+
+decl_spelled : (d : Decl) → is_decl d ≡ true → decl.spelled d (writes_decl d)
+decl_spelled d canonical =
+    let short : length d.key ≤ 2 ^ 16 - 1 = omega (arith, key_small d.key canonical) in
+    let key = checked_spelled (text (2 ^ 16 - 1)) is_canonical BadText d.key (writes_text d.key) (text_spelled (2 ^ 16 - 1) d.key short) canonical in
+    let made : Kind → Format Decl = λ k. checked (text (2 ^ 16 - 1)) is_canonical BadText then λ x. gives (record { kind = k; key = x }) in
+    let behind : (made d.kind).spelled d (writes_text d.key) = (d.key, writes_text d.key, [], sym (append-nil (writes_text d.key)), key, (refl, refl)) in
+    (kind_byte d.kind, kind_byte d.kind ∷ [], writes_text d.key, refl, refl, allows_spelled (kind_of (kind_byte d.kind)) made d.kind d (writes_text d.key) (kind_back d.kind) behind)
+
+-- ---- the content of each
+
+links_spelled : (id : List ℕ) (links : List (List ℕ)) → are_links id links ≡ true → list_all is_zid links ≡ true → (series (link id) None (length links)).spelled links (flat_map (λ x. writes_text x) links)
+links_spelled id links ordered named =
+    let both = and_parts (ltb (length links) (2 ^ 16)) (are_in_order id None links) ordered in
+    series_spelled (link id) (λ x. writes_text x) (λ last xs. (are_in_order id last xs ≡ true) × (list_all is_zid xs ≡ true)) each None links (length links) refl (both.1, named)
+  where
+    each : (last : Option (List ℕ)) (x : List ℕ) (xs : List (List ℕ)) → (are_in_order id last (x ∷ xs) ≡ true) × (list_all is_zid (x ∷ xs) ≡ true) → (link id last).spelled x (writes_text x) × ((are_in_order id (Some x) xs ≡ true) × (list_all is_zid xs ≡ true))
+    each last x xs g =
+        let order = and_parts (may_follow id last x) (are_in_order id (Some x) xs) g.0 in
+        let names = and_parts (is_zid x) (list_all is_zid xs) g.1 in
+        (checked_spelled zid (may_follow id last) BadText x (writes_text x) (zid_spelled x names.0) order.0, (order.1, names.1))
+
+record_spelled : (r : RecordState) → is_zid r.id ≡ true → are_links r.id r.links ≡ true → list_all is_zid r.links ≡ true → record_format.spelled r (writes_record r)
+record_spelled r named ordered links =
+    let few : length r.links < 2 ^ 16 = ltb-true (length r.links) (2 ^ 16) ((and_parts (ltb (length r.links) (2 ^ 16)) (are_in_order r.id None r.links) ordered).0) in
+    let ids : List ℕ = flat_map (λ x. writes_text x) r.links in
+    let counted : List ℕ = writes (length r.links) ++ ids in (
+      r.id,
+      writes_text r.id,
+      writes r.seq ++ counted,
+      refl,
+      zid_spelled r.id named,
+      (
+        r.seq,
+        writes r.seq,
+        counted,
+        refl,
+        written_spells 8 r.seq,
+        (
+          length r.links,
+          writes (length r.links),
+          ids,
+          refl,
+          (few, written_spells 8 (length r.links)),
+          (r.links, ids, [], sym (append-nil ids), links_spelled r.id r.links ordered links, (refl, refl)),
+        ),
+      ),
+    )
+
+state_spelled : (r : RecordState) → IsMade (State r) → state.spelled (State r) (writes_record r)
+state_spelled r made = (r, writes_record r, [], sym (append-nil (writes_record r)), record_spelled r made.0 made.1 made.2, (refl, refl))
+
+-- ---- entries
+
+head_spelled : (form : ℕ) (source : List ℕ) (n : ℕ) (m : Msg) (tail : List ℕ) → form < 3 → is_zid source ≡ true → 0 < n → (choose (eqb form 0) (snapshot source n) (change source n (eqb form 1))).spelled m tail
+    → declarations.spelled m (writes_head form source n ++ tail)
+head_spelled form source n m tail small named positive s =
+    let whole : writes_head form source n ++ tail ≡ form ∷ (writes_text source ++ (writes n ++ tail)) = ap (λ (xs : List ℕ). form ∷ xs) (append_assoc (writes_text source) (writes n) tail) in (
+      form,
+      form ∷ [],
+      writes_text source ++ (writes n ++ tail),
+      whole,
+      checked_spelled byte (λ f. ltb f 3) BadText form (form ∷ []) refl (lt-ltb form 3 small),
+      (
+        source,
+        writes_text source,
+        writes n ++ tail,
+        refl,
+        zid_spelled source named,
+        (n, writes n, tail, refl, checked_spelled number (λ k. ltb 0 k) BadText n (writes n) (written_spells 8 n) (lt-ltb 0 n positive), s),
+      ),
+    )
+
+step_spelled : (source : List ℕ) (n : ℕ) (added : Bool) (d : Decl) → 0 < n → IsMade (Step source n added d) → declarations.spelled (Step source n added d) (writes_step source n added d)
+step_spelled source n true d positive made =
+    head_spelled 1 source n (Step source n true d) (writes_decl d) (omega arith) made.0 positive (d, writes_decl d, [], sym (append-nil (writes_decl d)), decl_spelled d made.1, (refl, refl))
+step_spelled source n false d positive made =
+    head_spelled 2 source n (Step source n false d) (writes_decl d) (omega arith) made.0 positive (d, writes_decl d, [], sym (append-nil (writes_decl d)), decl_spelled d made.1, (refl, refl))
+
+decls_spelled : (decls : List Decl) → decls_in_order None decls ≡ true → list_all is_decl decls ≡ true → (series next_decl None (length decls)).spelled decls (flat_map (λ d. writes_decl d) decls)
+decls_spelled decls ordered made =
+    series_spelled next_decl (λ d. writes_decl d) (λ last ds. (decls_in_order last ds ≡ true) × (list_all is_decl ds ≡ true)) each None decls (length decls) refl (ordered, made)
+  where
+    each : (last : Option Decl) (d : Decl) (ds : List Decl) → (decls_in_order last (d ∷ ds) ≡ true) × (list_all is_decl (d ∷ ds) ≡ true) → (next_decl last).spelled d (writes_decl d) × ((decls_in_order (Some d) ds ≡ true) × (list_all is_decl ds ≡ true))
+    each last d ds g =
+        let order = and_parts (decl_may_follow last d) (decls_in_order (Some d) ds) g.0 in
+        let keys = and_parts (is_decl d) (list_all is_decl ds) g.1 in
+        (checked_spelled decl (decl_may_follow last) BadText d (writes_decl d) (decl_spelled d keys.0) order.0, (order.1, keys.1))
+
+snap_spelled : (source : List ℕ) (n : ℕ) (decls : List Decl) → 0 < n → length decls < 2 ^ 32 → decls_in_order None decls ≡ true → IsMade (Snap source n decls) → declarations.spelled (Snap source n decls) (writes_snap source n decls)
+snap_spelled source n decls positive few ordered made =
+    let all : List ℕ = flat_map (λ d. writes_decl d) decls in
+    head_spelled 0 source n (Snap source n decls) (writes (length decls) ++ all) (omega arith) made.0 positive
+    (length decls, writes (length decls), all, refl, (few, written_spells 8 (length decls)), (decls, all, [], sym (append-nil all), decls_spelled decls ordered made.1, (refl, refl)))
+
+-- ---- how long the content is
+
+text_long : (t : List ℕ) → length (writes_text t) ≤ length t + 9
+text_long t = omega (arith, length-append (writes (length t)) t, written_long 8 (length t))
+
+ids_long : (ids : List (List ℕ)) → list_all is_zid ids ≡ true → length (flat_map (λ x. writes_text x) ids) ≤ 264 * length ids
+ids_long [] named = omega arith
+ids_long (id ∷ ids) named =
+    let both = and_parts (is_zid id) (list_all is_zid ids) named in
+    omega (arith, length-append (writes_text id) (flat_map (λ x. writes_text x) ids), text_long id, zid_small id both.0, ids_long ids both.1)
+
+record_long : (r : RecordState) → IsMade (State r) → length (writes_record r) ≤ 2 ^ 32 - 1
+record_long r made =
+    let few : length r.links < 2 ^ 16 = ltb-true (length r.links) (2 ^ 16) ((and_parts (ltb (length r.links) (2 ^ 16)) (are_in_order r.id None r.links) made.1).0) in
+    let ids : List ℕ = flat_map (λ x. writes_text x) r.links in
+    let long : length ids ≤ 264 * length r.links = ids_long r.links made.2 in
+    omega (
+      arith,
+      length-append (writes_text r.id) (writes r.seq ++ (writes (length r.links) ++ ids)),
+      length-append (writes r.seq) (writes (length r.links) ++ ids),
+      length-append (writes (length r.links)) ids,
+      text_long r.id,
+      zid_small r.id made.0,
+      written_long 8 r.seq,
+      written_long 8 (length r.links),
+      long,
+      few,
+    )
+
+step_long : (source : List ℕ) (n : ℕ) (added : Bool) (d : Decl) → IsMade (Step source n added d) → length (writes_step source n added d) ≤ 2 ^ 32 - 1
+step_long source n added d made =
+    let head : List ℕ = writes_text source ++ writes n in
+    omega (arith, length-append head (writes_decl d), length-append (writes_text source) (writes n), text_long source, zid_small source made.0, written_long 8 n, text_long d.key, key_small d.key made.1)
+
+-- ---- the message
+
+own_spelled : (message : Format Msg) (m : Msg) (text : List ℕ) → length text ≤ 2 ^ 32 - 1 → message.spelled m text → (own message 0x5F).spelled (Some m) (writes_text text)
+own_spelled message m text le s = (text, writes_text text, [], sym (append-nil (writes_text text)), text_spelled (2 ^ 32 - 1) text le, (m, [], [], refl, (s, refl), (refl, refl)))
+
+record_message : (m : Msg) (text : List ℕ) → (own state 0x5F).spelled (Some m) (writes_text text) → oam_format.spelled (Some m) (writes_own 0x5A01 text)
+record_message m text s = (0x5F, 0x5F ∷ [], writes 0x5A01 ++ writes_text text, refl, refl, (0x5A01, writes 0x5A01, writes_text text, refl, (omega arith, written_spells 8 0x5A01), s))
+
+entry_message : (m : Msg) (text : List ℕ) → (own declarations 0x5F).spelled (Some m) (writes_text text) → oam_format.spelled (Some m) (writes_own 0x5A02 text)
+entry_message m text s = (0x5F, 0x5F ∷ [], writes 0x5A02 ++ writes_text text, refl, refl, (0x5A02, writes 0x5A02, writes_text text, refl, (omega arith, written_spells 8 0x5A02), s))
+
+said : (m : Msg) → Fits m → IsMade m → oam_format.spelled (Some m) (writes_oam m)
+said (State r) fits made = record_message (State r) (writes_record r) (own_spelled state (State r) (writes_record r) (record_long r made) (state_spelled r made))
+said (Step source n added d) fits made =
+    entry_message (Step source n added d) (writes_step source n added d) (own_spelled declarations (Step source n added d) (writes_step source n added d) (step_long source n added d made) (step_spelled source n added d fits made))
+said (Snap source n decls) fits made =
+    entry_message (Snap source n decls) (writes_snap source n decls) (own_spelled declarations (Snap source n decls) (writes_snap source n decls) (omega (arith, fits.3)) (snap_spelled source n decls fits.0 fits.1 fits.2 made))
+said (Sub id key) fits made = absurd fits
+said (Unsub id) fits made = absurd fits
+said (Able id key complete) fits made = absurd fits
+said (Unable id) fits made = absurd fits
+said (Interest id current future kinds key aggregate) fits made = absurd fits
+said (EndInterest id) fits made = absurd fits
+said (ToldSub id key interest) fits made = absurd fits
+said (ToldAble id key complete interest) fits made = absurd fits
+said (ToldUnsub id) fits made = absurd fits
+said (ToldUnable id) fits made = absurd fits
+said (ToldEnd interest) fits made = absurd fits
+said (Push tree content) fits made = absurd fits
+said (Request tree id target content) fits made = absurd fits
+said (Response id content) fits made = absurd fits
+said (Final id extras) fits made = absurd fits
+
+pub message_spelled : (m : Msg) → CanBeWritten m → oam_format.spelled (Some m) (writes_oam m)
+message_spelled m h = said m h.0 h.1

@@ -1,0 +1,8 @@
+use Rattle.std.proofs.Common.{◌≡◌, ◌-◌, None}
+use Rattle.zr_format.specs.Reading.{last_of, series_of}
+use Rattle.zr_format.proofs.Series.{behind}
+use Rattle.zr_oam.specs.Reading.{link_of}
+use Rattle.zr_oam.proofs.record.read_links.Given as goal
+
+abbrev pub invariant-links : goal.invariant-links
+invariant-links l = behind l.links.items (series_of (link_of l.own) (last_of l.links.items) (l.count - l.counter) l.c) ≡ series_of (link_of l.own) None l.count l.fn.c

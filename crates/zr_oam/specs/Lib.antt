@@ -1,0 +1,4 @@
+pub mod Oam
+pub mod Reading
+pub mod Writing
+pub mod Laws
