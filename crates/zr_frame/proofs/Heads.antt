@@ -1,0 +1,44 @@
+-- What the heads of frames and fragments take.
+use Rattle.std.proofs.Common.{◌≡◌, ◌∙◌, ℕ, zero, suc, ◌+◌, ◌-◌, ◌/◌, ◌%◌, ◌<◌, ◌≤◌, Bool, true, false, cond, List, [], ◌∷◌, ◌++◌, length, append-nil, arith, ap, refl, nat_lt, Result, Ok, Err, IfOk}
+use Rattle.zr_bytes.specs.Number.{writes, writes_within}
+use Rattle.zr_trans.specs.Writing.{writes_trans}
+use Rattle.zr_trans.specs.declared.trans.Trans.TheVariants.{Frame, Fragment}
+use Rattle.zr_frame.specs.Outbox.{OutboxState, IsOutbox}
+use Rattle.zr_frame.specs.Packing.{room}
+
+length-within : (more value : ℕ) → length (writes_within more value) ≤ more + 1
+unfolding writes_within
+length-within zero value = omega arith
+length-within (suc more) value = by (nat_lt value 128) (length-within more (value / 128))
+  where
+    by : (b : Bool) → length (writes_within more (value / 128)) ≤ more + 1 →
+        length (cond b (value ∷ []) ((value % 128 + 128) ∷ writes_within more (value / 128))) ≤ suc more + 1
+    by true h = omega arith
+    by false h = omega (arith, h)
+
+-- a number takes nine bytes at most
+pub length-writes : (value : ℕ) → length (writes value) ≤ 9
+length-writes value = let h = length-within 8 value in omega (arith, h)
+
+pub length-fragment_head : (more : Bool) (n : ℕ) → length (writes_trans (Fragment true more n [])) ≤ 10
+length-fragment_head more n =
+    let few = length-writes n in
+    let none : length (writes n ++ []) ≡ length (writes n) = ap length (append-nil (writes n)) in
+    omega (arith, few, none)
+
+-- a fragment has room for a byte at least
+pub some_room : (o : OutboxState) → 64 ≤ o.batch → 0 < room o
+some_room o large = let few = length-fragment_head true o.next in omega (arith, large, few)
+
+-- the piece stands behind the head of its fragment
+pub piece_behind : (more : Bool) (n : ℕ) (piece : List ℕ) → writes_trans (Fragment true more n []) ++ piece ≡ writes_trans (Fragment true more n piece)
+piece_behind more n piece = rw (append-nil (writes n)) refl
+
+-- what a call wrote
+pub written_short : {E : Type 0} (more : Bool) (n : ℕ) (piece : List ℕ) (r : Result (List ℕ) E) → piece ≡ [] →
+    IfOk r (λ b. b ≡ writes_trans (Fragment true more n piece)) → IfOk r (λ b. length b ≤ 10)
+written_short more n piece (Ok b) e h =
+    let few = length-fragment_head more n in
+    let len : length b ≡ length (writes_trans (Fragment true more n [])) = ap length h ∙ ap (λ (p : List ℕ). length (writes_trans (Fragment true more n p))) e in
+    omega (arith, few, len)
+written_short more n piece (Err x) e h = tt

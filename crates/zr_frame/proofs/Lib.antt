@@ -1,0 +1,5 @@
+pub mod Heads
+pub mod Adding
+pub mod Splitting
+pub mod Lengths
+pub mod Receiving

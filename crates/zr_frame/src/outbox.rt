@@ -1,0 +1,96 @@
+//! What an end of a session sends by: how long a batch may be, and which number its next frame has.
+
+ghost use Rattle.std.specs.Prelude.{◌≡◌, ◌++◌, ◌<◌, ◌≤◌, map, OnOk, OnErr};
+ghost use Rattle.zr_frame.specs.Turn.{modulus_of};
+ghost use Rattle.zr_frame.specs.Outbox.{IsOutbox, advanced};
+ghost use Rattle.zr_frame.specs.Packing.{parcels};
+
+use crate::counter::modulus;
+use crate::packer::Packer;
+use std::alloc::{AllocError, Global};
+use std::marker::Model;
+use zr_bytes::ByteString;
+
+/// The least that a batch may hold, in bytes. Each end refuses less as a session opens.
+pub const LEAST_BATCH: u16 = 64;
+
+/// What both ends have agreed on as a session opened, for one direction of it, and where its frame numbers stand.
+#[derive(Clone, Copy, Debug)]
+pub struct Outbox {
+    batch: u16,
+    bits: u8,
+    next: u64,
+}
+
+impl Model for Outbox {
+    ghost use Rattle.std.specs.Prelude.{◌<◌, ◌≤◌};
+    ghost use Rattle.zr_frame.specs.Turn.{modulus_of};
+    ghost use Rattle.zr_frame.specs.Outbox.{OutboxState};
+
+    ghost Value = { OutboxState };
+
+    ghost view = { λ o. record { batch = o.batch; bits = o.bits; next = o.next } };
+
+    ghost invariant = { λ o. (64 ≤ o.batch) × (o.bits < 4) × (o.next < modulus_of o.bits) };
+
+    ghost inverse = { λ o. record { batch = o.batch; bits = o.bits; next = o.next } };
+}
+
+impl Outbox {
+    /// The most bytes of a batch, the two bits of the resolution of frame numbers, and the number of the first frame.
+    pub fn new(batch: u16, bits: u8, next: u64) -> Outbox
+        requires large { 64 ≤ batch }
+        requires two_bits { bits < 4 }
+        requires in_range { next < modulus_of bits }
+        ensures { result ≡ record { batch = batch; bits = bits; next = next } }
+    {
+        Outbox { batch, bits, next }
+    }
+
+    /// The most bytes of a batch.
+    pub fn batch(&self) -> u16
+        ensures value { result ≡ self.now.batch }
+        ensures valid { IsOutbox self.now }
+    {
+        self.batch
+    }
+
+    /// The two bits of the resolution of frame numbers.
+    pub fn bits(&self) -> u8
+        ensures { result ≡ self.now.bits }
+    {
+        self.bits
+    }
+
+    /// The number of the next frame.
+    pub fn next(&self) -> u64
+        ensures { result ≡ self.now.next }
+    {
+        self.next
+    }
+
+    /// One frame or fragment was sent.
+    pub(crate) fn advance(&mut self)
+        ensures { self.new ≡ advanced self.old }
+    {
+        self.next = (self.next + 1) % modulus(self.bits);
+    }
+
+    /// Appends the batches of messages that are written. A frame takes the next message while it fits; one that doesn't fit
+    /// a frame of its own goes in fragments. Where memory runs out nothing is appended, and the numbers stay.
+    pub fn pieces(
+        &mut self,
+        alloc: Global,
+        messages: &[ByteString],
+        out: &mut Vec<ByteString>,
+    ) -> Result<(), AllocError>
+        ensures batches { OnOk result (out.new.items ≡ out.old.items ++ (parcels self.old messages.now).batches) }
+        ensures outbox { OnOk result (self.new ≡ (parcels self.old messages.now).outbox) }
+        ensures err { OnErr result ((out.new.items ≡ out.old.items) × (self.new ≡ self.old)) }
+    {
+        let mut packer = Packer::new(alloc, *self);
+        packer.add_all(alloc, messages)?;
+        *self = packer.finish(out)?;
+        Ok(())
+    }
+}

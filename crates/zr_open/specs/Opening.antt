@@ -1,0 +1,8 @@
+-- What one end brings to an opening: its identifier, the secret of its cookies, the link's number, and a random word.
+use Rattle.std.specs.Prelude.{ℕ, List}
+
+pub record OpeningState : Type 0 where
+  pub me : List ℕ
+  pub secret : List ℕ
+  pub number : ℕ
+  pub word : ℕ

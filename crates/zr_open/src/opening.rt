@@ -1,0 +1,69 @@
+//! What one end brings to an opening.
+
+ghost use Rattle.std.specs.Prelude.{◌≡◌};
+ghost use Rattle.zr_trans.specs.Writing.{Fits};
+ghost use Rattle.zr_open.specs.Table.{greeting};
+
+use std::marker::Model;
+use zr_id::zid::Zid;
+use zr_trans::Trans;
+
+/// The version byte of Zenoh protocol 1.0.
+pub(crate) const VERSION: u8 = 0x09;
+/// The value of extension 9 of INIT, this profile's own: a router tells other routers its links.
+pub(crate) const SPEAKS: u64 = 1;
+/// The role bits of INIT.
+pub(crate) const ROUTER: u8 = 0;
+
+pub(crate) const CLIENT: u8 = 2;
+
+/// How many bytes the secret of the cookies has.
+pub(crate) const SECRET: usize = 32;
+
+/// One link of a router: what an opening on it starts from, at either end.
+#[derive(Debug, Drop)]
+pub struct Opening {
+    pub(crate) me: Zid,
+    pub(crate) secret: [u8; SECRET],
+    pub(crate) number: u64,
+    pub(crate) word: u64,
+}
+
+impl Model for Opening {
+    ghost use Rattle.zr_open.specs.Opening.{OpeningState};
+
+    ghost Value = { OpeningState };
+
+    ghost view = { λ o. record { me = o.me; secret = o.secret; number = o.number; word = o.word } };
+}
+
+impl Opening {
+    /// This router's identifier, the secret of its cookies, the link's number, and a random word, from which the number of
+    /// this end's first frame comes.
+    pub fn new(me: Zid, secret: &[u8; 32], number: u64, word: u64) -> Opening
+        ensures { result ≡ record { me = me; secret = secret.now; number = number; word = word } }
+    {
+        Opening {
+            me,
+            secret: *secret,
+            number,
+            word,
+        }
+    }
+
+    /// The INIT with which a dialling end begins. It proposes no sizes, so the usual ones.
+    pub fn greeting(&self) -> Trans
+        ensures value { result ≡ greeting self.now }
+        ensures fits { Fits result }
+    {
+        Trans::Init {
+            answer: false,
+            version: VERSION,
+            role: ROUTER,
+            id: self.me,
+            sizes: None,
+            cookie: None,
+            speaks: Some(SPEAKS),
+        }
+    }
+}
