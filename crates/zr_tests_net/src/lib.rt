@@ -1,0 +1,10 @@
+//! Tests of a router, of the world of a script, and of the judge of reports, and of what crosses crates.
+//! Each file tests one crate, as rows of a table. What the contracts say for all inputs is not tested.
+#![tactic(auto)]
+
+#[cfg(test)]
+mod judges;
+#[cfg(test)]
+mod nodes;
+#[cfg(test)]
+mod worlds;

@@ -1,0 +1,163 @@
+//! Who gets a sample, before and after what is remembered of its key has to be forgotten.
+
+use std::alloc::Global;
+use std::test::Fail;
+use zr_body::Body;
+use zr_id::link::LinkNo;
+use zr_id::zid::Zid;
+use zr_key::key::KeyExpr;
+use zr_msg::content::Content;
+use zr_msg::event::Event;
+use zr_msg::extras::Extras;
+use zr_msg::msg::Msg;
+use zr_msg::peer::{Peer, Role};
+use zr_node::node::Node;
+
+/// What comes in at a link.
+#[derive(Clone, Copy)]
+enum Step<'a> {
+    Sub(u32, &'a str),
+    Unsub(u32),
+    Sample(&'a str),
+    Down,
+    Up,
+}
+
+/// A link, what comes in there, and the links to which the router then sends, in order.
+type Row<'a> = (u32, Step<'a>, &'a [u32]);
+
+// A client's link comes up.
+fn up(number: u32) -> Result<Event, Fail> {
+    let [a, b, c, d] = number.to_be_bytes();
+    let id = Zid::from_bytes(&[1, a, b, c, d])?;
+    let link = LinkNo(number);
+    let role = Role::Client;
+    let peer = Peer { id, role };
+    Ok(Event::Up { link, peer })
+}
+
+// A router with links 0, 1 and 2.
+fn three_links(alloc: Global) -> Result<Node, Fail> {
+    let mut node = Node::new(alloc);
+    let mut out = Vec::new(alloc);
+    for number in 0..3 {
+        node.handle(alloc, &up(number)?, &mut out)?;
+    }
+    Ok(node)
+}
+
+// A message that comes from a link.
+fn from(link: LinkNo, msg: Msg) -> Event {
+    Event::From { link, msg }
+}
+
+fn sample(alloc: Global, text: &str) -> Result<Msg, Fail> {
+    let key = KeyExpr::read(alloc, text.as_bytes())?;
+    let content = Content::new(alloc, key, Extras::none(), Body::del(alloc)?)?;
+    Ok(Msg::Push {
+        tree: None,
+        content,
+    })
+}
+
+fn event(alloc: Global, number: u32, step: Step<'_>) -> Result<Event, Fail> {
+    let link = LinkNo(number);
+    match step {
+        Step::Sub(id, text) => {
+            let key = KeyExpr::read(alloc, text.as_bytes())?;
+            Ok(from(link, Msg::Sub { id, key }))
+        }
+        Step::Unsub(id) => Ok(from(link, Msg::Unsub { id })),
+        Step::Sample(text) => Ok(from(link, sample(alloc, text)?)),
+        Step::Down => Ok(Event::Down { link }),
+        Step::Up => up(number),
+    }
+}
+
+// The numbers of the links to which the router sends something on an event, in the order in which it does.
+fn receivers(alloc: Global, node: &mut Node, event: &Event) -> Result<Vec<u32>, Fail> {
+    let mut out = Vec::new(alloc);
+    node.handle(alloc, event, &mut out)?;
+    let mut numbers = Vec::new(alloc);
+    for (link, _) in &out {
+        numbers.push(link.0)?;
+    }
+    Ok(numbers)
+}
+
+// The first row that isn't so, where they come one after the other.
+fn first_wrong(alloc: Global, rows: &[Row<'_>]) -> Result<Option<usize>, Fail> {
+    let mut node = three_links(alloc)?;
+    for (i, (number, step, want)) in rows.iter().enumerate() {
+        let event = event(alloc, *number, *step)?;
+        let told = receivers(alloc, &mut node, &event)?;
+        if told.as_slice() != *want {
+            return Ok(Some(i));
+        }
+    }
+    Ok(None)
+}
+
+#[test]
+fn one_key_before_and_after_a_wildcard(rt: HostRuntime) -> Result<(), Fail> {
+    let rows: [Row<'_>; 6] = [
+        (2, Step::Sub(7, "a/b"), &[]),
+        (0, Step::Sample("a/b"), &[2]),
+        (1, Step::Sub(7, "a/*"), &[]),
+        (0, Step::Sample("a/b"), &[1, 2]),
+        (1, Step::Unsub(7), &[]),
+        (0, Step::Sample("a/b"), &[2]),
+    ];
+    assert_eq!(rt; first_wrong(rt.alloc(), &rows)?, None);
+    Ok(())
+}
+
+#[test]
+fn one_key_from_two_publishers(rt: HostRuntime) -> Result<(), Fail> {
+    let rows: [Row<'_>; 5] = [
+        (0, Step::Sub(1, "a/**"), &[]),
+        (1, Step::Sub(1, "a/**"), &[]),
+        (2, Step::Sub(1, "a/**"), &[]),
+        (0, Step::Sample("a/b"), &[1, 2]),
+        (1, Step::Sample("a/b"), &[0, 2]),
+    ];
+    assert_eq!(rt; first_wrong(rt.alloc(), &rows)?, None);
+    Ok(())
+}
+
+#[test]
+fn a_link_that_goes_down_and_comes_up_anew(rt: HostRuntime) -> Result<(), Fail> {
+    let rows: [Row<'_>; 6] = [
+        (1, Step::Sub(1, "a"), &[]),
+        (2, Step::Sub(1, "a"), &[]),
+        (0, Step::Sample("a"), &[1, 2]),
+        (1, Step::Down, &[]),
+        (1, Step::Up, &[]),
+        (0, Step::Sample("a"), &[2]),
+    ];
+    assert_eq!(rt; first_wrong(rt.alloc(), &rows)?, None);
+    Ok(())
+}
+
+#[test]
+fn a_message_has_64_bytes_at_most(rt: HostRuntime) {
+    assert!(rt; size_of::<Msg>() <= 64);
+}
+
+// How many links get a sample that comes from the first of so many, where the clients of all subscribe to its key.
+fn reached(alloc: Global, links: u32) -> Result<usize, Fail> {
+    let mut node = Node::new(alloc);
+    let mut out = Vec::new(alloc);
+    for number in 0..links {
+        node.handle(alloc, &up(number)?, &mut out)?;
+        node.handle(alloc, &event(alloc, number, Step::Sub(1, "a"))?, &mut out)?;
+    }
+    let sample = event(alloc, 0, Step::Sample("a"))?;
+    Ok(receivers(alloc, &mut node, &sample)?.len())
+}
+
+#[test]
+fn a_sample_goes_to_a_thousand_clients(rt: HostRuntime) -> Result<(), Fail> {
+    assert_eq!(rt; reached(rt.alloc(), 1024)?, 1023);
+    Ok(())
+}

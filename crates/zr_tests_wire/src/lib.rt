@@ -1,0 +1,14 @@
+//! Tests of the wire's formats: bytes, extensions, bodies, keys and transport messages.
+//! Each file tests one crate, as rows of a table. What the contracts say for all inputs is not tested.
+#![tactic(auto)]
+
+#[cfg(test)]
+mod bodies;
+#[cfg(test)]
+mod bytes;
+#[cfg(test)]
+mod extensions;
+#[cfg(test)]
+mod keys;
+#[cfg(test)]
+mod transport;
