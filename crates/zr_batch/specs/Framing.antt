@@ -9,6 +9,10 @@ framed batch = length batch % 256 ∷ length batch / 256 ∷ batch
 abbrev pub IsFramed : List ℕ → List ℕ → Type 0
 IsFramed bytes batch = (low : ℕ) × (high : ℕ) × (bytes ≡ low ∷ high ∷ batch) × (length batch ≡ low + 256 * high)
 
+-- The bytes are a batch behind its length, and others.
+abbrev pub BeginsWith : List ℕ → List ℕ → List ℕ → Type 0
+BeginsWith bytes batch others = (front : List ℕ) × (bytes ≡ front ++ others) × IsFramed front batch
+
 -- The bytes are these batches, each behind its length, and then the rest.
 abbrev pub Are : List ℕ → List (List ℕ) → List ℕ → Type 0
 Are bytes [] rest = bytes ≡ rest

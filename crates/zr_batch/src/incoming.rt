@@ -2,7 +2,7 @@
 
 ghost use Rattle.std.specs.Prelude.{◌≡◌, ◌<◌, ◌≤◌, ◌++◌, [], length, IfSome, IfOk, OnErr};
 ghost use Rattle.std.specs.Prelude.{None, true, ◌+◌, ◌*◌};
-ghost use Rattle.zr_batch.specs.Framing.{IsFramed, lacks, is_within_one};
+ghost use Rattle.zr_batch.specs.Framing.{IsFramed, BeginsWith, lacks, is_within_one};
 
 use std::alloc::{AllocError, Global};
 use std::marker::Model;
@@ -11,8 +11,12 @@ use std::marker::Model;
 /// memory is taken for bytes that came alone.
 #[derive(Debug, Drop)]
 pub struct Incoming {
+    alloc: Global,
     bytes: Vec<u8>,
 }
+
+/// How many bytes are kept taken between two batches, at most.
+const MOST_IDLE: usize = 1024;
 
 impl Model for Incoming {
     ghost use Rattle.std.specs.Prelude.{◌≡◌, List, ℕ, true};
@@ -31,6 +35,7 @@ impl Incoming {
         ensures { result ≡ [] }
     {
         Incoming {
+            alloc,
             bytes: Vec::new(alloc),
         }
     }
@@ -54,12 +59,45 @@ impl Incoming {
         whole(&self.bytes)
     }
 
-    /// The batch was read.
+    /// Whether nothing came of the next batch.
+    pub fn is_empty(&self) -> bool
+        ensures { result ≡ true → self.now ≡ [] }
+    {
+        self.bytes.is_empty()
+    }
+
+    /// The batch was read. The memory of a long one is given back.
     pub fn clear(&mut self)
         ensures { self.new ≡ [] }
     {
-        self.bytes.clear();
+        if self.bytes.capacity() > MOST_IDLE {
+            self.bytes = Vec::new(self.alloc);
+        } else {
+            self.bytes.clear();
+        }
     }
+}
+
+/// The batch at the front of a piece where it is whole, and the bytes behind it: nothing is copied.
+pub fn split_batch(piece: &[u8]) -> Option<(&[u8], &[u8])>
+    ensures some { IfSome result (λ x. BeginsWith piece.now x.0.now x.1.now) }
+    ensures none { result ≡ None → 0 < lacks piece.now }
+{
+    let [low, high, bytes @ ..] = piece else {
+        return None;
+    };
+    split(bytes, length_of(*low, *high))
+}
+
+/// So many bytes, where there are as many, and the others.
+fn split(bytes: &[u8], size: usize) -> Option<(&[u8], &[u8])>
+    ensures some { IfSome result (λ x. (bytes.now ≡ x.0.now ++ x.1.now) × (length x.0.now ≡ size)) }
+    ensures none { result ≡ None → length bytes.now < size }
+{
+    if bytes.len() < size {
+        return None;
+    }
+    Some(bytes.split_at(size))
 }
 
 /// How many bytes are wanted before a batch can be read.

@@ -1,4 +1,3 @@
-pub mod Follows
-pub mod Carries
 pub mod Bodies
+pub mod Ends
 pub mod Payloads

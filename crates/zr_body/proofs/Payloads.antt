@@ -10,20 +10,21 @@ use Rattle.zr_bytes.specs.Reading.{Read, ◌>>=◌, byte_of}
 use Rattle.zr_bytes.proofs.Steps.{bind_ok, not_both, chosen}
 use Rattle.zr_bytes.proofs.Numbers.{written_spells}
 use Rattle.zr_bytes.proofs.Texts.{begins_text}
+use Rattle.zr_format.proofs.Follows.{is_read}
 use Rattle.zr_body.specs.declared.place.Place.{Place}
 use Rattle.zr_body.specs.declared.place.Place.TheVariants.{Push, Request, Response}
 use Rattle.zr_body.specs.Body.{body_format}
 use Rattle.zr_body.specs.Reading.{passed_if, no_payload, skip_timestamp, skip_number, skip_text, skip_extensions, read_payload, read_put, read_del, read_query, read_sample, read_reply, read_err, read_behind, payload_in}
 use Rattle.zr_body.specs.Payload.{put_body, del_body, value_read, payload_of, IsBodyTo}
-use Rattle.zr_body.proofs.Follows.{value_is}
-use Rattle.zr_body.proofs.Bodies.{carries_body, follows_body, front_is}
+use Rattle.zr_body.proofs.Bodies.{follows_body_format, front_is}
+use Rattle.zr_body.proofs.Ends.{ends_body}
 
 -- ---- what is read, by the id
 
 none_read : (said : Read (Unit {0})) (x rest : List ℕ) → no_payload said ≡ Ok (x, rest) → [] ≡ x
 none_read said x rest e =
     let step = bind_ok said (λ a. Ok ([], a.1)) (x, rest) e in
-    value_is [] x step.0.1 rest step.2
+    (is_read [] x step.0.1 rest step.2).0
 
 del_has_none : (h : ℕ) (bytes x rest : List ℕ) → read_del h bytes ≡ Ok (x, rest) → [] ≡ x
 unfolding read_del
@@ -88,31 +89,28 @@ payload_is Response (h ∷ bytes) x rest e =
 
 pub is_body_to : (place : Place) (body x : List ℕ) → payload_in place body ≡ Ok (x, []) → IsBodyTo (length body - length x) body
 is_body_to place body x e =
-    let found = (follows_body place).found body [] x e in
-    let whole : found.0 ≡ body = sym (found.2 ∙ append-nil found.0) in
-    let cut = (carries_body place).ends body [] x e in
-    let parted : body ≡ cut.0 ++ x = cut.1 ∙ ap (λ (xs : List ℕ). cut.0 ++ xs) (append-nil x) in
+    let begins = ((follows_body_format place).found body [] x e).0 in
+    let whole : begins.0 ≡ body = sym (begins.2 ∙ append-nil begins.0) in
+    let cut = (ends_body place).ends x begins.0 begins.1 in
+    let parted : body ≡ cut.0 ++ x = sym whole ∙ cut.1 in
     let total : length body ≡ length cut.0 + length x = ap length parted ∙ length-append cut.0 x in (
-      (place, subst (body_format place).spelled whole found.1),
+      (place, (x, subst ((body_format place).spelled x) whole begins.1)),
       omega (arith, total),
       ap (drop (length body - length x)) parted ∙ drop_at cut.0 x (length body - length x) (omega (arith, total)) ∙ sym (payload_is place body x [] e),
     )
 
 -- what was read of some bytes is read of the body alone
-pub body_alone : (place : Place) (bytes rest x : List ℕ) → payload_in place bytes ≡ Ok (x, rest) → payload_in place (take (length bytes - length rest) bytes) ≡ Ok (x, [])
+body_alone : (place : Place) (bytes rest x : List ℕ) → payload_in place bytes ≡ Ok (x, rest) → payload_in place (take (length bytes - length rest) bytes) ≡ Ok (x, [])
 body_alone place bytes rest x e =
-    let found = (follows_body place).found bytes rest x e in
-    let again = (follows_body place).again found.0 found.1 in
-    let here : payload_in place (found.0 ++ rest) ≡ Ok (x, rest) = ap (payload_in place) (sym found.2) ∙ e in
-    let same : again.0 ≡ x = value_is again.0 x rest rest (sym (again.1 rest) ∙ here) in
-    let front : take (length bytes - length rest) bytes ≡ found.0 = ap (λ (xs : List ℕ). take (length xs - length rest) xs) found.2 ∙ front_is found.0 rest in
-    let alone : payload_in place (found.0 ++ []) ≡ Ok (again.0, []) = again.1 [] in
-    ap (payload_in place) (front ∙ sym (append-nil found.0)) ∙ alone ∙ ap (λ (y : List ℕ). Ok (y, [])) same
+    let begins = ((follows_body_format place).found bytes rest x e).0 in
+    let front : take (length bytes - length rest) bytes ≡ begins.0 = ap (λ (xs : List ℕ). take (length xs - length rest) xs) begins.2 ∙ front_is begins.0 rest in
+    ap (payload_in place) (front ∙ sym (append-nil begins.0)) ∙ (follows_body_format place).again begins.0 [] x begins.1 tt
 
 pub payload_fits : (place : Place) (bytes rest x : List ℕ) → payload_in place bytes ≡ Ok (x, rest) → length x + length rest ≤ length bytes
 payload_fits place bytes rest x e =
-    let cut = (carries_body place).ends bytes rest x e in
-    omega (arith, ap length cut.1, length-append cut.0 (x ++ rest), length-append x rest)
+    let begins = ((follows_body_format place).found bytes rest x e).0 in
+    let cut = (ends_body place).ends x begins.0 begins.1 in
+    omega (arith, ap length begins.2, length-append begins.0 rest, ap length cut.1, length-append cut.0 x)
 
 pub read_is_body : (place : Place) (bytes rest x : List ℕ) → payload_in place bytes ≡ Ok (x, rest) → IsBodyTo (length bytes - length rest - length x) (take (length bytes - length rest) bytes)
 read_is_body place bytes rest x e =
@@ -134,3 +132,6 @@ pub put_is_body : (payload : List ℕ) (start : ℕ) → length payload < 2 ^ 32
 put_is_body payload start small e =
     let at : start ≡ length (put_body payload) - length payload = omega (arith, e) in
     subst (λ (n : ℕ). IsBodyTo n (put_body payload)) (sym at) (is_body_to Push (put_body payload) payload (put_read payload small))
+
+pub del_is_body : IsBodyTo 1 del_body
+del_is_body = is_body_to Push del_body [] del_read

@@ -1,4 +1,3 @@
-pub mod Format
 pub mod Body
 pub mod Reading
 pub mod Payload

@@ -1,8 +1,9 @@
 -- Bodies that a script makes, and what is seen of any body.
 use Rattle.std.specs.Prelude.{◌≡◌, ◌≤◌, ℕ, Bool, false, List, [], ◌∷◌, length, drop, Ok, Err, if◌then◌else◌}
+use Rattle.zr_bytes.specs.Flag.{has_id}
 use Rattle.zr_bytes.specs.Text.{writes_text}
 use Rattle.zr_bytes.specs.Reading.{Read}
-use Rattle.zr_body.specs.Body.{has_id, IsBody}
+use Rattle.zr_body.specs.Body.{IsBody}
 use Rattle.zr_body.specs.Reading.{read_put, read_reply, read_err}
 
 -- a PUT of a payload, without flags and extensions

@@ -9,8 +9,7 @@ use crate::place::Place;
 use std::alloc::Global;
 use zr_bytes::{Cursor, ReadError};
 use zr_ext::read_chain;
-
-pub(crate) const ID: u8 = 0x1F;
+use zr_format::header::{EXTENSIONS, ID};
 
 pub(crate) const PUT: u8 = 1;
 
@@ -30,9 +29,6 @@ const CONSOLIDATION: u8 = 0x20;
 const ENCODING: u8 = 0x40;
 /// Of QUERY.
 const PARAMETERS: u8 = 0x40;
-/// Of all.
-const EXTENSIONS: u8 = 0x80;
-
 /// The most bytes of a clock's identifier, of a schema, of parameters and of a payload.
 const MOST_CLOCK: u64 = 16;
 

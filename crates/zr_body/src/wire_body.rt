@@ -4,11 +4,12 @@ ghost use Rattle.std.specs.Prelude.{◌≡◌, ◌++◌, ◌<◌, ◌^◌, lengt
 ghost use Rattle.zr_body.specs.Body.{IsBody};
 ghost use Rattle.zr_body.specs.Payload.{put_body, del_body, payload_of, is_del, IsBodyTo};
 
-use crate::skipping::{DEL, ID, PUT};
+use crate::skipping::{DEL, PUT};
 use std::alloc::{AllocError, Global};
 use std::marker::Model;
 use std::sync::ArcSlice;
 use zr_bytes::put_bytes;
+use zr_format::header::ID;
 
 /// How many bytes stand before a payload at most, where a body has neither flags nor extensions: its header and the payload's length.
 const MOST_HEAD: usize = 6;

@@ -20,16 +20,26 @@ pub enum Act {
     Router { id: Zid },
     /// A client whose link to its router is up at once.
     Client { id: Zid, router: Zid },
+    /// A link between two routers, up at neither end.
+    Link { one: Zid, other: Zid },
+    /// A router's end of its link to a neighbour comes up.
+    Up { router: Zid, neighbour: Zid },
+    /// The link of a router and its neighbour breaks, and what is on its wires is lost.
+    Break { router: Zid, neighbour: Zid },
+    /// A router notices that its link to a neighbour is broken, and what it has queued for the neighbour is lost.
+    Down { router: Zid, neighbour: Zid },
     /// A client declares a subscriber under an id.
     Sub { client: Zid, id: u32, key: KeyExpr },
     /// A client takes back what it declared under an id.
     Unsub { client: Zid, id: u32 },
     /// A client publishes a sample: a value or a deletion.
     Publish { client: Zid, content: Content },
-    /// A router handles the oldest message on the wire from a client.
+    /// A router handles the oldest message on the wire from a neighbour.
     Handle { router: Zid, from: Zid },
-    /// A router's oldest queued message for a client is sent to it.
+    /// A router's oldest queued message for a neighbour goes onto the wire to it, or is sent to it where it is a client.
     Take { router: Zid, to: Zid },
     /// A phase begins.
     Mark,
+    /// A router's tables are told.
+    Show { router: Zid },
 }

@@ -18,10 +18,14 @@ pub enum ScriptError {
     BadKey,
     #[error("the two are not linked")]
     NotLinked,
+    #[error("the two are linked already")]
+    AlreadyLinked,
     #[error("nothing waits there")]
     NothingThere,
-    #[error("a declaration is still under way")]
+    #[error("the network is not settled")]
     NotSettled,
+    #[error("not each router is reached from each other")]
+    NotJoined,
     #[error("a limit would be passed")]
     Limit,
     #[error("out of memory")]

@@ -1,19 +1,20 @@
 //! The lines of a report, one variant a form.
 
+use zr_id::record::LinkRecord;
 use zr_id::zid::Zid;
 use zr_msg::msg::Msg;
 
 /// What was seen of one step, or of a whole run. A tag is the number of the script line that the message comes from.
 #[derive(Debug, Drop)]
 pub enum ReportLine {
-    /// A router has handled a message of a client.
+    /// A router has handled a message of a neighbour.
     Handled {
         router: Zid,
         from: Zid,
         msg: Msg,
         tag: u64,
     },
-    /// A router's message was sent to a client.
+    /// A router's message went onto the wire to a neighbour, or was sent to it where it is a client.
     Taken {
         router: Zid,
         to: Zid,
@@ -28,5 +29,18 @@ pub enum ReportLine {
     /// A phase has begun with this line.
     Mark {
         line: u64,
+    },
+    /// A router's tables follow.
+    Show {
+        router: Zid,
+    },
+    /// The router has this link record.
+    Record {
+        record: LinkRecord,
+    },
+    /// The router's parent in the tree of a root; none where it isn't reached from there.
+    Parent {
+        root: Zid,
+        parent: Option<Zid>,
     },
 }

@@ -1,5 +1,5 @@
 -- The readers of declarations and interests follow their formats, put together part by part.
-use Rattle.std.proofs.Common.{◌≡◌, ℕ, ◌+◌, ◌-◌, ◌^◌, ◌%◌, Bool, not, ◌||◌, List, [], ◌++◌, length, Option, Some, None, eqb, cond, Ok}
+use Rattle.std.proofs.Common.{ℕ, ◌+◌, ◌^◌, ◌%◌, not, ◌||◌, [], ◌++◌, length, eqb}
 use Rattle.std.specs.Prelude.{nat_le, if◌then◌else◌}
 use Rattle.zr_bytes.specs.declared.read_error.ReadError.TheVariants.{BadText, BadKey}
 use Rattle.zr_bytes.specs.Flag.{has_id, has_flag}

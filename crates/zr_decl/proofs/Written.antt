@@ -1,15 +1,15 @@
 -- What is written spells the message that it is read as.
-use Rattle.std.proofs.Common.{◌≡◌, ℕ, zero, suc, ◌+◌, ◌^◌, ◌%◌, ◌<◌, Bool, true, false, not, ◌&&◌, ◌||◌, cond, List, [], ◌∷◌, ◌++◌, Option, Some, None, Ok, refl, sym, ap, subst, ◌∙◌, arith, eqb, inl, inr, append_assoc}
+use Rattle.std.proofs.Common.{◌≡◌, ℕ, ◌^◌, ◌%◌, ◌<◌, Bool, true, false, ◌&&◌, ◌||◌, List, [], ◌∷◌, ◌++◌, Option, Some, None, refl, sym, subst, arith}
 use Rattle.std.specs.Prelude.{is_some, if◌then◌else◌}
 use Rattle.std.proofs.lemmas.List.{append-nil}
-use Rattle.std.proofs.lemmas.Bool.{and_parts, cases_lt}
-use Rattle.zr_bytes.specs.Flag.{has_id, has_flag}
+use Rattle.std.proofs.lemmas.Bool.{and_parts}
+use Rattle.zr_bytes.specs.Flag.{has_flag}
 use Rattle.zr_bytes.specs.Number.{writes}
 use Rattle.zr_bytes.proofs.Numbers.{written_spells}
 use Rattle.zr_ext.specs.declared.ext.Ext.{Ext}
 use Rattle.zr_ext.specs.Header.{IsHeader}
-use Rattle.zr_format.specs.Format.{Format, gives, choose, optional, below, extensions, chain}
-use Rattle.zr_format.specs.Writing.{writes_header}
+use Rattle.zr_ext.proofs.Trying.{all_below, all_below-at, same_bool, same_bool-true}
+use Rattle.zr_format.specs.Format.{gives, choose, optional, below, extensions, chain}
 use Rattle.zr_wirekey.specs.Scopes.{Texts}
 use Rattle.zr_wirekey.specs.Spelling.{key_format}
 use Rattle.zr_wirekey.specs.Writing.{writes_key}
@@ -19,8 +19,8 @@ use Rattle.zr_msg.specs.declared.msg.Msg.{Msg}
 use Rattle.zr_msg.specs.declared.msg.Msg.TheVariants.{Sub, Unsub, Able, Unable, Interest, EndInterest, ToldSub, ToldAble, ToldUnsub, ToldUnable, ToldEnd, Push, Request, Response, Final, State, Step, Snap}
 use Rattle.zr_decl.specs.declared.declared.Declared.{Declared}
 use Rattle.zr_decl.specs.declared.declared.Declared.TheVariants.{Told, Ignored}
-use Rattle.zr_decl.specs.Declare.{message_exts, info_ext, undeclared_ext, says_complete, wire_key, declaration, declare_format, wanted, interest_format}
-use Rattle.zr_decl.specs.Writing.{writes_some, writes_declare, writes_subscriber, complete_ext, writes_complete, writes_queryable, writes_undeclared, writes_final, writes_restriction, options_of, writes_interest, writes_end, writes_decl, tells, IsId, IsSomeId, IsKey, IsSomeKey, Declares, Asks}
+use Rattle.zr_decl.specs.Declare.{message_exts, info_ext, says_complete, wire_key, declaration, declare_format, wanted, interest_format}
+use Rattle.zr_decl.specs.Writing.{writes_some, writes_declare, complete_ext, writes_complete, writes_queryable, writes_undeclared, writes_restriction, options_of, writes_interest, writes_decl, tells, IsId, IsSomeId, IsKey, IsSomeKey, Declares, Asks}
 
 -- ---- parts
 
@@ -104,27 +104,6 @@ declaration_spelled theirs ours (Snap source number decls) h = absurd h
 
 -- ---- interests
 
-abbrev all_below : ℕ → (ℕ → Bool) → Bool
-all_below zero p = true
-all_below (suc n) p = p n && all_below n p
-
-below_at : (n : ℕ) (p : ℕ → Bool) → all_below n p ≡ true → (i : ℕ) → i < n → p i ≡ true
-below_at zero p h i lt = absurd (omega arith)
-below_at (suc n) p h i lt =
-    elim (cases_lt i n) [
-      | inl below ↦ below_at n p ((and_parts (p n) (all_below n p) h).1) i below
-      | inr ge ↦ let same : n ≡ i = omega arith in subst (λ (k : ℕ). p k ≡ true) same ((and_parts (p n) (all_below n p) h).0)
-    ]
-
-abbrev same_bool : Bool → Bool → Bool
-same_bool b c = cond b c (not c)
-
-is_same : (b c : Bool) → same_bool b c ≡ true → b ≡ c
-is_same true true h = refl
-is_same true false h = sym h
-is_same false true h = h
-is_same false false h = refl
-
 -- options say what they are made of: by trying each of the 16 kinds
 abbrev says : Bool → Bool → ℕ → Bool
 says restricted aggregate kinds =
@@ -146,15 +125,15 @@ record Says (kinds : ℕ) (restricted aggregate : Bool) : Type 0 where
 options_say : (kinds : ℕ) (restricted aggregate : Bool) → kinds < 16 → Says kinds restricted aggregate
 options_say kinds restricted aggregate lt =
     let o : ℕ = options_of kinds restricted aggregate in
-    let all : says restricted aggregate kinds ≡ true = below_at 16 (says restricted aggregate) (all_say restricted aggregate) kinds lt in
+    let all : says restricted aggregate kinds ≡ true = all_below-at 16 (says restricted aggregate) (all_say restricted aggregate) kinds lt in
     let one = and_parts (same_bool (has_flag o 0x10) restricted && same_bool (has_flag o 0x80) aggregate) (same_bool (has_flag o 0x20) restricted && same_bool (has_flag o 0x40) false) all in
     let front = and_parts (same_bool (has_flag o 0x10) restricted) (same_bool (has_flag o 0x80) aggregate) one.0 in
     let back = and_parts (same_bool (has_flag o 0x20) restricted) (same_bool (has_flag o 0x40) false) one.1 in
     record {
-      there = is_same (has_flag o 0x10) restricted front.0;
-      together = is_same (has_flag o 0x80) aggregate front.1;
-      named = is_same (has_flag o 0x20) restricted back.0;
-      mapped = is_same (has_flag o 0x40) false back.1;
+      there = same_bool-true (has_flag o 0x10) restricted front.0;
+      together = same_bool-true (has_flag o 0x80) aggregate front.1;
+      named = same_bool-true (has_flag o 0x20) restricted back.0;
+      mapped = same_bool-true (has_flag o 0x40) false back.1;
     }
 
 kinds_back : (kinds : ℕ) (restricted aggregate : Bool) → kinds < 16 → options_of kinds restricted aggregate % 16 ≡ kinds

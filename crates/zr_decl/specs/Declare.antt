@@ -1,6 +1,6 @@
 -- Declarations (Zenoh protocol 1.0, "DECLARE"). A header has the id in its low five bits, 0x80 where extensions follow, and two flags of the
 -- message's own; a flag that isn't named here is ignored.
-use Rattle.std.specs.Prelude.{◌≡◌, ℕ, ◌+◌, ◌-◌, ◌≤◌, ◌^◌, ◌%◌, Bool, false, not, ◌||◌, ◌==◌, if◌then◌else◌, nat_le, List, [], ◌∷◌, ◌++◌, length, Option, Some, None, Result, Ok, Err}
+use Rattle.std.specs.Prelude.{ℕ, ◌+◌, ◌^◌, ◌%◌, Bool, false, not, ◌||◌, ◌==◌, if◌then◌else◌, nat_le, List, [], ◌∷◌, ◌++◌, length, Option}
 use Rattle.zr_bytes.specs.declared.read_error.ReadError.TheVariants.{BadText, BadKey}
 use Rattle.zr_bytes.specs.Flag.{has_id, has_flag}
 use Rattle.zr_ext.specs.declared.ext.Ext.{Ext}

@@ -1,10 +1,10 @@
 -- The laws of declarations and interests: what a reading call answers is what the bytes spell, and what is written is read again.
 use Rattle.zr_bytes.specs.Spelling.{HasOneReading}
-use Rattle.zr_format.specs.Laws.{anywhere, IsReadBy, WrittenIsRead}
+use Rattle.zr_format.specs.Laws.{anywhere, IsReadBy, WrittenIsRead, SpelledIsWritten}
 use Rattle.zr_wirekey.specs.Scopes.{Texts}
 use Rattle.zr_decl.specs.Declare.{declare_format, interest_format}
 use Rattle.zr_decl.specs.Reading.{message_of, interest_of}
-use Rattle.zr_decl.specs.Writing.{writes_decl, tells, Declares, Asks}
+use Rattle.zr_decl.specs.Writing.{writes_decl, tells, IsDeclaration, Declares, Asks}
 
 abbrev pub DeclarationsAreRead : Type 0
 DeclarationsAreRead = (theirs ours : Texts) → IsReadBy anywhere (declare_format theirs ours) (message_of theirs ours)
@@ -24,3 +24,10 @@ InterestsHaveOneReading = (theirs ours : Texts) → HasOneReading (interest_form
 
 abbrev pub WrittenInterestsAreRead : Type 0
 WrittenInterestsAreRead = (theirs ours : Texts) → WrittenIsRead anywhere (interest_format theirs ours) (interest_of theirs ours) (λ m. m) writes_decl Asks
+
+-- Each declaration that has a spelling can be written, and each interest.
+abbrev pub SpelledDeclarationsAreWritten : Type 0
+SpelledDeclarationsAreWritten = (theirs ours : Texts) → SpelledIsWritten (declare_format theirs ours) tells (λ m. IsDeclaration m → Declares m)
+
+abbrev pub SpelledInterestsAreWritten : Type 0
+SpelledInterestsAreWritten = (theirs ours : Texts) → SpelledIsWritten (interest_format theirs ours) (λ m. m) Asks

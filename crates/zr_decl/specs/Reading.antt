@@ -1,8 +1,8 @@
 -- What reading a declaration or an interest answers, as a function of the bytes that are left. `Laws` ties it to the formats.
-use Rattle.std.specs.Prelude.{ℕ, ◌+◌, ◌-◌, ◌^◌, ◌%◌, Bool, not, ◌||◌, ◌==◌, nat_le, List, [], ◌++◌, length, Option, Some, None, Ok, Err, if◌then◌else◌}
+use Rattle.std.specs.Prelude.{ℕ, ◌+◌, ◌^◌, ◌%◌, not, ◌||◌, ◌==◌, nat_le, List, [], ◌++◌, length, Option, Ok, Err, if◌then◌else◌}
 use Rattle.zr_bytes.specs.declared.read_error.ReadError.TheVariants.{UnknownId, BadText, BadKey}
 use Rattle.zr_bytes.specs.Flag.{has_id, has_flag}
-use Rattle.zr_bytes.specs.Reading.{Read, ◌>>=◌, byte_of, number_below}
+use Rattle.zr_bytes.specs.Reading.{◌>>=◌, byte_of, number_below}
 use Rattle.zr_format.specs.Reading.{Reader, checked_of, optional_of, exts_of}
 use Rattle.zr_wirekey.specs.Scopes.{Texts}
 use Rattle.zr_wirekey.specs.Reading.{parts_of, key_of}

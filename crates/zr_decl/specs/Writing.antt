@@ -145,6 +145,27 @@ abbrev pub IsSomeKey : Option (List ℕ) → Type 0
 IsSomeKey None = Unit {0}
 IsSomeKey (Some key) = IsKey key
 
+-- a DECLARE, in either direction
+abbrev pub IsDeclaration : Msg → Type 0
+IsDeclaration (Sub _ _) = Unit {0}
+IsDeclaration (Unsub _) = Unit {0}
+IsDeclaration (Able _ _ _) = Unit {0}
+IsDeclaration (Unable _) = Unit {0}
+IsDeclaration (ToldSub _ _ _) = Unit {0}
+IsDeclaration (ToldAble _ _ _ _) = Unit {0}
+IsDeclaration (ToldUnsub _) = Unit {0}
+IsDeclaration (ToldUnable _) = Unit {0}
+IsDeclaration (ToldEnd _) = Unit {0}
+IsDeclaration (Interest _ _ _ _ _ _) = ⊥
+IsDeclaration (EndInterest _) = ⊥
+IsDeclaration (Push _ _) = ⊥
+IsDeclaration (Request _ _ _ _) = ⊥
+IsDeclaration (Response _ _) = ⊥
+IsDeclaration (Final _ _) = ⊥
+IsDeclaration (State _) = ⊥
+IsDeclaration (Step _ _ _ _) = ⊥
+IsDeclaration (Snap _ _ _) = ⊥
+
 -- the message declares or tells
 abbrev pub Declares : Msg → Type 0
 Declares (Sub id key) = IsId id × IsKey key
@@ -186,3 +207,12 @@ Asks (Final _ _) = ⊥
 Asks (State _) = ⊥
 Asks (Step _ _ _ _) = ⊥
 Asks (Snap _ _ _) = ⊥
+
+-- ---- what is read
+
+-- A message that was told can be told again.
+abbrev pub ToldFits : Declared → Type 0
+ToldFits (Told m) = Fits m
+ToldFits (Number n text) = Unit {0}
+ToldFits (Unnumber n) = Unit {0}
+ToldFits Ignored = Unit {0}

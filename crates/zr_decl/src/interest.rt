@@ -1,10 +1,11 @@
 //! Reading an interest.
 
-ghost use Rattle.std.specs.Prelude.{◌≡◌};
+ghost use Rattle.std.specs.Prelude.{◌≡◌, IfOk};
 ghost use Rattle.zr_bytes.specs.Flag.{has_flag};
 ghost use Rattle.zr_bytes.specs.Reading.{Keeps, Steps};
 ghost use Rattle.zr_format.specs.Reading.{optional_of, exts_of};
 ghost use Rattle.zr_decl.specs.Reading.{wire_key_of, wanted_of, ended_of, asked_of, interest_of};
+ghost use Rattle.zr_decl.specs.Writing.{Fits};
 
 use crate::parts::{AGGREGATE, CURRENT, FUTURE, INTEREST, KINDS, RESTRICTED};
 use crate::reading::{message_extensions, read_wire_key};
@@ -16,14 +17,15 @@ use zr_msg::msg::{Kinds, Msg};
 use zr_wirekey::Scopes;
 
 /// The interest at the front (Zenoh protocol 1.0, "INTEREST"), or the end of one: of a sender that declared `theirs` to a receiver that
-/// declared `ours`.
+/// declared `ours`. What was read can be written.
 pub fn read_interest(
     alloc: Global,
     c: &mut Cursor<'_>,
     theirs: &Scopes,
     ours: &Scopes,
 ) -> Result<Msg, ReadError>
-    ensures { Keeps (λ m. m) result (interest_of theirs.now ours.now c.old) c.old c.new }
+    ensures value { Keeps (λ m. m) result (interest_of theirs.now ours.now c.old) c.old c.new }
+    ensures fits { IfOk result (λ m. Fits m) }
 {
     let mut ahead = c.fork();
     let msg = message(alloc, &mut ahead, theirs, ours)?;

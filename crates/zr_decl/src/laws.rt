@@ -1,6 +1,6 @@
 //! The laws of declarations and interests, over their definitions alone.
 
-ghost use Rattle.zr_decl.specs.Laws.{DeclarationsAreRead, DeclarationsHaveOneReading, WrittenDeclarationsAreRead, InterestsAreRead, InterestsHaveOneReading, WrittenInterestsAreRead};
+ghost use Rattle.zr_decl.specs.Laws.{DeclarationsAreRead, DeclarationsHaveOneReading, WrittenDeclarationsAreRead, InterestsAreRead, InterestsHaveOneReading, WrittenInterestsAreRead, SpelledDeclarationsAreWritten, SpelledInterestsAreWritten};
 
 /// A declaration is read exactly where the bytes begin with one, and refused exactly for its first fault.
 pub fn declarations_are_read()
@@ -30,4 +30,14 @@ pub fn interests_have_one_reading()
 /// What is written is read again.
 pub fn written_interests_are_read()
     ensures { WrittenInterestsAreRead }
+{}
+
+/// Each declaration that has a spelling can be written.
+pub fn spelled_declarations_are_written()
+    ensures { SpelledDeclarationsAreWritten }
+{}
+
+/// Each interest that has a spelling can be written.
+pub fn spelled_interests_are_written()
+    ensures { SpelledInterestsAreWritten }
 {}

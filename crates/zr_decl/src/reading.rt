@@ -1,11 +1,12 @@
 //! Reading a declaration.
 
-ghost use Rattle.std.specs.Prelude.{◌≡◌, ◌+◌, ◌^◌, nat_le, length};
+ghost use Rattle.std.specs.Prelude.{◌≡◌, ◌+◌, ◌^◌, nat_le, length, IfOk};
 ghost use Rattle.zr_bytes.specs.Flag.{has_flag};
 ghost use Rattle.zr_bytes.specs.Reading.{Keeps, Steps, number_below};
 ghost use Rattle.zr_format.specs.Reading.{optional_of, exts_of};
 ghost use Rattle.zr_decl.specs.Declare.{says_complete, content_odd, message_exts, info_ext, undeclared_ext};
 ghost use Rattle.zr_decl.specs.Reading.{wire_key_of, number_of, text_of, keyexpr_of, undeclared_keyexpr_of, subscriber_of, queryable_of, token_of, undeclared_of, unsubscriber_of, unqueryable_of, untoken_of, final_of, declaration_of, declare_of, message_of, declared_of};
+ghost use Rattle.zr_decl.specs.Writing.{ToldFits};
 
 use crate::declared::Declared;
 use crate::parts::{
@@ -23,14 +24,16 @@ use zr_msg::msg::Msg;
 use zr_wirekey::{Scopes, read_key, read_parts};
 
 /// The declaration at the front (Zenoh protocol 1.0, "DECLARE"), of a sender that declared `theirs` to a receiver that declared `ours`. An
-/// interest that it answers is passed over. `Ignored` is for the end of what an interest asked for and, for now, for tokens.
+/// interest that it answers is passed over. `Ignored` is for the end of what an interest asked for and, for now, for tokens. What was told can be
+/// written.
 pub fn read_decl(
     alloc: Global,
     c: &mut Cursor<'_>,
     theirs: &Scopes,
     ours: &Scopes,
 ) -> Result<Declared, ReadError>
-    ensures { Keeps (λ d. d) result (declared_of theirs.now ours.now c.old) c.old c.new }
+    ensures value { Keeps (λ d. d) result (declared_of theirs.now ours.now c.old) c.old c.new }
+    ensures fits { IfOk result (λ d. ToldFits d) }
 {
     let mut ahead = c.fork();
     let declared = declared(alloc, &mut ahead, theirs, ours)?;

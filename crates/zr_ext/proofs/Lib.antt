@@ -1,4 +1,6 @@
+pub mod Trying
 pub mod Found
 pub mod One
 pub mod Many
 pub mod Written
+pub mod Distinct

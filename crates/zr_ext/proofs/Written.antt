@@ -1,11 +1,12 @@
 -- What is written spells the extensions: of a header by trying each of the 16 ids under each form and flag.
-use Rattle.std.proofs.Common.{◌≡◌, ℕ, zero, suc, ◌<◌, List, [], ◌∷◌, length, Bool, true, false, not, ◌&&◌, ◌||◌, cond, refl, sym, ap, subst, ◌∙◌, arith, inl, inr, eqb, filter}
+use Rattle.std.proofs.Common.{◌≡◌, ℕ, ◌<◌, List, [], ◌∷◌, length, Bool, true, false, not, ◌&&◌, ◌||◌, cond, refl, sym, ap, ◌∙◌, arith, eqb, filter}
 use Rattle.std.specs.Prelude.{bit_and, bit_or}
 use Rattle.std.specs.List.{AllByRecursion, list_all}
-use Rattle.std.proofs.lemmas.Bool.{and_parts, eqb-true, cases_lt}
+use Rattle.std.proofs.lemmas.Bool.{and_parts, eqb-true}
 use Rattle.zr_bytes.specs.Flag.{has_flag}
 use Rattle.zr_bytes.specs.Number.{writes}
 use Rattle.zr_bytes.proofs.Numbers.{written_spells}
+use Rattle.zr_ext.proofs.Trying.{all_below, all_below-at, same_bool, same_bool-true}
 use Rattle.zr_ext.specs.declared.ext.Ext.{Ext}
 use Rattle.zr_ext.specs.declared.ext.Content.{Content}
 use Rattle.zr_ext.specs.declared.ext.Content.TheVariants as content
@@ -15,30 +16,10 @@ use Rattle.zr_ext.specs.Header.{IsHeader, form_of, encoding_of}
 use Rattle.zr_ext.specs.Chain.{SpellsContent, SpellsExt, SpellsAll, SpellsChain, are_admitted, knows, lasts}
 use Rattle.zr_ext.specs.Writing.{Fits, ContentFits, writes_header, writes_content, writes_ext, writes_chain}
 
-abbrev all_below : ℕ → (ℕ → Bool) → Bool
-all_below zero p = true
-all_below (suc n) p = p n && all_below n p
-
-all_below-at : (n : ℕ) (p : ℕ → Bool) → all_below n p ≡ true → (i : ℕ) → i < n → p i ≡ true
-all_below-at zero p h i lt = absurd (omega arith)
-all_below-at (suc n) p h i lt =
-    elim (cases_lt i n) [
-      | inl below ↦ all_below-at n p ((and_parts (p n) (all_below n p) h).1) i below
-      | inr ge ↦ let same : n ≡ i = omega arith in subst (λ (k : ℕ). p k ≡ true) same ((and_parts (p n) (all_below n p) h).0)
-    ]
-
 -- ---- the header
 
 abbrev made : Bool → Form → Bool → ℕ → ℕ
 made m f more id = bit_or (bit_or (bit_or id (cond m 0x10 0)) (encoding_of f)) (cond more 0x80 0)
-
-abbrev same_bool : Bool → Bool → Bool
-same_bool b c = cond b c (not c)
-
-same_bool-true : (b c : Bool) → same_bool b c ≡ true → c ≡ b
-same_bool-true true c h = h
-same_bool-true false true h = sym h
-same_bool-true false false h = refl
 
 -- the header says what it is made of
 abbrev says : Bool → Form → Bool → ℕ → Bool
@@ -70,9 +51,9 @@ header_says ext more lt =
     let two = (and_parts (eqb (bit_and h 0x0F) ext.id && same_bool (has_flag h 0x10) m) (eqb (bit_and h 0x60) (encoding_of f) && same_bool (has_flag h 0x80) more) all).1 in
     record {
       id = sym (eqb-true (bit_and h 0x0F) ext.id ((and_parts (eqb (bit_and h 0x0F) ext.id) (same_bool (has_flag h 0x10) m) one).0));
-      mandatory = same_bool-true (has_flag h 0x10) m ((and_parts (eqb (bit_and h 0x0F) ext.id) (same_bool (has_flag h 0x10) m) one).1);
+      mandatory = sym (same_bool-true (has_flag h 0x10) m ((and_parts (eqb (bit_and h 0x0F) ext.id) (same_bool (has_flag h 0x10) m) one).1));
       form = sym (eqb-true (bit_and h 0x60) (encoding_of f) ((and_parts (eqb (bit_and h 0x60) (encoding_of f)) (same_bool (has_flag h 0x80) more) two).0));
-      goes_on = same_bool-true (has_flag h 0x80) more ((and_parts (eqb (bit_and h 0x60) (encoding_of f)) (same_bool (has_flag h 0x80) more) two).1);
+      goes_on = sym (same_bool-true (has_flag h 0x80) more ((and_parts (eqb (bit_and h 0x60) (encoding_of f)) (same_bool (has_flag h 0x80) more) two).1));
     }
 
 -- ---- the chain

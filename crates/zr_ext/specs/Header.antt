@@ -1,6 +1,6 @@
 -- The header of an extension (Zenoh protocol 1.0): the id in its low four bits, M (mandatory) at 0x10, the encoding
 -- of the content at 0x60, and 0x80 where another extension follows.
-use Rattle.std.specs.Prelude.{◌≡◌, ℕ, Bool, List, ◌==◌, ◌&&◌, bit_and}
+use Rattle.std.specs.Prelude.{◌≡◌, ℕ, Bool, List, Option, Some, None, ◌==◌, ◌&&◌, bit_and}
 use Rattle.std.specs.List.{list_any}
 use Rattle.zr_bytes.specs.Flag.{has_flag}
 use Rattle.zr_ext.specs.declared.ext.Ext.{Ext}
@@ -14,6 +14,12 @@ abbrev pub form_of : Content → Form
 form_of content.Unit = Unit
 form_of (content.Number n) = Number
 form_of (content.Bytes b) = Bytes
+
+-- the number that a content is, where it is one
+abbrev pub content_number : Content → Option ℕ
+content_number content.Unit = None
+content_number (content.Number n) = Some n
+content_number (content.Bytes b) = None
 
 -- the encoding of a form, as it stands in a header
 abbrev pub encoding_of : Form → ℕ

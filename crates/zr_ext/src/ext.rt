@@ -1,7 +1,7 @@
 //! An extension of a message or a body.
 
 ghost use Rattle.std.specs.Prelude.{◌≡◌};
-ghost use Rattle.zr_ext.specs.Header.{form_of, same_form};
+ghost use Rattle.zr_ext.specs.Header.{form_of, content_number, same_form};
 
 use zr_bytes::ByteString;
 
@@ -40,6 +40,16 @@ impl Content {
             Content::Unit => Form::Unit,
             Content::Number(_) => Form::Number,
             Content::Bytes(_) => Form::Bytes,
+        }
+    }
+
+    /// The number, where it is one.
+    pub fn number(&self) -> Option<u64>
+        ensures { result ≡ content_number self.now }
+    {
+        match self {
+            Content::Number(value) => Some(*value),
+            Content::Unit | Content::Bytes(_) => None,
         }
     }
 }

@@ -25,3 +25,9 @@ allows_spelled r f x y bytes e s = subst (λ r. (r allows f).spelled y bytes) (s
 pub spelled_allows : {X Y : Type 0} (r : Result X ReadError) (f : X → Format Y) (y : Y) (bytes : List ℕ) → (r allows f).spelled y bytes → (x : X) × (r ≡ Ok x) × (f x).spelled y bytes
 spelled_allows (Ok x) f y bytes s = (x, refl, s)
 spelled_allows (Err e) f y bytes s = absurd s
+
+-- what holds of the values of both formats holds of those of the one that is chosen
+pub chosen_holds : {X : Type 0} (P : X → Type 0) (b : Bool) (p q : Format X) → ((x : X) (bytes : List ℕ) → p.spelled x bytes → P x) → ((x : X) (bytes : List ℕ) → q.spelled x bytes → P x)
+    → (x : X) (bytes : List ℕ) → (choose b p q).spelled x bytes → P x
+chosen_holds P true p q f g = f
+chosen_holds P false p q f g = g

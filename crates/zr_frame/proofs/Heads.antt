@@ -1,24 +1,15 @@
 -- What the heads of frames and fragments take.
-use Rattle.std.proofs.Common.{◌≡◌, ◌∙◌, ℕ, zero, suc, ◌+◌, ◌-◌, ◌/◌, ◌%◌, ◌<◌, ◌≤◌, Bool, true, false, cond, List, [], ◌∷◌, ◌++◌, length, append-nil, arith, ap, refl, nat_lt, Result, Ok, Err, IfOk}
-use Rattle.zr_bytes.specs.Number.{writes, writes_within}
+use Rattle.std.proofs.Common.{◌≡◌, ◌∙◌, ℕ, ◌<◌, ◌≤◌, Bool, true, List, [], ◌++◌, length, append-nil, arith, ap, refl, Result, Ok, Err, IfOk}
+use Rattle.zr_bytes.specs.Number.{writes}
+use Rattle.zr_bytes.proofs.Numbers.{written_long}
 use Rattle.zr_trans.specs.Writing.{writes_trans}
-use Rattle.zr_trans.specs.declared.trans.Trans.TheVariants.{Frame, Fragment}
-use Rattle.zr_frame.specs.Outbox.{OutboxState, IsOutbox}
+use Rattle.zr_trans.specs.declared.trans.Trans.TheVariants.{Fragment}
+use Rattle.zr_frame.specs.Outbox.{OutboxState}
 use Rattle.zr_frame.specs.Packing.{room}
-
-length-within : (more value : ℕ) → length (writes_within more value) ≤ more + 1
-unfolding writes_within
-length-within zero value = omega arith
-length-within (suc more) value = by (nat_lt value 128) (length-within more (value / 128))
-  where
-    by : (b : Bool) → length (writes_within more (value / 128)) ≤ more + 1 →
-        length (cond b (value ∷ []) ((value % 128 + 128) ∷ writes_within more (value / 128))) ≤ suc more + 1
-    by true h = omega arith
-    by false h = omega (arith, h)
 
 -- a number takes nine bytes at most
 pub length-writes : (value : ℕ) → length (writes value) ≤ 9
-length-writes value = let h = length-within 8 value in omega (arith, h)
+length-writes value = let h = written_long 8 value in omega (arith, h)
 
 pub length-fragment_head : (more : Bool) (n : ℕ) → length (writes_trans (Fragment true more n [])) ≤ 10
 length-fragment_head more n =

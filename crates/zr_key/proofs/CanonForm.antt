@@ -80,7 +80,8 @@ ordered_leads false (AnyChunks ∷ e) = ordered_leads true e
 ordered_leads true (Pieces p ∷ e) = LeadsTo-cons AnyChunks (LeadsTo-cons (Pieces p) (ordered_leads false e))
 ordered_leads false (Pieces p ∷ e) = LeadsTo-cons (Pieces p) (ordered_leads false e)
 
-some_chunks : (e : List Chunk) → is_expression e ≡ true → list_all is_chunk e ≡ true
+-- each chunk of an expression is one
+pub some_chunks : (e : List Chunk) → is_expression e ≡ true → list_all is_chunk e ≡ true
 some_chunks [] h = cc
 some_chunks (x ∷ e) h = h
 

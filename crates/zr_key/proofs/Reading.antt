@@ -5,12 +5,11 @@ use Rattle.std.proofs.lemmas.Str.{IsUtf8-from_is_utf8, is_utf8-from_IsUtf8}
 use Rattle.std.proofs.lemmas.Bool.{ltb-false, le-ltb, false≢true}
 use Rattle.zr_key.specs.declared.key.KeyError.{KeyError}
 use Rattle.zr_key.specs.declared.key.KeyError.TheVariants.{TooLong, NotUtf8}
-use Rattle.zr_key.specs.Expression.{Chunk, spelled, is_chunk, is_expression, is_canonical, Spells, Reads, LeadsTo, Matches}
+use Rattle.zr_key.specs.Expression.{Chunk, spelled, is_expression, is_canonical, Spells, ReadsAs, LeadsTo, Matches}
 use Rattle.zr_key.specs.Key.{chunks, expression_of, canonical, first_fault, unless_faulty, read_key, IsKeyText}
 use Rattle.zr_key.proofs.Spelling.{IsSpelling, IsSpelling-from_fault, IsRead-from_expression}
-use Rattle.zr_key.proofs.CanonForm.{canonical-leads, is_canonical-canonical, LeadsTo-is_expression}
+use Rattle.zr_key.proofs.CanonForm.{some_chunks, canonical-leads, is_canonical-canonical, LeadsTo-is_expression}
 use Rattle.zr_key.proofs.SameKeys.{LeadsTo-forth, LeadsTo-back}
-use Rattle.std.specs.List.{list_all}
 use Rattle.zr_key.proofs.Settled.{canonical_kept}
 use Rattle.zr_key.proofs.Text.{LeadsTo-utf8, LeadsTo-length}
 
@@ -79,7 +78,7 @@ Sound-from_read text t h =
       key = subst IsKeyText (sym p.1) (canonical_text text p.0);
     }
 
-pub is_reading : (text t : List ℕ) → read_key text ≡ Ok t → (e : List Chunk) × Reads text e × (t ≡ spelled e)
+pub is_reading : (text t : List ℕ) → read_key text ≡ Ok t → (e : List Chunk) × ReadsAs text e × (t ≡ spelled e)
 is_reading text t h =
     let s = Sound-from_read text t h in
     (canonical (expression_of text), (expression_of text, (s.spelling.expression, sym s.spelling.spells), s.leads, is_canonical-canonical (expression_of text)), s.text_is)
@@ -99,10 +98,6 @@ reading_keeps text t e h r key =
       λ m. subst (λ x. Matches x key) (sym s.read_back) (LeadsTo-forth s.leads key (subst (λ x. Matches x key) (sym same) m)),
       λ m. subst (λ x. Matches x key) same (LeadsTo-back s.leads key (subst (λ x. Matches x key) s.read_back m)),
     )
-
-some_chunks : (e : List Chunk) → is_expression e ≡ true → list_all is_chunk e ≡ true
-some_chunks [] h = cc
-some_chunks (x ∷ e) h = h
 
 pub read_again : (t : List ℕ) → IsKeyText t → read_key t ≡ Ok t
 read_again [] h = cc

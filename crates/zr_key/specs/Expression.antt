@@ -151,5 +151,5 @@ abbrev pub Spells : List ℕ → List Chunk → Type 0
 Spells text e = (is_expression e ≡ true) × (text ≡ spelled e)
 
 -- A text is read as an expression: it spells one from which replacements lead to it, and it is canonical.
-abbrev pub Reads : List ℕ → List Chunk → Type 0
-Reads text e = (spelt : List Chunk) × Spells text spelt × LeadsTo spelt e × (is_canonical e ≡ true)
+abbrev pub ReadsAs : List ℕ → List Chunk → Type 0
+ReadsAs text e = (spelt : List Chunk) × Spells text spelt × LeadsTo spelt e × (is_canonical e ≡ true)

@@ -2,12 +2,12 @@
 use Rattle.std.specs.Prelude.{◌≡◌, ◌↔◌, ◌≤◌, ◌<◌, ℕ, List, [], ◌∷◌, length, nat_le, Ok, true, encode_utf8}
 use Rattle.std.specs.Str.{is_utf8, chars}
 use Rattle.std.specs.List.{list_all}
-use Rattle.zr_key.specs.Expression.{Chunk, spelled, Spells, Reads, LeadsTo, Matches}
+use Rattle.zr_key.specs.Expression.{Chunk, spelled, Spells, ReadsAs, LeadsTo, Matches}
 use Rattle.zr_key.specs.Key.{expression_of, read_key}
 
 -- The text that is read is that of a canonical expression to which replacements lead from the one that was spelled.
 abbrev pub IsReading : Type 0
-IsReading = (text canonical : List ℕ) → read_key text ≡ Ok canonical → (e : List Chunk) × Reads text e × (canonical ≡ spelled e)
+IsReading = (text canonical : List ℕ) → read_key text ≡ Ok canonical → (e : List Chunk) × ReadsAs text e × (canonical ≡ spelled e)
 
 -- Each UTF-8 text of at most 2,048 bytes that spells an expression is read.
 abbrev pub ReadsEach : Type 0

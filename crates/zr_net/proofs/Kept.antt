@@ -1,15 +1,14 @@
 -- The extensions that are written of a message: they ascend, each has a spelling, and they say what the message has.
-use Rattle.std.proofs.Common.{◌≡◌, ℕ, ◌+◌, ◌<◌, ◌≤◌, ◌^◌, Bool, true, false, not, ◌&&◌, ◌||◌, cond, List, [], ◌∷◌, ◌++◌, length, Option, Some, None, Ok, refl, sym, ap, subst, ◌∙◌, arith, eqb, leb, ltb, inl, inr, append_assoc}
+use Rattle.std.proofs.Common.{◌≡◌, ℕ, ◌+◌, ◌<◌, ◌≤◌, Bool, true, false, List, [], ◌∷◌, ◌++◌, Option, Some, None, Ok, refl, sym, ap, subst, ◌∙◌, arith, eqb, inl, inr}
 use Rattle.std.specs.Prelude.{nat_le, fold}
-use Rattle.std.specs.List.{list_all, list_any, AllByRecursion}
+use Rattle.std.specs.List.{list_all, AllByRecursion}
 use Rattle.std.proofs.lemmas.Bool.{and_parts, eqb-true, le-leb, leb-true, cases_Bool}
 use Rattle.zr_bytes.specs.Flag.{has_flag}
 use Rattle.zr_ext.specs.declared.ext.Ext.{Ext}
-use Rattle.zr_ext.specs.declared.ext.Content.TheVariants as content
 use Rattle.zr_ext.specs.declared.ext.Form.{Form}
 use Rattle.zr_ext.specs.declared.ext.Form.TheVariants as form
 use Rattle.zr_ext.specs.Header.{is_known}
-use Rattle.zr_ext.specs.Chain.{knows, repeats, is_repeated, lasts}
+use Rattle.zr_ext.specs.Chain.{knows, is_repeated, lasts}
 use Rattle.zr_ext.specs.Writing.{Fits, ascends_from}
 use Rattle.zr_msg.specs.declared.extras.Extras.{Extras}
 use Rattle.zr_msg.specs.declared.msg.Target.{Target}

@@ -1,3 +1,5 @@
 pub mod Messages
 pub mod Kept
 pub mod Written
+pub mod Marks
+pub mod Fitting

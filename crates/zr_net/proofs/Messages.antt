@@ -1,5 +1,5 @@
 -- The reader of network messages follows their format, put together part by part.
-use Rattle.std.proofs.Common.{◌≡◌, ℕ, ◌^◌, ◌++◌, List, Option, Ok, refl}
+use Rattle.std.proofs.Common.{ℕ, ◌^◌}
 use Rattle.zr_bytes.specs.Flag.{has_id}
 use Rattle.zr_bytes.specs.Reading.{byte_of, number_below}
 use Rattle.zr_format.specs.Format.{byte, below, extensions}
@@ -7,10 +7,10 @@ use Rattle.zr_format.specs.Reading.{exts_of}
 use Rattle.zr_format.specs.Laws.{anywhere}
 use Rattle.zr_format.proofs.Follows.{Follows, follows_gives, follows_unknown, follows_choose, follows_then, follows_allows, follows_byte, follows_below, follows_extensions}
 use Rattle.zr_wirekey.specs.Scopes.{Texts}
-use Rattle.zr_body.specs.declared.place.Place.{Place}
 use Rattle.zr_body.specs.declared.place.Place.TheVariants as place
+use Rattle.zr_body.specs.Body.{body}
 use Rattle.zr_body.specs.Reading.{body_of}
-use Rattle.zr_body.proofs.Bodies.{body_found, body_read, body_refused, refused_body}
+use Rattle.zr_body.proofs.Bodies.{follows_body}
 use Rattle.zr_msg.specs.declared.msg.Msg.TheVariants.{Push, Request, Response, Final}
 use Rattle.zr_msg.specs.declared.peer.Role.{Role}
 use Rattle.zr_decl.specs.declared.declared.Declared.TheVariants.{Told}
@@ -18,16 +18,8 @@ use Rattle.zr_decl.specs.Declare.{wire_key, declare, interest}
 use Rattle.zr_decl.specs.Reading.{wire_key_of, declare_of, asked_of}
 use Rattle.zr_decl.proofs.Messages.{follows_wire_key, follows_declare, follows_asked}
 use Rattle.zr_net.specs.Exts.{push_known, request_known, response_known, final_known, number_at, bytes_at, extras_of, target_of, tree_of}
-use Rattle.zr_net.specs.Net.{body, push, request, response, final, declared, asked, behind, net_format}
+use Rattle.zr_net.specs.Net.{push, request, response, final, declared, asked, behind, net_format}
 use Rattle.zr_net.specs.Reading.{push_of, request_of, response_of, final_of, declared_of, told_of, behind_of, net_of}
-
-follows_body : (at : Place) → Follows anywhere (body at) (body_of at)
-follows_body at = record {
-  found = λ bytes rest x e. (body_found at bytes rest x e, tt);
-  again = λ front rest x s ends. body_read at (front ++ rest) rest x (front, s, refl);
-  refused = body_refused at;
-  refuses = refused_body at;
-}
 
 follows_push : (role : Role) (theirs ours : Texts) (header : ℕ) → Follows anywhere (push role theirs ours header) (push_of role theirs ours header)
 unfolding push_of

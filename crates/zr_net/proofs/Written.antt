@@ -1,10 +1,10 @@
 -- What is written spells the message.
-use Rattle.std.proofs.Common.{◌≡◌, ℕ, ◌<◌, ◌≤◌, ◌^◌, Bool, true, false, not, ◌&&◌, List, [], ◌∷◌, ◌++◌, length, Option, Some, None, Ok, refl, sym, ap, subst, ◌∙◌, arith, eqb, ltb, leb, inl, inr}
+use Rattle.std.proofs.Common.{◌≡◌, ℕ, ◌≤◌, Bool, true, false, not, ◌&&◌, List, [], ◌∷◌, ◌++◌, length, Option, Some, None, Ok, refl, sym, ap, subst, ◌∙◌, arith, eqb, inl, inr}
 use Rattle.std.specs.Prelude.{bit_and, if◌then◌else◌, nat_lt, nat_le}
 use Rattle.std.specs.List.{list_all, AllByRecursion}
 use Rattle.std.proofs.lemmas.List.{append-nil}
 use Rattle.std.proofs.lemmas.Bool.{and_parts, leb-true, eqb-true, cases_Bool}
-use Rattle.zr_bytes.specs.Flag.{has_id, has_flag}
+use Rattle.zr_bytes.specs.Flag.{has_flag}
 use Rattle.zr_bytes.specs.Number.{writes}
 use Rattle.zr_bytes.proofs.Numbers.{written_spells}
 use Rattle.zr_ext.specs.declared.ext.Ext.{Ext}
@@ -15,12 +15,12 @@ use Rattle.zr_ext.proofs.Written.{chain_again}
 use Rattle.zr_format.specs.Format.{Format, gives, choose, ◌then◌, ◌allows◌, extensions, chain}
 use Rattle.zr_format.specs.Writing.{writes_header}
 use Rattle.zr_format.proofs.Spelled.{allows_spelled}
-use Rattle.zr_id.specs.Zid.{is_zid}
 use Rattle.zr_wirekey.specs.Scopes.{Texts}
 use Rattle.zr_wirekey.specs.Spelling.{key_format}
 use Rattle.zr_wirekey.specs.Writing.{writes_key}
 use Rattle.zr_wirekey.proofs.Keys.{whole_is_read, number_is_read}
 use Rattle.zr_body.specs.declared.place.Place.TheVariants as place
+use Rattle.zr_body.specs.Body.{body}
 use Rattle.zr_msg.specs.declared.content.Parts.{Parts}
 use Rattle.zr_msg.specs.declared.extras.Extras.{Extras}
 use Rattle.zr_msg.specs.declared.msg.Target.{Target}
@@ -33,7 +33,7 @@ use Rattle.zr_decl.specs.declared.declared.Declared.{Declared}
 use Rattle.zr_decl.specs.declared.declared.Declared.TheVariants.{Told}
 use Rattle.zr_decl.specs.Declare.{wire_key}
 use Rattle.zr_net.specs.Exts.{push_known, request_known, response_known, final_known, number_at, bytes_at, extras_of, target_of, tree_of}
-use Rattle.zr_net.specs.Net.{body, push, request, response, final, behind, net_format}
+use Rattle.zr_net.specs.Net.{push, request, response, final, net_format}
 use Rattle.zr_net.specs.Writing.{kept_exts, has_any, writes_keyed, writes_content, writes_net, TextFits, TreeFits, KeyFits, CanBeSent}
 use Rattle.zr_net.proofs.Kept.{exts_ascend, ascending_lasts, extras_back, target_back, tree_back, exts_fit, push_knows, request_knows, response_knows, final_knows}
 

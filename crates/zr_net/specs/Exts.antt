@@ -1,15 +1,15 @@
 -- Extensions of network messages (Zenoh protocol 1.0, "Network messages"; which are known, and which are mandatory, is this profile's choice).
 -- Quality of service (1), timestamp (2), responder (3, bytes), target (4), budget (5) and timeout (6) are passed on, each with the M that it was read
 -- with. The node id (3, a number) is not. The root of a message's tree (7) stands on links between routers alone.
-use Rattle.std.specs.Prelude.{ℕ, ◌==◌, ◌&&◌, ◌||◌, not, Bool, true, false, List, [], ◌∷◌, ◌++◌, Option, Some, None, Result, Ok, Err, if◌then◌else◌, fold, bit_or}
+use Rattle.std.specs.Prelude.{ℕ, ◌==◌, ◌&&◌, ◌||◌, not, Bool, false, List, [], ◌∷◌, Option, Some, None, Result, Ok, Err, if◌then◌else◌, fold, bit_or}
 use Rattle.zr_bytes.specs.declared.read_error.ReadError.{ReadError}
 use Rattle.zr_bytes.specs.declared.read_error.ReadError.TheVariants.{BadText}
-use Rattle.zr_bytes.specs.Flag.{has_flag}
 use Rattle.zr_ext.specs.declared.ext.Ext.{Ext}
 use Rattle.zr_ext.specs.declared.ext.Content.{Content}
 use Rattle.zr_ext.specs.declared.ext.Content.TheVariants as content
 use Rattle.zr_ext.specs.declared.ext.Form.{Form}
 use Rattle.zr_ext.specs.declared.ext.Form.TheVariants as form
+use Rattle.zr_ext.specs.Header.{content_number}
 use Rattle.zr_id.specs.Zid.{is_zid}
 use Rattle.zr_msg.specs.declared.extras.Extras.{Extras}
 use Rattle.zr_msg.specs.declared.msg.Target.{Target}
@@ -41,11 +41,7 @@ final_known = (1, form.Number) ∷ (2, form.Bytes) ∷ []
 
 -- ---- what they say
 
-abbrev pub content_number : Content → Option ℕ
-content_number content.Unit = None
-content_number (content.Number n) = Some n
-content_number (content.Bytes b) = None
-
+-- the bytes that a content is, where it is some
 abbrev pub content_bytes : Content → Option (List ℕ)
 content_bytes content.Unit = None
 content_bytes (content.Number n) = None

@@ -1,22 +1,17 @@
 -- Network messages (Zenoh protocol 1.0, "Network messages"). A header has the id in its low five bits, 0x80 where extensions follow, and two flags
 -- of the message's own: N (0x20), the key has a suffix, and M (0x40), the sender declared its scope. A flag that isn't named here is ignored.
-use Rattle.std.specs.Prelude.{◌≡◌, ℕ, ◌^◌, List, Option, Some, None}
+use Rattle.std.specs.Prelude.{ℕ, ◌^◌}
 use Rattle.zr_bytes.specs.Flag.{has_id}
 use Rattle.zr_format.specs.Format.{Format, gives, unknown, choose, ◌then◌, ◌allows◌, byte, below, extensions}
 use Rattle.zr_wirekey.specs.Scopes.{Texts}
-use Rattle.zr_body.specs.declared.place.Place.{Place}
 use Rattle.zr_body.specs.declared.place.Place.TheVariants as place
-use Rattle.zr_body.specs.Body.{body_format, SpellsBody}
+use Rattle.zr_body.specs.Body.{body}
 use Rattle.zr_msg.specs.declared.msg.Msg.TheVariants.{Push, Request, Response, Final}
 use Rattle.zr_msg.specs.declared.peer.Role.{Role}
 use Rattle.zr_decl.specs.declared.declared.Declared.{Declared}
 use Rattle.zr_decl.specs.declared.declared.Declared.TheVariants.{Told}
 use Rattle.zr_decl.specs.Declare.{wire_key, declare, interest}
 use Rattle.zr_net.specs.Exts.{push_known, request_known, response_known, final_known, number_at, bytes_at, extras_of, target_of, tree_of}
-
--- a body of a message of this kind, byte for byte
-abbrev pub body : Place → Format (List ℕ)
-body at = record { spelled = SpellsBody at; refused = (body_format at).refused }
 
 -- PUSH: a key, and a PUT or DEL
 abbrev pub push : Role → Texts → Texts → ℕ → Format Declared

@@ -1,5 +1,5 @@
 -- What reading a network message answers, as a function of the bytes that are left. `Laws` ties it to the format.
-use Rattle.std.specs.Prelude.{ℕ, ◌^◌, List, Option, Some, None, Ok, Err, if◌then◌else◌}
+use Rattle.std.specs.Prelude.{ℕ, ◌^◌, Ok, Err, if◌then◌else◌}
 use Rattle.zr_bytes.specs.declared.read_error.ReadError.TheVariants.{UnknownId}
 use Rattle.zr_bytes.specs.Flag.{has_id}
 use Rattle.zr_bytes.specs.Reading.{◌>>=◌, byte_of, number_below}

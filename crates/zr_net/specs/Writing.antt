@@ -1,5 +1,5 @@
 -- The one spelling of a network message that is written, and which of them have a spelling.
-use Rattle.std.specs.Prelude.{◌≡◌, ◌⊎◌, ℕ, ◌<◌, ◌≤◌, ◌^◌, ◌==◌, Bool, true, false, not, List, [], ◌∷◌, ◌++◌, length, Option, Some, None, Ok}
+use Rattle.std.specs.Prelude.{◌≡◌, ◌⊎◌, ℕ, ◌<◌, ◌^◌, ◌==◌, Bool, true, false, not, List, [], ◌∷◌, ◌++◌, length, Option, Some, None}
 use Rattle.zr_bytes.specs.Flag.{has_flag}
 use Rattle.zr_bytes.specs.Number.{writes}
 use Rattle.zr_ext.specs.declared.ext.Ext.{Ext}
@@ -10,7 +10,7 @@ use Rattle.zr_id.specs.Zid.{is_zid}
 use Rattle.zr_wirekey.specs.Scopes.{Texts, text_at}
 use Rattle.zr_wirekey.specs.Writing.{writes_key}
 use Rattle.zr_body.specs.declared.place.Place.TheVariants as place
-use Rattle.zr_body.specs.Body.{body_format}
+use Rattle.zr_body.specs.Body.{IsBodyIn}
 use Rattle.zr_msg.specs.declared.content.Parts.{Parts}
 use Rattle.zr_msg.specs.declared.extras.Extras.{Extras}
 use Rattle.zr_msg.specs.declared.msg.Target.{Target}
@@ -19,7 +19,10 @@ use Rattle.zr_msg.specs.declared.msg.Msg.{Msg}
 use Rattle.zr_msg.specs.declared.msg.Msg.TheVariants.{Sub, Unsub, Able, Unable, Interest, EndInterest, ToldSub, ToldAble, ToldUnsub, ToldUnable, ToldEnd, Push, Request, Response, Final, State, Step, Snap}
 use Rattle.zr_msg.specs.declared.peer.Role.{Role}
 use Rattle.zr_msg.specs.declared.peer.Role.TheVariants.{Client, Router}
+use Rattle.zr_decl.specs.declared.declared.Declared.{Declared}
+use Rattle.zr_decl.specs.declared.declared.Declared.TheVariants.{Told, Number, Unnumber, Ignored}
 use Rattle.zr_decl.specs.Writing.{IsId, IsKey}
+use Rattle.zr_decl.specs.Writing as decl
 use Rattle.zr_net.specs.Exts.{marks_of}
 
 -- ---- extensions
@@ -141,6 +144,27 @@ NumberFits (Some n) = n < 2 ^ 64
 abbrev pub NumbersFit : Extras → Type 0
 NumbersFit extras = NumberFits extras.qos × NumberFits extras.budget × NumberFits extras.timeout
 
+-- The message is one of these four, and its numbers are of 64 bits.
+abbrev pub IsOfNumbers : Msg → Type 0
+IsOfNumbers (Push tree content) = NumbersFit content.extras
+IsOfNumbers (Request tree id target content) = NumbersFit content.extras
+IsOfNumbers (Response id content) = NumbersFit content.extras
+IsOfNumbers (Final id extras) = NumbersFit extras
+IsOfNumbers (Sub _ _) = ⊥
+IsOfNumbers (Unsub _) = ⊥
+IsOfNumbers (Able _ _ _) = ⊥
+IsOfNumbers (Unable _) = ⊥
+IsOfNumbers (Interest _ _ _ _ _ _) = ⊥
+IsOfNumbers (EndInterest _) = ⊥
+IsOfNumbers (ToldSub _ _ _) = ⊥
+IsOfNumbers (ToldAble _ _ _ _) = ⊥
+IsOfNumbers (ToldUnsub _) = ⊥
+IsOfNumbers (ToldUnable _) = ⊥
+IsOfNumbers (ToldEnd _) = ⊥
+IsOfNumbers (State _) = ⊥
+IsOfNumbers (Step _ _ _ _) = ⊥
+IsOfNumbers (Snap _ _ _) = ⊥
+
 -- a tree stands on links between routers alone
 abbrev pub TreeFits : Role → Option (List ℕ) → Type 0
 TreeFits role None = Unit {0}
@@ -154,11 +178,11 @@ KeyFits theirs number key = IsKey key × ((number ≡ 0) ⊎ ((0 < number) × (n
 -- Such a message is read again by a peer of a sender of this role, which declared `theirs`: its body is one of its kind.
 abbrev pub CanBeSent : Role → Texts → ℕ → Msg → Type 0
 CanBeSent role theirs number (Push tree content) =
-    Fits (Push tree content) × NumbersFit content.extras × TreeFits role tree × KeyFits theirs number content.key × (body_format place.Push).spelled content.body
+    Fits (Push tree content) × NumbersFit content.extras × TreeFits role tree × KeyFits theirs number content.key × IsBodyIn place.Push content.body
 CanBeSent role theirs number (Request tree id target content) =
-    Fits (Request tree id target content) × NumbersFit content.extras × TreeFits role tree × KeyFits theirs number content.key × (body_format place.Request).spelled content.body × IsId id
+    Fits (Request tree id target content) × NumbersFit content.extras × TreeFits role tree × KeyFits theirs number content.key × IsBodyIn place.Request content.body × IsId id
 CanBeSent role theirs number (Response id content) =
-    Fits (Response id content) × NumbersFit content.extras × KeyFits theirs number content.key × (body_format place.Response).spelled content.body × IsId id
+    Fits (Response id content) × NumbersFit content.extras × KeyFits theirs number content.key × IsBodyIn place.Response content.body × IsId id
 CanBeSent role theirs number (Final id extras) = Fits (Final id extras) × NumbersFit extras × IsId id
 CanBeSent role theirs number (Sub _ _) = ⊥
 CanBeSent role theirs number (Unsub _) = ⊥
@@ -174,3 +198,33 @@ CanBeSent role theirs number (ToldEnd _) = ⊥
 CanBeSent role theirs number (State _) = ⊥
 CanBeSent role theirs number (Step _ _ _ _) = ⊥
 CanBeSent role theirs number (Snap _ _ _) = ⊥
+
+-- ---- what is read
+
+-- The message has a spelling: a network message, a declaration or an interest.
+abbrev pub AnyFits : Msg → Type 0
+AnyFits (Push tree content) = Fits (Push tree content)
+AnyFits (Request tree id target content) = Fits (Request tree id target content)
+AnyFits (Response id content) = Fits (Response id content)
+AnyFits (Final id extras) = Fits (Final id extras)
+AnyFits (Sub id key) = decl.Fits (Sub id key)
+AnyFits (Unsub id) = decl.Fits (Unsub id)
+AnyFits (Able id key complete) = decl.Fits (Able id key complete)
+AnyFits (Unable id) = decl.Fits (Unable id)
+AnyFits (Interest id current future kinds key aggregate) = decl.Fits (Interest id current future kinds key aggregate)
+AnyFits (EndInterest id) = decl.Fits (EndInterest id)
+AnyFits (ToldSub id key interest) = decl.Fits (ToldSub id key interest)
+AnyFits (ToldAble id key complete interest) = decl.Fits (ToldAble id key complete interest)
+AnyFits (ToldUnsub id) = decl.Fits (ToldUnsub id)
+AnyFits (ToldUnable id) = decl.Fits (ToldUnable id)
+AnyFits (ToldEnd interest) = decl.Fits (ToldEnd interest)
+AnyFits (State links) = decl.Fits (State links)
+AnyFits (Step source number added d) = decl.Fits (Step source number added d)
+AnyFits (Snap source number decls) = decl.Fits (Snap source number decls)
+
+-- A message that was told can be told again.
+abbrev pub ToldFits : Declared → Type 0
+ToldFits (Told m) = AnyFits m
+ToldFits (Number n text) = Unit {0}
+ToldFits (Unnumber n) = Unit {0}
+ToldFits Ignored = Unit {0}

@@ -2,7 +2,7 @@
 
 ghost use Rattle.std.specs.Prelude.{◌≡◌, IfOk, Some, None, drop, fold, option_copied};
 ghost use Rattle.zr_format.specs.Reading.{Makes};
-ghost use Rattle.zr_net.specs.Exts.{content_number, content_bytes, number_in, number_at, bytes_in, bytes_at, is_kept_number, is_kept_content, bit_of, with_mark, marks_of, extras_of, target_of, tree_of};
+ghost use Rattle.zr_net.specs.Exts.{content_bytes, number_in, number_at, bytes_in, bytes_at, is_kept_number, is_kept_content, bit_of, with_mark, marks_of, extras_of, target_of, tree_of};
 
 use crate::parts::{
     ALL, BEST, BUDGET, BUDGET_MARK, COMPLETE, QOS, QOS_MARK, RESPONDER, RESPONDER_MARK, TARGET,
@@ -90,10 +90,7 @@ fn number_in(ext: &Ext, id: u8) -> Option<u64>
     if ext.id != id {
         return None;
     }
-    match &ext.content {
-        Content::Number(value) => Some(*value),
-        Content::Unit | Content::Bytes(_) => None,
-    }
+    ext.content.number()
 }
 
 /// A copy of the bytes that the extension of this id says.

@@ -1,6 +1,6 @@
 //! The laws of network messages, over their definitions alone.
 
-ghost use Rattle.zr_net.specs.Laws.{NetIsRead, NetHasOneReading, WrittenNetIsRead};
+ghost use Rattle.zr_net.specs.Laws.{NetIsRead, NetHasOneReading, WrittenNetIsRead, SpelledNetIsWritten};
 
 /// A message is read exactly where the bytes begin with one, and refused exactly for its first fault.
 pub fn net_is_read()
@@ -15,4 +15,9 @@ pub fn net_has_one_reading()
 /// What is written is read again.
 pub fn written_net_is_read()
     ensures { WrittenNetIsRead }
+{}
+
+/// Each message that has a spelling can be written.
+pub fn spelled_net_is_written()
+    ensures { SpelledNetIsWritten }
 {}

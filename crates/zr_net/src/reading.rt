@@ -1,10 +1,11 @@
 //! Reading a network message.
 
-ghost use Rattle.std.specs.Prelude.{◌≡◌};
+ghost use Rattle.std.specs.Prelude.{◌≡◌, IfOk};
 ghost use Rattle.zr_bytes.specs.Reading.{Keeps, Steps};
 ghost use Rattle.zr_format.specs.Reading.{exts_of};
 ghost use Rattle.zr_net.specs.Exts.{push_known, request_known, response_known, final_known};
 ghost use Rattle.zr_net.specs.Reading.{push_of, request_of, response_of, final_of, declared_of, told_of, behind_of, net_of};
+ghost use Rattle.zr_net.specs.Writing.{ToldFits};
 
 use crate::exts;
 use crate::parts::{
@@ -26,7 +27,7 @@ use zr_wirekey::Scopes;
 
 /// The network message at the front (Zenoh protocol 1.0, "Network messages"), of a sender of this role that declared `theirs` to a receiver that
 /// declared `ours`. The tree of a message is known from routers alone. `UnknownId` is for any other message, those between routers
-/// among them.
+/// among them. What was told can be written.
 pub fn read_net(
     alloc: Global,
     c: &mut Cursor<'_>,
@@ -34,7 +35,8 @@ pub fn read_net(
     ours: &Scopes,
     role: Role,
 ) -> Result<Declared, ReadError>
-    ensures { Keeps (λ d. d) result (net_of role theirs.now ours.now c.old) c.old c.new }
+    ensures value { Keeps (λ d. d) result (net_of role theirs.now ours.now c.old) c.old c.new }
+    ensures fits { IfOk result (λ d. ToldFits d) }
 {
     let mut ahead = c.fork();
     let declared = message(alloc, &mut ahead, theirs, ours, role)?;

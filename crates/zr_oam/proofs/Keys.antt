@@ -1,21 +1,9 @@
 -- What a test on identifiers or on keys tells.
-use Rattle.std.proofs.Common.{◌≡◌, ℕ, ◌≤◌, List, [], ◌∷◌, length, true, false, not, ◌&&◌, ◌==◌, refl, arith, inl, inr, nat_eq, nat_lt, nat_le}
-use Rattle.std.specs.Cmp.Lexicographic.{pointwise}
+use Rattle.std.proofs.Common.{◌≡◌, ℕ, ◌≤◌, List, [], ◌∷◌, length, true, false, not, ◌&&◌, ◌==◌, refl, arith, inl, inr, nat_lt, nat_le}
 use Rattle.std.specs.List.{list_all}
-use Rattle.std.proofs.lemmas.Bool.{and_parts, eqb-true, leb-true, ltb-false, cases_Bool}
+use Rattle.std.proofs.lemmas.Bool.{and_parts, leb-true, ltb-false, cases_Bool}
 use Rattle.zr_id.specs.Zid.{is_zid}
 use Rattle.zr_oam.specs.Oam.{is_canonical}
-
--- texts that are the same byte by byte
-pub same_bytes : (a b : List ℕ) → pointwise nat_eq a b ≡ true → a ≡ b
-same_bytes [] [] e = refl
-same_bytes [] (y ∷ b) e = absurd cc
-same_bytes (x ∷ a) [] e = absurd cc
-same_bytes (x ∷ a) (y ∷ b) e =
-    let both = and_parts (nat_eq x y) (pointwise nat_eq a b) e in
-    let head : x ≡ y = eqb-true x y both.0 in
-    let tail : a ≡ b = same_bytes a b both.1 in
-    λ i. head i ∷ tail i
 
 -- an identifier is short
 pub zid_small : (id : List ℕ) → is_zid id ≡ true → length id ≤ 255

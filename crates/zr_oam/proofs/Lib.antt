@@ -1,3 +1,4 @@
 pub mod Keys
 pub mod Messages
 pub mod Written
+pub mod Fitting

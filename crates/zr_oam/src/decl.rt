@@ -180,7 +180,7 @@ fn read_key(alloc: Global, c: &mut Cursor<'_>) -> Result<KeyExpr, ReadError>
     canonical(alloc, text)
 }
 
-#[tactic(auto, using(crate::proofs::Keys::same_bytes))]
+#[tactic(auto, using(zr_key::proofs::Spelling::same_bytes))]
 fn canonical(alloc: Global, text: &[u8]) -> Result<KeyExpr, ReadError>
     ensures { Makes (λ key. key) result (if is_canonical text.now then Ok text.now else Err ReadError.BadText) }
 {

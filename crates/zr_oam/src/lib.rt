@@ -9,6 +9,6 @@ mod reading;
 mod record;
 mod writing;
 
-pub use laws::{oam_has_one_reading, oam_is_read, written_oam_is_read};
+pub use laws::{oam_has_one_reading, oam_is_read, spelled_oam_is_written, written_oam_is_read};
 pub use reading::read_oam;
 pub use writing::write_oam;

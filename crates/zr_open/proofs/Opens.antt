@@ -1,16 +1,16 @@
 -- Both ends open.
-use Rattle.std.proofs.Common.{◌≡◌, ◌∙◌, ap, refl, sym, ℕ, ◌+◌, ◌*◌, ◌/◌, ◌%◌, ◌<◌, ◌≤◌, ◌==◌, min, Bool, true, false, cond, ◌&&◌, List, [], ◌∷◌, Option, Some, None, Ok, nat_lt, nat_eq, mod-lt, arith}
+use Rattle.std.proofs.Common.{◌≡◌, ap, refl, sym, ℕ, ◌+◌, ◌*◌, ◌%◌, ◌<◌, ◌≤◌, ◌==◌, Bool, true, false, cond, ◌&&◌, List, [], ◌∷◌, Option, Some, None, nat_lt, nat_eq, mod-lt, arith}
 use Rattle.std.proofs.lemmas.Bool.Decides.{nat_tests}
 use Rattle.std.specs.Cmp.Lexicographic.{pointwise}
 use Rattle.zr_trans.specs.declared.trans.Sizes.{Sizes}
-use Rattle.zr_trans.specs.declared.trans.Trans.TheVariants.{Init, Open}
+use Rattle.zr_trans.specs.declared.trans.Trans.TheVariants.{Open}
 use Rattle.zr_msg.specs.declared.peer.Role.TheVariants.{Client, Router}
 use Rattle.zr_frame.specs.Turn.{modulus_of}
 use Rattle.zr_open.specs.declared.expected.Expected.TheVariants as expects
 use Rattle.zr_open.specs.Opening.{OpeningState}
 use Rattle.zr_open.specs.Cookie.{cookie_of}
 use Rattle.zr_open.specs.Sizes.{frame_bits, usual, offered, agreed, told}
-use Rattle.zr_open.specs.Table.{init_answer, outbox_of, may_open, milliseconds}
+use Rattle.zr_open.specs.Table.{init_answer, outbox_of, milliseconds}
 use Rattle.zr_open.specs.Laws.{RoutersOpen, ClientOpens}
 
 same_bytes : (bytes : List ℕ) → pointwise nat_eq bytes bytes ≡ true

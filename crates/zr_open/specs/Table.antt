@@ -1,12 +1,12 @@
 -- How a session opens: one table for both ends (Zenoh protocol 1.0, "Session establishment"). An accepting end expects
 -- INIT, answers it, expects OPEN, and then the session is open. A dialling end sends INIT, expects its answer, sends OPEN,
 -- expects its answer, and then the session is open.
-use Rattle.std.specs.Prelude.{◌≡◌, ℕ, ◌%◌, ◌*◌, ◌^◌, ◌-◌, ◌<◌, ◌==◌, min, Bool, true, false, not, ◌&&◌, List, Option, Some, None, Result, Ok, Err, nat_lt, nat_eq, if◌then◌else◌}
+use Rattle.std.specs.Prelude.{◌≡◌, ℕ, ◌%◌, ◌*◌, ◌^◌, ◌-◌, ◌<◌, ◌==◌, min, Bool, true, false, not, ◌&&◌, List, length, Option, Some, None, Result, Ok, Err, nat_lt, nat_eq, if◌then◌else◌}
 use Rattle.std.specs.Cmp.Lexicographic.{pointwise}
 use Rattle.zr_trans.specs.declared.trans.Sizes.{Sizes}
 use Rattle.zr_trans.specs.declared.trans.Trans.{Trans}
 use Rattle.zr_trans.specs.declared.trans.Trans.TheVariants.{Init, Open, Close, KeepAlive, Frame, Fragment}
-use Rattle.zr_trans.specs.Writing.{Fits}
+use Rattle.zr_trans.specs.Writing.{writes_trans, Fits}
 use Rattle.zr_msg.specs.declared.peer.Role.{Role}
 use Rattle.zr_msg.specs.declared.peer.Role.TheVariants.{Client, Router}
 use Rattle.zr_frame.specs.Turn.{modulus_of}
@@ -17,7 +17,6 @@ use Rattle.zr_open.specs.declared.error.Reason.TheVariants.{Unsupported, Invalid
 use Rattle.zr_msg.specs.declared.peer.Peer as peer
 use Rattle.zr_open.specs.declared.expected.Expected.{Expected}
 use Rattle.zr_open.specs.declared.expected.Expected.TheVariants as expects
-use Rattle.zr_open.specs.declared.expected.Opened.{Opened}
 use Rattle.zr_open.specs.declared.expected.Progress.{Progress}
 use Rattle.zr_open.specs.declared.expected.Progress.TheVariants as progress
 use Rattle.zr_open.specs.Opening.{OpeningState}
@@ -141,9 +140,10 @@ abbrev pub LeadsTo : Result Progress OpenError → Result Progress OpenError →
 LeadsTo (Ok p) said = said ≡ Ok p
 LeadsTo (Err e) said = IsEndedBy e said
 
+-- An answer to OPEN can be written, as a batch.
 abbrev pub AnswerFits : Option Trans → Type 0
 AnswerFits None = Unit {0}
-AnswerFits (Some t) = Fits t
+AnswerFits (Some t) = Fits t × (length (writes_trans t) < 2 ^ 16)
 
 -- Answers can be written, and a session that opened counts its frames within the modulus.
 abbrev pub IsSound : Progress → Type 0

@@ -1,7 +1,7 @@
 //! What one end brings to an opening.
 
-ghost use Rattle.std.specs.Prelude.{◌≡◌};
-ghost use Rattle.zr_trans.specs.Writing.{Fits};
+ghost use Rattle.std.specs.Prelude.{◌≡◌, ◌<◌, ◌^◌, length};
+ghost use Rattle.zr_trans.specs.Writing.{writes_trans, Fits};
 ghost use Rattle.zr_open.specs.Table.{greeting};
 
 use std::marker::Model;
@@ -55,7 +55,10 @@ impl Opening {
     pub fn greeting(&self) -> Trans
         ensures value { result ≡ greeting self.now }
         ensures fits { Fits result }
+        ensures short { length (writes_trans result) < 2 ^ 16 }
     {
+        // An identifier is short; the last clause rests on it.
+        let _short = self.me.bytes();
         Trans::Init {
             answer: false,
             version: VERSION,

@@ -7,8 +7,14 @@ mod bodies;
 #[cfg(test)]
 mod bytes;
 #[cfg(test)]
+mod declarations;
+#[cfg(test)]
 mod extensions;
 #[cfg(test)]
 mod keys;
+#[cfg(test)]
+mod messages;
+#[cfg(test)]
+mod routers;
 #[cfg(test)]
 mod transport;

@@ -16,7 +16,7 @@ use Rattle.zr_trans.specs.declared.trans.Trans.TheVariants.{Init, Open, Close, K
 use Rattle.zr_format.specs.Format.{Format, gives, choose, optional, unknown, so_many, extensions, chain}
 use Rattle.zr_format.specs.Laws.{HasSpelling}
 use Rattle.zr_format.specs.Writing.{writes_header}
-use Rattle.zr_format.proofs.Spelled.{checked_spelled, spelled_checked}
+use Rattle.zr_format.proofs.Spelled.{checked_spelled, spelled_checked, chosen_holds}
 use Rattle.zr_trans.specs.Trans.{first_number, number_ext, cookie, sizes, init, opening, close, keep_alive, frame, fragment, behind, trans_format, SpellsTrans}
 use Rattle.zr_trans.specs.Reading.{trans_of}
 use Rattle.zr_trans.proofs.Messages.{follows_trans}
@@ -239,19 +239,14 @@ frame_good h t bytes s = subst HasFields (sym s.5.5.0) (tt, tt)
 fragment_good : (h : ℕ) (t : Trans) (bytes : List ℕ) → (fragment h).spelled t bytes → HasFields t
 fragment_good h t bytes s = subst HasFields (sym s.5.5) (tt, tt)
 
-chosen_good : (b : Bool) (p q : Format Trans) → ((t : Trans) (bytes : List ℕ) → p.spelled t bytes → HasFields t) → ((t : Trans) (bytes : List ℕ) → q.spelled t bytes → HasFields t)
-    → (t : Trans) (bytes : List ℕ) → (choose b p q).spelled t bytes → HasFields t
-chosen_good true p q f g = f
-chosen_good false p q f g = g
-
 behind_good : (h : ℕ) (t : Trans) (bytes : List ℕ) → (behind h).spelled t bytes → HasFields t
 behind_good h =
-    chosen_good (has_id h 1) (init h) _ (init_good h)
-    (chosen_good (has_id h 2) (opening h) _ (open_good h)
-    (chosen_good (has_id h 3) (close h) _ (close_good h)
-    (chosen_good (has_id h 4) (keep_alive h) _ (keep_alive_good h)
-    (chosen_good (has_id h 5) (frame h) _ (frame_good h)
-    (chosen_good (has_id h 6) (fragment h) unknown (fragment_good h) (λ t bytes s. absurd s))))))
+    chosen_holds HasFields (has_id h 1) (init h) _ (init_good h)
+    (chosen_holds HasFields (has_id h 2) (opening h) _ (open_good h)
+    (chosen_holds HasFields (has_id h 3) (close h) _ (close_good h)
+    (chosen_holds HasFields (has_id h 4) (keep_alive h) _ (keep_alive_good h)
+    (chosen_holds HasFields (has_id h 5) (frame h) _ (frame_good h)
+    (chosen_holds HasFields (has_id h 6) (fragment h) unknown (fragment_good h) (λ t bytes s. absurd s))))))
 
 pub message_fits : (t : Trans) → HasSpelling trans_format t → HasFields t
 message_fits t s = behind_good s.1.0 t s.1.2 s.1.5

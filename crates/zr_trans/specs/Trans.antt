@@ -1,12 +1,11 @@
 -- Transport messages (Zenoh protocol 1.0, "Transport messages"). A header has the id in its low five bits, 0x80 where
 -- extensions follow, and two flags of the message's own; a flag that isn't named here is ignored.
-use Rattle.std.specs.Prelude.{◌≡◌, ℕ, ◌+◌, ◌*◌, ◌/◌, ◌%◌, ◌-◌, ◌^◌, not, List, [], ◌∷◌, Option, Some, None}
+use Rattle.std.specs.Prelude.{◌≡◌, ℕ, ◌+◌, ◌*◌, ◌/◌, ◌%◌, ◌-◌, ◌^◌, not, List, [], ◌∷◌, Option, None}
 use Rattle.zr_bytes.specs.Flag.{has_id, has_flag}
 use Rattle.zr_ext.specs.declared.ext.Ext.{Ext}
-use Rattle.zr_ext.specs.declared.ext.Content.{Content}
-use Rattle.zr_ext.specs.declared.ext.Content.TheVariants as content
 use Rattle.zr_ext.specs.declared.ext.Form.{Form}
 use Rattle.zr_ext.specs.declared.ext.Form.TheVariants as form
+use Rattle.zr_ext.specs.Header.{content_number}
 use Rattle.zr_trans.specs.declared.trans.Sizes.{Sizes}
 use Rattle.zr_trans.specs.declared.trans.Trans.{Trans}
 use Rattle.zr_trans.specs.declared.trans.Trans.TheVariants.{Init, Open, Close, KeepAlive, Frame, Fragment}
@@ -14,13 +13,7 @@ use Rattle.zr_bytes.specs.declared.read_error.ReadError.TheVariants.{BadText}
 use Rattle.zr_format.specs.Format.{Format, gives, unknown, choose, ◌then◌, checked, optional, byte, number, text, so_many, extensions, the_rest}
 use Rattle.zr_id.specs.Zid.{is_zid}
 
--- the number that an extension says
-abbrev pub content_number : Content → Option ℕ
-content_number content.Unit = None
-content_number (content.Number n) = Some n
-content_number (content.Bytes b) = None
-
--- that of the only extension, where it is there
+-- the number that the only extension says, where it is there
 abbrev pub first_number : List Ext → Option ℕ
 first_number [] = None
 first_number (ext ∷ exts) = content_number ext.content

@@ -2,7 +2,7 @@
 
 ghost use Rattle.std.specs.Prelude.{◌≡◌, IfOk};
 ghost use Rattle.zr_bytes.specs.Reading.{Keeps, Steps};
-ghost use Rattle.zr_trans.specs.Trans.{first_number, content_number};
+ghost use Rattle.zr_trans.specs.Trans.{first_number};
 ghost use Rattle.zr_format.specs.Reading.{optional_of};
 ghost use Rattle.zr_trans.specs.Reading.{id_of, sizes_of, cookie_of, init_of, open_of, close_of, keep_alive_of, frame_of, fragment_of, behind_of, trans_of};
 ghost use Rattle.zr_trans.specs.Writing.{Fits};
@@ -13,7 +13,7 @@ use crate::parts::{
 use crate::trans::{Sizes, Trans};
 use std::alloc::Global;
 use zr_bytes::{ByteString, Cursor, ReadError};
-use zr_ext::{Content, Ext, Form};
+use zr_ext::{Ext, Form};
 use zr_format::header::{FIRST, ID, SECOND};
 use zr_format::read_extensions;
 use zr_id::zid::Zid;
@@ -191,16 +191,7 @@ fn first_number(exts: &[Ext]) -> Option<u64>
     ensures { result ≡ first_number exts.now }
 {
     match exts {
-        [ext, ..] => content_number(&ext.content),
+        [ext, ..] => ext.content.number(),
         [] => None,
-    }
-}
-
-fn content_number(content: &Content) -> Option<u64>
-    ensures { result ≡ content_number content.now }
-{
-    match content {
-        Content::Number(value) => Some(*value),
-        Content::Unit | Content::Bytes(_) => None,
     }
 }

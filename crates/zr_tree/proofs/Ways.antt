@@ -11,7 +11,7 @@ use Rattle.zr_graph.specs.Record.{ids, has_edge}
 use Rattle.zr_graph.proofs.Names.{same_is, same_refl}
 use Rattle.zr_tree.specs.Climb.{at, climb, nearer, is_child_index, AreIndexes, AreJumps}
 use Rattle.zr_tree.specs.Hop.{AreTrees, AreWays, IsHop, IsTree, depth_of, parent_name}
-use Rattle.zr_tree.specs.Lists.{Keeps}
+use Rattle.zr_tree.specs.Lists.{OnlyAdds}
 use Rattle.zr_tree.specs.declared.tree.Hop.{Hop}
 use Rattle.zr_tree.specs.declared.tree.TheConstants.{UNREACHED}
 use Rattle.zr_tree.specs.Index.{EdgeTable, AreEdges, name, row}
@@ -176,7 +176,7 @@ hop_from e right root x distances parents jumps lists hop list w lt d p j found 
 }
 
 -- a hop stays right when lists are added
-pub hop_kept : (rs : List RecordState) (root x : ℕ) (old new : List (List (List ℕ))) (hop : Hop) → Keeps old new → IsHop rs root old x hop → IsHop rs root new x hop
+pub hop_kept : (rs : List RecordState) (root x : ℕ) (old new : List (List (List ℕ))) (hop : Hop) → OnlyAdds old new → IsHop rs root old x hop → IsHop rs root new x hop
 hop_kept rs root x old new hop keeps h = record {
   depth = h.depth;
   parent_within = h.parent_within;
@@ -186,7 +186,7 @@ hop_kept rs root x old new hop keeps h = record {
   children_are = keeps _ _ h.children_are;
 }
 
-pub hops_more : (rs : List RecordState) (root x : ℕ) (old new : List (List (List ℕ))) (hops : List Hop) (hop : Hop) → Keeps old new → length hops ≡ x →
+pub hops_more : (rs : List RecordState) (root x : ℕ) (old new : List (List (List ℕ))) (hops : List Hop) (hop : Hop) → OnlyAdds old new → length hops ≡ x →
     ((k : ℕ) (d : Hop) → k < x → IsHop rs root old k (get_or hops k d)) → IsHop rs root new x hop →
     (k : ℕ) (d : Hop) → k < x + 1 → IsHop rs root new k (get_or (hops ++ hop ∷ []) k d)
 hops_more rs root x old new hops hop keeps long each here k d lt = elim (cases_lt k x) [
@@ -204,7 +204,7 @@ kept_hop rs names trees lists root x hops d h a b at =
     rw e ((h.each root a).each x d b)
 
 -- one tree more, and its lists
-pub trees_more : (rs : List RecordState) (root : ℕ) (old new : List (List (List ℕ))) (trees : List (List Hop)) (tree : List Hop) → Keeps old new → length trees ≡ root →
+pub trees_more : (rs : List RecordState) (root : ℕ) (old new : List (List (List ℕ))) (trees : List (List Hop)) (tree : List Hop) → OnlyAdds old new → length trees ≡ root →
     ((r : ℕ) → r < root → IsTree rs r old (get_or trees r [])) → IsTree rs root new tree →
     (r : ℕ) → r < root + 1 → IsTree rs r new (get_or (trees ++ tree ∷ []) r [])
 trees_more rs root old new trees tree keeps long each here r lt = elim (cases_lt r root) [

@@ -1,7 +1,7 @@
 //! Lists of routers by number. A router's list that is the same as its last one isn't kept a second time.
 
 ghost use Rattle.std.specs.Prelude.{◌≡◌, ◌<◌, Some, IfOk, length, slice_get};
-ghost use Rattle.zr_tree.specs.Lists.{Keeps};
+ghost use Rattle.zr_tree.specs.Lists.{OnlyAdds};
 
 use std::alloc::{AllocError, Global};
 use std::marker::Model;
@@ -42,7 +42,7 @@ impl Lists {
     pub fn put(&mut self, router: usize, list: Vec<Zid>) -> Result<u32, AllocError>
         requires { router < self.old.routers }
         ensures found { IfOk result (λ number. slice_get self.new.lists number ≡ Some list.items) }
-        ensures kept { Keeps self.old.lists self.new.lists }
+        ensures kept { OnlyAdds self.old.lists self.new.lists }
         ensures routers { self.new.routers ≡ self.old.routers }
     {
         let last = self.last[router];

@@ -6,7 +6,7 @@ ghost use Rattle.zr_graph.specs.Record.{ids};
 ghost use Rattle.zr_tree.specs.Climb.{at, nearer, AreIndexes, AreJumps, is_child_index};
 ghost use Rattle.zr_tree.specs.Hop.{AreWays};
 ghost use Rattle.zr_tree.specs.Index.{row};
-ghost use Rattle.zr_tree.specs.Lists.{Keeps};
+ghost use Rattle.zr_tree.specs.Lists.{OnlyAdds};
 ghost use Rattle.zr_tree.specs.Search.{kept_at};
 ghost use Rattle.zr_tree.specs.Tree.{is_sum};
 
@@ -71,7 +71,7 @@ impl Tree {
         requires names { names.now ≡ ids edges.now.records }
         requires routers { lists.old.routers ≡ length edges.now.records }
         ensures tree { IfOk result (λ t. IsTree edges.now.records root lists.new.lists t) }
-        ensures kept { OnOk result (Keeps lists.old.lists lists.new.lists) }
+        ensures kept { OnOk result (OnlyAdds lists.old.lists lists.new.lists) }
         ensures routers { OnOk result (lists.new.routers ≡ lists.old.routers) }
     {
         let rows = edges.rows();

@@ -1,9 +1,13 @@
-use Rattle.zr_body.proofs.Bodies.{body_found, body_read, body_refused, refused_body, body_again}
+use Rattle.zr_format.specs.Laws.{anywhere}
+use Rattle.zr_format.proofs.Follows.{format_is_read}
+use Rattle.zr_body.specs.Body.{body}
+use Rattle.zr_body.specs.Reading.{body_of}
+use Rattle.zr_body.proofs.Bodies.{follows_body}
+use Rattle.std.proofs.Common.{refl}
 use Rattle.zr_body.proofs.laws.bodies_are_read.Goals as goal
 
 pub returns : goal.returns
 returns c = record {
-  ok = λ place bytes rest body. (body_found place bytes rest body, body_read place bytes rest body);
-  refused = λ place bytes e. (body_refused place bytes e, refused_body place bytes e);
-  again = body_again;
+  read = λ place. format_is_read anywhere (body place) (body_of place) (follows_body place);
+  again = λ place bytes rest s. (follows_body place).again bytes rest bytes (refl, s) tt;
 }
