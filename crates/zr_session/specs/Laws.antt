@@ -1,0 +1,63 @@
+-- The laws of sessions.
+use Rattle.std.specs.Prelude.{◌≡◌, ℕ, List, [], ◌∷◌, ◌++◌, Option, Some, None}
+use Rattle.zr_open.specs.declared.expected.Expected.{Expected}
+use Rattle.zr_open.specs.Opening.{OpeningState}
+use Rattle.zr_session.specs.declared.event.Fed.{Fed}
+use Rattle.zr_session.specs.declared.event.SessionEvent.{SessionEvent}
+use Rattle.zr_session.specs.declared.fate.End.{End}
+use Rattle.zr_session.specs.declared.fate.Fate.{Fate}
+use Rattle.zr_session.specs.declared.fate.Fate.TheVariants.{Going}
+use Rattle.zr_session.specs.declared.phase.Phase.{Phase}
+use Rattle.zr_session.specs.declared.phase.Phase.TheVariants.{Opening}
+use Rattle.zr_session.specs.Course.{Course, owed_in}
+use Rattle.zr_session.specs.Stream.{Comes}
+use Rattle.zr_session.specs.Session.{SessionState, begun, Feeds, Answers, fate_of, close_between, with_confirmed, owed_bytes, ticked}
+
+-- All bytes come to a course, and to one alone.
+pub record BytesHaveOneCourse : Type 0 where
+  pub some : (o : OpeningState) (p : Phase) (bytes : List ℕ) → (c : Course) × (rest : List ℕ) × Comes o p bytes c rest
+  pub one : (o : OpeningState) (p : Phase) (bytes rest left : List ℕ) (c d : Course) → Comes o p bytes c rest → Comes o p bytes d left → (c ≡ d) × (rest ≡ left)
+
+-- a call of a session
+pub data Call : Type 0 where
+  feed : List ℕ → Call
+  tick : ℕ → Call
+  confirm : Call
+
+-- What a call that answered did, as its contract says: the events and the bytes that it appended, the CLOSE left out. Of ticks
+-- those that leave the session as it was.
+abbrev pub Does : Call → SessionState → SessionState → List SessionEvent → List ℕ → Type 0
+Does (feed piece) s t events bytes =
+    (old : Fed) × (new : Fed) × Feeds s t piece old new × (new.events.items ≡ old.events.items ++ events) × (new.bytes.items ≡ old.bytes.items ++ (bytes ++ close_between s.state t.state))
+Does (tick now) s t events bytes = (ticked s.state s now ≡ s) × (t ≡ s) × (events ≡ []) × (bytes ≡ [])
+Does confirm s t events bytes = (t ≡ with_confirmed s) × (events ≡ []) × (bytes ≡ owed_bytes s)
+
+-- what several calls one behind another did
+abbrev pub DoAll : List Call → SessionState → SessionState → List SessionEvent → List ℕ → Type 0
+DoAll [] s last events bytes = (last ≡ s) × (events ≡ []) × (bytes ≡ [])
+DoAll (call ∷ calls) s last events bytes =
+    (next : SessionState) × (here : List SessionEvent) × (more : List SessionEvent) × (now : List ℕ) × (later : List ℕ)
+    × (events ≡ here ++ more) × (bytes ≡ now ++ later) × Does call s next here now × DoAll calls next last more later
+
+-- all bytes that were fed
+abbrev pub fed_by : List Call → List ℕ
+fed_by [] = []
+fed_by (feed piece ∷ calls) = piece ++ fed_by calls
+fed_by (tick now ∷ calls) = fed_by calls
+fed_by (confirm ∷ calls) = fed_by calls
+
+abbrev pub fate_in : Option End → Fate
+fate_in None = Going
+fate_in (Some how) = fate_of how
+
+-- After any calls the events, the bytes and the fate are those that all bytes that were fed come to in one piece; until the peer is
+-- confirmed the answer to OPEN is owed. So no cut matters, and nothing but the bytes does.
+pub record AreThoseOf (c : Course) (last : SessionState) (events : List SessionEvent) (bytes : List ℕ) : Type 0 where
+  pub events_are : events ≡ c.events
+  pub bytes_are : bytes ++ owed_bytes last ≡ c.bytes ++ owed_in c.phase
+  pub fate : (f : Fate) → Answers last.state f → f ≡ fate_in c.ends
+
+abbrev pub NoCutMatters : Type 0
+NoCutMatters = (first : Expected) (o : OpeningState) (now : ℕ) (calls : List Call) (last : SessionState) (events : List SessionEvent) (bytes : List ℕ) →
+    DoAll calls (begun first o now) last events bytes →
+    (c : Course) × (rest : List ℕ) × Comes o (Opening first) (fed_by calls) c rest × AreThoseOf c last events bytes

@@ -1,0 +1,7 @@
+pub mod Course
+pub mod Carried
+pub mod Step
+pub mod Stream
+pub mod Done
+pub mod Session
+pub mod Laws

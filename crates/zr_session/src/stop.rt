@@ -1,0 +1,68 @@
+//! Why reading doesn't go on.
+
+ghost use Rattle.std.specs.Prelude.{◌≡◌};
+ghost use Rattle.zr_session.specs.Done.{stop_of_read, stop_of_channel};
+
+use crate::fate::End;
+use std::alloc::{AllocError, AllocFailed};
+use zr_bytes::ReadError;
+use zr_frame::ChannelError;
+use zr_open::Reason;
+
+/// Why a part of a stream is not read on.
+#[derive(Clone, Copy, Debug, PartialEq, Eq)]
+pub enum Stop {
+    /// The session has ended.
+    Ended(End),
+    NoMemory,
+}
+
+/// Bytes that spell nothing, or a message that is out of place.
+pub(crate) const INVALID: Stop = Stop::Ended(End::Closed(Reason::Invalid));
+
+pub(crate) fn stop_of_read(e: ReadError) -> Stop
+    ensures { result ≡ stop_of_read e }
+{
+    match e {
+        ReadError::NoMemory => Stop::NoMemory,
+        ReadError::Short
+        | ReadError::TooBig
+        | ReadError::UnknownId
+        | ReadError::Mandatory
+        | ReadError::BadText
+        | ReadError::BadKey
+        | ReadError::UnknownScope
+        | ReadError::Extra => INVALID,
+    }
+}
+
+pub(crate) fn stop_of_channel(e: ChannelError) -> Stop
+    ensures { result ≡ stop_of_channel e }
+{
+    match e {
+        ChannelError::NoMemory => Stop::NoMemory,
+        ChannelError::OutOfTurn | ChannelError::TooLong => INVALID,
+    }
+}
+
+impl From<AllocError> for Stop {
+    ghost use Rattle.std.specs.Prelude.{◌≡◌};
+    ghost use Rattle.zr_session.specs.declared.stop.Stop.TheVariants.{NoMemory};
+
+    ghost from_gives = { λ _ e. e ≡ NoMemory };
+
+    fn from(_e: AllocError) -> Stop {
+        Stop::NoMemory
+    }
+}
+
+impl<T: Drop> From<AllocFailed<T>> for Stop {
+    ghost use Rattle.std.specs.Prelude.{◌≡◌};
+    ghost use Rattle.zr_session.specs.declared.stop.Stop.TheVariants.{NoMemory};
+
+    ghost from_gives = { λ _ e. e ≡ NoMemory };
+
+    fn from(_e: AllocFailed<T>) -> Stop {
+        Stop::NoMemory
+    }
+}
