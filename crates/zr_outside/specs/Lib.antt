@@ -4,3 +4,6 @@ pub mod Source
 pub mod Sink
 pub mod Memory
 pub mod Streams
+pub mod MemClock
+pub mod Host
+pub mod Calls

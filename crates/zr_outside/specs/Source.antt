@@ -14,8 +14,8 @@ abbrev pub IsEnd : Got → Type 0
 IsEnd got = got ≡ End
 
 -- what a read gave, with the buffer and what is left before and after it
-abbrev pub Reads : Got → List ℕ → List ℕ → Option (List ℕ) → Option (List ℕ) → Type 0
-Reads (Bytes n) old new before after = (0 < n) × (n ≤ length old) × Consumes n new before after
-Reads Quiet old new before after = IsAsBefore before after
-Reads End old new before after = IsAsBefore before after × IfSome before (λ bytes. bytes ≡ [])
-Reads Failed old new before after = IsAsBefore before after
+abbrev pub GetsNext : Got → List ℕ → List ℕ → Option (List ℕ) → Option (List ℕ) → Type 0
+GetsNext (Bytes n) old new before after = (0 < n) × (n ≤ length old) × Consumes n new before after
+GetsNext Quiet old new before after = IsAsBefore before after
+GetsNext End old new before after = IsAsBefore before after × IfSome before (λ bytes. bytes ≡ [])
+GetsNext Failed old new before after = IsAsBefore before after

@@ -1,7 +1,13 @@
-//! The outside as the program sees it: where bytes come from and where they go, with forms in memory and over std.
-//! Nothing of scripts or messages is known here.
+//! The outside as the program sees it: where bytes come from and where they go, what time it is, and where links come from; with forms in
+//! memory, and over std's readers and writers. Nothing of scripts or messages is known here.
 #![tactic(auto)]
 
+pub mod clock;
+pub mod gate;
+pub mod host;
+pub mod mem_calls;
+pub mod mem_clock;
+pub mod mem_host;
 pub mod mem_sink;
 pub mod mem_source;
 pub mod sink;

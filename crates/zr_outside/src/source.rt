@@ -3,7 +3,7 @@
 ghost use Rattle.std.specs.Prelude.{ℕ, List, length, ◌<◌};
 ghost use Rattle.std.specs.declared.option.Option.{Option};
 ghost use Rattle.zr_outside.specs.Counts.{Counted};
-ghost use Rattle.zr_outside.specs.Source.{Reads, IsFailed, IsQuiet, IsEnd};
+ghost use Rattle.zr_outside.specs.Source.{GetsNext, IsFailed, IsQuiet, IsEnd};
 
 /// What a read gave.
 #[derive(Clone, Copy, Debug, PartialEq, Eq)]
@@ -32,7 +32,7 @@ pub trait Source {
     /// Reads into a buffer that isn't empty. What is behind the bytes that came is left open.
     fn read(&mut self, into: &mut [u8]) -> Got
         requires { 0 < length into.old }
-        ensures bytes { Reads result into.old into.new (left self.old) (left self.new) }
+        ensures bytes { GetsNext result into.old into.new (left self.old) (left self.new) }
         ensures failed { Counted (faults self.old) (faults self.new) (IsFailed result) }
         ensures quiet { Counted (quiets self.old) (quiets self.new) (IsQuiet result) }
         ensures ended { Counted (ends self.old) (ends self.new) (IsEnd result) };

@@ -1,0 +1,6 @@
+-- Some name of a history, for a type that stands for every one.
+use Rattle.std.specs.Prelude.{[]}
+use Rattle.atomic_table.specs.Seated.{TableId}
+
+abbrev pub no_history : TableId
+no_history = record { words = 0; slots = 0; views_name = 0; atom = 0; block = 0; offset = 0; slot_names = [] }

@@ -1,0 +1,17 @@
+//! Which history it is.
+
+use std::marker::Brand;
+
+/// Names one history. Of a value under a lock nothing is known but what its type keeps, so the types of a router have this for a parameter; the
+/// call that makes the router picks it.
+pub trait Naming {
+    ghost use Rattle.atomic_table.specs.Seated.{TableId};
+
+    ghost history: { TableId };
+}
+
+impl Naming for Brand {
+    ghost use Rattle.zr_port.specs.Naming.{no_history};
+
+    ghost history = { no_history };
+}

@@ -1,0 +1,114 @@
+//! `Port`: the calls by which links reach a router's tables.
+
+ghost use Rattle.std.specs.Prelude.{◌≡◌, ◌≢◌, ℕ, Bool, true, List, [], IfOk, IfErr, OnErr, Some, None};
+ghost use mathlib.Core.List.{IsPrefix};
+ghost use Rattle.atomic_table.specs.Seated.{TableId};
+ghost use Rattle.zr_id.specs.declared.link.LinkNo.{LinkNo};
+ghost use Rattle.zr_msg.specs.declared.peer.Peer.{Peer};
+ghost use Rattle.zr_msg.specs.declared.msg.Msg.{Msg};
+ghost use Rattle.zr_msg.specs.declared.event.Event.TheVariants as event;
+ghost use Rattle.zr_hist.specs.Rule.{longer};
+ghost use Rattle.zr_hist.specs.Words.{pass_name, IsSamePass, seen, mine};
+ghost use Rattle.zr_ring.specs.Taker.{taken, take_calls};
+ghost use Rattle.zr_port.specs.declared.entry.Entry.{Entry};
+ghost use Rattle.zr_port.specs.declared.error.UpError.{UpError};
+ghost use Rattle.zr_port.specs.declared.error.DeliverError.{DeliverError};
+ghost use Rattle.zr_port.specs.declared.error.DownError.{DownError};
+ghost use Rattle.zr_port.specs.Adding.{Adds, IsEntryOf, IsLeastFree, IsAdmitted};
+
+use crate::entry::Entry;
+use crate::error::{DeliverError, DownError, UpError};
+use zr_frame::Outbox;
+use zr_hist::Pass;
+use zr_id::link::LinkNo;
+use zr_msg::msg::Msg;
+use zr_msg::peer::Peer;
+use zr_ring::{Note, Taker};
+
+/// A router as its links see it. It is shared by reference, and each thread has a pass of its history. Each Ok of `up`, `deliver` and `down` adds
+/// one entry to that history, and a refusal adds none.
+pub trait Port {
+    /// What vouches for the parcels that the takers take.
+    type Note: Note + Drop;
+
+    // which history its entries stand in
+    ghost history: { Self → TableId };
+
+    // which lists of entries the history can be
+    ghost is_legal: { Self → List Entry → Type 0 };
+
+    // whether a link is up after a list of entries
+    ghost is_up: { Self → List Entry → LinkNo → Bool };
+
+    // which messages can be delivered: those that have a spelling on the wire
+    ghost is_spelled: { Self → Msg → Type 0 };
+
+    // after which lists of entries a call is refused, and why; of want of memory nothing is said
+    ghost refuses_up: { Self → List Entry → Peer → UpError → Type 0 };
+
+    ghost refuses_message: { Self → List Entry → LinkNo → Msg → DeliverError → Type 0 };
+
+    ghost refuses_down: { Self → List Entry → LinkNo → DownError → Type 0 };
+
+    /// A session with a peer has opened: its link comes up under the least number that isn't up, and what is queued for it comes to the taker.
+    fn up(
+        &self,
+        pass: &mut Pass<Entry>,
+        peer: Peer,
+        outbox: Outbox,
+    ) -> Result<(LinkNo, Taker<Self::Note>), UpError>
+        requires pass { pass_name pass.old ≡ history self.now }
+        ensures same { IsSamePass pass.old pass.new }
+        ensures prefix { IsPrefix (seen pass.old) (seen pass.new) }
+        ensures legal { is_legal self.now (seen pass.new) }
+        ensures added { IfOk result (λ r. Adds pass.old pass.new (λ before e. IsEntryOf (event.Up r.0 peer) (Some outbox) None e × IsLeastFree (is_up self.now before) r.0 × IsAdmitted (refuses_up self.now before peer))) }
+        ensures link { IfOk result (λ r. is_up self.now (seen pass.new) r.0 ≡ true) }
+        ensures taker { IfOk result (λ r. (taken r.1 ≡ []) × (take_calls r.1 ≡ 0)) }
+        ensures refused { IfErr result (λ e. e ≢ UpError.NoMemory → refuses_up self.now (seen pass.new) peer e) }
+        ensures unchanged { OnErr result (mine pass.new ≡ mine pass.old) };
+
+    /// A message has come over a link.
+    fn deliver(&self, pass: &mut Pass<Entry>, link: LinkNo, msg: Msg) -> Result<(), DeliverError>
+        requires pass { pass_name pass.old ≡ history self.now }
+        requires spelled { is_spelled self.now msg }
+        ensures same { IsSamePass pass.old pass.new }
+        ensures prefix { IsPrefix (seen pass.old) (seen pass.new) }
+        ensures legal { is_legal self.now (seen pass.new) }
+        ensures added { IfOk result (λ _. Adds pass.old pass.new (λ before e. IsEntryOf (event.From link msg) None None e × IsAdmitted (refuses_message self.now before link msg))) }
+        ensures refused { IfErr result (λ e. e ≢ DeliverError.NoMemory → refuses_message self.now (seen pass.new) link msg e) }
+        ensures unchanged { OnErr result (mine pass.new ≡ mine pass.old) };
+
+    /// A link has ended, by this end for the reason where there is one. Its ring gets its end with that reason unless it has one.
+    fn down(
+        &self,
+        pass: &mut Pass<Entry>,
+        link: LinkNo,
+        reason: Option<u8>,
+    ) -> Result<(), DownError>
+        requires pass { pass_name pass.old ≡ history self.now }
+        ensures same { IsSamePass pass.old pass.new }
+        ensures prefix { IsPrefix (seen pass.old) (seen pass.new) }
+        ensures legal { is_legal self.now (seen pass.new) }
+        ensures added { IfOk result (λ _. Adds pass.old pass.new (λ before e. IsEntryOf (event.Down link) None reason e × IsAdmitted (refuses_down self.now before link))) }
+        ensures refused { IfErr result (λ e. e ≢ DownError.NoMemory → refuses_down self.now (seen pass.new) link e) }
+        ensures unchanged { OnErr result (mine pass.new ≡ mine pass.old) };
+
+    /// A pass for one more thread, which has seen as much and appended nothing. It waits for nobody and takes no memory.
+    fn split(&self, pass: &mut Pass<Entry>) -> Pass<Entry>
+        requires { pass_name pass.old ≡ history self.now }
+        ensures same { IsSamePass pass.old pass.new }
+        ensures unchanged { (seen pass.new ≡ seen pass.old) × (mine pass.new ≡ mine pass.old) }
+        ensures of { pass_name result ≡ history self.now }
+        ensures new { (seen result ≡ seen pass.old) × (mine result ≡ []) };
+
+    /// The pass has then seen the longer of what the two had seen. The entries of the other stay in the history.
+    fn join(&self, pass: &mut Pass<Entry>, other: Pass<Entry>)
+        requires pass { pass_name pass.old ≡ history self.now }
+        requires other { pass_name other ≡ history self.now }
+        ensures same { IsSamePass pass.old pass.new × (mine pass.new ≡ mine pass.old) }
+        ensures seen { seen pass.new ≡ longer (seen pass.old) (seen other) }
+        ensures prefixes { IsPrefix (seen pass.old) (seen pass.new) × IsPrefix (seen other) (seen pass.new) };
+
+    /// Rests until the writer of the link is woken, since something was queued for it, or for so many milliseconds. Nothing is promised of how long.
+    fn rest(&self, link: LinkNo, most: u64);
+}

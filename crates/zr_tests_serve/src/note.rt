@@ -1,0 +1,58 @@
+//! What the tests give to a ring.
+ghost use Rattle.std.specs.Prelude.{◌≡◌, ◌+◌, [], true, IfOk};
+ghost use Rattle.zr_ring.specs.Giver.{is_going, number, sent};
+
+use std::alloc::{AllocError, Global};
+use zr_ring::{Giver, MOST_BYTES, Note, Parcel, Taker, ring};
+
+/// It vouches for everything.
+#[derive(Drop)]
+pub struct Anything;
+
+impl Note for Anything {
+    ghost use Rattle.std.specs.Coded.{Unit-prop};
+
+    ghost vouches = { λ _ _ _. Unit {0} };
+
+    ghost is_fact = { λ _ _ _. Unit-prop };
+}
+
+/// A ring's giver that isn't ended, with the number of parcels that it gave.
+#[derive(Drop)]
+pub struct Giving {
+    giver: Giver<Anything>,
+    next: u64,
+    ghost going: { (is_going giver ≡ true) × (next ≡ number giver) },
+}
+
+impl Giving {
+    /// A new ring, with room for so many parcels.
+    pub fn ring(alloc: Global, slots: u32) -> Result<(Giving, Taker<Anything>), AllocError> {
+        let (giver, taker) = ring::<Anything>(alloc, slots)?;
+        Ok((Giving { giver, next: 0 }, taker))
+    }
+
+    /// Gives one parcel; false where there is no room for it.
+    pub fn give(&mut self, alloc: Global, bytes: &[u8]) -> Result<bool, AllocError> {
+        if bytes.len() > MOST_BYTES {
+            return Ok(false);
+        }
+        let mut parcels = Vec::with_capacity(alloc, 1)?;
+        parcels.push_reserved(Parcel {
+            place: self.next,
+            bytes: bytes.to_vec(alloc)?,
+            note: Anything,
+        });
+        let is_given = self.giver.free() > 0 && self.giver.give(parcels).is_ok();
+        if is_given {
+            self.next += 1;
+        }
+        Ok(is_given)
+    }
+
+    /// Gives the end.
+    pub fn end(self, reason: Option<u8>) {
+        let Giving { mut giver, next: _ } = self;
+        giver.end(reason, Anything);
+    }
+}

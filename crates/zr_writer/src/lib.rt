@@ -1,0 +1,11 @@
+//! The writer of a link: what a taker takes of the link's ring goes to a sink, several parcels in one write, with KEEP_ALIVEs where nothing goes.
+#![tactic(auto)]
+
+mod close;
+mod end;
+mod joined;
+mod writer;
+
+pub use close::close_batch;
+pub use end::WriterEnd;
+pub use writer::Writer;
