@@ -1,6 +1,6 @@
 -- The one broker: what each client is to have of each other's samples, as one broker that all clients are attached to
 -- sends them. The lines of the script alone say it: no router, table or message is known here.
-use Rattle.std.specs.Prelude.{ℕ, ◌==◌, ◌&&◌, not, Bool, false, if◌then◌else◌, List, [], ◌∷◌, ◌++◌, filter, Option, Some, None, is_some}
+use Rattle.std.specs.Prelude.{ℕ, ◌==◌, ◌&&◌, ◌||◌, not, Bool, false, if◌then◌else◌, List, [], ◌∷◌, ◌++◌, filter, Option, Some, None, is_some}
 use Rattle.std.specs.List.{list_any, flat_map, fold}
 use Rattle.std.specs.Option.{option_map_or}
 use Rattle.zr_id.specs.Zid.{is_named}
@@ -13,20 +13,25 @@ use Rattle.zr_guarantee.specs.Item.{Item}
 
 -- ---- who is attached
 
--- whether an act attaches a client
-abbrev pub attaches : List ℕ → Act → Bool
-attaches name (a.Router id) = false
-attaches name (a.Client id router) = is_named name id
-attaches name (a.Sub client id key) = false
-attaches name (a.Unsub client id) = false
-attaches name (a.Publish client content) = false
-attaches name (a.Handle router from) = false
-attaches name (a.Take router to) = false
-attaches name a.Mark = false
+-- whether a client is attached, once one more act was done: it is from its line on until its link is broken
+abbrev pub attached_by : List ℕ → Bool → Act → Bool
+attached_by name so_far (a.Router id) = so_far
+attached_by name so_far (a.Client id router) = so_far || is_named name id
+attached_by name so_far (a.Link one other) = so_far
+attached_by name so_far (a.Up router neighbour) = so_far
+attached_by name so_far (a.Break router neighbour) = so_far && not (is_named name neighbour)
+attached_by name so_far (a.Down router neighbour) = so_far
+attached_by name so_far (a.Sub client id key) = so_far
+attached_by name so_far (a.Unsub client id) = so_far
+attached_by name so_far (a.Publish client content) = so_far
+attached_by name so_far (a.Handle router from) = so_far
+attached_by name so_far (a.Take router to) = so_far
+attached_by name so_far a.Mark = so_far
+attached_by name so_far (a.Show router) = so_far
 
 -- whether a client is attached
 abbrev pub is_attached : List Numbered → List ℕ → Bool
-is_attached acts name = list_any (λ x. attaches name x.1) acts
+is_attached acts name = fold (λ so_far x. attached_by name so_far x.1) false acts
 
 -- ---- what a client has declared
 
@@ -39,12 +44,17 @@ pub record Declaration : Type 0 where
 abbrev pub declared_by : List ℕ → List Declaration → Act → List Declaration
 declared_by name so_far (a.Router id) = so_far
 declared_by name so_far (a.Client id router) = so_far
+declared_by name so_far (a.Link one other) = so_far
+declared_by name so_far (a.Up router neighbour) = so_far
+declared_by name so_far (a.Break router neighbour) = so_far
+declared_by name so_far (a.Down router neighbour) = so_far
 declared_by name so_far (a.Sub client id key) = if is_named name client then so_far ++ record { id = id; key = key } ∷ [] else so_far
 declared_by name so_far (a.Unsub client id) = if is_named name client then filter (λ d. not (d.id == id)) so_far else so_far
 declared_by name so_far (a.Publish client content) = so_far
 declared_by name so_far (a.Handle router from) = so_far
 declared_by name so_far (a.Take router to) = so_far
 declared_by name so_far a.Mark = so_far
+declared_by name so_far (a.Show router) = so_far
 
 -- what a client has declared
 abbrev pub declarations : List Numbered → List ℕ → List Declaration
@@ -71,12 +81,17 @@ pub record Publication : Type 0 where
 abbrev pub publication : Act → Option Publication
 publication (a.Router id) = None
 publication (a.Client id router) = None
+publication (a.Link one other) = None
+publication (a.Up router neighbour) = None
+publication (a.Break router neighbour) = None
+publication (a.Down router neighbour) = None
 publication (a.Sub client id key) = None
 publication (a.Unsub client id) = None
 publication (a.Publish client content) = Some (record { client = client; content = content })
 publication (a.Handle router from) = None
 publication (a.Take router to) = None
 publication a.Mark = None
+publication (a.Show router) = None
 
 -- whether an act publishes
 abbrev pub publishes : Act → Bool

@@ -45,6 +45,9 @@ sent_in receiver (r.Handled router from msg tag) = []
 sent_in receiver (r.Taken router to msg tag) = if is_named receiver to then item_of msg tag else []
 sent_in receiver (r.Ran steps quiet) = []
 sent_in receiver (r.Mark line) = []
+sent_in receiver (r.Show router) = []
+sent_in receiver (r.Record links) = []
+sent_in receiver (r.Parent root parent) = []
 
 -- the samples that the receiver was sent, in order
 abbrev pub sent_to : List ReportLine → List ℕ → List Item

@@ -2,7 +2,7 @@
 -- anything, and for all other names there is nothing to have and nothing was sent.
 use Rattle.std.proofs.Common.{◌≡◌, ℕ, Bool, true, false, cond, List, [], ◌∷◌, ◌++◌, refl, sym, ap, ◌∙◌, subst, inl, inr}
 use Rattle.std.specs.Prelude.{◌==◌, ◌&&◌, ◌||◌, ◌⊎◌, not, nat_eq, nat_lt, filter, Option, Some, None, Result, Ok, Err, IfOk}
-use Rattle.std.specs.List.{list_any, list_all}
+use Rattle.std.specs.List.{list_any, list_all, fold}
 use Rattle.std.specs.Option.{option_eq, option_map_or}
 use Rattle.std.specs.Cmp.Lexicographic.{bytes_decides, nat_list_eq_equiv}
 use Rattle.std.proofs.lemmas.Bool.{false≢true, and_parts, and_from, and_left, and_right, or_parts, or_from, or_right, or_cases, eqb-true, eq-eqb}
@@ -18,10 +18,10 @@ use Rattle.zr_table.specs.Prefix.{IsPrefixOf}
 use Rattle.zr_network.specs.World.{WorldState, is_quiet}
 use Rattle.zr_network.specs.Moments.{Numbered}
 use Rattle.zr_guarantee.specs.Item.{Item}
-use Rattle.zr_guarantee.specs.Broker.{attaches, is_attached, declarations, asks_for, wants, Publication, publication, is_publisher, is_line_of, is_sample_line, item_for, from}
+use Rattle.zr_guarantee.specs.Broker.{attached_by, is_attached, declarations, asks_for, wants, Publication, publication, is_publisher, is_line_of, is_sample_line, item_for, from}
 use Rattle.zr_guarantee.specs.Sent.{sample_of, items_of, item_of, sent_in, sent_to}
 use Rattle.zr_guarantee.specs.Refines.{Refines}
-use Rattle.zr_laws.proofs.Lists.{all_both, all_parts}
+use Rattle.zr_network.proofs.Lists.{all_both, all_parts}
 use Rattle.zr_judge.specs.Judge.{Judged, Judges, is_same_bytes, is_same_extras, is_same_content, is_same, is_prefix, sent_by, pair_holds, holds_for_client, holds_for_receiver, holds_for_all, holds_for, holds_for_publisher, is_allowed, may_be_sent, judgement}
 
 -- ---- prefixes
@@ -161,6 +161,9 @@ tells_of d (r.Handled router from msg tag) = false
 tells_of d (r.Taken router to msg tag) = is_named d to
 tells_of d (r.Ran steps quiet) = false
 tells_of d (r.Mark line) = false
+tells_of d (r.Show router) = false
+tells_of d (r.Record links) = false
+tells_of d (r.Parent root parent) = false
 
 none_sent : (report : List ReportLine) (d : List ℕ) → list_any (tells_of d) report ≡ false → sent_to report d ≡ []
 none_sent [] d h = refl
@@ -173,6 +176,9 @@ none_sent (x ∷ xs) d h =
     by (r.Taken router to msg tag) k = rw k refl
     by (r.Ran steps quiet) k = refl
     by (r.Mark n) k = refl
+    by (r.Show router) k = refl
+    by (r.Record links) k = refl
+    by (r.Parent root parent) k = refl
 
 module _ (j : Judged) where
   -- where nothing is to be had and nothing was sent
@@ -195,18 +201,22 @@ module _ (j : Judged) where
       by (Some p) here ih (inl e) = subst (λ (name : List ℕ). holds_for_all j name ≡ true) (sym (same_name a p.client e)) here
       by o here ih (inr e) = ih e
 
-  client_found : (lines : List Numbered) (a d : List ℕ) → is_attached lines d ≡ true → list_all (λ x. holds_for_client j a x.1) lines ≡ true → pair_holds j a d ≡ true
-  client_found [] a d h k = absurd (false≢true h)
-  client_found (x ∷ xs) a d h k =
-      by x.1 (and_parts (holds_for_client j a x.1) (list_all (λ y. holds_for_client j a y.1) xs) k).0
-      (λ later. client_found xs a d later (and_parts (holds_for_client j a x.1) (list_all (λ y. holds_for_client j a y.1) xs) k).1)
-      (or_cases (attaches d x.1) (is_attached xs d) h)
+  -- a client that is attached behind some acts was so before, or one of them attached it
+  client_found : (lines : List Numbered) (a d : List ℕ) (so_far : Bool) → (so_far ≡ true → pair_holds j a d ≡ true) → fold (λ t x. attached_by d t x.1) so_far lines ≡ true →
+      list_all (λ x. holds_for_client j a x.1) lines ≡ true → pair_holds j a d ≡ true
+  client_found [] a d so_far before h k = before h
+  client_found (x ∷ xs) a d so_far before h k =
+      let parts = and_parts (holds_for_client j a x.1) (list_all (λ y. holds_for_client j a y.1) xs) k in
+      client_found xs a d (attached_by d so_far x.1) (by x.1 parts.0) h parts.1
     where
-      by : (act : Act) → holds_for_client j a act ≡ true → (is_attached xs d ≡ true → pair_holds j a d ≡ true) →
-          (attaches d act ≡ true) ⊎ (is_attached xs d ≡ true) → pair_holds j a d ≡ true
-      by (c.Client id router) here ih (inl e) = subst (λ (name : List ℕ). pair_holds j a name ≡ true) (sym (same_name d id e)) here
-      by other here ih (inl e) = absurd (false≢true e)
-      by act here ih (inr e) = ih e
+      by : (act : Act) → holds_for_client j a act ≡ true → attached_by d so_far act ≡ true → pair_holds j a d ≡ true
+      by (c.Client id router) here e = at (or_cases so_far (is_named d id) e)
+        where
+          at : (so_far ≡ true) ⊎ (is_named d id ≡ true) → pair_holds j a d ≡ true
+          at (inl t) = before t
+          at (inr t) = subst (λ (name : List ℕ). pair_holds j a name ≡ true) (sym (same_name d id t)) here
+      by (c.Break router neighbour) here e = before (and_parts so_far (not (is_named d neighbour)) e).0
+      by other here e = before e
 
   receiver_found : (report : List ReportLine) (a d : List ℕ) → list_any (tells_of d) report ≡ true → list_all (λ x. holds_for_receiver j a x) report ≡ true → pair_holds j a d ≡ true
   receiver_found [] a d h k = absurd (false≢true h)
@@ -221,6 +231,9 @@ module _ (j : Judged) where
       by (r.Handled router name msg tag) here ih (inl e) = absurd (false≢true e)
       by (r.Ran steps quiet) here ih (inl e) = absurd (false≢true e)
       by (r.Mark n) here ih (inl e) = absurd (false≢true e)
+      by (r.Show router) here ih (inl e) = absurd (false≢true e)
+      by (r.Record links) here ih (inl e) = absurd (false≢true e)
+      by (r.Parent root parent) here ih (inl e) = absurd (false≢true e)
       by line here ih (inr e) = ih e
 
   -- so every pair of names holds
@@ -235,7 +248,7 @@ module _ (j : Judged) where
       by_report all away false e = nothing_holds a d (ap (filter (λ i. is_line_of j.phase a i.line)) (none_sent j.report d e)) (none_wanted j.before j.phase a d away)
 
       by_client : list_all (λ x. holds_for_client j a x.1) j.before ≡ true → list_all (λ x. holds_for_receiver j a x) j.report ≡ true → (b : Bool) → is_attached j.before d ≡ b → pair_holds j a d ≡ true
-      by_client clients all true e = client_found j.before a d e clients
+      by_client clients all true e = client_found j.before a d false (λ no. absurd (false≢true no)) e clients
       by_client clients all false e = by_report all e (list_any (tells_of d) j.report) refl
 
       by_publisher : (b : Bool) → list_any (λ x. is_publisher a x.1) j.phase ≡ b → pair_holds j a d ≡ true
@@ -265,6 +278,9 @@ module _ (j : Judged) where
       by (r.Taken router to msg tag) k = by_sample (is_named d to) (sample_of msg) tag k
       by (r.Ran steps quiet) k = refl
       by (r.Mark n) k = refl
+      by (r.Show router) k = refl
+      by (r.Record links) k = refl
+      by (r.Parent root parent) k = refl
 
   may_all : (report : List ReportLine) → ((d : List ℕ) → list_all may_be (sent_to report d) ≡ true) → list_all (λ x. may_be_sent j x) report ≡ true
   may_all [] h = refl
@@ -281,6 +297,9 @@ module _ (j : Judged) where
           by_sample (Some content) e = (and_parts (nat_lt tag j.mark || is_sample_line j.phase tag) true e).0
       by (r.Ran steps quiet) k = refl
       by (r.Mark n) k = refl
+      by (r.Show router) k = refl
+      by (r.Record links) k = refl
+      by (r.Parent root parent) k = refl
 
   -- ---- both ways
 
@@ -323,6 +342,9 @@ module _ (j : Judged) where
         receiver a (r.Handled router name msg tag) = refl
         receiver a (r.Ran steps quiet) = refl
         receiver a (r.Mark n) = refl
+        receiver a (r.Show router) = refl
+        receiver a (r.Record links) = refl
+        receiver a (r.Parent root parent) = refl
 
         all : (name : List ℕ) → holds_for_all j name ≡ true
         all name = and_from (list_all (λ x. holds_for_client j name x.1) j.before) (list_all (λ x. holds_for_receiver j name x) j.report)

@@ -74,12 +74,17 @@ pair_holds j publisher receiver =
 abbrev pub holds_for_client : Judged → List ℕ → Act → Bool
 holds_for_client j publisher (a.Router id) = true
 holds_for_client j publisher (a.Client id router) = pair_holds j publisher id
+holds_for_client j publisher (a.Link one other) = true
+holds_for_client j publisher (a.Up router neighbour) = true
+holds_for_client j publisher (a.Break router neighbour) = true
+holds_for_client j publisher (a.Down router neighbour) = true
 holds_for_client j publisher (a.Sub client id key) = true
 holds_for_client j publisher (a.Unsub client id) = true
 holds_for_client j publisher (a.Publish client content) = true
 holds_for_client j publisher (a.Handle router from) = true
 holds_for_client j publisher (a.Take router to) = true
 holds_for_client j publisher a.Mark = true
+holds_for_client j publisher (a.Show router) = true
 
 -- the same for the client that a report line tells of
 abbrev pub holds_for_receiver : Judged → List ℕ → ReportLine → Bool
@@ -87,10 +92,13 @@ holds_for_receiver j publisher (r.Handled router from msg tag) = true
 holds_for_receiver j publisher (r.Taken router to msg tag) = pair_holds j publisher to
 holds_for_receiver j publisher (r.Ran steps quiet) = true
 holds_for_receiver j publisher (r.Mark line) = true
+holds_for_receiver j publisher (r.Show router) = true
+holds_for_receiver j publisher (r.Record links) = true
+holds_for_receiver j publisher (r.Parent root parent) = true
 
 -- ---- all of them
 
--- the same for a publisher and all clients that are attached or were sent anything
+-- the same for a publisher and all clients that were ever attached or were sent anything
 abbrev pub holds_for_all : Judged → List ℕ → Bool
 holds_for_all j publisher = list_all (λ x. holds_for_client j publisher x.1) j.before && list_all (λ x. holds_for_receiver j publisher x) j.report
 
@@ -114,6 +122,9 @@ may_be_sent j (r.Handled router from msg tag) = true
 may_be_sent j (r.Taken router to msg tag) = is_allowed j (sample_of msg) tag
 may_be_sent j (r.Ran steps quiet) = true
 may_be_sent j (r.Mark line) = true
+may_be_sent j (r.Show router) = true
+may_be_sent j (r.Record links) = true
+may_be_sent j (r.Parent root parent) = true
 
 -- the judgement
 abbrev pub judgement : Judged → Bool

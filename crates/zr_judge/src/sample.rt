@@ -3,7 +3,7 @@
 ghost use Rattle.std.specs.Prelude.{◌≡◌, ◌==◌, ◌++◌, ◌∷◌, [], not, IfOk, OnOk, filter};
 ghost use Rattle.std.specs.List.{list_any};
 ghost use Rattle.std.specs.Option.{option_copied, option_eq};
-ghost use Rattle.zr_guarantee.specs.Broker.{attaches, asks_for, declared_by, declarations, is_attached, publication, wants, is_publisher, is_line_of, item_for, from};
+ghost use Rattle.zr_guarantee.specs.Broker.{attached_by, asks_for, declared_by, declarations, is_attached, publication, wants, is_publisher, is_line_of, item_for, from};
 ghost use Rattle.zr_guarantee.specs.Sent.{sample_of, sent_in, sent_to};
 ghost use Rattle.zr_judge.specs.Judge.{is_same, is_same_bytes, is_same_content, is_same_extras, is_prefix};
 
@@ -209,15 +209,21 @@ fn wants(
 fn is_attached(acts: &[(u64, Act)], name: &Zid) -> bool
     ensures { result ≡ is_attached acts.now name.now }
 {
-    acts.iter().any(|x| attaches(name, &x.1))
+    let mut so_far = false;
+    for x in acts {
+        so_far = attached_by(name, so_far, &x.1);
+    }
+    so_far
 }
 
-fn attaches(name: &Zid, act: &Act) -> bool
-    ensures { result ≡ attaches name.now act.now }
+// A client is attached from its line on until its link is broken.
+fn attached_by(name: &Zid, so_far: bool, act: &Act) -> bool
+    ensures { result ≡ attached_by name.now so_far act.now }
 {
     match act {
-        Act::Client { id, .. } => name == id,
-        _ => false,
+        Act::Client { id, .. } => so_far || name == id,
+        Act::Break { neighbour, .. } => so_far && name != neighbour,
+        _ => so_far,
     }
 }
 

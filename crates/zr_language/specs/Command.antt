@@ -9,19 +9,22 @@
 --   BadKey          a word that is to be a key expression is none
 --   UnknownName     a router or a client isn't there; an id to undeclare isn't declared
 --   NameTaken       the name is taken; the id is declared
---   NotLinked       there is no such link
+--   NotLinked       there is no such link, or it or its end isn't as the command needs it
+--   AlreadyLinked   the link is in place, or its end is up
 --   NothingThere    nothing waits there
---   NotSettled      a declaration is still under way
+--   NotSettled      the network is not settled
+--   NotJoined       not each router is reached from each other
 --   Limit           a limit of the world would be passed
 --
 -- Out of memory, `NoMemory`, is no refusal: no definition says it.
 use Rattle.std.specs.Prelude.{ℕ, ◌==◌, ◌||◌, not, nat_lt, Bool, true, if◌then◌else◌, List, [], ◌∷◌, length, codes, Option, Some, None, Result, Ok, Err}
+use Rattle.zr_id.specs.Zid.{is_named}
 use Rattle.zr_body.specs.Payload.{put_body, del_body}
 use Rattle.zr_msg.specs.declared.content.Parts.{Parts}
 use Rattle.zr_msg.specs.Extras.{no_extras}
 use Rattle.zr_command.specs.declared.error.ScriptError.{ScriptError}
 use Rattle.zr_command.specs.declared.error.ScriptError.TheVariants.{UnknownCommand, BadWords, Limit}
-use Rattle.zr_command.specs.declared.command.Act.TheVariants.{Router, Client, Sub, Unsub, Publish, Handle, Take, Mark}
+use Rattle.zr_command.specs.declared.command.Act.TheVariants.{Router, Client, Link, Up, Break, Down, Show, Sub, Unsub, Publish, Handle, Take, Mark}
 use Rattle.zr_command.specs.declared.command.Command.{Command}
 use Rattle.zr_command.specs.declared.command.Command.TheVariants.{Act, Run}
 use Rattle.zr_language.specs.Step.{◌>>=◌}
@@ -44,6 +47,38 @@ client_line args = do
   id ← zid_at w.0
   router ← zid_at w.1
   Ok (Act (Client id router))
+
+-- link ONE OTHER: two routers, which differ
+unfoldable pub link_line : List (List ℕ) → Result Command ScriptError
+link_line args = do
+  w ← two_of args
+  one ← zid_at w.0
+  other ← zid_at w.1
+  if is_named one other then Err BadWords else Ok (Act (Link one other))
+
+-- up ROUTER NEIGHBOUR
+unfoldable pub up_line : List (List ℕ) → Result Command ScriptError
+up_line args = do
+  w ← two_of args
+  router ← zid_at w.0
+  neighbour ← zid_at w.1
+  Ok (Act (Up router neighbour))
+
+-- break ROUTER NEIGHBOUR
+unfoldable pub break_line : List (List ℕ) → Result Command ScriptError
+break_line args = do
+  w ← two_of args
+  router ← zid_at w.0
+  neighbour ← zid_at w.1
+  Ok (Act (Break router neighbour))
+
+-- down ROUTER NEIGHBOUR
+unfoldable pub down_line : List (List ℕ) → Result Command ScriptError
+down_line args = do
+  w ← two_of args
+  router ← zid_at w.0
+  neighbour ← zid_at w.1
+  Ok (Act (Down router neighbour))
 
 -- sub CLIENT N KEY
 unfoldable pub sub_line : List (List ℕ) → Result Command ScriptError
@@ -110,20 +145,32 @@ unfoldable pub mark_line : List (List ℕ) → Result Command ScriptError
 mark_line [] = Ok (Act Mark)
 mark_line (a ∷ more) = Err BadWords
 
+-- show ROUTER
+unfoldable pub show_line : List (List ℕ) → Result Command ScriptError
+show_line args = do
+  w ← one_of args
+  router ← zid_at w
+  Ok (Act (Show router))
+
 -- ---- a line
 
 -- whether a word names a command
 abbrev pub is_command : List ℕ → Bool
 is_command name =
-    is_word name (codes "router") || is_word name (codes "client") || is_word name (codes "sub") || is_word name (codes "unsub")
+    is_word name (codes "router") || is_word name (codes "client") || is_word name (codes "link") || is_word name (codes "up")
+    || is_word name (codes "break") || is_word name (codes "down") || is_word name (codes "sub") || is_word name (codes "unsub")
     || is_word name (codes "put") || is_word name (codes "del") || is_word name (codes "handle") || is_word name (codes "take")
-    || is_word name (codes "run") || is_word name (codes "mark")
+    || is_word name (codes "run") || is_word name (codes "mark") || is_word name (codes "show")
 
 -- what a command's name and the words behind it ask
 unfoldable pub by_name : List ℕ → List (List ℕ) → Result Command ScriptError
 by_name name args =
     if is_word name (codes "router") then router_line args
     else if is_word name (codes "client") then client_line args
+    else if is_word name (codes "link") then link_line args
+    else if is_word name (codes "up") then up_line args
+    else if is_word name (codes "break") then break_line args
+    else if is_word name (codes "down") then down_line args
     else if is_word name (codes "sub") then sub_line args
     else if is_word name (codes "unsub") then unsub_line args
     else if is_word name (codes "put") then put_line args
@@ -132,6 +179,7 @@ by_name name args =
     else if is_word name (codes "take") then take_line args
     else if is_word name (codes "run") then run_line args
     else if is_word name (codes "mark") then mark_line args
+    else if is_word name (codes "show") then show_line args
     else Err UnknownCommand
 
 -- what the words of a line ask, where it is told whether its bytes are clean

@@ -3,6 +3,7 @@ use Rattle.std.specs.Prelude.{ℕ, ◌==◌, not, Bool, true, false, if◌then�
 use Rattle.std.specs.Fmt.{decimal}
 use Rattle.std.specs.List.{flat_map, join_with_byte}
 use Rattle.hex.specs.Hex.{encode_lower}
+use Rattle.zr_id.specs.Record.{RecordState}
 use Rattle.zr_body.specs.Payload.{payload_of, is_del}
 use Rattle.zr_msg.specs.declared.decl.Kind.{Kind}
 use Rattle.zr_msg.specs.declared.decl.Kind.TheVariants as k
@@ -14,7 +15,7 @@ use Rattle.zr_msg.specs.declared.msg.Target.TheVariants as t
 use Rattle.zr_msg.specs.declared.msg.Msg.{Msg}
 use Rattle.zr_msg.specs.declared.msg.Msg.TheVariants.{Sub, Unsub, Able, Unable, Interest, EndInterest, ToldSub, ToldAble, ToldUnsub, ToldUnable, ToldEnd, Push, Request, Response, Final, State, Step, Snap}
 use Rattle.zr_command.specs.declared.report.ReportLine.{ReportLine}
-use Rattle.zr_command.specs.declared.report.ReportLine.TheVariants.{Handled, Taken, Ran, Mark}
+use Rattle.zr_command.specs.declared.report.ReportLine.TheVariants.{Handled, Taken, Ran, Mark, Show, Record, Parent}
 use Rattle.zr_command.specs.declared.error.ScriptError.{ScriptError}
 use Rattle.zr_command.specs.declared.error.ScriptError.TheVariants as e
 
@@ -32,10 +33,10 @@ nothing_text = codes "-"
 abbrev pub id_text : List ℕ → List ℕ
 id_text id = encode_lower id
 
--- the root of the tree along which a message goes, if one is named
-abbrev pub tree_text : Option (List ℕ) → List ℕ
-tree_text None = nothing_text
-tree_text (Some id) = id_text id
+-- an identifier that may be missing: the root of a tree, or a parent in it
+abbrev pub optional_id_text : Option (List ℕ) → List ℕ
+optional_id_text None = nothing_text
+optional_id_text (Some id) = id_text id
 
 -- a payload: the empty one is shown as `-`
 abbrev pub payload_text : List ℕ → List ℕ
@@ -97,6 +98,10 @@ abbrev pub links_text : List (List ℕ) → List ℕ
 links_text [] = nothing_text
 links_text (id ∷ ids) = join_with_byte 44 (map id_text (id ∷ ids))
 
+-- a link record
+abbrev pub record_text : RecordState → List ℕ
+record_text r = codes "record " ++ id_text r.id ++ codes " " ++ decimal r.seq ++ codes " " ++ links_text r.links
+
 -- a declaration's kind
 abbrev pub kind_text : Kind → List ℕ
 kind_text k.Sub = codes "sub"
@@ -134,12 +139,12 @@ msg_text (ToldAble id key complete interest) =
 msg_text (ToldUnsub id) = codes "told unsub " ++ decimal id
 msg_text (ToldUnable id) = codes "told unable " ++ decimal id
 msg_text (ToldEnd interest) = codes "told end " ++ decimal interest
-msg_text (Push tree content) = sample_text (is_del content.body) (tree_text tree) content.key (payload_text (payload_of content.body))
+msg_text (Push tree content) = sample_text (is_del content.body) (optional_id_text tree) content.key (payload_text (payload_of content.body))
 msg_text (Request tree id target content) =
-    codes "get " ++ tree_text tree ++ codes " " ++ decimal id ++ codes " " ++ content.key ++ codes " " ++ target_text target
+    codes "get " ++ optional_id_text tree ++ codes " " ++ decimal id ++ codes " " ++ content.key ++ codes " " ++ target_text target
 msg_text (Response id content) = codes "reply " ++ decimal id ++ codes " " ++ content.key ++ codes " " ++ payload_text (payload_of content.body)
 msg_text (Final id extras) = codes "final " ++ decimal id
-msg_text (State links) = codes "record " ++ id_text links.id ++ codes " " ++ decimal links.seq ++ codes " " ++ links_text links.links
+msg_text (State links) = record_text links
 msg_text (Step source number added decl) = codes "entry " ++ id_text source ++ codes " " ++ decimal number ++ codes " " ++ sign_text added ++ decl_text decl
 msg_text (Snap source number decls) = codes "snap " ++ id_text source ++ codes " " ++ decimal number ++ flat_map decl_text decls
 
@@ -149,13 +154,17 @@ msg_text (Snap source number decls) = codes "snap " ++ id_text source ++ codes "
 abbrev pub rest_text : Bool → List ℕ
 rest_text quiet = if quiet then codes " quiet" else codes " more"
 
--- a report line: `ROUTER < CLIENT: MESSAGE #TAG` for a handled message, `ROUTER > CLIENT: MESSAGE #TAG` for one that was sent,
--- `run STEPS quiet` or `run STEPS more` at the end of a run, `mark #LINE` where a phase begins
+-- a report line: `ROUTER < NEIGHBOUR: MESSAGE #TAG` for a handled message, `ROUTER > NEIGHBOUR: MESSAGE #TAG` for a taken one,
+-- `run STEPS quiet` or `run STEPS more` at the end of a run, `mark #LINE` where a phase begins, and `show ROUTER`, `record ID NUMBER LINKS` and
+-- `parent ROOT PARENT` of a router's tables
 abbrev pub line_text : ReportLine → List ℕ
 line_text (Handled router from msg tag) = id_text router ++ codes " < " ++ id_text from ++ codes ": " ++ msg_text msg ++ codes " #" ++ decimal tag ++ line_end
 line_text (Taken router to msg tag) = id_text router ++ codes " > " ++ id_text to ++ codes ": " ++ msg_text msg ++ codes " #" ++ decimal tag ++ line_end
 line_text (Ran steps quiet) = codes "run " ++ decimal steps ++ rest_text quiet ++ line_end
 line_text (Mark line) = codes "mark #" ++ decimal line ++ line_end
+line_text (Show router) = codes "show " ++ id_text router ++ line_end
+line_text (Record links) = record_text links ++ line_end
+line_text (Parent root parent) = codes "parent " ++ id_text root ++ codes " " ++ optional_id_text parent ++ line_end
 
 -- ---- a refusal
 
@@ -167,8 +176,10 @@ refusal_text e.UnknownName = codes "3 UnknownName"
 refusal_text e.NameTaken = codes "4 NameTaken"
 refusal_text e.BadKey = codes "5 BadKey"
 refusal_text e.NotLinked = codes "7 NotLinked"
+refusal_text e.AlreadyLinked = codes "6 AlreadyLinked"
 refusal_text e.NothingThere = codes "8 NothingThere"
 refusal_text e.NotSettled = codes "10 NotSettled"
+refusal_text e.NotJoined = codes "11 NotJoined"
 refusal_text e.Limit = codes "12 Limit"
 refusal_text e.NoMemory = []
 

@@ -1,7 +1,7 @@
 -- Steps that may be refused, one after another, and what a call's answer has to do with what is said of it.
 use Rattle.std.specs.Prelude.{◌≡◌, Result, Ok, Err}
 use Rattle.zr_command.specs.declared.error.ScriptError.{ScriptError}
-use Rattle.zr_command.specs.declared.error.ScriptError.TheVariants.{UnknownCommand, BadWords, UnknownName, NameTaken, BadKey, NotLinked, NothingThere, NotSettled, Limit, NoMemory}
+use Rattle.zr_command.specs.declared.error.ScriptError.TheVariants.{UnknownCommand, BadWords, UnknownName, NameTaken, BadKey, NotLinked, AlreadyLinked, NothingThere, NotSettled, NotJoined, Limit, NoMemory}
 
 -- the second step, where the first was not refused
 infixl 10 ◌>>=◌
@@ -18,8 +18,10 @@ IsSaidBy view (Err BadKey) said = said ≡ Err BadKey
 IsSaidBy view (Err UnknownName) said = said ≡ Err UnknownName
 IsSaidBy view (Err NameTaken) said = said ≡ Err NameTaken
 IsSaidBy view (Err NotLinked) said = said ≡ Err NotLinked
+IsSaidBy view (Err AlreadyLinked) said = said ≡ Err AlreadyLinked
 IsSaidBy view (Err NothingThere) said = said ≡ Err NothingThere
 IsSaidBy view (Err NotSettled) said = said ≡ Err NotSettled
+IsSaidBy view (Err NotJoined) said = said ≡ Err NotJoined
 IsSaidBy view (Err Limit) said = said ≡ Err Limit
 IsSaidBy view (Err NoMemory) said = Unit {0}
 

@@ -1,13 +1,37 @@
--- No step is possible exactly where nothing is under way: the first of the ends with a message is none where there are none.
-use Rattle.std.proofs.Common.{◌≡◌, Bool, true, false, cond, List, [], ◌∷◌, Option, Some, None, refl, ap, ◌∙◌}
-use Rattle.std.specs.Prelude.{ℕ, ◌&&◌, not, is_none, map, filter}
-use Rattle.std.specs.List.{list_all, reduce}
+-- In a phase no step is possible exactly where nothing is under way: each end with a message on its wire is up, and each with one that is
+-- queued is up too and its link unbroken. It follows from what holds of every world (`Orderly`) and from what the mark found
+-- settled, which no act of the phase changes (`IsMet`).
+use Rattle.std.proofs.Common.{◌≡◌, ℕ, Bool, true, false, cond, List, [], ◌∷◌, ◌++◌, map, Option, Some, None, ◌⊎◌, inl, inr, refl, sym, ap, ◌∙◌}
+use Rattle.std.specs.Prelude.{◌&&◌, ◌||◌, not, is_some, is_none, filter, IfSome}
+use Rattle.std.specs.List.{AllByRecursion, fold, list_all, reduce}
 use Rattle.std.specs.Map.{values_of}
-use Rattle.zr_network.specs.World.{ClientState, Clients, WorldState, is_empty, is_idle, is_quiet}
-use Rattle.zr_network.specs.Next.{End, lesser, ends_where, first_where, has_sent, has_queued, step_at, next}
+use Rattle.std.proofs.lemmas.Bool.{false≢true, true≢false, and_parts, and_from, or_cases}
+use Rattle.std.proofs.lemmas.List.Sums.{fold-append}
+use Rattle.zr_msg.specs.declared.msg.Msg.TheVariants as m
+use Rattle.zr_msg.specs.declared.event.Event.TheVariants.{From}
+use Rattle.zr_command.specs.declared.command.Act.{Act}
+use Rattle.zr_command.specs.declared.command.Act.TheVariants as c
+use Rattle.zr_network.specs.World.{EndState, End, Ends, WorldState, turned, end_of, with_wire, with_queue, with_end, sent, is_empty, is_idle, is_quiet, is_met, is_calm_end, is_settled}
+use Rattle.zr_network.specs.Acts.{hearing, outcome}
+use Rattle.zr_network.specs.Next.{lesser, ends_where, first_where, can_handle, can_take, step_at, next}
+use Rattle.zr_network.specs.Moments.{Numbered, Moment, beginning, went, onward, reached}
+use Rattle.zr_network.specs.Sound.{IsSound}
+use Rattle.zr_guarantee.specs.Phase.{stays, is_phase}
+use Rattle.zr_network.proofs.Keyed.{found_entry, all_found}
+use Rattle.zr_network.proofs.Names.{read_kept}
+use Rattle.zr_network.proofs.Ends.{end_order, same_end, keep_with_end, keep_changed, keep_all_queued}
+use Rattle.zr_network.proofs.Fits.{up_of}
+use Rattle.zr_network.proofs.Cases.{on_publish, on_handle, on_take, for_publish, for_handle, for_take, for_mark, for_show}
+use Rattle.zr_laws.specs.Runs.{RestIsQuiet}
+use Rattle.zr_laws.proofs.Folds.{at_some, after_all}
+use Rattle.zr_laws.proofs.Orderly.{unbroken_of, has_wire, has_queue, is_router_in, is_client_in, Orderly}
+use Rattle.zr_laws.proofs.Always.{Always, always}
+use Rattle.zr_laws.proofs.Lines.{lines_refine}
+
+-- ---- the next step
 
 -- whether some ends are none
-abbrev none_of : List End → Bool
+abbrev pub none_of : List End → Bool
 none_of [] = true
 none_of (e ∷ es) = false
 
@@ -15,36 +39,175 @@ no_first : (es : List End) → is_none (reduce lesser es) ≡ none_of es
 no_first [] = refl
 no_first (e ∷ es) = refl
 
-no_step : (sent queued : Option End) → is_none (step_at sent queued) ≡ (is_none sent && is_none queued)
-no_step (Some e) queued = refl
+no_step : (wire queue : Option End) → is_none (step_at wire queue) ≡ (is_none wire && is_none queue)
+no_step (Some e) queue = refl
 no_step None (Some e) = refl
 no_step None None = refl
 
--- no client passes a test
-no_ends : (clients : Clients) (test : ClientState → Bool) → none_of (ends_where test clients) ≡ list_all (λ s. not (test s)) (values_of clients)
+-- no end passes a test
+no_ends : (es : Ends) (test : EndState → Bool) → none_of (ends_where test es) ≡ list_all (λ s. not (test s)) (values_of es)
 no_ends [] test = refl
 no_ends (e ∷ es) test = by (test e.1) (no_ends es test)
   where
     by : (b : Bool) → none_of (ends_where test es) ≡ list_all (λ s. not (test s)) (values_of es) →
-        none_of (map (λ (x : List ℕ × ClientState). (x.1.router, x.0)) (cond b (e ∷ filter (λ x. test x.1) es) (filter (λ x. test x.1) es))) ≡ (not b && list_all (λ s. not (test s)) (values_of es))
+        none_of (map (λ (x : End × EndState). x.0) (cond b (e ∷ filter (λ x. test x.1) es) (filter (λ x. test x.1) es))) ≡ (not b && list_all (λ s. not (test s)) (values_of es))
     by true ih = refl
     by false ih = ih
 
--- two tests of all, and both at once
-both : (ss : List ClientState) →
-    (list_all (λ s. not (has_sent s)) ss && list_all (λ s. not (has_queued s)) ss) ≡ list_all is_idle ss
-both [] = refl
-both (s ∷ ss) = by (is_empty s.wire) (is_empty s.queue) (list_all (λ x. not (has_sent x)) ss) (list_all (λ x. not (has_queued x)) ss) (list_all is_idle ss) (both ss)
-  where
-    by : (a b c d f : Bool) → (c && d) ≡ f → ((not (not a) && c) && (not (not b) && d)) ≡ ((a && b) && f)
-    by true true c d f h = h
-    by true false true d f h = refl
-    by true false false d f h = refl
-    by false b c d f h = refl
+-- what waits at an end can go on
+abbrev goes_on : EndState → Bool
+goes_on s = (is_empty s.wire || s.up) && (is_empty s.queue || (s.up && s.unbroken))
 
-pub rest_is_quiet : (w : WorldState) → is_none (next w) ≡ is_quiet w
-rest_is_quiet w =
-    no_step (first_where has_sent w.clients) (first_where has_queued w.clients)
-    ∙ ap (λ b. b && is_none (first_where has_queued w.clients)) (no_first (ends_where has_sent w.clients) ∙ no_ends w.clients has_sent)
-    ∙ ap (λ b. list_all (λ s. not (has_sent s)) (values_of w.clients) && b) (no_first (ends_where has_queued w.clients) ∙ no_ends w.clients has_queued)
-    ∙ both (values_of w.clients)
+-- where all that waits can go on, nothing can where nothing waits
+both : (es : Ends) → list_all (λ x. goes_on x.1) es ≡ true →
+    (list_all (λ s. not (can_handle s)) (values_of es) && list_all (λ s. not (can_take s)) (values_of es)) ≡ list_all is_idle (values_of es)
+both [] k = refl
+both (x ∷ es) k =
+    let parts = and_parts (goes_on x.1) (list_all (λ y. goes_on y.1) es) k in
+    by (is_empty x.1.wire) (is_empty x.1.queue) x.1.up x.1.unbroken (list_all (λ y. not (can_handle y)) (values_of es)) (list_all (λ y. not (can_take y)) (values_of es))
+    (list_all is_idle (values_of es)) parts.0 (both es parts.1)
+  where
+    by : (a b u v p q f : Bool) → ((a || u) && (b || (u && v))) ≡ true → (p && q) ≡ f → ((not (u && not a) && p) && (not ((u && v) && not b) && q)) ≡ ((a && b) && f)
+    by true true true true p q f g h = h
+    by true true true false p q f g h = h
+    by true true false v p q f g h = h
+    by true false true true true q f g h = refl
+    by true false true true false q f g h = refl
+    by true false true false p q f g h = absurd (false≢true g)
+    by true false false v p q f g h = absurd (false≢true g)
+    by false b true v p q f g h = refl
+    by false b false v p q f g h = absurd (false≢true g)
+
+-- ---- what a mark has found settled
+
+-- an end that is up is that of an unbroken link, and where the neighbour is a router, its end is up too
+abbrev IsMet : WorldState → Type 0
+IsMet w = (e : End) → up_of (end_of w.ends e) ≡ true → (unbroken_of (end_of w.ends e) ≡ true) × (is_router_in w e.1 ≡ true → up_of (end_of w.ends (turned e)) ≡ true)
+
+met_settled : (w : WorldState) → is_settled w ≡ true → IsMet w
+met_settled w settled e = by (end_of w.ends e) refl
+  where
+    at : (s : EndState) (up : Bool) → s.up ≡ up → (not up || (s.unbroken && (not (is_router_in w e.1) || up_of (end_of w.ends (turned e))))) ≡ true → s.up ≡ true →
+        (s.unbroken ≡ true) × (is_router_in w e.1 ≡ true → up_of (end_of w.ends (turned e)) ≡ true)
+    at s false k met up = absurd (false≢true (sym k ∙ up))
+    at s true k met up =
+        let parts = and_parts s.unbroken (not (is_router_in w e.1) || up_of (end_of w.ends (turned e))) met in
+        (parts.0, λ r. sym (ap (λ b. not b || up_of (end_of w.ends (turned e))) r) ∙ parts.1)
+
+    by : (o : Option EndState) → end_of w.ends e ≡ o → up_of o ≡ true → (unbroken_of o ≡ true) × (is_router_in w e.1 ≡ true → up_of (end_of w.ends (turned e)) ≡ true)
+    by None k up = absurd (false≢true up)
+    by (Some s) k up =
+        let found = and_parts (is_met w e s) (is_calm_end s) (found_entry end_order same_end (λ x. is_met w x.0 x.1 && is_calm_end x.1) w.ends e s settled k) in
+        at s s.up refl found.0 up
+
+-- the same flags, and the same routers
+met_same : (w w' : WorldState) → ((e : End) → up_of (end_of w'.ends e) ≡ up_of (end_of w.ends e)) → ((e : End) → unbroken_of (end_of w'.ends e) ≡ unbroken_of (end_of w.ends e)) →
+    ((x : List ℕ) → is_router_in w' x ≡ is_router_in w x) → IsMet w → IsMet w'
+met_same w w' up unbroken routers h e k =
+    let old = h e (sym (up e) ∙ k) in
+    (unbroken e ∙ old.0, λ r. up (turned e) ∙ old.1 (sym (routers e.1) ∙ r))
+
+act_met : (now : Moment) → IsMet now.world → (n : ℕ) (act : Act) → stays act ≡ true → IfSome (went now (outcome now.world n act)) (λ next. IsMet next.world)
+unfolding outcome
+act_met now h n (c.Router id) st = absurd (false≢true st)
+act_met now h n (c.Client id router) st = absurd (false≢true st)
+act_met now h n (c.Link one other) st = absurd (false≢true st)
+act_met now h n (c.Up router name) st = absurd (false≢true st)
+act_met now h n (c.Break router name) st = absurd (false≢true st)
+act_met now h n (c.Down router name) st = absurd (false≢true st)
+act_met now h n (c.Sub client id key) st = absurd (false≢true st)
+act_met now h n (c.Unsub client id) st = absurd (false≢true st)
+act_met now h n (c.Publish client content) st = for_publish now (λ next. IsMet next.world) n client content
+    (λ s es en ee unbroken alone. met_same now.world (on_publish now n client content s en).world (λ e. keep_with_end now.world.ends (s.router, client) (sent en (m.Push None content) n) up_of e en ee refl)
+    (λ e. keep_with_end now.world.ends (s.router, client) (sent en (m.Push None content) n) unbroken_of e en ee refl) (λ x. refl) h)
+act_met now h n (c.Handle router from) st = for_handle now (λ next. IsMet next.world) router from
+    (λ r er there s es up msg tag xs front l el.
+    let half : Ends = with_end now.world.ends (router, from) (with_wire s xs) in
+    met_same now.world (on_handle now router from r s l msg tag xs).world (λ e. keep_all_queued half router r.node (From l msg) tag up_of e (λ z. refl) ∙ keep_with_end now.world.ends (router, from) (with_wire s xs) up_of e s es refl)
+    (λ e. keep_all_queued half router r.node (From l msg) tag unbroken_of e (λ z. refl) ∙ keep_with_end now.world.ends (router, from) (with_wire s xs) unbroken_of e s es refl)
+    (λ x. read_kept is_some now.world.routers router x r (hearing r (From l msg)) er refl) h)
+act_met now h n (c.Take router to) st = for_take now (λ next. IsMet next.world) router to
+    (λ r er there s es up unbroken msg tag xs front.
+    let half : Ends = with_end now.world.ends (router, to) (with_queue s xs) in
+    met_same now.world (on_take now router to s msg tag xs).world (λ e. keep_changed half (to, router) (λ z. sent z msg tag) up_of e (λ z. refl) ∙ keep_with_end now.world.ends (router, to) (with_queue s xs) up_of e s es refl)
+    (λ e. keep_changed half (to, router) (λ z. sent z msg tag) unbroken_of e (λ z. refl) ∙ keep_with_end now.world.ends (router, to) (with_queue s xs) unbroken_of e s es refl)
+    (λ x. refl) h)
+act_met now h n c.Mark st = for_mark now (λ next. IsMet next.world) n (λ settled joined. h)
+act_met now h n (c.Show router) st = for_show now (λ next. IsMet next.world) router (λ r er. h)
+
+-- ---- all that waits can go on
+
+module _ (w : WorldState) (sound : IsSound w) (orderly : Orderly w) (met : IsMet w) where
+  -- a message on a wire has a receiver whose end is up
+  receiver_up : (e : End) (s : EndState) → end_of w.ends e ≡ Some s → is_empty s.wire ≡ false → s.up ≡ true
+  receiver_up e s found waits = sym (ap up_of found) ∙ by (or_cases (is_router_in w e.1) (is_client_in w e.1) (sound.neighbours e.0 e.1 (ap is_some found)))
+    where
+      on_wire : has_wire (end_of w.ends e) ≡ true
+      on_wire = ap has_wire found ∙ ap not waits
+
+      unbroken : unbroken_of (end_of w.ends e) ≡ true
+      unbroken = at (unbroken_of (end_of w.ends e)) refl
+        where
+          at : (b : Bool) → unbroken_of (end_of w.ends e) ≡ b → b ≡ true
+          at true k = refl
+          at false k = absurd (true≢false (sym on_wire ∙ orderly.broken_links e k))
+
+      by : (is_router_in w e.1 ≡ true) ⊎ (is_client_in w e.1 ≡ true) → up_of (end_of w.ends e) ≡ true
+      by (inl r) = (met (turned e) (orderly.senders e r on_wire)).1 (sound.routers e.0 e.1 (ap is_some found))
+      by (inr k) = orderly.clients e k unbroken
+
+  -- a queued message can be taken
+  taker_up : (e : End) (s : EndState) → end_of w.ends e ≡ Some s → is_empty s.queue ≡ false → (s.up ≡ true) × (s.unbroken ≡ true)
+  taker_up e s found waits = (sym (ap up_of found) ∙ up, sym (ap unbroken_of found) ∙ (met e up).0)
+    where
+      up : up_of (end_of w.ends e) ≡ true
+      up = at (up_of (end_of w.ends e)) refl
+        where
+          at : (b : Bool) → up_of (end_of w.ends e) ≡ b → b ≡ true
+          at true k = refl
+          at false k = absurd (true≢false (sym (ap has_queue found ∙ ap not waits) ∙ orderly.down_ends e k))
+
+  each_goes_on : (e : End) (s : EndState) → end_of w.ends e ≡ Some s → goes_on s ≡ true
+  each_goes_on e s found = and_from (is_empty s.wire || s.up) (is_empty s.queue || (s.up && s.unbroken)) (wire (is_empty s.wire) refl) (queue (is_empty s.queue) refl)
+    where
+      wire : (b : Bool) → is_empty s.wire ≡ b → (b || s.up) ≡ true
+      wire true k = refl
+      wire false k = receiver_up e s found k
+
+      queue : (b : Bool) → is_empty s.queue ≡ b → (b || (s.up && s.unbroken)) ≡ true
+      queue true k = refl
+      queue false k = let t = taker_up e s found k in and_from s.up s.unbroken t.0 t.1
+
+  pub quiet_at_rest : is_none (next w) ≡ is_quiet w
+  quiet_at_rest =
+      no_step (first_where can_handle w.ends) (first_where can_take w.ends)
+      ∙ ap (λ b. b && is_none (first_where can_take w.ends)) (no_first (ends_where can_handle w.ends) ∙ no_ends w.ends can_handle)
+      ∙ ap (λ b. list_all (λ s. not (can_handle s)) (values_of w.ends) && b) (no_first (ends_where can_take w.ends) ∙ no_ends w.ends can_take)
+      ∙ both w.ends (all_found end_order same_end (λ x. goes_on x.1) w.ends sound.in_order (λ q x found. each_goes_on q x found))
+
+-- ---- every phase
+
+marked : (mark : ℕ) (o : Option Moment) → IfSome (onward o (mark, c.Mark)) (λ now. IsMet now.world)
+unfolding outcome
+marked mark None = tt
+marked mark (Some now) = for_mark now (λ next. IsMet next.world) mark (λ settled joined. met_settled now.world settled)
+
+pub rest_is_quiet : RestIsQuiet
+rest_is_quiet ls before phase rest mark cut st =
+    let refined = lines_refine ls before phase rest mark cut st in
+    (refined.0, refined.1, at_end refined.0 refined.1)
+  where
+    acts : List Numbered
+    acts = before ++ (mark, c.Mark) ∷ phase
+
+    at_end : (m : Moment) → reached (before ++ (mark, c.Mark) ∷ phase) ≡ Some m → is_none (next m.world) ≡ is_quiet m.world
+    at_end m e = quiet_at_rest m.world holds.sound holds.orderly
+        (at_some (λ now. IsMet now.world) (fold onward (onward (reached before) (mark, c.Mark)) phase) m (sym (fold-append onward (Some beginning) before ((mark, c.Mark) ∷ phase)) ∙ e)
+        (after_all (λ done now. IsMet now.world) (λ x. stays x.1 ≡ true) (λ done now met x k. act_met now met x.0 x.1 k) phase [] (onward (reached before) (mark, c.Mark)) (marked mark (reached before)) (each phase st)))
+      where
+        holds : Always (before ++ (mark, c.Mark) ∷ phase) m
+        holds = at_some (Always acts) (reached acts) m e (always acts)
+
+        each : (xs : List Numbered) → is_phase xs ≡ true → AllByRecursion (λ x. stays x.1 ≡ true) xs
+        each [] k = tt
+        each (x ∷ xs) k = let parts = and_parts (stays x.1) (is_phase xs) k in (parts.0, each xs parts.1)

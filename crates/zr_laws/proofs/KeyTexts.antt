@@ -2,6 +2,7 @@
 -- name, and a run's steps have no key.
 use Rattle.std.proofs.Common.{◌≡◌, ℕ, zero, suc, Bool, true, false, cond, List, [], ◌∷◌, ◌++◌, ◌+◌, map, Option, Some, None, Result, Ok, Err, refl, subst}
 use Rattle.std.specs.Prelude.{IfOk, codes, not, nat_lt, length}
+use Rattle.zr_id.specs.Zid.{is_named}
 use Rattle.zr_key.specs.Key.{read_key, IsKeyText}
 use Rattle.zr_key.specs.declared.key.KeyError.{KeyError}
 use Rattle.zr_key.proofs.Reading.{Sound-from_read}
@@ -15,11 +16,11 @@ use Rattle.zr_command.specs.declared.command.Command.{Command}
 use Rattle.zr_command.specs.declared.command.Command.TheVariants as command
 use Rattle.zr_language.specs.Lines.{most_line}
 use Rattle.zr_language.specs.Words.{words, is_word, is_clean, one_of, two_of, three_of, zid_at, number_at, key_of_word, key_at}
-use Rattle.zr_language.specs.Command.{router_line, client_line, sub_line, unsub_line, put_line, del_line, handle_line, take_line, run_line, mark_line, is_command, by_name, by_words, is_silent, command_of}
+use Rattle.zr_language.specs.Command.{router_line, client_line, link_line, up_line, break_line, down_line, sub_line, unsub_line, put_line, del_line, handle_line, take_line, run_line, mark_line, show_line, is_command, by_name, by_words, is_silent, command_of}
 use Rattle.zr_language.specs.Step.{◌>>=◌}
-use Rattle.zr_network.specs.World.{WorldState}
+use Rattle.zr_network.specs.World.{End, WorldState}
 use Rattle.zr_network.specs.Acts.{outcome}
-use Rattle.zr_network.specs.Next.{End, first_where, has_sent, has_queued, step_at, world_after, with_more, run_steps, acts}
+use Rattle.zr_network.specs.Next.{first_where, can_handle, can_take, step_at, world_after, with_more, run_steps, acts}
 use Rattle.zr_network.specs.Run.{Run, start, on_line}
 use Rattle.zr_network.specs.Moments.{Numbered}
 use Rattle.zr_network.specs.Accepted.{entries, accepted_from}
@@ -77,6 +78,30 @@ unfolding client_line
 client_text args =
     for_bind AsksKeyText (two_of args) _ (λ w ew. for_bind AsksKeyText (zid_at w.0) _ (λ id e. for_bind AsksKeyText (zid_at w.1) _ (λ router er. tt)))
 
+link_text : (args : List (List ℕ)) → IfOk (link_line args) AsksKeyText
+unfolding link_line
+link_text args = for_bind AsksKeyText (two_of args) _ (λ w ew. for_bind AsksKeyText (zid_at w.0) _ (λ one e. for_bind AsksKeyText (zid_at w.1) _ (λ other eo. by one other (is_named one other))))
+  where
+    by : (one other : List ℕ) (b : Bool) → IfOk (cond b (Err BadWords) (Ok (command.Act (c.Link one other)))) AsksKeyText
+    by one other true = tt
+    by one other false = tt
+
+up_text : (args : List (List ℕ)) → IfOk (up_line args) AsksKeyText
+unfolding up_line
+up_text args = for_bind AsksKeyText (two_of args) _ (λ w ew. for_bind AsksKeyText (zid_at w.0) _ (λ router e. for_bind AsksKeyText (zid_at w.1) _ (λ name en. tt)))
+
+break_text : (args : List (List ℕ)) → IfOk (break_line args) AsksKeyText
+unfolding break_line
+break_text args = for_bind AsksKeyText (two_of args) _ (λ w ew. for_bind AsksKeyText (zid_at w.0) _ (λ router e. for_bind AsksKeyText (zid_at w.1) _ (λ name en. tt)))
+
+down_text : (args : List (List ℕ)) → IfOk (down_line args) AsksKeyText
+unfolding down_line
+down_text args = for_bind AsksKeyText (two_of args) _ (λ w ew. for_bind AsksKeyText (zid_at w.0) _ (λ router e. for_bind AsksKeyText (zid_at w.1) _ (λ name en. tt)))
+
+show_text : (args : List (List ℕ)) → IfOk (show_line args) AsksKeyText
+unfolding show_line
+show_text args = for_bind AsksKeyText (one_of args) _ (λ w ew. for_bind AsksKeyText (zid_at w) _ (λ router e. tt))
+
 unsub_text : (args : List (List ℕ)) → IfOk (unsub_line args) AsksKeyText
 unfolding unsub_line
 unsub_text args =
@@ -104,22 +129,25 @@ mark_text (a ∷ more) = tt
 name_text : (name : List ℕ) (args : List (List ℕ)) → IfOk (by_name name args) AsksKeyText
 unfolding by_name
 name_text name args =
-    by (is_word name (codes "router")) (is_word name (codes "client")) (is_word name (codes "sub")) (is_word name (codes "unsub")) (is_word name (codes "put"))
-    (is_word name (codes "del")) (is_word name (codes "handle")) (is_word name (codes "take")) (is_word name (codes "run")) (is_word name (codes "mark"))
+    by (is_word name (codes "router")) (is_word name (codes "client")) (is_word name (codes "link")) (is_word name (codes "up")) (is_word name (codes "break")) (is_word name (codes "down")) (is_word name (codes "sub")) (is_word name (codes "unsub")) (is_word name (codes "put")) (is_word name (codes "del")) (is_word name (codes "handle")) (is_word name (codes "take")) (is_word name (codes "run")) (is_word name (codes "mark")) (is_word name (codes "show"))
   where
-    by : (r c s u p d h t n m : Bool) → IfOk (cond r (router_line args) (cond c (client_line args) (cond s (sub_line args) (cond u (unsub_line args) (cond p (put_line args)
-        (cond d (del_line args) (cond h (handle_line args) (cond t (take_line args) (cond n (run_line args) (cond m (mark_line args) (Err UnknownCommand))))))))))) AsksKeyText
-    by true c s u p d h t n m = router_text args
-    by false true s u p d h t n m = client_text args
-    by false false true u p d h t n m = sub_text args
-    by false false false true p d h t n m = unsub_text args
-    by false false false false true d h t n m = put_text args
-    by false false false false false true h t n m = del_text args
-    by false false false false false false true t n m = handle_text args
-    by false false false false false false false true n m = take_text args
-    by false false false false false false false false true m = run_text args
-    by false false false false false false false false false true = mark_text args
-    by false false false false false false false false false false = tt
+    by : (r c l u b d s us p de h t n m sh : Bool) → IfOk (cond r (router_line args) (cond c (client_line args) (cond l (link_line args) (cond u (up_line args) (cond b (break_line args) (cond d (down_line args) (cond s (sub_line args) (cond us (unsub_line args) (cond p (put_line args) (cond de (del_line args) (cond h (handle_line args) (cond t (take_line args) (cond n (run_line args) (cond m (mark_line args) (cond sh (show_line args) (Err UnknownCommand)))))))))))))))) AsksKeyText
+    by true c l u b d s us p de h t n m sh = router_text args
+    by false true l u b d s us p de h t n m sh = client_text args
+    by false false true u b d s us p de h t n m sh = link_text args
+    by false false false true b d s us p de h t n m sh = up_text args
+    by false false false false true d s us p de h t n m sh = break_text args
+    by false false false false false true s us p de h t n m sh = down_text args
+    by false false false false false false true us p de h t n m sh = sub_text args
+    by false false false false false false false true p de h t n m sh = unsub_text args
+    by false false false false false false false false true de h t n m sh = put_text args
+    by false false false false false false false false false true h t n m sh = del_text args
+    by false false false false false false false false false false true t n m sh = handle_text args
+    by false false false false false false false false false false false true n m sh = take_text args
+    by false false false false false false false false false false false false true m sh = run_text args
+    by false false false false false false false false false false false false false true sh = mark_text args
+    by false false false false false false false false false false false false false false true = show_text args
+    by false false false false false false false false false false false false false false false = tt
 
 words_text : (clean : Bool) (ws : List (List ℕ)) → IfOk (by_words clean ws) AsksKeyText
 unfolding by_words
@@ -157,7 +185,7 @@ Texts (x ∷ xs) = HasKeyText x.1 × Texts xs
 steps_text : (line n : ℕ) (w : WorldState) → Texts (map (λ a. (line, a)) (run_steps line n w))
 unfolding run_steps
 steps_text line zero w = tt
-steps_text line (suc n) w = by (first_where has_sent w.clients) (first_where has_queued w.clients) (λ step. steps_text line n (world_after w (outcome w line step)))
+steps_text line (suc n) w = by (first_where can_handle w.ends) (first_where can_take w.ends) (λ step. steps_text line n (world_after w (outcome w line step)))
   where
     by : (sent queued : Option End) → ((step : Act) → Texts (map (λ a. (line, a)) (run_steps line n (world_after w (outcome w line step))))) →
         Texts (map (λ a. (line, a)) (with_more (step_at sent queued) (λ step. run_steps line n (world_after w (outcome w line step)))))

@@ -14,7 +14,7 @@ use Rattle.zr_network.specs.Moments.{Numbered, is_step, is_later, ascends}
 use Rattle.zr_guarantee.specs.Phase.{stays, is_phase}
 use Rattle.zr_guarantee.specs.Broker.{publishes, is_publisher, is_line_of, is_sample_line}
 use Rattle.zr_laws.proofs.Pair.{Pair, Agrees, AllAgree}
-use Rattle.zr_laws.proofs.Lists.{weaker, all_both}
+use Rattle.zr_network.proofs.Lists.{weaker, all_both}
 
 -- a later line's number is no less
 later_le : (last n : ℕ) (act : Act) → is_later last (n, act) ≡ true → last ≤ n
@@ -111,13 +111,18 @@ agrees_from p (x ∷ xs) done last tags below h = (
 -- whether a line gives a message its tag
 abbrev pub writes : Act → Bool
 writes (c.Router id) = false
-writes (c.Client id router) = false
+writes (c.Client id router) = true
+writes (c.Link one other) = false
+writes (c.Up router neighbour) = true
+writes (c.Break router neighbour) = false
+writes (c.Down router neighbour) = true
 writes (c.Sub client id key) = true
 writes (c.Unsub client id) = true
 writes (c.Publish client content) = true
 writes (c.Handle router from) = false
 writes (c.Take router to) = false
 writes c.Mark = false
+writes (c.Show router) = false
 
 -- each line of some that gives a message its tag passes a test
 abbrev pub Tagging : (ℕ → Bool) → List Numbered → Type 0
@@ -150,9 +155,14 @@ tagging_phase mark (x ∷ xs) done st =
     by_act : (act : Act) → stays act ≡ true → x.1 ≡ act → (not (writes act) || (nat_lt x.0 mark || is_sample_line (done ++ x ∷ xs) x.0)) ≡ true
     by_act (c.Router id) k e = absurd (false≢true k)
     by_act (c.Client id router) k e = absurd (false≢true k)
+    by_act (c.Link one other) k e = absurd (false≢true k)
+    by_act (c.Up router neighbour) k e = absurd (false≢true k)
+    by_act (c.Break router neighbour) k e = absurd (false≢true k)
+    by_act (c.Down router neighbour) k e = absurd (false≢true k)
     by_act (c.Sub client id key) k e = absurd (false≢true k)
     by_act (c.Unsub client id) k e = absurd (false≢true k)
     by_act (c.Publish client content) k e = sample (ap publishes e)
     by_act (c.Handle router from) k e = refl
     by_act (c.Take router to) k e = refl
     by_act c.Mark k e = refl
+    by_act (c.Show router) k e = refl

@@ -1,32 +1,30 @@
 -- One publisher and one receiver in a phase: what does not change in it (`Pair`), and what holds at each of its moments
 -- (`Flows`). Its heart is one equation: what stands in the places from the receiver back to the publisher, joined, is what
 -- is to be had. What has to be known of the router's tables at the mark is `IsRouted`, and nothing else of them is used.
-use Rattle.std.proofs.Common.{◌≡◌, ℕ, Bool, true, false, List, [], ◌∷◌, ◌++◌, Option, Some, None, ◌∙◌, ap, append-nil}
-use Rattle.std.specs.Prelude.{◌==◌, ◌&&◌, not, filter, flat_map, is_some, option_to_list}
-use Rattle.std.specs.List.{list_all}
+use Rattle.std.proofs.Common.{◌≡◌, ℕ, Bool, true, false, cond, List, [], ◌∷◌, ◌++◌, Option, Some, None, Ok, ◌∙◌, ap, append-nil}
+use Rattle.std.specs.Prelude.{◌&&◌, not, filter, is_some}
+use Rattle.std.specs.List.{AllByRecursion, flat_map, list_all}
 use Rattle.std.proofs.lemmas.Grind.{flat_map-append}
 use Rattle.zr_id.specs.Zid.{is_named}
+use Rattle.zr_id.specs.declared.link.LinkNo.{LinkNo}
+use Rattle.zr_msg.specs.declared.content.Parts.{Parts}
+use Rattle.zr_msg.specs.declared.msg.Msg.TheVariants as m
+use Rattle.zr_msg.specs.declared.event.Event.TheVariants.{From}
 use Rattle.zr_command.specs.declared.command.Act.{Act}
 use Rattle.zr_command.specs.declared.command.Act.TheVariants as c
 use Rattle.zr_command.specs.declared.report.ReportLine.{ReportLine}
-use Rattle.zr_table.specs.State.{LinkState}
-use Rattle.zr_table.specs.Table.{subscribes}
-use Rattle.zr_network.specs.World.{Tagged, ClientState, RouterState, Routers, is_calm, router_of, client_of}
+use Rattle.zr_network.specs.World.{Tagged, End, RouterState, Routers, is_calm, router_of, end_of}
+use Rattle.zr_network.specs.Acts.{number_to, sends_to}
 use Rattle.zr_network.specs.Moments.{Numbered, Moment}
 use Rattle.zr_guarantee.specs.Item.{Item}
 use Rattle.zr_guarantee.specs.Broker.{wants, publication, item_for, from}
 use Rattle.zr_guarantee.specs.Sent.{item_of, sent_in, sent_to}
 use Rattle.zr_laws.proofs.Places.{Spot, Sent, Queue, Wire, path, along}
-use Rattle.zr_laws.proofs.Queues.{queue_of, wire_of, links_at}
+use Rattle.zr_laws.proofs.Ends.{queue_of, wire_of}
 
 -- the samples among the messages that wait
 abbrev pub items : List Tagged → List Item
 items xs = flat_map (λ x. item_of x.msg x.tag) xs
-
--- the link of a client that is there
-abbrev pub link_at : Option ClientState → Option ℕ
-link_at None = None
-link_at (Some s) = Some s.link
 
 -- a publisher and a receiver, any names, and what no step of the phase changes
 pub record Pair : Type 0 where
@@ -36,11 +34,9 @@ pub record Pair : Type 0 where
   pub publisher : List ℕ
   pub receiver : List ℕ
   pub routers : Routers
-  pub names : List (List ℕ)
-  -- the router on the way, the receiver's link there, and the number of the publisher's, if they are there
+  -- the router on the way, and whether it has an end towards the receiver
   pub router : List ℕ
-  pub to : Option LinkState
-  pub from_link : Option ℕ
+  pub has_end : Bool
 
 -- the items that are the publisher's
 abbrev pub of_publisher : Pair → List Item → List Item
@@ -53,8 +49,8 @@ wanted_of p xs = filter (λ i. p.by i.line && wants p.before p.publisher p.recei
 -- the publisher's items at a place; behind the last router's choice all that are there, before it those for the receiver
 abbrev pub held : Pair → Moment → Spot → List Item
 held p m (Sent to) = of_publisher p (sent_to m.report to)
-held p m (Queue at to) = of_publisher p (items (queue_of (client_of m.world.clients to)))
-held p m (Wire at source) = wanted_of p (items (wire_of (client_of m.world.clients source)))
+held p m (Queue at to) = of_publisher p (items (queue_of (end_of m.world.ends (at, to))))
+held p m (Wire at source) = wanted_of p (items (wire_of (end_of m.world.ends (at, source))))
 
 -- the places from what the receiver was sent back to the publisher's wire
 abbrev pub way : Pair → List Spot
@@ -63,40 +59,41 @@ way p = path p.receiver (p.router ∷ []) p.publisher
 -- what holds at a moment, where `done` are the lines of the phase so far
 pub record Flows (p : Pair) (done : List Numbered) (m : Moment) : Type 0 where
   pub routers_is : m.world.routers ≡ p.routers
-  pub names_is : m.world.names ≡ p.names
-  pub from_is : link_at (client_of m.world.clients p.publisher) ≡ p.from_link
-  pub to_is : is_some (client_of m.world.clients p.receiver) ≡ is_some p.to
+  -- all ends are the router's, and lead to others
+  pub home : (e : End) → is_some (end_of m.world.ends e) ≡ true → (is_named p.router e.0 ≡ true) × (is_named p.router e.1 ≡ false)
+  pub end_is : is_some (end_of m.world.ends (p.router, p.receiver)) ≡ p.has_end
   -- nothing under way unsettles
-  pub calm : (q : List ℕ) → list_all is_calm (wire_of (client_of m.world.clients q)) ≡ true
+  pub calm : (e : End) → list_all is_calm (wire_of (end_of m.world.ends e)) ≡ true
   -- the publisher's lines are on the publisher's wire alone
-  pub others : (q : List ℕ) → is_named p.publisher q ≡ false → list_all (λ x. not (p.by x.tag)) (wire_of (client_of m.world.clients q)) ≡ true
+  pub others : (e : End) → is_named p.publisher e.1 ≡ false → list_all (λ x. not (p.by x.tag)) (wire_of (end_of m.world.ends e)) ≡ true
   -- all that is to be had stands in the places, the oldest nearest to the receiver
   pub flow : along (held p m) (way p) ≡ from p.before done p.publisher p.receiver
 
--- whether the router sends a sample on a key from a link to the receiver's link
-abbrev pub goes_to : Option LinkState → ℕ → List ℕ → Bool
-goes_to None link key = false
-goes_to (Some l) link key = not (l.link.0 == link) && subscribes l key
-
--- what has to be known of tables: the receiver has one link, and it gets what is for the receiver
+-- what has to be known of tables: what of the publisher's router sends to the receiver is what is for it
 pub record IsRouted (p : Pair) : Type 0 where
-  pub one : (name : List ℕ) (r : RouterState) → router_of p.routers name ≡ Some r → links_at p.names p.receiver r.node.links ≡ option_to_list p.to
-  pub wanted : (link : ℕ) → p.from_link ≡ Some link → (key : List ℕ) → goes_to p.to link key ≡ wants p.before p.publisher p.receiver key
+  pub wanted : (name : List ℕ) (r : RouterState) → router_of p.routers name ≡ Some r → (l : LinkNo) → number_to r p.publisher ≡ Ok l →
+      (tree : Option (List ℕ)) (content : Parts) →
+      sends_to r.node (From l (m.Push tree content)) p.receiver ≡ cond (wants p.before p.publisher p.receiver content.key) (m.Push None content ∷ []) []
+  pub absent : p.has_end ≡ false → (key : List ℕ) → wants p.before p.publisher p.receiver key ≡ false
 
 -- a line's number is one of the publisher's exactly where the publisher's client publishes there
 abbrev pub Agrees : Pair → ℕ → Act → Type 0
 Agrees p n (c.Router id) = Unit {0}
 Agrees p n (c.Client id router) = Unit {0}
+Agrees p n (c.Link one other) = Unit {0}
+Agrees p n (c.Up router neighbour) = Unit {0}
+Agrees p n (c.Break router neighbour) = Unit {0}
+Agrees p n (c.Down router neighbour) = Unit {0}
 Agrees p n (c.Sub client id key) = Unit {0}
 Agrees p n (c.Unsub client id) = Unit {0}
 Agrees p n (c.Publish client content) = p.by n ≡ is_named p.publisher client
 Agrees p n (c.Handle router from) = Unit {0}
 Agrees p n (c.Take router to) = Unit {0}
 Agrees p n c.Mark = Unit {0}
+Agrees p n (c.Show router) = Unit {0}
 
 abbrev pub AllAgree : Pair → List Numbered → Type 0
-AllAgree p [] = Unit {0}
-AllAgree p (x ∷ xs) = Agrees p x.0 x.1 × AllAgree p xs
+AllAgree p xs = AllByRecursion (λ x. Agrees p x.0 x.1) xs
 
 -- one report line more
 pub sent_more : (report : List ReportLine) (line : ReportLine) (d : List ℕ) → sent_to (report ++ line ∷ []) d ≡ sent_to report d ++ sent_in d line

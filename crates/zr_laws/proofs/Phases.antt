@@ -1,27 +1,23 @@
 -- The flow is kept over a whole phase: by each act that may stand in it, and so by any number of them. A refused step
 -- leads to no moment, and owes nothing; a declaration that is handled cannot be there.
-use Rattle.std.proofs.Common.{◌≡◌, ℕ, true, List, [], ◌∷◌, ◌++◌, Option, Some, None, sym, ap, ◌∙◌, subst, append_assoc, append-nil}
+use Rattle.std.proofs.Common.{◌≡◌, ℕ, true, List, [], ◌∷◌, ◌++◌, Option, Some, Ok, sym, ap, ◌∙◌}
 use Rattle.std.specs.Prelude.{IfSome}
-use Rattle.std.specs.List.{list_all, fold}
+use Rattle.std.specs.List.{AllByRecursion, list_all, fold}
 use Rattle.std.proofs.lemmas.Bool.{false≢true, and_parts}
+use Rattle.zr_id.specs.declared.link.LinkNo.{LinkNo}
 use Rattle.zr_msg.specs.declared.msg.Msg.{Msg}
-use Rattle.zr_msg.specs.declared.msg.Msg.TheVariants as m
 use Rattle.zr_command.specs.declared.command.Act.{Act}
 use Rattle.zr_command.specs.declared.command.Act.TheVariants as c
-use Rattle.zr_network.specs.World.{Tagged, ClientState, RouterState, router_of, client_of, is_calm}
-use Rattle.zr_network.specs.Acts.{outcome}
+use Rattle.zr_network.specs.World.{Tagged, EndState, RouterState, is_taken, router_of, end_of, is_calm}
+use Rattle.zr_network.specs.Acts.{number_to, outcome}
 use Rattle.zr_network.specs.Moments.{Numbered, Moment, went, onward}
 use Rattle.zr_guarantee.specs.Phase.{stays, is_phase}
-use Rattle.zr_network.proofs.Cases.{on_handle, for_publish, for_handle, for_take, for_mark}
+use Rattle.zr_network.proofs.Cases.{on_handle, for_publish, for_handle, for_take, for_mark, for_show}
+use Rattle.zr_laws.proofs.Ends.{wire_of}
+use Rattle.zr_laws.proofs.Folds.{after_all}
 use Rattle.zr_laws.proofs.Pair.{Pair, Flows, IsRouted, Agrees, AllAgree}
-use Rattle.zr_laws.proofs.Queues.{wire_of}
 use Rattle.zr_laws.proofs.Messages.{by_kind}
-use Rattle.zr_laws.proofs.Steps.{publish_keeps, take_keeps, mark_keeps, silent_keeps, push_keeps}
-
--- no message that unsettles is on a wire in a phase
-calm_on : (s : ClientState) (msg : Msg) (tag : ℕ) (xs : List Tagged) → list_all is_calm s.wire ≡ true → s.wire ≡ record { msg = msg; tag = tag } ∷ xs →
-    is_calm (record { msg = msg; tag = tag }) ≡ true
-calm_on s msg tag xs all front = (and_parts (is_calm (record { msg = msg; tag = tag })) (list_all is_calm xs) (ap (list_all is_calm) (sym front) ∙ all)).0
+use Rattle.zr_laws.proofs.Steps.{publish_keeps, take_keeps, mark_keeps, show_keeps, silent_keeps, push_keeps}
 
 module _ (p : Pair) (routed : IsRouted p) where
   act_flows : (done : List Numbered) (now : Moment) → Flows p done now → (n : ℕ) (act : Act) → stays act ≡ true → Agrees p n act →
@@ -29,41 +25,42 @@ module _ (p : Pair) (routed : IsRouted p) where
   unfolding outcome
   act_flows done now h n (c.Router id) st ag = absurd (false≢true st)
   act_flows done now h n (c.Client id router) st ag = absurd (false≢true st)
+  act_flows done now h n (c.Link one other) st ag = absurd (false≢true st)
+  act_flows done now h n (c.Up router name) st ag = absurd (false≢true st)
+  act_flows done now h n (c.Break router name) st ag = absurd (false≢true st)
+  act_flows done now h n (c.Down router name) st ag = absurd (false≢true st)
   act_flows done now h n (c.Sub client id key) st ag = absurd (false≢true st)
   act_flows done now h n (c.Unsub client id) st ag = absurd (false≢true st)
   act_flows done now h n (c.Publish client content) st ag =
-      for_publish now (Flows p (done ++ (n, c.Publish client content) ∷ [])) n client content (publish_keeps p done now h n client content ag)
+      for_publish now (Flows p (done ++ (n, c.Publish client content) ∷ [])) n client content (λ s es e ee unbroken alone. publish_keeps p done now h n client content ag s e ee)
   act_flows done now h n (c.Handle router name) st ag = for_handle now (Flows p (done ++ (n, c.Handle router name) ∷ [])) router name by_message
     where
-      by_message : (r : RouterState) → router_of now.world.routers router ≡ Some r → (s : ClientState) → client_of now.world.clients name ≡ Some s →
-          (msg : Msg) (tag : ℕ) (xs : List Tagged) → s.wire ≡ record { msg = msg; tag = tag } ∷ xs →
-          Flows p (done ++ (n, c.Handle router name) ∷ []) (on_handle now router name r s msg tag xs)
-      by_message r er s es msg tag xs =
-          by_kind (λ z. s.wire ≡ record { msg = z; tag = tag } ∷ xs → Flows p (done ++ (n, c.Handle router name) ∷ []) (on_handle now router name r s z tag xs))
-          (λ id key front. absurd (false≢true (calm_on s (m.Sub id key) tag xs all front)))
-          (λ id front. absurd (false≢true (calm_on s (m.Unsub id) tag xs all front)))
-          (λ tree content front. push_keeps p done now h routed n router name r er s es tree content tag xs front)
-          (λ z silent front. silent_keeps p done now h n router name r er s es z tag xs front silent)
-          msg
+      by_message : (r : RouterState) → router_of now.world.routers router ≡ Some r → is_taken now.world name ≡ true → (s : EndState) → end_of now.world.ends (router, name) ≡ Some s → s.up ≡ true →
+          (msg : Msg) (tag : ℕ) (xs : List Tagged) → s.wire ≡ record { msg = msg; tag = tag } ∷ xs → (l : LinkNo) → number_to r name ≡ Ok l →
+          Flows p (done ++ (n, c.Handle router name) ∷ []) (on_handle now router name r s l msg tag xs)
+      by_message r er there s es up msg tag xs front l el =
+          by_kind (λ z. s.wire ≡ record { msg = z; tag = tag } ∷ xs → is_calm (record { msg = z; tag = tag }) ≡ true → Flows p (done ++ (n, c.Handle router name) ∷ []) (on_handle now router name r s l z tag xs))
+          (λ id key f k. absurd (false≢true k))
+          (λ id f k. absurd (false≢true k))
+          (λ tree content f k. push_keeps p done now h routed n router name r er s es l el tree content tag xs f)
+          (λ told f k. absurd (false≢true k))
+          (λ z silent f k. silent_keeps p done now h n router name r er s es l z tag xs f silent)
+          msg front calm
         where
-          all : list_all is_calm s.wire ≡ true
-          all = ap (λ o. list_all is_calm (wire_of o)) (sym es) ∙ h.calm name
-  act_flows done now h n (c.Take router to) st ag =
-      for_take now (Flows p (done ++ (n, c.Take router to) ∷ [])) router to (take_keeps p done now h n router to)
-  act_flows done now h n c.Mark st ag = for_mark now (Flows p (done ++ (n, c.Mark) ∷ [])) n (λ settled. mark_keeps p done now h n)
+          -- no message that unsettles is on a wire in a phase
+          calm : is_calm (record { msg = msg; tag = tag }) ≡ true
+          calm = (and_parts (is_calm (record { msg = msg; tag = tag })) (list_all is_calm xs)
+              (sym (ap (λ o. list_all is_calm (wire_of o)) es ∙ ap (list_all is_calm) front) ∙ h.calm (router, name))).0
+  act_flows done now h n (c.Take router to) st ag = for_take now (Flows p (done ++ (n, c.Take router to) ∷ [])) router to
+      (λ r er there s es up unbroken msg tag xs front. take_keeps p done now h n router to s es msg tag xs front)
+  act_flows done now h n c.Mark st ag = for_mark now (Flows p (done ++ (n, c.Mark) ∷ [])) n (λ settled joined. mark_keeps p done now h n)
+  act_flows done now h n (c.Show router) st ag = for_show now (Flows p (done ++ (n, c.Show router) ∷ [])) router (λ r er. show_keeps p done now h n router r)
 
-  -- the lines of the phase so far, and those that follow
-  pub phase_keeps : (rest done : List Numbered) (o : Option Moment) → IfSome o (Flows p done) → is_phase rest ≡ true → AllAgree p rest →
-      IfSome (fold onward o rest) (Flows p (done ++ rest))
-  phase_keeps [] done None h st ag = tt
-  phase_keeps [] done (Some now) h st ag = subst (λ (z : List Numbered). Flows p z now) (sym (append-nil done)) h
-  phase_keeps (x ∷ xs) done o h st ag =
-      subst (λ (z : List Numbered). IfSome (fold onward (onward o x) xs) (Flows p z)) (append_assoc done (x ∷ []) xs)
-      (phase_keeps xs (done ++ x ∷ []) (onward o x) (next o h) both.1 ag.1)
+  -- over a phase
+  pub phase_keeps : (phase : List Numbered) (o : Option Moment) → IfSome o (Flows p []) → is_phase phase ≡ true → AllAgree p phase → IfSome (fold onward o phase) (Flows p phase)
+  phase_keeps phase o h st ag =
+      after_all (Flows p) (λ x. (stays x.1 ≡ true) × Agrees p x.0 x.1) (λ done now flows x k. act_flows done now flows x.0 x.1 k.0 k.1) phase [] o h (both phase st ag)
     where
-      both : (stays x.1 ≡ true) × (is_phase xs ≡ true)
-      both = and_parts (stays x.1) (is_phase xs) st
-
-      next : (o : Option Moment) → IfSome o (Flows p done) → IfSome (onward o x) (Flows p (done ++ x ∷ []))
-      next None h = tt
-      next (Some now) h = act_flows done now h x.0 x.1 both.0 ag.0
+      both : (xs : List Numbered) → is_phase xs ≡ true → AllAgree p xs → AllByRecursion (λ x. (stays x.1 ≡ true) × Agrees p x.0 x.1) xs
+      both [] k a = tt
+      both (x ∷ xs) k a = let parts = and_parts (stays x.1) (is_phase xs) k in ((parts.0, a.0), both xs parts.1 a.1)

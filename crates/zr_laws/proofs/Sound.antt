@@ -8,7 +8,7 @@ use Rattle.zr_language.specs.Command.{command_of}
 use Rattle.zr_network.specs.Sound.{IsSound}
 use Rattle.zr_network.specs.Next.{Done, applied}
 use Rattle.zr_network.specs.Run.{Run, start, stepped, commanded, on_line, run_lines}
-use Rattle.zr_network.proofs.Sound.{applied_keeps, run_goes}
+use Rattle.zr_network.proofs.Sound.{applied_keeps, empty_sound, run_goes}
 use Rattle.zr_laws.specs.Runs.{StepsArePossible}
 
 -- a line leaves a sound world
@@ -33,4 +33,4 @@ lines_keep [] r h = h
 lines_keep (l ∷ ls) r h = lines_keep ls (on_line r l) (line_keeps r l h)
 
 pub steps_are_possible : StepsArePossible
-steps_are_possible ls line n = run_goes line n (run_lines ls).world (lines_keep ls start tt)
+steps_are_possible ls line n = run_goes line n (run_lines ls).world (lines_keep ls start empty_sound)

@@ -1,250 +1,448 @@
--- Each step keeps what is known of the router's tables. Most steps are no news: they change no link, no name, no
--- declaration and nothing that matters of a client (`unchanged`). The news are a client that comes (`client_known`), a
--- declaration or its end that is written to a wire, where it is heard last (`says_known`), and one that is handled: what is
--- heard first on the wire goes into the rows of that client's link and no other (`heard_known`).
-use Rattle.std.proofs.Common.{◌≡◌, ℕ, Bool, true, false, cond, List, [], ◌∷◌, ◌++◌, map, length, Option, Some, None, Ok, refl, sym, ap, ◌∙◌, subst, append_assoc, append-nil}
-use Rattle.std.specs.Prelude.{◌==◌, ◌||◌, not, filter, is_some, is_ok, slice_get, IfSome}
-use Rattle.std.specs.List.{list_all, list_any, fold}
+-- Each act keeps what is known of routers' tables, in a world of one router. Most acts are no news of most names: nothing changes that
+-- matters of the client (`no_news`). The news are a client that comes (`client_known`), a declaration or its end that is written to a wire,
+-- where it is heard last (`says_known`), one that is handled: what is heard first on the wire goes into the subscriptions of that client's
+-- link and no other (`heard_known`), and a link that breaks and goes down (`break_known`, `down_known`).
+use Rattle.std.proofs.Common.{◌≡◌, ℕ, Bool, true, false, cond, List, [], ◌∷◌, ◌++◌, map, Option, Some, None, Ok, refl, sym, ap, ◌∙◌, subst, append-nil}
+use Rattle.std.specs.Prelude.{◌==◌, ◌&&◌, ◌||◌, not, filter, is_some, IfSome}
+use Rattle.std.specs.List.{list_any, fold}
+use Rattle.std.specs.Option.{option_map}
 use Rattle.std.proofs.Math.Bool.{or-false}
-use Rattle.std.proofs.lemmas.Bool.{false≢true, true≢false, and_parts, and_from, or_right, eqb-true, eq-eqb}
+use Rattle.std.proofs.lemmas.Bool.{false≢true, true≢false, and_right, or_right, eqb-true, eq-eqb}
 use Rattle.std.proofs.lemmas.Grind.{flat_map-append}
 use Rattle.std.proofs.lemmas.List.{map-append}
-use Rattle.std.proofs.lemmas.List.Elements.{filter-append}
 use Rattle.std.proofs.lemmas.List.Sums.{fold-append}
 use Rattle.zr_id.specs.Zid.{is_named}
+use Rattle.zr_id.specs.declared.link.LinkNo.{LinkNo}
 use Rattle.zr_msg.specs.declared.content.Parts.{Parts}
 use Rattle.zr_msg.specs.declared.msg.Msg.{Msg}
 use Rattle.zr_msg.specs.declared.msg.Msg.TheVariants as m
-use Rattle.zr_msg.specs.declared.event.Event.TheVariants.{From}
+use Rattle.zr_msg.specs.declared.event.Event.TheVariants.{Down, From}
 use Rattle.zr_msg.specs.declared.peer.Peer.{Peer}
+use Rattle.zr_msg.specs.declared.peer.Role.TheVariants as role
 use Rattle.zr_command.specs.declared.command.Act.{Act}
 use Rattle.zr_command.specs.declared.command.Act.TheVariants as c
-use Rattle.zr_network.proofs.Names.{names, same_name, value_new, read_after, read_kept}
-use Rattle.zr_table.specs.State.{Subscription, LinkState}
-use Rattle.zr_table.specs.Table.{sends, undeclared, declared, changed_on}
-use Rattle.zr_network.specs.World.{Tagged, ClientState, Clients, RouterState, WorldState, Routers, router_of, client_of, with_tables, with_router, with_client, sent, declaring, undeclaring, with_wire, with_queue, new_client}
-use Rattle.zr_network.specs.Acts.{client_peer, first_router, having, linked, weighing, outcome}
-use Rattle.zr_network.specs.Moments.{Numbered, Moment, went, onward}
-use Rattle.zr_guarantee.specs.Broker.{Declaration, attaches, is_attached, declared_by, declarations}
-use Rattle.zr_network.proofs.Cases.{on_router, on_client, on_sub, on_unsub, on_publish, on_handle, on_take, for_router, for_client, for_sub, for_unsub, for_publish, for_handle, for_take, for_mark}
-use Rattle.zr_laws.proofs.Lists.{filter_same, filter_mapped, weaker, all_both}
-use Rattle.zr_laws.proofs.Queues.{is_at, links_at, all_kept}
+use Rattle.zr_table.specs.State.{Subscription, LinkState, is_router, new_link, link_at, link_to, free_link}
+use Rattle.zr_table.specs.Table.{after, undeclared, declared, changed_on}
+use Rattle.zr_network.specs.World.{Tagged, EndState, End, Ends, ClientState, RouterState, WorldState, Routers, is_end, router_of, client_of, end_of, is_taken, with_routers, with_clients, with_router, with_client, with_end, put_end, changed, sent, broken, lifted, lowered, with_wire, with_queue, new_router, new_client, new_end}
+use Rattle.zr_network.specs.Acts.{has_id, weighing, declaring, undeclaring, hearing, peer_of, up_event, number_to, all_queued, outcome}
+use Rattle.zr_network.specs.Moments.{Numbered, Moment, went}
+use Rattle.zr_network.specs.Sound.{IsSound}
+use Rattle.zr_guarantee.specs.Broker.{Declaration, attached_by, is_attached, declared_by, declarations}
+use Rattle.zr_network.proofs.Keyed.{not_there, there}
+use Rattle.zr_network.proofs.Names.{names, same_name, value_new, value_after, read_after, read_kept}
+use Rattle.zr_network.proofs.Ends.{ends, end_parts, same_end, read_with_end, keep_with_end, read_put_end, changed_is, read_changed, keep_changed, keep_all_queued}
+use Rattle.zr_network.proofs.Links.{named_link, numbered_link, free_is_free, link_to_with, link_to_apart, link_to_map}
+use Rattle.zr_network.proofs.Cases.{free_name, number_found, w_sent, on_router, on_client, on_link, on_up, on_break, on_down, on_sub, on_unsub, on_publish, on_handle, on_take, for_router, for_client, for_link, for_up, for_break, for_down, for_sub, for_unsub, for_publish, for_handle, for_take, for_mark, for_show}
+use Rattle.zr_network.proofs.Lists.{filter_mapped}
+use Rattle.zr_laws.proofs.Alone.{IsSingle}
 use Rattle.zr_laws.proofs.Messages.{hear, news_of, by_kind}
-use Rattle.zr_laws.proofs.Known.{is_single, all_links, as_declaration, waiting, View, view_of, view, Joins, Holds, Known, get_more, get_end, nothing_replaced, attached_more, declarations_more, the_links}
+use Rattle.zr_laws.proofs.Known.{links_of, as_declaration, waiting, EndView, end_view, View, view_at, view_of, view, Joins, Stands, Holds, Known, nothing_replaced, attached_more, declarations_more}
 
--- ---- no news
+-- ---- ends
 
--- the same of equal values
-same_holds : (att att' : Bool) (said said' : List Declaration) (ns ns' : List (List ℕ)) (links links' : List LinkState) (d : List ℕ) (v v' : Option View) →
-    att' ≡ att → said' ≡ said → ns' ≡ ns → links' ≡ links → v' ≡ v → Holds att said ns links d v → Holds att' said' ns' links' d v'
-same_holds att att' said said' ns ns' links links' d v v' ea es en el ev h = rw (ea, es, en, el, ev) h
+-- what is seen of an end
+abbrev seen : Option EndState → Option EndView
+seen o = option_map end_view o
 
--- a line that brings no client and no declaration, where nothing changes that matters
-unchanged : (lines : List Numbered) (n : ℕ) (act : Act) (w w' : WorldState) → ((d : List ℕ) → attaches d act ≡ false) → ((d : List ℕ) (so_far : List Declaration) → declared_by d so_far act ≡ so_far) →
-    is_single w'.routers ≡ true → w'.names ≡ w.names → all_links w'.routers ≡ all_links w.routers →
-    ((d : List ℕ) → view (client_of w'.clients d) ≡ view (client_of w.clients d)) → Known lines w → Known (lines ++ (n, act) ∷ []) w'
-unchanged lines n act w w' no_client no_sub one en el ev h = record {
-  one_router = one;
-  named = rw (en, el) h.named;
-  each = λ d. same_holds (is_attached lines d) (is_attached (lines ++ (n, act) ∷ []) d) (declarations lines d) (declarations (lines ++ (n, act) ∷ []) d)
-      w.names w'.names (all_links w.routers) (all_links w'.routers) d (view (client_of w.clients d)) (view (client_of w'.clients d))
-      (attached_more lines n act d ∙ ap (λ z. is_attached lines d || z) (no_client d) ∙ or-false (is_attached lines d))
-      (declarations_more lines n act d ∙ no_sub d (declarations lines d))
-      en el (ev d) (h.each d);
-}
+-- the ends to two neighbours are two
+other_end : (x y name d : List ℕ) → is_named name d ≡ false → is_end (x, name) (y, d) ≡ false
+other_end x y name d k = end_parts (x, name) (y, d) ∙ and_right (is_named x y) (is_named name d) k
 
-module _ (lines : List Numbered) (now : Moment) (h : Known lines now.world) where
+-- a change where no end is changes nothing
+pub changed_absent : (es : Ends) (e : End) (change : EndState → EndState) (q : End) → end_of es e ≡ None → end_of (changed es e change) q ≡ end_of es q
+changed_absent es e change q none = changed_is es e change q ∙ by (is_end e q) refl
+  where
+    by : (b : Bool) → is_end e q ≡ b → cond b (option_map change (end_of es q)) (end_of es q) ≡ end_of es q
+    by false k = refl
+    by true k = let absent : end_of es q ≡ None = ap (end_of es) (sym (same_end e q k)) ∙ none in rw absent refl
+
+-- ---- views
+
+same_holds : (attached attached' : Bool) (said said' : List Declaration) (v v' : Option View) → attached' ≡ attached → said' ≡ said → v' ≡ v →
+    Holds attached said v → Holds attached' said' v'
+same_holds attached attached' said said' v v' ea es ev h = rw (ea, es, ev) h
+
+-- the view of a client that is there
+view_by : (w : WorldState) (d : List ℕ) (s : ClientState) → client_of w.clients d ≡ Some s → (e : Option EndView) → seen (end_of w.ends (s.router, d)) ≡ e →
+    (l : Option LinkState) → link_to (links_of (router_of w.routers s.router)) d ≡ l → view w d ≡ Some (record { ids = s.ids; its_end = e; link = l })
+view_by w d s found e ee l el =
+    ap (view_of w d) found
+    ∙ ap (λ z. Some (record { ids = s.ids; its_end = z; link = link_to (links_of (router_of w.routers s.router)) d })) ee
+    ∙ ap (λ z. Some (record { ids = s.ids; its_end = e; link = z })) el
+
+module _ (acts : List Numbered) (now : Moment) (sound : IsSound now.world) (single : IsSingle now.world) (h : Known acts now.world) where
+  abbrev w : WorldState
+  w = now.world
+
+  -- the view of a name, where nothing has changed that matters
+  same_view : (w' : WorldState) (d : List ℕ) → client_of w'.clients d ≡ client_of w.clients d → ((x : List ℕ) → seen (end_of w'.ends (x, d)) ≡ seen (end_of w.ends (x, d))) →
+      ((x : List ℕ) → link_to (links_of (router_of w'.routers x)) d ≡ link_to (links_of (router_of w.routers x)) d) → view w' d ≡ view w d
+  same_view w' d ec ee el = ap (view_of w' d) ec ∙ by (client_of w.clients d)
+    where
+      by : (o : Option ClientState) → view_of w' d o ≡ view_of w d o
+      by None = refl
+      by (Some s) = rw (ee s.router, el s.router) refl
+
+  -- what is known of a name of which an act is no news
+  no_news : (n : ℕ) (act : Act) (w' : WorldState) (d : List ℕ) → attached_by d (is_attached acts d) act ≡ is_attached acts d → declared_by d (declarations acts d) act ≡ declarations acts d →
+      view w' d ≡ view w d → Holds (is_attached (acts ++ (n, act) ∷ []) d) (declarations (acts ++ (n, act) ∷ []) d) (view w' d)
+  no_news n act w' d ea es ev =
+      same_holds (is_attached acts d) (is_attached (acts ++ (n, act) ∷ []) d) (declarations acts d) (declarations (acts ++ (n, act) ∷ []) d) (view w d) (view w' d)
+      (attached_more acts n act d ∙ ea) (declarations_more acts n act d ∙ es) ev (h d)
+
+  -- a router whose links to a name stay
+  links_kept : (router : List ℕ) (r r' : RouterState) → router_of w.routers router ≡ Some r → (d : List ℕ) → link_to r'.node.links d ≡ link_to r.node.links d → (x : List ℕ) →
+      link_to (links_of (router_of (with_router w.routers router r') x)) d ≡ link_to (links_of (router_of w.routers x)) d
+  links_kept router r r' er d same x = read_kept (λ o. link_to (links_of o) d) w.routers router x r r' er same
+
+  -- the end to another neighbour
+  other_seen : (x name : List ℕ) (s s' : EndState) → end_of w.ends (x, name) ≡ Some s → (d : List ℕ) → is_named name d ≡ false → (y : List ℕ) →
+      seen (end_of (with_end w.ends (x, name) s') (y, d)) ≡ seen (end_of w.ends (y, d))
+  other_seen x name s s' e d other y =
+      read_with_end w.ends (x, name) s' seen (y, d) (ap is_some e) ∙ ap (λ b. cond b (seen (Some s')) (seen (end_of w.ends (y, d)))) (other_end x y name d other)
+
+  -- what is known of a client that is found, and of a name that is none's
+  known_of : (d : List ℕ) (s : ClientState) → client_of w.clients d ≡ Some s → Stands (is_attached acts d) (declarations acts d) (view_at w d s)
+  known_of d s e = subst (λ (v : Option View). Holds (is_attached acts d) (declarations acts d) v) (ap (view_of w d) e) (h d)
+
+  known_none : (d : List ℕ) → client_of w.clients d ≡ None → (is_attached acts d ≡ false) × (declarations acts d ≡ [])
+  known_none d e = subst (λ (v : Option View). Holds (is_attached acts d) (declarations acts d) v) (ap (view_of w d) e) (h d)
+
+  -- all are the one router's
+  home : (d : List ℕ) (s : ClientState) → client_of w.clients d ≡ Some s → (router : List ℕ) (r : RouterState) → router_of w.routers router ≡ Some r → s.router ≡ router
+  home d s e router r er = same_name s.router router (single s.router router (sound.routers s.router d (sound.clients d s e)) (ap is_some er))
+
+  -- no end leads to the router
+  no_turned : (router name : List ℕ) (r : RouterState) → router_of w.routers router ≡ Some r → end_of w.ends (name, router) ≡ None
+  no_turned router name r er = by (end_of w.ends (name, router)) refl
+    where
+      by : (o : Option EndState) → end_of w.ends (name, router) ≡ o → o ≡ None
+      by None e = refl
+      by (Some s) e = absurd (true≢false (sym (single name router (sound.routers name router (ap is_some e)) (ap is_some er)) ∙ sound.apart name router (ap is_some e)))
+
+  -- a client's end at the router is the one that is known
+  its_end_is : (d : List ℕ) (s : ClientState) (es : client_of w.clients d ≡ Some s) (router : List ℕ) (r : RouterState) → router_of w.routers router ≡ Some r →
+      (e : EndState) → end_of w.ends (router, d) ≡ Some e → (known_of d s es).its_end ≡ end_view e
+  its_end_is d s es router r er e ee =
+      let one : Some (end_view e) ≡ Some (known_of d s es).its_end = sym (ap (λ z. seen (end_of w.ends (z, d))) (home d s es router r er) ∙ ap seen ee) ∙ (known_of d s es).found in
+      cc
+
   -- ---- a router
 
-  router_known : (n : ℕ) (id : List ℕ) → first_router now.world.routers ≡ Ok tt → Known (lines ++ (n, c.Router id) ∷ []) (on_router now id).world
-  router_known n id first = by now.world.routers first refl
+  router_known : (n : ℕ) (id : List ℕ) → is_taken w id ≡ false → Known (acts ++ (n, c.Router id) ∷ []) (on_router now id).world
+  router_known n id free d = no_news n (c.Router id) (on_router now id).world d refl refl (same_view (on_router now id).world d refl (λ x. refl) links)
     where
-      by : (rs : Routers) → first_router rs ≡ Ok tt → now.world.routers ≡ rs → Known (lines ++ (n, c.Router id) ∷ []) (on_router now id).world
-      by [] k e = unchanged lines n (c.Router id) now.world (on_router now id).world (λ d. refl) (λ d so_far. refl) (rw e refl) refl (rw e refl) (λ d. refl) h
-      by (x ∷ xs) k e = absurd (false≢true (ap is_ok k))
+      none : router_of w.routers id ≡ None
+      none = not_there (router_of w.routers id) (free_name w id free).0
+
+      links : (x : List ℕ) → link_to (links_of (router_of (on_router now id).world.routers x)) d ≡ link_to (links_of (router_of w.routers x)) d
+      links x = ap (λ o. link_to (links_of o) d) (value_new w.routers id x (new_router id) none) ∙ by (is_named x id) refl
+        where
+          by : (b : Bool) → is_named x id ≡ b → link_to (links_of (cond b (Some (new_router id)) (router_of w.routers x))) d ≡ link_to (links_of (router_of w.routers x)) d
+          by false e = refl
+          by true e = sym (ap (λ o. link_to (links_of o) d) (ap (router_of w.routers) (same_name x id e) ∙ none))
 
   -- ---- a client
 
-  -- a name keeps its place behind which more names come
-  at_more : (ns more : List (List ℕ)) (k : ℕ) (d : List ℕ) → is_at (slice_get ns k) d ≡ true → is_at (slice_get (ns ++ more) k) d ≡ true
-  at_more ns more k d e = ap (λ o. is_at o d) (get_more ns more k (there (slice_get ns k) e)) ∙ e
+  client_known : (n : ℕ) (id router : List ℕ) (r : RouterState) → router_of w.routers router ≡ Some r → is_taken w id ≡ false →
+      Known (acts ++ (n, c.Client id router) ∷ []) (on_client now n id router r).world
+  client_known n id router r er free d = at (is_named id d) refl
     where
-      there : (o : Option (List ℕ)) → is_at o d ≡ true → is_some o ≡ true
-      there None k = absurd (false≢true k)
-      there (Some x) k = refl
-
-  -- the links at a name stay, where the names of all links are there
-  links_stay : (ns more : List (List ℕ)) (d : List ℕ) (links : List LinkState) → list_all (λ l. is_some (slice_get ns l.link.0)) links ≡ true →
-      links_at (ns ++ more) d links ≡ links_at ns d links
-  links_stay ns more d [] k = refl
-  links_stay ns more d (l ∷ ls) k =
-      let parts = and_parts (is_some (slice_get ns l.link.0)) (list_all (λ x. is_some (slice_get ns x.link.0)) ls) k in
-      rw (get_more ns more l.link.0 parts.0) (ap (λ z. cond (is_at (slice_get ns l.link.0) d) (l ∷ z) z) (links_stay ns more d ls parts.1))
-
-  client_known : (n : ℕ) (id router : List ℕ) (r : RouterState) → router_of now.world.routers router ≡ Some r → client_of now.world.clients id ≡ None →
-      Known (lines ++ (n, c.Client id router) ∷ []) (on_client now id router r).world
-  client_known n id router r er free = record {
-    one_router = rows.2;
-    named = ap (list_all (λ l. is_some (slice_get (ns ++ id ∷ []) l.link.0))) links_are
-        ∙ all_both (λ l. is_some (slice_get (ns ++ id ∷ []) l.link.0)) (all_links now.world.routers) (new ∷ [])
-        (weaker (λ l. is_some (slice_get ns l.link.0)) (λ l. is_some (slice_get (ns ++ id ∷ []) l.link.0)) (λ l k. ap is_some (get_more ns (id ∷ []) l.link.0 k) ∙ k) (all_links now.world.routers) h.named)
-        (and_from (is_some (slice_get (ns ++ id ∷ []) (length ns))) true (ap is_some (get_end ns id)) refl);
-    each = λ d. at d (is_named d id) refl;
-  }
-    where
-      ns : List (List ℕ)
-      ns = now.world.names
-
-      new : LinkState
-      new = record { link = record { 0 = length ns }; peer = client_peer id; subs = [] }
-
-      fresh : ClientState
-      fresh = new_client router (length ns)
+      acts' : List Numbered
+      acts' = acts ++ (n, c.Client id router) ∷ []
 
       w' : WorldState
-      w' = (on_client now id router r).world
+      w' = (on_client now n id router r).world
 
-      rows : (all_links now.world.routers ≡ r.node.links) × (all_links w'.routers ≡ (linked r (length ns) id).node.links) × (is_single w'.routers ≡ true)
-      rows = the_links now.world.routers router r (linked r (length ns) id) h.one_router er
+      its_peer : Peer
+      its_peer = record { id = id; role = role.Client }
 
-      links_are : all_links w'.routers ≡ all_links now.world.routers ++ new ∷ []
-      links_are = rows.1 ∙ ap (λ z. z ++ new ∷ []) (sym rows.0)
+      new : LinkState
+      new = new_link (record { 0 = free_link r.node.links }) its_peer
 
-      -- the links at a name, after the client came
-      links_now : (d : List ℕ) → links_at (ns ++ id ∷ []) d (all_links w'.routers) ≡ links_at ns d (all_links now.world.routers) ++ cond (is_named id d) (new ∷ []) []
-      links_now d =
-          ap (links_at (ns ++ id ∷ []) d) links_are
-          ∙ filter-append (λ l. is_at (slice_get (ns ++ id ∷ []) l.link.0) d) (all_links now.world.routers) (new ∷ [])
-          ∙ ap (λ z. z ++ links_at (ns ++ id ∷ []) d (new ∷ [])) (links_stay ns (id ∷ []) d (all_links now.world.routers) h.named)
-          ∙ ap (λ o. links_at ns d (all_links now.world.routers) ++ cond (is_at o d) (new ∷ []) []) (get_end ns id)
+      no_client : client_of w.clients id ≡ None
+      no_client = not_there (client_of w.clients id) (free_name w id free).1
 
-      said_now : (d : List ℕ) → declarations (lines ++ (n, c.Client id router) ∷ []) d ≡ declarations lines d
-      said_now d = declarations_more lines n (c.Client id router) d
-
-      view_now : (d : List ℕ) (b : Bool) → is_named d id ≡ b → view (client_of w'.clients d) ≡ view (cond b (Some fresh) (client_of now.world.clients d))
-      view_now d b e = ap view (value_new now.world.clients id d fresh free ∙ ap (λ z. cond z (Some fresh) (client_of now.world.clients d)) e)
-
-      -- the client that comes
-      comes : (d : List ℕ) → is_named d id ≡ true → Holds (is_attached lines d) (declarations lines d) ns (all_links now.world.routers) d None →
-          Holds (is_attached (lines ++ (n, c.Client id router) ∷ []) d) (declarations (lines ++ (n, c.Client id router) ∷ []) d) (ns ++ id ∷ []) (all_links w'.routers) d (Some (view_of fresh))
-      comes d same k = record {
-        is_there = attached_more lines n (c.Client id router) d ∙ or_right (is_attached lines d) (is_named d id) same;
-        peer = client_peer id;
-        rows = [];
-        one = links_now d ∙ ap (λ z. z ++ cond (is_named id d) (new ∷ []) []) k.2 ∙ ap (λ b. cond b (new ∷ []) []) (names.symm id d ∙ same);
-        own = ap (λ o. is_at o d) (get_end ns id) ∙ names.symm id d ∙ same;
-        flow = sym (said_now d ∙ k.1);
-        ids_are = ap (map (λ s. s.id)) (sym (said_now d ∙ k.1));
-      }
-
-      -- the others
-      stays : (d : List ℕ) → is_named d id ≡ false → (v : Option View) → Holds (is_attached lines d) (declarations lines d) ns (all_links now.world.routers) d v →
-          Holds (is_attached (lines ++ (n, c.Client id router) ∷ []) d) (declarations (lines ++ (n, c.Client id router) ∷ []) d) (ns ++ id ∷ []) (all_links w'.routers) d v
-      stays d other None k = (attached_now d other ∙ k.0, said_now d ∙ k.1, links_other d other ∙ k.2)
+      no_end : end_of w.ends (router, id) ≡ None
+      no_end = by (end_of w.ends (router, id)) refl
         where
-          attached_now : (d : List ℕ) → is_named d id ≡ false → is_attached (lines ++ (n, c.Client id router) ∷ []) d ≡ is_attached lines d
-          attached_now d other = attached_more lines n (c.Client id router) d ∙ ap (λ z. is_attached lines d || z) other ∙ or-false (is_attached lines d)
+          by : (o : Option EndState) → end_of w.ends (router, id) ≡ o → o ≡ None
+          by None e = refl
+          by (Some s) e = absurd (true≢false (sym (sound.neighbours router id (ap is_some e)) ∙ free))
 
-          links_other : (d : List ℕ) → is_named d id ≡ false → links_at (ns ++ id ∷ []) d (all_links w'.routers) ≡ links_at ns d (all_links now.world.routers)
-          links_other d other = links_now d ∙ ap (λ b. links_at ns d (all_links now.world.routers) ++ cond b (new ∷ []) []) (names.symm id d ∙ other) ∙ append-nil (links_at ns d (all_links now.world.routers))
-      stays d other (Some v) k = record {
-        is_there = attached_more lines n (c.Client id router) d ∙ ap (λ z. is_attached lines d || z) other ∙ or-false (is_attached lines d) ∙ k.is_there;
-        peer = k.peer;
-        rows = k.rows;
-        one = links_now d ∙ ap (λ b. links_at ns d (all_links now.world.routers) ++ cond b (new ∷ []) []) (names.symm id d ∙ other) ∙ append-nil (links_at ns d (all_links now.world.routers)) ∙ k.one;
-        own = at_more ns (id ∷ []) v.link d k.own;
-        flow = k.flow ∙ sym (said_now d);
-        ids_are = k.ids_are ∙ ap (map (λ s. s.id)) (sym (said_now d));
+      no_link : link_to r.node.links id ≡ None
+      no_link = not_there (link_to r.node.links id) (sound.links router id r er ∙ rw no_end refl)
+
+      links_are : (q : List ℕ) → link_to (after r.node (up_event r its_peer)).links q ≡ cond (is_named id q) (Some new) (link_to r.node.links q)
+      links_are q = link_to_with r.node.links new (sound.unique router r er) (free_is_free r.node.links) no_link q
+
+      ends_are : (y q : List ℕ) → seen (end_of w'.ends (y, q)) ≡ cond (is_end (router, id) (y, q)) (seen (Some (lifted new_end))) (seen (end_of w.ends (y, q)))
+      ends_are y q =
+          keep_all_queued (put_end w.ends (router, id) (lifted new_end)) router r.node (up_event r its_peer) n seen (y, q) (λ s. refl)
+          ∙ read_put_end w.ends (router, id) (lifted new_end) seen (y, q)
+
+      clients_are : (q : List ℕ) (b : Bool) → is_named id q ≡ b → client_of w'.clients q ≡ cond b (Some (new_client router)) (client_of w.clients q)
+      clients_are q b k = value_new w.clients id q (new_client router) no_client ∙ ap (λ z. cond z (Some (new_client router)) (client_of w.clients q)) (names.symm q id ∙ k)
+
+      comes : Holds (is_attached acts' id) (declarations acts' id) (view w' id)
+      comes = subst (λ (v : Option View). Holds (is_attached acts' id) (declarations acts' id) v)
+          (sym (view_by w' id (new_client router) (clients_are id true (names.refl id)) (Some (end_view (lifted new_end)))
+          (ends_are router id ∙ ap (λ b. cond b (seen (Some (lifted new_end))) (seen (end_of w.ends (router, id)))) (ends.refl (router, id)))
+          (Some new)
+          (read_after (λ o. link_to (links_of o) id) w.routers router router r (hearing r (up_event r its_peer)) er
+          ∙ ap (λ b. cond b (link_to (after r.node (up_event r its_peer)).links id) (link_to (links_of (router_of w.routers router)) id)) (names.refl router)
+          ∙ links_are id ∙ ap (λ b. cond b (Some new) (link_to r.node.links id)) (names.refl id))))
+          (record {
+            its_end = end_view (lifted new_end);
+            found = refl;
+            unbroken = sym (attached_more acts n (c.Client id router) id ∙ or_right (is_attached acts id) (is_named id id) (names.refl id));
+            joins = λ att. record {
+              up = refl;
+              its_link = new;
+              linked = refl;
+              flow = sym (declarations_more acts n (c.Client id router) id ∙ (known_none id no_client).1);
+              ids_are = ap (map (λ s. s.id)) (sym (declarations_more acts n (c.Client id router) id ∙ (known_none id no_client).1));
+            };
+          })
+
+      at : (b : Bool) → is_named id d ≡ b → Holds (is_attached acts' d) (declarations acts' d) (view w' d)
+      at true same = subst (λ (q : List ℕ). Holds (is_attached acts' q) (declarations acts' q) (view w' q)) (same_name id d same) comes
+      at false other = no_news n (c.Client id router) w' d
+          (ap (λ b. is_attached acts d || b) (names.symm d id ∙ other) ∙ or-false (is_attached acts d)) refl
+          (same_view w' d (clients_are d false other)
+          (λ x. ends_are x d ∙ ap (λ b. cond b (seen (Some (lifted new_end))) (seen (end_of w.ends (x, d)))) (other_end router x id d other))
+          (links_kept router r (hearing r (up_event r its_peer)) er d (links_are d ∙ ap (λ b. cond b (Some new) (link_to r.node.links d)) other)))
+
+  -- ---- links between routers: the one router has none
+
+  link_known : (n : ℕ) (one other : List ℕ) → is_named one other ≡ false → (r q : RouterState) → router_of w.routers one ≡ Some r → router_of w.routers other ≡ Some q →
+      (w' : WorldState) → Known (acts ++ (n, c.Link one other) ∷ []) w'
+  link_known n one other apart r q er eq w' = absurd (true≢false (sym (single one other (ap is_some er) (ap is_some eq)) ∙ apart))
+
+  -- a client's end comes up with the client, and stays up until its link is broken
+  up_known : (n : ℕ) (router name : List ℕ) (r : RouterState) → router_of w.routers router ≡ Some r → (s : EndState) → end_of w.ends (router, name) ≡ Some s →
+      s.unbroken ≡ true → s.up ≡ false → Known (acts ++ (n, c.Up router name) ∷ []) (on_up now n router name r s).world
+  up_known n router name r er s es unbroken down d = at (is_named name d) refl
+    where
+      w' : WorldState
+      w' = (on_up now n router name r s).world
+
+      new : LinkState
+      new = new_link (record { 0 = free_link r.node.links }) (peer_of w name)
+
+      no_link : link_to r.node.links name ≡ None
+      no_link = not_there (link_to r.node.links name) (sound.links router name r er ∙ rw es down)
+
+      ends_are : (y q : List ℕ) → is_named name q ≡ false → seen (end_of w'.ends (y, q)) ≡ seen (end_of w.ends (y, q))
+      ends_are y q other =
+          keep_all_queued (with_end w.ends (router, name) (lifted s)) router r.node (up_event r (peer_of w name)) n seen (y, q) (λ z. refl)
+          ∙ other_seen router name s (lifted s) es q other y
+
+      never : (k : ClientState) → client_of w.clients name ≡ Some k → ⊥
+      never k ek =
+          let stands = known_of name k ek in
+          let same = its_end_is name k ek router r er s es in
+          let joins = stands.joins (sym stands.unbroken ∙ ap (λ z. z.unbroken) same ∙ unbroken) in
+          true≢false (sym joins.up ∙ ap (λ z. z.up) same ∙ down)
+
+      nobody : (o : Option ClientState) → client_of w.clients name ≡ o → view_of w' name o ≡ view_of w name o
+      nobody None e = refl
+      nobody (Some k) e = absurd (never k e)
+
+      at : (b : Bool) → is_named name d ≡ b → Holds (is_attached (acts ++ (n, c.Up router name) ∷ []) d) (declarations (acts ++ (n, c.Up router name) ∷ []) d) (view w' d)
+      at true same = no_news n (c.Up router name) w' d refl refl
+          (subst (λ (q : List ℕ). view w' q ≡ view w q) (same_name name d same) (nobody (client_of w.clients name) refl))
+      at false other = no_news n (c.Up router name) w' d refl refl
+          (same_view w' d refl (λ x. ends_are x d other)
+          (links_kept router r (hearing r (up_event r (peer_of w name))) er d
+          (link_to_with r.node.links new (sound.unique router r er) (free_is_free r.node.links) no_link d ∙ ap (λ b. cond b (Some new) (link_to r.node.links d)) other)))
+
+  -- ---- a link breaks
+
+  break_known : (n : ℕ) (router name : List ℕ) (r : RouterState) → router_of w.routers router ≡ Some r → (s : EndState) → end_of w.ends (router, name) ≡ Some s →
+      Known (acts ++ (n, c.Break router name) ∷ []) (on_break now router name).world
+  break_known n router name r er s es d = at (is_named name d) refl
+    where
+      w' : WorldState
+      w' = (on_break now router name).world
+
+      acts' : List Numbered
+      acts' = acts ++ (n, c.Break router name) ∷ []
+
+      half : Ends
+      half = changed w.ends (router, name) broken
+
+      -- the other end of the link is the client's own, of which no world tells
+      ends_are : (q : End) → end_of w'.ends q ≡ end_of half q
+      ends_are q = changed_absent half (name, router) broken q (not_there (end_of half (name, router))
+          (keep_changed w.ends (router, name) broken is_some (name, router) (λ z. refl) ∙ ap is_some (no_turned router name r er)))
+
+      attached_now : (q : List ℕ) (b : Bool) → is_named name q ≡ b → is_attached acts' q ≡ (is_attached acts q && not b)
+      attached_now q b k = attached_more acts n (c.Break router name) q ∙ ap (λ z. is_attached acts q && not z) (names.symm q name ∙ k)
+
+      both_false : (b : Bool) → (b && false) ≡ false
+      both_false true = refl
+      both_false false = refl
+
+      both_true : (b : Bool) → (b && true) ≡ b
+      both_true true = refl
+      both_true false = refl
+
+      gone : is_attached acts' name ≡ false
+      gone = attached_now name true (names.refl name) ∙ both_false (is_attached acts name)
+
+      cut : (o : Option ClientState) → client_of w.clients name ≡ o → Holds (is_attached acts' name) (declarations acts' name) (view_of w' name o)
+      cut None e = (gone, declarations_more acts n (c.Break router name) name ∙ (known_none name e).1)
+      cut (Some k) e = record {
+        its_end = end_view (broken s);
+        found = ap seen (ends_are (k.router, name)) ∙ ap (λ z. seen (end_of half (z, name))) (home name k e router r er)
+            ∙ read_changed w.ends (router, name) broken seen (router, name)
+            ∙ ap (λ b. cond b (seen (option_map broken (end_of w.ends (router, name)))) (seen (end_of w.ends (router, name)))) (ends.refl (router, name))
+            ∙ ap (λ o. seen (option_map broken o)) es;
+        unbroken = sym gone;
+        joins = λ attached. absurd (false≢true (sym gone ∙ attached));
       }
 
-      at : (d : List ℕ) (b : Bool) → is_named d id ≡ b →
-          Holds (is_attached (lines ++ (n, c.Client id router) ∷ []) d) (declarations (lines ++ (n, c.Client id router) ∷ []) d) (ns ++ id ∷ []) (all_links w'.routers) d (view (client_of w'.clients d))
-      at d true same = rw (view_now d true same)
-          (comes d same (subst (λ (v : Option View). Holds (is_attached lines d) (declarations lines d) ns (all_links now.world.routers) d v)
-          (ap view (ap (client_of now.world.clients) (same_name d id same) ∙ free)) (h.each d)))
-      at d false other = rw (view_now d false other) (stays d other (view (client_of now.world.clients d)) (h.each d))
+      at : (b : Bool) → is_named name d ≡ b → Holds (is_attached acts' d) (declarations acts' d) (view w' d)
+      at true same = subst (λ (q : List ℕ). Holds (is_attached acts' q) (declarations acts' q) (view w' q)) (same_name name d same) (cut (client_of w.clients name) refl)
+      at false other = no_news n (c.Break router name) w' d
+          (ap (λ z. is_attached acts d && not z) (names.symm d name ∙ other) ∙ both_true (is_attached acts d)) refl
+          (same_view w' d refl
+          (λ x. ap seen (ends_are (x, d)) ∙ read_changed w.ends (router, name) broken seen (x, d)
+          ∙ ap (λ b. cond b (seen (option_map broken (end_of w.ends (x, d)))) (seen (end_of w.ends (x, d)))) (other_end router x name d other))
+          (λ x. refl))
 
-  -- what is known of a client that is found
-  known_of : (d : List ℕ) (s : ClientState) → client_of now.world.clients d ≡ Some s →
-      Joins (is_attached lines d) (declarations lines d) now.world.names (all_links now.world.routers) d (view_of s)
-  known_of d s e = subst (λ (v : Option View). Holds (is_attached lines d) (declarations lines d) now.world.names (all_links now.world.routers) d v) (ap view e) (h.each d)
+  -- a router notices it
+  down_known : (n : ℕ) (router name : List ℕ) (r : RouterState) → router_of w.routers router ≡ Some r → (s : EndState) → end_of w.ends (router, name) ≡ Some s →
+      s.unbroken ≡ false → (l : LinkNo) → number_to r name ≡ Ok l → Known (acts ++ (n, c.Down router name) ∷ []) (on_down now n router name r l).world
+  down_known n router name r er s es cut l el d = at (is_named name d) refl
+    where
+      w' : WorldState
+      w' = (on_down now n router name r l).world
+
+      acts' : List Numbered
+      acts' = acts ++ (n, c.Down router name) ∷ []
+
+      half : Ends
+      half = all_queued w.ends router r.node (Down l) n
+
+      ends_are : (y q : List ℕ) (b : Bool) → is_end (router, name) (y, q) ≡ b →
+          seen (end_of w'.ends (y, q)) ≡ cond b (seen (option_map lowered (end_of w.ends (y, q)))) (seen (end_of w.ends (y, q)))
+      ends_are y q b k =
+          read_changed half (router, name) lowered seen (y, q)
+          ∙ ap (λ z. cond z (seen (option_map lowered (end_of half (y, q)))) (seen (end_of half (y, q)))) k
+          ∙ ap (λ z. cond b z (seen (end_of half (y, q)))) (keep_all_queued w.ends router r.node (Down l) n (λ o. seen (option_map lowered o)) (y, q) (λ z. refl))
+          ∙ ap (λ z. cond b (seen (option_map lowered (end_of w.ends (y, q)))) z) (keep_all_queued w.ends router r.node (Down l) n seen (y, q) (λ z. refl))
+
+      attached_is : (k : ClientState) → client_of w.clients name ≡ Some k → s.unbroken ≡ is_attached acts' name
+      attached_is k e = sym (ap (λ z. z.unbroken) (its_end_is name k e router r er s es)) ∙ (known_of name k e).unbroken ∙ sym (attached_more acts n (c.Down router name) name)
+
+      stands : (k : ClientState) → client_of w.clients name ≡ Some k → Holds (is_attached acts' name) (declarations acts' name) (view_of w' name (Some k))
+      stands k e = record {
+        its_end = end_view (lowered s);
+        found = ap (λ z. seen (end_of w'.ends (z, name))) (home name k e router r er) ∙ ends_are router name true (ends.refl (router, name)) ∙ ap (λ o. seen (option_map lowered o)) es;
+        unbroken = attached_is k e;
+        joins = λ attached. absurd (false≢true (sym cut ∙ attached_is k e ∙ attached));
+      }
+
+      lowers : (o : Option ClientState) → client_of w.clients name ≡ o → Holds (is_attached acts' name) (declarations acts' name) (view_of w' name o)
+      lowers None e = (attached_more acts n (c.Down router name) name ∙ (known_none name e).0, declarations_more acts n (c.Down router name) name ∙ (known_none name e).1)
+      lowers (Some k) e = stands k e
+
+      at : (b : Bool) → is_named name d ≡ b → Holds (is_attached acts' d) (declarations acts' d) (view w' d)
+      at true same = subst (λ (q : List ℕ). Holds (is_attached acts' q) (declarations acts' q) (view w' q)) (same_name name d same) (lowers (client_of w.clients name) refl)
+      at false other = no_news n (c.Down router name) w' d refl refl
+          (same_view w' d refl (λ x. ends_are x d false (other_end router x name d other))
+          (links_kept router r (hearing r (Down l)) er d
+          (let k = number_found r name l el in
+          link_to_apart r.node.links (sound.unique router r er) l.0 name k.0 k.1 (ap (λ z. z.0) k.2) d ∙ ap (λ b. cond b None (link_to r.node.links d)) other)))
 
   -- ---- a declaration is written, or its end
 
   -- a client s writes a message that is no sample, and is s' then
-  says_known : (n : ℕ) (act : Act) (name : List ℕ) (s s' : ClientState) (msg : Msg) (routers : Routers) (change : List Declaration → List Declaration) →
-      client_of now.world.clients name ≡ Some s → s'.link ≡ s.link → s'.wire ≡ s.wire ++ record { msg = msg; tag = n } ∷ [] → news_of msg ≡ msg ∷ [] →
-      is_single routers ≡ true → all_links routers ≡ all_links now.world.routers →
-      ((d : List ℕ) → attaches d act ≡ false) → ((d : List ℕ) (so_far : List Declaration) → declared_by d so_far act ≡ cond (is_named d name) (change so_far) so_far) →
+  says_known : (n : ℕ) (act : Act) (name : List ℕ) (s s' : ClientState) → client_of w.clients name ≡ Some s → s'.router ≡ s.router → (e : EndState) → end_of w.ends (s.router, name) ≡ Some e →
+      e.unbroken ≡ true → (msg : Msg) → news_of msg ≡ msg ∷ [] → (routers : Routers) →
+      ((x q : List ℕ) → link_to (links_of (router_of routers x)) q ≡ link_to (links_of (router_of w.routers x)) q) → (change : List Declaration → List Declaration) →
+      ((d : List ℕ) (so_far : Bool) → attached_by d so_far act ≡ so_far) → ((d : List ℕ) (so_far : List Declaration) → declared_by d so_far act ≡ cond (is_named d name) (change so_far) so_far) →
       ((rows : List Subscription) → s.ids ≡ map (λ y. y.id) (map as_declaration rows) →
       (map as_declaration (hear rows msg) ≡ change (map as_declaration rows)) × (s'.ids ≡ map (λ y. y.id) (change (map as_declaration rows)))) →
-      Known (lines ++ (n, act) ∷ []) (with_tables now.world routers (with_client now.world.clients name s'))
-  says_known n act name s s' msg routers change e link_is wire_is news one links_are no_client says hears = record {
-    one_router = one;
-    named = ap (list_all (λ l. is_some (slice_get now.world.names l.link.0))) links_are ∙ h.named;
-    each = λ d. at d (is_named name d) refl;
-  }
+      Known (acts ++ (n, act) ∷ []) (with_clients (with_routers (w_sent w n name s e msg) routers) (with_client w.clients name s'))
+  says_known n act name s s' es same_router e ee unbroken msg news routers links change no_client says hears d = at (is_named name d) refl
     where
-      lines' : List Numbered
-      lines' = lines ++ (n, act) ∷ []
+      acts' : List Numbered
+      acts' = acts ++ (n, act) ∷ []
 
-      attached_now : (d : List ℕ) → is_attached lines' d ≡ is_attached lines d
-      attached_now d = attached_more lines n act d ∙ ap (λ z. is_attached lines d || z) (no_client d) ∙ or-false (is_attached lines d)
+      w' : WorldState
+      w' = with_clients (with_routers (w_sent w n name s e msg) routers) (with_client w.clients name s')
 
-      said_now : (d : List ℕ) (b : Bool) → is_named name d ≡ b → declarations lines' d ≡ cond b (change (declarations lines d)) (declarations lines d)
-      said_now d b k = declarations_more lines n act d ∙ says d (declarations lines d) ∙ ap (λ z. cond z (change (declarations lines d)) (declarations lines d)) (names.symm d name ∙ k)
+      clients_are : (q : List ℕ) (b : Bool) → is_named name q ≡ b → client_of w'.clients q ≡ cond b (Some s') (client_of w.clients q)
+      clients_are q b k = value_after w.clients name q s' (ap is_some es) ∙ ap (λ z. cond z (Some s') (client_of w.clients q)) k
 
-      view_now : (d : List ℕ) (b : Bool) → is_named name d ≡ b → view (client_of (with_client now.world.clients name s') d) ≡ cond b (Some (view_of s')) (view (client_of now.world.clients d))
-      view_now d b k = read_after view now.world.clients name d s s' e ∙ ap (λ z. cond z (Some (view_of s')) (view (client_of now.world.clients d))) k
+      old : Stands (is_attached acts name) (declarations acts name) (view_at w name s)
+      old = known_of name s es
+
+      same_end_ : old.its_end ≡ end_view e
+      same_end_ = let one : Some (end_view e) ≡ Some old.its_end = sym (ap seen ee) ∙ old.found in cc
+
+      attached : is_attached acts name ≡ true
+      attached = sym old.unbroken ∙ ap (λ z. z.unbroken) same_end_ ∙ unbroken
+
+      j : Joins (declarations acts name) (view_at w name s) old.its_end
+      j = old.joins attached
 
       -- what is on the wire then
-      on_way : waiting s'.wire ≡ waiting s.wire ++ msg ∷ []
-      on_way = ap waiting wire_is ∙ flat_map-append (λ x. news_of x.msg) s.wire (record { msg = msg; tag = n } ∷ []) ∙ ap (λ z. waiting s.wire ++ (z ++ [])) news
+      on_way : waiting (sent e msg n).wire ≡ old.its_end.on_way ++ msg ∷ []
+      on_way = flat_map-append (λ x. news_of x.msg) e.wire (record { msg = msg; tag = n } ∷ []) ∙ ap (λ z. waiting e.wire ++ (z ++ [])) news
+          ∙ ap (λ z. z.on_way ++ msg ∷ []) (sym same_end_)
 
-      at : (d : List ℕ) (b : Bool) → is_named name d ≡ b →
-          Holds (is_attached lines' d) (declarations lines' d) now.world.names (all_links routers) d (view (client_of (with_client now.world.clients name s') d))
-      at d true same = rw (view_now d true same) joins
-        where
-          j : Joins (is_attached lines d) (declarations lines d) now.world.names (all_links now.world.routers) d (view_of s)
-          j = known_of d s (ap (client_of now.world.clients) (sym (same_name name d same)) ∙ e)
+      heard : List Subscription
+      heard = fold hear j.its_link.subs old.its_end.on_way
 
-          heard : List Subscription
-          heard = fold hear j.rows (waiting s.wire)
+      news_is : (map as_declaration (hear heard msg) ≡ change (map as_declaration heard)) × (s'.ids ≡ map (λ y. y.id) (change (map as_declaration heard)))
+      news_is = hears heard (j.ids_are ∙ ap (map (λ y. y.id)) (sym j.flow))
 
-          news_is : (map as_declaration (hear heard msg) ≡ change (map as_declaration heard)) × (s'.ids ≡ map (λ y. y.id) (change (map as_declaration heard)))
-          news_is = hears heard (j.ids_are ∙ ap (map (λ y. y.id)) (sym j.flow))
+      said_is : change (map as_declaration heard) ≡ declarations acts' name
+      said_is = ap change j.flow ∙ sym (declarations_more acts n act name ∙ says name (declarations acts name) ∙ ap (λ z. cond z (change (declarations acts name)) (declarations acts name)) (names.refl name))
 
-          said_is : change (map as_declaration heard) ≡ declarations lines' d
-          said_is = ap change j.flow ∙ sym (said_now d true same)
+      attached_now : is_attached acts' name ≡ is_attached acts name
+      attached_now = attached_more acts n act name ∙ no_client name (is_attached acts name)
 
-          joins : Joins (is_attached lines' d) (declarations lines' d) now.world.names (all_links routers) d (view_of s')
-          joins = record {
-            is_there = attached_now d ∙ j.is_there;
-            peer = j.peer;
-            rows = j.rows;
-            one = ap (links_at now.world.names d) links_are ∙ j.one ∙ ap (λ z. record { link = record { 0 = z }; peer = j.peer; subs = j.rows } ∷ []) (sym link_is);
-            own = ap (λ z. is_at (slice_get now.world.names z) d) link_is ∙ j.own;
-            flow = ap (λ z. map as_declaration (fold hear j.rows z)) on_way
-                ∙ ap (map as_declaration) (fold-append hear j.rows (waiting s.wire) (msg ∷ []))
-                ∙ news_is.0 ∙ said_is;
-            ids_are = news_is.1 ∙ ap (map (λ y. y.id)) said_is;
-          }
-      at d false other = same_holds (is_attached lines d) (is_attached lines' d) (declarations lines d) (declarations lines' d)
-          now.world.names now.world.names (all_links now.world.routers) (all_links routers) d (view (client_of now.world.clients d)) (view (client_of (with_client now.world.clients name s') d))
-          (attached_now d) (said_now d false other) refl links_are (view_now d false other) (h.each d)
+      writes : Holds (is_attached acts' name) (declarations acts' name) (view w' name)
+      writes = subst (λ (v : Option View). Holds (is_attached acts' name) (declarations acts' name) v)
+          (sym (view_by w' name s' (clients_are name true (names.refl name)) (Some (end_view (sent e msg n)))
+          (ap (λ z. seen (end_of w'.ends (z, name))) same_router ∙ read_with_end w.ends (s.router, name) (sent e msg n) seen (s.router, name) (ap is_some ee)
+          ∙ ap (λ b. cond b (seen (Some (sent e msg n))) (seen (end_of w.ends (s.router, name)))) (ends.refl (s.router, name)))
+          (Some j.its_link) (ap (λ z. link_to (links_of (router_of routers z)) name) same_router ∙ links s.router name ∙ j.linked)))
+          (record {
+            its_end = end_view (sent e msg n);
+            found = refl;
+            unbroken = unbroken ∙ sym attached ∙ sym attached_now;
+            joins = λ att. record {
+              up = ap (λ z. z.up) (sym same_end_) ∙ j.up;
+              its_link = j.its_link;
+              linked = refl;
+              flow = ap (λ z. map as_declaration (fold hear j.its_link.subs z)) on_way
+                  ∙ ap (map as_declaration) (fold-append hear j.its_link.subs old.its_end.on_way (msg ∷ []))
+                  ∙ news_is.0 ∙ said_is;
+              ids_are = news_is.1 ∙ ap (map (λ y. y.id)) said_is;
+            };
+          })
 
-  sub_known : (n : ℕ) (name : List ℕ) (id : ℕ) (key : List ℕ) (s : ClientState) → client_of now.world.clients name ≡ Some s → list_any (λ i. i == id) s.ids ≡ false →
-      (r : RouterState) → router_of now.world.routers s.router ≡ Some r → Known (lines ++ (n, c.Sub name id key) ∷ []) (on_sub now n name id key s r).world
-  sub_known n name id key s e fresh r er =
-      says_known n (c.Sub name id key) name s (sent (declaring s id) (m.Sub id key) n) (m.Sub id key) (with_router now.world.routers s.router (weighing r key))
-      (λ said. said ++ declaration ∷ []) e refl refl refl rows.2 (rows.1 ∙ sym rows.0) (λ d. refl) (λ d so_far. refl) hears
+      at : (b : Bool) → is_named name d ≡ b → Holds (is_attached acts' d) (declarations acts' d) (view w' d)
+      at true same = subst (λ (q : List ℕ). Holds (is_attached acts' q) (declarations acts' q) (view w' q)) (same_name name d same) writes
+      at false other = no_news n act w' d (no_client d (is_attached acts d))
+          (says d (declarations acts d) ∙ ap (λ z. cond z (change (declarations acts d)) (declarations acts d)) (names.symm d name ∙ other))
+          (same_view w' d (clients_are d false other) (λ x. other_seen s.router name e (sent e msg n) ee d other x) (λ x. links x d))
+
+  sub_known : (n : ℕ) (name : List ℕ) (id : ℕ) (key : List ℕ) (s : ClientState) → client_of w.clients name ≡ Some s → has_id s id ≡ false →
+      (e : EndState) → end_of w.ends (s.router, name) ≡ Some e → e.unbroken ≡ true → (r : RouterState) → router_of w.routers s.router ≡ Some r →
+      Known (acts ++ (n, c.Sub name id key) ∷ []) (on_sub now n name id key s e r).world
+  sub_known n name id key s es fresh e ee unbroken r er =
+      says_known n (c.Sub name id key) name s (declaring s id) es refl e ee unbroken (m.Sub id key) refl (with_router w.routers s.router (weighing r key))
+      (λ x q. links_kept s.router r (weighing r key) er q refl x) (λ said. said ++ declaration ∷ []) (λ d so_far. refl) (λ d so_far. refl) hears
     where
       declaration : Declaration
       declaration = record { id = id; key = key }
-
-      rows : (all_links now.world.routers ≡ r.node.links) × (all_links (with_router now.world.routers s.router (weighing r key)) ≡ r.node.links)
-          × (is_single (with_router now.world.routers s.router (weighing r key)) ≡ true)
-      rows = the_links now.world.routers s.router r (weighing r key) h.one_router er
 
       -- a new id comes behind the others
       hears : (rows : List Subscription) → s.ids ≡ map (λ y. y.id) (map as_declaration rows) →
@@ -256,197 +454,202 @@ module _ (lines : List Numbered) (now : Moment) (h : Known lines now.world) wher
         ap (λ z. z ++ id ∷ []) ids_are ∙ sym (map-append (λ y. y.id) (map as_declaration rows) (declaration ∷ [])),
       )
 
-  unsub_known : (n : ℕ) (name : List ℕ) (id : ℕ) (s : ClientState) → client_of now.world.clients name ≡ Some s → Known (lines ++ (n, c.Unsub name id) ∷ []) (on_unsub now n name id s).world
-  unsub_known n name id s e =
-      says_known n (c.Unsub name id) name s (sent (undeclaring s id) (m.Unsub id) n) (m.Unsub id) now.world.routers
-      (filter (λ y. not (y.id == id))) e refl refl refl h.one_router refl (λ d. refl) (λ d so_far. refl)
+  unsub_known : (n : ℕ) (name : List ℕ) (id : ℕ) (s : ClientState) → client_of w.clients name ≡ Some s →
+      (e : EndState) → end_of w.ends (s.router, name) ≡ Some e → e.unbroken ≡ true → Known (acts ++ (n, c.Unsub name id) ∷ []) (on_unsub now n name id s e).world
+  unsub_known n name id s es e ee unbroken =
+      says_known n (c.Unsub name id) name s (undeclaring s id) es refl e ee unbroken (m.Unsub id) refl w.routers (λ x q. refl)
+      (filter (λ y. not (y.id == id))) (λ d so_far. refl) (λ d so_far. refl)
       (λ rows ids_are. (
         sym (filter_mapped as_declaration (λ y. not (y.id == id)) rows),
         ap (filter (λ i. not (i == id))) ids_are ∙ filter_mapped (λ y. y.id) (λ i. not (i == id)) (map as_declaration rows),
       ))
 
   -- a sample is written
-  published_known : (n : ℕ) (name : List ℕ) (content : Parts) (s : ClientState) → client_of now.world.clients name ≡ Some s →
-      Known (lines ++ (n, c.Publish name content) ∷ []) (on_publish now n name content s).world
-  published_known n name content s e =
-      unchanged lines n (c.Publish name content) now.world (on_publish now n name content s).world (λ d. refl) (λ d so_far. refl) h.one_router refl refl
-      (λ d. read_kept view now.world.clients name d s (sent s (m.Push None content) n) e
-      (ap (λ z. Some (record { link = s.link; ids = s.ids; on_way = z })) (flat_map-append (λ x. news_of x.msg) s.wire (record { msg = m.Push None content; tag = n } ∷ []) ∙ append-nil (waiting s.wire)))) h
+  published_known : (n : ℕ) (name : List ℕ) (content : Parts) (s : ClientState) (e : EndState) → end_of w.ends (s.router, name) ≡ Some e →
+      Known (acts ++ (n, c.Publish name content) ∷ []) (on_publish now n name content s e).world
+  published_known n name content s e ee d =
+      no_news n (c.Publish name content) (on_publish now n name content s e).world d refl refl (same_view (on_publish now n name content s e).world d refl
+      (λ x. keep_with_end w.ends (s.router, name) (sent e (m.Push None content) n) seen (x, d) e ee
+      (ap (λ z. Some (record { up = e.up; unbroken = e.unbroken; on_way = z }))
+      (flat_map-append (λ y. news_of y.msg) e.wire (record { msg = m.Push None content; tag = n } ∷ []) ∙ append-nil (waiting e.wire))))
+      (λ x. refl))
 
   -- ---- a message is handled
 
-  -- one that changes no rows
-  unheard_known : (n : ℕ) (router name : List ℕ) (r : RouterState) → router_of now.world.routers router ≡ Some r → (s : ClientState) → client_of now.world.clients name ≡ Some s →
-      (msg : Msg) (tag : ℕ) (xs : List Tagged) → s.wire ≡ record { msg = msg; tag = tag } ∷ xs → news_of msg ≡ [] → (having r s.link msg).node.links ≡ r.node.links →
-      Known (lines ++ (n, c.Handle router name) ∷ []) (on_handle now router name r s msg tag xs).world
-  unheard_known n router name r er s e msg tag xs front news links =
-      unchanged lines n (c.Handle router name) now.world w' (λ d. refl) (λ d so_far. refl) rows.2 refl (rows.1 ∙ links ∙ sym rows.0)
-      (λ d. all_kept view tag (λ y z. refl) (with_client now.world.clients name (with_wire s xs)) now.world.names (sends r.node (From (record { 0 = s.link }) msg)) d
-      ∙ read_kept view now.world.clients name d s (with_wire s xs) e (ap (λ z. Some (record { link = s.link; ids = s.ids; on_way = z })) (sym on_way)))
-      h
+  -- one that changes no subscriptions
+  unheard_known : (n : ℕ) (router name : List ℕ) (r : RouterState) → router_of w.routers router ≡ Some r → (s : EndState) → end_of w.ends (router, name) ≡ Some s → (l : LinkNo) →
+      (msg : Msg) (tag : ℕ) (xs : List Tagged) → s.wire ≡ record { msg = msg; tag = tag } ∷ xs → news_of msg ≡ [] → (after r.node (From l msg)).links ≡ r.node.links →
+      Known (acts ++ (n, c.Handle router name) ∷ []) (on_handle now router name r s l msg tag xs).world
+  unheard_known n router name r er s es l msg tag xs front news links d =
+      no_news n (c.Handle router name) (on_handle now router name r s l msg tag xs).world d refl refl (same_view (on_handle now router name r s l msg tag xs).world d refl
+      (λ x. keep_all_queued (with_end w.ends (router, name) (with_wire s xs)) router r.node (From l msg) tag seen (x, d) (λ z. refl)
+      ∙ keep_with_end w.ends (router, name) (with_wire s xs) seen (x, d) s es (ap (λ z. Some (record { up = s.up; unbroken = s.unbroken; on_way = z })) (sym on_way)))
+      (links_kept router r (hearing r (From l msg)) er d (ap (λ z. link_to z d) links)))
     where
-      w' : WorldState
-      w' = (on_handle now router name r s msg tag xs).world
-
-      rows : (all_links now.world.routers ≡ r.node.links) × (all_links w'.routers ≡ (having r s.link msg).node.links) × (is_single w'.routers ≡ true)
-      rows = the_links now.world.routers router r (having r s.link msg) h.one_router er
-
       on_way : waiting s.wire ≡ waiting xs
       on_way = ap waiting front ∙ ap (λ z. z ++ waiting xs) news
 
-  -- a link's number stays, whatever its client declares
-  keeps_link : (from : ℕ) (change : List Subscription → List Subscription) (l : LinkState) → (changed_on from change l).link ≡ l.link
-  keeps_link from change l = by (l.link.0 == from)
+  -- one that changes subscriptions: it is heard, and they are those of its client
+  heard_known : (n : ℕ) (router name : List ℕ) (r : RouterState) → router_of w.routers router ≡ Some r → (s : EndState) → end_of w.ends (router, name) ≡ Some s →
+      (l : LinkNo) → number_to r name ≡ Ok l → (msg : Msg) (tag : ℕ) (xs : List Tagged) → s.wire ≡ record { msg = msg; tag = tag } ∷ xs → (change : List Subscription → List Subscription) →
+      (after r.node (From l msg)).links ≡ map (changed_on l.0 change) r.node.links → news_of msg ≡ msg ∷ [] → ((rows : List Subscription) → hear rows msg ≡ change rows) →
+      Known (acts ++ (n, c.Handle router name) ∷ []) (on_handle now router name r s l msg tag xs).world
+  heard_known n router name r er s es l el msg tag xs front change changes news hears d = at (is_named name d) refl
     where
-      by : (b : Bool) → (cond b (record { link = l.link; peer = l.peer; subs = change l.subs }) l).link ≡ l.link
-      by true = refl
-      by false = refl
-
-  links_map : (ns : List (List ℕ)) (d : List ℕ) (from : ℕ) (change : List Subscription → List Subscription) (links : List LinkState) →
-      links_at ns d (map (changed_on from change) links) ≡ map (changed_on from change) (links_at ns d links)
-  links_map ns d from change links =
-      filter_mapped (changed_on from change) (λ l. is_at (slice_get ns l.link.0) d) links
-      ∙ ap (map (changed_on from change)) (filter_same (λ l. is_at (slice_get ns (changed_on from change l).link.0) d) (λ l. is_at (slice_get ns l.link.0) d)
-      (λ l. ap (λ z. is_at (slice_get ns z.0) d) (keeps_link from change l)) links)
-
-  named_map : (ns : List (List ℕ)) (from : ℕ) (change : List Subscription → List Subscription) (links : List LinkState) → list_all (λ l. is_some (slice_get ns l.link.0)) links ≡ true →
-      list_all (λ l. is_some (slice_get ns l.link.0)) (map (changed_on from change) links) ≡ true
-  named_map ns from change [] k = refl
-  named_map ns from change (l ∷ ls) k =
-      let parts = and_parts (is_some (slice_get ns l.link.0)) (list_all (λ x. is_some (slice_get ns x.link.0)) ls) k in
-      and_from (is_some (slice_get ns (changed_on from change l).link.0)) (list_all (λ x. is_some (slice_get ns x.link.0)) (map (changed_on from change) ls))
-      (ap (λ z. is_some (slice_get ns z.0)) (keeps_link from change l) ∙ parts.0) (named_map ns from change ls parts.1)
-
-  -- one that changes rows: it is heard, and the rows are those of its client
-  heard_known : (n : ℕ) (router name : List ℕ) (r : RouterState) → router_of now.world.routers router ≡ Some r → (s : ClientState) → client_of now.world.clients name ≡ Some s →
-      (msg : Msg) (tag : ℕ) (xs : List Tagged) → s.wire ≡ record { msg = msg; tag = tag } ∷ xs → (change : List Subscription → List Subscription) →
-      (having r s.link msg).node.links ≡ map (changed_on s.link change) r.node.links → news_of msg ≡ msg ∷ [] → ((rows : List Subscription) → hear rows msg ≡ change rows) →
-      Known (lines ++ (n, c.Handle router name) ∷ []) (on_handle now router name r s msg tag xs).world
-  heard_known n router name r er s e msg tag xs front change changes news hears = record {
-    one_router = rows.2;
-    named = ap (list_all (λ l. is_some (slice_get ns l.link.0))) links_are ∙ named_map ns s.link change (all_links now.world.routers) h.named;
-    each = λ d. at d (is_named name d) refl;
-  }
-    where
-      ns : List (List ℕ)
-      ns = now.world.names
-
-      clients : Clients
-      clients = with_client now.world.clients name (with_wire s xs)
-
-      lines' : List Numbered
-      lines' = lines ++ (n, c.Handle router name) ∷ []
+      acts' : List Numbered
+      acts' = acts ++ (n, c.Handle router name) ∷ []
 
       w' : WorldState
-      w' = (on_handle now router name r s msg tag xs).world
+      w' = (on_handle now router name r s l msg tag xs).world
 
-      rows : (all_links now.world.routers ≡ r.node.links) × (all_links w'.routers ≡ (having r s.link msg).node.links) × (is_single w'.routers ≡ true)
-      rows = the_links now.world.routers router r (having r s.link msg) h.one_router er
+      -- the link to the message's client
+      k : LinkState
+      k = (number_found r name l el).0
 
-      links_are : all_links w'.routers ≡ map (changed_on s.link change) (all_links now.world.routers)
-      links_are = rows.1 ∙ changes ∙ ap (map (changed_on s.link change)) (sym rows.0)
+      k_found : link_to r.node.links name ≡ Some k
+      k_found = (number_found r name l el).1
 
-      links_now : (d : List ℕ) → links_at ns d (all_links w'.routers) ≡ map (changed_on s.link change) (links_at ns d (all_links now.world.routers))
-      links_now d = ap (links_at ns d) links_are ∙ links_map ns d s.link change (all_links now.world.routers)
+      k_number : k.link.0 ≡ l.0
+      k_number = ap (λ z. z.0) (number_found r name l el).2
 
-      attached_now : (d : List ℕ) → is_attached lines' d ≡ is_attached lines d
-      attached_now d = attached_more lines n (c.Handle router name) d ∙ or-false (is_attached lines d)
+      k_at : link_at r.node.links k.link.0 ≡ Some k
+      k_at = numbered_link r.node.links (sound.unique router r er) name k k_found
 
-      said_now : (d : List ℕ) → declarations lines' d ≡ declarations lines d
-      said_now d = declarations_more lines n (c.Handle router name) d
+      links_are : (q : List ℕ) → link_to (after r.node (From l msg)).links q ≡ option_map (changed_on l.0 change) (link_to r.node.links q)
+      links_are q = ap (λ z. link_to z q) changes ∙ link_to_map l.0 change r.node.links q
 
-      view_now : (d : List ℕ) (b : Bool) → is_named name d ≡ b → view (client_of w'.clients d) ≡ cond b (Some (view_of (with_wire s xs))) (view (client_of now.world.clients d))
-      view_now d b k =
-          all_kept view tag (λ y z. refl) clients ns (sends r.node (From (record { 0 = s.link }) msg)) d
-          ∙ read_after view now.world.clients name d s (with_wire s xs) e ∙ ap (λ z. cond z (Some (view_of (with_wire s xs))) (view (client_of now.world.clients d))) k
+      -- another's link has another number
+      link_stays : (q : List ℕ) → is_named name q ≡ false → (o : Option LinkState) → link_to r.node.links q ≡ o → option_map (changed_on l.0 change) o ≡ o
+      link_stays q other None e = refl
+      link_stays q other (Some z) e = ap (λ b. Some (cond (b && not (is_router z.peer.role)) (record { link = z.link; peer = z.peer; subs = change z.subs }) z)) (apart (z.link.0 == l.0) refl)
+        where
+          apart : (b : Bool) → (z.link.0 == l.0) ≡ b → (z.link.0 == l.0) ≡ false
+          apart false g = g
+          apart true g =
+              let number : z.link.0 ≡ k.link.0 = eqb-true z.link.0 l.0 g ∙ sym k_number in
+              let one : Some z ≡ Some k = sym (numbered_link r.node.links (sound.unique router r er) q z e) ∙ ap (link_at r.node.links) number ∙ k_at in
+              let same : z ≡ k = cc in
+              let name_is : name ≡ q = sym (named_link r.node.links name k k_found) ∙ ap (λ y. y.peer.id) (sym same) ∙ named_link r.node.links q z e in
+              absurd (false≢true (sym other ∙ ap (is_named name) (sym name_is) ∙ names.refl name))
 
-      -- the link of a client, with its peer and these rows
-      link_with : ℕ → Peer → List Subscription → LinkState
-      link_with link peer subs = record { link = record { 0 = link }; peer = peer; subs = subs }
+      ends_are : (y q : List ℕ) → seen (end_of w'.ends (y, q)) ≡ seen (end_of (with_end w.ends (router, name) (with_wire s xs)) (y, q))
+      ends_are y q = keep_all_queued (with_end w.ends (router, name) (with_wire s xs)) router r.node (From l msg) tag seen (y, q) (λ z. refl)
 
       -- the client whose message it is
-      hears_it : (d : List ℕ) → is_named name d ≡ true → Joins (is_attached lines' d) (declarations lines' d) ns (all_links w'.routers) d (view_of (with_wire s xs))
-      hears_it d same = record {
-        is_there = attached_now d ∙ j.is_there;
-        peer = j.peer;
-        rows = change j.rows;
-        one = links_now d ∙ ap (map (changed_on s.link change)) j.one
-            ∙ ap (λ b. cond b (link_with s.link j.peer (change j.rows)) (link_with s.link j.peer j.rows) ∷ []) (eq-eqb s.link s.link refl);
-        own = j.own;
-        flow = ap (λ z. map as_declaration (fold hear z (waiting xs))) (sym (hears j.rows))
-            ∙ ap (λ z. map as_declaration (fold hear j.rows z)) (sym (ap waiting front ∙ ap (λ z. z ++ waiting xs) news))
-            ∙ j.flow ∙ sym (said_now d);
-        ids_are = j.ids_are ∙ ap (map (λ y. y.id)) (sym (said_now d));
+      hears_it : (b : ClientState) → client_of w.clients name ≡ Some b → Stands (is_attached acts' name) (declarations acts' name) (view_at w' name b)
+      hears_it b eb = record {
+        its_end = end_view (with_wire s xs);
+        found = ap (λ z. seen (end_of w'.ends (z, name))) at_home ∙ ends_are router name ∙ read_with_end w.ends (router, name) (with_wire s xs) seen (router, name) (ap is_some es)
+            ∙ ap (λ z. cond z (seen (Some (with_wire s xs))) (seen (end_of w.ends (router, name)))) (ends.refl (router, name));
+        unbroken = ap (λ z. z.unbroken) (sym same_end_) ∙ old.unbroken ∙ sym attached_now;
+        joins = λ att. joins_ (old.joins (sym attached_now ∙ att));
       }
         where
-          j : Joins (is_attached lines d) (declarations lines d) ns (all_links now.world.routers) d (view_of s)
-          j = known_of d s (ap (client_of now.world.clients) (sym (same_name name d same)) ∙ e)
+          at_home : b.router ≡ router
+          at_home = home name b eb router r er
 
-      -- another client's link is another one
-      apart : (d : List ℕ) (link : ℕ) → is_at (slice_get ns link) d ≡ true → is_named name d ≡ false → (link == s.link) ≡ false
-      apart d link own other = by (link == s.link) refl
-        where
-          both_at : (o : Option (List ℕ)) → is_at o d ≡ true → is_at o name ≡ true → is_named name d ≡ true
-          both_at None k k' = absurd (false≢true k)
-          both_at (Some x) k k' = sym (names.congr x name d k') ∙ k
+          old : Stands (is_attached acts name) (declarations acts name) (view_at w name b)
+          old = known_of name b eb
 
-          by : (b : Bool) → (link == s.link) ≡ b → (link == s.link) ≡ false
-          by false k = k
-          by true k = absurd (true≢false (sym (both_at (slice_get ns link) own (ap (λ z. is_at (slice_get ns z) name) (eqb-true link s.link k) ∙ (known_of name s e).own)) ∙ other))
+          same_end_ : old.its_end ≡ end_view s
+          same_end_ = its_end_is name b eb router r er s es
 
-      stays : (d : List ℕ) → is_named name d ≡ false → (v : Option View) → Holds (is_attached lines d) (declarations lines d) ns (all_links now.world.routers) d v →
-          Holds (is_attached lines' d) (declarations lines' d) ns (all_links w'.routers) d v
-      stays d other None k = (attached_now d ∙ k.0, said_now d ∙ k.1, links_now d ∙ ap (map (changed_on s.link change)) k.2)
-      stays d other (Some v) k = record {
-        is_there = attached_now d ∙ k.is_there;
-        peer = k.peer;
-        rows = k.rows;
-        one = links_now d ∙ ap (map (changed_on s.link change)) k.one
-            ∙ ap (λ b. cond b (link_with v.link k.peer (change k.rows)) (link_with v.link k.peer k.rows) ∷ []) (apart d v.link k.own other);
-        own = k.own;
-        flow = k.flow ∙ sym (said_now d);
-        ids_are = k.ids_are ∙ ap (map (λ y. y.id)) (sym (said_now d));
-      }
+          attached_now : is_attached acts' name ≡ is_attached acts name
+          attached_now = attached_more acts n (c.Handle router name) name
 
-      at : (d : List ℕ) (b : Bool) → is_named name d ≡ b → Holds (is_attached lines' d) (declarations lines' d) ns (all_links w'.routers) d (view (client_of w'.clients d))
-      at d true same = rw (view_now d true same) (hears_it d same)
-      at d false other = rw (view_now d false other) (stays d other (view (client_of now.world.clients d)) (h.each d))
+          said_now : declarations acts' name ≡ declarations acts name
+          said_now = declarations_more acts n (c.Handle router name) name
+
+          no_router : is_router k.peer.role ≡ false
+          no_router = sound.roles router name r k er k_found ∙ by (is_some (router_of w.routers name)) refl
+            where
+              by : (z : Bool) → is_some (router_of w.routers name) ≡ z → z ≡ false
+              by false g = refl
+              by true g = absurd (true≢false (sym (single router name (ap is_some er) g) ∙ sound.apart router name (ap is_some es)))
+
+          after_it : LinkState
+          after_it = record { link = k.link; peer = k.peer; subs = change k.subs }
+
+          joins_ : Joins (declarations acts name) (view_at w name b) old.its_end → Joins (declarations acts' name) (view_at w' name b) (end_view (with_wire s xs))
+          joins_ j = record {
+            up = ap (λ z. z.up) (sym same_end_) ∙ j.up;
+            its_link = after_it;
+            linked = ap (λ z. link_to (links_of (router_of w'.routers z)) name) at_home
+                ∙ read_after (λ o. link_to (links_of o) name) w.routers router router r (hearing r (From l msg)) er
+                ∙ ap (λ z. cond z (link_to (after r.node (From l msg)).links name) (link_to (links_of (router_of w.routers router)) name)) (names.refl router)
+                ∙ links_are name ∙ ap (option_map (changed_on l.0 change)) k_found
+                ∙ ap (λ z. Some (cond (z && not (is_router k.peer.role)) after_it k)) (eq-eqb k.link.0 l.0 k_number)
+                ∙ ap (λ z. Some (cond (not z) after_it k)) no_router;
+            flow = ap (λ z. map as_declaration (fold hear z (waiting xs))) (sym (hears k.subs))
+                ∙ ap (λ z. map as_declaration (fold hear k.subs z)) (sym (ap waiting front ∙ ap (λ z. z ++ waiting xs) news))
+                ∙ ap (λ (z : LinkState). map as_declaration (fold hear z.subs (waiting s.wire))) is_k
+                ∙ ap (λ z. map as_declaration (fold hear j.its_link.subs z.on_way)) (sym same_end_)
+                ∙ j.flow ∙ sym said_now;
+            ids_are = j.ids_are ∙ ap (map (λ y. y.id)) (sym said_now);
+          }
+            where
+              is_k : k ≡ j.its_link
+              is_k =
+                  let one : Some k ≡ Some j.its_link = sym k_found ∙ sym (ap (λ o. link_to (links_of o) name) er) ∙ sym (ap (λ z. link_to (links_of (router_of w.routers z)) name) at_home) ∙ j.linked in
+                  cc
+
+      told : (o : Option ClientState) → client_of w.clients name ≡ o → Holds (is_attached acts' name) (declarations acts' name) (view_of w' name o)
+      told None e = (attached_more acts n (c.Handle router name) name ∙ (known_none name e).0, declarations_more acts n (c.Handle router name) name ∙ (known_none name e).1)
+      told (Some b) e = hears_it b e
+
+      at : (b : Bool) → is_named name d ≡ b → Holds (is_attached acts' d) (declarations acts' d) (view w' d)
+      at true same = subst (λ (q : List ℕ). Holds (is_attached acts' q) (declarations acts' q) (view w' q)) (same_name name d same) (told (client_of w.clients name) refl)
+      at false other = no_news n (c.Handle router name) w' d refl refl
+          (same_view w' d refl (λ x. ends_are x d ∙ other_seen router name s (with_wire s xs) es d other x)
+          (links_kept router r (hearing r (From l msg)) er d (links_are d ∙ link_stays d other (link_to r.node.links d) refl)))
+
+  -- ---- a message is taken
+
+  taken_known : (n : ℕ) (router to : List ℕ) (r : RouterState) → router_of w.routers router ≡ Some r → (s : EndState) → end_of w.ends (router, to) ≡ Some s →
+      (msg : Msg) (tag : ℕ) (xs : List Tagged) → Known (acts ++ (n, c.Take router to) ∷ []) (on_take now router to s msg tag xs).world
+  taken_known n router to r er s es msg tag xs d =
+      no_news n (c.Take router to) (on_take now router to s msg tag xs).world d refl refl (same_view (on_take now router to s msg tag xs).world d refl
+      (λ x. ap seen (changed_absent half (to, router) (λ e. sent e msg tag) (x, d) absent) ∙ keep_with_end w.ends (router, to) (with_queue s xs) seen (x, d) s es refl)
+      (λ x. refl))
+    where
+      half : Ends
+      half = with_end w.ends (router, to) (with_queue s xs)
+
+      absent : end_of half (to, router) ≡ None
+      absent = not_there (end_of half (to, router)) (keep_with_end w.ends (router, to) (with_queue s xs) is_some (to, router) s es refl ∙ ap is_some (no_turned router to r er))
 
   -- ---- all acts
 
-  act_known : (n : ℕ) (act : Act) → IfSome (went now (outcome now.world n act)) (λ next. Known (lines ++ (n, act) ∷ []) next.world)
+  pub act_known : (n : ℕ) (act : Act) → IfSome (went now (outcome now.world n act)) (λ next. Known (acts ++ (n, act) ∷ []) next.world)
   unfolding outcome
-  act_known n (c.Router id) = for_router now (λ next. Known (lines ++ (n, c.Router id) ∷ []) next.world) id (router_known n id)
-  act_known n (c.Client id router) = for_client now (λ next. Known (lines ++ (n, c.Client id router) ∷ []) next.world) id router (client_known n id router)
-  act_known n (c.Sub client id key) = for_sub now (λ next. Known (lines ++ (n, c.Sub client id key) ∷ []) next.world) n client id key (sub_known n client id key)
-  act_known n (c.Unsub client id) = for_unsub now (λ next. Known (lines ++ (n, c.Unsub client id) ∷ []) next.world) n client id (unsub_known n client id)
-  act_known n (c.Publish client content) = for_publish now (λ next. Known (lines ++ (n, c.Publish client content) ∷ []) next.world) n client content (published_known n client content)
-  act_known n (c.Handle router name) = for_handle now (λ next. Known (lines ++ (n, c.Handle router name) ∷ []) next.world) router name by_message
+  act_known n (c.Router id) = for_router now (λ next. Known (acts ++ (n, c.Router id) ∷ []) next.world) id (λ free room alone. router_known n id free)
+  act_known n (c.Client id router) = for_client now (λ next. Known (acts ++ (n, c.Client id router) ∷ []) next.world) n id router (λ r er free room taken. client_known n id router r er free)
+  act_known n (c.Link one other) = for_link now (λ next. Known (acts ++ (n, c.Link one other) ∷ []) next.world) one other (λ apart r er q eq free room. link_known n one other apart r q er eq (on_link now one other).world)
+  act_known n (c.Up router name) = for_up now (λ next. Known (acts ++ (n, c.Up router name) ∷ []) next.world) n router name
+      (λ r er there s es unbroken down taken. up_known n router name r er s es unbroken down)
+  act_known n (c.Break router name) = for_break now (λ next. Known (acts ++ (n, c.Break router name) ∷ []) next.world) router name (λ r er there s es unbroken. break_known n router name r er s es)
+  act_known n (c.Down router name) = for_down now (λ next. Known (acts ++ (n, c.Down router name) ∷ []) next.world) n router name
+      (λ r er there s es up cut l el taken. down_known n router name r er s es cut l el)
+  act_known n (c.Sub client id key) = for_sub now (λ next. Known (acts ++ (n, c.Sub client id key) ∷ []) next.world) n client id key
+      (λ s es fresh e ee unbroken alone r er. sub_known n client id key s es fresh e ee unbroken r er)
+  act_known n (c.Unsub client id) = for_unsub now (λ next. Known (acts ++ (n, c.Unsub client id) ∷ []) next.world) n client id
+      (λ s es known e ee unbroken alone. unsub_known n client id s es e ee unbroken)
+  act_known n (c.Publish client content) = for_publish now (λ next. Known (acts ++ (n, c.Publish client content) ∷ []) next.world) n client content
+      (λ s es e ee unbroken alone. published_known n client content s e ee)
+  act_known n (c.Handle router name) = for_handle now (λ next. Known (acts ++ (n, c.Handle router name) ∷ []) next.world) router name by_message
     where
-      by_message : (r : RouterState) → router_of now.world.routers router ≡ Some r → (s : ClientState) → client_of now.world.clients name ≡ Some s →
-          (msg : Msg) (tag : ℕ) (xs : List Tagged) → s.wire ≡ record { msg = msg; tag = tag } ∷ xs →
-          Known (lines ++ (n, c.Handle router name) ∷ []) (on_handle now router name r s msg tag xs).world
-      by_message r er s e msg tag xs =
-          by_kind (λ z. s.wire ≡ record { msg = z; tag = tag } ∷ xs → Known (lines ++ (n, c.Handle router name) ∷ []) (on_handle now router name r s z tag xs).world)
-          (λ id key front. heard_known n router name r er s e (m.Sub id key) tag xs front (λ rows. declared rows id key) refl refl (λ rows. refl))
-          (λ id front. heard_known n router name r er s e (m.Unsub id) tag xs front (λ rows. undeclared rows id) refl refl (λ rows. refl))
-          (λ tree content front. unheard_known n router name r er s e (m.Push tree content) tag xs front refl refl)
-          (λ z silent front. unheard_known n router name r er s e z tag xs front silent.no_news (ap (λ node. node.links) (silent.keeps_nothing r.node (record { 0 = s.link }))))
-          msg
-  act_known n (c.Take router to) = for_take now (λ next. Known (lines ++ (n, c.Take router to) ∷ []) next.world) router to
-      (λ s e x xs front. unchanged lines n (c.Take router to) now.world (on_take now router to s x xs).world (λ d. refl) (λ d so_far. refl) h.one_router refl refl
-      (λ d. read_kept view now.world.clients to d s (with_queue s xs) e refl) h)
-  act_known n c.Mark = for_mark now (λ next. Known (lines ++ (n, c.Mark) ∷ []) next.world) n
-      (λ settled. unchanged lines n c.Mark now.world now.world (λ d. refl) (λ d so_far. refl) h.one_router refl refl (λ d. refl) h)
-
--- over any lines
-pub known_after : (rest done : List Numbered) (o : Option Moment) → IfSome o (λ now. Known done now.world) → IfSome (fold onward o rest) (λ now. Known (done ++ rest) now.world)
-known_after [] done None h = tt
-known_after [] done (Some now) h = subst (λ (z : List Numbered). Known z now.world) (sym (append-nil done)) h
-known_after (x ∷ xs) done o h =
-    subst (λ (z : List Numbered). IfSome (fold onward (onward o x) xs) (λ now. Known z now.world)) (append_assoc done (x ∷ []) xs)
-    (known_after xs (done ++ x ∷ []) (onward o x) (next o h))
-  where
-    next : (o : Option Moment) → IfSome o (λ now. Known done now.world) → IfSome (onward o x) (λ now. Known (done ++ x ∷ []) now.world)
-    next None h = tt
-    next (Some now) h = act_known done now h x.0 x.1
+      by_message : (r : RouterState) → router_of w.routers router ≡ Some r → is_taken w name ≡ true → (s : EndState) → end_of w.ends (router, name) ≡ Some s → s.up ≡ true →
+          (msg : Msg) (tag : ℕ) (xs : List Tagged) → s.wire ≡ record { msg = msg; tag = tag } ∷ xs → (l : LinkNo) → number_to r name ≡ Ok l →
+          Known (acts ++ (n, c.Handle router name) ∷ []) (on_handle now router name r s l msg tag xs).world
+      by_message r er there s es up msg tag xs front l el =
+          by_kind (λ z. s.wire ≡ record { msg = z; tag = tag } ∷ xs → Known (acts ++ (n, c.Handle router name) ∷ []) (on_handle now router name r s l z tag xs).world)
+          (λ id key front. heard_known n router name r er s es l el (m.Sub id key) tag xs front (λ rows. declared rows id key) refl refl (λ rows. refl))
+          (λ id front. heard_known n router name r er s es l el (m.Unsub id) tag xs front (λ rows. undeclared rows id) refl refl (λ rows. refl))
+          (λ tree content front. unheard_known n router name r er s es l (m.Push tree content) tag xs front refl refl)
+          (λ told front. unheard_known n router name r er s es l (m.State told) tag xs front refl refl)
+          (λ z silent front. unheard_known n router name r er s es l z tag xs front silent.no_news (ap (λ node. node.links) (silent.keeps_nothing r.node l.0)))
+          msg front
+  act_known n (c.Take router to) = for_take now (λ next. Known (acts ++ (n, c.Take router to) ∷ []) next.world) router to
+      (λ r er there s es up unbroken msg tag xs front. taken_known n router to r er s es msg tag xs)
+  act_known n c.Mark = for_mark now (λ next. Known (acts ++ (n, c.Mark) ∷ []) next.world) n (λ settled joined d. no_news n c.Mark now.world d refl refl refl)
+  act_known n (c.Show router) = for_show now (λ next. Known (acts ++ (n, c.Show router) ∷ []) next.world) router (λ r er d. no_news n (c.Show router) now.world d refl refl refl)

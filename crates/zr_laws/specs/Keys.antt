@@ -13,12 +13,17 @@ use Rattle.zr_guarantee.specs.Broker.{Declaration, asks_for}
 abbrev pub HasKeyText : Act → Type 0
 HasKeyText (a.Router id) = Unit {0}
 HasKeyText (a.Client id router) = Unit {0}
+HasKeyText (a.Link one other) = Unit {0}
+HasKeyText (a.Up router neighbour) = Unit {0}
+HasKeyText (a.Break router neighbour) = Unit {0}
+HasKeyText (a.Down router neighbour) = Unit {0}
 HasKeyText (a.Sub client id key) = IsKeyText key
 HasKeyText (a.Unsub client id) = Unit {0}
 HasKeyText (a.Publish client content) = IsKeyText content.key
 HasKeyText (a.Handle router from) = Unit {0}
 HasKeyText (a.Take router to) = Unit {0}
 HasKeyText a.Mark = Unit {0}
+HasKeyText (a.Show router) = Unit {0}
 
 -- so it is with each accepted act of a script's lines, wherever it stands
 abbrev pub KeysAreTexts : Type 0

@@ -3,6 +3,7 @@
 #![tactic(auto)]
 
 pub mod keys;
+pub mod networks;
 pub mod refines;
 pub mod rows;
 pub mod runs;

@@ -1,6 +1,5 @@
 -- What one act has done, and why a run stops at a line, a run or an act: an error is out of memory, or the refusal that is said.
 use Rattle.std.proofs.Common.{◌≡◌, ℕ, List, [], ◌++◌, Option, Some, None, Result, Ok, Err, refl, sym, ap, ◌∙◌, ◌⊎◌, inl, inr, subst}
-use Rattle.std.specs.Prelude.{option_to_list}
 use Rattle.std.specs.List.{flat_map}
 use Rattle.std.proofs.lemmas.Bool.{false≢true}
 use Rattle.zr_command.specs.declared.command.Act.{Act}
@@ -10,7 +9,6 @@ use Rattle.zr_command.specs.declared.report.ReportLine.{ReportLine}
 use Rattle.zr_language.specs.Report.{line_text}
 use Rattle.zr_language.specs.Step.{IsSaid}
 use Rattle.zr_network.specs.Acts.{Outcome, outcome}
-use Rattle.zr_network.specs.Next.{act_done}
 use Rattle.zr_network.specs.Run.{Run}
 use Rattle.zr_outside.specs.Told.{AppendsPrefix}
 use Rattle.zr_world.specs.Living.{Living, alive, Applies}
@@ -35,10 +33,14 @@ stops_by e.BadKey run earlier new a b prefix (inl h) = absurd (cc)
 stops_by e.BadKey run earlier new a b prefix (inr h) = h
 stops_by e.NotLinked run earlier new a b prefix (inl h) = absurd (cc)
 stops_by e.NotLinked run earlier new a b prefix (inr h) = h
+stops_by e.AlreadyLinked run earlier new a b prefix (inl h) = absurd (cc)
+stops_by e.AlreadyLinked run earlier new a b prefix (inr h) = h
 stops_by e.NothingThere run earlier new a b prefix (inl h) = absurd (cc)
 stops_by e.NothingThere run earlier new a b prefix (inr h) = h
 stops_by e.NotSettled run earlier new a b prefix (inl h) = absurd (cc)
 stops_by e.NotSettled run earlier new a b prefix (inr h) = h
+stops_by e.NotJoined run earlier new a b prefix (inl h) = absurd (cc)
+stops_by e.NotJoined run earlier new a b prefix (inr h) = h
 stops_by e.Limit run earlier new a b prefix (inl h) = absurd (cc)
 stops_by e.Limit run earlier new a b prefix (inr h) = h
 stops_by e.NoMemory run earlier new a b prefix h = prefix
@@ -51,8 +53,10 @@ error_is_said e.UnknownName said h = inr h
 error_is_said e.NameTaken said h = inr h
 error_is_said e.BadKey said h = inr h
 error_is_said e.NotLinked said h = inr h
+error_is_said e.AlreadyLinked said h = inr h
 error_is_said e.NothingThere said h = inr h
 error_is_said e.NotSettled said h = inr h
+error_is_said e.NotJoined said h = inr h
 error_is_said e.Limit said h = inr h
 error_is_said e.NoMemory said h = inl refl
 
@@ -65,8 +69,10 @@ error_of_act e.UnknownName said old new before after h = inr h.0
 error_of_act e.NameTaken said old new before after h = inr h.0
 error_of_act e.BadKey said old new before after h = inr h.0
 error_of_act e.NotLinked said old new before after h = inr h.0
+error_of_act e.AlreadyLinked said old new before after h = inr h.0
 error_of_act e.NothingThere said old new before after h = inr h.0
 error_of_act e.NotSettled said old new before after h = inr h.0
+error_of_act e.NotJoined said old new before after h = inr h.0
 error_of_act e.Limit said old new before after h = inr h.0
 error_of_act e.NoMemory said old new before after h = inl refl
 
@@ -83,7 +89,7 @@ act_stops k m act world before after a error applies number pending =
         (error ≡ e.NoMemory) ⊎ (((run_by k act).refusal ≡ Some error) × (m.number ≡ (run_by k act).number) × Written (k.pending ++ (run_by k act).text) m.pending a a)
     by (inl h) = inl h
     by (inr h) =
-        let run : run_by k act ≡ run_behind k (Err error) = ap (λ o. run_behind k (act_done o)) h in
+        let run : run_by k act ≡ run_behind k (Err error) = ap (λ o. run_behind k o) h in
         inr (subst (λ (r : Run). (r.refusal ≡ Some error) × (m.number ≡ r.number) × Written (k.pending ++ r.text) m.pending a a) (sym run)
         (refl, number, subst (λ (z : List ℕ). Written (k.pending ++ []) z a a) (sym pending) (nothing_said k.pending a)))
 
@@ -93,11 +99,11 @@ pub act_is_done : (k : Kept) (act : Act) (world : Living) (report : List ReportL
 act_is_done k act world report u applies = by (outcome k.world.state k.number act) applies
   where
     by : (o : Outcome) → Applies (Ok u) o k.world world [] report →
-        (run_behind k (act_done o) ≡ record { world = world.state; number = k.number; text = flat_map line_text report; refusal = None }) × (world ≡ alive world.state)
+        (run_behind k o ≡ record { world = world.state; number = k.number; text = flat_map line_text report; refusal = None }) × (world ≡ alive world.state)
     by (Ok x) h =
         let there : world ≡ alive x.1 = h.0.0 in
         let state : x.1 ≡ world.state = sym (ap (λ (w : Living). w.state) there) in
-        let lines : option_to_list x.0 ≡ report = sym h.0.1 in
+        let lines : x.0 ≡ report = sym h.0.1 in
         (λ i. record { world = state i; number = k.number; text = flat_map line_text (lines i); refusal = None }, there ∙ ap alive state)
     by (Err error) h = absurd (false≢true h.1)
 

@@ -2,7 +2,7 @@
 -- report lines so far are behind what waited before, and with what the steps that are left come to they are what the whole run says (`IsAhead`).
 -- `starts` begins it, `goes_on` is a step that was done, `ends` the last line; `stops` is a step at which memory or a write failed.
 use Rattle.std.proofs.Common.{◌≡◌, ℕ, zero, suc, ◌+◌, ◌<◌, true, false, List, [], ◌∷◌, ◌++◌, Option, Some, None, Result, Ok, Err, refl, sym, ap, ◌∙◌, ◌⊎◌, inl, inr, append_assoc, append-nil, arith, subst}
-use Rattle.std.specs.Prelude.{is_none, is_ok, option_to_list, IfOk}
+use Rattle.std.specs.Prelude.{is_none, is_ok, IfOk}
 use Rattle.std.specs.List.{flat_map}
 use Rattle.std.proofs.lemmas.Bool.{true≢false, false≢true}
 use Rattle.std.proofs.lemmas.Grind.{flat_map-append}
@@ -20,7 +20,7 @@ use Rattle.zr_language.specs.Report.{line_text}
 use Rattle.zr_network.specs.Sound.{IsSound}
 use Rattle.zr_network.specs.World.{WorldState}
 use Rattle.zr_network.specs.Acts.{Outcome, outcome}
-use Rattle.zr_network.specs.Next.{Done, next, book_step, act_done, applied}
+use Rattle.zr_network.specs.Next.{Done, next, book_step, applied}
 use Rattle.zr_network.specs.Run.{Run, stepped, commanded, on_line}
 use Rattle.zr_network.proofs.Next.{one_act, IsAhead, ahead_at_start, ahead_by_step, closes, ran, applied_run, run_ends, run_prefix, run_refused}
 use Rattle.zr_network.proofs.Sound.{act_keeps, next_goes, run_goes}
@@ -126,21 +126,21 @@ pub record IsRunning (k0 : Kept) (steps done : ℕ) (k : Kept) (a b : Option (Li
   pub at : IsAt (run_behind k0 (Ok (lines, k.world.state))) k0.line k0.pending k a b
 
 -- a step that was done: what was said of it, and the world after it
-record IsStep (k0 k : Kept) (step : Act) (x : Option ReportLine × WorldState) : Type 0 where
+record IsStep (k0 k : Kept) (step : Act) (x : List ReportLine × WorldState) : Type 0 where
   is_next : next k.world.state ≡ Some step
   is_done : outcome k.world.state k0.number step ≡ Ok x
-  is_all : act_done (outcome k.world.state k.number step) ≡ Ok (option_to_list x.0, x.1)
+  is_all : outcome k.world.state k.number step ≡ Ok x
 
 -- the step that is next is possible
 the_step : (k0 k : Kept) (step : Act) → k.number ≡ k0.number → IsSound k.world.state → next k.world.state ≡ Some step →
-    (x : Option ReportLine × WorldState) × IsStep k0 k step x
+    (x : List ReportLine × WorldState) × IsStep k0 k step x
 the_step k0 k step number sound is_next =
     let x = ok_is (outcome k.world.state k0.number step) (next_goes k.world.state k0.number step sound is_next) in (
       x.0,
       record {
         is_next = is_next;
         is_done = x.1;
-        is_all = ap (λ n. act_done (outcome k.world.state n step)) number ∙ ap act_done x.1;
+        is_all = ap (λ n. outcome k.world.state n step) number ∙ x.1;
       },
     )
 
@@ -191,12 +191,12 @@ module _ (k0 : Kept) (steps : ℕ) (a : Option (List ℕ)) where
   text_more lines more p b h = subst (λ (z : List ℕ). Written (k0.pending ++ z) p a b) (sym (flat_map-append line_text lines more)) h
 
   -- what a step did, behind the run so far
-  step_behind : (done : ℕ) (k m : Kept) (b c : Option (List ℕ)) (step : Act) (x : Option ReportLine × WorldState) (more : ℕ) (h : IsRunning k0 steps done k a b) → h.left ≡ suc more →
+  step_behind : (done : ℕ) (k m : Kept) (b c : Option (List ℕ)) (step : Act) (x : List ReportLine × WorldState) (more : ℕ) (h : IsRunning k0 steps done k a b) → h.left ≡ suc more →
       IsStep k0 k step x → IsAt (run_by k step) k.line k.pending m b c → IsRunning k0 steps (done + 1) m a c
   step_behind done k m b c step x more h is_left s turn =
-      let here : IsAt (run_behind k (Ok (option_to_list x.0, x.1))) k.line k.pending m b c = subst (λ (d : Done). IsAt (run_behind k d) k.line k.pending m b c) s.is_all turn in
-      let both : IsAt (with_text (flat_map line_text h.lines) (run_behind k (Ok (option_to_list x.0, x.1)))) k.line k0.pending m a c =
-      turn_behind (flat_map line_text h.lines) k0.pending (run_behind k (Ok (option_to_list x.0, x.1))) k.line k.pending m a b c (Ok tt) h.at.text here in
+      let here : IsAt (run_behind k (Ok x)) k.line k.pending m b c = subst (λ (d : Done). IsAt (run_behind k d) k.line k.pending m b c) s.is_all turn in
+      let both : IsAt (with_text (flat_map line_text h.lines) (run_behind k (Ok x))) k.line k0.pending m a c =
+      turn_behind (flat_map line_text h.lines) k0.pending (run_behind k (Ok x)) k.line k.pending m a b c (Ok tt) h.at.text here in
       let state : m.world.state ≡ x.1 = ap (λ (z : Living). z.state) both.world in
       let spent : m.world.spent ≡ false = ap (λ (z : Living). z.spent) both.world in
       record {
@@ -206,15 +206,15 @@ module _ (k0 : Kept) (steps : ℕ) (a : Option (List ℕ)) where
         sound = subst IsSound (sym state) (subst (λ (o : Outcome). IfOk o (λ y. IsSound y.1)) s.is_done (act_keeps k.world.state k0.number step h.sound));
         left = more;
         sum = let sum : done + h.left ≡ steps = h.sum in omega arith;
-        lines = h.lines ++ option_to_list x.0;
-        ahead = subst (λ (w : WorldState). IsAhead k0.number steps h.start (done + 1) more w (h.lines ++ option_to_list x.0)) (sym state)
+        lines = h.lines ++ x.0;
+        ahead = subst (λ (w : WorldState). IsAhead k0.number steps h.start (done + 1) more w (h.lines ++ x.0)) (sym state)
             (ahead_by_step k0.number steps h.start done h.left more k.world.state h.lines step x h.ahead is_left s.is_next s.is_done);
         at = record {
           world = λ i. record { state = m.world.state; spent = spent i };
           number = both.number ∙ h.at.number;
           line_is = both.line_is ∙ h.at.line_is;
           refusal = refl;
-          text = text_more h.lines (option_to_list x.0) m.pending c both.text;
+          text = text_more h.lines x.0 m.pending c both.text;
         };
       }
 
@@ -278,14 +278,14 @@ module _ (k0 : Kept) (steps : ℕ) (a : Option (List ℕ)) where
       StepsOn (next k.world.state) (Err stop) k m b c → Turns (Err stop) (run_behind k0 whole) l k0.pending m a c
   stops done k m l b c stop h less moves = by (next k.world.state) refl moves
     where
-      at_step : (step : Act) (x : Option ReportLine × WorldState) → IsStep k0 k step x → (more : ℕ) → h.left ≡ suc more → (stop : Stop) →
-          Stopped stop (run_behind k (Ok (option_to_list x.0, x.1))) k.pending m b c → Stopped stop (run_behind k0 whole) k0.pending m a c
+      at_step : (step : Act) (x : List ReportLine × WorldState) → IsStep k0 k step x → (more : ℕ) → h.left ≡ suc more → (stop : Stop) →
+          Stopped stop (run_behind k (Ok x)) k.pending m b c → Stopped stop (run_behind k0 whole) k0.pending m a c
       at_step step x s more is_left (Refused e) t = absurd (cc (t.0))
       at_step step x s more is_left NoMemory t =
-          prefix_of h.start (done + 1) more x.1 h.lines (option_to_list x.0) b c k.pending h.start_sound h.fits
+          prefix_of h.start (done + 1) more x.1 h.lines x.0 b c k.pending h.start_sound h.fits
           (ahead_by_step k0.number steps h.start done h.left more k.world.state h.lines step x h.ahead is_left s.is_next s.is_done) h.at.text t
       at_step step x s more is_left WriteFault t =
-          prefix_of h.start (done + 1) more x.1 h.lines (option_to_list x.0) b c k.pending h.start_sound h.fits
+          prefix_of h.start (done + 1) more x.1 h.lines x.0 b c k.pending h.start_sound h.fits
           (ahead_by_step k0.number steps h.start done h.left more k.world.state h.lines step x h.ahead is_left s.is_next s.is_done) h.at.text t
 
       by : (o : Option Act) → next k.world.state ≡ o → StepsOn o (Err stop) k m b c → Stopped stop (run_behind k0 whole) k0.pending m a c

@@ -6,7 +6,7 @@ use Rattle.zr_command.specs.declared.error.ScriptError.{ScriptError}
 use Rattle.zr_command.specs.declared.error.ScriptError.TheVariants as e
 use Rattle.zr_language.specs.Report.{line_text, refused_text}
 use Rattle.zr_network.specs.Acts.{outcome}
-use Rattle.zr_network.specs.Next.{Done, act_done}
+use Rattle.zr_network.specs.Next.{Done}
 use Rattle.zr_network.specs.Run.{Run}
 use Rattle.zr_outside.specs.Told.{Appends, AppendsPrefix}
 use Rattle.zr_world.specs.Living.{Living}
@@ -65,7 +65,7 @@ run_behind k (Err e) = record { world = k.world.state; number = k.number; text =
 
 -- the run behind one act
 abbrev pub run_by : Kept → Act → Run
-run_by k act = run_behind k (act_done (outcome k.world.state k.number act))
+run_by k act = run_behind k (outcome k.world.state k.number act)
 
 -- What a step of a run has done, where this is the next one: without one nothing is done.
 abbrev pub StepsOn : Option Act → Result Bool Stop → Kept → Kept → Option (List ℕ) → Option (List ℕ) → Type 0
@@ -82,8 +82,10 @@ stop_of e.UnknownName = Refused e.UnknownName
 stop_of e.NameTaken = Refused e.NameTaken
 stop_of e.BadKey = Refused e.BadKey
 stop_of e.NotLinked = Refused e.NotLinked
+stop_of e.AlreadyLinked = Refused e.AlreadyLinked
 stop_of e.NothingThere = Refused e.NothingThere
 stop_of e.NotSettled = Refused e.NotSettled
+stop_of e.NotJoined = Refused e.NotJoined
 stop_of e.Limit = Refused e.Limit
 stop_of e.NoMemory = NoMemory
 

@@ -41,7 +41,7 @@ pub enum Stop {
 }
 
 /// A script's run so far.
-#[derive(Debug, Drop)]
+#[derive(Drop)]
 pub struct Runner {
     alloc: Global,
     world: World,
@@ -112,7 +112,7 @@ impl Runner {
         ensures fault { result ≡ Err Stop.WriteFault → Rose (K.faults out.old) (K.faults out.new) }
         ensures later { K.faults out.old ≤ K.faults out.new }
     {
-        self.end_last(out)?;
+        self.end_last_line(out)?;
         self.flush(out)
     }
 
@@ -143,11 +143,11 @@ impl Runner {
             self.end_line(&rest[..place], out)?;
             rest = &rest[place + 1..];
         }
-        self.keep(rest)
+        self.keep_part(rest)
     }
 
     // What was kept is the last line, unless it has no bytes.
-    fn end_last<K: Sink>(&mut self, out: &mut K) -> Result<(), Stop>
+    fn end_last_line<K: Sink>(&mut self, out: &mut K) -> Result<(), Stop>
         requires alive { self.old.world.spent ≡ false }
         requires room { self.old.number < 2 ^ 63 }
         ensures turn { Turns result (fold on_line (fresh self.old) (unless_empty self.old.line)) [] self.old.pending self.new (K.held out.old) (K.held out.new) }
@@ -175,7 +175,7 @@ impl Runner {
         if self.line.is_empty() {
             return self.on_line(part, out);
         }
-        self.keep(part)?;
+        self.keep_part(part)?;
         let line = mem::replace(&mut self.line, Vec::new(self.alloc));
         self.on_line(&line, out)
     }
@@ -189,16 +189,16 @@ impl Runner {
         ensures count { self.new.number ≤ self.old.number + 1 }
         ensures later { K.faults out.old ≤ K.faults out.new }
     {
-        self.count();
+        self.count_line();
         match read_line(self.alloc, line)? {
             None => Ok(()),
-            Some(Command::Act { act }) => self.apply(act, out),
+            Some(Command::Act { act }) => self.do_act(act, out),
             Some(Command::Run { steps }) => self.run(steps, out),
         }
     }
 
     // One more line has ended. This stands apart, so that what follows has to do with a whole runner.
-    fn count(&mut self)
+    fn count_line(&mut self)
         requires room { self.old.number < 2 ^ 63 }
         ensures { self.new ≡ record { world = self.old.world; number = self.old.number + 1; line = self.old.line; pending = self.old.pending } }
     {
@@ -206,7 +206,7 @@ impl Runner {
     }
 
     // An act is applied; what it reports waits, and is written once enough waits.
-    fn apply<K: Sink>(&mut self, act: Act, out: &mut K) -> Result<(), Stop>
+    fn do_act<K: Sink>(&mut self, act: Act, out: &mut K) -> Result<(), Stop>
         requires alive { self.old.world.spent ≡ false }
         ensures turn { Turns result (run_by self.old act) self.old.line self.old.pending self.new (K.held out.old) (K.held out.new) }
         ensures waits { length self.new.pending < most_pending }
@@ -230,9 +230,9 @@ impl Runner {
         ensures count { self.new.number ≡ self.old.number }
         ensures later { K.faults out.old ≤ K.faults out.new }
     {
-        self.book(steps)?;
+        self.count_steps(steps)?;
         for done in 0..steps {
-            if !self.do_next(out)? {
+            if !self.do_next_step(out)? {
                 return self.end_run(done, out);
             }
         }
@@ -240,7 +240,7 @@ impl Runner {
     }
 
     // The steps that a run asks for are counted, which is all for which it may be refused.
-    fn book(&mut self, steps: u32) -> Result<(), ScriptError>
+    fn count_steps(&mut self, steps: u32) -> Result<(), ScriptError>
         requires alive { self.old.world.spent ≡ false }
         ensures books { Books result (book_step self.old.world.state steps) self.old.world self.new.world }
         ensures sound { OnOk result (IsSound self.new.world.state) }
@@ -250,7 +250,7 @@ impl Runner {
     }
 
     // The next step of a run is done, where one is possible; the answer says whether it was.
-    fn do_next<K: Sink>(&mut self, out: &mut K) -> Result<bool, Stop>
+    fn do_next_step<K: Sink>(&mut self, out: &mut K) -> Result<bool, Stop>
         requires alive { self.old.world.spent ≡ false }
         ensures steps { StepsOn (next self.old.world.state) result self.old self.new (K.held out.old) (K.held out.new) }
         ensures fault { result ≡ Err Stop.WriteFault → Rose (K.faults out.old) (K.faults out.new) }
@@ -260,7 +260,7 @@ impl Runner {
         match self.world.next() {
             None => Ok(false),
             Some(step) => {
-                self.apply(step, out)?;
+                self.do_act(step, out)?;
                 Ok(true)
             }
         }
@@ -281,7 +281,7 @@ impl Runner {
     }
 
     // What has come of a line is kept, as far as it matters.
-    fn keep(&mut self, part: &[u8]) -> Result<(), Stop>
+    fn keep_part(&mut self, part: &[u8]) -> Result<(), Stop>
         requires { parts part.now ≡ part.now ∷ [] }
         ensures ok { OnOk result (self.new ≡ record { world = self.old.world; number = self.old.number; line = take most_kept (self.old.line ++ part.now); pending = self.old.pending }) }
         ensures err { OnErr result (result ≡ Err Stop.NoMemory) }

@@ -1,87 +1,112 @@
--- What each step of a world comes to where it is accepted. To show something of the moment after a step it is enough to
--- show it there: a refused step leads to no moment. Each lemma hands on what the step looked up, with its equation.
-use Rattle.std.proofs.Common.{◌≡◌, ℕ, Bool, true, false, cond, List, [], ◌∷◌, ◌++◌, length, Option, Some, None, Result, Ok, Err, refl, sym, ap, subst}
-use Rattle.std.specs.Prelude.{◌+◌, ◌==◌, nat_le, is_some, is_ok, IfSome}
-use Rattle.std.specs.List.{list_any}
+-- What each act of a world comes to where it is accepted. To show something of the moment after an act it is enough to
+-- show it there: a refused act leads to no moment. Each lemma hands on what the act looked up, with its equation.
+use Rattle.std.proofs.Common.{◌≡◌, ℕ, Bool, true, false, cond, not, List, [], ◌∷◌, ◌++◌, length, Option, Some, None, Result, Ok, Err, refl, sym, ap, subst}
+use Rattle.std.specs.Prelude.{◌+◌, ◌&&◌, nat_le, is_some, is_ok, IfSome}
 use Rattle.std.specs.Ordering.{nat_cmp}
 use Rattle.std.specs.Cmp.Lexicographic.{slice_cmp}
 use Rattle.std.specs.BTreeMap.{insert_entry}
-use Rattle.std.proofs.lemmas.Bool.{true≢false, false≢true, or_parts}
+use Rattle.std.proofs.lemmas.Bool.{false≢true, or_parts}
+use Rattle.zr_id.specs.Zid.{is_named}
+use Rattle.zr_id.specs.declared.link.LinkNo.{LinkNo}
 use Rattle.zr_msg.specs.declared.content.Parts.{Parts}
+use Rattle.zr_msg.specs.declared.error.NodeError.{NodeError}
 use Rattle.zr_msg.specs.declared.msg.Msg.{Msg}
 use Rattle.zr_msg.specs.declared.msg.Msg.TheVariants as m
-use Rattle.zr_msg.specs.declared.event.Event.TheVariants.{From}
+use Rattle.zr_msg.specs.declared.event.Event.{Event}
+use Rattle.zr_msg.specs.declared.event.Event.TheVariants.{Down, From}
+use Rattle.zr_msg.specs.declared.peer.Role.TheVariants as role
 use Rattle.zr_command.specs.declared.error.ScriptError.{ScriptError}
-use Rattle.zr_command.specs.declared.error.ScriptError.TheVariants.{NameTaken, NotLinked, NotSettled, Limit}
+use Rattle.zr_command.specs.declared.error.ScriptError.TheVariants.{NotLinked, Limit}
 use Rattle.zr_command.specs.declared.report.ReportLine.TheVariants as line
-use Rattle.zr_table.specs.Table.{sends}
+use Rattle.zr_table.specs.State.{LinkState, link_to}
+use Rattle.zr_table.specs.Table.{refuses}
 use Rattle.zr_language.specs.Step.{◌>>=◌}
-use Rattle.zr_id.specs.Zid.{is_named}
-use Rattle.zr_network.specs.World.{Tagged, ClientState, RouterState, Routers, is_taken, router_of, client_of, with_tables, with_router, with_client, sent, declaring, undeclaring, with_wire, with_queue, all_queued, all_settled, most_weight, weight_of, new_router, new_client}
-use Rattle.zr_network.specs.Acts.{Outcome, router_at, client_at, end_at, oldest, free_name, first_router, room_for_client, fresh_id, known_id, weighed, weighing, linked, having, router_step, client_step, sub_step, unsub_step, publish_step, handle_step, take_step, mark_step}
+use Rattle.zr_network.specs.World.{Tagged, ClientState, RouterState, EndState, Routers, WorldState, with_routers, with_clients, with_ends, in_use, new_router, new_client, new_end, router_of, client_of, with_router, with_client, is_taken, end_of, with_end, put_end, most_routers, most_clients, most_links, most_weight, weight_of, is_in_place, links_in_place, sent, with_wire, with_queue, broken, lifted, lowered, changed, is_settled}
+use Rattle.zr_network.specs.Joined.{is_joined}
+use Rattle.zr_network.specs.Acts.{Outcome, unless, router_at, client_at, end_at, oldest, has_id, is_alone, weighing, weighed, declaring, undeclaring, heard, heard_by, hears, peer_of, up_event, number_at, number_to, shown, client_sends, router_step, client_step, link_step, up_step, break_step, down_step, sub_step, unsub_step, publish_step, handle_step, take_step, mark_step, show_step}
 use Rattle.zr_network.specs.Moments.{Moment, went}
+
+-- ---- the worlds that acts lead to
+
+-- a client came, and its router has heard that the link to it is up
+abbrev pub w_client : WorldState → ℕ → List ℕ → List ℕ → RouterState → WorldState
+w_client w n id router r =
+    let v : WorldState = heard (with_ends w (put_end w.ends (router, id) (lifted new_end))) router r (up_event r (record { id = id; role = role.Client })) n in
+    with_clients v (insert_entry (slice_cmp nat_cmp) w.clients id (new_client router))
+
+abbrev pub w_link : WorldState → List ℕ → List ℕ → WorldState
+w_link w one other = with_ends w (put_end (put_end w.ends (one, other) new_end) (other, one) new_end)
+
+abbrev pub w_up : WorldState → ℕ → List ℕ → List ℕ → RouterState → EndState → WorldState
+w_up w n router name r s = heard (with_ends w (with_end w.ends (router, name) (lifted s))) router r (up_event r (peer_of w name)) n
+
+abbrev pub w_break : WorldState → List ℕ → List ℕ → WorldState
+w_break w router name = with_ends w (changed (changed w.ends (router, name) broken) (name, router) broken)
+
+abbrev pub w_down : WorldState → ℕ → List ℕ → List ℕ → RouterState → LinkNo → WorldState
+w_down w n router name r l = let v : WorldState = heard w router r (Down l) n in with_ends v (changed v.ends (router, name) lowered)
+
+-- a client's message is on the wire
+abbrev pub w_sent : WorldState → ℕ → List ℕ → ClientState → EndState → Msg → WorldState
+w_sent w n name s e msg = in_use (with_ends w (with_end w.ends (s.router, name) (sent e msg n)))
+
+abbrev pub w_sub : WorldState → ℕ → List ℕ → ℕ → List ℕ → ClientState → EndState → RouterState → WorldState
+w_sub w n name id key s e r =
+    let v : WorldState = w_sent w n name s e (m.Sub id key) in with_clients (with_routers v (with_router w.routers s.router (weighing r key))) (with_client w.clients name (declaring s id))
+
+abbrev pub w_unsub : WorldState → ℕ → List ℕ → ℕ → ClientState → EndState → WorldState
+w_unsub w n name id s e = with_clients (w_sent w n name s e (m.Unsub id)) (with_client w.clients name (undeclaring s id))
+
+abbrev pub w_handle : WorldState → List ℕ → List ℕ → RouterState → EndState → LinkNo → Msg → ℕ → List Tagged → WorldState
+w_handle w router from r s l msg tag xs = heard (with_ends w (with_end w.ends (router, from) (with_wire s xs))) router r (From l msg) tag
+
+abbrev pub w_take : WorldState → List ℕ → List ℕ → EndState → Msg → ℕ → List Tagged → WorldState
+w_take w router to s msg tag xs = with_ends w (changed (with_end w.ends (router, to) (with_queue s xs)) (to, router) (λ e. sent e msg tag))
 
 -- ---- the moments
 
 abbrev pub on_router : Moment → List ℕ → Moment
-on_router now id = record {
-  world = with_tables now.world (insert_entry (slice_cmp nat_cmp) now.world.routers id new_router) now.world.clients;
-  report = now.report ++ [];
-}
+on_router now id = record { world = with_routers now.world (insert_entry (slice_cmp nat_cmp) now.world.routers id (new_router id)); report = now.report ++ [] }
 
-abbrev pub on_client : Moment → List ℕ → List ℕ → RouterState → Moment
-on_client now id router r = record {
-  world = record {
-    routers = with_router now.world.routers router (linked r (length now.world.names) id);
-    clients = insert_entry (slice_cmp nat_cmp) now.world.clients id (new_client router (length now.world.names));
-    names = now.world.names ++ id ∷ [];
-    booked = now.world.booked;
-  };
-  report = now.report ++ [];
-}
+abbrev pub on_client : Moment → ℕ → List ℕ → List ℕ → RouterState → Moment
+on_client now n id router r = record { world = w_client now.world n id router r; report = now.report ++ [] }
 
-abbrev pub on_sub : Moment → ℕ → List ℕ → ℕ → List ℕ → ClientState → RouterState → Moment
-on_sub now n name id key s r = record {
-  world = with_tables now.world (with_router now.world.routers s.router (weighing r key)) (with_client now.world.clients name (sent (declaring s id) (m.Sub id key) n));
-  report = now.report ++ [];
-}
+abbrev pub on_link : Moment → List ℕ → List ℕ → Moment
+on_link now one other = record { world = w_link now.world one other; report = now.report ++ [] }
 
-abbrev pub on_unsub : Moment → ℕ → List ℕ → ℕ → ClientState → Moment
-on_unsub now n name id s = record {
-  world = with_tables now.world now.world.routers (with_client now.world.clients name (sent (undeclaring s id) (m.Unsub id) n));
-  report = now.report ++ [];
-}
+abbrev pub on_up : Moment → ℕ → List ℕ → List ℕ → RouterState → EndState → Moment
+on_up now n router name r s = record { world = w_up now.world n router name r s; report = now.report ++ [] }
 
-abbrev pub on_publish : Moment → ℕ → List ℕ → Parts → ClientState → Moment
-on_publish now n name content s = record {
-  world = with_tables now.world now.world.routers (with_client now.world.clients name (sent s (m.Push None content) n));
-  report = now.report ++ [];
-}
+abbrev pub on_break : Moment → List ℕ → List ℕ → Moment
+on_break now router name = record { world = w_break now.world router name; report = now.report ++ [] }
 
-abbrev pub on_handle : Moment → List ℕ → List ℕ → RouterState → ClientState → Msg → ℕ → List Tagged → Moment
-on_handle now router name r s msg tag xs = record {
-  world = with_tables now.world (with_router now.world.routers router (having r s.link msg))
-      (all_queued (with_client now.world.clients name (with_wire s xs)) now.world.names (sends r.node (From (record { 0 = s.link }) msg)) tag);
-  report = now.report ++ line.Handled router name msg tag ∷ [];
-}
+abbrev pub on_down : Moment → ℕ → List ℕ → List ℕ → RouterState → LinkNo → Moment
+on_down now n router name r l = record { world = w_down now.world n router name r l; report = now.report ++ [] }
 
-abbrev pub on_take : Moment → List ℕ → List ℕ → ClientState → Tagged → List Tagged → Moment
-on_take now router to s x xs = record {
-  world = with_tables now.world now.world.routers (with_client now.world.clients to (with_queue s xs));
-  report = now.report ++ line.Taken router to x.msg x.tag ∷ [];
-}
+abbrev pub on_sub : Moment → ℕ → List ℕ → ℕ → List ℕ → ClientState → EndState → RouterState → Moment
+on_sub now n name id key s e r = record { world = w_sub now.world n name id key s e r; report = now.report ++ [] }
+
+abbrev pub on_unsub : Moment → ℕ → List ℕ → ℕ → ClientState → EndState → Moment
+on_unsub now n name id s e = record { world = w_unsub now.world n name id s e; report = now.report ++ [] }
+
+abbrev pub on_publish : Moment → ℕ → List ℕ → Parts → ClientState → EndState → Moment
+on_publish now n name content s e = record { world = w_sent now.world n name s e (m.Push None content); report = now.report ++ [] }
+
+abbrev pub on_handle : Moment → List ℕ → List ℕ → RouterState → EndState → LinkNo → Msg → ℕ → List Tagged → Moment
+on_handle now router from r s l msg tag xs = record { world = w_handle now.world router from r s l msg tag xs; report = now.report ++ line.Handled router from msg tag ∷ [] }
+
+abbrev pub on_take : Moment → List ℕ → List ℕ → EndState → Msg → ℕ → List Tagged → Moment
+on_take now router to s msg tag xs = record { world = w_take now.world router to s msg tag xs; report = now.report ++ line.Taken router to msg tag ∷ [] }
 
 abbrev pub on_mark : Moment → ℕ → Moment
 on_mark now n = record { world = now.world; report = now.report ++ line.Mark n ∷ [] }
 
+abbrev pub on_show : Moment → List ℕ → RouterState → Moment
+on_show now router r = record { world = now.world; report = now.report ++ line.Show router ∷ shown r.node.base }
+
 -- ---- what a reading that is not refused has read
 
--- a look-up that found nothing
-pub not_there : {X : Type 0} (o : Option X) → is_some o ≡ false → o ≡ None
-not_there None h = refl
-not_there (Some x) h = absurd (true≢false h)
-
-router_found : (o : Option RouterState) (r : RouterState) → router_at o ≡ Ok r → o ≡ Some r
+pub router_found : (o : Option RouterState) (r : RouterState) → router_at o ≡ Ok r → o ≡ Some r
 router_found None r h = absurd (false≢true (ap is_ok h))
 router_found (Some r') r h = cc
 
@@ -89,22 +114,21 @@ client_found : (o : Option ClientState) (s : ClientState) → client_at o ≡ Ok
 client_found None s h = absurd (false≢true (ap is_ok h))
 client_found (Some s') s h = cc
 
-end_found : (o : Option ClientState) (b : Bool) (router : List ℕ) (s : ClientState) → end_at o b router ≡ Ok s → o ≡ Some s
-end_found None true router s h = absurd (false≢true (ap is_ok h))
-end_found None false router s h = absurd (false≢true (ap is_ok h))
-end_found (Some s') b router s h = by (is_named s'.router router) h
-  where
-    by : (b : Bool) → cond b (Ok s') (Err NotLinked) ≡ Ok s → Some s' ≡ Some s
-    by true h = cc
-    by false h = absurd (false≢true (ap is_ok h))
+pub end_found : (o : Option EndState) (s : EndState) → end_at o ≡ Ok s → o ≡ Some s
+end_found None s h = absurd (false≢true (ap is_ok h))
+end_found (Some s') s h = cc
 
-oldest_found : (ws : List Tagged) (x : Tagged × List Tagged) → oldest ws ≡ Ok x → ws ≡ x.0 ∷ x.1
+pub oldest_found : (ws : List Tagged) (x : Tagged × List Tagged) → oldest ws ≡ Ok x → ws ≡ x.0 ∷ x.1
 oldest_found [] x h = absurd (false≢true (ap is_ok h))
 oldest_found (y ∷ ys) x h = cc
 
-free_found : (b : Bool) (u : Unit {0}) → cond b (Err NameTaken) (Ok tt) ≡ Ok u → b ≡ false
-free_found true u h = absurd (false≢true (ap is_ok h))
-free_found false u h = refl
+-- the link of a number to a neighbour
+pub number_found : (r : RouterState) (name : List ℕ) (l : LinkNo) → number_to r name ≡ Ok l → (k : LinkState) × (link_to r.node.links name ≡ Some k) × (k.link ≡ l)
+number_found r name l h = by (link_to r.node.links name) h
+  where
+    by : (o : Option LinkState) → number_at o ≡ Ok l → (k : LinkState) × (o ≡ Some k) × (k.link ≡ l)
+    by None h = absurd (false≢true (ap is_ok h))
+    by (Some k) h = (k, refl, cc)
 
 weighed_found : (routers : Routers) (name key : List ℕ) (o : Option RouterState) (rs : Routers) → weighed routers name key o ≡ Ok rs →
     (r : RouterState) × (o ≡ Some r) × (rs ≡ with_router routers name (weighing r key))
@@ -115,84 +139,172 @@ weighed_found routers name key (Some r) rs h = by (nat_le (r.weight + weight_of 
     by true k = (r, refl, cc)
     by false k = absurd (false≢true (ap is_ok k))
 
+-- a name that is not taken is that of no router and of no client
+pub free_name : (w : WorldState) (name : List ℕ) → is_taken w name ≡ false → (is_some (router_of w.routers name) ≡ false) × (is_some (client_of w.clients name) ≡ false)
+free_name w name h = or_parts (is_some (router_of w.routers name)) (is_some (client_of w.clients name)) h
+
 -- ---- the cases
 
 module _ (now : Moment) (Q : Moment → Type 0) where
-  -- a step that reads first
+  abbrev w : WorldState
+  w = now.world
+
+  -- an act that reads first
   for_bind : {A : Type 0} (a : Result A ScriptError) (f : A → Outcome) → ((x : A) → a ≡ Ok x → IfSome (went now (f x)) Q) → IfSome (went now (a >>= f)) Q
   for_bind (Ok x) f step = step x refl
   for_bind (Err e) f step = tt
 
-  pub for_router : (id : List ℕ) → (first_router now.world.routers ≡ Ok tt → Q (on_router now id)) → IfSome (went now (router_step now.world id)) Q
-  unfolding router_step
-  for_router id step = for_bind (free_name now.world id) _ (λ u eu. for_bind (first_router now.world.routers) _ (λ v ev. step ev))
+  -- a test that an act has to pass
+  for_unless : (b : Bool) (e : ScriptError) (f : Unit {0} → Outcome) → (b ≡ false → IfSome (went now (f tt)) Q) → IfSome (went now (unless b e >>= f)) Q
+  for_unless true e f step = tt
+  for_unless false e f step = step refl
 
-  pub for_client : (id router : List ℕ) →
-      ((r : RouterState) → router_of now.world.routers router ≡ Some r → client_of now.world.clients id ≡ None → Q (on_client now id router r)) →
-      IfSome (went now (client_step now.world id router)) Q
+  -- and one that isn't to fail
+  for_test : (b : Bool) (e : ScriptError) (f : Unit {0} → Outcome) → (b ≡ true → IfSome (went now (f tt)) Q) → IfSome (went now (unless (not b) e >>= f)) Q
+  for_test true e f step = step refl
+  for_test false e f step = tt
+
+  -- a router that hears of an event
+  for_hears : (v : WorldState) (x : List ℕ) (r : RouterState) (event : Event) (tag : ℕ) (f : WorldState → Outcome) →
+      (refuses r.node event ≡ None → IfSome (went now (f (heard v x r event tag))) Q) → IfSome (went now (hears v x r event tag >>= f)) Q
+  for_hears v x r event tag f step = by (refuses r.node event) refl
+    where
+      by : (o : Option NodeError) → refuses r.node event ≡ o → IfSome (went now (heard_by v x r event tag o >>= f)) Q
+      by None e = step e
+      by (Some k) e = tt
+
+  -- a client that sends
+  for_client_sends : (n : ℕ) (name : List ℕ) (s : ClientState) (msg : Msg) (f : WorldState → Outcome) →
+      ((e : EndState) → end_of w.ends (s.router, name) ≡ Some e → e.unbroken ≡ true → IfSome (went now (f (w_sent w n name s e msg))) Q) →
+      IfSome (went now (client_sends w n name s msg >>= f)) Q
+  unfolding client_sends
+  for_client_sends n name s msg f step = by (end_of w.ends (s.router, name)) refl
+    where
+      at : (e : EndState) (b : Bool) → e.unbroken ≡ b → end_of w.ends (s.router, name) ≡ Some e →
+          IfSome (went now ((unless (not b) NotLinked >>= (λ u. Ok (w_sent w n name s e msg))) >>= f)) Q
+      at e true u there = step e there u
+      at e false u there = tt
+
+      by : (o : Option EndState) → end_of w.ends (s.router, name) ≡ o →
+          IfSome (went now ((end_at o >>= (λ e. unless (not e.unbroken) NotLinked >>= (λ u. Ok (w_sent w n name s e msg)))) >>= f)) Q
+      by None there = tt
+      by (Some e) there = at e e.unbroken refl there
+
+  pub for_router : (id : List ℕ) → (is_taken w id ≡ false → nat_le most_routers (length w.routers) ≡ false → (w.used && nat_le 1 (length w.routers)) ≡ false → Q (on_router now id)) →
+      IfSome (went now (router_step w id)) Q
+  unfolding router_step
+  for_router id step = for_unless (is_taken w id) _ _ (λ free. for_unless (nat_le most_routers (length w.routers)) _ _ (λ room. for_unless (w.used && nat_le 1 (length w.routers)) _ _ (λ alone. step free room alone)))
+
+  pub for_client : (n : ℕ) (id router : List ℕ) →
+      ((r : RouterState) → router_of w.routers router ≡ Some r → is_taken w id ≡ false → nat_le most_clients (length w.clients) ≡ false →
+      refuses r.node (up_event r (record { id = id; role = role.Client })) ≡ None → Q (on_client now n id router r)) →
+      IfSome (went now (client_step w n id router)) Q
   unfolding client_step
-  for_client id router step =
-      for_bind (router_at (router_of now.world.routers router)) _ (λ r er. for_bind (free_name now.world id) _ (λ u eu. for_bind (room_for_client now.world.names) _ (λ v ev.
-      step r (router_found (router_of now.world.routers router) r er)
-      (not_there (client_of now.world.clients id)
-      (or_parts (is_some (router_of now.world.routers id)) (is_some (client_of now.world.clients id)) (free_found (is_taken now.world id) u eu)).1))))
+  for_client n id router step =
+      for_bind (router_at (router_of w.routers router)) _ (λ r er. for_unless (is_taken w id) _ _ (λ free. for_unless (nat_le most_clients (length w.clients)) _ _ (λ room.
+      for_hears (with_ends w (put_end w.ends (router, id) (lifted new_end))) router r (up_event r (record { id = id; role = role.Client })) n came (λ taken.
+      step r (router_found (router_of w.routers router) r er) free room taken))))
+    where
+      came : WorldState → Outcome
+      came v = Ok ([], with_clients v (insert_entry (slice_cmp nat_cmp) v.clients id (new_client router)))
+
+  pub for_link : (one other : List ℕ) →
+      (is_named one other ≡ false → (r : RouterState) → router_of w.routers one ≡ Some r → (q : RouterState) → router_of w.routers other ≡ Some q →
+      is_in_place w.ends (one, other) ≡ false → nat_le most_links (length (links_in_place w)) ≡ false → Q (on_link now one other)) →
+      IfSome (went now (link_step w one other)) Q
+  unfolding link_step
+  for_link one other step =
+      for_unless (is_named one other) _ _ (λ apart. for_bind (router_at (router_of w.routers one)) _ (λ r er. for_bind (router_at (router_of w.routers other)) _ (λ q eq.
+      for_unless (is_in_place w.ends (one, other)) _ _ (λ new. for_unless (nat_le most_links (length (links_in_place w))) _ _ (λ room.
+      step apart r (router_found (router_of w.routers one) r er) q (router_found (router_of w.routers other) q eq) new room)))))
+
+  pub for_up : (n : ℕ) (router name : List ℕ) →
+      ((r : RouterState) → router_of w.routers router ≡ Some r → is_taken w name ≡ true → (s : EndState) → end_of w.ends (router, name) ≡ Some s → s.unbroken ≡ true → s.up ≡ false →
+      refuses r.node (up_event r (peer_of w name)) ≡ None → Q (on_up now n router name r s)) →
+      IfSome (went now (up_step w n router name)) Q
+  unfolding up_step
+  for_up n router name step =
+      for_bind (router_at (router_of w.routers router)) _ (λ r er. for_test (is_taken w name) _ _ (λ there. for_bind (end_at (end_of w.ends (router, name))) _ (λ s es.
+      for_test s.unbroken _ _ (λ unbroken. for_unless s.up _ _ (λ down.
+      for_hears (with_ends w (with_end w.ends (router, name) (lifted s))) router r (up_event r (peer_of w name)) n _ (λ taken.
+      step r (router_found (router_of w.routers router) r er) there s (end_found (end_of w.ends (router, name)) s es) unbroken down taken))))))
+
+  pub for_break : (router name : List ℕ) →
+      ((r : RouterState) → router_of w.routers router ≡ Some r → is_taken w name ≡ true → (s : EndState) → end_of w.ends (router, name) ≡ Some s → s.unbroken ≡ true → Q (on_break now router name)) →
+      IfSome (went now (break_step w router name)) Q
+  unfolding break_step
+  for_break router name step =
+      for_bind (router_at (router_of w.routers router)) _ (λ r er. for_test (is_taken w name) _ _ (λ there. for_bind (end_at (end_of w.ends (router, name))) _ (λ s es.
+      for_test s.unbroken _ _ (λ unbroken. step r (router_found (router_of w.routers router) r er) there s (end_found (end_of w.ends (router, name)) s es) unbroken))))
+
+  pub for_down : (n : ℕ) (router name : List ℕ) →
+      ((r : RouterState) → router_of w.routers router ≡ Some r → is_taken w name ≡ true → (s : EndState) → end_of w.ends (router, name) ≡ Some s → s.up ≡ true → s.unbroken ≡ false →
+      (l : LinkNo) → number_to r name ≡ Ok l → refuses r.node (Down l) ≡ None → Q (on_down now n router name r l)) →
+      IfSome (went now (down_step w n router name)) Q
+  unfolding down_step
+  for_down n router name step =
+      for_bind (router_at (router_of w.routers router)) _ (λ r er. for_test (is_taken w name) _ _ (λ there. for_bind (end_at (end_of w.ends (router, name))) _ (λ s es.
+      for_test s.up _ _ (λ up. for_unless s.unbroken _ _ (λ cut. for_bind (number_to r name) _ (λ l el. for_hears w router r (Down l) n _ (λ taken.
+      step r (router_found (router_of w.routers router) r er) there s (end_found (end_of w.ends (router, name)) s es) up cut l el taken)))))))
 
   pub for_sub : (n : ℕ) (name : List ℕ) (id : ℕ) (key : List ℕ) →
-      ((s : ClientState) → client_of now.world.clients name ≡ Some s → list_any (λ i. i == id) s.ids ≡ false →
-      (r : RouterState) → router_of now.world.routers s.router ≡ Some r → Q (on_sub now n name id key s r)) →
-      IfSome (went now (sub_step now.world n name id key)) Q
+      ((s : ClientState) → client_of w.clients name ≡ Some s → has_id s id ≡ false → (e : EndState) → end_of w.ends (s.router, name) ≡ Some e → e.unbroken ≡ true → is_alone w ≡ true →
+      (r : RouterState) → router_of w.routers s.router ≡ Some r → Q (on_sub now n name id key s e r)) →
+      IfSome (went now (sub_step w n name id key)) Q
   unfolding sub_step
   for_sub n name id key step =
-      for_bind (client_at (client_of now.world.clients name)) _ (λ s es. for_bind (fresh_id s id) _ (λ u eu.
-      for_bind (weighed now.world.routers s.router key (router_of now.world.routers s.router)) _ (λ rs er.
-      let w = weighed_found now.world.routers s.router key (router_of now.world.routers s.router) rs er in
-      subst (λ (z : Routers). Q (sub_moment n name id key s z)) (sym w.2)
-      (step s (client_found (client_of now.world.clients name) s es) (free_found (list_any (λ i. i == id) s.ids) u eu) w.0 w.1))))
+      for_bind (client_at (client_of w.clients name)) _ (λ s es. for_unless (has_id s id) _ _ (λ fresh. for_client_sends n name s (m.Sub id key) _ (λ e there unbroken. for_test (is_alone w) _ _ (λ alone.
+      for_bind (weighed w.routers s.router key (router_of w.routers s.router)) _ (λ rs er.
+      let found = weighed_found w.routers s.router key (router_of w.routers s.router) rs er in
+      subst (λ (z : Routers). Q (sub_moment s e z)) (sym found.2) (step s (client_found (client_of w.clients name) s es) fresh e there unbroken alone found.0 found.1))))))
     where
-      sub_moment : ℕ → List ℕ → ℕ → List ℕ → ClientState → Routers → Moment
-      sub_moment n name id key s z = record {
-        world = with_tables now.world z (with_client now.world.clients name (sent (declaring s id) (m.Sub id key) n));
+      sub_moment : ClientState → EndState → Routers → Moment
+      sub_moment s e z = record {
+        world = with_clients (with_routers (w_sent w n name s e (m.Sub id key)) z) (with_client w.clients name (declaring s id));
         report = now.report ++ [];
       }
 
-  pub for_unsub : (n : ℕ) (name : List ℕ) (id : ℕ) → ((s : ClientState) → client_of now.world.clients name ≡ Some s → Q (on_unsub now n name id s)) →
-      IfSome (went now (unsub_step now.world n name id)) Q
+  pub for_unsub : (n : ℕ) (name : List ℕ) (id : ℕ) →
+      ((s : ClientState) → client_of w.clients name ≡ Some s → has_id s id ≡ true → (e : EndState) → end_of w.ends (s.router, name) ≡ Some e → e.unbroken ≡ true → is_alone w ≡ true →
+      Q (on_unsub now n name id s e)) →
+      IfSome (went now (unsub_step w n name id)) Q
   unfolding unsub_step
   for_unsub n name id step =
-      for_bind (client_at (client_of now.world.clients name)) _ (λ s es. for_bind (known_id s id) _ (λ u eu. step s (client_found (client_of now.world.clients name) s es)))
+      for_bind (client_at (client_of w.clients name)) _ (λ s es. for_test (has_id s id) _ _ (λ known. for_client_sends n name s (m.Unsub id) _ (λ e there unbroken. for_test (is_alone w) _ _ (λ alone.
+      step s (client_found (client_of w.clients name) s es) known e there unbroken alone))))
 
-  pub for_publish : (n : ℕ) (name : List ℕ) (content : Parts) → ((s : ClientState) → client_of now.world.clients name ≡ Some s → Q (on_publish now n name content s)) →
-      IfSome (went now (publish_step now.world n name content)) Q
+  pub for_publish : (n : ℕ) (name : List ℕ) (content : Parts) →
+      ((s : ClientState) → client_of w.clients name ≡ Some s → (e : EndState) → end_of w.ends (s.router, name) ≡ Some e → e.unbroken ≡ true → is_alone w ≡ true → Q (on_publish now n name content s e)) →
+      IfSome (went now (publish_step w n name content)) Q
   unfolding publish_step
-  for_publish n name content step = for_bind (client_at (client_of now.world.clients name)) _ (λ s es. step s (client_found (client_of now.world.clients name) s es))
+  for_publish n name content step =
+      for_bind (client_at (client_of w.clients name)) _ (λ s es. for_client_sends n name s (m.Push None content) _ (λ e there unbroken. for_test (is_alone w) _ _ (λ alone.
+      step s (client_found (client_of w.clients name) s es) e there unbroken alone)))
 
-  pub for_handle : (router name : List ℕ) →
-      ((r : RouterState) → router_of now.world.routers router ≡ Some r → (s : ClientState) → client_of now.world.clients name ≡ Some s →
-      (msg : Msg) (tag : ℕ) (xs : List Tagged) → s.wire ≡ record { msg = msg; tag = tag } ∷ xs → Q (on_handle now router name r s msg tag xs)) →
-      IfSome (went now (handle_step now.world router name)) Q
+  pub for_handle : (router from : List ℕ) →
+      ((r : RouterState) → router_of w.routers router ≡ Some r → is_taken w from ≡ true → (s : EndState) → end_of w.ends (router, from) ≡ Some s → s.up ≡ true →
+      (msg : Msg) (tag : ℕ) (xs : List Tagged) → s.wire ≡ record { msg = msg; tag = tag } ∷ xs → (l : LinkNo) → number_to r from ≡ Ok l → Q (on_handle now router from r s l msg tag xs)) →
+      IfSome (went now (handle_step w router from)) Q
   unfolding handle_step
-  for_handle router name step =
-      for_bind (router_at (router_of now.world.routers router)) _ (λ r er.
-      for_bind (end_at (client_of now.world.clients name) (is_some (router_of now.world.routers name)) router) _ (λ s es.
-      for_bind (oldest s.wire) _ (λ x ex.
-      step r (router_found (router_of now.world.routers router) r er)
-      s (end_found (client_of now.world.clients name) (is_some (router_of now.world.routers name)) router s es)
-      x.0.msg x.0.tag x.1 (oldest_found s.wire x ex))))
+  for_handle router from step =
+      for_bind (router_at (router_of w.routers router)) _ (λ r er. for_test (is_taken w from) _ _ (λ there. for_bind (end_at (end_of w.ends (router, from))) _ (λ s es.
+      for_test s.up _ _ (λ up. for_bind (oldest s.wire) _ (λ x ex. for_bind (number_to r from) _ (λ l el.
+      step r (router_found (router_of w.routers router) r er) there s (end_found (end_of w.ends (router, from)) s es) up x.0.msg x.0.tag x.1 (oldest_found s.wire x ex) l el))))))
 
   pub for_take : (router to : List ℕ) →
-      ((s : ClientState) → client_of now.world.clients to ≡ Some s → (x : Tagged) (xs : List Tagged) → s.queue ≡ x ∷ xs → Q (on_take now router to s x xs)) →
-      IfSome (went now (take_step now.world router to)) Q
+      ((r : RouterState) → router_of w.routers router ≡ Some r → is_taken w to ≡ true → (s : EndState) → end_of w.ends (router, to) ≡ Some s → s.up ≡ true → s.unbroken ≡ true →
+      (msg : Msg) (tag : ℕ) (xs : List Tagged) → s.queue ≡ record { msg = msg; tag = tag } ∷ xs → Q (on_take now router to s msg tag xs)) →
+      IfSome (went now (take_step w router to)) Q
   unfolding take_step
   for_take router to step =
-      for_bind (router_at (router_of now.world.routers router)) _ (λ r er.
-      for_bind (end_at (client_of now.world.clients to) (is_some (router_of now.world.routers to)) router) _ (λ s es.
-      for_bind (oldest s.queue) _ (λ x ex.
-      step s (end_found (client_of now.world.clients to) (is_some (router_of now.world.routers to)) router s es) x.0 x.1 (oldest_found s.queue x ex))))
+      for_bind (router_at (router_of w.routers router)) _ (λ r er. for_test (is_taken w to) _ _ (λ there. for_bind (end_at (end_of w.ends (router, to))) _ (λ s es.
+      for_test s.up _ _ (λ up. for_test s.unbroken _ _ (λ unbroken. for_bind (oldest s.queue) _ (λ x ex.
+      step r (router_found (router_of w.routers router) r er) there s (end_found (end_of w.ends (router, to)) s es) up unbroken x.0.msg x.0.tag x.1 (oldest_found s.queue x ex)))))))
 
-  pub for_mark : (n : ℕ) → (all_settled now.world.clients ≡ true → Q (on_mark now n)) → IfSome (went now (mark_step now.world n)) Q
+  pub for_mark : (n : ℕ) → (is_settled w ≡ true → is_joined w ≡ true → Q (on_mark now n)) → IfSome (went now (mark_step w n)) Q
   unfolding mark_step
-  for_mark n step = by (all_settled now.world.clients) refl
-    where
-      by : (b : Bool) → all_settled now.world.clients ≡ b → IfSome (went now (cond b (Ok (Some (line.Mark n), now.world)) (Err NotSettled))) Q
-      by true e = step e
-      by false e = tt
+  for_mark n step = for_test (is_settled w) _ _ (λ settled. for_test (is_joined w) _ _ (λ joined. step settled joined))
+
+  pub for_show : (router : List ℕ) → ((r : RouterState) → router_of w.routers router ≡ Some r → Q (on_show now router r)) → IfSome (went now (show_step w router)) Q
+  unfolding show_step
+  for_show router step = for_bind (router_at (router_of w.routers router)) _ (λ r er. step r (router_found (router_of w.routers router) r er))

@@ -1,4 +1,12 @@
+pub mod Keyed
 pub mod Names
-pub mod Next
+pub mod Ends
 pub mod Cases
+pub mod Next
+pub mod Links
+pub mod Nodes
+pub mod Fits
 pub mod Sound
+pub mod Lists
+pub mod Counting
+pub mod Lines

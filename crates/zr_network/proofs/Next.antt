@@ -1,8 +1,8 @@
 -- What whole commands come to, for code that does them one act after another. A command other than a run is one act (`one_act`).
 -- A run is followed by `IsAhead`: what all its steps come to is what was said so far and what the steps that are left come to.
 -- It holds at the start, each step keeps it, and where no step is left it gives the run (`run_ends`).
-use Rattle.std.proofs.Common.{◌≡◌, ℕ, zero, suc, ◌+◌, List, [], ◌∷◌, ◌++◌, length, Option, Some, None, Result, Ok, Err, refl, sym, ap, ◌∙◌, ◌⊎◌, inl, inr, append_assoc, append-nil, arith, subst}
-use Rattle.std.specs.Prelude.{is_none, option_to_list, IfOk}
+use Rattle.std.proofs.Common.{◌≡◌, ℕ, zero, suc, ◌+◌, List, [], ◌∷◌, ◌++◌, length, Some, None, Result, Ok, Err, refl, sym, ap, ◌∙◌, ◌⊎◌, inl, inr, append_assoc, append-nil, arith, subst}
+use Rattle.std.specs.Prelude.{is_none, IfOk}
 use Rattle.zr_command.specs.declared.error.ScriptError.{ScriptError}
 use Rattle.zr_command.specs.declared.command.Act.{Act}
 use Rattle.zr_command.specs.declared.command.Command.TheVariants as c
@@ -12,10 +12,10 @@ use Rattle.zr_language.specs.Step.{◌>>=◌}
 use Rattle.zr_table.specs.Prefix.{IsPrefixOf}
 use Rattle.zr_network.specs.World.{WorldState}
 use Rattle.zr_network.specs.Acts.{Outcome, outcome}
-use Rattle.zr_network.specs.Next.{Done, next, world_after, with_more, run_steps, all_done, book_step, run_done, act_done, applied}
+use Rattle.zr_network.specs.Next.{Done, next, world_after, with_more, run_steps, all_done, book_step, run_done, applied}
 
 -- a command that is one act
-pub one_act : (w : WorldState) (line : ℕ) (act : Act) → applied w line (c.Act act) ≡ act_done (outcome w line act)
+pub one_act : (w : WorldState) (line : ℕ) (act : Act) → applied w line (c.Act act) ≡ outcome w line act
 unfolding applied
 one_act w line act = refl
 
@@ -47,21 +47,21 @@ pub ahead_at_start : (line steps : ℕ) (start : WorldState) → IsAhead line st
 ahead_at_start line steps start = record { comes = behind_nothing (ran line steps start); count = omega arith }
 
 -- the steps that are left, where one more is to be done
-one_more : (line left : ℕ) (now : WorldState) (step : Act) (x : Option ReportLine × WorldState) → next now ≡ Some step → outcome now line step ≡ Ok x →
+one_more : (line left : ℕ) (now : WorldState) (step : Act) (x : List ReportLine × WorldState) → next now ≡ Some step → outcome now line step ≡ Ok x →
     run_steps line (suc left) now ≡ step ∷ run_steps line left x.1
 unfolding run_steps
 one_more line left now step x found done =
     ap (λ o. with_more o (λ s. run_steps line left (world_after now (outcome now line s)))) found ∙ ap (λ o. step ∷ run_steps line left (world_after now o)) done
 
 -- a step is done
-pub ahead_by_step : (line steps : ℕ) (start : WorldState) (done left more : ℕ) (now : WorldState) (lines : List ReportLine) (step : Act) (x : Option ReportLine × WorldState) →
+pub ahead_by_step : (line steps : ℕ) (start : WorldState) (done left more : ℕ) (now : WorldState) (lines : List ReportLine) (step : Act) (x : List ReportLine × WorldState) →
     IsAhead line steps start done left now lines → left ≡ suc more → next now ≡ Some step → outcome now line step ≡ Ok x →
-    IsAhead line steps start (done + 1) more x.1 (lines ++ option_to_list x.0)
+    IsAhead line steps start (done + 1) more x.1 (lines ++ x.0)
 ahead_by_step line steps start done left more now lines step x h is_left found is_done =
     let steps_are : run_steps line left now ≡ step ∷ run_steps line more x.1 = ap (λ n. run_steps line n now) is_left ∙ one_more line more now step x found is_done in
     record {
-      comes = h.comes ∙ ap (λ z. behind lines (all_done now line z)) steps_are ∙ ap (λ (o : Outcome). behind lines (o >>= (λ y. behind (option_to_list y.0) (all_done y.1 line (run_steps line more x.1))))) is_done
-          ∙ behind_more lines (option_to_list x.0) (ran line more x.1);
+      comes = h.comes ∙ ap (λ z. behind lines (all_done now line z)) steps_are ∙ ap (λ (o : Outcome). behind lines (o >>= (λ y. behind y.0 (all_done y.1 line (run_steps line more x.1))))) is_done
+          ∙ behind_more lines x.0 (ran line more x.1);
       count = let count : length (run_steps line left now) ≡ suc (length (run_steps line more x.1)) = ap length steps_are in omega (arith, h.count);
     }
 

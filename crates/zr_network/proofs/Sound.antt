@@ -1,146 +1,53 @@
--- Each act that is not refused keeps a world sound (`act_keeps`), since clients keep their routers and a new client has a new name; so does
--- the counting of a run's steps (`book_keeps`). In a sound world the step that comes next is possible (`next_goes`): the client that is
--- found at an end is the one at whose end a message waits, and its router is there. So the steps of a run are not refused (`run_goes`).
-use Rattle.std.proofs.Common.{◌≡◌, ℕ, zero, suc, ◌+◌, Bool, true, false, cond, not, List, [], ◌∷◌, ◌++◌, Option, Some, None, Result, Ok, Err, Ordering, refl, sym, ap, ◌∙◌, subst}
-use Rattle.std.specs.Prelude.{is_some, is_none, is_ok, nat_le, IfOk, IfSome, option_to_list, filter, map, length}
-use Rattle.std.specs.List.{fold, reduce, slice_get}
-use Rattle.std.specs.Map.{lookup, set_value}
-use Rattle.std.specs.BTreeMap.{insert_entry}
-use Rattle.std.specs.Ordering.{is_eq, nat_cmp, match_ordering, min_by_ordering}
+-- Each act that is not refused keeps a network sound (`act_keeps`), and so does the counting of a run's steps (`book_keeps`); before the
+-- first line it is sound (`empty_sound`). In a sound network the step that comes next is possible (`next_goes`): the end that is found is
+-- the one at which a message waits, its router has a link to the neighbour, and no router refuses a message. So no step of a run is
+-- refused (`run_goes`). And each event that an act brings to a router may come to it (`up_may_come`, `client_may_come`, `down_may_come`,
+-- `from_may_come`).
+use Rattle.std.proofs.Common.{◌≡◌, ℕ, zero, suc, ◌+◌, Bool, true, false, cond, not, List, [], ◌∷◌, ◌++◌, Option, Some, None, Result, Ok, Err, Ordering, refl, sym, ap, ◌∙◌, subst, inl, inr}
+use Rattle.std.specs.Prelude.{◌&&◌, ◌||◌, is_some, is_none, is_ok, nat_le, IfOk, IfSome, length, filter}
+use Rattle.std.specs.List.{fold, reduce}
+use Rattle.std.specs.List.Sorted.{IsStrictlySortedBy}
+use Rattle.std.specs.Map.{keys_of}
+use Rattle.std.specs.Option.{option_map, option_map_or}
+use Rattle.std.specs.Ordering.{min_by_ordering, nat_cmp}
 use Rattle.std.specs.declared.cmp.Ordering.TheVariants.{Less, Equal, Greater}
+use Rattle.std.specs.BTreeMap.{insert_entry}
 use Rattle.std.specs.Cmp.Lexicographic.{slice_cmp}
-use Rattle.std.proofs.lemmas.Bool.{false≢true, true≢false}
+use Rattle.std.proofs.lemmas.Bool.{false≢true, and_parts, or_parts, or_left, or_right}
 use Rattle.zr_id.specs.Zid.{is_named}
 use Rattle.zr_id.specs.declared.link.LinkNo.{LinkNo}
 use Rattle.zr_msg.specs.declared.msg.Msg.{Msg}
 use Rattle.zr_msg.specs.declared.msg.Msg.TheVariants as m
-use Rattle.zr_msg.specs.declared.event.Event.TheVariants.{From}
+use Rattle.zr_msg.specs.declared.event.Event.{Event}
+use Rattle.zr_msg.specs.declared.event.Event.TheVariants.{Down, From}
+use Rattle.zr_msg.specs.declared.peer.Role.TheVariants as role
 use Rattle.zr_command.specs.declared.error.ScriptError.{ScriptError}
-use Rattle.zr_command.specs.declared.error.ScriptError.TheVariants.{NotLinked, Limit}
+use Rattle.zr_command.specs.declared.error.ScriptError.TheVariants.{UnknownName, NotLinked, Limit}
 use Rattle.zr_command.specs.declared.command.Act.{Act}
 use Rattle.zr_command.specs.declared.command.Act.TheVariants as a
 use Rattle.zr_command.specs.declared.command.Command.{Command}
 use Rattle.zr_command.specs.declared.command.Command.TheVariants as c
 use Rattle.zr_command.specs.declared.report.ReportLine.{ReportLine}
 use Rattle.zr_command.specs.declared.report.ReportLine.TheVariants.{Ran}
-use Rattle.zr_table.specs.Table.{sends}
+use Rattle.zr_table.specs.State.{is_router, link_at, link_to}
+use Rattle.zr_table.specs.Table.{after}
+use Rattle.zr_table.specs.Event.{MayCome}
 use Rattle.zr_language.specs.Step.{◌>>=◌}
-use Rattle.zr_network.specs.World.{Tagged, ClientState, RouterState, Routers, Clients, WorldState, is_empty, router_of, client_of, with_router, with_client, sent, declaring, undeclaring, with_wire, with_queue, queued, queued_at, queued_for, all_queued, new_client, new_router, most_steps}
-use Rattle.zr_network.specs.Acts.{Outcome, router_at, end_at, oldest, first_router, weighing, linked, having, handle_step, take_step, outcome}
-use Rattle.zr_network.specs.Next.{Done, End, end_cmp, lesser, ends_where, first_where, has_sent, has_queued, step_at, next, world_after, with_more, run_steps, all_done, booking, book_step, run_done, act_done, applied}
+use Rattle.zr_network.specs.World.{Tagged, ClientState, RouterState, EndState, End, Routers, Clients, Ends, WorldState, end_cmp, is_end, router_of, client_of, is_taken, end_of, is_up, is_unbroken, is_in_place, with_routers, with_router, with_client, with_end, put_end, new_end, new_router, new_client, lifted, changed, broken, lowered, sent, with_wire, with_queue, is_empty, most_steps}
+use Rattle.zr_network.specs.Acts.{Outcome, unless, router_at, end_at, oldest, number_at, handle_step, take_step, hearing, weighing, declaring, undeclaring, all_queued, up_event, peer_of, number_to, outcome}
+use Rattle.zr_network.specs.Next.{Done, lesser, ends_where, first_where, can_handle, can_take, step_at, next, world_after, with_more, run_steps, all_done, booking, book_step, run_done, applied}
 use Rattle.zr_network.specs.Moments.{Moment, went}
-use Rattle.zr_network.specs.Sound.{AreSound, IsSound}
-use Rattle.zr_network.proofs.Names.{names, same_name, value_new}
-use Rattle.zr_network.proofs.Cases.{not_there, for_router, for_client, for_sub, for_unsub, for_publish, for_handle, for_take, for_mark}
+use Rattle.zr_network.specs.Sound.{IsSound}
+use Rattle.zr_tree.proofs.Finds.{In, in_map, in_filter}
+use Rattle.zr_network.proofs.Keyed.{there, not_there, read_cond}
+use Rattle.zr_network.proofs.Names.{names, same_name, value_new, read_kept}
+use Rattle.zr_network.proofs.Ends.{end_found, end_parts, keys_with_end, keys_changed, read_with_end, keep_with_end, read_put_end, keep_put_end, sorted_put_end, read_changed, keep_changed}
+use Rattle.zr_network.proofs.Links.{numbered_link, free_is_free, unique_nothing}
+use Rattle.zr_network.proofs.Cases.{w_client, w_link, w_up, w_break, w_down, w_sent, w_sub, w_unsub, w_handle, w_take, free_name, number_found, for_router, for_client, for_link, for_up, for_break, for_down, for_sub, for_unsub, for_publish, for_handle, for_take, for_mark, for_show}
+use Rattle.zr_network.proofs.Fits.{up_of, home, up_is_there, Places, places_same, still_true, of_put, places_put, Fits, Nodes, fits_same, nodes_set, fits_up, fits_down, fits_from, SameEnds, same_then, same_with, same_changed, same_queued, own_end, other_end, places_of, nodes_of, sound_of}
+pub use Rattle.zr_network.proofs.Fits.{empty_sound}
 
--- ---- names
-
--- two names of which one is found and the other isn't
-apart : {X : Type 0} (a b : List ℕ) (es : List (List ℕ × X)) (x : X) → lookup (is_named a) es ≡ Some x → lookup (is_named b) es ≡ None → is_named a b ≡ false
-apart a b es x found none = by (is_named a b) refl
-  where
-    by : (t : Bool) → is_named a b ≡ t → t ≡ false
-    by false e = refl
-    by true e = absurd (true≢false (ap is_some (sym found ∙ ap (λ z. lookup (is_named z) es) (same_name a b e) ∙ none)))
-
--- a replacement brings no new name, and takes none away
-some_set : {X : Type 0} (test : List ℕ → Bool) (q : List ℕ) (w : X) (es : List (List ℕ × X)) → is_some (lookup (is_named q) (set_value test es w)) ≡ is_some (lookup (is_named q) es)
-some_set test q w [] = refl
-some_set test q w (e ∷ es) = by (test e.0) (is_named q e.0) (some_set test q w es)
-  where
-    by : (t b : Bool) → is_some (lookup (is_named q) (set_value test es w)) ≡ is_some (lookup (is_named q) es) →
-        is_some (lookup (is_named q) (cond t ((e.0, w) ∷ es) (e ∷ set_value test es w))) ≡ is_some (cond (is_named q e.0) (Some e.1) (lookup (is_named q) es))
-    by true b ih = at (is_named q e.0)
-      where
-        at : (b : Bool) → is_some (cond b (Some w) (lookup (is_named q) es)) ≡ is_some (cond b (Some e.1) (lookup (is_named q) es))
-        at true = refl
-        at false = refl
-    by false b ih = at (is_named q e.0)
-      where
-        at : (b : Bool) → is_some (cond b (Some e.1) (lookup (is_named q) (set_value test es w))) ≡ is_some (cond b (Some e.1) (lookup (is_named q) es))
-        at true = refl
-        at false = ih
-
-none_set : {X : Type 0} (test : List ℕ → Bool) (q : List ℕ) (w : X) (es : List (List ℕ × X)) → lookup (is_named q) es ≡ None → lookup (is_named q) (set_value test es w) ≡ None
-none_set test q w es h = not_there (lookup (is_named q) (set_value test es w)) (some_set test q w es ∙ ap is_some h)
-
--- a new entry is found under its own name alone
-none_new : {X : Type 0} (name q : List ℕ) (w : X) (es : List (List ℕ × X)) → is_named q name ≡ false → lookup (is_named q) es ≡ None → lookup (is_named name) es ≡ None →
-    lookup (is_named q) (insert_entry (slice_cmp nat_cmp) es name w) ≡ None
-none_new name q w es other none free = value_new es name q w free ∙ ap (λ b. cond b (Some w) (lookup (is_named q) es)) other ∙ none
-
--- ---- sound clients
-
--- a client's router is there
-is_there : (routers : Routers) (name : List ℕ) (es : Clients) (s : ClientState) → AreSound routers es → client_of es name ≡ Some s → is_some (router_of routers s.router) ≡ true
-is_there routers name [] s h found = absurd (false≢true (ap is_some found))
-is_there routers name (e ∷ es) s h found = by (is_named name e.0) found (is_there routers name es s h.2)
-  where
-    by : (b : Bool) → cond b (Some e.1) (client_of es name) ≡ Some s → (client_of es name ≡ Some s → is_some (router_of routers s.router) ≡ true) →
-        is_some (router_of routers s.router) ≡ true
-    by true k ih = let same : e.1 ≡ s = cc in subst (λ (z : ClientState). is_some (router_of routers z.router) ≡ true) same h.1
-    by false k ih = ih k
-
--- other routers, where those that were there are still there
-with_routers : (routers more : Routers) (es : Clients) → ((q : List ℕ) → is_some (router_of routers q) ≡ true → is_some (router_of more q) ≡ true) →
-    AreSound routers es → AreSound more es
-with_routers routers more [] f h = tt
-with_routers routers more (e ∷ es) f h = (h.0, f e.1.router h.1, with_routers routers more es f h.2)
-
--- a router's new state
-router_kept : (routers : Routers) (name : List ℕ) (r : RouterState) (es : Clients) → AreSound routers es → AreSound (with_router routers name r) es
-router_kept routers name r es h = with_routers routers (with_router routers name r) es (λ q k. some_set (is_named name) q r routers ∙ k) h
-
--- a client's new state
-client_kept : (routers : Routers) (name : List ℕ) (s : ClientState) (es : Clients) → is_some (router_of routers s.router) ≡ true → AreSound routers es →
-    AreSound routers (with_client es name s)
-client_kept routers name s [] there h = tt
-client_kept routers name s (e ∷ es) there h = by (is_named name e.0) (client_kept routers name s es there h.2)
-  where
-    by : (b : Bool) → AreSound routers (with_client es name s) → AreSound routers (cond b ((e.0, s) ∷ es) (e ∷ with_client es name s))
-    by true ih = (h.0, there, h.2)
-    by false ih = (none_set (is_named name) e.0 s es h.0, h.1, ih)
-
--- a client with a new name
-client_new : (routers : Routers) (name : List ℕ) (s : ClientState) (es : Clients) → is_some (router_of routers s.router) ≡ true → client_of es name ≡ None → AreSound routers es →
-    AreSound routers (insert_entry (slice_cmp nat_cmp) es name s)
-client_new routers name s [] there free h = (refl, there, tt)
-client_new routers name s (e ∷ es) there free h = by (slice_cmp nat_cmp name e.0) refl free (λ n. client_new routers name s es there n h.2)
-  where
-    by : (o : Ordering) → slice_cmp nat_cmp name e.0 ≡ o → cond (is_eq o) (Some e.1) (client_of es name) ≡ None →
-        (client_of es name ≡ None → AreSound routers (insert_entry (slice_cmp nat_cmp) es name s)) →
-        AreSound routers (match_ordering o ((name, s) ∷ e ∷ es) ((e.0, s) ∷ es) (e ∷ insert_entry (slice_cmp nat_cmp) es name s))
-    by Less eq n ih = (free, there, h)
-    by Equal eq n ih = absurd (true≢false (ap is_some n))
-    by Greater eq n ih =
-        let other : is_named name e.0 ≡ false = ap is_eq eq in
-        let swapped : is_named e.0 name ≡ false = turned name e.0 other in
-        (none_new name e.0 s es swapped h.0 n, h.1, ih n)
-      where
-        turned : (a b : List ℕ) → is_named a b ≡ false → is_named b a ≡ false
-        turned a b k = at (is_named b a) refl
-          where
-            at : (t : Bool) → is_named b a ≡ t → t ≡ false
-            at false e = refl
-            at true e = sym (names.refl b) ∙ ap (λ z. is_named z b) (same_name b a e) ∙ k
-
--- what a router sends comes to clients that are there
-queued_kept : (routers : Routers) (name : Option (List ℕ)) (msg : Msg) (tag : ℕ) (es : Clients) → AreSound routers es → AreSound routers (queued_for es name msg tag)
-queued_kept routers None msg tag es h = h
-queued_kept routers (Some name) msg tag es h = by (client_of es name) refl
-  where
-    by : (o : Option ClientState) → client_of es name ≡ o → AreSound routers (queued_at es name o msg tag)
-    by None e = h
-    by (Some s) e = client_kept routers name (queued s msg tag) es (is_there routers name es s h e) h
-
-all_queued_kept : (routers : Routers) (names_ : List (List ℕ)) (out : List (LinkNo × Msg)) (tag : ℕ) (es : Clients) → AreSound routers es → AreSound routers (all_queued es names_ out tag)
-all_queued_kept routers names_ [] tag es h = h
-all_queued_kept routers names_ (x ∷ more) tag es h =
-    all_queued_kept routers names_ more tag (queued_for es (slice_get names_ x.0.0) x.1 tag) (queued_kept routers (slice_get names_ x.0.0) x.1 tag es h)
-
--- ---- acts
-
--- an act leads to a sound world, where it isn't refused
+-- an act leads to a sound network, where it isn't refused
 abbrev pub Keeps : Outcome → Type 0
 Keeps o = IfOk o (λ x. IsSound x.1)
 
@@ -151,40 +58,315 @@ module _ (w : WorldState) (line : ℕ) (h : IsSound w) where
   abbrev sound : Moment → Type 0
   sound next = IsSound next.world
 
+  p : Places w.routers w.clients w.ends
+  p = places_of w h
+
+  n : Nodes w.routers w.ends
+  n = nodes_of w h
+
   -- of the moment that an act leads to, and of the act
   kept : (o : Outcome) → IfSome (went now o) sound → Keeps o
   kept (Ok x) k = k
   kept (Err e) k = tt
 
-  -- no router was there before the first one
-  first_kept : (id : List ℕ) → first_router w.routers ≡ Ok tt → AreSound (insert_entry (slice_cmp nat_cmp) w.routers id new_router) w.clients
-  first_kept id first = by w.routers refl first
-    where
-      by : (rs : Routers) → w.routers ≡ rs → first_router rs ≡ Ok tt → AreSound (insert_entry (slice_cmp nat_cmp) w.routers id new_router) w.clients
-      by [] e k = with_routers w.routers (insert_entry (slice_cmp nat_cmp) w.routers id new_router) w.clients (λ q there. absurd (false≢true (ap (λ z. is_some (router_of z q)) (sym e) ∙ there))) h
-      by (x ∷ xs) e k = absurd (false≢true (ap is_ok k))
+  -- ---- no end changes but for what waits there, and no router but for its weight
 
-  -- a client that was there has changed, but not its router
-  changed : (name : List ℕ) (s t : ClientState) → client_of w.clients name ≡ Some s → t.router ≡ s.router → AreSound w.routers (with_client w.clients name t)
-  changed name s t e same = client_kept w.routers name t w.clients (ap (λ z. is_some (router_of w.routers z)) same ∙ is_there w.routers name w.clients s h e) h
+  same_router : (x : List ℕ) (r r' : RouterState) → router_of w.routers x ≡ Some r → (q : List ℕ) → is_some (router_of (with_router w.routers x r') q) ≡ is_some (router_of w.routers q)
+  same_router x r r' found q = read_kept is_some w.routers x q r r' found refl
+
+  same_client : (name : List ℕ) (s s' : ClientState) → client_of w.clients name ≡ Some s → s'.router ≡ s.router → (q : List ℕ) → home (client_of (with_client w.clients name s') q) ≡ home (client_of w.clients q)
+  same_client name s s' found same q = read_kept home w.clients name q s s' found (ap Some same)
+
+  nodes_same : (ends' : Ends) → SameEnds w.ends ends' → Nodes w.routers ends'
+  nodes_same ends' e x r found = fits_same w.routers w.routers w.ends ends' x r.node (n x r found) (λ y u. refl) (λ y. e.as_up (x, y))
+
+  ends_keep : (ends' : Ends) → SameEnds w.ends ends' → Places w.routers w.clients ends'
+  ends_keep ends' e = places_same w.routers w.routers w.clients w.clients w.ends ends' p (e.sorted p.in_order) (λ q. refl) (λ q. refl) e.there_too
+
+  on_wire : (name : List ℕ) (s : ClientState) (e : EndState) (msg : Msg) → end_of w.ends (s.router, name) ≡ Some e → SameEnds w.ends (with_end w.ends (s.router, name) (sent e msg line))
+  on_wire name s e msg found = same_with w.ends (s.router, name) e (sent e msg line) found refl
+
+  -- ---- what waits at ends
+
+  sub_sound : (name : List ℕ) (id : ℕ) (key : List ℕ) (s : ClientState) → client_of w.clients name ≡ Some s → (e : EndState) → end_of w.ends (s.router, name) ≡ Some e →
+      (r : RouterState) → router_of w.routers s.router ≡ Some r → IsSound (w_sub w line name id key s e r)
+  sub_sound name id key s es e ee r er =
+      let ends' : Ends = with_end w.ends (s.router, name) (sent e (m.Sub id key) line) in
+      let same : SameEnds w.ends ends' = on_wire name s e (m.Sub id key) ee in
+      sound_of (w_sub w line name id key s e r)
+      (places_same w.routers (with_router w.routers s.router (weighing r key)) w.clients (with_client w.clients name (declaring s id)) w.ends ends' p (same.sorted p.in_order)
+      (same_router s.router r (weighing r key) er) (same_client name s (declaring s id) es refl) same.there_too)
+      (nodes_set w.routers w.ends ends' s.router r (weighing r key) n er
+      (fits_same w.routers w.routers w.ends ends' s.router r.node (n s.router r er) (λ y u. refl) (λ y. same.as_up (s.router, y))) (λ z y apart. same.as_up (z, y)))
+
+  unsub_sound : (name : List ℕ) (id : ℕ) (s : ClientState) → client_of w.clients name ≡ Some s → (e : EndState) → end_of w.ends (s.router, name) ≡ Some e → IsSound (w_unsub w line name id s e)
+  unsub_sound name id s es e ee =
+      let ends' : Ends = with_end w.ends (s.router, name) (sent e (m.Unsub id) line) in
+      let same : SameEnds w.ends ends' = on_wire name s e (m.Unsub id) ee in
+      sound_of (w_unsub w line name id s e)
+      (places_same w.routers w.routers w.clients (with_client w.clients name (undeclaring s id)) w.ends ends' p (same.sorted p.in_order) (λ q. refl) (same_client name s (undeclaring s id) es refl) same.there_too)
+      (nodes_same ends' same)
+
+  publish_sound : (name : List ℕ) (msg : Msg) (s : ClientState) (e : EndState) → end_of w.ends (s.router, name) ≡ Some e → IsSound (w_sent w line name s e msg)
+  publish_sound name msg s e ee =
+      let ends' : Ends = with_end w.ends (s.router, name) (sent e msg line) in
+      let same : SameEnds w.ends ends' = on_wire name s e msg ee in
+      sound_of (w_sent w line name s e msg) (ends_keep ends' same) (nodes_same ends' same)
+
+  take_sound : (router to : List ℕ) (s : EndState) → end_of w.ends (router, to) ≡ Some s → (msg : Msg) (tag : ℕ) (xs : List Tagged) → IsSound (w_take w router to s msg tag xs)
+  take_sound router to s es msg tag xs =
+      let taken : Ends = with_end w.ends (router, to) (with_queue s xs) in
+      let ends' : Ends = changed taken (to, router) (λ e. sent e msg tag) in
+      let same : SameEnds w.ends ends' =
+      same_then w.ends taken ends' (same_with w.ends (router, to) s (with_queue s xs) es refl) (same_changed taken (to, router) (λ e. sent e msg tag) (λ e. refl)) in
+      sound_of (w_take w router to s msg tag xs) (ends_keep ends' same) (nodes_same ends' same)
+
+  break_sound : (router name : List ℕ) → IsSound (w_break w router name)
+  break_sound router name =
+      let one : Ends = changed w.ends (router, name) broken in
+      let ends' : Ends = changed one (name, router) broken in
+      let same : SameEnds w.ends ends' = same_then w.ends one ends' (same_changed w.ends (router, name) broken (λ e. refl)) (same_changed one (name, router) broken (λ e. refl)) in
+      sound_of (w_break w router name) (ends_keep ends' same) (nodes_same ends' same)
+
+  handle_sound : (router from : List ℕ) (r : RouterState) → router_of w.routers router ≡ Some r → (s : EndState) → end_of w.ends (router, from) ≡ Some s →
+      (msg : Msg) (tag : ℕ) (xs : List Tagged) (l : LinkNo) → IsSound (w_handle w router from r s l msg tag xs)
+  handle_sound router from r er s es msg tag xs l =
+      let rest : Ends = with_end w.ends (router, from) (with_wire s xs) in
+      let ends' : Ends = all_queued rest router r.node (From l msg) tag in
+      let same : SameEnds w.ends ends' =
+      same_then w.ends rest ends' (same_with w.ends (router, from) s (with_wire s xs) es refl) (same_queued rest router r.node (From l msg) tag) in
+      sound_of (w_handle w router from r s l msg tag xs)
+      (places_same w.routers (with_router w.routers router (hearing r (From l msg))) w.clients w.clients w.ends ends' p (same.sorted p.in_order)
+      (same_router router r (hearing r (From l msg)) er) (λ q. refl) same.there_too)
+      (nodes_set w.routers w.ends ends' router r (hearing r (From l msg)) n er
+      (fits_from w.routers w.ends ends' router r.node l msg (n router r er) (λ y. same.as_up (router, y))) (λ z y apart. same.as_up (z, y)))
+
+  -- ---- a link comes up or goes down
+
+  -- a router hears of an event that changes whether its end to a neighbour is up
+  turns : (x y : List ℕ) (r : RouterState) (event : Event) (ends' : Ends) (b : Bool) → router_of w.routers x ≡ Some r → (IsStrictlySortedBy end_cmp (keys_of w.ends) → IsStrictlySortedBy end_cmp (keys_of ends')) →
+      ((q : End) → is_some (end_of ends' q) ≡ is_some (end_of w.ends q)) → ((q : End) → up_of (end_of ends' q) ≡ cond (is_end (x, y) q) b (up_of (end_of w.ends q))) →
+      (((q : List ℕ) → is_up ends' (x, q) ≡ cond (is_named y q) b (is_up w.ends (x, q))) → Fits w.routers ends' x (after r.node event)) →
+      Places (with_router w.routers x (hearing r event)) w.clients ends' × Nodes (with_router w.routers x (hearing r event)) ends'
+  turns x y r event ends' b er sorted there_ ups fits = (
+    places_same w.routers (with_router w.routers x (hearing r event)) w.clients w.clients w.ends ends' p (sorted p.in_order) (same_router x r (hearing r event) er) (λ q. refl) there_,
+    nodes_set w.routers w.ends ends' x r (hearing r event) n er
+        (fits (λ q. ups (x, q) ∙ ap (λ t. cond t b (is_up w.ends (x, q))) (own_end x y q)))
+        (λ z q apart. ups (z, q) ∙ ap (λ t. cond t b (is_up w.ends (z, q))) (other_end x y z q apart)),
+  )
+
+  role_is : (name : List ℕ) → is_router (peer_of w name).role ≡ is_some (router_of w.routers name)
+  role_is name = by (is_some (router_of w.routers name))
+    where
+      by : (b : Bool) → is_router (cond b role.Router role.Client) ≡ b
+      by true = refl
+      by false = refl
+
+  up_sound : (router name : List ℕ) (r : RouterState) → router_of w.routers router ≡ Some r → (s : EndState) → end_of w.ends (router, name) ≡ Some s → s.up ≡ false →
+      IsSound (w_up w line router name r s)
+  up_sound router name r er s es down =
+      let event : Event = up_event r (peer_of w name) in
+      let up : Ends = with_end w.ends (router, name) (lifted s) in
+      let same : SameEnds up (all_queued up router r.node event line) = same_queued up router r.node event line in
+      let both = turns router name r event (all_queued up router r.node event line) true er
+      (λ o. same.sorted (subst (IsStrictlySortedBy end_cmp) (sym (keys_with_end w.ends (router, name) (lifted s))) o))
+      (λ q. same.there_too q ∙ keep_with_end w.ends (router, name) (lifted s) is_some q s es refl)
+      (λ q. same.as_up q ∙ read_with_end w.ends (router, name) (lifted s) up_of q (ap is_some es))
+      (fits_up w.routers w.ends (all_queued up router r.node event line) router name r.node (peer_of w name) (n router r er) refl (role_is name) (ap up_of es ∙ down)) in
+      sound_of (w_up w line router name r s) both.0 both.1
+
+  down_sound : (router name : List ℕ) (r : RouterState) → router_of w.routers router ≡ Some r → (l : LinkNo) → number_to r name ≡ Ok l → IsSound (w_down w line router name r l)
+  down_sound router name r er l el =
+      let k = number_found r name l el in
+      let heard_ : Ends = all_queued w.ends router r.node (Down l) line in
+      let ends' : Ends = changed heard_ (router, name) lowered in
+      let same : SameEnds w.ends heard_ = same_queued w.ends router r.node (Down l) line in
+      let both = turns router name r (Down l) ends' false er
+      (λ o. subst (IsStrictlySortedBy end_cmp) (sym (keys_changed heard_ (router, name) lowered)) (same.sorted o))
+      (λ q. keep_changed heard_ (router, name) lowered is_some q (λ s. refl) ∙ same.there_too q)
+      (λ q. read_changed heard_ (router, name) lowered up_of q ∙ (λ i. cond (is_end (router, name) q) (none_up (end_of heard_ q) i) (same.as_up q i)))
+      (λ lowers. subst (λ z. Fits w.routers ends' router (after r.node (Down z))) k.2 (fits_down w.routers w.ends ends' router name r.node k.0 (n router r er) k.1 lowers)) in
+      sound_of (w_down w line router name r l) both.0 both.1
+    where
+      none_up : (o : Option EndState) → up_of (option_map lowered o) ≡ false
+      none_up None = refl
+      none_up (Some s) = refl
+
+  -- ---- new routers, clients and links
+
+  -- a name that is taken is another than one that is free
+  other_name : (id q : List ℕ) → is_taken w id ≡ false → is_taken w q ≡ true → is_named q id ≡ false
+  other_name id q free taken = by (is_named q id) refl
+    where
+      by : (b : Bool) → is_named q id ≡ b → b ≡ false
+      by false e = refl
+      by true e = sym taken ∙ ap (is_taken w) (same_name q id e) ∙ free
+
+  -- an end that is up is that of routers and neighbours that are there
+  no_end_from : (id : List ℕ) → is_some (router_of w.routers id) ≡ false → (y : List ℕ) → is_up w.ends (id, y) ≡ false
+  no_end_from id free y = by (is_up w.ends (id, y)) refl
+    where
+      by : (b : Bool) → is_up w.ends (id, y) ≡ b → b ≡ false
+      by false e = refl
+      by true e = sym (p.owners id y (up_is_there (end_of w.ends (id, y)) e)) ∙ free
+
+  no_end_to : (x id : List ℕ) → is_taken w id ≡ false → is_up w.ends (x, id) ≡ false
+  no_end_to x id free = by (is_up w.ends (x, id)) refl
+    where
+      by : (b : Bool) → is_up w.ends (x, id) ≡ b → b ≡ false
+      by false e = refl
+      by true e = sym (p.neighbours x id (up_is_there (end_of w.ends (x, id)) e)) ∙ free
+
+  router_sound : (id : List ℕ) → is_taken w id ≡ false → IsSound (with_routers w (insert_entry (slice_cmp nat_cmp) w.routers id (new_router id)))
+  router_sound id free = sound_of (with_routers w more)
+      (record {
+        in_order = p.in_order;
+        owners = λ x y e. still x (p.owners x y e);
+        neighbours = λ x y e. or_more (is_some (router_of w.routers y)) (is_some (router_of more y)) (is_some (client_of w.clients y)) (still y) (p.neighbours x y e);
+        apart = p.apart;
+        homes = p.homes;
+      })
+      (λ x r found. by x r (is_named x id) refl (sym (is x) ∙ found))
+    where
+      more : Routers
+      more = insert_entry (slice_cmp nat_cmp) w.routers id (new_router id)
+
+      is : (q : List ℕ) → router_of more q ≡ cond (is_named q id) (Some (new_router id)) (router_of w.routers q)
+      is q = value_new w.routers id q (new_router id) (not_there (router_of w.routers id) (free_name w id free).0)
+
+      still : (q : List ℕ) → is_some (router_of w.routers q) ≡ true → is_some (router_of more q) ≡ true
+      still q e = ap is_some (is q) ∙ read_cond is_some (is_named q id) (Some (new_router id)) (router_of w.routers q) ∙ still_true (is_named q id) (is_some (router_of w.routers q)) e
+
+      or_more : (a b c : Bool) → (a ≡ true → b ≡ true) → (a || c) ≡ true → (b || c) ≡ true
+      or_more true b c f e = ap (λ z. z || c) (f refl)
+      or_more false b c f e = or_right b c e
+
+      fresh : Fits more w.ends id (new_router id).node
+      fresh = record {
+        own = refl;
+        unique = unique_nothing;
+        links = λ y. sym (no_end_from id (free_name w id free).0 y);
+        roles = λ y q k. absurd (false≢true (ap is_some k));
+      }
+
+      same : (x y : List ℕ) → is_up w.ends (x, y) ≡ true → is_some (router_of more y) ≡ is_some (router_of w.routers y)
+      same x y u = ap is_some (is y)
+          ∙ ap (λ b. is_some (cond b (Some (new_router id)) (router_of w.routers y))) (other_name id y free (p.neighbours x y (up_is_there (end_of w.ends (x, y)) u)))
+
+      by : (x : List ℕ) (r : RouterState) (b : Bool) → is_named x id ≡ b → cond b (Some (new_router id)) (router_of w.routers x) ≡ Some r → Fits more w.ends x r.node
+      by x r true e k =
+          let it : new_router id ≡ r = cc in
+          subst (λ (t : RouterState). Fits more w.ends x t.node) it (subst (λ z. Fits more w.ends z (new_router id).node) (sym (same_name x id e)) fresh)
+      by x r false e k = fits_same w.routers more w.ends w.ends x r.node (n x r k) (λ y u. same x y u) (λ y. refl)
+
+  link_sound : (one other : List ℕ) → is_named one other ≡ false → (r : RouterState) → router_of w.routers one ≡ Some r → (q : RouterState) → router_of w.routers other ≡ Some q →
+      is_in_place w.ends (one, other) ≡ false → IsSound (w_link w one other)
+  link_sound one other apart r er q eq new = sound_of (w_link w one other)
+      (places_put w.routers w.clients first (other, one) new_end
+      (places_put w.routers w.clients w.ends (one, other) new_end p (ap is_some er) (ap (λ (o : Option RouterState). is_some o || is_some (client_of w.clients other)) eq) apart)
+      (ap is_some eq) (ap (λ (o : Option RouterState). is_some o || is_some (client_of w.clients one)) er) (names.symm other one ∙ apart))
+      (λ x t found. fits_same w.routers w.routers w.ends both x t.node (n x t found) (λ y u. refl) (λ y. as_up (x, y)))
+    where
+      first : Ends
+      first = put_end w.ends (one, other) new_end
+
+      both : Ends
+      both = put_end first (other, one) new_end
+
+      -- neither end was up
+      downs : (is_up w.ends (one, other) ≡ false) × (is_up w.ends (other, one) ≡ false)
+      downs =
+          let parts = or_parts (is_unbroken w.ends (one, other) || is_up w.ends (one, other)) (is_up w.ends (other, one)) new in
+          ((or_parts (is_unbroken w.ends (one, other)) (is_up w.ends (one, other)) parts.0).1, parts.1)
+
+      first_up : (e : End) → up_of (end_of first e) ≡ up_of (end_of w.ends e)
+      first_up e = keep_put_end w.ends (one, other) new_end up_of e (sym downs.0)
+
+      as_up : (e : End) → up_of (end_of both e) ≡ up_of (end_of w.ends e)
+      as_up e = keep_put_end first (other, one) new_end up_of e (sym (first_up (other, one) ∙ downs.1)) ∙ first_up e
+
+  client_sound : (id router : List ℕ) (r : RouterState) → router_of w.routers router ≡ Some r → is_taken w id ≡ false → IsSound (w_client w line id router r)
+  client_sound id router r er free = sound_of (w_client w line id router r)
+      (record {
+        in_order = queued_.sorted (sorted_put_end w.ends (router, id) (lifted new_end) p.in_order);
+        owners = λ x y e. of_end (λ q. is_some (router_of more q.0) ≡ true) (kept_router router ∙ ap is_some er) (λ q k. kept_router q.0 ∙ p.owners q.0 q.1 k) (x, y) e;
+        neighbours = λ x y e. of_end (λ q. (is_some (router_of more q.1) || is_some (client_of clients q.1)) ≡ true) (or_right (is_some (router_of more id)) (is_some (client_of clients id)) own_client)
+            (λ q k. (λ i. kept_router q.1 i || is_some (client_of clients q.1)) ∙ or_still (is_some (router_of w.routers q.1)) (is_some (client_of w.clients q.1)) (is_some (client_of clients q.1)) (still q.1) (p.neighbours q.0 q.1 k)) (x, y) e;
+        apart = λ x y e. of_end (λ q. is_named q.0 q.1 ≡ false) (other_name id router free (or_left (is_some (router_of w.routers router)) (is_some (client_of w.clients router)) (ap is_some er)))
+            (λ q k. p.apart q.0 q.1 k) (x, y) e;
+        homes = λ name s e. home_of name s (is_named name id) refl (sym (is name) ∙ e);
+      })
+      (nodes_set w.routers w.ends ends' router r (hearing r event) n er
+      (fits_up w.routers w.ends ends' router id r.node (record { id = id; role = role.Client }) (n router r er) refl (sym (free_name w id free).0) (no_end_to router id free)
+      (λ q. ups (router, q) ∙ ap (λ t. cond t true (is_up w.ends (router, q))) (own_end router id q)))
+      (λ z q apart. ups (z, q) ∙ ap (λ t. cond t true (is_up w.ends (z, q))) (other_end router id z q apart)))
+    where
+      event : Event
+      event = up_event r (record { id = id; role = role.Client })
+
+      first : Ends
+      first = put_end w.ends (router, id) (lifted new_end)
+
+      ends' : Ends
+      ends' = all_queued first router r.node event line
+
+      more : Routers
+      more = with_router w.routers router (hearing r event)
+
+      clients : Clients
+      clients = insert_entry (slice_cmp nat_cmp) w.clients id (new_client router)
+
+      queued_ : SameEnds first ends'
+      queued_ = same_queued first router r.node event line
+
+      kept_router : (q : List ℕ) → is_some (router_of more q) ≡ is_some (router_of w.routers q)
+      kept_router q = same_router router r (hearing r event) er q
+
+      is : (q : List ℕ) → client_of clients q ≡ cond (is_named q id) (Some (new_client router)) (client_of w.clients q)
+      is q = value_new w.clients id q (new_client router) (not_there (client_of w.clients id) (free_name w id free).1)
+
+      still : (q : List ℕ) → is_some (client_of w.clients q) ≡ true → is_some (client_of clients q) ≡ true
+      still q e = ap is_some (is q) ∙ read_cond is_some (is_named q id) (Some (new_client router)) (client_of w.clients q) ∙ still_true (is_named q id) (is_some (client_of w.clients q)) e
+
+      own_client : is_some (client_of clients id) ≡ true
+      own_client = ap is_some (is id) ∙ ap (λ b. is_some (cond b (Some (new_client router)) (client_of w.clients id))) (names.refl id)
+
+      or_still : (a b c : Bool) → (b ≡ true → c ≡ true) → (a || b) ≡ true → (a || c) ≡ true
+      or_still true b c f e = refl
+      or_still false b c f e = f e
+
+      of_end : (P : End → Type 0) → P (router, id) → ((q : End) → is_some (end_of w.ends q) ≡ true → P q) → (q : End) → is_some (end_of ends' q) ≡ true → P q
+      of_end P own old q e = of_put P w.ends (router, id) (lifted new_end) own old q (sym (queued_.there_too q) ∙ e)
+
+      there_is : (q : End) → is_some (end_of ends' q) ≡ cond (is_end (router, id) q) true (is_some (end_of w.ends q))
+      there_is q = queued_.there_too q ∙ read_put_end w.ends (router, id) (lifted new_end) is_some q
+
+      ups : (q : End) → up_of (end_of ends' q) ≡ cond (is_end (router, id) q) true (up_of (end_of w.ends q))
+      ups q = queued_.as_up q ∙ read_put_end w.ends (router, id) (lifted new_end) up_of q
+
+      home_of : (name : List ℕ) (s : ClientState) (b : Bool) → is_named name id ≡ b → cond b (Some (new_client router)) (client_of w.clients name) ≡ Some s →
+          is_some (end_of ends' (s.router, name)) ≡ true
+      home_of name s true e k =
+          let own : router ≡ s.router = ap (λ (o : Option ClientState). option_map_or (λ z. z.router) o []) k in
+          there_is (s.router, name) ∙ ap (λ b. cond b true (is_some (end_of w.ends (s.router, name))))
+          (end_parts (router, id) (s.router, name) ∙ (λ i. is_named router (sym own i) && is_named id (same_name name id e i)) ∙ (λ i. names.refl router i && names.refl id i))
+      home_of name s false e k = there_is (s.router, name) ∙ still_true (is_end (router, id) (s.router, name)) (is_some (end_of w.ends (s.router, name))) (p.homes name s k)
 
   each_act : (act : Act) → Keeps (outcome w line act)
   unfolding outcome
-  each_act (a.Router id) = kept (outcome w line (a.Router id)) (for_router now sound id (first_kept id))
-  each_act (a.Client id router) = kept (outcome w line (a.Client id router)) (for_client now sound id router
-      (λ r er free. client_new (with_router w.routers router (linked r (length w.names) id)) id (new_client router (length w.names)) w.clients
-      (some_set (is_named router) router (linked r (length w.names) id) w.routers ∙ ap is_some er) free (router_kept w.routers router (linked r (length w.names) id) w.clients h)))
-  each_act (a.Sub client id key) = kept (outcome w line (a.Sub client id key)) (for_sub now sound line client id key
-      (λ s es fresh r er. router_kept w.routers s.router (weighing r key) (with_client w.clients client (sent (declaring s id) (m.Sub id key) line)) (changed client s (sent (declaring s id) (m.Sub id key) line) es refl)))
-  each_act (a.Unsub client id) = kept (outcome w line (a.Unsub client id)) (for_unsub now sound line client id (λ s es. changed client s (sent (undeclaring s id) (m.Unsub id) line) es refl))
-  each_act (a.Publish client content) = kept (outcome w line (a.Publish client content)) (for_publish now sound line client content (λ s es. changed client s (sent s (m.Push None content) line) es refl))
-  each_act (a.Handle router name) = kept (outcome w line (a.Handle router name)) (for_handle now sound router name
-      (λ r er s es msg tag xs front.
-      let rest : Clients = with_client w.clients name (with_wire s xs) in
-      let out : List (LinkNo × Msg) = sends r.node (From (record { 0 = s.link }) msg) in
-      router_kept w.routers router (having r s.link msg) (all_queued rest w.names out tag) (all_queued_kept w.routers w.names out tag rest (changed name s (with_wire s xs) es refl))))
-  each_act (a.Take router to) = kept (outcome w line (a.Take router to)) (for_take now sound router to (λ s es x xs front. changed to s (with_queue s xs) es refl))
-  each_act a.Mark = kept (outcome w line a.Mark) (for_mark now sound line (λ settled. h))
+  each_act (a.Router id) = kept (outcome w line (a.Router id)) (for_router now sound id (λ free room alone. router_sound id free))
+  each_act (a.Client id router) = kept (outcome w line (a.Client id router)) (for_client now sound line id router (λ r er free room taken. client_sound id router r er free))
+  each_act (a.Link one other) = kept (outcome w line (a.Link one other)) (for_link now sound one other (λ apart r er q eq new room. link_sound one other apart r er q eq new))
+  each_act (a.Up router name) = kept (outcome w line (a.Up router name)) (for_up now sound line router name (λ r er there s es unbroken down taken. up_sound router name r er s es down))
+  each_act (a.Break router name) = kept (outcome w line (a.Break router name)) (for_break now sound router name (λ r er there s es unbroken. break_sound router name))
+  each_act (a.Down router name) = kept (outcome w line (a.Down router name)) (for_down now sound line router name (λ r er there s es up cut l el taken. down_sound router name r er l el))
+  each_act (a.Sub client id key) = kept (outcome w line (a.Sub client id key)) (for_sub now sound line client id key (λ s es fresh e ee unbroken alone r er. sub_sound client id key s es e ee r er))
+  each_act (a.Unsub client id) = kept (outcome w line (a.Unsub client id)) (for_unsub now sound line client id (λ s es known e ee unbroken alone. unsub_sound client id s es e ee))
+  each_act (a.Publish client content) = kept (outcome w line (a.Publish client content)) (for_publish now sound line client content (λ s es e ee unbroken alone. publish_sound client (m.Push None content) s e ee))
+  each_act (a.Handle router from) = kept (outcome w line (a.Handle router from)) (for_handle now sound router from (λ r er there s es up msg tag xs front l el. handle_sound router from r er s es msg tag xs l))
+  each_act (a.Take router to) = kept (outcome w line (a.Take router to)) (for_take now sound router to (λ r er there s es up unbroken msg tag xs front. take_sound router to s es msg tag xs))
+  each_act a.Mark = kept (outcome w line a.Mark) (for_mark now sound line (λ settled joined. h))
+  each_act (a.Show router) = kept (outcome w line (a.Show router)) (for_show now sound router (λ r er. h))
 
 pub act_keeps : (w : WorldState) (line : ℕ) (act : Act) → IsSound w → Keeps (outcome w line act)
 act_keeps w line act h = each_act w line h act
@@ -197,7 +379,7 @@ unfolding book_step
 book_keeps w steps h = by (nat_le (w.booked + steps) most_steps)
   where
     by : (b : Bool) → IfOk (cond b (Ok (booking w steps)) (Err Limit)) IsSound
-    by true = h
+    by true = sound_of (booking w steps) (places_of w h) (nodes_of w h)
     by false = tt
 
 -- what was said first, and then the rest
@@ -209,17 +391,13 @@ acts_keep line [] w h = h
 acts_keep line (a ∷ more) w h = by (outcome w line a) (act_keeps w line a h) (acts_keep line more)
   where
     by : (o : Outcome) → Keeps o → ((v : WorldState) → IsSound v → IfOk (all_done v line more) (λ x. IsSound x.1)) →
-        IfOk (o >>= (λ x. all_done x.1 line more >>= (said_first (option_to_list x.0)))) (λ x. IsSound x.1)
+        IfOk (o >>= (λ x. all_done x.1 line more >>= (said_first x.0))) (λ x. IsSound x.1)
     by (Err e) k ih = tt
     by (Ok x) k ih = at (all_done x.1 line more) (ih x.1 k)
       where
-        at : (d : Done) → IfOk d (λ x. IsSound x.1) → IfOk (d >>= (said_first (option_to_list x.0))) (λ x. IsSound x.1)
+        at : (d : Done) → IfOk d (λ x. IsSound x.1) → IfOk (d >>= (said_first x.0)) (λ x. IsSound x.1)
         at (Err e) m = tt
         at (Ok y) m = m
-
-act_done_keeps : (o : Outcome) → Keeps o → IfOk (act_done o) (λ x. IsSound x.1)
-act_done_keeps (Ok x) k = k
-act_done_keeps (Err e) k = tt
 
 run_keeps : (w : WorldState) (line steps : ℕ) → IsSound w → IfOk (run_done line steps w) (λ x. IsSound x.1)
 unfolding run_done
@@ -234,7 +412,7 @@ run_keeps w line steps h = by (all_done w line (run_steps line steps w)) (acts_k
 
 pub applied_keeps : (w : WorldState) (line : ℕ) (command : Command) → IsSound w → IfOk (applied w line command) (λ x. IsSound x.1)
 unfolding applied
-applied_keeps w line (c.Act act) h = act_done_keeps (outcome w line act) (act_keeps w line act h)
+applied_keeps w line (c.Act act) h = act_keeps w line act h
 applied_keeps w line (c.Run steps) h = by (book_step w steps) (book_keeps w steps h)
   where
     by : (b : Result WorldState ScriptError) → IfOk b IsSound → IfOk (b >>= run_done line steps) (λ x. IsSound x.1)
@@ -243,97 +421,98 @@ applied_keeps w line (c.Run steps) h = by (book_step w steps) (book_keeps w step
 
 -- ---- the next step is possible
 
--- an end at which a client is found that passes the test, and its router
-abbrev IsEnd : (ClientState → Bool) → Routers → Clients → End → Type 0
-IsEnd test routers es e = (s : ClientState) × (client_of es e.1 ≡ Some s) × (test s ≡ true) × (s.router ≡ e.0) × (is_some (router_of routers e.0) ≡ true)
+-- an end of the world that passes a test
+abbrev IsEnd : (EndState → Bool) → Ends → End → Type 0
+IsEnd test ends e = (s : EndState) × (end_of ends e ≡ Some s) × (test s ≡ true)
 
-abbrev Each : (End → Type 0) → List End → Type 0
-Each P [] = Unit {0}
-Each P (e ∷ es) = P e × Each P es
-
-each_more : (P Q : End → Type 0) → ((e : End) → P e → Q e) → (es : List End) → Each P es → Each Q es
-each_more P Q f [] h = tt
-each_more P Q f (e ∷ es) h = (f e h.0, each_more P Q f es h.1)
-
-ends_are : (test : ClientState → Bool) (routers : Routers) (es : Clients) → AreSound routers es → Each (IsEnd test routers es) (ends_where test es)
-ends_are test routers [] h = tt
-ends_are test routers (e ∷ es) h = by (test e.1) refl (each_more (IsEnd test routers es) (IsEnd test routers (e ∷ es)) wider (ends_where test es) (ends_are test routers es h.2))
+lesser_in : (xs : List End) (e : End) → In (fold lesser e xs) (e ∷ xs)
+lesser_in [] e = inl refl
+lesser_in (x ∷ xs) e = by (end_cmp e x) (lesser_in xs (lesser e x))
   where
-    wider : (x : End) → IsEnd test routers es x → IsEnd test routers (e ∷ es) x
-    wider x k = (k.0, ap (λ b. cond b (Some e.1) (client_of es x.1)) (apart x.1 e.0 es k.0 k.1 h.0) ∙ k.1, k.2, k.3, k.4)
+    by : (o : Ordering) → In (fold lesser (min_by_ordering o e x) xs) (min_by_ordering o e x ∷ xs) → In (fold lesser (min_by_ordering o e x) xs) (e ∷ x ∷ xs)
+    by Less h = past h
+      where
+        past : {z : End} → In z (e ∷ xs) → In z (e ∷ x ∷ xs)
+        past (inl i) = inl i
+        past (inr i) = inr (inr i)
+    by Equal h = past h
+      where
+        past : {z : End} → In z (e ∷ xs) → In z (e ∷ x ∷ xs)
+        past (inl i) = inl i
+        past (inr i) = inr (inr i)
+    by Greater h = inr h
 
-    own : test e.1 ≡ true → IsEnd test routers (e ∷ es) (e.1.router, e.0)
-    own t = (e.1, ap (λ b. cond b (Some e.1) (client_of es e.0)) (names.refl e.0), t, refl, h.1)
+first_in : (xs : List End) (e : End) → reduce lesser xs ≡ Some e → In e xs
+first_in [] e h = absurd (false≢true (ap is_some h))
+first_in (x ∷ xs) e h = let same : fold lesser x xs ≡ e = cc in subst (λ z. In z (x ∷ xs)) same (lesser_in xs x)
 
-    by : (b : Bool) → test e.1 ≡ b → Each (IsEnd test routers (e ∷ es)) (ends_where test es) →
-        Each (IsEnd test routers (e ∷ es)) (map (λ x. (x.1.router, x.0)) (cond b (e ∷ filter (λ x. test x.1) es) (filter (λ x. test x.1) es)))
-    by true t ih = (own t, ih)
-    by false t ih = ih
+-- the first end that passes a test is there, and passes it
+first_is : (test : EndState → Bool) (ends : Ends) (e : End) → IsStrictlySortedBy end_cmp (keys_of ends) → first_where test ends ≡ Some e → IsEnd test ends e
+first_is test ends e sorted h =
+    let x = in_map (λ (z : End × EndState). z.0) (filter (λ z. test z.1) ends) e (first_in (ends_where test ends) e h) in
+    let y = in_filter (λ (z : End × EndState). test z.1) ends x.0 x.1 in
+    (x.0.1, ap (end_of ends) (sym x.2) ∙ end_found ends x.0 sorted y.0, y.1)
 
-lesser_is : (P : End → Type 0) (es : List End) (e : End) → P e → Each P es → P (fold lesser e es)
-lesser_is P [] e p h = p
-lesser_is P (x ∷ es) e p h = lesser_is P es (lesser e x) (by (end_cmp e x)) h.1
-  where
-    by : (o : Ordering) → P (min_by_ordering o e x)
-    by Less = p
-    by Equal = p
-    by Greater = h.0
+ok_by : {A : Type 0} (a : Result A ScriptError) (f : A → Outcome) (x : A) → a ≡ Ok x → is_ok (f x) ≡ true → is_ok (a >>= f) ≡ true
+ok_by a f x e h = ap (λ z. is_ok (z >>= f)) e ∙ h
 
-first_is : (P : End → Type 0) (es : List End) (e : End) → Each P es → reduce lesser es ≡ Some e → P e
-first_is P [] e h k = absurd (false≢true (ap is_some k))
-first_is P (x ∷ es) e h k = let same : fold lesser x es ≡ e = cc in subst P same (lesser_is P es x h.0 h.1)
-
-router_is : (o : Option RouterState) → is_some o ≡ true → (r : RouterState) × (router_at o ≡ Ok r)
-router_is None h = absurd (false≢true h)
-router_is (Some r) h = (r, refl)
-
-end_is : (o : Option ClientState) (b : Bool) (router : List ℕ) (s : ClientState) → o ≡ Some s → s.router ≡ router → end_at o b router ≡ Ok s
-end_is None b router s h k = absurd (false≢true (ap is_some h))
-end_is (Some s') b router s h k =
-    let same : s' ≡ s = cc in
-    let named : is_named s'.router router ≡ true = ap (λ (z : ClientState). is_named z.router router) same ∙ ap (λ z. is_named z router) k ∙ names.refl router in
-    ap (λ t. cond t (Ok s') (Err NotLinked)) named ∙ ap Ok same
+-- a test that is passed
+ok_test : (b : Bool) (e : ScriptError) (f : Unit {0} → Outcome) → b ≡ true → is_ok (f tt) ≡ true → is_ok (unless (not b) e >>= f) ≡ true
+ok_test b e f t h = ap (λ z. is_ok (unless (not z) e >>= f)) t ∙ h
 
 waits : (xs : List Tagged) → not (is_empty xs) ≡ true → (x : Tagged × List Tagged) × (oldest xs ≡ Ok x)
 waits [] h = absurd (false≢true h)
 waits (x ∷ xs) h = ((x, xs), refl)
 
-ok_by : {A : Type 0} (a : Result A ScriptError) (f : A → Outcome) (x : A) → a ≡ Ok x → is_ok (f x) ≡ true → is_ok (a >>= f) ≡ true
-ok_by a f x e h = ap (λ z. is_ok (z >>= f)) e ∙ h
+-- the link to a neighbour to which the end is up
+pub number_is : (w : WorldState) (x y : List ℕ) (r : RouterState) (s : EndState) → IsSound w → router_of w.routers x ≡ Some r → end_of w.ends (x, y) ≡ Some s → s.up ≡ true →
+    (l : LinkNo) × (number_to r y ≡ Ok l)
+number_is w x y r s h er es up =
+    let l = there (link_to r.node.links y) (h.links x y r er ∙ ap up_of es ∙ up) in
+    (l.0.link, ap number_at l.1)
 
-handle_goes : (w : WorldState) (e : End) → IsEnd has_sent w.routers w.clients e → is_ok (handle_step w e.0 e.1) ≡ true
+handle_goes : (w : WorldState) (e : End) → IsSound w → IsEnd can_handle w.ends e → is_ok (handle_step w e.0 e.1) ≡ true
 unfolding handle_step
-handle_goes w e h =
-    let r = router_is (router_of w.routers e.0) h.4 in
-    let x = waits h.0.wire h.2 in
-    ok_by (router_at (router_of w.routers e.0)) _ r.0 r.1
-    (ok_by (end_at (client_of w.clients e.1) (is_some (router_of w.routers e.1)) e.0) _ h.0 (end_is (client_of w.clients e.1) (is_some (router_of w.routers e.1)) e.0 h.0 h.1 h.3)
-    (ok_by (oldest h.0.wire) _ x.0 x.1 refl))
+handle_goes w e h at =
+    let s : EndState = at.0 in
+    let can = and_parts s.up (not (is_empty s.wire)) at.2 in
+    let r = there (router_of w.routers e.0) (h.routers e.0 e.1 (ap is_some at.1)) in
+    let x = waits s.wire can.1 in
+    let l = number_is w e.0 e.1 r.0 s h r.1 at.1 can.0 in
+    ok_by (router_at (router_of w.routers e.0)) _ r.0 (ap router_at r.1)
+    (ok_test (is_taken w e.1) UnknownName _ (h.neighbours e.0 e.1 (ap is_some at.1))
+    (ok_by (end_at (end_of w.ends e)) _ s (ap end_at at.1)
+    (ok_test s.up NotLinked _ can.0
+    (ok_by (oldest s.wire) _ x.0 x.1
+    (ok_by (number_to r.0 e.1) _ l.0 l.1 refl)))))
 
-take_goes : (w : WorldState) (e : End) → IsEnd has_queued w.routers w.clients e → is_ok (take_step w e.0 e.1) ≡ true
+take_goes : (w : WorldState) (e : End) → IsSound w → IsEnd can_take w.ends e → is_ok (take_step w e.0 e.1) ≡ true
 unfolding take_step
-take_goes w e h =
-    let r = router_is (router_of w.routers e.0) h.4 in
-    let x = waits h.0.queue h.2 in
-    ok_by (router_at (router_of w.routers e.0)) _ r.0 r.1
-    (ok_by (end_at (client_of w.clients e.1) (is_some (router_of w.routers e.1)) e.0) _ h.0 (end_is (client_of w.clients e.1) (is_some (router_of w.routers e.1)) e.0 h.0 h.1 h.3)
-    (ok_by (oldest h.0.queue) _ x.0 x.1 refl))
+take_goes w e h at =
+    let s : EndState = at.0 in
+    let can = and_parts (s.up && s.unbroken) (not (is_empty s.queue)) at.2 in
+    let both = and_parts s.up s.unbroken can.0 in
+    let r = there (router_of w.routers e.0) (h.routers e.0 e.1 (ap is_some at.1)) in
+    let x = waits s.queue can.1 in
+    ok_by (router_at (router_of w.routers e.0)) _ r.0 (ap router_at r.1)
+    (ok_test (is_taken w e.1) UnknownName _ (h.neighbours e.0 e.1 (ap is_some at.1))
+    (ok_by (end_at (end_of w.ends e)) _ s (ap end_at at.1)
+    (ok_test s.up NotLinked _ both.0
+    (ok_test s.unbroken NotLinked _ both.1
+    (ok_by (oldest s.queue) _ x.0 x.1 refl)))))
 
 pub next_goes : (w : WorldState) (line : ℕ) (step : Act) → IsSound w → next w ≡ Some step → is_ok (outcome w line step) ≡ true
 unfolding outcome
-next_goes w line step h found = by (first_where has_sent w.clients) (first_where has_queued w.clients) refl refl found
+next_goes w line step h found = by (first_where can_handle w.ends) (first_where can_take w.ends) refl refl found
   where
-    by : (sent queued : Option End) → first_where has_sent w.clients ≡ sent → first_where has_queued w.clients ≡ queued → step_at sent queued ≡ Some step →
-        is_ok (outcome w line step) ≡ true
-    by (Some e) queued s q k =
+    by : (o t : Option End) → first_where can_handle w.ends ≡ o → first_where can_take w.ends ≡ t → step_at o t ≡ Some step → is_ok (outcome w line step) ≡ true
+    by (Some e) t f g k =
         let same : a.Handle e.0 e.1 ≡ step = cc in
-        subst (λ (z : Act). is_ok (outcome w line z) ≡ true) same
-        (handle_goes w e (first_is (IsEnd has_sent w.routers w.clients) (ends_where has_sent w.clients) e (ends_are has_sent w.routers w.clients h) s))
-    by None (Some e) s q k =
+        subst (λ (z : Act). is_ok (outcome w line z) ≡ true) same (handle_goes w e h (first_is can_handle w.ends e h.in_order f))
+    by None (Some e) f g k =
         let same : a.Take e.0 e.1 ≡ step = cc in
-        subst (λ (z : Act). is_ok (outcome w line z) ≡ true) same
-        (take_goes w e (first_is (IsEnd has_queued w.routers w.clients) (ends_where has_queued w.clients) e (ends_are has_queued w.routers w.clients h) q))
-    by None None s q k = absurd (false≢true (ap is_some k))
+        subst (λ (z : Act). is_ok (outcome w line z) ≡ true) same (take_goes w e h (first_is can_take w.ends e h.in_order g))
+    by None None f g k = absurd (false≢true (ap is_some k))
 
 -- the steps of a run are not refused
 pub run_goes : (line n : ℕ) (w : WorldState) → IsSound w → is_ok (all_done w line (run_steps line n w)) ≡ true
@@ -346,11 +525,45 @@ run_goes line (suc n) w h = by (next w) refl (run_goes line n)
     by None e ih = refl
     by (Some step) e ih = at (outcome w line step) (next_goes w line step h e) (act_keeps w line step h)
       where
-        at : (o : Outcome) → is_ok o ≡ true → Keeps o →
-            is_ok (o >>= (λ x. all_done x.1 line (run_steps line n (world_after w o)) >>= (said_first (option_to_list x.0)))) ≡ true
+        at : (o : Outcome) → is_ok o ≡ true → Keeps o → is_ok (o >>= (λ x. all_done x.1 line (run_steps line n (world_after w o)) >>= (said_first x.0))) ≡ true
         at (Err e) k m = absurd (false≢true k)
         at (Ok x) k m = last (all_done x.1 line (run_steps line n x.1)) (ih x.1 m)
           where
-            last : (d : Done) → is_ok d ≡ true → is_ok (d >>= (said_first (option_to_list x.0))) ≡ true
+            last : (d : Done) → is_ok d ≡ true → is_ok (d >>= (said_first x.0)) ≡ true
             last (Ok y) k = refl
             last (Err e) k = absurd (false≢true k)
+
+-- ---- the events that acts bring
+
+module _ (w : WorldState) (h : IsSound w) (x y : List ℕ) (r : RouterState) (er : router_of w.routers x ≡ Some r) where
+  -- no link leads to a neighbour to which the end is not up
+  no_link : is_up w.ends (x, y) ≡ false → link_to r.node.links y ≡ None
+  no_link down = not_there (link_to r.node.links y) (h.links x y r er ∙ down)
+
+  -- the link to a neighbour may come up, where the end is there and not up
+  pub up_may_come : (s : EndState) → end_of w.ends (x, y) ≡ Some s → s.up ≡ false → MayCome r.node (up_event r (peer_of w y))
+  up_may_come s es down = record {
+    number = free_is_free r.node.links;
+    name = no_link (ap up_of es ∙ down);
+    other = ap (is_named y) (h.own x r er) ∙ names.symm y x ∙ h.apart x y (ap is_some es);
+  }
+
+  -- and that to a new client
+  pub client_may_come : is_taken w y ≡ false → MayCome r.node (up_event r (record { id = y; role = role.Client }))
+  client_may_come free = record {
+    number = free_is_free r.node.links;
+    name = no_link (no_end_to w 0 h x y free);
+    other = ap (is_named y) (h.own x r er) ∙ names.symm y x ∙ other_name w 0 h y x free (or_left (is_some (router_of w.routers x)) (is_some (client_of w.clients x)) (ap is_some er));
+  }
+
+  -- a link to a neighbour has its number
+  number_comes : (l : LinkNo) → number_to r y ≡ Ok l → is_some (link_at r.node.links l.0) ≡ true
+  number_comes l el =
+      let k = number_found r y l el in
+      ap (λ (z : LinkNo). is_some (link_at r.node.links z.0)) (sym k.2) ∙ ap is_some (numbered_link r.node.links (h.unique x r er) y k.0 k.1)
+
+  pub down_may_come : (l : LinkNo) → number_to r y ≡ Ok l → MayCome r.node (Down l)
+  down_may_come l el = number_comes l el
+
+  pub from_may_come : (l : LinkNo) (msg : Msg) → number_to r y ≡ Ok l → MayCome r.node (From l msg)
+  from_may_come l msg el = number_comes l el

@@ -28,12 +28,15 @@ accepted_from r (line ∷ more) = entries (on_line r line).refusal (r.number + 1
 abbrev pub accepted : List (List ℕ) → List Numbered
 accepted ls = accepted_from start ls
 
--- whether a report line tells of a step or a mark, and not of a run's end
-abbrev pub is_of_step : ReportLine → Bool
-is_of_step (r.Handled router from msg tag) = true
-is_of_step (r.Taken router to msg tag) = true
-is_of_step (r.Ran steps quiet) = false
-is_of_step (r.Mark line) = true
+-- whether a report line tells of an act, and not of a run's end
+abbrev pub is_of_act : ReportLine → Bool
+is_of_act (r.Handled router from msg tag) = true
+is_of_act (r.Taken router to msg tag) = true
+is_of_act (r.Ran steps quiet) = false
+is_of_act (r.Mark line) = true
+is_of_act (r.Show router) = true
+is_of_act (r.Record links) = true
+is_of_act (r.Parent root parent) = true
 
 -- A run has the world of a moment, but for the steps that runs asked for, which no act counts; and its text is that of report
 -- lines which are the moment's, with the ends of runs between them.
@@ -41,7 +44,7 @@ pub record IsTold (r : Run) (m : Moment) : Type 0 where
   pub world_is : r.world ≡ with_booked m.world r.world.booked
   pub all : List ReportLine
   pub text_is : r.text ≡ flat_map line_text all
-  pub report_is : m.report ≡ filter is_of_step all
+  pub report_is : m.report ≡ filter is_of_act all
 
 -- the accepted acts of some lines lead to a moment, which is what the run of the lines tells
 pub record IsMoment (ls : List (List ℕ)) (m : Moment) : Type 0 where

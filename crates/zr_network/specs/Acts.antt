@@ -1,31 +1,46 @@
--- What each act does to the world: the report line, if there is one, and the world after it; or the refusal, and the world stays.
+-- What each act does to the world: the report lines, and the world after it; or the refusal, and the world stays.
 -- The order of an act's lines is the order of its refusals, which is that of the language (`zr_language`, Command).
-use Rattle.std.specs.Prelude.{ℕ, ◌+◌, ◌==◌, nat_le, Bool, true, false, if◌then◌else◌, List, [], ◌∷◌, ◌++◌, length, Option, Some, None, is_some, Result, Ok, Err}
+use Rattle.std.specs.Prelude.{ℕ, ◌+◌, ◌==◌, ◌&&◌, not, nat_le, Bool, true, false, if◌then◌else◌, List, [], ◌∷◌, ◌++◌, length, map, filter, Option, Some, None, is_some, Result, Ok, Err}
 use Rattle.std.specs.List.{list_any}
+use Rattle.std.specs.Option.{option_map_or}
 use Rattle.std.specs.Ordering.{nat_cmp}
 use Rattle.std.specs.Cmp.Lexicographic.{slice_cmp}
 use Rattle.std.specs.BTreeMap.{insert_entry}
 use Rattle.zr_id.specs.Zid.{is_named}
+use Rattle.zr_id.specs.declared.link.LinkNo.{LinkNo}
+use Rattle.zr_graph.specs.Record.{ids}
+use Rattle.zr_graph.specs.Base.{BaseState}
+use Rattle.zr_tree.specs.Walk.{graph_of}
+use Rattle.zr_tree.specs.Tree.{parent}
 use Rattle.zr_msg.specs.declared.content.Parts.{Parts}
+use Rattle.zr_msg.specs.declared.error.NodeError.{NodeError}
 use Rattle.zr_msg.specs.declared.msg.Msg.{Msg}
 use Rattle.zr_msg.specs.declared.msg.Msg.TheVariants as m
-use Rattle.zr_msg.specs.declared.event.Event.TheVariants.{Up, From}
+use Rattle.zr_msg.specs.declared.event.Event.{Event}
+use Rattle.zr_msg.specs.declared.event.Event.TheVariants.{Up, Down, From}
 use Rattle.zr_msg.specs.declared.peer.Peer.{Peer}
 use Rattle.zr_msg.specs.declared.peer.Role.TheVariants as role
 use Rattle.zr_command.specs.declared.error.ScriptError.{ScriptError}
-use Rattle.zr_command.specs.declared.error.ScriptError.TheVariants.{UnknownName, NameTaken, NotLinked, NothingThere, NotSettled, Limit}
+use Rattle.zr_command.specs.declared.error.ScriptError.TheVariants.{BadWords, UnknownName, NameTaken, NotLinked, AlreadyLinked, NothingThere, NotSettled, NotJoined, Limit}
 use Rattle.zr_command.specs.declared.command.Act.{Act}
 use Rattle.zr_command.specs.declared.command.Act.TheVariants as a
 use Rattle.zr_command.specs.declared.report.ReportLine.{ReportLine}
-use Rattle.zr_command.specs.declared.report.ReportLine.TheVariants.{Handled, Taken, Mark}
-use Rattle.zr_table.specs.Table.{sends, after}
+use Rattle.zr_command.specs.declared.report.ReportLine.TheVariants.{Handled, Taken, Mark, Show, Record, Parent}
+use Rattle.zr_table.specs.State.{LinkState, NodeState, link_to, free_link}
+use Rattle.zr_table.specs.Table.{sends, after, refuses}
 use Rattle.zr_language.specs.Step.{◌>>=◌}
-use Rattle.zr_network.specs.World.{Tagged, ClientState, RouterState, WorldState, Routers, with_tables, new_router, new_client, router_of, client_of, with_router, with_client, is_taken, most_clients, most_weight, weight_of, sent, with_wire, with_queue, declaring, undeclaring, all_queued, all_settled}
+use Rattle.zr_network.specs.World.{Tagged, ClientState, RouterState, EndState, Ends, Routers, WorldState, with_routers, with_clients, with_ends, in_use, new_router, new_client, new_end, router_of, client_of, with_router, with_client, is_taken, end_of, with_end, put_end, most_routers, most_clients, most_links, most_weight, weight_of, is_in_place, links_in_place, sent, queued, with_wire, with_queue, broken, lifted, lowered, changed, is_settled}
+use Rattle.zr_network.specs.Joined.{is_joined}
 
 abbrev pub Outcome : Type 0
-Outcome = Result (Option ReportLine × WorldState) ScriptError
+Outcome = Result (List ReportLine × WorldState) ScriptError
 
 -- ---- what an act asks of the world
+
+-- a test that an act has to pass, and what it is refused with otherwise
+abbrev pub unless : Bool → ScriptError → Result (Unit {0}) ScriptError
+unless true e = Err e
+unless false e = Ok tt
 
 abbrev pub router_at : Option RouterState → Result RouterState ScriptError
 router_at None = Err UnknownName
@@ -35,37 +50,31 @@ abbrev pub client_at : Option ClientState → Result ClientState ScriptError
 client_at None = Err UnknownName
 client_at (Some s) = Ok s
 
--- the client at the other end of a router's link: another name that is there is not linked to the router
-abbrev pub end_at : Option ClientState → Bool → List ℕ → Result ClientState ScriptError
-end_at None true router = Err NotLinked
-end_at None false router = Err UnknownName
-end_at (Some s) is_router router = if is_named s.router router then Ok s else Err NotLinked
+-- a link's end
+abbrev pub end_at : Option EndState → Result EndState ScriptError
+end_at None = Err NotLinked
+end_at (Some s) = Ok s
+
+-- an end that is up
+abbrev pub up_at : EndState → Result (Unit {0}) ScriptError
+up_at s = unless (not s.up) NotLinked
+
+-- an end whose link is unbroken
+abbrev pub unbroken_at : EndState → Result (Unit {0}) ScriptError
+unbroken_at s = unless (not s.unbroken) NotLinked
 
 -- the oldest message that waits, and the others
 abbrev pub oldest : List Tagged → Result (Tagged × List Tagged) ScriptError
 oldest [] = Err NothingThere
 oldest (x ∷ more) = Ok (x, more)
 
--- a name that nobody has yet
-abbrev pub free_name : WorldState → List ℕ → Result (Unit {0}) ScriptError
-free_name w name = if is_taken w name then Err NameTaken else Ok tt
+-- whether a client has declared an id
+abbrev pub has_id : ClientState → ℕ → Bool
+has_id s id = list_any (λ i. i == id) s.ids
 
--- a world has one router
-abbrev pub first_router : Routers → Result (Unit {0}) ScriptError
-first_router [] = Ok tt
-first_router (r ∷ more) = Err Limit
-
--- room for one more client
-abbrev pub room_for_client : List (List ℕ) → Result (Unit {0}) ScriptError
-room_for_client names = if nat_le most_clients (length names) then Err Limit else Ok tt
-
--- an id that the client hasn't declared
-abbrev pub fresh_id : ClientState → ℕ → Result (Unit {0}) ScriptError
-fresh_id s id = if list_any (λ i. i == id) s.ids then Err NameTaken else Ok tt
-
--- an id that the client has declared
-abbrev pub known_id : ClientState → ℕ → Result (Unit {0}) ScriptError
-known_id s id = if list_any (λ i. i == id) s.ids then Ok tt else Err UnknownName
+-- routers tell each other of links alone: so far a world with more than one has no declarations and samples
+abbrev pub is_alone : WorldState → Bool
+is_alone w = nat_le (length w.routers) 1
 
 -- one more declaration weighs on the router
 abbrev pub weighing : RouterState → List ℕ → RouterState
@@ -77,97 +86,207 @@ weighed routers name key None = Err UnknownName
 weighed routers name key (Some r) =
     if nat_le (r.weight + weight_of key) most_weight then Ok (with_router routers name (weighing r key)) else Err Limit
 
+-- the client has declared the id
+abbrev pub declaring : ClientState → ℕ → ClientState
+declaring s id = record { router = s.router; ids = s.ids ++ id ∷ [] }
+
+-- the client has taken the id back
+abbrev pub undeclaring : ClientState → ℕ → ClientState
+undeclaring s id = record { router = s.router; ids = filter (λ i. not (i == id)) s.ids }
+
 -- ---- what a router hears
 
--- a client of this name, at the other end of a link
-abbrev pub client_peer : List ℕ → Peer
-client_peer name = record { id = name; role = role.Client }
+-- what an event makes a router send to a neighbour: on the link to it, if there is one afterwards
+abbrev pub sends_to : NodeState → Event → List ℕ → List Msg
+sends_to node event name = option_map_or (λ l. sends node event l.link) (link_to (after node event).links name) []
 
--- a client's link has come up
-abbrev pub linked : RouterState → ℕ → List ℕ → RouterState
-linked r link name = record { node = after r.node (Up (record { 0 = link }) (client_peer name)); weight = r.weight }
+-- what the router x sends waits at its ends, with the tag
+abbrev pub all_queued : Ends → List ℕ → NodeState → Event → ℕ → Ends
+all_queued ends x node event tag = map (λ e. if is_named x e.0.0 then (e.0, queued e.1 (sends_to node event e.0.1) tag) else e) ends
 
--- a message has come to the router over a link
-abbrev pub having : RouterState → ℕ → Msg → RouterState
-having r link msg = record { node = after r.node (From (record { 0 = link }) msg); weight = r.weight }
+-- the router x has heard of an event
+abbrev pub hearing : RouterState → Event → RouterState
+hearing r event = record { node = after r.node event; weight = r.weight }
+
+abbrev pub heard : WorldState → List ℕ → RouterState → Event → ℕ → WorldState
+heard w x r event tag = with_ends (with_routers w (with_router w.routers x (hearing r event))) (all_queued w.ends x r.node event tag)
+
+-- unless the router refuses the event, which no script within its limits comes near
+abbrev pub heard_by : WorldState → List ℕ → RouterState → Event → ℕ → Option NodeError → Result WorldState ScriptError
+heard_by w x r event tag None = Ok (heard w x r event tag)
+heard_by w x r event tag (Some e) = Err Limit
+
+abbrev pub hears : WorldState → List ℕ → RouterState → Event → ℕ → Result WorldState ScriptError
+hears w x r event tag = heard_by w x r event tag (refuses r.node event)
+
+-- a neighbour by its name: a router or a client
+abbrev pub peer_of : WorldState → List ℕ → Peer
+peer_of w name = record { id = name; role = if is_some (router_of w.routers name) then role.Router else role.Client }
+
+-- the link to a neighbour comes up, under the least number that is free
+abbrev pub up_event : RouterState → Peer → Event
+up_event r peer = Up (record { 0 = free_link r.node.links }) peer
+
+-- the number of the link to a neighbour, if it is up
+abbrev pub number_at : Option LinkState → Result LinkNo ScriptError
+number_at None = Err NotLinked
+number_at (Some l) = Ok l.link
+
+abbrev pub number_to : RouterState → List ℕ → Result LinkNo ScriptError
+number_to r name = number_at (link_to r.node.links name)
 
 -- ---- the acts
 
 -- a router without links
 unfoldable pub router_step : WorldState → List ℕ → Outcome
 router_step w id = do
-  u ← free_name w id
-  v ← first_router w.routers
-  Ok (None, with_tables w (insert_entry (slice_cmp nat_cmp) w.routers id new_router) w.clients)
+  a ← unless (is_taken w id) NameTaken
+  b ← unless (nat_le most_routers (length w.routers)) Limit
+  c ← unless (w.used && nat_le 1 (length w.routers)) Limit
+  Ok ([], with_routers w (insert_entry (slice_cmp nat_cmp) w.routers id (new_router id)))
 
 -- a client whose link is up at once
-unfoldable pub client_step : WorldState → List ℕ → List ℕ → Outcome
-client_step w id router = do
+unfoldable pub client_step : WorldState → ℕ → List ℕ → List ℕ → Outcome
+client_step w line id router = do
   r ← router_at (router_of w.routers router)
-  u ← free_name w id
-  v ← room_for_client w.names
-  Ok (
-    None,
-    record {
-      routers = with_router w.routers router (linked r (length w.names) id);
-      clients = insert_entry (slice_cmp nat_cmp) w.clients id (new_client router (length w.names));
-      names = w.names ++ id ∷ [];
-      booked = w.booked;
-    },
-  )
+  a ← unless (is_taken w id) NameTaken
+  b ← unless (nat_le most_clients (length w.clients)) Limit
+  v ← hears (with_ends w (put_end w.ends (router, id) (lifted new_end))) router r (up_event r (record { id = id; role = role.Client })) line
+  Ok ([], with_clients v (insert_entry (slice_cmp nat_cmp) v.clients id (new_client router)))
+
+-- a link between two routers, up at neither end; no script's line links a router to itself, which is refused as words that don't fit
+unfoldable pub link_step : WorldState → List ℕ → List ℕ → Outcome
+link_step w one other = do
+  z ← unless (is_named one other) BadWords
+  r ← router_at (router_of w.routers one)
+  q ← router_at (router_of w.routers other)
+  a ← unless (is_in_place w.ends (one, other)) AlreadyLinked
+  b ← unless (nat_le most_links (length (links_in_place w))) Limit
+  Ok ([], with_ends w (put_end (put_end w.ends (one, other) new_end) (other, one) new_end))
+
+-- a router's end comes up
+unfoldable pub up_step : WorldState → ℕ → List ℕ → List ℕ → Outcome
+up_step w line router name = do
+  r ← router_at (router_of w.routers router)
+  a ← unless (not (is_taken w name)) UnknownName
+  s ← end_at (end_of w.ends (router, name))
+  b ← unbroken_at s
+  c ← unless s.up AlreadyLinked
+  v ← hears (with_ends w (with_end w.ends (router, name) (lifted s))) router r (up_event r (peer_of w name)) line
+  Ok ([], v)
+
+-- a link breaks: what is on its wires is lost
+unfoldable pub break_step : WorldState → List ℕ → List ℕ → Outcome
+break_step w router name = do
+  r ← router_at (router_of w.routers router)
+  a ← unless (not (is_taken w name)) UnknownName
+  s ← end_at (end_of w.ends (router, name))
+  b ← unbroken_at s
+  Ok ([], with_ends w (changed (changed w.ends (router, name) broken) (name, router) broken))
+
+-- a router notices that a link is broken
+unfoldable pub down_step : WorldState → ℕ → List ℕ → List ℕ → Outcome
+down_step w line router name = do
+  r ← router_at (router_of w.routers router)
+  a ← unless (not (is_taken w name)) UnknownName
+  s ← end_at (end_of w.ends (router, name))
+  b ← up_at s
+  c ← unless s.unbroken NotLinked
+  l ← number_to r name
+  v ← hears w router r (Down l) line
+  Ok ([], with_ends v (changed v.ends (router, name) lowered))
+
+-- a client's message goes onto the wire to its router, where their link is unbroken
+unfoldable pub client_sends : WorldState → ℕ → List ℕ → ClientState → Msg → Result WorldState ScriptError
+client_sends w line name s msg = do
+  e ← end_at (end_of w.ends (s.router, name))
+  a ← unbroken_at e
+  Ok (in_use (with_ends w (with_end w.ends (s.router, name) (sent e msg line))))
 
 -- a client declares a subscriber under a new id
 unfoldable pub sub_step : WorldState → ℕ → List ℕ → ℕ → List ℕ → Outcome
 sub_step w line name id key = do
   s ← client_at (client_of w.clients name)
-  u ← fresh_id s id
-  routers ← weighed w.routers s.router key (router_of w.routers s.router)
-  Ok (None, with_tables w routers (with_client w.clients name (sent (declaring s id) (m.Sub id key) line)))
+  a ← unless (has_id s id) NameTaken
+  v ← client_sends w line name s (m.Sub id key)
+  b ← unless (not (is_alone w)) Limit
+  routers ← weighed v.routers s.router key (router_of v.routers s.router)
+  Ok ([], with_clients (with_routers v routers) (with_client v.clients name (declaring s id)))
 
 -- a client takes back what it declared under an id
 unfoldable pub unsub_step : WorldState → ℕ → List ℕ → ℕ → Outcome
 unsub_step w line name id = do
   s ← client_at (client_of w.clients name)
-  u ← known_id s id
-  Ok (None, with_tables w w.routers (with_client w.clients name (sent (undeclaring s id) (m.Unsub id) line)))
+  a ← unless (not (has_id s id)) UnknownName
+  v ← client_sends w line name s (m.Unsub id)
+  b ← unless (not (is_alone w)) Limit
+  Ok ([], with_clients v (with_client v.clients name (undeclaring s id)))
 
 -- a client publishes a sample; on its link no tree is named
 unfoldable pub publish_step : WorldState → ℕ → List ℕ → Parts → Outcome
 publish_step w line name content = do
   s ← client_at (client_of w.clients name)
-  Ok (None, with_tables w w.routers (with_client w.clients name (sent s (m.Push None content) line)))
+  v ← client_sends w line name s (m.Push None content)
+  b ← unless (not (is_alone w)) Limit
+  Ok ([], v)
 
--- a router handles the oldest message on the wire from a client; what it sends has that message's tag
+-- a router handles the oldest message on the wire from a neighbour; what it sends has that message's tag
 unfoldable pub handle_step : WorldState → List ℕ → List ℕ → Outcome
 handle_step w router from = do
   r ← router_at (router_of w.routers router)
-  s ← end_at (client_of w.clients from) (is_some (router_of w.routers from)) router
+  a ← unless (not (is_taken w from)) UnknownName
+  s ← end_at (end_of w.ends (router, from))
+  b ← up_at s
   x ← oldest s.wire
-  Ok (
-    Some (Handled router from x.0.msg x.0.tag),
-    with_tables w (with_router w.routers router (having r s.link x.0.msg))
-        (all_queued (with_client w.clients from (with_wire s x.1)) w.names (sends r.node (From (record { 0 = s.link }) x.0.msg)) x.0.tag),
-  )
+  l ← number_to r from
+  v ← hears (with_ends w (with_end w.ends (router, from) (with_wire s x.1))) router r (From l x.0.msg) x.0.tag
+  Ok (Handled router from x.0.msg x.0.tag ∷ [], v)
 
--- a router's oldest queued message for a client is sent to it
+-- a router's oldest queued message goes onto the wire to the neighbour; to a client, which has no end of its own, it is sent
 unfoldable pub take_step : WorldState → List ℕ → List ℕ → Outcome
 take_step w router to = do
   r ← router_at (router_of w.routers router)
-  s ← end_at (client_of w.clients to) (is_some (router_of w.routers to)) router
+  a ← unless (not (is_taken w to)) UnknownName
+  s ← end_at (end_of w.ends (router, to))
+  b ← up_at s
+  c ← unbroken_at s
   x ← oldest s.queue
-  Ok (Some (Taken router to x.0.msg x.0.tag), with_tables w w.routers (with_client w.clients to (with_queue s x.1)))
+  Ok (
+    Taken router to x.0.msg x.0.tag ∷ [],
+    with_ends w (changed (with_end w.ends (router, to) (with_queue s x.1)) (to, router) (λ e. sent e x.0.msg x.0.tag)),
+  )
 
--- a phase begins, where no declaration is under way
+-- a phase begins, where the world is settled and its routers are joined
 unfoldable pub mark_step : WorldState → ℕ → Outcome
-mark_step w line = if all_settled w.clients then Ok (Some (Mark line), w) else Err NotSettled
+mark_step w line = do
+  a ← unless (not (is_settled w)) NotSettled
+  b ← unless (not (is_joined w)) NotJoined
+  Ok (Mark line ∷ [], w)
+
+-- a router's tables: its records, and its parent in the tree of each other router, in ascending order
+abbrev pub parent_line : BaseState → List ℕ → ReportLine
+parent_line b root = Parent root (parent (graph_of b.records) root b.me)
+
+abbrev pub shown : BaseState → List ReportLine
+shown b = map (λ r. Record r) b.records ++ map (λ root. parent_line b root) (filter (λ id. not (is_named id b.me)) (ids b.records))
+
+unfoldable pub show_step : WorldState → List ℕ → Outcome
+show_step w router = do
+  r ← router_at (router_of w.routers router)
+  Ok (Show router ∷ shown r.node.base, w)
 
 -- what an act of a line does
 unfoldable pub outcome : WorldState → ℕ → Act → Outcome
 outcome w line (a.Router id) = router_step w id
-outcome w line (a.Client id router) = client_step w id router
+outcome w line (a.Client id router) = client_step w line id router
+outcome w line (a.Link one other) = link_step w one other
+outcome w line (a.Up router neighbour) = up_step w line router neighbour
+outcome w line (a.Break router neighbour) = break_step w router neighbour
+outcome w line (a.Down router neighbour) = down_step w line router neighbour
 outcome w line (a.Sub client id key) = sub_step w line client id key
 outcome w line (a.Unsub client id) = unsub_step w line client id
 outcome w line (a.Publish client content) = publish_step w line client content
 outcome w line (a.Handle router from) = handle_step w router from
 outcome w line (a.Take router to) = take_step w router to
 outcome w line a.Mark = mark_step w line
+outcome w line (a.Show router) = show_step w router

@@ -1,5 +1,5 @@
 -- The moments of a script: what accepted acts lead to. A list of numbered acts names its moment.
-use Rattle.std.specs.Prelude.{ℕ, ◌&&◌, ◌||◌, nat_lt, nat_le, Bool, true, false, List, [], ◌∷◌, ◌++◌, Option, Some, None, option_to_list, Ok, Err}
+use Rattle.std.specs.Prelude.{ℕ, ◌&&◌, ◌||◌, nat_lt, nat_le, Bool, true, false, List, [], ◌∷◌, ◌++◌, Option, Some, None, Ok, Err}
 use Rattle.std.specs.List.{fold}
 use Rattle.zr_command.specs.declared.command.Act.{Act}
 use Rattle.zr_command.specs.declared.command.Act.TheVariants as a
@@ -17,12 +17,17 @@ Numbered = ℕ × Act
 abbrev pub is_step : Act → Bool
 is_step (a.Router id) = false
 is_step (a.Client id router) = false
+is_step (a.Link one other) = false
+is_step (a.Up router neighbour) = false
+is_step (a.Break router neighbour) = false
+is_step (a.Down router neighbour) = false
 is_step (a.Sub client id key) = false
 is_step (a.Unsub client id) = false
 is_step (a.Publish client content) = false
 is_step (a.Handle router from) = true
 is_step (a.Take router to) = true
 is_step a.Mark = false
+is_step (a.Show router) = false
 
 -- whether an act may stand behind one of the line `last`: its line is a later one, but the steps of a run are of one line
 abbrev pub is_later : ℕ → Numbered → Bool
@@ -46,7 +51,7 @@ beginning = record { world = empty_world; report = [] }
 
 -- the moment that an act leads to: none where the act is refused
 abbrev pub went : Moment → Outcome → Option Moment
-went m (Ok x) = Some (record { world = x.1; report = m.report ++ option_to_list x.0 })
+went m (Ok x) = Some (record { world = x.1; report = m.report ++ x.0 })
 went m (Err e) = None
 
 -- one more act

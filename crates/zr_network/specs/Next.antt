@@ -1,10 +1,8 @@
 -- The step that comes next in a network, and what a line's command does: one act, or a run, which is counted and then does its steps,
 -- each the next one.
-use Rattle.std.specs.Prelude.{ℕ, zero, suc, ◌+◌, nat_le, not, Bool, if◌then◌else◌, List, [], ◌∷◌, ◌++◌, length, map, filter, Option, Some, None, is_none, option_to_list, Result, Ok, Err}
+use Rattle.std.specs.Prelude.{ℕ, zero, suc, ◌+◌, nat_le, not, ◌&&◌, Bool, if◌then◌else◌, List, [], ◌∷◌, ◌++◌, length, map, filter, Option, Some, None, is_none, Result, Ok, Err}
 use Rattle.std.specs.List.{reduce}
-use Rattle.std.specs.declared.cmp.Ordering.{Ordering}
-use Rattle.std.specs.Ordering.{nat_cmp, ordering_then, min_by_ordering}
-use Rattle.std.specs.Cmp.Lexicographic.{slice_cmp}
+use Rattle.std.specs.Ordering.{min_by_ordering}
 use Rattle.zr_command.specs.declared.error.ScriptError.{ScriptError}
 use Rattle.zr_command.specs.declared.error.ScriptError.TheVariants.{Limit}
 use Rattle.zr_command.specs.declared.command.Act.{Act}
@@ -14,38 +12,30 @@ use Rattle.zr_command.specs.declared.command.Command.TheVariants as c
 use Rattle.zr_command.specs.declared.report.ReportLine.{ReportLine}
 use Rattle.zr_command.specs.declared.report.ReportLine.TheVariants.{Ran}
 use Rattle.zr_language.specs.Step.{◌>>=◌}
-use Rattle.zr_network.specs.World.{ClientState, Clients, WorldState, with_booked, most_steps, is_empty}
+use Rattle.zr_network.specs.World.{EndState, End, Ends, end_cmp, WorldState, with_booked, most_steps, is_empty}
 use Rattle.zr_network.specs.Acts.{Outcome, outcome}
 
 -- ---- the next step
-
--- an end of a link: a router, and the client at the other side
-abbrev pub End : Type 0
-End = List ℕ × List ℕ
-
--- ends go by router, then by client
-abbrev pub end_cmp : End → End → Ordering
-end_cmp a b = ordering_then (slice_cmp nat_cmp a.0 b.0) (slice_cmp nat_cmp a.1 b.1)
 
 -- the lesser of two ends
 abbrev pub lesser : End → End → End
 lesser a b = min_by_ordering (end_cmp a b) a b
 
--- the ends whose clients pass a test
-abbrev pub ends_where : (ClientState → Bool) → Clients → List End
-ends_where test clients = map (λ e. (e.1.router, e.0)) (filter (λ e. test e.1) clients)
+-- the ends that pass a test
+abbrev pub ends_where : (EndState → Bool) → Ends → List End
+ends_where test ends = map (λ e. e.0) (filter (λ e. test e.1) ends)
 
 -- the first of these ends
-abbrev pub first_where : (ClientState → Bool) → Clients → Option End
-first_where test clients = reduce lesser (ends_where test clients)
+abbrev pub first_where : (EndState → Bool) → Ends → Option End
+first_where test ends = reduce lesser (ends_where test ends)
 
--- whether a message of the client waits to be handled
-abbrev pub has_sent : ClientState → Bool
-has_sent s = not (is_empty s.wire)
+-- whether a message waits to be handled at the end, and the end is up
+abbrev pub can_handle : EndState → Bool
+can_handle s = s.up && not (is_empty s.wire)
 
--- whether a message for the client waits to be taken
-abbrev pub has_queued : ClientState → Bool
-has_queued s = not (is_empty s.queue)
+-- whether a message waits to be taken at the end, and the end is up and the link unbroken
+abbrev pub can_take : EndState → Bool
+can_take s = s.up && s.unbroken && not (is_empty s.queue)
 
 -- the first end's router handles, or else a message is taken at the second end
 abbrev pub step_at : Option End → Option End → Option Act
@@ -53,10 +43,10 @@ step_at (Some e) queued = Some (a.Handle e.0 e.1)
 step_at None (Some e) = Some (a.Take e.0 e.1)
 step_at None None = None
 
--- the step that a run does next: at the first end that has a message to handle, else at the first that has one queued;
+-- the step that a run does next: at the first end that has a message to handle, else at the first that has one to take;
 -- none where no step is possible
 abbrev pub next : WorldState → Option Act
-next w = step_at (first_where has_sent w.clients) (first_where has_queued w.clients)
+next w = step_at (first_where can_handle w.ends) (first_where can_take w.ends)
 
 -- ---- the steps of a run
 
@@ -92,7 +82,7 @@ all_done w line [] = Ok ([], w)
 all_done w line (a ∷ more) = do
   x ← outcome w line a
   y ← all_done x.1 line more
-  Ok (option_to_list x.0 ++ y.0, y.1)
+  Ok (x.0 ++ y.0, y.1)
 
 -- a run's steps are counted
 abbrev pub booking : WorldState → ℕ → WorldState
@@ -108,11 +98,7 @@ run_done line steps w = do
   x ← all_done w line (run_steps line steps w)
   Ok (x.0 ++ Ran (length (run_steps line steps w)) (is_none (next x.1)) ∷ [], x.1)
 
--- what an act alone does
-abbrev pub act_done : Outcome → Done
-act_done o = o >>= (λ x. Ok (option_to_list x.0, x.1))
-
 -- what the command of a line does
 unfoldable pub applied : WorldState → ℕ → Command → Done
-applied w line (c.Act act) = act_done (outcome w line act)
+applied w line (c.Act act) = outcome w line act
 applied w line (c.Run steps) = book_step w steps >>= run_done line steps

@@ -1,11 +1,28 @@
 -- What holds of the world of each script: an act that isn't refused keeps it (proofs, Sound), and by it the next step is possible.
-use Rattle.std.specs.Prelude.{◌≡◌, true, [], ◌∷◌, None, is_some}
-use Rattle.zr_network.specs.World.{Routers, Clients, WorldState, router_of, client_of}
+use Rattle.std.specs.Prelude.{◌≡◌, ℕ, List, true, false, Some, is_some}
+use Rattle.std.specs.List.{AllByRecursion}
+use Rattle.std.specs.List.Sorted.{IsStrictlySortedBy}
+use Rattle.std.specs.Map.{keys_of}
+use Rattle.zr_id.specs.Zid.{is_named}
+use Rattle.zr_table.specs.State.{LinkState, is_router, link_at, link_to}
+use Rattle.zr_network.specs.World.{RouterState, ClientState, WorldState, router_of, client_of, is_taken, end_cmp, end_of, is_up}
 
--- each client has a name of its own, and its router is there
-abbrev pub AreSound : Routers → Clients → Type 0
-AreSound routers [] = Unit {0}
-AreSound routers (e ∷ es) = (client_of es e.0 ≡ None) × (is_some (router_of routers e.1.router) ≡ true) × AreSound routers es
+-- of a router's links each is the one of its number, and the one to its neighbour
+pub record AreUnique (links : List LinkState) : Type 0 where
+  pub numbers : AllByRecursion (λ l. link_at links l.link.0 ≡ Some l) links
+  pub names : AllByRecursion (λ l. link_to links l.peer.id ≡ Some l) links
 
-abbrev pub IsSound : WorldState → Type 0
-IsSound w = AreSound w.routers w.clients
+-- The ends are those of routers that are there and of neighbours that are there, each pair once and none with itself; each client has an
+-- end; each router has its own name, and has one link to each of just those neighbours to which its end is up, which are routers where
+-- the link says so.
+pub record IsSound (w : WorldState) : Type 0 where
+  pub in_order : IsStrictlySortedBy end_cmp (keys_of w.ends)
+  pub routers : (x y : List ℕ) → is_some (end_of w.ends (x, y)) ≡ true → is_some (router_of w.routers x) ≡ true
+  pub neighbours : (x y : List ℕ) → is_some (end_of w.ends (x, y)) ≡ true → is_taken w y ≡ true
+  pub apart : (x y : List ℕ) → is_some (end_of w.ends (x, y)) ≡ true → is_named x y ≡ false
+  pub clients : (name : List ℕ) (s : ClientState) → client_of w.clients name ≡ Some s → is_some (end_of w.ends (s.router, name)) ≡ true
+  pub own : (x : List ℕ) (r : RouterState) → router_of w.routers x ≡ Some r → r.node.base.me ≡ x
+  pub unique : (x : List ℕ) (r : RouterState) → router_of w.routers x ≡ Some r → AreUnique r.node.links
+  pub links : (x y : List ℕ) (r : RouterState) → router_of w.routers x ≡ Some r → is_some (link_to r.node.links y) ≡ is_up w.ends (x, y)
+  pub roles : (x y : List ℕ) (r : RouterState) (l : LinkState) → router_of w.routers x ≡ Some r → link_to r.node.links y ≡ Some l →
+      is_router l.peer.role ≡ is_some (router_of w.routers y)

@@ -1,10 +1,15 @@
--- The world of a script: its routers and clients as lists of plain records by name, what waits between them, and what is under way.
+-- The world of a script: its routers and clients by name, the ends of links, what waits there, and what is under way.
 -- What each act does to it stands in Acts.
-use Rattle.std.specs.Prelude.{ℕ, ◌+◌, ◌==◌, ◌&&◌, ◌||◌, not, Bool, true, false, List, [], ◌∷◌, ◌++◌, length, filter, Option, Some, None, is_some}
-use Rattle.std.specs.List.{list_all, slice_get}
-use Rattle.std.specs.Map.{lookup, set_value, values_of}
+use Rattle.std.specs.Prelude.{ℕ, ◌+◌, ◌&&◌, ◌||◌, not, Bool, true, false, if◌then◌else◌, List, [], ◌∷◌, ◌++◌, length, map, filter, Option, is_some}
+use Rattle.std.specs.declared.cmp.Ordering.{Ordering}
+use Rattle.std.specs.Ordering.{is_eq, nat_cmp, ordering_then}
+use Rattle.std.specs.Cmp.Lexicographic.{slice_cmp}
+use Rattle.std.specs.List.{list_all}
+use Rattle.std.specs.Option.{option_map_or}
+use Rattle.std.specs.Map.{lookup, set_value, keys_of, values_of}
+use Rattle.std.specs.BTreeMap.{insert_entry}
+use Rattle.zr_id.specs.Record.{is_before}
 use Rattle.zr_id.specs.Zid.{is_named}
-use Rattle.zr_id.specs.declared.link.LinkNo.{LinkNo}
 use Rattle.zr_msg.specs.declared.msg.Msg.{Msg}
 use Rattle.zr_msg.specs.declared.msg.Msg.TheVariants.{Sub, Unsub, Able, Unable, Interest, EndInterest, ToldSub, ToldAble, ToldUnsub, ToldUnable, ToldEnd, Push, Request, Response, Final, State, Step, Snap}
 use Rattle.zr_table.specs.State.{NodeState, new_node}
@@ -16,27 +21,27 @@ pub record Tagged : Type 0 where
   pub msg : Msg
   pub tag : ℕ
 
--- a client and its link: the oldest message of the wire (to the router) and of the queue (to the client) stand first
-pub record ClientState : Type 0 where
-  pub router : List ℕ
-  pub link : ℕ
-  -- the ids under which the client has something declared
-  pub ids : List ℕ
-  pub wire : List Tagged
-  pub queue : List Tagged
-
 -- a router, and what all declarations of its clients so far weigh together
 pub record RouterState : Type 0 where
   pub node : NodeState
   pub weight : ℕ
 
--- a world: routers and clients by ascending name, the clients' names in the order in which they came (a client's link has
--- its place there as number), and how many steps all runs so far asked for
-pub record WorldState : Type 0 where
-  pub routers : List (List ℕ × RouterState)
-  pub clients : List (List ℕ × ClientState)
-  pub names : List (List ℕ)
-  pub booked : ℕ
+-- a client: its router, and the ids under which it has something declared
+pub record ClientState : Type 0 where
+  pub router : List ℕ
+  pub ids : List ℕ
+
+-- one end of a link, that of a router; the neighbour at the other end is a router or a client
+abbrev pub End : Type 0
+End = List ℕ × List ℕ
+
+-- what is at a router's end: whether the end is up, whether the link is unbroken, what the router has queued for the neighbour, and what
+-- the wire from the neighbour has for the router; the oldest message stands first
+pub record EndState : Type 0 where
+  pub up : Bool
+  pub unbroken : Bool
+  pub queue : List Tagged
+  pub wire : List Tagged
 
 abbrev pub Routers : Type 0
 Routers = List (List ℕ × RouterState)
@@ -44,24 +49,49 @@ Routers = List (List ℕ × RouterState)
 abbrev pub Clients : Type 0
 Clients = List (List ℕ × ClientState)
 
+abbrev pub Ends : Type 0
+Ends = List (End × EndState)
+
+-- a world: routers, clients and ends in ascending order, whether a client has declared or published anything so far, and how many
+-- steps all runs so far asked for
+pub record WorldState : Type 0 where
+  pub routers : Routers
+  pub clients : Clients
+  pub ends : Ends
+  pub used : Bool
+  pub booked : ℕ
+
 abbrev pub empty_world : WorldState
-empty_world = record { routers = []; clients = []; names = []; booked = 0 }
+empty_world = record { routers = []; clients = []; ends = []; used = false; booked = 0 }
 
--- the same world with other routers and clients
-abbrev pub with_tables : WorldState → Routers → Clients → WorldState
-with_tables w routers clients = record { routers = routers; clients = clients; names = w.names; booked = w.booked }
+-- the same world with another part
+abbrev pub with_routers : WorldState → Routers → WorldState
+with_routers w routers = record { routers = routers; clients = w.clients; ends = w.ends; used = w.used; booked = w.booked }
 
--- the same world with another count of steps
+abbrev pub with_clients : WorldState → Clients → WorldState
+with_clients w clients = record { routers = w.routers; clients = clients; ends = w.ends; used = w.used; booked = w.booked }
+
+abbrev pub with_ends : WorldState → Ends → WorldState
+with_ends w ends = record { routers = w.routers; clients = w.clients; ends = ends; used = w.used; booked = w.booked }
+
 abbrev pub with_booked : WorldState → ℕ → WorldState
-with_booked w booked = record { routers = w.routers; clients = w.clients; names = w.names; booked = booked }
+with_booked w booked = record { routers = w.routers; clients = w.clients; ends = w.ends; used = w.used; booked = booked }
+
+-- the same world, in which a client has declared or published something
+abbrev pub in_use : WorldState → WorldState
+in_use w = record { routers = w.routers; clients = w.clients; ends = w.ends; used = true; booked = w.booked }
 
 -- a router without links
-abbrev pub new_router : RouterState
-new_router = record { node = new_node; weight = 0 }
+abbrev pub new_router : List ℕ → RouterState
+new_router id = record { node = new_node id; weight = 0 }
 
--- a client of the router, which has this place among the names as link number
-abbrev pub new_client : List ℕ → ℕ → ClientState
-new_client router link = record { router = router; link = link; ids = []; wire = []; queue = [] }
+-- a client that has declared nothing
+abbrev pub new_client : List ℕ → ClientState
+new_client router = record { router = router; ids = [] }
+
+-- the end of a new link: nothing waits there
+abbrev pub new_end : EndState
+new_end = record { up = false; unbroken = true; queue = []; wire = [] }
 
 -- ---- names
 
@@ -81,11 +111,42 @@ with_client clients name s = set_value (is_named name) clients s
 abbrev pub is_taken : WorldState → List ℕ → Bool
 is_taken w name = is_some (router_of w.routers name) || is_some (client_of w.clients name)
 
+-- ---- ends
+
+-- ends go by router, then by neighbour
+abbrev pub end_cmp : End → End → Ordering
+end_cmp a b = ordering_then (slice_cmp nat_cmp a.0 b.0) (slice_cmp nat_cmp a.1 b.1)
+
+-- two ends are one
+abbrev pub is_end : End → End → Bool
+is_end a b = is_eq (end_cmp a b)
+
+abbrev pub end_of : Ends → End → Option EndState
+end_of ends e = lookup (is_end e) ends
+
+abbrev pub with_end : Ends → End → EndState → Ends
+with_end ends e s = set_value (is_end e) ends s
+
+-- an end of which one knows, or a new one
+abbrev pub put_end : Ends → End → EndState → Ends
+put_end ends e s = if is_some (end_of ends e) then with_end ends e s else insert_entry end_cmp ends e s
+
+-- the other end of a link between routers
+abbrev pub turned : End → End
+turned e = (e.1, e.0)
+
 -- ---- limits
 
--- how many clients a world has at most, all that ever came
+-- how many routers and how many clients a world has at most, all that ever came
+abbrev pub most_routers : ℕ
+most_routers = 64
+
 abbrev pub most_clients : ℕ
 most_clients = 1024
+
+-- how many links between routers are in place at most
+abbrev pub most_links : ℕ
+most_links = 512
 
 -- what all declarations of one router's clients weigh together at most, also those that were taken back
 abbrev pub most_weight : ℕ
@@ -99,47 +160,65 @@ most_steps = 10000000
 abbrev pub weight_of : List ℕ → ℕ
 weight_of key = length key + 16
 
+-- ---- links
+
+-- the state of an end passes a test; an end of no link passes none
+abbrev pub passes : (EndState → Bool) → Ends → End → Bool
+passes test ends e = option_map_or test (end_of ends e) false
+
+abbrev pub is_up : Ends → End → Bool
+is_up ends e = passes (λ s. s.up) ends e
+
+abbrev pub is_unbroken : Ends → End → Bool
+is_unbroken ends e = passes (λ s. s.unbroken) ends e
+
+-- a link between routers is up at both ends
+abbrev pub is_linked : Ends → List ℕ → List ℕ → Bool
+is_linked ends x y = is_up ends (x, y) && is_up ends (y, x)
+
+-- a link is in place until it is broken and no router's end is up
+abbrev pub is_in_place : Ends → End → Bool
+is_in_place ends e = is_unbroken ends e || is_up ends e || is_up ends (turned e)
+
+-- whether an end is the first one of a link between routers
+abbrev pub is_first_end : Routers → End → Bool
+is_first_end routers e = is_some (router_of routers e.1) && is_before e.0 e.1
+
+-- the links between routers that are in place, each by its first end
+abbrev pub links_in_place : WorldState → List End
+links_in_place w = filter (λ e. is_first_end w.routers e && is_in_place w.ends e) (keys_of w.ends)
+
 -- ---- wires and queues
 
--- a message on its way to the router
-abbrev pub sent : ClientState → Msg → ℕ → ClientState
-sent s msg tag = record { router = s.router; link = s.link; ids = s.ids; wire = s.wire ++ record { msg = msg; tag = tag } ∷ []; queue = s.queue }
+-- one message more on the wire from the neighbour
+abbrev pub sent : EndState → Msg → ℕ → EndState
+sent s msg tag = record { up = s.up; unbroken = s.unbroken; queue = s.queue; wire = s.wire ++ record { msg = msg; tag = tag } ∷ [] }
 
--- a message on its way to the client
-abbrev pub queued : ClientState → Msg → ℕ → ClientState
-queued s msg tag = record { router = s.router; link = s.link; ids = s.ids; wire = s.wire; queue = s.queue ++ record { msg = msg; tag = tag } ∷ [] }
+-- more messages queued for the neighbour, all with one tag
+abbrev pub queued : EndState → List Msg → ℕ → EndState
+queued s msgs tag = record { up = s.up; unbroken = s.unbroken; queue = s.queue ++ map (λ m. record { msg = m; tag = tag }) msgs; wire = s.wire }
 
-abbrev pub with_wire : ClientState → List Tagged → ClientState
-with_wire s wire = record { router = s.router; link = s.link; ids = s.ids; wire = wire; queue = s.queue }
+abbrev pub with_wire : EndState → List Tagged → EndState
+with_wire s wire = record { up = s.up; unbroken = s.unbroken; queue = s.queue; wire = wire }
 
-abbrev pub with_queue : ClientState → List Tagged → ClientState
-with_queue s queue = record { router = s.router; link = s.link; ids = s.ids; wire = s.wire; queue = queue }
+abbrev pub with_queue : EndState → List Tagged → EndState
+with_queue s queue = record { up = s.up; unbroken = s.unbroken; queue = queue; wire = s.wire }
 
-abbrev pub with_ids : ClientState → List ℕ → ClientState
-with_ids s ids = record { router = s.router; link = s.link; ids = ids; wire = s.wire; queue = s.queue }
+-- the link is broken: what was on the wire is lost
+abbrev pub broken : EndState → EndState
+broken s = record { up = s.up; unbroken = false; queue = s.queue; wire = [] }
 
--- the client has declared the id
-abbrev pub declaring : ClientState → ℕ → ClientState
-declaring s id = with_ids s (s.ids ++ id ∷ [])
+-- the end is up
+abbrev pub lifted : EndState → EndState
+lifted s = record { up = true; unbroken = s.unbroken; queue = s.queue; wire = s.wire }
 
--- the client has taken the id back
-abbrev pub undeclaring : ClientState → ℕ → ClientState
-undeclaring s id = with_ids s (filter (λ i. not (i == id)) s.ids)
+-- the end is down: what was queued is lost
+abbrev pub lowered : EndState → EndState
+lowered s = record { up = false; unbroken = s.unbroken; queue = []; wire = s.wire }
 
--- a message for a client, where it is there
-abbrev pub queued_at : Clients → List ℕ → Option ClientState → Msg → ℕ → Clients
-queued_at clients name None msg tag = clients
-queued_at clients name (Some s) msg tag = with_client clients name (queued s msg tag)
-
--- a message for the client of a link
-abbrev pub queued_for : Clients → Option (List ℕ) → Msg → ℕ → Clients
-queued_for clients None msg tag = clients
-queued_for clients (Some name) msg tag = queued_at clients name (client_of clients name) msg tag
-
--- what a router sends, in order, each message to the client of its link
-abbrev pub all_queued : Clients → List (List ℕ) → List (LinkNo × Msg) → ℕ → Clients
-all_queued clients names [] tag = clients
-all_queued clients names (x ∷ more) tag = all_queued (queued_for clients (slice_get names x.0.0) x.1 tag) names more tag
+-- a change of one end, where it is there
+abbrev pub changed : Ends → End → (EndState → EndState) → Ends
+changed ends e change = map (λ x. if is_end e x.0 then (x.0, change x.1) else x) ends
 
 -- ---- what is under way
 
@@ -148,13 +227,13 @@ abbrev pub is_empty : List Tagged → Bool
 is_empty [] = true
 is_empty (x ∷ xs) = false
 
--- no message is under way to or from the client
-abbrev pub is_idle : ClientState → Bool
+-- no message is under way at the end
+abbrev pub is_idle : EndState → Bool
 is_idle s = is_empty s.wire && is_empty s.queue
 
 -- nothing is under way
 abbrev pub is_quiet : WorldState → Bool
-is_quiet w = list_all is_idle (values_of w.clients)
+is_quiet w = list_all is_idle (values_of w.ends)
 
 -- whether a message changes what routers know of links and declarations: a world where one is under way isn't settled
 abbrev pub unsettles : Msg → Bool
@@ -181,9 +260,15 @@ unsettles (Snap source number decls) = true
 abbrev pub is_calm : Tagged → Bool
 is_calm x = not (unsettles x.msg)
 
--- nothing under way to or from the client unsettles
-abbrev pub is_settled : ClientState → Bool
-is_settled s = list_all is_calm s.wire && list_all is_calm s.queue
+-- nothing under way at the end unsettles
+abbrev pub is_calm_end : EndState → Bool
+is_calm_end s = list_all is_calm s.wire && list_all is_calm s.queue
 
-abbrev pub all_settled : Clients → Bool
-all_settled clients = list_all is_settled (values_of clients)
+-- an end that is up is that of an unbroken link; where the neighbour is a router, its end is up too
+abbrev pub is_met : WorldState → End → EndState → Bool
+is_met w e s = not s.up || (s.unbroken && (not (is_some (router_of w.routers e.1)) || is_up w.ends (turned e)))
+
+-- a world is settled where no link between routers is up at one end only, no broken link has a router's end up, and nothing under way
+-- unsettles
+abbrev pub is_settled : WorldState → Bool
+is_settled w = list_all (λ x. is_met w x.0 x.1 && is_calm_end x.1) w.ends

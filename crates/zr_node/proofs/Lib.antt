@@ -1,2 +1,7 @@
 pub mod Along
+pub mod Answers
+pub mod Free
+pub mod Kept
+pub mod Places
 pub mod Remembering
+pub mod Retold

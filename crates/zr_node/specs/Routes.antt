@@ -1,17 +1,21 @@
 -- What a router remembers of the keys on which samples came.
-use Rattle.std.specs.Prelude.{◌≡◌, ℕ, ◌==◌, not, List, map, filter, Option, None, option_map, IfSome}
+use Rattle.std.specs.Prelude.{◌≡◌, ℕ, ◌==◌, ◌&&◌, not, Bool, List, map, filter, Option, None, option_map, IfSome}
 use Rattle.std.specs.BTreeMap.{get_by_text}
 use Rattle.zr_id.specs.declared.link.LinkNo.{LinkNo}
 use Rattle.zr_msg.specs.declared.content.Parts.{Parts}
 use Rattle.zr_msg.specs.declared.msg.Msg.{Msg}
 use Rattle.zr_msg.specs.declared.msg.Msg.TheVariants.{Push}
-use Rattle.zr_table.specs.State.{LinkState}
+use Rattle.zr_table.specs.State.{LinkState, is_router}
 use Rattle.zr_table.specs.Table.{subscribes}
 use Rattle.zr_node.specs.declared.routes.Routes.{Routes}
 
+-- whether a link leads to a client that subscribes to an expression which meets the key
+abbrev pub takes : List ℕ → LinkState → Bool
+takes key l = not (is_router l.peer.role) && subscribes l key
+
 -- the numbers of the links whose clients subscribe to an expression that meets the key, in the order of the links
 abbrev pub route : List LinkState → List ℕ → List LinkNo
-route links key = map (λ l. l.link) (filter (λ l. subscribes l key) links)
+route links key = map (λ l. l.link) (filter (λ l. takes key l) links)
 
 -- what is remembered for a key
 abbrev pub remembered : Routes → List ℕ → Option (List LinkNo)

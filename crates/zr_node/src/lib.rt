@@ -3,5 +3,7 @@
 #![tactic(auto)]
 
 mod link;
+mod links;
 pub mod node;
+mod own;
 mod routes;

@@ -1,15 +1,17 @@
 //! One link of a router, with who stands at its other end and what they have declared.
 
-ghost use Rattle.std.specs.Prelude.{◌≡◌, OnOk};
-ghost use Rattle.zr_table.specs.State.{new_link};
-ghost use Rattle.zr_table.specs.Table.{subscribes, is_for, declared, undeclared};
+ghost use Rattle.std.specs.Prelude.{◌≡◌, ◌&&◌, not, OnOk};
+ghost use Rattle.std.specs.List.{list_any};
+ghost use Rattle.zr_table.specs.State.{new_link, is_router, link_peer};
+ghost use Rattle.zr_node.specs.Routes.{takes};
+ghost use Rattle.zr_table.specs.Table.{is_for, declared, undeclared};
 
 use std::alloc::{AllocError, Global};
 use std::marker::Model;
 use zr_id::link::LinkNo;
 use zr_key::key::KeyExpr;
 use zr_match::meets;
-use zr_msg::peer::Peer;
+use zr_msg::peer::{LinkPeer, Peer, Role};
 
 /// What a client subscribes to, under an id of its own.
 #[derive(Debug, Drop)]
@@ -44,12 +46,12 @@ impl Model for Link {
 
 impl Link {
     /// A link without declarations.
-    pub fn new(alloc: Global, number: LinkNo, peer: Peer) -> Link
-        ensures { result ≡ new_link number peer }
+    pub fn new(alloc: Global, link: &LinkPeer) -> Link
+        ensures { result ≡ new_link link.now.link link.now.peer }
     {
         Link {
-            number,
-            peer,
+            number: link.link,
+            peer: link.peer,
             subs: Vec::new(alloc),
         }
     }
@@ -61,16 +63,31 @@ impl Link {
         self.number
     }
 
-    /// Whether the client subscribes to an expression that meets the key.
-    pub fn subscribes(&self, key: &KeyExpr) -> bool
-        ensures { result ≡ subscribes self.now key.now }
+    /// Who stands at its other end.
+    pub fn peer(&self) -> Peer
+        ensures { result ≡ self.now.peer }
     {
-        self.subs.iter().any(|s| is_for(key, s))
+        self.peer
+    }
+
+    /// Whether a client stands at its other end.
+    pub fn is_client(&self) -> bool
+        ensures { result ≡ not (is_router self.now.peer.role) }
+    {
+        is_client(self.peer.role)
+    }
+
+    /// Whether a client stands at its other end that subscribes to an expression which meets the key.
+    pub fn takes(&self, key: &KeyExpr) -> bool
+        ensures { result ≡ takes key.now self.now }
+    {
+        self.is_client() && subscribes(self.subs.as_slice(), key)
     }
 
     /// The client subscribes to an expression, in place of what it had under the same id.
     pub fn declare(&mut self, id: u32, key: KeyExpr) -> Result<(), AllocError>
-        ensures { OnOk result (self.new ≡ record { link = self.old.link; peer = self.old.peer; subs = declared self.old.subs id key }) }
+        ensures ok { OnOk result (self.new ≡ record { link = self.old.link; peer = self.old.peer; subs = declared self.old.subs id key }) }
+        ensures same { link_peer self.new ≡ link_peer self.old }
     {
         forget(&mut self.subs, id);
         self.subs.push(Subscriber { id, key })?;
@@ -85,6 +102,12 @@ impl Link {
     }
 }
 
+fn subscribes(subs: &[Subscriber], key: &KeyExpr) -> bool
+    ensures { result ≡ list_any (λ s. is_for key.now s) subs.now }
+{
+    subs.iter().any(|s| is_for(key, s))
+}
+
 fn is_for(key: &KeyExpr, sub: &Subscriber) -> bool
     ensures { result ≡ is_for key.now sub.now }
 {
@@ -95,4 +118,14 @@ fn forget(subs: &mut Vec<Subscriber>, id: u32)
     ensures { subs.new.items ≡ undeclared subs.old.items id }
 {
     subs.retain(|s| s.id != id);
+}
+
+/// Whether the role is a client's.
+pub fn is_client(role: Role) -> bool
+    ensures { result ≡ not (is_router role) }
+{
+    match role {
+        Role::Client => true,
+        Role::Router => false,
+    }
 }

@@ -1,27 +1,42 @@
 //! `Node`: a router's state, and what it does with each event.
 
-ghost use Rattle.std.specs.Prelude.{◌≡◌, ◌++◌, ◌↔◌, true, None, OnOk, OnErr, IfOk, map};
+ghost use Rattle.std.specs.Prelude.{◌≡◌, ◌<◌, ◌^◌, ◌++◌, ◌⊎◌, ◌↔◌, true, false, Some, None, OnOk, OnErr, IfOk, IfErr, map, length};
+ghost use Rattle.std.specs.Option.{option_map};
+ghost use Rattle.zr_table.specs.Event.{AreLinks, IsFresh, MayCome, Sends, SendsPrefix, Tells, TellsPrefix};
 ghost use Rattle.zr_table.specs.Prefix.{IsPrefixBehind};
-ghost use Rattle.zr_table.specs.State.{new_node};
-ghost use Rattle.zr_table.specs.Table.{sends, sends_from, after, after_from, changed_on, declared, undeclared, without_link};
-ghost use Rattle.zr_node.specs.Routes.{route, sent_along};
+ghost use Rattle.zr_table.specs.State.{new_node, new_link, link_at, link_to, leads_to_client, leads_to_router, free_link, link_peer};
+ghost use Rattle.zr_table.specs.Table.{sends_up, sends_down, sends_parted, sends_from, sends_state, sends_push, after, after_from, base_parted, base_told, refuses, refuses_up, refuses_down, refuses_parting, joined, parted, with_base, with_link, with_links, without_link};
+ghost use Rattle.zr_tree.specs.Walk.{graph_of};
+ghost use Rattle.zr_node.specs.Answer.{refusal};
+ghost use Rattle.zr_node.specs.Routes.{sent_along};
 
-use crate::link::Link;
+use crate::link::is_client;
+use crate::links::Links;
+use crate::own;
 use crate::routes::Routes;
 use std::alloc::{AllocError, Global};
 use std::marker::Model;
+use zr_flood::flood::{flood_down, flood_newer, flood_up};
+use zr_graph::base::{Accepted, Base, ChangeError};
 use zr_id::link::LinkNo;
+use zr_id::record::LinkRecord;
+use zr_id::zid::Zid;
 use zr_key::key::KeyExpr;
 use zr_msg::content::Content;
 use zr_msg::error::NodeError;
 use zr_msg::event::Event;
 use zr_msg::msg::Msg;
-use zr_msg::peer::Peer;
+use zr_msg::peer::{LinkPeer, Peer, Role};
+use zr_msg::shared::Shared;
+use zr_tree::trees::Trees;
 
-/// A router: its links and what their clients have declared.
-#[derive(Debug, Drop)]
+/// A router: its links with what their clients have declared, and what it knows of the links of all routers.
+#[derive(Drop)]
 pub struct Node {
-    links: Vec<Link>,
+    links: Links,
+    base: Base,
+    // those of the base, while the router is not spent
+    trees: Trees,
     // what the links answered for the keys of earlier samples; no contract sees it
     routes: Routes,
     spent: bool,
@@ -32,46 +47,111 @@ impl Model for Node {
 
     ghost Value = { NodeState };
 
-    ghost view = { λ n. record { links = n.links.items; spent = n.spent } };
+    ghost view = { λ n. record { links = n.links; base = n.base; spent = n.spent } };
 
+    ghost use Rattle.std.specs.Prelude.{◌≡◌, false};
+    ghost use Rattle.zr_table.specs.Event.{AreLinks};
+    ghost use Rattle.zr_tree.specs.Walk.{graph_of};
     ghost use Rattle.zr_node.specs.Routes.{AreRoutes};
 
-    ghost invariant = { λ n. AreRoutes n.routes n.links.items };
+    ghost invariant = { λ n. AreRoutes n.routes n.links × AreLinks n.base.me n.links × (n.spent ≡ false → graph_of n.trees ≡ graph_of n.base.records) };
 }
 
 impl Node {
     /// A router without links.
-    pub fn new(alloc: Global) -> Node
-        ensures { result ≡ new_node }
+    pub fn new(alloc: Global, me: Zid) -> Result<Node, AllocError>
+        ensures { IfOk result (λ node. node ≡ new_node me) }
     {
-        Node {
-            links: Vec::new(alloc),
+        let base = Base::new(alloc, me)?;
+        let trees = Trees::of(alloc, &base)?;
+        Ok(Node {
+            links: Links::new(alloc),
+            base,
+            trees,
             routes: Routes::new(alloc),
             spent: false,
-        }
+        })
     }
 
-    /// Handles an event, and appends what it sends, each message with its link, in the order of the links. Where memory runs out a prefix of
-    /// it is appended, and the node is spent from now on: nothing is said of its links any more.
+    /// The router's identifier.
+    pub fn me(&self) -> Zid
+        ensures { result ≡ self.now.base.me }
+    {
+        self.base.me()
+    }
+
+    /// The links that are up, in ascending order of their numbers.
+    pub fn links(&self) -> &[LinkPeer]
+        ensures value { result.now ≡ map link_peer self.now.links }
+        ensures are_links { AreLinks self.now.base.me self.now.links }
+        ensures few { length self.now.links < 2 ^ 32 }
+    {
+        self.links.as_slice()
+    }
+
+    /// The newest record of each router that this one knows of, its own among them.
+    pub fn base(&self) -> &Base
+        ensures { result.now ≡ self.now.base }
+    {
+        &self.base
+    }
+
+    /// The trees of the base's routers. Once memory ran out they may be those of an earlier base.
+    pub fn trees(&self) -> &Trees
+        ensures { self.now.spent ≡ false → graph_of result.now ≡ graph_of self.now.base.records }
+    {
+        &self.trees
+    }
+
+    /// The number of the link to a neighbour, if it is up.
+    pub fn link_to(&self, neighbour: &Zid) -> Option<LinkNo>
+        ensures { result ≡ option_map (λ l. l.link) (link_to self.now.links neighbour.now) }
+    {
+        self.links.link_to(neighbour)
+    }
+
+    /// Who stands at the other end of the link of this number, if it is up.
+    pub fn peer_at(&self, link: LinkNo) -> Option<Peer>
+        ensures { result ≡ option_map (λ l. l.peer) (link_at self.now.links link.0) }
+    {
+        self.links.peer_at(link)
+    }
+
+    /// The least number that no link has.
+    pub fn free_link(&self) -> LinkNo
+        ensures { result.0 ≡ free_link self.now.links }
+    {
+        self.links.free()
+    }
+
+    /// Handles an event, and appends what it sends, each message with its link.
+    ///
+    /// `Worn` comes where the own record has had its last number, or lists as many links as it may, and the event would change it;
+    /// `Spent` where memory ran out at an earlier event. Both leave everything as it was. Where memory runs out, a prefix of what is
+    /// to be sent is appended for each link, and the node is spent from now on: nothing is said of its links and records any more.
     pub fn handle(
         &mut self,
         alloc: Global,
         event: &Event,
         out: &mut Vec<(LinkNo, Msg)>,
     ) -> Result<(), NodeError>
+        requires { MayCome self.old event.now }
         ensures state { OnOk result (self.new ≡ after self.old event.now) }
-        ensures sends { OnOk result (out.new.items ≡ out.old.items ++ sends self.old event.now) }
+        ensures sends { OnOk result (Sends self.old event.now out.old.items out.new.items) }
         ensures spent { (result ≡ Err NodeError.Spent) ↔ (self.old.spent ≡ true) }
-        ensures unchanged { result ≡ Err NodeError.Spent → (self.new ≡ self.old) × (out.new.items ≡ out.old.items) }
+        ensures worn { (result ≡ Err NodeError.Worn) ↔ ((self.old.spent ≡ false) × (refuses self.old event.now ≡ Some NodeError.Worn)) }
+        ensures unchanged { ((result ≡ Err NodeError.Spent) ⊎ (result ≡ Err NodeError.Worn)) → (self.new ≡ self.old) × (out.new.items ≡ out.old.items) }
         ensures memory { result ≡ Err NodeError.NoMemory → self.new.spent ≡ true }
-        ensures prefix { result ≡ Err NodeError.NoMemory → IsPrefixBehind out.old.items (sends self.old event.now) out.new.items }
+        ensures prefix { result ≡ Err NodeError.NoMemory → SendsPrefix self.old event.now out.old.items out.new.items }
+        ensures no_other { IfErr result (λ e. (e ≡ NodeError.Worn) ⊎ (e ≡ NodeError.Spent) ⊎ (e ≡ NodeError.NoMemory)) }
     {
         if self.spent {
             return Err(NodeError::Spent);
         }
         match self.on_event(alloc, event, out) {
             Ok(()) => Ok(()),
-            Err(AllocError) => {
+            Err(ChangeError::Worn) => Err(NodeError::Worn),
+            Err(ChangeError::NoMemory) => {
                 self.spent = true;
                 Err(NodeError::NoMemory)
             }
@@ -83,17 +163,18 @@ impl Node {
         alloc: Global,
         event: &Event,
         out: &mut Vec<(LinkNo, Msg)>,
-    ) -> Result<(), AllocError>
-        ensures ok { OnOk result ((self.new ≡ after self.old event.now) × (out.new.items ≡ out.old.items ++ sends self.old event.now)) }
-        ensures err { OnErr result (IsPrefixBehind out.old.items (sends self.old event.now) out.new.items) }
+    ) -> Result<(), ChangeError>
+        requires { MayCome self.old event.now }
+        ensures state { OnOk result (self.new ≡ after self.old event.now) }
+        ensures sends { OnOk result (Sends self.old event.now out.old.items out.new.items) }
+        ensures worn { refuses self.old event.now ≡ refusal result }
+        ensures unchanged { result ≡ Err ChangeError.Worn → (self.new ≡ self.old) × (out.new.items ≡ out.old.items) }
+        ensures prefix { OnErr result (SendsPrefix self.old event.now out.old.items out.new.items) }
     {
         match event {
-            Event::Up { link, peer } => self.up(alloc, *link, *peer),
-            Event::Down { link } => {
-                self.down(*link);
-                Ok(())
-            }
-            Event::From { link, msg } => self.on_message(alloc, *link, msg, out),
+            Event::Up { link, peer } => self.up(alloc, *link, peer, out),
+            Event::Down { link } => self.down(alloc, *link, out),
+            Event::From { link, msg } => Ok(self.on_message(alloc, *link, msg, out)?),
         }
     }
 
@@ -105,8 +186,9 @@ impl Node {
         msg: &Msg,
         out: &mut Vec<(LinkNo, Msg)>,
     ) -> Result<(), AllocError>
-        ensures ok { OnOk result ((self.new ≡ after_from self.old link msg.now) × (out.new.items ≡ out.old.items ++ sends_from self.old link msg.now)) }
-        ensures err { OnErr result (IsPrefixBehind out.old.items (sends_from self.old link msg.now) out.new.items) }
+        ensures state { OnOk result (self.new ≡ after_from self.old link.0 msg.now) }
+        ensures sends { OnOk result (Tells (sends_from self.old link.0 msg.now) out.old.items out.new.items) }
+        ensures prefix { OnErr result (TellsPrefix (sends_from self.old link.0 msg.now) out.old.items out.new.items) }
     {
         match msg {
             Msg::Sub { id, key } => self.declare(alloc, link, *id, key),
@@ -115,6 +197,7 @@ impl Node {
                 Ok(())
             }
             Msg::Push { tree: _, content } => self.push(alloc, link, content, out),
+            Msg::State { links } => self.accept(alloc, link, links, out),
             Msg::Able { .. }
             | Msg::Unable { .. }
             | Msg::Interest { .. }
@@ -127,25 +210,126 @@ impl Node {
             | Msg::Request { .. }
             | Msg::Response { .. }
             | Msg::Final { .. }
-            | Msg::State { .. }
             | Msg::Step { .. }
             | Msg::Snap { .. } => Ok(()),
         }
     }
 
-    fn up(&mut self, alloc: Global, link: LinkNo, peer: Peer) -> Result<(), AllocError>
-        ensures { OnOk result (self.new ≡ after self.old (Event.Up link peer)) }
+    // A link has come up.
+    fn up(
+        &mut self,
+        alloc: Global,
+        link: LinkNo,
+        peer: &Peer,
+        out: &mut Vec<(LinkNo, Msg)>,
+    ) -> Result<(), ChangeError>
+        requires { IsFresh self.old link peer.now }
+        ensures state { OnOk result (self.new ≡ after self.old (Event.Up link peer.now)) }
+        ensures sends { OnOk result (Tells (sends_up self.old link.0 peer.now peer.now.role) out.old.items out.new.items) }
+        ensures worn { refuses_up self.old.base peer.now.role ≡ refusal result }
+        ensures unchanged { result ≡ Err ChangeError.Worn → (self.new ≡ self.old) × (out.new.items ≡ out.old.items) }
+        ensures prefix { OnErr result (TellsPrefix (sends_up self.old link.0 peer.now peer.now.role) out.old.items out.new.items) }
+    {
+        match peer.role {
+            Role::Client => {}
+            Role::Router => self.join(alloc, link, peer, out)?,
+        }
+        Ok(self.add(alloc, link, peer)?)
+    }
+
+    // The own record lists the router of a link that has come up, and records go out.
+    fn join(
+        &mut self,
+        alloc: Global,
+        link: LinkNo,
+        peer: &Peer,
+        out: &mut Vec<(LinkNo, Msg)>,
+    ) -> Result<(), ChangeError>
+        requires { IsFresh self.old link peer.now }
+        ensures state { OnOk result (self.new ≡ with_base self.old (joined self.old.base peer.now.id)) }
+        ensures sends { OnOk result (Tells (sends_up self.old link.0 peer.now Role.Router) out.old.items out.new.items) }
+        ensures worn { refuses_up self.old.base Role.Router ≡ refusal result }
+        ensures unchanged { result ≡ Err ChangeError.Worn → (self.new ≡ self.old) × (out.new.items ≡ out.old.items) }
+        ensures prefix { OnErr result (TellsPrefix (sends_up self.old link.0 peer.now Role.Router) out.old.items out.new.items) }
+    {
+        own::join(alloc, &mut self.base, &peer.id)?;
+        renew(alloc, &self.base, &mut self.trees, &mut self.spent)?;
+        Ok(flood_up(alloc, &self.base, self.links.as_slice(), link, out)?)
+    }
+
+    fn add(&mut self, alloc: Global, link: LinkNo, peer: &Peer) -> Result<(), AllocError>
+        requires { IsFresh self.old link peer.now }
+        ensures { OnOk result (self.new ≡ with_links self.old (with_link self.old.links (new_link link peer.now))) }
     {
         self.routes.clear(); // they are of the links so far
-        self.links.push(Link::new(alloc, link, peer))?;
+        self.links.add(alloc, link, *peer)
+    }
+
+    // A link has gone down.
+    fn down(
+        &mut self,
+        alloc: Global,
+        link: LinkNo,
+        out: &mut Vec<(LinkNo, Msg)>,
+    ) -> Result<(), ChangeError>
+        ensures state { OnOk result (self.new ≡ after self.old (Event.Down link)) }
+        ensures sends { OnOk result (Tells (sends_down self.old link.0 (link_at self.old.links link.0)) out.old.items out.new.items) }
+        ensures worn { refuses_down self.old.base (link_at self.old.links link.0) ≡ refusal result }
+        ensures unchanged { result ≡ Err ChangeError.Worn → (self.new ≡ self.old) × (out.new.items ≡ out.old.items) }
+        ensures prefix { OnErr result (TellsPrefix (sends_down self.old link.0 (link_at self.old.links link.0)) out.old.items out.new.items) }
+    {
+        match self.peer_at(link) {
+            Some(peer) => self.leave(alloc, link, &peer, out)?,
+            None => {}
+        }
+        self.remove(link);
         Ok(())
     }
 
-    fn down(&mut self, link: LinkNo)
-        ensures { self.new ≡ after self.old (Event.Down link) }
+    // Who stood at the other end of a link that has gone down leaves.
+    fn leave(
+        &mut self,
+        alloc: Global,
+        link: LinkNo,
+        peer: &Peer,
+        out: &mut Vec<(LinkNo, Msg)>,
+    ) -> Result<(), ChangeError>
+        ensures state { OnOk result (self.new ≡ with_base self.old (base_parted self.old.base peer.now peer.now.role)) }
+        ensures sends { OnOk result (Tells (sends_parted self.old link.0 peer.now peer.now.role) out.old.items out.new.items) }
+        ensures worn { refuses_parting self.old.base peer.now.role ≡ refusal result }
+        ensures unchanged { result ≡ Err ChangeError.Worn → (self.new ≡ self.old) × (out.new.items ≡ out.old.items) }
+        ensures prefix { OnErr result (TellsPrefix (sends_parted self.old link.0 peer.now peer.now.role) out.old.items out.new.items) }
+    {
+        match peer.role {
+            Role::Client => Ok(()),
+            Role::Router => self.part(alloc, link, peer, out),
+        }
+    }
+
+    // The own record lists the router of a link that has gone down no more, and goes out.
+    fn part(
+        &mut self,
+        alloc: Global,
+        link: LinkNo,
+        peer: &Peer,
+        out: &mut Vec<(LinkNo, Msg)>,
+    ) -> Result<(), ChangeError>
+        ensures state { OnOk result (self.new ≡ with_base self.old (parted self.old.base peer.now.id)) }
+        ensures sends { OnOk result (Tells (sends_parted self.old link.0 peer.now Role.Router) out.old.items out.new.items) }
+        ensures worn { refuses_parting self.old.base Role.Router ≡ refusal result }
+        ensures unchanged { result ≡ Err ChangeError.Worn → (self.new ≡ self.old) × (out.new.items ≡ out.old.items) }
+        ensures prefix { OnErr result (TellsPrefix (sends_parted self.old link.0 peer.now Role.Router) out.old.items out.new.items) }
+    {
+        own::part(alloc, &mut self.base, &peer.id)?;
+        renew(alloc, &self.base, &mut self.trees, &mut self.spent)?;
+        Ok(flood_down(alloc, &self.base, self.links.as_slice(), link, out)?)
+    }
+
+    fn remove(&mut self, link: LinkNo)
+        ensures { self.new ≡ with_links self.old (without_link self.old.links link.0) }
     {
         self.routes.clear(); // the link may stand on any of them
-        take_out(&mut self.links, link);
+        self.links.remove(link);
     }
 
     fn declare(
@@ -155,17 +339,17 @@ impl Node {
         id: u32,
         key: &KeyExpr,
     ) -> Result<(), AllocError>
-        ensures { OnOk result (self.new ≡ after_from self.old link (Msg.Sub id key.now)) }
+        ensures { OnOk result (self.new ≡ after_from self.old link.0 (Msg.Sub id key.now)) }
     {
         self.routes.clear(); // the client may have to stand on any of them
-        declare_on(alloc, &mut self.links, link, id, key)
+        self.links.declare(alloc, link, id, key)
     }
 
     fn undeclare(&mut self, link: LinkNo, id: u32)
-        ensures { self.new ≡ after_from self.old link (Msg.Unsub id) }
+        ensures { self.new ≡ after_from self.old link.0 (Msg.Unsub id) }
     {
         self.routes.clear(); // the client may stand on any of them
-        undeclare_on(&mut self.links, link, id);
+        self.links.undeclare(link, id);
     }
 
     // A key that samples came on before, since the links last changed, is not asked of the links again.
@@ -177,64 +361,79 @@ impl Node {
         out: &mut Vec<(LinkNo, Msg)>,
     ) -> Result<(), AllocError>
         ensures state { OnOk result (self.new ≡ self.old) }
-        ensures sends { OnOk result (out.new.items ≡ out.old.items ++ sends_from self.old link (Msg.Push None content.now)) }
-        ensures err { OnErr result (IsPrefixBehind out.old.items (sends_from self.old link (Msg.Push None content.now)) out.new.items) }
+        ensures sends { OnOk result (Tells (sends_push self.old link.0 content.now) out.old.items out.new.items) }
+        ensures prefix { OnErr result (TellsPrefix (sends_push self.old link.0 content.now) out.old.items out.new.items) }
     {
+        if !self.leads_to_client(link) {
+            return Ok(());
+        }
         let key = content.key();
         if let Some(numbers) = self.routes.find(key) {
             return push_to(numbers, link, content, out);
         }
-        let numbers = subscribed_links(alloc, self.links.as_slice(), key)?;
+        let numbers = self.links.subscribed(alloc, key)?;
         push_to(numbers.as_slice(), link, content, out)?;
         self.routes.remember(alloc, key, numbers)
     }
-}
 
-// A link has gone down.
-fn take_out(links: &mut Vec<Link>, gone: LinkNo)
-    ensures { links.new.items ≡ without_link links.old.items gone.0 }
-{
-    links.retain(|link| link.number().0 != gone.0);
-}
-
-// The client of a link declares a subscription.
-fn declare_on(
-    alloc: Global,
-    links: &mut [Link],
-    from: LinkNo,
-    id: u32,
-    key: &KeyExpr,
-) -> Result<(), AllocError>
-    ensures { OnOk result (links.new ≡ map (λ l. changed_on from.0 (λ subs. declared subs id key.now) l) links.old) }
-{
-    for link in links.iter_mut() {
-        if link.number().0 == from.0 {
-            link.declare(id, key.copy(alloc)?)?;
+    // A record has come over a link: a newer one of a router is kept, and goes on.
+    fn accept(
+        &mut self,
+        alloc: Global,
+        link: LinkNo,
+        told: &Shared<LinkRecord>,
+        out: &mut Vec<(LinkNo, Msg)>,
+    ) -> Result<(), AllocError>
+        ensures state { OnOk result (self.new ≡ with_base self.old (base_told self.old link.0 told.now)) }
+        ensures sends { OnOk result (Tells (sends_state self.old link.0 told.now) out.old.items out.new.items) }
+        ensures prefix { OnErr result (TellsPrefix (sends_state self.old link.0 told.now) out.old.items out.new.items) }
+    {
+        if !self.leads_to_router(link) {
+            return Ok(());
+        }
+        match self.base.accept(told.get())? {
+            Accepted::Old => Ok(()),
+            Accepted::Newer => {
+                renew(alloc, &self.base, &mut self.trees, &mut self.spent)?;
+                flood_newer(told, self.links.as_slice(), link, out)
+            }
         }
     }
-    Ok(())
-}
 
-// The client of a link takes a subscription back.
-fn undeclare_on(links: &mut [Link], from: LinkNo, id: u32)
-    ensures { links.new ≡ map (λ l. changed_on from.0 (λ subs. undeclared subs id) l) links.old }
-{
-    for link in links.iter_mut() {
-        if link.number().0 == from.0 {
-            link.undeclare(id);
+    fn leads_to_client(&self, link: LinkNo) -> bool
+        ensures { result ≡ leads_to_client self.now.links link.0 }
+    {
+        match self.peer_at(link) {
+            Some(peer) => is_client(peer.role),
+            None => false,
+        }
+    }
+
+    fn leads_to_router(&self, link: LinkNo) -> bool
+        ensures { result ≡ leads_to_router self.now.links link.0 }
+    {
+        match self.peer_at(link) {
+            Some(peer) => !is_client(peer.role),
+            None => false,
         }
     }
 }
 
-// The numbers of the links whose clients subscribe to an expression that meets a key.
-fn subscribed_links(alloc: Global, links: &[Link], key: &KeyExpr) -> Result<Vec<LinkNo>, AllocError>
-    ensures { IfOk result (λ numbers. numbers.items ≡ route links.now key.now) }
+// The base has changed: its trees are worked out anew. Where memory runs out they stay as they were, and the router is spent.
+fn renew(alloc: Global, base: &Base, trees: &mut Trees, spent: &mut bool) -> Result<(), AllocError>
+    ensures ok { OnOk result ((trees.new ≡ base.now.records) × (spent.new ≡ spent.old)) }
+    ensures err { OnErr result (spent.new ≡ true) }
 {
-    links
-        .iter()
-        .filter(|link| link.subscribes(key))
-        .map(|link| link.number())
-        .collect(alloc)
+    match Trees::of(alloc, base) {
+        Ok(new) => {
+            *trees = new;
+            Ok(())
+        }
+        Err(AllocError) => {
+            *spent = true;
+            Err(AllocError)
+        }
+    }
 }
 
 // A sample goes once to each link of its key's route, but for the publisher's. Its content is not copied.

@@ -3,7 +3,7 @@
 ghost use Rattle.std.specs.Prelude.{◌≡◌, ◌≤◌, length, true, map, Ok};
 ghost use Rattle.zr_language.specs.Lines.{most_line};
 ghost use Rattle.zr_language.specs.Step.{IsSaid};
-ghost use Rattle.zr_language.specs.Command.{command_of, by_words, by_name, is_command, is_silent, plain, router_line, client_line, sub_line, unsub_line, put_line, del_line, handle_line, take_line, run_line, mark_line};
+ghost use Rattle.zr_language.specs.Command.{command_of, by_words, by_name, is_command, is_silent, plain, router_line, client_line, link_line, up_line, break_line, down_line, sub_line, unsub_line, put_line, del_line, handle_line, take_line, run_line, mark_line, show_line};
 ghost use Rattle.zr_script.specs.Short.{are_short};
 
 use crate::word::{is_clean, key, number, one, payload, three, two, words_of, zid};
@@ -69,6 +69,10 @@ fn is_command(name: &[u8]) -> bool
 {
     name == b"router".as_slice()
         || name == b"client".as_slice()
+        || name == b"link".as_slice()
+        || name == b"up".as_slice()
+        || name == b"break".as_slice()
+        || name == b"down".as_slice()
         || name == b"sub".as_slice()
         || name == b"unsub".as_slice()
         || name == b"put".as_slice()
@@ -77,6 +81,7 @@ fn is_command(name: &[u8]) -> bool
         || name == b"take".as_slice()
         || name == b"run".as_slice()
         || name == b"mark".as_slice()
+        || name == b"show".as_slice()
 }
 
 #[tactic(auto, unfolding(zr_language::specs::Command::by_name))]
@@ -88,6 +93,14 @@ fn by_name(alloc: Global, name: &[u8], args: &[&[u8]]) -> Result<Command, Script
         router(args)
     } else if name == b"client".as_slice() {
         client(args)
+    } else if name == b"link".as_slice() {
+        link(args)
+    } else if name == b"up".as_slice() {
+        up(args)
+    } else if name == b"break".as_slice() {
+        break_link(args)
+    } else if name == b"down".as_slice() {
+        down(args)
     } else if name == b"sub".as_slice() {
         sub(alloc, args)
     } else if name == b"unsub".as_slice() {
@@ -104,6 +117,8 @@ fn by_name(alloc: Global, name: &[u8], args: &[&[u8]]) -> Result<Command, Script
         run(args)
     } else if name == b"mark".as_slice() {
         mark(args)
+    } else if name == b"show".as_slice() {
+        show(args)
     } else {
         Err(ScriptError::UnknownCommand)
     }
@@ -126,6 +141,54 @@ fn client(args: &[&[u8]]) -> Result<Command, ScriptError>
     let id = zid(id)?;
     let router = zid(router)?;
     let act = Act::Client { id, router };
+    Ok(Command::Act { act })
+}
+
+// A router is never linked to itself.
+#[tactic(auto, unfolding(zr_language::specs::Command::link_line))]
+fn link(args: &[&[u8]]) -> Result<Command, ScriptError>
+    ensures { IsSaid result (link_line (map (λ w. w.now) args.now)) }
+{
+    let (one, other) = two(args)?;
+    let one = zid(one)?;
+    let other = zid(other)?;
+    if one == other {
+        return Err(ScriptError::BadWords);
+    }
+    let act = Act::Link { one, other };
+    Ok(Command::Act { act })
+}
+
+#[tactic(auto, unfolding(zr_language::specs::Command::up_line))]
+fn up(args: &[&[u8]]) -> Result<Command, ScriptError>
+    ensures { IsSaid result (up_line (map (λ w. w.now) args.now)) }
+{
+    let (router, neighbour) = two(args)?;
+    let router = zid(router)?;
+    let neighbour = zid(neighbour)?;
+    let act = Act::Up { router, neighbour };
+    Ok(Command::Act { act })
+}
+
+#[tactic(auto, unfolding(zr_language::specs::Command::break_line))]
+fn break_link(args: &[&[u8]]) -> Result<Command, ScriptError>
+    ensures { IsSaid result (break_line (map (λ w. w.now) args.now)) }
+{
+    let (router, neighbour) = two(args)?;
+    let router = zid(router)?;
+    let neighbour = zid(neighbour)?;
+    let act = Act::Break { router, neighbour };
+    Ok(Command::Act { act })
+}
+
+#[tactic(auto, unfolding(zr_language::specs::Command::down_line))]
+fn down(args: &[&[u8]]) -> Result<Command, ScriptError>
+    ensures { IsSaid result (down_line (map (λ w. w.now) args.now)) }
+{
+    let (router, neighbour) = two(args)?;
+    let router = zid(router)?;
+    let neighbour = zid(neighbour)?;
+    let act = Act::Down { router, neighbour };
     Ok(Command::Act { act })
 }
 
@@ -222,4 +285,13 @@ fn mark(args: &[&[u8]]) -> Result<Command, ScriptError>
         [] => Ok(Command::Act { act: Act::Mark }),
         _ => Err(ScriptError::BadWords),
     }
+}
+
+#[tactic(auto, unfolding(zr_language::specs::Command::show_line))]
+fn show(args: &[&[u8]]) -> Result<Command, ScriptError>
+    ensures { IsSaid result (show_line (map (λ w. w.now) args.now)) }
+{
+    let router = zid(one(args)?)?;
+    let act = Act::Show { router };
+    Ok(Command::Act { act })
 }

@@ -4,11 +4,11 @@ ghost use Rattle.std.specs.Prelude.{◌≡◌, ◌++◌, ◌∷◌, codes, OnOk}
 ghost use Rattle.std.specs.Fmt.{decimal};
 ghost use Rattle.std.specs.List.{flat_map};
 ghost use Rattle.zr_body.specs.Payload.{payload_of};
-ghost use Rattle.zr_language.specs.Report.{id_text, tree_text, payload_text, interest_text, kinds_text, target_text, sign_text, links_text, decl_text, msg_text};
+ghost use Rattle.zr_language.specs.Report.{id_text, optional_id_text, payload_text, interest_text, kinds_text, target_text, sign_text, links_text, record_text, decl_text, msg_text};
 
 use crate::part::{
     able_text, aggregate_text, kind_text, kinds_text, mode_text, put_id, put_interest, put_key,
-    put_number, put_payload, put_tree, sign_text, target_text,
+    put_number, put_optional_id, put_payload, sign_text, target_text,
 };
 use std::alloc::AllocError;
 use zr_id::record::LinkRecord;
@@ -123,12 +123,12 @@ fn put_sample(tree: &Option<Zid>, content: &Content, out: &mut Vec<u8>) -> Resul
 {
     if content.body().is_del() {
         out.extend_from_slice(b"del ")?;
-        put_tree(tree, out)?;
+        put_optional_id(tree, out)?;
         out.extend_from_slice(b" ")?;
         out.extend_from_slice(content.key().text().as_bytes())
     } else {
         out.extend_from_slice(b"put ")?;
-        put_tree(tree, out)?;
+        put_optional_id(tree, out)?;
         out.extend_from_slice(b" ")?;
         put_content(content, out)
     }
@@ -149,10 +149,10 @@ fn put_request(
     content: &Content,
     out: &mut Vec<u8>,
 ) -> Result<(), AllocError>
-    ensures { OnOk result (out.new.items ≡ out.old.items ++ (codes "get " ++ tree_text tree.now ++ codes " " ++ decimal id ++ codes " " ++ content.now.key ++ codes " " ++ target_text target)) }
+    ensures { OnOk result (out.new.items ≡ out.old.items ++ (codes "get " ++ optional_id_text tree.now ++ codes " " ++ decimal id ++ codes " " ++ content.now.key ++ codes " " ++ target_text target)) }
 {
     out.extend_from_slice(b"get ")?;
-    put_tree(tree, out)?;
+    put_optional_id(tree, out)?;
     out.extend_from_slice(b" ")?;
     put_number(u64::from(id), out)?;
     out.extend_from_slice(b" ")?;
@@ -169,8 +169,9 @@ fn put_reply(id: u32, content: &Content, out: &mut Vec<u8>) -> Result<(), AllocE
     put_content(content, out)
 }
 
-fn put_record(state: &LinkRecord, out: &mut Vec<u8>) -> Result<(), AllocError>
-    ensures { OnOk result (out.new.items ≡ out.old.items ++ (codes "record " ++ id_text state.now.id ++ codes " " ++ decimal state.now.seq ++ codes " " ++ links_text state.now.links)) }
+/// Appends a link record.
+pub fn put_record(state: &LinkRecord, out: &mut Vec<u8>) -> Result<(), AllocError>
+    ensures { OnOk result (out.new.items ≡ out.old.items ++ record_text state.now) }
 {
     out.extend_from_slice(b"record ")?;
     put_id(&state.id(), out)?;

@@ -2,7 +2,7 @@
 
 ghost use Rattle.std.specs.Prelude.{◌≡◌, ◌++◌, codes, OnOk};
 ghost use Rattle.std.specs.Fmt.{decimal};
-ghost use Rattle.zr_language.specs.Report.{id_text, tree_text, payload_text, key_text, interest_text, mode_text, in_subs, in_ables, kinds_text, if_so, able_text, target_text, kind_text, sign_text};
+ghost use Rattle.zr_language.specs.Report.{id_text, optional_id_text, payload_text, key_text, interest_text, mode_text, in_subs, in_ables, kinds_text, if_so, able_text, target_text, kind_text, sign_text};
 
 use itoa::Buffer;
 use std::alloc::AllocError;
@@ -14,7 +14,7 @@ use zr_msg::msg::{Kinds, QUERYABLES, SUBSCRIBERS, Target};
 /// How many digits the text of an identifier has at most.
 const MOST_DIGITS: usize = 2 * MOST_BYTES;
 
-// The digits are put together on the stack: a report line takes no memory but its own.
+/// Appends an identifier. Its digits are put together on the stack: a report line takes no memory but its own.
 pub fn put_id(id: &Zid, out: &mut Vec<u8>) -> Result<(), AllocError>
     ensures { OnOk result (out.new.items ≡ out.old.items ++ id_text id.now) }
 {
@@ -27,6 +27,7 @@ pub fn put_id(id: &Zid, out: &mut Vec<u8>) -> Result<(), AllocError>
     }
 }
 
+/// Appends the decimal digits of a number.
 pub fn put_number(number: u64, out: &mut Vec<u8>) -> Result<(), AllocError>
     ensures { OnOk result (out.new.items ≡ out.old.items ++ decimal number) }
 {
@@ -34,15 +35,17 @@ pub fn put_number(number: u64, out: &mut Vec<u8>) -> Result<(), AllocError>
     out.extend_from_slice(buffer.format(number).as_bytes())
 }
 
-pub fn put_tree(tree: &Option<Zid>, out: &mut Vec<u8>) -> Result<(), AllocError>
-    ensures { OnOk result (out.new.items ≡ out.old.items ++ tree_text tree.now) }
+/// Appends an identifier; `-` where there is none.
+pub fn put_optional_id(id: &Option<Zid>, out: &mut Vec<u8>) -> Result<(), AllocError>
+    ensures { OnOk result (out.new.items ≡ out.old.items ++ optional_id_text id.now) }
 {
-    match tree {
+    match id {
         None => out.extend_from_slice(b"-"),
-        Some(root) => put_id(root, out),
+        Some(id) => put_id(id, out),
     }
 }
 
+/// Appends a payload; `-` where it is empty.
 pub fn put_payload(payload: &[u8], out: &mut Vec<u8>) -> Result<(), AllocError>
     ensures { OnOk result (out.new.items ≡ out.old.items ++ payload_text payload.now) }
 {
@@ -52,6 +55,7 @@ pub fn put_payload(payload: &[u8], out: &mut Vec<u8>) -> Result<(), AllocError>
     }
 }
 
+/// Appends the key of an interest; `-` where it has none.
 pub fn put_key(key: &Option<KeyExpr>, out: &mut Vec<u8>) -> Result<(), AllocError>
     ensures { OnOk result (out.new.items ≡ out.old.items ++ key_text key.now) }
 {
@@ -61,6 +65,7 @@ pub fn put_key(key: &Option<KeyExpr>, out: &mut Vec<u8>) -> Result<(), AllocErro
     }
 }
 
+/// Appends the interest that a told message answers; `-` where it answers none.
 pub fn put_interest(interest: Option<u32>, out: &mut Vec<u8>) -> Result<(), AllocError>
     ensures { OnOk result (out.new.items ≡ out.old.items ++ interest_text interest) }
 {
@@ -70,6 +75,7 @@ pub fn put_interest(interest: Option<u32>, out: &mut Vec<u8>) -> Result<(), Allo
     }
 }
 
+/// What of the present and the future an interest asks.
 pub fn mode_text(current: bool, future: bool) -> &'static [u8]
     ensures { result.now ≡ mode_text current future }
 {
@@ -82,6 +88,7 @@ pub fn mode_text(current: bool, future: bool) -> &'static [u8]
     }
 }
 
+/// The kinds of declarations in which an interest is.
 pub fn kinds_text(kinds: Kinds) -> &'static [u8]
     ensures { result.now ≡ kinds_text kinds }
 {
@@ -108,18 +115,21 @@ fn in_ables(kinds: Kinds) -> bool
     kinds.0 & QUERYABLES != 0
 }
 
+/// The word behind an interest that is told one declaration for many, with the space before it.
 pub fn aggregate_text(aggregate: bool) -> &'static [u8]
     ensures { result.now ≡ if_so aggregate (codes "aggregate") }
 {
     if aggregate { b" aggregate" } else { b"" }
 }
 
+/// The word of a queryable, complete or not.
 pub fn able_text(complete: bool) -> &'static [u8]
     ensures { result.now ≡ able_text complete }
 {
     if complete { b"full" } else { b"able" }
 }
 
+/// Which queryables a request asks.
 pub fn target_text(target: Target) -> &'static [u8]
     ensures { result.now ≡ target_text target }
 {
@@ -130,6 +140,7 @@ pub fn target_text(target: Target) -> &'static [u8]
     }
 }
 
+/// The word of a declaration's kind.
 pub fn kind_text(kind: Kind) -> &'static [u8]
     ensures { result.now ≡ kind_text kind }
 {
@@ -140,6 +151,7 @@ pub fn kind_text(kind: Kind) -> &'static [u8]
     }
 }
 
+/// Whether a declaration was added or removed.
 pub fn sign_text(added: bool) -> &'static [u8]
     ensures { result.now ≡ sign_text added }
 {

@@ -2,13 +2,14 @@
 
 ghost use Rattle.std.specs.Prelude.{◌≡◌, ◌++◌, [], codes, OnOk, OnErr};
 ghost use Rattle.std.specs.Fmt.{decimal};
-ghost use Rattle.zr_language.specs.Report.{line_end, line_text, msg_text, rest_text, id_text, refusal_text, refused_text};
+ghost use Rattle.zr_language.specs.Report.{line_end, line_text, msg_text, rest_text, id_text, optional_id_text, record_text, refusal_text, refused_text};
 
-use crate::message::put_msg;
-use crate::part::{put_id, put_number};
+use crate::message::{put_msg, put_record};
+use crate::part::{put_id, put_number, put_optional_id};
 use std::alloc::AllocError;
 use zr_command::error::ScriptError;
 use zr_command::report::ReportLine;
+use zr_id::record::LinkRecord;
 use zr_id::zid::Zid;
 use zr_msg::msg::Msg;
 
@@ -60,6 +61,9 @@ fn put_line(line: &ReportLine, out: &mut Vec<u8>) -> Result<(), AllocError>
         } => put_step(router, b" > ", to, msg, *tag, out),
         ReportLine::Ran { steps, quiet } => put_ran(*steps, *quiet, out),
         ReportLine::Mark { line } => put_mark(*line, out),
+        ReportLine::Show { router } => put_show(router, out),
+        ReportLine::Record { record } => put_record_line(record, out),
+        ReportLine::Parent { root, parent } => put_parent(root, parent, out),
     }
 }
 
@@ -106,6 +110,31 @@ fn put_mark(line: u64, out: &mut Vec<u8>) -> Result<(), AllocError>
     out.extend_from_slice(b"\n")
 }
 
+fn put_show(router: &Zid, out: &mut Vec<u8>) -> Result<(), AllocError>
+    ensures { OnOk result (out.new.items ≡ out.old.items ++ (codes "show " ++ id_text router.now ++ line_end)) }
+{
+    out.extend_from_slice(b"show ")?;
+    put_id(router, out)?;
+    out.extend_from_slice(b"\n")
+}
+
+fn put_record_line(record: &LinkRecord, out: &mut Vec<u8>) -> Result<(), AllocError>
+    ensures { OnOk result (out.new.items ≡ out.old.items ++ (record_text record.now ++ line_end)) }
+{
+    put_record(record, out)?;
+    out.extend_from_slice(b"\n")
+}
+
+fn put_parent(root: &Zid, parent: &Option<Zid>, out: &mut Vec<u8>) -> Result<(), AllocError>
+    ensures { OnOk result (out.new.items ≡ out.old.items ++ (codes "parent " ++ id_text root.now ++ codes " " ++ optional_id_text parent.now ++ line_end)) }
+{
+    out.extend_from_slice(b"parent ")?;
+    put_id(root, out)?;
+    out.extend_from_slice(b" ")?;
+    put_optional_id(parent, out)?;
+    out.extend_from_slice(b"\n")
+}
+
 fn put_refused(number: u64, error: ScriptError, out: &mut Vec<u8>) -> Result<(), AllocError>
     ensures { OnOk result (out.new.items ≡ out.old.items ++ refused_text number error) }
 {
@@ -125,9 +154,11 @@ fn refusal_text(error: ScriptError) -> &'static [u8]
         ScriptError::UnknownName => b"3 UnknownName",
         ScriptError::NameTaken => b"4 NameTaken",
         ScriptError::BadKey => b"5 BadKey",
+        ScriptError::AlreadyLinked => b"6 AlreadyLinked",
         ScriptError::NotLinked => b"7 NotLinked",
         ScriptError::NothingThere => b"8 NothingThere",
         ScriptError::NotSettled => b"10 NotSettled",
+        ScriptError::NotJoined => b"11 NotJoined",
         ScriptError::Limit => b"12 Limit",
         ScriptError::NoMemory => b"",
     }

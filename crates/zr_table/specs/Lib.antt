@@ -1,3 +1,4 @@
 pub mod Prefix
 pub mod State
 pub mod Table
+pub mod Event

@@ -1,4 +1,7 @@
-//! Who gets a sample, before and after what is remembered of its key has to be forgotten.
+//! Who gets a sample, before and after what is remembered of its key has to be forgotten; and what routers tell each other of links.
+
+ghost use Rattle.std.specs.Prelude.{◌≡◌, true};
+ghost use Rattle.zr_table.specs.Event.{IsFresh, MayCome};
 
 use std::alloc::Global;
 use std::test::Fail;
@@ -36,12 +39,45 @@ fn up(number: u32) -> Result<Event, Fail> {
     Ok(Event::Up { link, peer })
 }
 
+// Whether an event may come: a link that is to come up is a fresh one, and any other is up.
+fn may_come(node: &Node, event: &Event) -> bool
+    ensures { result ≡ true → MayCome node.now event.now }
+{
+    match event {
+        Event::Up { link, peer } => is_fresh(node, *link, *peer),
+        Event::Down { link } | Event::From { link, .. } => node.peer_at(*link).is_some(),
+    }
+}
+
+fn is_fresh(node: &Node, link: LinkNo, peer: Peer) -> bool
+    ensures { result ≡ true → IsFresh node.now link peer }
+{
+    node.peer_at(link).is_none() && node.link_to(&peer.id).is_none() && peer.id != node.me()
+}
+
+// The router handles an event that may come, and appends what it sends.
+fn handle(
+    alloc: Global,
+    node: &mut Node,
+    event: &Event,
+    out: &mut Vec<(LinkNo, Msg)>,
+) -> Result<(), Fail> {
+    if may_come(node, event) {
+        node.handle(alloc, event, out)?;
+    }
+    Ok(())
+}
+
+fn router(alloc: Global) -> Result<Node, Fail> {
+    Ok(Node::new(alloc, Zid::from_bytes(&[9])?)?)
+}
+
 // A router with links 0, 1 and 2.
 fn three_links(alloc: Global) -> Result<Node, Fail> {
-    let mut node = Node::new(alloc);
+    let mut node = router(alloc)?;
     let mut out = Vec::new(alloc);
     for number in 0..3 {
-        node.handle(alloc, &up(number)?, &mut out)?;
+        handle(alloc, &mut node, &up(number)?, &mut out)?;
     }
     Ok(node)
 }
@@ -77,7 +113,7 @@ fn event(alloc: Global, number: u32, step: Step<'_>) -> Result<Event, Fail> {
 // The numbers of the links to which the router sends something on an event, in the order in which it does.
 fn receivers(alloc: Global, node: &mut Node, event: &Event) -> Result<Vec<u32>, Fail> {
     let mut out = Vec::new(alloc);
-    node.handle(alloc, event, &mut out)?;
+    handle(alloc, node, event, &mut out)?;
     let mut numbers = Vec::new(alloc);
     for (link, _) in &out {
         numbers.push(link.0)?;
@@ -146,11 +182,12 @@ fn a_message_has_64_bytes_at_most(rt: HostRuntime) {
 
 // How many links get a sample that comes from the first of so many, where the clients of all subscribe to its key.
 fn reached(alloc: Global, links: u32) -> Result<usize, Fail> {
-    let mut node = Node::new(alloc);
+    let mut node = router(alloc)?;
     let mut out = Vec::new(alloc);
     for number in 0..links {
-        node.handle(alloc, &up(number)?, &mut out)?;
-        node.handle(alloc, &event(alloc, number, Step::Sub(1, "a"))?, &mut out)?;
+        handle(alloc, &mut node, &up(number)?, &mut out)?;
+        let sub = event(alloc, number, Step::Sub(1, "a"))?;
+        handle(alloc, &mut node, &sub, &mut out)?;
     }
     let sample = event(alloc, 0, Step::Sample("a"))?;
     Ok(receivers(alloc, &mut node, &sample)?.len())

@@ -14,6 +14,8 @@ use zr_world::world::World;
 
 const ROUTER: u8 = 0x0a;
 
+const OTHER_ROUTER: u8 = 0x0b;
+
 const PUBLISHER: u8 = 0xc1;
 
 const FIRST_BY_NAME: u8 = 0xc2;
@@ -27,6 +29,9 @@ enum Seen {
     Taken(u8, u64),
     Ran,
     Mark(u64),
+    Show(u8),
+    Record(u8),
+    Parent(u8),
 }
 
 // A line of the script.
@@ -39,7 +44,23 @@ enum Line {
     // a run of so many steps
     Steps(u32),
     Mark,
+    OtherRouter,
+    Link,
+    // the end of a router's link to the other comes up
+    Up(u8, u8),
+    Show,
 }
+
+// Two routers whose link comes up at both ends; each takes the other's record, and the first tells its tables.
+const TWO_ROUTERS: [Line; 7] = [
+    Line::Router,
+    Line::OtherRouter,
+    Line::Link,
+    Line::Up(ROUTER, OTHER_ROUTER),
+    Line::Up(OTHER_ROUTER, ROUTER),
+    Line::Steps(9),
+    Line::Show,
+];
 
 // A publisher and two subscribers, whose declarations are handled by a run.
 const SCRIPT: [Line; 8] = [
@@ -67,6 +88,9 @@ fn shown(line: &ReportLine) -> Seen {
         ReportLine::Taken { to, tag, .. } => Seen::Taken(byte(to), *tag),
         ReportLine::Ran { .. } => Seen::Ran,
         ReportLine::Mark { line } => Seen::Mark(*line),
+        ReportLine::Show { router } => Seen::Show(byte(router)),
+        ReportLine::Record { record } => Seen::Record(byte(&record.id())),
+        ReportLine::Parent { root, .. } => Seen::Parent(byte(root)),
     }
 }
 
@@ -107,6 +131,22 @@ fn go(
     Ok(())
 }
 
+// What a line of several routers asks.
+fn between(line: Line) -> Result<Act, Fail> {
+    let router = name(ROUTER)?;
+    let other = name(OTHER_ROUTER)?;
+    Ok(match line {
+        Line::OtherRouter => Act::Router { id: other },
+        Line::Link => Act::Link { one: router, other },
+        Line::Up(from, to) => up(name(from)?, name(to)?),
+        _ => Act::Show { router },
+    })
+}
+
+fn up(router: Zid, neighbour: Zid) -> Act {
+    Act::Up { router, neighbour }
+}
+
 fn on_line(
     alloc: Global,
     world: &mut World,
@@ -121,6 +161,7 @@ fn on_line(
         Line::Put => put(alloc)?,
         Line::Steps(steps) => return go(world, number, steps, report),
         Line::Mark => Act::Mark,
+        Line::OtherRouter | Line::Link | Line::Up(..) | Line::Show => between(line)?,
     };
     world.apply(number, act, report)?;
     Ok(())
@@ -128,10 +169,15 @@ fn on_line(
 
 // A world after the script and these lines behind it, with its report.
 fn after(alloc: Global, more: &[Line]) -> Result<(World, Vec<ReportLine>), Fail> {
+    run(alloc, &SCRIPT, more)
+}
+
+// A world after these lines and those behind them, with its report.
+fn run(alloc: Global, lines: &[Line], more: &[Line]) -> Result<(World, Vec<ReportLine>), Fail> {
     let mut world = World::new(alloc);
     let mut report = Vec::new(alloc);
     let mut number: u64 = 0;
-    for line in SCRIPT.iter().chain(more.iter()) {
+    for line in lines.iter().chain(more.iter()) {
         number = number.saturating_add(1);
         on_line(alloc, &mut world, number, *line, &mut report)?;
     }
@@ -141,6 +187,10 @@ fn after(alloc: Global, more: &[Line]) -> Result<(World, Vec<ReportLine>), Fail>
 // The report of the script and these lines behind it, without its first lines.
 fn report_behind(alloc: Global, more: &[Line], first: usize) -> Result<Vec<Seen>, Fail> {
     let (_, report) = after(alloc, more)?;
+    all_shown(alloc, &report, first)
+}
+
+fn all_shown(alloc: Global, report: &[ReportLine], first: usize) -> Result<Vec<Seen>, Fail> {
     let mut seen = Vec::new(alloc);
     for line in report.iter().skip(first) {
         seen.push(shown(line))?;
@@ -223,5 +273,23 @@ fn rests_where_nothing_waits(rt: HostRuntime) -> Result<(), Fail> {
     let (world, _) = after(rt.alloc(), &[])?;
     assert!(rt; world.next().is_none(), "a quiet world");
     assert!(rt; World::new(rt.alloc()).next().is_none(), "an empty world");
+    Ok(())
+}
+
+#[test]
+fn two_routers_tell_each_other_of_their_link(rt: HostRuntime) -> Result<(), Fail> {
+    let want = [
+        Seen::Taken(OTHER_ROUTER, 4),
+        Seen::Handled(ROUTER, 4),
+        Seen::Taken(ROUTER, 5),
+        Seen::Handled(OTHER_ROUTER, 5),
+        Seen::Show(ROUTER),
+        Seen::Record(ROUTER),
+        Seen::Record(OTHER_ROUTER),
+        Seen::Parent(OTHER_ROUTER),
+    ];
+    let (_, report) = run(rt.alloc(), &TWO_ROUTERS, &[])?;
+    let seen = all_shown(rt.alloc(), &report, 0)?;
+    assert!(rt; seen.as_slice() == want.as_slice(), "records and tables");
     Ok(())
 }

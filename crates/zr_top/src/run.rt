@@ -6,6 +6,7 @@ ghost use Rattle.zr_outside.specs.Counts.{Rose};
 ghost use Rattle.zr_guarantee.specs.Scripts.{IsRefined};
 ghost use Rattle.zr_laws.specs.Keys.{AskingIsMeeting};
 ghost use Rattle.zr_laws.specs.Runs.{RestIsQuiet};
+ghost use Rattle.zr_settled.specs.Tables.{AgreeWhereSettled};
 ghost use Rattle.zr_netrun.specs.Clauses.{OfRead, OfLines, IsReported, IsReadToEnd};
 ghost use Rattle.zr_top.specs.Means.{HaveKeyTexts, LeadToTheirReport};
 ghost use Rattle.zr_top.specs.Words.{is_net, TellsUsage};
@@ -18,6 +19,7 @@ use zr_netrun::netrun::run_script;
 use zr_netrun::status::Status;
 use zr_outside::sink::{Sink, write_all};
 use zr_outside::source::Source;
+use zr_settled::settled_tables_agree;
 
 /// The forms of the program's words.
 const USAGE: &str =
@@ -30,7 +32,11 @@ const USAGE: &str =
 /// The clause `headline` says what clients were sent, and `told` that the report, of which `report` speaks, tells just this: the accepted
 /// acts of the lines that were read lead to the moment that the report tells. Beside them stands what the headline's words mean: the keys
 /// of a script are texts of expressions (`keys`), the one broker sends to a subscription exactly where some key is matched by both
-/// expressions (`meeting`), and nothing is under way exactly where no step is possible, which a run tells by `quiet` (`rest`).
+/// expressions (`meeting`), and in a phase nothing is under way exactly where no step is possible, which a run tells by `quiet` (`rest`).
+///
+/// The clause `tables` says what routers know of links: at each moment of the lines that were read, also between two steps of a run, at
+/// which the network is settled, each router sees exactly the links that are up at both ends, as far as it reaches, whatever links came,
+/// broke and went before.
 pub fn run<S: Source, K: Sink, E: Sink>(
     alloc: Global,
     words: &[String],
@@ -42,6 +48,7 @@ pub fn run<S: Source, K: Sink, E: Sink>(
     ensures headline { is_net (map string_bytes words.now) ≡ true → OfLines (S.left input.old) (S.left input.new) IsRefined }
     ensures told { is_net (map string_bytes words.now) ≡ true → OfLines (S.left input.old) (S.left input.new) LeadToTheirReport }
     ensures keys { is_net (map string_bytes words.now) ≡ true → OfLines (S.left input.old) (S.left input.new) HaveKeyTexts }
+    ensures tables { is_net (map string_bytes words.now) ≡ true → OfLines (S.left input.old) (S.left input.new) AgreeWhereSettled }
     ensures meeting { AskingIsMeeting }
     ensures rest { RestIsQuiet }
     ensures whole { result ≡ Status.Done → IsReadToEnd (S.ends input.old) (S.ends input.new) (S.quiets input.old) (S.quiets input.new) }
@@ -61,6 +68,7 @@ pub fn run<S: Source, K: Sink, E: Sink>(
     lines_refine();
     lines_are_moments();
     keys_are_texts();
+    settled_tables_agree();
     run_script(alloc, input, out, err)
 }
 

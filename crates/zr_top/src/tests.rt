@@ -144,7 +144,11 @@ fn refused_scripts_say_why(rt: HostRuntime) -> Result<(), Fail> {
             "0a < c1: sub 1 a #3\nrun 1 quiet\n",
             "line 6: 10 NotSettled\n",
         ),
-        ("router 0a\nrouter 0b\n", "", "line 2: 12 Limit\n"),
+        (
+            "router 0a\nclient c1 0a\nsub c1 1 a\nrouter 0b\n",
+            "",
+            "line 4: 12 Limit\n",
+        ),
         (
             "run 10000000\nrun 1\n",
             "run 0 quiet\n",

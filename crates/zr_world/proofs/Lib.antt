@@ -1,3 +1,6 @@
-pub mod Handling
-pub mod Ends
+pub mod Queued
+pub mod Events
+pub mod Searching
 pub mod Possible
+pub mod Moving
+pub mod Show

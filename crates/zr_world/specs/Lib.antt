@@ -1,6 +1,7 @@
-pub mod Steps
-pub mod Living
-pub mod State
-pub mod Sending
 pub mod Hearing
-pub mod Ends
+pub mod Living
+pub mod Search
+pub mod Show
+pub mod Spread
+pub mod State
+pub mod Steps

@@ -1,9 +1,10 @@
 -- A world as its callers see it, and what its calls have done.
-use Rattle.std.specs.Prelude.{◌≡◌, ℕ, Bool, true, false, List, ◌++◌, option_to_list, Result, Ok, Err, IfOk, is_ok}
+use Rattle.std.specs.Prelude.{◌≡◌, ℕ, Bool, true, false, List, [], ◌++◌, Result, Ok, Err, IfOk, is_ok}
 use Rattle.zr_command.specs.declared.command.Act.{Act}
 use Rattle.zr_command.specs.declared.error.ScriptError.{ScriptError}
 use Rattle.zr_command.specs.declared.error.ScriptError.TheVariants.{NoMemory}
 use Rattle.zr_command.specs.declared.report.ReportLine.{ReportLine}
+use Rattle.zr_table.specs.Prefix.{IsPrefixBehind}
 use Rattle.zr_network.specs.World.{WorldState, empty_world}
 use Rattle.zr_network.specs.Acts.{Outcome, outcome}
 
@@ -20,11 +21,17 @@ alive w = record { state = w; spent = false }
 abbrev pub new_world : Living
 new_world = alive empty_world
 
--- What an act did to a world that isn't spent, and to a report: the world is the one that is said, and the report line that is said, if
--- there is one, came behind those that were there; a refusal changes nothing; out of memory the world is spent, and no report line came.
+-- the report lines of an act, none where it is refused
+abbrev pub lines_of : Outcome → List ReportLine
+lines_of (Ok x) = x.0
+lines_of (Err e) = []
+
+-- What an act did to a world that isn't spent, and to a report: the world is the one that is said, and the report lines that are said
+-- came behind those that were there; a refusal changes nothing; out of memory the world is spent, and of the lines that are said a
+-- prefix came.
 abbrev pub Applies : Result (Unit {0}) ScriptError → Outcome → Living → Living → List ReportLine → List ReportLine → Type 0
-Applies (Ok u) said old new before after = IfOk said (λ x. (new ≡ alive x.1) × (after ≡ before ++ option_to_list x.0)) × (is_ok said ≡ true)
-Applies (Err NoMemory) said old new before after = (new.spent ≡ true) × (after ≡ before)
+Applies (Ok u) said old new before after = IfOk said (λ x. (new ≡ alive x.1) × (after ≡ before ++ x.0)) × (is_ok said ≡ true)
+Applies (Err NoMemory) said old new before after = (new.spent ≡ true) × IsPrefixBehind before (lines_of said) after
 Applies (Err refusal) said old new before after = (said ≡ Err refusal) × (new ≡ old) × (after ≡ before)
 
 -- What counting the steps of a run did to a world that isn't spent: a refusal changes nothing, and memory does not run out.

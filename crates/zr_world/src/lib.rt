@@ -1,11 +1,15 @@
-//! The world of a script as code: routers and clients in ordered maps, a wire and a queue for each client.
+//! The world of a script as code: routers and clients in ordered maps, and the ends of links beside them.
 //! What an act does is the step of the definitions; runs, lines, texts and bytes are not known here.
 #![tactic(auto)]
 
 mod client;
-mod clients;
-mod end_set;
+mod declared;
+mod joined;
+mod marks;
+mod members;
 mod router;
+mod settled;
+mod spread;
+mod steps;
 mod tables;
-mod waiting;
 pub mod world;

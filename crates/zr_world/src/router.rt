@@ -1,18 +1,22 @@
 //! One router of the world: its tables, and what all declarations of its clients so far weigh.
 
-ghost use Rattle.std.specs.Prelude.{◌≡◌, ◌+◌, ◌≤◌, ◌++◌, nat_le, OnOk};
-ghost use Rattle.zr_table.specs.Table.{sends};
+ghost use Rattle.std.specs.Prelude.{◌≡◌, ◌+◌, ◌≤◌, nat_le, option_map, IfOk};
+ghost use Rattle.zr_table.specs.Event.{MayCome};
+ghost use Rattle.zr_table.specs.State.{link_at, link_to};
 ghost use Rattle.zr_network.specs.World.{new_router, weight_of, most_weight};
-ghost use Rattle.zr_network.specs.Acts.{weighing};
-ghost use Rattle.zr_world.specs.Hearing.{hearing};
+ghost use Rattle.zr_network.specs.Acts.{weighing, up_event};
+ghost use Rattle.zr_world.specs.Hearing.{IsHeard, IsOfLinks, refusal};
 
 use std::alloc::{AllocError, Global};
 use std::marker::Model;
+use zr_command::error::ScriptError;
 use zr_id::link::LinkNo;
+use zr_id::zid::Zid;
 use zr_key::key::KeyExpr;
 use zr_msg::error::NodeError;
 use zr_msg::event::Event;
 use zr_msg::msg::Msg;
+use zr_msg::peer::Peer;
 use zr_node::node::Node;
 
 /// What all declarations of one router's clients weigh together at most.
@@ -22,7 +26,7 @@ const MOST_WEIGHT: u64 = 4_194_304;
 const DECLARATION_WEIGHT: u64 = 16;
 
 /// A router of the world.
-#[derive(Debug, Drop)]
+#[derive(Drop)]
 pub struct Router {
     node: Node,
     weight: u64,
@@ -38,28 +42,61 @@ impl Model for Router {
 
 impl Router {
     /// A router without links.
-    pub fn new(alloc: Global) -> Router
-        ensures { result ≡ new_router }
+    pub fn new(alloc: Global, name: Zid) -> Result<Router, AllocError>
+        ensures { IfOk result (λ r. r ≡ new_router name) }
     {
-        Router {
-            node: Node::new(alloc),
+        Ok(Router {
+            node: Node::new(alloc, name)?,
             weight: 0,
+        })
+    }
+
+    /// Its tables.
+    pub fn node(&self) -> &Node
+        ensures { result.now ≡ self.now.node }
+    {
+        &self.node
+    }
+
+    /// The number of the link to a neighbour, if it is up.
+    pub fn link_to(&self, neighbour: &Zid) -> Option<LinkNo>
+        ensures { result ≡ option_map (λ l. l.link) (link_to self.now.node.links neighbour.now) }
+    {
+        self.node.link_to(neighbour)
+    }
+
+    /// Who stands at the other end of the link of this number, if it is up.
+    pub fn peer_at(&self, link: LinkNo) -> Option<Peer>
+        ensures { result ≡ option_map (λ l. l.peer) (link_at self.now.node.links link.0) }
+    {
+        self.node.peer_at(link)
+    }
+
+    /// The event that the link to a neighbour has come up, under the least number that is free.
+    pub fn up_event(&self, peer: Peer) -> Event
+        ensures { result ≡ up_event self.now peer }
+    {
+        Event::Up {
+            link: self.node.free_link(),
+            peer,
         }
     }
 
-    /// The router hears of an event, and appends what it sends.
+    /// The router hears of an event, and appends what it sends to what was there, which is nothing. `Limit` where it refuses the event;
+    /// then nothing has changed.
     pub fn hear(
         &mut self,
         alloc: Global,
         event: &Event,
         out: &mut Vec<(LinkNo, Msg)>,
-    ) -> Result<(), AllocError>
-        ensures state { OnOk result (self.new ≡ hearing self.old event.now) }
-        ensures sends { OnOk result (out.new.items ≡ out.old.items ++ sends self.old.node event.now) }
+    ) -> Result<(), ScriptError>
+        requires { MayCome self.old.node event.now }
+        ensures { IsHeard result self.old self.new event.now out.new.items }
     {
+        out.clear();
         match self.node.handle(alloc, event, out) {
             Ok(()) => Ok(()),
-            Err(e) => Err(out_of_memory(e)),
+            Err(e) => Err(refusal(e)),
         }
     }
 
@@ -80,10 +117,18 @@ impl Router {
     }
 }
 
-// A router is spent only where it was out of memory before.
-fn out_of_memory(error: NodeError) -> AllocError {
+// What a router's refusal is in a script. A router is spent only where it was out of memory before; links and samples have no other.
+fn refusal(error: NodeError) -> ScriptError
+    requires { IsOfLinks error }
+    ensures { result ≡ refusal error }
+{
     match error {
-        NodeError::Spent => AllocError,
-        NodeError::NoMemory => AllocError,
+        NodeError::Worn => ScriptError::Limit,
+        NodeError::Spent | NodeError::NoMemory => ScriptError::NoMemory,
+        NodeError::Gap { .. }
+        | NodeError::NotDeclared { .. }
+        | NodeError::TextLimit { .. }
+        | NodeError::NumberTaken { .. }
+        | NodeError::TooMany { .. } => unreachable!(),
     }
 }

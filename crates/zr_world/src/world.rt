@@ -5,8 +5,6 @@ ghost use Rattle.zr_network.specs.Acts.{outcome};
 ghost use Rattle.zr_network.specs.Next.{next, book_step};
 ghost use Rattle.zr_network.specs.Sound.{IsSound};
 ghost use Rattle.zr_world.specs.Living.{Applies, Books, IsPossible, new_world};
-ghost use Rattle.zr_world.specs.Steps.{AppliesTo};
-ghost use Rattle.zr_world.specs.State.{state_of};
 
 use crate::tables::Tables;
 use std::alloc::Global;
@@ -15,8 +13,8 @@ use zr_command::command::Act;
 use zr_command::error::ScriptError;
 use zr_command::report::ReportLine;
 
-/// The routers and clients of a script, with what waits between them.
-#[derive(Debug, Drop)]
+/// The routers and clients of a script, and the ends of their links with what waits there.
+#[derive(Drop)]
 pub struct World {
     tables: Tables,
     spent: bool,
@@ -46,7 +44,7 @@ impl World {
         }
     }
 
-    /// The step that a run does next: the `handle` of the first router and client, by name, at which a message waits to be handled, else
+    /// The step that a run does next: the `handle` of the first router and neighbour, by name, at which a message waits to be handled, else
     /// the `take` of the first at which one waits to be taken. None where no step is possible. Of a spent world nothing is said.
     pub fn next(&self) -> Option<Act>
         ensures step { self.now.spent ≡ false → result ≡ next self.now.state }
@@ -70,8 +68,9 @@ impl World {
 
     /// Does an act of a line, and appends what is reported of it.
     ///
-    /// A refusal is the first that applies, and leaves the world as it was: `UnknownName`, `NameTaken`, `NotLinked`, `NothingThere`,
-    /// `NotSettled`, `Limit`. After `NoMemory`, by which nothing is appended, the world is spent, and answers `NoMemory` from then on.
+    /// A refusal is the first that applies, and leaves the world as it was: `BadWords` of a link from a router to itself, `UnknownName`,
+    /// `NameTaken`, `NotLinked`, `AlreadyLinked`, `NothingThere`, `NotSettled`, `NotJoined`, `Limit`. After `NoMemory`, by which a prefix
+    /// of the act's lines is appended, the world is spent, and answers `NoMemory` from then on.
     pub fn apply(
         &mut self,
         line: u64,
@@ -85,7 +84,7 @@ impl World {
         if self.spent {
             return Err(ScriptError::NoMemory);
         }
-        match act_and_report(&mut self.tables, line, act, report) {
+        match self.tables.act(line, act, report) {
             Ok(()) => Ok(()),
             Err(ScriptError::NoMemory) => {
                 self.spent = true;
@@ -94,19 +93,4 @@ impl World {
             Err(refusal) => Err(refusal),
         }
     }
-}
-
-// An act is done, and what is reported of it comes behind the report's lines.
-fn act_and_report(
-    tables: &mut Tables,
-    line: u64,
-    act: Act,
-    report: &mut Vec<ReportLine>,
-) -> Result<(), ScriptError>
-    ensures { AppliesTo result (outcome (state_of tables.old) line act) (state_of tables.old) (state_of tables.new) report.old.items report.new.items }
-{
-    if let Some(told) = tables.act(line, act)? {
-        report.push(told)?;
-    }
-    Ok(())
 }

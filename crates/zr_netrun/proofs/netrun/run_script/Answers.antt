@@ -5,6 +5,7 @@ use Rattle.zr_world.specs.Living.{Living}
 use Rattle.zr_language.specs.Report.{too_long_text}
 use Rattle.zr_outside.specs.Told.{Consumes}
 use Rattle.zr_netrun.specs.Kept.{Tells, Complains}
+use Rattle.zr_netrun.specs.Clauses.{IsReadToEnd}
 use Rattle.zr_netrun.proofs.Reading.{reads_piece}
 use Rattle.zr_netrun.proofs.Telling.{stops_reading, passes_limit, fails_reading, ends_reading, stops_at_end}
 use Rattle.zr_netrun.proofs.netrun.run_script.Goals as goal
@@ -60,7 +61,8 @@ pub returns-clause-report : goal.returns-clause-report
 returns-clause-report g c =
     let told = subst (λ (z : Option (List ℕ)). Tells c.in-Err-finish.stop c.tell-in-Err-finish.result c.finish.new.self.number c.finish.new.self.pending (g.K.Sink.held c.finish.new.out) (g.K.Sink.held c.tell-in-Err-finish.new.out) z (g.E.Sink.held c.tell-in-Err-finish.new.err))
     c.reading.invariant.err_same c.tell-in-Err-finish.ensures.tells in
-    stops_at_end _ _ _ c.reading.total c.reading.runner c.finish.new.self _ _ _ _ _ _ c.in-Err-finish.stop c.tell-in-Err-finish.result
+    stops_at_end (IsReadToEnd (g.S.Source.ends c.args.input.now) (g.S.Source.ends c.reading.input) (g.S.Source.quiets c.args.input.now) (g.S.Source.quiets c.reading.input))
+    _ _ c.reading.total c.reading.runner c.finish.new.self _ _ _ _ _ _ c.in-Err-finish.stop c.tell-in-Err-finish.result
     (c.reading.invariant.ended c.reading-test.false) c.reading.invariant.read c.reading.invariant.most c.in-Err-finish.ensures.turn told
 
 pub returns-in-Failed-clause-report : goal.returns-in-Failed-clause-report

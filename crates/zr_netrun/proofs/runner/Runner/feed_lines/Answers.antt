@@ -42,13 +42,13 @@ loop-place-preserved g c =
           (cut_rest c.loop-place.rest.now c.in-Some.place (sym c.in-Some.ensures)) turn;
     }
 
-pub keep-requires : goal.keep-requires
-keep-requires g c =
+pub keep_part-requires : goal.keep_part-requires
+keep_part-requires g c =
     let none : position (λ b. b == 10) c.loop-place.rest.now ≡ None = search rules in
     none_cut (λ b. b == 10) c.loop-place.rest.now 0 none
 
 pub returns-clause-turn : goal.returns-clause-turn
 returns-clause-turn g c =
     let none : position (λ b. b == 10) c.loop-place.rest.now ≡ None = search rules in
-    keeps_at _ _ _ _ c.loop-place.self c.keep.new.self c.loop-place.rest.now _ c.keep.result c.loop-place.invariant.at c.loop-place.invariant.is_open
-    (none_cut (λ b. b == 10) c.loop-place.rest.now 0 none) c.keep.ensures.ok c.keep.ensures.err
+    keeps_at _ _ _ _ c.loop-place.self c.keep_part.new.self c.loop-place.rest.now _ c.keep_part.result c.loop-place.invariant.at c.loop-place.invariant.is_open
+    (none_cut (λ b. b == 10) c.loop-place.rest.now 0 none) c.keep_part.ensures.ok c.keep_part.ensures.err

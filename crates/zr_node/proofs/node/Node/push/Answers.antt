@@ -1,49 +1,57 @@
-use Rattle.std.proofs.Common.{◌≡◌, List, ◌++◌, OnOk, OnErr, Result, Ok, Err, sym, ap, subst, ◌∙◌, IfSome}
-use Rattle.std.proofs.lemmas.Result.{err_from_is_err_and, on_ok_weaker}
-use Rattle.zr_id.specs.declared.link.LinkNo.{LinkNo}
-use Rattle.zr_msg.specs.declared.msg.Msg.{Msg}
-use Rattle.zr_table.specs.Prefix.{IsPrefixBehind}
-use Rattle.zr_table.proofs.Prefixes.{all_said}
+use Rattle.std.proofs.Common.{◌≡◌, true, OnOk, OnErr, Result, Ok, Err, sym, subst, ◌∙◌, IfSome}
+use Rattle.std.proofs.lemmas.Result.{err_from_is_err_and, on_ok_weaker, on_err_weaker}
+use Rattle.zr_table.specs.State.{NodeState, leads_to_client}
+use Rattle.zr_table.proofs.Told.{tells_list, tells_prefix}
 use Rattle.zr_node.specs.Routes.{route}
-use Rattle.zr_node.proofs.Along.{along_is}
+use Rattle.zr_node.proofs.Along.{on_route}
+use Rattle.zr_node.proofs.Retold.{all_told}
 use Rattle.zr_node.proofs.node.Node.push.Goals as goal
+
+any_ok : {T E P : Type 0} (r : Result T E) → P → OnOk r P
+any_ok (Ok x) h = h
+any_ok (Err e) h = tt
 
 any_err : {T E P : Type 0} (r : Result T E) → P → OnErr r P
 any_err (Ok x) h = tt
 any_err (Err e) h = h
 
--- a route that was found is right, as all that are remembered
-found_right : (c : goal.After-push_to) → c.in-Some.numbers.now ≡ route c.self.inside.links.items c.args.content.now.key
-found_right c =
-    let links = c.self.inside.links.items in
-    subst (λ o. IfSome o (λ ns. ns ≡ route links c.args.content.now.key)) (sym (rw c.key-key.ensures at c.in-Some.ensures)) (c.self.invariant c.args.content.now.key)
-
 pub returns-in-Some-clause-sends : goal.returns-in-Some-clause-sends
 returns-in-Some-clause-sends c =
-    let along = along_is c.args.content.now c.args.link.0 c.self.inside.links.items c.args.content.now.key c.in-Some.numbers.now (found_right c) in
-    rw (← c.self.view_is) (subst (λ (said : List (LinkNo × Msg)). OnOk c.push_to.result (c.push_to.new.out.items ≡ c.args.out.now.items ++ said)) along c.push_to.ensures.ok)
+    let node : NodeState = record { links = c.self.inside.links; base = c.self.inside.base; spent = c.self.inside.spent } in
+    let right : c.in-Some.numbers.now ≡ route node.links c.args.content.now.key =
+    subst (λ o. IfSome o (λ ns. ns ≡ route node.links c.args.content.now.key)) (sym (rw c.key-key.ensures at c.in-Some.ensures)) (c.self.invariant.0 c.args.content.now.key) in
+    let leads : leads_to_client node.links c.args.link.0 ≡ true = rw (← c.self.view_is) at (sym c.leads_to_client.ensures ∙ c.if-not-leads_to_client.false) in
+    rw (← c.self.view_is) (on_ok_weaker _ (tells_list _ _ _ _ (on_route node c.args.link c.args.content.now c.in-Some.numbers.now c.self.invariant.1 leads right)) c.push_to.ensures.ok)
 
-pub returns-in-Some-clause-err : goal.returns-in-Some-clause-err
-returns-in-Some-clause-err c =
-    let along = along_is c.args.content.now c.args.link.0 c.self.inside.links.items c.args.content.now.key c.in-Some.numbers.now (found_right c) in
-    rw (← c.self.view_is) (subst (λ (said : List (LinkNo × Msg)). OnErr c.push_to.result (IsPrefixBehind c.args.out.now.items said c.push_to.new.out.items)) along c.push_to.ensures.err)
+pub returns-in-Some-clause-prefix : goal.returns-in-Some-clause-prefix
+returns-in-Some-clause-prefix c =
+    let node : NodeState = record { links = c.self.inside.links; base = c.self.inside.base; spent = c.self.inside.spent } in
+    let right : c.in-Some.numbers.now ≡ route node.links c.args.content.now.key =
+    subst (λ o. IfSome o (λ ns. ns ≡ route node.links c.args.content.now.key)) (sym (rw c.key-key.ensures at c.in-Some.ensures)) (c.self.invariant.0 c.args.content.now.key) in
+    let leads : leads_to_client node.links c.args.link.0 ≡ true = rw (← c.self.view_is) at (sym c.leads_to_client.ensures ∙ c.if-not-leads_to_client.false) in
+    rw (← c.self.view_is) (on_err_weaker _ (tells_prefix _ _ _ _ (on_route node c.args.link c.args.content.now c.in-Some.numbers.now c.self.invariant.1 leads right)) c.push_to.ensures.err)
 
 -- else the links were asked
-pub returns-in_err-push_to-clause-err : goal.returns-in_err-push_to-clause-err
-returns-in_err-push_to-clause-err c =
+pub returns-in_err-push_to-clause-prefix : goal.returns-in_err-push_to-clause-prefix
+returns-in_err-push_to-clause-prefix c =
     let p = err_from_is_err_and c.from_residual-in_err-push_to.result c.from_residual-in_err-push_to.ensures.1 in
-    let e = c.as_slice-2.ensures.value ∙ rw (c.as_slice.ensures.value, c.key-key.ensures) at c.in_ok-numbers.ensures in
-    let along = along_is c.args.content.now c.args.link.0 c.self.inside.links.items c.args.content.now.key c.as_slice-2.result.now e in
-    rw (p.1, ← c.self.view_is) (subst (λ (said : List (LinkNo × Msg)). IsPrefixBehind c.args.out.now.items said c.push_to-2.new.out.items) along c.in_err-push_to.ensures.err)
+    let node : NodeState = record { links = c.self.inside.links; base = c.self.inside.base; spent = c.self.inside.spent } in
+    let right : c.as_slice.result.now ≡ route node.links c.args.content.now.key = c.as_slice.ensures.value ∙ rw c.key-key.ensures at c.in_ok-numbers.ensures in
+    let leads : leads_to_client node.links c.args.link.0 ≡ true = rw (← c.self.view_is) at (sym c.leads_to_client.ensures ∙ c.if-not-leads_to_client.false) in
+    rw (p.1, ← c.self.view_is) (tells_prefix _ _ _ _ (on_route node c.args.link c.args.content.now c.as_slice.result.now c.self.invariant.1 leads right) c.in_err-push_to.ensures.err)
 
 pub returns-clause-sends : goal.returns-clause-sends
 returns-clause-sends c =
-    let e = c.as_slice-2.ensures.value ∙ rw (c.as_slice.ensures.value, c.key-key.ensures) at c.in_ok-numbers.ensures in
-    let along = along_is c.args.content.now c.args.link.0 c.self.inside.links.items c.args.content.now.key c.as_slice-2.result.now e in
-    rw (← c.self.view_is) (on_ok_weaker _ (λ _. c.in_ok-push_to.ensures.ok ∙ ap (λ said. c.args.out.now.items ++ said) along) c.remember.ensures.found)
+    let node : NodeState = record { links = c.self.inside.links; base = c.self.inside.base; spent = c.self.inside.spent } in
+    let right : c.as_slice.result.now ≡ route node.links c.args.content.now.key = c.as_slice.ensures.value ∙ rw c.key-key.ensures at c.in_ok-numbers.ensures in
+    let leads : leads_to_client node.links c.args.link.0 ≡ true = rw (← c.self.view_is) at (sym c.leads_to_client.ensures ∙ c.if-not-leads_to_client.false) in
+    rw (← c.self.view_is)
+    (any_ok c.remember.result (tells_list _ _ _ _ (on_route node c.args.link c.args.content.now c.as_slice.result.now c.self.invariant.1 leads right) c.in_ok-push_to.ensures.ok))
 
-pub returns-clause-err : goal.returns-clause-err
-returns-clause-err c =
-    let e = c.as_slice-2.ensures.value ∙ rw (c.as_slice.ensures.value, c.key-key.ensures) at c.in_ok-numbers.ensures in
-    let along = along_is c.args.content.now c.args.link.0 c.self.inside.links.items c.args.content.now.key c.as_slice-2.result.now e in
-    rw (← c.self.view_is) (any_err c.remember.result (all_said _ _ _ (c.in_ok-push_to.ensures.ok ∙ ap (λ said. c.args.out.now.items ++ said) along)))
+pub returns-clause-prefix : goal.returns-clause-prefix
+returns-clause-prefix c =
+    let node : NodeState = record { links = c.self.inside.links; base = c.self.inside.base; spent = c.self.inside.spent } in
+    let right : c.as_slice.result.now ≡ route node.links c.args.content.now.key = c.as_slice.ensures.value ∙ rw c.key-key.ensures at c.in_ok-numbers.ensures in
+    let leads : leads_to_client node.links c.args.link.0 ≡ true = rw (← c.self.view_is) at (sym c.leads_to_client.ensures ∙ c.if-not-leads_to_client.false) in
+    rw (← c.self.view_is)
+    (any_err c.remember.result (all_told _ _ _ (tells_list _ _ _ _ (on_route node c.args.link c.args.content.now c.as_slice.result.now c.self.invariant.1 leads right) c.in_ok-push_to.ensures.ok)))

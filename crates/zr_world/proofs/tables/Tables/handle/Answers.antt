@@ -1,48 +1,95 @@
-use Rattle.std.proofs.Common.{◌≡◌, ◌++◌, Some, Ok, sym, ap, ◌∙◌, rules, arith}
-use Rattle.std.proofs.lemmas.Result.{err_from_is_err_and}
+use Rattle.std.proofs.Common.{◌≡◌, true, false, List, [], ◌∷◌, ◌++◌, Some, None, Ok, Err, sym, ap, ◌∙◌, rules, arith, refl}
+use Rattle.std.specs.Prelude.{is_some, option_map, if◌then◌else◌}
 use Rattle.std.proofs.lemmas.Grind.{common_steps}
 use Rattle.std.proofs.lemmas.Map.Steps.{set_value_same}
+use Rattle.std.proofs.lemmas.Result.{err_from_is_err_and}
 use Rattle.zr_msg.specs.declared.msg.Msg.{Msg}
 use Rattle.zr_msg.specs.declared.event.Event.TheVariants.{From}
-use Rattle.zr_command.specs.declared.report.ReportLine.TheVariants.{Handled}
-use Rattle.zr_table.specs.Table.{sends}
-use Rattle.zr_network.specs.World.{Tagged, RouterState, router_of, with_router, all_queued}
-use Rattle.zr_network.specs.Acts.{having, handle_step}
-use Rattle.zr_world.specs.Steps.{from_wire}
+use Rattle.zr_command.specs.declared.error.ScriptError.{ScriptError}
+use Rattle.zr_command.specs.declared.error.ScriptError.TheVariants as e
+use Rattle.zr_command.specs.declared.report.ReportLine.TheVariants.{Handled, Taken}
+use Rattle.zr_language.specs.Step.{◌>>=◌}
+use Rattle.zr_table.specs.State.{LinkState, link_to}
+use Rattle.zr_network.specs.World.{Tagged, Ends, WorldState, RouterState, router_of, is_taken, with_router, with_ends, is_up, changed, sent, end_of}
+use Rattle.zr_network.specs.Acts.{handle_step, take_step}
+use Rattle.zr_network.proofs.Keyed.{there}
+use Rattle.zr_ends.specs.Steps.{from_wire, from_queue}
+use Rattle.zr_world.specs.Hearing.{IsHeard}
+use Rattle.zr_world.specs.Living.{lines_of}
 use Rattle.zr_world.specs.State.{state_of}
-use Rattle.zr_world.proofs.Handling.{handle_is, handle_steps}
+use Rattle.zr_world.proofs.Events.{has_link, known, down_there, link_found, no_link_found}
+use Rattle.zr_world.proofs.Moving.{hears_is, handle_by, handle_unlinked, handled_by, handle_refused, wire_ordered, unlinked_is, applied, ran_out, no_lines}
 use Rattle.zr_world.proofs.tables.Tables.handle.Goals as goal
 
 same_message : (a b : Msg) → Some a ≡ Some b → a ≡ b
-same_message a b e = cc
+same_message a b h = cc
 
 pub returns-in_default : goal.returns-in_default
 unfolding handle_step
 returns-in_default c = first_of (search rules, grind (arith, common_steps))
 
+pub returns-in_default-link_to : goal.returns-in_default-link_to
+returns-in_default-link_to c =
+    let w = state_of c.args.self.now in
+    let er : router_of (state_of c.args.self.now).routers c.args.router ≡ Some c.in-Some.r.now = search rules in
+    let back : (c.get_mut.follows.lender c.in-Some.r.now).entries ≡ c.args.self.now.routers.entries = search (rules, set_value_same) in
+    let none : link_to c.in-Some.r.now.node.links c.args.from ≡ None = no_link_found (link_to c.in-Some.r.now.node.links c.args.from) (search rules) in
+    let same : record { routers = (c.get_mut.follows.lender c.in-Some.r.now).entries; clients = c.args.self.now.clients.entries; ends = c.args.self.now.ends; used = c.args.self.now.used; booked = c.args.self.now.booked } ≡ state_of c.args.self.now =
+    (λ i. record { routers = back i; clients = c.args.self.now.clients.entries; ends = c.args.self.now.ends; used = c.args.self.now.used; booked = c.args.self.now.booked }) in
+    unlinked_is (is_taken w c.args.from) c.unlinked.result (handle_step w c.args.router c.args.from) w _ c.args.report.now.items
+    (c.unlinked.ensures ∙ ap (λ (z : WorldState). if is_taken z c.args.from then e.NotLinked else e.UnknownName) same)
+    (handle_unlinked w c.args.router c.args.from c.in-Some.r.now er (down_there w c.requires c.args.router c.in-Some.r.now er c.args.from none)) same
+
 pub returns-in_err-x : goal.returns-in_err-x
 returns-in_err-x c =
+    let w = state_of c.args.self.now in
     let p = err_from_is_err_and c.from_residual.result c.from_residual.ensures.1 in
-    let er : router_of c.args.self.now.routers.entries c.args.router ≡ Some c.in-Some.r.now = search rules in
+    let er : router_of (state_of c.args.self.now).routers c.args.router ≡ Some c.in-Some.r.now = search rules in
     let back : (c.get_mut.follows.lender c.in-Some.r.now).entries ≡ c.args.self.now.routers.entries = search (rules, set_value_same) in
-    rw (p.1, p.2) (handle_steps (state_of c.args.self.now) _ c.args.router c.args.from c.in-Some.r.now c.contains_key-is_router.result _ _ er c.contains_key-is_router.ensures
-    c.in_err-x.ensures (λ h. λ i. record { routers = back i; clients = h i; names = c.args.self.now.names.items; booked = c.args.self.now.booked }))
+    let l = link_found (link_to c.in-Some.r.now.node.links c.args.from) c.in-Some-link_to.link c.in-Some-link_to.ensures in
+    rw (p.1, p.2)
+    (handle_refused w _ c.args.router c.args.from c.in-Some.r.now l.0 _ _ c.args.report.now.items er (known w c.requires c.args.router c.in-Some.r.now er c.args.from l.0 l.1) l.1 c.in_err-x.ensures
+    (λ h. λ i. record { routers = back i; clients = c.args.self.now.clients.entries; ends = h i; used = c.args.self.now.used; booked = c.args.self.now.booked }))
+
+pub hear-requires : goal.hear-requires
+hear-requires c =
+    let w = state_of c.args.self.now in
+    let er : router_of (state_of c.args.self.now).routers c.args.router ≡ Some c.in-Some.r.now = search rules in
+    let l = link_found (link_to c.in-Some.r.now.node.links c.args.from) c.in-Some-link_to.link c.in-Some-link_to.ensures in
+    rw (← l.2) (has_link w c.requires c.args.router c.in-Some.r.now er c.args.from l.0 l.1)
+
+pub returns-in_err-push : goal.returns-in_err-push
+returns-in_err-push c =
+    let w = state_of c.args.self.now in
+    let p = err_from_is_err_and c.from_residual-in_err-push.result c.from_residual-in_err-push.ensures.1 in
+    ran_out c.from_residual-in_err-push.result (handle_step w c.args.router c.args.from) w _ c.args.report.now.items c.push.new.self.items (p.1 ∙ ap Err p.2)
+    (rw c.in_err-push.ensures.items (no_lines c.args.report.now.items (lines_of (handle_step w c.args.router c.args.from))))
 
 pub returns : goal.returns
 returns c =
-    let er : router_of c.args.self.now.routers.entries c.args.router ≡ Some c.in-Some.r.now = search rules in
+    let w = state_of c.args.self.now in
+    let r = c.in-Some.r.now in
+    let r' = c.hear.new.self in
+    let er : router_of (state_of c.args.self.now).routers c.args.router ≡ Some c.in-Some.r.now = search rules in
+    let l = link_found (link_to c.in-Some.r.now.node.links c.args.from) c.in-Some-link_to.link c.in-Some-link_to.ensures in
+    let et = known w c.requires c.args.router r er c.args.from l.0 l.1 in
     let x : Tagged = record { msg = c.x.inside.msg; tag = c.x.inside.tag } in
-    let told : from_wire c.args.self.now.clients c.args.from c.args.router c.contains_key-is_router.result ≡ Ok ((x, c.in_ok-x.link), c.next_sent.new.self) =
-    c.in_ok-x.ensures ∙ ap (λ (z : Tagged). Ok ((z, c.in_ok-x.link), c.next_sent.new.self)) (sym c.x.view_is) in
+    let es : Ends = c.next_sent.new.self in
+    let told : from_wire c.args.self.now.ends (c.args.router, c.args.from) ≡ Ok (x, c.next_sent.new.self) =
+    c.in_ok-x.ensures ∙ ap (λ (z : Tagged). Ok (z, c.next_sent.new.self)) (sym c.x.view_is) in
     let back : x.msg ≡ c.message_of-msg.result = same_message x.msg c.message_of-msg.result c.message_of-msg.ensures in
+    let heard : IsHeard (Ok tt) c.in-Some.r.now c.hear.new.self (From l.0.link x.msg) c.hear.new.out.items = rw (← l.2) at c.in_ok-hear.ensures in
     let lent : (c.get_mut.follows.lender c.hear.new.self).entries ≡ with_router c.args.self.now.routers.entries c.args.router c.hear.new.self = search rules in
-    let routers : with_router c.args.self.now.routers.entries c.args.router (having c.in-Some.r.now c.in_ok-x.link x.msg) ≡ (c.get_mut.follows.lender c.hear.new.self).entries =
-    ap (λ (r : RouterState). with_router c.args.self.now.routers.entries c.args.router r) (sym c.in_ok-hear.ensures.state) ∙ sym lent in
-    let sent = sends c.in-Some.r.now.node (From (record { 0 = c.in_ok-x.link }) x.msg) in
-    let out : c.hear.new.out.items ≡ sent = c.in_ok-hear.ensures.sends ∙ ap (λ z. z ++ sent) c.new-out.ensures.items in
-    let clients : all_queued c.next_sent.new.self c.args.self.now.names.items sent x.tag ≡ c.enqueue_all.new.clients =
-    sym (c.in_ok-enqueue_all.ensures ∙ ap (λ n. all_queued c.next_sent.new.self n c.hear.new.out.items x.tag) c.deref.ensures.value
-    ∙ ap (λ o. all_queued c.next_sent.new.self c.args.self.now.names.items o x.tag) out) in
-    handle_is (state_of c.args.self.now) c.args.router c.args.from c.in-Some.r.now c.contains_key-is_router.result x c.in_ok-x.link c.next_sent.new.self er
-    c.contains_key-is_router.ensures told
-    ∙ (λ i. Ok (Some (Handled c.args.router c.args.from (back i) x.tag), record { routers = routers i; clients = clients i; names = c.args.self.now.names.items; booked = c.args.self.now.booked }))
+    applied (handle_step w c.args.router c.args.from) (Handled c.args.router c.args.from c.message_of-msg.result x.tag ∷ []) w
+    (record { routers = (c.get_mut.follows.lender c.hear.new.self).entries; clients = c.args.self.now.clients.entries; ends = c.spread.new.ends; used = c.args.self.now.used; booked = c.args.self.now.booked })
+    c.args.report.now.items c.push.new.self.items
+    (handle_by w c.args.router c.args.from r l.0 er et l.1 ∙ ap (λ o. o >>= handled_by w c.args.router c.args.from r l.0.link) told
+    ∙ ap (λ v. v >>= (λ v. Ok (Handled c.args.router c.args.from x.msg x.tag ∷ [], v)))
+    (hears_is w es c.spread.new.ends c.args.router r r' (From l.0.link x.msg) c.hear.new.out.items x.tag heard
+    (wire_ordered w.ends (c.args.router, c.args.from) (x, c.next_sent.new.self) told c.requires.in_order) (c.requires.unique c.args.router r er)
+    (has_link w c.requires c.args.router r er c.args.from l.0 l.1) c.in_ok-spread.ensures)
+    ∙ (λ i. Ok (
+      Handled c.args.router c.args.from (back i) x.tag ∷ [],
+      record { routers = sym lent i; clients = c.args.self.now.clients.entries; ends = c.spread.new.ends; used = c.args.self.now.used; booked = c.args.self.now.booked },
+    )))
+    c.in_ok-push.ensures.items

@@ -1,25 +1,52 @@
-use Rattle.std.proofs.Common.{◌≡◌, true, Ok, is_some, sym, refl, ap, ◌∙◌}
+use Rattle.std.proofs.Common.{◌≡◌, true, false, List, [], ◌∷◌, ◌++◌, Some, None, Ok, Err, sym, ap, ◌∙◌, rules, arith, refl}
+use Rattle.std.specs.Prelude.{is_some, option_map, if◌then◌else◌}
+use Rattle.std.proofs.lemmas.Grind.{common_steps}
+use Rattle.std.proofs.lemmas.Map.Steps.{set_value_same}
 use Rattle.std.proofs.lemmas.Result.{err_from_is_err_and}
-use Rattle.zr_network.specs.World.{Tagged, router_of}
-use Rattle.zr_world.specs.Steps.{from_queue}
+use Rattle.zr_msg.specs.declared.msg.Msg.{Msg}
+use Rattle.zr_msg.specs.declared.event.Event.TheVariants.{From}
+use Rattle.zr_command.specs.declared.error.ScriptError.{ScriptError}
+use Rattle.zr_command.specs.declared.error.ScriptError.TheVariants as e
+use Rattle.zr_command.specs.declared.report.ReportLine.TheVariants.{Handled, Taken}
+use Rattle.zr_language.specs.Step.{◌>>=◌}
+use Rattle.zr_table.specs.State.{LinkState, link_to}
+use Rattle.zr_network.specs.World.{Tagged, Ends, WorldState, RouterState, router_of, is_taken, with_router, with_ends, is_up, changed, sent, end_of}
+use Rattle.zr_network.specs.Acts.{handle_step, take_step}
+use Rattle.zr_network.proofs.Keyed.{there}
+use Rattle.zr_ends.specs.Steps.{from_wire, from_queue}
+use Rattle.zr_world.specs.Hearing.{IsHeard}
+use Rattle.zr_world.specs.Living.{lines_of}
 use Rattle.zr_world.specs.State.{state_of}
-use Rattle.zr_world.proofs.Handling.{take_is, take_unknown, take_steps}
+use Rattle.zr_world.proofs.Moving.{take_by, taken_by, take_refused, queue_there, applied, ran_out, no_lines}
 use Rattle.zr_world.proofs.tables.Tables.take.Goals as goal
 
-pub returns-then-not-contains_key : goal.returns-then-not-contains_key
-returns-then-not-contains_key c = (take_unknown (state_of c.args.self.now) c.args.router c.args.to (sym c.contains_key.ensures ∙ c.if-not-contains_key.true), refl)
+pub returns-in-Err : goal.returns-in-Err
+returns-in-Err c =
+    take_refused (state_of c.args.self.now) _ c.args.router c.args.to c.in-Err.e c.refusal_of.result c.next_queued.new.self c.args.report.now.items c.refusal_of.ensures c.in-Err.ensures
+    (λ h. λ i. record { routers = c.args.self.now.routers.entries; clients = c.args.self.now.clients.entries; ends = h i; used = c.args.self.now.used; booked = c.args.self.now.booked })
 
-pub returns-in_err-x : goal.returns-in_err-x
-returns-in_err-x c =
-    let p = err_from_is_err_and c.from_residual.result c.from_residual.ensures.1 in
-    let er : is_some (router_of c.args.self.now.routers.entries c.args.router) ≡ true = sym c.contains_key.ensures ∙ c.if-not-contains_key.false in
-    rw (p.1, p.2) (take_steps (state_of c.args.self.now) _ c.args.router c.args.to c.contains_key-is_router.result _ _ er c.contains_key-is_router.ensures
-    c.in_err-x.ensures (λ h. λ i. record { routers = c.args.self.now.routers.entries; clients = h i; names = c.args.self.now.names.items; booked = c.args.self.now.booked }))
+pub returns-in_err-push : goal.returns-in_err-push
+returns-in_err-push c =
+    let w = state_of c.args.self.now in
+    let p = err_from_is_err_and c.from_residual-in_err-push.result c.from_residual-in_err-push.ensures.1 in
+    ran_out c.from_residual-in_err-push.result (take_step w c.args.router c.args.to) w _ c.args.report.now.items c.push.new.self.items (p.1 ∙ ap Err p.2)
+    (rw c.in_err-push.ensures.items (no_lines c.args.report.now.items (lines_of (take_step w c.args.router c.args.to))))
 
 pub returns : goal.returns
 returns c =
-    let er : is_some (router_of c.args.self.now.routers.entries c.args.router) ≡ true = sym c.contains_key.ensures ∙ c.if-not-contains_key.false in
+    let w = state_of c.args.self.now in
     let x : Tagged = record { msg = c.x.inside.msg; tag = c.x.inside.tag } in
-    let told : from_queue c.args.self.now.clients c.args.to c.args.router c.contains_key-is_router.result ≡ Ok (x, c.next_queued.new.self) =
-    c.in_ok-x.ensures ∙ ap (λ (z : Tagged). Ok (z, c.next_queued.new.self)) (sym c.x.view_is) in
-    take_is (state_of c.args.self.now) c.args.router c.args.to c.contains_key-is_router.result x c.next_queued.new.self er c.contains_key-is_router.ensures told
+    let told : from_queue c.args.self.now.ends (c.args.router, c.args.to) ≡ Ok (x, c.next_queued.new.self) =
+    c.in-Ok.ensures ∙ ap (λ (z : Tagged). Ok (z, c.next_queued.new.self)) (sym c.x.view_is) in
+    let end = queue_there w.ends (c.args.router, c.args.to) (x, c.next_queued.new.self) told in
+    let r = there (router_of w.routers c.args.router) (c.requires.routers c.args.router c.args.to end) in
+    let ends : changed c.next_queued.new.self (c.args.to, c.args.router) (λ s. sent s x.msg x.tag) ≡ c.send_copy.new.self = sym c.in_ok-send_copy.ensures in
+    applied (take_step w c.args.router c.args.to) (Taken c.args.router c.args.to x.msg x.tag ∷ []) w
+    (record { routers = c.args.self.now.routers.entries; clients = c.args.self.now.clients.entries; ends = c.send_copy.new.self; used = c.args.self.now.used; booked = c.args.self.now.booked })
+    c.args.report.now.items c.push.new.self.items
+    (take_by w c.args.router c.args.to r.0 r.1 (c.requires.neighbours c.args.router c.args.to end) ∙ ap (λ o. o >>= taken_by w c.args.router c.args.to) told
+    ∙ (λ i. Ok (
+      Taken c.args.router c.args.to x.msg x.tag ∷ [],
+      record { routers = c.args.self.now.routers.entries; clients = c.args.self.now.clients.entries; ends = ends i; used = c.args.self.now.used; booked = c.args.self.now.booked },
+    )))
+    c.in_ok-push.ensures.items

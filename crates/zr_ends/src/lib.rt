@@ -1,0 +1,8 @@
+//! The ends of links as code: what waits at each, and at which of them a step is possible.
+//! Who stands at an end and what a router does with a message are not known here.
+#![tactic(auto)]
+
+pub mod end;
+mod end_set;
+pub mod ends;
+mod waiting;

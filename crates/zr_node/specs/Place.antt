@@ -1,0 +1,30 @@
+-- Where the link of a number stands among links in ascending order, or would stand.
+use Rattle.std.specs.Prelude.{◌≡◌, ℕ, ◌<◌, ◌≤◌, nat_lt, not, if◌then◌else◌, List, Result, None, MatchResult, length, take, drop, map}
+use Rattle.std.specs.List.{HoldsAt, filter}
+use Rattle.std.specs.List.Sorted.{IsStrictlySortedBy}
+use Rattle.std.specs.Ordering.{nat_cmp}
+use Rattle.zr_table.specs.State.{Subscription, LinkState, link_at, is_router}
+
+-- the links ascend by their numbers
+abbrev pub AreAscending : List LinkState → Type 0
+AreAscending links = IsStrictlySortedBy nat_cmp (map (λ l. l.link.0) links)
+
+-- the link at this place is that of the number
+pub record IsAt (links : List LinkState) (number at : ℕ) : Type 0 where
+  pub within : at < length links
+  pub here : HoldsAt (λ l. l.link.0 ≡ number) links at
+
+-- there is none, and at this place one comes after those below it and before the others
+pub record IsGap (links : List LinkState) (number at : ℕ) : Type 0 where
+  pub within : at ≤ length links
+  pub absent : link_at links number ≡ None
+  pub below : filter (λ l. nat_lt l.link.0 number) links ≡ take at links
+  pub above : filter (λ l. nat_lt number l.link.0) links ≡ drop at links
+
+-- what a search for the number answers
+abbrev pub IsPlace : List LinkState → ℕ → Result ℕ ℕ → Type 0
+IsPlace links number r = MatchResult r (IsAt links number) (IsGap links number)
+
+-- what the client of a link has declared has changed; a router declares nothing in this way
+abbrev pub changed : (List Subscription → List Subscription) → LinkState → LinkState
+changed change l = if not (is_router l.peer.role) then record { link = l.link; peer = l.peer; subs = change l.subs } else l

@@ -1,0 +1,96 @@
+//! How the own record changes where a link to a router comes or goes.
+
+ghost use Rattle.std.specs.Prelude.{◌≡◌, filter, true, false, IfOk, OnOk, OnErr};
+ghost use Rattle.zr_id.specs.Record.{are_links, is_before};
+ghost use Rattle.zr_id.specs.Zid.{is_named};
+ghost use Rattle.zr_table.specs.Table.{own_links, with_name, without_name, joined, parted, is_worn, is_full, refuses_up, refuses_parting};
+ghost use Rattle.zr_node.specs.Answer.{refusal};
+
+use std::alloc::{AllocError, Global};
+use zr_flood::flood::own_record;
+use zr_graph::base::{Base, ChangeError};
+use zr_id::record::MOST_LINKS;
+use zr_id::zid::Zid;
+use zr_msg::peer::Role;
+
+/// The own record lists one more router, under its next number.
+pub fn join(alloc: Global, base: &mut Base, id: &Zid) -> Result<(), ChangeError>
+    requires { is_named id.now base.old.me ≡ false }
+    ensures ok { OnOk result (base.new ≡ joined base.old id.now) }
+    ensures worn { refuses_up base.old Role.Router ≡ refusal result }
+    ensures unchanged { OnErr result (base.new ≡ base.old) }
+{
+    if is_worn(base) || is_full(base) {
+        return Err(ChangeError::Worn);
+    }
+    let links = with_name(alloc, own_links(base), id)?;
+    base.change(links.as_slice())
+}
+
+/// The own record lists a router no more, under its next number.
+pub fn part(alloc: Global, base: &mut Base, id: &Zid) -> Result<(), ChangeError>
+    ensures ok { OnOk result (base.new ≡ parted base.old id.now) }
+    ensures worn { refuses_parting base.old Role.Router ≡ refusal result }
+    ensures unchanged { OnErr result (base.new ≡ base.old) }
+{
+    if is_worn(base) {
+        return Err(ChangeError::Worn);
+    }
+    let links = without_name(alloc, own_links(base), id)?;
+    base.change(links.as_slice())
+}
+
+fn is_worn(base: &Base) -> bool
+    ensures { result ≡ is_worn base.now }
+{
+    match own_record(base) {
+        Some(own) => own.seq() == u64::MAX,
+        None => false,
+    }
+}
+
+fn is_full(base: &Base) -> bool
+    ensures { result ≡ is_full base.now }
+{
+    own_links(base).len() >= MOST_LINKS
+}
+
+// The routers to which the own record lists links.
+fn own_links(base: &Base) -> &[Zid]
+    ensures value { result.now ≡ own_links base.now }
+    ensures in_order { are_links base.now.me result.now ≡ true }
+{
+    match own_record(base) {
+        Some(own) => own.links(),
+        None => &[],
+    }
+}
+
+// The identifiers with one more in its place.
+fn with_name(alloc: Global, names: &[Zid], id: &Zid) -> Result<Vec<Zid>, AllocError>
+    ensures { IfOk result (λ all. all.items ≡ with_name names.now id.now) }
+{
+    let mut all = names_below(alloc, names, id)?;
+    all.push(*id)?;
+    let above = names_above(alloc, names, id)?;
+    all.extend_from_slice(above.as_slice())?;
+    Ok(all)
+}
+
+fn names_below(alloc: Global, names: &[Zid], id: &Zid) -> Result<Vec<Zid>, AllocError>
+    ensures { IfOk result (λ below. below.items ≡ filter (λ y. is_before y id.now) names.now) }
+{
+    names.iter().copied().filter(|y| *y < *id).collect(alloc)
+}
+
+fn names_above(alloc: Global, names: &[Zid], id: &Zid) -> Result<Vec<Zid>, AllocError>
+    ensures { IfOk result (λ above. above.items ≡ filter (λ y. is_before id.now y) names.now) }
+{
+    names.iter().copied().filter(|y| *id < *y).collect(alloc)
+}
+
+fn without_name(alloc: Global, names: &[Zid], id: &Zid) -> Result<Vec<Zid>, AllocError>
+    ensures { IfOk result (λ rest. rest.items ≡ without_name names.now id.now) }
+{
+    names.iter().copied().filter(|y| *y != *id).collect(alloc)
+}

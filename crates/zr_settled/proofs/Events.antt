@@ -1,0 +1,80 @@
+-- No event of a script's world is refused: own numbers are far below their limit, and own links are few.
+use Rattle.std.proofs.Common.{◌≡◌, ◌≤◌, ℕ, false, cond, length, Option, Some, None, refl, sym, ap, ◌∙◌, subst, arith}
+use Rattle.std.specs.Prelude.{◌-◌, ◌^◌}
+use Rattle.std.specs.Cmp.Lexicographic.{slice_cmp}
+use Rattle.std.specs.Ordering.{nat_cmp}
+use Rattle.std.proofs.lemmas.Bool.{and_parts, or_from, ne_eqb, lt-leb}
+use Rattle.std.proofs.lemmas.Map.Keys.{IsDistinct-from_sorted}
+use Rattle.std.proofs.lemmas.Map.Steps.{length-le_from_keys}
+use Rattle.zr_id.specs.Zid.{is_named}
+use Rattle.zr_graph.specs.Base.{BaseState, own_seq}
+use Rattle.zr_tree.proofs.Finds.{same_any}
+use Rattle.zr_msg.specs.declared.error.NodeError.TheVariants.{Worn}
+use Rattle.zr_msg.specs.declared.event.Event.{Event}
+use Rattle.zr_msg.specs.declared.event.Event.TheVariants.{Up, Down, From}
+use Rattle.zr_msg.specs.declared.peer.Role.{Role}
+use Rattle.zr_msg.specs.declared.peer.Role.TheVariants.{Client, Router}
+use Rattle.zr_table.specs.State.{LinkState, link_at}
+use Rattle.zr_table.specs.Table.{own_links, is_worn, is_full, refuses, refuses_up, refuses_down, refuses_parting}
+use Rattle.zr_network.specs.World.{RouterState, WorldState, router_of}
+use Rattle.zr_network.specs.Run.{run_lines}
+use Rattle.zr_network.specs.Accepted.{accepted}
+use Rattle.zr_network.specs.Moments.{Moment, reached}
+use Rattle.zr_network.proofs.Names.{names}
+use Rattle.zr_network.proofs.Lines.{at_some, lines_are_moments}
+use Rattle.zr_settled.specs.Events.{NoEventIsRefused}
+use Rattle.zr_settled.proofs.Spreading.{Name}
+use Rattle.zr_settled.proofs.Worlds.{there_in}
+use Rattle.zr_settled.proofs.Changes.{listed}
+use Rattle.zr_settled.proofs.Keeping.{Stands, moments_hold}
+use Rattle.zr_settled.proofs.Bounds.{IsBounded}
+use Rattle.zr_settled.proofs.Lines.{AreBounded, lines_bounded}
+
+-- own links are routers that are there, each once
+links_few : (m : Moment) → Stands m → (x : Name) (r : RouterState) → router_of m.world.routers x ≡ Some r → (n : ℕ) → IsBounded n r.node.base → length (own_links r.node.base) ≤ length m.world.routers
+links_few m stands x r found n bounded =
+    length-le_from_keys names (own_links r.node.base) m.world.routers (IsDistinct-from_sorted (slice_cmp nat_cmp) (own_links r.node.base) bounded.ascend) (λ q t.
+    (and_parts (there_in m.world q) _ (sym (listed m.world stands.holds stands.sound x r found q) ∙ same_any (λ y. is_named y q) (is_named q) (own_links r.node.base) (λ y i. names.symm y q) ∙ t)).0)
+
+-- a base with room for one more change takes each event
+module _ (b : BaseState) (fresh : is_worn b ≡ false) (room : is_full b ≡ false) where
+  takes_up : (role : Role) → refuses_up b role ≡ None
+  takes_up Client = refl
+  takes_up Router = ap (λ t. cond t (Some Worn) None) (or_from (is_worn b) (is_full b) fresh room)
+
+  takes_parting : (role : Role) → refuses_parting b role ≡ None
+  takes_parting Client = refl
+  takes_parting Router = ap (λ t. cond t (Some Worn) None) fresh
+
+  takes_down : (o : Option LinkState) → refuses_down b o ≡ None
+  takes_down None = refl
+  takes_down (Some l) = takes_parting l.peer.role
+
+takes : (r : RouterState) (event : Event) → is_worn r.node.base ≡ false → is_full r.node.base ≡ false → refuses r.node event ≡ None
+takes r (Up link peer) fresh room = takes_up r.node.base fresh room peer.role
+takes r (Down link) fresh room = takes_down r.node.base fresh room (link_at r.node.links link.0)
+takes r (From link msg) fresh room = refl
+
+pub no_event_is_refused : NoEventIsRefused
+no_event_is_refused ls x r event most found may =
+    takes r event (ne_eqb (own_seq r.node.base) (2 ^ 64 - 1) (λ e. absurd (omega (arith, e, bounded.number, most)))) (lt-leb 65535 (length (own_links r.node.base)) (omega (arith, few)))
+  where
+    bounds : AreBounded (length ls) (run_lines ls).world.routers
+    bounds = lines_bounded ls
+
+    bounded : IsBounded (length ls) r.node.base
+    bounded = bounds.each x r found
+
+    m : Moment
+    m = (lines_are_moments ls).1.0
+
+    stands : Stands m
+    stands = at_some Stands (reached (accepted ls)) m (lines_are_moments ls).1.1.is_reached (moments_hold (accepted ls))
+
+    same : (run_lines ls).world.routers ≡ m.world.routers
+    same = ap (λ (w : WorldState). w.routers) (lines_are_moments ls).1.1.is_told.world_is
+
+    few : length (own_links r.node.base) ≤ 64
+    few =
+        let most : length m.world.routers ≤ 64 = subst (λ rs. length rs ≤ 64) same bounds.few in
+        omega (arith, most, links_few m stands x r (ap (λ rs. router_of rs x) (sym same) ∙ found) (length ls) bounded)

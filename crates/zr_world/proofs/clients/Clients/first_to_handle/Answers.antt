@@ -1,7 +1,0 @@
-use Rattle.zr_network.specs.Next.{has_sent}
-use Rattle.zr_world.proofs.Ends.{found_is}
-use Rattle.zr_world.proofs.clients.Clients.first_to_handle.Goals as goal
-
-pub returns : goal.returns
-returns c = rw (← c.self.view_is)
-    (found_is has_sent c.self.inside.to_handle.keys c.self.inside.map.entries c.first.result c.self.invariant.ordered c.self.invariant.handles c.first.ensures.none c.first.ensures.member c.first.ensures.least)

@@ -1,0 +1,21 @@
+-- What is told of a router's tables, in parts.
+use Rattle.std.specs.Prelude.{ℕ, not, List, [], ◌∷◌, if◌then◌else◌, map, filter}
+use Rattle.zr_id.specs.Record.{RecordState}
+use Rattle.zr_id.specs.Zid.{is_named}
+use Rattle.zr_graph.specs.Record.{ids}
+use Rattle.zr_tree.specs.Walk.{graph_of}
+use Rattle.zr_tree.specs.Tree.{parent}
+use Rattle.zr_command.specs.declared.report.ReportLine.{ReportLine}
+use Rattle.zr_command.specs.declared.report.ReportLine.TheVariants.{Record, Parent}
+
+-- the records
+abbrev pub record_lines : List RecordState → List ReportLine
+record_lines records = map (λ r. Record r) records
+
+-- the parent of the router itself in the tree of a root, unless that is the router
+abbrev pub parent_told : List RecordState → List ℕ → List ℕ → List ReportLine
+parent_told trees me root = if is_named root me then [] else Parent root (parent (graph_of trees) root me) ∷ []
+
+-- the router's parents in the trees of these routers
+abbrev pub parent_lines : List RecordState → List ℕ → List RecordState → List ReportLine
+parent_lines trees me roots = map (λ root. Parent root (parent (graph_of trees) root me)) (filter (λ id. not (is_named id me)) (ids roots))

@@ -1,0 +1,94 @@
+//! Phases begin, and routers' tables are told.
+
+ghost use Rattle.std.specs.Prelude.{◌≡◌, ◌++◌, OnOk, OnErr};
+ghost use Rattle.zr_table.specs.Prefix.{IsPrefixBehind};
+ghost use Rattle.zr_world.specs.Show.{record_lines, parent_lines, parent_told};
+ghost use Rattle.zr_world.specs.Steps.{AppliesTo};
+
+use crate::tables::Tables;
+use std::alloc::{AllocError, Global};
+use zr_command::error::ScriptError;
+use zr_command::report::ReportLine;
+use zr_graph::base::Base;
+use zr_id::record::LinkRecord;
+use zr_id::zid::Zid;
+use zr_tree::trees::Trees;
+
+impl Tables {
+    ghost use Rattle.zr_network.specs.Acts.{mark_step, show_step};
+    ghost use Rattle.zr_network.specs.Sound.{IsSound};
+    ghost use Rattle.zr_world.specs.State.{state_of};
+
+    /// A phase begins, where the world is settled and its routers are joined.
+    #[tactic(auto, unfolding(zr_network::specs::Acts::mark_step))]
+    pub fn mark(&mut self, line: u64, report: &mut Vec<ReportLine>) -> Result<(), ScriptError>
+        requires { IsSound (state_of self.old) }
+        ensures { AppliesTo result (mark_step (state_of self.old) line) (state_of self.old) (state_of self.new) report.old.items report.new.items }
+    {
+        if !self.is_settled() {
+            return Err(ScriptError::NotSettled);
+        }
+        if !self.is_joined()? {
+            return Err(ScriptError::NotJoined);
+        }
+        report.push(ReportLine::Mark { line })?;
+        Ok(())
+    }
+
+    /// A router's tables: its records, and its parent in the tree of each other router.
+    #[tactic(auto, unfolding(zr_network::specs::Acts::show_step))]
+    pub fn show(&mut self, router: Zid, report: &mut Vec<ReportLine>) -> Result<(), ScriptError>
+        ensures { AppliesTo result (show_step (state_of self.old) router) (state_of self.old) (state_of self.new) report.old.items report.new.items }
+    {
+        let Some(r) = self.routers.get(&router) else {
+            return Err(ScriptError::UnknownName);
+        };
+        report.push(ReportLine::Show { router })?;
+        tell_records(self.alloc, r.node().base().records(), report)?;
+        tell_parents(self.alloc, r.node().base(), report)?;
+        Ok(())
+    }
+}
+
+fn tell_records(
+    alloc: Global,
+    records: &[LinkRecord],
+    report: &mut Vec<ReportLine>,
+) -> Result<(), AllocError>
+    ensures told { OnOk result (report.new.items ≡ report.old.items ++ record_lines records.now) }
+    ensures err { OnErr result (IsPrefixBehind report.old.items (record_lines records.now) report.new.items) }
+{
+    for r in records {
+        let record = r.copy(alloc)?;
+        report.push(ReportLine::Record { record })?;
+    }
+    Ok(())
+}
+
+fn tell_parents(alloc: Global, base: &Base, report: &mut Vec<ReportLine>) -> Result<(), AllocError>
+    ensures told { OnOk result (report.new.items ≡ report.old.items ++ parent_lines base.now.records base.now.me base.now.records) }
+    ensures err { OnErr result (IsPrefixBehind report.old.items (parent_lines base.now.records base.now.me base.now.records) report.new.items) }
+{
+    let trees = Trees::of(alloc, base)?;
+    let me = base.me();
+    for r in base.records() {
+        tell_parent(&trees, me, r.id(), report)?;
+    }
+    Ok(())
+}
+
+fn tell_parent(
+    trees: &Trees,
+    me: Zid,
+    root: Zid,
+    report: &mut Vec<ReportLine>,
+) -> Result<(), AllocError>
+    ensures told { OnOk result (report.new.items ≡ report.old.items ++ parent_told trees.now me root) }
+    ensures err { OnErr result (report.new.items ≡ report.old.items) }
+{
+    if root != me {
+        let parent = trees.parent(root, me);
+        report.push(ReportLine::Parent { root, parent })?;
+    }
+    Ok(())
+}

@@ -1,0 +1,176 @@
+//! Routers, clients and links come, come up, break and go down.
+
+ghost use Rattle.std.specs.Prelude.{◌≡◌};
+ghost use Rattle.zr_world.specs.Steps.{Does};
+
+use crate::client::Client;
+use crate::router::Router;
+use crate::spread::spread;
+use crate::tables::Tables;
+use zr_command::error::ScriptError;
+use zr_ends::end::LinkEnd;
+use zr_id::zid::Zid;
+use zr_msg::event::Event;
+use zr_msg::peer::{Peer, Role};
+
+/// How many routers a world has at most, all that ever came.
+const MOST_ROUTERS: usize = 64;
+
+/// How many clients a world has at most, all that ever came.
+const MOST_CLIENTS: usize = 1024;
+
+/// How many links between routers are in place at most.
+const MOST_LINKS: usize = 512;
+
+impl Tables {
+    ghost use Rattle.zr_network.specs.Acts.{router_step, client_step, link_step, up_step, break_step, down_step};
+    ghost use Rattle.zr_network.specs.Sound.{IsSound};
+    ghost use Rattle.zr_world.specs.State.{state_of};
+
+    /// A router without links.
+    #[tactic(auto, unfolding(zr_network::specs::Acts::router_step))]
+    pub fn router(&mut self, id: Zid) -> Result<(), ScriptError>
+        ensures { Does result (router_step (state_of self.old) id) (state_of self.old) (state_of self.new) }
+    {
+        if self.is_taken(&id) {
+            return Err(ScriptError::NameTaken);
+        }
+        let count = self.routers.len();
+        if count >= MOST_ROUTERS {
+            return Err(ScriptError::Limit);
+        }
+        if self.used && count >= 1 {
+            return Err(ScriptError::Limit);
+        }
+        let router = Router::new(self.alloc, id)?;
+        self.routers.insert(id, router)?;
+        Ok(())
+    }
+
+    /// A client whose link is up at once.
+    #[tactic(auto, using(std::proofs::lemmas::Map::Steps::set_value_same), unfolding(zr_network::specs::Acts::client_step))]
+    pub fn client(&mut self, line: u64, id: Zid, router: Zid) -> Result<(), ScriptError>
+        requires { IsSound (state_of self.old) }
+        ensures { Does result (client_step (state_of self.old) line id router) (state_of self.old) (state_of self.new) }
+    {
+        let is_taken = self.is_taken(&id);
+        let count = self.clients.len();
+        let Some(r) = self.routers.get_mut(&router) else {
+            return Err(ScriptError::UnknownName);
+        };
+        if is_taken {
+            return Err(ScriptError::NameTaken);
+        }
+        if count >= MOST_CLIENTS {
+            return Err(ScriptError::Limit);
+        }
+        let role = Role::Client;
+        let event = r.up_event(Peer { id, role });
+        r.hear(self.alloc, &event, &mut self.out)?;
+        let mut end = LinkEnd::new(self.alloc);
+        end.lift();
+        self.ends.put((router, id), end)?;
+        spread(r, router, &mut self.ends, &mut self.out, line)?;
+        self.clients.insert(id, Client::new(self.alloc, router))?;
+        Ok(())
+    }
+
+    /// A link between two routers, up at neither end.
+    #[tactic(auto, unfolding(zr_network::specs::Acts::link_step))]
+    pub fn link(&mut self, one: Zid, other: Zid) -> Result<(), ScriptError>
+        ensures { Does result (link_step (state_of self.old) one other) (state_of self.old) (state_of self.new) }
+    {
+        if one == other {
+            return Err(ScriptError::BadWords);
+        }
+        if !self.is_router(&one) || !self.is_router(&other) {
+            return Err(ScriptError::UnknownName);
+        }
+        if self.is_in_place(one, other) {
+            return Err(ScriptError::AlreadyLinked);
+        }
+        if self.links_in_place() >= MOST_LINKS {
+            return Err(ScriptError::Limit);
+        }
+        self.ends.put((one, other), LinkEnd::new(self.alloc))?;
+        self.ends.put((other, one), LinkEnd::new(self.alloc))?;
+        Ok(())
+    }
+
+    /// A router's end comes up.
+    #[tactic(auto, using(std::proofs::lemmas::Map::Steps::set_value_same), unfolding(zr_network::specs::Acts::up_step))]
+    pub fn up(&mut self, line: u64, router: Zid, neighbour: Zid) -> Result<(), ScriptError>
+        requires { IsSound (state_of self.old) }
+        ensures { Does result (up_step (state_of self.old) line router neighbour) (state_of self.old) (state_of self.new) }
+    {
+        let is_known = self.is_taken(&neighbour);
+        let peer = self.peer_of(neighbour);
+        let Some(r) = self.routers.get_mut(&router) else {
+            return Err(ScriptError::UnknownName);
+        };
+        if !is_known {
+            return Err(ScriptError::UnknownName);
+        }
+        let Some(end) = self.ends.get((router, neighbour)) else {
+            return Err(ScriptError::NotLinked);
+        };
+        if !end.is_unbroken() {
+            return Err(ScriptError::NotLinked);
+        }
+        if end.is_up() {
+            return Err(ScriptError::AlreadyLinked);
+        }
+        let event = r.up_event(peer);
+        r.hear(self.alloc, &event, &mut self.out)?;
+        self.ends.lift((router, neighbour))?;
+        spread(r, router, &mut self.ends, &mut self.out, line)?;
+        Ok(())
+    }
+
+    /// A link breaks, and what is on its wires is lost.
+    #[tactic(auto, unfolding(zr_network::specs::Acts::break_step))]
+    pub fn break_link(&mut self, router: Zid, neighbour: Zid) -> Result<(), ScriptError>
+        ensures { Does result (break_step (state_of self.old) router neighbour) (state_of self.old) (state_of self.new) }
+    {
+        if !self.is_router(&router) || !self.is_taken(&neighbour) {
+            return Err(ScriptError::UnknownName);
+        }
+        let Some(end) = self.ends.get((router, neighbour)) else {
+            return Err(ScriptError::NotLinked);
+        };
+        if !end.is_unbroken() {
+            return Err(ScriptError::NotLinked);
+        }
+        self.ends.break_off((router, neighbour));
+        self.ends.break_off((neighbour, router));
+        Ok(())
+    }
+
+    /// A router notices that a link is broken, and what it has queued there is lost.
+    #[tactic(auto, using(std::proofs::lemmas::Map::Steps::set_value_same), unfolding(zr_network::specs::Acts::down_step))]
+    pub fn down(&mut self, line: u64, router: Zid, neighbour: Zid) -> Result<(), ScriptError>
+        requires { IsSound (state_of self.old) }
+        ensures { Does result (down_step (state_of self.old) line router neighbour) (state_of self.old) (state_of self.new) }
+    {
+        let is_known = self.is_taken(&neighbour);
+        let Some(r) = self.routers.get_mut(&router) else {
+            return Err(ScriptError::UnknownName);
+        };
+        if !is_known {
+            return Err(ScriptError::UnknownName);
+        }
+        let Some(end) = self.ends.get((router, neighbour)) else {
+            return Err(ScriptError::NotLinked);
+        };
+        if !end.is_up() || end.is_unbroken() {
+            return Err(ScriptError::NotLinked);
+        }
+        let Some(link) = r.link_to(&neighbour) else {
+            return Err(ScriptError::NotLinked);
+        };
+        r.hear(self.alloc, &Event::Down { link }, &mut self.out)?;
+        spread(r, router, &mut self.ends, &mut self.out, line)?;
+        self.ends.lower((router, neighbour));
+        Ok(())
+    }
+}

@@ -1,0 +1,43 @@
+//! What a router has sent comes into the queues at its ends.
+
+ghost use Rattle.std.specs.Prelude.{◌≡◌, OnOk};
+ghost use Rattle.zr_world.specs.Spread.{queued_on, all_queued_on};
+
+use crate::router::Router;
+use std::alloc::AllocError;
+use zr_ends::ends::Ends;
+use zr_id::link::LinkNo;
+use zr_id::zid::Zid;
+use zr_msg::msg::Msg;
+
+/// Each message is queued for the neighbour of its link. The list of them is empty then, and keeps its memory.
+pub fn spread(
+    router: &Router,
+    name: Zid,
+    ends: &mut Ends,
+    out: &mut Vec<(LinkNo, Msg)>,
+    tag: u64,
+) -> Result<(), AllocError>
+    ensures { OnOk result (ends.new ≡ all_queued_on router.now.node.links ends.old name out.old.items tag) }
+{
+    for (link, msg) in out.drain(..) {
+        enqueue(router, name, ends, link, msg, tag)?;
+    }
+    Ok(())
+}
+
+fn enqueue(
+    router: &Router,
+    name: Zid,
+    ends: &mut Ends,
+    link: LinkNo,
+    msg: Msg,
+    tag: u64,
+) -> Result<(), AllocError>
+    ensures { OnOk result (ends.new ≡ queued_on router.now.node.links ends.old name link msg tag) }
+{
+    match router.peer_at(link) {
+        Some(peer) => ends.enqueue((name, peer.id), msg, tag),
+        None => Ok(()),
+    }
+}

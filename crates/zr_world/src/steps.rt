@@ -1,0 +1,111 @@
+//! Messages move on: a router handles one, or one is taken from its queue.
+
+ghost use Rattle.std.specs.Prelude.{◌≡◌, if◌then◌else◌, is_some, Some, IsSome};
+ghost use Rattle.zr_world.specs.Hearing.{message_of};
+ghost use Rattle.zr_world.specs.Steps.{AppliesTo};
+
+use crate::spread::spread;
+use crate::tables::Tables;
+use zr_command::error::ScriptError;
+use zr_command::report::ReportLine;
+use zr_id::zid::Zid;
+use zr_msg::event::Event;
+use zr_msg::msg::Msg;
+
+impl Tables {
+    ghost use Rattle.zr_network.specs.World.{is_taken, router_of};
+    ghost use Rattle.zr_network.specs.Acts.{handle_step, take_step};
+    ghost use Rattle.zr_network.specs.Sound.{IsSound};
+    ghost use Rattle.zr_world.specs.State.{state_of};
+
+    /// A router handles the oldest message on the wire from a neighbour. What it sends has that message's tag.
+    // A router has a link to just the neighbours to which its end is up, so who has none need not be asked for first.
+    pub fn handle(
+        &mut self,
+        router: Zid,
+        from: Zid,
+        report: &mut Vec<ReportLine>,
+    ) -> Result<(), ScriptError>
+        requires { IsSound (state_of self.old) }
+        ensures { AppliesTo result (handle_step (state_of self.old) router from) (state_of self.old) (state_of self.new) report.old.items report.new.items }
+    {
+        let Some(r) = self.routers.get_mut(&router) else {
+            return Err(ScriptError::UnknownName);
+        };
+        let Some(link) = r.link_to(&from) else {
+            return Err(self.unlinked(&from));
+        };
+        let x = self.ends.next_sent((router, from))?;
+        let tag = x.tag;
+        let event = Event::From { link, msg: x.msg };
+        r.hear(self.alloc, &event, &mut self.out)?;
+        spread(r, router, &mut self.ends, &mut self.out, tag)?;
+        let msg = message_of(event);
+        report.push(ReportLine::Handled {
+            router,
+            from,
+            msg,
+            tag,
+        })?;
+        Ok(())
+    }
+
+    /// A router's oldest queued message goes onto the wire to the neighbour, or is sent to it where it is a client.
+    // Each end is that of a router and a neighbour that are there, so only who finds no message asks for the names.
+    pub fn take(
+        &mut self,
+        router: Zid,
+        to: Zid,
+        report: &mut Vec<ReportLine>,
+    ) -> Result<(), ScriptError>
+        requires { IsSound (state_of self.old) }
+        ensures { AppliesTo result (take_step (state_of self.old) router to) (state_of self.old) (state_of self.new) report.old.items report.new.items }
+    {
+        let x = match self.ends.next_queued((router, to)) {
+            Ok(x) => x,
+            Err(e) => return Err(self.refusal_of(&router, &to, e)),
+        };
+        let tag = x.tag;
+        self.ends.send_copy(self.alloc, (to, router), &x.msg, tag)?;
+        report.push(ReportLine::Taken {
+            router,
+            to,
+            msg: x.msg,
+            tag,
+        })?;
+        Ok(())
+    }
+
+    // Why a neighbour to which there is no link is refused.
+    fn unlinked(&self, name: &Zid) -> ScriptError
+        ensures { result ≡ (if is_taken (state_of self.now) name.now then ScriptError.NotLinked else ScriptError.UnknownName) }
+    {
+        if self.is_taken(name) {
+            ScriptError::NotLinked
+        } else {
+            ScriptError::UnknownName
+        }
+    }
+
+    // What is wrong with two names goes before what is wrong at their end.
+    fn refusal_of(&self, router: &Zid, name: &Zid, error: ScriptError) -> ScriptError
+        ensures { result ≡ (if is_some (router_of (state_of self.now).routers router.now) then (if is_taken (state_of self.now) name.now then error else ScriptError.UnknownName) else ScriptError.UnknownName) }
+    {
+        if self.is_router(router) && self.is_taken(name) {
+            error
+        } else {
+            ScriptError::UnknownName
+        }
+    }
+}
+
+// The message of an event that brings one.
+fn message_of(event: Event) -> Msg
+    requires { IsSome (message_of event) }
+    ensures { message_of event ≡ Some result }
+{
+    match event {
+        Event::From { msg, .. } => msg,
+        Event::Up { .. } | Event::Down { .. } => unreachable!(),
+    }
+}
