@@ -43,7 +43,7 @@ pub trait Port {
     // which messages can be delivered: those that have a spelling on the wire
     ghost is_spelled: { Self → Msg → Type 0 };
 
-    // after which lists of entries a call is refused, and why; of want of memory nothing is said
+    // after which lists of entries a call is refused, and why; where memory ran out nothing is said
     ghost refuses_up: { Self → List Entry → Peer → UpError → Type 0 };
 
     ghost refuses_message: { Self → List Entry → LinkNo → Msg → DeliverError → Type 0 };

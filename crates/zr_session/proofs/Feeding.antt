@@ -12,8 +12,8 @@ use Rattle.zr_session.specs.declared.stop.Stop.{Stop}
 use Rattle.zr_session.specs.declared.stop.Stop.TheVariants as stop
 use Rattle.zr_session.specs.Course.{Course, going, joined, owed_in}
 use Rattle.zr_session.specs.Stream.{Comes, on_batches}
-use Rattle.zr_session.specs.Done.{Adds, AddsFronts, Takes}
-use Rattle.zr_session.specs.Session.{SessionState, Feeds, Stalls, Stands, Gains, GainsFronts, close_of, close_between}
+use Rattle.zr_session.specs.Done.{Adds, AddsPrefixes, Takes}
+use Rattle.zr_session.specs.Session.{SessionState, Feeds, Stalls, Stands, Gains, GainsPrefixes, close_of, close_between}
 use Rattle.zr_session.proofs.Pieces.{comes_more, comes_ended}
 
 -- no bytes come to nothing
@@ -32,8 +32,8 @@ gains_more c x close a b d h e k = record {
   new_bytes = k ∙ ap (λ z. z ++ close) h.bytes ∙ append_assoc a.bytes.items x.bytes close;
 }
 
-gains_fronts : (c x : Course) (a b : Fed) → AddsFronts x a b → GainsFronts c (joined None c x) a b
-gains_fronts c x a b h = record {
+gains_prefixes : (c x : Course) (a b : Fed) → AddsPrefixes x a b → GainsPrefixes c (joined None c x) a b
+gains_prefixes c x a b h = record {
   events = h.events;
   other_events = h.other_events;
   bytes = h.bytes;
@@ -50,10 +50,10 @@ On o s kept new_o t after piece old new =
     (first : Expected) (bytes : List ℕ) (c : Course) → Stands first o s kept bytes c →
     (d : Course) × Stands first new_o t after (bytes ++ piece) d × Gains c d (close_between s t) old new
 
-abbrev pub OnFronts : OpeningState → State → List ℕ → List ℕ → Fed → Fed → Type 0
-OnFronts o s kept piece old new =
+abbrev pub OnPrefixes : OpeningState → State → List ℕ → List ℕ → Fed → Fed → Type 0
+OnPrefixes o s kept piece old new =
     (first : Expected) (bytes : List ℕ) (c : Course) → Stands first o s kept bytes c →
-    (d : Course) × (rest : List ℕ) × Comes o (Opening first) (bytes ++ piece) d rest × GainsFronts c d old new
+    (d : Course) × (rest : List ℕ) × Comes o (Opening first) (bytes ++ piece) d rest × GainsPrefixes c d old new
 
 -- a piece was read, and the session goes on
 pub fed_more : (o : OpeningState) (p q : Phase) (kept after piece : List ℕ) (a b : Fed) →
@@ -74,16 +74,16 @@ fed_last o p q kept after gone piece owed how a b d h e events bytes_are first b
 
 -- memory ran out
 pub fed_out : (o : OpeningState) (p q : Phase) (kept after piece : List ℕ) (a b : Fed) →
-    Takes (Err stop.NoMemory) o p (kept ++ piece) q after a b → OnFronts o (Running p) kept piece a b
+    Takes (Err stop.NoMemory) o p (kept ++ piece) q after a b → OnPrefixes o (Running p) kept piece a b
 fed_out o p q kept after piece a b h first bytes c at =
     let next : Comes o c.phase (kept ++ piece) h.0 h.1 = rw at.2 h.2 in
     let whole : Comes o (Opening first) (bytes ++ piece) (joined None c h.0) h.1 = comes_more o (Opening first) bytes piece kept h.1 c h.0 at.0 at.1 next in
-    (joined None c h.0, h.1, whole, gains_fronts c h.0 a b h.3)
+    (joined None c h.0, h.1, whole, gains_prefixes c h.0 a b h.3)
 
 -- memory ran out for the CLOSE
 pub fed_close_out : (o : OpeningState) (p q : Phase) (kept after piece : List ℕ) (how : End) (a b d : Fed) →
     Takes (Err (stop.Ended how)) o p (kept ++ piece) q after a b → d.events.items ≡ b.events.items → d.bytes.items ≡ b.bytes.items →
-    OnFronts o (Running p) kept piece a d
+    OnPrefixes o (Running p) kept piece a d
 fed_close_out o p q kept after piece how a b d h events bytes_are first bytes c at =
     let next : Comes o c.phase (kept ++ piece) h.0 h.1 = rw at.2 h.2 in
     let whole : Comes o (Opening first) (bytes ++ piece) (joined None c h.0) h.1 = comes_more o (Opening first) bytes piece kept h.1 c h.0 at.0 at.1 next in (
@@ -148,8 +148,8 @@ feeds_over s piece owed how a e = record {
   confirmed = refl;
 }
 
-pub stalls_at : (s : SessionState) (p : Phase) (piece : List ℕ) (a b : Fed) → s.state ≡ Running p → OnFronts s.opening (Running p) s.kept piece a b → Stalls s piece a b
-stalls_at s p piece a b e h = subst (λ (z : State). OnFronts s.opening z s.kept piece a b) (sym e) h
+pub stalls_at : (s : SessionState) (p : Phase) (piece : List ℕ) (a b : Fed) → s.state ≡ Running p → OnPrefixes s.opening (Running p) s.kept piece a b → Stalls s piece a b
+stalls_at s p piece a b e h = subst (λ (z : State). OnPrefixes s.opening z s.kept piece a b) (sym e) h
 
 pub on_ok : {A E P Q : Type 0} (r : Result A E) → OnOk r P → (P → Q) → OnOk r Q
 on_ok (Ok x) h f = f h

@@ -11,7 +11,7 @@ use Rattle.zr_session.specs.Course.{Course, going, stops, and_then}
 use Rattle.zr_session.specs.Stream.{items_within, item_of}
 use Rattle.zr_session.specs.Done.{Adds, Reads, Goes}
 use Rattle.zr_session.proofs.Courses.{then_ended}
-use Rattle.zr_session.proofs.Reading.{Within, within_first, within_last, within_next, fronts_nothing}
+use Rattle.zr_session.proofs.Reading.{Within, within_first, within_last, within_next, prefixes_nothing}
 
 -- what so many messages at most lead to
 abbrev pub left : OpeningState → ℕ → Bool → List ℕ → Phase → Course
@@ -60,7 +60,7 @@ stops_here all o most more f bytes rest p q a b d (Ended how) h n some g =
     let k : Goes (Err (Ended how)) (left o most f bytes p) q b d = rw (n, left_item o more f bytes p some, next) g in
     within_last all (left o most f bytes) p q a b d (Err (Ended how)) h k
 stops_here all o most more f bytes rest p q a b d NoMemory h n some g =
-    within_last all (left o most f bytes) p q a b d (Err NoMemory) h (fronts_nothing (left o most f bytes p) b d g)
+    within_last all (left o most f bytes) p q a b d (Err NoMemory) h (prefixes_nothing (left o most f bytes p) b d g)
 
 -- a message more was read
 pub goes_on : (all : Course) (o : OpeningState) (most more : ℕ) (f g : Bool) (bytes rest : List ℕ) (p q : Phase) (a b d : Fed) →

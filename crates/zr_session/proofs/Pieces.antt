@@ -10,9 +10,9 @@ use Rattle.zr_session.specs.declared.stop.Stop.{Stop}
 use Rattle.zr_session.specs.declared.stop.Stop.TheVariants.{Ended, NoMemory}
 use Rattle.zr_session.specs.Course.{Course, going, joined, and_then}
 use Rattle.zr_session.specs.Stream.{Comes, on_batch, on_batches}
-use Rattle.zr_session.specs.Done.{Adds, AddsFronts, Goes, Takes}
+use Rattle.zr_session.specs.Done.{Adds, AddsPrefixes, Goes, Takes}
 use Rattle.zr_session.proofs.Courses.{then_open, then_ended, then_nothing, batches_append}
-use Rattle.zr_session.proofs.Reading.{adds_nothing, adds_more, fronts_more}
+use Rattle.zr_session.proofs.Reading.{adds_nothing, adds_more, prefixes_more}
 
 -- THE JOINING LEMMA: what a stream comes to in two parts.
 pub comes_more : (o : OpeningState) (p : Phase) (bytes more mid rest : List ℕ) (c x : Course) →
@@ -65,12 +65,12 @@ comes_kept o p bytes t mid c h e = record {
   course = rw (append-nil h.batches) h.course;
 }
 
--- A front of the piece was read: it comes to a course that goes on, and what is kept is what is left of its bytes.
+-- A prefix of the piece was read: it comes to a course that goes on, and what is kept is what is left of its bytes.
 pub record AtRest (o : OpeningState) (p : Phase) (first piece rest kept : List ℕ) (phase : Phase) (old new : Fed) : Type 0 where
-  pub front : List ℕ
-  pub split : piece ≡ front ++ rest
+  pub begin : List ℕ
+  pub split : piece ≡ begin ++ rest
   pub course : Course
-  pub comes : Comes o p (first ++ front) course kept
+  pub comes : Comes o p (first ++ begin) course kept
   pub goes : course.ends ≡ None
   pub at : course.phase ≡ phase
   pub adds : Adds course old new
@@ -78,7 +78,7 @@ pub record AtRest (o : OpeningState) (p : Phase) (first piece rest kept : List �
 pub rest_first : (o : OpeningState) (p : Phase) (kept piece : List ℕ) (out : Fed) → 0 < lacks kept → AtRest o p kept piece piece kept p out out
 unfolding on_batches
 rest_first o p kept piece out e = record {
-  front = [];
+  begin = [];
   split = refl;
   course = going p;
   comes = record { batches = []; are = append-nil kept; partial = e; course = refl };
@@ -109,20 +109,20 @@ rest_kept o p first piece rest kept grown more phase a b h e few some =
     let t = taken_of rest kept grown more e few in
     let lacking : 0 < lacks (kept ++ t.0) = rw (sym t.2) some in
     rw t.2 (record {
-      front = h.front ++ t.0;
-      split = h.split ∙ ap (λ z. h.front ++ z) t.1 ∙ sym (append_assoc h.front t.0 more);
+      begin = h.begin ++ t.0;
+      split = h.split ∙ ap (λ z. h.begin ++ z) t.1 ∙ sym (append_assoc h.begin t.0 more);
       course = h.course;
-      comes = rw (sym (append_assoc first h.front t.0)) (comes_kept o p (first ++ h.front) t.0 kept h.course h.comes lacking);
+      comes = rw (sym (append_assoc first h.begin t.0)) (comes_kept o p (first ++ h.begin) t.0 kept h.course h.comes lacking);
       goes = h.goes;
       at = h.at;
       adds = h.adds;
     })
 
-batch_comes : (o : OpeningState) (p : Phase) (first front kept t batch : List ℕ) (c : Course) →
-    Comes o p (first ++ front) c kept → c.ends ≡ None → IsFramed (kept ++ t) batch →
-    Comes o p (first ++ (front ++ t)) (joined None c (on_batch o c.phase batch)) []
-batch_comes o p first front kept t batch c h goes f =
-    rw (sym (append_assoc first front t)) (comes_more o p (first ++ front) t kept [] c (on_batch o c.phase batch) h goes (comes_batch o c.phase (kept ++ t) batch f))
+batch_comes : (o : OpeningState) (p : Phase) (first begin kept t batch : List ℕ) (c : Course) →
+    Comes o p (first ++ begin) c kept → c.ends ≡ None → IsFramed (kept ++ t) batch →
+    Comes o p (first ++ (begin ++ t)) (joined None c (on_batch o c.phase batch)) []
+batch_comes o p first begin kept t batch c h goes f =
+    rw (sym (append_assoc first begin t)) (comes_more o p (first ++ begin) t kept [] c (on_batch o c.phase batch) h goes (comes_batch o c.phase (kept ++ t) batch f))
 
 pub rest_batch : (o : OpeningState) (p : Phase) (first piece rest kept grown more batch : List ℕ) (phase q : Phase) (a b d : Fed) →
     AtRest o p first piece rest kept phase a b → grown ++ more ≡ kept ++ rest → length more ≤ length rest → IsFramed grown batch → Goes (Ok tt) (on_batch o phase batch) q b d →
@@ -131,18 +131,18 @@ rest_batch o p first piece rest kept grown more batch phase q a b d h e few f g 
     let t = taken_of rest kept grown more e few in
     let k : Goes (Ok tt) (on_batch o h.course.phase batch) q b d = rw h.at g in
     let framed : IsFramed (kept ++ t.0) batch = rw (sym t.2) f in record {
-      front = h.front ++ t.0;
-      split = h.split ∙ ap (λ z. h.front ++ z) t.1 ∙ sym (append_assoc h.front t.0 more);
+      begin = h.begin ++ t.0;
+      split = h.split ∙ ap (λ z. h.begin ++ z) t.1 ∙ sym (append_assoc h.begin t.0 more);
       course = joined None h.course (on_batch o h.course.phase batch);
-      comes = batch_comes o p first h.front kept t.0 batch h.course h.comes h.goes framed;
+      comes = batch_comes o p first h.begin kept t.0 batch h.course h.comes h.goes framed;
       goes = k.0;
       at = k.1;
       adds = adds_more h.course (on_batch o h.course.phase batch) a b d h.adds k.2;
     }
 
--- fronts of a course are fronts of a longer one
-fronts_longer : (c y : Course) (a b : Fed) → AddsFronts c a b → AddsFronts (joined None c y) a b
-fronts_longer c y a b h = record {
+-- prefixes of a course are prefixes of a longer one
+prefixes_longer : (c y : Course) (a b : Fed) → AddsPrefixes c a b → AddsPrefixes (joined None c y) a b
+prefixes_longer c y a b h = record {
   events = h.events;
   other_events = h.other_events ++ y.events;
   bytes = h.bytes;
@@ -153,8 +153,8 @@ fronts_longer c y a b h = record {
   new_bytes = h.new_bytes;
 }
 
-all_fronts : (c : Course) (a b : Fed) → Adds c a b → AddsFronts c a b
-all_fronts c a b h = record {
+all_prefixes : (c : Course) (a b : Fed) → Adds c a b → AddsPrefixes c a b
+all_prefixes c a b h = record {
   events = c.events;
   other_events = [];
   bytes = c.bytes;
@@ -165,16 +165,16 @@ all_fronts c a b h = record {
   new_bytes = h.bytes;
 }
 
--- memory ran out behind some bytes, of which fronts were given
+-- memory ran out behind some bytes, of which prefixes were given
 runs_out : (o : OpeningState) (p q : Phase) (bytes more mid after : List ℕ) (c : Course) (a b : Fed) →
-    Comes o p bytes c mid → AddsFronts c a b → Takes (Err NoMemory) o p (bytes ++ more) q after a b
-runs_out o p q bytes more mid after c a b h fronts = by c.ends refl
+    Comes o p bytes c mid → AddsPrefixes c a b → Takes (Err NoMemory) o p (bytes ++ more) q after a b
+runs_out o p q bytes more mid after c a b h prefixes = by c.ends refl
   where
     by : (e : Option End) → c.ends ≡ e → Takes (Err NoMemory) o p (bytes ++ more) q after a b
-    by (Some how) e = let k = comes_ended o p bytes more mid c how h e in (c, k.0, k.1, fronts)
+    by (Some how) e = let k = comes_ended o p bytes more mid c how h e in (c, k.0, k.1, prefixes)
     by None e =
         let k = comes_some o c.phase (mid ++ more) in
-        (joined None c k.0, k.1, comes_more o p bytes more mid k.1 c k.0 h e k.2, fronts_longer c k.0 a b fronts)
+        (joined None c k.0, k.1, comes_more o p bytes more mid k.1 c k.0 h e k.2, prefixes_longer c k.0 a b prefixes)
 
 ends_by : (o : OpeningState) (p q : Phase) (bytes more after : List ℕ) (c x : Course) (a b d : Fed) (s : Stop) →
     Comes o p bytes (joined None c x) [] → Adds c a b → Goes (Err s) x q b d → Takes (Err s) o p (bytes ++ more) q after a d
@@ -182,7 +182,7 @@ ends_by o p q bytes more after c x a b d (Ended how) h adds g =
     let k = comes_ended o p bytes more [] (joined None c x) how h g.0.ends in
     (joined None c x, k.0, k.1, record { ends = g.0.ends; owed = g.0.owed }, adds_more c x a b d adds g.1)
 ends_by o p q bytes more after c x a b d NoMemory h adds g =
-    runs_out o p q bytes more [] after (joined None c x) a d h (fronts_more c x a b d adds g)
+    runs_out o p q bytes more [] after (joined None c x) a d h (prefixes_more c x a b d adds g)
 
 -- a batch ended the session, or memory ran out in it
 pub rest_ends : (o : OpeningState) (p : Phase) (first piece rest kept grown more batch after : List ℕ) (phase q : Phase) (a b d : Fed) (s : Stop) →
@@ -192,10 +192,10 @@ rest_ends o p first piece rest kept grown more batch after phase q a b d s h e f
     let t = taken_of rest kept grown more e few in
     let framed : IsFramed (kept ++ t.0) batch = rw (sym t.2) f in
     let k : Goes (Err s) (on_batch o h.course.phase batch) q b d = rw h.at g in
-    let split : first ++ piece ≡ (first ++ (h.front ++ t.0)) ++ more =
-    ap (λ z. first ++ z) (h.split ∙ ap (λ z. h.front ++ z) t.1 ∙ sym (append_assoc h.front t.0 more)) ∙ sym (append_assoc first (h.front ++ t.0) more) in
-    let here = batch_comes o p first h.front kept t.0 batch h.course h.comes h.goes framed in
-    rw split (ends_by o p q (first ++ (h.front ++ t.0)) more after h.course (on_batch o h.course.phase batch) a b d s here h.adds k)
+    let split : first ++ piece ≡ (first ++ (h.begin ++ t.0)) ++ more =
+    ap (λ z. first ++ z) (h.split ∙ ap (λ z. h.begin ++ z) t.1 ∙ sym (append_assoc h.begin t.0 more)) ∙ sym (append_assoc first (h.begin ++ t.0) more) in
+    let here = batch_comes o p first h.begin kept t.0 batch h.course h.comes h.goes framed in
+    rw split (ends_by o p q (first ++ (h.begin ++ t.0)) more after h.course (on_batch o h.course.phase batch) a b d s here h.adds k)
 
 -- a batch of the piece itself, where nothing is kept
 pub ahead_batch : (o : OpeningState) (p : Phase) (first piece rest kept more batch : List ℕ) (phase q : Phase) (a b d : Fed) →
@@ -205,8 +205,8 @@ ahead_batch o p first piece rest kept more batch phase q a b d h none f g =
     let here : AtRest o p first piece rest [] phase a b = rw (sym none) h in
     rw none (rest_batch o p first piece rest [] f.0 more batch phase q a b d here (sym f.1) (shorter rest f.0 more f.1) f.2 g)
   where
-    shorter : (rest front more : List ℕ) → rest ≡ front ++ more → length more ≤ length rest
-    shorter rest front more e = let len = ap length e in omega (arith, len, length-append front more)
+    shorter : (rest begin more : List ℕ) → rest ≡ begin ++ more → length more ≤ length rest
+    shorter rest begin more e = let len = ap length e in omega (arith, len, length-append begin more)
 
 pub ahead_ends : (o : OpeningState) (p : Phase) (first piece rest kept more batch after : List ℕ) (phase q : Phase) (a b d : Fed) (s : Stop) →
     AtRest o p first piece rest kept phase a b → kept ≡ [] → BeginsWith rest batch more → Goes (Err s) (on_batch o phase batch) q b d →
@@ -215,19 +215,19 @@ ahead_ends o p first piece rest kept more batch after phase q a b d s h none f g
     let here : AtRest o p first piece rest [] phase a b = rw (sym none) h in
     rest_ends o p first piece rest [] f.0 more batch after phase q a b d s here (sym f.1) (shorter rest f.0 more f.1) f.2 g
   where
-    shorter : (rest front more : List ℕ) → rest ≡ front ++ more → length more ≤ length rest
-    shorter rest front more e = let len = ap length e in omega (arith, len, length-append front more)
+    shorter : (rest begin more : List ℕ) → rest ≡ begin ++ more → length more ≤ length rest
+    shorter rest begin more e = let len = ap length e in omega (arith, len, length-append begin more)
 
 -- memory ran out before a batch
 pub rest_runs_out : (o : OpeningState) (p : Phase) (first piece rest kept after : List ℕ) (phase q : Phase) (a b : Fed) →
     AtRest o p first piece rest kept phase a b → Takes (Err NoMemory) o p (first ++ piece) q after a b
 rest_runs_out o p first piece rest kept after phase q a b h =
-    let split : first ++ piece ≡ (first ++ h.front) ++ rest = ap (λ z. first ++ z) h.split ∙ sym (append_assoc first h.front rest) in
-    rw split (runs_out o p q (first ++ h.front) rest kept after h.course a b h.comes (all_fronts h.course a b h.adds))
+    let split : first ++ piece ≡ (first ++ h.begin) ++ rest = ap (λ z. first ++ z) h.split ∙ sym (append_assoc first h.begin rest) in
+    rw split (runs_out o p q (first ++ h.begin) rest kept after h.course a b h.comes (all_prefixes h.course a b h.adds))
 
 pub rest_over : (o : OpeningState) (p : Phase) (first piece rest kept : List ℕ) (phase : Phase) (a b : Fed) →
     AtRest o p first piece rest kept phase a b → length rest ≡ 0 → Takes (Ok tt) o p (first ++ piece) phase kept a b
 rest_over o p first piece [] kept phase a b h e =
-    let split : piece ≡ h.front = h.split ∙ append-nil h.front in
+    let split : piece ≡ h.begin = h.split ∙ append-nil h.begin in
     (h.course, rw split h.comes, h.goes, h.at, h.adds)
 rest_over o p first piece (x ∷ rest) kept phase a b h e = absurd (omega arith)

@@ -5,7 +5,7 @@ use Rattle.zr_session.specs.declared.event.Fed.{Fed}
 use Rattle.zr_session.specs.declared.stop.Stop.{Stop}
 use Rattle.zr_session.specs.declared.stop.Stop.TheVariants.{Ended, NoMemory}
 use Rattle.zr_session.specs.Course.{Course, going, joined, and_then}
-use Rattle.zr_session.specs.Done.{Adds, AddsFronts, Keeps, Goes}
+use Rattle.zr_session.specs.Done.{Adds, AddsPrefixes, Keeps, Goes}
 use Rattle.zr_session.proofs.Courses.{then_open, assoc_open}
 
 -- So far a course has gone, and what is left leads it to where all leads.
@@ -29,9 +29,9 @@ adds_more c x a b d h k = record {
   bytes = k.bytes ∙ ap (λ z. z ++ x.bytes) h.bytes ∙ append_assoc a.bytes.items c.bytes x.bytes;
 }
 
--- a course, and then fronts of another one
-pub fronts_more : (c x : Course) (a b d : Fed) → Adds c a b → AddsFronts x b d → AddsFronts (joined None c x) a d
-fronts_more c x a b d h k = record {
+-- a course, and then prefixes of another one
+pub prefixes_more : (c x : Course) (a b d : Fed) → Adds c a b → AddsPrefixes x b d → AddsPrefixes (joined None c x) a d
+prefixes_more c x a b d h k = record {
   events = c.events ++ k.events;
   other_events = k.other_events;
   bytes = c.bytes ++ k.bytes;
@@ -42,9 +42,9 @@ fronts_more c x a b d h k = record {
   new_bytes = k.new_bytes ∙ ap (λ z. z ++ k.bytes) h.bytes ∙ append_assoc a.bytes.items c.bytes k.bytes;
 }
 
--- nothing is a front of everything
-pub fronts_nothing : (c : Course) (a b : Fed) → Keeps a b → AddsFronts c a b
-fronts_nothing c a b h = record {
+-- nothing is a prefix of everything
+pub prefixes_nothing : (c : Course) (a b : Fed) → Keeps a b → AddsPrefixes c a b
+prefixes_nothing c a b h = record {
   events = [];
   other_events = c.events;
   bytes = [];
@@ -67,7 +67,7 @@ within_last all rest p q a b d result h g =
     by : (result : Result (Unit {0}) Stop) → Goes result (rest p) q b d → Goes result (joined None h.so_far (rest h.so_far.phase)) q a d
     by (Ok x) g = rw here (g.0, g.1, adds_more h.so_far (rest p) a b d h.adds g.2)
     by (Err (Ended how)) g = rw here (record { ends = g.0.ends; owed = g.0.owed }, adds_more h.so_far (rest p) a b d h.adds g.1)
-    by (Err NoMemory) g = rw here (fronts_more h.so_far (rest p) a b d h.adds g)
+    by (Err NoMemory) g = rw here (prefixes_more h.so_far (rest p) a b d h.adds g)
 
 -- one part more was done
 pub within_next : (all : Course) (rest next : Phase → Course) (part : Course) (p q : Phase) (a b d : Fed) →

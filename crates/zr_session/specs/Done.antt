@@ -21,8 +21,8 @@ pub record Adds (c : Course) (old new : Fed) : Type 0 where
   pub events : new.events.items ≡ old.events.items ++ c.events
   pub bytes : new.bytes.items ≡ old.bytes.items ++ c.bytes
 
--- fronts of them were appended
-pub record AddsFronts (c : Course) (old new : Fed) : Type 0 where
+-- prefixes of them were appended
+pub record AddsPrefixes (c : Course) (old new : Fed) : Type 0 where
   pub events : List SessionEvent
   pub other_events : List SessionEvent
   pub bytes : List ℕ
@@ -54,17 +54,17 @@ Reads (Ok in_frame) item p rest old new = (item.course.ends ≡ None) × (item.c
 Reads (Err (Ended how)) item p rest old new = EndsSo item.course how p × Adds item.course old new
 Reads (Err NoMemory) item p rest old new = Keeps old new
 
--- Several: out of memory they gave fronts.
+-- Several: out of memory they gave prefixes.
 abbrev pub Goes : Result (Unit {0}) Stop → Course → Phase → Fed → Fed → Type 0
 Goes (Ok _) c p old new = (c.ends ≡ None) × (c.phase ≡ p) × Adds c old new
 Goes (Err (Ended how)) c p old new = EndsSo c how p × Adds c old new
-Goes (Err NoMemory) c p old new = AddsFronts c old new
+Goes (Err NoMemory) c p old new = AddsPrefixes c old new
 
 -- The bytes come to a course, and less than a batch of them is left. A call that goes on keeps it.
 abbrev pub Takes : Result (Unit {0}) Stop → OpeningState → Phase → List ℕ → Phase → List ℕ → Fed → Fed → Type 0
 Takes (Ok _) o first bytes p kept old new = (c : Course) × Comes o first bytes c kept × (c.ends ≡ None) × (c.phase ≡ p) × Adds c old new
 Takes (Err (Ended how)) o first bytes p kept old new = (c : Course) × (rest : List ℕ) × Comes o first bytes c rest × EndsSo c how p × Adds c old new
-Takes (Err NoMemory) o first bytes p kept old new = (c : Course) × (rest : List ℕ) × Comes o first bytes c rest × AddsFronts c old new
+Takes (Err NoMemory) o first bytes p kept old new = (c : Course) × (rest : List ℕ) × Comes o first bytes c rest × AddsPrefixes c old new
 
 -- how a reader's refusal stops a session
 abbrev pub stop_of_read : ReadError → Stop

@@ -85,8 +85,8 @@ pub record Gains (before after : Course) (close : List ℕ) (old new : Fed) : Ty
   pub new_events : new.events.items ≡ old.events.items ++ events
   pub new_bytes : new.bytes.items ≡ old.bytes.items ++ (bytes ++ close)
 
--- Fronts of what leads from the one course to the other: no CLOSE is among them.
-pub record GainsFronts (before after : Course) (old new : Fed) : Type 0 where
+-- Prefixes of what leads from the one course to the other: no CLOSE is among them.
+pub record GainsPrefixes (before after : Course) (old new : Fed) : Type 0 where
   pub events : List SessionEvent
   pub other_events : List SessionEvent
   pub bytes : List ℕ
@@ -108,10 +108,10 @@ pub record Feeds (s t : SessionState) (piece : List ℕ) (old new : Fed) : Type 
   pub opening : t.opening ≡ s.opening
   pub confirmed : t.confirmed ≡ s.confirmed
 
--- Out of memory it has given fronts of what it would have come to.
+-- Out of memory it has given prefixes of what it would have come to.
 abbrev pub Stalls : SessionState → List ℕ → Fed → Fed → Type 0
 Stalls s piece old new = (first : Expected) (bytes : List ℕ) (c : Course) → IsAt first s bytes c →
-    (d : Course) × (rest : List ℕ) × Comes s.opening (Opening first) (bytes ++ piece) d rest × GainsFronts c d old new
+    (d : Course) × (rest : List ℕ) × Comes s.opening (Opening first) (bytes ++ piece) d rest × GainsPrefixes c d old new
 
 -- A session that has ended answers the same and reads nothing, and one that ran out of memory says so again.
 abbrev pub Idles : State → Result Fate AllocError → SessionState → SessionState → Type 0
