@@ -6,7 +6,6 @@ ghost use Rattle.zr_table.specs.Event.{AreLinks, IsFresh, MayCome, Sends, SendsP
 ghost use Rattle.zr_table.specs.Prefix.{IsPrefixBehind};
 ghost use Rattle.zr_table.specs.State.{new_node, new_link, link_at, link_to, leads_to_client, leads_to_router, free_link, link_peer};
 ghost use Rattle.zr_table.specs.Table.{sends_up, sends_down, sends_parted, sends_from, sends_state, sends_push, after, after_from, base_parted, base_told, refuses, refuses_up, refuses_down, refuses_parting, joined, parted, with_base, with_link, with_links, without_link};
-ghost use Rattle.zr_tree.specs.Walk.{graph_of};
 ghost use Rattle.zr_node.specs.Answer.{refusal};
 ghost use Rattle.zr_node.specs.Routes.{sent_along};
 
@@ -35,8 +34,6 @@ use zr_tree::trees::Trees;
 pub struct Node {
     links: Links,
     base: Base,
-    // those of the base, while the router is not spent
-    trees: Trees,
     // what the links answered for the keys of earlier samples; no contract sees it
     routes: Routes,
     spent: bool,
@@ -49,12 +46,10 @@ impl Model for Node {
 
     ghost view = { λ n. record { links = n.links; base = n.base; spent = n.spent } };
 
-    ghost use Rattle.std.specs.Prelude.{◌≡◌, false};
     ghost use Rattle.zr_table.specs.Event.{AreLinks};
-    ghost use Rattle.zr_tree.specs.Walk.{graph_of};
     ghost use Rattle.zr_node.specs.Routes.{AreRoutes};
 
-    ghost invariant = { λ n. AreRoutes n.routes n.links × AreLinks n.base.me n.links × (n.spent ≡ false → graph_of n.trees ≡ graph_of n.base.records) };
+    ghost invariant = { λ n. AreRoutes n.routes n.links × AreLinks n.base.me n.links };
 }
 
 impl Node {
@@ -62,12 +57,9 @@ impl Node {
     pub fn new(alloc: Global, me: Zid) -> Result<Node, AllocError>
         ensures { IfOk result (λ node. node ≡ new_node me) }
     {
-        let base = Base::new(alloc, me)?;
-        let trees = Trees::of(alloc, &base)?;
         Ok(Node {
             links: Links::new(alloc),
-            base,
-            trees,
+            base: Base::new(alloc, me)?,
             routes: Routes::new(alloc),
             spent: false,
         })
@@ -96,11 +88,11 @@ impl Node {
         &self.base
     }
 
-    /// The trees of the base's routers. Once memory ran out they may be those of an earlier base.
-    pub fn trees(&self) -> &Trees
-        ensures { self.now.spent ≡ false → graph_of result.now ≡ graph_of self.now.base.records }
+    /// The trees of the base's routers, worked out anew: a change of the base costs nothing of that until they are asked for.
+    pub fn trees(&self, alloc: Global) -> Result<Trees, AllocError>
+        ensures { IfOk result (λ t. t ≡ self.now.base.records) }
     {
-        &self.trees
+        Trees::of(alloc, &self.base)
     }
 
     /// The number of the link to a neighbour, if it is up.
@@ -253,7 +245,6 @@ impl Node {
         ensures prefix { OnErr result (TellsPrefix (sends_up self.old link.0 peer.now Role.Router) out.old.items out.new.items) }
     {
         own::join(alloc, &mut self.base, &peer.id)?;
-        renew(alloc, &self.base, &mut self.trees, &mut self.spent)?;
         Ok(flood_up(alloc, &self.base, self.links.as_slice(), link, out)?)
     }
 
@@ -321,7 +312,6 @@ impl Node {
         ensures prefix { OnErr result (TellsPrefix (sends_parted self.old link.0 peer.now Role.Router) out.old.items out.new.items) }
     {
         own::part(alloc, &mut self.base, &peer.id)?;
-        renew(alloc, &self.base, &mut self.trees, &mut self.spent)?;
         Ok(flood_down(alloc, &self.base, self.links.as_slice(), link, out)?)
     }
 
@@ -393,10 +383,7 @@ impl Node {
         }
         match self.base.accept(told.get())? {
             Accepted::Old => Ok(()),
-            Accepted::Newer => {
-                renew(alloc, &self.base, &mut self.trees, &mut self.spent)?;
-                flood_newer(told, self.links.as_slice(), link, out)
-            }
+            Accepted::Newer => flood_newer(told, self.links.as_slice(), link, out),
         }
     }
 
@@ -415,23 +402,6 @@ impl Node {
         match self.peer_at(link) {
             Some(peer) => !is_client(peer.role),
             None => false,
-        }
-    }
-}
-
-// The base has changed: its trees are worked out anew. Where memory runs out they stay as they were, and the router is spent.
-fn renew(alloc: Global, base: &Base, trees: &mut Trees, spent: &mut bool) -> Result<(), AllocError>
-    ensures ok { OnOk result ((trees.new ≡ base.now.records) × (spent.new ≡ spent.old)) }
-    ensures err { OnErr result (spent.new ≡ true) }
-{
-    match Trees::of(alloc, base) {
-        Ok(new) => {
-            *trees = new;
-            Ok(())
-        }
-        Err(AllocError) => {
-            *spent = true;
-            Err(AllocError)
         }
     }
 }

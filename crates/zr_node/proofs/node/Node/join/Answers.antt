@@ -18,4 +18,4 @@ returns-clause-sends c =
     rw (← c.self.view_is) (c.in_ok-flood_up.ensures.ok node c.args.peer.now of c.in_ok-join.ensures.ok)
 
 pub returns-clause-state : goal.returns-clause-state
-returns-clause-state c = rw (← c.self.view_is, c.in_ok-join.ensures.ok, c.in_ok-renew.ensures.ok.1) refl
+returns-clause-state c = rw (← c.self.view_is, c.in_ok-join.ensures.ok) refl
