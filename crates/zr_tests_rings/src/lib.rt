@@ -1,6 +1,12 @@
-//! Tests of the counted history and of the ring: what only a run shows, two threads among it. There is no code here but theirs.
+//! Tests of what runs in threads: the counted history, the ring, writers, crews, hosts and gates; what only a run shows. There is no code here but theirs.
 #![tactic(auto)]
 
+#[cfg(test)]
+mod crews;
+#[cfg(test)]
+mod giving;
+#[cfg(test)]
+mod hosts;
 #[cfg(test)]
 mod locked;
 #[cfg(test)]
@@ -11,3 +17,5 @@ mod tests;
 mod threads;
 #[cfg(test)]
 mod turns;
+#[cfg(test)]
+mod writers;

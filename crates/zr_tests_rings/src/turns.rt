@@ -1,11 +1,10 @@
 //! The same places in the same turns, through a ring and through one of `rtrb`.
-ghost use Rattle.std.specs.Prelude.{◌≡◌, [], true};
-ghost use Rattle.zr_ring.specs.Giver.{is_going, number, sent};
 
-use crate::note::{Anything, parcels};
+use crate::giving::Giving;
+use crate::note::Anything;
 use rtrb::{Consumer, Producer, RingBuffer};
 use std::alloc::{AllocError, Global};
-use zr_ring::{Giver, Taker, Took, ring};
+use zr_ring::{Taker, Took};
 
 /// How many places go through.
 pub const PLACES: u64 = 1_000;
@@ -19,32 +18,6 @@ const TAKEN_A_TURN: u64 = 64;
 
 const TURNS: u32 = 40;
 
-/// A giver that isn't ended, with the number of parcels that it gave.
-#[derive(Drop)]
-struct Giving {
-    giver: Giver<Anything>,
-    next: u64,
-    ghost going: { (is_going giver ≡ true) × (next ≡ number giver) },
-}
-
-impl Giving {
-    fn new(giver: Giver<Anything>) -> Giving
-        requires { (is_going giver ≡ true) × (sent giver ≡ []) }
-    {
-        Giving { giver, next: 0 }
-    }
-
-    fn turn(&mut self, alloc: Global) -> Result<(), AllocError> {
-        let free = u64::from(self.giver.free());
-        let count = free.min(GIVEN_A_TURN).min(PLACES.saturating_sub(self.next));
-        let more = parcels(alloc, self.next, count)?;
-        if self.giver.give(more).is_ok() {
-            self.next += count;
-        }
-        Ok(())
-    }
-}
-
 fn take_turn(taker: &mut Taker<Anything>, places: &mut Vec<u64>) -> Result<(), AllocError> {
     for _ in 0..TAKEN_A_TURN {
         if let Took::Parcel(parcel) = taker.take() {
@@ -56,11 +29,10 @@ fn take_turn(taker: &mut Taker<Anything>, places: &mut Vec<u64>) -> Result<(), A
 
 /// The places in the order in which a taker takes them.
 pub fn through_ring(alloc: Global) -> Result<Vec<u64>, AllocError> {
-    let (giver, mut taker) = ring(alloc, SLOTS)?;
-    let mut giving = Giving::new(giver);
+    let (mut giving, mut taker) = Giving::ring(alloc, SLOTS)?;
     let mut places = Vec::new(alloc);
     for _ in 0..TURNS {
-        giving.turn(alloc)?;
+        giving.give_places(alloc, PLACES, GIVEN_A_TURN)?;
         take_turn(&mut taker, &mut places)?;
     }
     Ok(places)

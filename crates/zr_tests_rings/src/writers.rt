@@ -1,4 +1,5 @@
-use crate::note::{Anything, Giving};
+use crate::giving::Giving;
+use crate::note::Anything;
 use std::alloc::{AllocError, Global};
 use std::test::Fail;
 use zr_outside::mem_clock::MemClock;

@@ -1,21 +1,10 @@
-//! What the tests give to a ring.
+//! A ring to which tests of writers give.
 ghost use Rattle.std.specs.Prelude.{◌≡◌, ◌+◌, [], true, IfOk};
 ghost use Rattle.zr_ring.specs.Giver.{is_going, number, sent};
 
+use crate::note::{Anything, parcels};
 use std::alloc::{AllocError, Global};
-use zr_ring::{Giver, MOST_BYTES, Note, Parcel, Taker, ring};
-
-/// It vouches for everything.
-#[derive(Drop)]
-pub struct Anything;
-
-impl Note for Anything {
-    ghost use Rattle.std.specs.Coded.{Unit-prop};
-
-    ghost vouches = { λ _ _ _. Unit {0} };
-
-    ghost is_fact = { λ _ _ _. Unit-prop };
-}
+use zr_ring::{Giver, MOST_BYTES, Parcel, Taker, ring};
 
 /// A ring's giver that isn't ended, with the number of parcels that it gave.
 #[derive(Drop)]
@@ -48,6 +37,17 @@ impl Giving {
             self.next += 1;
         }
         Ok(is_given)
+    }
+
+    /// Gives parcels at the next places, which stay below this one: as many as there is room for, and at most so many.
+    pub fn give_places(&mut self, alloc: Global, below: u64, most: u64) -> Result<(), AllocError> {
+        let free = u64::from(self.giver.free());
+        let count = free.min(most).min(below.saturating_sub(self.next));
+        let more = parcels(alloc, self.next, count)?;
+        if self.giver.give(more).is_ok() {
+            self.next += count;
+        }
+        Ok(())
     }
 
     /// Gives the end.
