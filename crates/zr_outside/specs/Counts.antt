@@ -5,6 +5,11 @@ use Rattle.std.specs.Prelude.{ℕ, ◌+◌, ◌-◌, ◌^◌, ◌<◌, ◌≤◌
 abbrev pub Rose : ℕ → ℕ → Type 0
 Rose before now = min (before + 1) (2 ^ 64 - 1) ≤ now
 
+-- a count rose by so much, or to its end
+pub record RoseBy (n before now : ℕ) : Type 0 where
+  pub most : now ≤ before + n
+  pub least : min (before + n) (2 ^ 64 - 1) ≤ now
+
 -- A count over one call: it never falls, rises by one at most, and rises where the event comes and only there.
 pub record Counted (before now : ℕ) (Event : Type 0) : Type 0 where
   pub later : before ≤ now

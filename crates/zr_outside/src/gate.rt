@@ -78,6 +78,7 @@ pub struct GateSource {
     parts: Vec<Part>,
     part: usize,
     at: usize,
+    reads: u64,
     quiets: u64,
     ends: u64,
 }
@@ -90,6 +91,7 @@ impl GateSource {
             parts,
             part: 0,
             at: 0,
+            reads: 0,
             quiets: 0,
             ends: 0,
         }
@@ -99,6 +101,8 @@ impl GateSource {
 impl Source for GateSource {
     ghost left = { λ _. None };
 
+    ghost reads = { λ s. s.reads };
+
     ghost faults = { λ _. 0 };
 
     ghost quiets = { λ s. s.quiets };
@@ -106,6 +110,7 @@ impl Source for GateSource {
     ghost ends = { λ s. s.ends };
 
     fn read(&mut self, into: &mut [u8]) -> Got {
+        self.reads = self.reads.saturating_add(1);
         let Some(part) = self.parts.get(self.part) else {
             self.ends = self.ends.saturating_add(1);
             return Got::End;

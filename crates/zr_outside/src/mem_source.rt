@@ -45,11 +45,13 @@ impl MemSource {
 }
 
 impl Source for MemSource {
-    ghost use Rattle.zr_outside.specs.Counts.{Counted};
+    ghost use Rattle.zr_outside.specs.Counts.{Counted, RoseBy};
     ghost use Rattle.zr_outside.specs.Source.{GetsNext, IsFailed, IsQuiet, IsEnd};
     ghost use Rattle.zr_outside.specs.Memory.{source_left, most_a_read, failing_reads, quiet_reads, reads_of, is_among, GivesAtMost};
 
     ghost left = { λ s. Some (drop s.at s.bytes.items) };
+
+    ghost reads = { λ s. s.calls };
 
     ghost faults = { λ s. s.faults };
 
@@ -60,6 +62,7 @@ impl Source for MemSource {
     fn read(&mut self, into: &mut [u8]) -> Got
         requires { 0 < length into.old }
         ensures bytes { GetsNext result into.old into.new (Some (source_left self.old)) (Some (source_left self.new)) }
+        ensures counted { RoseBy 1 (reads_of self.old) (reads_of self.new) }
         ensures failed { Counted self.old.faults self.new.faults (IsFailed result) }
         ensures quiet { Counted self.old.quiets self.new.quiets (IsQuiet result) }
         ensures ended { Counted self.old.ends self.new.ends (IsEnd result) }

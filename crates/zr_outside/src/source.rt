@@ -2,7 +2,7 @@
 
 ghost use Rattle.std.specs.Prelude.{ℕ, List, length, ◌<◌};
 ghost use Rattle.std.specs.declared.option.Option.{Option};
-ghost use Rattle.zr_outside.specs.Counts.{Counted};
+ghost use Rattle.zr_outside.specs.Counts.{Counted, RoseBy};
 ghost use Rattle.zr_outside.specs.Source.{GetsNext, IsFailed, IsQuiet, IsEnd};
 
 /// What a read gave.
@@ -18,10 +18,12 @@ pub enum Got {
     Failed,
 }
 
-/// Where bytes come from. Each of its counts rises by one where that answer came, and only there.
+/// Where bytes come from. It counts its reads, and of its other counts each rises by one where that answer came, and only there.
 pub trait Source {
     // the bytes that are left, where the source tells them
     ghost left: { Self → Option (List ℕ) };
+
+    ghost reads: { Self → ℕ };
 
     ghost faults: { Self → ℕ };
 
@@ -33,6 +35,7 @@ pub trait Source {
     fn read(&mut self, into: &mut [u8]) -> Got
         requires { 0 < length into.old }
         ensures bytes { GetsNext result into.old into.new (left self.old) (left self.new) }
+        ensures counted { RoseBy 1 (reads self.old) (reads self.new) }
         ensures failed { Counted (faults self.old) (faults self.new) (IsFailed result) }
         ensures quiet { Counted (quiets self.old) (quiets self.new) (IsQuiet result) }
         ensures ended { Counted (ends self.old) (ends self.new) (IsEnd result) };

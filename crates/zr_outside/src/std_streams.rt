@@ -10,6 +10,7 @@ use std::io::{Read, Write};
 #[derive(Drop)]
 pub struct ReadSource<R: Read + Drop> {
     reader: R,
+    reads: u64,
     faults: u64,
     ends: u64,
 }
@@ -24,6 +25,7 @@ impl<R: Read + Drop> ReadSource<R> {
     {
         ReadSource {
             reader,
+            reads: 0,
             faults: 0,
             ends: 0,
         }
@@ -33,6 +35,8 @@ impl<R: Read + Drop> ReadSource<R> {
 impl<R: Read + Drop> Source for ReadSource<R> {
     ghost left = { λ s. R.remaining s.reader };
 
+    ghost reads = { λ s. s.reads };
+
     ghost faults = { λ s. s.faults };
 
     ghost quiets = { λ _. 0 };
@@ -40,6 +44,7 @@ impl<R: Read + Drop> Source for ReadSource<R> {
     ghost ends = { λ s. s.ends };
 
     fn read(&mut self, into: &mut [u8]) -> Got {
+        self.reads = self.reads.saturating_add(1);
         match self.reader.read(into) {
             Ok(0) => {
                 self.ends = self.ends.saturating_add(1);

@@ -22,6 +22,7 @@ const MOST_TRIES: u32 = 16;
 #[derive(Drop)]
 pub struct TcpSource {
     stream: TcpStream,
+    reads: u64,
     faults: u64,
     quiets: u64,
     ends: u64,
@@ -41,6 +42,7 @@ pub fn ends_of(stream: TcpStream) -> io::Result<(TcpSource, TcpSink)> {
     let other = stream.try_clone()?;
     let source = TcpSource {
         stream,
+        reads: 0,
         faults: 0,
         quiets: 0,
         ends: 0,
@@ -63,6 +65,8 @@ impl Drop for TcpSink {
 impl Source for TcpSource {
     ghost left = { λ _. None };
 
+    ghost reads = { λ s. s.reads };
+
     ghost faults = { λ s. s.faults };
 
     ghost quiets = { λ s. s.quiets };
@@ -70,6 +74,7 @@ impl Source for TcpSource {
     ghost ends = { λ s. s.ends };
 
     fn read(&mut self, into: &mut [u8]) -> Got {
+        self.reads = self.reads.saturating_add(1);
         match self.stream.read(into) {
             Ok(0) => {
                 self.ends = self.ends.saturating_add(1);
