@@ -1,0 +1,9 @@
+pub mod Batches
+pub mod Entering
+pub mod InStep
+pub mod Lookups
+pub mod Plans
+pub mod Replays
+pub mod Settling
+pub mod Spelled
+pub mod Stepped

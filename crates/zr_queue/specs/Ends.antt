@@ -1,0 +1,128 @@
+-- A link that is up, as the tables keep it, and what an event has for it.
+use Rattle.std.specs.Prelude.{◌≡◌, ℕ, ◌+◌, ◌<◌, ◌&&◌, ◌++◌, not, nat_lt, Bool, true, false, List, [], ◌∷◌, length, map, Option, Some, None, IfSome, is_some}
+use Rattle.std.specs.Option.{option_map_or}
+use Rattle.std.specs.List.{AllByRecursion, filter}
+use Rattle.atomic_table.specs.Seated.{TableId}
+use Rattle.zr_msg.specs.declared.event.Event.{Event}
+use Rattle.zr_msg.specs.declared.msg.Msg.{Msg}
+use Rattle.zr_ring.specs.declared.parcel.Note.{Ghosts}
+use Rattle.zr_ring.specs.declared.giver.Giver.{Giver}
+use Rattle.zr_ring.specs.declared.taker.Taker.{Taker}
+use Rattle.zr_table.specs.State.{NodeState}
+use Rattle.zr_table.specs.Table.{sends, refuses}
+use Rattle.zr_frame.specs.Packing.{Parcels, parcels}
+use Rattle.zr_port.specs.declared.entry.Entry.{Entry}
+use Rattle.zr_wire.specs.Writing.{writes_message}
+use Rattle.zr_queue.specs.Tables.{LinkQueue, slots_of, is_droppable, is_among, queued, queued_by, queues_at, replay, open_queues}
+use Rattle.zr_queue.specs.Note.{full_reason}
+use Rattle.zr_queue.specs.History.{has_parts, is_legal, may_come}
+
+-- what an event has for a link: its parcels, and whether it is one sample that may be dropped
+pub record PlanState : Type 0 where
+  pub parcels : Parcels
+  pub droppable : Bool
+
+-- what was queued for the link, its ring, the free slots of the ring that are known, how often the ring was asked for them, and the event's plan
+-- for the link
+pub record EndState : Type 0 where
+  pub queue : LinkQueue
+  pub ring : TableId
+  pub free : ℕ
+  pub calls : ℕ
+  pub plan : Option PlanState
+
+-- the ring that one gives to, and the one that one takes from
+module _ {N : Type 0} {g : Ghosts N} where
+  abbrev pub giver_ring : Giver N g → TableId
+  giver_ring x = x.ring.seat.table_id
+
+  abbrev pub taker_ring : Taker N g → TableId
+  taker_ring t = t.ring.seat.table_id
+
+-- a new link's ring is empty
+abbrev pub new_end : LinkQueue → TableId → EndState
+new_end q ring = record { queue = q; ring = ring; free = slots_of q.role; calls = 0; plan = None }
+
+-- the same end with another queue
+abbrev pub with_queue : EndState → LinkQueue → EndState
+with_queue e q = record { queue = q; ring = e.ring; free = e.free; calls = e.calls; plan = e.plan }
+
+-- it is the same ring, which was asked for its free slots once more where the event has parcels for the link
+abbrev pub IsAsked : EndState → EndState → Type 0
+IsAsked old new = (new.ring ≡ old.ring) × IfSome new.plan (λ p. 0 < length p.parcels.batches → new.calls ≡ old.calls + 1)
+
+-- it is the same ring, which was not asked again
+abbrev pub IsSameRing : EndState → EndState → Type 0
+IsSameRing old new = (new.ring ≡ old.ring) × (new.calls ≡ old.calls)
+
+-- the reason with which the ring of a link that goes down has its end: that of a full ring where an event had closed the link
+abbrev pub last_reason : Option ℕ → Option ℕ → Option ℕ
+last_reason None reason = reason
+last_reason (Some asked) reason = Some full_reason
+
+-- so many parcels and all that were queued for the link are more than its ring has slots
+abbrev pub IsOver : LinkQueue → ℕ → Type 0
+IsOver q n = slots_of q.role < length q.batches + n
+
+-- an answer on free slots: where more parcels come for a link than these, they and all that were queued for it are more than its slots
+abbrev pub IsFree : LinkQueue → ℕ → Type 0
+IsFree q free = (n : ℕ) → free < n → IsOver q n
+
+-- the ring lacks room for what an event has for its link
+abbrev pub lacks_room : ℕ → PlanState → Bool
+lacks_room free p = nat_lt free (length p.parcels.batches)
+
+-- the link is one to which one sample isn't sent for want of room
+abbrev pub is_dropped : EndState → Bool
+is_dropped e = option_map_or (λ p. lacks_room e.free p && p.droppable) e.plan false
+
+-- the link is one that is closed for want of room
+abbrev pub is_closing : EndState → Bool
+is_closing e = option_map_or (λ p. lacks_room e.free p && not p.droppable) e.plan false
+
+-- the plan is that of messages for the link, in parcels; there is none for a link that was closed before
+abbrev pub IsPlan : List Msg → EndState → Option PlanState → Type 0
+IsPlan messages e None = is_some e.queue.closed ≡ true
+IsPlan messages e (Some p) = (e.queue.closed ≡ None) × (p.parcels ≡ parcels e.queue.outbox (map writes_message messages))
+    × (p.droppable ≡ is_droppable messages) × (e.free < length p.parcels.batches → IsOver e.queue (length p.parcels.batches))
+
+abbrev pub IsPlannedFor : List Msg → EndState → Type 0
+IsPlannedFor messages e = IsPlan messages e e.plan
+
+-- the plan of an event for a link is that of what the event sends it
+abbrev pub IsPlanned : NodeState → Event → EndState → Type 0
+IsPlanned node event e = IsPlannedFor (sends node event e.queue.link) e
+
+-- the end was planned anew for these messages
+abbrev pub IsPlannedAnew : List Msg → EndState → EndState → Type 0
+IsPlannedAnew messages old new = (new.queue ≡ old.queue) × IsPlannedFor messages new × IsAsked old new
+
+-- what an entry makes of the end that it was planned for
+abbrev pub IsSettled : Entry → EndState → EndState → Type 0
+IsSettled entry old new = ((node : NodeState) → IsPlanned node entry.event old → new.queue ≡ queued_by node entry old.queue) × IsSameRing old new
+
+-- An entry stands last in a list, which queues for the link what the entry makes of its queue. The entry goes by the plan: it names the link
+-- exactly where its ring lacks room
+pub record IsEntered (me : List ℕ) (h : List Entry) (node : NodeState) (entry : Entry) (e : EndState) : Type 0 where
+  pub planned : IsPlanned node entry.event e
+  pub last : (before : List Entry) × (h ≡ before ++ entry ∷ [])
+  pub queue : queued me h e.queue.link ≡ (queued_by node entry e.queue).batches
+  pub closed : is_among entry.closed e.queue.link ≡ is_closing e
+  pub dropped : is_among entry.dropped e.queue.link ≡ is_dropped e
+
+-- the tables are the replay of a list: the router itself, and the queues of the links that are up, in the order in which they came up
+pub record IsReplay (me : List ℕ) (h : List Entry) (node : NodeState) (ends : List EndState) : Type 0 where
+  pub node_is : node ≡ (replay me h).node
+  pub queues : map (λ e. e.queue) ends ≡ open_queues (replay me h)
+
+-- An event has come after a legal list, and was planned for each link that is up then. Its entry may follow: it names the links whose rings
+-- lack room for their plans
+pub record MayEnter (me : List ℕ) (h : List Entry) (entry : Entry) (ends : List EndState) : Type 0 where
+  pub legal : is_legal me h ≡ true
+  pub comes : may_come (replay me h).node entry.event ≡ true
+  pub taken : refuses (replay me h).node entry.event ≡ None
+  pub parts : has_parts entry.event (is_some entry.outbox) (is_some entry.reason) ≡ true
+  pub queues : map (λ e. e.queue) ends ≡ filter (λ q. q.is_up) (queues_at (replay me h).queues entry.event entry.outbox)
+  pub planned : AllByRecursion (λ e. IsPlanned (replay me h).node entry.event e) ends
+  pub dropped : entry.dropped ≡ map (λ e. e.queue.link) (filter (λ e. is_dropped e) ends)
+  pub closed : entry.closed ≡ map (λ e. e.queue.link) (filter (λ e. is_closing e) ends)

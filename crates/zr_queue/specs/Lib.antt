@@ -1,0 +1,5 @@
+pub mod Tables
+pub mod History
+pub mod Note
+pub mod Ends
+pub mod Grows
