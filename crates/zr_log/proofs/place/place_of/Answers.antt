@@ -1,0 +1,12 @@
+use Rattle.std.proofs.Common.{rules}
+use Rattle.std.specs.Cmp.Lexicographic.{slice_cmp}
+use Rattle.std.specs.Ordering.{nat_cmp}
+use Rattle.std.proofs.lemmas.List.Sorted.{answers_always}
+use Rattle.zr_set.proofs.Places.{found_place}
+use Rattle.zr_log.proofs.Logs.{name_order, source_of}
+use Rattle.zr_log.proofs.place.place_of.Goals as goal
+
+pub returns : goal.returns
+returns c =
+    found_place (slice_cmp nat_cmp) source_of name_order c.args.logs.now c.args.source.now _ c.requires c.binary_search_by_key.ensures.bound
+    (c.binary_search_by_key.ensures.position (λ l. l.source) (answers_always _ _ _ (λ f a r g called. search rules)))

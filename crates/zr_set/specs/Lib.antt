@@ -1,0 +1,4 @@
+pub mod Ascending
+pub mod Place
+pub mod Decls
+pub mod Laws

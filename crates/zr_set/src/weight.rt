@@ -1,0 +1,19 @@
+//! What declarations weigh, and how much a router takes.
+
+ghost use Rattle.std.specs.Prelude.{◌≡◌};
+ghost use Rattle.zr_set.specs.Decls.{decl_weight};
+
+use zr_msg::decl::Decl;
+
+/// How much the declarations of all clients of one router weigh together at most, and likewise the set of each router (this profile's limit).
+pub const MOST_WEIGHT: u64 = 4_194_304;
+
+// what one weighs beside its text
+const OVERHEAD: u64 = 16;
+
+/// What a declaration weighs: the bytes of its text, and 16.
+pub fn decl_weight(decl: &Decl) -> u64
+    ensures { result ≡ decl_weight decl.now }
+{
+    decl.key.text().len() as u64 + OVERHEAD
+}
