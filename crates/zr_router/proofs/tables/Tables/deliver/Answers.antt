@@ -1,0 +1,93 @@
+use Rattle.std.proofs.Common.{◌≡◌, ◌<◌, true, false, List, [], ◌∷◌, ◌++◌, length, map, Option, Some, None, refl, sym, ap, subst, ◌∙◌}
+use Rattle.zr_hist.specs.Words.{list_of, most_entries, seen}
+use Rattle.zr_msg.specs.declared.event.Event.TheVariants.{From}
+use Rattle.zr_port.specs.Adding.{IsAdmitted}
+use Rattle.zr_table.specs.Event.{on_link}
+use Rattle.zr_queue.specs.Ends.{EndState, IsReplay}
+use Rattle.zr_router.specs.Before.{message_refusal}
+use Rattle.zr_router.specs.Refusals.{RefusesMessage, is_worn}
+use Rattle.zr_router.proofs.Entered.{added, handled}
+use Rattle.zr_router.proofs.Refused.{closed_at, message_admitted, message_comes, message_refused, message_room, never_memory}
+use Rattle.zr_router.proofs.tables.Tables.deliver.Goals as goal
+
+pub returns-in-Some-clause-refused : goal.returns-in-Some-clause-refused
+returns-in-Some-clause-refused g c =
+    let t = c.args.self.now in
+    let me = g.B.Naming.me in
+    let l = c.look.new.self in
+    let h = list_of l.kept in
+    let open_now : l.is_spent ≡ false = c.look.ensures.same.2 ∙ sym c.in-Ok.ensures.spent in
+    let r : IsReplay me h l.node l.ends.items = l.replayed open_now in
+    let w : is_worn h ≡ c.in-Ok.worn = ap (λ x. is_worn x) c.look.ensures.kept ∙ sym c.in-Ok.ensures.worn in
+    let p = c.peer_at-peer.result in
+    let k = c.closing_of-closing.result in
+    let at = c.peer_at-peer.ensures in
+    let shut = c.closing_of-closing.ensures ∙ ap (λ xs. closed_at xs c.args.link) c.as_slice.ensures.value in
+    let is : message_refusal p k c.args.link c.args.msg (is_worn h) ≡ Some c.in-Some.refused =
+    ap (λ b. message_refusal p k c.args.link c.args.msg b) w ∙ sym c.refuses_message.ensures ∙ c.in-Some.is in
+    λ _. subst (λ x. RefusesMessage me x c.args.link c.args.msg c.in-Some.refused) c.look.ensures.kept
+    (message_refused me h l.node l.ends.items r c.args.link c.args.msg p k c.in-Some.refused at shut is)
+
+pub returns-in-Some-clause-spent : goal.returns-in-Some-clause-spent
+returns-in-Some-clause-spent g c =
+    let l = c.look.new.self in
+    let open_now : l.is_spent ≡ false = c.look.ensures.same.2 ∙ sym c.in-Ok.ensures.spent in
+    let is = sym c.refuses_message.ensures ∙ c.in-Some.is in
+    (λ e. absurd (never_memory c.peer_at-peer.result c.closing_of-closing.result c.args.link c.args.msg c.in-Ok.worn (is ∙ cc)), λ spent. cc)
+
+pub enter-requires-clause-handled : goal.enter-requires-clause-handled
+enter-requires-clause-handled g c =
+    let t = c.args.self.now in
+    let me = g.B.Naming.me in
+    let l = c.look.new.self in
+    let h = list_of l.kept in
+    let open_now : l.is_spent ≡ false = c.look.ensures.same.2 ∙ sym c.in-Ok.ensures.spent in
+    let r : IsReplay me h l.node l.ends.items = l.replayed open_now in
+    let w : is_worn h ≡ c.in-Ok.worn = ap (λ x. is_worn x) c.look.ensures.kept ∙ sym c.in-Ok.ensures.worn in
+    let p = c.peer_at-peer.result in
+    let k = c.closing_of-closing.result in
+    let at = c.peer_at-peer.ensures in
+    let shut = c.closing_of-closing.ensures ∙ ap (λ xs. closed_at xs c.args.link) c.as_slice.ensures.value in
+    let n = c.handle.new.self in
+    let kept : list_of n.kept ≡ list_of t.kept = c.handle.ensures.kept ∙ c.look.ensures.kept in
+    let q : IsReplay me (list_of n.kept) l.node n.ends.items =
+    subst (λ x. IsReplay me x l.node n.ends.items) (sym c.handle.ensures.kept) (subst (λ (xs : List EndState). IsReplay me h l.node xs) (sym (ap (λ v. v.items) c.handle.ensures.ends)) r) in
+    let handled_is = c.in-Ok-handle.ensures.handled in
+    let none : message_refusal p k c.args.link c.args.msg (is_worn h) ≡ None =
+    ap (λ b. message_refusal p k c.args.link c.args.msg b) w ∙ sym c.refuses_message.ensures ∙ c.in_default-refuses_message.is in
+    handled me (list_of n.kept) l.node n.node n.ends.items (From c.args.link c.args.msg) None None c.as_slice-2.result.now
+    q.node_is
+    (message_comes me h l.node l.ends.items r c.args.link c.args.msg p k at shut none)
+    handled_is.1 handled_is.0
+    (λ to. ap (λ xs. on_link to xs) c.as_slice-2.ensures.value ∙ c.in-Ok-handle.ensures.sent to)
+    c.requires.spelled refl q.queues
+    (subst (λ x. length x < most_entries) (sym kept)
+    (c.in-Ok.ensures.room (sym w ∙ message_room me h l.node l.ends.items r c.args.link c.args.msg p k at shut none)))
+
+pub returns-in-Ok-enter-clause-added : goal.returns-in-Ok-enter-clause-added
+returns-in-Ok-enter-clause-added g c =
+    let t = c.args.self.now in
+    let me = g.B.Naming.me in
+    let l = c.look.new.self in
+    let h = list_of l.kept in
+    let open_now : l.is_spent ≡ false = c.look.ensures.same.2 ∙ sym c.in-Ok.ensures.spent in
+    let r : IsReplay me h l.node l.ends.items = l.replayed open_now in
+    let w : is_worn h ≡ c.in-Ok.worn = ap (λ x. is_worn x) c.look.ensures.kept ∙ sym c.in-Ok.ensures.worn in
+    let p = c.peer_at-peer.result in
+    let k = c.closing_of-closing.result in
+    let at = c.peer_at-peer.ensures in
+    let shut = c.closing_of-closing.ensures ∙ ap (λ xs. closed_at xs c.args.link) c.as_slice.ensures.value in
+    let n = c.handle.new.self in
+    let kept : list_of n.kept ≡ list_of t.kept = c.handle.ensures.kept ∙ c.look.ensures.kept in
+    let q : IsReplay me (list_of n.kept) l.node n.ends.items =
+    subst (λ x. IsReplay me x l.node n.ends.items) (sym c.handle.ensures.kept) (subst (λ (xs : List EndState). IsReplay me h l.node xs) (sym (ap (λ v. v.items) c.handle.ensures.ends)) r) in
+    let handled_is = c.in-Ok-handle.ensures.handled in
+    let none : message_refusal p k c.args.link c.args.msg (is_worn h) ≡ None =
+    ap (λ b. message_refusal p k c.args.link c.args.msg b) w ∙ sym c.refuses_message.ensures ∙ c.in_default-refuses_message.is in
+    let a = c.in-Ok-enter.ensures.added in
+    added c.args.pass.now c.look.new.pass c.enter.new.pass (list_of t.kept) (list_of c.enter.new.self.kept) (From c.args.link c.args.msg) None None
+    (λ before. IsAdmitted (λ e. RefusesMessage me before c.args.link c.args.msg e))
+    c.look.ensures.pass.1 c.look.ensures.prefix
+    (a.0, a.1, a.2 ∙ ap (λ x. x ++ a.0 ∷ []) kept, a.3, a.4)
+    (subst (λ x. IsAdmitted (λ e. RefusesMessage me x c.args.link c.args.msg e)) c.look.ensures.kept
+    (message_admitted me h l.node l.ends.items r c.args.link c.args.msg p k at shut none handled_is.1))

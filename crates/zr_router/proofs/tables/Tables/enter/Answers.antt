@@ -1,0 +1,36 @@
+use Rattle.std.proofs.Common.{◌≡◌, true, List, map, sym, subst, ◌∙◌, arith}
+use Rattle.std.specs.List.{AllZip}
+use Rattle.zr_hist.specs.Words.{list_of}
+use Rattle.zr_table.specs.Event.{on_link}
+use Rattle.zr_queue.specs.Ends.{EndState, IsPlannedFor, IsReplay, MayEnter}
+use Rattle.zr_queue.specs.History.{is_legal}
+use Rattle.zr_queue.specs.Tables.{open_queues, replay}
+use Rattle.zr_router.proofs.Entered.{entered, may_enter, written_over}
+use Rattle.zr_router.proofs.tables.Tables.enter.Goals as goal
+
+pub enter-requires-clause-may : goal.enter-requires-clause-may
+enter-requires-clause-may g c =
+    let t = c.args.self.now in
+    let e = c.in_ok-entry.ensures in
+    subst (λ m. MayEnter m (list_of t.kept) c.in_ok-entry.entry c.prepare.new.ends) (sym t.own)
+    (may_enter g.B.Naming.me (list_of t.kept) t.node t.ends.items c.prepare.new.ends c.args.arrival.event c.args.arrival.outbox c.args.arrival.reason c.args.sent.now c.in_ok-entry.entry
+    t.legal c.requires.handled
+    (subst (λ (xs : List EndState). AllZip (λ (old new : EndState). (new.queue ≡ old.queue) × IsPlannedFor (on_link old.queue.link c.args.sent.now) new) xs c.prepare.new.ends) c.as_mut_slice-ends.ensures.value e.each)
+    e.entry e.dropped e.closed)
+
+pub invariant_of-self-2 : goal.invariant_of-self-2
+invariant_of-self-2 g c =
+    let t = c.args.self.now in
+    record {
+      named = c.enter.ensures.same.0 ∙ t.named;
+      own = t.own;
+      legal = subst (λ m. is_legal m (list_of c.enter.new.kept) ≡ true) t.own c.enter.ensures.legal;
+      replayed = λ _. subst (λ (xs : List EndState). IsReplay g.B.Naming.me (list_of c.enter.new.kept) t.node xs)
+          (sym (written_over t.ends.len c.enter.new.ends _ (omega (arith, c.enter.auto.ends, c.prepare.auto.ends, c.as_mut_slice-ends.ensures.len))))
+          (entered g.B.Naming.me (list_of t.kept) t.node t.ends.items c.enter.new.ends c.args.arrival.event c.args.arrival.outbox c.args.arrival.reason c.args.sent.now c.in_ok-entry.entry
+          (list_of c.enter.new.kept) c.requires.handled c.in_ok-entry.ensures.entry c.enter.ensures.list
+          (subst (λ m. map (λ (x : EndState). x.queue) c.enter.new.ends ≡ open_queues (replay m (list_of c.enter.new.kept))) t.own c.enter.ensures.queues));
+    }
+
+pub returns-clause-added : goal.returns-clause-added
+returns-clause-added g c = (c.in_ok-entry.entry, c.in_ok-entry.ensures.entry, c.enter.ensures.list, c.enter.ensures.mine, c.enter.ensures.seen)

@@ -1,0 +1,5 @@
+pub mod Refusals
+pub mod Before
+pub mod Handled
+pub mod Replayed
+pub mod Words

@@ -1,0 +1,127 @@
+-- Which calls of a router are refused after a list of entries, and why.
+use Rattle.std.specs.Prelude.{◌≡◌, ℕ, ◌<◌, ◌==◌, ◌||◌, ◌&&◌, not, nat_le, Bool, true, false, if◌then◌else◌, List, length, filter, Option, Some, None, is_some}
+use Rattle.std.specs.Option.{option_and_then}
+use Rattle.zr_id.specs.Zid.{is_named}
+use Rattle.zr_id.specs.declared.link.LinkNo.{LinkNo}
+use Rattle.zr_hist.specs.Words.{most_entries}
+use Rattle.zr_msg.specs.declared.error.NodeError.{NodeError}
+use Rattle.zr_msg.specs.declared.msg.Msg.{Msg}
+use Rattle.zr_msg.specs.declared.peer.Peer.{Peer}
+use Rattle.zr_msg.specs.declared.peer.Role.{Role}
+use Rattle.zr_msg.specs.declared.event.Event.{Event}
+use Rattle.zr_msg.specs.declared.event.Event.TheVariants.{Up, Down, From}
+use Rattle.zr_table.specs.State.{LinkState, NodeState, link_at, link_to, is_router, free_link}
+use Rattle.zr_table.specs.Table.{refuses}
+use Rattle.zr_port.specs.declared.entry.Entry.{Entry}
+use Rattle.zr_port.specs.declared.error.UpError.{UpError}
+use Rattle.zr_port.specs.declared.error.UpError.TheVariants as up
+use Rattle.zr_port.specs.declared.error.DeliverError.{DeliverError}
+use Rattle.zr_port.specs.declared.error.DeliverError.TheVariants as deliver
+use Rattle.zr_port.specs.declared.error.DownError.{DownError}
+use Rattle.zr_port.specs.declared.error.DownError.TheVariants as down
+use Rattle.zr_wire.specs.Roles.{admits}
+use Rattle.std.specs.List.{find}
+use Rattle.zr_queue.specs.Tables.{LinkQueue, Tables, replay, open_queues}
+
+-- ---- limits
+
+-- how many sessions a router has at most, and how many of them to routers
+abbrev pub most_sessions : ℕ
+most_sessions = 128
+
+abbrev pub most_routers : ℕ
+most_routers = 16
+
+abbrev pub sessions : NodeState → ℕ
+sessions node = length node.links
+
+abbrev pub routers : NodeState → ℕ
+routers node = length (filter (λ l. is_router l.peer.role) node.links)
+
+-- ---- a link that is to come up
+
+-- there is no room for one more session with such a peer
+abbrev pub is_full : NodeState → Peer → Bool
+is_full node peer = nat_le most_sessions (sessions node) || (is_router peer.role && nat_le most_routers (routers node))
+
+-- a link of that identifier is up, or it is the router's own
+abbrev pub is_twice : NodeState → Peer → Bool
+is_twice node peer = is_some (link_to node.links peer.id) || is_named peer.id node.base.me
+
+-- the event that the call is
+abbrev pub up_event : NodeState → Peer → Event
+up_event node peer = Up (record { 0 = free_link node.links }) peer
+
+-- the history has room for one more entry, or has not
+abbrev pub is_worn : List Entry → Bool
+is_worn h = length h == most_entries
+
+-- the refusal of a peer, if it is refused; `worn` says that a number that its Up needs has no room left
+abbrev pub peer_refusal : NodeState → Peer → Bool → Option UpError
+peer_refusal node peer worn =
+    if is_full node peer then Some (up.Full (sessions node) (routers node))
+    else if is_twice node peer then Some up.Twice
+    else if worn then Some up.Worn
+    else None
+
+abbrev pub refuses_peer : NodeState → List Entry → Peer → Option UpError
+refuses_peer node h peer = peer_refusal node peer (is_worn h || is_some (refuses node (up_event node peer)))
+
+abbrev pub RefusesUp : List ℕ → List Entry → Peer → UpError → Type 0
+RefusesUp me h peer e = refuses_peer (replay me h).node h peer ≡ Some e
+
+-- ---- a message
+
+-- the refusal of a message for want of a place in the history, or by the router itself
+abbrev pub refused_by : Bool → Option NodeError → Option DeliverError
+refused_by true refusal = Some deliver.Worn
+refused_by false (Some e) = Some (deliver.Node e)
+refused_by false None = None
+
+-- the refusal of a message over a link that is up and was not closed: a peer of that role may not send it, or the tables refuse it
+abbrev pub refuses_on : NodeState → List Entry → LinkNo → Role → Msg → Option DeliverError
+refuses_on node h link role msg =
+    if not (admits role msg) then Some (deliver.Misplaced role)
+    else refused_by (is_worn h) (refuses node (From link msg))
+
+-- an earlier event closed the link, which had so many parcels for it and had fewer free slots
+abbrev pub IsClosed : Option ℕ → DeliverError → Type 0
+IsClosed None (deliver.Full asked free) = ⊥
+IsClosed (Some n) (deliver.Full asked free) = (asked ≡ n) × (free < asked)
+IsClosed closed (deliver.NotUp link) = ⊥
+IsClosed closed (deliver.Misplaced role) = ⊥
+IsClosed closed (deliver.Node e) = ⊥
+IsClosed closed deliver.Worn = ⊥
+IsClosed closed deliver.NoMemory = ⊥
+
+-- how many parcels the event had that closed the link, if one has since it came up
+abbrev pub closing_of : Tables → LinkNo → Option ℕ
+closing_of t link = option_and_then (λ (q : LinkQueue). q.closed) (find (λ q. q.link.0 == link.0) (open_queues t))
+
+-- what an open or a closed link to a peer of that role refuses
+abbrev pub RefusesOn : Tables → List Entry → LinkNo → Role → Msg → Option ℕ → DeliverError → Type 0
+RefusesOn t h link role msg (Some n) e = IsClosed (Some n) e
+RefusesOn t h link role msg None e = refuses_on t.node h link role msg ≡ Some e
+
+-- the link isn't up, or it refuses the message
+abbrev pub RefusesAt : Tables → List Entry → LinkNo → Msg → Option LinkState → DeliverError → Type 0
+RefusesAt t h link msg None e = e ≡ deliver.NotUp link
+RefusesAt t h link msg (Some l) e = RefusesOn t h link l.peer.role msg (closing_of t link) e
+
+abbrev pub RefusesMessage : List ℕ → List Entry → LinkNo → Msg → DeliverError → Type 0
+RefusesMessage me h link msg e = RefusesAt (replay me h) h link msg (link_at (replay me h).node.links link.0) e
+
+-- ---- a link that is to go down
+
+-- the refusal of a Down; `worn` says that a number that it needs has no room left
+abbrev pub down_refusal : NodeState → LinkNo → Bool → Option DownError
+down_refusal node link worn =
+    if not (is_some (link_at node.links link.0)) then Some (down.NotUp link)
+    else if worn then Some down.Worn
+    else None
+
+abbrev pub refuses_down : NodeState → List Entry → LinkNo → Option DownError
+refuses_down node h link = down_refusal node link (is_worn h || is_some (refuses node (Down link)))
+
+abbrev pub RefusesDown : List ℕ → List Entry → LinkNo → DownError → Type 0
+RefusesDown me h link e = refuses_down (replay me h).node h link ≡ Some e

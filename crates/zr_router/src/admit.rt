@@ -1,0 +1,128 @@
+//! Whether a call is refused, as the tables stand.
+
+ghost use Rattle.std.specs.Prelude.{◌≡◌, ◌≤◌, ◌&&◌, ◌||◌, nat_le, filter, length};
+ghost use Rattle.zr_table.specs.State as state;
+ghost use Rattle.zr_router.specs.Before.{message_refusal};
+ghost use Rattle.zr_router.specs.Refusals as refusals;
+ghost use Rattle.zr_router.specs.Refusals.{down_refusal, most_routers, most_sessions, peer_refusal};
+
+use zr_id::link::LinkNo;
+use zr_msg::msg::Msg;
+use zr_msg::peer::{LinkPeer, Peer, Role};
+use zr_node::node::Node;
+use zr_port::{DeliverError, DownError, UpError};
+use zr_queue::Closing;
+use zr_wire::admits;
+
+/// How many sessions a router has at most.
+const MOST_SESSIONS: u32 = 128;
+
+/// How many sessions to routers a router has at most.
+const MOST_ROUTERS: u32 = 16;
+
+/// Why a peer is refused before the router is asked, if it is. `worn` says that the history is at its end.
+pub(crate) fn refuses_peer(node: &Node, worn: bool, peer: &Peer) -> Option<UpError>
+    ensures { result ≡ peer_refusal node.now peer.now worn }
+{
+    let sessions = sessions(node);
+    let routers = routers(node);
+    if is_full(sessions, routers, peer.role) {
+        return Some(UpError::Full { sessions, routers });
+    }
+    if is_twice(node, peer) {
+        return Some(UpError::Twice);
+    }
+    if worn {
+        return Some(UpError::Worn);
+    }
+    None
+}
+
+// How many links are up.
+fn sessions(node: &Node) -> u32
+    ensures { result ≡ refusals.sessions node.now }
+{
+    node.links().len() as u32
+}
+
+// How many of them lead to routers.
+#[tactic(auto, using(crate::proofs::OpenEnds::routers_counted))]
+fn routers(node: &Node) -> u32
+    ensures { result ≡ refusals.routers node.now }
+{
+    routers_among(node.links()) as u32
+}
+
+// Whether there is no room for one more session with a peer of that role.
+fn is_full(sessions: u32, routers: u32, role: Role) -> bool
+    ensures { result ≡ (nat_le most_sessions sessions || (state.is_router role && nat_le most_routers routers)) }
+{
+    sessions >= MOST_SESSIONS || is_router(role) && routers >= MOST_ROUTERS
+}
+
+// Whether a link of that identifier is up, or it is the router's own.
+#[tactic(auto, using(crate::proofs::OpenEnds::some_mapped))]
+fn is_twice(node: &Node, peer: &Peer) -> bool
+    ensures { result ≡ refusals.is_twice node.now peer.now }
+{
+    node.link_to(&peer.id).is_some() || peer.id == node.me()
+}
+
+fn is_router(role: Role) -> bool
+    ensures { result ≡ state.is_router role }
+{
+    match role {
+        Role::Client => false,
+        Role::Router => true,
+    }
+}
+
+// How many of the links lead to routers.
+fn routers_among(links: &[LinkPeer]) -> usize
+    ensures count { result ≡ length (filter (λ l. state.is_router l.peer.role) links.now) }
+    ensures bound { result ≤ length links.now }
+{
+    links.iter().filter(|l| is_router(l.peer.role)).count()
+}
+
+/// Why a link doesn't go down, if it is refused before the router is asked. `worn` says that the history is at its end.
+pub(crate) fn refuses_down(node: &Node, worn: bool, link: LinkNo) -> Option<DownError>
+    ensures { result ≡ down_refusal node.now link worn }
+{
+    if node.peer_at(link).is_none() {
+        return Some(DownError::NotUp { link });
+    }
+    if worn {
+        return Some(DownError::Worn);
+    }
+    None
+}
+
+/// Why a message over a link is refused before the router is asked, if it is: who stands at the other end of the link, if it is up, and how an event
+/// has closed it, if one has. `worn` says that the history is at its end.
+pub(crate) fn refuses_message(
+    peer: Option<Peer>,
+    closing: Option<Closing>,
+    link: LinkNo,
+    msg: &Msg,
+    worn: bool,
+) -> Option<DeliverError>
+    ensures { result ≡ message_refusal peer closing link msg.now worn }
+{
+    let Some(peer) = peer else {
+        return Some(DeliverError::NotUp { link });
+    };
+    if let Some(closing) = closing {
+        return Some(DeliverError::Full {
+            asked: closing.asked,
+            free: closing.free,
+        });
+    }
+    if !admits(peer.role, msg) {
+        return Some(DeliverError::Misplaced { role: peer.role });
+    }
+    if worn {
+        return Some(DeliverError::Worn);
+    }
+    None
+}

@@ -1,0 +1,150 @@
+//! The shared router: tables under a lock, and the bells of the links' writers beside it.
+
+ghost use Rattle.std.specs.Prelude.{◌≡◌, []};
+ghost use Rattle.zr_hist.specs.Words.{kept_name, list_of, name};
+
+use crate::tables::{BELLS, Tables};
+use std::alloc::{AllocError, Global};
+use std::marker::PhantomData;
+use std::sync::{Mutex, Wait};
+use std::thread::Parker;
+use std::time::Duration;
+use zr_frame::Outbox;
+use zr_hist::{History, Kept, Pass};
+use zr_id::link::LinkNo;
+use zr_id::zid::Zid;
+use zr_msg::msg::Msg;
+use zr_msg::peer::Peer;
+use zr_port::{DeliverError, DownError, Entry, Naming, Port, UpError};
+use zr_queue::Queued;
+use zr_ring::Taker;
+
+/// A router that many threads share. Each call works on the tables under their lock and wakes the links' writers once it is free again; only
+/// `split` and `join` take no lock.
+#[derive(Drop)]
+pub struct Router<B: Naming, R: Wait + Drop> {
+    rt: R,
+    alloc: Global,
+    history: History<Entry>,
+    tables: Mutex<Tables<B>>,
+    bells: Vec<Parker>,
+    of: PhantomData<B>,
+    ghost named: { name history ≡ B.history },
+}
+
+impl<B: Naming, R: Wait + Drop> Router<B, R> {
+    /// A router without links, over an empty history.
+    pub fn new(
+        rt: R,
+        alloc: Global,
+        me: Zid,
+        history: History<Entry>,
+        kept: Kept<Entry>,
+    ) -> Result<Router<B, R>, AllocError>
+        requires history { name history ≡ B.history }
+        requires kept { (kept_name kept ≡ B.history) × (list_of kept ≡ []) }
+        requires own { me ≡ B.me }
+    {
+        let mut bells = Vec::with_capacity(alloc, BELLS as usize)?;
+        for _ in 0..BELLS {
+            bells.push(Parker::new())?;
+        }
+        Ok(Router {
+            rt,
+            alloc,
+            history,
+            tables: Mutex::new(Tables::new(alloc, me, kept)?),
+            bells,
+            of: PhantomData,
+        })
+    }
+
+    // Wakes the writers of these links.
+    fn ring(&self, due: u128) {
+        let mut rest = due;
+        for _ in 0..BELLS {
+            if rest == 0 {
+                break;
+            }
+            if let Some(bell) = self.bells.get(rest.trailing_zeros() as usize) {
+                bell.unpark();
+            }
+            rest &= rest - 1;
+        }
+    }
+}
+
+impl<B: Naming, R: Wait + Drop> Port for Router<B, R> {
+    ghost use Rattle.std.specs.Prelude.{◌≡◌, true};
+    ghost use Rattle.zr_queue.specs.History as history;
+    ghost use Rattle.zr_queue.specs.Tables as tables;
+    ghost use Rattle.zr_router.specs.Refusals.{RefusesDown, RefusesMessage, RefusesUp};
+    ghost use Rattle.zr_wire.specs.Writing.{IsSpelled};
+
+    type Note = Queued;
+
+    ghost history = { λ _. B.history };
+
+    ghost is_legal = { λ _ h. history.is_legal B.me h ≡ true };
+
+    ghost is_up = { λ _ h link. tables.is_up B.me h link };
+
+    ghost is_spelled = { λ _ msg. IsSpelled msg };
+
+    ghost refuses_up = { λ _ h peer e. RefusesUp B.me h peer e };
+
+    ghost refuses_message = { λ _ h link msg e. RefusesMessage B.me h link msg e };
+
+    ghost refuses_down = { λ _ h link e. RefusesDown B.me h link e };
+
+    fn up(
+        &self,
+        pass: &mut Pass<Entry>,
+        peer: Peer,
+        outbox: Outbox,
+    ) -> Result<(LinkNo, Taker<Queued>), UpError> {
+        let mut tables = self.tables.lock(&self.rt);
+        let result = tables.up(self.alloc, &self.history, pass, peer, outbox);
+        let due = tables.take_due();
+        drop(tables);
+        self.ring(due);
+        result
+    }
+
+    fn deliver(&self, pass: &mut Pass<Entry>, link: LinkNo, msg: Msg) -> Result<(), DeliverError> {
+        let mut tables = self.tables.lock(&self.rt);
+        let result = tables.deliver(self.alloc, &self.history, pass, link, msg);
+        let due = tables.take_due();
+        drop(tables);
+        self.ring(due);
+        result
+    }
+
+    fn down(
+        &self,
+        pass: &mut Pass<Entry>,
+        link: LinkNo,
+        reason: Option<u8>,
+    ) -> Result<(), DownError> {
+        let mut tables = self.tables.lock(&self.rt);
+        let result = tables.down(self.alloc, &self.history, pass, link, reason);
+        let due = tables.take_due();
+        drop(tables);
+        self.ring(due);
+        result
+    }
+
+    fn split(&self, pass: &mut Pass<Entry>) -> Pass<Entry> {
+        self.history.split(pass)
+    }
+
+    fn join(&self, pass: &mut Pass<Entry>, other: Pass<Entry>) {
+        self.history.join(pass, other);
+    }
+
+    fn rest(&self, link: LinkNo, most: u64) {
+        if let Some(bell) = self.bells.get(link.0 as usize) {
+            bell.park_timeout(&self.rt, Duration::from_millis(most));
+        }
+    }
+}

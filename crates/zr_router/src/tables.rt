@@ -1,0 +1,367 @@
+//! The tables under a router's lock, and the three calls on them. Each looks at the history first, so that every refusal speaks of all that has
+//! happened.
+
+ghost use Rattle.std.specs.Prelude.{◌≡◌, ◌≢◌, ◌↔◌, ◌<◌, ◌++◌, ◌∷◌, [], false, true, length, Err, IfErr, IfOk, OnErr, OnOk, Some, None, is_err};
+ghost use mathlib.Core.List.{IsPrefix};
+ghost use Rattle.zr_hist.specs.Words.{IsSamePass, kept_name, list_of, mine, most_entries, name, pass_name, seen};
+ghost use Rattle.zr_id.specs.declared.link.LinkNo.{LinkNo};
+ghost use Rattle.zr_msg.specs.declared.event.Event.TheVariants as event;
+ghost use Rattle.zr_port.specs.Adding.{Adds, IsAdmitted, IsEntryOf, IsLeastFree};
+ghost use Rattle.zr_port.specs.declared.entry.Entry.{Entry};
+ghost use Rattle.zr_ring.specs.Taker.{taken, take_calls};
+ghost use Rattle.zr_table.specs.Event.{MayCome, on_link};
+ghost use Rattle.zr_table.specs.Table.{after, refuses, sends};
+ghost use Rattle.zr_wire.specs.Writing.{IsSpelled};
+ghost use Rattle.zr_queue.specs.Ends.{IsReplay, new_end, taker_ring};
+ghost use Rattle.zr_queue.specs.History.{is_legal};
+ghost use Rattle.zr_queue.specs.Tables.{is_up, new_queue};
+ghost use Rattle.zr_router.specs.Handled.{IsHandled};
+ghost use Rattle.zr_router.specs.Replayed.{IsReplay-prop};
+ghost use Rattle.zr_router.specs.Refusals.{RefusesDown, RefusesMessage, RefusesUp, is_worn};
+
+use crate::admit::{refuses_down, refuses_message, refuses_peer};
+use crate::ends::{closing_of, taken_out};
+use std::alloc::{AllocError, Global};
+use std::marker::PhantomData;
+use zr_frame::Outbox;
+use zr_hist::{History, Kept, Pass};
+use zr_id::link::LinkNo;
+use zr_id::zid::Zid;
+use zr_msg::error::NodeError;
+use zr_msg::event::Event;
+use zr_msg::msg::Msg;
+use zr_msg::peer::{Peer, Role};
+use zr_node::node::Node;
+use zr_port::{DeliverError, DownError, Entry, Naming, UpError};
+use zr_queue::{LinkEnd, Queued, enter, prepare};
+use zr_ring::Taker;
+
+/// How many entries a history has at most.
+const MOST_ENTRIES: u64 = u64::MAX;
+
+/// How many links have a bell: each has, since the least number that isn't up is below it.
+pub(crate) const BELLS: u32 = 128;
+
+/// The tables of a running router: the router itself, the links that are up in the order in which they came up, and what stands for the history.
+/// Unless memory ran out they are the replay of its list.
+#[derive(Drop)]
+pub struct Tables<B: Naming> {
+    me: Zid,
+    node: Node,
+    ends: Vec<LinkEnd>,
+    kept: Kept<Entry>,
+    // the links whose writers have something new, a bit for each
+    due: u128,
+    is_spent: bool,
+    of: PhantomData<B>,
+    ghost named: { kept_name kept ≡ B.history },
+    ghost own: { me ≡ B.me },
+    ghost legal: { is_legal B.me (list_of kept) ≡ true },
+    ghost replayed: { is_spent ≡ false → IsReplay B.me (list_of kept) node ends.items } by { IsReplay-prop is_spent B.me (list_of kept) node ends.items },
+}
+
+// What has come to the router, with what the call said beside it.
+struct Arrival {
+    event: Event,
+    outbox: Option<Outbox>,
+    reason: Option<u8>,
+}
+
+impl<B: Naming> Tables<B> {
+    ghost use Rattle.zr_router.specs.Words.{entries, is_spent};
+
+    /// The tables of a router without links, and an empty history.
+    pub fn new(alloc: Global, me: Zid, kept: Kept<Entry>) -> Result<Tables<B>, AllocError>
+        requires named { kept_name kept ≡ B.history }
+        requires own { me ≡ B.me }
+        requires empty { list_of kept ≡ [] }
+        ensures { IfOk result (λ t. (entries t ≡ []) × (is_spent t ≡ false)) }
+    {
+        Ok(Tables {
+            me,
+            node: Node::new(alloc, me)?,
+            ends: Vec::new(alloc),
+            kept,
+            due: 0,
+            is_spent: false,
+            of: PhantomData,
+        })
+    }
+
+    /// A message has come over a link.
+    pub fn deliver(
+        &mut self,
+        alloc: Global,
+        history: &History<Entry>,
+        pass: &mut Pass<Entry>,
+        link: LinkNo,
+        msg: Msg,
+    ) -> Result<(), DeliverError>
+        requires history { name history.now ≡ B.history }
+        requires pass { pass_name pass.old ≡ B.history }
+        requires spelled { IsSpelled msg }
+        ensures same { IsSamePass pass.old pass.new }
+        ensures prefix { IsPrefix (seen pass.old) (entries self.old) }
+        ensures seen { seen pass.new ≡ entries self.new }
+        ensures legal { is_legal B.me (entries self.new) ≡ true }
+        ensures added { IfOk result (λ _. Adds pass.old pass.new (λ before e. (before ≡ entries self.old) × IsEntryOf (event.From link msg) None None e × IsAdmitted (λ r. RefusesMessage B.me before link msg r))) }
+        ensures refused { IfErr result (λ r. r ≢ DeliverError.NoMemory → RefusesMessage B.me (entries self.old) link msg r) }
+        ensures unchanged { OnErr result ((entries self.new ≡ entries self.old) × (mine pass.new ≡ mine pass.old)) }
+        ensures spent { (result ≡ Err DeliverError.NoMemory) ↔ (is_spent self.new ≡ true) }
+        ensures stays { is_spent self.old ≡ true → is_spent self.new ≡ true }
+    {
+        let Ok(worn) = self.look(history, pass) else {
+            return Err(DeliverError::NoMemory);
+        };
+        let peer = self.node.peer_at(link);
+        let closing = closing_of(self.ends.as_slice(), link);
+        if let Some(refused) = refuses_message(peer, closing, link, &msg, worn) {
+            return Err(refused);
+        }
+        let event = Event::From { link, msg };
+        let sent = match self.handle(alloc, &event) {
+            Ok(sent) => sent,
+            Err(NodeError::NoMemory) => return Err(DeliverError::NoMemory),
+            Err(refused) => return Err(DeliverError::Node(refused)),
+        };
+        let arrival = Arrival {
+            event,
+            outbox: None,
+            reason: None,
+        };
+        match self.enter(alloc, history, pass, arrival, sent.as_slice()) {
+            Ok(()) => Ok(()),
+            Err(AllocError) => Err(DeliverError::NoMemory),
+        }
+    }
+
+    /// A session with a peer has opened: its link comes up under the least number that isn't up.
+    pub fn up(
+        &mut self,
+        alloc: Global,
+        history: &History<Entry>,
+        pass: &mut Pass<Entry>,
+        peer: Peer,
+        outbox: Outbox,
+    ) -> Result<(LinkNo, Taker<Queued>), UpError>
+        requires history { name history.now ≡ B.history }
+        requires pass { pass_name pass.old ≡ B.history }
+        ensures same { IsSamePass pass.old pass.new }
+        ensures prefix { IsPrefix (seen pass.old) (entries self.old) }
+        ensures seen { seen pass.new ≡ entries self.new }
+        ensures legal { is_legal B.me (entries self.new) ≡ true }
+        ensures added { IfOk result (λ r. Adds pass.old pass.new (λ before e. (before ≡ entries self.old) × IsEntryOf (event.Up r.0 peer) (Some outbox) None e × (IsLeastFree (λ l. is_up B.me before l) r.0 × IsAdmitted (λ e. RefusesUp B.me before peer e)))) }
+        ensures link { IfOk result (λ r. is_up B.me (entries self.new) r.0 ≡ true) }
+        ensures taker { IfOk result (λ r. (taken r.1 ≡ []) × (take_calls r.1 ≡ 0)) }
+        ensures refused { IfErr result (λ e. e ≢ UpError.NoMemory → RefusesUp B.me (entries self.old) peer e) }
+        ensures unchanged { OnErr result ((entries self.new ≡ entries self.old) × (mine pass.new ≡ mine pass.old)) }
+        ensures spent { (result ≡ Err UpError.NoMemory) ↔ (is_spent self.new ≡ true) }
+        ensures stays { is_spent self.old ≡ true → is_spent self.new ≡ true }
+    {
+        let Ok(worn) = self.look(history, pass) else {
+            return Err(UpError::NoMemory);
+        };
+        if let Some(refused) = refuses_peer(&self.node, worn, &peer) {
+            return Err(refused);
+        }
+        let link = self.node.free_link();
+        let event = Event::Up { link, peer };
+        let sent = match self.handle(alloc, &event) {
+            Ok(sent) => sent,
+            Err(NodeError::NoMemory) => return Err(UpError::NoMemory),
+            Err(_) => return Err(UpError::Worn), // a number that the event needs
+        };
+        let Ok(taker) = self.add_end(alloc, link, peer.role, outbox) else {
+            return Err(UpError::NoMemory);
+        };
+        let arrival = Arrival {
+            event,
+            outbox: Some(outbox),
+            reason: None,
+        };
+        match self.enter(alloc, history, pass, arrival, sent.as_slice()) {
+            Ok(()) => Ok((link, taker)),
+            Err(AllocError) => Err(UpError::NoMemory),
+        }
+    }
+
+    /// A link has ended, by this end for the reason where there is one. Its ring gets its end with that reason unless it has one.
+    pub fn down(
+        &mut self,
+        alloc: Global,
+        history: &History<Entry>,
+        pass: &mut Pass<Entry>,
+        link: LinkNo,
+        reason: Option<u8>,
+    ) -> Result<(), DownError>
+        requires history { name history.now ≡ B.history }
+        requires pass { pass_name pass.old ≡ B.history }
+        ensures same { IsSamePass pass.old pass.new }
+        ensures prefix { IsPrefix (seen pass.old) (entries self.old) }
+        ensures seen { seen pass.new ≡ entries self.new }
+        ensures legal { is_legal B.me (entries self.new) ≡ true }
+        ensures added { IfOk result (λ _. Adds pass.old pass.new (λ before e. (before ≡ entries self.old) × IsEntryOf (event.Down link) None reason e × IsAdmitted (λ e. RefusesDown B.me before link e))) }
+        ensures refused { IfErr result (λ e. e ≢ DownError.NoMemory → RefusesDown B.me (entries self.old) link e) }
+        ensures unchanged { OnErr result ((entries self.new ≡ entries self.old) × (mine pass.new ≡ mine pass.old)) }
+        ensures spent { (result ≡ Err DownError.NoMemory) ↔ (is_spent self.new ≡ true) }
+        ensures stays { is_spent self.old ≡ true → is_spent self.new ≡ true }
+    {
+        let Ok(worn) = self.look(history, pass) else {
+            return Err(DownError::NoMemory);
+        };
+        if let Some(refused) = refuses_down(&self.node, worn, link) {
+            return Err(refused);
+        }
+        let event = Event::Down { link };
+        let sent = match self.handle(alloc, &event) {
+            Ok(sent) => sent,
+            Err(NodeError::NoMemory) => return Err(DownError::NoMemory),
+            Err(_) => return Err(DownError::Worn), // a number that the event needs
+        };
+        let gone = taken_out(&mut self.ends, link);
+        let arrival = Arrival {
+            event,
+            outbox: None,
+            reason,
+        };
+        let Ok(()) = self.enter(alloc, history, pass, arrival, sent.as_slice()) else {
+            return Err(DownError::NoMemory);
+        };
+        if let Some(end) = gone {
+            let note = Queued {
+                me: self.me,
+                link,
+                pass: history.split(pass),
+            };
+            end.end(reason, note);
+        }
+        self.due |= bell_of(link);
+        Ok(())
+    }
+
+    /// The links whose writers have something new since the last call, a bit for each.
+    pub fn take_due(&mut self) -> u128
+        ensures { (entries self.new ≡ entries self.old) × (is_spent self.new ≡ is_spent self.old) }
+    {
+        let due = self.due;
+        self.due = 0;
+        due
+    }
+
+    // The end of a link that has come up is the last one.
+    fn add_end(
+        &mut self,
+        alloc: Global,
+        link: LinkNo,
+        role: Role,
+        outbox: Outbox,
+    ) -> Result<Taker<Queued>, AllocError>
+        requires { self.old.is_spent ≡ true }
+        ensures same { (self.new.node ≡ self.old.node) × (list_of self.new.kept ≡ list_of self.old.kept) × (self.new.is_spent ≡ true) }
+        ensures ends { IfOk result (λ taker. self.new.ends.items ≡ self.old.ends.items ++ new_end (new_queue link role outbox) (taker_ring taker) ∷ []) }
+        ensures taker { IfOk result (λ taker. (taken taker ≡ []) × (take_calls taker ≡ 0)) }
+    {
+        let (end, taker) = LinkEnd::new(alloc, link, role, outbox)?;
+        match self.ends.push(end) {
+            Ok(()) => Ok(taker),
+            Err(_) => Err(AllocError),
+        }
+    }
+
+    // Looks at the history: whether it has its last entry. Spent tables are out of memory.
+    fn look(&mut self, history: &History<Entry>, pass: &mut Pass<Entry>) -> Result<bool, AllocError>
+        requires history { name history.now ≡ B.history }
+        requires pass { pass_name pass.old ≡ B.history }
+        ensures pass { IsSamePass pass.old pass.new × (mine pass.new ≡ mine pass.old) × (seen pass.new ≡ list_of self.old.kept) }
+        ensures prefix { IsPrefix (seen pass.old) (list_of self.old.kept) }
+        ensures kept { list_of self.new.kept ≡ list_of self.old.kept }
+        ensures same { (self.new.node ≡ self.old.node) × (self.new.ends ≡ self.old.ends) × (self.new.is_spent ≡ self.old.is_spent) }
+        ensures worn { IfOk result (λ worn. worn ≡ is_worn (list_of self.old.kept)) }
+        ensures room { IfOk result (λ worn. worn ≡ false → length (list_of self.old.kept) < most_entries) }
+        ensures spent { is_err result ≡ self.old.is_spent }
+    {
+        let count = history.look_beside(&mut self.kept, pass);
+        if self.is_spent {
+            return Err(AllocError);
+        }
+        Ok(count == MOST_ENTRIES)
+    }
+
+    // Lets the router handle an event that may come. What it sends is the answer; until the event is entered the tables count as spent. Where the
+    // event is refused nothing has changed.
+    fn handle(&mut self, alloc: Global, event: &Event) -> Result<Vec<(LinkNo, Msg)>, NodeError>
+        requires { MayCome self.old.node event.now }
+        ensures kept { list_of self.new.kept ≡ list_of self.old.kept }
+        ensures ends { self.new.ends ≡ self.old.ends }
+        ensures handled { OnOk result ((self.new.node ≡ after self.old.node event.now) × (refuses self.old.node event.now ≡ None)) }
+        ensures sent { IfOk result (λ sent. (to : LinkNo) → on_link to sent.items ≡ sends self.old.node event.now to) }
+        ensures spent { OnOk result (self.new.is_spent ≡ true) }
+        ensures memory { result ≡ Err NodeError.NoMemory → self.new.is_spent ≡ true }
+        ensures refused { IfErr result (λ e. e ≢ NodeError.NoMemory → (refuses self.old.node event.now ≡ Some e) × (self.new.is_spent ≡ self.old.is_spent)) }
+    {
+        let mut sent = Vec::new(alloc);
+        match self.node.handle(alloc, event, &mut sent) {
+            Ok(()) => {
+                self.is_spent = true;
+                Ok(sent)
+            }
+            Err(NodeError::NoMemory | NodeError::Spent) => {
+                self.is_spent = true;
+                Err(NodeError::NoMemory)
+            }
+            Err(NodeError::Worn) => Err(NodeError::Worn),
+            Err(
+                NodeError::Gap { .. }
+                | NodeError::NotDeclared { .. }
+                | NodeError::TextLimit { .. }
+                | NodeError::NumberTaken { .. }
+                | NodeError::TooMany { .. },
+            ) => unreachable!(),
+        }
+    }
+
+    // Enters an event that the router has handled: its entry is appended, and the links' rings are given what it queues.
+    fn enter(
+        &mut self,
+        alloc: Global,
+        history: &History<Entry>,
+        pass: &mut Pass<Entry>,
+        arrival: Arrival,
+        sent: &[(LinkNo, Msg)],
+    ) -> Result<(), AllocError>
+        requires history { name history.now ≡ B.history }
+        requires pass { pass_name pass.old ≡ B.history }
+        requires spent { self.old.is_spent ≡ true }
+        requires handled { IsHandled B.me (list_of self.old.kept) self.old.node self.old.ends.items arrival.event arrival.outbox arrival.reason sent.now }
+        ensures same { IsSamePass pass.old pass.new }
+        ensures added { OnOk result ((e : Entry) × IsEntryOf arrival.event arrival.outbox arrival.reason e × (list_of self.new.kept ≡ list_of self.old.kept ++ e ∷ []) × (mine pass.new ≡ mine pass.old ++ e ∷ []) × (seen pass.new ≡ list_of self.new.kept)) }
+        ensures unchanged { OnErr result ((list_of self.new.kept ≡ list_of self.old.kept) × (mine pass.new ≡ mine pass.old) × (seen pass.new ≡ seen pass.old)) }
+        ensures spent { self.new.is_spent ≡ is_err result }
+    {
+        let ends = self.ends.as_mut_slice();
+        let Arrival {
+            event,
+            outbox,
+            reason,
+        } = arrival;
+        let entry = prepare(alloc, ends, sent, event, outbox, reason)?;
+        enter(history, &mut self.kept, pass, self.me, ends, &entry);
+        self.is_spent = false;
+        self.due |= due_of(sent);
+        Ok(())
+    }
+}
+
+// The links to which something was sent.
+fn due_of(sent: &[(LinkNo, Msg)]) -> u128 {
+    let mut due = 0;
+    for (to, _) in sent {
+        due |= bell_of(*to);
+    }
+    due
+}
+
+// The bit of a link among those whose writers have something new.
+fn bell_of(link: LinkNo) -> u128 {
+    if link.0 < BELLS { 1 << link.0 } else { 0 }
+}
