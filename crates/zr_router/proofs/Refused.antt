@@ -122,7 +122,7 @@ module _ (me : List ℕ) (h : List Entry) (node : NodeState) (ends : List EndSta
         (none_more (admits u.0.peer.role msg) (is_worn h) u.0.peer.role (refuses node (From link msg)) u.3).1 ∙ ap (λ o. refused_by false o) takes in
         cc
 
--- want of memory is no cause of these
+-- out of memory is no cause of these
 pub never_memory : (p : Option Peer) (c : Option Closing) (link : LinkNo) (msg : Msg) (w : Bool) → message_refusal p c link msg w ≡ Some deliver.NoMemory → ⊥
 never_memory None c link msg w e = cc
 never_memory (Some q) (Some c) link msg w e = cc
