@@ -10,6 +10,7 @@ ghost use Rattle.zr_msg.specs.declared.event.Event.TheVariants as event;
 ghost use Rattle.zr_hist.specs.Rule.{longer};
 ghost use Rattle.zr_hist.specs.Words.{pass_name, IsSamePass, seen, mine};
 ghost use Rattle.zr_ring.specs.Taker.{taken, take_calls};
+ghost use Rattle.zr_wire.specs.Writing.{IsSpelled};
 ghost use Rattle.zr_port.specs.declared.entry.Entry.{Entry};
 ghost use Rattle.zr_port.specs.declared.error.UpError.{UpError};
 ghost use Rattle.zr_port.specs.declared.error.DeliverError.{DeliverError};
@@ -40,9 +41,6 @@ pub trait Port {
     // whether a link is up after a list of entries
     ghost is_up: { Self → List Entry → LinkNo → Bool };
 
-    // which messages can be delivered: those that have a spelling on the wire
-    ghost is_spelled: { Self → Msg → Type 0 };
-
     // after which lists of entries a call is refused, and why; where memory ran out nothing is said
     ghost refuses_up: { Self → List Entry → Peer → UpError → Type 0 };
 
@@ -67,10 +65,10 @@ pub trait Port {
         ensures refused { IfErr result (λ e. e ≢ UpError.NoMemory → refuses_up self.now (seen pass.new) peer e) }
         ensures unchanged { OnErr result (mine pass.new ≡ mine pass.old) };
 
-    /// A message has come over a link.
+    /// A message that has a spelling on the wire has come over a link.
     fn deliver(&self, pass: &mut Pass<Entry>, link: LinkNo, msg: Msg) -> Result<(), DeliverError>
         requires pass { pass_name pass.old ≡ history self.now }
-        requires spelled { is_spelled self.now msg }
+        requires spelled { IsSpelled msg }
         ensures same { IsSamePass pass.old pass.new }
         ensures prefix { IsPrefix (seen pass.old) (seen pass.new) }
         ensures legal { is_legal self.now (seen pass.new) }

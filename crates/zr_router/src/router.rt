@@ -79,7 +79,6 @@ impl<B: Naming, R: Wait + Drop> Port for Router<B, R> {
     ghost use Rattle.zr_queue.specs.History as history;
     ghost use Rattle.zr_queue.specs.Tables as tables;
     ghost use Rattle.zr_router.specs.Refusals.{RefusesDown, RefusesMessage, RefusesUp};
-    ghost use Rattle.zr_wire.specs.Writing.{IsSpelled};
 
     type Note = Queued;
 
@@ -88,8 +87,6 @@ impl<B: Naming, R: Wait + Drop> Port for Router<B, R> {
     ghost is_legal = { λ _ h. history.is_legal B.me h ≡ true };
 
     ghost is_up = { λ _ h link. tables.is_up B.me h link };
-
-    ghost is_spelled = { λ _ msg. IsSpelled msg };
 
     ghost refuses_up = { λ _ h peer e. RefusesUp B.me h peer e };
 
