@@ -1,0 +1,357 @@
+-- Messages that are delivered on a link, and how the reader of a link that is up ends.
+use Rattle.std.proofs.Common.{◌≡◌, ◌≢◌, ◌⊎◌, ℕ, ◌+◌, ◌≤◌, min, ltb, arith, Bool, true, false, List, [], ◌∷◌, ◌++◌, map, Option, refl, sym, ap, subst, ◌∙◌, append_assoc, inl, inr}
+use Rattle.std.proofs.lemmas.List.{append-nil, map-append}
+use Rattle.std.proofs.lemmas.Bool.{ltb-true, ltb-false}
+use mathlib.Core.List.{IsPrefix}
+use Rattle.zr_id.specs.declared.link.LinkNo.{LinkNo}
+use Rattle.zr_frame.specs.Outbox.{OutboxState}
+use Rattle.zr_msg.specs.declared.event.Event.{Event}
+use Rattle.zr_msg.specs.declared.msg.Msg.{Msg}
+use Rattle.zr_msg.specs.declared.error.NodeError.TheVariants as node
+use Rattle.zr_open.specs.declared.expected.Expected.{Expected}
+use Rattle.zr_open.specs.declared.error.Reason.{Reason}
+use Rattle.zr_outside.specs.Counts.{Counted, RoseBy}
+use Rattle.zr_hist.proofs.Lists.{prefix_self}
+use Rattle.zr_port.specs.declared.entry.Entry.{Entry}
+use Rattle.zr_port.specs.declared.error.DeliverError.{DeliverError}
+use Rattle.zr_port.specs.declared.error.DeliverError.TheVariants as deliver
+use Rattle.zr_port.specs.Adding.{IsEntryOf}
+use Rattle.zr_session.specs.declared.event.SessionEvent.{SessionEvent}
+use Rattle.zr_session.specs.declared.event.SessionEvent.TheVariants.{Opened, Message}
+use Rattle.zr_session.specs.declared.fate.Fate.{Fate}
+use Rattle.zr_session.specs.declared.fate.Fate.TheVariants as fate
+use Rattle.zr_session.specs.declared.phase.Phase.{Phase}
+use Rattle.zr_session.specs.declared.phase.Phase.TheVariants.{Opening, Established}
+use Rattle.zr_session.specs.Course.{Course}
+use Rattle.zr_session.specs.Session.{SessionState, IsAt, is_running}
+use Rattle.zr_wire.specs.Writing.{IsSpelled}
+use Rattle.zr_link.specs.declared.end.LinkEnd.{LinkEnd}
+use Rattle.zr_link.specs.declared.end.LinkEnd.TheVariants as end
+use Rattle.zr_link.specs.Ends.{end_of_delivery, IsEarly, IsStarted}
+use Rattle.zr_link.specs.Acts.{Act, act_of, Does, from, froms}
+use Rattle.zr_link.specs.Heard.{AreMessages, messages, Between, Hears, HearsSome, FateIs, LostIs, Closes, IsOpen, IsIn}
+use Rattle.zr_link.specs.Run.{Delivers, Stops, Refuses, UpEnds, EndIs, Follows}
+use Rattle.zr_link.proofs.Stream.{are_bytes_then}
+use Rattle.zr_link.proofs.Hearing.{Leads, leads_self, leads_then, heard_still, hears_then, hears_some_then, runs_at, comes_at}
+
+pub prefix_trans : {X : Type 0} (xs ys zs : List X) → IsPrefix xs ys → IsPrefix ys zs → IsPrefix xs zs
+prefix_trans xs ys zs a b = (a.0 ++ b.0, sym (append_assoc xs a.0 b.0) ∙ ap (λ l. l ++ b.0) a.1 ∙ b.1)
+
+-- ---- acts
+
+abbrev act : Event → Option OutboxState → Option ℕ → Act
+act event outbox reason = record { event = event; outbox = outbox; reason = reason }
+
+pub does_none : (a : List Entry) → Does [] a a
+does_none a = ([], sym (append-nil a), refl)
+
+pub does_then : (xs ys : List Act) (a b c : List Entry) → Does xs a b → Does ys b c → Does (xs ++ ys) a c
+does_then xs ys a b c h k =
+    (h.0 ++ k.0, k.1 ∙ ap (λ z. z ++ k.0) h.1 ∙ append_assoc a h.0 k.0, map-append act_of h.0 k.0 ∙ ap (λ z. z ++ map act_of k.0) h.2 ∙ ap (λ z. xs ++ z) k.2)
+
+pub does_entry : (a b : List Entry) (entry : Entry) (event : Event) (outbox : Option OutboxState) (reason : Option ℕ) → b ≡ a ++ entry ∷ [] → IsEntryOf event outbox reason entry
+    → Does (act event outbox reason ∷ []) a b
+does_entry a b entry event outbox reason own is =
+    (entry ∷ [], own, ap (λ z. z ∷ []) (ap (λ z. act z entry.outbox entry.reason) is.event_is ∙ ap (λ z. act event z entry.reason) is.outbox_is ∙ ap (λ z. act event outbox z) is.reason_is))
+
+-- ---- messages
+
+pub are_messages : (P : Msg → Type 0) (es : List SessionEvent) → AreMessages P es → (ms : List Msg) × (es ≡ messages ms)
+are_messages P [] h = ([], refl)
+are_messages P (Opened peer outbox ∷ es) h = absurd h
+are_messages P (Message m ∷ es) h = let rest = are_messages P es h.1 in (m ∷ rest.0, ap (λ z. Message m ∷ z) rest.1)
+
+pub messages_rest : (P : Msg → Type 0) (ms : List Msg) (rest : List SessionEvent) → AreMessages P (messages ms ++ rest) → AreMessages P rest
+messages_rest P [] rest h = h
+messages_rest P (m ∷ ms) rest h = messages_rest P ms rest h.1
+
+pub no_messages : (ms : List Msg) → messages ms ≡ [] → ms ≡ []
+no_messages [] e = refl
+no_messages (m ∷ ms) e = absurd cc
+
+pub open_messages : (p q : Phase) (es : List SessionEvent) → IsOpen p → Between p q es → AreMessages IsSpelled es × IsOpen q
+open_messages (Opening e) q es h k = absurd h
+open_messages (Established s) (Opening e) es h k = absurd k
+open_messages (Established s) (Established t) es h k = (k, tt)
+
+pub delivers_none : (link : LinkNo) (events : List SessionEvent) (a : List Entry) → Delivers link events events a a
+delivers_none link events a = record { msgs = []; are = refl; does = does_none a }
+
+pub delivers_step : (link : LinkNo) (events rest next : List SessionEvent) (m : Msg) (a b c : List Entry) → Delivers link events rest a b → rest ≡ Message m ∷ next
+    → Does (from link m ∷ []) b c → Delivers link events next a c
+delivers_step link events rest next m a b c d e k = record {
+  msgs = d.msgs ++ m ∷ [];
+  are = d.are ∙ ap (λ z. messages d.msgs ++ z) e ∙ sym (ap (λ z. z ++ next) (map-append (λ x. Message x) d.msgs (m ∷ [])) ∙ append_assoc (messages d.msgs) (Message m ∷ []) next);
+  does = subst (λ z. Does z a c) (sym (map-append (λ x. from link x) d.msgs (m ∷ []))) (does_then (froms link d.msgs) (from link m ∷ []) a b c d.does k);
+}
+
+pub froms_then : (link : LinkNo) (ms ns : List Msg) (a b c : List Entry) → Does (froms link ms) a b → Does (froms link ns) b c → Does (froms link (ms ++ ns)) a c
+froms_then link ms ns a b c h k = subst (λ z. Does z a c) (sym (map-append (λ x. from link x) ms ns)) (does_then (froms link ms) (froms link ns) a b c h k)
+
+-- ---- ends
+
+-- a refused message is the first of those that were not delivered
+pub stop_ends : (c : Course) (m : Msg) (ms : List Msg) (Early : Type 0) (Late : Phase → Type 0) (refuses : List Entry → Msg → DeliverError → Type 0) (seen : List Entry) (error : DeliverError)
+    → (error ≢ deliver.NoMemory → refuses seen m error) → UpEnds (end_of_delivery error) c (m ∷ ms) Early Late (λ reason. Refuses refuses seen (m ∷ ms) reason)
+stop_ends c m ms Early Late refuses seen error r = by error r
+  where
+    so : (error : DeliverError) (reason : Reason) → end_of_delivery error ≡ end.Closed reason → refuses seen m error → Refuses refuses seen (m ∷ ms) reason
+    so error reason e r = record { msg = m; rest = ms; error = error; before = seen; first = refl; prefix = prefix_self seen; refused = r; ends = e }
+
+    by : (error : DeliverError) → (error ≢ deliver.NoMemory → refuses seen m error) → UpEnds (end_of_delivery error) c (m ∷ ms) Early Late (λ reason. Refuses refuses seen (m ∷ ms) reason)
+    by (deliver.NotUp link) r = inr (so (deliver.NotUp link) _ refl (r (λ e. absurd cc)))
+    by (deliver.Misplaced role) r = inr (so (deliver.Misplaced role) _ refl (r (λ e. absurd cc)))
+    by (deliver.Node (node.Gap router has came)) r = inr (so (deliver.Node (node.Gap router has came)) _ refl (r (λ e. absurd cc)))
+    by (deliver.Node (node.NotDeclared id)) r = inr (so (deliver.Node (node.NotDeclared id)) _ refl (r (λ e. absurd cc)))
+    by (deliver.Node (node.TextLimit held more)) r = inr (so (deliver.Node (node.TextLimit held more)) _ refl (r (λ e. absurd cc)))
+    by (deliver.Node (node.NumberTaken id)) r = inr (so (deliver.Node (node.NumberTaken id)) _ refl (r (λ e. absurd cc)))
+    by (deliver.Node (node.TooMany pending)) r = inr (so (deliver.Node (node.TooMany pending)) _ refl (r (λ e. absurd cc)))
+    by (deliver.Node node.Worn) r = inr (so (deliver.Node node.Worn) _ refl (r (λ e. absurd cc)))
+    by (deliver.Node node.Spent) r = inr (so (deliver.Node node.Spent) _ refl (r (λ e. absurd cc)))
+    by (deliver.Node node.NoMemory) r = tt
+    by (deliver.Full asked free) r = inr (so (deliver.Full asked free) _ refl (r (λ e. absurd cc)))
+    by deliver.Worn r = inr (so deliver.Worn _ refl (r (λ e. absurd cc)))
+    by deliver.NoMemory r = tt
+
+pub closes_map : (reason : Reason) (c : Course) (L M : Phase → Type 0) → ((p : Phase) → L p → M p) → Closes reason c L → Closes reason c M
+closes_map reason c L M f (inl h) = inl h
+closes_map reason c L M f (inr h) = inr (h.0, h.1, f c.phase h.2)
+
+-- the session has ended
+pub fate_ends : (f : Fate) (e : LinkEnd) (c : Course) (Early : Type 0) (L M : Phase → Type 0) (R : Reason → Type 0) → ((p : Phase) → L p → M p) → EndIs f e → FateIs f c L → UpEnds e c [] Early M R
+fate_ends fate.Going e c Early L M R late is h = absurd is
+fate_ends (fate.Closed reason) e c Early L M R late is h = subst (λ z. UpEnds z c [] Early M R) (sym is) (inl (closes_map reason c L M late h, refl))
+fate_ends (fate.Peer reason) e c Early L M R late is h = subst (λ z. UpEnds z c [] Early M R) (sym is) (h, refl)
+
+-- nothing more came
+pub lost_ends : (e : LinkEnd) (c : Course) (events : List SessionEvent) (others : List Msg) (Early : Type 0) (Late : Phase → Type 0) (R : Reason → Type 0) → LostIs e c events → events ≡ messages others
+    → UpEnds e c others Early Late R
+lost_ends end.ReadFault c events others Early Late R h e = (h.0, no_messages others (sym e ∙ h.1))
+lost_ends end.WriteFault c events others Early Late R h e = absurd h
+lost_ends end.PeerEnded c events others Early Late R h e = (h.0, no_messages others (sym e ∙ h.1))
+lost_ends (end.Closed reason) c events others Early Late R h e = absurd h
+lost_ends (end.Peer reason) c events others Early Late R h e = absurd h
+lost_ends end.CrewRefused c events others Early Late R h e = absurd h
+lost_ends end.Turns c events others Early Late R h e = absurd h
+lost_ends end.NoMemory c events others Early Late R h e = tt
+
+pub ends_map : (e : LinkEnd) (c : Course) (others : List Msg) (A B : Type 0) (L M : Phase → Type 0) (R S : Reason → Type 0) → (A → B) → ((p : Phase) → L p → M p) → ((r : Reason) → R r → S r)
+    → UpEnds e c others A L R → UpEnds e c others B M S
+ends_map end.ReadFault c others A B L M R S f g h k = k
+ends_map end.WriteFault c others A B L M R S f g h k = f k
+ends_map end.PeerEnded c others A B L M R S f g h k = k
+ends_map (end.Closed reason) c others A B L M R S f g h (inl k) = inl (closes_map reason c L M g k.0, k.1)
+ends_map (end.Closed reason) c others A B L M R S f g h (inr k) = inr (h reason k)
+ends_map (end.Peer reason) c others A B L M R S f g h k = k
+ends_map end.CrewRefused c others A B L M R S f g h k = f k
+ends_map end.Turns c others A B L M R S f g h k = k
+ends_map end.NoMemory c others A B L M R S f g h k = k
+
+pub early_ends : (e : LinkEnd) (c : Course) (others : List Msg) (A : Type 0) (L : Phase → Type 0) (R : Reason → Type 0) → IsEarly e → A → UpEnds e c others A L R
+early_ends end.ReadFault c others A L R h a = absurd h
+early_ends end.WriteFault c others A L R h a = a
+early_ends end.PeerEnded c others A L R h a = absurd h
+early_ends (end.Closed reason) c others A L R h a = absurd h
+early_ends (end.Peer reason) c others A L R h a = absurd h
+early_ends end.CrewRefused c others A L R h a = a
+early_ends end.Turns c others A L R h a = absurd h
+early_ends end.NoMemory c others A L R h a = tt
+
+pub refuses_later : (refuses : List Entry → Msg → DeliverError → Type 0) (seen later : List Entry) (others : List Msg) (reason : Reason) → IsPrefix seen later → Refuses refuses seen others reason → Refuses refuses later others reason
+refuses_later refuses seen later others reason p r = record { msg = r.msg; rest = r.rest; error = r.error; before = r.before; first = r.first; prefix = prefix_trans r.before seen later r.prefix p; refused = r.refused; ends = r.ends }
+
+-- how a batch of events ended the reader, in one word
+abbrev pub Settles : (Msg → DeliverError → Type 0) → List SessionEvent → Fate → LinkEnd → Type 0
+Settles refuses rest f e = Stops refuses rest e ⊎ ((rest ≡ []) × EndIs f e)
+
+-- what was not delivered are messages, and the reader ends for the first of them or with the session
+pub settle_ends : (refuses : List Entry → Msg → DeliverError → Type 0) (seen : List Entry) (rest : List SessionEvent) (f : Fate) (e : LinkEnd) (c : Course) (Early : Type 0) (L M : Phase → Type 0)
+    → ((p : Phase) → L p → M p) → AreMessages IsSpelled rest → FateIs f c L → Settles (refuses seen) rest f e
+    → (others : List Msg) × (rest ≡ messages others) × UpEnds e c others Early M (λ reason. Refuses refuses seen others reason)
+settle_ends refuses seen rest f e c Early L M late are fate_is (inl stop) =
+    let ms = are_messages IsSpelled stop.others (subst (AreMessages IsSpelled) stop.first are).1 in (
+      stop.msg ∷ ms.0,
+      stop.first ∙ ap (λ z. Message stop.msg ∷ z) ms.1,
+      subst (λ z. UpEnds z c (stop.msg ∷ ms.0) Early M (λ reason. Refuses refuses seen (stop.msg ∷ ms.0) reason)) (sym stop.ends) (stop_ends c stop.msg ms.0 Early M refuses seen stop.error stop.refused),
+    )
+settle_ends refuses seen rest f e c Early L M late are fate_is (inr is) = ([], is.0, fate_ends f e c Early L M _ late is.1 fate_is)
+
+-- ---- where a reader of a link that is up has come to
+
+-- messages were delivered, and the session stands behind them
+pub record Gone (link : LinkNo) (s t : SessionState) (before now : Option (List ℕ)) (old new : List Entry) : Type 0 where
+  pub msgs : List Msg
+  pub does : Does (froms link msgs) old new
+  pub leads : Leads s t (messages msgs) before now
+
+pub gone_none : (link : LinkNo) (s : SessionState) (before : Option (List ℕ)) (a : List Entry) → Gone link s s before before a a
+gone_none link s before a = record { msgs = []; does = does_none a; leads = leads_self s before }
+
+-- what a read gave was delivered
+pub gone_more : (link : LinkNo) (s t u : SessionState) (es : List SessionEvent) (before mid after : Option (List ℕ)) (a b d : List Entry)
+    → Gone link s t before mid a b → Leads t u es mid after → Delivers link es [] b d → Gone link s u before after a d
+gone_more link s t u es before mid after a b d g lead k =
+    let is : es ≡ messages k.msgs = k.are ∙ append-nil (messages k.msgs) in
+    record {
+      msgs = g.msgs ++ k.msgs;
+      does = froms_then link g.msgs k.msgs a b d g.does k.does;
+      leads = subst (λ z. Leads s u z before after) (ap (λ z. messages g.msgs ++ z) is ∙ sym (map-append (λ m. Message m) g.msgs k.msgs))
+          (leads_then s t u (messages g.msgs) es before mid after g.leads lead);
+    }
+
+-- what follows of a link that is up, with the messages that were delivered
+pub record Followed (link : LinkNo) (s : SessionState) (waiting : List SessionEvent) (f : Fate) (e : LinkEnd) (before after : Option (List ℕ)) (Late : Phase → Type 0)
+    (refuses : List Entry → LinkNo → Msg → DeliverError → Type 0) (seen : List Entry) (old new : List Entry) : Type 0 where
+  pub msgs : List Msg
+  pub does : Does (froms link msgs) old new
+  pub follows : Follows link msgs s waiting f e before after ⊥ Late refuses seen
+
+-- a read lost the link
+pub gone_lost : (link : LinkNo) (s t : SessionState) (before mid after : Option (List ℕ)) (a b : List Entry) (e : LinkEnd) (Late : Phase → Type 0)
+    (refuses : List Entry → LinkNo → Msg → DeliverError → Type 0) (seen : List Entry) → Gone link s t before mid a b → HearsSome t mid after (λ c events. LostIs e c events)
+    → Followed link s [] fate.Going e before after Late refuses seen a b
+gone_lost link s t before mid after a b e Late refuses seen g lost = record {
+  msgs = g.msgs;
+  does = g.does;
+  follows = λ first bytes rest c bs comes opened stands at.
+      let x = hears_some_then s t (messages g.msgs) before mid after (λ c events. LostIs e c events) g.leads lost first bytes c bs (at refl) in
+      let all = open_messages c.phase x.1.course.phase (messages g.msgs ++ x.0) opened x.1.between in
+      let ms = are_messages IsSpelled x.0 (messages_rest IsSpelled g.msgs x.0 all.0) in
+      (messages g.msgs ++ x.0, ms.0, x.1, ap (λ z. messages g.msgs ++ z) ms.1 ∙ sym (map-append (λ m. Message m) g.msgs ms.0), lost_ends e x.1.course x.0 ms.0 ⊥ Late _ x.2 ms.1);
+}
+
+-- what a read gave ended it
+pub gone_settled : (link : LinkNo) (s t u : SessionState) (es rest : List SessionEvent) (before mid after : Option (List ℕ)) (a b d : List Entry) (f : Fate) (e : LinkEnd) (L M : Phase → Type 0)
+    (refuses : List Entry → LinkNo → Msg → DeliverError → Type 0) (seen : List Entry) → ((p : Phase) → L p → M p) → Gone link s t before mid a b
+    → Hears t es mid after (λ first bytes c. FateIs f c L × (f ≡ fate.Going → IsAt first u bytes c)) → Delivers link es rest b d → Settles (λ m x. refuses seen link m x) rest f e
+    → Followed link s [] fate.Going e before after M refuses seen a d
+gone_settled link s t u es rest before mid after a b d f e L M refuses seen late g h k ends = record {
+  msgs = g.msgs ++ k.msgs;
+  does = froms_then link g.msgs k.msgs a b d g.does k.does;
+  follows = λ first bytes left c bs comes opened stands at.
+      let Told : Expected → List ℕ → Course → Type 0 = λ first bytes c. FateIs f c L × (f ≡ fate.Going → IsAt first u bytes c) in
+      let x = hears_then s t (messages g.msgs) es before mid after Told g.leads h first bytes c bs (at refl) in
+      let all = open_messages c.phase x.0.course.phase (messages g.msgs ++ es) opened x.0.between in
+      let tail = messages_rest IsSpelled k.msgs rest (subst (AreMessages IsSpelled) k.are (messages_rest IsSpelled g.msgs es all.0)) in
+      let o = settle_ends (λ z m y. refuses z link m y) seen rest f e x.0.course ⊥ L M late tail x.1.0 ends in
+      let is : messages g.msgs ++ es ≡ messages ((g.msgs ++ k.msgs) ++ o.0) =
+      ap (λ z. messages g.msgs ++ z) (k.are ∙ ap (λ z. messages k.msgs ++ z) o.1) ∙ sym (append_assoc (messages g.msgs) (messages k.msgs) (messages o.0))
+      ∙ ap (λ z. z ++ messages o.0) (sym (map-append (λ m. Message m) g.msgs k.msgs)) ∙ sym (map-append (λ m. Message m) (g.msgs ++ k.msgs) o.0) in
+      (messages g.msgs ++ es, o.0, x.0, is, o.2);
+}
+
+-- all turns were made
+pub gone_over : (link : LinkNo) (s t : SessionState) (before now : Option (List ℕ)) (a b : List Entry) (Late : Phase → Type 0)
+    (refuses : List Entry → LinkNo → Msg → DeliverError → Type 0) (seen : List Entry) → Gone link s t before now a b → is_running t.state ≡ true
+    → Followed link s [] fate.Going end.Turns before now Late refuses seen a b
+gone_over link s t before now a b Late refuses seen g run = record {
+  msgs = g.msgs;
+  does = g.does;
+  follows = λ first bytes left c bs comes opened stands at.
+      let x = g.leads.1 first bytes c bs (at refl) in
+      (messages g.msgs, [], x.0, ap messages (sym (append-nil g.msgs)), (runs_at first t.opening t.state t.kept (bytes ++ x.0.piece) x.0.course x.1 run, refl));
+}
+
+-- events that waited ended it
+pub waited_settled : (link : LinkNo) (s : SessionState) (es rest : List SessionEvent) (before : Option (List ℕ)) (a b : List Entry) (f : Fate) (e : LinkEnd) (M : Phase → Type 0)
+    (refuses : List Entry → LinkNo → Msg → DeliverError → Type 0) (seen : List Entry) → AreMessages IsSpelled es → Delivers link es rest a b → Settles (λ m x. refuses seen link m x) rest f e
+    → Followed link s es f e before before M refuses seen a b
+waited_settled link s es rest before a b f e M refuses seen are k ends = record {
+  msgs = k.msgs;
+  does = k.does;
+  follows = λ first bytes left c bs comes opened stands at.
+      let tail = messages_rest IsSpelled k.msgs rest (subst (AreMessages IsSpelled) k.are are) in
+      let o = settle_ends (λ z m y. refuses z link m y) seen rest f e c ⊥ (λ p. ⊥) M (λ p h. absurd h) tail stands ends in
+      ([], o.0, heard_still first s.opening bytes left c before comes, append-nil es ∙ k.are ∙ ap (λ z. messages k.msgs ++ z) o.1 ∙ sym (map-append (λ m. Message m) k.msgs o.0), o.2);
+}
+
+-- they were delivered, and it went on
+pub waited_followed : (link : LinkNo) (s : SessionState) (es : List SessionEvent) (before after : Option (List ℕ)) (a b d : List Entry) (e : LinkEnd) (M : Phase → Type 0)
+    (refuses : List Entry → LinkNo → Msg → DeliverError → Type 0) (seen : List Entry) (f : Fate) → f ≡ fate.Going → Delivers link es [] a b → Followed link s [] fate.Going e before after M refuses seen b d
+    → Followed link s es f e before after M refuses seen a d
+waited_followed link s es before after a b d e M refuses seen f going k g = record {
+  msgs = k.msgs ++ g.msgs;
+  does = froms_then link k.msgs g.msgs a b d k.does g.does;
+  follows = λ first bytes left c bs comes opened stands at.
+      let x = g.follows first bytes left c bs comes opened (subst (λ z. FateIs z c (λ p. ⊥)) going stands) (λ _. at going) in (
+        x.0,
+        x.1,
+        x.2,
+        ap (λ z. z ++ x.0) (k.are ∙ append-nil (messages k.msgs)) ∙ ap (λ z. messages k.msgs ++ z) x.3 ∙ sym (map-append (λ m. Message m) k.msgs (g.msgs ++ x.1))
+            ∙ ap messages (sym (append_assoc k.msgs g.msgs x.1)),
+        x.4,
+      );
+}
+
+-- a session that has opened is still open behind a read
+pub open_on : (t u : SessionState) (es : List SessionEvent) (mid after : Option (List ℕ)) (L : Phase → Type 0) (f : Fate) → IsIn IsOpen t
+    → Hears t es mid after (λ first bytes c. FateIs f c L × (f ≡ fate.Going → IsAt first u bytes c)) → f ≡ fate.Going → IsIn IsOpen u
+open_on t u es mid after L f i h going =
+    let x = h i.0 i.1 i.2 i.3 i.4 in
+    (i.0, i.1 ++ x.0.piece, x.0.course, are_bytes_then i.1 x.0.piece i.3 x.0.are_bytes, x.1.1 going, (open_messages i.2.phase x.0.course.phase es i.5 x.0.between).1)
+
+-- what a read gives is messages
+pub open_gives : (t u : SessionState) (es : List SessionEvent) (mid after : Option (List ℕ)) (L : Phase → Type 0) (f : Fate) → IsIn IsOpen t
+    → Hears t es mid after (λ first bytes c. FateIs f c L × (f ≡ fate.Going → IsAt first u bytes c)) → AreMessages IsSpelled es
+open_gives t u es mid after L f i h =
+    let x = h i.0 i.1 i.2 i.3 i.4 in
+    (open_messages i.2.phase x.0.course.phase es i.5 x.0.between).0
+
+pub leads_by : (t u : SessionState) (es : List SessionEvent) (mid after : Option (List ℕ)) (L : Phase → Type 0) (f : Fate) → u.opening ≡ t.opening
+    → Hears t es mid after (λ first bytes c. FateIs f c L × (f ≡ fate.Going → IsAt first u bytes c)) → f ≡ fate.Going → Leads t u es mid after
+leads_by t u es mid after L f same h going = (same, λ first bytes c bs at. let x = h first bytes c bs at in (x.0, x.1.1 going))
+
+-- ---- ends behind the start of the writer
+
+delivery_started : (error : DeliverError) → IsStarted (end_of_delivery error)
+delivery_started (deliver.NotUp link) = tt
+delivery_started (deliver.Misplaced role) = tt
+delivery_started (deliver.Node (node.Gap router has came)) = tt
+delivery_started (deliver.Node (node.NotDeclared id)) = tt
+delivery_started (deliver.Node (node.TextLimit held more)) = tt
+delivery_started (deliver.Node (node.NumberTaken id)) = tt
+delivery_started (deliver.Node (node.TooMany pending)) = tt
+delivery_started (deliver.Node node.Worn) = tt
+delivery_started (deliver.Node node.Spent) = tt
+delivery_started (deliver.Node node.NoMemory) = tt
+delivery_started (deliver.Full asked free) = tt
+delivery_started deliver.Worn = tt
+delivery_started deliver.NoMemory = tt
+
+pub settles_started : (refuses : Msg → DeliverError → Type 0) (rest : List SessionEvent) (f : Fate) (e : LinkEnd) → Settles refuses rest f e → IsStarted e
+settles_started refuses rest f e (inl stop) = subst IsStarted (sym stop.ends) (delivery_started stop.error)
+settles_started refuses rest fate.Going e (inr is) = absurd is.1
+settles_started refuses rest (fate.Closed reason) e (inr is) = subst IsStarted (sym is.1) tt
+settles_started refuses rest (fate.Peer reason) e (inr is) = subst IsStarted (sym is.1) tt
+
+up_started : (e : LinkEnd) (c : Course) (others : List Msg) (Late : Phase → Type 0) (R : Reason → Type 0) → UpEnds e c others ⊥ Late R → IsStarted e
+up_started end.ReadFault c others Late R h = tt
+up_started end.WriteFault c others Late R h = h
+up_started end.PeerEnded c others Late R h = tt
+up_started (end.Closed reason) c others Late R h = tt
+up_started (end.Peer reason) c others Late R h = tt
+up_started end.CrewRefused c others Late R h = h
+up_started end.Turns c others Late R h = tt
+up_started end.NoMemory c others Late R h = tt
+
+pub follows_started : (link : LinkNo) (msgs : List Msg) (s : SessionState) (e : LinkEnd) (before after : Option (List ℕ)) (Late : Phase → Type 0) (refuses : List Entry → LinkNo → Msg → DeliverError → Type 0) (seen : List Entry)
+    → is_running s.state ≡ true → IsIn IsOpen s → Follows link msgs s [] fate.Going e before after ⊥ Late refuses seen → IsStarted e
+follows_started link msgs s e before after Late refuses seen run i h =
+    let come = comes_at i.0 s.opening s.state s.kept i.1 i.2 i.4 in
+    let x = h i.0 i.1 come.0 i.2 i.3 come.1 i.5 (runs_at i.0 s.opening s.state s.kept i.1 i.2 i.4 run) (λ _. i.4) in
+    up_started e x.2.course x.1 Late _ x.4
+
+-- ---- counts
+
+pub counted_same : (a b : ℕ) (E : Type 0) → Counted a b E → (E → ⊥) → b ≡ a
+counted_same a b E h never = by (ltb a b) refl
+  where
+    by : (t : Bool) → ltb a b ≡ t → b ≡ a
+    by true e = absurd (never (h.only (ltb-true a b e)))
+    by false e = let k = ltb-false a b e in let l = h.later in omega (arith, k, l)
+
+pub rose_more : (n a b c : ℕ) → RoseBy n a b → RoseBy 1 b c → RoseBy (n + 1) a c
+rose_more n a b c h k = let p = h.most in let q = h.least in let r = k.most in let s = k.least in record { most = omega (arith, p, r); least = omega (arith, q, s) }
+
+pub moment_more : (heard last mid first next : ℕ) → min heard last ≤ first → last ≤ mid → min first mid ≤ next → min heard last ≤ next
+moment_more heard last mid first next a b c = omega (arith, a, b, c)

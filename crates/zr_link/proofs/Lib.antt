@@ -1,0 +1,5 @@
+pub mod Stream
+pub mod Hearing
+pub mod Going
+pub mod Unopened
+pub mod Running

@@ -1,0 +1,73 @@
+-- The peer isn't taken; or the link comes up, is followed, and goes down.
+use Rattle.std.proofs.Common.{◌∙◌, ◌++◌, ◌∷◌, [], refl, ap, subst, inl}
+use Rattle.std.specs.Prelude.{Some, None}
+use Rattle.std.specs.Vec.Iter.{into_iter_items}
+use Rattle.zr_msg.specs.declared.event.Event.TheVariants as event
+use Rattle.zr_hist.specs.Words.{seen, mine}
+use Rattle.zr_session.specs.Session.{SessionState, with_confirmed}
+use Rattle.zr_link.specs.Heard.{IsLate}
+use Rattle.zr_link.specs.Acts.{up, froms}
+use Rattle.zr_link.specs.Ends.{IsStarted}
+use Rattle.zr_link.proofs.Going.{Followed, does_entry, does_then}
+use Rattle.zr_link.proofs.Running.{enters_followed, enters_early}
+use Rattle.zr_link.proofs.reader.enter.Goals as goal
+
+pub returns-in-Err-clause-entered : goal.returns-in-Err-clause-entered
+returns-in-Err-clause-entered g c = inl (c.in-Err.ensures.unchanged, refl, (c.in-Err.e, c.in-Err.ensures.refused, c.of_up-end.ensures))
+
+pub returns-in-Ok-begin-clause-entered : goal.returns-in-Ok-begin-clause-entered
+returns-in-Ok-begin-clause-entered g c =
+    let S = c.args.intake.now.session in
+    let waiting = into_iter_items c.args.opened.messages in
+    let link = c.in-Ok.up.0 in
+    let added = c.in-Ok.ensures.added in
+    let first = does_entry (mine c.args.pass.now) (mine c.up.new.pass) added.entry (event.Up link c.args.opened.peer) (Some c.args.opened.outbox) None added.own added.says.0 in
+    let same = c.in-Ok-begin.ensures.same ∙ ap with_confirmed c.without_close.ensures in
+    let on = c.follow-end.ensures.followed in
+    let followed = subst (λ (z : SessionState). Followed link z waiting c.args.opened.fate c.follow-end.result (g.S.Source.left c.args.source.now) (g.S.Source.left c.follow-end.new.source)
+    (IsLate (g.S.Source.quiets c.args.source.now) (g.S.Source.quiets c.follow-end.new.source) z.heard (g.C.Clock.last c.args.clock.now) (g.C.Clock.last c.follow-end.new.clock))
+    (g.P.Port.refuses_message c.args.port.now) (seen c.follow-end.new.pass) (mine c.up.new.pass) (mine c.follow-end.new.pass)) same (record { msgs = on.0; does = on.1; follows = on.2 }) in
+    let down = c.leave.ensures.left in
+    enters_followed c.args.opened.peer c.args.opened.outbox S waiting c.args.opened.fate c.follow-end.result (g.S.Source.left c.args.source.now) (g.S.Source.left c.follow-end.new.source)
+    (IsLate (g.S.Source.quiets c.args.source.now) (g.S.Source.quiets c.follow-end.new.source) S.heard (g.C.Clock.last c.args.clock.now) (g.C.Clock.last c.follow-end.new.clock))
+    (g.P.Port.refuses_up c.args.port.now) (g.P.Port.refuses_message c.args.port.now) (g.P.Port.refuses_down c.args.port.now)
+    c.args.pass.now c.up.new.pass c.follow-end.new.pass c.leave.new.pass link first (record { msgs = followed.msgs; does = followed.does; follows = followed.follows }) c.leave.ensures.prefix down.0 down.1 down.2
+
+pub returns-in-Ok-begin-clause-unwritten : goal.returns-in-Ok-begin-clause-unwritten
+returns-in-Ok-begin-clause-unwritten g c is = absurd (subst IsStarted is c.follow-end.ensures.started)
+
+pub returns-in-Ok-begin-clause-refused : goal.returns-in-Ok-begin-clause-refused
+returns-in-Ok-begin-clause-refused g c =
+    let count = c.in-Ok-begin.ensures.refused in record {
+      later = count.later;
+      one = count.one;
+      cause = λ is. absurd (subst IsStarted is c.follow-end.ensures.started);
+      only = λ rose. absurd (count.only rose);
+    }
+
+pub returns-in-Ok-begin-clause-writer : goal.returns-in-Ok-begin-clause-writer
+returns-in-Ok-begin-clause-writer g c =
+    let link = c.in-Ok.up.0 in
+    let added = c.in-Ok.ensures.added in
+    let first = does_entry (mine c.args.pass.now) (mine c.up.new.pass) added.entry (event.Up link c.args.opened.peer) (Some c.args.opened.outbox) None added.own added.says.0 in
+    let on = c.follow-end.ensures.followed in
+    let down = c.leave.ensures.left in
+    let rest = does_then (froms link on.0) down.0 (mine c.up.new.pass) (mine c.follow-end.new.pass) (mine c.leave.new.pass) on.1 down.2 in (
+      link,
+      c.args.opened.peer,
+      c.args.opened.outbox,
+      froms link on.0 ++ down.0,
+      does_then (up link c.args.opened.peer c.args.opened.outbox ∷ []) (froms link on.0 ++ down.0) (mine c.args.pass.now) (mine c.up.new.pass) (mine c.leave.new.pass) first rest,
+      c.in-Ok-begin.ensures.told,
+    )
+
+pub returns-in-Err-begin-clause-entered : goal.returns-in-Err-begin-clause-entered
+returns-in-Err-begin-clause-entered g c =
+    let link = c.in-Ok.up.0 in
+    let added = c.in-Ok.ensures.added in
+    let first = does_entry (mine c.args.pass.now) (mine c.up.new.pass) added.entry (event.Up link c.args.opened.peer) (Some c.args.opened.outbox) None added.own added.says.0 in
+    let down = c.leave-in-Err-begin.ensures.left in
+    enters_early c.args.opened.peer c.args.opened.outbox c.args.intake.now.session (into_iter_items c.args.opened.messages) c.args.opened.fate _ (g.S.Source.left c.args.source.now)
+    (IsLate (g.S.Source.quiets c.args.source.now) (g.S.Source.quiets c.args.source.now) c.args.intake.now.session.heard (g.C.Clock.last c.args.clock.now) (g.C.Clock.last c.args.clock.now))
+    (g.P.Port.refuses_up c.args.port.now) (g.P.Port.refuses_message c.args.port.now) (g.P.Port.refuses_down c.args.port.now)
+    c.args.pass.now c.up.new.pass c.leave-in-Err-begin.new.pass link first c.in-Err-begin.ensures.early c.requires.messages down.0 down.1 down.2

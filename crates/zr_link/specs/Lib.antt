@@ -1,0 +1,4 @@
+pub mod Ends
+pub mod Heard
+pub mod Acts
+pub mod Run

@@ -1,0 +1,158 @@
+-- What a reader makes of a link, from its begin to its end.
+use Rattle.std.specs.Prelude.{◌≡◌, ◌≢◌, ◌⊎◌, ℕ, List, [], ◌∷◌, ◌++◌, Option, Some, None}
+use mathlib.Core.List.{IsPrefix}
+use Rattle.zr_id.specs.declared.link.LinkNo.{LinkNo}
+use Rattle.zr_frame.specs.Outbox.{OutboxState}
+use Rattle.zr_msg.specs.declared.msg.Msg.{Msg}
+use Rattle.zr_msg.specs.declared.peer.Peer.{Peer}
+use Rattle.zr_open.specs.declared.error.Reason.{Reason}
+use Rattle.zr_crew.specs.Told.{with_last}
+use Rattle.zr_hist.specs.declared.pass.Pass.{Pass}
+use Rattle.zr_hist.specs.Words.{seen, mine}
+use Rattle.zr_port.specs.declared.entry.Entry.{Entry}
+use Rattle.zr_port.specs.declared.error.UpError.{UpError}
+use Rattle.zr_port.specs.declared.error.UpError.TheVariants as up_error
+use Rattle.zr_port.specs.declared.error.DeliverError.{DeliverError}
+use Rattle.zr_port.specs.declared.error.DeliverError.TheVariants as deliver
+use Rattle.zr_port.specs.declared.error.DownError.{DownError}
+use Rattle.zr_port.specs.declared.error.DownError.TheVariants as down_error
+use Rattle.zr_session.specs.declared.event.SessionEvent.{SessionEvent}
+use Rattle.zr_session.specs.declared.event.SessionEvent.TheVariants.{Opened, Message}
+use Rattle.zr_session.specs.declared.fate.End.TheVariants as how
+use Rattle.zr_session.specs.declared.fate.Fate.{Fate}
+use Rattle.zr_session.specs.declared.fate.Fate.TheVariants as fate
+use Rattle.zr_session.specs.declared.phase.Phase.{Phase}
+use Rattle.zr_session.specs.declared.phase.Phase.TheVariants.{Opening}
+use Rattle.zr_session.specs.Course.{Course}
+use Rattle.zr_session.specs.Stream.{Comes}
+use Rattle.zr_session.specs.Session.{SessionState, IsAt}
+use Rattle.zr_open.specs.declared.expected.Expected.{Expected}
+use Rattle.zr_link.specs.declared.end.LinkEnd.{LinkEnd}
+use Rattle.zr_link.specs.declared.end.LinkEnd.TheVariants as end
+use Rattle.zr_link.specs.Ends.{end_of_up, end_of_delivery, reason_of}
+use Rattle.zr_link.specs.Heard.{AreBytes, Takes, Heard, Closes, FateIs, messages, first_of, IsOpen}
+use Rattle.zr_link.specs.Acts.{Act, Does, up, down, froms}
+
+-- ---- messages that are delivered on a link
+
+-- Of some events, the messages at the front were delivered, and the rest was not
+pub record Delivers (link : LinkNo) (events rest : List SessionEvent) (old new : List Entry) : Type 0 where
+  pub msgs : List Msg
+  pub are : events ≡ messages msgs ++ rest
+  pub does : Does (froms link msgs) old new
+
+-- the first of the rest was refused, and so the reader ends
+pub record Stops (refuses : Msg → DeliverError → Type 0) (rest : List SessionEvent) (end : LinkEnd) : Type 0 where
+  pub msg : Msg
+  pub others : List SessionEvent
+  pub error : DeliverError
+  pub first : rest ≡ Message msg ∷ others
+  pub refused : error ≢ deliver.NoMemory → refuses msg error
+  pub ends : end ≡ end_of_delivery error
+
+-- The first of these messages was refused, after a list of entries that the pass had seen, and so this end closes the session
+pub record Refuses (refuses : List Entry → Msg → DeliverError → Type 0) (seen : List Entry) (others : List Msg) (reason : Reason) : Type 0 where
+  pub msg : Msg
+  pub rest : List Msg
+  pub error : DeliverError
+  pub before : List Entry
+  pub first : others ≡ msg ∷ rest
+  pub prefix : IsPrefix before seen
+  pub refused : refuses before msg error
+  pub ends : end_of_delivery error ≡ end.Closed reason
+
+-- Why a reader ends whose link is up, by what was heard and by the messages that were not delivered. `Early` is told of ends that come before the
+-- writer was started, `Late` of a silent peer, and `Refused` of a message that was refused
+abbrev pub UpEnds : LinkEnd → Course → List Msg → Type 0 → (Phase → Type 0) → (Reason → Type 0) → Type 0
+UpEnds end.ReadFault c others Early Late Refused = (c.ends ≡ None) × (others ≡ [])
+UpEnds end.WriteFault c others Early Late Refused = Early
+UpEnds end.PeerEnded c others Early Late Refused = (c.ends ≡ None) × (others ≡ [])
+UpEnds (end.Closed reason) c others Early Late Refused = (Closes reason c Late × (others ≡ [])) ⊎ Refused reason
+UpEnds (end.Peer reason) c others Early Late Refused = (c.ends ≡ Some (how.Peer reason)) × (others ≡ [])
+UpEnds end.CrewRefused c others Early Late Refused = Early
+UpEnds end.Turns c others Early Late Refused = (c.ends ≡ None) × (others ≡ [])
+UpEnds end.NoMemory c others Early Late Refused = Unit {0}
+
+-- how a reader ends where the session has ended so
+abbrev pub EndIs : Fate → LinkEnd → Type 0
+EndIs fate.Going e = ⊥
+EndIs (fate.Closed reason) e = e ≡ end.Closed reason
+EndIs (fate.Peer reason) e = e ≡ end.Peer reason
+
+-- A reader whose link is up went on until an end, from where bytes have led the session and some events still wait: these messages of what waited and of
+-- what was heard since were delivered, in order
+abbrev pub Follows : LinkNo → List Msg → SessionState → List SessionEvent → Fate → LinkEnd → Option (List ℕ) → Option (List ℕ) → Type 0 → (Phase → Type 0)
+    → (List Entry → LinkNo → Msg → DeliverError → Type 0) → List Entry → Type 0
+Follows link msgs s waiting f end before after Early Late refuses seen =
+    (first : Expected) (bytes rest : List ℕ) (c : Course) → AreBytes bytes → Comes s.opening (Opening first) bytes c rest → IsOpen c.phase → FateIs f c (λ p. ⊥)
+    → (f ≡ fate.Going → IsAt first s bytes c)
+    → (later : List SessionEvent) × (others : List Msg) × (h : Heard first s.opening bytes c later before after) × (waiting ++ later ≡ messages (msgs ++ others))
+    × UpEnds end h.course others Early Late (λ reason. Refuses (λ h m e. refuses h link m e) seen others reason)
+
+-- ---- a whole run
+
+-- Why a reader ends before its link is up, by what was heard. `Refused` is told of a peer that isn't taken
+abbrev pub EarlyEnds : LinkEnd → Course → List SessionEvent → (Phase → Type 0) → (Reason → Type 0) → Type 0
+EarlyEnds end.ReadFault c events Late Refused = (c.ends ≡ None) × (events ≡ [])
+EarlyEnds end.WriteFault c events Late Refused = events ≡ []
+EarlyEnds end.PeerEnded c events Late Refused = (c.ends ≡ None) × (events ≡ [])
+EarlyEnds (end.Closed reason) c events Late Refused = (Closes reason c Late × (events ≡ [])) ⊎ Refused reason
+EarlyEnds (end.Peer reason) c events Late Refused = (c.ends ≡ Some (how.Peer reason)) × (events ≡ [])
+EarlyEnds end.CrewRefused c events Late Refused = ⊥
+EarlyEnds end.Turns c events Late Refused = (c.ends ≡ None) × (events ≡ [])
+EarlyEnds end.NoMemory c events Late Refused = Unit {0}
+
+-- The session opened with a peer that the port refused
+pub record NotTaken (refuses : List Entry → Peer → UpError → Type 0) (seen : List Entry) (events : List SessionEvent) (reason : Reason) : Type 0 where
+  pub peer : Peer
+  pub outbox : OutboxState
+  pub msgs : List Msg
+  pub error : UpError
+  pub opens : events ≡ Opened peer outbox ∷ messages msgs
+  pub refused : refuses seen peer error
+  pub ends : end_of_up error ≡ end.Closed reason
+
+-- the link never came up: nothing was added
+pub record StaysDown (end : LinkEnd) (c : Course) (Late : Phase → Type 0) (refuses : List Entry → Peer → UpError → Type 0) (old new : Pass Entry) : Type 0 where
+  pub does : mine new ≡ mine old
+  pub why : EarlyEnds end c c.events Late (λ reason. NotTaken refuses (seen new) c.events reason)
+
+-- the link goes down with the reason of the reader's end, unless the port refuses that
+abbrev pub GoesDown : LinkNo → LinkEnd → (DownError → Type 0) → List Act → Type 0
+GoesDown link end refuses downs = (downs ≡ down link (reason_of end) ∷ []) ⊎ ((downs ≡ []) × ((error : DownError) × (error ≢ down_error.NoMemory → refuses error)))
+
+-- The link came up with the peer and the outbox with which the session opened, then messages were delivered, in order, and at last it went down
+pub record ComesUp (end : LinkEnd) (c : Course) (Late : Phase → Type 0) (refuses : List Entry → LinkNo → Msg → DeliverError → Type 0) (refuses_down : List Entry → LinkNo → DownError → Type 0) (old new : Pass Entry) : Type 0 where
+  pub link : LinkNo
+  pub peer : Peer
+  pub outbox : OutboxState
+  pub msgs : List Msg
+  pub others : List Msg
+  pub downs : List Act
+  pub events_are : c.events ≡ Opened peer outbox ∷ messages (msgs ++ others)
+  pub does : Does (up link peer outbox ∷ (froms link msgs ++ downs)) (mine old) (mine new)
+  pub goes_down : GoesDown link end (λ e. refuses_down (seen new) link e) downs
+  pub why : UpEnds end c others (msgs ≡ []) Late (λ reason. Refuses (λ h m e. refuses h link m e) (seen new) others reason)
+
+-- Either the sink came back, and the crew tells what it told before; or the writer was started, and the crew tells it last, by the link that came up
+abbrev pub Starts : {K : Type 0} → Option K → Option (List LinkNo) → Option (List LinkNo) → List Entry → List Entry → Type 0
+Starts (Some sink) told told_now old new = told_now ≡ told
+Starts None told told_now old new =
+    (link : LinkNo) × (peer : Peer) × (outbox : OutboxState) × (acts : List Act) × Does (up link peer outbox ∷ acts) old new × (told_now ≡ with_last link told)
+
+-- The session has opened, and the port takes the peer or not. Where it does, the link comes up, messages are delivered, and it goes down
+abbrev pub Enters : Peer → OutboxState → SessionState → List SessionEvent → Fate → LinkEnd → Option (List ℕ) → Option (List ℕ) → (Phase → Type 0)
+    → (List Entry → Peer → UpError → Type 0) → (List Entry → LinkNo → Msg → DeliverError → Type 0) → (List Entry → LinkNo → DownError → Type 0) → Pass Entry → Pass Entry → Type 0
+Enters peer outbox s waiting f end before after Late refuses_up refuses refuses_down old new =
+    ((mine new ≡ mine old) × (after ≡ before) × ((error : UpError) × (error ≢ up_error.NoMemory → refuses_up (seen new) peer error) × (end ≡ end_of_up error)))
+    ⊎ ((link : LinkNo) × (msgs : List Msg) × (downs : List Act) × Does (up link peer outbox ∷ (froms link msgs ++ downs)) (mine old) (mine new)
+    × GoesDown link end (λ e. refuses_down (seen new) link e) downs × Follows link msgs s waiting f end before after (msgs ≡ []) Late refuses (seen new))
+
+-- All that a reader read, the course to which it comes, and what it made of the link
+pub record Runs (s : SessionState) (end : LinkEnd) (before after : Option (List ℕ)) (Late : Phase → Type 0) (refuses_up : List Entry → Peer → UpError → Type 0) (refuses : List Entry → LinkNo → Msg → DeliverError → Type 0) (refuses_down : List Entry → LinkNo → DownError → Type 0) (old new : Pass Entry) : Type 0 where
+  pub bytes : List ℕ
+  pub course : Course
+  pub rest : List ℕ
+  pub taken : Takes bytes before after
+  pub comes : Comes s.opening (Opening (first_of s.state)) bytes course rest
+  pub made : StaysDown end course Late refuses_up old new ⊎ ComesUp end course Late refuses refuses_down old new

@@ -1,0 +1,114 @@
+//! A link that is up: what comes is delivered.
+
+ghost use Rattle.std.specs.Prelude.{◌≡◌, ◌≤◌, ◌⊎◌, List, [], true, IfErr, OnOk};
+ghost use mathlib.Core.List.{IsPrefix};
+ghost use Rattle.std.specs.Vec.Iter.{into_iter_items};
+ghost use Rattle.zr_outside.specs.Counts.{Counted, RoseBy};
+ghost use Rattle.zr_hist.specs.Words.{pass_name, IsSamePass, seen, mine};
+ghost use Rattle.zr_msg.specs.declared.msg.Msg.{Msg};
+ghost use Rattle.zr_session.specs.declared.event.SessionEvent.{SessionEvent};
+ghost use Rattle.zr_session.specs.declared.fate.Fate.TheVariants as fates;
+ghost use Rattle.zr_session.specs.Session.{is_running};
+ghost use Rattle.zr_wire.specs.Writing.{IsSpelled};
+ghost use Rattle.zr_link.specs.declared.end.LinkEnd.TheVariants as end;
+ghost use Rattle.zr_link.specs.Heard.{AreMessages, IsLate, IsOpen, IsIn};
+ghost use Rattle.zr_link.specs.Acts.{Does, froms};
+ghost use Rattle.zr_link.specs.Run.{Delivers, Stops, EndIs, Follows};
+
+use crate::end::LinkEnd;
+use crate::intake::Intake;
+use crate::opening::ended;
+use std::alloc::Global;
+use std::vec;
+use zr_hist::Pass;
+use zr_id::link::LinkNo;
+use zr_outside::clock::Clock;
+use zr_outside::source::Source;
+use zr_port::{Entry, Port};
+use zr_session::{Fate, SessionEvent};
+
+/// Reads so often at most, and delivers what comes, until the session ends.
+pub(crate) fn go_on<S: Source, P: Port, C: Clock>(
+    alloc: Global,
+    intake: &mut Intake,
+    source: &mut S,
+    clock: &mut C,
+    port: &P,
+    pass: &mut Pass<Entry>,
+    link: LinkNo,
+    turns: u64,
+) -> LinkEnd
+    requires pass { pass_name pass.old ≡ P.history port.now }
+    requires running { is_running intake.old.session.state ≡ true }
+    requires opened { IsIn IsOpen intake.old.session }
+    ensures same { IsSamePass pass.old pass.new }
+    ensures prefix { IsPrefix (seen pass.old) (seen pass.new) }
+    ensures followed { (msgs : List Msg) × Does (froms link msgs) (mine pass.old) (mine pass.new) × Follows link msgs intake.old.session [] fates.Going result (S.left source.old) (S.left source.new) ⊥ (IsLate (S.quiets source.old) (S.quiets source.new) intake.old.session.heard (C.last clock.old) (C.last clock.new)) (P.refuses_message port.now) (seen pass.new) }
+    ensures fault { Counted (S.faults source.old) (S.faults source.new) (result ≡ end.ReadFault) }
+    ensures ended { Counted (S.ends source.old) (S.ends source.new) (result ≡ end.PeerEnded) }
+    ensures turns { result ≡ end.Turns → RoseBy turns (S.reads source.old) (S.reads source.new) }
+    ensures later { (S.quiets source.old ≤ S.quiets source.new) × (C.last clock.old ≤ C.last clock.new) }
+{
+    for _ in 0..turns {
+        let fate = match intake.next(source, clock) {
+            Ok(fate) => fate,
+            Err(end) => return end,
+        };
+        let events = intake.take_events(alloc).into_iter();
+        if let Err(end) = settle(port, pass, link, events, fate) {
+            return end;
+        }
+    }
+    LinkEnd::Turns
+}
+
+/// Delivers these messages, and tells the end where the session has come to it.
+pub(crate) fn settle<P: Port>(
+    port: &P,
+    pass: &mut Pass<Entry>,
+    link: LinkNo,
+    messages: vec::IntoIter<SessionEvent>,
+    fate: Fate,
+) -> Result<(), LinkEnd>
+    requires pass { pass_name pass.old ≡ P.history port.now }
+    requires messages { AreMessages IsSpelled (into_iter_items messages) }
+    ensures same { IsSamePass pass.old pass.new }
+    ensures prefix { IsPrefix (seen pass.old) (seen pass.new) }
+    ensures ok { OnOk result ((fate ≡ fates.Going) × Delivers link (into_iter_items messages) [] (mine pass.old) (mine pass.new)) }
+    ensures err { IfErr result (λ e. (rest : List SessionEvent) × Delivers link (into_iter_items messages) rest (mine pass.old) (mine pass.new) × (Stops (λ m x. P.refuses_message port.now (seen pass.new) link m x) rest e ⊎ ((rest ≡ []) × EndIs fate e))) }
+{
+    match deliver_all(port, pass, link, messages) {
+        Ok(()) => ended(fate),
+        Err(end) => Err(end),
+    }
+}
+
+// Delivers these messages, in order.
+fn deliver_all<P: Port>(
+    port: &P,
+    pass: &mut Pass<Entry>,
+    link: LinkNo,
+    messages: vec::IntoIter<SessionEvent>,
+) -> Result<(), LinkEnd>
+    requires pass { pass_name pass.old ≡ P.history port.now }
+    requires messages { AreMessages IsSpelled (into_iter_items messages) }
+    ensures same { IsSamePass pass.old pass.new }
+    ensures prefix { IsPrefix (seen pass.old) (seen pass.new) }
+    ensures all { OnOk result (Delivers link (into_iter_items messages) [] (mine pass.old) (mine pass.new)) }
+    ensures stopped { IfErr result (λ e. (rest : List SessionEvent) × Delivers link (into_iter_items messages) rest (mine pass.old) (mine pass.new) × Stops (λ m x. P.refuses_message port.now (seen pass.new) link m x) rest e) }
+{
+    let mut rest = messages;
+    while let Some(event) = rest.next() {
+        match event {
+            SessionEvent::Message(msg) => {
+                if let Err(e) = port.deliver(pass, link, msg) {
+                    return Err(LinkEnd::of_delivery(e));
+                }
+            }
+            // a session opens once
+            SessionEvent::Opened(_, _) => unreachable!(),
+        }
+    }
+    rest.destroy_empty();
+    Ok(())
+}

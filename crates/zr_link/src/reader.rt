@@ -1,0 +1,286 @@
+//! `Reader`: the loop of a link's reader.
+
+ghost use Rattle.std.specs.Prelude.{◌≡◌, ◌≤◌, ◌⊎◌, ℕ, true, List, [], Some, None, IfErr, OnOk, OnErr};
+ghost use mathlib.Core.List.{IsPrefix};
+ghost use Rattle.std.specs.Arc.{arc_value};
+ghost use Rattle.std.specs.Vec.Iter.{into_iter_items};
+ghost use Rattle.zr_outside.specs.Counts.{Counted, Rose, RoseBy};
+ghost use Rattle.zr_msg.specs.declared.msg.Msg.{Msg};
+ghost use Rattle.zr_hist.specs.Words.{pass_name, IsSamePass, seen, mine};
+ghost use Rattle.zr_crew.specs.Crew.{crew_faults, crew_told};
+ghost use Rattle.zr_crew.specs.Told.{with_last};
+ghost use Rattle.zr_session.specs.declared.fate.Fate.TheVariants as fates;
+ghost use Rattle.zr_session.specs.Session.{is_running, with_confirmed};
+ghost use Rattle.zr_wire.specs.Writing.{IsSpelled};
+ghost use Rattle.zr_link.specs.declared.end.LinkEnd.TheVariants as end;
+ghost use Rattle.zr_link.specs.Acts.{Act, Does, froms};
+ghost use Rattle.zr_link.specs.Heard.{IsBegun, IsLate, IsOpen, IsIn, AreMessages};
+ghost use Rattle.zr_link.specs.Run.{Follows, Enters, Runs, Starts, GoesDown};
+ghost use Rattle.zr_link.specs.Ends.{IsEarly, IsStarted, IsCrewRefused};
+
+use crate::clock::PortClock;
+use crate::delivery::{go_on, settle};
+use crate::end::LinkEnd;
+use crate::intake::Intake;
+use crate::opening::{Opened, open};
+use crate::writing::{Writing, write};
+use std::alloc::Global;
+use std::sync::Arc;
+use std::thread::Threads;
+use std::vec;
+use zr_crew::Crew;
+use zr_hist::Pass;
+use zr_id::link::LinkNo;
+use zr_open::Reason;
+use zr_outside::clock::Clock;
+use zr_outside::sink::{Sink, write_all};
+use zr_outside::source::Source;
+use zr_port::{Entry, Port};
+use zr_ring::Taker;
+use zr_session::{Fate, Session, SessionEvent};
+use zr_writer::close_batch;
+
+/// The reader of a link.
+pub struct Reader;
+
+/// What a link's two threads share or hand on: the sink to which the reader writes until the writer is started, the port of both, the writer's clock,
+/// and how often at most the one may read and the other ask its ring.
+#[derive(Drop)]
+pub struct Outward<K: Sink + Drop, P: Port + Drop, C: Clock + Drop> {
+    pub sink: K,
+    pub port: Arc<P>,
+    pub clock: C,
+    pub turns: u64,
+}
+
+impl Reader {
+    /// Opens a session on a link, brings the link up by the port, starts its writer, and delivers each message that comes, in order, until the session
+    /// ends or so many reads were made; then the link goes down. The sink comes back exactly where no writer was started. `first` is what the
+    /// session asks to be written before anything is read. The crew tells a started writer by its link.
+    pub fn run<
+        S: Source,
+        K: Sink + Send + Drop + 'static,
+        P: Port + Send + Sync + Drop + 'static,
+        C: Clock + Send + Drop + 'static,
+        R: Threads + Drop,
+    >(
+        alloc: Global,
+        source: &mut S,
+        out: Outward<K, P, C>,
+        first: &[u8],
+        session: Session,
+        clock: &mut C,
+        crew: &mut Crew<R, LinkNo>,
+        pass: &mut Pass<Entry>,
+    ) -> (LinkEnd, Option<K>)
+    where
+        P::Note: Send + 'static,
+        requires begun { IsBegun session first.now }
+        requires pass { pass_name pass.old ≡ P.history (arc_value out.port) }
+        ensures same { IsSamePass pass.old pass.new }
+        ensures prefix { IsPrefix (seen pass.old) (seen pass.new) }
+        ensures run { Runs session result.0 (S.left source.old) (S.left source.new) (IsLate (S.quiets source.old) (S.quiets source.new) session.heard (C.last clock.old) (C.last clock.new)) (P.refuses_up (arc_value out.port)) (P.refuses_message (arc_value out.port)) (P.refuses_down (arc_value out.port)) pass.old pass.new }
+        ensures fault { Counted (S.faults source.old) (S.faults source.new) (result.0 ≡ end.ReadFault) }
+        ensures ended { Counted (S.ends source.old) (S.ends source.new) (result.0 ≡ end.PeerEnded) }
+        ensures turns { result.0 ≡ end.Turns → RoseBy out.turns (S.reads source.old) (S.reads source.new) }
+        ensures unwritten { result.0 ≡ end.WriteFault → (sink : K) × (result.1 ≡ Some sink) × Rose (K.faults out.sink) (K.faults sink) }
+        ensures refused { Counted (crew_faults crew.old) (crew_faults crew.new) (result.0 ≡ end.CrewRefused) }
+        ensures writer { Starts result.1 (crew_told crew.old) (crew_told crew.new) (mine pass.old) (mine pass.new) }
+    {
+        let mut out = out;
+        let Ok(port) = Arc::try_clone(&out.port) else {
+            return (LinkEnd::NoMemory, Some(out.sink));
+        };
+        if write_all(&mut out.sink, first).is_err() {
+            return (LinkEnd::WriteFault, Some(out.sink));
+        }
+        let Ok(mut intake) = Intake::new(alloc, session) else {
+            return (LinkEnd::NoMemory, Some(out.sink));
+        };
+        match open(alloc, &mut intake, source, &mut out.sink, clock, out.turns) {
+            Ok(opened) => enter(
+                alloc,
+                &mut intake,
+                opened,
+                source,
+                out,
+                &*port,
+                clock,
+                crew,
+                pass,
+            ),
+            Err(end) => (end, Some(out.sink)),
+        }
+    }
+}
+
+// The session has opened: brings the link up, and goes on until the link goes down.
+fn enter<
+    S: Source,
+    K: Sink + Send + Drop + 'static,
+    P: Port + Send + Sync + Drop + 'static,
+    C: Clock + Send + Drop + 'static,
+    R: Threads + Drop,
+>(
+    alloc: Global,
+    intake: &mut Intake,
+    opened: Opened,
+    source: &mut S,
+    out: Outward<K, P, C>,
+    port: &P,
+    clock: &mut C,
+    crew: &mut Crew<R, LinkNo>,
+    pass: &mut Pass<Entry>,
+) -> (LinkEnd, Option<K>)
+where
+    P::Note: Send + 'static,
+    requires pass { pass_name pass.old ≡ P.history port.now }
+    requires messages { AreMessages IsSpelled (into_iter_items opened.messages) }
+    requires stands { opened.fate ≡ fates.Going → (is_running intake.old.session.state ≡ true) × IsIn IsOpen intake.old.session }
+    ensures same { IsSamePass pass.old pass.new }
+    ensures prefix { IsPrefix (seen pass.old) (seen pass.new) }
+    ensures entered { Enters opened.peer opened.outbox intake.old.session (into_iter_items opened.messages) opened.fate result.0 (S.left source.old) (S.left source.new) (IsLate (S.quiets source.old) (S.quiets source.new) intake.old.session.heard (C.last clock.old) (C.last clock.new)) (P.refuses_up port.now) (P.refuses_message port.now) (P.refuses_down port.now) pass.old pass.new }
+    ensures fault { Counted (S.faults source.old) (S.faults source.new) (result.0 ≡ end.ReadFault) }
+    ensures ended { Counted (S.ends source.old) (S.ends source.new) (result.0 ≡ end.PeerEnded) }
+    ensures turns { result.0 ≡ end.Turns → RoseBy opened.left (S.reads source.old) (S.reads source.new) }
+    ensures unwritten { result.0 ≡ end.WriteFault → (sink : K) × (result.1 ≡ Some sink) × Rose (K.faults out.sink) (K.faults sink) }
+    ensures refused { Counted (crew_faults crew.old) (crew_faults crew.new) (result.0 ≡ end.CrewRefused) }
+    ensures writer { Starts result.1 (crew_told crew.old) (crew_told crew.new) (mine pass.old) (mine pass.new) }
+    ensures later { (S.quiets source.old ≤ S.quiets source.new) × (C.last clock.old ≤ C.last clock.new) }
+{
+    let mut out = out;
+    let Opened {
+        peer,
+        outbox,
+        messages,
+        fate,
+        left,
+    } = opened;
+    intake.without_close(fate);
+    let (link, taker) = match port.up(pass, peer, outbox) {
+        Ok(up) => up,
+        Err(e) => {
+            let end = LinkEnd::of_up(e);
+            refuse(intake, &mut out.sink, end);
+            return (end, Some(out.sink));
+        }
+    };
+    match begin(alloc, intake, out, crew, link, taker) {
+        Ok(()) => {
+            let end = follow(
+                alloc, intake, messages, fate, source, clock, port, pass, link, left,
+            );
+            leave(port, pass, link, end);
+            (end, None)
+        }
+        Err((end, sink)) => {
+            leave(port, pass, link, end);
+            (end, Some(sink))
+        }
+    }
+}
+
+// The reader has ended so: its link goes down.
+fn leave<P: Port>(port: &P, pass: &mut Pass<Entry>, link: LinkNo, end: LinkEnd)
+    requires { pass_name pass.old ≡ P.history port.now }
+    ensures same { IsSamePass pass.old pass.new }
+    ensures prefix { IsPrefix (seen pass.old) (seen pass.new) }
+    ensures left { (downs : List Act) × GoesDown link end (λ e. P.refuses_down port.now (seen pass.new) link e) downs × Does downs (mine pass.old) (mine pass.new) }
+{
+    // a link that another caller took down, or want of memory, changes nothing of how the reader ends
+    let _ = port.down(pass, link, end.reason());
+}
+
+// The writer is started: delivers what waits, and goes on.
+fn follow<S: Source, P: Port, C: Clock>(
+    alloc: Global,
+    intake: &mut Intake,
+    waiting: vec::IntoIter<SessionEvent>,
+    fate: Fate,
+    source: &mut S,
+    clock: &mut C,
+    port: &P,
+    pass: &mut Pass<Entry>,
+    link: LinkNo,
+    turns: u64,
+) -> LinkEnd
+    requires pass { pass_name pass.old ≡ P.history port.now }
+    requires messages { AreMessages IsSpelled (into_iter_items waiting) }
+    requires stands { fate ≡ fates.Going → (is_running intake.old.session.state ≡ true) × IsIn IsOpen intake.old.session }
+    ensures same { IsSamePass pass.old pass.new }
+    ensures prefix { IsPrefix (seen pass.old) (seen pass.new) }
+    ensures followed { (msgs : List Msg) × Does (froms link msgs) (mine pass.old) (mine pass.new) × Follows link msgs intake.old.session (into_iter_items waiting) fate result (S.left source.old) (S.left source.new) ⊥ (IsLate (S.quiets source.old) (S.quiets source.new) intake.old.session.heard (C.last clock.old) (C.last clock.new)) (P.refuses_message port.now) (seen pass.new) }
+    ensures started { IsStarted result }
+    ensures fault { Counted (S.faults source.old) (S.faults source.new) (result ≡ end.ReadFault) }
+    ensures ended { Counted (S.ends source.old) (S.ends source.new) (result ≡ end.PeerEnded) }
+    ensures turns { result ≡ end.Turns → RoseBy turns (S.reads source.old) (S.reads source.new) }
+    ensures later { (S.quiets source.old ≤ S.quiets source.new) × (C.last clock.old ≤ C.last clock.new) }
+{
+    match settle(port, pass, link, waiting, fate) {
+        Ok(()) => go_on(alloc, intake, source, clock, port, pass, link, turns),
+        Err(end) => end,
+    }
+}
+
+// The link is up: writes the answer to OPEN, and starts the writer. Where that fails the sink comes back.
+fn begin<
+    K: Sink + Send + Drop + 'static,
+    P: Port + Send + Sync + Drop + 'static,
+    C: Clock + Send + Drop + 'static,
+    R: Threads + Drop,
+>(
+    alloc: Global,
+    intake: &mut Intake,
+    out: Outward<K, P, C>,
+    crew: &mut Crew<R, LinkNo>,
+    link: LinkNo,
+    taker: Taker<P::Note>,
+) -> Result<(), (LinkEnd, K)>
+where
+    P::Note: Send + 'static,
+    ensures early { IfErr result (λ e. IsEarly e.0) }
+    ensures same { OnOk result (intake.new.session ≡ with_confirmed intake.old.session) }
+    ensures unwritten { IfErr result (λ e. e.0 ≡ end.WriteFault → Rose (K.faults out.sink) (K.faults e.1)) }
+    ensures refused { Counted (crew_faults crew.old) (crew_faults crew.new) (IsCrewRefused result) }
+    ensures told { OnOk result (crew_told crew.new ≡ with_last link (crew_told crew.old)) }
+    ensures untold { OnErr result (crew_told crew.new ≡ crew_told crew.old) }
+{
+    let Outward {
+        mut sink,
+        port,
+        clock,
+        turns,
+    } = out;
+    if intake.confirm().is_err() {
+        return Err((LinkEnd::NoMemory, sink));
+    }
+    if write_all(&mut sink, intake.answers()).is_err() {
+        return Err((LinkEnd::WriteFault, sink));
+    }
+    let job = Writing {
+        alloc,
+        sink,
+        taker,
+        clock: PortClock::new(clock, port, link),
+        turns,
+    };
+    match crew.start(job, link, |job: Writing<K, P, C>| write(job)) {
+        Ok(()) => Ok(()),
+        Err(job) => {
+            let Writing { mut sink, .. } = job;
+            // the end is decided, so a write that fails changes nothing
+            let _ = write_all(&mut sink, &close_batch(Reason::Generic.byte()));
+            Err((LinkEnd::CrewRefused, sink))
+        }
+    }
+}
+
+// The peer isn't taken: writes what was answered before, and the CLOSE. The end is decided, so a write that fails changes nothing of it.
+fn refuse<K: Sink>(intake: &Intake, sink: &mut K, end: LinkEnd) {
+    if write_all(sink, intake.answers()).is_err() {
+        return;
+    }
+    if let Some(reason) = end.reason() {
+        let _ = write_all(sink, &close_batch(reason));
+    }
+}
