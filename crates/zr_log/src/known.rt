@@ -3,8 +3,7 @@
 ghost use Rattle.std.specs.Prelude.{◌≡◌, ◌+◌, ◌<◌, if◌then◌else◌, IfOk, OnOk, OnErr};
 ghost use Rattle.std.specs.Option.{option_copied};
 ghost use Rattle.zr_log.specs.Known.{AreInOrder, IsRefusedAs, sources, log_of, position, decls, with_log, nothing_known, after_own, refuses_own, is_next, is_newer, after_step, after_snap, refuses_step, refuses_snap, refusal, over_limit};
-ghost use Rattle.zr_log.specs.Log.{changed, change_held, change_more};
-ghost use Rattle.zr_set.specs.Decls.{IsSet, set_of};
+ghost use Rattle.zr_log.specs.Log.{changed, change_held};
 
 use crate::error::KnownError;
 use crate::log::{self, Log};

@@ -1,7 +1,7 @@
 //! `Log`: what is known of the change log of one router.
 
 ghost use Rattle.std.specs.Prelude.{◌≡◌, OnOk, OnErr};
-ghost use Rattle.zr_log.specs.Log.{Change, changed, change_held, change_more};
+ghost use Rattle.zr_log.specs.Log.{changed, change_held, change_more};
 
 use std::alloc::AllocError;
 use zr_id::zid::Zid;

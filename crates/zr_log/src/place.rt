@@ -1,10 +1,10 @@
 //! Logs in ascending order of their routers, and the list of these routers beside them: the place of one, and how one is put there.
 
-ghost use Rattle.std.specs.Prelude.{◌≡◌, ◌<◌, ◌≤◌, List, map, length, slice_set, slice_index_or, OnOk, OnErr};
+ghost use Rattle.std.specs.Prelude.{◌≡◌, ◌<◌, ◌≤◌, map, length, slice_set, slice_index_or, OnOk, OnErr};
 ghost use Rattle.std.specs.Cmp.Lexicographic.{slice_cmp};
 ghost use Rattle.std.specs.Ordering.{nat_cmp};
 ghost use Rattle.zr_set.specs.Ascending.{IsAscending, put};
-ghost use Rattle.zr_set.specs.Place.{IsPlace, IsGap, IsAt};
+ghost use Rattle.zr_set.specs.Place.{IsPlace};
 ghost use Rattle.zr_log.specs.Known.{changed_log};
 ghost use Rattle.zr_log.specs.declared.log.Log.{Log};
 ghost use Rattle.std.specs.List.{insert};
