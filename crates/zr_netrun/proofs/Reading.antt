@@ -120,6 +120,7 @@ tells_judged to_end bytes m a b c e e' (Refused error) status h told = by status
     by s.Done t = absurd t
     by s.Words t = absurd t
     by s.ReadFault t = absurd t
+    by s.HostFault t = absurd t
 tells_judged to_end bytes m a b c e e' NoMemory status h told =
     rw told.0 (subst (λ (z : Option (List ℕ)). AppendsPrefix (judged to_end bytes).text a z) (sym told.1) h, as_before e e' told.2)
 tells_judged to_end bytes m a b c e e' WriteFault status h told =

@@ -60,6 +60,7 @@ too_long_told bytes a b e e' status none long out told = by status told
     by s.Done t = absurd t
     by s.Words t = absurd t
     by s.ReadFault t = absurd t
+    by s.HostFault t = absurd t
 
 -- a piece passes the limit, and no line that ends within it is refused
 pub passes_limit : (InputEnded : Type 0) (left now next : Option (List ℕ)) (n used total : ℕ) (buffer : List ℕ) (k m : Kept) (a b c e e' : Option (List ℕ)) (u : Unit {0}) (status : Status) →

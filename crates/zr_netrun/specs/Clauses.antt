@@ -4,7 +4,7 @@ use Rattle.zr_language.specs.Lines.{most_bytes}
 use Rattle.zr_outside.specs.Counts.{Rose}
 use Rattle.zr_outside.specs.Told.{IsAsBefore, Appends, AppendsPrefix}
 use Rattle.zr_netrun.specs.declared.status.Status.{Status}
-use Rattle.zr_netrun.specs.declared.status.Status.TheVariants.{Done, Refused, Words, NoMemory, ReadFault, WriteFault}
+use Rattle.zr_netrun.specs.declared.status.Status.TheVariants.{Done, Refused, Words, NoMemory, ReadFault, WriteFault, HostFault}
 use Rattle.zr_netrun.specs.Judged.{judged_lines, judged, is_refused, complaint}
 
 -- where the source tells its bytes: P holds of those that were read, and the others are left
@@ -38,6 +38,7 @@ Reports WriteFault to_end out out' err err' bytes =
     (AppendsPrefix (judged to_end bytes).text out out' × IsAsBefore err err')
     ⊎ ((is_refused to_end bytes ≡ true) × Appends (judged to_end bytes).text out out' × AppendsPrefix (complaint to_end bytes) err err')
 Reports Words to_end out out' err err' bytes = ⊥
+Reports HostFault to_end out out' err err' bytes = ⊥
 
 -- So much was reported of the bytes that were read. That they are the whole script is said only where the input told its end, and
 -- where they are not too many.

@@ -97,6 +97,7 @@ Complains s.NoMemory text err err' = err' ≡ err
 Complains s.Done text err err' = ⊥
 Complains s.Words text err err' = ⊥
 Complains s.ReadFault text err err' = ⊥
+Complains s.HostFault text err err' = ⊥
 
 -- What was told of a run that stopped where its last line is refused: what waited was written, and then why. Where a write of out
 -- failed err has nothing.
@@ -108,6 +109,7 @@ TellsRefusal s.NoMemory error number pending out out' err err' = Appends pending
 TellsRefusal s.Done error number pending out out' err err' = ⊥
 TellsRefusal s.Words error number pending out out' err err' = ⊥
 TellsRefusal s.ReadFault error number pending out out' err err' = ⊥
+TellsRefusal s.HostFault error number pending out out' err err' = ⊥
 
 -- otherwise nothing was written
 abbrev pub Tells : Stop → Status → ℕ → List ℕ → Option (List ℕ) → Option (List ℕ) → Option (List ℕ) → Option (List ℕ) → Type 0

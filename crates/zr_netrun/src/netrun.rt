@@ -38,6 +38,7 @@ pub fn run_script<S: Source, K: Sink, E: Sink>(
     ensures read { result ≡ Status.ReadFault → Rose (S.faults input.old) (S.faults input.new) }
     ensures write { result ≡ Status.WriteFault → Rose (K.faults out.old) (K.faults out.new) ⊎ Rose (E.faults err.old) (E.faults err.new) }
     ensures words { (result ≡ Status.Words) → ⊥ }
+    ensures host { (result ≡ Status.HostFault) → ⊥ }
     ensures input_later { S.faults input.old ≤ S.faults input.new }
     ensures out_later { K.faults out.old ≤ K.faults out.new }
     ensures err_later { E.faults err.old ≤ E.faults err.new }

@@ -6,7 +6,7 @@ ghost use Rattle.zr_netrun.specs.Status.{number_of};
 /// The status with which the program ends.
 #[derive(Clone, Copy, Debug, PartialEq, Eq)]
 pub enum Status {
-    /// The input was read to its end, and no line was refused.
+    /// The input was read to its end, and no line was refused; or no more links come.
     Done,
     /// A line was refused, or the script is too long.
     Refused,
@@ -18,6 +18,8 @@ pub enum Status {
     ReadFault,
     /// A write of the output or of the error output failed.
     WriteFault,
+    /// The host can't listen or accept, or has no random words. No run of a script ends so.
+    HostFault,
 }
 
 impl Status {
@@ -32,6 +34,7 @@ impl Status {
             Status::NoMemory => 3,
             Status::ReadFault => 4,
             Status::WriteFault => 5,
+            Status::HostFault => 6,
         }
     }
 }

@@ -1,9 +1,12 @@
-//! The program: its words, its real sources and sinks, and the status with which it ends.
+//! The program: its words, its real sources, sinks and links, and the status with which it ends.
 //! What it promises stands at `run`.
 #![tactic(auto)]
 
+mod command_line;
 mod edge;
+mod other;
 mod run;
+mod serving;
 #[cfg(test)]
 mod tests;
 
@@ -12,8 +15,10 @@ use crate::run::run;
 use std::alloc::AllocError;
 use std::process::ExitCode;
 use std::{env, io};
+use zr_crew::Crew;
 use zr_netrun::status::Status;
 use zr_outside::std_streams::{ReadSource, WriteSink};
+use zr_tcp::TcpHost;
 
 fn main(rt: HostRuntime) -> ExitCode {
     let alloc = rt.alloc();
@@ -23,7 +28,20 @@ fn main(rt: HostRuntime) -> ExitCode {
     let mut input = ReadSource::new(rt.stdin());
     let mut out = WriteSink::new(rt.stdout());
     let mut err = WriteSink::new(rt.stderr());
-    exit_code(run(alloc, without_name(&words), &mut input, &mut out, &mut err))
+    let mut host = TcpHost::new(rt);
+    let Ok(mut crew) = Crew::new(rt, alloc) else {
+        return exit_code(Status::NoMemory);
+    };
+    exit_code(run(
+        rt,
+        alloc,
+        without_name(&words),
+        &mut input,
+        &mut out,
+        &mut err,
+        &mut host,
+        &mut crew,
+    ))
 }
 
 // The program's words, its name the first of them. One that is not UTF-8 is none that the program takes: then there are none.

@@ -1,6 +1,6 @@
 //! `run`: the whole program over the sources and sinks that it is given.
 
-ghost use Rattle.std.specs.Prelude.{◌≡◌, ◌≤◌, ◌⊎◌, ◌↔◌, true, false, map, IsTrue};
+ghost use Rattle.std.specs.Prelude.{◌≡◌, ◌≤◌, ◌⊎◌, ◌↔◌, true, false, map, IfSome, IsTrue};
 ghost use Rattle.std.specs.String.{string_bytes};
 ghost use Rattle.zr_outside.specs.Counts.{Rose};
 ghost use Rattle.zr_guarantee.specs.Scripts.{IsRefined};
@@ -9,25 +9,31 @@ ghost use Rattle.zr_laws.specs.Runs.{RestIsQuiet};
 ghost use Rattle.zr_settled.specs.Tables.{AgreeWhereSettled};
 ghost use Rattle.zr_netrun.specs.Clauses.{OfRead, OfLines, IsReported, IsReadToEnd};
 ghost use Rattle.zr_top.specs.Means.{HaveKeyTexts, LeadToTheirReport};
-ghost use Rattle.zr_top.specs.Words.{is_net, TellsUsage};
+ghost use Rattle.zr_crew.specs.Crew.{crew_faults, crew_told};
+ghost use Rattle.zr_serve.specs.Serving.{outputs};
+ghost use Rattle.zr_top.specs.Asked.{IsServing};
+ghost use Rattle.zr_top.specs.Words.{is_net, is_taken, served_of, TellsUsage};
 
+use crate::command_line::is_net;
+use crate::other::run_other;
 use std::alloc::Global;
+use std::sync::Wait;
+use std::thread::Threads;
+use zr_crew::Crew;
 use zr_laws::keys::{asking_is_meeting, keys_are_texts};
 use zr_laws::refines::{lines_are_moments, lines_refine};
 use zr_laws::runs::rest_is_quiet;
 use zr_netrun::netrun::run_script;
 use zr_netrun::status::Status;
-use zr_outside::sink::{Sink, write_all};
+use zr_outside::host::Host;
+use zr_outside::sink::Sink;
 use zr_outside::source::Source;
+use zr_serve::LinkJob;
 use zr_settled::settled_tables_agree;
 
-/// The forms of the program's words.
-const USAGE: &str =
-    "usage: zrd net [--summary] / serve --id ID --listen ADDRESS [DIAL]... / make --number N --routers R --clients C --messages M\n";
-
-/// The whole program. At this stage its words are exactly `net`: it reads a script from `input`, and writes the report to `out`.
-///
-/// `words` are without the program's name. With other words the status is `Words`, and `err` has the usage line.
+/// The whole program. Its words, without its name, ask for one of two things. `net` reads a script from `input`, and writes the report to `out`.
+/// `serve --id ID --listen ADDRESS [DIAL]...` runs a router of that identifier, which listens at the address and dials each of the others once, until the
+/// host gives no more links: the crew starts the reader of each link. With other words the status is `Words`, and `err` has the usage line.
 ///
 /// The clause `headline` says what clients were sent, and `told` that the report, of which `report` speaks, tells just this: the accepted
 /// acts of the lines that were read lead to the moment that the report tells. Beside them stands what the headline's words mean: the keys
@@ -37,13 +43,28 @@ const USAGE: &str =
 /// The clause `tables` says what routers know of links: at each moment of the lines that were read, also between two steps of a run, at
 /// which the network is settled, each router sees exactly the links that are up at both ends, as far as it reaches, whatever links came,
 /// broke and went before.
-pub fn run<S: Source, K: Sink, E: Sink>(
+///
+/// The clause `served` says what was called of the host, which jobs the crew started, and what was written, where a router was served.
+pub fn run<
+    S: Source,
+    K: Sink,
+    E: Sink,
+    H: Host,
+    R: Threads + Wait + Copy + Send + Sync + Drop + 'static,
+>(
+    rt: R,
     alloc: Global,
     words: &[String],
     input: &mut S,
     out: &mut K,
     err: &mut E,
+    host: &mut H,
+    crew: &mut Crew<R, LinkJob>,
 ) -> Status
+where
+    H::In: 'static,
+    H::Out: 'static,
+    H::Time: 'static,
     ensures report { is_net (map string_bytes words.now) ≡ true → OfRead (S.left input.old) (S.left input.new) (IsReported (IsReadToEnd (S.ends input.old) (S.ends input.new) (S.quiets input.old) (S.quiets input.new)) result (K.held out.old) (K.held out.new) (E.held err.old) (E.held err.new)) }
     ensures headline { is_net (map string_bytes words.now) ≡ true → OfLines (S.left input.old) (S.left input.new) IsRefined }
     ensures told { is_net (map string_bytes words.now) ≡ true → OfLines (S.left input.old) (S.left input.new) LeadToTheirReport }
@@ -51,10 +72,14 @@ pub fn run<S: Source, K: Sink, E: Sink>(
     ensures tables { is_net (map string_bytes words.now) ≡ true → OfLines (S.left input.old) (S.left input.new) AgreeWhereSettled }
     ensures meeting { AskingIsMeeting }
     ensures rest { RestIsQuiet }
-    ensures whole { result ≡ Status.Done → IsReadToEnd (S.ends input.old) (S.ends input.new) (S.quiets input.old) (S.quiets input.new) }
+    ensures served { IfSome (served_of (map string_bytes words.now)) (λ s. IsServing s result (H.calls host.old) (H.calls host.new) (crew_told crew.old) (crew_told crew.new) (crew_faults crew.old) (crew_faults crew.new) (outputs (K.held out.old) (E.held err.old) (E.faults err.old)) (outputs (K.held out.new) (E.held err.new) (E.faults err.new))) }
+    ensures whole { is_net (map string_bytes words.now) ≡ true → result ≡ Status.Done → IsReadToEnd (S.ends input.old) (S.ends input.new) (S.quiets input.old) (S.quiets input.new) }
+    ensures ended { is_net (map string_bytes words.now) ≡ false → result ≡ Status.Done → Rose (H.ends host.old) (H.ends host.new) }
+    ensures host { result ≡ Status.HostFault → Rose (H.faults host.old) (H.faults host.new) }
+    ensures refused { result ≡ Status.Refused → is_net (map string_bytes words.now) ≡ true }
     ensures read { result ≡ Status.ReadFault → Rose (S.faults input.old) (S.faults input.new) }
     ensures write { result ≡ Status.WriteFault → Rose (K.faults out.old) (K.faults out.new) ⊎ Rose (E.faults err.old) (E.faults err.new) }
-    ensures words { (result ≡ Status.Words) ↔ (is_net (map string_bytes words.now) ≡ false) }
+    ensures words { (result ≡ Status.Words) ↔ (is_taken (map string_bytes words.now) ≡ false) }
     ensures input_later { S.faults input.old ≤ S.faults input.new }
     ensures out_later { K.faults out.old ≤ K.faults out.new }
     ensures err_later { E.faults err.old ≤ E.faults err.new }
@@ -63,29 +88,11 @@ pub fn run<S: Source, K: Sink, E: Sink>(
     asking_is_meeting();
     rest_is_quiet();
     if !is_net(words) {
-        return usage(err);
+        return run_other(rt, alloc, words, out, err, host, crew);
     }
     lines_refine();
     lines_are_moments();
     keys_are_texts();
     settled_tables_agree();
     run_script(alloc, input, out, err)
-}
-
-fn is_net(words: &[String]) -> bool
-    ensures { result ≡ is_net (map string_bytes words.now) }
-{
-    match words {
-        [word] => word.as_bytes() == b"net".as_slice(),
-        _ => false,
-    }
-}
-
-fn usage<E: Sink>(err: &mut E) -> Status
-    ensures words { result ≡ Status.Words }
-    ensures tells { TellsUsage (E.held err.old) (E.held err.new) (E.faults err.old) (E.faults err.new) }
-    ensures later { E.faults err.old ≤ E.faults err.new }
-{
-    let _ = write_all(err, USAGE.as_bytes());
-    Status::Words
 }

@@ -1,11 +1,19 @@
-//! Worked rows, refusals and statuses, over sources and sinks in memory.
+//! Worked rows, refusals and statuses, over sources, sinks and hosts in memory.
 
 use crate::run::run;
+use rand_chacha::ChaCha20Rng;
+use rand_core::SeedableRng;
 use std::alloc::{AllocError, Global};
+use std::sync::Wait;
 use std::test::Fail;
+use std::thread::Threads;
+use zr_crew::Crew;
 use zr_netrun::status::Status;
+use zr_outside::mem_clock::MemClock;
+use zr_outside::mem_host::MemHost;
 use zr_outside::mem_sink::MemSink;
 use zr_outside::mem_source::MemSource;
+use zr_serve::{LinkJob, Side};
 
 const ONE_SAMPLE: &str =
     "router 0a\nclient c1 0a\nclient c2 0a\nsub c2 1 a/b\nhandle 0a c2\nmark\nput c1 a/b hi\nhandle 0a c1\ntake 0a c2\n";
@@ -34,8 +42,27 @@ const SOUND: Outside<'static> = Outside {
     failing_error: &[],
 };
 
+type TestHost = MemHost<MemSource, MemSink, ChaCha20Rng>;
+
+fn host(alloc: Global) -> TestHost {
+    TestHost::new(
+        alloc,
+        MemClock::new(0, 100),
+        ChaCha20Rng::from_seed([7; 32]),
+    )
+}
+
+fn nothing(alloc: Global) -> MemSource {
+    MemSource::new(Vec::new(alloc), 1, Vec::new(alloc), Vec::new(alloc))
+}
+
+fn sink(alloc: Global) -> MemSink {
+    MemSink::new(alloc, Vec::new(alloc))
+}
+
 // What a run gave: its status, and whether out and err hold these texts.
-fn gives(
+fn gives<R: Threads + Wait + Copy + Send + Sync + Drop + 'static>(
+    rt: R,
     alloc: Global,
     word: &str,
     script: &[u8],
@@ -52,12 +79,72 @@ fn gives(
     );
     let mut out = MemSink::new(alloc, Vec::from_slice(alloc, outside.failing_write)?);
     let mut err = MemSink::new(alloc, Vec::from_slice(alloc, outside.failing_error)?);
-    let status = run(alloc, words.as_slice(), &mut input, &mut out, &mut err);
+    let mut crew = Crew::new(rt, alloc)?;
+    let status = run(
+        rt,
+        alloc,
+        words.as_slice(),
+        &mut input,
+        &mut out,
+        &mut err,
+        &mut host(alloc),
+        &mut crew,
+    );
     Ok((
         status,
         out.bytes() == out_text.as_bytes(),
         err.bytes() == err_text.as_bytes(),
     ))
+}
+
+fn words_of(alloc: Global, text: &str) -> Result<Vec<String>, AllocError> {
+    let mut words = Vec::new(alloc);
+    for word in text.split(' ') {
+        words.push(String::from_str(alloc, word)?)?;
+    }
+    Ok(words)
+}
+
+// What serving in a host gave: its status, whether out and err hold these texts, and a letter for each job that the crew started.
+fn serves<R: Threads + Wait + Copy + Send + Sync + Drop + 'static>(
+    rt: R,
+    alloc: Global,
+    words: &str,
+    mut host: TestHost,
+    out_text: &str,
+    err_text: &str,
+) -> Result<(Status, bool, bool, Vec<u8>), AllocError> {
+    let words = words_of(alloc, words)?;
+    let (mut out, mut err) = (sink(alloc), sink(alloc));
+    let mut crew = Crew::telling(rt, alloc, Vec::new(alloc))?;
+    let status = run(
+        rt,
+        alloc,
+        words.as_slice(),
+        &mut nothing(alloc),
+        &mut out,
+        &mut err,
+        &mut host,
+        &mut crew,
+    );
+    crew.wait();
+    Ok((
+        status,
+        out.bytes() == out_text.as_bytes(),
+        err.bytes() == err_text.as_bytes(),
+        letters(alloc, crew.told().unwrap_or(&[]))?,
+    ))
+}
+
+fn letters(alloc: Global, jobs: &[LinkJob]) -> Result<Vec<u8>, AllocError> {
+    let mut all = Vec::new(alloc);
+    for job in jobs.iter() {
+        all.push(match job.side {
+            Side::Accepting => b'a',
+            Side::Dialling => b'd',
+        })?;
+    }
+    Ok(all)
 }
 
 #[test]
@@ -87,7 +174,7 @@ fn scripts_give_their_reports(rt: HostRuntime) -> Result<(), Fail> {
         ),
         ("\n# a router\nrouter 0a\n\nmark", "mark #5\n"),
     ] {
-        let given = gives(rt.alloc(), "net", script.as_bytes(), &SOUND, report, "")?;
+        let given = gives(rt, rt.alloc(), "net", script.as_bytes(), &SOUND, report, "")?;
         assert!(&rt; given.0 == Status::Done && given.1 && given.2, "{script}");
     }
     Ok(())
@@ -155,7 +242,15 @@ fn refused_scripts_say_why(rt: HostRuntime) -> Result<(), Fail> {
             "line 2: 12 Limit\n",
         ),
     ] {
-        let given = gives(rt.alloc(), "net", script.as_bytes(), &SOUND, report, why)?;
+        let given = gives(
+            rt,
+            rt.alloc(),
+            "net",
+            script.as_bytes(),
+            &SOUND,
+            report,
+            why,
+        )?;
         assert!(&rt;
             given.0 == Status::Refused && given.1 && given.2,
             "{script}"
@@ -172,6 +267,7 @@ fn pieces_make_no_difference(rt: HostRuntime) -> Result<(), Fail> {
         ..SOUND
     };
     let given = gives(
+        rt,
         rt.alloc(),
         "net",
         ONE_SAMPLE.as_bytes(),
@@ -189,6 +285,7 @@ fn a_long_line_is_refused_whatever_it_says(rt: HostRuntime) -> Result<(), Fail> 
     let line = vec![in rt.alloc(); b'#'; 5_000]?;
     let outside = Outside { most: 7, ..SOUND };
     let given = gives(
+        rt,
         rt.alloc(),
         "net",
         line.as_slice(),
@@ -214,24 +311,112 @@ fn faults_end_the_run(rt: HostRuntime) -> Result<(), Fail> {
         failing_error: &[0],
         ..SOUND
     };
-    let read = gives(rt.alloc(), "net", ONE_SAMPLE.as_bytes(), &reads, "", "")?;
+    let read = gives(rt, rt.alloc(), "net", ONE_SAMPLE.as_bytes(), &reads, "", "")?;
     assert!(&rt; read.0 == Status::ReadFault && read.1 && read.2);
-    let written = gives(rt.alloc(), "net", ONE_SAMPLE.as_bytes(), &writes, "", "")?;
+    let written = gives(
+        rt,
+        rt.alloc(),
+        "net",
+        ONE_SAMPLE.as_bytes(),
+        &writes,
+        "",
+        "",
+    )?;
     assert!(&rt; written.0 == Status::WriteFault && written.1 && written.2);
-    let told = gives(rt.alloc(), "net", b"bogus", &errors, "", "")?;
+    let told = gives(rt, rt.alloc(), "net", b"bogus", &errors, "", "")?;
     assert!(&rt; told.0 == Status::WriteFault && told.1 && told.2);
     Ok(())
 }
 
 #[test]
 fn other_words_are_told_the_usage(rt: HostRuntime) -> Result<(), Fail> {
-    let given = gives(rt.alloc(), "nets", ONE_SAMPLE.as_bytes(), &SOUND, "", USAGE)?;
+    let given = gives(
+        rt,
+        rt.alloc(),
+        "nets",
+        ONE_SAMPLE.as_bytes(),
+        &SOUND,
+        "",
+        USAGE,
+    )?;
     assert!(&rt; given.0 == Status::Words && given.1 && given.2);
     let errors = Outside {
         failing_error: &[0],
         ..SOUND
     };
-    let failed = gives(rt.alloc(), "nets", ONE_SAMPLE.as_bytes(), &errors, "", "")?;
+    let failed = gives(
+        rt,
+        rt.alloc(),
+        "nets",
+        ONE_SAMPLE.as_bytes(),
+        &errors,
+        "",
+        "",
+    )?;
     assert!(&rt; failed.0 == Status::Words && failed.1 && failed.2);
+    Ok(())
+}
+
+// Two links come, and one of two dials gives a link.
+fn links(alloc: Global) -> Result<TestHost, AllocError> {
+    let mut host = host(alloc);
+    host.accepts(nothing(alloc), sink(alloc))?;
+    host.accepts(nothing(alloc), sink(alloc))?;
+    host.dials(nothing(alloc), sink(alloc))?;
+    Ok(host)
+}
+
+#[test]
+fn each_link_is_a_job(rt: HostRuntime) -> Result<(), Fail> {
+    let words = "serve --id 01 --listen here there nowhere";
+    let given = serves(
+        rt,
+        rt.alloc(),
+        words,
+        links(rt.alloc())?,
+        "serving 01\n",
+        "dial nowhere failed\n",
+    )?;
+    assert!(&rt; given.0 == Status::Done && given.1 && given.2);
+    assert_eq!(&rt; given.3.as_slice(), b"daa".as_slice());
+    Ok(())
+}
+
+#[test]
+fn a_host_that_fails_ends_it(rt: HostRuntime) -> Result<(), Fail> {
+    let alloc = rt.alloc();
+    let words = "serve --id 01 --listen here";
+    let deaf = serves(
+        rt,
+        alloc,
+        words,
+        links(alloc)?.deaf(),
+        "",
+        "listen here failed\n",
+    )?;
+    assert!(&rt; deaf.0 == Status::HostFault && deaf.1 && deaf.2 && deaf.3.is_empty());
+    let host = links(alloc)?.troubled(vec![in alloc; 0]?, Vec::new(alloc));
+    let failed = serves(rt, alloc, words, host, "serving 01\n", "accept failed\n")?;
+    assert!(&rt; failed.0 == Status::HostFault && failed.1 && failed.2 && failed.3.is_empty());
+    Ok(())
+}
+
+#[test]
+fn other_words_for_serve_are_told_the_usage(rt: HostRuntime) -> Result<(), Fail> {
+    for words in [
+        "serve",
+        "serve --id 01",
+        "serve --id 01 --listen",
+        "serve --id 0A --listen here",
+        "serve --id 00 --listen here",
+        "serve --id  --listen here",
+        "serve --listen here --id 01",
+        "server --id 01 --listen here",
+        "serve --ID 01 --listen here",
+        "net --id 01 --listen here",
+    ] {
+        let given = serves(rt, rt.alloc(), words, host(rt.alloc()), "", USAGE)?;
+        assert!(&rt; given.0 == Status::Words && given.1 && given.2, "{words}");
+    }
     Ok(())
 }

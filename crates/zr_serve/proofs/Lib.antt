@@ -1,0 +1,5 @@
+pub mod Beginning
+pub mod Words
+pub mod Stepping
+pub mod Reaching
+pub mod Served

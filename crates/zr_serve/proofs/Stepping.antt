@@ -1,0 +1,150 @@
+-- Serving step by step: calls behind other calls, jobs behind other jobs.
+use Rattle.std.proofs.Common.{arith, suc, ◌≡◌, ℕ, ◌+◌, ◌-◌, ◌^◌, ◌≤◌, Bool, true, false, List, [], ◌∷◌, ◌++◌, length, Option, Some, None, Result, Ok, Err, refl, sym, ap, subst, ◌∙◌, append_assoc}
+use Rattle.std.proofs.lemmas.List.{append-nil, length-append}
+use Rattle.std.specs.Prelude.{min, is_err}
+use Rattle.zr_outside.specs.Counts.{Counted}
+use Rattle.zr_outside.specs.Host as host
+use Rattle.zr_outside.specs.Told.{Appends, AppendsPrefix}
+use Rattle.zr_outside.specs.declared.host.Call.{Call}
+use Rattle.zr_writer.proofs.Carrying.{appends_none, appends_both, prefix_behind}
+use Rattle.zr_crew.specs.Crew as crew
+use Rattle.zr_serve.specs.declared.job.LinkJob.{LinkJob}
+use Rattle.zr_serve.specs.declared.job.Side.{Side}
+use Rattle.zr_serve.specs.Calls.{Records, side_of, sides_of}
+use Rattle.zr_serve.specs.Jobs.{LinksState, next_job, with_next, jobs_of, behind}
+use Rattle.zr_serve.specs.Lines.{complaint, complaints}
+use Rattle.zr_serve.specs.Moments.{Moment, marked, unmarked, Tells, Starts, Serves, BreaksOff}
+
+-- ---- lists of calls and of links
+
+pub sides_both : (xs ys : List Call) → sides_of (xs ++ ys) ≡ sides_of xs ++ sides_of ys
+sides_both [] ys = refl
+sides_both (x ∷ xs) ys = ap (λ z. side_of x ++ z) (sides_both xs ys) ∙ sym (append_assoc (side_of x) (sides_of xs) (sides_of ys))
+
+pub complaints_both : (xs ys : List Call) → complaints (xs ++ ys) ≡ complaints xs ++ complaints ys
+complaints_both [] ys = refl
+complaints_both (x ∷ xs) ys = ap (λ z. complaint x ++ z) (complaints_both xs ys) ∙ sym (append_assoc (complaint x) (complaints xs) (complaints ys))
+
+pub jobs_both : (l : LinksState) (xs ys : List Side) → jobs_of l (xs ++ ys) ≡ jobs_of l xs ++ jobs_of (behind l xs) ys
+jobs_both l [] ys = refl
+jobs_both l (x ∷ xs) ys = ap (λ z. next_job l x ∷ z) (jobs_both (with_next l) xs ys)
+
+pub behind_both : (l : LinksState) (xs ys : List Side) → behind l (xs ++ ys) ≡ behind (behind l xs) ys
+behind_both l [] ys = refl
+behind_both l (x ∷ xs) ys = behind_both (with_next l) xs ys
+
+-- ---- what the host records
+
+pub records_none : (a : Option (List Call)) → Records [] a a
+records_none None = tt
+records_none (Some calls) = sym (append-nil calls)
+
+pub records_one : (c : Call) (a b : Option (List Call)) → host.Records c a b → Records (c ∷ []) a b
+records_one c None None h = tt
+records_one c None (Some after) h = h
+records_one c (Some calls) None h = tt
+records_one c (Some calls) (Some after) h = h
+
+pub records_both : (xs ys : List Call) (a b c : Option (List Call)) → Records xs a b → Records ys b c → Records (xs ++ ys) a c
+records_both xs ys None None None h k = tt
+records_both xs ys None None (Some z) h k = k
+records_both xs ys None (Some y) c h k = absurd h
+records_both xs ys (Some x) None None h k = tt
+records_both xs ys (Some x) None (Some z) h k = absurd k
+records_both xs ys (Some x) (Some y) None h k = tt
+records_both xs ys (Some x) (Some y) (Some z) h k = k ∙ ap (λ w. w ++ ys) h ∙ append_assoc x xs ys
+
+-- ---- the jobs that are started
+
+pub marked_both : (ms ns : List Bool) (js ks : List LinkJob) → length ms ≡ length js → marked (ms ++ ns) (js ++ ks) ≡ marked ms js ++ marked ns ks
+marked_both [] ns [] ks e = refl
+marked_both [] ns (j ∷ js) ks e = absurd (by e)
+  where
+    by : 0 ≡ suc (length js) → ⊥
+    by e = omega arith
+marked_both (m ∷ ms) ns [] ks e = absurd (by e)
+  where
+    by : suc (length ms) ≡ 0 → ⊥
+    by e = omega arith
+marked_both (true ∷ ms) ns (j ∷ js) ks e = ap (λ z. j ∷ z) (marked_both ms ns js ks (omega arith))
+marked_both (false ∷ ms) ns (j ∷ js) ks e = marked_both ms ns js ks (omega arith)
+
+pub unmarked_both : (ms ns : List Bool) → unmarked (ms ++ ns) ≡ unmarked ms + unmarked ns
+unmarked_both [] ns = omega arith
+unmarked_both (true ∷ ms) ns = unmarked_both ms ns
+unmarked_both (false ∷ ms) ns = omega (arith, unmarked_both ms ns)
+
+tells_none : (t : Option (List LinkJob)) → Tells [] t t
+tells_none None = refl
+tells_none (Some told) = ap Some (sym (append-nil told))
+
+tells_both : (js ks : List LinkJob) (a b c : Option (List LinkJob)) → Tells js a b → Tells ks b c → Tells (js ++ ks) a c
+tells_both js ks None b c h k = rw h at k
+tells_both js ks (Some told) b c h k = rw h at k ∙ ap Some (append_assoc told js ks)
+
+back_both : (f g h u v : ℕ) → min (f + u) (2 ^ 64 - 1) ≤ g → min (g + v) (2 ^ 64 - 1) ≤ h → min (f + (u + v)) (2 ^ 64 - 1) ≤ h
+back_both f g h u v p q = omega arith
+
+pub starts_none : (t : Option (List LinkJob)) (f : ℕ) → Starts [] t t f f
+starts_none t f = record { marks = []; each = refl; are_told = tells_none t; back = by f }
+  where
+    by : (f : ℕ) → min (f + 0) (2 ^ 64 - 1) ≤ f
+    by f = omega arith
+
+pub starts_both : (js ks : List LinkJob) (a b c : Option (List LinkJob)) (f g h : ℕ) → Starts js a b f g → Starts ks b c g h → Starts (js ++ ks) a c f h
+starts_both js ks a b c f g h p q = record {
+  marks = p.marks ++ q.marks;
+  each = length-append p.marks q.marks ∙ (ap (λ n. n + length q.marks) p.each ∙ (ap (λ n. length js + n) q.each ∙ sym (length-append js ks)));
+  are_told = subst (λ z. Tells z a c) (sym (marked_both p.marks q.marks js ks p.each)) (tells_both _ _ a b c p.are_told q.are_told);
+  back = subst (λ n. min (f + n) (2 ^ 64 - 1) ≤ h) (sym (unmarked_both p.marks q.marks)) (back_both f g h _ _ p.back q.back);
+}
+
+-- one start, by what the crew says of it
+pub starts_one : {J : Type 0} (r : Result (Unit {0}) J) (job : LinkJob) (a b : Option (List LinkJob)) (f g : ℕ) → crew.Tells r job a b
+    → Counted f g (is_err r ≡ true) → Starts (job ∷ []) a b f g
+starts_one (Ok u) job None b f g h k = record { marks = true ∷ []; each = refl; are_told = h; back = by k.later }
+  where
+    by : f ≤ g → min (f + 0) (2 ^ 64 - 1) ≤ g
+    by le = omega arith
+starts_one (Ok u) job (Some told) b f g h k = record { marks = true ∷ []; each = refl; are_told = h; back = by k.later }
+  where
+    by : f ≤ g → min (f + 0) (2 ^ 64 - 1) ≤ g
+    by le = omega arith
+starts_one (Err e) job a b f g h k = record { marks = false ∷ []; each = refl; are_told = subst (λ t. Tells [] a t) (sym h) (tells_none a); back = k.cause refl }
+
+-- ---- both
+
+pub serves_none : (a : Moment) → Serves [] a a
+serves_none a = record {
+  recorded = records_none a.calls;
+  started = starts_none a.told a.faults;
+  links_are = refl;
+  complained = appends_none a.held;
+}
+
+pub serves_both : (xs ys : List Call) (a b c : Moment) → Serves xs a b → Serves ys b c → Serves (xs ++ ys) a c
+serves_both xs ys a b c p q = record {
+  recorded = records_both xs ys a.calls b.calls c.calls p.recorded q.recorded;
+  started = subst (λ js. Starts js a.told c.told a.faults c.faults) (sym jobs_are)
+      (starts_both _ _ a.told b.told c.told a.faults b.faults c.faults p.started q.started);
+  links_are = q.links_are ∙ (ap (λ l. behind l (sides_of ys)) p.links_are ∙ (sym (behind_both a.links (sides_of xs) (sides_of ys))
+      ∙ ap (λ s. behind a.links s) (sym (sides_both xs ys))));
+  complained = subst (λ t. Appends t a.held c.held) (sym (complaints_both xs ys)) (appends_both _ _ a.held b.held c.held p.complained q.complained);
+}
+  where
+    jobs_are : jobs_of a.links (sides_of (xs ++ ys)) ≡ jobs_of a.links (sides_of xs) ++ jobs_of b.links (sides_of ys)
+    jobs_are = ap (λ s. jobs_of a.links s) (sides_both xs ys) ∙ (jobs_both a.links (sides_of xs) (sides_of ys)
+        ∙ ap (λ l. jobs_of a.links (sides_of xs) ++ jobs_of l (sides_of ys)) (sym p.links_are))
+
+pub breaks_both : (xs ys : List Call) (a b c : Moment) → Serves xs a b → BreaksOff ys b c → BreaksOff (xs ++ ys) a c
+breaks_both xs ys a b c p q = record {
+  recorded = records_both xs ys a.calls b.calls c.calls p.recorded q.recorded;
+  jobs = jobs_of a.links (sides_of xs) ++ q.jobs;
+  last = q.last;
+  jobs_are = ap (λ s. jobs_of a.links s) (sides_both xs ys) ∙ (jobs_both a.links (sides_of xs) (sides_of ys)
+      ∙ (ap (λ l. jobs_of a.links (sides_of xs) ++ jobs_of l (sides_of ys)) (sym p.links_are)
+      ∙ (ap (λ js. jobs_of a.links (sides_of xs) ++ js) q.jobs_are ∙ sym (append_assoc _ q.jobs q.last))));
+  one = q.one;
+  started = starts_both _ _ a.told b.told c.told a.faults b.faults c.faults p.started q.started;
+  complained = subst (λ t. AppendsPrefix t a.held c.held) (sym (complaints_both xs ys)) (prefix_behind _ _ a.held b.held c.held p.complained q.complained);
+}

@@ -1,0 +1,47 @@
+-- The jobs of the readers of links: what each begins with.
+use Rattle.std.specs.Prelude.{ℕ, ◌+◌, ◌-◌, ◌^◌, ◌%◌, List, [], ◌∷◌, ◌++◌}
+use Rattle.std.specs.Int.{to_le_bytes, w64}
+use Rattle.rand_core.specs.Stream.{Stream, next_u64}
+use Rattle.zr_serve.specs.declared.job.LinkJob.{LinkJob}
+use Rattle.zr_serve.specs.declared.job.Side.{Side}
+
+-- what the links of a router begin with: its identifier, the secret of its cookies, the random words that are left, and the next link's number
+pub record LinksState : Type 0 where
+  pub me : List ℕ
+  pub secret : List ℕ
+  pub words : Stream
+  pub count : ℕ
+
+-- the next random word, and those that are left behind it
+abbrev pub word : Stream → ℕ
+word s = (next_u64 s).0
+
+abbrev pub rest : Stream → Stream
+rest s = (next_u64 s).1
+
+abbrev pub word_bytes : Stream → List ℕ
+word_bytes s = to_le_bytes w64 (word s)
+
+-- the secret is the first four words, each with its lowest byte first
+abbrev pub secret_of : Stream → List ℕ
+secret_of s = ((word_bytes s ++ word_bytes (rest s)) ++ word_bytes (rest (rest s))) ++ word_bytes (rest (rest (rest s)))
+
+-- before the first link
+abbrev pub first_links : List ℕ → Stream → LinksState
+first_links me s = record { me = me; secret = secret_of s; words = rest (rest (rest (rest s))); count = 0 }
+
+-- the job of the next link, which takes one random word
+abbrev pub next_job : LinksState → Side → LinkJob
+next_job l side = record { side = side; number = l.count; me = l.me; secret = l.secret; word = word l.words; turns = 2 ^ 64 - 1 }
+
+abbrev pub with_next : LinksState → LinksState
+with_next l = record l { words = rest l.words; count = (l.count + 1) % 2 ^ 64 }
+
+-- the jobs of some links, in the order in which they came, and what is left behind them
+abbrev pub jobs_of : LinksState → List Side → List LinkJob
+jobs_of l [] = []
+jobs_of l (side ∷ sides) = next_job l side ∷ jobs_of (with_next l) sides
+
+abbrev pub behind : LinksState → List Side → LinksState
+behind l [] = l
+behind l (side ∷ sides) = behind (with_next l) sides

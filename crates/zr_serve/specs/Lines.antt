@@ -1,0 +1,36 @@
+-- The lines that serving writes.
+use Rattle.std.specs.Prelude.{ℕ, true, false, List, [], ◌∷◌, ◌++◌, codes}
+use Rattle.hex.specs.Hex.{encode_lower}
+use Rattle.zr_outside.specs.declared.host.Call.{Call}
+use Rattle.zr_outside.specs.declared.host.Call.TheVariants.{Listen, Dial, Accept}
+
+-- `serving ID`
+abbrev pub serving_text : List ℕ → List ℕ
+serving_text id = codes "serving " ++ (encode_lower id ++ codes "\n")
+
+-- a call with an address failed
+abbrev pub failed_text : List ℕ → List ℕ → List ℕ
+failed_text head address = head ++ (address ++ codes " failed\n")
+
+abbrev pub dial_text : List ℕ → List ℕ
+dial_text address = failed_text (codes "dial ") address
+
+abbrev pub listen_text : List ℕ → List ℕ
+listen_text address = failed_text (codes "listen ") address
+
+abbrev pub no_words_text : List ℕ
+no_words_text = codes "no random words\n"
+
+abbrev pub accept_text : List ℕ
+accept_text = codes "accept failed\n"
+
+-- what is told of a call while serving goes on: the dials that gave no link
+abbrev pub complaint : Call → List ℕ
+complaint (Listen address is_listening) = []
+complaint (Dial address true) = []
+complaint (Dial address false) = dial_text address
+complaint (Accept answer) = []
+
+abbrev pub complaints : List Call → List ℕ
+complaints [] = []
+complaints (call ∷ calls) = complaint call ++ complaints calls

@@ -1,0 +1,125 @@
+-- How serving goes, end by end.
+use Rattle.std.specs.Prelude.{◌≡◌, ℕ, ◌⊎◌, Bool, true, false, List, [], ◌∷◌, ◌++◌, All, length, take, Option}
+use Rattle.rand_core.specs.Stream.{Stream}
+use Rattle.zr_outside.specs.Counts.{Rose}
+use Rattle.zr_outside.specs.Told.{Appends, AppendsPrefix}
+use Rattle.zr_outside.specs.declared.host.Answer.{Answer}
+use Rattle.zr_outside.specs.declared.host.Answer.TheVariants.{Link, End, Failed}
+use Rattle.zr_outside.specs.declared.host.Call.{Call}
+use Rattle.zr_outside.specs.declared.host.Call.TheVariants.{Listen}
+use Rattle.zr_serve.specs.declared.end.ServeEnd.{ServeEnd}
+use Rattle.zr_serve.specs.declared.end.ServeEnd.TheVariants.{Done, NoMemory, WriteFault, HostFault}
+use Rattle.zr_serve.specs.Calls.{dials, accepts, IsGoing}
+use Rattle.zr_serve.specs.declared.job.LinkJob.{LinkJob}
+use Rattle.zr_serve.specs.Jobs.{LinksState, first_links}
+use Rattle.zr_serve.specs.Lines.{serving_text, no_words_text, accept_text, listen_text}
+use Rattle.zr_serve.specs.Moments.{Moment, moment, Serves, BreaksOff}
+
+-- a line was written, or a prefix of it and a write failed
+abbrev pub Says : List ℕ → Option (List ℕ) → Option (List ℕ) → ℕ → ℕ → Type 0
+Says line held held' faults faults' = Appends line held held' ⊎ (AppendsPrefix line held held' × Rose faults faults')
+
+-- It listened, dialled each address once, in order, and then accepted, with these answers
+abbrev pub listening : List ℕ → List (List ℕ) → List Bool → List Answer → List Call
+listening address addresses gave answers = Listen address true ∷ (dials addresses gave ++ accepts answers)
+
+-- accepting came to this answer first that doesn't go on
+pub record Ends (last : Answer) (address : List ℕ) (addresses : List (List ℕ)) (made : List Call) : Type 0 where
+  pub gave : List Bool
+  pub answers : List Answer
+  pub all : length gave ≡ length addresses
+  pub going : All IsGoing answers
+  pub calls_are : made ≡ listening address addresses gave (answers ++ last ∷ [])
+
+-- a write failed or memory ran out, which ended it sooner: while it dialled, or while it accepted
+pub record EndsWithin (address : List ℕ) (addresses : List (List ℕ)) (made : List Call) : Type 0 where
+  pub gave : List Bool
+  pub answers : List Answer
+  pub going : All IsGoing answers
+  pub order : (answers ≡ []) ⊎ (length gave ≡ length addresses)
+  pub calls_are : made ≡ listening address addresses gave answers
+
+-- the same, or before anything was called
+abbrev pub EndsSooner : List ℕ → List (List ℕ) → List Call → Type 0
+EndsSooner address addresses made = (made ≡ []) ⊎ EndsWithin address addresses made
+
+-- accepting goes on
+pub record Goes (a b : Moment) : Type 0 where
+  pub answers : List Answer
+  pub going : All IsGoing answers
+  pub serves : Serves (accepts answers) a b
+
+-- one accept that ends serving
+abbrev pub Stops : ServeEnd → Moment → Moment → Type 0
+Stops Done a b = Serves (accepts (End ∷ [])) a b
+Stops HostFault a b = Serves (accepts (Failed ∷ [])) a b
+Stops NoMemory a b = BreaksOff (accepts (Link ∷ [])) a b
+Stops WriteFault a b = ⊥
+
+-- accepting came to an answer that doesn't go on, or memory ran out
+abbrev pub Accepts : ServeEnd → Moment → Moment → Type 0
+Accepts Done a b = (answers : List Answer) × All IsGoing answers × Serves (accepts (answers ++ End ∷ [])) a b
+Accepts HostFault a b = (answers : List Answer) × All IsGoing answers × Serves (accepts (answers ++ Failed ∷ [])) a b
+Accepts NoMemory a b = (answers : List Answer) × All IsGoing answers × BreaksOff (accepts answers) a b
+Accepts WriteFault a b = ⊥
+
+-- The host has no random words, can't listen, or can't accept any more: which calls were made, what was said before, and the line that tells why
+abbrev pub Fails : List ℕ → List ℕ → List (List ℕ) → List Call → List ℕ → List ℕ → Type 0
+Fails id address addresses made said line =
+    ((made ≡ []) × (said ≡ []) × (line ≡ no_words_text))
+    ⊎ (((made ≡ Listen address false ∷ []) × (said ≡ []) × (line ≡ listen_text address))
+    ⊎ (Ends Failed address addresses made × (said ≡ serving_text id) × (line ≡ accept_text)))
+
+-- What the two outputs hold, and how often a write to the error output failed
+pub record Outputs : Type 0 where
+  pub out : Option (List ℕ)
+  pub err : Option (List ℕ)
+  pub faults : ℕ
+
+abbrev pub outputs : Option (List ℕ) → Option (List ℕ) → ℕ → Outputs
+outputs out err faults = record { out = out; err = err; faults = faults }
+
+-- No more links come: all was called, started and told
+pub record Completes (id address : List ℕ) (addresses : List (List ℕ)) (a b : Moment) (o p : Outputs) : Type 0 where
+  pub made : List Call
+  pub ends : Ends End address addresses made
+  pub serves : Serves made a b
+  pub said : Appends (serving_text id) o.out p.out
+
+-- The host failed
+pub record FailsAt (id address : List ℕ) (addresses : List (List ℕ)) (a b : Moment) (o p : Outputs) : Type 0 where
+  pub made : List Call
+  pub text : List ℕ
+  pub line : List ℕ
+  pub fails : Fails id address addresses made text line
+  pub serves : Serves made a b
+  pub said : Appends text o.out p.out
+  pub told : Says line b.held p.err o.faults p.faults
+
+-- A write failed, or memory ran out
+pub record CutsOff (id address : List ℕ) (addresses : List (List ℕ)) (a b : Moment) (o p : Outputs) : Type 0 where
+  pub made : List Call
+  pub ends : EndsSooner address addresses made
+  pub breaks : BreaksOff made a b
+  pub said : AppendsPrefix (serving_text id) o.out p.out
+
+abbrev pub Comes : ServeEnd → List ℕ → List ℕ → List (List ℕ) → Moment → Moment → Outputs → Outputs → Type 0
+Comes Done id address addresses a b o p = Completes id address addresses a b o p × (b.held ≡ p.err)
+Comes HostFault id address addresses a b o p = FailsAt id address addresses a b o p
+Comes NoMemory id address addresses a b o p = CutsOff id address addresses a b o p × (b.held ≡ p.err)
+Comes WriteFault id address addresses a b o p = CutsOff id address addresses a b o p × (b.held ≡ p.err)
+
+-- A router of this identifier was served at this address, and these were to be dialled: from the old calls of the host, jobs told and failed starts of
+-- the crew to the new ones, for some random words of the host
+pub record IsServed (end : ServeEnd) (id address : List ℕ) (addresses : List (List ℕ)) (calls calls' : Option (List Call))
+    (told told' : Option (List LinkJob)) (faults faults' : ℕ) (o p : Outputs) : Type 0 where
+  pub words : Stream
+  pub held : Option (List ℕ)
+  pub links : LinksState
+  pub comes : Comes end id address addresses (moment calls told faults o.err (first_links id words)) (moment calls' told' faults' held links) o p
+
+-- so many of the addresses were dialled
+pub record Dials (addresses : List (List ℕ)) (count : ℕ) (a b : Moment) : Type 0 where
+  pub gave : List Bool
+  pub all : length gave ≡ count
+  pub serves : Serves (dials (take count addresses) gave) a b

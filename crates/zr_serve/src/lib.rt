@@ -1,0 +1,16 @@
+//! Serving: a router listens and dials, and starts the reader of each link that comes. Where links come from, and the port at which they reach the
+//! router, are its caller's.
+#![tactic(auto)]
+
+mod end;
+mod job;
+mod lines;
+mod links;
+mod plan;
+mod reading;
+mod service;
+
+pub use end::ServeEnd;
+pub use job::{LinkJob, Side};
+pub use plan::ServePlan;
+pub use service::{Serving, serve};

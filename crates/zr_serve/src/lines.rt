@@ -1,0 +1,110 @@
+//! The lines that serving writes.
+
+ghost use Rattle.std.specs.Prelude.{◌≡◌, ◌≤◌, Err, IfOk, OnErr, OnOk};
+ghost use Rattle.std.specs.String.{string_bytes};
+ghost use Rattle.zr_outside.specs.Counts.{Rose};
+ghost use Rattle.zr_outside.specs.Told.{Appends, AppendsPrefix};
+ghost use Rattle.zr_serve.specs.Lines.{dial_text, failed_text, listen_text, serving_text};
+ghost use Rattle.zr_serve.specs.Serving.{Says};
+ghost use Rattle.zr_serve.specs.Unsaid.{end_of_unsaid};
+ghost use Rattle.zr_serve.specs.declared.lines.Unsaid.TheVariants.{Fault};
+
+use crate::end::ServeEnd;
+use std::alloc::{AllocError, Global};
+use zr_id::zid::Zid;
+use zr_outside::sink::{Sink, WriteFailed, write_all};
+
+/// Why a line was not written.
+#[derive(Clone, Copy, Debug, PartialEq, Eq)]
+pub(crate) enum Unsaid {
+    Fault,
+    NoMemory,
+}
+
+impl Unsaid {
+    pub(crate) fn end(self) -> ServeEnd
+        ensures { result ≡ end_of_unsaid self }
+    {
+        match self {
+            Unsaid::Fault => ServeEnd::WriteFault,
+            Unsaid::NoMemory => ServeEnd::NoMemory,
+        }
+    }
+}
+
+/// The line that a router is served, once it listens.
+#[tactic(auto, using(zr_writer::proofs::Carrying::prefix_none))]
+pub(crate) fn say_serving<K: Sink>(alloc: Global, id: &Zid, out: &mut K) -> Result<(), Unsaid>
+    ensures said { OnOk result (Appends (serving_text id.now) (K.held out.old) (K.held out.new)) }
+    ensures part { OnErr result (AppendsPrefix (serving_text id.now) (K.held out.old) (K.held out.new)) }
+    ensures fault { result ≡ Err Fault → Rose (K.faults out.old) (K.faults out.new) }
+    ensures later { K.faults out.old ≤ K.faults out.new }
+{
+    match serving_line(alloc, id) {
+        Ok(line) => say(line.as_bytes(), out),
+        Err(_) => Err(Unsaid::NoMemory),
+    }
+}
+
+/// The line that an address was dialled in vain.
+pub(crate) fn say_not_dialled<K: Sink>(address: &str, out: &mut K) -> Result<(), WriteFailed>
+    ensures said { OnOk result (Appends (dial_text address.now) (K.held out.old) (K.held out.new)) }
+    ensures part { OnErr result (AppendsPrefix (dial_text address.now) (K.held out.old) (K.held out.new)) }
+    ensures fault { OnErr result (Rose (K.faults out.old) (K.faults out.new)) }
+    ensures later { K.faults out.old ≤ K.faults out.new }
+{
+    say_failed("dial ", address, out)
+}
+
+/// The line that the router can't listen at an address. It is told before serving ends anyway, so a write that fails changes nothing of that.
+pub(crate) fn say_not_listening<K: Sink>(address: &str, out: &mut K)
+    ensures says { Says (listen_text address.now) (K.held out.old) (K.held out.new) (K.faults out.old) (K.faults out.new) }
+    ensures later { K.faults out.old ≤ K.faults out.new }
+{
+    let _ = say_failed("listen ", address, out);
+}
+
+#[tactic(auto, using(zr_writer::proofs::Carrying::appends_both, zr_writer::proofs::Carrying::prefix_more, zr_writer::proofs::Carrying::prefix_written, zr_writer::proofs::Carrying::prefix_behind))]
+fn say_failed<K: Sink>(head: &str, address: &str, out: &mut K) -> Result<(), WriteFailed>
+    ensures said { OnOk result (Appends (failed_text head.now address.now) (K.held out.old) (K.held out.new)) }
+    ensures part { OnErr result (AppendsPrefix (failed_text head.now address.now) (K.held out.old) (K.held out.new)) }
+    ensures fault { OnErr result (Rose (K.faults out.old) (K.faults out.new)) }
+    ensures later { K.faults out.old ≤ K.faults out.new }
+{
+    if write_all(out, head.as_bytes()).is_err() {
+        return Err(WriteFailed);
+    }
+    if write_all(out, address.as_bytes()).is_err() {
+        return Err(WriteFailed);
+    }
+    write_all(out, b" failed\n")
+}
+
+/// A line that is told before serving ends anyway, so a write that fails changes nothing of that.
+pub(crate) fn say_last<K: Sink>(line: &str, out: &mut K)
+    ensures says { Says line.now (K.held out.old) (K.held out.new) (K.faults out.old) (K.faults out.new) }
+    ensures later { K.faults out.old ≤ K.faults out.new }
+{
+    let _ = write_all(out, line.as_bytes());
+}
+
+fn say<K: Sink>(line: &[u8], out: &mut K) -> Result<(), Unsaid>
+    ensures said { OnOk result (Appends line.now (K.held out.old) (K.held out.new)) }
+    ensures part { OnErr result (AppendsPrefix line.now (K.held out.old) (K.held out.new)) }
+    ensures fault { OnErr result (Rose (K.faults out.old) (K.faults out.new)) }
+    ensures later { K.faults out.old ≤ K.faults out.new }
+{
+    match write_all(out, line) {
+        Ok(()) => Ok(()),
+        Err(_) => Err(Unsaid::Fault),
+    }
+}
+
+fn serving_line(alloc: Global, id: &Zid) -> Result<String, AllocError>
+    ensures { IfOk result (λ s. string_bytes s ≡ serving_text id.now) }
+{
+    let mut line = String::from_str(alloc, "serving ")?;
+    line.push_str(id.text(alloc)?.as_str())?;
+    line.push_str("\n")?;
+    Ok(line)
+}

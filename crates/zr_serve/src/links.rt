@@ -1,0 +1,77 @@
+//! What the links of a router begin with.
+
+ghost use Rattle.std.specs.Prelude.{◌≡◌, ◌≤◌, ◌+◌, ◌%◌, ◌^◌, ◌++◌, drop, length, take};
+ghost use Rattle.zr_serve.specs.Jobs.{first_links, next_job, with_next};
+ghost use Rattle.zr_serve.specs.Links.{links_of};
+
+use crate::job::{LinkJob, Side};
+use rand_core::Rng;
+use zr_id::zid::Zid;
+
+/// How often a reader reads at most.
+const TURNS: u64 = u64::MAX;
+
+/// The router's identifier, the secret of its cookies, the random words that are left, and the number of the next link.
+#[derive(Drop)]
+pub(crate) struct Links<W: Rng + Drop> {
+    me: Zid,
+    secret: [u8; 32],
+    words: W,
+    count: u64,
+}
+
+impl<W: Rng + Drop> Links<W> {
+    /// Before the first link. The secret takes the first four words.
+    pub(crate) fn new(me: Zid, mut words: W) -> Links<W>
+        ensures { links_of (λ w. W.stream w) result ≡ first_links me (W.stream words) }
+    {
+        let first = words.next_u64().to_le_bytes();
+        let second = words.next_u64().to_le_bytes();
+        let third = words.next_u64().to_le_bytes();
+        let fourth = words.next_u64().to_le_bytes();
+        Links {
+            me,
+            secret: joined(&first, &second, &third, &fourth),
+            words,
+            count: 0,
+        }
+    }
+
+    /// The job of the next link.
+    pub(crate) fn next(&mut self, side: Side) -> LinkJob
+        ensures job { result ≡ next_job (links_of (λ w. W.stream w) self.old) side }
+        ensures next { links_of (λ w. W.stream w) self.new ≡ with_next (links_of (λ w. W.stream w) self.old) }
+    {
+        let number = self.count;
+        self.count = self.count.wrapping_add(1);
+        LinkJob {
+            side,
+            number,
+            me: self.me,
+            secret: self.secret,
+            word: self.words.next_u64(),
+            turns: TURNS,
+        }
+    }
+}
+
+// Some words, one behind the other.
+#[tactic(auto, using(crate::proofs::Words::four))]
+fn joined(first: &[u8; 8], second: &[u8; 8], third: &[u8; 8], fourth: &[u8; 8]) -> [u8; 32]
+    ensures { result ≡ ((first.now ++ second.now) ++ third.now) ++ fourth.now }
+{
+    let mut all = [0; 32];
+    put(&mut all, 0, first);
+    put(&mut all, 8, second);
+    put(&mut all, 16, third);
+    put(&mut all, 24, fourth);
+    all
+}
+
+// Writes a word at a place.
+fn put(all: &mut [u8], at: usize, word: &[u8])
+    requires { at + length word.now ≤ length all.old }
+    ensures { all.new ≡ take at all.old ++ (word.now ++ drop (at + length word.now) all.old) }
+{
+    all[at..at + word.len()].copy_from_slice(word);
+}

@@ -1,0 +1,119 @@
+//! What the thread of a link's reader owns, and does.
+
+ghost use Rattle.std.specs.Prelude.{◌≡◌, IfOk};
+ghost use Rattle.std.specs.Arc.{arc_value};
+ghost use Rattle.zr_hist.specs.Words.{pass_name};
+ghost use Rattle.zr_link.specs.Heard.{IsBegun};
+
+use crate::job::{LinkJob, Side};
+use std::alloc::{AllocError, Global};
+use std::sync::Arc;
+use std::thread::Threads;
+use zr_crew::Crew;
+use zr_hist::Pass;
+use zr_id::link::LinkNo;
+use zr_link::{Outward, Reader};
+use zr_open::Opening;
+use zr_outside::clock::Clock;
+use zr_outside::sink::{Sink, write_all};
+use zr_outside::source::Source;
+use zr_port::{Entry, Port};
+use zr_session::Session;
+use zr_writer::close_batch;
+
+/// The reason of a link that could not be started (Zenoh protocol 1.0, "CLOSE").
+const GENERIC: u8 = 0;
+
+/// What the thread of a link's reader owns.
+#[derive(Drop)]
+pub(crate) struct Reading<
+    S: Source + Drop,
+    K: Sink + Drop,
+    C: Clock + Drop,
+    P: Port + Drop,
+    R: Threads + Drop,
+> {
+    pub alloc: Global,
+    pub job: LinkJob,
+    pub source: S,
+    pub sink: K,
+    pub clock: C,
+    pub writer_clock: C,
+    pub port: Arc<P>,
+    pub pass: Pass<Entry>,
+    pub crew: Crew<R, LinkNo>,
+    ghost ours: { pass_name pass ≡ P.history (arc_value port) },
+}
+
+/// Runs the reader of a link.
+pub(crate) fn read<
+    S: Source + Drop,
+    K: Sink + Send + Drop + 'static,
+    C: Clock + Send + Drop + 'static,
+    P: Port + Send + Sync + Drop + 'static,
+    R: Threads + Drop,
+>(reading: Reading<S, K, C, P, R>)
+where
+    P::Note: Send + 'static,
+{
+    let Reading {
+        alloc,
+        job,
+        mut source,
+        sink,
+        mut clock,
+        writer_clock,
+        port,
+        mut pass,
+        mut crew,
+    } = reading;
+    let Ok((session, first)) = begin(alloc, &job, clock.now()) else {
+        return;
+    };
+    let out = Outward {
+        sink,
+        port,
+        clock: writer_clock,
+        turns: job.turns,
+    };
+    // how it ended is seen by the peer alone
+    let _ = Reader::run(
+        alloc,
+        &mut source,
+        out,
+        first.as_slice(),
+        session,
+        &mut clock,
+        &mut crew,
+        &mut pass,
+    );
+}
+
+// The session of a job, and what it asks to be written first.
+fn begin(alloc: Global, job: &LinkJob, now: u64) -> Result<(Session, Vec<u8>), AllocError>
+    ensures begun { IfOk result (λ r. IsBegun r.0 r.1.items) }
+    ensures opening { IfOk result (λ r. r.0.opening ≡ record { me = job.now.me; secret = job.now.secret; number = job.now.number; word = job.now.word }) }
+{
+    let opening = Opening::new(job.me, &job.secret, job.number, job.word);
+    let mut first = Vec::new(alloc);
+    match job.side {
+        Side::Accepting => Ok((Session::accepting(alloc, opening, now), first)),
+        Side::Dialling => match Session::dialling(alloc, opening, now, &mut first) {
+            Ok(session) => Ok((session, first)),
+            Err(_) => Err(AllocError),
+        },
+    }
+}
+
+/// The link's reader could not be started: its peer is told so.
+pub(crate) fn give_up<
+    S: Source + Drop,
+    K: Sink + Drop,
+    C: Clock + Drop,
+    P: Port + Drop,
+    R: Threads + Drop,
+>(reading: Reading<S, K, C, P, R>) {
+    let Reading { mut sink, .. } = reading;
+    // where the peer has gone there is nobody to be told
+    let _ = write_all(&mut sink, &close_batch(GENERIC));
+}

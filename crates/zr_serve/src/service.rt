@@ -1,0 +1,306 @@
+//! `serve`: the loop that listens, dials and accepts.
+
+ghost use Rattle.std.specs.Prelude.{◌≡◌, ◌≤◌, ℕ, Option, ◌⊎◌, [], ◌∷◌, Bool, Err, IfErr, List, OnErr, OnOk, length, map, true};
+ghost use Rattle.std.specs.Arc.{arc_value};
+ghost use Rattle.std.specs.String.{string_bytes};
+ghost use Rattle.zr_crew.specs.Crew.{crew_faults, crew_told};
+ghost use Rattle.zr_hist.specs.Words.{pass_name};
+ghost use Rattle.zr_outside.specs.Counts.{Rose};
+ghost use Rattle.zr_outside.specs.declared.host.Answer.{Answer};
+ghost use Rattle.zr_outside.specs.declared.host.Call.TheVariants as call;
+ghost use Rattle.zr_serve.specs.Calls.{IsGoing, accepts, dials};
+ghost use Rattle.zr_serve.specs.Jobs.{next_job, with_next};
+ghost use Rattle.zr_serve.specs.Lines.{accept_text};
+ghost use Rattle.zr_serve.specs.Links.{links_of};
+ghost use Rattle.zr_serve.specs.Moments.{BreaksOff, Serves, Starts, moment};
+ghost use Rattle.zr_serve.specs.Serving.{Accepts, IsServed, Says, Stops, outputs};
+
+use crate::end::ServeEnd;
+use crate::job::{LinkJob, Side};
+use crate::lines::{say_last, say_not_dialled, say_not_listening, say_serving};
+use crate::links::Links;
+use crate::plan::ServePlan;
+use crate::reading::{Reading, give_up, read};
+use std::alloc::{AllocError, Global};
+use std::sync::{Arc, Wait};
+use std::thread::Threads;
+use zr_crew::Crew;
+use zr_hist::Pass;
+use zr_outside::clock::Clock;
+use zr_outside::host::{Accepted, Host};
+use zr_outside::sink::Sink;
+use zr_outside::source::Source;
+use zr_port::{Entry, Port};
+
+/// What the threads of each link are made of: the threads of the system, the port at which links reach the router, and a pass of its history.
+#[derive(Drop)]
+pub struct Serving<P: Port + Drop, R: Threads + Wait + Copy + Drop> {
+    pub rt: R,
+    pub alloc: Global,
+    pub port: Arc<P>,
+    pub pass: Pass<Entry>,
+    ghost ours: { pass_name pass ≡ P.history (arc_value port) },
+}
+
+/// Serves a router: listens, dials each address once, in order, and then accepts until no more links come. For each link that is given the crew starts
+/// its reader, which opens the session, brings the link up at the port, and starts its writer; a link whose reader can't be started is told so by a
+/// CLOSE. `out` has the line `serving ID` once the router listens, `err` a line `dial ADDRESS failed` for each dial that gave no link, and a line that
+/// says why where the host fails. It waits for no session as it ends.
+pub fn serve<
+    H: Host,
+    K: Sink,
+    E: Sink,
+    P: Port + Send + Sync + Drop + 'static,
+    R: Threads + Wait + Copy + Send + Sync + Drop + 'static,
+>(
+    serving: &mut Serving<P, R>,
+    plan: &ServePlan,
+    out: &mut K,
+    err: &mut E,
+    host: &mut H,
+    crew: &mut Crew<R, LinkJob>,
+) -> ServeEnd
+where
+    H::In: 'static,
+    H::Out: 'static,
+    H::Time: 'static,
+    P::Note: Send + 'static,
+    ensures served { IsServed result plan.now.id (string_bytes plan.now.listen) (map string_bytes plan.now.dials.items) (H.calls host.old) (H.calls host.new) (crew_told crew.old) (crew_told crew.new) (crew_faults crew.old) (crew_faults crew.new) (outputs (K.held out.old) (E.held err.old) (E.faults err.old)) (outputs (K.held out.new) (E.held err.new) (E.faults err.new)) }
+    ensures done { result ≡ ServeEnd.Done → Rose (H.ends host.old) (H.ends host.new) }
+    ensures host { result ≡ ServeEnd.HostFault → Rose (H.faults host.old) (H.faults host.new) }
+    ensures write { result ≡ ServeEnd.WriteFault → Rose (K.faults out.old) (K.faults out.new) ⊎ Rose (E.faults err.old) (E.faults err.new) }
+    ensures later { (K.faults out.old ≤ K.faults out.new) × (E.faults err.old ≤ E.faults err.new) }
+{
+    let Some(words) = host.words() else {
+        say_last("no random words\n", err);
+        return ServeEnd::HostFault;
+    };
+    let mut links = Links::new(plan.id, words);
+    if !host.listen(plan.listen.as_str()) {
+        say_not_listening(plan.listen.as_str(), err);
+        return ServeEnd::HostFault;
+    }
+    if let Err(unsaid) = say_serving(serving.alloc, &plan.id, out) {
+        return unsaid.end();
+    }
+    if let Err(end) = dial_all(serving, plan.dials.as_slice(), err, host, crew, &mut links) {
+        return end;
+    }
+    let end = accept_all(serving, host, crew, &mut links);
+    tell_end(end, err);
+    end
+}
+
+// Tells why accepting has failed, where it has.
+fn tell_end<E: Sink>(end: ServeEnd, err: &mut E)
+    ensures fault { end ≡ ServeEnd.HostFault → Says accept_text (E.held err.old) (E.held err.new) (E.faults err.old) (E.faults err.new) }
+    ensures quiet { (end ≡ ServeEnd.HostFault → ⊥) → E.held err.new ≡ E.held err.old }
+    ensures later { E.faults err.old ≤ E.faults err.new }
+{
+    match end {
+        ServeEnd::HostFault => say_last("accept failed\n", err),
+        ServeEnd::Done | ServeEnd::NoMemory | ServeEnd::WriteFault => (),
+    }
+}
+
+// Dials each address once, in order.
+#[tactic(auto, using(crate::proofs::Reaching::dials_none, crate::proofs::Reaching::dials_more, crate::proofs::Reaching::dials_stop, crate::proofs::Reaching::dials_all))]
+fn dial_all<
+    H: Host,
+    E: Sink,
+    P: Port + Send + Sync + Drop + 'static,
+    R: Threads + Wait + Copy + Send + Sync + Drop + 'static,
+>(
+    serving: &mut Serving<P, R>,
+    addresses: &[String],
+    err: &mut E,
+    host: &mut H,
+    crew: &mut Crew<R, LinkJob>,
+    links: &mut Links<H::Words>,
+) -> Result<(), ServeEnd>
+where
+    H::In: 'static,
+    H::Out: 'static,
+    H::Time: 'static,
+    P::Note: Send + 'static,
+    ensures dialled { OnOk result ((gave : List Bool) × (length gave ≡ length addresses.now) × Serves (dials (map string_bytes addresses.now) gave) (moment (H.calls host.old) (crew_told crew.old) (crew_faults crew.old) (E.held err.old) (links_of (λ w. H.Words.stream w) links.old)) (moment (H.calls host.new) (crew_told crew.new) (crew_faults crew.new) (E.held err.new) (links_of (λ w. H.Words.stream w) links.new))) }
+    ensures stopped { OnErr result ((gave : List Bool) × BreaksOff (dials (map string_bytes addresses.now) gave) (moment (H.calls host.old) (crew_told crew.old) (crew_faults crew.old) (E.held err.old) (links_of (λ w. H.Words.stream w) links.old)) (moment (H.calls host.new) (crew_told crew.new) (crew_faults crew.new) (E.held err.new) (links_of (λ w. H.Words.stream w) links.new))) }
+    ensures cause { (result ≡ Err ServeEnd.Done → ⊥) × (result ≡ Err ServeEnd.HostFault → ⊥) × (result ≡ Err ServeEnd.WriteFault → Rose (E.faults err.old) (E.faults err.new)) }
+    ensures later { (E.faults err.old ≤ E.faults err.new) × (H.faults host.old ≤ H.faults host.new) × (H.ends host.old ≤ H.ends host.new) }
+{
+    for address in addresses {
+        if let Err(end) = dial(serving, address.as_str(), err, host, crew, links) {
+            return Err(end);
+        }
+    }
+    Ok(())
+}
+
+// Dials an address, and starts the reader of the link that this gives.
+#[tactic(auto, using(crate::proofs::Reaching::dial_linked, crate::proofs::Reaching::dial_unlinked, crate::proofs::Reaching::dial_lost, crate::proofs::Reaching::dial_untold))]
+fn dial<
+    H: Host,
+    E: Sink,
+    P: Port + Send + Sync + Drop + 'static,
+    R: Threads + Wait + Copy + Send + Sync + Drop + 'static,
+>(
+    serving: &mut Serving<P, R>,
+    address: &str,
+    err: &mut E,
+    host: &mut H,
+    crew: &mut Crew<R, LinkJob>,
+    links: &mut Links<H::Words>,
+) -> Result<(), ServeEnd>
+where
+    H::In: 'static,
+    H::Out: 'static,
+    H::Time: 'static,
+    P::Note: Send + 'static,
+    ensures dialled { OnOk result ((is_link : Bool) × Serves (call.Dial address.now is_link ∷ []) (moment (H.calls host.old) (crew_told crew.old) (crew_faults crew.old) (E.held err.old) (links_of (λ w. H.Words.stream w) links.old)) (moment (H.calls host.new) (crew_told crew.new) (crew_faults crew.new) (E.held err.new) (links_of (λ w. H.Words.stream w) links.new))) }
+    ensures stopped { OnErr result ((is_link : Bool) × BreaksOff (call.Dial address.now is_link ∷ []) (moment (H.calls host.old) (crew_told crew.old) (crew_faults crew.old) (E.held err.old) (links_of (λ w. H.Words.stream w) links.old)) (moment (H.calls host.new) (crew_told crew.new) (crew_faults crew.new) (E.held err.new) (links_of (λ w. H.Words.stream w) links.new))) }
+    ensures cause { (result ≡ Err ServeEnd.Done → ⊥) × (result ≡ Err ServeEnd.HostFault → ⊥) × (result ≡ Err ServeEnd.WriteFault → Rose (E.faults err.old) (E.faults err.new)) }
+    ensures later { (E.faults err.old ≤ E.faults err.new) × (H.faults host.old ≤ H.faults host.new) × (H.ends host.old ≤ H.ends host.new) }
+{
+    match host.dial(address) {
+        Some((source, sink)) => {
+            match start(serving, host, crew, links, Side::Dialling, source, sink) {
+                Ok(()) => Ok(()),
+                Err(_) => Err(ServeEnd::NoMemory),
+            }
+        }
+        None => match say_not_dialled(address, err) {
+            Ok(()) => Ok(()),
+            Err(_) => Err(ServeEnd::WriteFault),
+        },
+    }
+}
+
+// Accepts, and starts the reader of each link that comes, until no more come.
+#[tactic(auto, using(crate::proofs::Reaching::goes_none, crate::proofs::Reaching::goes_more, crate::proofs::Reaching::goes_on_to))]
+fn accept_all<
+    H: Host,
+    P: Port + Send + Sync + Drop + 'static,
+    R: Threads + Wait + Copy + Send + Sync + Drop + 'static,
+>(
+    serving: &mut Serving<P, R>,
+    host: &mut H,
+    crew: &mut Crew<R, LinkJob>,
+    links: &mut Links<H::Words>,
+) -> ServeEnd
+where
+    H::In: 'static,
+    H::Out: 'static,
+    H::Time: 'static,
+    P::Note: Send + 'static,
+    ensures ended { (held : Option (List ℕ)) → Accepts result (moment (H.calls host.old) (crew_told crew.old) (crew_faults crew.old) held (links_of (λ w. H.Words.stream w) links.old)) (moment (H.calls host.new) (crew_told crew.new) (crew_faults crew.new) held (links_of (λ w. H.Words.stream w) links.new)) }
+    ensures cause { (result ≡ ServeEnd.Done → Rose (H.ends host.old) (H.ends host.new)) × (result ≡ ServeEnd.HostFault → Rose (H.faults host.old) (H.faults host.new)) }
+{
+    let rt = serving.rt;
+    for _ in rt.forever() {
+        if let Err(end) = accept(serving, host, crew, links) {
+            return end;
+        }
+    }
+    unreachable!()
+}
+
+// Accepts once, and starts the reader of the link that this gives.
+#[tactic(auto, using(crate::proofs::Reaching::accept_gives, crate::proofs::Reaching::accept_loses, crate::proofs::Reaching::accept_waits, crate::proofs::Reaching::accept_ends, crate::proofs::Reaching::accept_fails))]
+fn accept<
+    H: Host,
+    P: Port + Send + Sync + Drop + 'static,
+    R: Threads + Wait + Copy + Send + Sync + Drop + 'static,
+>(
+    serving: &mut Serving<P, R>,
+    host: &mut H,
+    crew: &mut Crew<R, LinkJob>,
+    links: &mut Links<H::Words>,
+) -> Result<(), ServeEnd>
+where
+    H::In: 'static,
+    H::Out: 'static,
+    H::Time: 'static,
+    P::Note: Send + 'static,
+    ensures going { (held : Option (List ℕ)) → OnOk result ((a : Answer) × IsGoing a × Serves (accepts (a ∷ [])) (moment (H.calls host.old) (crew_told crew.old) (crew_faults crew.old) held (links_of (λ w. H.Words.stream w) links.old)) (moment (H.calls host.new) (crew_told crew.new) (crew_faults crew.new) held (links_of (λ w. H.Words.stream w) links.new))) }
+    ensures stops { (held : Option (List ℕ)) → IfErr result (λ e. Stops e (moment (H.calls host.old) (crew_told crew.old) (crew_faults crew.old) held (links_of (λ w. H.Words.stream w) links.old)) (moment (H.calls host.new) (crew_told crew.new) (crew_faults crew.new) held (links_of (λ w. H.Words.stream w) links.new))) }
+    ensures done { result ≡ Err ServeEnd.Done → Rose (H.ends host.old) (H.ends host.new) }
+    ensures host { result ≡ Err ServeEnd.HostFault → Rose (H.faults host.old) (H.faults host.new) }
+    ensures later { (H.faults host.old ≤ H.faults host.new) × (H.ends host.old ≤ H.ends host.new) }
+{
+    match host.accept() {
+        Accepted::Link(source, sink) => {
+            match start(serving, host, crew, links, Side::Accepting, source, sink) {
+                Ok(()) => Ok(()),
+                Err(_) => Err(ServeEnd::NoMemory),
+            }
+        }
+        Accepted::Quiet => Ok(()),
+        Accepted::End => Err(ServeEnd::Done),
+        Accepted::Failed => Err(ServeEnd::HostFault),
+    }
+}
+
+// Starts the reader of a link, by its job.
+fn start<
+    H: Host,
+    P: Port + Send + Sync + Drop + 'static,
+    R: Threads + Wait + Copy + Send + Sync + Drop + 'static,
+>(
+    serving: &mut Serving<P, R>,
+    host: &mut H,
+    crew: &mut Crew<R, LinkJob>,
+    links: &mut Links<H::Words>,
+    side: Side,
+    source: H::In,
+    sink: H::Out,
+) -> Result<(), AllocError>
+where
+    H::In: 'static,
+    H::Out: 'static,
+    H::Time: 'static,
+    P::Note: Send + 'static,
+    ensures started { OnOk result (Starts (next_job (links_of (λ w. H.Words.stream w) links.old) side ∷ []) (crew_told crew.old) (crew_told crew.new) (crew_faults crew.old) (crew_faults crew.new)) }
+    ensures unstarted { OnErr result ((crew_told crew.new ≡ crew_told crew.old) × (crew_faults crew.new ≡ crew_faults crew.old)) }
+    ensures links { links_of (λ w. H.Words.stream w) links.new ≡ with_next (links_of (λ w. H.Words.stream w) links.old) }
+    ensures told { H.calls host.new ≡ H.calls host.old }
+    ensures counts { (H.faults host.new ≡ H.faults host.old) × (H.ends host.new ≡ H.ends host.old) }
+{
+    let job = links.next(side);
+    let told = job.copy();
+    let clock = host.time();
+    let writer_clock = host.time();
+    let port = Arc::try_clone(&serving.port)?;
+    let inner = Crew::new(serving.rt, serving.alloc)?;
+    let reading = Reading {
+        alloc: serving.alloc,
+        job,
+        source,
+        sink,
+        clock,
+        writer_clock,
+        port,
+        pass: serving.port.split(&mut serving.pass),
+        crew: inner,
+    };
+    hand_over(crew, reading, told);
+    Ok(())
+}
+
+// Gives the job to the crew. Where that hands it back, the peer is told.
+#[tactic(auto, using(crate::proofs::Stepping::starts_one))]
+fn hand_over<
+    S: Source + Send + Drop + 'static,
+    K: Sink + Send + Drop + 'static,
+    C: Clock + Send + Drop + 'static,
+    P: Port + Send + Sync + Drop + 'static,
+    R: Threads + Copy + Send + Sync + Drop + 'static,
+>(crew: &mut Crew<R, LinkJob>, reading: Reading<S, K, C, P, R>, told: LinkJob)
+where
+    P::Note: Send + 'static,
+    ensures { Starts (told ∷ []) (crew_told crew.old) (crew_told crew.new) (crew_faults crew.old) (crew_faults crew.new) }
+{
+    let run = |reading: Reading<S, K, C, P, R>| read(reading);
+    if let Err(reading) = crew.start(reading, told, run) {
+        give_up(reading);
+    }
+}
