@@ -1,8 +1,12 @@
-//! Tests of what runs in threads: the counted history, the ring, writers, crews, hosts and gates; what only a run shows. There is no code here but theirs.
+//! Tests of what runs in threads: the counted history, the ring, the shared router, writers, crews, hosts and gates; what only a run shows. There is no code here but theirs.
 #![tactic(auto)]
 
 #[cfg(test)]
+mod calls;
+#[cfg(test)]
 mod crews;
+#[cfg(test)]
+mod desk;
 #[cfg(test)]
 mod giving;
 #[cfg(test)]
@@ -11,6 +15,10 @@ mod hosts;
 mod locked;
 #[cfg(test)]
 mod note;
+#[cfg(test)]
+mod routers;
+#[cfg(test)]
+mod sharing;
 #[cfg(test)]
 mod tests;
 #[cfg(test)]

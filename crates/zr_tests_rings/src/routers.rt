@@ -1,0 +1,232 @@
+//! Calls on one router, one after the other, and what comes to its links.
+
+use crate::calls::{Call, MANY, OWN, Start, Told, first_wrong};
+use crate::desk::Say;
+use std::test::Fail;
+use zr_msg::peer::Role;
+
+/// A call and its answer.
+type Row = (Call, Told);
+
+const FULL_OF_CLIENTS: [Row; 9] = [
+    (Call::Clients(128), Told::Ok),
+    (Call::Client(9), Told::Sessions(128, 0)),
+    (Call::Router(9), Told::Sessions(128, 0)),
+    (Call::Client(MANY), Told::Sessions(128, 0)),
+    (Call::Down(5, None), Told::Ok),
+    (Call::Client(MANY), Told::Twice),
+    (Call::Router(OWN), Told::Twice),
+    (Call::Client(105), Told::Link(5)),
+    (Call::Client(9), Told::Sessions(128, 0)),
+];
+
+const FULL_OF_ROUTERS: [Row; 8] = [
+    (Call::Routers(16), Told::Ok),
+    (Call::Router(9), Told::Sessions(16, 16)),
+    (Call::Router(MANY), Told::Sessions(16, 16)),
+    (Call::Client(MANY), Told::Twice),
+    (Call::Client(OWN), Told::Twice),
+    (Call::Client(9), Told::Link(16)),
+    (Call::Router(10), Told::Sessions(17, 16)),
+    (Call::Client(9), Told::Twice),
+];
+
+/// A ring of 256 slots that nobody empties: a sample is dropped, and one that asks not to be closes the link.
+const NOBODY_TAKES: [Row; 13] = [
+    (Call::Client(10), Told::Link(0)),
+    (Call::Client(11), Told::Link(1)),
+    (Call::Say(1, Say::Sub), Told::Ok),
+    (Call::Samples(0, 256), Told::Ok),
+    (Call::Say(0, Say::Sample), Told::Ok),
+    (Call::Say(0, Say::Express), Told::Ok),
+    (Call::Say(0, Say::Keep), Told::Ok),
+    (Call::Say(1, Say::Sample), Told::Full(1, 0)),
+    (Call::Say(0, Say::Sample), Told::Ok),
+    (Call::Take(1), Told::Ended(256, Some(0))),
+    (Call::Say(1, Say::Sub), Told::Full(1, 0)),
+    (Call::Down(1, Some(3)), Told::Ok),
+    (Call::Take(1), Told::Ended(0, Some(0))),
+];
+
+/// A router's ring of 1,024 slots, which gets this router's record as its link comes up, and at each change of the other link.
+const RECORDS: [Row; 8] = [
+    (Call::Router(11), Told::Link(0)),
+    (Call::Blinks(12, 511), Told::Ok),
+    (Call::Router(12), Told::Link(1)),
+    (Call::Say(0, Say::Along), Told::Ok),
+    (Call::Down(1, None), Told::Ok),
+    (Call::Say(0, Say::Along), Told::Full(1, 0)),
+    (Call::Take(0), Told::Ended(1_024, Some(0))),
+    (Call::Down(0, None), Told::Ok),
+];
+
+/// All parcels of a sample are given, or none.
+const ALL_OR_NONE: [Row; 9] = [
+    (Call::Client(10), Told::Link(0)),
+    (Call::ClientAt(11, Start::Small), Told::Link(1)),
+    (Call::Say(1, Say::Sub), Told::Ok),
+    (Call::Samples(0, 253), Told::Ok),
+    (Call::Say(0, Say::Long), Told::Ok),
+    (Call::Say(0, Say::Sample), Told::Ok),
+    (Call::Say(0, Say::LongKeep), Told::Ok),
+    (Call::Say(1, Say::Sample), Told::Full(4, 2)),
+    (Call::Take(1), Told::Ended(254, Some(0))),
+];
+
+/// A sample that is dropped takes no frame number.
+const DROPPED: [Row; 8] = [
+    (Call::Client(10), Told::Link(0)),
+    (Call::Client(11), Told::Link(1)),
+    (Call::Say(1, Say::Sub), Told::Ok),
+    (Call::Samples(0, 257), Told::Ok),
+    (Call::Take(1), Told::Parcels(256)),
+    (Call::Say(0, Say::Sample), Told::Ok),
+    (
+        Call::Next(
+            1,
+            &[
+                0x25, 0x80, 0x02, 0x3D, 0x00, 0x03, 0x61, 0x2F, 0x62, 0x01, 0x02, 0x68, 0x69,
+            ],
+        ),
+        Told::Ok,
+    ),
+    (Call::Take(1), Told::Parcels(0)),
+];
+
+/// What comes to two subscribers whose frames begin at 5 and at the last number. The second sample has its quality of service.
+const BYTES: [Row; 13] = [
+    (Call::Client(10), Told::Link(0)),
+    (Call::ClientAt(11, Start::Five), Told::Link(1)),
+    (Call::ClientAt(12, Start::Last), Told::Link(2)),
+    (Call::Say(1, Say::Sub), Told::Ok),
+    (Call::Say(2, Say::Sub), Told::Ok),
+    (Call::Say(0, Say::Sample), Told::Ok),
+    (
+        Call::Next(
+            1,
+            &[
+                0x25, 0x05, 0x3D, 0x00, 0x03, 0x61, 0x2F, 0x62, 0x01, 0x02, 0x68, 0x69,
+            ],
+        ),
+        Told::Ok,
+    ),
+    (
+        Call::Next(
+            2,
+            &[
+                0x25, 0xFF, 0xFF, 0xFF, 0x7F, 0x3D, 0x00, 0x03, 0x61, 0x2F, 0x62, 0x01, 0x02, 0x68,
+                0x69,
+            ],
+        ),
+        Told::Ok,
+    ),
+    (Call::Say(0, Say::Keep), Told::Ok),
+    (
+        Call::Next(
+            1,
+            &[
+                0x25, 0x06, 0xBD, 0x00, 0x03, 0x61, 0x2F, 0x62, 0x21, 0x08, 0x01, 0x02, 0x68, 0x69,
+            ],
+        ),
+        Told::Ok,
+    ),
+    (
+        Call::Next(
+            2,
+            &[
+                0x25, 0x00, 0xBD, 0x00, 0x03, 0x61, 0x2F, 0x62, 0x21, 0x08, 0x01, 0x02, 0x68, 0x69,
+            ],
+        ),
+        Told::Ok,
+    ),
+    (Call::Take(1), Told::Parcels(0)),
+    (Call::Take(0), Told::Parcels(0)),
+];
+
+/// Links that go down, and the numbers of those that come up.
+const NUMBERS: [Row; 17] = [
+    (Call::Say(0, Say::Sample), Told::NotUp(0)),
+    (Call::Down(0, None), Told::NotUp(0)),
+    (Call::Client(10), Told::Link(0)),
+    (Call::Client(11), Told::Link(1)),
+    (Call::Client(12), Told::Link(2)),
+    (Call::Say(3, Say::Sample), Told::NotUp(3)),
+    (Call::Down(1, Some(3)), Told::Ok),
+    (Call::Take(1), Told::Ended(0, Some(3))),
+    (Call::Say(1, Say::Sub), Told::NotUp(1)),
+    (Call::Down(1, None), Told::NotUp(1)),
+    (Call::Client(13), Told::Link(1)),
+    (Call::Client(14), Told::Link(3)),
+    (Call::Down(0, None), Told::Ok),
+    (Call::Take(0), Told::Ended(0, None)),
+    (Call::Down(2, None), Told::Ok),
+    (Call::Router(11), Told::Link(0)),
+    (Call::Client(10), Told::Link(2)),
+];
+
+/// What each role may send.
+const ROLES: [Row; 9] = [
+    (Call::Client(10), Told::Link(0)),
+    (Call::Router(11), Told::Link(1)),
+    (Call::Say(0, Say::Told), Told::Misplaced(Role::Client)),
+    (Call::Say(0, Say::Along), Told::Misplaced(Role::Client)),
+    (Call::Say(1, Say::Told), Told::Misplaced(Role::Router)),
+    (Call::Say(1, Say::Sub), Told::Misplaced(Role::Router)),
+    (Call::Say(1, Say::Sample), Told::Misplaced(Role::Router)),
+    (Call::Say(0, Say::Sample), Told::Ok),
+    (Call::Say(1, Say::Along), Told::Ok),
+];
+
+#[test]
+fn a_router_has_128_sessions_at_most(rt: HostRuntime) -> Result<(), Fail> {
+    assert_eq!(rt; first_wrong(rt, rt.alloc(), &FULL_OF_CLIENTS)?, None);
+    Ok(())
+}
+
+#[test]
+fn sixteen_of_them_lead_to_routers_at_most(rt: HostRuntime) -> Result<(), Fail> {
+    assert_eq!(rt; first_wrong(rt, rt.alloc(), &FULL_OF_ROUTERS)?, None);
+    Ok(())
+}
+
+#[test]
+fn a_ring_that_nobody_empties(rt: HostRuntime) -> Result<(), Fail> {
+    assert_eq!(rt; first_wrong(rt, rt.alloc(), &NOBODY_TAKES)?, None);
+    Ok(())
+}
+
+#[test]
+fn a_router_that_takes_no_records(rt: HostRuntime) -> Result<(), Fail> {
+    assert_eq!(rt; first_wrong(rt, rt.alloc(), &RECORDS)?, None);
+    Ok(())
+}
+
+#[test]
+fn all_parcels_of_a_sample_are_given_or_none(rt: HostRuntime) -> Result<(), Fail> {
+    assert_eq!(rt; first_wrong(rt, rt.alloc(), &ALL_OR_NONE)?, None);
+    Ok(())
+}
+
+#[test]
+fn a_dropped_sample_takes_no_frame_number(rt: HostRuntime) -> Result<(), Fail> {
+    assert_eq!(rt; first_wrong(rt, rt.alloc(), &DROPPED)?, None);
+    Ok(())
+}
+
+#[test]
+fn parcels_are_frames_with_the_next_number(rt: HostRuntime) -> Result<(), Fail> {
+    assert_eq!(rt; first_wrong(rt, rt.alloc(), &BYTES)?, None);
+    Ok(())
+}
+
+#[test]
+fn a_link_has_the_least_free_number(rt: HostRuntime) -> Result<(), Fail> {
+    assert_eq!(rt; first_wrong(rt, rt.alloc(), &NUMBERS)?, None);
+    Ok(())
+}
+
+#[test]
+fn each_role_has_its_messages(rt: HostRuntime) -> Result<(), Fail> {
+    assert_eq!(rt; first_wrong(rt, rt.alloc(), &ROLES)?, None);
+    Ok(())
+}
