@@ -187,7 +187,7 @@ fn leave<P: Port>(port: &P, pass: &mut Pass<Entry>, link: LinkNo, end: LinkEnd)
     ensures prefix { IsPrefix (seen pass.old) (seen pass.new) }
     ensures left { (downs : List Act) × GoesDown link end (λ e. P.refuses_down port.now (seen pass.new) link e) downs × Does downs (mine pass.old) (mine pass.new) }
 {
-    // a link that another caller took down, or want of memory, changes nothing of how the reader ends
+    // a link that another caller took down, or memory that ran out, changes nothing of how the reader ends
     let _ = port.down(pass, link, end.reason());
 }
 

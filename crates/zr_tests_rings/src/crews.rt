@@ -31,7 +31,7 @@ impl Relay {
     }
 }
 
-const MOST_READS: u64 = 100_000_000;
+const MOST_READS: u64 = 100_000_000_000;
 
 fn pass_on(job: Relay) {
     let Relay {

@@ -88,7 +88,7 @@ applied said lines old new before after h told = subst (λ (z : Outcome). Applie
 -- memory ran out on the way
 pub ran_out : (r : Result (Unit {0}) ScriptError) (said : Outcome) (old new : WorldState) (before after : List ReportLine) → r ≡ Err e.NoMemory → IsPrefixBehind before (lines_of said) after →
     AppliesTo r said old new before after
-ran_out r said old new before after h front = subst (λ (z : Result (Unit {0}) ScriptError). AppliesTo z said old new before after) (sym h) front
+ran_out r said old new before after h begin = subst (λ (z : Result (Unit {0}) ScriptError). AppliesTo z said old new before after) (sym h) begin
 
 -- the keys stay where an end changes
 pub ordered_with : (es : Ends) (q : End) (s : EndState) → IsStrictlySortedBy end_cmp (keys_of es) → IsStrictlySortedBy end_cmp (keys_of (with_end es q s))

@@ -1,4 +1,4 @@
--- A front of what a router tells of its tables is a prefix of it.
+-- What a router has told of its tables so far is a prefix of what it tells.
 use Rattle.std.proofs.Common.{◌≡◌, ℕ, ◌+◌, Bool, true, false, cond, not, List, [], ◌∷◌, ◌++◌, take, drop, map, Result, Ok, Err, refl, sym, ap, ◌∙◌, append_assoc}
 use Rattle.std.specs.Prelude.{OnErr}
 use Rattle.std.specs.List.{filter}
@@ -15,8 +15,8 @@ use Rattle.zr_command.specs.declared.report.ReportLine.TheVariants.{Parent}
 
 -- ---- prefixes
 
-pub behind_front : (before all front rest after : List ReportLine) → all ≡ front ++ rest → after ≡ before ++ front → IsPrefixBehind before all after
-behind_front before all front rest after e h = (front, (rest, e), h)
+pub behind_begun : (before all begin rest after : List ReportLine) → all ≡ begin ++ rest → after ≡ before ++ begin → IsPrefixBehind before all after
+behind_begun before all begin rest after e h = (begin, (rest, e), h)
 
 pub behind_last : (before first lines after : List ReportLine) → IsPrefixBehind (before ++ first) lines after → IsPrefixBehind before (first ++ lines) after
 behind_last before first lines after p =

@@ -2,7 +2,7 @@ use Rattle.std.proofs.Common.{◌≡◌, ◌<◌, ◌+◌, ◌++◌, ◌∷◌, 
 use Rattle.std.proofs.lemmas.List.{take_more}
 use Rattle.zr_id.specs.Record.{RecordState}
 use Rattle.zr_world.specs.Show.{parent_lines, parent_told}
-use Rattle.zr_world.proofs.Show.{err_by, behind_front, parents_cut, parents_more}
+use Rattle.zr_world.proofs.Show.{err_by, behind_begun, parents_cut, parents_more}
 use Rattle.zr_world.proofs.marks.tell_parents.Goals as goal
 
 pub returns-in_err-tell_parent-clause-err : goal.returns-in_err-tell_parent-clause-err
@@ -11,7 +11,7 @@ returns-in_err-tell_parent-clause-err c =
     let me = c.args.base.now.me in
     err_by c.from_residual-in_err-tell_parent.result
     (rw c.in_err-tell_parent.ensures.err
-    (behind_front c.args.report.now.items (parent_lines rs me rs) (parent_lines rs me (take c.loop-r.r-index rs)) (parent_lines rs me (drop c.loop-r.r-index rs)) c.loop-r.report.items
+    (behind_begun c.args.report.now.items (parent_lines rs me rs) (parent_lines rs me (take c.loop-r.r-index rs)) (parent_lines rs me (drop c.loop-r.r-index rs)) c.loop-r.report.items
     (parents_cut rs me rs c.loop-r.r-index) c.loop-r.invariant))
 
 pub loop-r-preserved : goal.loop-r-preserved

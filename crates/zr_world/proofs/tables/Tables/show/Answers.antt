@@ -29,11 +29,11 @@ returns-in_err-tell_records c =
     let er : router_of (state_of c.args.self.now).routers c.args.router ≡ Some c.in-Some.r.now = search rules in
     let p = err_from_is_err_and c.from_residual-in_err-tell_records.result c.from_residual-in_err-tell_records.ensures.1 in
     let records : c.records.result.now ≡ b.records = c.records.ensures.value ∙ ap (λ (z : BaseState). z.records) (c.base.ensures ∙ ap (λ (z : NodeState). z.base) c.node.ensures) in
-    let front : IsPrefixBehind (c.args.report.now.items ++ Show c.args.router ∷ []) (record_lines b.records) c.tell_records.new.report.items =
+    let begin : IsPrefixBehind (c.args.report.now.items ++ Show c.args.router ∷ []) (record_lines b.records) c.tell_records.new.report.items =
     rw (← c.in_ok-push.ensures.items, ← records) c.in_err-tell_records.ensures.err in
     ran_out c.from_residual-in_err-tell_records.result (show_step w c.args.router) w _ c.args.report.now.items c.tell_records.new.report.items (p.1 ∙ ap Err p.2)
     (subst (λ z. IsPrefixBehind c.args.report.now.items (lines_of z) c.tell_records.new.report.items) (sym (show_is w c.args.router c.in-Some.r.now er))
-    (behind_more c.args.report.now.items (Show c.args.router ∷ []) (record_lines b.records) c.tell_records.new.report.items (parent_lines b.records b.me b.records) front))
+    (behind_more c.args.report.now.items (Show c.args.router ∷ []) (record_lines b.records) c.tell_records.new.report.items (parent_lines b.records b.me b.records) begin))
 
 pub returns-in_err-tell_parents : goal.returns-in_err-tell_parents
 returns-in_err-tell_parents c =
@@ -46,12 +46,12 @@ returns-in_err-tell_parents c =
     let before : c.tell_records.new.report.items ≡ c.args.report.now.items ++ (Show c.args.router ∷ record_lines b.records) =
     c.in_ok-tell_records.ensures.told ∙ ap (λ z. z ++ record_lines c.records.result.now) c.in_ok-push.ensures.items
     ∙ ap (λ (z : List RecordState). (c.args.report.now.items ++ Show c.args.router ∷ []) ++ record_lines z) records ∙ append_assoc c.args.report.now.items (Show c.args.router ∷ []) (record_lines b.records) in
-    let front : IsPrefixBehind (c.args.report.now.items ++ (Show c.args.router ∷ record_lines b.records)) (parent_lines b.records b.me b.records) c.tell_parents.new.report.items =
+    let begin : IsPrefixBehind (c.args.report.now.items ++ (Show c.args.router ∷ record_lines b.records)) (parent_lines b.records b.me b.records) c.tell_parents.new.report.items =
     subst (λ (z : List ReportLine). IsPrefixBehind z (parent_lines b.records b.me b.records) c.tell_parents.new.report.items) before
     (subst (λ (z : BaseState). IsPrefixBehind c.tell_records.new.report.items (parent_lines z.records z.me z.records) c.tell_parents.new.report.items) base c.in_err-tell_parents.ensures.err) in
     ran_out c.from_residual-in_err-tell_parents.result (show_step w c.args.router) w _ c.args.report.now.items c.tell_parents.new.report.items (p.1 ∙ ap Err p.2)
     (subst (λ z. IsPrefixBehind c.args.report.now.items (lines_of z) c.tell_parents.new.report.items) (sym (show_is w c.args.router c.in-Some.r.now er))
-    (behind_last c.args.report.now.items (Show c.args.router ∷ record_lines b.records) (parent_lines b.records b.me b.records) c.tell_parents.new.report.items front))
+    (behind_last c.args.report.now.items (Show c.args.router ∷ record_lines b.records) (parent_lines b.records b.me b.records) c.tell_parents.new.report.items begin))
 
 pub returns : goal.returns
 returns c =
