@@ -1,0 +1,4 @@
+pub mod Plan
+pub mod Draws
+pub mod Script
+pub mod Making
