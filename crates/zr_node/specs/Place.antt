@@ -1,8 +1,11 @@
 -- Where the link of a number stands among links in ascending order, or would stand.
-use Rattle.std.specs.Prelude.{◌≡◌, ℕ, ◌<◌, ◌≤◌, nat_lt, not, if◌then◌else◌, List, Result, None, MatchResult, length, take, drop, map}
+use Rattle.std.specs.Prelude.{◌≡◌, ℕ, ◌<◌, ◌≤◌, nat_lt, not, Bool, false, if◌then◌else◌, List, Result, None, MatchResult, length, take, drop, map}
 use Rattle.std.specs.List.{HoldsAt, filter}
 use Rattle.std.specs.List.Sorted.{IsStrictlySortedBy}
+use Rattle.std.specs.Option.{option_map_or}
 use Rattle.std.specs.Ordering.{nat_cmp}
+use Rattle.zr_id.specs.Zid.{is_named}
+use Rattle.zr_id.specs.declared.link.LinkNo.{LinkNo}
 use Rattle.zr_table.specs.State.{Subscription, LinkState, link_at, is_router}
 
 -- the links ascend by their numbers
@@ -28,3 +31,7 @@ IsPlace links number r = MatchResult r (IsAt links number) (IsGap links number)
 -- what the client of a link has declared has changed; a router declares nothing in this way
 abbrev pub changed : (List Subscription → List Subscription) → LinkState → LinkState
 changed change l = if not (is_router l.peer.role) then record { link = l.link; peer = l.peer; subs = change l.subs } else l
+
+-- the link of the number leads to the neighbour of the name
+abbrev pub leads_to : List LinkState → LinkNo → List ℕ → Bool
+leads_to links number name = option_map_or (λ l. is_named l.peer.id name) (link_at links number.0) false

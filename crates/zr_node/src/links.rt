@@ -1,14 +1,15 @@
 //! The links of a router in ascending order of their numbers.
 
-ghost use Rattle.std.specs.Prelude.{◌≡◌, ◌==◌, ◌&&◌, ◌<◌, ◌^◌, not, List, [], map, filter, length, slice_set, slice_index_or, None, OnOk, IfOk, OnErr};
+ghost use Rattle.std.specs.Prelude.{◌≡◌, ◌==◌, ◌&&◌, ◌<◌, ◌^◌, not, List, [], map, filter, length, slice_set, slice_index_or, None, true, OnOk, IfOk, IfSome, OnErr};
 ghost use Rattle.std.specs.Option.{option_map};
 ghost use Rattle.zr_table.specs.State.{LinkState, new_link, link_at, link_to, free_link, link_peer};
 ghost use Rattle.zr_table.specs.Table.{changed_on, declared, undeclared, with_link, without_link};
-ghost use Rattle.zr_node.specs.Place.{AreAscending, IsGap, IsPlace, changed};
+ghost use Rattle.zr_node.specs.Place.{AreAscending, IsGap, IsPlace, changed, leads_to};
 ghost use Rattle.zr_node.specs.Routes.{route};
 
 use crate::link::Link;
 use std::alloc::{AllocError, Global};
+use std::collections::BTreeMap;
 use std::marker::Model;
 use zr_id::link::LinkNo;
 use zr_id::zid::Zid;
@@ -24,6 +25,8 @@ pub struct Links {
     all: Vec<Link>,
     // the same without what was declared on them
     peers: Vec<LinkPeer>,
+    // by a neighbour's name, the number under which a link to it last came up: a hint, which is checked at the link
+    numbers: BTreeMap<Zid, LinkNo>,
 }
 
 impl Model for Links {
@@ -46,6 +49,7 @@ impl Links {
         Links {
             all: Vec::new(alloc),
             peers: Vec::new(alloc),
+            numbers: BTreeMap::new(alloc),
         }
     }
 
@@ -66,6 +70,15 @@ impl Links {
             Ok(at) => Some(self.all[at].peer()),
             Err(_) => None,
         }
+    }
+
+    /// The number of a link to a neighbour, where it is found without a search through all links.
+    pub fn hinted(&self, name: &Zid) -> Option<LinkNo>
+        ensures { IfSome result (λ n. leads_to self.now n name.now ≡ true) }
+    {
+        let number = *self.numbers.get(name)?;
+        let peer = self.peer_at(number)?;
+        if peer.id == *name { Some(number) } else { None }
     }
 
     /// The number of the link to a neighbour, if it is up.
@@ -94,6 +107,7 @@ impl Links {
         let at = gap_of(self.all.as_slice(), number);
         let link = LinkPeer { link: number, peer };
         self.peers.reserve(1)?;
+        hint(&mut self.numbers, &peer.id, number)?;
         self.all.insert(at, Link::new(alloc, &link))?;
         self.peers.insert(at, link)?;
         Ok(())
@@ -103,6 +117,7 @@ impl Links {
     pub fn remove(&mut self, number: LinkNo)
         ensures { self.new ≡ without_link self.old number.0 }
     {
+        forget_hint(&mut self.numbers, self.all.as_slice(), number);
         take_out(&mut self.all, number);
         take_out_peer(&mut self.peers, number);
     }
@@ -166,6 +181,21 @@ fn gap_of(links: &[Link], number: LinkNo) -> usize
     match place_of(links, number) {
         Ok(at) => at,
         Err(at) => at,
+    }
+}
+
+// A link has come up under this number.
+fn hint(numbers: &mut BTreeMap<Zid, LinkNo>, name: &Zid, number: LinkNo) -> Result<(), AllocError> {
+    numbers.insert(*name, number)?;
+    Ok(())
+}
+
+// The link has gone down.
+fn forget_hint(numbers: &mut BTreeMap<Zid, LinkNo>, links: &[Link], gone: LinkNo)
+    requires { AreAscending links.now }
+{
+    if let Ok(at) = place_of(links, gone) {
+        numbers.remove(&links[at].peer().id);
     }
 }
 

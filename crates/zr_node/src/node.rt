@@ -96,10 +96,14 @@ impl Node {
     }
 
     /// The number of the link to a neighbour, if it is up.
+    #[tactic(auto, using(crate::proofs::Named::hinted_is))]
     pub fn link_to(&self, neighbour: &Zid) -> Option<LinkNo>
         ensures { result ≡ option_map (λ l. l.link) (link_to self.now.links neighbour.now) }
     {
-        self.links.link_to(neighbour)
+        match self.links.hinted(neighbour) {
+            Some(number) => Some(number),
+            None => self.links.link_to(neighbour),
+        }
     }
 
     /// Who stands at the other end of the link of this number, if it is up.
