@@ -10,6 +10,10 @@ use Rattle.zr_writer.specs.Parts.{Part, keep_alive_bytes, text_of, parcels_of, k
 abbrev pub keep_alive_ms : ℕ
 keep_alive_ms = 2500
 
+-- the most bytes that are written in one: as many as the longest batch has with its length
+abbrev pub most_joined : ℕ
+most_joined = 65537
+
 -- Of a text, a prefix was appended to what was held, and the rest waits.
 abbrev pub Carries : Option (List ℕ) → Option (List ℕ) → List ℕ → List ℕ → Type 0
 Carries before now waiting text = (written : List ℕ) × Appends written before now × (text ≡ written ++ waiting)

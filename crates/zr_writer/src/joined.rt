@@ -5,8 +5,7 @@ ghost use Rattle.zr_batch.specs.Framing.{framed};
 ghost use Rattle.zr_outside.specs.Counts.{Rose};
 ghost use Rattle.zr_outside.specs.Told.{Appends, AppendsPrefix};
 ghost use Rattle.zr_writer.specs.Parts.{keep_alive_bytes, close_bytes};
-ghost use Rattle.zr_writer.specs.Writing.{Carries};
-ghost use Rattle.zr_writer.specs.Writing.{Rests, Fails};
+ghost use Rattle.zr_writer.specs.Writing.{Carries, Rests, Fails, most_joined};
 ghost use Rattle.zr_writer.specs.declared.end.Stop.TheVariants.{Fault};
 
 use crate::close::close_batch;
@@ -16,8 +15,11 @@ use zr_batch::put_batch;
 use zr_outside::clock::Clock;
 use zr_outside::sink::{Sink, write_all};
 
-/// The most bytes that are joined into one write. A parcel whose batch is longer goes alone.
-const MOST_JOINED: usize = 65_536;
+/// The most bytes that are joined into one write: as many as the longest batch has with its length.
+const MOST_JOINED: usize = 65_537;
+
+/// How many bytes the length before a batch has.
+const LENGTH_BYTES: usize = 2;
 
 /// Milliseconds without a write after which a KEEP_ALIVE is written, a quarter of the lease that this router tells.
 const KEEP_ALIVE_MS: u64 = 2_500;
@@ -30,6 +32,7 @@ const KEEP_ALIVE: [u8; 3] = [0x01, 0x00, 0x04];
 pub(crate) struct Joined {
     pub(crate) bytes: Vec<u8>,
     pub(crate) moment: u64,
+    ghost short: { length bytes.items ≤ most_joined },
 }
 
 impl Joined {
@@ -45,7 +48,7 @@ impl Joined {
     }
 
     /// Joins a parcel as one batch behind its length. What waits is written first where both are too much for one write.
-    #[tactic(auto, using(crate::proofs::Carrying::carries_written, crate::proofs::Carrying::carries_joined, crate::proofs::Carrying::prefix_more, crate::proofs::Carrying::prefix_written, crate::proofs::Carrying::prefix_none))]
+    #[tactic(auto, using(crate::proofs::Carrying::carries_written, crate::proofs::Carrying::carries_joined, crate::proofs::Carrying::prefix_more, crate::proofs::Carrying::prefix_written, crate::proofs::Carrying::prefix_none, crate::proofs::Waiting::waits_joined))]
     pub(crate) fn add<K: Sink, C: Clock>(
         &mut self,
         sink: &mut K,
@@ -61,7 +64,7 @@ impl Joined {
         ensures moment { (self.old.moment ≤ self.new.moment) × (self.new.moment ≤ C.last clock.new) }
         ensures clock { C.last clock.old ≤ C.last clock.new }
     {
-        if parcel.len() > MOST_JOINED.saturating_sub(self.bytes.len()) {
+        if parcel.len() + LENGTH_BYTES > MOST_JOINED.saturating_sub(self.bytes.len()) {
             self.flush(sink, clock)?;
         }
         match put_batch(&mut self.bytes, parcel) {
