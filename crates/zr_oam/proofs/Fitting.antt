@@ -1,11 +1,11 @@
 -- Each message that bytes spell can be written. What is written of a part is no longer than any bytes that spell it, so the content of what is
 -- written has a length that can be told.
-use Rattle.std.proofs.Common.{◌≡◌, ℕ, zero, suc, ◌+◌, ◌-◌, ◌^◌, ◌<◌, ◌≤◌, Bool, true, false, ◌&&◌, cond, List, [], ◌∷◌, ◌++◌, length, Option, Some, None, Result, Ok, Err, refl, sym, ap, subst, ◌∙◌, arith, eqb, ltb}
+use Rattle.std.proofs.Common.{◌≡◌, ℕ, zero, suc, ◌+◌, ◌-◌, ◌^◌, ◌<◌, ◌≤◌, Bool, true, false, List, [], ◌∷◌, ◌++◌, length, get_or, Option, Some, None, Ok, refl, sym, ap, subst, ◌∙◌, arith, eqb, ltb}
 use Rattle.std.specs.Prelude.{bit_and}
 use Rattle.std.specs.List.{AllByRecursion, flat_map, list_all}
-use Rattle.std.proofs.lemmas.Bool.{and_from, ltb-true, lt-ltb}
+use Rattle.std.specs.Option.{IfSome}
+use Rattle.std.proofs.lemmas.Bool.{ltb-true, lt-ltb}
 use Rattle.std.proofs.lemmas.List.{length-append}
-use Rattle.zr_bytes.specs.declared.read_error.ReadError.{ReadError}
 use Rattle.zr_bytes.specs.declared.read_error.ReadError.TheVariants.{BadText}
 use Rattle.zr_bytes.specs.Flag.{has_id}
 use Rattle.zr_bytes.specs.Number.{Spells, writes}
@@ -13,21 +13,28 @@ use Rattle.zr_bytes.specs.Text.{SpellsText, writes_text}
 use Rattle.zr_bytes.proofs.Numbers.{written_shortest}
 use Rattle.zr_ext.specs.declared.ext.Form.{Form}
 use Rattle.zr_ext.specs.Reading.{form_at}
-use Rattle.zr_format.specs.Format.{Format, gives, fails, unknown, choose, ◌then◌, checked, series, is_whole, byte, number, below, text}
+use Rattle.zr_format.specs.Format.{Format, gives, fails, unknown, choose, ◌then◌, series, is_whole, byte, number, text}
 use Rattle.zr_format.proofs.Spelled.{spelled_allows, spelled_checked}
 use Rattle.zr_format.proofs.Series.{spelled_series}
 use Rattle.zr_id.specs.Zid.{is_zid}
-use Rattle.zr_id.specs.Record.{RecordState, may_follow, are_in_order, are_links}
+use Rattle.zr_id.specs.Record.{RecordState, may_follow, are_in_order}
 use Rattle.zr_msg.specs.declared.decl.Decl.{Decl}
 use Rattle.zr_msg.specs.declared.msg.Msg.{Msg}
 use Rattle.zr_msg.specs.declared.msg.Msg.TheVariants.{State, Step, Snap}
-use Rattle.zr_oam.specs.Oam.{zid, kind_of, is_canonical, decl, decl_may_follow, link, record_format, next_decl, snapshot, change, declarations, own, state, other, or_bad_text, behind, oam_format}
+use Rattle.zr_oam.specs.Oam.{zid, kind_of, is_canonical, decl, decl_may_follow, link, next_decl, snapshot, change, declarations, own, state, other, or_bad_text, behind, oam_format}
+use Rattle.zr_oam.specs.Reading.{oam_of}
+use Rattle.zr_oam.proofs.Messages.{follows_oam}
 use Rattle.zr_oam.specs.Writing.{writes_decl, writes_snap, decls_in_order, is_decl, Fits, IsMade, CanBeWritten}
 
-abbrev AreBytes : List ℕ → Type 0
+abbrev pub AreBytes : List ℕ → Type 0
 AreBytes bytes = AllByRecursion (λ b. b < 256) bytes
 
 -- ---- no longer than a spelling
+
+-- each item of a list is a byte
+pub bytes_by : (xs : List ℕ) → ((k : ℕ) → k < length xs → get_or xs k 0 < 256) → AreBytes xs
+bytes_by [] h = tt
+bytes_by (x ∷ xs) h = (h 0 (omega arith), bytes_by xs (λ k l. h (suc k) (omega (arith, l))))
 
 bytes_parts : (a b : List ℕ) → AreBytes (a ++ b) → AreBytes a × AreBytes b
 bytes_parts [] b h = (tt, h)
@@ -177,3 +184,10 @@ spelled_holds m bytes h s = by (has_id s.0 0x1F) s.5
     by : (b : Bool) → (choose b (behind s.0) unknown).spelled (Some m) s.2 → CanBeWritten m
     by true t = behind_holds s.0 (Some m) s.2 (parts bytes s.1 s.2 s.3 h).1 t
     by false t = absurd t
+
+-- what was read has a spelling
+pub read_fits : (bytes rest : List ℕ) (o : Option Msg) → AreBytes bytes → oam_of bytes ≡ Ok (o, rest) → IfSome o (λ m. Fits m)
+read_fits bytes rest None h e = tt
+read_fits bytes rest (Some m) h e =
+    let found = (follows_oam.found bytes rest (Some m) e).0 in
+    (spelled_holds m found.0 (parts bytes found.0 rest found.2 h).0 found.1).0

@@ -1,11 +1,14 @@
 //! Reading a message between routers.
 
-ghost use Rattle.std.specs.Prelude.{◌≡◌, bit_and};
+ghost use Rattle.std.specs.Prelude.{◌≡◌, ◌<◌, IfOk, bit_and};
+ghost use Rattle.std.specs.List.{AllByRecursion};
+ghost use Rattle.std.specs.Option.{IfSome};
 ghost use Rattle.zr_bytes.specs.Reading.{Gives, Keeps, Steps};
 ghost use Rattle.zr_ext.specs.Reading.{form_at};
 ghost use Rattle.zr_format.specs.Reading.{Makes, no_more, whole_of};
 ghost use Rattle.zr_oam.specs.Oam.{or_bad_text};
 ghost use Rattle.zr_oam.specs.Reading.{state_of, declarations_of, own_of, other_of, behind_of, oam_of};
+ghost use Rattle.zr_oam.specs.Writing.{Fits};
 
 use crate::decl::read_declarations;
 use crate::parts::{DECLARATIONS, ENCODING, MOST_CONTENT, OAM, OWN, RECORD};
@@ -21,15 +24,22 @@ use zr_msg::shared::Shared;
 /// The OAM message at the front (Zenoh protocol 1.0, "OAM"): a record or declarations of a router, or nothing where it is another one, which is
 /// read and ignored. `UnknownId` is for a header of another message, `Extra` for bytes behind the end of a router's content, and `BadText` for
 /// what breaks the rules of these: a header other than 5F, identifiers or declarations that don't ascend, a record that lists its own router, a
-/// number 0, a key that is not canonical.
+/// number 0, a key that is not canonical. What was read can be written.
 pub fn read_oam(alloc: Global, c: &mut Cursor<'_>) -> Result<Option<Msg>, ReadError>
-    ensures { Keeps (λ m. m) result (oam_of c.old) c.old c.new }
+    ensures value { Keeps (λ m. m) result (oam_of c.old) c.old c.new }
+    ensures fits { IfOk result (λ m. IfSome m (λ m. Fits m)) }
 {
     let mut ahead = c.fork();
+    are_bytes(ahead.as_slice());
     let msg = message(alloc, &mut ahead)?;
     *c = ahead;
     Ok(msg)
 }
+
+// What a slice holds are bytes, as its type keeps it.
+fn are_bytes(bytes: &[u8])
+    ensures { AllByRecursion (λ b. b < 256) bytes.now }
+{}
 
 #[tactic(auto, unfolding(crate::specs::Reading::oam_of))]
 fn message(alloc: Global, c: &mut Cursor<'_>) -> Result<Option<Msg>, ReadError>
