@@ -27,7 +27,7 @@ unfolding items_within
 left_many o f [] p e = absurd (omega arith)
 left_many o f (b ∷ bytes) p e = refl
 
-left_item : (o : OpeningState) (most : ℕ) (f : Bool) (bytes : List ℕ) (p : Phase) → 0 < length bytes →
+pub left_item : (o : OpeningState) (most : ℕ) (f : Bool) (bytes : List ℕ) (p : Phase) → 0 < length bytes →
     left o (suc most) f bytes p ≡ and_then (item_of o p f bytes).course (left o most (item_of o p f bytes).in_frame (item_of o p f bytes).rest)
 unfolding items_within
 left_item o most f [] p h = absurd (omega arith)

@@ -5,3 +5,5 @@ pub mod Pieces
 pub mod Feeding
 pub mod Quiet
 pub mod Calls
+pub mod Heard
+pub mod Packed

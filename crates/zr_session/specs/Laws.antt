@@ -1,17 +1,25 @@
 -- The laws of sessions.
 use Rattle.std.specs.Prelude.{◌≡◌, ℕ, List, [], ◌∷◌, ◌++◌, Option, Some, None}
+use Rattle.std.specs.List.{AllByRecursion, flat_map}
+use Rattle.zr_batch.specs.Framing.{framed}
+use Rattle.zr_msg.specs.declared.msg.Msg.{Msg}
+use Rattle.zr_frame.specs.Outbox.{OutboxState, IsOutbox}
 use Rattle.zr_open.specs.declared.expected.Expected.{Expected}
+use Rattle.zr_open.specs.declared.expected.Opened.{Opened}
 use Rattle.zr_open.specs.Opening.{OpeningState}
 use Rattle.zr_session.specs.declared.event.Fed.{Fed}
 use Rattle.zr_session.specs.declared.event.SessionEvent.{SessionEvent}
 use Rattle.zr_session.specs.declared.fate.End.{End}
 use Rattle.zr_session.specs.declared.fate.Fate.{Fate}
 use Rattle.zr_session.specs.declared.fate.Fate.TheVariants.{Going}
+use Rattle.zr_session.specs.declared.phase.Established as session
 use Rattle.zr_session.specs.declared.phase.Phase.{Phase}
-use Rattle.zr_session.specs.declared.phase.Phase.TheVariants.{Opening}
+use Rattle.zr_session.specs.declared.phase.Phase.TheVariants.{Opening, Established}
 use Rattle.zr_session.specs.Course.{Course, owed_in}
+use Rattle.zr_session.specs.Step.{established}
 use Rattle.zr_session.specs.Stream.{Comes}
 use Rattle.zr_session.specs.Session.{SessionState, begun, Feeds, Answers, fate_of, close_between, with_confirmed, owed_bytes, ticked}
+use Rattle.zr_session.specs.Sending.{MayBeSent, packed_in, outbox_of_peer, hearing, with_messages}
 
 -- All bytes come to a course, and to one alone.
 pub record BytesHaveOneCourse : Type 0 where
@@ -61,3 +69,14 @@ abbrev pub NoCutMatters : Type 0
 NoCutMatters = (first : Expected) (o : OpeningState) (now : ℕ) (calls : List Call) (last : SessionState) (events : List SessionEvent) (bytes : List ℕ) →
     DoAll calls (begun first o now) last events bytes →
     (c : Course) × (rest : List ℕ) × Comes o (Opening first) (fed_by calls) c rest × AreThoseOf c last events bytes
+
+-- Behind whole bytes that established a session, the batches of messages that the peer may send come to exactly these messages, in order, and to
+-- no end, in however many calls they were packed. The session then expects what the outbox behind them sends, so this holds of more messages again.
+pub record PackedMessagesAreReadBack : Type 0 where
+  -- a session that has just opened expects what its peer packs first
+  pub at_first : (o : Opened) → established o ≡ hearing (established o) (outbox_of_peer o)
+  pub read_back : (first : Expected) (o : OpeningState) (bytes : List ℕ) (c : Course) (s : session.Established) (box : OutboxState) (calls : List (List Msg)) →
+      IsOutbox box → Comes o (Opening first) bytes c [] → c.ends ≡ None → c.phase ≡ Established (hearing s box) →
+      AllByRecursion (λ m. MayBeSent s.role m) (flat_map (λ messages. messages) calls) →
+      Comes o (Opening first) (bytes ++ flat_map (λ batch. framed batch) (packed_in box calls).batches)
+      (with_messages c s (packed_in box calls).outbox (flat_map (λ messages. messages) calls)) []

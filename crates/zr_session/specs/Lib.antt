@@ -4,4 +4,5 @@ pub mod Step
 pub mod Stream
 pub mod Done
 pub mod Session
+pub mod Sending
 pub mod Laws

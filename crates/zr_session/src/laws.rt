@@ -1,6 +1,12 @@
 //! The laws of sessions, over definitions alone.
 
-ghost use Rattle.zr_session.specs.Laws.{BytesHaveOneCourse, NoCutMatters};
+ghost use Rattle.zr_session.specs.Laws.{BytesHaveOneCourse, NoCutMatters, PackedMessagesAreReadBack};
+
+use zr_batch::written_batches_are_cut;
+use zr_decl::{written_declarations_are_read, written_interests_are_read};
+use zr_frame::{packed_messages_are_received, parcels_are_short};
+use zr_net::written_net_is_read;
+use zr_oam::written_oam_is_read;
 
 /// Bytes come to one course, whatever they are.
 pub fn bytes_have_one_course()
@@ -11,3 +17,16 @@ pub fn bytes_have_one_course()
 pub fn no_cut_matters()
     ensures { NoCutMatters }
 {}
+
+/// What a peer packs is read back: exactly these messages, in order, and no end.
+pub fn packed_messages_are_read_back()
+    ensures { PackedMessagesAreReadBack }
+{
+    written_net_is_read();
+    written_declarations_are_read();
+    written_interests_are_read();
+    written_oam_is_read();
+    parcels_are_short();
+    packed_messages_are_received();
+    written_batches_are_cut();
+}

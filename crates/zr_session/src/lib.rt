@@ -19,5 +19,5 @@ mod write;
 
 pub use event::{Fed, SessionEvent};
 pub use fate::{End, Fate};
-pub use laws::{bytes_have_one_course, no_cut_matters};
+pub use laws::{bytes_have_one_course, no_cut_matters, packed_messages_are_read_back};
 pub use session::Session;

@@ -1,0 +1,72 @@
+-- What a peer sends by its outbox, and what is heard of it.
+use Rattle.std.specs.Prelude.{◌≡◌, ℕ, ◌≤◌, true, List, [], ◌∷◌, ◌++◌, length, map, None}
+use Rattle.zr_msg.specs.declared.msg.Msg.{Msg}
+use Rattle.zr_msg.specs.declared.msg.Msg.TheVariants.{Sub, Unsub, Able, Unable, Interest, EndInterest, ToldSub, ToldAble, ToldUnsub, ToldUnable, ToldEnd, Push, Request, Response, Final, State, Step, Snap}
+use Rattle.zr_msg.specs.declared.peer.Role.{Role}
+use Rattle.zr_decl.specs.Writing as decl
+use Rattle.zr_net.specs.Writing as net
+use Rattle.zr_oam.specs.Writing as oam
+use Rattle.zr_wire.specs.Roles.{admits}
+use Rattle.zr_wire.specs.Writing.{writes_message}
+use Rattle.zr_frame.specs.Limits.{most_of}
+use Rattle.zr_frame.specs.Channels.{with_one}
+use Rattle.zr_frame.specs.Outbox.{OutboxState}
+use Rattle.zr_frame.specs.Packing.{Parcels, no_parcels, before, parcels}
+use Rattle.zr_frame.specs.Laws.{expecting}
+use Rattle.zr_open.specs.declared.expected.Opened.{Opened}
+use Rattle.zr_session.specs.declared.event.SessionEvent.TheVariants.{Message}
+use Rattle.zr_session.specs.declared.phase.Established as session
+use Rattle.zr_session.specs.declared.phase.Phase.TheVariants.{Established}
+use Rattle.zr_session.specs.Course.{Course}
+use Rattle.zr_session.specs.Step.{with_channels}
+
+-- ---- messages
+
+-- The message has a spelling on a link from a sender of this role, made of ids, keys, identifiers, bodies and numbers as their types keep
+-- them.
+abbrev pub CanBeSent : Role → Msg → Type 0
+CanBeSent role (Sub id key) = decl.Declares (Sub id key)
+CanBeSent role (Unsub id) = decl.Declares (Unsub id)
+CanBeSent role (Able id key complete) = decl.Declares (Able id key complete)
+CanBeSent role (Unable id) = decl.Declares (Unable id)
+CanBeSent role (ToldSub id key interest) = decl.Declares (ToldSub id key interest)
+CanBeSent role (ToldAble id key complete interest) = decl.Declares (ToldAble id key complete interest)
+CanBeSent role (ToldUnsub id) = decl.Declares (ToldUnsub id)
+CanBeSent role (ToldUnable id) = decl.Declares (ToldUnable id)
+CanBeSent role (ToldEnd interest) = decl.Declares (ToldEnd interest)
+CanBeSent role (Interest id current future kinds key aggregate) = decl.Asks (Interest id current future kinds key aggregate)
+CanBeSent role (EndInterest id) = decl.Asks (EndInterest id)
+CanBeSent role (Push tree content) = net.CanBeSent role [] 0 (Push tree content)
+CanBeSent role (Request tree id target content) = net.CanBeSent role [] 0 (Request tree id target content)
+CanBeSent role (Response id content) = net.CanBeSent role [] 0 (Response id content)
+CanBeSent role (Final id extras) = net.CanBeSent role [] 0 (Final id extras)
+CanBeSent role (State links) = oam.CanBeWritten (State links)
+CanBeSent role (Step source number added decl) = oam.CanBeWritten (Step source number added decl)
+CanBeSent role (Snap source number decls) = oam.CanBeWritten (Snap source number decls)
+
+-- A peer of this role may send the message, and it takes no more bytes than the role's messages may.
+pub record MayBeSent (role : Role) (m : Msg) : Type 0 where
+  pub admitted : admits role m ≡ true
+  pub spelled : CanBeSent role m
+  pub short : length (writes_message m) ≤ most_of role
+
+-- ---- what is packed
+
+-- the parcels of messages that are packed in several calls, one behind another
+abbrev pub packed_in : OutboxState → List (List Msg) → Parcels
+packed_in box [] = no_parcels box
+packed_in box (messages ∷ calls) = before (parcels box (map (λ m. writes_message m) messages)) (λ next. packed_in next calls)
+
+-- what the peer of a session that has just opened sends by: the batch and the resolution that are agreed, and the number that it told
+abbrev pub outbox_of_peer : Opened → OutboxState
+outbox_of_peer o = record { batch = o.outbox.batch; bits = o.outbox.bits; next = o.first }
+
+-- ---- what is heard
+
+-- the established session that expects on its reliable channel what this outbox sends next, and has no message unfinished there
+abbrev pub hearing : session.Established → OutboxState → session.Established
+hearing s box = with_channels s (with_one s.channels true (expecting box))
+
+-- The course goes on: these messages were given and nothing was answered, and what the outbox sends next is expected.
+abbrev pub with_messages : Course → session.Established → OutboxState → List Msg → Course
+with_messages c s box messages = record { phase = Established (hearing s box); events = c.events ++ map (λ m. Message m) messages; bytes = c.bytes; ends = None }
