@@ -1,1 +1,4 @@
 pub mod Cases
+pub mod Digits
+pub mod Forms
+pub mod Nine

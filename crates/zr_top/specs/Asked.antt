@@ -1,5 +1,5 @@
 -- What the words `serve ..` ask for, and what is said of the router that is served.
-use Rattle.std.specs.Prelude.{◌≡◌, ℕ, ◌⊎◌, List, map, Option, Some, None}
+use Rattle.std.specs.Prelude.{◌≡◌, ℕ, List, map, Option, Some, None}
 use Rattle.std.specs.String.{string_bytes}
 use Rattle.zr_netrun.specs.declared.status.Status.{Status}
 use Rattle.zr_netrun.specs.declared.status.Status.TheVariants as status

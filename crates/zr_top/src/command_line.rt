@@ -1,12 +1,16 @@
 //! The program's words: what they ask for.
 
-ghost use Rattle.std.specs.Prelude.{◌≡◌, is_some, map, true, IfOk, OnErr};
+ghost use Rattle.std.specs.Prelude.{◌≡◌, [], ◌∷◌, is_some, map, true, IfOk, IfSome, OnErr};
 ghost use Rattle.std.specs.String.{string_bytes};
-ghost use Rattle.zr_top.specs.Words.{begins_serve, is_net, served_of};
+ghost use Rattle.zr_make.specs.Plan.{is_in_range};
+ghost use Rattle.zr_top.specs.Words.{begins_serve, is_net, is_word, made_of, names_make, plan_by, served_of, topic_of, topic_of_command};
 ghost use Rattle.zr_top.specs.Asked.{served_by};
 
+use crate::number::{count, number};
+use crate::topic::Topic;
 use std::alloc::{AllocError, Global};
 use zr_id::zid::Zid;
+use zr_make::MakePlan;
 use zr_serve::ServePlan;
 
 /// Whether the words are `net`.
@@ -56,4 +60,113 @@ fn all_of(alloc: Global, words: &[String]) -> Result<Vec<String>, AllocError>
         all.push(word.clone()?)?;
     }
     Ok(all)
+}
+
+/// The plan that the words `make --number N --routers R --clients C --messages M` ask for, if they are these.
+pub fn made_of(words: &[String]) -> Option<MakePlan>
+    ensures plan { result ≡ made_of (map string_bytes words.now) }
+    ensures range { IfSome result (λ plan. is_in_range plan.routers plan.clients plan.messages ≡ true) }
+{
+    let [
+        first,
+        second,
+        number,
+        fourth,
+        routers,
+        sixth,
+        clients,
+        eighth,
+        messages,
+    ] = words
+    else {
+        return None;
+    };
+    if names_make(first, second, fourth, sixth, eighth) {
+        plan_by(number, routers, clients, messages)
+    } else {
+        None
+    }
+}
+
+fn names_make(
+    first: &String,
+    second: &String,
+    fourth: &String,
+    sixth: &String,
+    eighth: &String,
+) -> bool
+    ensures { result ≡ names_make (string_bytes first.now) (string_bytes second.now) (string_bytes fourth.now) (string_bytes sixth.now) (string_bytes eighth.now) }
+{
+    is_word(first, b"make")
+        && is_word(second, b"--number")
+        && is_word(fourth, b"--routers")
+        && is_word(sixth, b"--clients")
+        && is_word(eighth, b"--messages")
+}
+
+fn plan_by(
+    number_word: &String,
+    routers: &String,
+    clients: &String,
+    messages: &String,
+) -> Option<MakePlan>
+    ensures plan { result ≡ plan_by (string_bytes number_word.now) (string_bytes routers.now) (string_bytes clients.now) (string_bytes messages.now) }
+    ensures range { IfSome result (λ plan. is_in_range plan.routers plan.clients plan.messages ≡ true) }
+{
+    let plan = MakePlan {
+        number: number(number_word.as_bytes())?,
+        routers: count(routers.as_bytes())?,
+        clients: count(clients.as_bytes())?,
+        messages: count(messages.as_bytes())?,
+    };
+    if plan.is_in_range() { Some(plan) } else { None }
+}
+
+/// What the words `--help`, `COMMAND --help` and `--version` ask to be told, if they are these.
+pub fn topic_of(words: &[String]) -> Option<Topic>
+    ensures { result ≡ topic_of (map string_bytes words.now) }
+{
+    match words {
+        [word] => topic_of_word(word),
+        [command, word] => {
+            if is_word(word, b"--help") {
+                topic_of_command(command)
+            } else {
+                None
+            }
+        }
+        _ => None,
+    }
+}
+
+fn topic_of_word(word: &String) -> Option<Topic>
+    ensures { result ≡ topic_of (string_bytes word.now ∷ []) }
+{
+    if is_word(word, b"--help") {
+        Some(Topic::Program)
+    } else if is_word(word, b"--version") {
+        Some(Topic::Version)
+    } else {
+        None
+    }
+}
+
+fn topic_of_command(command: &String) -> Option<Topic>
+    ensures { result ≡ topic_of_command (string_bytes command.now) }
+{
+    if is_word(command, b"net") {
+        Some(Topic::Net)
+    } else if is_word(command, b"serve") {
+        Some(Topic::Serve)
+    } else if is_word(command, b"make") {
+        Some(Topic::Make)
+    } else {
+        None
+    }
+}
+
+fn is_word(word: &String, text: &[u8]) -> bool
+    ensures { result ≡ is_word text.now (string_bytes word.now) }
+{
+    word.as_bytes() == text
 }

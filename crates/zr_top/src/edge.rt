@@ -1,14 +1,16 @@
-//! What `main` does between the system and `run`: the program's words are collected, and the status becomes the process's.
+//! What `main` does between the system and `run`: the program's words are collected, what went wrong is told, and the status becomes the process's.
 
 ghost use Rattle.std.specs.Prelude.{◌≡◌, IfOk, length, drop};
 ghost use Rattle.std.specs.Iterator.{IsFinite};
 ghost use Rattle.std.specs.Iterator.Runs.{WholeRun};
 ghost use Rattle.std.specs.Process.{exit_status};
 ghost use Rattle.zr_netrun.specs.Status.{number_of};
+ghost use Rattle.zr_top.specs.Told.{Says, trouble_text};
 
 use std::alloc::{AllocError, Global};
 use std::process::ExitCode;
 use zr_netrun::status::Status;
+use zr_outside::sink::{Sink, write_all};
 
 /// All words that come, in order.
 pub fn collect_words<I: Iterator<Item = String>>(
@@ -29,9 +31,24 @@ pub fn without_name(words: &[String]) -> &[String]
     words.get(1..).unwrap_or(&[])
 }
 
-/// The process ends with the number of the status.
-pub fn exit_code(status: Status) -> ExitCode
-    ensures { exit_status result ≡ number_of status }
+/// Tells what went wrong, if anything did, and ends the process with the number of the status: nobody is left without a word.
+pub fn end<E: Sink>(status: Status, err: &mut E) -> ExitCode
+    ensures status { exit_status result ≡ number_of status }
+    ensures says { Says (trouble_text status) (E.held err.old) (E.held err.new) (E.faults err.old) (E.faults err.new) }
 {
+    let _ = write_all(err, trouble(status).as_bytes());
     ExitCode::from(status.number())
+}
+
+// The line that says what happened, where the program could not do its work.
+fn trouble(status: Status) -> &'static str
+    ensures { result.now ≡ trouble_text status }
+{
+    match status {
+        Status::Done | Status::Refused | Status::Words => "",
+        Status::NoMemory => "zrd: out of memory\n",
+        Status::ReadFault => "zrd: standard input could not be read\n",
+        Status::WriteFault => "zrd: an output could not be written\n",
+        Status::HostFault => "zrd: no links can be accepted\n",
+    }
 }

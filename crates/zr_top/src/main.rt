@@ -2,15 +2,18 @@
 //! What it promises stands at `run`.
 #![tactic(auto)]
 
+mod beside;
 mod command_line;
 mod edge;
+mod number;
 mod other;
 mod run;
 mod serving;
 #[cfg(test)]
 mod tests;
+mod topic;
 
-use crate::edge::{collect_words, exit_code, without_name};
+use crate::edge::{collect_words, end, without_name};
 use crate::run::run;
 use std::alloc::AllocError;
 use std::process::ExitCode;
@@ -22,17 +25,17 @@ use zr_tcp::TcpHost;
 
 fn main(rt: HostRuntime) -> ExitCode {
     let alloc = rt.alloc();
+    let mut err = WriteSink::new(rt.stderr());
     let Ok(words) = words(&rt) else {
-        return exit_code(Status::NoMemory);
+        return end(Status::NoMemory, &mut err);
     };
     let mut input = ReadSource::new(rt.stdin());
     let mut out = WriteSink::new(rt.stdout());
-    let mut err = WriteSink::new(rt.stderr());
     let mut host = TcpHost::new(rt);
     let Ok(mut crew) = Crew::new(rt, alloc) else {
-        return exit_code(Status::NoMemory);
+        return end(Status::NoMemory, &mut err);
     };
-    exit_code(run(
+    let status = run(
         rt,
         alloc,
         without_name(&words),
@@ -41,7 +44,8 @@ fn main(rt: HostRuntime) -> ExitCode {
         &mut err,
         &mut host,
         &mut crew,
-    ))
+    );
+    end(status, &mut err)
 }
 
 // The program's words, its name the first of them. One that is not UTF-8 is none that the program takes: then there are none.

@@ -1,6 +1,6 @@
 //! `run`: the whole program over the sources and sinks that it is given.
 
-ghost use Rattle.std.specs.Prelude.{◌≡◌, ◌≤◌, ◌⊎◌, ◌↔◌, true, false, map, IfSome, IsTrue};
+ghost use Rattle.std.specs.Prelude.{◌≡◌, ◌≤◌, ◌⊎◌, ◌↔◌, true, false, is_some, map, IfSome, IsTrue};
 ghost use Rattle.std.specs.String.{string_bytes};
 ghost use Rattle.zr_outside.specs.Counts.{Rose};
 ghost use Rattle.zr_guarantee.specs.Scripts.{IsRefined};
@@ -12,10 +12,13 @@ ghost use Rattle.zr_top.specs.Means.{HaveKeyTexts, LeadToTheirReport};
 ghost use Rattle.zr_crew.specs.Crew.{crew_faults, crew_told};
 ghost use Rattle.zr_serve.specs.Serving.{outputs};
 ghost use Rattle.zr_top.specs.Asked.{IsServing};
-ghost use Rattle.zr_top.specs.Words.{is_net, is_taken, served_of, TellsUsage};
+ghost use Rattle.zr_make.specs.Script.{script, text_of};
+ghost use Rattle.zr_top.specs.Help.{help_text};
+ghost use Rattle.zr_top.specs.Told.{IsWritten};
+ghost use Rattle.zr_top.specs.Words.{is_net, is_taken, made_of, served_of, topic_of, TellsUsage};
 
+use crate::beside::run_beside_net;
 use crate::command_line::is_net;
-use crate::other::run_other;
 use std::alloc::Global;
 use std::sync::Wait;
 use std::thread::Threads;
@@ -31,9 +34,11 @@ use zr_outside::source::Source;
 use zr_serve::LinkJob;
 use zr_settled::settled_tables_agree;
 
-/// The whole program. Its words, without its name, ask for one of two things. `net` reads a script from `input`, and writes the report to `out`.
+/// The whole program. Its words, without its name, ask for one of four things. `net` reads a script from `input`, and writes the report to `out`.
 /// `serve --id ID --listen ADDRESS [DIAL]...` runs a router of that identifier, which listens at the address and dials each of the others once, until the
-/// host gives no more links: the crew starts the reader of each link. With other words the status is `Words`, and `err` has the usage line.
+/// host gives no more links: the crew starts the reader of each link. `make --number N --routers R --clients C --messages M` writes a script that is made
+/// from the number. `--help`, a command with `--help`, and `--version` are told to `out`. With other words, or a value out of range, the status is
+/// `Words`, and `err` has the usage line.
 ///
 /// The clause `headline` says what clients were sent, and `told` that the report, of which `report` speaks, tells just this: the accepted
 /// acts of the lines that were read lead to the moment that the report tells. Beside them stands what the headline's words mean: the keys
@@ -44,7 +49,9 @@ use zr_settled::settled_tables_agree;
 /// which the network is settled, each router sees exactly the links that are up at both ends, as far as it reaches, whatever links came,
 /// broke and went before.
 ///
-/// The clause `served` says what was called of the host, which jobs the crew started, and what was written, where a router was served.
+/// The clause `served` says what was called of the host, which jobs the crew started, and what was written, where a router was served. The clauses
+/// `made` and `helped` say which text was written, where a script was made or something was told: all of it at `Done`, and else a prefix.
+#[tactic(auto, using(crate::proofs::Forms::net_not_served, crate::proofs::Forms::net_not_made, crate::proofs::Forms::net_not_told))]
 pub fn run<
     S: Source,
     K: Sink,
@@ -74,7 +81,9 @@ where
     ensures rest { RestIsQuiet }
     ensures served { IfSome (served_of (map string_bytes words.now)) (λ s. IsServing s result (H.calls host.old) (H.calls host.new) (crew_told crew.old) (crew_told crew.new) (crew_faults crew.old) (crew_faults crew.new) (outputs (K.held out.old) (E.held err.old) (E.faults err.old)) (outputs (K.held out.new) (E.held err.new) (E.faults err.new))) }
     ensures whole { is_net (map string_bytes words.now) ≡ true → result ≡ Status.Done → IsReadToEnd (S.ends input.old) (S.ends input.new) (S.quiets input.old) (S.quiets input.new) }
-    ensures ended { is_net (map string_bytes words.now) ≡ false → result ≡ Status.Done → Rose (H.ends host.old) (H.ends host.new) }
+    ensures made { IfSome (made_of (map string_bytes words.now)) (λ plan. IsWritten result (text_of (script plan)) (K.held out.old) (K.held out.new) (K.faults out.old) (K.faults out.new) × (E.held err.new ≡ E.held err.old) × (S.left input.new ≡ S.left input.old)) }
+    ensures helped { IfSome (topic_of (map string_bytes words.now)) (λ topic. IsWritten result (help_text topic) (K.held out.old) (K.held out.new) (K.faults out.old) (K.faults out.new) × (E.held err.new ≡ E.held err.old) × (S.left input.new ≡ S.left input.old) × (result ≡ Status.NoMemory → ⊥)) }
+    ensures ended { is_some (served_of (map string_bytes words.now)) ≡ true → result ≡ Status.Done → Rose (H.ends host.old) (H.ends host.new) }
     ensures host { result ≡ Status.HostFault → Rose (H.faults host.old) (H.faults host.new) }
     ensures refused { result ≡ Status.Refused → is_net (map string_bytes words.now) ≡ true }
     ensures read { result ≡ Status.ReadFault → Rose (S.faults input.old) (S.faults input.new) }
@@ -88,7 +97,7 @@ where
     asking_is_meeting();
     rest_is_quiet();
     if !is_net(words) {
-        return run_other(rt, alloc, words, out, err, host, crew);
+        return run_beside_net(rt, alloc, words, out, err, host, crew);
     }
     lines_refine();
     lines_are_moments();

@@ -402,7 +402,7 @@ fn a_host_that_fails_ends_it(rt: HostRuntime) -> Result<(), Fail> {
 }
 
 #[test]
-fn other_words_for_serve_are_told_the_usage(rt: HostRuntime) -> Result<(), Fail> {
+fn other_words_for_a_command_are_told_the_usage(rt: HostRuntime) -> Result<(), Fail> {
     for words in [
         "serve",
         "serve --id 01",
@@ -414,9 +414,32 @@ fn other_words_for_serve_are_told_the_usage(rt: HostRuntime) -> Result<(), Fail>
         "server --id 01 --listen here",
         "serve --ID 01 --listen here",
         "net --id 01 --listen here",
+        "make --number 7 --routers 65 --clients 0 --messages 0",
+        "make --number 07 --routers 1 --clients 0 --messages 0",
+        "net --version",
     ] {
         let given = serves(rt, rt.alloc(), words, host(rt.alloc()), "", USAGE)?;
         assert!(&rt; given.0 == Status::Words && given.1 && given.2, "{words}");
+    }
+    Ok(())
+}
+
+// The made script of three routers was worked out by a program of its own, from what is published of the generator.
+#[test]
+fn scripts_are_made_and_help_is_told(rt: HostRuntime) -> Result<(), Fail> {
+    for (words, text) in [
+        (
+            "make --number 7 --routers 1 --clients 0 --messages 0",
+            "router 0001\nrun 5000000\nmark\nrun 5000000\n",
+        ),
+        (
+            "make --number 7 --routers 3 --clients 2 --messages 2",
+            "router 0001\nrouter 0002\nrouter 0003\nlink 0002 0001\nup 0002 0001\nup 0001 0002\nlink 0003 0001\nup 0003 0001\nup 0001 0003\nclient 8001 0002\nsub 8001 1 k/*\nclient 8002 0001\nsub 8002 1 k/*\nrun 5000000\nmark\nput 8002 k/0 1\nput 8001 k/2 2\nrun 5000000\n",
+        ),
+        ("--version", "zrd 0.1.0\n"),
+    ] {
+        let given = serves(rt, rt.alloc(), words, host(rt.alloc()), text, "")?;
+        assert!(&rt; given.0 == Status::Done && given.1 && given.2, "{words}");
     }
     Ok(())
 }
