@@ -1,0 +1,248 @@
+//! Loads a broker over TCP and tells what it did, in one line of JSON.
+//!
+//!     load PROTOCOL ADDRESS PID latency RATE SIZE SECONDS
+//!     load PROTOCOL ADDRESS PID throughput PUBLISHERS SUBSCRIBERS SIZE SECONDS
+//!     load PROTOCOL ADDRESS PID idle LINKS
+//!
+//! PROTOCOL is zenoh, mqtt or nats; PID is the broker's process, whose processor time and memory are read. No crate is needed: `rustc -O main.rs`.
+
+mod links;
+mod machine;
+mod protocol;
+
+use std::net::SocketAddr;
+use std::sync::atomic::{AtomicBool, AtomicU64, Ordering};
+use std::sync::{Arc, Condvar, Mutex};
+use std::thread;
+use std::time::{Duration, Instant};
+
+use links::{Publisher, Subscriber};
+use machine::{Usage, MONOTONIC};
+use protocol::Protocol;
+
+/// How many messages all publishers together may be ahead of the slowest subscriber.
+const MOST_AHEAD: u64 = 128;
+/// The most messages that a publisher writes at once.
+const MOST_WRITTEN: u64 = 64;
+const WARM_UP: Duration = Duration::from_millis(500);
+/// After so long without a message a run has failed.
+const MOST_WAIT: Duration = Duration::from_secs(10);
+/// The number of a message that only shows that a subscription is seen.
+pub const PROBE: u64 = u64::MAX;
+
+/// How far each subscriber is, under a lock: a publisher sleeps until the slowest has come on.
+struct Window {
+    state: Mutex<Ahead>,
+    moved: Condvar,
+}
+
+struct Ahead {
+    sent: u64,
+    received: Vec<u64>,
+    ended: bool,
+}
+
+impl Window {
+    fn new(subscribers: usize) -> Self {
+        let state = Ahead {
+            sent: 0,
+            received: vec![0; subscribers],
+            ended: false,
+        };
+        Self {
+            state: Mutex::new(state),
+            moved: Condvar::new(),
+        }
+    }
+
+    /// Waits until something may be sent, and says how much; nothing behind the end.
+    fn reserve(&self) -> u64 {
+        let mut ahead = self.state.lock().unwrap();
+        loop {
+            let slowest = *ahead.received.iter().min().unwrap();
+            let room = MOST_AHEAD - (ahead.sent - slowest);
+            if ahead.ended {
+                return 0;
+            }
+            if room > 0 {
+                let count = room.min(MOST_WRITTEN);
+                ahead.sent += count;
+                return count;
+            }
+            let (next, timeout) = self.moved.wait_timeout(ahead, MOST_WAIT).unwrap();
+            assert!(!timeout.timed_out(), "nothing came for {MOST_WAIT:?}: a message is lost");
+            ahead = next;
+        }
+    }
+
+    /// Notes that a subscriber has received so many more.
+    fn advance(&self, subscriber: usize, count: u64) {
+        let mut ahead = self.state.lock().unwrap();
+        let slowest = *ahead.received.iter().min().unwrap();
+        ahead.received[subscriber] += count;
+        if *ahead.received.iter().min().unwrap() != slowest {
+            self.moved.notify_all();
+        }
+    }
+
+    fn end(&self) {
+        self.state.lock().unwrap().ended = true;
+        self.moved.notify_all();
+    }
+}
+
+/// What all threads of a run share.
+struct Run {
+    start: Instant,
+    ended: AtomicBool,
+    delivered: AtomicU64,
+    window: Window,
+}
+
+/// The subscribers, each of which is known to the broker as such, and the publishers.
+fn connect(protocol: Protocol, address: SocketAddr, publishers: usize, subscribers: usize) -> (Vec<Publisher>, Vec<Subscriber>) {
+    let mut subs: Vec<_> = (0..subscribers).map(|_| Subscriber::open(protocol, address)).collect();
+    let mut pubs: Vec<_> = (0..publishers).map(|i| Publisher::open(protocol, address, i as u64)).collect();
+    for sub in &mut subs {
+        while !sub.hears_probe() {
+            pubs[0].send_probe();
+        }
+    }
+    // what other probes are under way comes meanwhile, and is left out by each subscriber
+    thread::sleep(Duration::from_millis(200));
+    (pubs, subs)
+}
+
+/// One publisher at a steady rate, one subscriber: the times from just before a message is written until it has been read.
+fn latency(protocol: Protocol, address: SocketAddr, pid: u32, rate: u64, size: usize, seconds: u64) -> String {
+    let (mut pubs, mut subs) = connect(protocol, address, 1, 1);
+    let (mut publisher, mut subscriber) = (pubs.remove(0), subs.remove(0));
+    let count = rate * seconds;
+    let before = Usage::of(pid);
+    let reading = thread::spawn(move || {
+        let mut times = Vec::with_capacity(count as usize);
+        while (times.len() as u64) < count {
+            let came = subscriber.read(|_, _, stamp| times.push(MONOTONIC.now().saturating_sub(stamp)));
+            assert!(came, "nothing came for {MOST_WAIT:?}: a message is lost");
+        }
+        times
+    });
+    machine::sleep_exactly();
+    let start = Instant::now();
+    for i in 0..count {
+        let due = start + Duration::from_nanos(i * 1_000_000_000 / rate);
+        while let Some(left) = due.checked_duration_since(Instant::now()).filter(|left| !left.is_zero()) {
+            thread::sleep(left);
+        }
+        publisher.send(1, size);
+    }
+    let mut times = reading.join().expect("the subscriber");
+    let used = Usage::of(pid).since(&before);
+    times.sort_unstable();
+    let at = |share: f64| times[((times.len() - 1) as f64 * share) as usize] as f64 / 1_000.0;
+    format!(
+        r#"{{"p50": {:.1}, "p90": {:.1}, "p99": {:.1}, "most": {:.1}, "cpu": {:.3}, {}}}"#,
+        at(0.5),
+        at(0.9),
+        at(0.99),
+        at(1.0),
+        used.broker as f64 / 1_000.0 / count as f64,
+        used.others()
+    )
+}
+
+/// Each publisher writes as much as the window lets it, and each subscriber is sent all of it.
+fn throughput(protocol: Protocol, address: SocketAddr, pid: u32, publishers: usize, subscribers: usize, size: usize, seconds: u64) -> String {
+    let (pubs, subs) = connect(protocol, address, publishers, subscribers);
+    let run = Arc::new(Run {
+        start: Instant::now(),
+        ended: AtomicBool::new(false),
+        delivered: AtomicU64::new(0),
+        window: Window::new(subscribers),
+    });
+    let mut threads = Vec::new();
+    for (i, sub) in subs.into_iter().enumerate() {
+        let run = run.clone();
+        threads.push(thread::spawn(move || receive(&run, i, sub, publishers)));
+    }
+    for publisher in pubs {
+        let run = run.clone();
+        threads.push(thread::spawn(move || publish(&run, publisher, size)));
+    }
+    thread::sleep(WARM_UP);
+    let (before, first, began) = (Usage::of(pid), run.delivered.load(Ordering::Relaxed), run.start.elapsed());
+    thread::sleep(Duration::from_secs(seconds));
+    let (used, last, ended) = (Usage::of(pid).since(&before), run.delivered.load(Ordering::Relaxed), run.start.elapsed());
+    run.ended.store(true, Ordering::Relaxed);
+    run.window.end();
+    for thread in threads {
+        thread.join().expect("a link's thread");
+    }
+    let delivered = last - first;
+    format!(
+        r#"{{"deliveries": {:.0}, "cpu": {:.3}, {}}}"#,
+        delivered as f64 / (ended - began).as_secs_f64(),
+        used.broker as f64 / 1_000.0 / delivered as f64,
+        used.others()
+    )
+}
+
+fn publish(run: &Run, mut publisher: Publisher, size: usize) {
+    loop {
+        match run.window.reserve() {
+            0 => return,
+            count => publisher.send(count, size),
+        }
+    }
+}
+
+/// Reads until the end, and sees that each publisher's messages come once each, in order.
+fn receive(run: &Run, index: usize, mut subscriber: Subscriber, publishers: usize) {
+    let mut next = vec![0; publishers];
+    subscriber.wait_most(WARM_UP);
+    while !run.ended.load(Ordering::Relaxed) {
+        let mut count = 0;
+        subscriber.read(|publisher, number, _| {
+            assert_eq!(number, next[publisher as usize], "a message is lost, doubled or out of order");
+            next[publisher as usize] += 1;
+            count += 1;
+        });
+        run.window.advance(index, count);
+        run.delivered.fetch_add(count, Ordering::Relaxed);
+    }
+}
+
+/// So many links that do nothing.
+fn idle(protocol: Protocol, address: SocketAddr, pid: u32, links: usize) -> String {
+    let open: Vec<_> = (0..links).map(|i| Publisher::open(protocol, address, i as u64)).collect();
+    thread::sleep(Duration::from_secs(2));
+    let before = Usage::of(pid);
+    thread::sleep(Duration::from_secs(3));
+    let used = Usage::of(pid).since(&before);
+    let memory = machine::resident_kib(pid);
+    drop(open);
+    format!(r#"{{"kib": {memory}, "cores": {:.4}, {}}}"#, used.broker as f64 / 3e9, used.others())
+}
+
+fn main() {
+    let words: Vec<String> = std::env::args().skip(1).collect();
+    let number = |i: usize| words[i].parse::<u64>().expect("a number");
+    let protocol = Protocol::named(&words[0]);
+    let address: SocketAddr = words[1].parse().expect("an address");
+    let pid = number(2) as u32;
+    let line = match words[3].as_str() {
+        "latency" => latency(protocol, address, pid, number(4), number(5) as usize, number(6)),
+        "throughput" => throughput(
+            protocol,
+            address,
+            pid,
+            number(4) as usize,
+            number(5) as usize,
+            number(6) as usize,
+            number(7),
+        ),
+        "idle" => idle(protocol, address, pid, number(4) as usize),
+        other => panic!("no case {other}"),
+    };
+    println!("{line}");
+}
