@@ -1,5 +1,5 @@
 -- A whole run, from its parts.
-use Rattle.std.proofs.Common.{◌≡◌, ◌≢◌, ℕ, true, List, [], ◌∷◌, ◌++◌, Option, None, Result, Ok, Err, IfOk, IfErr, OnErr, refl, sym, ap, subst, ◌∙◌, inl, inr}
+use Rattle.std.proofs.Common.{◌≡◌, ◌≢◌, ℕ, ◌≤◌, true, false, List, [], ◌∷◌, ◌++◌, Option, Some, None, Result, Ok, Err, IfOk, IfErr, OnErr, refl, sym, ap, subst, ◌∙◌, inl, inr, append_assoc}
 use Rattle.std.proofs.lemmas.List.{append-nil}
 use mathlib.Core.List.{IsPrefix}
 use Rattle.zr_id.specs.declared.link.LinkNo.{LinkNo}
@@ -26,18 +26,21 @@ use Rattle.zr_session.specs.declared.fate.Fate.{Fate}
 use Rattle.zr_session.specs.declared.fate.Fate.TheVariants as fate
 use Rattle.zr_session.specs.declared.phase.Phase.{Phase}
 use Rattle.zr_session.specs.declared.phase.Phase.TheVariants.{Opening}
-use Rattle.zr_session.specs.Course.{Course, going}
+use Rattle.zr_session.specs.Course.{Course, going, owed_in}
 use Rattle.zr_session.specs.Stream.{Comes}
-use Rattle.zr_session.specs.Session.{SessionState, IsAt, begun, is_running}
+use Rattle.zr_session.specs.Session.{SessionState, IsAt, begun, is_running, owed_by, owed_bytes}
 use Rattle.zr_session.proofs.Feeding.{comes_nothing}
 use Rattle.zr_wire.specs.Writing.{IsSpelled}
 use Rattle.zr_link.specs.declared.end.LinkEnd.{LinkEnd}
 use Rattle.zr_link.specs.declared.end.LinkEnd.TheVariants as end
 use Rattle.zr_link.specs.Ends.{end_of_up, reason_of, IsEarly}
 use Rattle.zr_link.specs.Acts.{Act, Does, up, down, froms}
-use Rattle.zr_link.specs.Heard.{Takes, AreMessages, messages, Hears, HearsSome, FateIs, IsOpen, IsUnopened, IsIn, IsBegun, first_of}
+use Rattle.zr_outside.specs.Told.{Appends}
+use Rattle.zr_link.specs.Heard.{Takes, AreMessages, messages, HearsOn, HearsSomeOn, IsOpen, IsUnopened, IsIn, IsBegun, first_of}
+use Rattle.zr_link.specs.Written.{Gives, Answered, IsWritten, Wrote, WroteAnswers, close_with}
 use Rattle.zr_link.specs.Run.{EarlyEnds, NotTaken, Follows, Enters, GoesDown, Runs}
-use Rattle.zr_link.proofs.Hearing.{takes_none, takes_then, as_before, heard_still}
+use Rattle.zr_link.proofs.Hearing.{takes_none, takes_then, as_before}
+use Rattle.zr_link.proofs.Unopened.{written_more, rose_before}
 use Rattle.zr_link.proofs.Going.{does_none, does_then, does_entry, are_messages, ends_map, early_ends, refuses_later, Followed}
 
 -- ---- the begin
@@ -54,6 +57,37 @@ begun_runs s first = begun_is (λ z. is_running z.state ≡ true) s first (λ e 
 
 pub begun_unopened : (s : SessionState) (first : List ℕ) → IsBegun s first → IsIn IsUnopened s
 begun_unopened s first h = (first_of s.state, [], going (Opening (first_of s.state)), tt, begun_at s first h, tt)
+
+pub begun_unconfirmed : (s : SessionState) (first : List ℕ) → IsBegun s first → s.confirmed ≡ false
+begun_unconfirmed s first = begun_is (λ z. z.confirmed ≡ false) s first (λ e o now. refl)
+
+-- what a session that no peer has confirmed owes
+owed_is : (s : SessionState) (p : Phase) → s.confirmed ≡ false → owed_by s.state ≡ owed_in p → owed_bytes s ≡ owed_in p
+owed_is s p none is = rw none is
+
+-- ---- what was written
+
+-- what was written before, and this behind it
+pub wrote_more : {K : Type 0} (held : K → Option (List ℕ)) (faults : K → ℕ) (e : LinkEnd) (xs ys : List ℕ) (old mid : K) (r : Option K) → Appends xs (held old) (held mid) → faults old ≤ faults mid
+    → Wrote held faults e ys mid r → Wrote held faults e (xs ++ ys) old r
+wrote_more held faults e xs ys old mid None a le h = tt
+wrote_more held faults e xs ys old mid (Some new) a le h = written_more e xs ys (held old) (held mid) (held new) _ _ a (λ k. rose_before (faults old) (faults mid) (faults new) le k) h
+
+-- the same in three parts
+pub wrote_parts : {K : Type 0} (held : K → Option (List ℕ)) (faults : K → ℕ) (e : LinkEnd) (first xs ys owed : List ℕ) (old mid last : K) (r : Option K) → Appends first (held old) (held mid) → faults old ≤ faults mid
+    → Appends xs (held mid) (held last) → faults mid ≤ faults last → Wrote held faults e (ys ++ owed) last r → Wrote held faults e (first ++ ((xs ++ ys) ++ owed)) old r
+wrote_parts held faults e first xs ys owed old mid last r a le b more h =
+    subst (λ z. Wrote held faults e (first ++ z) old r) (sym (append_assoc xs ys owed))
+    (wrote_more held faults e first (xs ++ (ys ++ owed)) old mid r a le (wrote_more held faults e xs (ys ++ owed) mid last r b more h))
+
+pub wrote_none : {K : Type 0} (held : K → Option (List ℕ)) (faults : K → ℕ) (e : LinkEnd) (text : List ℕ) (old : K) (r : Option K) → r ≡ None → Wrote held faults e text old r
+wrote_none held faults e text old r is = subst (λ z. Wrote held faults e text old z) (sym is) tt
+
+pub up_not_refused : (e : UpError) → end_of_up e ≡ end.CrewRefused → ⊥
+up_not_refused (up_error.Full sessions routers) is = cc
+up_not_refused up_error.Twice is = cc
+up_not_refused up_error.Worn is = cc
+up_not_refused up_error.NoMemory is = cc
 
 -- ---- down
 
@@ -75,37 +109,39 @@ later_follows link msgs s waiting f e before after A B L refuses sees later g p 
     (x.0, x.1, x.2, x.3, ends_map e x.2.course x.1 A B L L _ _ g (λ q k. k) (λ reason k. refuses_later (λ z m y. refuses z link m y) sees later x.1 reason p k) x.4)
 
 -- it went on until it went down
-pub enters_followed : (peer : Peer) (outbox : OutboxState) (s : SessionState) (waiting : List SessionEvent) (f : Fate) (e : LinkEnd) (before after : Option (List ℕ)) (L : Phase → Type 0)
+pub enters_followed : (peer : Peer) (outbox : OutboxState) (s : SessionState) (waiting : List SessionEvent) (f : Fate) (e : LinkEnd) (before after : Option (List ℕ)) (L : Phase → Type 0) (W : List ℕ → Type 0) (N : Type 0)
     (refuses_up : List Entry → Peer → UpError → Type 0) (refuses : List Entry → LinkNo → Msg → DeliverError → Type 0) (refuses_down : List Entry → LinkNo → DownError → Type 0)
     (old mid last new : Pass Entry) (link : LinkNo) → Does (up link peer outbox ∷ []) (mine old) (mine mid) → Followed link s waiting f e before after L refuses (seen last) (mine mid) (mine last)
     → IsPrefix (seen last) (seen new) → (downs : List Act) → GoesDown link e (λ x. refuses_down (seen new) link x) downs → Does downs (mine last) (mine new)
-    → Enters peer outbox s waiting f e before after L refuses_up refuses refuses_down old new
-enters_followed peer outbox s waiting f e before after L refuses_up refuses refuses_down old mid last new link first g prefix downs goes does =
-    inr (
+    → N → Enters peer outbox s waiting f e before after L W N refuses_up refuses refuses_down old new
+enters_followed peer outbox s waiting f e before after L W N refuses_up refuses refuses_down old mid last new link first g prefix downs goes does handed =
+    inr (inr (
       link,
       g.msgs,
       downs,
       does_then (up link peer outbox ∷ []) (froms link g.msgs ++ downs) (mine old) (mine mid) (mine new) first (does_then (froms link g.msgs) downs (mine mid) (mine last) (mine new) g.does does),
       goes,
-      later_follows link g.msgs s waiting f e before after ⊥ (g.msgs ≡ []) L refuses (seen last) (seen new) (λ x. absurd x) prefix g.follows,
-    )
+      later_follows link g.msgs s waiting f e before after ⊥ ⊥ L refuses (seen last) (seen new) (λ x. absurd x) prefix g.follows,
+      handed,
+    ))
 
--- its writer wasn't started
-pub enters_early : (peer : Peer) (outbox : OutboxState) (s : SessionState) (waiting : List SessionEvent) (f : Fate) (e : LinkEnd) (before : Option (List ℕ)) (L : Phase → Type 0)
+-- its writer wasn't started. Of what was given to be written the CLOSE was left out
+pub enters_early : (peer : Peer) (outbox : OutboxState) (s : SessionState) (waiting : List SessionEvent) (f : Fate) (e : LinkEnd) (before : Option (List ℕ)) (L : Phase → Type 0) (N : Type 0)
     (refuses_up : List Entry → Peer → UpError → Type 0) (refuses : List Entry → LinkNo → Msg → DeliverError → Type 0) (refuses_down : List Entry → LinkNo → DownError → Type 0)
-    (old mid new : Pass Entry) (link : LinkNo) → Does (up link peer outbox ∷ []) (mine old) (mine mid) → IsEarly e → AreMessages IsSpelled waiting
+    (old mid new : Pass Entry) (link : LinkNo) (fed left : List ℕ) (held now : Option (List ℕ)) (F : Type 0) → Does (up link peer outbox ∷ []) (mine old) (mine mid) → IsEarly e
     → (downs : List Act) → GoesDown link e (λ x. refuses_down (seen new) link x) downs → Does downs (mine mid) (mine new)
-    → Enters peer outbox s waiting f e before before L refuses_up refuses refuses_down old new
-enters_early peer outbox s waiting f e before L refuses_up refuses refuses_down old mid new link first early are downs goes does =
-    let ms = are_messages IsSpelled waiting are in
-    inr (
+    → ((answers : List ℕ) → fed ≡ answers ++ close_with f → left ≡ answers) → IsWritten e (left ++ owed_bytes s) held now F
+    → Enters peer outbox s waiting f e before before L (λ owed. (answers : List ℕ) → fed ≡ answers ++ close_with f → IsWritten e (answers ++ owed) held now F) N refuses_up refuses refuses_down old new
+enters_early peer outbox s waiting f e before L N refuses_up refuses refuses_down old mid new link fed left held now F first early downs goes does without writes =
+    inr (inl (
       link,
-      [],
       downs,
       does_then (up link peer outbox ∷ []) downs (mine old) (mine mid) (mine new) first does,
       goes,
-      λ first bytes rest c bs comes opened stands at. ([], ms.0, heard_still first s.opening bytes rest c before comes, append-nil waiting ∙ ms.1, early_ends e c ms.0 ([] ≡ []) L _ early refl),
-    )
+      early,
+      refl,
+      λ answers is. subst (λ z. IsWritten e (z ++ owed_bytes s) held now F) (without answers is) writes,
+    ))
 
 -- ---- the whole
 
@@ -125,10 +161,11 @@ early_map e c events L M R late is h = subst (λ z. EarlyEnds e c z M R) (sym is
     by end.NoMemory h = tt
 
 -- it ended before the session opened
-pub runs_early : (s : SessionState) (text : List ℕ) (e : LinkEnd) (before after : Option (List ℕ)) (L : Phase → Type 0)
+pub runs_early : (s : SessionState) (text : List ℕ) (e : LinkEnd) (before after held now : Option (List ℕ)) (L : Phase → Type 0) (W : List ℕ → Type 0) (F : Type 0)
     (refuses_up : List Entry → Peer → UpError → Type 0) (refuses : List Entry → LinkNo → Msg → DeliverError → Type 0) (refuses_down : List Entry → LinkNo → DownError → Type 0) (pass : Pass Entry)
-    → IsBegun s text → HearsSome s before after (λ c events. EarlyEnds e c events L (λ r. ⊥)) → Runs s e before after L refuses_up refuses refuses_down pass pass
-runs_early s text e before after L refuses_up refuses refuses_down pass begins h =
+    → IsBegun s text → HearsSomeOn s before after (λ c d events. EarlyEnds e d events L (λ r. ⊥) × WroteAnswers e c d held now F) → ((answers : List ℕ) → IsWritten e answers held now F → W answers)
+    → Runs s e before after L W refuses_up refuses refuses_down pass pass
+runs_early s text e before after held now L W F refuses_up refuses refuses_down pass begins h writes =
     let x = h (first_of s.state) [] (going (Opening (first_of s.state))) tt (begun_at s text begins) in
     record {
       bytes = x.1.piece;
@@ -136,27 +173,27 @@ runs_early s text e before after L refuses_up refuses refuses_down pass begins h
       rest = x.1.rest;
       taken = x.1.taken;
       comes = x.1.comes;
-      made = inl (record { does = refl; why = early_map e x.1.course x.0 L L _ (λ p k. k) x.1.events_are x.2 });
+      made = inl (record { does = refl; why = early_map e x.1.course x.0 L L _ (λ p k. k) x.1.events_are x.2.0; writes = subst W (sym x.2.1.1) (writes x.2.1.0 x.2.1.2) });
     }
 
 -- no reader ends for its crew before the session opens
-pub early_not_refused : (s : SessionState) (text : List ℕ) (e : LinkEnd) (before after : Option (List ℕ)) (L : Phase → Type 0) (R : Reason → Type 0)
-    → IsBegun s text → HearsSome s before after (λ c events. EarlyEnds e c events L R) → e ≡ end.CrewRefused → ⊥
-early_not_refused s text e before after L R begins h is =
+pub early_not_refused : (s : SessionState) (text : List ℕ) (e : LinkEnd) (before after held now : Option (List ℕ)) (L : Phase → Type 0) (R : Reason → Type 0) (F : Type 0)
+    → IsBegun s text → HearsSomeOn s before after (λ c d events. EarlyEnds e d events L R × WroteAnswers e c d held now F) → e ≡ end.CrewRefused → ⊥
+early_not_refused s text e before after held now L R F begins h is =
     let x = h (first_of s.state) [] (going (Opening (first_of s.state))) tt (begun_at s text begins) in
-    subst (λ z. EarlyEnds z x.1.course x.0 L R) is x.2
+    subst (λ z. EarlyEnds z x.1.course x.0 L R) is x.2.0
 
 -- nothing was read
-pub runs_nothing : (s : SessionState) (text : List ℕ) (e : LinkEnd) (before : Option (List ℕ)) (L : Phase → Type 0)
+pub runs_nothing : (s : SessionState) (text : List ℕ) (e : LinkEnd) (before : Option (List ℕ)) (L : Phase → Type 0) (W : List ℕ → Type 0)
     (refuses_up : List Entry → Peer → UpError → Type 0) (refuses : List Entry → LinkNo → Msg → DeliverError → Type 0) (refuses_down : List Entry → LinkNo → DownError → Type 0) (pass : Pass Entry)
-    → IsBegun s text → EarlyEnds e (going (Opening (first_of s.state))) [] L (λ r. NotTaken refuses_up (seen pass) [] r) → Runs s e before before L refuses_up refuses refuses_down pass pass
-runs_nothing s text e before L refuses_up refuses refuses_down pass begins why = record {
+    → IsBegun s text → EarlyEnds e (going (Opening (first_of s.state))) [] L (λ r. NotTaken refuses_up (seen pass) [] r) → W [] → Runs s e before before L W refuses_up refuses refuses_down pass pass
+runs_nothing s text e before L W refuses_up refuses refuses_down pass begins why writes = record {
   bytes = [];
   course = going (Opening (first_of s.state));
   rest = [];
   taken = takes_none before before (as_before before);
   comes = comes_nothing s.opening (Opening (first_of s.state));
-  made = inl (record { does = refl; why = why });
+  made = inl (record { does = refl; why = why; writes = writes });
 }
 
 not_taken : (error : UpError) (c : Course) (peer : Peer) (outbox : OutboxState) (ms : List Msg) (L : Phase → Type 0) (refuses_up : List Entry → Peer → UpError → Type 0) (sees : List Entry)
@@ -169,28 +206,68 @@ not_taken up_error.Worn c peer outbox ms L refuses_up sees is r =
     inr (record { peer = peer; outbox = outbox; msgs = ms; error = up_error.Worn; opens = is; refused = r (λ e. absurd cc); ends = refl })
 not_taken up_error.NoMemory c peer outbox ms L refuses_up sees is r = tt
 
+-- what was answered at once and the answer to OPEN
+answers_are : (c m d : Course) (xs ys : List ℕ) → c.bytes ≡ [] → m.bytes ≡ c.bytes ++ xs → d.bytes ≡ m.bytes ++ ys → xs ++ ys ≡ d.bytes
+answers_are c m d xs ys none a b = sym (b ∙ ap (λ z. z ++ ys) (a ∙ ap (λ z. z ++ xs) none))
+
 -- the session opened
-pub runs_entered : (s t : SessionState) (text : List ℕ) (peer : Peer) (outbox : OutboxState) (waiting : List SessionEvent) (f : Fate) (e : LinkEnd) (before mid after : Option (List ℕ)) (L M : Phase → Type 0)
+pub runs_entered : (s t : SessionState) (text fed : List ℕ) (peer : Peer) (outbox : OutboxState) (waiting : List SessionEvent) (f : Fate) (e : LinkEnd) (before mid after held now : Option (List ℕ)) (L M : Phase → Type 0) (V W : List ℕ → Type 0) (N : Type 0)
     (refuses_up : List Entry → Peer → UpError → Type 0) (refuses : List Entry → LinkNo → Msg → DeliverError → Type 0) (refuses_down : List Entry → LinkNo → DownError → Type 0) (old new : Pass Entry)
-    → IsBegun s text → t.opening ≡ s.opening → ((p : Phase) → L p → M p) → AreMessages IsSpelled waiting
-    → Hears s (Opened peer outbox ∷ waiting) before mid (λ first bytes c. IsOpen c.phase × FateIs f c (λ p. ⊥) × (f ≡ fate.Going → IsAt first t bytes c))
-    → Enters peer outbox t waiting f e mid after L refuses_up refuses refuses_down old new → Runs s e before after M refuses_up refuses refuses_down old new
-runs_entered s t text peer outbox waiting f e before mid after L M refuses_up refuses refuses_down old new begins same late are h (inl taken_) =
+    → IsBegun s text → t.opening ≡ s.opening → t.confirmed ≡ s.confirmed → ((p : Phase) → L p → M p) → AreMessages IsSpelled waiting
+    → HearsOn s (Opened peer outbox ∷ waiting) before mid (λ first bytes c d. IsOpen d.phase × ((m : Course) × Answered c m held now × Gives f t fed (λ p. ⊥) first bytes m d))
+    → ((xs ys owed : List ℕ) → Appends xs held now → fed ≡ ys ++ close_with f → V owed → W ((xs ++ ys) ++ owed)) → (N → (all : List ℕ) → W all)
+    → Enters peer outbox t waiting f e mid after L V N refuses_up refuses refuses_down old new → Runs s e before after M W refuses_up refuses refuses_down old new
+runs_entered s t text fed peer outbox waiting f e before mid after held now L M V W N refuses_up refuses refuses_down old new begins same unconfirmed late are h writes handed (inl taken_) =
     let x = h (first_of s.state) [] (going (Opening (first_of s.state))) tt (begun_at s text begins) in
     let ms = are_messages IsSpelled waiting are in
     let is : x.0.course.events ≡ Opened peer outbox ∷ messages ms.0 = x.0.events_are ∙ ap (λ z. Opened peer outbox ∷ z) ms.1 in
+    let a = x.1.1.1 in
+    let b = x.1.1.2 in
+    let all = answers_are (going (Opening (first_of s.state))) x.1.1.0 x.0.course a.0 b.answers refl a.1 b.answered in
     record {
       bytes = x.0.piece;
       course = x.0.course;
       rest = x.0.rest;
       taken = subst (λ z. Takes x.0.piece before z) (sym taken_.1) x.0.taken;
       comes = x.0.comes;
-      made = inl (record { does = taken_.0; why = subst (λ z. EarlyEnds z x.0.course x.0.course.events M (λ r. NotTaken refuses_up (seen new) x.0.course.events r)) (sym taken_.2.2) (not_taken taken_.2.0 x.0.course peer outbox ms.0 M refuses_up (seen new) is taken_.2.1) });
+      made = inl (record {
+        does = taken_.0;
+        why = subst (λ z. EarlyEnds z x.0.course x.0.course.events M (λ r. NotTaken refuses_up (seen new) x.0.course.events r)) (sym taken_.2.2) (not_taken taken_.2.0 x.0.course peer outbox ms.0 M refuses_up (seen new) is taken_.2.1);
+        writes = subst W (append-nil (a.0 ++ b.answers) ∙ all) (writes a.0 b.answers [] a.2 b.fed_are taken_.3);
+      });
     }
-runs_entered s t text peer outbox waiting f e before mid after L M refuses_up refuses refuses_down old new begins same late are h (inr on) =
+runs_entered s t text fed peer outbox waiting f e before mid after held now L M V W N refuses_up refuses refuses_down old new begins same unconfirmed late are h writes handed (inr (inl on)) =
+    let x = h (first_of s.state) [] (going (Opening (first_of s.state))) tt (begun_at s text begins) in
+    let ms = are_messages IsSpelled waiting are in
+    let a = x.1.1.1 in
+    let b = x.1.1.2 in
+    let all = answers_are (going (Opening (first_of s.state))) x.1.1.0 x.0.course a.0 b.answers refl a.1 b.answered in
+    let owed : owed_bytes t ≡ owed_in x.0.course.phase = owed_is t x.0.course.phase (unconfirmed ∙ begun_unconfirmed s text begins) b.owes in
+    let behind : (a.0 ++ b.answers) ++ owed_bytes t ≡ x.0.course.bytes ++ owed_in x.0.course.phase = ap (λ z. z ++ owed_bytes t) all ∙ ap (λ z. x.0.course.bytes ++ z) owed in
+    record {
+      bytes = x.0.piece;
+      course = x.0.course;
+      rest = x.0.rest;
+      taken = subst (λ z. Takes x.0.piece before z) (sym on.5) x.0.taken;
+      comes = x.0.comes;
+      made = inr (record {
+        link = on.0;
+        peer = peer;
+        outbox = outbox;
+        msgs = [];
+        others = ms.0;
+        downs = on.1;
+        events_are = x.0.events_are ∙ ap (λ z. Opened peer outbox ∷ z) ms.1;
+        does = on.2;
+        goes_down = on.3;
+        why = early_ends e x.0.course ms.0 ([] ≡ []) M _ on.4 refl;
+        writes = subst W behind (writes a.0 b.answers (owed_bytes t) a.2 b.fed_are on.6);
+      });
+    }
+runs_entered s t text fed peer outbox waiting f e before mid after held now L M V W N refuses_up refuses refuses_down old new begins same unconfirmed late are h writes handed (inr (inr on)) =
     let x = h (first_of s.state) [] (going (Opening (first_of s.state))) tt (begun_at s text begins) in
     let come = subst (λ z. Comes z (Opening (first_of s.state)) x.0.piece x.0.course x.0.rest) (sym same) x.0.comes in
-    let y = on.5 (first_of s.state) x.0.piece x.0.rest x.0.course x.0.are_bytes come x.1.0 x.1.1 x.1.2 in
+    let y = on.5 (first_of s.state) x.0.piece x.0.rest x.0.course x.0.are_bytes come x.1.0 x.1.1.2.fate_is x.1.1.2.stands in
     record {
       bytes = x.0.piece ++ y.2.piece;
       course = y.2.course;
@@ -207,6 +284,7 @@ runs_entered s t text peer outbox waiting f e before mid after L M refuses_up re
         events_are = y.2.events_are ∙ ap (λ z. z ++ y.0) x.0.events_are ∙ ap (λ z. Opened peer outbox ∷ z) y.3;
         does = on.3;
         goes_down = on.4;
-        why = ends_map e y.2.course y.1 (on.1 ≡ []) (on.1 ≡ []) L M _ _ (λ z. z) late (λ r z. z) y.4;
+        why = ends_map e y.2.course y.1 ⊥ (on.1 ≡ []) L M _ _ (λ z. absurd z) late (λ r z. z) y.4;
+        writes = handed on.6 (y.2.course.bytes ++ owed_in y.2.course.phase);
       });
     }

@@ -1,4 +1,5 @@
 pub mod Ends
 pub mod Heard
+pub mod Written
 pub mod Acts
 pub mod Run

@@ -23,13 +23,13 @@ use Rattle.zr_session.specs.declared.fate.Fate.{Fate}
 use Rattle.zr_session.specs.declared.fate.Fate.TheVariants as fate
 use Rattle.zr_session.specs.declared.phase.Phase.{Phase}
 use Rattle.zr_session.specs.declared.phase.Phase.TheVariants.{Opening}
-use Rattle.zr_session.specs.Course.{Course}
+use Rattle.zr_session.specs.Course.{Course, owed_in}
 use Rattle.zr_session.specs.Stream.{Comes}
-use Rattle.zr_session.specs.Session.{SessionState, IsAt}
+use Rattle.zr_session.specs.Session.{SessionState, IsAt, owed_bytes}
 use Rattle.zr_open.specs.declared.expected.Expected.{Expected}
 use Rattle.zr_link.specs.declared.end.LinkEnd.{LinkEnd}
 use Rattle.zr_link.specs.declared.end.LinkEnd.TheVariants as end
-use Rattle.zr_link.specs.Ends.{end_of_up, end_of_delivery, reason_of}
+use Rattle.zr_link.specs.Ends.{end_of_up, end_of_delivery, reason_of, IsEarly}
 use Rattle.zr_link.specs.Heard.{AreBytes, Takes, Heard, Closes, FateIs, messages, first_of, IsOpen}
 use Rattle.zr_link.specs.Acts.{Act, Does, up, down, froms}
 
@@ -112,17 +112,19 @@ pub record NotTaken (refuses : List Entry → Peer → UpError → Type 0) (seen
   pub refused : refuses seen peer error
   pub ends : end_of_up error ≡ end.Closed reason
 
--- the link never came up: nothing was added
-pub record StaysDown (end : LinkEnd) (c : Course) (Late : Phase → Type 0) (refuses : List Entry → Peer → UpError → Type 0) (old new : Pass Entry) : Type 0 where
+-- the link never came up: nothing was added, and what the session answered at once was written
+pub record StaysDown (end : LinkEnd) (c : Course) (Late : Phase → Type 0) (Writes : List ℕ → Type 0) (refuses : List Entry → Peer → UpError → Type 0) (old new : Pass Entry) : Type 0 where
   pub does : mine new ≡ mine old
   pub why : EarlyEnds end c c.events Late (λ reason. NotTaken refuses (seen new) c.events reason)
+  pub writes : Writes c.bytes
 
 -- the link goes down with the reason of the reader's end, unless the port refuses that
 abbrev pub GoesDown : LinkNo → LinkEnd → (DownError → Type 0) → List Act → Type 0
 GoesDown link end refuses downs = (downs ≡ down link (reason_of end) ∷ []) ⊎ ((downs ≡ []) × ((error : DownError) × (error ≢ down_error.NoMemory → refuses error)))
 
--- The link came up with the peer and the outbox with which the session opened, then messages were delivered, in order, and at last it went down
-pub record ComesUp (end : LinkEnd) (c : Course) (Late : Phase → Type 0) (refuses : List Entry → LinkNo → Msg → DeliverError → Type 0) (refuses_down : List Entry → LinkNo → DownError → Type 0) (old new : Pass Entry) : Type 0 where
+-- The link came up with the peer and the outbox with which the session opened, then messages were delivered, in order, and at last it went down. The
+-- answer to OPEN was written behind what the session answered at once
+pub record ComesUp (end : LinkEnd) (c : Course) (Late : Phase → Type 0) (Writes : List ℕ → Type 0) (refuses : List Entry → LinkNo → Msg → DeliverError → Type 0) (refuses_down : List Entry → LinkNo → DownError → Type 0) (old new : Pass Entry) : Type 0 where
   pub link : LinkNo
   pub peer : Peer
   pub outbox : OutboxState
@@ -133,6 +135,7 @@ pub record ComesUp (end : LinkEnd) (c : Course) (Late : Phase → Type 0) (refus
   pub does : Does (up link peer outbox ∷ (froms link msgs ++ downs)) (mine old) (mine new)
   pub goes_down : GoesDown link end (λ e. refuses_down (seen new) link e) downs
   pub why : UpEnds end c others (msgs ≡ []) Late (λ reason. Refuses (λ h m e. refuses h link m e) (seen new) others reason)
+  pub writes : Writes (c.bytes ++ owed_in c.phase)
 
 -- Either the sink came back, and the crew tells what it told before; or the writer was started, and the crew tells it last, by the link that came up
 abbrev pub Starts : {K : Type 0} → Option K → Option (List LinkNo) → Option (List LinkNo) → List Entry → List Entry → Type 0
@@ -140,19 +143,37 @@ Starts (Some sink) told told_now old new = told_now ≡ told
 Starts None told told_now old new =
     (link : LinkNo) × (peer : Peer) × (outbox : OutboxState) × (acts : List Act) × Does (up link peer outbox ∷ acts) old new × (told_now ≡ with_last link told)
 
--- The session has opened, and the port takes the peer or not. Where it does, the link comes up, messages are delivered, and it goes down
-abbrev pub Enters : Peer → OutboxState → SessionState → List SessionEvent → Fate → LinkEnd → Option (List ℕ) → Option (List ℕ) → (Phase → Type 0)
-    → (List Entry → Peer → UpError → Type 0) → (List Entry → LinkNo → Msg → DeliverError → Type 0) → (List Entry → LinkNo → DownError → Type 0) → Pass Entry → Pass Entry → Type 0
-Enters peer outbox s waiting f end before after Late refuses_up refuses refuses_down old new =
-    ((mine new ≡ mine old) × (after ≡ before) × ((error : UpError) × (error ≢ up_error.NoMemory → refuses_up (seen new) peer error) × (end ≡ end_of_up error)))
-    ⊎ ((link : LinkNo) × (msgs : List Msg) × (downs : List Act) × Does (up link peer outbox ∷ (froms link msgs ++ downs)) (mine old) (mine new)
-    × GoesDown link end (λ e. refuses_down (seen new) link e) downs × Follows link msgs s waiting f end before after (msgs ≡ []) Late refuses (seen new))
+-- The session has opened, and the port refuses the peer
+abbrev pub EndsRefused : Peer → LinkEnd → Option (List ℕ) → Option (List ℕ) → (List ℕ → Type 0) → (List Entry → Peer → UpError → Type 0) → Pass Entry → Pass Entry → Type 0
+EndsRefused peer end before after Writes refuses_up old new =
+    (mine new ≡ mine old) × (after ≡ before) × ((error : UpError) × (error ≢ up_error.NoMemory → refuses_up (seen new) peer error) × (end ≡ end_of_up error)) × Writes []
 
--- All that a reader read, the course to which it comes, and what it made of the link
-pub record Runs (s : SessionState) (end : LinkEnd) (before after : Option (List ℕ)) (Late : Phase → Type 0) (refuses_up : List Entry → Peer → UpError → Type 0) (refuses : List Entry → LinkNo → Msg → DeliverError → Type 0) (refuses_down : List Entry → LinkNo → DownError → Type 0) (old new : Pass Entry) : Type 0 where
+-- The port takes it, and no writer is started: the answer to OPEN is written, and the link goes down
+abbrev pub EndsEarly : Peer → OutboxState → SessionState → LinkEnd → Option (List ℕ) → Option (List ℕ) → (List ℕ → Type 0) → (List Entry → LinkNo → DownError → Type 0) → Pass Entry → Pass Entry → Type 0
+EndsEarly peer outbox s end before after Writes refuses_down old new =
+    (link : LinkNo) × (downs : List Act) × Does (up link peer outbox ∷ downs) (mine old) (mine new) × GoesDown link end (λ e. refuses_down (seen new) link e) downs
+    × IsEarly end × (after ≡ before) × Writes (owed_bytes s)
+
+-- The port takes it, and its writer is started: messages are delivered, and the link goes down. The sink is handed on
+abbrev pub EndsStarted : Peer → OutboxState → SessionState → List SessionEvent → Fate → LinkEnd → Option (List ℕ) → Option (List ℕ) → (Phase → Type 0) → Type 0
+    → (List Entry → LinkNo → Msg → DeliverError → Type 0) → (List Entry → LinkNo → DownError → Type 0) → Pass Entry → Pass Entry → Type 0
+EndsStarted peer outbox s waiting f end before after Late IsHandedOn refuses refuses_down old new =
+    (link : LinkNo) × (msgs : List Msg) × (downs : List Act) × Does (up link peer outbox ∷ (froms link msgs ++ downs)) (mine old) (mine new)
+    × GoesDown link end (λ e. refuses_down (seen new) link e) downs × Follows link msgs s waiting f end before after ⊥ Late refuses (seen new) × IsHandedOn
+
+-- The session has opened, and the port takes the peer or not. `Writes` is told of the answer to OPEN, where it is written
+abbrev pub Enters : Peer → OutboxState → SessionState → List SessionEvent → Fate → LinkEnd → Option (List ℕ) → Option (List ℕ) → (Phase → Type 0) → (List ℕ → Type 0) → Type 0
+    → (List Entry → Peer → UpError → Type 0) → (List Entry → LinkNo → Msg → DeliverError → Type 0) → (List Entry → LinkNo → DownError → Type 0) → Pass Entry → Pass Entry → Type 0
+Enters peer outbox s waiting f end before after Late Writes IsHandedOn refuses_up refuses refuses_down old new =
+    EndsRefused peer end before after Writes refuses_up old new
+    ⊎ (EndsEarly peer outbox s end before after Writes refuses_down old new
+    ⊎ EndsStarted peer outbox s waiting f end before after Late IsHandedOn refuses refuses_down old new)
+
+-- All that a reader read, the course to which it comes, and what it made of the link. `Writes` is told of what it answered
+pub record Runs (s : SessionState) (end : LinkEnd) (before after : Option (List ℕ)) (Late : Phase → Type 0) (Writes : List ℕ → Type 0) (refuses_up : List Entry → Peer → UpError → Type 0) (refuses : List Entry → LinkNo → Msg → DeliverError → Type 0) (refuses_down : List Entry → LinkNo → DownError → Type 0) (old new : Pass Entry) : Type 0 where
   pub bytes : List ℕ
   pub course : Course
   pub rest : List ℕ
   pub taken : Takes bytes before after
   pub comes : Comes s.opening (Opening (first_of s.state)) bytes course rest
-  pub made : StaysDown end course Late refuses_up old new ⊎ ComesUp end course Late refuses refuses_down old new
+  pub made : StaysDown end course Late Writes refuses_up old new ⊎ ComesUp end course Late Writes refuses refuses_down old new

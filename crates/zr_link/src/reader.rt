@@ -1,6 +1,6 @@
 //! `Reader`: the loop of a link's reader.
 
-ghost use Rattle.std.specs.Prelude.{◌≡◌, ◌≤◌, ◌⊎◌, ℕ, true, List, [], Some, None, IfErr, OnOk, OnErr};
+ghost use Rattle.std.specs.Prelude.{◌≡◌, ◌≢◌, ◌≤◌, ◌++◌, ℕ, true, List, [], Some, None, IfErr, OnOk, OnErr};
 ghost use mathlib.Core.List.{IsPrefix};
 ghost use Rattle.std.specs.Arc.{arc_value};
 ghost use Rattle.std.specs.Vec.Iter.{into_iter_items};
@@ -10,11 +10,13 @@ ghost use Rattle.zr_hist.specs.Words.{pass_name, IsSamePass, seen, mine};
 ghost use Rattle.zr_crew.specs.Crew.{crew_faults, crew_told};
 ghost use Rattle.zr_crew.specs.Told.{with_last};
 ghost use Rattle.zr_session.specs.declared.fate.Fate.TheVariants as fates;
-ghost use Rattle.zr_session.specs.Session.{is_running, with_confirmed};
+ghost use Rattle.zr_session.specs.Session.{is_running, with_confirmed, owed_bytes};
 ghost use Rattle.zr_wire.specs.Writing.{IsSpelled};
 ghost use Rattle.zr_link.specs.declared.end.LinkEnd.TheVariants as end;
 ghost use Rattle.zr_link.specs.Acts.{Act, Does, froms};
 ghost use Rattle.zr_link.specs.Heard.{IsBegun, IsLate, IsOpen, IsIn, AreMessages};
+ghost use Rattle.zr_link.specs.Written.{IsWritten, Puts, Wrote, close_with};
+ghost use Rattle.zr_writer.specs.Parts.{close_bytes};
 ghost use Rattle.zr_link.specs.Run.{Follows, Enters, Runs, Starts, GoesDown};
 ghost use Rattle.zr_link.specs.Ends.{IsEarly, IsStarted, IsCrewRefused};
 
@@ -79,7 +81,7 @@ impl Reader {
         requires pass { pass_name pass.old ≡ P.history (arc_value out.port) }
         ensures same { IsSamePass pass.old pass.new }
         ensures prefix { IsPrefix (seen pass.old) (seen pass.new) }
-        ensures run { Runs session result.0 (S.left source.old) (S.left source.new) (IsLate (S.quiets source.old) (S.quiets source.new) session.heard (C.last clock.old) (C.last clock.new)) (P.refuses_up (arc_value out.port)) (P.refuses_message (arc_value out.port)) (P.refuses_down (arc_value out.port)) pass.old pass.new }
+        ensures run { Runs session result.0 (S.left source.old) (S.left source.new) (IsLate (S.quiets source.old) (S.quiets source.new) session.heard (C.last clock.old) (C.last clock.new)) (λ answers. Wrote (λ k. K.held k) (λ k. K.faults k) result.0 (first.now ++ answers) out.sink result.1) (P.refuses_up (arc_value out.port)) (P.refuses_message (arc_value out.port)) (P.refuses_down (arc_value out.port)) pass.old pass.new }
         ensures fault { Counted (S.faults source.old) (S.faults source.new) (result.0 ≡ end.ReadFault) }
         ensures ended { Counted (S.ends source.old) (S.ends source.new) (result.0 ≡ end.PeerEnded) }
         ensures turns { result.0 ≡ end.Turns → RoseBy out.turns (S.reads source.old) (S.reads source.new) }
@@ -91,9 +93,9 @@ impl Reader {
         let Ok(port) = Arc::try_clone(&out.port) else {
             return (LinkEnd::NoMemory, Some(out.sink));
         };
-        if write_all(&mut out.sink, first).is_err() {
+        let Ok(()) = write_all(&mut out.sink, first) else {
             return (LinkEnd::WriteFault, Some(out.sink));
-        }
+        };
         let Ok(mut intake) = Intake::new(alloc, session) else {
             return (LinkEnd::NoMemory, Some(out.sink));
         };
@@ -139,7 +141,7 @@ where
     requires stands { opened.fate ≡ fates.Going → (is_running intake.old.session.state ≡ true) × IsIn IsOpen intake.old.session }
     ensures same { IsSamePass pass.old pass.new }
     ensures prefix { IsPrefix (seen pass.old) (seen pass.new) }
-    ensures entered { Enters opened.peer opened.outbox intake.old.session (into_iter_items opened.messages) opened.fate result.0 (S.left source.old) (S.left source.new) (IsLate (S.quiets source.old) (S.quiets source.new) intake.old.session.heard (C.last clock.old) (C.last clock.new)) (P.refuses_up port.now) (P.refuses_message port.now) (P.refuses_down port.now) pass.old pass.new }
+    ensures entered { Enters opened.peer opened.outbox intake.old.session (into_iter_items opened.messages) opened.fate result.0 (S.left source.old) (S.left source.new) (IsLate (S.quiets source.old) (S.quiets source.new) intake.old.session.heard (C.last clock.old) (C.last clock.new)) (λ owed. (answers : List ℕ) → intake.old.fed.bytes.items ≡ answers ++ close_with opened.fate → Wrote (λ k. K.held k) (λ k. K.faults k) result.0 (answers ++ owed) out.sink result.1) (result.1 ≡ None) (P.refuses_up port.now) (P.refuses_message port.now) (P.refuses_down port.now) pass.old pass.new }
     ensures fault { Counted (S.faults source.old) (S.faults source.new) (result.0 ≡ end.ReadFault) }
     ensures ended { Counted (S.ends source.old) (S.ends source.new) (result.0 ≡ end.PeerEnded) }
     ensures turns { result.0 ≡ end.Turns → RoseBy opened.left (S.reads source.old) (S.reads source.new) }
@@ -241,6 +243,7 @@ where
     ensures early { IfErr result (λ e. IsEarly e.0) }
     ensures same { OnOk result (intake.new.session ≡ with_confirmed intake.old.session) }
     ensures unwritten { IfErr result (λ e. e.0 ≡ end.WriteFault → Rose (K.faults out.sink) (K.faults e.1)) }
+    ensures wrote { IfErr result (λ e. IsWritten e.0 (intake.old.fed.bytes.items ++ owed_bytes intake.old.session) (K.held out.sink) (K.held e.1) (Rose (K.faults out.sink) (K.faults e.1))) }
     ensures refused { Counted (crew_faults crew.old) (crew_faults crew.new) (IsCrewRefused result) }
     ensures told { OnOk result (crew_told crew.new ≡ with_last link (crew_told crew.old)) }
     ensures untold { OnErr result (crew_told crew.new ≡ crew_told crew.old) }
@@ -251,12 +254,12 @@ where
         clock,
         turns,
     } = out;
-    if intake.confirm().is_err() {
+    let Ok(()) = intake.confirm() else {
         return Err((LinkEnd::NoMemory, sink));
-    }
-    if write_all(&mut sink, intake.answers()).is_err() {
+    };
+    let Ok(()) = write_all(&mut sink, intake.answers()) else {
         return Err((LinkEnd::WriteFault, sink));
-    }
+    };
     let job = Writing {
         alloc,
         sink,
@@ -268,19 +271,28 @@ where
         Ok(()) => Ok(()),
         Err(job) => {
             let Writing { mut sink, .. } = job;
-            // the end is decided, so a write that fails changes nothing
-            let _ = write_all(&mut sink, &close_batch(Reason::Generic.byte()));
+            close(&mut sink, Reason::Generic.byte());
             Err((LinkEnd::CrewRefused, sink))
         }
     }
 }
 
-// The peer isn't taken: writes what was answered before, and the CLOSE. The end is decided, so a write that fails changes nothing of it.
-fn refuse<K: Sink>(intake: &Intake, sink: &mut K, end: LinkEnd) {
-    if write_all(sink, intake.answers()).is_err() {
+// The peer isn't taken: writes what was answered before, and the CLOSE.
+fn refuse<K: Sink>(intake: &Intake, sink: &mut K, how: LinkEnd)
+    ensures { how ≢ end.CrewRefused → IsWritten how intake.now.fed.bytes.items (K.held sink.old) (K.held sink.new) (Rose (K.faults sink.old) (K.faults sink.new)) }
+{
+    let Ok(()) = write_all(sink, intake.answers()) else {
         return;
+    };
+    if let Some(reason) = how.reason() {
+        close(sink, reason);
     }
-    if let Some(reason) = end.reason() {
-        let _ = write_all(sink, &close_batch(reason));
-    }
+}
+
+// Writes a CLOSE. The end is decided, so a write that fails changes nothing of it.
+fn close<K: Sink>(sink: &mut K, reason: u8)
+    ensures puts { Puts (close_bytes (Some (Some reason))) (K.held sink.old) (K.held sink.new) (Rose (K.faults sink.old) (K.faults sink.new)) }
+    ensures later { K.faults sink.old ≤ K.faults sink.new }
+{
+    let _ = write_all(sink, &close_batch(reason));
 }

@@ -4,6 +4,7 @@ use Rattle.zr_hist.specs.Words.{seen, mine}
 use Rattle.zr_session.specs.Session.{SessionState, is_running}
 use Rattle.zr_link.specs.Heard.{IsLate, IsIn, IsOpen}
 use Rattle.zr_link.specs.Run.{Delivers}
+use Rattle.zr_link.proofs.Hearing.{plainly, plainly_some}
 use Rattle.zr_link.proofs.Going.{Gone, prefix_trans, gone_none, gone_more, gone_lost, gone_settled, gone_over, open_on, open_gives, leads_by, counted_same, rose_more, moment_more}
 use Rattle.zr_link.proofs.Unopened.{late_before}
 use Rattle.zr_link.proofs.delivery.go_on.Goals as goal
@@ -23,14 +24,14 @@ loop-init g c = record {
 
 pub settle-requires-clause-messages : goal.settle-requires-clause-messages
 settle-requires-clause-messages g c =
-    let given = open_gives c.loop.intake.session c.next.new.self.session c.next.new.self.fed.events.items _ _ _ c.in-Ok.fate c.loop.invariant.opened c.in-Ok.ensures.heard in
+    let given = open_gives c.loop.intake.session c.next.new.self.session c.next.new.self.fed.events.items _ _ _ c.in-Ok.fate c.loop.invariant.opened (plainly c.loop.intake.session c.next.new.self.session _ _ _ _ _ _ c.in-Ok.ensures.heard) in
     rw (c.into_iter-events.ensures.rest ∙ c.take_events.ensures.0) given
 
 pub returns-in-Err-clause-followed : goal.returns-in-Err-clause-followed
 returns-in-Err-clause-followed g c =
     let all = gone_lost c.args.link c.args.intake.now.session c.loop.intake.session _ _ _ _ _ c.in-Err.end
     (IsLate (g.S.Source.quiets c.args.source.now) (g.S.Source.quiets c.next.new.source) c.args.intake.now.session.heard (g.C.Clock.last c.args.clock.now) (g.C.Clock.last c.next.new.clock))
-    (g.P.Port.refuses_message c.args.port.now) (seen c.loop.pass) c.loop.invariant.gone c.in-Err.ensures.lost in
+    (g.P.Port.refuses_message c.args.port.now) (seen c.loop.pass) c.loop.invariant.gone (plainly_some c.loop.intake.session _ _ _ c.in-Err.ensures.lost) in
     (all.msgs, all.does, all.follows)
 
 pub returns-in-Err-settle-clause-followed : goal.returns-in-Err-settle-clause-followed
@@ -40,7 +41,7 @@ returns-in-Err-settle-clause-followed g c =
     let are = c.into_iter-events.ensures.rest ∙ c.take_events.ensures.0 in
     let all = gone_settled c.args.link c.args.intake.now.session c.loop.intake.session c.next.new.self.session c.next.new.self.fed.events.items stops.0 _ _ _ _ _ _ c.in-Ok.fate c.in-Err-settle.end _
     (IsLate (g.S.Source.quiets c.args.source.now) (g.S.Source.quiets c.next.new.source) c.args.intake.now.session.heard (g.C.Clock.last c.args.clock.now) (g.C.Clock.last c.next.new.clock))
-    (g.P.Port.refuses_message c.args.port.now) (seen c.settle.new.pass) (λ p l. late_before _ _ _ _ _ _ _ _ p inv.later.0 inv.later.1 inv.moment l.1) inv.gone c.in-Ok.ensures.heard
+    (g.P.Port.refuses_message c.args.port.now) (seen c.settle.new.pass) (λ p l. late_before _ _ _ _ _ _ _ _ p inv.later.0 inv.later.1 inv.moment l.1) inv.gone (plainly c.loop.intake.session c.next.new.self.session _ _ _ _ _ _ c.in-Ok.ensures.heard)
     (subst (λ z. Delivers c.args.link z stops.0 (mine c.loop.pass) (mine c.settle.new.pass)) are stops.1) stops.2 in
     (all.msgs, all.does, all.follows)
 
@@ -48,18 +49,19 @@ pub loop-preserved : goal.loop-preserved
 loop-preserved g c =
     let inv = c.loop.invariant in
     let heard = c.in-Ok.ensures in
+    let told = plainly c.loop.intake.session c.next.new.self.session _ _ _ _ _ _ heard.heard in
     let done = c.in_default.ensures in
     let going = done.ok.0 in
     let are = c.into_iter-events.ensures.rest ∙ c.take_events.ensures.0 in
     let kept = sym c.take_events.ensures.1 in
     let reads = rose_more _ _ _ _ inv.reads heard.counted in
-    let gone = gone_more c.args.link c.args.intake.now.session c.loop.intake.session c.next.new.self.session c.next.new.self.fed.events.items _ _ _ _ _ _ inv.gone (leads_by c.loop.intake.session c.next.new.self.session _ _ _ _ c.in-Ok.fate heard.opening heard.heard going)
+    let gone = gone_more c.args.link c.args.intake.now.session c.loop.intake.session c.next.new.self.session c.next.new.self.fed.events.items _ _ _ _ _ _ inv.gone (leads_by c.loop.intake.session c.next.new.self.session _ _ _ _ c.in-Ok.fate heard.opening told going)
     (subst (λ z. Delivers c.args.link z [] (mine c.loop.pass) (mine c.settle.new.pass)) are done.ok.1) in record {
       same = (done.same.0 ∙ inv.same.0, done.same.1 ∙ inv.same.1);
       prefix = prefix_trans _ _ _ inv.prefix done.prefix;
       gone = subst (λ (z : SessionState). Gone c.args.link c.args.intake.now.session z (g.S.Source.left c.args.source.now) (g.S.Source.left c.next.new.source) (mine c.args.pass.now) (mine c.settle.new.pass)) kept gone;
       running = subst (λ (z : SessionState). is_running z.state ≡ true) kept (heard.running going);
-      opened = subst (λ (z : SessionState). IsIn IsOpen z) kept (open_on c.loop.intake.session c.next.new.self.session _ _ _ _ c.in-Ok.fate inv.opened heard.heard going);
+      opened = subst (λ (z : SessionState). IsIn IsOpen z) kept (open_on c.loop.intake.session c.next.new.self.session _ _ _ _ c.in-Ok.fate inv.opened told going);
       counts = (counted_same _ _ _ heard.fault (λ e. absurd cc) ∙ inv.counts.0, counted_same _ _ _ heard.ended (λ e. absurd cc) ∙ inv.counts.1);
       reads = reads;
       later = (omega (arith, inv.later.0, heard.later.0), omega (arith, inv.later.1, heard.later.1));

@@ -1,5 +1,7 @@
 -- The peer isn't taken; or the link comes up, is followed, and goes down.
-use Rattle.std.proofs.Common.{◌∙◌, ◌++◌, ◌∷◌, [], refl, ap, subst, inl}
+use Rattle.std.proofs.Common.{◌≡◌, ◌∙◌, ◌++◌, ◌∷◌, ℕ, List, [], refl, sym, ap, subst, inl}
+use Rattle.zr_link.specs.Written.{close_with}
+use Rattle.std.proofs.lemmas.List.{append-nil}
 use Rattle.std.specs.Prelude.{Some, None}
 use Rattle.std.specs.Vec.Iter.{into_iter_items}
 use Rattle.zr_msg.specs.declared.event.Event.TheVariants as event
@@ -9,11 +11,17 @@ use Rattle.zr_link.specs.Heard.{IsLate}
 use Rattle.zr_link.specs.Acts.{up, froms}
 use Rattle.zr_link.specs.Ends.{IsStarted}
 use Rattle.zr_link.proofs.Going.{Followed, does_entry, does_then}
-use Rattle.zr_link.proofs.Running.{enters_followed, enters_early}
+use Rattle.zr_link.proofs.Running.{enters_followed, enters_early, up_not_refused}
 use Rattle.zr_link.proofs.reader.enter.Goals as goal
 
 pub returns-in-Err-clause-entered : goal.returns-in-Err-clause-entered
-returns-in-Err-clause-entered g c = inl (c.in-Err.ensures.unchanged, refl, (c.in-Err.e, c.in-Err.ensures.refused, c.of_up-end.ensures))
+returns-in-Err-clause-entered g c =
+    let wrote = c.refuse.ensures (λ is. up_not_refused c.in-Err.e (sym c.of_up-end.ensures ∙ is)) in inl (
+      c.in-Err.ensures.unchanged,
+      refl,
+      (c.in-Err.e, c.in-Err.ensures.refused, c.of_up-end.ensures),
+      λ answers is. rw (append-nil answers) (rw (c.without_close.ensures.without answers is) at wrote),
+    )
 
 pub returns-in-Ok-begin-clause-entered : goal.returns-in-Ok-begin-clause-entered
 returns-in-Ok-begin-clause-entered g c =
@@ -22,7 +30,7 @@ returns-in-Ok-begin-clause-entered g c =
     let link = c.in-Ok.up.0 in
     let added = c.in-Ok.ensures.added in
     let first = does_entry (mine c.args.pass.now) (mine c.up.new.pass) added.entry (event.Up link c.args.opened.peer) (Some c.args.opened.outbox) None added.own added.says.0 in
-    let same = c.in-Ok-begin.ensures.same ∙ ap with_confirmed c.without_close.ensures in
+    let same = c.in-Ok-begin.ensures.same ∙ ap with_confirmed c.without_close.ensures.same in
     let on = c.follow-end.ensures.followed in
     let followed = subst (λ (z : SessionState). Followed link z waiting c.args.opened.fate c.follow-end.result (g.S.Source.left c.args.source.now) (g.S.Source.left c.follow-end.new.source)
     (IsLate (g.S.Source.quiets c.args.source.now) (g.S.Source.quiets c.follow-end.new.source) z.heard (g.C.Clock.last c.args.clock.now) (g.C.Clock.last c.follow-end.new.clock))
@@ -30,8 +38,9 @@ returns-in-Ok-begin-clause-entered g c =
     let down = c.leave.ensures.left in
     enters_followed c.args.opened.peer c.args.opened.outbox S waiting c.args.opened.fate c.follow-end.result (g.S.Source.left c.args.source.now) (g.S.Source.left c.follow-end.new.source)
     (IsLate (g.S.Source.quiets c.args.source.now) (g.S.Source.quiets c.follow-end.new.source) S.heard (g.C.Clock.last c.args.clock.now) (g.C.Clock.last c.follow-end.new.clock))
+    (λ owed. (answers : List ℕ) → c.args.intake.now.fed.bytes.items ≡ answers ++ close_with c.args.opened.fate → Unit {0}) _
     (g.P.Port.refuses_up c.args.port.now) (g.P.Port.refuses_message c.args.port.now) (g.P.Port.refuses_down c.args.port.now)
-    c.args.pass.now c.up.new.pass c.follow-end.new.pass c.leave.new.pass link first (record { msgs = followed.msgs; does = followed.does; follows = followed.follows }) c.leave.ensures.prefix down.0 down.1 down.2
+    c.args.pass.now c.up.new.pass c.follow-end.new.pass c.leave.new.pass link first (record { msgs = followed.msgs; does = followed.does; follows = followed.follows }) c.leave.ensures.prefix down.0 down.1 down.2 refl
 
 pub returns-in-Ok-begin-clause-unwritten : goal.returns-in-Ok-begin-clause-unwritten
 returns-in-Ok-begin-clause-unwritten g c is = absurd (subst IsStarted is c.follow-end.ensures.started)
@@ -67,7 +76,9 @@ returns-in-Err-begin-clause-entered g c =
     let added = c.in-Ok.ensures.added in
     let first = does_entry (mine c.args.pass.now) (mine c.up.new.pass) added.entry (event.Up link c.args.opened.peer) (Some c.args.opened.outbox) None added.own added.says.0 in
     let down = c.leave-in-Err-begin.ensures.left in
+    let wrote = rw c.without_close.ensures.same at c.in-Err-begin.ensures.wrote in
     enters_early c.args.opened.peer c.args.opened.outbox c.args.intake.now.session (into_iter_items c.args.opened.messages) c.args.opened.fate _ (g.S.Source.left c.args.source.now)
-    (IsLate (g.S.Source.quiets c.args.source.now) (g.S.Source.quiets c.args.source.now) c.args.intake.now.session.heard (g.C.Clock.last c.args.clock.now) (g.C.Clock.last c.args.clock.now))
+    (IsLate (g.S.Source.quiets c.args.source.now) (g.S.Source.quiets c.args.source.now) c.args.intake.now.session.heard (g.C.Clock.last c.args.clock.now) (g.C.Clock.last c.args.clock.now)) _
     (g.P.Port.refuses_up c.args.port.now) (g.P.Port.refuses_message c.args.port.now) (g.P.Port.refuses_down c.args.port.now)
-    c.args.pass.now c.up.new.pass c.leave-in-Err-begin.new.pass link first c.in-Err-begin.ensures.early c.requires.messages down.0 down.1 down.2
+    c.args.pass.now c.up.new.pass c.leave-in-Err-begin.new.pass link c.args.intake.now.fed.bytes.items c.without_close.new.self.fed.bytes.items (g.K.Sink.held c.args.out.sink) _ _
+    first c.in-Err-begin.ensures.early down.0 down.1 down.2 c.without_close.ensures.without wrote
