@@ -3,4 +3,5 @@ pub mod Events
 pub mod Searching
 pub mod Possible
 pub mod Moving
+pub mod Passing
 pub mod Show

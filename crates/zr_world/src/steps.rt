@@ -1,13 +1,16 @@
 //! Messages move on: a router handles one, or one is taken from its queue.
 
-ghost use Rattle.std.specs.Prelude.{◌≡◌, if◌then◌else◌, is_some, Some, IsSome};
+ghost use Rattle.std.specs.Prelude.{◌≡◌, if◌then◌else◌, false, is_some, Some, IsSome, OnOk};
+ghost use Rattle.zr_network.specs.World.{changed, end_of, sent};
 ghost use Rattle.zr_world.specs.Hearing.{message_of};
 ghost use Rattle.zr_world.specs.Steps.{AppliesTo};
 
 use crate::spread::spread;
 use crate::tables::Tables;
+use std::alloc::{AllocError, Global};
 use zr_command::error::ScriptError;
 use zr_command::report::ReportLine;
+use zr_ends::ends::Ends;
 use zr_id::zid::Zid;
 use zr_msg::event::Event;
 use zr_msg::msg::Msg;
@@ -66,7 +69,15 @@ impl Tables {
             Err(e) => return Err(self.refusal_of(&router, &to, e)),
         };
         let tag = x.tag;
-        self.ends.send_copy(self.alloc, (to, router), &x.msg, tag)?;
+        let is_router = self.is_router(&to);
+        pass_on(
+            self.alloc,
+            &mut self.ends,
+            is_router,
+            (to, router),
+            &x.msg,
+            tag,
+        )?;
         report.push(ReportLine::Taken {
             router,
             to,
@@ -97,6 +108,24 @@ impl Tables {
             ScriptError::UnknownName
         }
     }
+}
+
+// A copy of a message comes onto the wire to the end of a router. A client has no end of its own, so none is looked for.
+fn pass_on(
+    alloc: Global,
+    ends: &mut Ends,
+    is_router: bool,
+    at: (Zid, Zid),
+    msg: &Msg,
+    tag: u64,
+) -> Result<(), AllocError>
+    requires { is_router ≡ false → is_some (end_of ends.old at) ≡ false }
+    ensures { OnOk result (ends.new ≡ changed ends.old at (λ s. sent s msg.now tag)) }
+{
+    if is_router {
+        return ends.send_copy(alloc, at, msg, tag);
+    }
+    Ok(())
 }
 
 // The message of an event that brings one.

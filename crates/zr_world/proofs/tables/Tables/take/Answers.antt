@@ -18,6 +18,7 @@ use Rattle.zr_world.specs.Hearing.{IsHeard}
 use Rattle.zr_world.specs.Living.{lines_of}
 use Rattle.zr_world.specs.State.{state_of}
 use Rattle.zr_world.proofs.Moving.{take_by, taken_by, take_refused, queue_there, applied, ran_out, no_lines}
+use Rattle.zr_world.proofs.Passing.{no_end_of_others}
 use Rattle.zr_world.proofs.tables.Tables.take.Goals as goal
 
 pub returns-in-Err : goal.returns-in-Err
@@ -40,9 +41,9 @@ returns c =
     c.in-Ok.ensures ∙ ap (λ (z : Tagged). Ok (z, c.next_queued.new.self)) (sym c.x.view_is) in
     let end = queue_there w.ends (c.args.router, c.args.to) (x, c.next_queued.new.self) told in
     let r = there (router_of w.routers c.args.router) (c.requires.routers c.args.router c.args.to end) in
-    let ends : changed c.next_queued.new.self (c.args.to, c.args.router) (λ s. sent s x.msg x.tag) ≡ c.send_copy.new.self = sym c.in_ok-send_copy.ensures in
+    let ends : changed c.next_queued.new.self (c.args.to, c.args.router) (λ s. sent s x.msg x.tag) ≡ c.pass_on.new.ends = sym c.in_ok-pass_on.ensures in
     applied (take_step w c.args.router c.args.to) (Taken c.args.router c.args.to x.msg x.tag ∷ []) w
-    (record { routers = c.args.self.now.routers.entries; clients = c.args.self.now.clients.entries; ends = c.send_copy.new.self; used = c.args.self.now.used; booked = c.args.self.now.booked })
+    (record { routers = c.args.self.now.routers.entries; clients = c.args.self.now.clients.entries; ends = c.pass_on.new.ends; used = c.args.self.now.used; booked = c.args.self.now.booked })
     c.args.report.now.items c.push.new.self.items
     (take_by w c.args.router c.args.to r.0 r.1 (c.requires.neighbours c.args.router c.args.to end) ∙ ap (λ o. o >>= taken_by w c.args.router c.args.to) told
     ∙ (λ i. Ok (
@@ -50,3 +51,10 @@ returns c =
       record { routers = c.args.self.now.routers.entries; clients = c.args.self.now.clients.entries; ends = ends i; used = c.args.self.now.used; booked = c.args.self.now.booked },
     )))
     c.in_ok-push.ensures.items
+
+pub pass_on-requires : goal.pass_on-requires
+pass_on-requires c = λ other.
+    let x : Tagged = record { msg = c.x.inside.msg; tag = c.x.inside.tag } in
+    let told : from_queue c.args.self.now.ends (c.args.router, c.args.to) ≡ Ok (x, c.next_queued.new.self) =
+    c.in-Ok.ensures ∙ ap (λ (z : Tagged). Ok (z, c.next_queued.new.self)) (sym c.x.view_is) in
+    no_end_of_others (state_of c.args.self.now) (c.args.router, c.args.to) c.args.to c.args.router (x, c.next_queued.new.self) c.requires told (sym c.is_router-is_router.ensures ∙ other)
