@@ -16,7 +16,7 @@ pub struct Incoming {
 }
 
 /// How many bytes are kept taken between two batches, at most.
-const MOST_IDLE: usize = 1024;
+pub const MOST_IDLE: usize = 1024;
 
 impl Model for Incoming {
     ghost use Rattle.std.specs.Prelude.{◌≡◌, List, ℕ, true};

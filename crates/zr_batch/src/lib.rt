@@ -5,6 +5,6 @@ mod incoming;
 mod laws;
 mod put;
 
-pub use incoming::{Incoming, split_batch};
+pub use incoming::{Incoming, MOST_IDLE, split_batch};
 pub use laws::{streams_are_cut_once, streams_are_joined, written_batches_are_cut};
 pub use put::put_batch;

@@ -1,5 +1,5 @@
 -- What is written of a message is read back within an established session, as the message that it gives.
-use Rattle.std.proofs.Common.{◌≡◌, ◌∙◌, ap, refl, sym, ℕ, ◌<◌, Bool, true, false, not, List, [], ◌∷◌, ◌++◌, length, Option, Some, None, Ok, inl, arith}
+use Rattle.std.proofs.Common.{◌≡◌, ap, refl, ℕ, ◌<◌, Bool, true, false, List, [], ◌∷◌, ◌++◌, length, Option, Some, None, Ok, inl, arith}
 use Rattle.std.specs.Prelude.{nat_le, bit_and}
 use Rattle.zr_bytes.specs.Flag.{has_id}
 use Rattle.zr_bytes.specs.Reading.{Read, ◌>>=◌, byte_of}
@@ -12,8 +12,7 @@ use Rattle.zr_msg.specs.declared.peer.Role.TheVariants.{Client, Router}
 use Rattle.zr_decl.specs.declared.declared.Declared.{Declared}
 use Rattle.zr_decl.specs.declared.declared.Declared.TheVariants.{Told}
 use Rattle.zr_decl.specs.Laws.{WrittenDeclarationsAreRead, WrittenInterestsAreRead}
-use Rattle.zr_decl.specs.Reading.{message_of, interest_of, declare_of, asked_of}
-use Rattle.zr_decl.specs.Writing.{Declares, Asks}
+use Rattle.zr_decl.specs.Reading.{message_of, interest_of, asked_of}
 use Rattle.zr_net.specs.Laws.{WrittenNetIsRead}
 use Rattle.zr_net.specs.Reading.{net_of, behind_of, declared_of, told_of}
 use Rattle.zr_net.specs.Writing as net
@@ -26,7 +25,7 @@ use Rattle.zr_session.specs.declared.carried.Carried.TheVariants.{BetweenRouters
 use Rattle.zr_session.specs.declared.event.SessionEvent.TheVariants.{Message}
 use Rattle.zr_session.specs.declared.phase.Established as session
 use Rattle.zr_session.specs.declared.phase.Phase.TheVariants.{Established}
-use Rattle.zr_session.specs.Carried.{begins_network, begins_oam, between_routers_of, network_of, carried_of}
+use Rattle.zr_session.specs.Carried.{begins_network, between_routers_of, network_of, carried_of}
 use Rattle.zr_session.specs.Course.{gives}
 use Rattle.zr_session.specs.Step.{on_carried}
 use Rattle.zr_session.specs.Sending.{MayBeSent}

@@ -15,7 +15,7 @@ use Rattle.zr_msg.specs.declared.peer.Role.{Role}
 use Rattle.zr_wire.specs.Writing.{writes_message}
 use Rattle.zr_frame.specs.declared.channel.Channel.{Channel}
 use Rattle.zr_frame.specs.Channel.{frame, fragment}
-use Rattle.zr_frame.specs.Channels.{one_of, on_one, with_one}
+use Rattle.zr_frame.specs.Channels.{on_one, with_one}
 use Rattle.zr_frame.specs.Limits.{most_of}
 use Rattle.zr_frame.specs.Outbox.{OutboxState, IsOutbox}
 use Rattle.zr_frame.specs.Packing.{parcels}
@@ -23,11 +23,10 @@ use Rattle.zr_frame.specs.Laws.{HandsOn, Delivers, expecting, ParcelsAreShort, P
 use Rattle.zr_frame.proofs.Receiving.{delivers_append}
 use Rattle.zr_open.specs.declared.expected.Expected.{Expected}
 use Rattle.zr_open.specs.Opening.{OpeningState}
-use Rattle.zr_session.specs.declared.carried.Carried.{Carried}
 use Rattle.zr_session.specs.declared.event.SessionEvent.TheVariants.{Message}
 use Rattle.zr_session.specs.declared.phase.Established as session
 use Rattle.zr_session.specs.declared.phase.Phase.TheVariants.{Opening, Established}
-use Rattle.zr_session.specs.Carried.{begins_network, carried_of}
+use Rattle.zr_session.specs.Carried.{carried_of}
 use Rattle.zr_session.specs.Course.{Course, going, gives, joined, and_then}
 use Rattle.zr_session.specs.Step.{on_frame, on_fragment, on_whole, with_channels}
 use Rattle.zr_session.specs.Stream.{Item, Comes, item_of, trans_item, carried_item, items_within, on_batch, on_batches}
@@ -148,14 +147,29 @@ batch_heard o s c next batch ms h (inl frame) = frame_heard o s c next batch fra
 batch_heard o s c next batch ms h (inr part) = fragment_heard o s c next batch part.2 part.0 part.1 part.3 ms h part.4 part.5 part.6
 
 -- messages that are written as two lists are two lists
-two_lists : (a b : List (List ℕ)) (ms : List Msg) → written ms ≡ a ++ b → (xs : List Msg) × (ys : List Msg) × (ms ≡ xs ++ ys) × (written xs ≡ a) × (written ys ≡ b)
-two_lists [] b ms e = ([], ms, refl, refl, e)
+record TwoLists (a b : List (List ℕ)) (ms : List Msg) : Type 0 where
+  first : List Msg
+  second : List Msg
+  all : ms ≡ first ++ second
+  is_first : written first ≡ a
+  is_second : written second ≡ b
+
+one_more : (x : List ℕ) (m : Msg) (a b : List (List ℕ)) (ms : List Msg) → writes_message m ≡ x → TwoLists a b ms → TwoLists (x ∷ a) b (m ∷ ms)
+one_more x m a b ms e h = record {
+  first = m ∷ h.first;
+  second = h.second;
+  all = ap (λ z. m ∷ z) h.all;
+  is_first = ap (λ z. z ∷ written h.first) e ∙ ap (λ z. x ∷ z) h.is_first;
+  is_second = h.is_second;
+}
+
+two_lists : (a b : List (List ℕ)) (ms : List Msg) → written ms ≡ a ++ b → TwoLists a b ms
+two_lists [] b ms e = record { first = []; second = ms; all = refl; is_first = refl; is_second = e }
 two_lists (x ∷ a) b [] e = absurd cc
 two_lists (x ∷ a) b (m ∷ ms) e =
     let head : writes_message m ≡ x = cc in
     let tail : written ms ≡ a ++ b = cc in
-    let h = two_lists a b ms tail in
-    (m ∷ h.0, h.1, ap (λ z. m ∷ z) h.2, ap (λ z. z ∷ written h.0) head ∙ ap (λ z. x ∷ z) h.3, h.4)
+    one_more x m a b ms head (two_lists a b ms tail)
 
 batches_heard : (o : OpeningState) (s : session.Established) (batches : List (List ℕ)) (c last : Channel) (ms : List Msg) → AreHeard s.role ms →
     Delivers (most_of s.role) c batches (written ms) last → on_batches o (Established (at s c)) batches ≡ heard (at s last) ms
@@ -164,10 +178,10 @@ batches_heard o s [] c last [] h d = ap (λ z. heard (at s z) []) (sym d.1)
 batches_heard o s [] c last (m ∷ ms) h d = let none : written (m ∷ ms) ≡ [] = d.0 in absurd cc
 batches_heard o s (batch ∷ batches) c last ms h d =
     let two = two_lists d.0 d.2 ms d.3 in
-    let both = all_parts (λ m. IsHeard s.role m (writes_message m)) two.0 two.1 (subst (λ (z : List Msg). AreHeard s.role z) two.2 h) in
-    let here : HandsOn (most_of s.role) c batch (written two.0) d.1 = subst (λ (z : List (List ℕ)). HandsOn (most_of s.role) c batch z d.1) (sym two.3) d.4 in
-    let later : Delivers (most_of s.role) d.1 batches (written two.1) last = subst (λ (z : List (List ℕ)). Delivers (most_of s.role) d.1 batches z last) (sym two.4) d.5 in
-    first_then two.0 two.1 two.2 (batch_heard o s c d.1 batch two.0 both.0 here) (batches_heard o s batches d.1 last two.1 both.1 later)
+    let both = all_parts (λ m. IsHeard s.role m (writes_message m)) two.first two.second (subst (λ (z : List Msg). AreHeard s.role z) two.all h) in
+    let here : HandsOn (most_of s.role) c batch (written two.first) d.1 = subst (λ (z : List (List ℕ)). HandsOn (most_of s.role) c batch z d.1) (sym two.is_first) d.4 in
+    let later : Delivers (most_of s.role) d.1 batches (written two.second) last = subst (λ (z : List (List ℕ)). Delivers (most_of s.role) d.1 batches z last) (sym two.is_second) d.5 in
+    first_then two.first two.second two.all (batch_heard o s c d.1 batch two.first both.0 here) (batches_heard o s batches d.1 last two.second both.1 later)
   where
     first_then : (xs ys : List Msg) → ms ≡ xs ++ ys → on_batch o (Established (at s c)) batch ≡ heard (at s d.1) xs → on_batches o (Established (at s d.1)) batches ≡ heard (at s last) ys →
         and_then (on_batch o (Established (at s c)) batch) (λ q. on_batches o q batches) ≡ heard (at s last) ms

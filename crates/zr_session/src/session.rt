@@ -16,9 +16,18 @@ use crate::write::put_message;
 use std::alloc::{AllocError, Global};
 use std::marker::Model;
 use std::mem;
-use zr_batch::Incoming;
+use zr_batch::{Incoming, MOST_IDLE};
 use zr_open::{Expected, Opening, Reason};
 use zr_trans::Trans;
+
+/// The most memory that the answer to OPEN takes: 13 bytes, in a list that has grown to them.
+const MOST_ANSWER: usize = 32;
+
+/// The memory of a session that is open and idle is below this: its fields, what is kept taken of the last batch, and the answer
+/// to OPEN. No message is in part then, and a peer that has numbered no text has none.
+const MOST_OF_IDLE: usize = 2048;
+
+const _: () = prove!(size_of::<Session>() + MOST_IDLE + MOST_ANSWER < MOST_OF_IDLE);
 
 /// One end of a session over a link. Each call appends what it gives and answers how the session stands.
 #[derive(Drop)]
