@@ -1,5 +1,5 @@
-//! Tests of the wire's formats: bytes, extensions, bodies, keys and transport messages.
-//! Each file tests one crate, as rows of a table. What the contracts say for all inputs is not tested.
+//! Tests of the wire's formats: bytes, extensions, bodies, keys, transport messages, declarations, network messages and messages between routers.
+//! Each file tests one crate, as rows of a table, and `passing` what is read and written again. What the contracts say for all inputs is not tested.
 #![tactic(auto)]
 
 #[cfg(test)]
@@ -14,6 +14,8 @@ mod extensions;
 mod keys;
 #[cfg(test)]
 mod messages;
+#[cfg(test)]
+mod passing;
 #[cfg(test)]
 mod routers;
 #[cfg(test)]
