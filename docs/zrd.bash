@@ -6,7 +6,7 @@ _zrd() {
         words='net serve make --help --version'
     else
         case ${COMP_WORDS[1]} in
-        net) words='--help' ;;
+        net) words='--summary --help' ;;
         serve) words='--id --listen --help' ;;
         make) words='--number --routers --clients --messages --help' ;;
         *) words= ;;

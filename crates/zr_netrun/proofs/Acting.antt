@@ -1,5 +1,6 @@
 -- What one act has done, and why a run stops at a line, a run or an act: an error is out of memory, or the refusal that is said.
 use Rattle.std.proofs.Common.{◌≡◌, ℕ, List, [], ◌++◌, Option, Some, None, Result, Ok, Err, refl, sym, ap, ◌∙◌, ◌⊎◌, inl, inr, subst}
+use Rattle.std.specs.Prelude.{is_none, true}
 use Rattle.std.specs.List.{flat_map}
 use Rattle.std.proofs.lemmas.Bool.{false≢true}
 use Rattle.zr_command.specs.declared.command.Act.{Act}
@@ -12,7 +13,8 @@ use Rattle.zr_network.specs.Acts.{Outcome, outcome}
 use Rattle.zr_network.specs.Run.{Run}
 use Rattle.zr_outside.specs.Told.{AppendsPrefix}
 use Rattle.zr_world.specs.Living.{Living, alive, Applies}
-use Rattle.zr_netrun.specs.Kept.{Kept, Written, IsAt, Stopped, run_behind, run_by, stop_of}
+use Rattle.zr_netrun.specs.declared.counts.Counts.{Counts}
+use Rattle.zr_netrun.specs.Kept.{Kept, seen, Written, IsAt, Stopped, run_behind, run_by, stop_of}
 use Rattle.zr_netrun.proofs.Writing.{prefix_none, nothing_said}
 
 -- ---- errors
@@ -119,3 +121,15 @@ pub act_fails : (k : Kept) (act : Act) (world : Living) (report : List ReportLin
     AppendsPrefix (k.pending ++ flat_map line_text report) a b → AppendsPrefix (k.pending ++ (run_by k act).text) a b
 act_fails k act world report a b u applies out =
     subst (λ (r : Run). AppendsPrefix (k.pending ++ r.text) a b) (sym (act_is_done k act world report u applies).0) out
+
+-- ---- texts that wait only where the report is written
+
+pub tells_written : (o : Option Counts) (p t q r : List ℕ) (a b : Option (List ℕ)) → (is_none o ≡ true → q ≡ p ++ t) → Written q r a b →
+    Written (p ++ t) r (seen (is_none o) a) (seen (is_none o) b)
+tells_written None p t q r a b is h = subst (λ (z : List ℕ). Written z r a b) (is refl) h
+tells_written (Some c) p t q r a b is h = tt
+
+pub tells_prefix : (o : Option Counts) (p t q : List ℕ) (a b : Option (List ℕ)) → (is_none o ≡ true → q ≡ p ++ t) → AppendsPrefix q a b →
+    AppendsPrefix (p ++ t) (seen (is_none o) a) (seen (is_none o) b)
+tells_prefix None p t q a b is h = subst (λ (z : List ℕ). AppendsPrefix z a b) (is refl) h
+tells_prefix (Some c) p t q a b is h = tt

@@ -78,7 +78,7 @@ module _ (earlier : List ℕ) (goal_run : Run) (goal_open : List ℕ) (a : Optio
 
   -- no line ends in what is left, which is kept
   pub keeps_at : (k m : Kept) (rest : List ℕ) (b : Option (List ℕ)) (result : Result (Unit {0}) Stop) → AtRest k rest b → IsOpen k.line → parts rest ≡ rest ∷ [] →
-      OnOk result (m ≡ record { world = k.world; number = k.number; line = take most_kept (k.line ++ rest); pending = k.pending }) → OnErr result (result ≡ Err NoMemory) →
+      OnOk result (m ≡ record { world = k.world; number = k.number; line = take most_kept (k.line ++ rest); pending = k.pending; counts = k.counts }) → OnErr result (result ≡ Err NoMemory) →
       Turns result goal_run (take most_kept goal_open) earlier m a b
   keeps_at k m rest b (Ok u) at is_open whole ok err =
       let joined : IsOpen (k.line ++ rest) = open_append k.line rest is_open whole in

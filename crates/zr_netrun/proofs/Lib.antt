@@ -4,6 +4,11 @@ pub mod Writing
 pub mod Acting
 pub mod Stepping
 pub mod Keeping
+pub mod Known
+pub mod Bounds
+pub mod Counting
+pub mod Accepting
 pub mod Feeding
 pub mod Reading
 pub mod Telling
+pub mod Summing

@@ -1,6 +1,7 @@
 -- The script that was read so far, what is kept of it, and what is told at its end.
 -- `IsAfter` holds whenever the loop reads: what is kept is the run of the lines that have ended, and all of its report was written.
 use Rattle.std.proofs.Common.{◌≡◌, ℕ, ◌+◌, ◌-◌, ◌≤◌, ◌||◌, min, Bool, true, false, List, [], ◌++◌, length, take, drop, Option, Some, None, is_some, Result, Ok, refl, sym, ap, ◌∙◌, append_assoc, append-nil, arith, subst, inl, inr}
+use Rattle.std.specs.Prelude.{IfSome}
 use Rattle.std.specs.List.{fold}
 use Rattle.std.proofs.lemmas.List.Sums.{fold-append}
 use Rattle.std.proofs.lemmas.Bool.{cases_lt}
@@ -15,12 +16,18 @@ use Rattle.zr_netrun.specs.declared.status.Status.{Status}
 use Rattle.zr_netrun.specs.declared.status.Status.TheVariants as s
 use Rattle.zr_netrun.specs.declared.runner.Stop.{Stop}
 use Rattle.zr_netrun.specs.declared.runner.Stop.TheVariants.{Refused, NoMemory, WriteFault}
-use Rattle.zr_netrun.specs.Kept.{Kept, fresh, IsAt, Stopped, Turns, TellsRefusal, Tells}
+use Rattle.zr_network.specs.Moments.{beginning}
+use Rattle.zr_network.specs.Accepted.{accepted_from}
+use Rattle.zr_netrun.specs.declared.counts.Counts.{Counts}
+use Rattle.zr_netrun.specs.Summary.{counts_of}
+use Rattle.zr_netrun.specs.Kept.{Kept, begun, fresh, seen, IsAt, Stopped, Turns, TellsRefusal, Tells}
+use Rattle.zr_netrun.specs.Counted.{all_capped, CountsOn, CountsFromNone}
 use Rattle.zr_netrun.specs.Judged.{judged, is_too_long, is_refused, complaint, complaint_of}
 use Rattle.zr_netrun.specs.Clauses.{OfRead, Reports}
 use Rattle.zr_netrun.proofs.Lines.{ended_append, open_after, open_last}
 use Rattle.zr_netrun.proofs.Runs.{fold_kept, open_kept}
-use Rattle.zr_netrun.proofs.Writing.{turn_more, all_written, written_all, written_flushed, appends_all, prefix_flushed}
+use Rattle.zr_netrun.proofs.Writing.{turn_more, all_written, written_all, written_flushed, appends_all, prefix_flushed, seen_all, seen_prefix}
+use Rattle.zr_netrun.proofs.Accepting.{HasCounted, piece_counted}
 
 -- ---- what is kept of the bytes that were read
 
@@ -28,12 +35,12 @@ pub record IsAfter (k : Kept) (total : ℕ) (a b : Option (List ℕ)) (read : Li
   pub at : IsAt (run_of_ended read) (take most_kept (open_line read)) [] k a b
   pub flushed : k.pending ≡ []
   pub total_is : length read ≡ total
+  pub counted : HasCounted k (ended_lines read)
 
 -- nothing was read
-pub after_nothing : (k : Kept) (a : Option (List ℕ)) (left : Option (List ℕ)) →
-    k ≡ record { world = record { state = start.world; spent = false }; number = 0; line = []; pending = [] } → OfRead left left (IsAfter k 0 a a)
-after_nothing k a None e = tt
-after_nothing k a (Some bytes) e = (
+pub after_nothing : (k : Kept) (a : Option (List ℕ)) (left : Option (List ℕ)) → k ≡ begun k.counts → CountsFromNone k.counts → OfRead left left (IsAfter k 0 a a)
+after_nothing k a None e none = tt
+after_nothing k a (Some bytes) e none = (
   [],
   bytes,
   refl,
@@ -42,12 +49,17 @@ after_nothing k a (Some bytes) e = (
     at = record { world = refl; number = refl; line_is = refl; refusal = refl; text = written_all [] a a (by a) };
     flushed = refl;
     total_is = refl;
+    counted = (beginning, refl, record { world_is = refl; counts_are = zeros k.counts none; known = refl });
   }),
 )
   where
     by : (o : Option (List ℕ)) → Appends [] o o
     by None = tt
     by (Some held) = ap Some (sym (append-nil held))
+
+    zeros : (o : Option Counts) → CountsFromNone o → IfSome o (λ c. c ≡ all_capped (counts_of beginning))
+    zeros None h = tt
+    zeros (Some c) h = h
 
 -- the run of bytes that come in two pieces
 run_piece : (k : Kept) (read piece : List ℕ) → k.line ≡ take most_kept (open_line read) →
@@ -83,13 +95,14 @@ reads_more P Q (Some all) now next n buffer h took f =
 -- a piece was fed whole
 pub reads_piece : (left now next : Option (List ℕ)) (n total : ℕ) (buffer : List ℕ) (k m : Kept) (a b c : Option (List ℕ)) (u : Unit {0}) →
     OfRead left now (IsAfter k total a b) → Consumes n buffer now next → n ≤ length buffer → m.pending ≡ [] →
-    Turns (Ok u) (fold on_line (fresh k) (ended_lines (k.line ++ take n buffer))) (take most_kept (open_line (k.line ++ take n buffer))) k.pending m b c →
+    CountsOn (accepted_from (fresh k) (ended_lines (k.line ++ take n buffer))) k m → Turns (Ok u) (fold on_line (fresh k) (ended_lines (k.line ++ take n buffer))) (take most_kept (open_line (k.line ++ take n buffer))) k.pending m b c →
     OfRead left next (IsAfter m (total + n) a c)
-reads_piece left now next n total buffer k m a b c u h took le flushed turn =
+reads_piece left now next n total buffer k m a b c u h took le flushed counts turn =
     reads_more (IsAfter k total a b) (IsAfter m (total + n) a c) left now next n buffer h took (λ (read : List ℕ) (p : IsAfter k total a b read). record {
       at = piece_more k m total a b c read (take n buffer) (Ok u) p turn;
       flushed = flushed;
       total_is = omega (arith, length-append read (take n buffer), length-take n buffer, p.total_is);
+      counted = piece_counted k m (take most_kept (open_line read)) [] a b read (take n buffer) p.at p.at.line_is p.counted counts;
     })
 
 -- ---- what is told at the end
@@ -97,6 +110,22 @@ reads_piece left now next n total buffer k m a b c u h took le flushed turn =
 pub as_before : (e e' : Option (List ℕ)) → e' ≡ e → IsAsBefore e e'
 as_before None e' h = tt
 as_before (Some held) e' h = h
+
+-- what was told is told of what is looked at
+pub seen_tells : (shows : Bool) (stop : Stop) (status : Status) (n : ℕ) (p : List ℕ) (a b e e' : Option (List ℕ)) → Tells stop status n p a b e e' → Tells stop status n p (seen shows a) (seen shows b) e e'
+seen_tells shows (Refused error) status n p a b e e' h = by status h
+  where
+    by : (status : Status) → TellsRefusal status error n p a b e e' → TellsRefusal status error n p (seen shows a) (seen shows b) e e'
+    by s.Refused t = (seen_all shows p a b t.0, t.1)
+    by s.WriteFault (inl t) = inl (seen_prefix shows p a b t.0, t.1)
+    by s.WriteFault (inr t) = inr (seen_all shows p a b t.0, t.1)
+    by s.NoMemory t = (seen_all shows p a b t.0, t.1)
+    by s.Done t = absurd t
+    by s.Words t = absurd t
+    by s.ReadFault t = absurd t
+    by s.HostFault t = absurd t
+seen_tells shows NoMemory status n p a b e e' h = (h.0, ap (seen shows) h.1, h.2)
+seen_tells shows WriteFault status n p a b e e' h = (h.0, ap (seen shows) h.1, h.2)
 
 -- what was told of a run that stopped is what is to be told
 pub tells_judged : (to_end : Bool) (bytes : List ℕ) (m : Kept) (a b c e e' : Option (List ℕ)) (stop : Stop) (status : Status) →

@@ -28,7 +28,7 @@ commanded_with t r (Ok None) = refl
 commanded_with t r (Ok (Some command)) = stepped_with t r (applied r.world (r.number + 1) command)
 commanded_with t r (Err e) = refl
 
-on_line_with : (t : List ℕ) (r : Run) (line : List ℕ) → on_line (with_text t r) line ≡ with_text t (on_line r line)
+pub on_line_with : (t : List ℕ) (r : Run) (line : List ℕ) → on_line (with_text t r) line ≡ with_text t (on_line r line)
 on_line_with t r line = by (is_some r.refusal)
   where
     by : (b : Bool) → cond b (with_text t r) (commanded (with_text t r) (command_of line)) ≡ with_text t (cond b r (commanded r (command_of line)))
@@ -63,7 +63,7 @@ too_long line h =
     rw t refl
 
 -- a prefix of 4,097 bytes decides what a line asks
-same_command : (line more : List ℕ) → command_of (take most_kept line ++ more) ≡ command_of (line ++ more)
+pub same_command : (line more : List ℕ) → command_of (take most_kept line ++ more) ≡ command_of (line ++ more)
 same_command line more =
     elim (cases_lt most_kept (length line)) [
       | inl long ↦

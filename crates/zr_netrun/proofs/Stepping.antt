@@ -28,7 +28,7 @@ use Rattle.zr_outside.specs.Told.{AppendsPrefix}
 use Rattle.zr_world.specs.Living.{Living, alive, Books}
 use Rattle.zr_netrun.specs.declared.runner.Stop.{Stop}
 use Rattle.zr_netrun.specs.declared.runner.Stop.TheVariants.{Refused, NoMemory, WriteFault}
-use Rattle.zr_netrun.specs.Kept.{Kept, fresh, run_behind, run_by, Written, IsAt, Stopped, Turns, StepsOn, stop_of}
+use Rattle.zr_netrun.specs.Kept.{Kept, writes, seen, fresh, run_behind, run_by, Written, IsAt, Stopped, Turns, StepsOn, stop_of}
 use Rattle.zr_netrun.proofs.Runs.{with_text}
 use Rattle.zr_netrun.proofs.Writing.{turn_behind, nothing_said, prefix_none, prefix_more, prefix_longer}
 use Rattle.zr_netrun.proofs.Acting.{stops_by, error_is_said}
@@ -37,7 +37,7 @@ use Rattle.zr_netrun.proofs.Acting.{stops_by, error_is_said}
 
 -- the line has been counted
 abbrev pub counted : Kept → Kept
-counted k = record { world = k.world; number = k.number + 1; line = k.line; pending = k.pending }
+counted k = record { world = k.world; number = k.number + 1; line = k.line; pending = k.pending; counts = k.counts }
 
 -- a line that asks nothing is only counted
 pub silent_turns : (k m : Kept) (line : List ℕ) (a : Option (List ℕ)) → k.world.spent ≡ false → command_of line ≡ Ok None → m ≡ counted k →
@@ -68,11 +68,12 @@ reading_stops k m line l a error said same =
 
 -- what its command did is what the line did
 pub line_turns : (k n m : Kept) (line : List ℕ) (command : Command) (a b : Option (List ℕ)) (result : Result (Unit {0}) Stop) → command_of line ≡ Ok (Some command) → n ≡ counted k →
-    Turns result (run_behind n (applied n.world.state n.number command)) n.line n.pending m a b → Turns result (on_line (fresh k) line) k.line k.pending m a b
+    Turns result (run_behind n (applied n.world.state n.number command)) n.line n.pending m (seen (writes n) a) (seen (writes n) b) →
+    Turns result (on_line (fresh k) line) k.line k.pending m (seen (writes k) a) (seen (writes k) b)
 line_turns k n m line command a b result asks same turn =
     let run : on_line (fresh k) line ≡ run_behind (counted k) (applied k.world.state (k.number + 1) command) = ap (commanded (fresh k)) asks ∙ by (applied k.world.state (k.number + 1) command) in
-    subst (λ (r : Run). Turns result r k.line k.pending m a b) (sym run)
-    (subst (λ (z : Kept). Turns result (run_behind z (applied z.world.state z.number command)) z.line z.pending m a b) same turn)
+    subst (λ (r : Run). Turns result r k.line k.pending m (seen (writes k) a) (seen (writes k) b)) (sym run)
+    (subst (λ (z : Kept). Turns result (run_behind z (applied z.world.state z.number command)) z.line z.pending m (seen (writes z) a) (seen (writes z) b)) same turn)
   where
     by : (d : Done) → stepped (fresh k) d ≡ run_behind (counted k) d
     by (Ok x) = refl
@@ -80,10 +81,11 @@ line_turns k n m line command a b result asks same turn =
 
 -- so did its one act
 pub act_line_turns : (k n m : Kept) (line : List ℕ) (act : Act) (a b : Option (List ℕ)) (result : Result (Unit {0}) Stop) → command_of line ≡ Ok (Some (c.Act act)) → n ≡ counted k →
-    Turns result (run_by n act) n.line n.pending m a b → Turns result (on_line (fresh k) line) k.line k.pending m a b
+    Turns result (run_by n act) n.line n.pending m (seen (writes n) a) (seen (writes n) b) →
+    Turns result (on_line (fresh k) line) k.line k.pending m (seen (writes k) a) (seen (writes k) b)
 act_line_turns k n m line act a b result asks same turn =
     line_turns k n m line (c.Act act) a b result asks same
-    (subst (λ (d : Done). Turns result (run_behind n d) n.line n.pending m a b) (sym (one_act n.world.state n.number act)) turn)
+    (subst (λ (d : Done). Turns result (run_behind n d) n.line n.pending m (seen (writes n) a) (seen (writes n) b)) (sym (one_act n.world.state n.number act)) turn)
 
 -- ---- a run's last line
 
@@ -126,13 +128,13 @@ pub record IsRunning (k0 : Kept) (steps done : ℕ) (k : Kept) (a b : Option (Li
   pub at : IsAt (run_behind k0 (Ok (lines, k.world.state))) k0.line k0.pending k a b
 
 -- a step that was done: what was said of it, and the world after it
-record IsStep (k0 k : Kept) (step : Act) (x : List ReportLine × WorldState) : Type 0 where
-  is_next : next k.world.state ≡ Some step
-  is_done : outcome k.world.state k0.number step ≡ Ok x
-  is_all : outcome k.world.state k.number step ≡ Ok x
+pub record IsStep (k0 k : Kept) (step : Act) (x : List ReportLine × WorldState) : Type 0 where
+  pub is_next : next k.world.state ≡ Some step
+  pub is_done : outcome k.world.state k0.number step ≡ Ok x
+  pub is_all : outcome k.world.state k.number step ≡ Ok x
 
 -- the step that is next is possible
-the_step : (k0 k : Kept) (step : Act) → k.number ≡ k0.number → IsSound k.world.state → next k.world.state ≡ Some step →
+pub the_step : (k0 k : Kept) (step : Act) → k.number ≡ k0.number → IsSound k.world.state → next k.world.state ≡ Some step →
     (x : List ReportLine × WorldState) × IsStep k0 k step x
 the_step k0 k step number sound is_next =
     let x = ok_is (outcome k.world.state k0.number step) (next_goes k.world.state k0.number step sound is_next) in (
@@ -151,7 +153,7 @@ module _ (k0 : Kept) (steps : ℕ) (a : Option (List ℕ)) where
 
   -- the steps could not be counted
   pub begins_not : (m : Kept) (l : List ℕ) (error : ScriptError) → Books (Err error) (book_step k0.world.state steps) k0.world m.world →
-      m ≡ record { world = m.world; number = k0.number; line = k0.line; pending = k0.pending } → Turns (Err (stop_of error)) (run_behind k0 whole) l k0.pending m a a
+      m ≡ record { world = m.world; number = k0.number; line = k0.line; pending = k0.pending; counts = k0.counts } → Turns (Err (stop_of error)) (run_behind k0 whole) l k0.pending m a a
   begins_not m l error h same =
       let run : whole ≡ Err error = run_refused k0.number steps k0.world.state error h.0 in
       subst (λ (d : Done). Stopped (stop_of error) (run_behind k0 d) k0.pending m a a) (sym run)
@@ -163,11 +165,11 @@ module _ (k0 : Kept) (steps : ℕ) (a : Option (List ℕ)) where
 
   -- they were counted
   pub starts : (m : Kept) (u : Unit {0}) → IsSound m.world.state → Books (Ok u) (book_step k0.world.state steps) k0.world m.world →
-      m ≡ record { world = m.world; number = k0.number; line = k0.line; pending = k0.pending } → IsRunning k0 steps 0 m a a
+      m ≡ record { world = m.world; number = k0.number; line = k0.line; pending = k0.pending; counts = k0.counts } → IsRunning k0 steps 0 m a a
   starts m u sound h same =
       let w = counts (book_step k0.world.state steps) k0.world m.world u h in
-      let now : m ≡ record { world = alive w.0; number = k0.number; line = k0.line; pending = k0.pending } =
-      same ∙ ap (λ (z : Living). record { world = z; number = k0.number; line = k0.line; pending = k0.pending }) w.2 in
+      let now : m ≡ record { world = alive w.0; number = k0.number; line = k0.line; pending = k0.pending; counts = k0.counts } =
+      same ∙ ap (λ (z : Living). record { world = z; number = k0.number; line = k0.line; pending = k0.pending; counts = k0.counts }) w.2 in
       let good : IsSound w.0 = subst (λ (z : Living). IsSound z.state) w.2 sound in
       subst (λ (z : Kept). IsRunning k0 steps 0 z a a) (sym now) (record {
         start = w.0;

@@ -12,11 +12,14 @@ use Rattle.zr_network.specs.Run.{Run, start, on_line, run_of_ended, within}
 use Rattle.zr_netrun.specs.declared.status.Status.{Status}
 use Rattle.zr_netrun.specs.declared.status.Status.TheVariants as s
 use Rattle.zr_netrun.specs.declared.runner.Stop.{Stop}
+use Rattle.zr_network.specs.Accepted.{accepted_from}
+use Rattle.zr_netrun.specs.Counted.{CountsOn, IsRun}
 use Rattle.zr_netrun.specs.Kept.{Kept, fresh, Written, IsAt, Stopped, Turns, Complains, Tells}
 use Rattle.zr_netrun.specs.Judged.{judged, is_too_long, is_refused, complaint, complaint_of}
 use Rattle.zr_netrun.specs.Clauses.{OfRead, Reports, IsReported}
 use Rattle.zr_netrun.proofs.Runs.{last_kept}
 use Rattle.zr_netrun.proofs.Writing.{turn_more, all_written, appends_all}
+use Rattle.zr_netrun.proofs.Accepting.{last_counted}
 use Rattle.zr_netrun.proofs.Reading.{IsAfter, piece_more, reads_more, as_before, tells_judged, within_piece}
 
 -- what is kept with nothing waiting has written its whole text
@@ -118,16 +121,29 @@ last_line read k m total a b c result p turn =
 
 -- the script has ended, and no line is refused
 pub ends_reading : (InputEnded : Type 0) (left now : Option (List ℕ)) (total : ℕ) (k m : Kept) (a b c e e' : Option (List ℕ)) (u : Unit {0}) → InputEnded → OfRead left now (IsAfter k total a b) →
-    total ≤ most_bytes → Turns (Ok u) (fold on_line (fresh k) (unless_empty k.line)) [] k.pending m b c → m.pending ≡ [] → e' ≡ e → OfRead left now (IsReported InputEnded s.Done a c e e')
-ends_reading InputEnded left now total k m a b c e e' u ended h most turn flushed err =
-    of_read (IsAfter k total a b) (IsReported InputEnded s.Done a c e e') left now h (λ (read : List ℕ) (p : IsAfter k total a b read).
+    total ≤ most_bytes → Turns (Ok u) (fold on_line (fresh k) (unless_empty k.line)) [] k.pending m b c →
+    CountsOn (accepted_from (fresh k) (unless_empty k.line)) k m → m.pending ≡ [] → e' ≡ e → OfRead left now (IsRun InputEnded s.Done a c e e' m)
+ends_reading InputEnded left now total k m a b c e e' u ended h most turn counts flushed err =
+    of_read (IsAfter k total a b) (IsRun InputEnded s.Done a c e e' m) left now h (λ (read : List ℕ) (p : IsAfter k total a b read).
     let here = last_line read k m total a b c (Ok u) p turn in
     let short : length read ≤ most_bytes = omega (arith, p.total_is, most) in
     let within_limit : is_too_long read ≡ false = grind (arith, nat_tests) in (
-      true,
-      λ t. (ended, short),
-      (refl, ap (λ r. is_some r || is_too_long read) here.refusal ∙ within_limit, text_out (judged true read) [] m a c here flushed, as_before e e' err),
+      (
+        true,
+        λ t. (ended, short),
+        (refl, ap (λ r. is_some r || is_too_long read) here.refusal ∙ within_limit, text_out (judged true read) [] m a c here flushed, as_before e e' err),
+      ),
+      λ d. last_counted k m (take most_kept (open_line read)) [] a b read p.at p.at.line_is p.counted counts,
     ))
+
+pub fault_not_done : (s.ReadFault ≡ s.Done) → ⊥
+fault_not_done d = cc
+
+-- where the script has not ended, not all was counted
+pub not_done : (InputEnded : Type 0) (left next : Option (List ℕ)) (m : Kept) (a c e e' : Option (List ℕ)) (status : Status) → ((status ≡ s.Done) → ⊥) →
+    OfRead left next (IsReported InputEnded status a c e e') → OfRead left next (IsRun InputEnded status a c e e' m)
+not_done InputEnded left next m a c e e' status not h =
+    of_read (IsReported InputEnded status a c e e') (IsRun InputEnded status a c e e' m) left next h (λ (read : List ℕ) (p : IsReported InputEnded status a c e e' read). (p, λ d. absurd (not d)))
 
 -- the script has ended, and its last line is refused, or memory or a write failed there
 pub stops_at_end : (InputEnded : Type 0) (left now : Option (List ℕ)) (total : ℕ) (k m : Kept) (a b c d e e' : Option (List ℕ)) (stop : Stop) (status : Status) → InputEnded →

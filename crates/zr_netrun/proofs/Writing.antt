@@ -1,5 +1,5 @@
 -- What has been written when one turn follows another: the text before stands in front of what a turn adds.
-use Rattle.std.proofs.Common.{◌≡◌, ℕ, true, List, [], ◌++◌, Option, Some, None, is_some, Result, Ok, Err, refl, sym, ap, ◌∙◌, append_assoc, append-nil, subst}
+use Rattle.std.proofs.Common.{◌≡◌, ℕ, Bool, true, false, List, [], ◌++◌, Option, Some, None, is_some, Result, Ok, Err, refl, sym, ap, ◌∙◌, append_assoc, append-nil, subst}
 use Rattle.std.specs.List.{fold}
 use Rattle.std.specs.Prelude.{OnOk, OnErr}
 use Rattle.zr_outside.specs.Told.{Appends, AppendsPrefix}
@@ -7,7 +7,7 @@ use Rattle.zr_network.specs.Run.{Run, on_line}
 use Rattle.zr_world.specs.Living.{Living}
 use Rattle.zr_netrun.specs.declared.runner.Stop.{Stop}
 use Rattle.zr_netrun.specs.declared.runner.Stop.TheVariants.{Refused, NoMemory, WriteFault}
-use Rattle.zr_netrun.specs.Kept.{Kept, fresh, Written, IsAt, Stopped, Turns}
+use Rattle.zr_netrun.specs.Kept.{Kept, fresh, seen, Written, IsAt, Stopped, Turns}
 use Rattle.zr_netrun.proofs.Runs.{with_text, fold_with, text_grows, refused_stays}
 
 -- ---- texts
@@ -68,7 +68,7 @@ prefix_written t p (Some held) b h = (h.0, p, h.1, h.2)
 -- ---- turns
 
 -- a run that was not refused is what is kept, with its text
-run_is : (r : Run) (line earlier : List ℕ) (k : Kept) (a b : Option (List ℕ)) → IsAt r line earlier k a b → r ≡ with_text r.text (fresh k)
+pub run_is : (r : Run) (line earlier : List ℕ) (k : Kept) (a b : Option (List ℕ)) → IsAt r line earlier k a b → r ≡ with_text r.text (fresh k)
 run_is r line earlier k a b h i =
     record { world = (sym (ap (λ (w : Living). w.state) h.world)) i; number = (sym h.number) i; text = (sym (append-nil r.text)) i; refusal = h.refusal i }
 
@@ -115,21 +115,46 @@ pub prefix_none : (t : List ℕ) (a : Option (List ℕ)) → AppendsPrefix t a a
 prefix_none t None = tt
 prefix_none t (Some held) = ([], t, refl, ap Some (sym (append-nil held)))
 
+-- what is so of a sink is so of what is looked at of it
+pub seen_all : (s : Bool) (p : List ℕ) (a b : Option (List ℕ)) → Appends p a b → Appends p (seen s a) (seen s b)
+seen_all true p a b h = h
+seen_all false p a b h = tt
+
+pub seen_prefix : (s : Bool) (p : List ℕ) (a b : Option (List ℕ)) → AppendsPrefix p a b → AppendsPrefix p (seen s a) (seen s b)
+seen_prefix true p a b h = h
+seen_prefix false p a b h = tt
+
+pub seen_written : (s : Bool) (t p : List ℕ) (a b : Option (List ℕ)) → Written t p a b → Written t p (seen s a) (seen s b)
+seen_written true t p a b h = h
+seen_written false t p a b h = tt
+
+-- what is looked at of a sink stays the same where the report is still written, or still isn't
+pub seen_at : (s s' : Bool) (r : Run) (l earlier : List ℕ) (m : Kept) (a b : Option (List ℕ)) → s ≡ s' → IsAt r l earlier m (seen s a) (seen s b) → IsAt r l earlier m (seen s' a) (seen s' b)
+seen_at s s' r l earlier m a b same h = subst (λ (t : Bool). IsAt r l earlier m (seen t a) (seen t b)) same h
+
+pub seen_stopped : (s s' : Bool) (stop : Stop) (r : Run) (earlier : List ℕ) (m : Kept) (a b : Option (List ℕ)) → s ≡ s' → Stopped stop r earlier m (seen s a) (seen s b) →
+    Stopped stop r earlier m (seen s' a) (seen s' b)
+seen_stopped s s' stop r earlier m a b same h = subst (λ (t : Bool). Stopped stop r earlier m (seen t a) (seen t b)) same h
+
+pub seen_turns : (s s' : Bool) (result : Result (Unit {0}) Stop) (r : Run) (l earlier : List ℕ) (m : Kept) (a b : Option (List ℕ)) → s ≡ s' → Turns result r l earlier m (seen s a) (seen s b) →
+    Turns result r l earlier m (seen s' a) (seen s' b)
+seen_turns s s' result r l earlier m a b same h = subst (λ (t : Bool). Turns result r l earlier m (seen t a) (seen t b)) same h
+
 -- what waited was written after a turn
-pub flush_after : (r : Run) (l earlier : List ℕ) (k m : Kept) (a b c : Option (List ℕ)) (result : Result (Unit {0}) Stop) → IsAt r l earlier k a b →
-    m ≡ record { world = k.world; number = k.number; line = k.line; pending = [] } → OnOk result (Appends k.pending b c) →
-    OnErr result ((result ≡ Err WriteFault) × AppendsPrefix k.pending b c) → Turns result r l earlier m a c
-flush_after r l earlier k m a b c (Ok u) at same ok err = record {
+pub flush_after : (s : Bool) (r : Run) (l earlier : List ℕ) (k m : Kept) (a b c : Option (List ℕ)) (result : Result (Unit {0}) Stop) → IsAt r l earlier k a (seen s b) →
+    m ≡ record { world = k.world; number = k.number; line = k.line; pending = []; counts = k.counts } → OnOk result (Appends k.pending b c) →
+    OnErr result ((result ≡ Err WriteFault) × AppendsPrefix k.pending b c) → Turns result r l earlier m a (seen s c)
+flush_after s r l earlier k m a b c (Ok u) at same ok err = record {
   world = ap (λ (z : Kept). z.world) same ∙ at.world;
   number = ap (λ (z : Kept). z.number) same ∙ at.number;
   line_is = ap (λ (z : Kept). z.line) same ∙ at.line_is;
   refusal = at.refusal;
-  text = subst (λ (z : List ℕ). Written (earlier ++ r.text) z a c) (sym (ap (λ (z : Kept). z.pending) same))
-      (written_flushed (earlier ++ r.text) k.pending a b c at.text ok);
+  text = subst (λ (z : List ℕ). Written (earlier ++ r.text) z a (seen s c)) (sym (ap (λ (z : Kept). z.pending) same))
+      (written_flushed (earlier ++ r.text) k.pending a (seen s b) (seen s c) at.text (seen_all s k.pending b c ok));
 }
-flush_after r l earlier k m a b c (Err WriteFault) at same ok err = prefix_flushed (earlier ++ r.text) k.pending a b c at.text err.1
-flush_after r l earlier k m a b c (Err NoMemory) at same ok err = absurd (cc)
-flush_after r l earlier k m a b c (Err (Refused e)) at same ok err = absurd (cc)
+flush_after s r l earlier k m a b c (Err WriteFault) at same ok err = prefix_flushed (earlier ++ r.text) k.pending a (seen s b) (seen s c) at.text (seen_prefix s k.pending b c err.1)
+flush_after s r l earlier k m a b c (Err NoMemory) at same ok err = absurd (cc)
+flush_after s r l earlier k m a b c (Err (Refused e)) at same ok err = absurd (cc)
 
 -- the whole text waits
 pub all_waits : (t : List ℕ) (a : Option (List ℕ)) → Written t t a a

@@ -3,8 +3,11 @@ use Rattle.std.specs.Prelude.{◌≡◌, ℕ, ◌+◌, ◌-◌, ◌^◌, ◌≤�
 use Rattle.zr_language.specs.Lines.{most_bytes}
 use Rattle.zr_outside.specs.Counts.{Rose}
 use Rattle.zr_outside.specs.Told.{IsAsBefore, Appends, AppendsPrefix}
+use Rattle.zr_network.specs.Moments.{Moment}
+use Rattle.zr_network.specs.Accepted.{IsMoment}
 use Rattle.zr_netrun.specs.declared.status.Status.{Status}
 use Rattle.zr_netrun.specs.declared.status.Status.TheVariants.{Done, Refused, Words, NoMemory, ReadFault, WriteFault, HostFault}
+use Rattle.zr_netrun.specs.Summary.{counts_of, summary_text}
 use Rattle.zr_netrun.specs.Judged.{judged_lines, judged, is_refused, complaint}
 
 -- where the source tells its bytes: P holds of those that were read, and the others are left
@@ -45,3 +48,31 @@ Reports HostFault to_end out out' err err' bytes = ⊥
 abbrev pub IsReported : Type 0 → Status → Option (List ℕ) → Option (List ℕ) → Option (List ℕ) → Option (List ℕ) → List ℕ → Type 0
 IsReported InputEnded status out out' err err' bytes =
     (to_end : Bool) × (to_end ≡ true → InputEnded × (length bytes ≤ most_bytes)) × Reports status to_end out out' err err' bytes
+
+-- P holds of the summary of some lines: of what is counted in the report of the moment that they lead to
+abbrev pub OfSummary : List (List ℕ) → (List ℕ → Type 0) → Type 0
+OfSummary ls P = (m : Moment) × IsMoment ls m × P (summary_text (counts_of m))
+
+-- What was written to out and to err, by the status, where these bytes were read and a summary is asked for.
+-- Done: it was read to its end and is not refused, and out gained the summary; err gained nothing.
+-- Refused: it is refused by what was read; out gained nothing, and err the one line that tells why.
+-- ReadFault: it was not read to its end and is not refused by what was read; nothing was written.
+-- NoMemory: nothing was written.
+-- WriteFault: it was read to its end and is not refused, out gained a prefix of the summary, and err nothing; or out gained nothing, and
+-- err a prefix of the line that tells a refusal.
+abbrev pub SumsUp : Status → Bool → Option (List ℕ) → Option (List ℕ) → Option (List ℕ) → Option (List ℕ) → List ℕ → Type 0
+SumsUp Done to_end out out' err err' bytes =
+    (to_end ≡ true) × (is_refused to_end bytes ≡ false) × OfSummary (judged_lines to_end bytes) (λ text. Appends text out out') × IsAsBefore err err'
+SumsUp Refused to_end out out' err err' bytes = (is_refused to_end bytes ≡ true) × IsAsBefore out out' × Appends (complaint to_end bytes) err err'
+SumsUp ReadFault to_end out out' err err' bytes = (to_end ≡ false) × (is_refused to_end bytes ≡ false) × IsAsBefore out out' × IsAsBefore err err'
+SumsUp NoMemory to_end out out' err err' bytes = IsAsBefore out out' × IsAsBefore err err'
+SumsUp WriteFault to_end out out' err err' bytes =
+    ((to_end ≡ true) × (is_refused to_end bytes ≡ false) × OfSummary (judged_lines to_end bytes) (λ text. AppendsPrefix text out out') × IsAsBefore err err')
+    ⊎ (IsAsBefore out out' × AppendsPrefix (complaint to_end bytes) err err')
+SumsUp Words to_end out out' err err' bytes = ⊥
+SumsUp HostFault to_end out out' err err' bytes = ⊥
+
+-- So it was summed up what was read. That it is the whole script is said as above.
+abbrev pub IsSummedUp : Type 0 → Status → Option (List ℕ) → Option (List ℕ) → Option (List ℕ) → Option (List ℕ) → List ℕ → Type 0
+IsSummedUp InputEnded status out out' err err' bytes =
+    (to_end : Bool) × (to_end ≡ true → InputEnded × (length bytes ≤ most_bytes)) × SumsUp status to_end out out' err err' bytes

@@ -1,5 +1,5 @@
 -- What the running code keeps of a script's run, and what a turn of it has done.
-use Rattle.std.specs.Prelude.{◌≡◌, ℕ, Bool, true, false, List, [], ◌++◌, Option, Some, None, Result, Ok, Err, ◌⊎◌}
+use Rattle.std.specs.Prelude.{◌≡◌, ℕ, Bool, true, false, List, [], ◌++◌, Option, Some, None, is_none, Result, Ok, Err, ◌⊎◌}
 use Rattle.std.specs.List.{flat_map}
 use Rattle.zr_command.specs.declared.command.Act.{Act}
 use Rattle.zr_command.specs.declared.error.ScriptError.{ScriptError}
@@ -9,7 +9,8 @@ use Rattle.zr_network.specs.Acts.{outcome}
 use Rattle.zr_network.specs.Next.{Done}
 use Rattle.zr_network.specs.Run.{Run}
 use Rattle.zr_outside.specs.Told.{Appends, AppendsPrefix}
-use Rattle.zr_world.specs.Living.{Living}
+use Rattle.zr_world.specs.Living.{Living, new_world}
+use Rattle.zr_netrun.specs.declared.counts.Counts.{Counts}
 use Rattle.zr_netrun.specs.declared.status.Status.{Status}
 use Rattle.zr_netrun.specs.declared.status.Status.TheVariants as s
 use Rattle.zr_netrun.specs.declared.runner.Stop.{Stop}
@@ -28,6 +29,21 @@ pub record Kept : Type 0 where
   pub line : List ℕ
   -- what is to be written
   pub pending : List ℕ
+  -- what was counted of the report, where it is counted and not written
+  pub counts : Option Counts
+
+-- whether the report is written
+abbrev pub writes : Kept → Bool
+writes k = is_none k.counts
+
+-- what is looked at of a sink: nothing where the report is not written
+abbrev pub seen : Bool → Option (List ℕ) → Option (List ℕ)
+seen true held = held
+seen false held = None
+
+-- nothing has come yet
+abbrev pub begun : Option Counts → Kept
+begun counts = record { world = new_world; number = 0; line = []; pending = []; counts = counts }
 
 -- a run that begins with what is kept
 abbrev pub fresh : Kept → Run

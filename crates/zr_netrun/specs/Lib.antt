@@ -1,4 +1,6 @@
 pub mod Status
+pub mod Summary
 pub mod Kept
 pub mod Judged
 pub mod Clauses
+pub mod Counted

@@ -1,11 +1,14 @@
-//! `run_script`: a script from a source, its report to a sink, and why it is refused to another sink.
+//! `run_script`: a script from a source, its report or the summary of it to a sink, and why it is refused to another sink.
 
-ghost use Rattle.std.specs.Prelude.{◌≡◌, ◌≤◌, ◌⊎◌};
+ghost use Rattle.std.specs.Prelude.{◌≡◌, ◌≤◌, ◌⊎◌, true, false};
 ghost use Rattle.zr_outside.specs.Counts.{Rose};
 ghost use Rattle.zr_language.specs.Report.{refused_text, too_long_text};
-ghost use Rattle.zr_netrun.specs.Kept.{Tells, Complains};
-ghost use Rattle.zr_netrun.specs.Clauses.{OfRead, IsReported, IsReadToEnd};
+ghost use Rattle.zr_netrun.specs.Kept.{begun, seen, writes, Tells, Complains};
+ghost use Rattle.zr_netrun.specs.Clauses.{OfRead, IsReported, IsReadToEnd, IsSummedUp};
+ghost use Rattle.zr_netrun.specs.Counted.{CountsFromNone, IsRun, TellsSummary};
 
+use crate::counts::Counts;
+use crate::nowhere::Nowhere;
 use crate::runner::{Runner, Stop};
 use crate::status::Status;
 use std::alloc::Global;
@@ -23,7 +26,8 @@ const MOST_QUIET: u64 = 4_294_967_296;
 /// How many bytes are asked for in a read.
 const PIECE: usize = 65_536;
 
-/// Reads a script to its end, applies its lines as they come, and writes each report line before the next read.
+/// Reads a script to its end, applies its lines as they come, and writes each report line before the next read; or, where a summary is
+/// asked for, counts them, and writes nothing but the summary once the script has ended and no line was refused.
 ///
 /// A refused line ends the run: `err` then has `line N: NUMBER NAME`. So does a script of more than 67,108,864 bytes, none of whose
 /// lines within them is refused: `err` has `script too long`. A status of fault comes only where that count rose in this call.
@@ -32,8 +36,11 @@ pub fn run_script<S: Source, K: Sink, E: Sink>(
     input: &mut S,
     out: &mut K,
     err: &mut E,
+    summary: bool,
 ) -> Status
-    ensures report { OfRead (S.left input.old) (S.left input.new) (IsReported (IsReadToEnd (S.ends input.old) (S.ends input.new) (S.quiets input.old) (S.quiets input.new)) result (K.held out.old) (K.held out.new) (E.held err.old) (E.held err.new)) }
+    ensures left { OfRead (S.left input.old) (S.left input.new) (λ read. Unit {0}) }
+    ensures report { summary ≡ false → OfRead (S.left input.old) (S.left input.new) (IsReported (IsReadToEnd (S.ends input.old) (S.ends input.new) (S.quiets input.old) (S.quiets input.new)) result (K.held out.old) (K.held out.new) (E.held err.old) (E.held err.new)) }
+    ensures summed_up { summary ≡ true → OfRead (S.left input.old) (S.left input.new) (IsSummedUp (IsReadToEnd (S.ends input.old) (S.ends input.new) (S.quiets input.old) (S.quiets input.new)) result (K.held out.old) (K.held out.new) (E.held err.old) (E.held err.new)) }
     ensures whole { result ≡ Status.Done → IsReadToEnd (S.ends input.old) (S.ends input.new) (S.quiets input.old) (S.quiets input.new) }
     ensures read { result ≡ Status.ReadFault → Rose (S.faults input.old) (S.faults input.new) }
     ensures write { result ≡ Status.WriteFault → Rose (K.faults out.old) (K.faults out.new) ⊎ Rose (E.faults err.old) (E.faults err.new) }
@@ -43,7 +50,76 @@ pub fn run_script<S: Source, K: Sink, E: Sink>(
     ensures out_later { K.faults out.old ≤ K.faults out.new }
     ensures err_later { E.faults err.old ≤ E.faults err.new }
 {
-    let mut runner = Runner::new(alloc);
+    if summary {
+        return sum_up(alloc, input, out, err);
+    }
+    let mut runner = Runner::new(alloc, None);
+    run_lines(alloc, &mut runner, input, out, err)
+}
+
+// The report is counted and goes nowhere; at the script's end the summary is written.
+fn sum_up<S: Source, K: Sink, E: Sink>(
+    alloc: Global,
+    input: &mut S,
+    out: &mut K,
+    err: &mut E,
+) -> Status
+    ensures summed_up { OfRead (S.left input.old) (S.left input.new) (IsSummedUp (IsReadToEnd (S.ends input.old) (S.ends input.new) (S.quiets input.old) (S.quiets input.new)) result (K.held out.old) (K.held out.new) (E.held err.old) (E.held err.new)) }
+    ensures whole { result ≡ Status.Done → IsReadToEnd (S.ends input.old) (S.ends input.new) (S.quiets input.old) (S.quiets input.new) }
+    ensures read { result ≡ Status.ReadFault → Rose (S.faults input.old) (S.faults input.new) }
+    ensures write { result ≡ Status.WriteFault → Rose (K.faults out.old) (K.faults out.new) ⊎ Rose (E.faults err.old) (E.faults err.new) }
+    ensures words { (result ≡ Status.Words) → ⊥ }
+    ensures host { (result ≡ Status.HostFault) → ⊥ }
+    ensures input_later { S.faults input.old ≤ S.faults input.new }
+    ensures out_later { K.faults out.old ≤ K.faults out.new }
+    ensures err_later { E.faults err.old ≤ E.faults err.new }
+{
+    let mut runner = Runner::new(alloc, Some(Counts::new()));
+    match run_lines(alloc, &mut runner, input, &mut Nowhere, err) {
+        Status::Done => tell_summary(alloc, runner.counts(), out),
+        status => status,
+    }
+}
+
+fn tell_summary<K: Sink>(alloc: Global, counts: Option<Counts>, out: &mut K) -> Status
+    ensures tells { TellsSummary result counts (K.held out.old) (K.held out.new) }
+    ensures write { result ≡ Status.WriteFault → Rose (K.faults out.old) (K.faults out.new) }
+    ensures later { K.faults out.old ≤ K.faults out.new }
+{
+    let Some(counts) = counts else {
+        return Status::Done;
+    };
+    let mut text = Vec::new(alloc);
+    if counts.put_summary(&mut text).is_err() {
+        return Status::NoMemory;
+    }
+    match write_all(out, &text) {
+        Ok(()) => Status::Done,
+        Err(_) => Status::WriteFault,
+    }
+}
+
+// Reads a script to its end, and applies its lines as they come, by a runner to which none has come yet.
+fn run_lines<S: Source, K: Sink, E: Sink>(
+    alloc: Global,
+    runner: &mut Runner,
+    input: &mut S,
+    out: &mut K,
+    err: &mut E,
+) -> Status
+    requires begins { runner.old ≡ begun runner.old.counts }
+    requires counts { CountsFromNone runner.old.counts }
+    ensures mode { result ≡ Status.Done → writes runner.new ≡ writes runner.old }
+    ensures report { OfRead (S.left input.old) (S.left input.new) (IsRun (IsReadToEnd (S.ends input.old) (S.ends input.new) (S.quiets input.old) (S.quiets input.new)) result (seen (writes runner.old) (K.held out.old)) (seen (writes runner.old) (K.held out.new)) (E.held err.old) (E.held err.new) runner.new) }
+    ensures whole { result ≡ Status.Done → IsReadToEnd (S.ends input.old) (S.ends input.new) (S.quiets input.old) (S.quiets input.new) }
+    ensures read { result ≡ Status.ReadFault → Rose (S.faults input.old) (S.faults input.new) }
+    ensures write { result ≡ Status.WriteFault → Rose (K.faults out.old) (K.faults out.new) ⊎ Rose (E.faults err.old) (E.faults err.new) }
+    ensures words { (result ≡ Status.Words) → ⊥ }
+    ensures host { (result ≡ Status.HostFault) → ⊥ }
+    ensures input_later { S.faults input.old ≤ S.faults input.new }
+    ensures out_later { K.faults out.old ≤ K.faults out.new }
+    ensures err_later { E.faults err.old ≤ E.faults err.new }
+{
     let mut piece = [0; PIECE];
     let mut total: usize = 0;
     let mut quiet: u64 = 0;
@@ -56,7 +132,7 @@ pub fn run_script<S: Source, K: Sink, E: Sink>(
                 total += used;
                 match runner.feed(&piece[..used], out) {
                     Ok(()) => {}
-                    Err(stop) => return tell(alloc, &mut runner, stop, out, err),
+                    Err(stop) => return tell(alloc, runner, stop, out, err),
                 }
                 if used < count {
                     return tell_too_long(err);
@@ -74,7 +150,7 @@ pub fn run_script<S: Source, K: Sink, E: Sink>(
     }
     match runner.finish(out) {
         Ok(()) => Status::Done,
-        Err(stop) => tell(alloc, &mut runner, stop, out, err),
+        Err(stop) => tell(alloc, runner, stop, out, err),
     }
 }
 
@@ -87,6 +163,7 @@ fn tell<K: Sink, E: Sink>(
     err: &mut E,
 ) -> Status
     ensures tells { Tells stop result runner.old.number runner.old.pending (K.held out.old) (K.held out.new) (E.held err.old) (E.held err.new) }
+    ensures stops { (result ≡ Status.Done) → ⊥ }
     ensures write { result ≡ Status.WriteFault → (stop ≡ Stop.WriteFault) ⊎ (Rose (K.faults out.old) (K.faults out.new) ⊎ Rose (E.faults err.old) (E.faults err.new)) }
     ensures out_later { K.faults out.old ≤ K.faults out.new }
     ensures err_later { E.faults err.old ≤ E.faults err.new }
@@ -117,6 +194,7 @@ fn tell_refusal<E: Sink>(alloc: Global, number: u64, error: ScriptError, err: &m
 
 fn tell_too_long<E: Sink>(err: &mut E) -> Status
     ensures tells { Complains result too_long_text (E.held err.old) (E.held err.new) }
+    ensures stops { (result ≡ Status.Done) → ⊥ }
     ensures write { result ≡ Status.WriteFault → Rose (E.faults err.old) (E.faults err.new) }
     ensures memory { result ≡ Status.NoMemory → ⊥ }
     ensures later { E.faults err.old ≤ E.faults err.new }

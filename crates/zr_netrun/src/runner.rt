@@ -1,17 +1,21 @@
-//! `Runner`: a script's run so far. It is fed pieces of the script, and writes the report of each line that ends.
+//! `Runner`: a script's run so far. It is fed pieces of the script, and writes the report of each line that ends, or counts it.
 
-ghost use Rattle.std.specs.Prelude.{◌≡◌, ◌==◌, ◌+◌, ◌^◌, ◌<◌, ◌≤◌, ◌∷◌, ◌++◌, [], false, length, take, position, is_none, OnOk, OnErr};
+ghost use Rattle.std.specs.Prelude.{◌≡◌, ◌==◌, ◌+◌, ◌^◌, ◌<◌, ◌≤◌, ◌∷◌, ◌++◌, [], true, false, length, take, position, is_none, OnOk, OnErr};
 ghost use Rattle.std.specs.List.{fold, flat_map};
+ghost use Rattle.std.specs.Option.{option_map};
 ghost use Rattle.zr_language.specs.Lines.{most_kept, ended_lines, open_line, parts, unless_empty};
 ghost use Rattle.zr_language.specs.Report.{line_text};
+ghost use Rattle.zr_network.specs.Accepted.{accepted_from};
 ghost use Rattle.zr_network.specs.Next.{applied, book_step, next};
 ghost use Rattle.zr_network.specs.Run.{on_line};
 ghost use Rattle.zr_network.specs.Sound.{IsSound};
 ghost use Rattle.zr_outside.specs.Counts.{Rose};
 ghost use Rattle.zr_outside.specs.Told.{Appends, AppendsPrefix};
-ghost use Rattle.zr_world.specs.Living.{new_world, Books};
-ghost use Rattle.zr_netrun.specs.Kept.{fresh, most_pending, run_behind, run_by, StepsOn, Turns, Written};
+ghost use Rattle.zr_world.specs.Living.{Books};
+ghost use Rattle.zr_netrun.specs.Kept.{begun, fresh, most_pending, run_behind, run_by, seen, writes, StepsOn, Turns, Written};
+ghost use Rattle.zr_netrun.specs.Counted.{acts_by, step_by, with_lines, CountsOn};
 
+use crate::counts::Counts;
 use std::alloc::{AllocError, Global};
 use std::marker::Model;
 use std::mem;
@@ -51,6 +55,7 @@ pub struct Runner {
     report: Vec<ReportLine>,
     text: Vec<u8>,
     pending: Vec<u8>,
+    counts: Option<Counts>,
 }
 
 impl Model for Runner {
@@ -60,15 +65,15 @@ impl Model for Runner {
 
     ghost Value = { Kept };
 
-    ghost view = { λ r. record { world = r.world; number = r.number; line = r.line.items; pending = r.pending.items } };
+    ghost view = { λ r. record { world = r.world; number = r.number; line = r.line.items; pending = r.pending.items; counts = r.counts } };
 
     ghost invariant = { λ r. (length r.line.items ≤ most_kept) × (parts r.line.items ≡ r.line.items ∷ []) × (length r.pending.items < most_pending) };
 }
 
 impl Runner {
-    /// The run of no script yet.
-    pub fn new(alloc: Global) -> Runner
-        ensures { result ≡ record { world = new_world; number = 0; line = []; pending = [] } }
+    /// The run of no script yet. Its report is counted where there are counts to begin with, and else it is written.
+    pub fn new(alloc: Global, counts: Option<Counts>) -> Runner
+        ensures { result ≡ begun counts }
     {
         Runner {
             alloc,
@@ -78,6 +83,7 @@ impl Runner {
             report: Vec::new(alloc),
             text: Vec::new(alloc),
             pending: Vec::new(alloc),
+            counts,
         }
     }
 
@@ -88,12 +94,20 @@ impl Runner {
         self.number
     }
 
+    /// What was counted of the report, where it is counted.
+    pub fn counts(&self) -> Option<Counts>
+        ensures { result ≡ self.now.counts }
+    {
+        self.counts
+    }
+
     /// A piece of the script has come: the lines that end in it are applied, their report is written, and the rest is kept. Between two
     /// acts less than 64 KiB of the report wait.
     pub fn feed<K: Sink>(&mut self, piece: &[u8], out: &mut K) -> Result<(), Stop>
         requires alive { self.old.world.spent ≡ false }
         requires room { self.old.number + length piece.now < 2 ^ 63 }
-        ensures turn { Turns result (fold on_line (fresh self.old) (ended_lines (self.old.line ++ piece.now))) (take most_kept (open_line (self.old.line ++ piece.now))) self.old.pending self.new (K.held out.old) (K.held out.new) }
+        ensures turn { Turns result (fold on_line (fresh self.old) (ended_lines (self.old.line ++ piece.now))) (take most_kept (open_line (self.old.line ++ piece.now))) self.old.pending self.new (seen (writes self.old) (K.held out.old)) (seen (writes self.old) (K.held out.new)) }
+        ensures counts { OnOk result (CountsOn (accepted_from (fresh self.old) (ended_lines (self.old.line ++ piece.now))) self.old self.new) }
         ensures flushed { OnOk result (self.new.pending ≡ []) }
         ensures fault { result ≡ Err Stop.WriteFault → Rose (K.faults out.old) (K.faults out.new) }
         ensures count { self.new.number ≤ self.old.number + length piece.now }
@@ -107,7 +121,8 @@ impl Runner {
     pub fn finish<K: Sink>(&mut self, out: &mut K) -> Result<(), Stop>
         requires alive { self.old.world.spent ≡ false }
         requires room { self.old.number < 2 ^ 63 }
-        ensures turn { Turns result (fold on_line (fresh self.old) (unless_empty self.old.line)) [] self.old.pending self.new (K.held out.old) (K.held out.new) }
+        ensures turn { Turns result (fold on_line (fresh self.old) (unless_empty self.old.line)) [] self.old.pending self.new (seen (writes self.old) (K.held out.old)) (seen (writes self.old) (K.held out.new)) }
+        ensures counts { OnOk result (CountsOn (accepted_from (fresh self.old) (unless_empty self.old.line)) self.old self.new) }
         ensures flushed { OnOk result (self.new.pending ≡ []) }
         ensures fault { result ≡ Err Stop.WriteFault → Rose (K.faults out.old) (K.faults out.new) }
         ensures later { K.faults out.old ≤ K.faults out.new }
@@ -118,7 +133,7 @@ impl Runner {
 
     /// Writes what waits. After a failure nothing waits any more, of which a prefix was written.
     pub fn flush<K: Sink>(&mut self, out: &mut K) -> Result<(), Stop>
-        ensures written { self.new ≡ record { world = self.old.world; number = self.old.number; line = self.old.line; pending = [] } }
+        ensures written { self.new ≡ record { world = self.old.world; number = self.old.number; line = self.old.line; pending = []; counts = self.old.counts } }
         ensures ok { OnOk result (Appends self.old.pending (K.held out.old) (K.held out.new)) }
         ensures err { OnErr result ((result ≡ Err Stop.WriteFault) × AppendsPrefix self.old.pending (K.held out.old) (K.held out.new)) }
         ensures fault { OnErr result (Rose (K.faults out.old) (K.faults out.new)) }
@@ -132,7 +147,8 @@ impl Runner {
     fn feed_lines<K: Sink>(&mut self, piece: &[u8], out: &mut K) -> Result<(), Stop>
         requires alive { self.old.world.spent ≡ false }
         requires room { self.old.number + length piece.now < 2 ^ 63 }
-        ensures turn { Turns result (fold on_line (fresh self.old) (ended_lines (self.old.line ++ piece.now))) (take most_kept (open_line (self.old.line ++ piece.now))) self.old.pending self.new (K.held out.old) (K.held out.new) }
+        ensures turn { Turns result (fold on_line (fresh self.old) (ended_lines (self.old.line ++ piece.now))) (take most_kept (open_line (self.old.line ++ piece.now))) self.old.pending self.new (seen (writes self.old) (K.held out.old)) (seen (writes self.old) (K.held out.new)) }
+        ensures counts { OnOk result (CountsOn (accepted_from (fresh self.old) (ended_lines (self.old.line ++ piece.now))) self.old self.new) }
         ensures fault { result ≡ Err Stop.WriteFault → Rose (K.faults out.old) (K.faults out.new) }
         ensures count { self.new.number ≤ self.old.number + length piece.now }
         ensures later { K.faults out.old ≤ K.faults out.new }
@@ -150,7 +166,8 @@ impl Runner {
     fn end_last_line<K: Sink>(&mut self, out: &mut K) -> Result<(), Stop>
         requires alive { self.old.world.spent ≡ false }
         requires room { self.old.number < 2 ^ 63 }
-        ensures turn { Turns result (fold on_line (fresh self.old) (unless_empty self.old.line)) [] self.old.pending self.new (K.held out.old) (K.held out.new) }
+        ensures turn { Turns result (fold on_line (fresh self.old) (unless_empty self.old.line)) [] self.old.pending self.new (seen (writes self.old) (K.held out.old)) (seen (writes self.old) (K.held out.new)) }
+        ensures counts { OnOk result (CountsOn (accepted_from (fresh self.old) (unless_empty self.old.line)) self.old self.new) }
         ensures fault { result ≡ Err Stop.WriteFault → Rose (K.faults out.old) (K.faults out.new) }
         ensures later { K.faults out.old ≤ K.faults out.new }
     {
@@ -167,7 +184,8 @@ impl Runner {
         requires alive { self.old.world.spent ≡ false }
         requires room { self.old.number < 2 ^ 63 }
         requires open { parts part.now ≡ part.now ∷ [] }
-        ensures turn { Turns result (on_line (fresh self.old) (self.old.line ++ part.now)) [] self.old.pending self.new (K.held out.old) (K.held out.new) }
+        ensures turn { Turns result (on_line (fresh self.old) (self.old.line ++ part.now)) [] self.old.pending self.new (seen (writes self.old) (K.held out.old)) (seen (writes self.old) (K.held out.new)) }
+        ensures counts { OnOk result (CountsOn (accepted_from (fresh self.old) ((self.old.line ++ part.now) ∷ [])) self.old self.new) }
         ensures fault { result ≡ Err Stop.WriteFault → Rose (K.faults out.old) (K.faults out.new) }
         ensures count { self.new.number ≤ self.old.number + 1 }
         ensures later { K.faults out.old ≤ K.faults out.new }
@@ -184,7 +202,8 @@ impl Runner {
     fn on_line<K: Sink>(&mut self, line: &[u8], out: &mut K) -> Result<(), Stop>
         requires alive { self.old.world.spent ≡ false }
         requires room { self.old.number < 2 ^ 63 }
-        ensures turn { Turns result (on_line (fresh self.old) line.now) self.old.line self.old.pending self.new (K.held out.old) (K.held out.new) }
+        ensures turn { Turns result (on_line (fresh self.old) line.now) self.old.line self.old.pending self.new (seen (writes self.old) (K.held out.old)) (seen (writes self.old) (K.held out.new)) }
+        ensures counts { OnOk result (CountsOn (accepted_from (fresh self.old) (line.now ∷ [])) self.old self.new) }
         ensures fault { result ≡ Err Stop.WriteFault → Rose (K.faults out.old) (K.faults out.new) }
         ensures count { self.new.number ≤ self.old.number + 1 }
         ensures later { K.faults out.old ≤ K.faults out.new }
@@ -200,15 +219,16 @@ impl Runner {
     // One more line has ended. This stands apart, so that what follows has to do with a whole runner.
     fn count_line(&mut self)
         requires room { self.old.number < 2 ^ 63 }
-        ensures { self.new ≡ record { world = self.old.world; number = self.old.number + 1; line = self.old.line; pending = self.old.pending } }
+        ensures { self.new ≡ record { world = self.old.world; number = self.old.number + 1; line = self.old.line; pending = self.old.pending; counts = self.old.counts } }
     {
         self.number += 1;
     }
 
-    // An act is applied; what it reports waits, and is written once enough waits.
+    // An act is applied; what it reports is counted, or waits, and is written once enough waits.
     fn do_act<K: Sink>(&mut self, act: Act, out: &mut K) -> Result<(), Stop>
         requires alive { self.old.world.spent ≡ false }
-        ensures turn { Turns result (run_by self.old act) self.old.line self.old.pending self.new (K.held out.old) (K.held out.new) }
+        ensures turn { Turns result (run_by self.old act) self.old.line self.old.pending self.new (seen (writes self.old) (K.held out.old)) (seen (writes self.old) (K.held out.new)) }
+        ensures counts { OnOk result (CountsOn (acts_by self.old (Command.Act act)) self.old self.new) }
         ensures waits { length self.new.pending < most_pending }
         ensures fault { result ≡ Err Stop.WriteFault → Rose (K.faults out.old) (K.faults out.new) }
         ensures count { self.new.number ≡ self.old.number }
@@ -216,7 +236,13 @@ impl Runner {
     {
         self.report.clear();
         self.world.apply(self.number, act, &mut self.report)?;
-        put_lines(&self.report, &mut self.text, &mut self.pending)?;
+        tell_lines(
+            &mut self.counts,
+            &self.world,
+            &self.report,
+            &mut self.text,
+            &mut self.pending,
+        )?;
         write_if_enough(&mut self.pending, out)?;
         Ok(())
     }
@@ -225,7 +251,8 @@ impl Runner {
     // one step and what may wait.
     fn run<K: Sink>(&mut self, steps: u32, out: &mut K) -> Result<(), Stop>
         requires alive { self.old.world.spent ≡ false }
-        ensures turn { Turns result (run_behind self.old (applied self.old.world.state self.old.number (Command.Run steps))) self.old.line self.old.pending self.new (K.held out.old) (K.held out.new) }
+        ensures turn { Turns result (run_behind self.old (applied self.old.world.state self.old.number (Command.Run steps))) self.old.line self.old.pending self.new (seen (writes self.old) (K.held out.old)) (seen (writes self.old) (K.held out.new)) }
+        ensures counts { OnOk result (CountsOn (acts_by self.old (Command.Run steps)) self.old self.new) }
         ensures fault { result ≡ Err Stop.WriteFault → Rose (K.faults out.old) (K.faults out.new) }
         ensures count { self.new.number ≡ self.old.number }
         ensures later { K.faults out.old ≤ K.faults out.new }
@@ -244,15 +271,17 @@ impl Runner {
         requires alive { self.old.world.spent ≡ false }
         ensures books { Books result (book_step self.old.world.state steps) self.old.world self.new.world }
         ensures sound { OnOk result (IsSound self.new.world.state) }
-        ensures rest { self.new ≡ record { world = self.new.world; number = self.old.number; line = self.old.line; pending = self.old.pending } }
+        ensures rest { self.new ≡ record { world = self.new.world; number = self.old.number; line = self.old.line; pending = self.old.pending; counts = self.old.counts } }
     {
         self.world.book(steps)
     }
 
     // The next step of a run is done, where one is possible; the answer says whether it was.
+    #[tactic(auto, using(crate::proofs::Counting::no_step_counts, crate::proofs::Counting::one_step_counts))]
     fn do_next_step<K: Sink>(&mut self, out: &mut K) -> Result<bool, Stop>
         requires alive { self.old.world.spent ≡ false }
-        ensures steps { StepsOn (next self.old.world.state) result self.old self.new (K.held out.old) (K.held out.new) }
+        ensures steps { StepsOn (next self.old.world.state) result self.old self.new (seen (writes self.old) (K.held out.old)) (seen (writes self.old) (K.held out.new)) }
+        ensures counts { OnOk result (CountsOn (step_by self.old (next self.old.world.state)) self.old self.new) }
         ensures fault { result ≡ Err Stop.WriteFault → Rose (K.faults out.old) (K.faults out.new) }
         ensures count { self.new.number ≡ self.old.number }
         ensures later { K.faults out.old ≤ K.faults out.new }
@@ -269,7 +298,8 @@ impl Runner {
     // A run has ended: its last line says how many steps it did, and whether no step is possible any more.
     fn end_run<K: Sink>(&mut self, done: u32, out: &mut K) -> Result<(), Stop>
         requires alive { self.old.world.spent ≡ false }
-        ensures turn { Turns result (run_behind self.old (Ok (ReportLine.Ran done (is_none (next self.old.world.state)) ∷ [], self.old.world.state))) self.old.line self.old.pending self.new (K.held out.old) (K.held out.new) }
+        ensures turn { Turns result (run_behind self.old (Ok (ReportLine.Ran done (is_none (next self.old.world.state)) ∷ [], self.old.world.state))) self.old.line self.old.pending self.new (seen (writes self.old) (K.held out.old)) (seen (writes self.old) (K.held out.new)) }
+        ensures counts { (self.new.counts ≡ self.old.counts) × (self.new.world ≡ self.old.world) }
         ensures fault { result ≡ Err Stop.WriteFault → Rose (K.faults out.old) (K.faults out.new) }
         ensures count { self.new.number ≡ self.old.number }
         ensures later { K.faults out.old ≤ K.faults out.new }
@@ -283,7 +313,7 @@ impl Runner {
     // What has come of a line is kept, as far as it matters.
     fn keep_part(&mut self, part: &[u8]) -> Result<(), Stop>
         requires { parts part.now ≡ part.now ∷ [] }
-        ensures ok { OnOk result (self.new ≡ record { world = self.old.world; number = self.old.number; line = take most_kept (self.old.line ++ part.now); pending = self.old.pending }) }
+        ensures ok { OnOk result (self.new ≡ record { world = self.old.world; number = self.old.number; line = take most_kept (self.old.line ++ part.now); pending = self.old.pending; counts = self.old.counts }) }
         ensures err { OnErr result (result ≡ Err Stop.NoMemory) }
         ensures count { self.new.number ≡ self.old.number }
     {
@@ -343,6 +373,28 @@ fn is_quiet(world: &World) -> bool
     ensures { result ≡ is_none (next world.now.state) }
 {
     world.next().is_none()
+}
+
+// Report lines of this world are counted, where there are counts; else their texts wait behind what waited. Where memory runs out nothing
+// more waits.
+fn tell_lines(
+    counts: &mut Option<Counts>,
+    world: &World,
+    report: &[ReportLine],
+    text: &mut Vec<u8>,
+    pending: &mut Vec<u8>,
+) -> Result<(), AllocError>
+    ensures counts { counts.new ≡ option_map (λ c. with_lines world.now.state.routers c report.now) counts.old }
+    ensures ok { OnOk result (is_none counts.old ≡ true → pending.new.items ≡ pending.old.items ++ flat_map line_text report.now) }
+    ensures err { OnErr result (pending.new.items ≡ pending.old.items) }
+{
+    match counts {
+        Some(counts) => {
+            counts.add(report, world);
+            Ok(())
+        }
+        None => put_lines(report, text, pending),
+    }
 }
 
 // The texts of report lines wait behind what waited. Where memory runs out nothing more waits.

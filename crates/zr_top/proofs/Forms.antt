@@ -1,7 +1,7 @@
 -- No words are of two forms.
 use Rattle.std.proofs.Common.{◌≡◌, ℕ, nat_eq, ◌&&◌, Bool, true, false, List, [], ◌∷◌, Option, Some, None, refl, ap, ◌∙◌, subst, sym}
 use Rattle.std.proofs.lemmas.Bool.{eqb-true}
-use Rattle.std.specs.Prelude.{IfSome, codes, cond}
+use Rattle.std.specs.Prelude.{IfSome, codes, cond, is_some}
 use Rattle.zr_make.specs.declared.plan.MakePlan.{MakePlan}
 use Rattle.zr_top.specs.declared.topic.Topic.{Topic}
 use Rattle.zr_top.specs.Words.{begins_serve, is_net, is_word, made_of, names_make, served_of, topic_of, Served}
@@ -14,6 +14,10 @@ none_of r P e = subst (λ z. IfSome z P) (sym e) tt
 first_holds : (a b : Bool) → (a && b) ≡ true → a ≡ true
 first_holds true b h = refl
 first_holds false b h = h
+
+second_holds : (a b : Bool) → (a && b) ≡ true → b ≡ true
+second_holds true b h = h
+second_holds false b h = absurd (cc)
 
 first_fails : (a b : Bool) → a ≡ false → (a && b) ≡ false
 first_fails a b e = ap (λ z. z && b) e
@@ -36,13 +40,34 @@ not_word a b more others (c ∷ cs) d h =
 
 -- ---- `net`
 
+-- what an option gives is there where its test holds
+asked : {A : Type 0} (test : Bool) (x : A) → is_some (cond test (Some x) None) ≡ true → test ≡ true
+asked true x h = refl
+asked false x h = absurd (cc)
+
+-- a word that is a text
+word_is : (text word : List ℕ) → is_word text word ≡ true → word ≡ text
+word_is [] [] h = refl
+word_is [] (c ∷ cs) h = absurd (cc)
+word_is (a ∷ more) [] h = absurd (cc)
+word_is (a ∷ more) (c ∷ cs) h =
+    let one : c ≡ a = eqb-true c a (first_holds (nat_eq c a) (is_word more cs) h) in
+    let rest : cs ≡ more = word_is more cs (second_holds (nat_eq c a) (is_word more cs) h) in
+    λ i. one i ∷ rest i
+
 net_is : (words : List (List ℕ)) → is_net words ≡ true → (served_of words ≡ None) × (made_of words ≡ None) × (topic_of words ≡ None)
 net_is [] h = absurd (cc)
 net_is (word ∷ []) h =
-    let help : is_word (codes "--help") word ≡ false = not_word 110 45 _ _ word refl h in
-    let version : is_word (codes "--version") word ≡ false = not_word 110 45 _ _ word refl h in
+    let net : is_word (codes "net") word ≡ true = asked (is_word (codes "net") word) false h in
+    let help : is_word (codes "--help") word ≡ false = not_word 110 45 _ _ word refl net in
+    let version : is_word (codes "--version") word ≡ false = not_word 110 45 _ _ word refl net in
     (refl, refl, not_chosen (is_word (codes "--help") word) _ _ help ∙ not_chosen (is_word (codes "--version") word) _ _ version)
-net_is (word ∷ next ∷ more) h = absurd (cc)
+net_is (word ∷ option ∷ []) h =
+    let both = asked (is_word (codes "net") word && is_word (codes "--summary") option) true h in
+    let summary : option ≡ codes "--summary" = word_is (codes "--summary") option (second_holds (is_word (codes "net") word) (is_word (codes "--summary") option) both) in
+    let help : is_word (codes "--help") option ≡ false = ap (is_word (codes "--help")) summary in
+    (refl, refl, not_chosen (is_word (codes "--help") option) _ _ help)
+net_is (word ∷ option ∷ next ∷ more) h = absurd (cc)
 
 pub net_not_served : (words : List (List ℕ)) (P : Served → Type 0) → is_net words ≡ true → IfSome (served_of words) P
 net_not_served words P h = none_of (served_of words) P (net_is words h).0

@@ -1,5 +1,5 @@
 -- The program's words, and what is said of others.
-use Rattle.std.specs.Prelude.{ℕ, ◌^◌, nat_eq, nat_lt, ◌&&◌, ◌||◌, Bool, false, if◌then◌else◌, List, [], ◌∷◌, Option, Some, None, is_some, codes, ◌⊎◌, option_and_then}
+use Rattle.std.specs.Prelude.{ℕ, ◌^◌, nat_eq, nat_lt, ◌&&◌, ◌||◌, Bool, true, false, if◌then◌else◌, List, [], ◌∷◌, Option, Some, None, is_some, codes, ◌⊎◌, option_and_then}
 use Rattle.std.specs.Option.{option_map}
 use Rattle.std.specs.Cmp.Lexicographic.{pointwise}
 use Rattle.zr_id.specs.Zid.{zid_of_hex}
@@ -16,11 +16,16 @@ use Rattle.zr_top.specs.declared.topic.Topic.TheVariants as topic
 abbrev pub is_word : List ℕ → List ℕ → Bool
 is_word text word = pointwise nat_eq word text
 
--- whether the words are exactly `net`
+-- what `net` and `net --summary` ask for: whether the report is summed up; none where the words are neither
+abbrev pub net_of : List (List ℕ) → Option Bool
+net_of [] = None
+net_of (word ∷ []) = if is_word (codes "net") word then Some false else None
+net_of (word ∷ option ∷ []) = if is_word (codes "net") word && is_word (codes "--summary") option then Some true else None
+net_of (word ∷ option ∷ next ∷ more) = None
+
+-- whether the words are `net` or `net --summary`
 abbrev pub is_net : List (List ℕ) → Bool
-is_net [] = false
-is_net (word ∷ []) = pointwise nat_eq word (codes "net")
-is_net (word ∷ next ∷ more) = false
+is_net words = is_some (net_of words)
 
 -- what `serve` asks for: an identifier, the address at which it listens, and the addresses that it dials
 pub record Served : Type 0 where

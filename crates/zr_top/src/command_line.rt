@@ -1,9 +1,9 @@
 //! The program's words: what they ask for.
 
-ghost use Rattle.std.specs.Prelude.{◌≡◌, [], ◌∷◌, is_some, map, true, IfOk, IfSome, OnErr};
+ghost use Rattle.std.specs.Prelude.{◌≡◌, [], ◌∷◌, codes, is_some, map, true, IfOk, IfSome, OnErr};
 ghost use Rattle.std.specs.String.{string_bytes};
 ghost use Rattle.zr_make.specs.Plan.{is_in_range};
-ghost use Rattle.zr_top.specs.Words.{begins_serve, is_net, is_word, made_of, names_make, plan_by, served_of, topic_of, topic_of_command};
+ghost use Rattle.zr_top.specs.Words.{begins_serve, is_word, made_of, names_make, net_of, plan_by, served_of, topic_of, topic_of_command};
 ghost use Rattle.zr_top.specs.Asked.{served_by};
 
 use crate::number::{count, number};
@@ -13,14 +13,27 @@ use zr_id::zid::Zid;
 use zr_make::MakePlan;
 use zr_serve::ServePlan;
 
-/// Whether the words are `net`.
-pub fn is_net(words: &[String]) -> bool
-    ensures { result ≡ is_net (map string_bytes words.now) }
+/// Whether a summary is asked for, where the words are `net` or `net --summary`.
+pub fn net_of(words: &[String]) -> Option<bool>
+    ensures { result ≡ net_of (map string_bytes words.now) }
 {
     match words {
-        [word] => word.as_bytes() == b"net".as_slice(),
-        _ => false,
+        [word] if is_net(word) => Some(false),
+        [word, option] if is_net(word) && is_summary(option) => Some(true),
+        _ => None,
     }
+}
+
+fn is_net(word: &String) -> bool
+    ensures { result ≡ is_word (codes "net") (string_bytes word.now) }
+{
+    word.as_bytes() == b"net".as_slice()
+}
+
+fn is_summary(word: &String) -> bool
+    ensures { result ≡ is_word (codes "--summary") (string_bytes word.now) }
+{
+    word.as_bytes() == b"--summary".as_slice()
 }
 
 /// The plan that the words `serve --id ID --listen ADDRESS [DIAL]...` ask for, if they are these. Other words take no memory.

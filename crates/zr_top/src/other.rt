@@ -1,4 +1,4 @@
-//! The program with other words than `net`: a router is served, or the usage line is told.
+//! The program with other words than those of `net`: a router is served, or the usage line is told.
 
 ghost use Rattle.std.specs.Prelude.{◌≡◌, ◌≤◌, ◌⊎◌, ◌↔◌, false, is_some, map, IfSome};
 ghost use Rattle.std.specs.String.{string_bytes};
@@ -23,7 +23,7 @@ use zr_serve::{LinkJob, ServeEnd};
 const USAGE: &str =
     "usage: zrd net [--summary] / serve --id ID --listen ADDRESS [DIAL]... / make --number N --routers R --clients C --messages M\n";
 
-/// The program with other words than `net`.
+/// The program with other words than those of `net`.
 #[tactic(auto, using(zr_serve::proofs::Served::not_begun, crate::proofs::Cases::of_some))]
 pub fn run_other<
     K: Sink,

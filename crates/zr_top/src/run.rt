@@ -1,13 +1,13 @@
 //! `run`: the whole program over the sources and sinks that it is given.
 
-ghost use Rattle.std.specs.Prelude.{◌≡◌, ◌≤◌, ◌⊎◌, ◌↔◌, true, false, is_some, map, IfSome, IsTrue};
+ghost use Rattle.std.specs.Prelude.{◌≡◌, ◌≤◌, ◌⊎◌, ◌↔◌, true, false, is_some, map, Some, IfSome, IsTrue};
 ghost use Rattle.std.specs.String.{string_bytes};
 ghost use Rattle.zr_outside.specs.Counts.{Rose};
 ghost use Rattle.zr_guarantee.specs.Scripts.{IsRefined};
 ghost use Rattle.zr_laws.specs.Keys.{AskingIsMeeting};
 ghost use Rattle.zr_laws.specs.Runs.{RestIsQuiet};
 ghost use Rattle.zr_settled.specs.Tables.{AgreeWhereSettled};
-ghost use Rattle.zr_netrun.specs.Clauses.{OfRead, OfLines, IsReported, IsReadToEnd};
+ghost use Rattle.zr_netrun.specs.Clauses.{OfRead, OfLines, IsReported, IsReadToEnd, IsSummedUp};
 ghost use Rattle.zr_top.specs.Means.{HaveKeyTexts, LeadToTheirReport};
 ghost use Rattle.zr_crew.specs.Crew.{crew_faults, crew_told};
 ghost use Rattle.zr_serve.specs.Serving.{outputs};
@@ -15,10 +15,10 @@ ghost use Rattle.zr_top.specs.Asked.{IsServing};
 ghost use Rattle.zr_make.specs.Script.{script, text_of};
 ghost use Rattle.zr_top.specs.Help.{help_text};
 ghost use Rattle.zr_top.specs.Told.{IsWritten};
-ghost use Rattle.zr_top.specs.Words.{is_net, is_taken, made_of, served_of, topic_of, TellsUsage};
+ghost use Rattle.zr_top.specs.Words.{is_net, net_of, is_taken, made_of, served_of, topic_of, TellsUsage};
 
 use crate::beside::run_beside_net;
-use crate::command_line::is_net;
+use crate::command_line::net_of;
 use std::alloc::Global;
 use std::sync::Wait;
 use std::thread::Threads;
@@ -34,7 +34,8 @@ use zr_outside::source::Source;
 use zr_serve::LinkJob;
 use zr_settled::settled_tables_agree;
 
-/// The whole program. Its words, without its name, ask for one of four things. `net` reads a script from `input`, and writes the report to `out`.
+/// The whole program. Its words, without its name, ask for one of four things. `net` reads a script from `input`, and writes the report to `out`;
+/// `net --summary` writes, at the script's end, four counts of the report in its place.
 /// `serve --id ID --listen ADDRESS [DIAL]...` runs a router of that identifier, which listens at the address and dials each of the others once, until the
 /// host gives no more links: the crew starts the reader of each link. `make --number N --routers R --clients C --messages M` writes a script that is made
 /// from the number. `--help`, a command with `--help`, and `--version` are told to `out`. With other words, or a value out of range, the status is
@@ -72,7 +73,8 @@ where
     H::In: 'static,
     H::Out: 'static,
     H::Time: 'static,
-    ensures report { is_net (map string_bytes words.now) ≡ true → OfRead (S.left input.old) (S.left input.new) (IsReported (IsReadToEnd (S.ends input.old) (S.ends input.new) (S.quiets input.old) (S.quiets input.new)) result (K.held out.old) (K.held out.new) (E.held err.old) (E.held err.new)) }
+    ensures report { net_of (map string_bytes words.now) ≡ Some false → OfRead (S.left input.old) (S.left input.new) (IsReported (IsReadToEnd (S.ends input.old) (S.ends input.new) (S.quiets input.old) (S.quiets input.new)) result (K.held out.old) (K.held out.new) (E.held err.old) (E.held err.new)) }
+    ensures summed_up { net_of (map string_bytes words.now) ≡ Some true → OfRead (S.left input.old) (S.left input.new) (IsSummedUp (IsReadToEnd (S.ends input.old) (S.ends input.new) (S.quiets input.old) (S.quiets input.new)) result (K.held out.old) (K.held out.new) (E.held err.old) (E.held err.new)) }
     ensures headline { is_net (map string_bytes words.now) ≡ true → OfLines (S.left input.old) (S.left input.new) IsRefined }
     ensures told { is_net (map string_bytes words.now) ≡ true → OfLines (S.left input.old) (S.left input.new) LeadToTheirReport }
     ensures keys { is_net (map string_bytes words.now) ≡ true → OfLines (S.left input.old) (S.left input.new) HaveKeyTexts }
@@ -96,12 +98,12 @@ where
 {
     asking_is_meeting();
     rest_is_quiet();
-    if !is_net(words) {
+    let Some(summary) = net_of(words) else {
         return run_beside_net(rt, alloc, words, out, err, host, crew);
-    }
+    };
     lines_refine();
     lines_are_moments();
     keys_are_texts();
     settled_tables_agree();
-    run_script(alloc, input, out, err)
+    run_script(alloc, input, out, err, summary)
 }

@@ -64,13 +64,13 @@ fn sink(alloc: Global) -> MemSink {
 fn gives<R: Threads + Wait + Copy + Send + Sync + Drop + 'static>(
     rt: R,
     alloc: Global,
-    word: &str,
+    words: &str,
     script: &[u8],
     outside: &Outside,
     out_text: &str,
     err_text: &str,
 ) -> Result<(Status, bool, bool), AllocError> {
-    let words = vec![in alloc; String::from_str(alloc, word)?]?;
+    let words = words_of(alloc, words)?;
     let mut input = MemSource::new(
         Vec::from_slice(alloc, script)?,
         outside.most,
@@ -255,6 +255,64 @@ fn refused_scripts_say_why(rt: HostRuntime) -> Result<(), Fail> {
             given.0 == Status::Refused && given.1 && given.2,
             "{script}"
         );
+    }
+    Ok(())
+}
+
+#[test]
+fn summaries_count_the_report(rt: HostRuntime) -> Result<(), Fail> {
+    let writes = Outside {
+        failing_write: &[0],
+        ..SOUND
+    };
+    for (script, outside, status, summary, why) in [
+        (
+            ONE_SAMPLE,
+            &SOUND,
+            Status::Done,
+            "handled 2\ntaken 0\nsent 1\nmarks 1\n",
+            "",
+        ),
+        (
+            "",
+            &SOUND,
+            Status::Done,
+            "handled 0\ntaken 0\nsent 0\nmarks 0\n",
+            "",
+        ),
+        (
+            "router 0001\nclient 8001 0001\nsub 8001 1 k/*\nrun 9\nmark\nput 8001 k/0 1\nput 8001 k/3 2\nput 8001 k/7 3\nrun 9\n",
+            &SOUND,
+            Status::Done,
+            "handled 4\ntaken 0\nsent 0\nmarks 1\n",
+            "",
+        ),
+        (
+            "router 0001\nrouter 0002\nlink 0002 0001\nup 0002 0001\nup 0001 0002\nrun 9\nmark\nshow 0001\nrun 9\n",
+            &SOUND,
+            Status::Done,
+            "handled 2\ntaken 2\nsent 0\nmarks 1\n",
+            "",
+        ),
+        (
+            "mark\nmark\nbogus",
+            &SOUND,
+            Status::Refused,
+            "",
+            "line 3: 1 UnknownCommand\n",
+        ),
+        ("mark\n", &writes, Status::WriteFault, "", ""),
+    ] {
+        let given = gives(
+            rt,
+            rt.alloc(),
+            "net --summary",
+            script.as_bytes(),
+            outside,
+            summary,
+            why,
+        )?;
+        assert!(&rt; given.0 == status && given.1 && given.2, "{script}");
     }
     Ok(())
 }

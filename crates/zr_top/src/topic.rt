@@ -50,9 +50,10 @@ usage: zrd COMMAND [WORD]...
 const NET: &str = "\
 Reads a script of a network from standard input, and writes its report to standard output.
 
-usage: zrd net
+usage: zrd net [--summary]
 
-  --help  tells this
+  --summary  writes four counts of the report in its place
+  --help     tells this
 ";
 
 const SERVE: &str = "\

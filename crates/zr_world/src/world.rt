@@ -1,9 +1,10 @@
 //! `World`: what the acts of a script make, one after another.
 
-ghost use Rattle.std.specs.Prelude.{◌≡◌, true, false, IfSome};
+ghost use Rattle.std.specs.Prelude.{◌≡◌, true, false, is_some, IfSome};
 ghost use Rattle.zr_network.specs.Acts.{outcome};
 ghost use Rattle.zr_network.specs.Next.{next, book_step};
 ghost use Rattle.zr_network.specs.Sound.{IsSound};
+ghost use Rattle.zr_network.specs.World.{router_of};
 ghost use Rattle.zr_world.specs.Living.{Applies, Books, IsPossible, new_world};
 
 use crate::tables::Tables;
@@ -12,6 +13,7 @@ use std::marker::Model;
 use zr_command::command::Act;
 use zr_command::error::ScriptError;
 use zr_command::report::ReportLine;
+use zr_id::zid::Zid;
 
 /// The routers and clients of a script, and the ends of their links with what waits there.
 #[derive(Drop)]
@@ -52,6 +54,13 @@ impl World {
         ensures sound { self.now.spent ≡ false → IsSound self.now.state }
     {
         self.tables.next()
+    }
+
+    /// Whether a router has the name.
+    pub fn is_router(&self, name: &Zid) -> bool
+        ensures { result ≡ is_some (router_of self.now.state.routers name.now) }
+    {
+        self.tables.is_router(name)
     }
 
     /// Counts the steps that a run asks for. The refusal `Limit` leaves the world as it was.

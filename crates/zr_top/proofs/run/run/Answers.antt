@@ -4,4 +4,4 @@ use Rattle.zr_top.proofs.run.run.Goals as goal
 
 -- the lines that count lead to a moment, whichever they are
 pub returns-clause-told : goal.returns-clause-told
-returns-clause-told g c is_net = of_read _ _ _ _ (c.run_script.ensures.report) (λ read p to_end. (c.lines_are_moments.ensures (judged_lines to_end read)).1)
+returns-clause-told g c is_net = of_read _ _ _ _ (c.run_script.ensures.left) (λ read p to_end. (c.lines_are_moments.ensures (judged_lines to_end read)).1)

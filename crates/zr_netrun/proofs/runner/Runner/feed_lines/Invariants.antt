@@ -3,7 +3,9 @@ use Rattle.std.proofs.Common.{◌≡◌, ◌+◌, ◌≤◌, false, ◌++◌, le
 use Rattle.std.specs.List.{fold}
 use Rattle.zr_language.specs.Lines.{ended_lines, open_line}
 use Rattle.zr_network.specs.Run.{Run, on_line}
-use Rattle.zr_netrun.specs.Kept.{fresh, IsAt}
+use Rattle.zr_network.specs.Accepted.{accepted_from}
+use Rattle.zr_netrun.specs.Kept.{fresh, seen, writes, IsAt}
+use Rattle.zr_netrun.specs.Counted.{CountsAhead}
 use Rattle.zr_netrun.proofs.Lines.{IsOpen}
 use Rattle.zr_netrun.proofs.runner.Runner.feed_lines.Given as goal
 
@@ -13,7 +15,8 @@ invariant-loop-place g l = record {
   is_open : IsOpen l.self.line;
   count : l.self.number + length l.rest ≤ l.fn.self.number + length l.fn.piece;
   later : g.K.Sink.faults l.fn.out ≤ g.K.Sink.faults l.out;
-  at : (run : Run) × IsAt run l.self.line l.fn.self.pending l.self (g.K.Sink.held l.fn.out) (g.K.Sink.held l.out)
+  counted : CountsAhead l.fn.self (accepted_from (fresh l.fn.self) (ended_lines (l.fn.self.line ++ l.fn.piece))) (accepted_from (fresh l.self) (ended_lines (l.self.line ++ l.rest))) l.self;
+  at : (run : Run) × IsAt run l.self.line l.fn.self.pending l.self (seen (writes l.fn.self) (g.K.Sink.held l.fn.out)) (seen (writes l.fn.self) (g.K.Sink.held l.out))
       × (fold on_line run (ended_lines (l.self.line ++ l.rest)) ≡ fold on_line (fresh l.fn.self) (ended_lines (l.fn.self.line ++ l.fn.piece)))
       × (open_line (l.self.line ++ l.rest) ≡ open_line (l.fn.self.line ++ l.fn.piece));
 }

@@ -18,4 +18,4 @@ returns-clause-ok c =
     let count : c.min-count.result ≡ min (most_kept - length c.self.inside.line.items) (length c.args.part.now) = search rules in
     let e : c.extend_from_slice.new.self.items ≡ take most_kept (c.self.inside.line.items ++ c.args.part.now) =
     h ∙ ap (λ n. c.self.inside.line.items ++ take n c.args.part.now) count ∙ kept_prefix c.self.inside.line.items c.args.part.now c.self.invariant.0 in
-    rw (← c.self.view_is) (ap (λ (z : List ℕ). record { world = c.self.inside.world; number = c.self.inside.number; line = z; pending = c.self.inside.pending.items }) e)
+    rw (← c.self.view_is) (ap (λ (z : List ℕ). record { world = c.self.inside.world; number = c.self.inside.number; line = z; pending = c.self.inside.pending.items; counts = c.self.inside.counts }) e)

@@ -1,12 +1,14 @@
 -- While it is read: what was kept is the run of what was read, all of its report was written, and the counts tell what happened.
 use Rattle.std.proofs.Common.{◌≡◌, ◌+◌, ◌-◌, ◌*◌, ◌^◌, ◌≤◌, true, false, min, length, if◌then◌else◌}
+use Rattle.zr_netrun.specs.Kept.{seen, writes}
 use Rattle.zr_netrun.specs.Clauses.{OfRead, IsReadToEnd}
 use Rattle.zr_netrun.proofs.Reading.{IsAfter}
-use Rattle.zr_netrun.proofs.netrun.run_script.Given as goal
+use Rattle.zr_netrun.proofs.netrun.run_lines.Given as goal
 
 abbrev pub invariant-reading : goal.invariant-reading
 invariant-reading g l = record {
   lines : l.runner.number ≤ l.total;
+  mode : writes l.runner ≡ writes l.fn.runner;
   alive : l.runner.world.spent ≡ false;
   most : l.total ≤ 67108864;
   sized : length l.piece ≡ 65536;
@@ -19,7 +21,7 @@ invariant-reading g l = record {
   out : g.K.Sink.faults l.fn.out ≤ g.K.Sink.faults l.out;
   err : g.E.Sink.faults l.fn.err ≤ g.E.Sink.faults l.err;
   err_same : g.E.Sink.held l.err ≡ g.E.Sink.held l.fn.err;
-  read : OfRead (g.S.Source.left l.fn.input) (g.S.Source.left l.input) (IsAfter l.runner l.total (g.K.Sink.held l.fn.out) (g.K.Sink.held l.out));
+  read : OfRead (g.S.Source.left l.fn.input) (g.S.Source.left l.input) (IsAfter l.runner l.total (seen (writes l.fn.runner) (g.K.Sink.held l.fn.out)) (seen (writes l.fn.runner) (g.K.Sink.held l.out)));
 }
 
 abbrev pub decreases-reading : goal.decreases-reading

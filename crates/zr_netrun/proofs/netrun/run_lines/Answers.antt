@@ -1,14 +1,37 @@
-use Rattle.std.proofs.Common.{◌≡◌, ℕ, ◌-◌, ◌≤◌, List, length, min, Option, sym, ap, ◌∙◌, rules, arith, subst}
+use Rattle.std.proofs.Common.{◌≡◌, ℕ, ◌-◌, ◌≤◌, List, length, min, Option, refl, sym, ap, ◌∙◌, rules, arith, subst}
 use Rattle.std.proofs.lemmas.List.{length-take}
 use Rattle.std.proofs.lemmas.Bool.{false≢true}
 use Rattle.zr_world.specs.Living.{Living}
 use Rattle.zr_language.specs.Report.{too_long_text}
 use Rattle.zr_outside.specs.Told.{Consumes}
-use Rattle.zr_netrun.specs.Kept.{Tells, Complains}
+use Rattle.zr_netrun.specs.Kept.{Kept, seen, writes, Tells, Complains}
 use Rattle.zr_netrun.specs.Clauses.{IsReadToEnd}
-use Rattle.zr_netrun.proofs.Reading.{reads_piece}
-use Rattle.zr_netrun.proofs.Telling.{stops_reading, passes_limit, fails_reading, ends_reading, stops_at_end}
-use Rattle.zr_netrun.proofs.netrun.run_script.Goals as goal
+use Rattle.zr_netrun.proofs.Writing.{seen_at, seen_stopped}
+use Rattle.zr_netrun.proofs.Reading.{after_nothing, reads_piece, seen_tells}
+use Rattle.zr_netrun.proofs.Telling.{stops_reading, passes_limit, fails_reading, ends_reading, stops_at_end, not_done, fault_not_done}
+use Rattle.zr_netrun.proofs.netrun.run_lines.Goals as goal
+
+pub reading-init : goal.reading-init
+reading-init g c =
+    let fresh = c.requires.begins in
+    let number : c.args.runner.now.number ≡ 0 = ap (λ (z : Kept). z.number) fresh in
+    record {
+      lines = omega (arith, number);
+      mode = refl;
+      alive = ap (λ (z : Kept). z.world.spent) fresh;
+      most = omega arith;
+      sized = search rules;
+      quiet = omega arith;
+      quiets = omega arith;
+      ends = omega arith;
+      ended = λ t. absurd (false≢true t);
+      going = λ t. omega arith;
+      input = omega arith;
+      out = omega arith;
+      err = omega arith;
+      err_same = refl;
+      read = after_nothing _ _ _ fresh c.requires.counts;
+    }
 
 pub returns-in-Err-clause-report : goal.returns-in-Err-clause-report
 returns-in-Err-clause-report g c =
@@ -16,16 +39,20 @@ returns-in-Err-clause-report g c =
     let cut : c.min-used.result ≡ min c.in-Bytes.count (67108864 - c.reading.total) = search rules in
     let told = subst (λ (z : Option (List ℕ)). Tells c.in-Err.stop c.tell.result c.feed.new.self.number c.feed.new.self.pending (g.K.Sink.held c.feed.new.out) (g.K.Sink.held c.tell.new.out) z (g.E.Sink.held c.tell.new.err))
     c.reading.invariant.err_same c.tell.ensures.tells in
-    stops_reading _ _ _ _ c.in-Bytes.count c.min-used.result c.reading.total c.read.new.into c.reading.runner c.feed.new.self _ _ _ _ _ _ c.in-Err.stop c.tell.result
-    c.reading.invariant.read c.in-Bytes.ensures.bytes.2 fits c.reading.invariant.most cut c.in-Err.ensures.turn told
+    not_done _ _ _ _ _ _ _ _ _ c.tell.ensures.stops
+    (stops_reading _ _ _ _ c.in-Bytes.count c.min-used.result c.reading.total c.read.new.into c.reading.runner c.feed.new.self _ _ _ _ _ _ c.in-Err.stop c.tell.result
+    c.reading.invariant.read c.in-Bytes.ensures.bytes.2 fits c.reading.invariant.most cut
+    (seen_stopped (writes c.reading.runner) (writes c.args.runner.now) _ _ _ _ _ _ c.reading.invariant.mode c.in-Err.ensures.turn) (seen_tells (writes c.args.runner.now) _ _ _ _ _ _ _ _ told))
 
 pub returns-then-used-count-clause-report : goal.returns-then-used-count-clause-report
 returns-then-used-count-clause-report g c =
     let fits : c.in-Bytes.count ≤ length c.read.new.into = grind (arith, c.in-Bytes.ensures.bytes.1, c.reading.invariant.sized) in
     let cut : c.min-used.result ≡ min c.in-Bytes.count (67108864 - c.reading.total) = search rules in
     let told = subst (λ (z : Option (List ℕ)). Complains c.tell_too_long.result too_long_text z (g.E.Sink.held c.tell_too_long.new.err)) c.reading.invariant.err_same c.tell_too_long.ensures.tells in
-    passes_limit _ _ _ _ c.in-Bytes.count c.min-used.result c.reading.total c.read.new.into c.reading.runner c.feed.new.self _ _ _ _ _ _ c.tell_too_long.result
-    c.reading.invariant.read c.in-Bytes.ensures.bytes.2 fits c.reading.invariant.most cut c.if-used-count.true c.in-Ok.ensures.turn c.in-Ok.ensures.flushed told
+    not_done _ _ _ _ _ _ _ _ _ c.tell_too_long.ensures.stops
+    (passes_limit _ _ _ _ c.in-Bytes.count c.min-used.result c.reading.total c.read.new.into c.reading.runner c.feed.new.self _ _ _ _ _ _ c.tell_too_long.result
+    c.reading.invariant.read c.in-Bytes.ensures.bytes.2 fits c.reading.invariant.most cut c.if-used-count.true
+    (seen_at (writes c.reading.runner) (writes c.args.runner.now) _ _ _ _ _ _ c.reading.invariant.mode c.in-Ok.ensures.turn) c.in-Ok.ensures.flushed told)
 
 pub reading-preserved-else-used-count : goal.reading-preserved-else-used-count
 reading-preserved-else-used-count g c =
@@ -34,8 +61,10 @@ reading-preserved-else-used-count g c =
     let whole : c.in-Bytes.count ≡ c.min-used.result = omega (arith, c.if-used-count.false, cut) in
     let short : c.min-used.result ≤ length c.read.new.into = omega (arith, fits, whole) in
     let took = subst (λ (n : ℕ). Consumes n c.read.new.into (g.S.Source.left c.reading.input) (g.S.Source.left c.read.new.self)) whole c.in-Bytes.ensures.bytes.2 in
+    let turn = seen_at (writes c.reading.runner) (writes c.args.runner.now) _ _ _ _ _ _ c.reading.invariant.mode c.in-Ok.ensures.turn in
     record {
       lines = omega (arith, c.in-Ok.ensures.count, c.reading.invariant.lines, length-take c.min-used.result c.read.new.into);
+      mode = c.in-Ok.ensures.counts.mode ∙ c.reading.invariant.mode;
       alive = ap (λ (w : Living). w.spent) c.in-Ok.ensures.turn.world;
       most = omega (arith, cut, c.reading.invariant.most);
       sized = search rules;
@@ -49,22 +78,25 @@ reading-preserved-else-used-count g c =
       err = c.reading.invariant.err;
       err_same = c.reading.invariant.err_same;
       read = reads_piece _ _ _ c.min-used.result c.reading.total c.read.new.into c.reading.runner c.feed.new.self _ _ _ c.in-Ok.field-0
-          c.reading.invariant.read took short c.in-Ok.ensures.flushed c.in-Ok.ensures.turn;
+          c.reading.invariant.read took short c.in-Ok.ensures.flushed c.in-Ok.ensures.counts turn;
     }
 
 pub returns-in-Ok-finish-clause-report : goal.returns-in-Ok-finish-clause-report
 returns-in-Ok-finish-clause-report g c =
     ends_reading _ _ _ c.reading.total c.reading.runner c.finish.new.self _ _ _ _ _ _ (c.reading.invariant.ended c.reading-test.false) c.reading.invariant.read c.reading.invariant.most
-    c.in-Ok-finish.ensures.turn c.in-Ok-finish.ensures.flushed c.reading.invariant.err_same
+    (seen_at (writes c.reading.runner) (writes c.args.runner.now) _ _ _ _ _ _ c.reading.invariant.mode c.in-Ok-finish.ensures.turn) c.in-Ok-finish.ensures.counts c.in-Ok-finish.ensures.flushed c.reading.invariant.err_same
 
-pub returns-clause-report : goal.returns-clause-report
-returns-clause-report g c =
+pub returns-in-Err-finish-clause-report : goal.returns-in-Err-finish-clause-report
+returns-in-Err-finish-clause-report g c =
     let told = subst (λ (z : Option (List ℕ)). Tells c.in-Err-finish.stop c.tell-in-Err-finish.result c.finish.new.self.number c.finish.new.self.pending (g.K.Sink.held c.finish.new.out) (g.K.Sink.held c.tell-in-Err-finish.new.out) z (g.E.Sink.held c.tell-in-Err-finish.new.err))
     c.reading.invariant.err_same c.tell-in-Err-finish.ensures.tells in
-    stops_at_end (IsReadToEnd (g.S.Source.ends c.args.input.now) (g.S.Source.ends c.reading.input) (g.S.Source.quiets c.args.input.now) (g.S.Source.quiets c.reading.input))
+    not_done _ _ _ _ _ _ _ _ _ c.tell-in-Err-finish.ensures.stops
+    (stops_at_end (IsReadToEnd (g.S.Source.ends c.args.input.now) (g.S.Source.ends c.reading.input) (g.S.Source.quiets c.args.input.now) (g.S.Source.quiets c.reading.input))
     _ _ c.reading.total c.reading.runner c.finish.new.self _ _ _ _ _ _ c.in-Err-finish.stop c.tell-in-Err-finish.result
-    (c.reading.invariant.ended c.reading-test.false) c.reading.invariant.read c.reading.invariant.most c.in-Err-finish.ensures.turn told
+    (c.reading.invariant.ended c.reading-test.false) c.reading.invariant.read c.reading.invariant.most
+    (seen_stopped (writes c.reading.runner) (writes c.args.runner.now) _ _ _ _ _ _ c.reading.invariant.mode c.in-Err-finish.ensures.turn) (seen_tells (writes c.args.runner.now) _ _ _ _ _ _ _ _ told))
 
 pub returns-in-Failed-clause-report : goal.returns-in-Failed-clause-report
 returns-in-Failed-clause-report g c =
-    fails_reading _ _ _ _ c.reading.total c.reading.runner _ _ _ _ c.reading.invariant.read c.in-Failed.ensures.bytes c.reading.invariant.most c.reading.invariant.err_same
+    not_done _ _ _ _ _ _ _ _ _ fault_not_done
+    (fails_reading _ _ _ _ c.reading.total c.reading.runner _ _ _ _ c.reading.invariant.read c.in-Failed.ensures.bytes c.reading.invariant.most c.reading.invariant.err_same)
