@@ -17,29 +17,76 @@ pub enum Command {
 #[derive(Debug, Drop)]
 pub enum Act {
     /// A router without links.
-    Router { id: Zid },
+    Router {
+        id: Zid,
+    },
     /// A client whose link to its router is up at once.
-    Client { id: Zid, router: Zid },
+    Client {
+        id: Zid,
+        router: Zid,
+    },
     /// A link between two routers, up at neither end.
-    Link { one: Zid, other: Zid },
+    Link {
+        one: Zid,
+        other: Zid,
+    },
     /// A router's end of its link to a neighbour comes up.
-    Up { router: Zid, neighbour: Zid },
+    Up {
+        router: Zid,
+        neighbour: Zid,
+    },
     /// The link of a router and its neighbour breaks, and what is on its wires is lost.
-    Break { router: Zid, neighbour: Zid },
+    Break {
+        router: Zid,
+        neighbour: Zid,
+    },
     /// A router notices that its link to a neighbour is broken, and what it has queued for the neighbour is lost.
-    Down { router: Zid, neighbour: Zid },
+    Down {
+        router: Zid,
+        neighbour: Zid,
+    },
     /// A client declares a subscriber under an id.
-    Sub { client: Zid, id: u32, key: KeyExpr },
-    /// A client takes back what it declared under an id.
-    Unsub { client: Zid, id: u32 },
+    Sub {
+        client: Zid,
+        id: u32,
+        key: KeyExpr,
+    },
+    /// A client takes back the subscriber that it declared under an id.
+    Unsub {
+        client: Zid,
+        id: u32,
+    },
+    /// A client declares a queryable under an id, complete or not.
+    Able {
+        client: Zid,
+        id: u32,
+        key: KeyExpr,
+        complete: bool,
+    },
+    /// A client takes back the queryable that it declared under an id.
+    Unable {
+        client: Zid,
+        id: u32,
+    },
     /// A client publishes a sample: a value or a deletion.
-    Publish { client: Zid, content: Content },
+    Publish {
+        client: Zid,
+        content: Content,
+    },
     /// A router handles the oldest message on the wire from a neighbour.
-    Handle { router: Zid, from: Zid },
+    Handle {
+        router: Zid,
+        from: Zid,
+    },
     /// A router's oldest queued message for a neighbour goes onto the wire to it, or is sent to it where it is a client.
-    Take { router: Zid, to: Zid },
+    Take {
+        router: Zid,
+        to: Zid,
+    },
     /// A phase begins.
     Mark,
     /// A router's tables are told.
-    Show { router: Zid },
+    Show {
+        router: Zid,
+    },
 }

@@ -2,6 +2,7 @@
 
 use zr_id::record::LinkRecord;
 use zr_id::zid::Zid;
+use zr_msg::decl::Decls;
 use zr_msg::msg::Msg;
 
 /// What was seen of one step, or of a whole run. A tag is the number of the script line that the message comes from.
@@ -42,5 +43,11 @@ pub enum ReportLine {
     Parent {
         root: Zid,
         parent: Option<Zid>,
+    },
+    /// The router knows so many changes of a router's log, and that its clients have these declarations after them.
+    Source {
+        source: Zid,
+        number: u64,
+        decls: Decls,
     },
 }

@@ -17,14 +17,14 @@
 --   Limit           a limit of the world would be passed
 --
 -- Out of memory, `NoMemory`, is no refusal: no definition says it.
-use Rattle.std.specs.Prelude.{ℕ, ◌==◌, ◌||◌, not, nat_lt, Bool, true, if◌then◌else◌, List, [], ◌∷◌, length, codes, Option, Some, None, Result, Ok, Err}
+use Rattle.std.specs.Prelude.{ℕ, ◌==◌, ◌||◌, not, nat_lt, Bool, true, false, if◌then◌else◌, List, [], ◌∷◌, length, codes, Option, Some, None, Result, Ok, Err}
 use Rattle.zr_id.specs.Zid.{is_named}
 use Rattle.zr_body.specs.Payload.{put_body, del_body}
 use Rattle.zr_msg.specs.declared.content.Parts.{Parts}
 use Rattle.zr_msg.specs.Extras.{no_extras}
 use Rattle.zr_command.specs.declared.error.ScriptError.{ScriptError}
 use Rattle.zr_command.specs.declared.error.ScriptError.TheVariants.{UnknownCommand, BadWords, Limit}
-use Rattle.zr_command.specs.declared.command.Act.TheVariants.{Router, Client, Link, Up, Break, Down, Show, Sub, Unsub, Publish, Handle, Take, Mark}
+use Rattle.zr_command.specs.declared.command.Act.TheVariants.{Router, Client, Link, Up, Break, Down, Show, Sub, Unsub, Able, Unable, Publish, Handle, Take, Mark}
 use Rattle.zr_command.specs.declared.command.Command.{Command}
 use Rattle.zr_command.specs.declared.command.Command.TheVariants.{Act, Run}
 use Rattle.zr_language.specs.Step.{◌>>=◌}
@@ -97,6 +97,23 @@ unsub_line args = do
   id ← number_at w.1
   Ok (Act (Unsub client id))
 
+-- able CLIENT N KEY, or full CLIENT N KEY of a complete queryable
+unfoldable pub able_line : Bool → List (List ℕ) → Result Command ScriptError
+able_line complete args = do
+  w ← three_of args
+  client ← zid_at w.0
+  id ← number_at w.1
+  key ← key_at w.2
+  Ok (Act (Able client id key complete))
+
+-- unable CLIENT N
+unfoldable pub unable_line : List (List ℕ) → Result Command ScriptError
+unable_line args = do
+  w ← two_of args
+  client ← zid_at w.0
+  id ← number_at w.1
+  Ok (Act (Unable client id))
+
 -- a sample as a script makes it: its body has no flags, and nothing stands beside key and body
 abbrev pub plain : List ℕ → List ℕ → Parts
 plain key body = record { key = key; extras = no_extras; body = body }
@@ -159,6 +176,7 @@ abbrev pub is_command : List ℕ → Bool
 is_command name =
     is_word name (codes "router") || is_word name (codes "client") || is_word name (codes "link") || is_word name (codes "up")
     || is_word name (codes "break") || is_word name (codes "down") || is_word name (codes "sub") || is_word name (codes "unsub")
+    || is_word name (codes "able") || is_word name (codes "full") || is_word name (codes "unable")
     || is_word name (codes "put") || is_word name (codes "del") || is_word name (codes "handle") || is_word name (codes "take")
     || is_word name (codes "run") || is_word name (codes "mark") || is_word name (codes "show")
 
@@ -173,6 +191,9 @@ by_name name args =
     else if is_word name (codes "down") then down_line args
     else if is_word name (codes "sub") then sub_line args
     else if is_word name (codes "unsub") then unsub_line args
+    else if is_word name (codes "able") then able_line false args
+    else if is_word name (codes "full") then able_line true args
+    else if is_word name (codes "unable") then unable_line args
     else if is_word name (codes "put") then put_line args
     else if is_word name (codes "del") then del_line args
     else if is_word name (codes "handle") then handle_line args

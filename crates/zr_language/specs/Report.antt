@@ -15,7 +15,7 @@ use Rattle.zr_msg.specs.declared.msg.Target.TheVariants as t
 use Rattle.zr_msg.specs.declared.msg.Msg.{Msg}
 use Rattle.zr_msg.specs.declared.msg.Msg.TheVariants.{Sub, Unsub, Able, Unable, Interest, EndInterest, ToldSub, ToldAble, ToldUnsub, ToldUnable, ToldEnd, Push, Request, Response, Final, State, Step, Snap}
 use Rattle.zr_command.specs.declared.report.ReportLine.{ReportLine}
-use Rattle.zr_command.specs.declared.report.ReportLine.TheVariants.{Handled, Taken, Ran, Mark, Show, Record, Parent}
+use Rattle.zr_command.specs.declared.report.ReportLine.TheVariants.{Handled, Taken, Ran, Mark, Show, Record, Parent, Source}
 use Rattle.zr_command.specs.declared.error.ScriptError.{ScriptError}
 use Rattle.zr_command.specs.declared.error.ScriptError.TheVariants as e
 
@@ -155,8 +155,8 @@ abbrev pub rest_text : Bool → List ℕ
 rest_text quiet = if quiet then codes " quiet" else codes " more"
 
 -- a report line: `ROUTER < NEIGHBOUR: MESSAGE #TAG` for a handled message, `ROUTER > NEIGHBOUR: MESSAGE #TAG` for a taken one,
--- `run STEPS quiet` or `run STEPS more` at the end of a run, `mark #LINE` where a phase begins, and `show ROUTER`, `record ID NUMBER LINKS` and
--- `parent ROOT PARENT` of a router's tables
+-- `run STEPS quiet` or `run STEPS more` at the end of a run, `mark #LINE` where a phase begins, and `show ROUTER`, `record ID NUMBER LINKS`,
+-- `parent ROOT PARENT` and `source ROUTER NUMBER DECLARATIONS` of a router's tables
 abbrev pub line_text : ReportLine → List ℕ
 line_text (Handled router from msg tag) = id_text router ++ codes " < " ++ id_text from ++ codes ": " ++ msg_text msg ++ codes " #" ++ decimal tag ++ line_end
 line_text (Taken router to msg tag) = id_text router ++ codes " > " ++ id_text to ++ codes ": " ++ msg_text msg ++ codes " #" ++ decimal tag ++ line_end
@@ -165,6 +165,7 @@ line_text (Mark line) = codes "mark #" ++ decimal line ++ line_end
 line_text (Show router) = codes "show " ++ id_text router ++ line_end
 line_text (Record links) = record_text links ++ line_end
 line_text (Parent root parent) = codes "parent " ++ id_text root ++ codes " " ++ optional_id_text parent ++ line_end
+line_text (Source source number decls) = codes "source " ++ id_text source ++ codes " " ++ decimal number ++ flat_map decl_text decls ++ line_end
 
 -- ---- a refusal
 

@@ -9,11 +9,11 @@ use Rattle.std.proofs.lemmas.Bool.{eqb-true, eq-eqb, ltb-true, ltb-false, lt-ltb
 use Rattle.std.proofs.lemmas.Cmp.{nat_cmp_total, tied_itself}
 use Rattle.std.proofs.lemmas.Option.{none-some}
 use Rattle.std.proofs.lemmas.Map.Keys.{sorted_head, sorted_tail}
-use Rattle.zr_table.specs.State.{Subscription, LinkState, link_at, link_peer, is_link, is_router}
-use Rattle.zr_table.specs.Table.{changed_on}
+use Rattle.zr_routing.specs.Tables.{link_at}
+use Rattle.zr_msg.specs.declared.peer.LinkPeer.{LinkPeer}
 use Rattle.zr_table.proofs.Inserted.{All-append}
 
-abbrev pub AreAscending : List LinkState → Type 0
+abbrev pub AreAscending : List LinkPeer → Type 0
 AreAscending links = IsStrictlySortedBy nat_cmp (map (λ l. l.link.0) links)
 
 -- what is above a number is another one
@@ -25,19 +25,19 @@ above_differs n m h =
     cc)
 
 -- no link has a number that is below those of all
-pub none_above : (n : ℕ) (links : List LinkState) → AllByRecursion (λ m. nat_cmp n m ≡ Less) (map (λ l. l.link.0) links) → link_at links n ≡ None
+pub none_above : (n : ℕ) (links : List LinkPeer) → AllByRecursion (λ m. nat_cmp n m ≡ Less) (map (λ l. l.link.0) links) → link_at links n ≡ None
 none_above n [] h = refl
 none_above n (l ∷ links) h = rw (above_differs n l.link.0 h.0) (none_above n links h.1)
 
 -- behind the first there is none of its number
-pub none_behind : (l : LinkState) (links : List LinkState) → AreAscending (l ∷ links) → link_at links l.link.0 ≡ None
+pub none_behind : (l : LinkPeer) (links : List LinkPeer) → AreAscending (l ∷ links) → link_at links l.link.0 ≡ None
 none_behind l links up = none_above l.link.0 links (sorted_head nat_cmp _ _ up)
 
-pub ascending_behind : (l : LinkState) (links : List LinkState) → AreAscending (l ∷ links) → AreAscending links
+pub ascending_behind : (l : LinkPeer) (links : List LinkPeer) → AreAscending (l ∷ links) → AreAscending links
 ascending_behind l links up = sorted_tail nat_cmp _ _ up
 
 -- a test of the link of a number may ask the number first
-pub asked_of_number : (p : LinkState → Bool) (from to : ℕ) (links : List LinkState) →
+pub asked_of_number : (p : LinkPeer → Bool) (from to : ℕ) (links : List LinkPeer) →
     option_map_or (λ l. not (l.link.0 == from) && p l) (link_at links to) false ≡ (not (to == from) && option_map_or p (link_at links to) false)
 asked_of_number p from to [] = by (to == from)
   where
@@ -56,7 +56,7 @@ asked_of_number p from to (l ∷ links) = by (l.link.0 == to) refl (asked_of_num
 -- ---- all links
 
 -- what is found has the number
-pub found_number : (links : List LinkState) (n : ℕ) (l : LinkState) → link_at links n ≡ Some l → l.link.0 ≡ n
+pub found_number : (links : List LinkPeer) (n : ℕ) (l : LinkPeer) → link_at links n ≡ Some l → l.link.0 ≡ n
 found_number [] n l h = cc
 found_number (k ∷ links) n l h = by (k.link.0 == n) refl h (found_number links n l)
   where
@@ -65,7 +65,7 @@ found_number (k ∷ links) n l h = by (k.link.0 == n) refl h (found_number links
     by false e h ih = ih h
 
 -- of links that ascend each is the one of its number, behind any that are below them
-numbers_behind : (front links : List LinkState) → AreAscending links → AllByRecursion (λ l. AllByRecursion (λ k. (k.link.0 == l.link.0) ≡ false) front) links
+numbers_behind : (front links : List LinkPeer) → AreAscending links → AllByRecursion (λ l. AllByRecursion (λ k. (k.link.0 == l.link.0) ≡ false) front) links
     → AllByRecursion (λ l. link_at (front ++ links) l.link.0 ≡ Some l) links
 numbers_behind front [] up h = tt
 numbers_behind front (l ∷ links) up h = (
@@ -74,7 +74,7 @@ numbers_behind front (l ∷ links) up h = (
       (numbers_behind (front ++ l ∷ []) links (ascending_behind l links up) (behind links (sorted_head nat_cmp _ _ up) h.1)),
 )
   where
-    found : (front : List LinkState) → AllByRecursion (λ k. (k.link.0 == l.link.0) ≡ false) front → link_at (front ++ l ∷ links) l.link.0 ≡ Some l
+    found : (front : List LinkPeer) → AllByRecursion (λ k. (k.link.0 == l.link.0) ≡ false) front → link_at (front ++ l ∷ links) l.link.0 ≡ Some l
     found [] h = rw (eq-eqb l.link.0 l.link.0 refl) refl
     found (k ∷ front) h = rw h.0 (found front h.1)
 
@@ -85,44 +85,18 @@ numbers_behind front (l ∷ links) up h = (
         let tied : nat_cmp l.link.0 m ≡ Equal = ap (λ z. nat_cmp z m) e ∙ tied_itself nat_cmp_total m in
         cc)
 
-    behind : (ls : List LinkState) → AllByRecursion (λ m. nat_cmp l.link.0 m ≡ Less) (map (λ k. k.link.0) ls)
+    behind : (ls : List LinkPeer) → AllByRecursion (λ m. nat_cmp l.link.0 m ≡ Less) (map (λ k. k.link.0) ls)
         → AllByRecursion (λ j. AllByRecursion (λ k. (k.link.0 == j.link.0) ≡ false) front) ls
         → AllByRecursion (λ j. AllByRecursion (λ k. (k.link.0 == j.link.0) ≡ false) (front ++ l ∷ [])) ls
     behind [] less h = tt
     behind (j ∷ ls) less h = (All-append _ front (l ∷ []) h.0 (below_differs j.link.0 less.0, tt), behind ls less.1 h.1)
 
-pub numbers_of : (links : List LinkState) → AreAscending links → AllByRecursion (λ l. link_at links l.link.0 ≡ Some l) links
+pub numbers_of : (links : List LinkPeer) → AreAscending links → AllByRecursion (λ l. link_at links l.link.0 ≡ Some l) links
 numbers_of links up = numbers_behind [] links up (nothing links)
   where
-    nothing : (ls : List LinkState) → AllByRecursion (λ l. AllByRecursion {X = LinkState} (λ k. (k.link.0 == l.link.0) ≡ false) []) ls
+    nothing : (ls : List LinkPeer) → AllByRecursion (λ l. AllByRecursion {X = LinkPeer} (λ k. (k.link.0 == l.link.0) ≡ false) []) ls
     nothing [] = tt
     nothing (l ∷ ls) = (tt, nothing ls)
-
--- ---- what a declaration changes
-
-module _ (n : ℕ) (change : List Subscription → List Subscription) where
-  abbrev changed : List LinkState → List LinkState
-  changed links = map (λ l. changed_on n change l) links
-
-  pub changed_peer : (l : LinkState) → link_peer (changed_on n change l) ≡ link_peer l
-  changed_peer l = by (is_link n l && not (is_router l.peer.role))
-    where
-      by : (b : Bool) → link_peer (cond b (record { link = l.link; peer = l.peer; subs = change l.subs }) l) ≡ link_peer l
-      by true = refl
-      by false = refl
-
-  pub changed_peers : (links : List LinkState) → map link_peer (changed links) ≡ map link_peer links
-  changed_peers [] = refl
-  changed_peers (l ∷ links) = ap (λ z. z ∷ map link_peer (changed links)) (changed_peer l) ∙ ap (λ zs. link_peer l ∷ zs) (changed_peers links)
-
--- links with the same peers have the same numbers
-pub same_numbers : (links : List LinkState) → map (λ l. l.link.0) links ≡ map (λ p. p.link.0) (map link_peer links)
-same_numbers [] = refl
-same_numbers (l ∷ links) = ap (λ zs. l.link.0 ∷ zs) (same_numbers links)
-
-pub ascending_same : (links others : List LinkState) → map link_peer links ≡ map link_peer others → AreAscending links → AreAscending others
-ascending_same links others e up =
-    subst (λ ns. IsStrictlySortedBy nat_cmp ns) (same_numbers links ∙ ap (λ ps. map (λ p. p.link.0) ps) e ∙ sym (same_numbers others)) up
 
 -- ---- neighbours
 
@@ -171,7 +145,7 @@ find_here p [] x back h e = rw e refl
 find_here p (y ∷ front) x back h e = rw h.0 (find_here p front x back h.1 e)
 
 -- where no link has a number, neither the first nor any behind it has
-none_of_rest : (l : LinkState) (links : List LinkState) (n : ℕ) → link_at (l ∷ links) n ≡ None → ((l.link.0 == n) ≡ false) × (link_at links n ≡ None)
+none_of_rest : (l : LinkPeer) (links : List LinkPeer) (n : ℕ) → link_at (l ∷ links) n ≡ None → ((l.link.0 == n) ≡ false) × (link_at links n ≡ None)
 none_of_rest l links n none = by (l.link.0 == n) refl none
   where
     by : (b : Bool) → (l.link.0 == n) ≡ b → cond b (Some l) (link_at links n) ≡ None → ((l.link.0 == n) ≡ false) × (link_at links n ≡ None)
@@ -179,7 +153,7 @@ none_of_rest l links n none = by (l.link.0 == n) refl none
     by false e h = (e, h)
 
 -- links that ascend are those below a number and those above it, if none has it
-pub parted_links : (links : List LinkState) (n : ℕ) → AreAscending links → link_at links n ≡ None
+pub parted_links : (links : List LinkPeer) (n : ℕ) → AreAscending links → link_at links n ≡ None
     → filter (λ k. nat_lt k.link.0 n) links ++ filter (λ k. nat_lt n k.link.0) links ≡ links
 parted_links [] n up none = refl
 parted_links (l ∷ links) n up none = by (nat_lt l.link.0 n) (nat_lt n l.link.0) refl refl (parted_links links n (ascending_behind l links up) ((none_of_rest l links n none).1))
@@ -187,7 +161,7 @@ parted_links (l ∷ links) n up none = by (nat_lt l.link.0 n) (nat_lt n l.link.0
     absent : (l.link.0 == n) ≡ false
     absent = (none_of_rest l links n none).0
 
-    above : (ls : List LinkState) → n < l.link.0 → AllByRecursion (λ m. nat_cmp l.link.0 m ≡ Less) (map (λ k. k.link.0) ls)
+    above : (ls : List LinkPeer) → n < l.link.0 → AllByRecursion (λ m. nat_cmp l.link.0 m ≡ Less) (map (λ k. k.link.0) ls)
         → (filter (λ k. nat_lt k.link.0 n) ls ≡ []) × (filter (λ k. nat_lt n k.link.0) ls ≡ ls)
     above [] less h = (refl, refl)
     above (k ∷ ls) less h =

@@ -8,7 +8,8 @@ use Rattle.zr_id.specs.declared.link.LinkNo.{LinkNo}
 use Rattle.zr_msg.specs.declared.msg.Msg.{Msg}
 use Rattle.zr_table.specs.Event.{on_link, Tells, TellsPrefix}
 use Rattle.zr_table.specs.Prefix.{IsPrefixBehind}
-use Rattle.zr_table.specs.State.{LinkState, link_at}
+use Rattle.zr_routing.specs.Tables.{link_at}
+use Rattle.zr_msg.specs.declared.peer.LinkPeer.{LinkPeer}
 use Rattle.zr_table.proofs.Links.{AreAscending, none_behind, ascending_behind}
 
 pub on_link-append : (to : LinkNo) (a b : List (LinkNo × Msg)) → on_link to (a ++ b) ≡ on_link to a ++ on_link to b
@@ -29,10 +30,10 @@ tells_prefix rows before said now each h = record {
 }
 
 -- a message for each link that the test picks
-abbrev pub to_picked : (LinkState → Bool) → Msg → List LinkState → List (LinkNo × Msg)
+abbrev pub to_picked : (LinkPeer → Bool) → Msg → List LinkPeer → List (LinkNo × Msg)
 to_picked test msg links = map (λ l. (l.link, msg)) (filter test links)
 
-pub on_picked : (test : LinkState → Bool) (msg : Msg) (links : List LinkState) → AreAscending links → (to : LinkNo)
+pub on_picked : (test : LinkPeer → Bool) (msg : Msg) (links : List LinkPeer) → AreAscending links → (to : LinkNo)
     → on_link to (to_picked test msg links) ≡ cond (option_map_or test (link_at links to.0) false) (msg ∷ []) []
 on_picked test msg [] up to = refl
 on_picked test msg (l ∷ links) up to =
@@ -41,7 +42,7 @@ on_picked test msg (l ∷ links) up to =
     by : (t b : Bool) → test l ≡ t → (l.link.0 == to.0) ≡ b → on_link to (to_picked test msg links) ≡ cond (option_map_or test (link_at links to.0) false) (msg ∷ []) []
         → on_link to (map (λ k. (k.link, msg)) (cond t (l ∷ filter test links) (filter test links)))
         ≡ cond (option_map_or test (cond b (Some l) (link_at links to.0)) false) (msg ∷ []) []
-    by t true p e ih = last t p (ih ∙ ap (λ (o : Option LinkState). cond (option_map_or test o false) (msg ∷ []) []) none)
+    by t true p e ih = last t p (ih ∙ ap (λ (o : Option LinkPeer). cond (option_map_or test o false) (msg ∷ []) []) none)
       where
         none : link_at links to.0 ≡ None
         none = ap (λ n. link_at links n) (sym (eqb-true l.link.0 to.0 e)) ∙ none_behind l links up

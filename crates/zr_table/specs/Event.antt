@@ -10,11 +10,13 @@ use Rattle.zr_msg.specs.declared.event.Event.{Event}
 use Rattle.zr_msg.specs.declared.event.Event.TheVariants.{Up, Down, From}
 use Rattle.zr_msg.specs.declared.peer.Peer.{Peer}
 use Rattle.zr_table.specs.Prefix.{IsPrefixOf}
-use Rattle.zr_table.specs.State.{LinkState, NodeState, link_at, link_to}
+use Rattle.zr_msg.specs.declared.peer.LinkPeer.{LinkPeer}
+use Rattle.zr_routing.specs.Tables.{link_at, link_to}
+use Rattle.zr_table.specs.State.{NodeState}
 use Rattle.zr_table.specs.Table.{sends}
 
 -- what the links of a router are
-pub record AreLinks (me : List ℕ) (links : List LinkState) : Type 0 where
+pub record AreLinks (me : List ℕ) (links : List LinkPeer) : Type 0 where
   -- their numbers ascend
   pub ascending : IsStrictlySortedBy nat_cmp (map (λ l. l.link.0) links)
   -- each is the one of its number

@@ -12,17 +12,16 @@ use crate::lists::Lists;
 use crate::tree::{Hop, Tree, UNREACHED};
 use std::alloc::{AllocError, Global};
 use std::marker::Model;
-use std::snapshot::Snapshot;
 use zr_graph::base::Base;
 use zr_id::record::LinkRecord;
 use zr_id::zid::Zid;
 
 /// The trees of a base's routers, each by the edges alone.
 ///
-/// Contracts see the records that the trees were made of. A router that they don't know reaches none but itself.
+/// Contracts see the records that the trees were made of, so a copy of them is kept. A router that they don't know reaches none but itself.
 #[derive(Drop)]
 pub struct Trees {
-    base: Snapshot<Base>,
+    records: Vec<LinkRecord>,
     names: Vec<Zid>,
     trees: Vec<Tree>,
     lists: Lists,
@@ -35,9 +34,9 @@ impl Model for Trees {
 
     ghost Value = { List RecordState };
 
-    ghost view = { λ t. t.base.value.records };
+    ghost view = { λ t. t.records.items };
 
-    ghost invariant = { λ t. AreTrees t.base.value.records t.names.items t.trees.items t.lists.lists };
+    ghost invariant = { λ t. AreTrees t.records.items t.names.items t.trees.items t.lists.lists };
 }
 
 impl Trees {
@@ -49,13 +48,14 @@ impl Trees {
     {
         let edges = Edges::of(alloc, base)?;
         let names = names_of(alloc, base.records())?;
+        let copies = copies_of(alloc, base.records())?;
         let mut lists = Lists::new(alloc, names.len())?;
         let mut trees = Vec::new(alloc);
         for root in 0..names.len() {
             trees.push(Tree::of(alloc, &edges, &names, root, &mut lists)?)?;
         }
         Ok(Trees {
-            base: Snapshot::of(base),
+            records: copies,
             names,
             trees,
             lists,
@@ -182,4 +182,14 @@ fn names_of(alloc: Global, records: &[LinkRecord]) -> Result<Vec<Zid>, AllocErro
     ensures { IfOk result (λ v. v.items ≡ ids records.now) }
 {
     records.iter().map(|r| r.id()).collect(alloc)
+}
+
+fn copies_of(alloc: Global, records: &[LinkRecord]) -> Result<Vec<LinkRecord>, AllocError>
+    ensures { IfOk result (λ v. v.items ≡ records.now) }
+{
+    let mut copies = Vec::with_capacity(alloc, records.len())?;
+    for record in records {
+        copies.push(record.copy(alloc)?)?;
+    }
+    Ok(copies)
 }

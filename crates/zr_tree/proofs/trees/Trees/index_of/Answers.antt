@@ -8,5 +8,5 @@ use Rattle.zr_tree.proofs.trees.Trees.index_of.Goals as goal
 pub returns : goal.returns
 returns c =
     let names = c.deref.ensures.value ∙ c.self.invariant.names_are in
-    let found = index_is (ids c.self.inside.base.value.records) c.args.id.now c.binary_search.result c.self.invariant.ascending (rw names at c.binary_search.ensures.bound) (rw names at c.binary_search.ensures.position) in
-    rw (← c.self.view_is, c.ok.ensures.value, ← length-map c.self.inside.base.value.records (λ (r : RecordState). r.id)) found
+    let found = index_is (ids c.self.inside.records.items) c.args.id.now c.binary_search.result c.self.invariant.ascending (rw names at c.binary_search.ensures.bound) (rw names at c.binary_search.ensures.position) in
+    rw (← c.self.view_is, c.ok.ensures.value, ← length-map c.self.inside.records.items (λ (r : RecordState). r.id)) found
