@@ -23,6 +23,8 @@ attached_by name so_far (a.Break router neighbour) = so_far && not (is_named nam
 attached_by name so_far (a.Down router neighbour) = so_far
 attached_by name so_far (a.Sub client id key) = so_far
 attached_by name so_far (a.Unsub client id) = so_far
+attached_by name so_far (a.Able client id key complete) = so_far
+attached_by name so_far (a.Unable client id) = so_far
 attached_by name so_far (a.Publish client content) = so_far
 attached_by name so_far (a.Handle router from) = so_far
 attached_by name so_far (a.Take router to) = so_far
@@ -50,6 +52,8 @@ declared_by name so_far (a.Break router neighbour) = so_far
 declared_by name so_far (a.Down router neighbour) = so_far
 declared_by name so_far (a.Sub client id key) = if is_named name client then so_far ++ record { id = id; key = key } ∷ [] else so_far
 declared_by name so_far (a.Unsub client id) = if is_named name client then filter (λ d. not (d.id == id)) so_far else so_far
+declared_by name so_far (a.Able client id key complete) = so_far
+declared_by name so_far (a.Unable client id) = so_far
 declared_by name so_far (a.Publish client content) = so_far
 declared_by name so_far (a.Handle router from) = so_far
 declared_by name so_far (a.Take router to) = so_far
@@ -87,6 +91,8 @@ publication (a.Break router neighbour) = None
 publication (a.Down router neighbour) = None
 publication (a.Sub client id key) = None
 publication (a.Unsub client id) = None
+publication (a.Able client id key complete) = None
+publication (a.Unable client id) = None
 publication (a.Publish client content) = Some (record { client = client; content = content })
 publication (a.Handle router from) = None
 publication (a.Take router to) = None

@@ -48,6 +48,7 @@ sent_in receiver (r.Mark line) = []
 sent_in receiver (r.Show router) = []
 sent_in receiver (r.Record links) = []
 sent_in receiver (r.Parent root parent) = []
+sent_in receiver (r.Source source number decls) = []
 
 -- the samples that the receiver was sent, in order
 abbrev pub sent_to : List ReportLine → List ℕ → List Item

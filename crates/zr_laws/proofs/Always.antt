@@ -1,53 +1,123 @@
 -- What holds at every moment of a script, and that each act keeps it.
-use Rattle.std.proofs.Common.{◌≡◌, ℕ, true, false, List, [], ◌∷◌, ◌++◌, Some, Ok, Err, refl}
-use Rattle.std.specs.Prelude.{IfOk, IfSome}
+use Rattle.std.proofs.Common.{◌≡◌, ℕ, Bool, true, false, cond, List, [], ◌∷◌, ◌++◌, Some, Ok, Err, refl, sym, ap, ◌∙◌}
+use Rattle.std.specs.Prelude.{◌||◌, is_some, IfOk, IfSome}
 use Rattle.std.specs.List.{AllByRecursion, fold}
-use Rattle.std.proofs.lemmas.Bool.{false≢true}
+use Rattle.std.proofs.lemmas.Bool.{false≢true, or_left, or_right}
+use Rattle.std.proofs.lemmas.List.Folds.{list_any-append}
+use Rattle.zr_id.specs.Zid.{is_named}
+use Rattle.zr_msg.specs.declared.decl.Kind.{Kind}
+use Rattle.zr_msg.specs.declared.decl.Kind.TheVariants as sort
+use Rattle.zr_msg.specs.declared.msg.Msg.{Msg}
+use Rattle.zr_msg.specs.declared.msg.Msg.TheVariants as m
+use Rattle.zr_msg.specs.declared.event.Event.TheVariants.{Down, From}
+use Rattle.zr_msg.specs.declared.peer.Role.TheVariants as role
 use Rattle.zr_command.specs.declared.command.Act.{Act}
-use Rattle.zr_network.specs.Acts.{Outcome, outcome}
+use Rattle.zr_command.specs.declared.command.Act.TheVariants as c
+use Rattle.zr_table.specs.Table.{able_kind}
+use Rattle.zr_network.specs.World.{RouterState, router_of, with_router, new_router}
+use Rattle.zr_network.specs.Acts.{Outcome, weighing, hearing, peer_of, up_event, declare_step, undeclare_step, outcome}
 use Rattle.zr_network.specs.Moments.{Numbered, Moment, beginning, went, onward}
 use Rattle.zr_network.specs.Sound.{IsSound}
+use Rattle.zr_guarantee.specs.Names.{is_router, brings_router}
+use Rattle.zr_network.proofs.Keyed.{not_there}
+use Rattle.zr_network.proofs.Names.{value_new, read_kept}
+use Rattle.zr_network.proofs.Cases.{free_name, on_router, on_client, on_link, on_up, on_break, on_down, on_declare, on_undeclare, on_publish, on_handle, on_take, on_mark, on_show, for_router, for_client, for_link, for_up, for_break, for_down, for_declare, for_undeclare, for_publish, for_handle, for_take, for_mark, for_show}
 use Rattle.zr_network.proofs.Sound.{act_keeps, empty_sound}
 use Rattle.zr_laws.proofs.Folds.{after_all}
-use Rattle.zr_laws.proofs.Alone.{IsSingle, Unused, single_kept, routers_stay, unused_kept}
+use Rattle.zr_laws.proofs.Homes.{Homes, act_homes}
 use Rattle.zr_laws.proofs.Known.{Known}
 use Rattle.zr_laws.proofs.Tables.{act_known}
-use Rattle.zr_laws.proofs.Orderly.{Orderly, act_orderly}
+use Rattle.zr_settled.proofs.Orderly.{Orderly, act_orderly, empty_orderly}
+
+-- ---- the names of routers
+
+-- each router that is there came by an act
+abbrev pub Named : List Numbered → Moment → Type 0
+Named acts now = (x : List ℕ) → is_some (router_of now.world.routers x) ≡ true → is_router acts x ≡ true
+
+module _ (acts : List Numbered) (now : Moment) (h : Named acts now) where
+  -- an act that brings no other router
+  same_names : (n : ℕ) (act : Act) (next : Moment) → ((x : List ℕ) → is_some (router_of next.world.routers x) ≡ is_some (router_of now.world.routers x)) → Named (acts ++ (n, act) ∷ []) next
+  same_names n act next same x k = list_any-append (λ y. brings_router x y.1) acts ((n, act) ∷ []) ∙ or_left (is_router acts x) (is_router ((n, act) ∷ []) x) (h x (sym (same x) ∙ k))
+
+  heard_names : (n : ℕ) (act : Act) (router : List ℕ) (r r' : RouterState) → router_of now.world.routers router ≡ Some r → (x : List ℕ) →
+      is_some (router_of (with_router now.world.routers router r') x) ≡ is_some (router_of now.world.routers x)
+  heard_names n act router r r' er x = read_kept is_some now.world.routers router x r r' er refl
+
+  abbrev NamedBy : ℕ → Act → Moment → Type 0
+  NamedBy n act next = Named (acts ++ (n, act) ∷ []) next
+
+  declares : (n : ℕ) (act : Act) (client : List ℕ) (kind : Kind) (id : ℕ) (key : List ℕ) (msg : Msg) → IfSome (went now (declare_step now.world n client kind id key msg)) (NamedBy n act)
+  declares n act client kind id key msg = for_declare now (NamedBy n act) n client kind id key msg
+      (λ s es fresh e ee unbroken r er room. same_names n act (on_declare now n client kind id key msg s e r) (heard_names n act s.router r (weighing r key) er))
+
+  undeclares : (n : ℕ) (act : Act) (client : List ℕ) (kind : Kind) (id : ℕ) (msg : Msg) → IfSome (went now (undeclare_step now.world n client kind id msg)) (NamedBy n act)
+  undeclares n act client kind id msg = for_undeclare now (NamedBy n act) n client kind id msg
+      (λ s es known e ee unbroken. same_names n act (on_undeclare now n client kind id msg s e) (λ x. refl))
+
+  router_named : (n : ℕ) (id : List ℕ) → is_some (router_of now.world.routers id) ≡ false → Named (acts ++ (n, c.Router id) ∷ []) (on_router now id)
+  router_named n id free x k = list_any-append (λ y. brings_router x y.1) acts ((n, c.Router id) ∷ [])
+      ∙ by (is_named x id) refl (sym (ap is_some (value_new now.world.routers id x (new_router id) (not_there (router_of now.world.routers id) free))) ∙ k)
+    where
+      by : (b : Bool) → is_named x id ≡ b → is_some (cond b (Some (new_router id)) (router_of now.world.routers x)) ≡ true → (is_router acts x || (is_named x id || false)) ≡ true
+      by true e k = or_right (is_router acts x) (is_named x id || false) (or_left (is_named x id) false e)
+      by false e k = or_left (is_router acts x) (is_named x id || false) (h x k)
+
+  act_named : (n : ℕ) (act : Act) → IfSome (went now (outcome now.world n act)) (NamedBy n act)
+  unfolding outcome
+  act_named n (c.Router id) = for_router now (NamedBy n (c.Router id)) id (λ free room. router_named n id (free_name now.world id free).0)
+  act_named n (c.Client id router) = for_client now (NamedBy n (c.Client id router)) n id router
+      (λ r er free room taken. same_names n (c.Client id router) (on_client now n id router r) (heard_names n (c.Client id router) router r (hearing r (up_event r (record { id = id; role = role.Client }))) er))
+  act_named n (c.Link one other) = for_link now (NamedBy n (c.Link one other)) one other (λ apart r er q eq free room. same_names n (c.Link one other) (on_link now one other) (λ x. refl))
+  act_named n (c.Up router name) = for_up now (NamedBy n (c.Up router name)) n router name
+      (λ r er there s es unbroken down taken. same_names n (c.Up router name) (on_up now n router name r s) (heard_names n (c.Up router name) router r (hearing r (up_event r (peer_of now.world name))) er))
+  act_named n (c.Break router name) = for_break now (NamedBy n (c.Break router name)) router name (λ r er there s es unbroken. same_names n (c.Break router name) (on_break now router name) (λ x. refl))
+  act_named n (c.Down router name) = for_down now (NamedBy n (c.Down router name)) n router name
+      (λ r er there s es up cut l el taken. same_names n (c.Down router name) (on_down now n router name r l) (heard_names n (c.Down router name) router r (hearing r (Down l)) er))
+  act_named n (c.Sub client id key) = declares n (c.Sub client id key) client sort.Sub id key (m.Sub id key)
+  act_named n (c.Unsub client id) = undeclares n (c.Unsub client id) client sort.Sub id (m.Unsub id)
+  act_named n (c.Able client id key complete) = declares n (c.Able client id key complete) client (able_kind complete) id key (m.Able id key complete)
+  act_named n (c.Unable client id) = undeclares n (c.Unable client id) client sort.Able id (m.Unable id)
+  act_named n (c.Publish client content) = for_publish now (NamedBy n (c.Publish client content)) n client content
+      (λ s es e ee unbroken. same_names n (c.Publish client content) (on_publish now n client content s e) (λ x. refl))
+  act_named n (c.Handle router name) = for_handle now (NamedBy n (c.Handle router name)) router name
+      (λ r er there s es up msg tag xs front l el taken. same_names n (c.Handle router name) (on_handle now router name r s l msg tag xs) (heard_names n (c.Handle router name) router r (hearing r (From l msg)) er))
+  act_named n (c.Take router to) = for_take now (NamedBy n (c.Take router to)) router to
+      (λ r er there s es up unbroken msg tag xs front. same_names n (c.Take router to) (on_take now router to s msg tag xs) (λ x. refl))
+  act_named n c.Mark = for_mark now (NamedBy n c.Mark) n (λ settled joined. same_names n c.Mark (on_mark now n) (λ x. refl))
+  act_named n (c.Show router) = for_show now (NamedBy n (c.Show router)) router (λ r er. same_names n (c.Show router) (on_show now router r) (λ x. refl))
+
+-- ---- all of it
 
 pub record Always (acts : List Numbered) (now : Moment) : Type 0 where
   pub sound : IsSound now.world
   pub orderly : Orderly now.world
-  pub single : now.world.used ≡ true → IsSingle now.world
-  pub unused : now.world.used ≡ false → Unused acts now
-  pub known : IsSingle now.world → Known acts now.world
+  pub homes : Homes now.world
+  pub named : Named acts now
+  pub known : Known acts now.world
 
 begins : Always [] beginning
 begins = record {
   sound = empty_sound;
-  orderly = record {
-    down_ends = λ e k. refl;
-    broken_links = λ e k. refl;
-    senders = λ e r k. absurd (false≢true r);
-    clients = λ e k u. absurd (false≢true k);
-    both_ends = λ e a b. refl;
-    apart = λ y k. refl;
+  orderly = empty_orderly;
+  homes = record {
+    apart = λ name k. refl;
+    ends = λ name x s e k. absurd (false≢true k);
+    tidy = λ x r e. absurd (false≢true (ap is_some e));
   };
-  single = λ k. absurd (false≢true k);
-  unused = λ k. record { watched = record { waits = λ e. tt; sends_only = λ q. refl }; silent = refl };
-  known = λ single d. (refl, refl);
+  named = λ x k. absurd (false≢true k);
+  known = λ d. (refl, refl);
 }
 
 act_always : (acts : List Numbered) (now : Moment) → Always acts now → (n : ℕ) (act : Act) → IfSome (went now (outcome now.world n act)) (Always (acts ++ (n, act) ∷ []))
 act_always acts now h n act =
-    by (outcome now.world n act) (act_keeps now.world n act h.sound) (act_orderly now h.sound h.orderly n act) (single_kept now h.single n act) (unused_kept acts now h.unused n act) (routers_stay now n act)
-    (λ single. act_known acts now h.sound single (h.known single) n act)
+    by (outcome now.world n act) (act_keeps now.world n act h.sound) (act_orderly now h.sound h.orderly n act) (act_homes now h.sound h.homes n act) (act_named acts now h.named n act)
+    (act_known acts now h.sound h.homes h.known n act)
   where
-    by : (o : Outcome) → IfOk o (λ x. IsSound x.1) → IfSome (went now o) (λ next. IsSound next.world → Orderly next.world) →
-        IfSome (went now o) (λ next. next.world.used ≡ true → IsSingle next.world) →
-        IfSome (went now o) (λ next. next.world.used ≡ false → Unused (acts ++ (n, act) ∷ []) next) → IfSome (went now o) (λ next. IsSingle next.world → IsSingle now.world) →
-        (IsSingle now.world → IfSome (went now o) (λ next. Known (acts ++ (n, act) ∷ []) next.world)) → IfSome (went now o) (Always (acts ++ (n, act) ∷ []))
-    by (Err e) sound orderly single unused stay known = tt
-    by (Ok x) sound orderly single unused stay known = record { sound = sound; orderly = orderly sound; single = single; unused = unused; known = λ one. known (stay one) }
+    by : (o : Outcome) → IfOk o (λ x. IsSound x.1) → IfSome (went now o) (λ next. IsSound next.world → Orderly next.world) → IfSome (went now o) (λ next. Homes next.world) →
+        IfSome (went now o) (Named (acts ++ (n, act) ∷ [])) → IfSome (went now o) (λ next. Known (acts ++ (n, act) ∷ []) next.world) → IfSome (went now o) (Always (acts ++ (n, act) ∷ []))
+    by (Err e) sound orderly homes named known = tt
+    by (Ok x) sound orderly homes named known = record { sound = sound; orderly = orderly sound; homes = homes; named = named; known = known }
 
 -- at the moment that some acts lead to
 pub always : (acts : List Numbered) → IfSome (fold onward (Some beginning) acts) (Always acts)

@@ -1,7 +1,7 @@
 -- In a phase no step is possible exactly where nothing is under way: each end with a message on its wire is up, and each with one that is
 -- queued is up too and its link unbroken. It follows from what holds of every world (`Orderly`) and from what the mark found
 -- settled, which no act of the phase changes (`IsMet`).
-use Rattle.std.proofs.Common.{◌≡◌, ℕ, Bool, true, false, cond, List, [], ◌∷◌, ◌++◌, map, Option, Some, None, ◌⊎◌, inl, inr, refl, sym, ap, ◌∙◌}
+use Rattle.std.proofs.Common.{◌≡◌, ℕ, Bool, true, false, cond, List, [], ◌∷◌, ◌++◌, map, Option, Some, None, ◌⊎◌, inl, inr, refl, sym, ap, ◌∙◌, append_assoc}
 use Rattle.std.specs.Prelude.{◌&&◌, ◌||◌, not, is_some, is_none, filter, IfSome}
 use Rattle.std.specs.List.{AllByRecursion, fold, list_all, reduce}
 use Rattle.std.specs.Map.{values_of}
@@ -21,12 +21,14 @@ use Rattle.zr_network.proofs.Keyed.{found_entry, all_found}
 use Rattle.zr_network.proofs.Names.{read_kept}
 use Rattle.zr_network.proofs.Ends.{end_order, same_end, keep_with_end, keep_changed, keep_all_queued}
 use Rattle.zr_network.proofs.Fits.{up_of}
+use Rattle.zr_network.proofs.Lines.{prefix_reached}
 use Rattle.zr_network.proofs.Cases.{on_publish, on_handle, on_take, for_publish, for_handle, for_take, for_mark, for_show}
 use Rattle.zr_laws.specs.Runs.{RestIsQuiet}
 use Rattle.zr_laws.proofs.Folds.{at_some, after_all}
-use Rattle.zr_laws.proofs.Orderly.{unbroken_of, has_wire, has_queue, is_router_in, is_client_in, Orderly}
+use Rattle.zr_settled.proofs.Worlds.{there_in}
+use Rattle.zr_settled.proofs.Moving.{unbroken_at}
+use Rattle.zr_settled.proofs.Orderly.{has_wire, has_queue, is_client_in, Orderly}
 use Rattle.zr_laws.proofs.Always.{Always, always}
-use Rattle.zr_laws.proofs.Lines.{lines_refine}
 
 -- ---- the next step
 
@@ -82,27 +84,27 @@ both (x ∷ es) k =
 
 -- an end that is up is that of an unbroken link, and where the neighbour is a router, its end is up too
 abbrev IsMet : WorldState → Type 0
-IsMet w = (e : End) → up_of (end_of w.ends e) ≡ true → (unbroken_of (end_of w.ends e) ≡ true) × (is_router_in w e.1 ≡ true → up_of (end_of w.ends (turned e)) ≡ true)
+IsMet w = (e : End) → up_of (end_of w.ends e) ≡ true → (unbroken_at (end_of w.ends e) ≡ true) × (there_in w e.1 ≡ true → up_of (end_of w.ends (turned e)) ≡ true)
 
 met_settled : (w : WorldState) → is_settled w ≡ true → IsMet w
 met_settled w settled e = by (end_of w.ends e) refl
   where
-    at : (s : EndState) (up : Bool) → s.up ≡ up → (not up || (s.unbroken && (not (is_router_in w e.1) || up_of (end_of w.ends (turned e))))) ≡ true → s.up ≡ true →
-        (s.unbroken ≡ true) × (is_router_in w e.1 ≡ true → up_of (end_of w.ends (turned e)) ≡ true)
+    at : (s : EndState) (up : Bool) → s.up ≡ up → (not up || (s.unbroken && (not (there_in w e.1) || up_of (end_of w.ends (turned e))))) ≡ true → s.up ≡ true →
+        (s.unbroken ≡ true) × (there_in w e.1 ≡ true → up_of (end_of w.ends (turned e)) ≡ true)
     at s false k met up = absurd (false≢true (sym k ∙ up))
     at s true k met up =
-        let parts = and_parts s.unbroken (not (is_router_in w e.1) || up_of (end_of w.ends (turned e))) met in
+        let parts = and_parts s.unbroken (not (there_in w e.1) || up_of (end_of w.ends (turned e))) met in
         (parts.0, λ r. sym (ap (λ b. not b || up_of (end_of w.ends (turned e))) r) ∙ parts.1)
 
-    by : (o : Option EndState) → end_of w.ends e ≡ o → up_of o ≡ true → (unbroken_of o ≡ true) × (is_router_in w e.1 ≡ true → up_of (end_of w.ends (turned e)) ≡ true)
+    by : (o : Option EndState) → end_of w.ends e ≡ o → up_of o ≡ true → (unbroken_at o ≡ true) × (there_in w e.1 ≡ true → up_of (end_of w.ends (turned e)) ≡ true)
     by None k up = absurd (false≢true up)
     by (Some s) k up =
         let found = and_parts (is_met w e s) (is_calm_end s) (found_entry end_order same_end (λ x. is_met w x.0 x.1 && is_calm_end x.1) w.ends e s settled k) in
         at s s.up refl found.0 up
 
 -- the same flags, and the same routers
-met_same : (w w' : WorldState) → ((e : End) → up_of (end_of w'.ends e) ≡ up_of (end_of w.ends e)) → ((e : End) → unbroken_of (end_of w'.ends e) ≡ unbroken_of (end_of w.ends e)) →
-    ((x : List ℕ) → is_router_in w' x ≡ is_router_in w x) → IsMet w → IsMet w'
+met_same : (w w' : WorldState) → ((e : End) → up_of (end_of w'.ends e) ≡ up_of (end_of w.ends e)) → ((e : End) → unbroken_at (end_of w'.ends e) ≡ unbroken_at (end_of w.ends e)) →
+    ((x : List ℕ) → there_in w' x ≡ there_in w x) → IsMet w → IsMet w'
 met_same w w' up unbroken routers h e k =
     let old = h e (sym (up e) ∙ k) in
     (unbroken e ∙ old.0, λ r. up (turned e) ∙ old.1 (sym (routers e.1) ∙ r))
@@ -117,20 +119,22 @@ act_met now h n (c.Break router name) st = absurd (false≢true st)
 act_met now h n (c.Down router name) st = absurd (false≢true st)
 act_met now h n (c.Sub client id key) st = absurd (false≢true st)
 act_met now h n (c.Unsub client id) st = absurd (false≢true st)
+act_met now h n (c.Able client id key complete) st = absurd (false≢true st)
+act_met now h n (c.Unable client id) st = absurd (false≢true st)
 act_met now h n (c.Publish client content) st = for_publish now (λ next. IsMet next.world) n client content
-    (λ s es en ee unbroken alone. met_same now.world (on_publish now n client content s en).world (λ e. keep_with_end now.world.ends (s.router, client) (sent en (m.Push None content) n) up_of e en ee refl)
-    (λ e. keep_with_end now.world.ends (s.router, client) (sent en (m.Push None content) n) unbroken_of e en ee refl) (λ x. refl) h)
+    (λ s es en ee unbroken. met_same now.world (on_publish now n client content s en).world (λ e. keep_with_end now.world.ends (s.router, client) (sent en (m.Push None content) n) up_of e en ee refl)
+    (λ e. keep_with_end now.world.ends (s.router, client) (sent en (m.Push None content) n) unbroken_at e en ee refl) (λ x. refl) h)
 act_met now h n (c.Handle router from) st = for_handle now (λ next. IsMet next.world) router from
-    (λ r er there s es up msg tag xs front l el.
+    (λ r er there s es up msg tag xs front l el taken.
     let half : Ends = with_end now.world.ends (router, from) (with_wire s xs) in
     met_same now.world (on_handle now router from r s l msg tag xs).world (λ e. keep_all_queued half router r.node (From l msg) tag up_of e (λ z. refl) ∙ keep_with_end now.world.ends (router, from) (with_wire s xs) up_of e s es refl)
-    (λ e. keep_all_queued half router r.node (From l msg) tag unbroken_of e (λ z. refl) ∙ keep_with_end now.world.ends (router, from) (with_wire s xs) unbroken_of e s es refl)
+    (λ e. keep_all_queued half router r.node (From l msg) tag unbroken_at e (λ z. refl) ∙ keep_with_end now.world.ends (router, from) (with_wire s xs) unbroken_at e s es refl)
     (λ x. read_kept is_some now.world.routers router x r (hearing r (From l msg)) er refl) h)
 act_met now h n (c.Take router to) st = for_take now (λ next. IsMet next.world) router to
     (λ r er there s es up unbroken msg tag xs front.
     let half : Ends = with_end now.world.ends (router, to) (with_queue s xs) in
     met_same now.world (on_take now router to s msg tag xs).world (λ e. keep_changed half (to, router) (λ z. sent z msg tag) up_of e (λ z. refl) ∙ keep_with_end now.world.ends (router, to) (with_queue s xs) up_of e s es refl)
-    (λ e. keep_changed half (to, router) (λ z. sent z msg tag) unbroken_of e (λ z. refl) ∙ keep_with_end now.world.ends (router, to) (with_queue s xs) unbroken_of e s es refl)
+    (λ e. keep_changed half (to, router) (λ z. sent z msg tag) unbroken_at e (λ z. refl) ∙ keep_with_end now.world.ends (router, to) (with_queue s xs) unbroken_at e s es refl)
     (λ x. refl) h)
 act_met now h n c.Mark st = for_mark now (λ next. IsMet next.world) n (λ settled joined. h)
 act_met now h n (c.Show router) st = for_show now (λ next. IsMet next.world) router (λ r er. h)
@@ -140,25 +144,25 @@ act_met now h n (c.Show router) st = for_show now (λ next. IsMet next.world) ro
 module _ (w : WorldState) (sound : IsSound w) (orderly : Orderly w) (met : IsMet w) where
   -- a message on a wire has a receiver whose end is up
   receiver_up : (e : End) (s : EndState) → end_of w.ends e ≡ Some s → is_empty s.wire ≡ false → s.up ≡ true
-  receiver_up e s found waits = sym (ap up_of found) ∙ by (or_cases (is_router_in w e.1) (is_client_in w e.1) (sound.neighbours e.0 e.1 (ap is_some found)))
+  receiver_up e s found waits = sym (ap up_of found) ∙ by (or_cases (there_in w e.1) (is_client_in w e.1) (sound.neighbours e.0 e.1 (ap is_some found)))
     where
       on_wire : has_wire (end_of w.ends e) ≡ true
       on_wire = ap has_wire found ∙ ap not waits
 
-      unbroken : unbroken_of (end_of w.ends e) ≡ true
-      unbroken = at (unbroken_of (end_of w.ends e)) refl
+      unbroken : unbroken_at (end_of w.ends e) ≡ true
+      unbroken = at (unbroken_at (end_of w.ends e)) refl
         where
-          at : (b : Bool) → unbroken_of (end_of w.ends e) ≡ b → b ≡ true
+          at : (b : Bool) → unbroken_at (end_of w.ends e) ≡ b → b ≡ true
           at true k = refl
           at false k = absurd (true≢false (sym on_wire ∙ orderly.broken_links e k))
 
-      by : (is_router_in w e.1 ≡ true) ⊎ (is_client_in w e.1 ≡ true) → up_of (end_of w.ends e) ≡ true
+      by : (there_in w e.1 ≡ true) ⊎ (is_client_in w e.1 ≡ true) → up_of (end_of w.ends e) ≡ true
       by (inl r) = (met (turned e) (orderly.senders e r on_wire)).1 (sound.routers e.0 e.1 (ap is_some found))
       by (inr k) = orderly.clients e k unbroken
 
   -- a queued message can be taken
   taker_up : (e : End) (s : EndState) → end_of w.ends e ≡ Some s → is_empty s.queue ≡ false → (s.up ≡ true) × (s.unbroken ≡ true)
-  taker_up e s found waits = (sym (ap up_of found) ∙ up, sym (ap unbroken_of found) ∙ (met e up).0)
+  taker_up e s found waits = (sym (ap up_of found) ∙ up, sym (ap unbroken_at found) ∙ (met e up).0)
     where
       up : up_of (end_of w.ends e) ≡ true
       up = at (up_of (end_of w.ends e)) refl
@@ -193,10 +197,11 @@ marked mark None = tt
 marked mark (Some now) = for_mark now (λ next. IsMet next.world) mark (λ settled joined. met_settled now.world settled)
 
 pub rest_is_quiet : RestIsQuiet
-rest_is_quiet ls before phase rest mark cut st =
-    let refined = lines_refine ls before phase rest mark cut st in
-    (refined.0, refined.1, at_end refined.0 refined.1)
+rest_is_quiet ls before phase rest mark cut st = (m.0, m.1, at_end m.0 m.1)
   where
+    m : (m : Moment) × (reached (before ++ (mark, c.Mark) ∷ phase) ≡ Some m)
+    m = prefix_reached ls (before ++ (mark, c.Mark) ∷ phase) rest (cut ∙ sym (append_assoc before ((mark, c.Mark) ∷ phase) rest))
+
     acts : List Numbered
     acts = before ++ (mark, c.Mark) ∷ phase
 

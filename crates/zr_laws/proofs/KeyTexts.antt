@@ -16,7 +16,7 @@ use Rattle.zr_command.specs.declared.command.Command.{Command}
 use Rattle.zr_command.specs.declared.command.Command.TheVariants as command
 use Rattle.zr_language.specs.Lines.{most_line}
 use Rattle.zr_language.specs.Words.{words, is_word, is_clean, one_of, two_of, three_of, zid_at, number_at, key_of_word, key_at}
-use Rattle.zr_language.specs.Command.{router_line, client_line, link_line, up_line, break_line, down_line, sub_line, unsub_line, put_line, del_line, handle_line, take_line, run_line, mark_line, show_line, is_command, by_name, by_words, is_silent, command_of}
+use Rattle.zr_language.specs.Command.{router_line, client_line, link_line, up_line, break_line, down_line, sub_line, unsub_line, able_line, unable_line, put_line, del_line, handle_line, take_line, run_line, mark_line, show_line, is_command, by_name, by_words, is_silent, command_of}
 use Rattle.zr_language.specs.Step.{◌>>=◌}
 use Rattle.zr_network.specs.World.{End, WorldState}
 use Rattle.zr_network.specs.Acts.{outcome}
@@ -107,6 +107,19 @@ unfolding unsub_line
 unsub_text args =
     for_bind AsksKeyText (two_of args) _ (λ w ew. for_bind AsksKeyText (zid_at w.0) _ (λ client e. for_bind AsksKeyText (number_at w.1) _ (λ id ei. tt)))
 
+able_text : (complete : Bool) (args : List (List ℕ)) → IfOk (able_line complete args) AsksKeyText
+unfolding able_line
+able_text complete args =
+    for_bind AsksKeyText (three_of args) _ (λ w ew.
+    for_bind AsksKeyText (zid_at w.0) _ (λ client ec.
+    for_bind AsksKeyText (number_at w.1) _ (λ id ei.
+    for_bind AsksKeyText (key_at w.2) _ (λ key ek. key_is_text w.2 key ek))))
+
+unable_text : (args : List (List ℕ)) → IfOk (unable_line args) AsksKeyText
+unfolding unable_line
+unable_text args =
+    for_bind AsksKeyText (two_of args) _ (λ w ew. for_bind AsksKeyText (zid_at w.0) _ (λ client e. for_bind AsksKeyText (number_at w.1) _ (λ id ei. tt)))
+
 handle_text : (args : List (List ℕ)) → IfOk (handle_line args) AsksKeyText
 unfolding handle_line
 handle_text args =
@@ -126,28 +139,32 @@ unfolding mark_line
 mark_text [] = tt
 mark_text (a ∷ more) = tt
 
+-- one of two lines, by a test
+one_line : (b : Bool) (x y : Result Command ScriptError) → IfOk x AsksKeyText → IfOk y AsksKeyText → IfOk (cond b x y) AsksKeyText
+one_line true x y h k = h
+one_line false x y h k = k
+
 name_text : (name : List ℕ) (args : List (List ℕ)) → IfOk (by_name name args) AsksKeyText
 unfolding by_name
 name_text name args =
-    by (is_word name (codes "router")) (is_word name (codes "client")) (is_word name (codes "link")) (is_word name (codes "up")) (is_word name (codes "break")) (is_word name (codes "down")) (is_word name (codes "sub")) (is_word name (codes "unsub")) (is_word name (codes "put")) (is_word name (codes "del")) (is_word name (codes "handle")) (is_word name (codes "take")) (is_word name (codes "run")) (is_word name (codes "mark")) (is_word name (codes "show"))
-  where
-    by : (r c l u b d s us p de h t n m sh : Bool) → IfOk (cond r (router_line args) (cond c (client_line args) (cond l (link_line args) (cond u (up_line args) (cond b (break_line args) (cond d (down_line args) (cond s (sub_line args) (cond us (unsub_line args) (cond p (put_line args) (cond de (del_line args) (cond h (handle_line args) (cond t (take_line args) (cond n (run_line args) (cond m (mark_line args) (cond sh (show_line args) (Err UnknownCommand)))))))))))))))) AsksKeyText
-    by true c l u b d s us p de h t n m sh = router_text args
-    by false true l u b d s us p de h t n m sh = client_text args
-    by false false true u b d s us p de h t n m sh = link_text args
-    by false false false true b d s us p de h t n m sh = up_text args
-    by false false false false true d s us p de h t n m sh = break_text args
-    by false false false false false true s us p de h t n m sh = down_text args
-    by false false false false false false true us p de h t n m sh = sub_text args
-    by false false false false false false false true p de h t n m sh = unsub_text args
-    by false false false false false false false false true de h t n m sh = put_text args
-    by false false false false false false false false false true h t n m sh = del_text args
-    by false false false false false false false false false false true t n m sh = handle_text args
-    by false false false false false false false false false false false true n m sh = take_text args
-    by false false false false false false false false false false false false true m sh = run_text args
-    by false false false false false false false false false false false false false true sh = mark_text args
-    by false false false false false false false false false false false false false false true = show_text args
-    by false false false false false false false false false false false false false false false = tt
+    one_line (is_word name (codes "router")) _ _ (router_text args)
+    (one_line (is_word name (codes "client")) _ _ (client_text args)
+    (one_line (is_word name (codes "link")) _ _ (link_text args)
+    (one_line (is_word name (codes "up")) _ _ (up_text args)
+    (one_line (is_word name (codes "break")) _ _ (break_text args)
+    (one_line (is_word name (codes "down")) _ _ (down_text args)
+    (one_line (is_word name (codes "sub")) _ _ (sub_text args)
+    (one_line (is_word name (codes "unsub")) _ _ (unsub_text args)
+    (one_line (is_word name (codes "able")) _ _ (able_text false args)
+    (one_line (is_word name (codes "full")) _ _ (able_text true args)
+    (one_line (is_word name (codes "unable")) _ _ (unable_text args)
+    (one_line (is_word name (codes "put")) _ _ (put_text args)
+    (one_line (is_word name (codes "del")) _ _ (del_text args)
+    (one_line (is_word name (codes "handle")) _ _ (handle_text args)
+    (one_line (is_word name (codes "take")) _ _ (take_text args)
+    (one_line (is_word name (codes "run")) _ _ (run_text args)
+    (one_line (is_word name (codes "mark")) _ _ (mark_text args)
+    (one_line (is_word name (codes "show")) _ _ (show_text args) tt)))))))))))))))))
 
 words_text : (clean : Bool) (ws : List (List ℕ)) → IfOk (by_words clean ws) AsksKeyText
 unfolding by_words

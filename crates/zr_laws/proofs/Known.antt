@@ -1,31 +1,21 @@
--- At every moment of a script a router's tables are what the lines say: a client that is attached has one link that is up, and what
--- the router has of it, once it has heard what is still on the client's wire, is what the client has declared. `Holds` says
--- it of one name over plain values; that each act keeps it stands in `Tables`.
-use Rattle.std.proofs.Common.{◌≡◌, ℕ, Bool, true, false, List, [], ◌∷◌, ◌++◌, map, Option, Some, None, refl, ap}
-use Rattle.std.specs.Prelude.{◌==◌}
-use Rattle.std.specs.List.{flat_map, fold, list_any}
-use Rattle.std.specs.Option.{option_map}
-use Rattle.std.proofs.lemmas.Bool.{or_parts}
+-- At every moment of a script the tables of routers are what the lines say: a client that is attached has a link that is up, and what its router
+-- has of its subscriptions, once it has heard what is still on the client's wire, is what the client has declared, id by id. `Holds` says it
+-- of one name over plain values; that each act keeps it stands in `Tables`.
+use Rattle.std.proofs.Common.{◌≡◌, ℕ, Bool, true, false, List, [], ◌∷◌, ◌++◌, map, Option, Some, None}
+use Rattle.std.specs.List.{flat_map, fold}
+use Rattle.std.specs.Option.{option_map, option_map_or}
 use Rattle.std.proofs.lemmas.List.Sums.{fold-append}
 use Rattle.zr_msg.specs.declared.msg.Msg.{Msg}
 use Rattle.zr_command.specs.declared.command.Act.{Act}
-use Rattle.zr_table.specs.State.{Subscription, LinkState, link_to}
-use Rattle.zr_table.specs.Table.{undeclared}
+use Rattle.zr_routing.specs.Tables.{link_to}
 use Rattle.zr_network.specs.World.{Tagged, ClientState, RouterState, EndState, WorldState, router_of, client_of, end_of}
 use Rattle.zr_network.specs.Moments.{Numbered}
 use Rattle.zr_guarantee.specs.Broker.{Declaration, attached_by, is_attached, declared_by, declarations}
 use Rattle.zr_laws.proofs.Messages.{hear, news_of}
+use Rattle.zr_laws.proofs.Heard.{key_at}
+use Rattle.zr_laws.proofs.Said.{key_in, AreApart}
 
 -- ---- the invariant
-
--- the links of a router, if it is there
-abbrev pub links_of : Option RouterState → List LinkState
-links_of None = []
-links_of (Some r) = r.node.links
-
--- a router's subscription as a declaration
-abbrev pub as_declaration : Subscription → Declaration
-as_declaration s = record { id = s.id; key = s.key }
 
 -- the messages on a wire that change subscriptions
 abbrev pub waiting : List Tagged → List Msg
@@ -40,17 +30,22 @@ pub record EndView : Type 0 where
 abbrev pub end_view : EndState → EndView
 end_view s = record { up = s.up; unbroken = s.unbroken; on_way = waiting s.wire }
 
--- what of a client matters: its ids, its end, and its router's link to it
+-- to what a router's rows say that a neighbour subscribes under an id: to nothing, where it has no link
+abbrev pub rows_say : Option RouterState → List ℕ → ℕ → Option (List ℕ)
+rows_say None d id = None
+rows_say (Some r) d id = option_map_or (λ k. key_at r.node.rows k.link.0 id) (link_to r.node.links d) None
+
+-- what of a client matters: the ids of its subscribers, its end, and what its router's rows say of it
 pub record View : Type 0 where
   pub ids : List ℕ
   pub its_end : Option EndView
-  pub link : Option LinkState
+  pub rows : ℕ → Option (List ℕ)
 
 abbrev pub view_at : WorldState → List ℕ → ClientState → View
 view_at w d s = record {
-  ids = s.ids;
+  ids = s.subs;
   its_end = option_map end_view (end_of w.ends (s.router, d));
-  link = link_to (links_of (router_of w.routers s.router)) d;
+  rows = λ id. rows_say (router_of w.routers s.router) d id;
 }
 
 abbrev pub view_of : WorldState → List ℕ → Option ClientState → Option View
@@ -60,13 +55,12 @@ view_of w d (Some s) = Some (view_at w d s)
 abbrev pub view : WorldState → List ℕ → Option View
 view w d = view_of w d (client_of w.clients d)
 
--- a client that is attached: its link is up, and its router's subscriptions are what it has declared, once its wire is heard
+-- a client that is attached: its end is up, and its router's rows are what it has declared, once its wire is heard
 pub record Joins (said : List Declaration) (v : View) (e : EndView) : Type 0 where
   pub up : e.up ≡ true
-  pub its_link : LinkState
-  pub linked : v.link ≡ Some its_link
-  pub flow : map as_declaration (fold hear its_link.subs e.on_way) ≡ said
+  pub flow : (id : ℕ) → fold (hear id) (v.rows id) e.on_way ≡ key_in said id
   pub ids_are : v.ids ≡ map (λ s. s.id) said
+  pub apart : AreApart said
 
 -- a client that is there: it is attached until its link is broken
 pub record Stands (attached : Bool) (said : List Declaration) (v : View) : Type 0 where
@@ -82,16 +76,6 @@ Holds attached said (Some v) = Stands attached said v
 
 abbrev pub Known : List Numbered → WorldState → Type 0
 Known acts w = (d : List ℕ) → Holds (is_attached acts d) (declarations acts d) (view w d)
-
--- ---- subscriptions
-
--- a new id replaces none
-pub nothing_replaced : (rows : List Subscription) (id : ℕ) → list_any (λ y. y == id) (map (λ s. s.id) (map as_declaration rows)) ≡ false →
-    undeclared rows id ≡ rows
-nothing_replaced [] id h = refl
-nothing_replaced (s ∷ rows) id h =
-    let parts = or_parts (s.id == id) (list_any (λ y. y == id) (map (λ s. s.id) (map as_declaration rows))) h in
-    rw (parts.0) (ap (λ z. s ∷ z) (nothing_replaced rows id parts.1))
 
 -- ---- one act more
 

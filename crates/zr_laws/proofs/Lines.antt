@@ -5,10 +5,10 @@ use Rattle.zr_network.specs.Moments.{Numbered, ascends, Moment, reached}
 use Rattle.zr_network.specs.Accepted.{accepted}
 use Rattle.zr_guarantee.specs.Scripts.{LinesRefine}
 use Rattle.zr_network.proofs.Lines.{prefix_ascends, prefix_reached, lines_are_moments}
-use Rattle.zr_laws.proofs.Final.{samples_refine}
+use Rattle.zr_laws.proofs.Final.{TablesAreSettled, samples_refine}
 
-pub lines_refine : LinesRefine
-lines_refine ls before phase rest mark cut stays = (m.0, m.1, samples_refine before phase mark m.0 ascending stays m.1)
+pub lines_refine : TablesAreSettled → LinesRefine
+lines_refine agree ls before phase rest mark cut stays = (m.0, m.1, samples_refine agree before phase mark m.0 ascending stays m.1)
   where
     prefix : List Numbered
     prefix = before ++ (mark, c.Mark) ∷ phase

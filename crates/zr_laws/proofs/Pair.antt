@@ -1,30 +1,41 @@
--- One publisher and one receiver in a phase: what does not change in it (`Pair`), and what holds at each of its moments
--- (`Flows`). Its heart is one equation: what stands in the places from the receiver back to the publisher, joined, is what
--- is to be had. What has to be known of the router's tables at the mark is `IsRouted`, and nothing else of them is used.
-use Rattle.std.proofs.Common.{◌≡◌, ℕ, Bool, true, false, cond, List, [], ◌∷◌, ◌++◌, Option, Some, None, Ok, ◌∙◌, ap, append-nil}
-use Rattle.std.specs.Prelude.{◌&&◌, not, filter, is_some}
+-- One publisher and one receiver in a phase, over any number of routers: what does not change in it (`Pair`), and what holds at each of its
+-- moments (`Flows`). Its heart is one equation: what stands in the places from the receiver back to the publisher, joined, is what is to be
+-- had. Beside it stands that the publisher's messages wait only on links that lead down the tree of its router, so what a router on the way
+-- takes from another side is none of them. What has to be known of the routers' tables at the mark is `IsRouted`, and nothing else of them
+-- is used.
+use Rattle.std.proofs.Common.{◌≡◌, ℕ, Bool, true, false, cond, List, [], ◌∷◌, ◌++◌, map, Option, Some, Ok, ◌∙◌, ap, append-nil}
+use Rattle.std.specs.Prelude.{◌&&◌, ◌||◌, not, filter, is_some, if◌then◌else◌}
 use Rattle.std.specs.List.{AllByRecursion, flat_map, list_all}
 use Rattle.std.proofs.lemmas.Grind.{flat_map-append}
 use Rattle.zr_id.specs.Zid.{is_named}
 use Rattle.zr_id.specs.declared.link.LinkNo.{LinkNo}
+use Rattle.zr_tree.specs.Tree.{is_child}
 use Rattle.zr_msg.specs.declared.content.Parts.{Parts}
+use Rattle.zr_msg.specs.declared.msg.Msg.{Msg}
 use Rattle.zr_msg.specs.declared.msg.Msg.TheVariants as m
 use Rattle.zr_msg.specs.declared.event.Event.TheVariants.{From}
 use Rattle.zr_command.specs.declared.command.Act.{Act}
 use Rattle.zr_command.specs.declared.command.Act.TheVariants as c
 use Rattle.zr_command.specs.declared.report.ReportLine.{ReportLine}
-use Rattle.zr_network.specs.World.{Tagged, End, RouterState, Routers, is_calm, router_of, end_of}
+use Rattle.zr_network.specs.World.{Tagged, End, RouterState, ClientState, WorldState, is_calm, router_of, client_of, end_of}
+use Rattle.zr_network.specs.Joined.{graph}
 use Rattle.zr_network.specs.Acts.{number_to, sends_to}
 use Rattle.zr_network.specs.Moments.{Numbered, Moment}
+use Rattle.zr_network.specs.Sound.{IsSound}
 use Rattle.zr_guarantee.specs.Item.{Item}
 use Rattle.zr_guarantee.specs.Broker.{wants, publication, item_for, from}
 use Rattle.zr_guarantee.specs.Sent.{item_of, sent_in, sent_to}
-use Rattle.zr_laws.proofs.Places.{Spot, Sent, Queue, Wire, path, along}
-use Rattle.zr_laws.proofs.Ends.{queue_of, wire_of}
+use Rattle.zr_laws.proofs.Places.{Spot, Sent, Queue, Wire, AtEach, path, along}
+use Rattle.zr_settled.proofs.Worlds.{queue_at, wire_at}
+use Rattle.zr_laws.proofs.Pushes.{names_tree}
 
 -- the samples among the messages that wait
 abbrev pub items : List Tagged → List Item
 items xs = flat_map (λ x. item_of x.msg x.tag) xs
+
+-- messages with one tag
+abbrev pub all_tagged : ℕ → List Msg → List Tagged
+all_tagged tag ms = map (λ z. record { msg = z; tag = tag }) ms
 
 -- a publisher and a receiver, any names, and what no step of the phase changes
 pub record Pair : Type 0 where
@@ -33,10 +44,12 @@ pub record Pair : Type 0 where
   pub by : ℕ → Bool
   pub publisher : List ℕ
   pub receiver : List ℕ
-  pub routers : Routers
-  -- the router on the way, and whether it has an end towards the receiver
-  pub router : List ℕ
-  pub has_end : Bool
+  -- the world at the mark
+  pub world : WorldState
+  -- the publisher's router, and the routers on the way from the receiver's, the first, to it
+  pub root : List ℕ
+  pub first : List ℕ
+  pub more : List (List ℕ)
 
 -- the items that are the publisher's
 abbrev pub of_publisher : Pair → List Item → List Item
@@ -46,35 +59,87 @@ of_publisher p xs = filter (λ i. p.by i.line) xs
 abbrev pub wanted_of : Pair → List Item → List Item
 wanted_of p xs = filter (λ i. p.by i.line && wants p.before p.publisher p.receiver i.content.key) xs
 
--- the publisher's items at a place; behind the last router's choice all that are there, before it those for the receiver
+-- of what is queued for the receiver all that are there, since the choice is behind it, and of what is queued for others those for the receiver
+abbrev pub kept_for : Pair → List ℕ → List Item → List Item
+kept_for p to xs = if is_named p.receiver to then of_publisher p xs else wanted_of p xs
+
+-- the publisher's items at a place
 abbrev pub held : Pair → Moment → Spot → List Item
 held p m (Sent to) = of_publisher p (sent_to m.report to)
-held p m (Queue at to) = of_publisher p (items (queue_of (end_of m.world.ends (at, to))))
-held p m (Wire at source) = wanted_of p (items (wire_of (end_of m.world.ends (at, source))))
+held p m (Queue at to) = kept_for p to (items (queue_at (end_of m.world.ends (at, to))))
+held p m (Wire at source) = wanted_of p (items (wire_at (end_of m.world.ends (at, source))))
 
 -- the places from what the receiver was sent back to the publisher's wire
 abbrev pub way : Pair → List Spot
-way p = path p.receiver (p.router ∷ []) p.publisher
+way p = path p.receiver (p.first ∷ p.more) p.publisher
+
+-- ---- down the tree
+
+abbrev pub has_router : Pair → List ℕ → Bool
+has_router p x = is_some (router_of p.world.routers x)
+
+-- y is the next one from the router x toward the publisher: of the publisher's router the publisher itself, of another one its parent
+abbrev pub leads : Pair → List ℕ → List ℕ → Bool
+leads p x y = if is_named p.root x then is_named p.publisher y else is_child (graph p.world) p.root y x
+
+-- a message may be the publisher's on its way from y to the router x: it comes down the tree, and names it where it comes from a router
+abbrev pub comes_down : Pair → List ℕ → List ℕ → Msg → Bool
+comes_down p x y msg = leads p x y && (is_named p.root x || names_tree p.root msg)
+
+-- a message on its way from y to the router x is none of the publisher's, or comes down the tree
+abbrev pub fits : Pair → List ℕ → List ℕ → Tagged → Bool
+fits p x y t = not (p.by t.tag) || comes_down p x y t.msg
 
 -- what holds at a moment, where `done` are the lines of the phase so far
 pub record Flows (p : Pair) (done : List Numbered) (m : Moment) : Type 0 where
-  pub routers_is : m.world.routers ≡ p.routers
-  -- all ends are the router's, and lead to others
-  pub home : (e : End) → is_some (end_of m.world.ends e) ≡ true → (is_named p.router e.0 ≡ true) × (is_named p.router e.1 ≡ false)
-  pub end_is : is_some (end_of m.world.ends (p.router, p.receiver)) ≡ p.has_end
+  pub routers_is : m.world.routers ≡ p.world.routers
+  pub clients_is : m.world.clients ≡ p.world.clients
+  pub ends_are : (e : End) → is_some (end_of m.world.ends e) ≡ is_some (end_of p.world.ends e)
   -- nothing under way unsettles
-  pub calm : (e : End) → list_all is_calm (wire_of (end_of m.world.ends e)) ≡ true
-  -- the publisher's lines are on the publisher's wire alone
-  pub others : (e : End) → is_named p.publisher e.1 ≡ false → list_all (λ x. not (p.by x.tag)) (wire_of (end_of m.world.ends e)) ≡ true
+  pub calm : (e : End) → list_all is_calm (wire_at (end_of m.world.ends e)) ≡ true
+  pub calm_queues : (e : End) → list_all is_calm (queue_at (end_of m.world.ends e)) ≡ true
+  -- the publisher's messages wait only on links that lead down the tree
+  pub wires : (x y : List ℕ) → list_all (fits p x y) (wire_at (end_of m.world.ends (x, y))) ≡ true
+  pub queues : (x z : List ℕ) → has_router p z ≡ true → list_all (fits p z x) (queue_at (end_of m.world.ends (x, z))) ≡ true
   -- all that is to be had stands in the places, the oldest nearest to the receiver
   pub flow : along (held p m) (way p) ≡ from p.before done p.publisher p.receiver
 
--- what has to be known of tables: what of the publisher's router sends to the receiver is what is for it
+-- ---- what has to be known of tables
+
+-- a sample goes on at most once, and it does so where the receiver is to have it; to the receiver itself nowhere else
+pub record IsSentOn (p : Pair) (to : List ℕ) (content : Parts) (ms : List Msg) : Type 0 where
+  pub goes : Bool
+  pub tree : Option (List ℕ)
+  pub sent_is : ms ≡ cond goes (m.Push tree content ∷ []) []
+  pub where_wanted : wants p.before p.publisher p.receiver content.key ≡ true → goes ≡ true
+  pub to_receiver : is_named p.receiver to ≡ true → goes ≡ wants p.before p.publisher p.receiver content.key
+
+-- a router on the way, between the next one toward the receiver and the next one toward the publisher
+pub record OnWay (p : Pair) (to r s : List ℕ) : Type 0 where
+  pub end_is : is_some (end_of p.world.ends (r, to)) ≡ true
+  pub only : (y : List ℕ) → leads p r y ≡ true → y ≡ s
+  pub last : is_named p.publisher s ≡ true → is_named p.root r ≡ true
+  pub routes : (rr : RouterState) → router_of p.world.routers r ≡ Some rr → (l : LinkNo) → number_to rr s ≡ Ok l → (tree : Option (List ℕ)) (content : Parts) →
+      comes_down p r s (m.Push tree content) ≡ true → IsSentOn p to content (sends_to rr.node (From l (m.Push tree content)) to)
+
+-- and a router with the next one, which is a router too
+pub record Between (p : Pair) (r s : List ℕ) : Type 0 where
+  pub end_is : is_some (end_of p.world.ends (r, s)) ≡ true
+  pub router : has_router p s ≡ true
+
 pub record IsRouted (p : Pair) : Type 0 where
-  pub wanted : (name : List ℕ) (r : RouterState) → router_of p.routers name ≡ Some r → (l : LinkNo) → number_to r p.publisher ≡ Ok l →
-      (tree : Option (List ℕ)) (content : Parts) →
-      sends_to r.node (From l (m.Push tree content)) p.receiver ≡ cond (wants p.before p.publisher p.receiver content.key) (m.Push None content ∷ []) []
-  pub absent : p.has_end ≡ false → (key : List ℕ) → wants p.before p.publisher p.receiver key ≡ false
+  pub sound : IsSound p.world
+  pub publisher_apart : has_router p p.publisher ≡ false
+  pub receiver_apart : has_router p p.receiver ≡ false
+  pub clients_apart : (name : List ℕ) → is_some (client_of p.world.clients name) ≡ true → has_router p name ≡ false
+  pub home : (s : ClientState) → client_of p.world.clients p.publisher ≡ Some s → s.router ≡ p.root
+  pub receiver_home : (x : List ℕ) → is_some (end_of p.world.ends (x, p.receiver)) ≡ true → x ≡ p.first
+  -- what comes down the tree goes on down the tree
+  pub goes_down : (x y z : List ℕ) (r : RouterState) → router_of p.world.routers x ≡ Some r → (l : LinkNo) → number_to r y ≡ Ok l → (tree : Option (List ℕ)) (content : Parts) →
+      comes_down p x y (m.Push tree content) ≡ true → has_router p z ≡ true → list_all (comes_down p z x) (sends_to r.node (From l (m.Push tree content)) z) ≡ true
+  pub whole_way : AtEach (OnWay p) (Between p) p.receiver (p.first ∷ p.more) p.publisher
+
+-- ---- lines of a phase
 
 -- a line's number is one of the publisher's exactly where the publisher's client publishes there
 abbrev pub Agrees : Pair → ℕ → Act → Type 0
@@ -86,6 +151,8 @@ Agrees p n (c.Break router neighbour) = Unit {0}
 Agrees p n (c.Down router neighbour) = Unit {0}
 Agrees p n (c.Sub client id key) = Unit {0}
 Agrees p n (c.Unsub client id) = Unit {0}
+Agrees p n (c.Able client id key complete) = Unit {0}
+Agrees p n (c.Unable client id) = Unit {0}
 Agrees p n (c.Publish client content) = p.by n ≡ is_named p.publisher client
 Agrees p n (c.Handle router from) = Unit {0}
 Agrees p n (c.Take router to) = Unit {0}

@@ -1,23 +1,24 @@
 -- The flow is kept over a whole phase: by each act that may stand in it, and so by any number of them. A refused step
--- leads to no moment, and owes nothing; a declaration that is handled cannot be there.
-use Rattle.std.proofs.Common.{◌≡◌, ℕ, true, List, [], ◌∷◌, ◌++◌, Option, Some, Ok, sym, ap, ◌∙◌}
+-- leads to no moment, and owes nothing; a message that unsettles cannot be there to be handled.
+use Rattle.std.proofs.Common.{◌≡◌, ℕ, true, false, List, [], ◌∷◌, ◌++◌, Option, Some, Ok, sym, ap, ◌∙◌}
 use Rattle.std.specs.Prelude.{IfSome}
 use Rattle.std.specs.List.{AllByRecursion, list_all, fold}
-use Rattle.std.proofs.lemmas.Bool.{false≢true, and_parts}
+use Rattle.std.proofs.lemmas.Bool.{false≢true, and_parts, not-true}
 use Rattle.zr_id.specs.declared.link.LinkNo.{LinkNo}
 use Rattle.zr_msg.specs.declared.msg.Msg.{Msg}
 use Rattle.zr_command.specs.declared.command.Act.{Act}
 use Rattle.zr_command.specs.declared.command.Act.TheVariants as c
-use Rattle.zr_network.specs.World.{Tagged, EndState, RouterState, is_taken, router_of, end_of, is_calm}
+use Rattle.zr_network.specs.World.{Tagged, EndState, RouterState, router_of, end_of, is_calm, unsettles}
 use Rattle.zr_network.specs.Acts.{number_to, outcome}
 use Rattle.zr_network.specs.Moments.{Numbered, Moment, went, onward}
 use Rattle.zr_guarantee.specs.Phase.{stays, is_phase}
 use Rattle.zr_network.proofs.Cases.{on_handle, for_publish, for_handle, for_take, for_mark, for_show}
-use Rattle.zr_laws.proofs.Ends.{wire_of}
+use Rattle.zr_settled.proofs.Worlds.{wire_at}
 use Rattle.zr_laws.proofs.Folds.{after_all}
 use Rattle.zr_laws.proofs.Pair.{Pair, Flows, IsRouted, Agrees, AllAgree}
-use Rattle.zr_laws.proofs.Messages.{by_kind}
-use Rattle.zr_laws.proofs.Steps.{publish_keeps, take_keeps, mark_keeps, show_keeps, silent_keeps, push_keeps}
+use Rattle.zr_laws.proofs.Messages.{by_calm}
+use Rattle.zr_laws.proofs.Steps.{publish_keeps, take_keeps, mark_keeps, show_keeps}
+use Rattle.zr_laws.proofs.Handles.{silent_keeps, push_keeps}
 
 module _ (p : Pair) (routed : IsRouted p) where
   act_flows : (done : List Numbered) (now : Moment) → Flows p done now → (n : ℕ) (act : Act) → stays act ≡ true → Agrees p n act →
@@ -31,30 +32,30 @@ module _ (p : Pair) (routed : IsRouted p) where
   act_flows done now h n (c.Down router name) st ag = absurd (false≢true st)
   act_flows done now h n (c.Sub client id key) st ag = absurd (false≢true st)
   act_flows done now h n (c.Unsub client id) st ag = absurd (false≢true st)
+  act_flows done now h n (c.Able client id key complete) st ag = absurd (false≢true st)
+  act_flows done now h n (c.Unable client id) st ag = absurd (false≢true st)
   act_flows done now h n (c.Publish client content) st ag =
-      for_publish now (Flows p (done ++ (n, c.Publish client content) ∷ [])) n client content (λ s es e ee unbroken alone. publish_keeps p done now h n client content ag s e ee)
-  act_flows done now h n (c.Handle router name) st ag = for_handle now (Flows p (done ++ (n, c.Handle router name) ∷ [])) router name by_message
+      for_publish now (Flows p (done ++ (n, c.Publish client content) ∷ [])) n client content (λ s es e ee unbroken. publish_keeps p routed done now h n client content ag s es e ee)
+  act_flows done now h n (c.Handle router name) st ag = for_handle now (Flows p (done ++ (n, c.Handle router name) ∷ [])) router name
+      (λ r er there s es up msg tag xs front l el taken. by_message r er s es msg tag xs front l el)
     where
-      by_message : (r : RouterState) → router_of now.world.routers router ≡ Some r → is_taken now.world name ≡ true → (s : EndState) → end_of now.world.ends (router, name) ≡ Some s → s.up ≡ true →
+      by_message : (r : RouterState) → router_of now.world.routers router ≡ Some r → (s : EndState) → end_of now.world.ends (router, name) ≡ Some s →
           (msg : Msg) (tag : ℕ) (xs : List Tagged) → s.wire ≡ record { msg = msg; tag = tag } ∷ xs → (l : LinkNo) → number_to r name ≡ Ok l →
           Flows p (done ++ (n, c.Handle router name) ∷ []) (on_handle now router name r s l msg tag xs)
-      by_message r er there s es up msg tag xs front l el =
-          by_kind (λ z. s.wire ≡ record { msg = z; tag = tag } ∷ xs → is_calm (record { msg = z; tag = tag }) ≡ true → Flows p (done ++ (n, c.Handle router name) ∷ []) (on_handle now router name r s l z tag xs))
-          (λ id key f k. absurd (false≢true k))
-          (λ id f k. absurd (false≢true k))
-          (λ tree content f k. push_keeps p done now h routed n router name r er s es l el tree content tag xs f)
-          (λ told f k. absurd (false≢true k))
-          (λ z silent f k. silent_keeps p done now h n router name r er s es l z tag xs f silent)
-          msg front calm
+      by_message r er s es msg tag xs front l el =
+          by_calm (λ z. s.wire ≡ record { msg = z; tag = tag } ∷ xs → Flows p (done ++ (n, c.Handle router name) ∷ []) (on_handle now router name r s l z tag xs))
+          (λ tree content f. push_keeps p routed done now h n router name r er s es l el tree content tag xs f)
+          (λ z silent f. silent_keeps p routed done now h n router name r er s es l z tag xs f silent)
+          msg calm front
         where
           -- no message that unsettles is on a wire in a phase
-          calm : is_calm (record { msg = msg; tag = tag }) ≡ true
-          calm = (and_parts (is_calm (record { msg = msg; tag = tag })) (list_all is_calm xs)
-              (sym (ap (λ o. list_all is_calm (wire_of o)) es ∙ ap (list_all is_calm) front) ∙ h.calm (router, name))).0
+          calm : unsettles msg ≡ false
+          calm = not-true (unsettles msg) (and_parts (is_calm (record { msg = msg; tag = tag })) (list_all is_calm xs)
+              (sym (ap (λ o. list_all is_calm (wire_at o)) es ∙ ap (list_all is_calm) front) ∙ h.calm (router, name))).0
   act_flows done now h n (c.Take router to) st ag = for_take now (Flows p (done ++ (n, c.Take router to) ∷ [])) router to
-      (λ r er there s es up unbroken msg tag xs front. take_keeps p done now h n router to s es msg tag xs front)
-  act_flows done now h n c.Mark st ag = for_mark now (Flows p (done ++ (n, c.Mark) ∷ [])) n (λ settled joined. mark_keeps p done now h n)
-  act_flows done now h n (c.Show router) st ag = for_show now (Flows p (done ++ (n, c.Show router) ∷ [])) router (λ r er. show_keeps p done now h n router r)
+      (λ r er there s es up unbroken msg tag xs front. take_keeps p routed done now h n router to s es msg tag xs front)
+  act_flows done now h n c.Mark st ag = for_mark now (Flows p (done ++ (n, c.Mark) ∷ [])) n (λ settled joined. mark_keeps p routed done now h n)
+  act_flows done now h n (c.Show router) st ag = for_show now (Flows p (done ++ (n, c.Show router) ∷ [])) router (λ r er. show_keeps p routed done now h n router r)
 
   -- over a phase
   pub phase_keeps : (phase : List Numbered) (o : Option Moment) → IfSome o (Flows p []) → is_phase phase ≡ true → AllAgree p phase → IfSome (fold onward o phase) (Flows p phase)

@@ -1,38 +1,57 @@
--- At an accepted mark the flow begins: nothing under way has a tag of the phase, no declaration is under way, so the
--- router's subscriptions are what the clients have declared, and it sends a sample to a client exactly where the one broker does.
-use Rattle.std.proofs.Common.{◌≡◌, ℕ, Bool, true, false, cond, List, [], ◌∷◌, ◌++◌, map, Option, Some, None, Ok, ◌<◌, refl, sym, ap, ◌∙◌, subst, arith}
-use Rattle.std.specs.Prelude.{◌==◌, ◌&&◌, ◌||◌, not, nat_lt, filter, is_some, IfSome}
+-- At an accepted mark the flow begins: nothing under way has a tag of the phase, no declaration is under way, so the routers' rows are what the
+-- clients have declared, and the routers' tables agree (`AreSettled`, which is shown of settled worlds elsewhere).
+use Rattle.std.proofs.Common.{◌≡◌, ℕ, Bool, true, false, List, [], ◌∷◌, ◌++◌, Option, Some, None, ◌<◌, refl, sym, ap, ◌∙◌, subst, arith}
+use Rattle.std.specs.Prelude.{◌&&◌, ◌||◌, not, nat_lt, filter, is_some, IfSome}
 use Rattle.std.specs.List.{fold, list_all, list_any}
 use Rattle.std.specs.Option.{option_map, option_map_or}
-use Rattle.std.proofs.lemmas.Bool.{false≢true, true≢false, and_parts, and_left, and_right, not_from_false, ltb-true, eqb-true, eq-eqb}
+use Rattle.std.proofs.lemmas.Bool.{false≢true, true≢false, and_parts, and_left, and_right, or_left, not_from_false, ltb-true}
 use Rattle.zr_id.specs.Zid.{is_named}
-use Rattle.zr_id.specs.declared.link.LinkNo.{LinkNo}
-use Rattle.zr_msg.specs.declared.content.Parts.{Parts}
-use Rattle.zr_msg.specs.declared.msg.Msg.{Msg}
-use Rattle.zr_msg.specs.declared.msg.Msg.TheVariants as m
-use Rattle.zr_msg.specs.declared.event.Event.TheVariants.{From}
-use Rattle.zr_table.specs.State.{Subscription, LinkState, is_router, link_at, link_to, leads_to_client}
-use Rattle.zr_table.specs.Table.{is_for, subscribes, is_other_subscriber, sends_push}
-use Rattle.zr_network.specs.World.{Tagged, EndState, End, Routers, RouterState, ClientState, WorldState, router_of, client_of, end_of, is_up, unsettles, is_calm, is_calm_end, is_met, is_settled}
-use Rattle.zr_network.specs.Acts.{number_to, sends_to}
+use Rattle.zr_tree.specs.Laws.{IsGraph}
+use Rattle.zr_tree.specs.Walk.{graph_of}
+use Rattle.zr_tree.specs.Tree.{reached}
+use Rattle.zr_msg.specs.declared.peer.LinkPeer.{LinkPeer}
+use Rattle.zr_local.specs.Rows.{declared_set}
+use Rattle.zr_log.specs.Known.{decls}
+use Rattle.zr_routing.specs.Tables.{link_to}
+use Rattle.zr_routing.specs.Samples.{subscribes}
+use Rattle.zr_network.specs.World.{Tagged, EndState, End, RouterState, ClientState, WorldState, router_of, client_of, end_of, is_up, unsettles, is_calm, is_calm_end, is_met, is_settled}
+use Rattle.zr_network.specs.Joined.{graph}
 use Rattle.zr_network.specs.Moments.{Numbered, ascends, Moment}
-use Rattle.zr_network.specs.Sound.{IsSound}
 use Rattle.zr_guarantee.specs.Broker.{is_attached, declarations, asks_for, wants, is_line_of}
 use Rattle.zr_guarantee.specs.Sent.{item_of, sent_to}
-use Rattle.zr_network.proofs.Keyed.{found_entry, there}
-use Rattle.zr_network.proofs.Names.{names, same_name}
+use Rattle.zr_network.proofs.Keyed.{found_entry}
 use Rattle.zr_network.proofs.Ends.{end_order, same_end}
-use Rattle.zr_network.proofs.Links.{named_link, numbered_link}
-use Rattle.zr_network.proofs.Cases.{number_found}
+use Rattle.zr_network.proofs.Fits.{up_of}
 use Rattle.zr_network.proofs.Lists.{filter_none_of_all, weaker, all_both}
-use Rattle.zr_laws.proofs.Ends.{queue_of, wire_of}
+use Rattle.zr_laws.proofs.Places.{hops, along, bare}
+use Rattle.zr_settled.proofs.Worlds.{queue_at, wire_at}
 use Rattle.zr_laws.proofs.Watch.{Passes}
-use Rattle.zr_laws.proofs.Pair.{Pair, items, Flows, IsRouted}
+use Rattle.zr_laws.proofs.Pair.{Pair, items, fits, comes_down, held, OnWay, Between, Flows, IsRouted}
+use Rattle.zr_laws.proofs.Held.{foreign_wanted, foreign_kept}
 use Rattle.zr_laws.proofs.Numbers.{none_later}
 use Rattle.zr_laws.proofs.Tags.{Tags, item_tag}
-use Rattle.zr_laws.proofs.Alone.{IsSingle}
-use Rattle.zr_laws.proofs.Messages.{hear, news_of, by_kind}
-use Rattle.zr_laws.proofs.Known.{links_of, as_declaration, waiting, end_view, View, view_at, view_of, Joins, Stands, Holds, Known}
+use Rattle.zr_laws.proofs.Messages.{hear, news_of, by_calm}
+use Rattle.zr_laws.proofs.Heard.{key_at}
+use Rattle.zr_laws.proofs.Said.{key_in}
+use Rattle.zr_laws.proofs.Asking.{rows_ask}
+use Rattle.zr_laws.proofs.Known.{waiting, EndView, end_view, rows_say, View, view_at, view_of, Joins, Stands, Holds}
+use Rattle.zr_laws.proofs.Always.{Always}
+use Rattle.zr_laws.proofs.Routed.{AreReady, pair_of, routed}
+
+-- what is known of the tables of a settled world whose routers are joined: each reaches each, has the graph of the world, and knows what the
+-- clients of each have declared
+pub record AreSettled (w : WorldState) : Type 0 where
+  pub is_graph : IsGraph (graph w)
+  pub reaches : (x z : List ℕ) → is_some (router_of w.routers x) ≡ true → is_some (router_of w.routers z) ≡ true → reached (graph w) x z ≡ true
+  pub graphs : (x : List ℕ) (r : RouterState) → router_of w.routers x ≡ Some r → graph_of r.node.base.records ≡ graph w
+  pub logs : (x z : List ℕ) (rx rz : RouterState) → router_of w.routers x ≡ Some rx → router_of w.routers z ≡ Some rz → decls rx.node.known z ≡ declared_set rz.node.rows
+
+-- what is known of a moment right after a mark
+pub record Marked (before : List Numbered) (mark : ℕ) (now : Moment) : Type 0 where
+  pub always : Always before now
+  pub tags : Tags (λ i. nat_lt i mark) now
+  pub settled : is_settled now.world ≡ true
+  pub tables : AreSettled now.world
 
 -- ---- plain lists
 
@@ -48,76 +67,35 @@ none_waits : (ws : List Tagged) → list_all is_calm ws ≡ true → waiting ws 
 none_waits [] h = refl
 none_waits (x ∷ xs) h =
     let parts = and_parts (is_calm x) (list_all is_calm xs) h in
-    ap (λ z. z ++ waiting xs) (no_news x.msg parts.0) ∙ none_waits xs parts.1
+    ap (λ z. z ++ waiting xs) (by_calm (λ z. news_of z ≡ []) (λ tree content. refl) (λ z silent. silent.no_news) x.msg (calm (unsettles x.msg) parts.0)) ∙ none_waits xs parts.1
   where
-    no_news : (msg : Msg) → not (unsettles msg) ≡ true → news_of msg ≡ []
-    no_news msg = by_kind (λ z. not (unsettles z) ≡ true → news_of z ≡ []) (λ id key k. absurd (false≢true k)) (λ id k. absurd (false≢true k)) (λ tree content k. refl) (λ told k. refl)
-        (λ z silent k. silent.no_news) msg
-
--- subscriptions and declarations ask alike
-rows_ask : (key : List ℕ) (rows : List Subscription) → list_any (λ s. asks_for key s) (map as_declaration rows) ≡ list_any (λ s. is_for key s) rows
-rows_ask key [] = refl
-rows_ask key (s ∷ rows) = ap (λ z. is_for key s || z) (rows_ask key rows)
+    calm : (b : Bool) → not b ≡ true → b ≡ false
+    calm true k = absurd (false≢true k)
+    calm false k = refl
 
 -- what passes at an end
-pub wire_passes : (t : Tagged → Bool) (o : Option EndState) → IfSome o (Passes t) → list_all t (wire_of o) ≡ true
+pub wire_passes : (t : Tagged → Bool) (o : Option EndState) → IfSome o (Passes t) → list_all t (wire_at o) ≡ true
 wire_passes t None h = refl
 wire_passes t (Some s) h = h.0
 
-pub queue_passes : (t : Tagged → Bool) (o : Option EndState) → IfSome o (Passes t) → list_all t (queue_of o) ≡ true
+pub queue_passes : (t : Tagged → Bool) (o : Option EndState) → IfSome o (Passes t) → list_all t (queue_at o) ≡ true
 queue_passes t None h = refl
 queue_passes t (Some s) h = h.1
 
--- ---- the one router
-
--- its name
-abbrev pub first_name : Routers → List ℕ
-first_name [] = []
-first_name (e ∷ es) = e.0
-
-first_there : (routers : Routers) (x : List ℕ) → is_some (router_of routers x) ≡ true → is_some (router_of routers (first_name routers)) ≡ true
-first_there [] x h = absurd (false≢true h)
-first_there (e ∷ es) x h = ap (λ b. is_some (cond b (Some e.1) (router_of es e.0))) (names.refl e.0)
-
--- the publisher and the receiver, with what the world has of them at the mark
-abbrev pub pair_of : List Numbered → List Numbered → List ℕ → List ℕ → Moment → Pair
-pair_of before phase publisher receiver now = record {
-  before = before;
-  by = λ t. is_line_of phase publisher t;
-  publisher = publisher;
-  receiver = receiver;
-  routers = now.world.routers;
-  router = first_name now.world.routers;
-  has_end = is_some (end_of now.world.ends (first_name now.world.routers, receiver));
-}
-
--- what is known of a moment right after a mark
-pub record Marked (before : List Numbered) (mark : ℕ) (now : Moment) : Type 0 where
-  pub sound : IsSound now.world
-  pub known : Known before now.world
-  pub tags : Tags (λ i. nat_lt i mark) now
-  pub settled : is_settled now.world ≡ true
-
-module _ (before phase : List Numbered) (mark : ℕ) (later : ascends mark phase ≡ true) (now : Moment) (h : Marked before mark now) (single : IsSingle now.world) (publisher receiver : List ℕ) where
+module _ (before : List Numbered) (mark : ℕ) (now : Moment) (h : Marked before mark now) where
   abbrev w : WorldState
   w = now.world
-
-  sound : IsSound now.world
-  sound = h.sound
-
-  first_is : (x : List ℕ) → is_some (router_of w.routers x) ≡ true → is_named (first_name w.routers) x ≡ true
-  first_is x k = single (first_name w.routers) x (first_there w.routers x k) k
 
   -- what is settled of an end
   settled_end : (e : End) (s : EndState) → end_of w.ends e ≡ Some s → (is_met w e s ≡ true) × (is_calm_end s ≡ true)
   settled_end e s found = and_parts (is_met w e s) (is_calm_end s) (found_entry end_order same_end (λ x. is_met w x.0 x.1 && is_calm_end x.1) w.ends e s h.settled found)
 
-  calm_wire : (e : End) → list_all is_calm (wire_of (end_of w.ends e)) ≡ true
-  calm_wire e = by (end_of w.ends e) refl
+  calm_end : (e : End) → (list_all is_calm (wire_at (end_of w.ends e)) ≡ true) × (list_all is_calm (queue_at (end_of w.ends e)) ≡ true)
+  calm_end e = by (end_of w.ends e) refl
     where
-      by : (o : Option EndState) → end_of w.ends e ≡ o → list_all is_calm (wire_of o) ≡ true
-      by None k = refl
-      by (Some s) k = (and_parts (list_all is_calm s.wire) (list_all is_calm s.queue) (settled_end e s k).1).0
+      by : (o : Option EndState) → end_of w.ends e ≡ o → (list_all is_calm (wire_at o) ≡ true) × (list_all is_calm (queue_at o) ≡ true)
+      by None k = (refl, refl)
+      by (Some s) k = and_parts (list_all is_calm s.wire) (list_all is_calm s.queue) (settled_end e s k).1
 
   -- an end that is up is that of an unbroken link
   unbroken_up : (e : End) (s : EndState) → end_of w.ends e ≡ Some s → s.up ≡ true → s.unbroken ≡ true
@@ -129,205 +107,137 @@ module _ (before phase : List Numbered) (mark : ℕ) (later : ascends mark phase
 
   -- ---- clients
 
-  known_none : (d : List ℕ) → client_of w.clients d ≡ None → is_attached before d ≡ false
-  known_none d e = (subst (λ (v : Option View). Holds (is_attached before d) (declarations before d) v) (ap (view_of w d) e) (h.known d)).0
-
   known_of : (d : List ℕ) (s : ClientState) → client_of w.clients d ≡ Some s → Stands (is_attached before d) (declarations before d) (view_at w d s)
-  known_of d s e = subst (λ (v : Option View). Holds (is_attached before d) (declarations before d) v) (ap (view_of w d) e) (h.known d)
+  known_of d s e = subst (λ (v : Option View). Holds (is_attached before d) (declarations before d) v) (ap (view_of w d) e) (h.always.known d)
 
-  home_of : (d : List ℕ) (s : ClientState) → client_of w.clients d ≡ Some s → (x : List ℕ) → is_some (router_of w.routers x) ≡ true → s.router ≡ x
-  home_of d s e x k = same_name s.router x (single s.router x (sound.routers s.router d (sound.clients d s e)) k)
+  known_none : (d : List ℕ) → client_of w.clients d ≡ None → is_attached before d ≡ false
+  known_none d e = (subst (λ (v : Option View). Holds (is_attached before d) (declarations before d) v) (ap (view_of w d) e) (h.always.known d)).0
+
+  -- a client's end
+  client_end : (d : List ℕ) (s : ClientState) (e : client_of w.clients d ≡ Some s) → (z : EndState) × (end_of w.ends (s.router, d) ≡ Some z) × ((known_of d s e).its_end ≡ end_view z)
+  client_end d s e = by (end_of w.ends (s.router, d)) refl (known_of d s e).found
+    where
+      by : (o : Option EndState) → end_of w.ends (s.router, d) ≡ o → option_map end_view o ≡ Some (known_of d s e).its_end →
+          (z : EndState) × (end_of w.ends (s.router, d) ≡ Some z) × ((known_of d s e).its_end ≡ end_view z)
+      by None k f = absurd (false≢true (ap is_some f))
+      by (Some z) k f = let one : Some (end_view z) ≡ Some (known_of d s e).its_end = f in (z, k, cc)
+
+  pub ready : AreReady before now.world
+  ready = record {
+    sound = h.always.sound;
+    apart = h.always.homes.apart;
+    homes = h.always.homes.ends;
+    is_graph = h.tables.is_graph;
+    reaches = h.tables.reaches;
+    graphs = h.tables.graphs;
+    logs = h.tables.logs;
+    linked = λ d s e attached.
+        let z = client_end d s e in
+        ap (λ o. option_map_or (λ (x : EndState). x.up) o false) z.1 ∙ ap (λ (v : EndView). v.up) (sym z.2) ∙ ((known_of d s e).joins attached).up;
+    asked = asked;
+  }
+    where
+      asked : (d : List ℕ) (s : ClientState) (r : RouterState) (k : LinkPeer) → client_of w.clients d ≡ Some s → is_attached before d ≡ true →
+          router_of w.routers s.router ≡ Some r → link_to r.node.links d ≡ Some k → (key : List ℕ) → subscribes r.node.rows k.link.0 key ≡ list_any (λ x. asks_for key x) (declarations before d)
+      asked d s r k e attached er ek key = rows_ask r.node.rows k.link.0 (declarations before d) (h.always.homes.tidy s.router r er).in_order same j.apart key
+        where
+          j : Joins (declarations before d) (view_at w d s) (known_of d s e).its_end
+          j = (known_of d s e).joins attached
+
+          nothing_waits : (known_of d s e).its_end.on_way ≡ []
+          nothing_waits =
+              let z = client_end d s e in
+              ap (λ (v : EndView). v.on_way) z.2 ∙ none_waits z.0.wire (sym (ap (λ o. list_all is_calm (wire_at o)) z.1) ∙ (calm_end (s.router, d)).0)
+
+          same : (id : ℕ) → key_at r.node.rows k.link.0 id ≡ key_in (declarations before d) id
+          same id =
+              sym (ap (λ o. rows_say o d id) er ∙ ap (λ o. option_map_or (λ (x : LinkPeer). key_at r.node.rows x.link.0 id) o None) ek)
+              ∙ sym (ap (fold (hear id) (rows_say (router_of w.routers s.router) d id)) nothing_waits) ∙ j.flow id
+
+  -- to who is neither a router nor attached no end is up
+  pub detached : (d : List ℕ) → is_some (router_of w.routers d) ≡ false → is_attached before d ≡ false → (x : List ℕ) → up_of (end_of w.ends (x, d)) ≡ false
+  detached d no_router gone x = by (end_of w.ends (x, d)) refl
+    where
+      taken : is_some (end_of w.ends (x, d)) ≡ true → is_some (client_of w.clients d) ≡ true
+      taken k = sym (ap (λ b. b || is_some (client_of w.clients d)) no_router) ∙ h.always.sound.neighbours x d k
+
+      cut : (s : ClientState) → client_of w.clients d ≡ Some s → (z : EndState) → end_of w.ends (x, d) ≡ Some z → z.unbroken ≡ false
+      cut s e z k =
+          let its = client_end d s e in
+          let home : x ≡ s.router = h.always.homes.ends d x s e (ap is_some k) in
+          let one : Some z ≡ Some its.0 = sym k ∙ ap (λ v. end_of w.ends (v, d)) home ∙ its.1 in
+          let is : z ≡ its.0 = cc in
+          ap (λ (v : EndState). v.unbroken) is ∙ ap (λ (v : EndView). v.unbroken) (sym its.2) ∙ (known_of d s e).unbroken ∙ gone
+
+      at : (z : EndState) → end_of w.ends (x, d) ≡ Some z → (o : Option ClientState) → client_of w.clients d ≡ o → (b : Bool) → z.up ≡ b → b ≡ false
+      at z k o e false u = refl
+      at z k None e true u = absurd (true≢false (sym (taken (ap is_some k)) ∙ ap is_some e))
+      at z k (Some s) e true u = absurd (true≢false (sym (unbroken_up (x, d) z k u) ∙ cut s e z k))
+
+      by : (o : Option EndState) → end_of w.ends (x, d) ≡ o → up_of o ≡ false
+      by None k = refl
+      by (Some z) k = at z k (client_of w.clients d) refl z.up refl
 
   -- who is not attached is to have nothing
-  wants_nothing : is_attached before receiver ≡ false → (key : List ℕ) → wants before publisher receiver key ≡ false
-  wants_nothing gone key =
+  pub wants_nothing : (publisher receiver : List ℕ) → is_attached before receiver ≡ false → (key : List ℕ) → wants before publisher receiver key ≡ false
+  wants_nothing publisher receiver gone key =
       and_right (not (is_named publisher receiver)) (is_attached before receiver && list_any (λ s. asks_for key s) (declarations before receiver))
       (and_left (is_attached before receiver) (list_any (λ s. asks_for key s) (declarations before receiver)) gone)
 
-  -- who has no end is not attached
-  gone_without : is_some (end_of w.ends (first_name w.routers, receiver)) ≡ false → is_attached before receiver ≡ false
-  gone_without none = by (client_of w.clients receiver) refl
+  pub who_is_attached : (d : List ℕ) → is_attached before d ≡ true → (s : ClientState) × (client_of w.clients d ≡ Some s)
+  who_is_attached d k = by (client_of w.clients d) refl
     where
-      by : (o : Option ClientState) → client_of w.clients receiver ≡ o → is_attached before receiver ≡ false
-      by None e = known_none receiver e
-      by (Some s) e =
-          let its = sound.clients receiver s e in
-          let same = same_name (first_name w.routers) s.router (first_is s.router (sound.routers s.router receiver its)) in
-          absurd (true≢false (sym its ∙ sym (ap (λ z. is_some (end_of w.ends (z, receiver))) same) ∙ none))
+      by : (o : Option ClientState) → client_of w.clients d ≡ o → (s : ClientState) × (client_of w.clients d ≡ Some s)
+      by None e = absurd (true≢false (sym k ∙ known_none d e))
+      by (Some s) e = (s, e)
 
-  -- ---- what the router sends
+  -- ---- nothing is under way that is a line of the phase
 
-  module _ (name : List ℕ) (r : RouterState) (er : router_of w.routers name ≡ Some r) where
-    -- the neighbour of a link is a client
-    is_client : (d : List ℕ) (k : LinkState) → link_to r.node.links d ≡ Some k → is_some (router_of w.routers d) ≡ false
-    is_client d k found = by (is_some (router_of w.routers d)) refl
-      where
-        up : is_up w.ends (name, d) ≡ true
-        up = sym (sound.links name d r er) ∙ ap is_some found
+  module _ (phase : List Numbered) (later : ascends mark phase ≡ true) (publisher : List ℕ) where
+    old : (t : ℕ) → nat_lt t mark ≡ true → is_line_of phase publisher t ≡ false
+    old t k = let lt : t < mark = ltb-true t mark k in none_later publisher t mark phase (omega arith) later
 
-        its_end : is_some (end_of w.ends (name, d)) ≡ true
-        its_end = at (end_of w.ends (name, d)) up
-          where
-            at : (o : Option EndState) → option_map_or (λ s. s.up) o false ≡ true → is_some o ≡ true
-            at None k = absurd (false≢true k)
-            at (Some s) k = refl
+    pub nothing_sent : (receiver : List ℕ) → filter (λ i. is_line_of phase publisher i.line) (sent_to now.report receiver) ≡ []
+    nothing_sent receiver = filter_none_of_all (λ i. is_line_of phase publisher i.line) (λ i. nat_lt i.line mark) (λ i k. old i.line k) (sent_to now.report receiver) (h.tags.sends_only receiver)
 
-        by : (b : Bool) → is_some (router_of w.routers d) ≡ b → b ≡ false
-        by false e = refl
-        by true e = absurd (true≢false (sym (single name d (ap is_some er) e) ∙ sound.apart name d its_end))
+    foreign : (ws : List Tagged) → list_all (λ x. nat_lt x.tag mark) ws ≡ true → list_all (λ i. not (is_line_of phase publisher i.line)) (items ws) ≡ true
+    foreign ws all = weaker (λ i. nat_lt i.line mark) (λ i. not (is_line_of phase publisher i.line)) (λ i k. not_from_false (is_line_of phase publisher i.line) (old i.line k)) (items ws)
+        (items_pass (λ t. nat_lt t mark) ws all)
 
-    -- what is known of a receiver with a link
-    record Linked (k : LinkState) : Type 0 where
-      attached : is_attached before receiver ≡ true
-      said : declarations before receiver ≡ map as_declaration k.subs
+    -- ---- the flow begins
 
-    linked : (k : LinkState) → link_to r.node.links receiver ≡ Some k → Linked k
-    linked k found = by (end_of w.ends (name, receiver)) refl (sym (sound.links name receiver r er) ∙ ap is_some found)
-      where
-        taken : (is_some (router_of w.routers receiver) || is_some (client_of w.clients receiver)) ≡ true → is_some (client_of w.clients receiver) ≡ true
-        taken t = sym (ap (λ b. b || is_some (client_of w.clients receiver)) (is_client receiver k found)) ∙ t
+    module _ (receiver : List ℕ) (sa sd : ClientState) (ea : client_of now.world.clients publisher ≡ Some sa) (ed : client_of now.world.clients receiver ≡ Some sd)
+        (attached : is_attached before receiver ≡ true) where
+      abbrev pub the_pair : Pair
+      the_pair = pair_of before phase now.world ready publisher receiver sa sd ea ed attached
 
-        by : (o : Option EndState) → end_of w.ends (name, receiver) ≡ o → option_map_or (λ s. s.up) o false ≡ true → Linked k
-        by None e up = absurd (false≢true up)
-        by (Some s) e up = record {
-          attached = attached;
-          said = sym j.flow ∙ ap (λ (z : LinkState). map as_declaration (fold hear z.subs stands.its_end.on_way)) its_link_is
-              ∙ ap (λ z. map as_declaration (fold hear k.subs z)) (ap (λ z. z.on_way) its_end_is ∙ none_waits s.wire (sym (ap (λ o. list_all is_calm (wire_of o)) e) ∙ calm_wire (name, receiver)));
-        }
-          where
-            c : (s : ClientState) × (client_of w.clients receiver ≡ Some s)
-            c = there (client_of w.clients receiver) (taken (sound.neighbours name receiver (ap is_some e)))
+      pub the_routes : IsRouted the_pair
+      the_routes = routed before phase now.world ready publisher receiver sa sd ea ed attached
 
-            at_home : c.0.router ≡ name
-            at_home = home_of receiver c.0 c.1 name (ap is_some er)
+      old_fits : (x y : List ℕ) (ws : List Tagged) → list_all (λ z. nat_lt z.tag mark) ws ≡ true → list_all (fits the_pair x y) ws ≡ true
+      old_fits x y ws all = weaker (λ z. nat_lt z.tag mark) (fits the_pair x y) (λ z k. or_left (not (is_line_of phase publisher z.tag)) (comes_down the_pair x y z.msg)
+          (not_from_false (is_line_of phase publisher z.tag) (old z.tag k))) ws all
 
-            stands : Stands (is_attached before receiver) (declarations before receiver) (view_at w receiver c.0)
-            stands = known_of receiver c.0 c.1
+      wire_old : (e : End) → list_all (λ z. nat_lt z.tag mark) (wire_at (end_of w.ends e)) ≡ true
+      wire_old e = wire_passes (λ x. nat_lt x.tag mark) (end_of w.ends e) (h.tags.waits e)
 
-            its_end_is : stands.its_end ≡ end_view s
-            its_end_is =
-                let one : Some (end_view s) ≡ Some stands.its_end = sym (ap (λ z. option_map end_view (end_of w.ends (z, receiver))) at_home ∙ ap (option_map end_view) e) ∙ stands.found in
-                cc
+      queue_old : (e : End) → list_all (λ z. nat_lt z.tag mark) (queue_at (end_of w.ends e)) ≡ true
+      queue_old e = queue_passes (λ x. nat_lt x.tag mark) (end_of w.ends e) (h.tags.waits e)
 
-            attached : is_attached before receiver ≡ true
-            attached = sym stands.unbroken ∙ ap (λ z. z.unbroken) its_end_is ∙ unbroken_up (name, receiver) s e up
-
-            j : Joins (declarations before receiver) (view_at w receiver c.0) stands.its_end
-            j = stands.joins attached
-
-            its_link_is : j.its_link ≡ k
-            its_link_is =
-                let one : Some k ≡ Some j.its_link =
-                sym found ∙ sym (ap (λ o. link_to (links_of o) receiver) er) ∙ sym (ap (λ z. link_to (links_of (router_of w.routers z)) receiver) at_home) ∙ j.linked in
-                cc
-
-    -- who has no link is not attached
-    gone_unlinked : link_to r.node.links receiver ≡ None → is_attached before receiver ≡ false
-    gone_unlinked none = by (is_attached before receiver) refl
-      where
-        at : (o : Option ClientState) → client_of w.clients receiver ≡ o → is_attached before receiver ≡ true → ⊥
-        at None e attached = true≢false (sym attached ∙ known_none receiver e)
-        at (Some s) e attached =
-            let j = (known_of receiver s e).joins attached in
-            let one : None ≡ Some j.its_link =
-            sym none ∙ sym (ap (λ o. link_to (links_of o) receiver) er) ∙ sym (ap (λ z. link_to (links_of (router_of w.routers z)) receiver) (home_of receiver s e name (ap is_some er))) ∙ j.linked in
-            false≢true (ap is_some one)
-
-        by : (b : Bool) → is_attached before receiver ≡ b → is_attached before receiver ≡ false
-        by false e = e
-        by true e = absurd (at (client_of w.clients receiver) refl e)
-
-    -- what of the publisher's the router sends to the receiver is what is for it
-    wanted_is : (l : LinkNo) → number_to r publisher ≡ Ok l → (tree : Option (List ℕ)) (content : Parts) →
-        sends_to r.node (From l (m.Push tree content)) receiver ≡ cond (wants before publisher receiver content.key) (m.Push None content ∷ []) []
-    wanted_is l el tree content = by (link_to r.node.links receiver) refl
-      where
-        key : List ℕ
-        key = content.key
-
-        -- the publisher's link
-        a : (k : LinkState) × (link_to r.node.links publisher ≡ Some k) × (k.link ≡ l)
-        a = number_found r publisher l el
-
-        a_at : link_at r.node.links l.0 ≡ Some a.0
-        a_at = ap (λ z. link_at r.node.links z.0) (sym a.2) ∙ numbered_link r.node.links (sound.unique name r er) publisher a.0 a.1
-
-        from_client : leads_to_client r.node.links l.0 ≡ true
-        from_client = ap (λ o. option_map_or (λ z. not (is_router z.peer.role)) o false) a_at
-            ∙ ap not (sound.roles name publisher r a.0 er a.1 ∙ is_client publisher a.0 a.1)
-
-        -- the two links are one exactly where the two are one
-        same_link : (k : LinkState) → link_to r.node.links receiver ≡ Some k → (k.link.0 == l.0) ≡ is_named publisher receiver
-        same_link k found = at (is_named publisher receiver) refl
-          where
-            at : (b : Bool) → is_named publisher receiver ≡ b → (k.link.0 == l.0) ≡ b
-            at true same =
-                let one : Some a.0 ≡ Some k = sym a.1 ∙ ap (link_to r.node.links) (same_name publisher receiver same) ∙ found in
-                let is : a.0 ≡ k = cc in
-                eq-eqb k.link.0 l.0 (ap (λ z. z.link.0) (sym is) ∙ ap (λ z. z.0) a.2)
-            at false other = apart (k.link.0 == l.0) refl
-              where
-                apart : (b : Bool) → (k.link.0 == l.0) ≡ b → (k.link.0 == l.0) ≡ false
-                apart false g = g
-                apart true g =
-                    let one : Some k ≡ Some a.0 = sym (numbered_link r.node.links (sound.unique name r er) receiver k found) ∙ ap (link_at r.node.links) (eqb-true k.link.0 l.0 g) ∙ a_at in
-                    let is : k ≡ a.0 = cc in
-                    let name_is : publisher ≡ receiver = sym (named_link r.node.links publisher a.0 a.1) ∙ ap (λ z. z.peer.id) (sym is) ∙ named_link r.node.links receiver k found in
-                    absurd (false≢true (sym other ∙ ap (is_named publisher) (sym name_is) ∙ names.refl publisher))
-
-        subscribed : (k : LinkState) → link_to r.node.links receiver ≡ Some k → (leads_to_client r.node.links l.0 && is_other_subscriber r.node l.0 key k.link.0) ≡ wants before publisher receiver key
-        subscribed k found =
-            ap (λ b. b && is_other_subscriber r.node l.0 key k.link.0) from_client
-            ∙ ap (λ o. not (k.link.0 == l.0) && option_map_or (λ z. not (is_router z.peer.role) && subscribes z key) o false) (numbered_link r.node.links (sound.unique name r er) receiver k found)
-            ∙ ap (λ b. not (k.link.0 == l.0) && (not b && subscribes k key)) (sound.roles name receiver r k er found ∙ is_client receiver k found)
-            ∙ ap (λ b. not b && subscribes k key) (same_link k found)
-            ∙ ap (λ b. not (is_named publisher receiver) && b)
-            (sym (ap (λ b. b && list_any (λ s. asks_for key s) (declarations before receiver)) known.attached ∙ ap (list_any (λ s. asks_for key s)) known.said ∙ rows_ask key k.subs))
-          where
-            known : Linked k
-            known = linked k found
-
-        by : (o : Option LinkState) → link_to r.node.links receiver ≡ o →
-            option_map_or (λ z. sends_push r.node l.0 content z.link.0) o [] ≡ cond (wants before publisher receiver key) (m.Push None content ∷ []) []
-        by None found = sym (ap (λ b. cond b (m.Push None content ∷ []) []) (wants_nothing (gone_unlinked found) key))
-        by (Some k) found = ap (λ b. cond b (m.Push None content ∷ []) []) (subscribed k found)
-
-  pub routed : IsRouted (pair_of before phase publisher receiver now)
-  routed = record { wanted = λ name r er l el tree content. wanted_is name r er l el tree content; absent = λ none key. wants_nothing (gone_without none) key }
-
-  -- ---- the flow begins
-
-  -- no sample is on the way that is a line of the phase
-  old : (t : ℕ) → nat_lt t mark ≡ true → is_line_of phase publisher t ≡ false
-  old t k = let lt : t < mark = ltb-true t mark k in none_later publisher t mark phase (omega arith) later
-
-  pub starts : Flows (pair_of before phase publisher receiver now) [] now
-  starts = record {
-    routers_is = refl;
-    home = λ e k. home e k;
-    end_is = refl;
-    calm = calm_wire;
-    others = λ e other. weaker (λ x. nat_lt x.tag mark) (λ x. not (is_line_of phase publisher x.tag)) (λ x k. not_from_false (is_line_of phase publisher x.tag) (old x.tag k))
-        (wire_of (end_of w.ends e)) (wire_passes (λ x. nat_lt x.tag mark) (end_of w.ends e) (h.tags.waits e));
-    flow = rw (sent_none, queue_none, wire_none) refl;
-  }
-    where
-      home : (e : End) → is_some (end_of w.ends e) ≡ true → (is_named (first_name w.routers) e.0 ≡ true) × (is_named (first_name w.routers) e.1 ≡ false)
-      home e k =
-          let its = first_is e.0 (sound.routers e.0 e.1 k) in
-          (its, ap (λ z. is_named z e.1) (same_name (first_name w.routers) e.0 its) ∙ sound.apart e.0 e.1 k)
-
-      r : List ℕ
-      r = first_name w.routers
-
-      sent_none : filter (λ i. is_line_of phase publisher i.line) (sent_to now.report receiver) ≡ []
-      sent_none = filter_none_of_all (λ i. is_line_of phase publisher i.line) (λ i. nat_lt i.line mark) (λ i k. old i.line k) (sent_to now.report receiver) (h.tags.sends_only receiver)
-
-      queue_none : filter (λ i. is_line_of phase publisher i.line) (items (queue_of (end_of w.ends (first_name w.routers, receiver)))) ≡ []
-      queue_none = filter_none_of_all (λ i. is_line_of phase publisher i.line) (λ i. nat_lt i.line mark) (λ i k. old i.line k) (items (queue_of (end_of w.ends (r, receiver))))
-          (items_pass (λ t. nat_lt t mark) (queue_of (end_of w.ends (r, receiver))) (queue_passes (λ x. nat_lt x.tag mark) (end_of w.ends (r, receiver)) (h.tags.waits (r, receiver))))
-
-      wire_none : filter (λ i. is_line_of phase publisher i.line && wants before publisher receiver i.content.key) (items (wire_of (end_of w.ends (first_name w.routers, publisher)))) ≡ []
-      wire_none = filter_none_of_all (λ i. is_line_of phase publisher i.line && wants before publisher receiver i.content.key) (λ i. nat_lt i.line mark)
-          (λ i k. and_left (is_line_of phase publisher i.line) (wants before publisher receiver i.content.key) (old i.line k)) (items (wire_of (end_of w.ends (r, publisher))))
-          (items_pass (λ t. nat_lt t mark) (wire_of (end_of w.ends (r, publisher))) (wire_passes (λ x. nat_lt x.tag mark) (end_of w.ends (r, publisher)) (h.tags.waits (r, publisher))))
+      pub starts : Flows the_pair [] now
+      starts = record {
+        routers_is = refl;
+        clients_is = refl;
+        ends_are = λ e. refl;
+        calm = λ e. (calm_end e).0;
+        calm_queues = λ e. (calm_end e).1;
+        wires = λ x y. old_fits x y (wire_at (end_of w.ends (x, y))) (wire_old (x, y));
+        queues = λ x z r. old_fits z x (queue_at (end_of w.ends (x, z))) (queue_old (x, z));
+        flow = ap (λ z. z ++ along (held the_pair now) (hops receiver (the_pair.first ∷ the_pair.more) publisher)) (nothing_sent receiver)
+            ∙ bare (OnWay the_pair) (Between the_pair) publisher (held the_pair now) (held the_pair now) []
+            (λ to r s k. (
+              foreign_kept the_pair to (items (queue_at (end_of w.ends (r, to)))) (foreign (queue_at (end_of w.ends (r, to))) (queue_old (r, to))),
+              foreign_wanted the_pair (items (wire_at (end_of w.ends (r, s)))) (foreign (wire_at (end_of w.ends (r, s))) (wire_old (r, s))),
+            ))
+            receiver (the_pair.first ∷ the_pair.more) the_routes.whole_way;
+      }

@@ -1,76 +1,44 @@
--- Each step of a phase keeps the flow: a sample is written to the publisher's wire, handled into the receiver's queue, or
--- sent to the receiver; a mark moves nothing, and neither does a message that the router takes in silence. One lemma a kind of
--- step; the value that the step looks up is an argument with its equation, so that each case computes, and a refused step owes nothing.
-use Rattle.std.proofs.Common.{◌≡◌, ℕ, Bool, true, false, cond, List, [], ◌∷◌, ◌++◌, map, Option, Some, None, Ok, refl, sym, ap, ◌∙◌, append-nil, inl, inr}
-use Rattle.std.specs.Prelude.{◌&&◌, not, is_some}
+-- Each step of a phase keeps the flow: a sample is written to the publisher's wire, handled from a router's wire into its queues, or sent from
+-- a router's queue to the next router's wire or to the receiver; a mark moves nothing, and neither does a message that a router takes in
+-- silence. One lemma a kind of step, from what the step does to each end's wire and queue.
+use Rattle.std.proofs.Common.{◌≡◌, ℕ, Bool, true, false, cond, List, [], ◌∷◌, ◌++◌, Option, Some, None, refl, sym, ap, ◌∙◌, append-nil, inl, inr}
+use Rattle.std.specs.Prelude.{◌&&◌, ◌||◌, not, is_some}
 use Rattle.std.specs.List.{list_all}
-use Rattle.std.specs.Option.{option_map, option_map_or}
-use Rattle.std.proofs.lemmas.Bool.{true≢false, false≢true, and_parts, and_from, not-true, not_from_false}
+use Rattle.std.proofs.lemmas.Bool.{and_parts, and_from}
 use Rattle.std.proofs.lemmas.Grind.{flat_map-append}
 use Rattle.std.proofs.lemmas.List.Elements.{filter-append}
-use Rattle.std.proofs.lemmas.Map.Steps.{set_value_same}
 use Rattle.zr_id.specs.Zid.{is_named}
-use Rattle.zr_id.specs.declared.link.LinkNo.{LinkNo}
+use Rattle.zr_tree.specs.Tree.{is_child}
 use Rattle.zr_msg.specs.declared.content.Parts.{Parts}
 use Rattle.zr_msg.specs.declared.msg.Msg.{Msg}
 use Rattle.zr_msg.specs.declared.msg.Msg.TheVariants as m
-use Rattle.zr_msg.specs.declared.event.Event.TheVariants.{From}
 use Rattle.zr_command.specs.declared.command.Act.{Act}
 use Rattle.zr_command.specs.declared.command.Act.TheVariants as c
 use Rattle.zr_command.specs.declared.report.ReportLine.{ReportLine}
 use Rattle.zr_command.specs.declared.report.ReportLine.TheVariants as line
-use Rattle.zr_table.specs.State.{LinkState, link_to}
-use Rattle.zr_table.specs.Table.{sends, after}
-use Rattle.zr_network.specs.World.{Tagged, EndState, End, Ends, ClientState, RouterState, is_end, router_of, end_of, with_router, with_end, sent, queued, with_wire, with_queue, is_calm}
-use Rattle.zr_network.specs.Acts.{sends_to, hearing, number_to, shown}
+use Rattle.zr_network.specs.World.{Tagged, EndState, End, Ends, ClientState, RouterState, is_end, client_of, end_of, with_end, sent, with_queue, is_calm}
+use Rattle.zr_network.specs.Joined.{graph}
+use Rattle.zr_network.specs.Acts.{shown}
 use Rattle.zr_network.specs.Moments.{Numbered, Moment}
 use Rattle.zr_guarantee.specs.Item.{Item}
 use Rattle.zr_guarantee.specs.Broker.{wants}
-use Rattle.zr_guarantee.specs.Sent.{items_of, item_of, sent_in, sent_to}
+use Rattle.zr_guarantee.specs.Sent.{item_of, sent_in, sent_to}
 use Rattle.zr_network.proofs.Names.{names, same_name}
-use Rattle.zr_network.proofs.Keyed.{not_there}
-use Rattle.zr_network.proofs.Ends.{end_parts, read_with_end, keep_with_end, test_with_end, read_all_queued, keep_all_queued}
-use Rattle.zr_network.proofs.Cases.{on_publish, on_handle, on_take, on_mark, on_show}
-use Rattle.zr_network.proofs.Lists.{all_both, filter_none_of_all}
-use Rattle.zr_laws.proofs.Places.{Sent, Queue, Wire, Hop, hops, along, keeps, gains}
-use Rattle.zr_laws.proofs.Ends.{queue_of, wire_of}
+use Rattle.zr_network.proofs.Ends.{end_parts, same_end, read_with_end, keep_with_end, test_with_end, read_changed, keep_changed}
+use Rattle.zr_network.proofs.Cases.{on_publish, on_take, on_mark, on_show}
+use Rattle.zr_network.proofs.Lists.{all_both}
+use Rattle.zr_laws.proofs.Places.{Sent, Queue, Wire, Hop, hops, along, keeps, gains, handled, taken, written}
+use Rattle.zr_settled.proofs.Worlds.{queue_at, wire_at}
+use Rattle.zr_settled.proofs.Ends.{other_end}
+use Rattle.zr_laws.proofs.Pushes.{names_tree}
 use Rattle.zr_laws.proofs.Watch.{shows_nothing}
-use Rattle.zr_laws.proofs.Tags.{item_tag}
-use Rattle.zr_laws.proofs.Messages.{IsSilent}
-use Rattle.zr_laws.proofs.Tables.{changed_absent}
-use Rattle.zr_laws.proofs.Pair.{Pair, items, of_publisher, wanted_of, held, way, Flows, IsRouted, for_receiver, sent_more, from_more, from_same}
+use Rattle.zr_settled.proofs.Orderly.{turned_end}
+use Rattle.zr_laws.proofs.Held.{items_both, loses, wire_adds, wanted_both, kept_both, there, apart, end_is}
+use Rattle.zr_laws.proofs.Pair.{Pair, items, of_publisher, wanted_of, kept_for, held, way, has_router, comes_down, fits, Flows, OnWay, Between, IsRouted, for_receiver, sent_more, from_more, from_same}
 
-items_both : (xs ys : List Tagged) → items (xs ++ ys) ≡ items xs ++ items ys
-items_both xs ys = flat_map-append (λ x. item_of x.msg x.tag) xs ys
-
--- messages with one tag
-abbrev all_tagged : ℕ → List Msg → List Tagged
-all_tagged tag ms = map (λ z. record { msg = z; tag = tag }) ms
-
--- those with a foreign tag have no item of the publisher
-foreign_items : (p : Pair) (tag : ℕ) → p.by tag ≡ false → (ms : List Msg) → of_publisher p (items (all_tagged tag ms)) ≡ []
-foreign_items p tag foreign [] = refl
-foreign_items p tag foreign (x ∷ xs) =
-    filter-append (λ i. p.by i.line) (item_of x tag) (items (all_tagged tag xs)) ∙ rw (none (item_of x tag) (one x), foreign_items p tag foreign xs) refl
-  where
-    one : (msg : Msg) → list_all (λ i. not (p.by i.line)) (item_of msg tag) ≡ true
-    one msg = item_tag (λ i. not (p.by i)) msg tag (not_from_false (p.by tag) foreign)
-
-    none : (ys : List Item) → list_all (λ i. not (p.by i.line)) ys ≡ true → of_publisher p ys ≡ []
-    none ys h = filter_none_of_all (λ i. p.by i.line) (λ i. not (p.by i.line)) (λ i k. not-true (p.by i.line) k) ys h
-
-module _ (p : Pair) (done : List Numbered) (now : Moment) (h : Flows p done now) where
+module _ (p : Pair) (routed : IsRouted p) (done : List Numbered) (now : Moment) (h : Flows p done now) where
   abbrev es : Ends
   es = now.world.ends
-
-  -- the end of a name at the router
-  at_router : (x name : List ℕ) (s : EndState) → end_of es (x, name) ≡ Some s → p.router ≡ x
-  at_router x name s e = same_name p.router x (h.home (x, name) (ap is_some e)).0
-
-  -- a wire's end to another name
-  end_named : (x name : List ℕ) (s : EndState) → end_of es (x, name) ≡ Some s → (q : List ℕ) → is_end (x, name) (p.router, q) ≡ is_named name q
-  end_named x name s e q =
-      end_parts (x, name) (p.router, q) ∙ ap (λ b. b && is_named name q) (names.symm x p.router ∙ (h.home (x, name) (ap is_some e)).0)
 
   -- ---- publish
 
@@ -91,22 +59,25 @@ module _ (p : Pair) (done : List Numbered) (now : Moment) (h : Flows p done now)
           ≡ wanted_of p (items ws) ++ cond (is_named p.publisher client && w) (item ∷ []) []
       by true e =
           ap (wanted_of p) (items_both ws (record { msg = m.Push None content; tag = n } ∷ []))
-          ∙ filter-append (λ i. p.by i.line && wants p.before p.publisher p.receiver i.content.key) (items ws) (item ∷ [])
+          ∙ wanted_both p (items ws) (item ∷ [])
           ∙ ap (λ z. wanted_of p (items ws) ++ cond (z && w) (item ∷ []) []) agrees
       by false e =
           sym (append-nil (wanted_of p (items ws)))
           ∙ ap (λ z. wanted_of p (items ws) ++ cond (z && w) (item ∷ []) []) (sym (names.symm p.publisher client ∙ e))
 
-  pub publish_keeps : (n : ℕ) (client : List ℕ) (content : Parts) → p.by n ≡ is_named p.publisher client → (s : ClientState) (e : EndState) → end_of es (s.router, client) ≡ Some e →
-      Flows p (done ++ (n, c.Publish client content) ∷ []) (on_publish now n client content s e)
-  publish_keeps n client content agrees s e found = record {
+  pub publish_keeps : (n : ℕ) (client : List ℕ) (content : Parts) → p.by n ≡ is_named p.publisher client → (s : ClientState) → client_of now.world.clients client ≡ Some s →
+      (e : EndState) → end_of es (s.router, client) ≡ Some e → Flows p (done ++ (n, c.Publish client content) ∷ []) (on_publish now n client content s e)
+  publish_keeps n client content agrees s is_client e found = record {
     routers_is = h.routers_is;
-    home = λ q there. h.home q (sym (kept is_some refl q) ∙ there);
-    end_is = kept is_some refl (p.router, p.receiver) ∙ h.end_is;
-    calm = λ q. test_with_end es (s.router, client) e' (λ o. list_all is_calm (wire_of o)) q e found (h.calm q) (λ same all. all_both is_calm e.wire (x ∷ []) all refl);
-    others = λ q other. test_with_end es (s.router, client) e' (λ o. list_all (λ y. not (p.by y.tag)) (wire_of o)) q e found (h.others q other)
-        (λ same all. all_both (λ y. not (p.by y.tag)) e.wire (x ∷ []) all (and_from (not (p.by n)) true (not_from_false (p.by n) (foreign q same other)) refl));
-    flow = gains (held p now) (held p next) (for_receiver p.before p.publisher p.receiver (n, c.Publish client content)) (way p) (sent_is, (queue_is, wire_is))
+    clients_is = h.clients_is;
+    ends_are = λ q. kept is_some refl q ∙ h.ends_are q;
+    calm = λ q. test_with_end es (s.router, client) e' (λ o. list_all is_calm (wire_at o)) q e found (h.calm q) (λ same all. all_both is_calm e.wire (x ∷ []) all refl);
+    calm_queues = λ q. kept (λ o. list_all is_calm (queue_at o)) refl q ∙ h.calm_queues q;
+    wires = λ u v. test_with_end es (s.router, client) e' (λ o. list_all (fits p u v) (wire_at o)) (u, v) e found (h.wires u v)
+        (λ same all. all_both (fits p u v) e.wire (x ∷ []) all (and_from (fits p u v x) true (fits_own u v same) refl));
+    queues = λ u v r. kept (λ o. list_all (fits p v u) (queue_at o)) refl (u, v) ∙ h.queues u v r;
+    flow = gains (held p now) (held p next) (for_receiver p.before p.publisher p.receiver (n, c.Publish client content)) (way p)
+        (written (OnWay p) (Between p) p.publisher (held p now) (held p next) (for_receiver p.before p.publisher p.receiver (n, c.Publish client content)) queue_is between_is last_is p.receiver p.first p.more routed.whole_way sent_is)
         ∙ ap (λ z. z ++ for_receiver p.before p.publisher p.receiver (n, c.Publish client content)) h.flow
         ∙ sym (from_more p.before done (n, c.Publish client content) p.publisher p.receiver);
   }
@@ -123,95 +94,198 @@ module _ (p : Pair) (done : List Numbered) (now : Moment) (h : Flows p done now)
       kept : {Y : Type 0} (f : Option EndState → Y) → f (Some e') ≡ f (Some e) → (q : End) → f (end_of next.world.ends q) ≡ f (end_of es q)
       kept f same q = keep_with_end es (s.router, client) e' f q e found same
 
-      foreign : (q : End) → is_end (s.router, client) q ≡ true → is_named p.publisher q.1 ≡ false → p.by n ≡ false
-      foreign q same other =
-          let parts = and_parts (is_named s.router q.0) (is_named client q.1) (sym (end_parts (s.router, client) q) ∙ same) in
-          agrees ∙ ap (is_named p.publisher) (same_name client q.1 parts.1) ∙ other
+      -- the publisher's own wire is at its router
+      at_root : is_named p.publisher client ≡ true → s.router ≡ p.root
+      at_root own = routed.home s (ap (λ z. client_of z p.publisher) (sym h.clients_is) ∙ ap (client_of now.world.clients) (same_name p.publisher client own) ∙ is_client)
+
+      no_router : has_router p client ≡ false
+      no_router = routed.clients_apart client (ap (λ z. is_some (client_of z client)) (sym h.clients_is) ∙ ap is_some is_client)
+
+      fits_own : (u v : List ℕ) → is_end (s.router, client) (u, v) ≡ true → fits p u v x ≡ true
+      fits_own u v same = by (p.by n) refl
+        where
+          parts : (is_named s.router u ≡ true) × (is_named client v ≡ true)
+          parts = and_parts (is_named s.router u) (is_named client v) (sym (end_parts (s.router, client) (u, v)) ∙ same)
+
+          by : (b : Bool) → p.by n ≡ b → (not b || comes_down p u v x.msg) ≡ true
+          by false k = refl
+          by true k =
+              let own : is_named p.publisher client ≡ true = sym agrees ∙ k in
+              let root_is : is_named p.root u ≡ true = ap (is_named p.root) (sym (same_name s.router u parts.0) ∙ at_root own) ∙ names.refl p.root in
+              ap (λ z. cond z (is_named p.publisher v) (is_child (graph p.world) p.root v u) && (z || names_tree p.root x.msg)) root_is
+              ∙ ap (λ z. z && true) (ap (is_named p.publisher) (sym (same_name client v parts.1)) ∙ own)
 
       sent_is : held p next (Sent p.receiver) ≡ held p now (Sent p.receiver)
       sent_is = ap (λ z. of_publisher p (sent_to z p.receiver)) (append-nil now.report)
 
-      queue_is : held p next (Queue p.router p.receiver) ≡ held p now (Queue p.router p.receiver)
-      queue_is = ap (λ z. of_publisher p (items z)) (kept queue_of refl (p.router, p.receiver))
+      queue_is : (to r v : List ℕ) → OnWay p to r v → held p next (Queue r to) ≡ held p now (Queue r to)
+      queue_is to r v k = ap (λ z. kept_for p to (items z)) (kept queue_at refl (r, to))
 
-      wire_is : held p next (Wire p.router p.publisher) ≡ held p now (Wire p.router p.publisher) ++ for_receiver p.before p.publisher p.receiver (n, c.Publish client content)
-      wire_is =
-          ap (λ z. wanted_of p (items z)) (read_with_end es (s.router, client) e' wire_of (p.router, p.publisher) (ap is_some found)
-          ∙ ap (λ b. cond b (e.wire ++ x ∷ []) (wire_of (end_of es (p.router, p.publisher)))) (end_named s.router client e found p.publisher))
-          ∙ ap (λ z. wanted_of p (items z)) (by (is_named client p.publisher) refl)
-          ∙ wire_gains n client content agrees (wire_of (end_of es (p.router, p.publisher)))
+      wire_reads : (q : End) → wire_at (end_of next.world.ends q) ≡ cond (is_end (s.router, client) q) (e.wire ++ x ∷ []) (wire_at (end_of es q))
+      wire_reads q = read_with_end es (s.router, client) e' wire_at q (ap is_some found)
+
+      between_is : (r v : List ℕ) → Between p r v → held p next (Wire r v) ≡ held p now (Wire r v)
+      between_is r v k = ap (λ z. wanted_of p (items z)) (wire_reads (r, v) ∙ ap (λ b. cond b (e.wire ++ x ∷ []) (wire_at (end_of es (r, v)))) other)
         where
-          by : (b : Bool) → is_named client p.publisher ≡ b → cond b (e.wire ++ x ∷ []) (wire_of (end_of es (p.router, p.publisher)))
-              ≡ cond b (wire_of (end_of es (p.router, p.publisher)) ++ x ∷ []) (wire_of (end_of es (p.router, p.publisher)))
-          by false k = refl
-          by true k = ap (λ z. z ++ x ∷ []) (sym (ap (λ z. wire_of (end_of es (p.router, z))) (sym (same_name client p.publisher k))
-              ∙ ap (λ z. wire_of (end_of es (z, client))) (at_router s.router client e found) ∙ ap wire_of found))
+          other : is_end (s.router, client) (r, v) ≡ false
+          other = other_end s.router r client v (names.symm client v ∙ apart p routed done now h v client k.router no_router)
+
+      last_is : (to r : List ℕ) → OnWay p to r p.publisher → held p next (Wire r p.publisher) ≡ held p now (Wire r p.publisher) ++ for_receiver p.before p.publisher p.receiver (n, c.Publish client content)
+      last_is to r k =
+          ap (λ z. wanted_of p (items z)) (wire_reads (r, p.publisher)
+          ∙ ap (λ b. cond b (e.wire ++ x ∷ []) (wire_at (end_of es (r, p.publisher)))) (own_end (is_named client p.publisher) refl)
+          ∙ by (is_named client p.publisher) refl)
+          ∙ wire_gains n client content agrees (wire_at (end_of es (r, p.publisher)))
+        where
+          own_end : (b : Bool) → is_named client p.publisher ≡ b → is_end (s.router, client) (r, p.publisher) ≡ is_named client p.publisher
+          own_end true own = end_parts (s.router, client) (r, p.publisher)
+              ∙ ap (λ b. b && is_named client p.publisher) (ap (λ z. is_named z r) (at_root (names.symm p.publisher client ∙ own)) ∙ k.last (names.refl p.publisher))
+          own_end false own = other_end s.router r client p.publisher own ∙ sym own
+
+          by : (b : Bool) → is_named client p.publisher ≡ b → cond b (e.wire ++ x ∷ []) (wire_at (end_of es (r, p.publisher)))
+              ≡ cond b (wire_at (end_of es (r, p.publisher)) ++ x ∷ []) (wire_at (end_of es (r, p.publisher)))
+          by false own = refl
+          by true own = ap (λ z. z ++ x ∷ []) (sym (ap (λ z. wire_at (end_of es z)) (sym (same_end (s.router, client) (r, p.publisher) (own_end true own ∙ own))) ∙ ap wire_at found))
 
   -- ---- take
 
   pub take_keeps : (n : ℕ) (router to : List ℕ) (s : EndState) → end_of es (router, to) ≡ Some s → (msg : Msg) (tag : ℕ) (xs : List Tagged) → s.queue ≡ record { msg = msg; tag = tag } ∷ xs →
       Flows p (done ++ (n, c.Take router to) ∷ []) (on_take now router to s msg tag xs)
-  take_keeps n router to s e msg tag xs front = record {
+  take_keeps n router to s found msg tag xs front = record {
     routers_is = h.routers_is;
-    home = λ q there. h.home q (sym (kept is_some refl q) ∙ there);
-    end_is = kept is_some refl (p.router, p.receiver) ∙ h.end_is;
-    calm = λ q. kept (λ o. list_all is_calm (wire_of o)) refl q ∙ h.calm q;
-    others = λ q other. kept (λ o. list_all (λ y. not (p.by y.tag)) (wire_of o)) refl q ∙ h.others q other;
-    flow = keeps (held p now) (held p next) moved (way p) (hop (is_named to p.receiver) refl, wire_is) ∙ h.flow
-        ∙ sym (from_same p.before done (n, c.Take router to) p.publisher p.receiver refl);
+    clients_is = h.clients_is;
+    ends_are = λ q. kept is_some refl (λ y. refl) q ∙ h.ends_are q;
+    calm = λ q. ap (list_all is_calm) (wire_reads q) ∙ gains_one is_calm (is_end (to, router) q && is_some (end_of es q)) (wire_at (end_of es q)) (λ k. first_of is_calm (h.calm_queues (router, to))) (h.calm q);
+    calm_queues = λ q. ap (list_all is_calm) (queue_reads q) ∙ loses is_calm one xs (is_end (router, to) q) (queue_at (end_of es q)) (queue_was q) (h.calm_queues q);
+    wires = λ u v. ap (list_all (fits p u v)) (wire_reads (u, v))
+        ∙ gains_one (fits p u v) (is_end (to, router) (u, v) && is_some (end_of es (u, v))) (wire_at (end_of es (u, v))) (fits_there u v) (h.wires u v);
+    queues = λ u v r. ap (list_all (fits p v u)) (queue_reads (u, v)) ∙ loses (fits p v u) one xs (is_end (router, to) (u, v)) (queue_at (end_of es (u, v))) (queue_was (u, v)) (h.queues u v r);
+    flow = keeps (held p now) (held p next) moved (way p)
+        (taken (OnWay p) (Between p) p.publisher (held p now) (held p next) moved between_hop last_same p.receiver p.first p.more routed.whole_way (first_hop (is_named p.receiver to) refl))
+        ∙ h.flow ∙ sym (from_same p.before done (n, c.Take router to) p.publisher p.receiver refl);
   }
     where
       next : Moment
       next = on_take now router to s msg tag xs
 
+      one : Tagged
+      one = record { msg = msg; tag = tag }
+
       half : Ends
       half = with_end es (router, to) (with_queue s xs)
 
-      -- the client has no end of its own
-      absent : end_of half (to, router) ≡ None
-      absent = not_there (end_of half (to, router)) (keep_with_end es (router, to) (with_queue s xs) is_some (to, router) s e refl ∙ by (is_some (end_of es (to, router))) refl)
-        where
-          by : (b : Bool) → is_some (end_of es (to, router)) ≡ b → b ≡ false
-          by false k = refl
-          by true k = absurd (false≢true (sym (h.home (to, router) k).1 ∙ (h.home (router, to) (ap is_some e)).0))
+      kept : {Y : Type 0} (f : Option EndState → Y) → f (Some (with_queue s xs)) ≡ f (Some s) → ((y : EndState) → f (Some (sent y msg tag)) ≡ f (Some y)) → (q : End) → f (end_of next.world.ends q) ≡ f (end_of es q)
+      kept f same_queue same_wire q = keep_changed half (to, router) (λ z. sent z msg tag) f q same_wire ∙ keep_with_end es (router, to) (with_queue s xs) f q s found same_queue
 
-      ends_are : (q : End) → end_of next.world.ends q ≡ end_of half q
-      ends_are q = changed_absent half (to, router) (λ z. sent z msg tag) q absent
+      wire_reads : (q : End) → wire_at (end_of next.world.ends q) ≡ cond (is_end (to, router) q && is_some (end_of es q)) (wire_at (end_of es q) ++ one ∷ []) (wire_at (end_of es q))
+      wire_reads q = read_changed half (to, router) (λ z. sent z msg tag) wire_at q
+          ∙ wire_adds (is_end (to, router) q) one (end_of es q) (end_of half q) (keep_with_end es (router, to) (with_queue s xs) wire_at q s found refl) (keep_with_end es (router, to) (with_queue s xs) is_some q s found refl)
 
-      kept : {Y : Type 0} (f : Option EndState → Y) → f (Some (with_queue s xs)) ≡ f (Some s) → (q : End) → f (end_of next.world.ends q) ≡ f (end_of es q)
-      kept f same q = ap f (ends_are q) ∙ keep_with_end es (router, to) (with_queue s xs) f q s e same
+      queue_reads : (q : End) → queue_at (end_of next.world.ends q) ≡ cond (is_end (router, to) q) xs (queue_at (end_of es q))
+      queue_reads q = keep_changed half (to, router) (λ z. sent z msg tag) queue_at q (λ z. refl) ∙ read_with_end es (router, to) (with_queue s xs) queue_at q (ap is_some found)
+
+      queue_was : (q : End) → is_end (router, to) q ≡ true → queue_at (end_of es q) ≡ one ∷ xs
+      queue_was q k = ap (λ z. queue_at (end_of es z)) (sym (same_end (router, to) q k)) ∙ ap queue_at found ∙ front
+
+      -- the message passes what all in its queue pass
+      first_of : (t : Tagged → Bool) → list_all t (queue_at (end_of es (router, to))) ≡ true → t one ≡ true
+      first_of t all = (and_parts (t one) (list_all t xs) (ap (list_all t) (sym (ap queue_at found ∙ front)) ∙ all)).0
+
+      gains_one : (t : Tagged → Bool) (b : Bool) (ws : List Tagged) → (b ≡ true → t one ≡ true) → list_all t ws ≡ true → list_all t (cond b (ws ++ one ∷ []) ws) ≡ true
+      gains_one t true ws k all = all_both t ws (one ∷ []) all (and_from (t one) true (k refl) refl)
+      gains_one t false ws k all = all
+
+      is_router : has_router p router ≡ true
+      is_router = routed.sound.routers router to (there p routed done now h (router, to) s found)
+
+      fits_there : (u v : List ℕ) → (is_end (to, router) (u, v) && is_some (end_of es (u, v))) ≡ true → fits p u v one ≡ true
+      fits_there u v k =
+          let parts = and_parts (is_end (to, router) (u, v)) (is_some (end_of es (u, v))) k in
+          let same : (to, router) ≡ (u, v) = same_end (to, router) (u, v) parts.0 in
+          let at : is_some (end_of p.world.ends (to, router)) ≡ true = ap (λ z. is_some (end_of p.world.ends z)) same ∙ sym (h.ends_are (u, v)) ∙ parts.1 in
+          ap (λ (z : End). fits p z.0 z.1 one) (sym same) ∙ first_of (fits p to router) (h.queues router to (routed.sound.routers to router at))
 
       moved : List Item
-      moved = of_publisher p (item_of msg tag)
-
-      wire_is : held p next (Wire p.router p.publisher) ≡ held p now (Wire p.router p.publisher)
-      wire_is = ap (λ z. wanted_of p (items z)) (kept wire_of refl (p.router, p.publisher))
+      moved = kept_for p to (item_of msg tag)
 
       sent_is : held p next (Sent p.receiver) ≡ of_publisher p (sent_to now.report p.receiver ++ cond (is_named p.receiver to) (item_of msg tag) [])
       sent_is = ap (of_publisher p) (sent_more now.report (line.Taken router to msg tag) p.receiver)
 
-      queue_is : held p next (Queue p.router p.receiver) ≡ of_publisher p (items (cond (is_named to p.receiver) xs (queue_of (end_of es (p.router, p.receiver)))))
-      queue_is = ap (λ z. of_publisher p (items z)) (ap queue_of (ends_are (p.router, p.receiver))
-          ∙ read_with_end es (router, to) (with_queue s xs) queue_of (p.router, p.receiver) (ap is_some e)
-          ∙ ap (λ b. cond b xs (queue_of (end_of es (p.router, p.receiver)))) (end_named router to s e p.receiver))
+      queue_is : (r v : List ℕ) → held p next (Queue r v) ≡ kept_for p v (items (cond (is_end (router, to) (r, v)) xs (queue_at (end_of es (r, v)))))
+      queue_is r v = ap (λ z. kept_for p v (items z)) (queue_reads (r, v))
 
-      both : (ys zs : List Item) → of_publisher p (ys ++ zs) ≡ of_publisher p ys ++ of_publisher p zs
-      both ys zs = filter-append (λ i. p.by i.line) ys zs
+      -- the queue that the message leaves
+      queue_loses : (r v : List ℕ) → is_end (router, to) (r, v) ≡ true → held p now (Queue r v) ≡ kept_for p v (item_of msg tag) ++ held p next (Queue r v)
+      queue_loses r v k =
+          ap (λ z. kept_for p v (items z)) (queue_was (r, v) k)
+          ∙ kept_both p v (item_of msg tag) (items xs)
+          ∙ ap (λ z. kept_for p v (item_of msg tag) ++ z) (sym (queue_is r v ∙ ap (λ b. kept_for p v (items (cond b xs (queue_at (end_of es (r, v)))))) k))
 
-      queue_was : is_named to p.receiver ≡ true → queue_of (end_of es (p.router, p.receiver)) ≡ record { msg = msg; tag = tag } ∷ xs
-      queue_was same = sym (ap (λ z. queue_of (end_of es (p.router, z))) (same_name to p.receiver same)) ∙ ap (λ z. queue_of (end_of es (z, to))) (at_router router to s e) ∙ ap queue_of e ∙ front
+      queue_stays : (r v : List ℕ) → is_end (router, to) (r, v) ≡ false → held p next (Queue r v) ≡ held p now (Queue r v)
+      queue_stays r v k = queue_is r v ∙ ap (λ b. kept_for p v (items (cond b xs (queue_at (end_of es (r, v)))))) k
 
-      hop : (b : Bool) → is_named to p.receiver ≡ b → Hop (held p now) (held p next) moved (Sent p.receiver) (Queue p.router p.receiver)
-      hop true same = inl (
-        sent_is ∙ ap (λ b. of_publisher p (sent_to now.report p.receiver ++ cond b (item_of msg tag) [])) (names.symm p.receiver to ∙ same) ∙ both (sent_to now.report p.receiver) (item_of msg tag),
-        ap (λ z. of_publisher p (items z)) (queue_was same)
-            ∙ both (item_of msg tag) (items xs)
-            ∙ ap (λ z. moved ++ z) (sym (queue_is ∙ ap (λ b. of_publisher p (items (cond b xs (queue_of (end_of es (p.router, p.receiver)))))) same)),
+      first_hop : (b : Bool) → is_named p.receiver to ≡ b → Hop (held p now) (held p next) moved (Sent p.receiver) (Queue p.first p.receiver)
+      first_hop true same = inl (
+        sent_is ∙ ap (λ b. of_publisher p (sent_to now.report p.receiver ++ cond b (item_of msg tag) [])) same
+            ∙ filter-append (λ i. p.by i.line) (sent_to now.report p.receiver) (item_of msg tag)
+            ∙ ap (λ b. held p now (Sent p.receiver) ++ cond b (of_publisher p (item_of msg tag)) (wanted_of p (item_of msg tag))) (sym same),
+        queue_loses p.first p.receiver its ∙ ap (λ z. kept_for p z (item_of msg tag) ++ held p next (Queue p.first p.receiver)) is,
       )
-      hop false other = inr (
-        sent_is ∙ ap (λ b. of_publisher p (sent_to now.report p.receiver ++ cond b (item_of msg tag) [])) (names.symm p.receiver to ∙ other) ∙ ap (of_publisher p) (append-nil (sent_to now.report p.receiver)),
-        queue_is ∙ ap (λ b. of_publisher p (items (cond b xs (queue_of (end_of es (p.router, p.receiver)))))) other,
+        where
+          is : p.receiver ≡ to
+          is = same_name p.receiver to same
+
+          its : is_end (router, to) (p.first, p.receiver) ≡ true
+          its = end_parts (router, to) (p.first, p.receiver)
+              ∙ and_from (is_named router p.first) (is_named to p.receiver)
+              (ap (is_named router) (sym (routed.receiver_home router (ap (λ z. is_some (end_of p.world.ends (router, z))) is ∙ there p routed done now h (router, to) s found))) ∙ names.refl router)
+              (names.symm to p.receiver ∙ same)
+      first_hop false other = inr (
+        sent_is ∙ ap (λ b. of_publisher p (sent_to now.report p.receiver ++ cond b (item_of msg tag) [])) other ∙ ap (of_publisher p) (append-nil (sent_to now.report p.receiver)),
+        queue_stays p.first p.receiver (other_end router p.first to p.receiver (names.symm to p.receiver ∙ other)),
       )
+
+      wire_is : (r v : List ℕ) → held p next (Wire r v) ≡ wanted_of p (items (cond (is_end (to, router) (r, v) && is_some (end_of es (r, v))) (wire_at (end_of es (r, v)) ++ one ∷ []) (wire_at (end_of es (r, v)))))
+      wire_is r v = ap (λ z. wanted_of p (items z)) (wire_reads (r, v))
+
+      between_hop : (r v : List ℕ) → Between p r v → Hop (held p now) (held p next) moved (Wire r v) (Queue v r)
+      between_hop r v k = by (is_end (router, to) (v, r)) refl
+        where
+          at : is_some (end_of es (r, v)) ≡ true
+          at = end_is p routed done now h (r, v) k.end_is
+
+          test_is : (b : Bool) → is_end (router, to) (v, r) ≡ b → (is_end (to, router) (r, v) && is_some (end_of es (r, v))) ≡ b
+          test_is b e = ap (λ z. z && is_some (end_of es (r, v))) (turned_end (router, to) (r, v) ∙ e) ∙ ap (λ z. b && z) at ∙ own b
+            where
+              own : (b : Bool) → (b && true) ≡ b
+              own true = refl
+              own false = refl
+
+          by : (b : Bool) → is_end (router, to) (v, r) ≡ b → Hop (held p now) (held p next) moved (Wire r v) (Queue v r)
+          by true e = inl (
+            wire_is r v ∙ ap (λ b. wanted_of p (items (cond b (wire_at (end_of es (r, v)) ++ one ∷ []) (wire_at (end_of es (r, v)))))) (test_is true e)
+                ∙ ap (wanted_of p) (items_both (wire_at (end_of es (r, v))) (one ∷ []))
+                ∙ wanted_both p (items (wire_at (end_of es (r, v)))) (item_of msg tag ++ [])
+                ∙ ap (λ z. held p now (Wire r v) ++ wanted_of p z) (append-nil (item_of msg tag))
+                ∙ ap (λ z. held p now (Wire r v) ++ z) chosen,
+            queue_loses v r e ∙ ap (λ z. kept_for p z (item_of msg tag) ++ held p next (Queue v r)) (sym to_is),
+          )
+            where
+              to_is : to ≡ r
+              to_is = same_name to r (and_parts (is_named router v) (is_named to r) (sym (end_parts (router, to) (v, r)) ∙ e)).1
+
+              -- the receiver is no router
+              chosen : wanted_of p (item_of msg tag) ≡ kept_for p to (item_of msg tag)
+              chosen = sym (ap (λ b. cond b (of_publisher p (item_of msg tag)) (wanted_of p (item_of msg tag)))
+                  (ap (is_named p.receiver) to_is ∙ names.symm p.receiver r ∙ apart p routed done now h r p.receiver (routed.sound.routers r v k.end_is) routed.receiver_apart))
+          by false e = inr (
+            wire_is r v ∙ ap (λ b. wanted_of p (items (cond b (wire_at (end_of es (r, v)) ++ one ∷ []) (wire_at (end_of es (r, v)))))) (test_is false e),
+            queue_stays v r e,
+          )
+
+      last_same : (v r : List ℕ) → OnWay p v r p.publisher → held p next (Wire r p.publisher) ≡ held p now (Wire r p.publisher)
+      last_same v r k = wire_is r p.publisher ∙ ap (λ b. wanted_of p (items (cond b (wire_at (end_of es (r, p.publisher)) ++ one ∷ []) (wire_at (end_of es (r, p.publisher))))))
+          (ap (λ z. z && is_some (end_of es (r, p.publisher))) (other_end to r router p.publisher (apart p routed done now h router p.publisher is_router routed.publisher_apart)))
 
   -- ---- mark and show
 
@@ -220,171 +294,24 @@ module _ (p : Pair) (done : List Numbered) (now : Moment) (h : Flows p done now)
       Flows p (done ++ (n, act) ∷ []) (record { world = now.world; report = now.report ++ xs })
   told_keeps n act xs none nothing = record {
     routers_is = h.routers_is;
-    home = h.home;
-    end_is = h.end_is;
+    clients_is = h.clients_is;
+    ends_are = h.ends_are;
     calm = h.calm;
-    others = h.others;
-    flow = ap (λ z. of_publisher p z ++ along (held p now) (hops p.receiver (p.router ∷ []) p.publisher))
+    calm_queues = h.calm_queues;
+    wires = h.wires;
+    queues = h.queues;
+    flow = ap (λ z. of_publisher p z ++ along (held p next) (hops p.receiver (p.first ∷ p.more) p.publisher))
         (flat_map-append (sent_in p.receiver) now.report xs ∙ ap (λ z. sent_to now.report p.receiver ++ z) none ∙ append-nil (sent_to now.report p.receiver))
+        ∙ ap (λ z. held p now (Sent p.receiver) ++ z) (keeps (held p now) (held p next) [] (hops p.receiver (p.first ∷ p.more) p.publisher)
+        (handled (OnWay p) (Between p) p.publisher (held p now) (held p next) [] (λ to r v k. inr (refl, refl)) p.receiver (p.first ∷ p.more) routed.whole_way))
         ∙ h.flow ∙ sym (from_same p.before done (n, act) p.publisher p.receiver nothing);
   }
+    where
+      next : Moment
+      next = record { world = now.world; report = now.report ++ xs }
 
   pub mark_keeps : (n : ℕ) → Flows p (done ++ (n, c.Mark) ∷ []) (on_mark now n)
   mark_keeps n = told_keeps n c.Mark (line.Mark n ∷ []) refl refl
 
   pub show_keeps : (n : ℕ) (router : List ℕ) (r : RouterState) → Flows p (done ++ (n, c.Show router) ∷ []) (on_show now router r)
-  show_keeps n router r = told_keeps n (c.Show router) (line.Show router ∷ shown r.node.base) (shows_nothing r.node.base p.receiver) refl
-
-  -- ---- handle
-
-  -- what comes to the receiver's queue, if it has one
-  abbrev gained : RouterState → LinkNo → Msg → ℕ → List Tagged
-  gained r l msg tag = cond p.has_end (all_tagged tag (sends_to r.node (From l msg) p.receiver)) []
-
-  queue_gains : (ms : List Msg) (tag : ℕ) (o : Option EndState) → queue_of (option_map (λ z. queued z ms tag) o) ≡ queue_of o ++ cond (is_some o) (all_tagged tag ms) []
-  queue_gains ms tag None = refl
-  queue_gains ms tag (Some s) = refl
-
-  -- A message has left the wire, and the router's tables stay. Of what it is on the wire for the receiver, all has come to the receiver's
-  -- queue, and nothing else has.
-  handle_keeps : (n : ℕ) (router name : List ℕ) (r : RouterState) → router_of now.world.routers router ≡ Some r →
-      (s : EndState) → end_of es (router, name) ≡ Some s → (l : LinkNo) (msg : Msg) (tag : ℕ) (xs : List Tagged) → s.wire ≡ record { msg = msg; tag = tag } ∷ xs →
-      hearing r (From l msg) ≡ r →
-      (is_named name p.publisher ≡ true → wanted_of p (item_of msg tag) ≡ of_publisher p (items (gained r l msg tag))) →
-      (is_named name p.publisher ≡ false → of_publisher p (items (gained r l msg tag)) ≡ []) →
-      Flows p (done ++ (n, c.Handle router name) ∷ []) (on_handle now router name r s l msg tag xs)
-  handle_keeps n router name r found_r s e l msg tag xs front tables own_is other_is = record {
-    routers_is = ap (with_router now.world.routers router) tables ∙ set_value_same (is_named router) now.world.routers r found_r ∙ h.routers_is;
-    home = λ q there. h.home q (sym (kept is_some (λ z sent_. refl) q ∙ left is_some refl q) ∙ there);
-    end_is = kept is_some (λ z sent_. refl) (p.router, p.receiver) ∙ left is_some refl (p.router, p.receiver) ∙ h.end_is;
-    calm = λ q. kept (λ o. list_all is_calm (wire_of o)) (λ z sent_. refl) q
-        ∙ test_with_end es (router, name) (with_wire s xs) (λ o. list_all is_calm (wire_of o)) q s e (h.calm q) (λ same all. (rest is_calm all).1);
-    others = λ q other. kept (λ o. list_all (λ y. not (p.by y.tag)) (wire_of o)) (λ z sent_. refl) q
-        ∙ test_with_end es (router, name) (with_wire s xs) (λ o. list_all (λ y. not (p.by y.tag)) (wire_of o)) q s e (h.others q other) (λ same all. (rest (λ y. not (p.by y.tag)) all).1);
-    flow = ap (λ z. z ++ along (held p next) (hops p.receiver (p.router ∷ []) p.publisher)) sent_is
-        ∙ ap (λ z. held p now (Sent p.receiver) ++ z) (keeps (held p now) (held p next) moved (hops p.receiver (p.router ∷ []) p.publisher) (hop (is_named name p.publisher) refl, tt))
-        ∙ h.flow ∙ sym (from_same p.before done (n, c.Handle router name) p.publisher p.receiver refl);
-  }
-    where
-      next : Moment
-      next = on_handle now router name r s l msg tag xs
-
-      half : Ends
-      half = with_end es (router, name) (with_wire s xs)
-
-      moved : List Item
-      moved = of_publisher p (items (gained r l msg tag))
-
-      ms : List Msg
-      ms = sends_to r.node (From l msg) p.receiver
-
-      kept : {Y : Type 0} (f : Option EndState → Y) → ((z : EndState) (sent_ : List Msg) → f (Some (queued z sent_ tag)) ≡ f (Some z)) → (q : End) →
-          f (end_of next.world.ends q) ≡ f (end_of half q)
-      kept f same q = keep_all_queued half router r.node (From l msg) tag f q (λ z. same z (sends_to r.node (From l msg) q.1))
-
-      left : {Y : Type 0} (f : Option EndState → Y) → f (Some (with_wire s xs)) ≡ f (Some s) → (q : End) → f (end_of half q) ≡ f (end_of es q)
-      left f same q = keep_with_end es (router, name) (with_wire s xs) f q s e same
-
-      rest : (t : Tagged → Bool) → list_all t s.wire ≡ true → (t (record { msg = msg; tag = tag }) ≡ true) × (list_all t xs ≡ true)
-      rest t all = and_parts (t (record { msg = msg; tag = tag })) (list_all t xs) (ap (list_all t) (sym front) ∙ all)
-
-      sent_is : held p next (Sent p.receiver) ≡ held p now (Sent p.receiver)
-      sent_is = ap (of_publisher p) (sent_more now.report (line.Handled router name msg tag) p.receiver ∙ append-nil (sent_to now.report p.receiver))
-
-      queue_is : held p next (Queue p.router p.receiver) ≡ held p now (Queue p.router p.receiver) ++ moved
-      queue_is =
-          ap (λ z. of_publisher p (items z)) (read_all_queued half router r.node (From l msg) tag queue_of (p.router, p.receiver)
-          ∙ ap (λ b. cond b (queue_of (option_map (λ z. queued z ms tag) (end_of half (p.router, p.receiver)))) (queue_of (end_of half (p.router, p.receiver)))) (names.symm router p.router ∙ (h.home (router, name) (ap is_some e)).0)
-          ∙ queue_gains ms tag (end_of half (p.router, p.receiver))
-          ∙ ap (λ z. z ++ cond (is_some (end_of half (p.router, p.receiver))) (all_tagged tag ms) []) (left queue_of refl (p.router, p.receiver))
-          ∙ ap (λ b. queue_of (end_of es (p.router, p.receiver)) ++ cond b (all_tagged tag ms) []) (left is_some refl (p.router, p.receiver) ∙ h.end_is))
-          ∙ ap (of_publisher p) (items_both (queue_of (end_of es (p.router, p.receiver))) (gained r l msg tag))
-          ∙ filter-append (λ i. p.by i.line) (items (queue_of (end_of es (p.router, p.receiver)))) (items (gained r l msg tag))
-
-      wire_is : held p next (Wire p.router p.publisher) ≡ wanted_of p (items (cond (is_named name p.publisher) xs (wire_of (end_of es (p.router, p.publisher)))))
-      wire_is = ap (λ z. wanted_of p (items z)) (kept wire_of (λ z sent_. refl) (p.router, p.publisher)
-          ∙ read_with_end es (router, name) (with_wire s xs) wire_of (p.router, p.publisher) (ap is_some e)
-          ∙ ap (λ b. cond b xs (wire_of (end_of es (p.router, p.publisher)))) (end_named router name s e p.publisher))
-
-      wire_was : is_named name p.publisher ≡ true → wire_of (end_of es (p.router, p.publisher)) ≡ record { msg = msg; tag = tag } ∷ xs
-      wire_was same = sym (ap (λ z. wire_of (end_of es (p.router, z))) (same_name name p.publisher same)) ∙ ap (λ z. wire_of (end_of es (z, name))) (at_router router name s e) ∙ ap wire_of e ∙ front
-
-      hop : (b : Bool) → is_named name p.publisher ≡ b → Hop (held p now) (held p next) moved (Queue p.router p.receiver) (Wire p.router p.publisher)
-      hop true same = inl (
-        queue_is,
-        ap (λ z. wanted_of p (items z)) (wire_was same)
-            ∙ filter-append (λ i. p.by i.line && wants p.before p.publisher p.receiver i.content.key) (item_of msg tag) (items xs)
-            ∙ ap (λ z. z ++ wanted_of p (items xs)) (own_is same)
-            ∙ ap (λ z. moved ++ z) (sym (wire_is ∙ ap (λ b. wanted_of p (items (cond b xs (wire_of (end_of es (p.router, p.publisher)))))) same)),
-      )
-      hop false other = inr (
-        queue_is ∙ ap (λ z. held p now (Queue p.router p.receiver) ++ z) (other_is other) ∙ append-nil (held p now (Queue p.router p.receiver)),
-        wire_is ∙ ap (λ b. wanted_of p (items (cond b xs (wire_of (end_of es (p.router, p.publisher)))))) other,
-      )
-
-  -- a message that the router takes in silence
-  pub silent_keeps : (n : ℕ) (router name : List ℕ) (r : RouterState) → router_of now.world.routers router ≡ Some r →
-      (s : EndState) → end_of es (router, name) ≡ Some s → (l : LinkNo) (msg : Msg) (tag : ℕ) (xs : List Tagged) → s.wire ≡ record { msg = msg; tag = tag } ∷ xs → IsSilent msg →
-      Flows p (done ++ (n, c.Handle router name) ∷ []) (on_handle now router name r s l msg tag xs)
-  silent_keeps n router name r found_r s e l msg tag xs front silent =
-      handle_keeps n router name r found_r s e l msg tag xs front (ap (λ z. record { node = z; weight = r.weight }) (silent.keeps_nothing r.node l.0))
-      (λ same. nothing ∙ sym none) (λ other. none)
-    where
-      nothing : wanted_of p (item_of msg tag) ≡ []
-      nothing = ap (λ o. wanted_of p (items_of o tag)) silent.no_sample
-
-      sends_none : sends_to r.node (From l msg) p.receiver ≡ []
-      sends_none = by (link_to (after r.node (From l msg)).links p.receiver)
-        where
-          by : (o : Option LinkState) → option_map_or (λ k. sends r.node (From l msg) k.link) o [] ≡ []
-          by None = refl
-          by (Some k) = silent.sends_nothing r.node l.0 k.link.0
-
-      none : of_publisher p (items (gained r l msg tag)) ≡ []
-      none = ap (λ z. of_publisher p (items (cond p.has_end (all_tagged tag z) []))) sends_none ∙ by p.has_end
-        where
-          by : (b : Bool) → of_publisher p (items (cond b [] [])) ≡ []
-          by true = refl
-          by false = refl
-
-  -- a sample
-  pub push_keeps : IsRouted p → (n : ℕ) (router name : List ℕ) (r : RouterState) → router_of now.world.routers router ≡ Some r →
-      (s : EndState) → end_of es (router, name) ≡ Some s → (l : LinkNo) → number_to r name ≡ Ok l → (tree : Option (List ℕ)) (content : Parts) (tag : ℕ) (xs : List Tagged) →
-      s.wire ≡ record { msg = m.Push tree content; tag = tag } ∷ xs → Flows p (done ++ (n, c.Handle router name) ∷ []) (on_handle now router name r s l (m.Push tree content) tag xs)
-  push_keeps routed n router name r found_r s e l el tree content tag xs front =
-      handle_keeps n router name r found_r s e l (m.Push tree content) tag xs front refl own other_is
-    where
-      item : Item
-      item = record { line = tag; content = content }
-
-      w : Bool
-      w = wants p.before p.publisher p.receiver content.key
-
-      own : is_named name p.publisher ≡ true → wanted_of p (item ∷ []) ≡ of_publisher p (items (gained r l (m.Push tree content) tag))
-      own same = by p.has_end refl (w) refl
-          ∙ sym (ap (λ z. of_publisher p (items (cond p.has_end (all_tagged tag z) [])))
-          (routed.wanted router r (ap (λ z. router_of z router) (sym h.routers_is) ∙ found_r) l (ap (number_to r) (sym (same_name name p.publisher same)) ∙ el) tree content))
-        where
-          tagged_by : (a v : Bool) → cond (a && v) (item ∷ []) [] ≡ cond v (cond a (item ∷ []) []) []
-          tagged_by true true = refl
-          tagged_by true false = refl
-          tagged_by false true = refl
-          tagged_by false false = refl
-
-          by : (b : Bool) → p.has_end ≡ b → (v : Bool) → w ≡ v →
-              cond (p.by tag && v) (item ∷ []) [] ≡ of_publisher p (items (cond b (all_tagged tag (cond v (m.Push None content ∷ []) [])) []))
-          by true k true kv = tagged_by (p.by tag) true
-          by true k false kv = tagged_by (p.by tag) false
-          by false k false kv = tagged_by (p.by tag) false
-          by false k true kv = absurd (true≢false (sym kv ∙ routed.absent k content.key))
-
-      other_is : is_named name p.publisher ≡ false → of_publisher p (items (gained r l (m.Push tree content) tag)) ≡ []
-      other_is other = by p.has_end
-        where
-          foreign : p.by tag ≡ false
-          foreign = not-true (p.by tag) (and_parts (not (p.by tag)) (list_all (λ y. not (p.by y.tag)) xs) (ap (list_all (λ y. not (p.by y.tag))) (sym front)
-              ∙ ap (λ o. list_all (λ y. not (p.by y.tag)) (wire_of o)) (sym e) ∙ h.others (router, name) (names.symm p.publisher name ∙ other))).0
-
-          by : (b : Bool) → of_publisher p (items (cond b (all_tagged tag (sends_to r.node (From l (m.Push tree content)) p.receiver)) [])) ≡ []
-          by true = foreign_items p tag foreign (sends_to r.node (From l (m.Push tree content)) p.receiver)
-          by false = refl
+  show_keeps n router r = told_keeps n (c.Show router) (line.Show router ∷ shown r.node) (shows_nothing r.node p.receiver) refl

@@ -11,6 +11,9 @@ use Rattle.zr_id.specs.Zid.{is_named}
 use Rattle.zr_id.specs.declared.link.LinkNo.{LinkNo}
 use Rattle.zr_graph.specs.Record.{ids}
 use Rattle.zr_graph.specs.Base.{BaseState}
+use Rattle.zr_log.specs.declared.log.Log.{Log}
+use Rattle.zr_msg.specs.declared.decl.Kind.{Kind}
+use Rattle.zr_msg.specs.declared.decl.Kind.TheVariants as sort
 use Rattle.zr_msg.specs.declared.msg.Msg.{Msg}
 use Rattle.zr_msg.specs.declared.msg.Msg.TheVariants as m
 use Rattle.zr_msg.specs.declared.event.Event.{Event}
@@ -21,16 +24,18 @@ use Rattle.zr_command.specs.declared.command.Act.{Act}
 use Rattle.zr_command.specs.declared.command.Act.TheVariants as c
 use Rattle.zr_command.specs.declared.report.ReportLine.{ReportLine}
 use Rattle.zr_command.specs.declared.report.ReportLine.TheVariants as line
-use Rattle.zr_table.specs.State.{LinkState, NodeState, link_to}
-use Rattle.zr_table.specs.Table.{sends, after}
-use Rattle.zr_network.specs.World.{Tagged, RouterState, EndState, Ends, end_of, broken, lifted, lowered, sent, with_wire, with_queue, new_end, with_end, put_end, changed}
-use Rattle.zr_network.specs.Acts.{peer_of, up_event, sends_to, all_queued, parent_line, shown, outcome}
+use Rattle.zr_routing.specs.Tables.{link_to}
+use Rattle.zr_table.specs.State.{NodeState}
+use Rattle.zr_msg.specs.declared.peer.LinkPeer.{LinkPeer}
+use Rattle.zr_table.specs.Table.{able_kind, sends, after}
+use Rattle.zr_network.specs.World.{Tagged, ClientState, RouterState, EndState, Ends, end_of, broken, lifted, lowered, sent, with_wire, with_queue, new_end, with_end, put_end, changed}
+use Rattle.zr_network.specs.Acts.{peer_of, up_event, sends_to, all_queued, parent_line, source_line, shown_base, shown, declare_step, undeclare_step, outcome}
 use Rattle.zr_network.specs.Moments.{Moment, went}
 use Rattle.zr_guarantee.specs.Item.{Item}
 use Rattle.zr_guarantee.specs.Sent.{item_of, sent_in, sent_to}
-use Rattle.zr_network.proofs.Cases.{for_router, for_client, for_link, for_up, for_break, for_down, for_sub, for_unsub, for_publish, for_handle, for_take, for_mark, for_show}
+use Rattle.zr_network.proofs.Cases.{for_router, for_client, for_link, for_up, for_break, for_down, for_declare, for_undeclare, for_publish, for_handle, for_take, for_mark, for_show}
 use Rattle.zr_network.proofs.Lists.{all_both}
-use Rattle.zr_laws.proofs.Ends.{AtEnds, of_found, with_end_all, put_end_all, changed_all, all_queued_all}
+use Rattle.zr_settled.proofs.Ends.{AtEnds, of_found, with_end_all, put_end_all, changed_all, all_queued_all}
 
 -- all that waits at an end passes
 abbrev pub Passes : (Tagged → Bool) → EndState → Type 0
@@ -54,6 +59,8 @@ Allows t n (c.Break router neighbour) = Unit {0}
 Allows t n (c.Down router neighbour) = (node : NodeState) (link : LinkNo) → AllPass t n node (Down link)
 Allows t n (c.Sub client id key) = t (record { msg = m.Sub id key; tag = n }) ≡ true
 Allows t n (c.Unsub client id) = t (record { msg = m.Unsub id; tag = n }) ≡ true
+Allows t n (c.Able client id key complete) = t (record { msg = m.Able id key complete; tag = n }) ≡ true
+Allows t n (c.Unable client id) = t (record { msg = m.Unable id; tag = n }) ≡ true
 Allows t n (c.Publish client content) = t (record { msg = m.Push None content; tag = n }) ≡ true
 Allows t n (c.Handle router from) = Unit {0}
 Allows t n (c.Take router to) = Unit {0}
@@ -63,8 +70,8 @@ Allows t n (c.Show router) = Unit {0}
 -- ---- report lines
 
 -- the report of a router's tables has no sample
-pub shows_nothing : (b : BaseState) (q : List ℕ) → sent_to (shown b) q ≡ []
-shows_nothing b q =
+shows_no_base : (b : BaseState) (q : List ℕ) → sent_to (shown_base b) q ≡ []
+shows_no_base b q =
     flat_map-append (sent_in q) (map (λ r. line.Record r) b.records) (map (λ root. parent_line b root) (filter (λ id. not (is_named id b.me)) (ids b.records)))
     ∙ rw (records b.records, parents (filter (λ id. not (is_named id b.me)) (ids b.records))) refl
   where
@@ -76,10 +83,17 @@ shows_nothing b q =
     parents [] = refl
     parents (x ∷ xs) = parents xs
 
+pub shows_nothing : (node : NodeState) (q : List ℕ) → sent_to (shown node) q ≡ []
+shows_nothing node q = flat_map-append (sent_in q) (shown_base node.base) (map source_line node.known.logs) ∙ rw (shows_no_base node.base q) (sources node.known.logs)
+  where
+    sources : (logs : List Log) → flat_map (sent_in q) (map source_line logs) ≡ []
+    sources [] = refl
+    sources (x ∷ xs) = sources xs
+
 -- ---- messages
 
 -- messages with one tag
-tagged_all : (t : Tagged → Bool) (tag : ℕ) (ms : List Msg) → list_all (λ z. t (record { msg = z; tag = tag })) ms ≡ true →
+pub tagged_all : (t : Tagged → Bool) (tag : ℕ) (ms : List Msg) → list_all (λ z. t (record { msg = z; tag = tag })) ms ≡ true →
     list_all t (map (λ z. record { msg = z; tag = tag }) ms) ≡ true
 tagged_all t tag [] h = refl
 tagged_all t tag (x ∷ xs) h =
@@ -91,7 +105,7 @@ to_pass : (t : Tagged → Bool) (tag : ℕ) (node : NodeState) (event : Event) �
     list_all (λ z. t (record { msg = z; tag = tag })) (sends_to node event y) ≡ true
 to_pass t tag node event h y = by (link_to (after node event).links y)
   where
-    by : (o : Option LinkState) → list_all (λ z. t (record { msg = z; tag = tag })) (option_map_or (λ l. sends node event l.link) o []) ≡ true
+    by : (o : Option LinkPeer) → list_all (λ z. t (record { msg = z; tag = tag })) (option_map_or (λ l. sends node event l.link) o []) ≡ true
     by None = refl
     by (Some l) = h l.link
 
@@ -118,9 +132,25 @@ module _ (t : Tagged → Bool) (i : Item → Bool) (carried : (msg : Msg) (tag :
     abbrev es : Ends
     es = now.world.ends
 
+    -- a client's message
+    wrote : (n : ℕ) (client : List ℕ) (s : ClientState) (msg : Msg) (en : EndState) → end_of es (s.router, client) ≡ Some en → t (record { msg = msg; tag = n }) ≡ true →
+        AtEnds (Passes t) (with_end es (s.router, client) (sent en msg n))
+    wrote n client s msg en ee k = with_end_all (Passes t) es h.waits (s.router, client) (sent en msg n) (ap is_some ee)
+        (sent_passes t en msg n k (of_found (Passes t) (end_of es (s.router, client)) en ee (h.waits (s.router, client))))
+
+    declares : (n : ℕ) (client : List ℕ) (kind : Kind) (id : ℕ) (key : List ℕ) (msg : Msg) → t (record { msg = msg; tag = n }) ≡ true →
+        IfSome (went now (declare_step now.world n client kind id key msg)) (Watched t i)
+    declares n client kind id key msg k = for_declare now (Watched t i) n client kind id key msg
+        (λ s e fresh en ee unbroken r er room. record { waits = wrote n client s msg en ee k; sends_only = more [] (λ q. refl) })
+
+    undeclares : (n : ℕ) (client : List ℕ) (kind : Kind) (id : ℕ) (msg : Msg) → t (record { msg = msg; tag = n }) ≡ true →
+        IfSome (went now (undeclare_step now.world n client kind id msg)) (Watched t i)
+    undeclares n client kind id msg k = for_undeclare now (Watched t i) n client kind id msg
+        (λ s e known en ee unbroken. record { waits = wrote n client s msg en ee k; sends_only = more [] (λ q. refl) })
+
     pub act_watched : (n : ℕ) (act : Act) → Allows t n act → IfSome (went now (outcome now.world n act)) (Watched t i)
     unfolding outcome
-    act_watched n (c.Router id) k = for_router now (Watched t i) id (λ free room alone. record { waits = h.waits; sends_only = more [] (λ q. refl) })
+    act_watched n (c.Router id) k = for_router now (Watched t i) id (λ free room. record { waits = h.waits; sends_only = more [] (λ q. refl) })
     act_watched n (c.Client id router) k = for_client now (Watched t i) n id router
         (λ r er free room taken. record {
           waits = hearing_passes t (put_end es (router, id) (lifted new_end)) router r.node (up_event r (record { id = id; role = role.Client })) n (k r (record { id = id; role = role.Client })) (put_end_all (Passes t) es h.waits (router, id) (lifted new_end) (refl, refl));
@@ -147,26 +177,14 @@ module _ (t : Tagged → Bool) (i : Item → Bool) (carried : (msg : Msg) (tag :
           waits = changed_all (Passes t) (all_queued es router r.node (Down l) n) (hearing_passes t es router r.node (Down l) n (k r.node l) h.waits) (router, name) lowered (λ s p. (p.0, refl));
           sends_only = more [] (λ q. refl);
         })
-    act_watched n (c.Sub client id key) k = for_sub now (Watched t i) n client id key
-        (λ s e fresh en ee unbroken alone r er. record {
-          waits = with_end_all (Passes t) es h.waits (s.router, client) (sent en (m.Sub id key) n) (ap is_some ee)
-              (sent_passes t en (m.Sub id key) n k (of_found (Passes t) (end_of es (s.router, client)) en ee (h.waits (s.router, client))));
-          sends_only = more [] (λ q. refl);
-        })
-    act_watched n (c.Unsub client id) k = for_unsub now (Watched t i) n client id
-        (λ s e known en ee unbroken alone. record {
-          waits = with_end_all (Passes t) es h.waits (s.router, client) (sent en (m.Unsub id) n) (ap is_some ee)
-              (sent_passes t en (m.Unsub id) n k (of_found (Passes t) (end_of es (s.router, client)) en ee (h.waits (s.router, client))));
-          sends_only = more [] (λ q. refl);
-        })
+    act_watched n (c.Sub client id key) k = declares n client sort.Sub id key (m.Sub id key) k
+    act_watched n (c.Unsub client id) k = undeclares n client sort.Sub id (m.Unsub id) k
+    act_watched n (c.Able client id key complete) k = declares n client (able_kind complete) id key (m.Able id key complete) k
+    act_watched n (c.Unable client id) k = undeclares n client sort.Able id (m.Unable id) k
     act_watched n (c.Publish client content) k = for_publish now (Watched t i) n client content
-        (λ s e en ee unbroken alone. record {
-          waits = with_end_all (Passes t) es h.waits (s.router, client) (sent en (m.Push None content) n) (ap is_some ee)
-              (sent_passes t en (m.Push None content) n k (of_found (Passes t) (end_of es (s.router, client)) en ee (h.waits (s.router, client))));
-          sends_only = more [] (λ q. refl);
-        })
+        (λ s e en ee unbroken. record { waits = wrote n client s (m.Push None content) en ee k; sends_only = more [] (λ q. refl) })
     act_watched n (c.Handle router from) k = for_handle now (Watched t i) router from
-        (λ r er there s es_ up msg tag xs front l el.
+        (λ r er there s es_ up msg tag xs front l el taken.
         let old = of_found (Passes t) (end_of es (router, from)) s es_ (h.waits (router, from)) in
         let parts = and_parts (t (record { msg = msg; tag = tag })) (list_all t xs) (ap (list_all t) (sym front) ∙ old.0) in
         record {
@@ -189,4 +207,4 @@ module _ (t : Tagged → Bool) (i : Item → Bool) (carried : (msg : Msg) (tag :
         taken router to msg tag p false = refl
     act_watched n c.Mark k = for_mark now (Watched t i) n (λ settled joined. record { waits = h.waits; sends_only = more (line.Mark n ∷ []) (λ q. refl) })
     act_watched n (c.Show router) k = for_show now (Watched t i) router
-        (λ r er. record { waits = h.waits; sends_only = more (line.Show router ∷ shown r.node.base) (λ q. ap (list_all i) (shows_nothing r.node.base q)) })
+        (λ r er. record { waits = h.waits; sends_only = more (line.Show router ∷ shown r.node) (λ q. ap (list_all i) (shows_nothing r.node q)) })

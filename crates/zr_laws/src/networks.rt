@@ -1,6 +1,6 @@
 //! Scripts of several routers, and of links that come and go, worked out from their bytes.
 
-ghost use Rattle.zr_laws.specs.Networks.{ApartIsNotJoined, BrokenIsNotLinked, BrokenIsNotSettled, DownIsTold, RecordsGoOn, RoutersTell, RoutersTellOfLinksAlone};
+ghost use Rattle.zr_laws.specs.Networks.{ApartIsNotJoined, BrokenIsNotLinked, BrokenIsNotSettled, DownIsTold, RecordsGoOn, RoutersTell, SamplesCross, SnapshotsMend};
 
 /// Two routers whose link comes up tell each other of it: their network is settled and joined, and each has both records.
 pub fn routers_tell()
@@ -32,7 +32,12 @@ pub fn broken_is_not_linked()
     ensures { BrokenIsNotLinked }
 {}
 
-/// So far two routers have no declarations and samples.
-pub fn routers_tell_of_links_alone()
-    ensures { RoutersTellOfLinksAlone }
+/// A subscriber of one router is sent what a client of another publishes, once, and the sample names its tree between the routers.
+pub fn samples_cross()
+    ensures { SamplesCross }
+{}
+
+/// A declaration that was lost with a link, and taken back while it was down, is mended by a snapshot when the link is up again.
+pub fn snapshots_mend()
+    ensures { SnapshotsMend }
 {}

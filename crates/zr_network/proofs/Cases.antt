@@ -1,7 +1,7 @@
 -- What each act of a world comes to where it is accepted. To show something of the moment after an act it is enough to
 -- show it there: a refused act leads to no moment. Each lemma hands on what the act looked up, with its equation.
 use Rattle.std.proofs.Common.{◌≡◌, ℕ, Bool, true, false, cond, not, List, [], ◌∷◌, ◌++◌, length, Option, Some, None, Result, Ok, Err, refl, sym, ap, subst}
-use Rattle.std.specs.Prelude.{◌+◌, ◌&&◌, nat_le, is_some, is_ok, IfSome}
+use Rattle.std.specs.Prelude.{◌+◌, nat_le, is_some, is_ok, IfSome}
 use Rattle.std.specs.Ordering.{nat_cmp}
 use Rattle.std.specs.Cmp.Lexicographic.{slice_cmp}
 use Rattle.std.specs.BTreeMap.{insert_entry}
@@ -9,6 +9,7 @@ use Rattle.std.proofs.lemmas.Bool.{false≢true, or_parts}
 use Rattle.zr_id.specs.Zid.{is_named}
 use Rattle.zr_id.specs.declared.link.LinkNo.{LinkNo}
 use Rattle.zr_msg.specs.declared.content.Parts.{Parts}
+use Rattle.zr_msg.specs.declared.decl.Kind.{Kind}
 use Rattle.zr_msg.specs.declared.error.NodeError.{NodeError}
 use Rattle.zr_msg.specs.declared.msg.Msg.{Msg}
 use Rattle.zr_msg.specs.declared.msg.Msg.TheVariants as m
@@ -18,12 +19,13 @@ use Rattle.zr_msg.specs.declared.peer.Role.TheVariants as role
 use Rattle.zr_command.specs.declared.error.ScriptError.{ScriptError}
 use Rattle.zr_command.specs.declared.error.ScriptError.TheVariants.{NotLinked, Limit}
 use Rattle.zr_command.specs.declared.report.ReportLine.TheVariants as line
-use Rattle.zr_table.specs.State.{LinkState, link_to}
+use Rattle.zr_routing.specs.Tables.{link_to}
+use Rattle.zr_msg.specs.declared.peer.LinkPeer.{LinkPeer}
 use Rattle.zr_table.specs.Table.{refuses}
 use Rattle.zr_language.specs.Step.{◌>>=◌}
-use Rattle.zr_network.specs.World.{Tagged, ClientState, RouterState, EndState, Routers, WorldState, with_routers, with_clients, with_ends, in_use, new_router, new_client, new_end, router_of, client_of, with_router, with_client, is_taken, end_of, with_end, put_end, most_routers, most_clients, most_links, most_weight, weight_of, is_in_place, links_in_place, sent, with_wire, with_queue, broken, lifted, lowered, changed, is_settled}
+use Rattle.zr_network.specs.World.{Tagged, ClientState, RouterState, EndState, Routers, WorldState, with_routers, with_clients, with_ends, new_router, new_client, new_end, router_of, client_of, with_router, with_client, is_taken, end_of, with_end, put_end, most_routers, most_clients, most_links, most_weight, weight_of, is_in_place, links_in_place, sent, with_wire, with_queue, broken, lifted, lowered, changed, is_settled}
 use Rattle.zr_network.specs.Joined.{is_joined}
-use Rattle.zr_network.specs.Acts.{Outcome, unless, router_at, client_at, end_at, oldest, has_id, is_alone, weighing, weighed, declaring, undeclaring, heard, heard_by, hears, peer_of, up_event, number_at, number_to, shown, client_sends, router_step, client_step, link_step, up_step, break_step, down_step, sub_step, unsub_step, publish_step, handle_step, take_step, mark_step, show_step}
+use Rattle.zr_network.specs.Acts.{Outcome, unless, router_at, client_at, end_at, oldest, has_id, weighing, weighed, declaring, undeclaring, heard, heard_by, hears, peer_of, up_event, number_at, number_to, shown, client_sends, router_step, client_step, link_step, up_step, break_step, down_step, declare_step, undeclare_step, publish_step, handle_step, take_step, mark_step, show_step}
 use Rattle.zr_network.specs.Moments.{Moment, went}
 
 -- ---- the worlds that acts lead to
@@ -48,14 +50,16 @@ w_down w n router name r l = let v : WorldState = heard w router r (Down l) n in
 
 -- a client's message is on the wire
 abbrev pub w_sent : WorldState → ℕ → List ℕ → ClientState → EndState → Msg → WorldState
-w_sent w n name s e msg = in_use (with_ends w (with_end w.ends (s.router, name) (sent e msg n)))
+w_sent w n name s e msg = with_ends w (with_end w.ends (s.router, name) (sent e msg n))
 
-abbrev pub w_sub : WorldState → ℕ → List ℕ → ℕ → List ℕ → ClientState → EndState → RouterState → WorldState
-w_sub w n name id key s e r =
-    let v : WorldState = w_sent w n name s e (m.Sub id key) in with_clients (with_routers v (with_router w.routers s.router (weighing r key))) (with_client w.clients name (declaring s id))
+-- it declares something, or takes it back
+abbrev pub w_declare : WorldState → ℕ → List ℕ → Kind → ℕ → List ℕ → Msg → ClientState → EndState → RouterState → WorldState
+w_declare w n name kind id key msg s e r =
+    let v : WorldState = w_sent w n name s e msg in
+    with_clients (with_routers v (with_router w.routers s.router (weighing r key))) (with_client w.clients name (declaring s kind id))
 
-abbrev pub w_unsub : WorldState → ℕ → List ℕ → ℕ → ClientState → EndState → WorldState
-w_unsub w n name id s e = with_clients (w_sent w n name s e (m.Unsub id)) (with_client w.clients name (undeclaring s id))
+abbrev pub w_undeclare : WorldState → ℕ → List ℕ → Kind → ℕ → Msg → ClientState → EndState → WorldState
+w_undeclare w n name kind id msg s e = with_clients (w_sent w n name s e msg) (with_client w.clients name (undeclaring s kind id))
 
 abbrev pub w_handle : WorldState → List ℕ → List ℕ → RouterState → EndState → LinkNo → Msg → ℕ → List Tagged → WorldState
 w_handle w router from r s l msg tag xs = heard (with_ends w (with_end w.ends (router, from) (with_wire s xs))) router r (From l msg) tag
@@ -83,11 +87,11 @@ on_break now router name = record { world = w_break now.world router name; repor
 abbrev pub on_down : Moment → ℕ → List ℕ → List ℕ → RouterState → LinkNo → Moment
 on_down now n router name r l = record { world = w_down now.world n router name r l; report = now.report ++ [] }
 
-abbrev pub on_sub : Moment → ℕ → List ℕ → ℕ → List ℕ → ClientState → EndState → RouterState → Moment
-on_sub now n name id key s e r = record { world = w_sub now.world n name id key s e r; report = now.report ++ [] }
+abbrev pub on_declare : Moment → ℕ → List ℕ → Kind → ℕ → List ℕ → Msg → ClientState → EndState → RouterState → Moment
+on_declare now n name kind id key msg s e r = record { world = w_declare now.world n name kind id key msg s e r; report = now.report ++ [] }
 
-abbrev pub on_unsub : Moment → ℕ → List ℕ → ℕ → ClientState → EndState → Moment
-on_unsub now n name id s e = record { world = w_unsub now.world n name id s e; report = now.report ++ [] }
+abbrev pub on_undeclare : Moment → ℕ → List ℕ → Kind → ℕ → Msg → ClientState → EndState → Moment
+on_undeclare now n name kind id msg s e = record { world = w_undeclare now.world n name kind id msg s e; report = now.report ++ [] }
 
 abbrev pub on_publish : Moment → ℕ → List ℕ → Parts → ClientState → EndState → Moment
 on_publish now n name content s e = record { world = w_sent now.world n name s e (m.Push None content); report = now.report ++ [] }
@@ -102,7 +106,7 @@ abbrev pub on_mark : Moment → ℕ → Moment
 on_mark now n = record { world = now.world; report = now.report ++ line.Mark n ∷ [] }
 
 abbrev pub on_show : Moment → List ℕ → RouterState → Moment
-on_show now router r = record { world = now.world; report = now.report ++ line.Show router ∷ shown r.node.base }
+on_show now router r = record { world = now.world; report = now.report ++ line.Show router ∷ shown r.node }
 
 -- ---- what a reading that is not refused has read
 
@@ -123,21 +127,22 @@ oldest_found [] x h = absurd (false≢true (ap is_ok h))
 oldest_found (y ∷ ys) x h = cc
 
 -- the link of a number to a neighbour
-pub number_found : (r : RouterState) (name : List ℕ) (l : LinkNo) → number_to r name ≡ Ok l → (k : LinkState) × (link_to r.node.links name ≡ Some k) × (k.link ≡ l)
+pub number_found : (r : RouterState) (name : List ℕ) (l : LinkNo) → number_to r name ≡ Ok l → (k : LinkPeer) × (link_to r.node.links name ≡ Some k) × (k.link ≡ l)
 number_found r name l h = by (link_to r.node.links name) h
   where
-    by : (o : Option LinkState) → number_at o ≡ Ok l → (k : LinkState) × (o ≡ Some k) × (k.link ≡ l)
+    by : (o : Option LinkPeer) → number_at o ≡ Ok l → (k : LinkPeer) × (o ≡ Some k) × (k.link ≡ l)
     by None h = absurd (false≢true (ap is_ok h))
     by (Some k) h = (k, refl, cc)
 
 weighed_found : (routers : Routers) (name key : List ℕ) (o : Option RouterState) (rs : Routers) → weighed routers name key o ≡ Ok rs →
-    (r : RouterState) × (o ≡ Some r) × (rs ≡ with_router routers name (weighing r key))
+    (r : RouterState) × (o ≡ Some r) × (rs ≡ with_router routers name (weighing r key)) × (nat_le (r.weight + weight_of key) most_weight ≡ true)
 weighed_found routers name key None rs h = absurd (false≢true (ap is_ok h))
-weighed_found routers name key (Some r) rs h = by (nat_le (r.weight + weight_of key) most_weight) h
+weighed_found routers name key (Some r) rs h = by (nat_le (r.weight + weight_of key) most_weight) refl h
   where
-    by : (b : Bool) → cond b (Ok (with_router routers name (weighing r key))) (Err Limit) ≡ Ok rs → (r' : RouterState) × (Some r ≡ Some r') × (rs ≡ with_router routers name (weighing r' key))
-    by true k = (r, refl, cc)
-    by false k = absurd (false≢true (ap is_ok k))
+    by : (b : Bool) → nat_le (r.weight + weight_of key) most_weight ≡ b → cond b (Ok (with_router routers name (weighing r key))) (Err Limit) ≡ Ok rs →
+        (r' : RouterState) × (Some r ≡ Some r') × (rs ≡ with_router routers name (weighing r' key)) × (nat_le (r'.weight + weight_of key) most_weight ≡ true)
+    by true room k = (r, refl, cc, room)
+    by false room k = absurd (false≢true (ap is_ok k))
 
 -- a name that is not taken is that of no router and of no client
 pub free_name : (w : WorldState) (name : List ℕ) → is_taken w name ≡ false → (is_some (router_of w.routers name) ≡ false) × (is_some (client_of w.clients name) ≡ false)
@@ -190,10 +195,10 @@ module _ (now : Moment) (Q : Moment → Type 0) where
       by None there = tt
       by (Some e) there = at e e.unbroken refl there
 
-  pub for_router : (id : List ℕ) → (is_taken w id ≡ false → nat_le most_routers (length w.routers) ≡ false → (w.used && nat_le 1 (length w.routers)) ≡ false → Q (on_router now id)) →
+  pub for_router : (id : List ℕ) → (is_taken w id ≡ false → nat_le most_routers (length w.routers) ≡ false → Q (on_router now id)) →
       IfSome (went now (router_step w id)) Q
   unfolding router_step
-  for_router id step = for_unless (is_taken w id) _ _ (λ free. for_unless (nat_le most_routers (length w.routers)) _ _ (λ room. for_unless (w.used && nat_le 1 (length w.routers)) _ _ (λ alone. step free room alone)))
+  for_router id step = for_unless (is_taken w id) _ _ (λ free. for_unless (nat_le most_routers (length w.routers)) _ _ (λ room. step free room))
 
   pub for_client : (n : ℕ) (id router : List ℕ) →
       ((r : RouterState) → router_of w.routers router ≡ Some r → is_taken w id ≡ false → nat_le most_clients (length w.clients) ≡ false →
@@ -247,49 +252,54 @@ module _ (now : Moment) (Q : Moment → Type 0) where
       for_test s.up _ _ (λ up. for_unless s.unbroken _ _ (λ cut. for_bind (number_to r name) _ (λ l el. for_hears w router r (Down l) n _ (λ taken.
       step r (router_found (router_of w.routers router) r er) there s (end_found (end_of w.ends (router, name)) s es) up cut l el taken)))))))
 
-  pub for_sub : (n : ℕ) (name : List ℕ) (id : ℕ) (key : List ℕ) →
-      ((s : ClientState) → client_of w.clients name ≡ Some s → has_id s id ≡ false → (e : EndState) → end_of w.ends (s.router, name) ≡ Some e → e.unbroken ≡ true → is_alone w ≡ true →
-      (r : RouterState) → router_of w.routers s.router ≡ Some r → Q (on_sub now n name id key s e r)) →
-      IfSome (went now (sub_step w n name id key)) Q
-  unfolding sub_step
-  for_sub n name id key step =
-      for_bind (client_at (client_of w.clients name)) _ (λ s es. for_unless (has_id s id) _ _ (λ fresh. for_client_sends n name s (m.Sub id key) _ (λ e there unbroken. for_test (is_alone w) _ _ (λ alone.
+  pub for_declare : (n : ℕ) (name : List ℕ) (kind : Kind) (id : ℕ) (key : List ℕ) (msg : Msg) →
+      ((s : ClientState) → client_of w.clients name ≡ Some s → has_id s kind id ≡ false → (e : EndState) → end_of w.ends (s.router, name) ≡ Some e → e.unbroken ≡ true →
+      (r : RouterState) → router_of w.routers s.router ≡ Some r → nat_le (r.weight + weight_of key) most_weight ≡ true → Q (on_declare now n name kind id key msg s e r)) →
+      IfSome (went now (declare_step w n name kind id key msg)) Q
+  unfolding declare_step
+  for_declare n name kind id key msg step =
+      for_bind (client_at (client_of w.clients name)) _ (λ s es. for_unless (has_id s kind id) _ _ (λ fresh. for_client_sends n name s msg _ (λ e there unbroken.
       for_bind (weighed w.routers s.router key (router_of w.routers s.router)) _ (λ rs er.
       let found = weighed_found w.routers s.router key (router_of w.routers s.router) rs er in
-      subst (λ (z : Routers). Q (sub_moment s e z)) (sym found.2) (step s (client_found (client_of w.clients name) s es) fresh e there unbroken alone found.0 found.1))))))
+      subst (λ (z : Routers). Q (declared_moment s e z)) (sym found.2) (step s (client_found (client_of w.clients name) s es) fresh e there unbroken found.0 found.1 found.3)))))
     where
-      sub_moment : ClientState → EndState → Routers → Moment
-      sub_moment s e z = record {
-        world = with_clients (with_routers (w_sent w n name s e (m.Sub id key)) z) (with_client w.clients name (declaring s id));
+      declared_moment : ClientState → EndState → Routers → Moment
+      declared_moment s e z = record {
+        world = with_clients (with_routers (w_sent w n name s e msg) z) (with_client w.clients name (declaring s kind id));
         report = now.report ++ [];
       }
 
-  pub for_unsub : (n : ℕ) (name : List ℕ) (id : ℕ) →
-      ((s : ClientState) → client_of w.clients name ≡ Some s → has_id s id ≡ true → (e : EndState) → end_of w.ends (s.router, name) ≡ Some e → e.unbroken ≡ true → is_alone w ≡ true →
-      Q (on_unsub now n name id s e)) →
-      IfSome (went now (unsub_step w n name id)) Q
-  unfolding unsub_step
-  for_unsub n name id step =
-      for_bind (client_at (client_of w.clients name)) _ (λ s es. for_test (has_id s id) _ _ (λ known. for_client_sends n name s (m.Unsub id) _ (λ e there unbroken. for_test (is_alone w) _ _ (λ alone.
-      step s (client_found (client_of w.clients name) s es) known e there unbroken alone))))
+  pub for_undeclare : (n : ℕ) (name : List ℕ) (kind : Kind) (id : ℕ) (msg : Msg) →
+      ((s : ClientState) → client_of w.clients name ≡ Some s → has_id s kind id ≡ true → (e : EndState) → end_of w.ends (s.router, name) ≡ Some e → e.unbroken ≡ true →
+      Q (on_undeclare now n name kind id msg s e)) →
+      IfSome (went now (undeclare_step w n name kind id msg)) Q
+  unfolding undeclare_step
+  for_undeclare n name kind id msg step =
+      for_bind (client_at (client_of w.clients name)) _ (λ s es. for_test (has_id s kind id) _ _ (λ known. for_client_sends n name s msg _ (λ e there unbroken.
+      step s (client_found (client_of w.clients name) s es) known e there unbroken)))
 
   pub for_publish : (n : ℕ) (name : List ℕ) (content : Parts) →
-      ((s : ClientState) → client_of w.clients name ≡ Some s → (e : EndState) → end_of w.ends (s.router, name) ≡ Some e → e.unbroken ≡ true → is_alone w ≡ true → Q (on_publish now n name content s e)) →
+      ((s : ClientState) → client_of w.clients name ≡ Some s → (e : EndState) → end_of w.ends (s.router, name) ≡ Some e → e.unbroken ≡ true → Q (on_publish now n name content s e)) →
       IfSome (went now (publish_step w n name content)) Q
   unfolding publish_step
   for_publish n name content step =
-      for_bind (client_at (client_of w.clients name)) _ (λ s es. for_client_sends n name s (m.Push None content) _ (λ e there unbroken. for_test (is_alone w) _ _ (λ alone.
-      step s (client_found (client_of w.clients name) s es) e there unbroken alone)))
+      for_bind (client_at (client_of w.clients name)) _ (λ s es. for_client_sends n name s (m.Push None content) _ (λ e there unbroken.
+      step s (client_found (client_of w.clients name) s es) e there unbroken))
 
   pub for_handle : (router from : List ℕ) →
       ((r : RouterState) → router_of w.routers router ≡ Some r → is_taken w from ≡ true → (s : EndState) → end_of w.ends (router, from) ≡ Some s → s.up ≡ true →
-      (msg : Msg) (tag : ℕ) (xs : List Tagged) → s.wire ≡ record { msg = msg; tag = tag } ∷ xs → (l : LinkNo) → number_to r from ≡ Ok l → Q (on_handle now router from r s l msg tag xs)) →
+      (msg : Msg) (tag : ℕ) (xs : List Tagged) → s.wire ≡ record { msg = msg; tag = tag } ∷ xs → (l : LinkNo) → number_to r from ≡ Ok l → refuses r.node (From l msg) ≡ None →
+      Q (on_handle now router from r s l msg tag xs)) →
       IfSome (went now (handle_step w router from)) Q
   unfolding handle_step
   for_handle router from step =
       for_bind (router_at (router_of w.routers router)) _ (λ r er. for_test (is_taken w from) _ _ (λ there. for_bind (end_at (end_of w.ends (router, from))) _ (λ s es.
       for_test s.up _ _ (λ up. for_bind (oldest s.wire) _ (λ x ex. for_bind (number_to r from) _ (λ l el.
-      step r (router_found (router_of w.routers router) r er) there s (end_found (end_of w.ends (router, from)) s es) up x.0.msg x.0.tag x.1 (oldest_found s.wire x ex) l el))))))
+      for_hears (with_ends w (with_end w.ends (router, from) (with_wire s x.1))) router r (From l x.0.msg) x.0.tag (handled x.0) (λ taken.
+      step r (router_found (router_of w.routers router) r er) there s (end_found (end_of w.ends (router, from)) s es) up x.0.msg x.0.tag x.1 (oldest_found s.wire x ex) l el taken)))))))
+    where
+      handled : Tagged → WorldState → Outcome
+      handled x v = Ok (line.Handled router from x.msg x.tag ∷ [], v)
 
   pub for_take : (router to : List ℕ) →
       ((r : RouterState) → router_of w.routers router ≡ Some r → is_taken w to ≡ true → (s : EndState) → end_of w.ends (router, to) ≡ Some s → s.up ≡ true → s.unbroken ≡ true →

@@ -1,11 +1,13 @@
 -- No act looks at how many steps runs asked for, and none changes it: in two worlds that differ in this count alone an act does the
 -- same (`outcome_recounted`), and so do the steps of a run (`steps_recounted`) and all acts of a line (`done_recounted`).
 use Rattle.std.proofs.Common.{◌≡◌, ℕ, zero, suc, Bool, true, false, not, List, [], ◌∷◌, ◌++◌, length, Option, Some, None, Result, Ok, Err, refl, ap, ◌∙◌}
-use Rattle.std.specs.Prelude.{◌&&◌, nat_le}
+use Rattle.std.specs.Prelude.{nat_le}
 use Rattle.std.specs.Ordering.{nat_cmp}
 use Rattle.std.specs.Cmp.Lexicographic.{slice_cmp}
 use Rattle.std.specs.BTreeMap.{insert_entry}
 use Rattle.zr_id.specs.Zid.{is_named}
+use Rattle.zr_msg.specs.declared.decl.Kind.{Kind}
+use Rattle.zr_msg.specs.declared.decl.Kind.TheVariants as k
 use Rattle.zr_msg.specs.declared.error.NodeError.{NodeError}
 use Rattle.zr_msg.specs.declared.event.Event.{Event}
 use Rattle.zr_msg.specs.declared.event.Event.TheVariants.{Down, From}
@@ -20,10 +22,10 @@ use Rattle.zr_command.specs.declared.command.Command.{Command}
 use Rattle.zr_command.specs.declared.command.Command.TheVariants as command
 use Rattle.zr_command.specs.declared.report.ReportLine.TheVariants as line
 use Rattle.zr_language.specs.Step.{◌>>=◌}
-use Rattle.zr_table.specs.Table.{refuses}
-use Rattle.zr_network.specs.World.{Tagged, RouterState, ClientState, EndState, WorldState, with_booked, with_ends, with_clients, new_client, in_use, sent, router_of, client_of, is_taken, end_of, with_end, put_end, lifted, new_end, with_wire, is_in_place, links_in_place, most_routers, most_clients, most_links, is_settled}
+use Rattle.zr_table.specs.Table.{able_kind, refuses}
+use Rattle.zr_network.specs.World.{Tagged, RouterState, ClientState, EndState, WorldState, with_booked, with_ends, with_clients, new_client, sent, router_of, client_of, is_taken, end_of, with_end, put_end, lifted, new_end, with_wire, is_in_place, links_in_place, most_routers, most_clients, most_links, is_settled}
 use Rattle.zr_network.specs.Joined.{is_joined}
-use Rattle.zr_network.specs.Acts.{Outcome, unless, router_at, client_at, end_at, up_at, unbroken_at, oldest, has_id, is_alone, weighed, heard, heard_by, hears, peer_of, up_event, number_to, client_sends, router_step, client_step, link_step, up_step, break_step, down_step, sub_step, unsub_step, publish_step, handle_step, take_step, mark_step, show_step, outcome}
+use Rattle.zr_network.specs.Acts.{Outcome, unless, router_at, client_at, end_at, up_at, unbroken_at, oldest, has_id, weighed, heard, heard_by, hears, peer_of, up_event, number_to, client_sends, router_step, client_step, link_step, up_step, break_step, down_step, declare_step, undeclare_step, publish_step, handle_step, take_step, mark_step, show_step, outcome}
 use Rattle.zr_network.specs.Next.{Done, next, world_after, with_more, run_steps, acts, all_done}
 
 -- the same with another count in the world
@@ -53,7 +55,7 @@ module _ (w : WorldState) (booked : ℕ) where
   sends_recounted n name s msg f g same = by (end_of w.ends (s.router, name))
     where
       sending : WorldState → EndState → WorldState
-      sending u e = in_use (with_ends u (with_end u.ends (s.router, name) (sent e msg n)))
+      sending u e = with_ends u (with_end u.ends (s.router, name) (sent e msg n))
 
       at : (e : EndState) (b : Bool) →
           ((unless (not b) NotLinked >>= (λ a. Ok (sending (with_booked w booked) e))) >>= f) ≡ recounted booked ((unless (not b) NotLinked >>= (λ a. Ok (sending w e))) >>= g)
@@ -72,11 +74,23 @@ module _ (w : WorldState) (booked : ℕ) where
   abbrev handled : List ℕ → List ℕ → Tagged → WorldState → Outcome
   handled router from x v = Ok (line.Handled router from x.msg x.tag ∷ [], v)
 
+  declare_recounted : (n : ℕ) (client : List ℕ) (kind : Kind) (id : ℕ) (key : List ℕ) (msg : Msg) →
+      declare_step (with_booked w booked) n client kind id key msg ≡ recounted booked (declare_step w n client kind id key msg)
+  unfolding declare_step
+  declare_recounted n client kind id key msg =
+      bind_recounted (client_at (client_of w.clients client)) _ _ (λ s. bind_recounted (unless (has_id s kind id) NameTaken) _ _ (λ a. sends_recounted n client s msg _ _ (λ v.
+      bind_recounted (weighed v.routers s.router key (router_of v.routers s.router)) _ _ (λ routers. refl))))
+
+  undeclare_recounted : (n : ℕ) (client : List ℕ) (kind : Kind) (id : ℕ) (msg : Msg) →
+      undeclare_step (with_booked w booked) n client kind id msg ≡ recounted booked (undeclare_step w n client kind id msg)
+  unfolding undeclare_step
+  undeclare_recounted n client kind id msg =
+      bind_recounted (client_at (client_of w.clients client)) _ _ (λ s. bind_recounted (unless (not (has_id s kind id)) UnknownName) _ _ (λ a. sends_recounted n client s msg _ _ (λ v. refl)))
+
   pub outcome_recounted : (n : ℕ) (act : Act) → outcome (with_booked w booked) n act ≡ recounted booked (outcome w n act)
-  unfolding outcome router_step client_step link_step up_step break_step down_step sub_step unsub_step publish_step handle_step take_step mark_step show_step
+  unfolding outcome router_step client_step link_step up_step break_step down_step publish_step handle_step take_step mark_step show_step
   outcome_recounted n (c.Router id) =
-      bind_recounted (unless (is_taken w id) NameTaken) _ _ (λ a. bind_recounted (unless (nat_le most_routers (length w.routers)) Limit) _ _ (λ b.
-      bind_recounted (unless (w.used && nat_le 1 (length w.routers)) Limit) _ _ (λ c. refl)))
+      bind_recounted (unless (is_taken w id) NameTaken) _ _ (λ a. bind_recounted (unless (nat_le most_routers (length w.routers)) Limit) _ _ (λ b. refl))
   outcome_recounted n (c.Client id router) =
       bind_recounted (router_at (router_of w.routers router)) _ _ (λ r. bind_recounted (unless (is_taken w id) NameTaken) _ _ (λ a. bind_recounted (unless (nat_le most_clients (length w.clients)) Limit) _ _ (λ b.
       hears_recounted (with_ends w (put_end w.ends (router, id) (lifted new_end))) router r (up_event r (record { id = id; role = role.Client })) n (came id router) (came id router) (λ v. refl))))
@@ -93,14 +107,12 @@ module _ (w : WorldState) (booked : ℕ) where
   outcome_recounted n (c.Down router name) =
       bind_recounted (router_at (router_of w.routers router)) _ _ (λ r. bind_recounted (unless (not (is_taken w name)) UnknownName) _ _ (λ a. bind_recounted (end_at (end_of w.ends (router, name))) _ _ (λ s.
       bind_recounted (up_at s) _ _ (λ b. bind_recounted (unless s.unbroken NotLinked) _ _ (λ c. bind_recounted (number_to r name) _ _ (λ l. hears_recounted w router r (Down l) n _ _ (λ v. refl)))))))
-  outcome_recounted n (c.Sub client id key) =
-      bind_recounted (client_at (client_of w.clients client)) _ _ (λ s. bind_recounted (unless (has_id s id) NameTaken) _ _ (λ a. sends_recounted n client s (m.Sub id key) _ _ (λ v.
-      bind_recounted (unless (not (is_alone w)) Limit) _ _ (λ b. bind_recounted (weighed v.routers s.router key (router_of v.routers s.router)) _ _ (λ routers. refl)))))
-  outcome_recounted n (c.Unsub client id) =
-      bind_recounted (client_at (client_of w.clients client)) _ _ (λ s. bind_recounted (unless (not (has_id s id)) UnknownName) _ _ (λ a. sends_recounted n client s (m.Unsub id) _ _ (λ v.
-      bind_recounted (unless (not (is_alone w)) Limit) _ _ (λ b. refl))))
+  outcome_recounted n (c.Sub client id key) = declare_recounted n client k.Sub id key (m.Sub id key)
+  outcome_recounted n (c.Unsub client id) = undeclare_recounted n client k.Sub id (m.Unsub id)
+  outcome_recounted n (c.Able client id key complete) = declare_recounted n client (able_kind complete) id key (m.Able id key complete)
+  outcome_recounted n (c.Unable client id) = undeclare_recounted n client k.Able id (m.Unable id)
   outcome_recounted n (c.Publish client content) =
-      bind_recounted (client_at (client_of w.clients client)) _ _ (λ s. sends_recounted n client s (m.Push None content) _ _ (λ v. bind_recounted (unless (not (is_alone w)) Limit) _ _ (λ b. refl)))
+      bind_recounted (client_at (client_of w.clients client)) _ _ (λ s. sends_recounted n client s (m.Push None content) _ _ (λ v. refl))
   outcome_recounted n (c.Handle router from) =
       bind_recounted (router_at (router_of w.routers router)) _ _ (λ r. bind_recounted (unless (not (is_taken w from)) UnknownName) _ _ (λ a. bind_recounted (end_at (end_of w.ends (router, from))) _ _ (λ s.
       bind_recounted (up_at s) _ _ (λ b. bind_recounted (oldest s.wire) _ _ (λ x. bind_recounted (number_to r from) _ _ (λ l.

@@ -13,7 +13,9 @@ use Rattle.zr_msg.specs.declared.msg.Msg.{Msg}
 use Rattle.zr_msg.specs.declared.event.Event.{Event}
 use Rattle.zr_msg.specs.declared.event.Event.TheVariants.{Up, Down, From}
 use Rattle.zr_msg.specs.declared.peer.Peer.{Peer}
-use Rattle.zr_table.specs.State.{LinkState, NodeState, new_link, is_router, link_at, link_to, free_link}
+use Rattle.zr_routing.specs.Tables.{is_router, link_at, link_to, free_link}
+use Rattle.zr_table.specs.State.{NodeState, new_link}
+use Rattle.zr_msg.specs.declared.peer.LinkPeer.{LinkPeer}
 use Rattle.zr_table.specs.Table.{with_link, without_link, after}
 use Rattle.zr_network.specs.World.{ClientState, RouterState, EndState, End, Routers, Clients, Ends, WorldState, end_cmp, is_end, router_of, client_of, end_of, is_up, with_router, with_end, put_end, changed, empty_world}
 use Rattle.zr_network.specs.Acts.{all_queued}
@@ -135,7 +137,7 @@ nodes_set routers ends ends' x r r' h found fit others z rz there_ = by (is_name
 -- ---- events
 
 -- to whom there is no link
-none_to : (links : List LinkState) (y : List ℕ) → is_some (peer_to links y) ≡ false → link_to links y ≡ None
+none_to : (links : List LinkPeer) (y : List ℕ) → is_some (peer_to links y) ≡ false → link_to links y ≡ None
 none_to links y h = not_there (link_to links y) (sym (there_changed (λ l. l.peer) (link_to links y)) ∙ h)
 
 -- the link to a neighbour comes up
@@ -166,7 +168,7 @@ fits_up routers ends ends' x y node p f same role_is down lifts = record {
     by q p' false e h = f.roles q p' h
 
 -- the link to a neighbour goes down
-pub fits_down : (routers : Routers) (ends ends' : Ends) (x y : List ℕ) (node : NodeState) (l : LinkState) → Fits routers ends x node → link_to node.links y ≡ Some l →
+pub fits_down : (routers : Routers) (ends ends' : Ends) (x y : List ℕ) (node : NodeState) (l : LinkPeer) → Fits routers ends x node → link_to node.links y ≡ Some l →
     ((q : List ℕ) → is_up ends' (x, q) ≡ cond (is_named y q) false (is_up ends (x, q))) → Fits routers ends' x (after node (Down l.link))
 fits_down routers ends ends' x y node l f found lowers = record {
   own = me_after node (Down l.link) ∙ f.own;
@@ -246,7 +248,7 @@ nodes_of w h x r found = record {
   roles = λ y p k. by y p (link_to r.node.links y) refl k;
 }
   where
-    by : (y : List ℕ) (p : Peer) (o : Option LinkState) → link_to r.node.links y ≡ o → peer o ≡ Some p → is_router p.role ≡ is_some (router_of w.routers y)
+    by : (y : List ℕ) (p : Peer) (o : Option LinkPeer) → link_to r.node.links y ≡ o → peer o ≡ Some p → is_router p.role ≡ is_some (router_of w.routers y)
     by y p None e k = absurd (false≢true (ap is_some k))
     by y p (Some l) e k = let is : l.peer ≡ p = cc in ap (λ z. is_router z.role) (sym is) ∙ h.roles x y r l found e
 

@@ -11,6 +11,10 @@ use Rattle.std.proofs.lemmas.List.Sums.{fold-append}
 use Rattle.zr_id.specs.Zid.{is_named}
 use Rattle.zr_graph.specs.Record.{ids}
 use Rattle.zr_graph.specs.Base.{BaseState}
+use Rattle.zr_msg.specs.declared.decl.Kind.TheVariants as k
+use Rattle.zr_msg.specs.declared.msg.Msg.TheVariants as m
+use Rattle.zr_table.specs.Table.{able_kind}
+use Rattle.zr_table.specs.State.{NodeState}
 use Rattle.zr_command.specs.declared.error.ScriptError.{ScriptError}
 use Rattle.zr_command.specs.declared.error.ScriptError.TheVariants.{Limit}
 use Rattle.zr_command.specs.declared.command.Act.{Act}
@@ -24,12 +28,12 @@ use Rattle.zr_language.specs.Step.{◌>>=◌}
 use Rattle.zr_language.specs.Command.{command_of}
 use Rattle.zr_language.specs.Report.{line_text}
 use Rattle.zr_network.specs.World.{End, WorldState, with_booked, most_steps}
-use Rattle.zr_network.specs.Acts.{Outcome, parent_line, shown, outcome}
+use Rattle.zr_network.specs.Acts.{Outcome, parent_line, source_line, shown_base, shown, outcome}
 use Rattle.zr_network.specs.Next.{step_at, can_handle, can_take, first_where, next, world_after, with_more, run_steps, acts, Done, all_done, book_step, run_done, applied}
 use Rattle.zr_network.specs.Run.{Run, start, stepped, commanded, on_line}
 use Rattle.zr_network.specs.Moments.{Numbered, is_step, is_later, ascends, Moment, beginning, went, onward, reached}
 use Rattle.zr_network.specs.Accepted.{entries, accepted_from, accepted, is_of_act, IsTold, LinesAreMoments}
-use Rattle.zr_network.proofs.Cases.{for_router, for_client, for_link, for_up, for_break, for_down, for_sub, for_unsub, for_publish, for_handle, for_take, for_mark, for_show}
+use Rattle.zr_network.proofs.Cases.{for_router, for_client, for_link, for_up, for_break, for_down, for_declare, for_undeclare, for_publish, for_handle, for_take, for_mark, for_show}
 use Rattle.zr_network.proofs.Lists.{filter_all, all_of_filter, all_both, all_parts, all_mapped}
 use Rattle.zr_network.proofs.Counting.{recounted, outcome_recounted, steps_recounted, acts_recounted, done_recounted}
 
@@ -159,9 +163,12 @@ abbrev pub IsOfActs : Moment → Type 0
 IsOfActs m = list_all is_of_act m.report ≡ true
 
 -- what a router's tables are shown by are lines of an act
-show_tells : (b : BaseState) → list_all is_of_act (shown b) ≡ true
-show_tells b = all_both is_of_act (map (λ r. line.Record r) b.records) (map (λ root. parent_line b root) (filter (λ id. not (is_named id b.me)) (ids b.records)))
+base_tells : (b : BaseState) → list_all is_of_act (shown_base b) ≡ true
+base_tells b = all_both is_of_act (map (λ r. line.Record r) b.records) (map (λ root. parent_line b root) (filter (λ id. not (is_named id b.me)) (ids b.records)))
     (all_mapped is_of_act (λ r. line.Record r) (λ r. refl) b.records) (all_mapped is_of_act (λ root. parent_line b root) (λ root. refl) (filter (λ id. not (is_named id b.me)) (ids b.records)))
+
+show_tells : (node : NodeState) → list_all is_of_act (shown node) ≡ true
+show_tells node = all_both is_of_act (shown_base node.base) (map source_line node.known.logs) (base_tells node.base) (all_mapped is_of_act source_line (λ log. refl) node.known.logs)
 
 -- each act reports lines of an act
 act_tells : (now : Moment) → IsOfActs now → (n : ℕ) (act : Act) → IfSome (went now (outcome now.world n act)) IsOfActs
@@ -172,19 +179,21 @@ act_tells now h n act = by act
     more xs k = all_both is_of_act now.report xs h k
 
     by : (act : Act) → IfSome (went now (outcome now.world n act)) IsOfActs
-    by (c.Router id) = for_router now IsOfActs id (λ free room alone. more [] refl)
+    by (c.Router id) = for_router now IsOfActs id (λ free room. more [] refl)
     by (c.Client id router) = for_client now IsOfActs n id router (λ r er free room taken. more [] refl)
     by (c.Link one other) = for_link now IsOfActs one other (λ apart r er q eq new room. more [] refl)
     by (c.Up router name) = for_up now IsOfActs n router name (λ r er there s es unbroken down taken. more [] refl)
     by (c.Break router name) = for_break now IsOfActs router name (λ r er there s es unbroken. more [] refl)
     by (c.Down router name) = for_down now IsOfActs n router name (λ r er there s es up cut l el taken. more [] refl)
-    by (c.Sub client id key) = for_sub now IsOfActs n client id key (λ s es fresh e ee unbroken alone r er. more [] refl)
-    by (c.Unsub client id) = for_unsub now IsOfActs n client id (λ s es known e ee unbroken alone. more [] refl)
-    by (c.Publish client content) = for_publish now IsOfActs n client content (λ s es e ee unbroken alone. more [] refl)
-    by (c.Handle router from) = for_handle now IsOfActs router from (λ r er there s es up msg tag xs front l el. all_both is_of_act now.report _ h refl)
+    by (c.Sub client id key) = for_declare now IsOfActs n client k.Sub id key (m.Sub id key) (λ s es fresh e ee unbroken r er room. more [] refl)
+    by (c.Unsub client id) = for_undeclare now IsOfActs n client k.Sub id (m.Unsub id) (λ s es known e ee unbroken. more [] refl)
+    by (c.Able client id key complete) = for_declare now IsOfActs n client (able_kind complete) id key (m.Able id key complete) (λ s es fresh e ee unbroken r er room. more [] refl)
+    by (c.Unable client id) = for_undeclare now IsOfActs n client k.Able id (m.Unable id) (λ s es known e ee unbroken. more [] refl)
+    by (c.Publish client content) = for_publish now IsOfActs n client content (λ s es e ee unbroken. more [] refl)
+    by (c.Handle router from) = for_handle now IsOfActs router from (λ r er there s es up msg tag xs front l el taken. all_both is_of_act now.report _ h refl)
     by (c.Take router to) = for_take now IsOfActs router to (λ r er there s es up unbroken msg tag xs front. all_both is_of_act now.report _ h refl)
     by c.Mark = for_mark now IsOfActs n (λ settled joined. all_both is_of_act now.report _ h refl)
-    by (c.Show router) = for_show now IsOfActs router (λ r er. more (line.Show router ∷ shown r.node.base) (show_tells r.node.base))
+    by (c.Show router) = for_show now IsOfActs router (λ r er. more (line.Show router ∷ shown r.node) (show_tells r.node))
 
 -- so do any acts
 acts_tell : (xs : List Numbered) (o : Option Moment) → IfSome o IsOfActs → IfSome (fold onward o xs) IsOfActs

@@ -1,19 +1,18 @@
 -- The links of a router, each of which is the one of its number and the one to its neighbour: no link has the number that is free
 -- (`free_is_free`), and what a link's number or neighbour finds after a link has come up (`link_to_with`), has gone down
 -- (`link_to_without`), and after a client has declared something (`link_to_map`).
-use Rattle.std.proofs.Common.{◌≡◌, ℕ, ◌+◌, ◌<◌, ◌≤◌, zero, suc, Bool, true, false, cond, not, ◌&&◌, ◌||◌, ◌≢◌, List, [], ◌∷◌, ◌++◌, length, map, Option, Some, None, refl, sym, ap, ◌∙◌, ◌⊎◌, inl, inr, arith}
+use Rattle.std.proofs.Common.{◌≡◌, ℕ, ◌+◌, ◌<◌, ◌≤◌, zero, suc, Bool, true, false, cond, not, ◌||◌, ◌≢◌, List, [], ◌∷◌, ◌++◌, length, map, Option, Some, None, refl, sym, ap, ◌∙◌, ◌⊎◌, inl, inr, arith}
 use Rattle.std.specs.Prelude.{◌==◌, nat_lt, is_some, unwrap_or}
 use Rattle.std.specs.List.{filter, find, list_any, range_with_len}
-use Rattle.std.specs.Option.{option_map}
 use Rattle.std.proofs.lemmas.Bool.{false≢true, true≢false, eqb-true, eq-eqb, lt-ltb, not-true, not-false, or_right, cases_eq, cases_lt}
 use lib.Dec.{eqb}
 use Rattle.std.proofs.lemmas.List.{length-map}
 use Rattle.std.proofs.lemmas.Map.Steps.{le-length_from_below}
 use Rattle.zr_id.specs.Zid.{is_named}
-use Rattle.zr_id.specs.declared.link.LinkNo.{LinkNo}
-use Rattle.zr_table.specs.State.{Subscription, LinkState, is_link, is_router, link_at, link_to, free_link}
-use Rattle.zr_table.specs.Table.{with_link, without_link, changed_on}
-use Rattle.zr_tree.proofs.Finds.{In, find_in, in_find, none_find, only_find, in_filter, filter_in, same_find, find-map, in_map, any_none}
+use Rattle.zr_routing.specs.Tables.{is_link, link_at, link_to, free_link}
+use Rattle.zr_msg.specs.declared.peer.LinkPeer.{LinkPeer}
+use Rattle.zr_table.specs.Table.{with_link, without_link}
+use Rattle.zr_tree.proofs.Finds.{In, find_in, in_find, none_find, only_find, in_filter, filter_in, any_none}
 use Rattle.zr_network.specs.Sound.{AreUnique}
 use Rattle.zr_network.proofs.Keyed.{each_in, in_each}
 use Rattle.zr_network.proofs.Names.{names, same_name}
@@ -74,26 +73,26 @@ module _ {X : Type 0} where
 
 -- ---- unique links
 
-abbrev has_name : List ℕ → LinkState → Bool
+abbrev has_name : List ℕ → LinkPeer → Bool
 has_name name l = is_named l.peer.id name
 
 -- two links that are found by one number are one, and so are two to one neighbour
-pub one_number : (links : List LinkState) → AreUnique links → (n : ℕ) → OnlyOne (is_link n) links
+pub one_number : (links : List LinkPeer) → AreUnique links → (n : ℕ) → OnlyOne (is_link n) links
 one_number links h n k l i j p q =
     let same : k.link.0 ≡ l.link.0 = eqb-true k.link.0 n p ∙ sym (eqb-true l.link.0 n q) in
     let found : Some k ≡ Some l = sym (each_in _ links k h.numbers i) ∙ ap (λ z. link_at links z) same ∙ each_in _ links l h.numbers j in
     cc
 
-pub one_name : (links : List LinkState) → AreUnique links → (name : List ℕ) → OnlyOne (has_name name) links
+pub one_name : (links : List LinkPeer) → AreUnique links → (name : List ℕ) → OnlyOne (has_name name) links
 one_name links h name k l i j p q =
     let same : k.peer.id ≡ l.peer.id = same_name k.peer.id name p ∙ sym (same_name l.peer.id name q) in
     let found : Some k ≡ Some l = sym (each_in _ links k h.names i) ∙ ap (λ z. link_to links z) same ∙ each_in _ links l h.names j in
     cc
 
-own_number : (l : LinkState) → is_link l.link.0 l ≡ true
+own_number : (l : LinkPeer) → is_link l.link.0 l ≡ true
 own_number l = eq-eqb l.link.0 l.link.0 refl
 
-unique_by : (links : List LinkState) → ((n : ℕ) → OnlyOne (is_link n) links) → ((name : List ℕ) → OnlyOne (has_name name) links) → AreUnique links
+unique_by : (links : List LinkPeer) → ((n : ℕ) → OnlyOne (is_link n) links) → ((name : List ℕ) → OnlyOne (has_name name) links) → AreUnique links
 unique_by links numbers names_ = record {
   numbers = in_each _ links (λ l i. only_find (is_link l.link.0) links l i (own_number l) (λ k j t. numbers l.link.0 k l j i t (own_number l)));
   names = in_each _ links (λ l i. only_find (has_name l.peer.id) links l i (names.refl l.peer.id) (λ k j t. names_ l.peer.id k l j i t (names.refl l.peer.id)));
@@ -103,15 +102,15 @@ pub unique_nothing : AreUnique []
 unique_nothing = record { numbers = tt; names = tt }
 
 -- the link to a neighbour is the one of its number, and has the neighbour's name
-pub named_link : (links : List LinkState) (name : List ℕ) (l : LinkState) → link_to links name ≡ Some l → l.peer.id ≡ name
+pub named_link : (links : List LinkPeer) (name : List ℕ) (l : LinkPeer) → link_to links name ≡ Some l → l.peer.id ≡ name
 named_link links name l h = same_name l.peer.id name (find_in (has_name name) links l h).1
 
-pub numbered_link : (links : List LinkState) → AreUnique links → (name : List ℕ) (l : LinkState) → link_to links name ≡ Some l → link_at links l.link.0 ≡ Some l
+pub numbered_link : (links : List LinkPeer) → AreUnique links → (name : List ℕ) (l : LinkPeer) → link_to links name ≡ Some l → link_at links l.link.0 ≡ Some l
 numbered_link links h name l found = each_in _ links l h.numbers (find_in (has_name name) links l found).0
 
 -- ---- a free number
 
-has_number : (links : List LinkState) (q : ℕ) → list_any (λ l. is_link q l) links ≡ true → list_any (eqb q) (map (λ l. l.link.0) links) ≡ true
+has_number : (links : List LinkPeer) (q : ℕ) → list_any (λ l. is_link q l) links ≡ true → list_any (eqb q) (map (λ l. l.link.0) links) ≡ true
 has_number [] q h = h
 has_number (l ∷ ls) q h = by (l.link.0 == q) refl h (has_number ls q)
   where
@@ -137,7 +136,7 @@ range_fails p a (suc n) h q le lt = by (p a) refl h (range_fails p (a + 1) n)
         at (inr other) = ih none q (omega arith) (omega arith)
 
 -- no link has the number that is free
-pub free_is_free : (links : List LinkState) → link_at links (free_link links) ≡ None
+pub free_is_free : (links : List LinkPeer) → link_at links (free_link links) ≡ None
 free_is_free links = by (find is_free (range_with_len 0 (length links + 1))) refl
   where
     is_free : ℕ → Bool
@@ -152,32 +151,32 @@ free_is_free links = by (find is_free (range_with_len 0 (length links + 1))) ref
         let all : length links + 1 ≤ length (map (λ l. l.link.0) links) =
         le-length_from_below (map (λ l. l.link.0) links) (length links + 1)
         (λ q lt. has_number links q (not-false (list_any (λ l. is_link q l) links) (range_fails is_free 0 (length links + 1) h q (omega arith) (omega arith)))) in
-        absurd (omega (arith, length-map links (λ (l : LinkState). l.link.0)))
+        absurd (omega (arith, length-map links (λ (l : LinkPeer). l.link.0)))
 
 -- ---- a link more
 
-module _ (links : List LinkState) (l : LinkState) (h : AreUnique links) (number : link_at links l.link.0 ≡ None) (name : link_to links l.peer.id ≡ None) where
-  new_number : (k : LinkState) → In k links → is_link l.link.0 k ≡ false
+module _ (links : List LinkPeer) (l : LinkPeer) (h : AreUnique links) (number : link_at links l.link.0 ≡ None) (name : link_to links l.peer.id ≡ None) where
+  new_number : (k : LinkPeer) → In k links → is_link l.link.0 k ≡ false
   new_number k i = by (is_link l.link.0 k) refl
     where
       by : (b : Bool) → is_link l.link.0 k ≡ b → b ≡ false
       by false e = refl
       by true e = let f = in_find (is_link l.link.0) links k i e in absurd (false≢true (ap is_some (sym number ∙ f.1)))
 
-  new_name : (k : LinkState) → In k links → has_name l.peer.id k ≡ false
+  new_name : (k : LinkPeer) → In k links → has_name l.peer.id k ≡ false
   new_name k i = by (has_name l.peer.id k) refl
     where
       by : (b : Bool) → has_name l.peer.id k ≡ b → b ≡ false
       by false e = refl
       by true e = let f = in_find (has_name l.peer.id) links k i e in absurd (false≢true (ap is_some (sym name ∙ f.1)))
 
-  abbrev before : LinkState → Bool
+  abbrev before : LinkPeer → Bool
   before k = nat_lt k.link.0 l.link.0
 
-  abbrev after_ : LinkState → Bool
+  abbrev after_ : LinkPeer → Bool
   after_ k = nat_lt l.link.0 k.link.0
 
-  of_more : (k : LinkState) → In k (with_link links l) → (k ≡ l) ⊎ In k links
+  of_more : (k : LinkPeer) → In k (with_link links l) → (k ≡ l) ⊎ In k links
   of_more k i = by (in_append (filter before links) (l ∷ filter after_ links) k i)
     where
       by : In k (filter before links) ⊎ In k (l ∷ filter after_ links) → (k ≡ l) ⊎ In k links
@@ -188,7 +187,7 @@ module _ (links : List LinkState) (l : LinkState) (h : AreUnique links) (number 
   own_in : In l (with_link links l)
   own_in = append_right (filter before links) (l ∷ filter after_ links) l (inl refl)
 
-  old_in : (k : LinkState) → In k links → In k (with_link links l)
+  old_in : (k : LinkPeer) → In k links → In k (with_link links l)
   old_in k i = by (cases_lt k.link.0 l.link.0)
     where
       by : (k.link.0 < l.link.0) ⊎ (l.link.0 ≤ k.link.0) → In k (with_link links l)
@@ -200,32 +199,32 @@ module _ (links : List LinkState) (l : LinkState) (h : AreUnique links) (number 
           at (inr other) = append_right (filter before links) (l ∷ filter after_ links) k (inr (filter_in after_ links k i (lt-ltb l.link.0 k.link.0 (omega arith))))
 
   -- by a test that one old link passes at most, and none if the new one does
-  find_more : (p : LinkState → Bool) → OnlyOne p links → (p l ≡ true → (k : LinkState) → In k links → p k ≡ false) → find p (with_link links l) ≡ cond (p l) (Some l) (find p links)
+  find_more : (p : LinkPeer → Bool) → OnlyOne p links → (p l ≡ true → (k : LinkPeer) → In k links → p k ≡ false) → find p (with_link links l) ≡ cond (p l) (Some l) (find p links)
   find_more p one others = by (p l) refl
     where
       by : (b : Bool) → p l ≡ b → find p (with_link links l) ≡ cond b (Some l) (find p links)
       by true e = only_find p (with_link links l) l own_in e (λ k i t. only k t (of_more k i))
         where
-          only : (k : LinkState) → p k ≡ true → (k ≡ l) ⊎ In k links → k ≡ l
+          only : (k : LinkPeer) → p k ≡ true → (k ≡ l) ⊎ In k links → k ≡ l
           only k t (inl same) = same
           only k t (inr j) = absurd (false≢true (sym (others e k j) ∙ t))
       by false e = at (find p links) refl
         where
-          at : (o : Option LinkState) → find p links ≡ o → find p (with_link links l) ≡ o
+          at : (o : Option LinkPeer) → find p links ≡ o → find p (with_link links l) ≡ o
           at (Some k) f =
               let i = find_in p links k f in
               only_find p (with_link links l) k (old_in k i.0) i.1 (λ z j t. only z t (of_more z j))
             where
-              only : (z : LinkState) → p z ≡ true → (z ≡ l) ⊎ In z links → z ≡ k
+              only : (z : LinkPeer) → p z ≡ true → (z ≡ l) ⊎ In z links → z ≡ k
               only z t (inl same) = absurd (false≢true (sym e ∙ ap p (sym same) ∙ t))
               only z t (inr j) = let i = find_in p links k f in one z k j i.0 t i.1
           at None f = none_find p (with_link links l) (λ z j. none z (of_more z j))
             where
-              none : (z : LinkState) → (z ≡ l) ⊎ In z links → p z ≡ false
+              none : (z : LinkPeer) → (z ≡ l) ⊎ In z links → p z ≡ false
               none z (inl same) = ap p same ∙ e
               none z (inr j) = none_of z j (p z) refl
                 where
-                  none_of : (z : LinkState) → In z links → (t : Bool) → p z ≡ t → t ≡ false
+                  none_of : (z : LinkPeer) → In z links → (t : Bool) → p z ≡ t → t ≡ false
                   none_of z j false u = refl
                   none_of z j true u = let g = in_find p links z j u in absurd (false≢true (ap is_some (sym f ∙ g.1)))
 
@@ -235,7 +234,7 @@ module _ (links : List LinkState) (l : LinkState) (h : AreUnique links) (number 
   pub link_at_with : (n : ℕ) → link_at (with_link links l) n ≡ cond (is_link n l) (Some l) (link_at links n)
   link_at_with n = find_more (is_link n) (one_number links h n) (λ e k i. ap (λ z. is_link z k) (sym (eqb-true l.link.0 n e)) ∙ new_number k i)
 
-  more_only : (p : LinkState → Bool) → OnlyOne p links → (p l ≡ true → (k : LinkState) → In k links → p k ≡ false) → OnlyOne p (with_link links l)
+  more_only : (p : LinkPeer → Bool) → OnlyOne p links → (p l ≡ true → (k : LinkPeer) → In k links → p k ≡ false) → OnlyOne p (with_link links l)
   more_only p one others j k ij ik tj tk = by (of_more j ij) (of_more k ik)
     where
       by : (j ≡ l) ⊎ In j links → (k ≡ l) ⊎ In k links → j ≡ k
@@ -251,8 +250,8 @@ module _ (links : List LinkState) (l : LinkState) (h : AreUnique links) (number 
 
 -- ---- a link less
 
-module _ (links : List LinkState) (h : AreUnique links) (n : ℕ) where
-  abbrev stays : LinkState → Bool
+module _ (links : List LinkPeer) (h : AreUnique links) (n : ℕ) where
+  abbrev stays : LinkPeer → Bool
   stays k = not (is_link n k)
 
   pub link_at_without : (q : ℕ) → link_at (without_link links n) q ≡ kept stays (link_at links q)
@@ -261,21 +260,21 @@ module _ (links : List LinkState) (h : AreUnique links) (n : ℕ) where
   pub link_to_without : (q : List ℕ) → link_to (without_link links n) q ≡ kept stays (link_to links q)
   link_to_without q = find_filter (has_name q) stays links (one_name links h q)
 
-  less_only : (p : LinkState → Bool) → OnlyOne p links → OnlyOne p (without_link links n)
+  less_only : (p : LinkPeer → Bool) → OnlyOne p links → OnlyOne p (without_link links n)
   less_only p one j k a b = one j k (in_filter stays links j a).0 (in_filter stays links k b).0
 
   pub unique_without : AreUnique (without_link links n)
   unique_without = unique_by (without_link links n) (λ m. less_only (is_link m) (one_number links h m)) (λ q. less_only (has_name q) (one_name links h q))
 
   -- the link of the number leads to one neighbour, to which there is no link then, and the links to others stay
-  pub link_to_apart : (name : List ℕ) (l : LinkState) → link_to links name ≡ Some l → l.link.0 ≡ n → (q : List ℕ) →
+  pub link_to_apart : (name : List ℕ) (l : LinkPeer) → link_to links name ≡ Some l → l.link.0 ≡ n → (q : List ℕ) →
       link_to (without_link links n) q ≡ cond (is_named name q) None (link_to links q)
   link_to_apart name l found same q = link_to_without q ∙ by (link_to links q) refl
     where
       i : In l links × (has_name name l ≡ true)
       i = find_in (has_name name) links l found
 
-      at : (k : LinkState) → link_to links q ≡ Some k → (b c : Bool) → is_link n k ≡ b → is_named name q ≡ c → cond (not b) (Some k) None ≡ cond c None (Some k)
+      at : (k : LinkPeer) → link_to links q ≡ Some k → (b c : Bool) → is_link n k ≡ b → is_named name q ≡ c → cond (not b) (Some k) None ≡ cond c None (Some k)
       at k f true true e g = refl
       at k f false false e g = refl
       at k f true false e g =
@@ -288,48 +287,10 @@ module _ (links : List LinkState) (h : AreUnique links) (n : ℕ) where
           let is : l ≡ k = cc in
           absurd (false≢true (sym e ∙ ap (λ z. is_link n z) (sym is) ∙ eq-eqb l.link.0 n same))
 
-      by : (o : Option LinkState) → link_to links q ≡ o → kept stays o ≡ cond (is_named name q) None o
+      by : (o : Option LinkPeer) → link_to links q ≡ o → kept stays o ≡ cond (is_named name q) None o
       by (Some k) f = at k f (is_link n k) (is_named name q) refl refl
       by None f = none (is_named name q)
         where
           none : (c : Bool) → None ≡ cond c None (link_to [] q)
           none true = refl
           none false = refl
-
--- ---- changed declarations
-
-module _ (from : ℕ) (change : List Subscription → List Subscription) where
-  abbrev changes : LinkState → LinkState
-  changes l = changed_on from change l
-
-  -- number and neighbour stay
-  pub changes_number : (l : LinkState) → (changes l).link ≡ l.link
-  changes_number l = by (is_link from l && not (is_router l.peer.role))
-    where
-      by : (b : Bool) → (cond b (record { link = l.link; peer = l.peer; subs = change l.subs }) l).link ≡ l.link
-      by true = refl
-      by false = refl
-
-  pub changes_peer : (l : LinkState) → (changes l).peer ≡ l.peer
-  changes_peer l = by (is_link from l && not (is_router l.peer.role))
-    where
-      by : (b : Bool) → (cond b (record { link = l.link; peer = l.peer; subs = change l.subs }) l).peer ≡ l.peer
-      by true = refl
-      by false = refl
-
-  pub link_to_map : (links : List LinkState) (q : List ℕ) → link_to (map changes links) q ≡ option_map changes (link_to links q)
-  link_to_map links q = find-map (has_name q) changes links ∙ ap (option_map changes) (same_find _ (has_name q) links (λ l i. ap (λ z. is_named z.id q) (changes_peer l)))
-
-  pub link_at_map : (links : List LinkState) (n : ℕ) → link_at (map changes links) n ≡ option_map changes (link_at links n)
-  link_at_map links n = find-map (is_link n) changes links ∙ ap (option_map changes) (same_find _ (is_link n) links (λ l i. ap (λ (z : LinkNo). z.0 == n) (changes_number l)))
-
-  pub unique_map : (links : List LinkState) → AreUnique links → AreUnique (map changes links)
-  unique_map links h = unique_by (map changes links)
-      (λ n. same_only (is_link n) (one_number links h n) (λ l. ap (λ (z : LinkNo). z.0 == n) (changes_number l)))
-      (λ q. same_only (has_name q) (one_name links h q) (λ l. ap (λ z. is_named z.id q) (changes_peer l)))
-    where
-      same_only : (p : LinkState → Bool) → OnlyOne p links → ((l : LinkState) → p (changes l) ≡ p l) → OnlyOne p (map changes links)
-      same_only p one same j k ij ik tj tk =
-          let a = in_map changes links j ij in
-          let b = in_map changes links k ik in
-          sym a.2 ∙ ap changes (one a.0 b.0 a.1 b.1 (sym (same a.0) ∙ ap p a.2 ∙ tj) (sym (same b.0) ∙ ap p b.2 ∙ tk)) ∙ b.2

@@ -1,5 +1,5 @@
 -- What an event makes of a router's links and of its own name: to whom it has links before and after (`peer_to`), where the event may come.
-use Rattle.std.proofs.Common.{◌≡◌, ℕ, Bool, true, false, cond, List, map, Option, Some, None, refl, ap, ◌∙◌}
+use Rattle.std.proofs.Common.{◌≡◌, ℕ, Bool, true, false, cond, List, Option, Some, None, refl, ap, ◌∙◌}
 use Rattle.std.specs.Option.{option_map}
 use Rattle.zr_id.specs.Record.{RecordState}
 use Rattle.zr_id.specs.Zid.{is_named}
@@ -12,11 +12,13 @@ use Rattle.zr_msg.specs.declared.event.Event.TheVariants.{Up, Down, From}
 use Rattle.zr_msg.specs.declared.peer.Peer.{Peer}
 use Rattle.zr_msg.specs.declared.peer.Role.{Role}
 use Rattle.zr_msg.specs.declared.peer.Role.TheVariants.{Client, Router}
-use Rattle.zr_table.specs.State.{Subscription, LinkState, NodeState, new_link, link_at, link_to, leads_to_router}
-use Rattle.zr_table.specs.Table.{with_link, without_link, changed_on, after, after_from, base_up, base_down, base_parted, base_told, declared, undeclared}
+use Rattle.zr_routing.specs.Tables.{link_at, link_to, leads_to_router}
+use Rattle.zr_table.specs.State.{NodeState, new_link}
+use Rattle.zr_msg.specs.declared.peer.LinkPeer.{LinkPeer}
+use Rattle.zr_table.specs.Table.{with_link, without_link, after, after_from, base_up, base_down, base_parted, base_told}
 use Rattle.zr_network.specs.Sound.{AreUnique}
 use Rattle.zr_network.proofs.Keyed.{read_cond}
-use Rattle.zr_network.proofs.Links.{unique_map, link_to_with, link_to_apart, link_to_map, changes_peer}
+use Rattle.zr_network.proofs.Links.{link_to_with, link_to_apart}
 
 -- ---- the own name
 
@@ -28,7 +30,7 @@ me_parted : (b : BaseState) (peer : Peer) (role : Role) → (base_parted b peer 
 me_parted b peer Client = refl
 me_parted b peer Router = refl
 
-me_down : (b : BaseState) (o : Option LinkState) → (base_down b o).me ≡ b.me
+me_down : (b : BaseState) (o : Option LinkPeer) → (base_down b o).me ≡ b.me
 me_down b None = refl
 me_down b (Some l) = me_parted b l.peer l.peer.role
 
@@ -74,31 +76,23 @@ me_after node (From link msg) = me_from node link.0 msg
 
 -- ---- to whom there are links
 
-abbrev pub peer : Option LinkState → Option Peer
+abbrev pub peer : Option LinkPeer → Option Peer
 peer o = option_map (λ l. l.peer) o
 
-abbrev pub peer_to : List LinkState → List ℕ → Option Peer
+abbrev pub peer_to : List LinkPeer → List ℕ → Option Peer
 peer_to links q = peer (link_to links q)
 
 -- links, whose peers are the same ones
-abbrev SamePeers : List LinkState → List LinkState → Type 0
+abbrev SamePeers : List LinkPeer → List LinkPeer → Type 0
 SamePeers links more = AreUnique more × ((q : List ℕ) → peer_to more q ≡ peer_to links q)
 
-same_links : (links : List LinkState) → AreUnique links → SamePeers links links
+same_links : (links : List LinkPeer) → AreUnique links → SamePeers links links
 same_links links h = (h, λ q. refl)
-
-changed_links : (links : List LinkState) → AreUnique links → (from : ℕ) (change : List Subscription → List Subscription) →
-    SamePeers links (map (λ l. changed_on from change l) links)
-changed_links links h from change = (unique_map from change links h, λ q. ap peer (link_to_map from change links q) ∙ by (link_to links q))
-  where
-    by : (o : Option LinkState) → peer (option_map (λ l. changed_on from change l) o) ≡ peer o
-    by None = refl
-    by (Some l) = ap Some (changes_peer from change l)
 
 -- a message changes no link's number and peer
 pub peers_from : (node : NodeState) (from : ℕ) (msg : Msg) → AreUnique node.links → SamePeers node.links (after_from node from msg).links
-peers_from node from (Sub id key) h = changed_links node.links h from (λ subs. declared subs id key)
-peers_from node from (Unsub id) h = changed_links node.links h from (λ subs. undeclared subs id)
+peers_from node from (Sub id key) h = same_links node.links h
+peers_from node from (Unsub id) h = same_links node.links h
 peers_from node from (Able id key complete) h = same_links node.links h
 peers_from node from (Unable id) h = same_links node.links h
 peers_from node from (Interest id current future kinds key aggregate) h = same_links node.links h
@@ -117,12 +111,12 @@ peers_from node from (Step source number added decl) h = same_links node.links h
 peers_from node from (Snap source number decls) h = same_links node.links h
 
 -- a link more
-pub peers_up : (links : List LinkState) (link : LinkNo) (p : Peer) → AreUnique links → link_at links link.0 ≡ None → link_to links p.id ≡ None → (q : List ℕ) →
+pub peers_up : (links : List LinkPeer) (link : LinkNo) (p : Peer) → AreUnique links → link_at links link.0 ≡ None → link_to links p.id ≡ None → (q : List ℕ) →
     peer_to (with_link links (new_link link p)) q ≡ cond (is_named p.id q) (Some p) (peer_to links q)
 peers_up links link p h number name q =
     ap peer (link_to_with links (new_link link p) h number name q) ∙ read_cond peer (is_named p.id q) (Some (new_link link p)) (link_to links q)
 
 -- a link less
-pub peers_down : (links : List LinkState) (name : List ℕ) (l : LinkState) → AreUnique links → link_to links name ≡ Some l → (q : List ℕ) →
+pub peers_down : (links : List LinkPeer) (name : List ℕ) (l : LinkPeer) → AreUnique links → link_to links name ≡ Some l → (q : List ℕ) →
     peer_to (without_link links l.link.0) q ≡ cond (is_named name q) None (peer_to links q)
 peers_down links name l h found q = ap peer (link_to_apart links h l.link.0 name l found refl q) ∙ read_cond peer (is_named name q) None (link_to links q)

@@ -4,7 +4,7 @@
 -- refused (`run_goes`). And each event that an act brings to a router may come to it (`up_may_come`, `client_may_come`, `down_may_come`,
 -- `from_may_come`).
 use Rattle.std.proofs.Common.{◌≡◌, ℕ, zero, suc, ◌+◌, Bool, true, false, cond, not, List, [], ◌∷◌, ◌++◌, Option, Some, None, Result, Ok, Err, Ordering, refl, sym, ap, ◌∙◌, subst, inl, inr}
-use Rattle.std.specs.Prelude.{◌&&◌, ◌||◌, is_some, is_none, is_ok, nat_le, IfOk, IfSome, length, filter}
+use Rattle.std.specs.Prelude.{◌&&◌, ◌||◌, is_some, is_none, is_ok, nat_le, ◌==◌, IfOk, IfSome, length, filter}
 use Rattle.std.specs.List.{fold, reduce}
 use Rattle.std.specs.List.Sorted.{IsStrictlySortedBy}
 use Rattle.std.specs.Map.{keys_of}
@@ -16,8 +16,11 @@ use Rattle.std.specs.Cmp.Lexicographic.{slice_cmp}
 use Rattle.std.proofs.lemmas.Bool.{false≢true, and_parts, or_parts, or_left, or_right}
 use Rattle.zr_id.specs.Zid.{is_named}
 use Rattle.zr_id.specs.declared.link.LinkNo.{LinkNo}
+use Rattle.zr_msg.specs.declared.decl.Kind.{Kind}
+use Rattle.zr_msg.specs.declared.decl.Kind.TheVariants as k
 use Rattle.zr_msg.specs.declared.msg.Msg.{Msg}
 use Rattle.zr_msg.specs.declared.msg.Msg.TheVariants as m
+use Rattle.zr_msg.specs.declared.error.NodeError.{NodeError}
 use Rattle.zr_msg.specs.declared.event.Event.{Event}
 use Rattle.zr_msg.specs.declared.event.Event.TheVariants.{Down, From}
 use Rattle.zr_msg.specs.declared.peer.Role.TheVariants as role
@@ -28,22 +31,22 @@ use Rattle.zr_command.specs.declared.command.Act.TheVariants as a
 use Rattle.zr_command.specs.declared.command.Command.{Command}
 use Rattle.zr_command.specs.declared.command.Command.TheVariants as c
 use Rattle.zr_command.specs.declared.report.ReportLine.{ReportLine}
-use Rattle.zr_command.specs.declared.report.ReportLine.TheVariants.{Ran}
-use Rattle.zr_table.specs.State.{is_router, link_at, link_to}
-use Rattle.zr_table.specs.Table.{after}
+use Rattle.zr_command.specs.declared.report.ReportLine.TheVariants.{Ran, Handled}
+use Rattle.zr_routing.specs.Tables.{is_router, link_at, link_to}
+use Rattle.zr_table.specs.Table.{able_kind, after, refuses}
 use Rattle.zr_table.specs.Event.{MayCome}
 use Rattle.zr_language.specs.Step.{◌>>=◌}
-use Rattle.zr_network.specs.World.{Tagged, ClientState, RouterState, EndState, End, Routers, Clients, Ends, WorldState, end_cmp, is_end, router_of, client_of, is_taken, end_of, is_up, is_unbroken, is_in_place, with_routers, with_router, with_client, with_end, put_end, new_end, new_router, new_client, lifted, changed, broken, lowered, sent, with_wire, with_queue, is_empty, most_steps}
-use Rattle.zr_network.specs.Acts.{Outcome, unless, router_at, end_at, oldest, number_at, handle_step, take_step, hearing, weighing, declaring, undeclaring, all_queued, up_event, peer_of, number_to, outcome}
+use Rattle.zr_network.specs.World.{Tagged, ClientState, RouterState, EndState, End, Routers, Clients, Ends, WorldState, end_cmp, is_end, router_of, client_of, is_taken, end_of, is_up, is_unbroken, is_in_place, with_routers, with_ends, with_router, with_client, with_end, put_end, new_end, new_router, new_client, lifted, changed, broken, lowered, sent, with_wire, with_queue, is_empty, most_steps}
+use Rattle.zr_network.specs.Acts.{Outcome, unless, router_at, end_at, oldest, number_at, handle_step, take_step, heard, hearing, weighing, ids_of, with_ids, declaring, undeclaring, hears, heard_by, all_queued, up_event, peer_of, number_to, outcome}
 use Rattle.zr_network.specs.Next.{Done, lesser, ends_where, first_where, can_handle, can_take, step_at, next, world_after, with_more, run_steps, all_done, booking, book_step, run_done, applied}
 use Rattle.zr_network.specs.Moments.{Moment, went}
-use Rattle.zr_network.specs.Sound.{IsSound}
+use Rattle.zr_network.specs.Sound.{IsSound, AllAreTaken}
 use Rattle.zr_tree.proofs.Finds.{In, in_map, in_filter}
 use Rattle.zr_network.proofs.Keyed.{there, not_there, read_cond}
 use Rattle.zr_network.proofs.Names.{names, same_name, value_new, read_kept}
 use Rattle.zr_network.proofs.Ends.{end_found, end_parts, keys_with_end, keys_changed, read_with_end, keep_with_end, read_put_end, keep_put_end, sorted_put_end, read_changed, keep_changed}
 use Rattle.zr_network.proofs.Links.{numbered_link, free_is_free, unique_nothing}
-use Rattle.zr_network.proofs.Cases.{w_client, w_link, w_up, w_break, w_down, w_sent, w_sub, w_unsub, w_handle, w_take, free_name, number_found, for_router, for_client, for_link, for_up, for_break, for_down, for_sub, for_unsub, for_publish, for_handle, for_take, for_mark, for_show}
+use Rattle.zr_network.proofs.Cases.{w_client, w_link, w_up, w_break, w_down, w_sent, w_declare, w_undeclare, w_handle, w_take, free_name, number_found, oldest_found, for_router, for_client, for_link, for_up, for_break, for_down, for_declare, for_undeclare, for_publish, for_handle, for_take, for_mark, for_show}
 use Rattle.zr_network.proofs.Fits.{up_of, home, up_is_there, Places, places_same, still_true, of_put, places_put, Fits, Nodes, fits_same, nodes_set, fits_up, fits_down, fits_from, SameEnds, same_then, same_with, same_changed, same_queued, own_end, other_end, places_of, nodes_of, sound_of}
 pub use Rattle.zr_network.proofs.Fits.{empty_sound}
 
@@ -88,23 +91,30 @@ module _ (w : WorldState) (line : ℕ) (h : IsSound w) where
 
   -- ---- what waits at ends
 
-  sub_sound : (name : List ℕ) (id : ℕ) (key : List ℕ) (s : ClientState) → client_of w.clients name ≡ Some s → (e : EndState) → end_of w.ends (s.router, name) ≡ Some e →
-      (r : RouterState) → router_of w.routers s.router ≡ Some r → IsSound (w_sub w line name id key s e r)
-  sub_sound name id key s es e ee r er =
-      let ends' : Ends = with_end w.ends (s.router, name) (sent e (m.Sub id key) line) in
-      let same : SameEnds w.ends ends' = on_wire name s e (m.Sub id key) ee in
-      sound_of (w_sub w line name id key s e r)
-      (places_same w.routers (with_router w.routers s.router (weighing r key)) w.clients (with_client w.clients name (declaring s id)) w.ends ends' p (same.sorted p.in_order)
-      (same_router s.router r (weighing r key) er) (same_client name s (declaring s id) es refl) same.there_too)
+  same_home : (s : ClientState) (kind : Kind) (ids : List ℕ) → (with_ids s kind ids).router ≡ s.router
+  same_home s k.Sub ids = refl
+  same_home s k.Able ids = refl
+  same_home s k.Full ids = refl
+
+  declare_sound : (name : List ℕ) (kind : Kind) (id : ℕ) (key : List ℕ) (msg : Msg) (s : ClientState) → client_of w.clients name ≡ Some s → (e : EndState) → end_of w.ends (s.router, name) ≡ Some e →
+      (r : RouterState) → router_of w.routers s.router ≡ Some r → IsSound (w_declare w line name kind id key msg s e r)
+  declare_sound name kind id key msg s es e ee r er =
+      let ends' : Ends = with_end w.ends (s.router, name) (sent e msg line) in
+      let same : SameEnds w.ends ends' = on_wire name s e msg ee in
+      sound_of (w_declare w line name kind id key msg s e r)
+      (places_same w.routers (with_router w.routers s.router (weighing r key)) w.clients (with_client w.clients name (declaring s kind id)) w.ends ends' p (same.sorted p.in_order)
+      (same_router s.router r (weighing r key) er) (same_client name s (declaring s kind id) es (same_home s kind (ids_of s kind ++ id ∷ []))) same.there_too)
       (nodes_set w.routers w.ends ends' s.router r (weighing r key) n er
       (fits_same w.routers w.routers w.ends ends' s.router r.node (n s.router r er) (λ y u. refl) (λ y. same.as_up (s.router, y))) (λ z y apart. same.as_up (z, y)))
 
-  unsub_sound : (name : List ℕ) (id : ℕ) (s : ClientState) → client_of w.clients name ≡ Some s → (e : EndState) → end_of w.ends (s.router, name) ≡ Some e → IsSound (w_unsub w line name id s e)
-  unsub_sound name id s es e ee =
-      let ends' : Ends = with_end w.ends (s.router, name) (sent e (m.Unsub id) line) in
-      let same : SameEnds w.ends ends' = on_wire name s e (m.Unsub id) ee in
-      sound_of (w_unsub w line name id s e)
-      (places_same w.routers w.routers w.clients (with_client w.clients name (undeclaring s id)) w.ends ends' p (same.sorted p.in_order) (λ q. refl) (same_client name s (undeclaring s id) es refl) same.there_too)
+  undeclare_sound : (name : List ℕ) (kind : Kind) (id : ℕ) (msg : Msg) (s : ClientState) → client_of w.clients name ≡ Some s → (e : EndState) → end_of w.ends (s.router, name) ≡ Some e →
+      IsSound (w_undeclare w line name kind id msg s e)
+  undeclare_sound name kind id msg s es e ee =
+      let ends' : Ends = with_end w.ends (s.router, name) (sent e msg line) in
+      let same : SameEnds w.ends ends' = on_wire name s e msg ee in
+      sound_of (w_undeclare w line name kind id msg s e)
+      (places_same w.routers w.routers w.clients (with_client w.clients name (undeclaring s kind id)) w.ends ends' p (same.sorted p.in_order) (λ q. refl)
+      (same_client name s (undeclaring s kind id) es (same_home s kind (filter (λ i. not (i == id)) (ids_of s kind)))) same.there_too)
       (nodes_same ends' same)
 
   publish_sound : (name : List ℕ) (msg : Msg) (s : ClientState) (e : EndState) → end_of w.ends (s.router, name) ≡ Some e → IsSound (w_sent w line name s e msg)
@@ -354,16 +364,20 @@ module _ (w : WorldState) (line : ℕ) (h : IsSound w) where
 
   each_act : (act : Act) → Keeps (outcome w line act)
   unfolding outcome
-  each_act (a.Router id) = kept (outcome w line (a.Router id)) (for_router now sound id (λ free room alone. router_sound id free))
+  each_act (a.Router id) = kept (outcome w line (a.Router id)) (for_router now sound id (λ free room. router_sound id free))
   each_act (a.Client id router) = kept (outcome w line (a.Client id router)) (for_client now sound line id router (λ r er free room taken. client_sound id router r er free))
   each_act (a.Link one other) = kept (outcome w line (a.Link one other)) (for_link now sound one other (λ apart r er q eq new room. link_sound one other apart r er q eq new))
   each_act (a.Up router name) = kept (outcome w line (a.Up router name)) (for_up now sound line router name (λ r er there s es unbroken down taken. up_sound router name r er s es down))
   each_act (a.Break router name) = kept (outcome w line (a.Break router name)) (for_break now sound router name (λ r er there s es unbroken. break_sound router name))
   each_act (a.Down router name) = kept (outcome w line (a.Down router name)) (for_down now sound line router name (λ r er there s es up cut l el taken. down_sound router name r er l el))
-  each_act (a.Sub client id key) = kept (outcome w line (a.Sub client id key)) (for_sub now sound line client id key (λ s es fresh e ee unbroken alone r er. sub_sound client id key s es e ee r er))
-  each_act (a.Unsub client id) = kept (outcome w line (a.Unsub client id)) (for_unsub now sound line client id (λ s es known e ee unbroken alone. unsub_sound client id s es e ee))
-  each_act (a.Publish client content) = kept (outcome w line (a.Publish client content)) (for_publish now sound line client content (λ s es e ee unbroken alone. publish_sound client (m.Push None content) s e ee))
-  each_act (a.Handle router from) = kept (outcome w line (a.Handle router from)) (for_handle now sound router from (λ r er there s es up msg tag xs front l el. handle_sound router from r er s es msg tag xs l))
+  each_act (a.Sub client id key) = kept (outcome w line (a.Sub client id key)) (for_declare now sound line client k.Sub id key (m.Sub id key) (λ s es fresh e ee unbroken r er room. declare_sound client k.Sub id key (m.Sub id key) s es e ee r er))
+  each_act (a.Unsub client id) = kept (outcome w line (a.Unsub client id)) (for_undeclare now sound line client k.Sub id (m.Unsub id) (λ s es known e ee unbroken. undeclare_sound client k.Sub id (m.Unsub id) s es e ee))
+  each_act (a.Able client id key complete) =
+      kept (outcome w line (a.Able client id key complete)) (for_declare now sound line client (able_kind complete) id key (m.Able id key complete)
+      (λ s es fresh e ee unbroken r er room. declare_sound client (able_kind complete) id key (m.Able id key complete) s es e ee r er))
+  each_act (a.Unable client id) = kept (outcome w line (a.Unable client id)) (for_undeclare now sound line client k.Able id (m.Unable id) (λ s es known e ee unbroken. undeclare_sound client k.Able id (m.Unable id) s es e ee))
+  each_act (a.Publish client content) = kept (outcome w line (a.Publish client content)) (for_publish now sound line client content (λ s es e ee unbroken. publish_sound client (m.Push None content) s e ee))
+  each_act (a.Handle router from) = kept (outcome w line (a.Handle router from)) (for_handle now sound router from (λ r er there s es up msg tag xs front l el taken. handle_sound router from r er s es msg tag xs l))
   each_act (a.Take router to) = kept (outcome w line (a.Take router to)) (for_take now sound router to (λ r er there s es up unbroken msg tag xs front. take_sound router to s es msg tag xs))
   each_act a.Mark = kept (outcome w line a.Mark) (for_mark now sound line (λ settled joined. h))
   each_act (a.Show router) = kept (outcome w line (a.Show router)) (for_show now sound router (λ r er. h))
@@ -471,9 +485,14 @@ number_is w x y r s h er es up =
     let l = there (link_to r.node.links y) (h.links x y r er ∙ ap up_of es ∙ up) in
     (l.0.link, ap number_at l.1)
 
-handle_goes : (w : WorldState) (e : End) → IsSound w → IsEnd can_handle w.ends e → is_ok (handle_step w e.0 e.1) ≡ true
+-- a router that takes the event hears of it
+ok_hears : (v : WorldState) (x : List ℕ) (r : RouterState) (event : Event) (tag : ℕ) (f : WorldState → Outcome) → refuses r.node event ≡ None →
+    ((u : WorldState) → is_ok (f u) ≡ true) → is_ok (hears v x r event tag >>= f) ≡ true
+ok_hears v x r event tag f taken goes = ap (λ (o : Option NodeError). is_ok (heard_by v x r event tag o >>= f)) taken ∙ goes (heard v x r event tag)
+
+handle_goes : (w : WorldState) (e : End) → IsSound w → AllAreTaken w → IsEnd can_handle w.ends e → is_ok (handle_step w e.0 e.1) ≡ true
 unfolding handle_step
-handle_goes w e h at =
+handle_goes w e h taken at =
     let s : EndState = at.0 in
     let can = and_parts s.up (not (is_empty s.wire)) at.2 in
     let r = there (router_of w.routers e.0) (h.routers e.0 e.1 (ap is_some at.1)) in
@@ -484,7 +503,12 @@ handle_goes w e h at =
     (ok_by (end_at (end_of w.ends e)) _ s (ap end_at at.1)
     (ok_test s.up NotLinked _ can.0
     (ok_by (oldest s.wire) _ x.0 x.1
-    (ok_by (number_to r.0 e.1) _ l.0 l.1 refl)))))
+    (ok_by (number_to r.0 e.1) _ l.0 l.1
+    (ok_hears (with_ends w (with_end w.ends (e.0, e.1) (with_wire s x.0.1))) e.0 r.0 (From l.0 x.0.0.msg) x.0.0.tag (handled x.0.0)
+    (taken e.0 e.1 r.0 s l.0 x.0.0 x.0.1 r.1 at.1 can.0 (oldest_found s.wire x.0 x.1) l.1) (λ u. refl)))))))
+  where
+    handled : Tagged → WorldState → Outcome
+    handled m v = Ok (Handled e.0 e.1 m.msg m.tag ∷ [], v)
 
 take_goes : (w : WorldState) (e : End) → IsSound w → IsEnd can_take w.ends e → is_ok (take_step w e.0 e.1) ≡ true
 unfolding take_step
@@ -501,31 +525,32 @@ take_goes w e h at =
     (ok_test s.unbroken NotLinked _ both.1
     (ok_by (oldest s.queue) _ x.0 x.1 refl)))))
 
-pub next_goes : (w : WorldState) (line : ℕ) (step : Act) → IsSound w → next w ≡ Some step → is_ok (outcome w line step) ≡ true
+pub next_goes : (w : WorldState) (line : ℕ) (step : Act) → IsSound w → AllAreTaken w → next w ≡ Some step → is_ok (outcome w line step) ≡ true
 unfolding outcome
-next_goes w line step h found = by (first_where can_handle w.ends) (first_where can_take w.ends) refl refl found
+next_goes w line step h taken found = by (first_where can_handle w.ends) (first_where can_take w.ends) refl refl found
   where
     by : (o t : Option End) → first_where can_handle w.ends ≡ o → first_where can_take w.ends ≡ t → step_at o t ≡ Some step → is_ok (outcome w line step) ≡ true
     by (Some e) t f g k =
         let same : a.Handle e.0 e.1 ≡ step = cc in
-        subst (λ (z : Act). is_ok (outcome w line z) ≡ true) same (handle_goes w e h (first_is can_handle w.ends e h.in_order f))
+        subst (λ (z : Act). is_ok (outcome w line z) ≡ true) same (handle_goes w e h taken (first_is can_handle w.ends e h.in_order f))
     by None (Some e) f g k =
         let same : a.Take e.0 e.1 ≡ step = cc in
         subst (λ (z : Act). is_ok (outcome w line z) ≡ true) same (take_goes w e h (first_is can_take w.ends e h.in_order g))
     by None None f g k = absurd (false≢true (ap is_some k))
 
--- the steps of a run are not refused
-pub run_goes : (line n : ℕ) (w : WorldState) → IsSound w → is_ok (all_done w line (run_steps line n w)) ≡ true
+-- the steps of a run are not refused, where what holds of the world goes on to hold and says that each message is taken
+pub run_goes : (P : WorldState → Type 0) → ((w : WorldState) (line : ℕ) (act : Act) → P w → IfOk (outcome w line act) (λ x. P x.1)) → ((w : WorldState) → P w → IsSound w × AllAreTaken w) →
+    (line n : ℕ) (w : WorldState) → P w → is_ok (all_done w line (run_steps line n w)) ≡ true
 unfolding run_steps
-run_goes line zero w h = refl
-run_goes line (suc n) w h = by (next w) refl (run_goes line n)
+run_goes P keeps says line zero w h = refl
+run_goes P keeps says line (suc n) w h = by (next w) refl (run_goes P keeps says line n)
   where
-    by : (o : Option Act) → next w ≡ o → ((v : WorldState) → IsSound v → is_ok (all_done v line (run_steps line n v)) ≡ true) →
+    by : (o : Option Act) → next w ≡ o → ((v : WorldState) → P v → is_ok (all_done v line (run_steps line n v)) ≡ true) →
         is_ok (all_done w line (with_more o (λ step. run_steps line n (world_after w (outcome w line step))))) ≡ true
     by None e ih = refl
-    by (Some step) e ih = at (outcome w line step) (next_goes w line step h e) (act_keeps w line step h)
+    by (Some step) e ih = at (outcome w line step) (next_goes w line step (says w h).0 (says w h).1 e) (keeps w line step h)
       where
-        at : (o : Outcome) → is_ok o ≡ true → Keeps o → is_ok (o >>= (λ x. all_done x.1 line (run_steps line n (world_after w o)) >>= (said_first x.0))) ≡ true
+        at : (o : Outcome) → is_ok o ≡ true → IfOk o (λ x. P x.1) → is_ok (o >>= (λ x. all_done x.1 line (run_steps line n (world_after w o)) >>= (said_first x.0))) ≡ true
         at (Err e) k m = absurd (false≢true k)
         at (Ok x) k m = last (all_done x.1 line (run_steps line n x.1)) (ih x.1 m)
           where

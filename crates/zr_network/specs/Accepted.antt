@@ -37,6 +37,7 @@ is_of_act (r.Mark line) = true
 is_of_act (r.Show router) = true
 is_of_act (r.Record links) = true
 is_of_act (r.Parent root parent) = true
+is_of_act (r.Source source number decls) = true
 
 -- A run has the world of a moment, but for the steps that runs asked for, which no act counts; and its text is that of report
 -- lines which are the moment's, with the ends of runs between them.

@@ -1,6 +1,6 @@
 -- What each act does to the world: the report lines, and the world after it; or the refusal, and the world stays.
 -- The order of an act's lines is the order of its refusals, which is that of the language (`zr_language`, Command).
-use Rattle.std.specs.Prelude.{ℕ, ◌+◌, ◌==◌, ◌&&◌, not, nat_le, Bool, true, false, if◌then◌else◌, List, [], ◌∷◌, ◌++◌, length, map, filter, Option, Some, None, is_some, Result, Ok, Err}
+use Rattle.std.specs.Prelude.{ℕ, ◌+◌, ◌==◌, not, nat_le, Bool, true, false, if◌then◌else◌, List, [], ◌∷◌, ◌++◌, length, map, filter, Option, Some, None, is_some, Result, Ok, Err}
 use Rattle.std.specs.List.{list_any}
 use Rattle.std.specs.Option.{option_map_or}
 use Rattle.std.specs.Ordering.{nat_cmp}
@@ -13,6 +13,8 @@ use Rattle.zr_graph.specs.Base.{BaseState}
 use Rattle.zr_tree.specs.Walk.{graph_of}
 use Rattle.zr_tree.specs.Tree.{parent}
 use Rattle.zr_msg.specs.declared.content.Parts.{Parts}
+use Rattle.zr_msg.specs.declared.decl.Kind.{Kind}
+use Rattle.zr_msg.specs.declared.decl.Kind.TheVariants as k
 use Rattle.zr_msg.specs.declared.error.NodeError.{NodeError}
 use Rattle.zr_msg.specs.declared.msg.Msg.{Msg}
 use Rattle.zr_msg.specs.declared.msg.Msg.TheVariants as m
@@ -25,11 +27,14 @@ use Rattle.zr_command.specs.declared.error.ScriptError.TheVariants.{BadWords, Un
 use Rattle.zr_command.specs.declared.command.Act.{Act}
 use Rattle.zr_command.specs.declared.command.Act.TheVariants as a
 use Rattle.zr_command.specs.declared.report.ReportLine.{ReportLine}
-use Rattle.zr_command.specs.declared.report.ReportLine.TheVariants.{Handled, Taken, Mark, Show, Record, Parent}
-use Rattle.zr_table.specs.State.{LinkState, NodeState, link_to, free_link}
-use Rattle.zr_table.specs.Table.{sends, after, refuses}
+use Rattle.zr_command.specs.declared.report.ReportLine.TheVariants.{Handled, Taken, Mark, Show, Record, Parent, Source}
+use Rattle.zr_routing.specs.Tables.{link_to, free_link}
+use Rattle.zr_table.specs.State.{NodeState}
+use Rattle.zr_msg.specs.declared.peer.LinkPeer.{LinkPeer}
+use Rattle.zr_log.specs.declared.log.Log.{Log}
+use Rattle.zr_table.specs.Table.{able_kind, sends, after, refuses}
 use Rattle.zr_language.specs.Step.{◌>>=◌}
-use Rattle.zr_network.specs.World.{Tagged, ClientState, RouterState, EndState, Ends, Routers, WorldState, with_routers, with_clients, with_ends, in_use, new_router, new_client, new_end, router_of, client_of, with_router, with_client, is_taken, end_of, with_end, put_end, most_routers, most_clients, most_links, most_weight, weight_of, is_in_place, links_in_place, sent, queued, with_wire, with_queue, broken, lifted, lowered, changed, is_settled}
+use Rattle.zr_network.specs.World.{Tagged, ClientState, RouterState, EndState, Ends, Routers, WorldState, with_routers, with_clients, with_ends, new_router, new_client, new_end, router_of, client_of, with_router, with_client, is_taken, end_of, with_end, put_end, most_routers, most_clients, most_links, most_weight, weight_of, is_in_place, links_in_place, sent, queued, with_wire, with_queue, broken, lifted, lowered, changed, is_settled}
 use Rattle.zr_network.specs.Joined.{is_joined}
 
 abbrev pub Outcome : Type 0
@@ -68,13 +73,15 @@ abbrev pub oldest : List Tagged → Result (Tagged × List Tagged) ScriptError
 oldest [] = Err NothingThere
 oldest (x ∷ more) = Ok (x, more)
 
--- whether a client has declared an id
-abbrev pub has_id : ClientState → ℕ → Bool
-has_id s id = list_any (λ i. i == id) s.ids
+-- the ids under which a client has declared something of a sort: a queryable, complete or not, is of one sort
+abbrev pub ids_of : ClientState → Kind → List ℕ
+ids_of s k.Sub = s.subs
+ids_of s k.Able = s.ables
+ids_of s k.Full = s.ables
 
--- routers tell each other of links alone: so far a world with more than one has no declarations and samples
-abbrev pub is_alone : WorldState → Bool
-is_alone w = nat_le (length w.routers) 1
+-- whether a client has declared an id in a sort
+abbrev pub has_id : ClientState → Kind → ℕ → Bool
+has_id s kind id = list_any (λ i. i == id) (ids_of s kind)
 
 -- one more declaration weighs on the router
 abbrev pub weighing : RouterState → List ℕ → RouterState
@@ -86,13 +93,19 @@ weighed routers name key None = Err UnknownName
 weighed routers name key (Some r) =
     if nat_le (r.weight + weight_of key) most_weight then Ok (with_router routers name (weighing r key)) else Err Limit
 
+-- the same client with other ids of a sort
+abbrev pub with_ids : ClientState → Kind → List ℕ → ClientState
+with_ids s k.Sub ids = record { router = s.router; subs = ids; ables = s.ables }
+with_ids s k.Able ids = record { router = s.router; subs = s.subs; ables = ids }
+with_ids s k.Full ids = record { router = s.router; subs = s.subs; ables = ids }
+
 -- the client has declared the id
-abbrev pub declaring : ClientState → ℕ → ClientState
-declaring s id = record { router = s.router; ids = s.ids ++ id ∷ [] }
+abbrev pub declaring : ClientState → Kind → ℕ → ClientState
+declaring s kind id = with_ids s kind (ids_of s kind ++ id ∷ [])
 
 -- the client has taken the id back
-abbrev pub undeclaring : ClientState → ℕ → ClientState
-undeclaring s id = record { router = s.router; ids = filter (λ i. not (i == id)) s.ids }
+abbrev pub undeclaring : ClientState → Kind → ℕ → ClientState
+undeclaring s kind id = with_ids s kind (filter (λ i. not (i == id)) (ids_of s kind))
 
 -- ---- what a router hears
 
@@ -128,7 +141,7 @@ abbrev pub up_event : RouterState → Peer → Event
 up_event r peer = Up (record { 0 = free_link r.node.links }) peer
 
 -- the number of the link to a neighbour, if it is up
-abbrev pub number_at : Option LinkState → Result LinkNo ScriptError
+abbrev pub number_at : Option LinkPeer → Result LinkNo ScriptError
 number_at None = Err NotLinked
 number_at (Some l) = Ok l.link
 
@@ -142,7 +155,6 @@ unfoldable pub router_step : WorldState → List ℕ → Outcome
 router_step w id = do
   a ← unless (is_taken w id) NameTaken
   b ← unless (nat_le most_routers (length w.routers)) Limit
-  c ← unless (w.used && nat_le 1 (length w.routers)) Limit
   Ok ([], with_routers w (insert_entry (slice_cmp nat_cmp) w.routers id (new_router id)))
 
 -- a client whose link is up at once
@@ -201,33 +213,30 @@ unfoldable pub client_sends : WorldState → ℕ → List ℕ → ClientState �
 client_sends w line name s msg = do
   e ← end_at (end_of w.ends (s.router, name))
   a ← unbroken_at e
-  Ok (in_use (with_ends w (with_end w.ends (s.router, name) (sent e msg line))))
+  Ok (with_ends w (with_end w.ends (s.router, name) (sent e msg line)))
 
--- a client declares a subscriber under a new id
-unfoldable pub sub_step : WorldState → ℕ → List ℕ → ℕ → List ℕ → Outcome
-sub_step w line name id key = do
+-- a client declares something under an id that is new in its sort
+unfoldable pub declare_step : WorldState → ℕ → List ℕ → Kind → ℕ → List ℕ → Msg → Outcome
+declare_step w line name kind id key msg = do
   s ← client_at (client_of w.clients name)
-  a ← unless (has_id s id) NameTaken
-  v ← client_sends w line name s (m.Sub id key)
-  b ← unless (not (is_alone w)) Limit
+  a ← unless (has_id s kind id) NameTaken
+  v ← client_sends w line name s msg
   routers ← weighed v.routers s.router key (router_of v.routers s.router)
-  Ok ([], with_clients (with_routers v routers) (with_client v.clients name (declaring s id)))
+  Ok ([], with_clients (with_routers v routers) (with_client v.clients name (declaring s kind id)))
 
 -- a client takes back what it declared under an id
-unfoldable pub unsub_step : WorldState → ℕ → List ℕ → ℕ → Outcome
-unsub_step w line name id = do
+unfoldable pub undeclare_step : WorldState → ℕ → List ℕ → Kind → ℕ → Msg → Outcome
+undeclare_step w line name kind id msg = do
   s ← client_at (client_of w.clients name)
-  a ← unless (not (has_id s id)) UnknownName
-  v ← client_sends w line name s (m.Unsub id)
-  b ← unless (not (is_alone w)) Limit
-  Ok ([], with_clients v (with_client v.clients name (undeclaring s id)))
+  a ← unless (not (has_id s kind id)) UnknownName
+  v ← client_sends w line name s msg
+  Ok ([], with_clients v (with_client v.clients name (undeclaring s kind id)))
 
 -- a client publishes a sample; on its link no tree is named
 unfoldable pub publish_step : WorldState → ℕ → List ℕ → Parts → Outcome
 publish_step w line name content = do
   s ← client_at (client_of w.clients name)
   v ← client_sends w line name s (m.Push None content)
-  b ← unless (not (is_alone w)) Limit
   Ok ([], v)
 
 -- a router handles the oldest message on the wire from a neighbour; what it sends has that message's tag
@@ -263,17 +272,23 @@ mark_step w line = do
   b ← unless (not (is_joined w)) NotJoined
   Ok (Mark line ∷ [], w)
 
--- a router's tables: its records, and its parent in the tree of each other router, in ascending order
+-- a router's tables: its records, its parent in the tree of each other router, and what it knows of each log, in ascending order
 abbrev pub parent_line : BaseState → List ℕ → ReportLine
 parent_line b root = Parent root (parent (graph_of b.records) root b.me)
 
-abbrev pub shown : BaseState → List ReportLine
-shown b = map (λ r. Record r) b.records ++ map (λ root. parent_line b root) (filter (λ id. not (is_named id b.me)) (ids b.records))
+abbrev pub source_line : Log → ReportLine
+source_line log = Source log.source log.position log.decls
+
+abbrev pub shown_base : BaseState → List ReportLine
+shown_base b = map (λ r. Record r) b.records ++ map (λ root. parent_line b root) (filter (λ id. not (is_named id b.me)) (ids b.records))
+
+abbrev pub shown : NodeState → List ReportLine
+shown node = shown_base node.base ++ map source_line node.known.logs
 
 unfoldable pub show_step : WorldState → List ℕ → Outcome
 show_step w router = do
   r ← router_at (router_of w.routers router)
-  Ok (Show router ∷ shown r.node.base, w)
+  Ok (Show router ∷ shown r.node, w)
 
 -- what an act of a line does
 unfoldable pub outcome : WorldState → ℕ → Act → Outcome
@@ -283,8 +298,10 @@ outcome w line (a.Link one other) = link_step w one other
 outcome w line (a.Up router neighbour) = up_step w line router neighbour
 outcome w line (a.Break router neighbour) = break_step w router neighbour
 outcome w line (a.Down router neighbour) = down_step w line router neighbour
-outcome w line (a.Sub client id key) = sub_step w line client id key
-outcome w line (a.Unsub client id) = unsub_step w line client id
+outcome w line (a.Sub client id key) = declare_step w line client k.Sub id key (m.Sub id key)
+outcome w line (a.Unsub client id) = undeclare_step w line client k.Sub id (m.Unsub id)
+outcome w line (a.Able client id key complete) = declare_step w line client (able_kind complete) id key (m.Able id key complete)
+outcome w line (a.Unable client id) = undeclare_step w line client k.Able id (m.Unable id)
 outcome w line (a.Publish client content) = publish_step w line client content
 outcome w line (a.Handle router from) = handle_step w router from
 outcome w line (a.Take router to) = take_step w router to

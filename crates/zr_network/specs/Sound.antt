@@ -1,14 +1,19 @@
 -- What holds of the world of each script: an act that isn't refused keeps it (proofs, Sound), and by it the next step is possible.
-use Rattle.std.specs.Prelude.{◌≡◌, ℕ, List, true, false, Some, is_some}
+use Rattle.std.specs.Prelude.{◌≡◌, ℕ, List, ◌∷◌, true, false, Some, None, Ok, is_some}
 use Rattle.std.specs.List.{AllByRecursion}
 use Rattle.std.specs.List.Sorted.{IsStrictlySortedBy}
 use Rattle.std.specs.Map.{keys_of}
 use Rattle.zr_id.specs.Zid.{is_named}
-use Rattle.zr_table.specs.State.{LinkState, is_router, link_at, link_to}
-use Rattle.zr_network.specs.World.{RouterState, ClientState, WorldState, router_of, client_of, is_taken, end_cmp, end_of, is_up}
+use Rattle.zr_routing.specs.Tables.{is_router, link_at, link_to}
+use Rattle.zr_msg.specs.declared.peer.LinkPeer.{LinkPeer}
+use Rattle.zr_id.specs.declared.link.LinkNo.{LinkNo}
+use Rattle.zr_msg.specs.declared.event.Event.TheVariants.{From}
+use Rattle.zr_table.specs.Table.{refuses}
+use Rattle.zr_network.specs.Acts.{number_to}
+use Rattle.zr_network.specs.World.{Tagged, RouterState, ClientState, EndState, WorldState, router_of, client_of, is_taken, end_cmp, end_of, is_up}
 
 -- of a router's links each is the one of its number, and the one to its neighbour
-pub record AreUnique (links : List LinkState) : Type 0 where
+pub record AreUnique (links : List LinkPeer) : Type 0 where
   pub numbers : AllByRecursion (λ l. link_at links l.link.0 ≡ Some l) links
   pub names : AllByRecursion (λ l. link_to links l.peer.id ≡ Some l) links
 
@@ -24,5 +29,10 @@ pub record IsSound (w : WorldState) : Type 0 where
   pub own : (x : List ℕ) (r : RouterState) → router_of w.routers x ≡ Some r → r.node.base.me ≡ x
   pub unique : (x : List ℕ) (r : RouterState) → router_of w.routers x ≡ Some r → AreUnique r.node.links
   pub links : (x y : List ℕ) (r : RouterState) → router_of w.routers x ≡ Some r → is_some (link_to r.node.links y) ≡ is_up w.ends (x, y)
-  pub roles : (x y : List ℕ) (r : RouterState) (l : LinkState) → router_of w.routers x ≡ Some r → link_to r.node.links y ≡ Some l →
+  pub roles : (x y : List ℕ) (r : RouterState) (l : LinkPeer) → router_of w.routers x ≡ Some r → link_to r.node.links y ≡ Some l →
       is_router l.peer.role ≡ is_some (router_of w.routers y)
+
+-- each router takes the oldest message on the wire to each of its ends that is up
+abbrev pub AllAreTaken : WorldState → Type 0
+AllAreTaken w = (x y : List ℕ) (r : RouterState) (s : EndState) (l : LinkNo) (m : Tagged) (more : List Tagged) → router_of w.routers x ≡ Some r → end_of w.ends (x, y) ≡ Some s →
+    s.up ≡ true → s.wire ≡ m ∷ more → number_to r y ≡ Ok l → refuses r.node (From l m.msg) ≡ None

@@ -26,10 +26,11 @@ pub record RouterState : Type 0 where
   pub node : NodeState
   pub weight : ℕ
 
--- a client: its router, and the ids under which it has something declared
+-- a client: its router, and the ids under which it has a subscriber and those under which it has a queryable declared
 pub record ClientState : Type 0 where
   pub router : List ℕ
-  pub ids : List ℕ
+  pub subs : List ℕ
+  pub ables : List ℕ
 
 -- one end of a link, that of a router; the neighbour at the other end is a router or a client
 abbrev pub End : Type 0
@@ -52,34 +53,28 @@ Clients = List (List ℕ × ClientState)
 abbrev pub Ends : Type 0
 Ends = List (End × EndState)
 
--- a world: routers, clients and ends in ascending order, whether a client has declared or published anything so far, and how many
--- steps all runs so far asked for
+-- a world: routers, clients and ends in ascending order, and how many steps all runs so far asked for
 pub record WorldState : Type 0 where
   pub routers : Routers
   pub clients : Clients
   pub ends : Ends
-  pub used : Bool
   pub booked : ℕ
 
 abbrev pub empty_world : WorldState
-empty_world = record { routers = []; clients = []; ends = []; used = false; booked = 0 }
+empty_world = record { routers = []; clients = []; ends = []; booked = 0 }
 
 -- the same world with another part
 abbrev pub with_routers : WorldState → Routers → WorldState
-with_routers w routers = record { routers = routers; clients = w.clients; ends = w.ends; used = w.used; booked = w.booked }
+with_routers w routers = record { routers = routers; clients = w.clients; ends = w.ends; booked = w.booked }
 
 abbrev pub with_clients : WorldState → Clients → WorldState
-with_clients w clients = record { routers = w.routers; clients = clients; ends = w.ends; used = w.used; booked = w.booked }
+with_clients w clients = record { routers = w.routers; clients = clients; ends = w.ends; booked = w.booked }
 
 abbrev pub with_ends : WorldState → Ends → WorldState
-with_ends w ends = record { routers = w.routers; clients = w.clients; ends = ends; used = w.used; booked = w.booked }
+with_ends w ends = record { routers = w.routers; clients = w.clients; ends = ends; booked = w.booked }
 
 abbrev pub with_booked : WorldState → ℕ → WorldState
-with_booked w booked = record { routers = w.routers; clients = w.clients; ends = w.ends; used = w.used; booked = booked }
-
--- the same world, in which a client has declared or published something
-abbrev pub in_use : WorldState → WorldState
-in_use w = record { routers = w.routers; clients = w.clients; ends = w.ends; used = true; booked = w.booked }
+with_booked w booked = record { routers = w.routers; clients = w.clients; ends = w.ends; booked = booked }
 
 -- a router without links
 abbrev pub new_router : List ℕ → RouterState
@@ -87,7 +82,7 @@ new_router id = record { node = new_node id; weight = 0 }
 
 -- a client that has declared nothing
 abbrev pub new_client : List ℕ → ClientState
-new_client router = record { router = router; ids = [] }
+new_client router = record { router = router; subs = []; ables = [] }
 
 -- the end of a new link: nothing waits there
 abbrev pub new_end : EndState

@@ -11,6 +11,7 @@ use Rattle.zr_id.specs.declared.link.LinkNo.{LinkNo}
 use Rattle.zr_graph.specs.Record.{record_of, IsAscending}
 use Rattle.zr_graph.specs.Base.{BaseState, own_seq, is_newer, kept, relinked, fresh}
 use Rattle.zr_graph.proofs.Names.{same_refl}
+use Rattle.zr_graph.proofs.Places.{record_of-put}
 use Rattle.zr_msg.specs.declared.msg.Msg.{Msg}
 use Rattle.zr_msg.specs.declared.msg.Msg.TheVariants.{Sub, Unsub, Able, Unable, Interest, EndInterest, ToldSub, ToldAble, ToldUnsub, ToldUnable, ToldEnd, Push, Request, Response, Final, State, Step, Snap}
 use Rattle.zr_msg.specs.declared.event.Event.{Event}
@@ -18,11 +19,13 @@ use Rattle.zr_msg.specs.declared.event.Event.TheVariants.{Up, Down, From}
 use Rattle.zr_msg.specs.declared.peer.Peer.{Peer}
 use Rattle.zr_msg.specs.declared.peer.Role.{Role}
 use Rattle.zr_msg.specs.declared.peer.Role.TheVariants.{Client, Router}
-use Rattle.zr_table.specs.State.{LinkState, NodeState, link_at, leads_to_router}
+use Rattle.zr_routing.specs.Tables.{link_at, leads_to_router}
+use Rattle.zr_table.specs.State.{NodeState}
+use Rattle.zr_msg.specs.declared.peer.LinkPeer.{LinkPeer}
 use Rattle.zr_table.specs.Table.{with_name, without_name, own_links, base_up, base_down, base_parted, base_told, after}
 use Rattle.zr_table.proofs.Inserted.{sorted_inserted}
-use Rattle.zr_settled.proofs.Spreading.{Name, Known}
-use Rattle.zr_settled.proofs.Records.{Links, known_of, known_kept, known_relinked, own_seq_is, own_links_is, newer_is}
+use Rattle.zr_settled.proofs.Spreading.{Name}
+use Rattle.zr_settled.proofs.Records.{Links, newer_is}
 
 -- ---- one router
 
@@ -36,21 +39,24 @@ bounded_later n m b le h = record { number = omega (arith, h.number, le); ascend
 
 bounded_relinked : (n : ℕ) (b : BaseState) (links : Links) → IsBounded n b → IsAscending links → IsBounded (n + 1) (relinked b links)
 bounded_relinked n b links h up = record {
-  number = let e : own_seq (relinked b links) ≡ (known_of b b.me).number + 1 = own_seq_is (relinked b links) ∙ ap (λ (k : Known Links). k.number) now in omega (arith, e, own_seq_is b, h.number);
-  ascend = subst IsAscending (sym (own_links_is (relinked b links) ∙ ap (λ (k : Known Links). k.value) now)) up;
+  number = let e : own_seq (relinked b links) ≡ own_seq b + 1 = ap (λ (o : Option RecordState). option_map_or (λ r. r.seq) o 0) now in omega (arith, e, h.number);
+  ascend = subst IsAscending (sym (ap (λ (o : Option RecordState). option_map_or (λ r. r.links) o []) now)) up;
 }
   where
-    now : known_of (relinked b links) b.me ≡ record { number = (known_of b b.me).number + 1; value = links }
-    now = known_relinked b links b.me ∙ ap (λ t. cond t (record { number = (known_of b b.me).number + 1; value = links }) (known_of b b.me)) (same_refl b.me)
+    new : RecordState
+    new = record { id = b.me; seq = own_seq b + 1; links = links }
+
+    now : record_of (relinked b links).records b.me ≡ Some new
+    now = record_of-put b.records new b.me ∙ ap (λ t. cond t (Some new) (record_of b.records b.me)) (same_refl b.me)
 
 bounded_kept : (n : ℕ) (b : BaseState) (r : RecordState) → is_newer b r ≡ true → IsBounded n b → IsBounded n (kept b r)
 bounded_kept n b r newer h = record {
-  number = let e : own_seq (kept b r) ≡ own_seq b = own_seq_is (kept b r) ∙ ap (λ (k : Known Links). k.number) same ∙ sym (own_seq_is b) in omega (arith, e, h.number);
-  ascend = subst IsAscending (sym (own_links_is (kept b r) ∙ ap (λ (k : Known Links). k.value) same ∙ sym (own_links_is b))) h.ascend;
+  number = let e : own_seq (kept b r) ≡ own_seq b = ap (λ (o : Option RecordState). option_map_or (λ q. q.seq) o 0) same in omega (arith, e, h.number);
+  ascend = subst IsAscending (sym (ap (λ (o : Option RecordState). option_map_or (λ q. q.links) o []) same)) h.ascend;
 }
   where
-    same : known_of (kept b r) b.me ≡ known_of b b.me
-    same = known_kept b r b.me ∙ ap (λ t. cond t (record { number = r.seq; value = r.links }) (known_of b b.me)) (newer_is b r newer).0
+    same : record_of (kept b r).records b.me ≡ record_of b.records b.me
+    same = record_of-put b.records r b.me ∙ ap (λ t. cond t (Some r) (record_of b.records b.me)) (newer_is b r newer).0
 
 -- an event of links may raise the own number by one, and a message doesn't
 abbrev pub cost : Event → ℕ
@@ -67,7 +73,7 @@ module _ (n : ℕ) (node : NodeState) (h : IsBounded n node.base) where
   bounded_parted peer Client = bounded_later n (n + 1) node.base (omega arith) h
   bounded_parted peer Router = bounded_relinked n node.base (without_name (own_links node.base) peer.id) h (IsStrictlySortedBy-filter _ _ (own_links node.base) h.ascend)
 
-  bounded_down : (o : Option LinkState) → IsBounded (n + 1) (base_down node.base o)
+  bounded_down : (o : Option LinkPeer) → IsBounded (n + 1) (base_down node.base o)
   bounded_down None = bounded_later n (n + 1) node.base (omega arith) h
   bounded_down (Some l) = bounded_parted l.peer l.peer.role
 

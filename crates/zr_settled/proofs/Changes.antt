@@ -13,7 +13,8 @@ use Rattle.zr_msg.specs.declared.event.Event.TheVariants.{Up, Down}
 use Rattle.zr_msg.specs.declared.peer.Peer.{Peer}
 use Rattle.zr_msg.specs.declared.peer.Role.{Role}
 use Rattle.zr_msg.specs.declared.peer.Role.TheVariants.{Client, Router}
-use Rattle.zr_table.specs.State.{LinkState, link_at, link_to, is_router}
+use Rattle.zr_routing.specs.Tables.{link_at, link_to, is_router}
+use Rattle.zr_msg.specs.declared.peer.LinkPeer.{LinkPeer}
 use Rattle.zr_table.specs.Table.{with_name, without_name, own_links, base_up, base_down, base_parted, own_record, all_records, after}
 use Rattle.zr_network.specs.World.{RouterState, EndState, End, Ends, WorldState, with_ends, router_of, end_of, is_end, is_up, is_unbroken, with_end, changed, lifted, lowered}
 use Rattle.zr_network.specs.Acts.{sends_to, hearing, heard}
@@ -23,19 +24,19 @@ use Rattle.zr_network.proofs.Ends.{end_parts, read_with_end, keep_with_end}
 use Rattle.zr_settled.proofs.Spreading.{at_name, Name, Known, Feeds, own, best, Spreads, drops_kept}
 use Rattle.zr_settled.proofs.Telling.{more, tells_anew_kept}
 use Rattle.zr_settled.proofs.Links.{AreKnown, linked_to, is_at}
-use Rattle.zr_settled.proofs.Records.{Links, known_of, told, known_relinked, own_links_is, all_tell, own_told}
+use Rattle.zr_settled.proofs.Records.{Links, known_of, told, known_relinked, own_links_is, all_tell, own_told, notes_in}
 use Rattle.zr_settled.proofs.Hearing.{order_after, up_tells, down_tells}
-use Rattle.zr_settled.proofs.Worlds.{there_in, knows, table_of, queue_at, wire_at, notes, way_of, lane_of, feeds_of, Holds, there_heard, router_heard, sent_at, way_sent, way_other, table_here, table_other, of_table, order_heard, up_heard, unbroken_heard, some_heard, sent_there}
+use Rattle.zr_settled.proofs.Worlds.{there_in, knows, table_of, way_of, lane_of, feeds_of, Holds, there_heard, router_heard, sent_at, way_sent, way_other, table_here, table_other, of_table, order_heard, up_heard, unbroken_heard, some_heard, sent_there}
 use Rattle.zr_settled.proofs.OwnLinks.{has_with, has_without}
 use Rattle.zr_settled.proofs.Quiet.{passes_there}
-use Rattle.zr_settled.proofs.Moving.{up_at, unbroken_at, both_ways}
+use Rattle.zr_settled.proofs.Moving.{up_at, unbroken_at, lifted_way}
 use Rattle.zr_settled.proofs.Passing.{emptied_part, emptied_same, emptied_up, keep_emptied}
 
 -- ---- a router's links changed
 
 -- The router a has heard of an event by which its own record has other links; its ends are others (`es`), but what is on the way is not.
 module _ (w : WorldState) (h : Holds w) (sound : IsSound w) (a : Name) (r : RouterState) (found : router_of w.routers a ≡ Some r) (event : Event) (tag : ℕ) (es : Ends)
-    (ways : (x y : Name) → way_of es x y ≡ way_of w.ends x y) (links : Links) (base_is : (after r.node event).base ≡ relinked r.node.base links) where
+    (ways : (x y : Name) → way_of notes_in es x y ≡ way_of notes_in w.ends x y) (links : Links) (base_is : (after r.node event).base ≡ relinked r.node.base links) where
   abbrev u : WorldState
   u = with_ends w es
 
@@ -46,21 +47,21 @@ module _ (w : WorldState) (h : Holds w) (sound : IsSound w) (a : Name) (r : Rout
   anew_table z =
       table_here u a r found event tag z
       ∙ ap (λ b. known_of b z) base_is
-      ∙ known_relinked r.node.base links z
+      ∙ known_relinked r.node.base links z (h.in_order a r found).own
       ∙ ap (λ m. cond (is_named m z) (record { number = (known_of r.node.base m).number + 1; value = links }) (known_of r.node.base z)) (sound.own a r found)
       ∙ ap (λ o. cond (is_named a z) (record { number = (knows o a).number + 1; value = links }) (knows o z)) (sym found)
 
   -- it told each neighbour that is fed then all records, or its own where the neighbour was fed before
   pub anew : (feeds' : Feeds) →
-      ((y z : Name) → feeds' z a y ≡ true → (sent_at u a r found event tag y ≡ told (all_records (relinked r.node.base links))) ⊎ ((feeds_of w z a y ≡ true) × (sent_at u a r found event tag y ≡ told (own_record (relinked r.node.base links))))) →
+      ((y z : Name) → feeds' z a y ≡ true → (sent_at notes_in u a r event tag y ≡ told (all_records (relinked r.node.base links))) ⊎ ((feeds_of w z a y ≡ true) × (sent_at notes_in u a r event tag y ≡ told (own_record (relinked r.node.base links))))) →
       ((x y z : Name) → is_named a x ≡ false → feeds' z x y ≡ true → feeds_of w z x y ≡ true) →
       Spreads (more h.made a (own (lane_of w) a) links) feeds' (lane_of v)
   anew feeds' tells less = tells_anew_kept h.made (feeds_of w) feeds' a links (lane_of w) (lane_of v) h.spreads (record {
     others = λ x z other. table_other u a r found event tag x z other;
     table = anew_table;
-    sent = sent_at u a r found event tag;
-    sends = λ y. way_sent u a r found event tag y ∙ ap (λ ms. ms ++ sent_at u a r found event tag y) (ways a y);
-    silent = λ x y other. way_other u a r found event tag x y other ∙ ways x y;
+    sent = sent_at notes_in u a r event tag;
+    sends = λ y. way_sent notes_in u a r event tag y ∙ ap (λ ms. ms ++ sent_at notes_in u a r event tag y) (ways a y);
+    silent = λ x y other. way_other notes_in u a r event tag x y other ∙ ways x y;
     sent_of = of_table u a r found event tag (order_after r.node event (h.in_order a r found));
     tells = λ y z f. by y z (tells y z f);
     feeds_less = less;
@@ -69,15 +70,15 @@ module _ (w : WorldState) (h : Holds w) (sound : IsSound w) (a : Name) (r : Rout
       here : (z : Name) → table_of v a z ≡ known_of (relinked r.node.base links) z
       here z = table_here u a r found event tag z ∙ ap (λ b. known_of b z) base_is
 
-      by : (y z : Name) → (sent_at u a r found event tag y ≡ told (all_records (relinked r.node.base links))) ⊎ ((feeds_of w z a y ≡ true) × (sent_at u a r found event tag y ≡ told (own_record (relinked r.node.base links)))) →
-          ((table_of v a z).number ≤ best z (sent_at u a r found event tag y)) ⊎ ((feeds_of w z a y ≡ true) × ((table_of v a a).number ≤ best a (sent_at u a r found event tag y)))
+      by : (y z : Name) → (sent_at notes_in u a r event tag y ≡ told (all_records (relinked r.node.base links))) ⊎ ((feeds_of w z a y ≡ true) × (sent_at notes_in u a r event tag y ≡ told (own_record (relinked r.node.base links)))) →
+          ((table_of v a z).number ≤ best z (sent_at notes_in u a r event tag y)) ⊎ ((feeds_of w z a y ≡ true) × ((table_of v a a).number ≤ best a (sent_at notes_in u a r event tag y)))
       by y z (inl e) =
           let number : (table_of v a z).number ≡ (known_of (relinked r.node.base links) z).number = ap (λ (k : Known Links). k.number) (here z) in
-          let sent : best z (sent_at u a r found event tag y) ≡ best z (told (all_records (relinked r.node.base links))) = ap (best z) e in
+          let sent : best z (sent_at notes_in u a r event tag y) ≡ best z (told (all_records (relinked r.node.base links))) = ap (best z) e in
           inl (omega (arith, number, sent, all_tell (relinked r.node.base links).records z))
       by y z (inr p) =
           let number : (table_of v a a).number ≡ (known_of (relinked r.node.base links) a).number = ap (λ (k : Known Links). k.number) (here a) in
-          let sent : best a (sent_at u a r found event tag y) ≡ best a (told (own_record (relinked r.node.base links))) = ap (best a) p.1 in
+          let sent : best a (sent_at notes_in u a r event tag y) ≡ best a (told (own_record (relinked r.node.base links))) = ap (best a) p.1 in
           let own_is : (known_of (relinked r.node.base links) a).number ≤ best a (told (own_record (relinked r.node.base links))) =
           subst (λ m. (known_of (relinked r.node.base links) m).number ≤ best m (told (own_record (relinked r.node.base links)))) (sound.own a r found) (own_told (relinked r.node.base links)) in
           inr (p.0, omega (arith, number, sent, own_is))
@@ -105,7 +106,7 @@ role_is Client e = absurd (false≢true e)
 role_is Router e = refl
 
 -- another router's ends are others
-other_end : (a b x y : Name) → is_named a x ≡ false → is_end (a, b) (x, y) ≡ false
+pub other_end : (a b x y : Name) → is_named a x ≡ false → is_end (a, b) (x, y) ≡ false
 other_end a b x y other = end_parts (a, b) (x, y) ∙ ap (λ t. t && is_named b y) other
 
 -- an end of a router is the one to a neighbour
@@ -140,9 +141,8 @@ module _ (w : WorldState) (h : Holds w) (sound : IsSound w) (a : Name) (r : Rout
         keep : {Y : Type 0} (f : Option EndState → Y) → f (Some (lifted s)) ≡ f (Some s) → (q : End) → f (end_of up_ends q) ≡ f (end_of w.ends q)
         keep f same q = keep_with_end w.ends (a, b) (lifted s) f q s at_end same
 
-        ways : (x y : Name) → way_of up_ends x y ≡ way_of w.ends x y
-        ways x y = both_ways (notes (wire_at (end_of up_ends (y, x)))) (notes (wire_at (end_of w.ends (y, x)))) (notes (queue_at (end_of up_ends (x, y)))) (notes (queue_at (end_of w.ends (x, y))))
-            (keep (λ o. notes (wire_at o)) refl (y, x)) (keep (λ o. notes (queue_at o)) refl (x, y))
+        ways : (x y : Name) → way_of notes_in up_ends x y ≡ way_of notes_in w.ends x y
+        ways = lifted_way notes_in w.ends a b s at_end
 
         base_is : (after r.node (Up link peer)).base ≡ relinked r.node.base links
         base_is = ap (λ ρ. base_up r.node.base peer ρ) role
@@ -175,22 +175,22 @@ module _ (w : WorldState) (h : Holds w) (sound : IsSound w) (a : Name) (r : Rout
         less x y z other f = feeds_from x y z f (sym (up_is (x, y) ∙ ap (λ t. cond t true (is_up w.ends (x, y))) (other_end a b x y other)) ∙ (up_of x y z f).1)
 
         tells : (y z : Name) → feeds_of up_world z a y ≡ true →
-            (sent_at (with_ends w up_ends) a r found (Up link peer) n y ≡ told (all_records (relinked r.node.base links)))
-            ⊎ ((feeds_of w z a y ≡ true) × (sent_at (with_ends w up_ends) a r found (Up link peer) n y ≡ told (own_record (relinked r.node.base links))))
+            (sent_at notes_in (with_ends w up_ends) a r (Up link peer) n y ≡ told (all_records (relinked r.node.base links)))
+            ⊎ ((feeds_of w z a y ≡ true) × (sent_at notes_in (with_ends w up_ends) a r (Up link peer) n y ≡ told (own_record (relinked r.node.base links))))
         tells y z f =
             let up = up_of a y z f in
             by (up_tells r.node (there_in w) (links_known w sound a r found) link peer role y
             (sound'.links a y (hearing r (Up link peer)) (router_heard (with_ends w up_ends) a r found (Up link peer) n) ∙ up.1) up.0)
           where
-            sent_is : sent_at (with_ends w up_ends) a r found (Up link peer) n y ≡ told (sends_to r.node (Up link peer) y)
-            sent_is = sent_there (with_ends w up_ends) a r found (Up link peer) n y
+            sent_is : sent_at notes_in (with_ends w up_ends) a r (Up link peer) n y ≡ told (sends_to r.node (Up link peer) y)
+            sent_is = sent_there notes_in (with_ends w up_ends) a r (Up link peer) n y
                 (sym (some_heard (with_ends w up_ends) a r found (Up link peer) n (a, y)) ∙ passes_there (λ e. e.up) up_world.ends (a, y) (up_of a y z f).1)
 
-            by : (sends_to r.node (Up link peer) y ≡ all_records (relinked r.node.base links)) ⊎ ((is_some (link_to r.node.links y) ≡ true) × (sends_to r.node (Up link peer) y ≡ own_record (relinked r.node.base links))) →
-                (sent_at (with_ends w up_ends) a r found (Up link peer) n y ≡ told (all_records (relinked r.node.base links)))
-                ⊎ ((feeds_of w z a y ≡ true) × (sent_at (with_ends w up_ends) a r found (Up link peer) n y ≡ told (own_record (relinked r.node.base links))))
-            by (inl e) = inl (sent_is ∙ ap told e)
-            by (inr p) = inr (feeds_from a y z f (sym (sound.links a y r found) ∙ p.0), sent_is ∙ ap told p.1)
+            by : (told (sends_to r.node (Up link peer) y) ≡ told (all_records (relinked r.node.base links))) ⊎ ((is_some (link_to r.node.links y) ≡ true) × (told (sends_to r.node (Up link peer) y) ≡ told (own_record (relinked r.node.base links)))) →
+                (sent_at notes_in (with_ends w up_ends) a r (Up link peer) n y ≡ told (all_records (relinked r.node.base links)))
+                ⊎ ((feeds_of w z a y ≡ true) × (sent_at notes_in (with_ends w up_ends) a r (Up link peer) n y ≡ told (own_record (relinked r.node.base links))))
+            by (inl e) = inl (sent_is ∙ e)
+            by (inr p) = inr (feeds_from a y z f (sym (sound.links a y r found) ∙ p.0), sent_is ∙ p.1)
 
         lists_here : (y : Name) → has (table_of up_world a a).value y ≡ (there_in up_world y && is_up up_world.ends (a, y))
         lists_here y =
@@ -215,7 +215,7 @@ module _ (w : WorldState) (h : Holds w) (sound : IsSound w) (a : Name) (r : Rout
 
   -- ---- an end to a router goes down
 
-  module _ (b : Name) (router : there_in w b ≡ true) (k : LinkState) (linked : link_to r.node.links b ≡ Some k) (n : ℕ) where
+  module _ (b : Name) (router : there_in w b ≡ true) (k : LinkPeer) (linked : link_to r.node.links b ≡ Some k) (n : ℕ) where
     abbrev part_world : WorldState
     part_world = heard w a r (Down k.link) n
 
@@ -227,7 +227,7 @@ module _ (w : WorldState) (h : Holds w) (sound : IsSound w) (a : Name) (r : Rout
       made = more h.made a (own (lane_of w) a) links;
       spreads = drops_kept (more h.made a (own (lane_of w) a) links) (feeds_of down_world) (feeds_of down_world) (lane_of part_world) (lane_of down_world)
           (anew w h sound a r found (Down k.link) n w.ends (λ x y. refl) links base_is (feeds_of down_world) tells less)
-          (record { tables = λ x z. refl; part = emptied_part part_world.ends a b; dropped = λ x y z f. (f, kept x y z f (is_end (a, b) (x, y)) refl) });
+          (record { tables = λ x z. refl; part = emptied_part notes_in part_world.ends a b; dropped = λ x y z f. (f, kept x y z f (is_end (a, b) (x, y)) refl) });
       lists = λ z y. at_name a (λ q. has (table_of down_world q q).value y ≡ (there_in down_world y && is_up down_world.ends (q, y))) (lists_here y) (λ q other. lists_other q y other) z;
       in_order = order_heard w a r found (Down k.link) n h.in_order;
       twins = λ x y some there. some_is (y, x) ∙ h.twins x y (sym (some_is (x, y)) ∙ some) (sym (there_is y) ∙ there);
@@ -283,19 +283,19 @@ module _ (w : WorldState) (h : Holds w) (sound : IsSound w) (a : Name) (r : Rout
         less : (x y z : Name) → is_named a x ≡ false → feeds_of down_world z x y ≡ true → feeds_of w z x y ≡ true
         less x y z other f = feeds_from x y z f
 
-        kept : (x y z : Name) → feeds_of down_world z x y ≡ true → (t : Bool) → is_end (a, b) (x, y) ≡ t → best z (way_of part_world.ends x y) ≤ max (table_of part_world y z).number (best z (way_of down_world.ends x y))
+        kept : (x y z : Name) → feeds_of down_world z x y ≡ true → (t : Bool) → is_end (a, b) (x, y) ≡ t → best z (way_of notes_in part_world.ends x y) ≤ max (table_of part_world y z).number (best z (way_of notes_in down_world.ends x y))
         kept x y z f true e = absurd (true≢false (sym e ∙ (was_up (x, y) (up_of x y z f).1).0))
-        kept x y z f false e = let same : best z (way_of down_world.ends x y) ≡ best z (way_of part_world.ends x y) = ap (best z) (emptied_same part_world.ends a b x y e) in omega (arith, same)
+        kept x y z f false e = let same : best z (way_of notes_in down_world.ends x y) ≡ best z (way_of notes_in part_world.ends x y) = ap (best z) (emptied_same notes_in part_world.ends a b x y e) in omega (arith, same)
 
         tells : (y z : Name) → feeds_of down_world z a y ≡ true →
-            (sent_at w a r found (Down k.link) n y ≡ told (all_records (relinked r.node.base links)))
-            ⊎ ((feeds_of w z a y ≡ true) × (sent_at w a r found (Down k.link) n y ≡ told (own_record (relinked r.node.base links))))
+            (sent_at notes_in w a r (Down k.link) n y ≡ told (all_records (relinked r.node.base links)))
+            ⊎ ((feeds_of w z a y ≡ true) × (sent_at notes_in w a r (Down k.link) n y ≡ told (own_record (relinked r.node.base links))))
         tells y z f =
             let up = up_of a y z f in
             inr (
               feeds_from a y z f,
-              sent_there w a r found (Down k.link) n y (passes_there (λ e. e.up) w.ends (a, y) (was_up (a, y) up.1).1)
-                  ∙ ap told (down_tells r.node (there_in w) known_links k it.0 role y
+              sent_there notes_in w a r (Down k.link) n y (passes_there (λ e. e.up) w.ends (a, y) (was_up (a, y) up.1).1)
+                  ∙ (down_tells r.node (there_in w) known_links k it.0 role y
                   (sound'.links a y (hearing r (Down k.link)) (router_heard w a r found (Down k.link) n) ∙ up.1) up.0),
             )
 

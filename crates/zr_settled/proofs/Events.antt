@@ -1,5 +1,5 @@
--- No event of a script's world is refused: own numbers are far below their limit, and own links are few.
-use Rattle.std.proofs.Common.{◌≡◌, ◌≤◌, ℕ, false, cond, length, Option, Some, None, refl, sym, ap, ◌∙◌, subst, arith}
+-- No link's event is refused by a router's own record: own numbers are far below their limit, and own links are few.
+use Rattle.std.proofs.Common.{◌≡◌, ◌≤◌, ℕ, false, cond, List, length, Option, Some, None, refl, sym, ap, ◌∙◌, subst, arith}
 use Rattle.std.specs.Prelude.{◌-◌, ◌^◌}
 use Rattle.std.specs.Cmp.Lexicographic.{slice_cmp}
 use Rattle.std.specs.Ordering.{nat_cmp}
@@ -10,19 +10,17 @@ use Rattle.zr_id.specs.Zid.{is_named}
 use Rattle.zr_graph.specs.Base.{BaseState, own_seq}
 use Rattle.zr_tree.proofs.Finds.{same_any}
 use Rattle.zr_msg.specs.declared.error.NodeError.TheVariants.{Worn}
-use Rattle.zr_msg.specs.declared.event.Event.{Event}
-use Rattle.zr_msg.specs.declared.event.Event.TheVariants.{Up, Down, From}
 use Rattle.zr_msg.specs.declared.peer.Role.{Role}
 use Rattle.zr_msg.specs.declared.peer.Role.TheVariants.{Client, Router}
-use Rattle.zr_table.specs.State.{LinkState, link_at}
-use Rattle.zr_table.specs.Table.{own_links, is_worn, is_full, refuses, refuses_up, refuses_down, refuses_parting}
+use Rattle.zr_msg.specs.declared.peer.LinkPeer.{LinkPeer}
+use Rattle.zr_table.specs.Table.{own_links, is_worn, is_full, refuses_up, refuses_down, refuses_parting}
+use Rattle.zr_language.specs.Lines.{most_bytes}
 use Rattle.zr_network.specs.World.{RouterState, WorldState, router_of}
 use Rattle.zr_network.specs.Run.{run_lines}
 use Rattle.zr_network.specs.Accepted.{accepted}
 use Rattle.zr_network.specs.Moments.{Moment, reached}
 use Rattle.zr_network.proofs.Names.{names}
 use Rattle.zr_network.proofs.Lines.{at_some, lines_are_moments}
-use Rattle.zr_settled.specs.Events.{NoEventIsRefused}
 use Rattle.zr_settled.proofs.Spreading.{Name}
 use Rattle.zr_settled.proofs.Worlds.{there_in}
 use Rattle.zr_settled.proofs.Changes.{listed}
@@ -46,18 +44,17 @@ module _ (b : BaseState) (fresh : is_worn b ≡ false) (room : is_full b ≡ fal
   takes_parting Client = refl
   takes_parting Router = ap (λ t. cond t (Some Worn) None) fresh
 
-  takes_down : (o : Option LinkState) → refuses_down b o ≡ None
+  takes_down : (o : Option LinkPeer) → refuses_down b o ≡ None
   takes_down None = refl
   takes_down (Some l) = takes_parting l.peer.role
 
-takes : (r : RouterState) (event : Event) → is_worn r.node.base ≡ false → is_full r.node.base ≡ false → refuses r.node event ≡ None
-takes r (Up link peer) fresh room = takes_up r.node.base fresh room peer.role
-takes r (Down link) fresh room = takes_down r.node.base fresh room (link_at r.node.links link.0)
-takes r (From link msg) fresh room = refl
+-- No router of a script's world refuses that a link comes up or goes down by its own record.
+pub record TakesLinks (b : BaseState) : Type 0 where
+  pub up : (role : Role) → refuses_up b role ≡ None
+  pub down : (o : Option LinkPeer) → refuses_down b o ≡ None
 
-pub no_event_is_refused : NoEventIsRefused
-no_event_is_refused ls x r event most found may =
-    takes r event (ne_eqb (own_seq r.node.base) (2 ^ 64 - 1) (λ e. absurd (omega (arith, e, bounded.number, most)))) (lt-leb 65535 (length (own_links r.node.base)) (omega (arith, few)))
+pub links_are_taken : (ls : List (List ℕ)) (x : Name) (r : RouterState) → length ls ≤ most_bytes → router_of (run_lines ls).world.routers x ≡ Some r → TakesLinks r.node.base
+links_are_taken ls x r most found = record { up = takes_up r.node.base fresh room; down = takes_down r.node.base fresh room }
   where
     bounds : AreBounded (length ls) (run_lines ls).world.routers
     bounds = lines_bounded ls
@@ -78,3 +75,9 @@ no_event_is_refused ls x r event most found may =
     few =
         let most : length m.world.routers ≤ 64 = subst (λ rs. length rs ≤ 64) same bounds.few in
         omega (arith, most, links_few m stands x r (ap (λ rs. router_of rs x) (sym same) ∙ found) (length ls) bounded)
+
+    fresh : is_worn r.node.base ≡ false
+    fresh = ne_eqb (own_seq r.node.base) (2 ^ 64 - 1) (λ e. absurd (omega (arith, e, bounded.number, most)))
+
+    room : is_full r.node.base ≡ false
+    room = lt-leb 65535 (length (own_links r.node.base)) (omega (arith, few))

@@ -1,6 +1,6 @@
 -- A router handles a message. A newer record from another router is kept and told on (`kept_on`), and then leaves the wire. Anything else
 -- tells nothing of links (`is_silent`): the message may leave the wire first, since its receiver knows what it tells.
-use Rattle.std.proofs.Common.{◌≡◌, ◌≤◌, ℕ, max, Bool, true, false, cond, List, [], ◌∷◌, ◌++◌, Option, Some, None, is_some, ◌⊎◌, inl, inr, refl, sym, ap, ◌∙◌, subst, append_assoc, append-nil, arith}
+use Rattle.std.proofs.Common.{◌≡◌, ◌≤◌, ◌+◌, ℕ, max, Bool, true, false, cond, List, [], ◌∷◌, ◌++◌, Option, Some, None, is_some, ◌⊎◌, inl, inr, refl, sym, ap, ◌∙◌, subst, append-nil, arith}
 use Rattle.std.specs.Prelude.{◌&&◌}
 use Rattle.std.specs.List.{AllByRecursion}
 use Rattle.std.specs.Option.{option_map_or}
@@ -16,8 +16,10 @@ use Rattle.zr_msg.specs.declared.msg.Msg.{Msg}
 use Rattle.zr_msg.specs.declared.msg.Msg.TheVariants.{Sub, Unsub, Able, Unable, Interest, EndInterest, ToldSub, ToldAble, ToldUnsub, ToldUnable, ToldEnd, Push, Request, Response, Final, State, Step, Snap}
 use Rattle.zr_msg.specs.declared.event.Event.{Event}
 use Rattle.zr_msg.specs.declared.event.Event.TheVariants.{From}
-use Rattle.zr_table.specs.State.{LinkState, NodeState, link_to, leads_to_router, leads_to_client}
-use Rattle.zr_table.specs.Table.{sends, after, is_other_router, is_other_subscriber}
+use Rattle.zr_routing.specs.Tables.{link_to, leads_to_router}
+use Rattle.zr_table.specs.State.{NodeState}
+use Rattle.zr_msg.specs.declared.peer.LinkPeer.{LinkPeer}
+use Rattle.zr_table.specs.Table.{sends_first, sends, after, is_other_router}
 use Rattle.zr_table.proofs.Inserted.{All-front}
 use Rattle.zr_network.specs.World.{Tagged, RouterState, EndState, End, Ends, WorldState, with_ends, router_of, end_of, is_end, is_up, is_unbroken, with_end, with_wire}
 use Rattle.zr_network.specs.Acts.{sends_to, heard}
@@ -27,11 +29,12 @@ use Rattle.zr_settled.proofs.Spreading.{at_name, Name, Known, Note, own, best, A
 use Rattle.zr_settled.proofs.Telling.{takes_kept}
 use Rattle.zr_settled.proofs.Links.{AreKnown, linked_to, leads_is}
 use Rattle.zr_settled.proofs.Records.{Links, known_of, note_of, notes_in, told, known_kept, newer_is, older_is}
+use Rattle.zr_settled.proofs.Silent.{from_silent, base_silent, first_tells}
 use Rattle.zr_settled.proofs.Hearing.{order_after, state_tells}
 use Rattle.zr_settled.proofs.Worlds.{there_in, knows, table_of, way_of, lane_of, feeds_of, Holds, there_heard, table_heard, sent_at, way_sent, way_other, table_here, table_other, of_table, order_heard, up_heard, unbroken_heard, some_heard, sent_there}
 use Rattle.zr_settled.proofs.Quiet.{silent_kept, passes_there}
-use Rattle.zr_settled.proofs.Moving.{up_at, unbroken_at}
-use Rattle.zr_settled.proofs.Passing.{popped_way, keep_popped, popped_kept}
+use Rattle.zr_settled.proofs.Moving.{up_at, unbroken_at, moves_kept}
+use Rattle.zr_settled.proofs.Passing.{popped_way, keep_popped, popped_moves, handled_way}
 use Rattle.zr_settled.proofs.Changes.{links_known}
 
 -- ---- what tells nothing
@@ -46,12 +49,12 @@ abbrev pub AreOld : BaseState → List (Note Links) → Type 0
 AreOld b ms = AllByRecursion (λ m. (is_named m.source b.me ≡ true) ⊎ (m.known.number ≤ (known_of b m.source).number)) ms
 
 module _ (n : NodeState) (from : LinkNo) where
-  on_each : (msg : Msg) → ((to : LinkNo) → told (sends n (From from msg) to) ≡ []) → (y : Name) → told (sends_to n (From from msg) y) ≡ []
+  on_each : (msg : Msg) → ((to : LinkNo) → told (sends_first n (From from msg) to) ≡ []) → (y : Name) → told (sends_to n (From from msg) y) ≡ []
   on_each msg h y = by (link_to (after n (From from msg)).links y)
     where
-      by : (o : Option LinkState) → told (option_map_or (λ l. sends n (From from msg) l.link) o []) ≡ []
+      by : (o : Option LinkPeer) → told (option_map_or (λ l. sends n (From from msg) l.link) o []) ≡ []
       by None = refl
-      by (Some l) = h l.link
+      by (Some l) = first_tells n (From from msg) l.link ∙ h l.link
 
   state_silent : (r : RecordState) (t u : Bool) → leads_to_router n.links from.0 ≡ t → is_newer n.base r ≡ u → (t && u) ≡ false → IsSilent n from (State r)
   state_silent r t u et eu old = record {
@@ -65,8 +68,8 @@ module _ (n : NodeState) (from : LinkNo) where
       stays true false k = refl
       stays false u k = refl
 
-  nothing : (msg : Msg) → (after n (From from msg)).base ≡ n.base → ((to : LinkNo) → told (sends n (From from msg) to) ≡ []) → IsSilent n from msg
-  nothing msg same silent = record { same = same; silent = on_each msg silent }
+  nothing : (msg : Msg) → notes_in msg ≡ [] → IsSilent n from msg
+  nothing msg e = record { same = base_silent n from.0 msg e; silent = on_each msg (λ to. from_silent n from.0 msg to.0 e) }
 
   by_record : (r : RecordState) (P : Msg → Type 0) → ((r : RecordState) → leads_to_router n.links from.0 ≡ true → is_newer n.base r ≡ true → P (State r)) →
       ((m : Msg) → IsSilent n from m → (leads_to_router n.links from.0 ≡ true → AreOld n.base (notes_in m)) → P m) → (t : Bool) → leads_to_router n.links from.0 ≡ t →
@@ -75,36 +78,34 @@ module _ (n : NodeState) (from : LinkNo) where
   by_record r P news silent true et false eu = silent (State r) (state_silent r true false et eu refl) (λ k. (older_is n.base r eu, tt))
   by_record r P news silent false et u eu = silent (State r) (state_silent r false u et eu refl) (λ k. absurd (true≢false (sym k ∙ et)))
 
-  no_record : (msg : Msg) (t : Bool) → notes_in msg ≡ [] → told (cond t (msg ∷ []) []) ≡ []
-  no_record msg true e = ap (λ z. z ++ []) e
-  no_record msg false e = refl
+  by_nothing : (msg : Msg) (P : Msg → Type 0) → ((m : Msg) → IsSilent n from m → (leads_to_router n.links from.0 ≡ true → AreOld n.base (notes_in m)) → P m) → notes_in msg ≡ [] → P msg
+  by_nothing msg P silent e = silent msg (nothing msg e) (λ t. subst (λ ms. AreOld n.base ms) (sym e) tt)
 
   -- A message is a newer record from a router, or tells nothing; and then, if it is from a router, what it tells is old.
   pub by_news : (msg : Msg) (P : Msg → Type 0) → ((r : RecordState) → leads_to_router n.links from.0 ≡ true → is_newer n.base r ≡ true → P (State r)) →
       ((m : Msg) → IsSilent n from m → (leads_to_router n.links from.0 ≡ true → AreOld n.base (notes_in m)) → P m) → P msg
-  by_news (Sub id key) P news silent = silent (Sub id key) (nothing (Sub id key) refl (λ to. refl)) (λ t. tt)
-  by_news (Unsub id) P news silent = silent (Unsub id) (nothing (Unsub id) refl (λ to. refl)) (λ t. tt)
-  by_news (Able id key complete) P news silent = silent (Able id key complete) (nothing (Able id key complete) refl (λ to. refl)) (λ t. tt)
-  by_news (Unable id) P news silent = silent (Unable id) (nothing (Unable id) refl (λ to. refl)) (λ t. tt)
-  by_news (Interest id current future kinds key aggregate) P news silent = silent (Interest id current future kinds key aggregate) (nothing (Interest id current future kinds key aggregate) refl (λ to. refl)) (λ t. tt)
-  by_news (EndInterest id) P news silent = silent (EndInterest id) (nothing (EndInterest id) refl (λ to. refl)) (λ t. tt)
-  by_news (ToldSub id key interest) P news silent = silent (ToldSub id key interest) (nothing (ToldSub id key interest) refl (λ to. refl)) (λ t. tt)
-  by_news (ToldAble id key complete interest) P news silent = silent (ToldAble id key complete interest) (nothing (ToldAble id key complete interest) refl (λ to. refl)) (λ t. tt)
-  by_news (ToldUnsub id) P news silent = silent (ToldUnsub id) (nothing (ToldUnsub id) refl (λ to. refl)) (λ t. tt)
-  by_news (ToldUnable id) P news silent = silent (ToldUnable id) (nothing (ToldUnable id) refl (λ to. refl)) (λ t. tt)
-  by_news (ToldEnd interest) P news silent = silent (ToldEnd interest) (nothing (ToldEnd interest) refl (λ to. refl)) (λ t. tt)
-  by_news (Push tree content) P news silent =
-      silent (Push tree content) (nothing (Push tree content) refl (λ to. no_record (Push None content) (leads_to_client n.links from.0 && is_other_subscriber n from.0 content.key to.0) refl)) (λ t. tt)
-  by_news (Request tree id target content) P news silent = silent (Request tree id target content) (nothing (Request tree id target content) refl (λ to. refl)) (λ t. tt)
-  by_news (Response id content) P news silent = silent (Response id content) (nothing (Response id content) refl (λ to. refl)) (λ t. tt)
-  by_news (Final id extras) P news silent = silent (Final id extras) (nothing (Final id extras) refl (λ to. refl)) (λ t. tt)
+  by_news (Sub id key) P news silent = by_nothing (Sub id key) P silent refl
+  by_news (Unsub id) P news silent = by_nothing (Unsub id) P silent refl
+  by_news (Able id key complete) P news silent = by_nothing (Able id key complete) P silent refl
+  by_news (Unable id) P news silent = by_nothing (Unable id) P silent refl
+  by_news (Interest id current future kinds key aggregate) P news silent = by_nothing (Interest id current future kinds key aggregate) P silent refl
+  by_news (EndInterest id) P news silent = by_nothing (EndInterest id) P silent refl
+  by_news (ToldSub id key interest) P news silent = by_nothing (ToldSub id key interest) P silent refl
+  by_news (ToldAble id key complete interest) P news silent = by_nothing (ToldAble id key complete interest) P silent refl
+  by_news (ToldUnsub id) P news silent = by_nothing (ToldUnsub id) P silent refl
+  by_news (ToldUnable id) P news silent = by_nothing (ToldUnable id) P silent refl
+  by_news (ToldEnd interest) P news silent = by_nothing (ToldEnd interest) P silent refl
+  by_news (Push tree content) P news silent = by_nothing (Push tree content) P silent refl
+  by_news (Request tree id target content) P news silent = by_nothing (Request tree id target content) P silent refl
+  by_news (Response id content) P news silent = by_nothing (Response id content) P silent refl
+  by_news (Final id extras) P news silent = by_nothing (Final id extras) P silent refl
   by_news (State r) P news silent = by_record r P news silent (leads_to_router n.links from.0) refl (is_newer n.base r) refl
-  by_news (Step source number added decl) P news silent = silent (Step source number added decl) (nothing (Step source number added decl) refl (λ to. refl)) (λ t. tt)
-  by_news (Snap source number decls) P news silent = silent (Snap source number decls) (nothing (Snap source number decls) refl (λ to. refl)) (λ t. tt)
+  by_news (Step source number added decl) P news silent = by_nothing (Step source number added decl) P silent refl
+  by_news (Snap source number decls) P news silent = by_nothing (Snap source number decls) P silent refl
 
 -- ---- worlds
 
-module _ (w : WorldState) (h : Holds w) (sound : IsSound w) (a : Name) (r : RouterState) (found : router_of w.routers a ≡ Some r) (b : Name) (k : LinkState) (linked : link_to r.node.links b ≡ Some k)
+module _ (w : WorldState) (h : Holds w) (sound : IsSound w) (a : Name) (r : RouterState) (found : router_of w.routers a ≡ Some r) (b : Name) (k : LinkPeer) (linked : link_to r.node.links b ≡ Some k)
     (s : EndState) (at_end : end_of w.ends (a, b) ≡ Some s) (tag : ℕ) (xs : List Tagged) where
   it : In k r.node.links × (k.peer.id ≡ b)
   it = linked_to r.node.links b k linked
@@ -121,9 +122,9 @@ module _ (w : WorldState) (h : Holds w) (sound : IsSound w) (a : Name) (r : Rout
   -- what is first on the wire fits
   first_fits : (msg : Msg) → s.wire ≡ record { msg = msg; tag = tag } ∷ xs → AllFit h.made (own (lane_of w)) (notes_in msg)
   first_fits msg front =
-      All-front (λ m. Fits h.made (own (lane_of w)) m.source m.known) (notes_in msg) (way_of after_pop b a)
+      All-front (λ m. Fits h.made (own (lane_of w)) m.source m.known) (notes_in msg) (way_of notes_in after_pop b a)
       (subst (λ ms. AllFit h.made (own (lane_of w)) ms)
-      (popped_way w.ends a b s at_end msg tag xs front b a ∙ ap (λ t. cond t (notes_in msg) [] ++ way_of after_pop b a) (ends.refl (a, b)))
+      (popped_way notes_in w.ends a b s at_end msg tag xs front b a ∙ ap (λ t. cond t (notes_in msg) [] ++ way_of notes_in after_pop b a) (ends.refl (a, b)))
       (h.spreads.fits_way b a))
 
   -- what is old is known
@@ -145,7 +146,8 @@ module _ (w : WorldState) (h : Holds w) (sound : IsSound w) (a : Name) (r : Rout
       Holds (heard (with_ends w after_pop) a r (From k.link msg) tag)
   silent_handled msg front quiet old =
       silent_kept (with_ends w after_pop) a r found (From k.link msg) tag
-      (popped_kept w h a b s at_end msg tag xs front (λ up z. old_known (notes_in msg) (first_fits msg front) (old (leads ∙ sound.routers b a (passes_there (λ e. e.up) w.ends (b, a) up))) z))
+      (moves_kept w _ h (popped_moves notes_in (table_of w) w h.twins a b s at_end msg tag xs front
+      (λ up z. old_known (notes_in msg) (first_fits msg front) (old (leads ∙ sound.routers b a (passes_there (λ e. e.up) w.ends (b, a) up))) z)))
       quiet.same quiet.silent
 
   -- ---- a newer record
@@ -179,24 +181,24 @@ module _ (w : WorldState) (h : Holds w) (sound : IsSound w) (a : Name) (r : Rout
       apart = sound.apart a b (ap is_some at_end);
       foreign = foreign;
       newer = let same : (table_of w a m.id).number ≡ (known_of r.node.base m.id).number = ap (λ o. (knows o m.id).number) found in omega (arith, same, (newer_is r.node.base m newer).1);
-      rest = way_of after_pop b a;
-      first = popped_way w.ends a b s at_end (State m) tag xs front b a ∙ ap (λ t. cond t (notes_in (State m)) [] ++ way_of after_pop b a) (ends.refl (a, b));
-      sent = sent_at w a r found (From k.link (State m)) tag;
-      sends = way_sent w a r found (From k.link (State m)) tag;
-      silent = way_other w a r found (From k.link (State m)) tag;
+      rest = way_of notes_in after_pop b a;
+      first = popped_way notes_in w.ends a b s at_end (State m) tag xs front b a ∙ ap (λ t. cond t (notes_in (State m)) [] ++ way_of notes_in after_pop b a) (ends.refl (a, b));
+      sent = sent_at notes_in w a r (From k.link (State m)) tag;
+      sends = way_sent notes_in w a r (From k.link (State m)) tag;
+      silent = way_other notes_in w a r (From k.link (State m)) tag;
       sent_of = of_table w a r found (From k.link (State m)) tag (order_after r.node (From k.link (State m)) (h.in_order a r found));
       tells = tells;
     })
       where
-        tells : (y : Name) → feeds_of w m.id a y ≡ true → is_named b y ≡ false → m.seq ≤ best m.id (sent_at w a r found (From k.link (State m)) tag y)
+        tells : (y : Name) → feeds_of w m.id a y ≡ true → is_named b y ≡ false → m.seq + 1 ≤ best m.id (sent_at notes_in w a r (From k.link (State m)) tag y)
         tells y f other =
             let parts = and_parts (there_in w y) (is_up w.ends (a, y) && is_unbroken w.ends (a, y)) f in
             let up = (and_parts (is_up w.ends (a, y)) (is_unbroken w.ends (a, y)) parts.1).0 in
-            let sent : sent_at w a r found (From k.link (State m)) tag y ≡ note_of m ∷ [] =
-            sent_there w a r found (From k.link (State m)) tag y (passes_there (λ e. e.up) w.ends (a, y) up)
-            ∙ ap told (state_tells r.node (there_in w) known_links k it.0 (sym (leads_is (there_in w) r.node.links known_links k it.0) ∙ router) m newer y (sound.links a y r found ∙ up) parts.0
+            let sent : sent_at notes_in w a r (From k.link (State m)) tag y ≡ note_of m ∷ [] =
+            sent_there notes_in w a r (From k.link (State m)) tag y (passes_there (λ e. e.up) w.ends (a, y) up)
+            ∙ (state_tells r.node (there_in w) known_links k it.0 (sym (leads_is (there_in w) r.node.links known_links k it.0) ∙ router) m newer y (sound.links a y r found ∙ up) parts.0
             (ap (λ q. is_named q y) it.1 ∙ other)) in
-            let count : best m.id (sent_at w a r found (From k.link (State m)) tag y) ≡ best m.id (note_of m ∷ []) = ap (best m.id) sent in
+            let count : best m.id (sent_at notes_in w a r (From k.link (State m)) tag y) ≡ best m.id (note_of m ∷ []) = ap (best m.id) sent in
             omega (arith, count, best_head (note_of m) [])
 
     pub news_handled : Holds handled_world
@@ -204,7 +206,7 @@ module _ (w : WorldState) (h : Holds w) (sound : IsSound w) (a : Name) (r : Rout
       made = h.made;
       spreads = drops_kept h.made (feeds_of w) (feeds_of handled_world) (lane_of kept_world) (lane_of handled_world) kept_on (record {
         tables = λ x z. tables x z;
-        part = λ x y. record { before = cond (is_end (a, b) (y, x)) (note_of m ∷ []) []; after = []; whole = way x y ∙ ap (λ z. cond (is_end (a, b) (y, x)) (note_of m ∷ []) [] ++ z) (sym (append-nil (way_of handled_world.ends x y))) };
+        part = λ x y. record { before = cond (is_end (a, b) (y, x)) (note_of m ∷ []) []; after = []; whole = way x y ∙ ap (λ z. cond (is_end (a, b) (y, x)) (note_of m ∷ []) [] ++ z) (sym (append-nil (way_of notes_in handled_world.ends x y))) };
         dropped = λ x y z f. (sym (feeds x y z) ∙ f, dropped x y z);
       });
       lists = λ z y. ap (λ (q : Known Links). has q.value y) (own_is z) ∙ h.lists z y ∙ sym (ap (λ t. t && is_up handled_world.ends (z, y)) (there_is y) ∙ ap (λ t. there_in w y && t) (up_is (z, y)));
@@ -235,37 +237,16 @@ module _ (w : WorldState) (h : Holds w) (sound : IsSound w) (a : Name) (r : Rout
         own_is z = tables z z ∙ at_name a (λ q. table_of kept_world q q ≡ table_of w q q)
             (table_is a ∙ ap (λ t. cond t (note_of m).known (table_of w a a)) foreign) (λ q other. table_other w a r found (From k.link (State m)) tag q q other) z
 
-        way : (x y : Name) → way_of kept_world.ends x y ≡ cond (is_end (a, b) (y, x)) (note_of m ∷ []) [] ++ way_of handled_world.ends x y
-        way x y = at_name a (λ q. way_of kept_world.ends q y ≡ cond (is_end (a, b) (y, q)) (note_of m ∷ []) [] ++ way_of handled_world.ends q y) here other x
-          where
-            before : Name → List (Note Links)
-            before q = cond (is_end (a, b) (y, q)) (note_of m ∷ []) []
+        way : (x y : Name) → way_of notes_in kept_world.ends x y ≡ cond (is_end (a, b) (y, x)) (note_of m ∷ []) [] ++ way_of notes_in handled_world.ends x y
+        way x y = handled_way notes_in w a r (From k.link (State m)) b s at_end (State m) tag xs front x y
 
-            popped : (q : Name) → way_of w.ends q y ≡ before q ++ way_of after_pop q y
-            popped q = popped_way w.ends a b s at_end (State m) tag xs front q y
-
-            sent_same : sent_at w a r found (From k.link (State m)) tag y ≡ sent_at (with_ends w after_pop) a r found (From k.link (State m)) tag y
-            sent_same = ap (λ t. told (cond t (sends_to r.node (From k.link (State m)) y) [])) (sym (keep_popped w.ends a b s at_end (State m) tag xs is_some refl (a, y)))
-
-            here : way_of kept_world.ends a y ≡ before a ++ way_of handled_world.ends a y
-            here =
-                way_sent w a r found (From k.link (State m)) tag y
-                ∙ ap (λ z. z ++ sent_at w a r found (From k.link (State m)) tag y) (popped a)
-                ∙ append_assoc (before a) (way_of after_pop a y) (sent_at w a r found (From k.link (State m)) tag y)
-                ∙ ap (λ z. before a ++ (way_of after_pop a y ++ z)) sent_same
-                ∙ ap (λ z. before a ++ z) (sym (way_sent (with_ends w after_pop) a r found (From k.link (State m)) tag y))
-
-            other : (q : Name) → is_named a q ≡ false → way_of kept_world.ends q y ≡ before q ++ way_of handled_world.ends q y
-            other q apart = way_other w a r found (From k.link (State m)) tag q y apart ∙ popped q
-                ∙ ap (λ z. before q ++ z) (sym (way_other (with_ends w after_pop) a r found (From k.link (State m)) tag q y apart))
-
-        dropped : (x y z : Name) → best z (way_of kept_world.ends x y) ≤ max (table_of kept_world y z).number (best z (way_of handled_world.ends x y))
+        dropped : (x y z : Name) → best z (way_of notes_in kept_world.ends x y) ≤ max (table_of kept_world y z).number (best z (way_of notes_in handled_world.ends x y))
         dropped x y z =
-            let e : best z (way_of kept_world.ends x y) ≡ max (best z (cond (is_end (a, b) (y, x)) (note_of m ∷ []) [])) (best z (way_of handled_world.ends x y)) =
-            ap (best z) (way x y) ∙ best_append z (cond (is_end (a, b) (y, x)) (note_of m ∷ []) []) (way_of handled_world.ends x y) in
+            let e : best z (way_of notes_in kept_world.ends x y) ≡ max (best z (cond (is_end (a, b) (y, x)) (note_of m ∷ []) [])) (best z (way_of notes_in handled_world.ends x y)) =
+            ap (best z) (way x y) ∙ best_append z (cond (is_end (a, b) (y, x)) (note_of m ∷ []) []) (way_of notes_in handled_world.ends x y) in
             omega (arith, e, left (is_end (a, b) (y, x)) refl)
           where
-            here : (t : Bool) → is_named m.id z ≡ t → max (cond t m.seq 0) 0 ≤ (cond t (note_of m).known (table_of w a z)).number
+            here : (t : Bool) → is_named m.id z ≡ t → max (cond t (m.seq + 1) 0) 0 ≤ (cond t (note_of m).known (table_of w a z)).number
             here true e = omega arith
             here false e = omega arith
 

@@ -1,6 +1,6 @@
 -- What one router does at an event: all that it sends tells what its base then knows, its base stays in order; and on which links it tells
 -- its new record, the whole base, or a record that was newer.
-use Rattle.std.proofs.Common.{◌≡◌, ℕ, Bool, true, false, cond, not, List, [], ◌∷◌, Option, Some, None, is_some, ◌⊎◌, inl, inr, refl, sym, ap, ◌∙◌}
+use Rattle.std.proofs.Common.{◌≡◌, ℕ, Bool, true, false, cond, not, List, [], ◌∷◌, Option, Some, None, is_some, ◌⊎◌, inl, inr, refl, sym, ap, ◌∙◌, subst}
 use Rattle.std.specs.Prelude.{◌==◌, ◌&&◌}
 use Rattle.std.specs.Option.{option_map_or}
 use Rattle.std.proofs.lemmas.Bool.{true≢false, false≢true, eqb-false, ne_eqb, and_from}
@@ -18,12 +18,15 @@ use Rattle.zr_msg.specs.declared.event.Event.TheVariants.{Up, Down, From}
 use Rattle.zr_msg.specs.declared.peer.Peer.{Peer}
 use Rattle.zr_msg.specs.declared.peer.Role.{Role}
 use Rattle.zr_msg.specs.declared.peer.Role.TheVariants.{Client, Router}
-use Rattle.zr_table.specs.State.{LinkState, NodeState, new_link, link_at, link_to, leads_to_router}
-use Rattle.zr_table.specs.Table.{joined, parted, own_record, all_records, is_other_router, sends_own, sends_up, sends_parted, sends_down, sends_state, sends, with_link, base_up, base_down, base_parted, base_told, after}
+use Rattle.zr_routing.specs.Tables.{link_at, link_to, leads_to_router}
+use Rattle.zr_table.specs.State.{NodeState, new_link}
+use Rattle.zr_msg.specs.declared.peer.LinkPeer.{LinkPeer}
+use Rattle.zr_table.specs.Table.{joined, parted, own_record, all_records, is_other_router, sends_own, sends_up, sends_parted, sends_down, sends_state, sends_first, sends, with_link, base_up, base_down, base_parted, base_told, after}
 use Rattle.zr_network.specs.Acts.{sends_to}
 use Rattle.zr_settled.proofs.Spreading.{Name, Known, AllOf}
 use Rattle.zr_settled.proofs.Links.{AreKnown, linked_to, is_at, leads_is, in_with, in_without}
-use Rattle.zr_settled.proofs.Records.{Links, known_of, note_of, told, known_kept, base_tells, own_tells}
+use Rattle.zr_settled.proofs.Records.{Links, known_of, note_of, notes_in, told, known_kept, base_tells, own_tells}
+use Rattle.zr_settled.proofs.Silent.{from_silent, first_tells, down_tells_first}
 
 -- ---- all that is sent is of the base
 
@@ -47,7 +50,7 @@ module _ (n : NodeState) where
   parted_of link peer Client to = tt
   parted_of link peer Router to = own_of link (parted n.base peer.id) to
 
-  down_of : (link : ℕ) (o : Option LinkState) (to : ℕ) → AllOf (known_of (base_down n.base o)) (told (sends_down n link o to))
+  down_of : (link : ℕ) (o : Option LinkPeer) (to : ℕ) → AllOf (known_of (base_down n.base o)) (told (sends_down n link o to))
   down_of link None to = tt
   down_of link (Some l) to = parted_of link l.peer l.peer.role to
 
@@ -60,11 +63,14 @@ module _ (n : NodeState) where
       by true false c = tt
       by false b c = tt
 
-  from_of : (from : LinkNo) (msg : Msg) (to : LinkNo) → AllOf (known_of (after n (From from msg)).base) (told (sends n (From from msg) to))
-  from_of from (Sub id key) to = tt
-  from_of from (Unsub id) to = tt
-  from_of from (Able id key complete) to = tt
-  from_of from (Unable id) to = tt
+  silent_of : (from : LinkNo) (msg : Msg) (to : LinkNo) → notes_in msg ≡ [] → AllOf (known_of (after n (From from msg)).base) (told (sends_first n (From from msg) to))
+  silent_of from msg to e = subst (λ ms. AllOf (known_of (after n (From from msg)).base) ms) (sym (from_silent n from.0 msg to.0 e)) tt
+
+  from_of : (from : LinkNo) (msg : Msg) (to : LinkNo) → AllOf (known_of (after n (From from msg)).base) (told (sends_first n (From from msg) to))
+  from_of from (Sub id key) to = silent_of from (Sub id key) to refl
+  from_of from (Unsub id) to = silent_of from (Unsub id) to refl
+  from_of from (Able id key complete) to = silent_of from (Able id key complete) to refl
+  from_of from (Unable id) to = silent_of from (Unable id) to refl
   from_of from (Interest id current future kinds key aggregate) to = tt
   from_of from (EndInterest id) to = tt
   from_of from (ToldSub id key interest) to = tt
@@ -72,23 +78,26 @@ module _ (n : NodeState) where
   from_of from (ToldUnsub id) to = tt
   from_of from (ToldUnable id) to = tt
   from_of from (ToldEnd interest) to = tt
-  from_of from (Push tree content) to = of_cond (known_of n.base) _ (Push None content ∷ []) tt
+  from_of from (Push tree content) to = silent_of from (Push tree content) to refl
   from_of from (Request tree id target content) to = tt
   from_of from (Response id content) to = tt
   from_of from (Final id extras) to = tt
   from_of from (State links) to = state_of from.0 links to.0
-  from_of from (Step source number added decl) to = tt
-  from_of from (Snap source number decls) to = tt
+  from_of from (Step source number added decl) to = silent_of from (Step source number added decl) to refl
+  from_of from (Snap source number decls) to = silent_of from (Snap source number decls) to refl
+
+  first_of : (event : Event) (to : LinkNo) → IsInOrder (after n event).base → AllOf (known_of (after n event).base) (told (sends_first n event to))
+  first_of (Up link peer) to h = up_of link.0 peer peer.role to.0 h
+  first_of (Down link) to h = subst (λ ms. AllOf (known_of (after n (Down link)).base) ms) (sym (down_tells_first n link to)) (down_of link.0 (link_at n.links link.0) to.0)
+  first_of (From link msg) to h = from_of link msg to
 
   sends_of : (event : Event) (to : LinkNo) → IsInOrder (after n event).base → AllOf (known_of (after n event).base) (told (sends n event to))
-  sends_of (Up link peer) to h = up_of link.0 peer peer.role to.0 h
-  sends_of (Down link) to h = down_of link.0 (link_at n.links link.0) to.0
-  sends_of (From link msg) to h = from_of link msg to
+  sends_of event to h = subst (λ ms. AllOf (known_of (after n event).base) ms) (sym (first_tells n event to)) (first_of event to h)
 
   pub sent_of : (event : Event) (y : Name) → IsInOrder (after n event).base → AllOf (known_of (after n event).base) (told (sends_to n event y))
   sent_of event y h = by (link_to (after n event).links y)
     where
-      by : (o : Option LinkState) → AllOf (known_of (after n event).base) (told (option_map_or (λ l. sends n event l.link) o []))
+      by : (o : Option LinkPeer) → AllOf (known_of (after n event).base) (told (option_map_or (λ l. sends n event l.link) o []))
       by None = tt
       by (Some l) = sends_of event l.link h
 
@@ -98,7 +107,7 @@ module _ (n : NodeState) where
   order_up peer Client h = h
   order_up peer Router h = in_order_put n.base _ h
 
-  order_down : (o : Option LinkState) → IsInOrder n.base → IsInOrder (base_down n.base o)
+  order_down : (o : Option LinkPeer) → IsInOrder n.base → IsInOrder (base_down n.base o)
   order_down None h = h
   order_down (Some l) h = by l.peer.role
     where
@@ -143,7 +152,7 @@ module _ (n : NodeState) where
     -- ---- on which links what is told
 
     -- a router link of another number is another router link
-    other_is : AreKnown there n.links → (from : ℕ) (l : LinkState) → In l n.links → (l.link.0 ≡ from → ⊥) → there l.peer.id ≡ true → is_other_router n from l.link.0 ≡ true
+    other_is : AreKnown there n.links → (from : ℕ) (l : LinkPeer) → In l n.links → (l.link.0 ≡ from → ⊥) → there l.peer.id ≡ true → is_other_router n from l.link.0 ≡ true
     other_is h from l i apart router =
         and_from (not (l.link.0 == from)) (leads_to_router n.links l.link.0)
         (ap not (ne_eqb l.link.0 from apart))
@@ -151,68 +160,74 @@ module _ (n : NodeState) where
 
     -- a router that has come up is told all records; any other one, which was linked before, is told the own record
     pub up_tells : AreKnown there n.links → (link : LinkNo) (peer : Peer) → peer.role ≡ Router → (y : Name) → is_some (link_to (after n (Up link peer)).links y) ≡ true → there y ≡ true →
-        (sends_to n (Up link peer) y ≡ all_records (joined n.base peer.id)) ⊎ ((is_some (link_to n.links y) ≡ true) × (sends_to n (Up link peer) y ≡ own_record (joined n.base peer.id)))
+        (told (sends_to n (Up link peer) y) ≡ told (all_records (joined n.base peer.id)))
+        ⊎ ((is_some (link_to n.links y) ≡ true) × (told (sends_to n (Up link peer) y) ≡ told (own_record (joined n.base peer.id))))
     up_tells h link peer role y linked router = by (link_to (with_link n.links (new_link link peer)) y) refl linked
       where
-        by : (o : Option LinkState) → link_to (with_link n.links (new_link link peer)) y ≡ o → is_some o ≡ true →
-            (option_map_or (λ l. sends_up n link.0 peer peer.role l.link.0) o [] ≡ all_records (joined n.base peer.id))
-            ⊎ ((is_some (link_to n.links y) ≡ true) × (option_map_or (λ l. sends_up n link.0 peer peer.role l.link.0) o [] ≡ own_record (joined n.base peer.id)))
+        by : (o : Option LinkPeer) → link_to (with_link n.links (new_link link peer)) y ≡ o → is_some o ≡ true →
+            (told (option_map_or (λ l. sends n (Up link peer) l.link) o []) ≡ told (all_records (joined n.base peer.id)))
+            ⊎ ((is_some (link_to n.links y) ≡ true) × (told (option_map_or (λ l. sends n (Up link peer) l.link) o []) ≡ told (own_record (joined n.base peer.id))))
         by None e k = absurd (false≢true k)
         by (Some l) e k = at (l.link.0 == link.0) refl
           where
             at : (t : Bool) → (l.link.0 == link.0) ≡ t →
-                (sends_up n link.0 peer peer.role l.link.0 ≡ all_records (joined n.base peer.id))
-                ⊎ ((is_some (link_to n.links y) ≡ true) × (sends_up n link.0 peer peer.role l.link.0 ≡ own_record (joined n.base peer.id)))
-            at true s = inl (ap (λ r. sends_up n link.0 peer r l.link.0) role ∙ ap (λ t. cond t (all_records (joined n.base peer.id)) (sends_own n link.0 (joined n.base peer.id) l.link.0)) s)
+                (told (sends n (Up link peer) l.link) ≡ told (all_records (joined n.base peer.id)))
+                ⊎ ((is_some (link_to n.links y) ≡ true) × (told (sends n (Up link peer) l.link) ≡ told (own_record (joined n.base peer.id))))
+            at true s = inl (first_tells n (Up link peer) l.link
+                ∙ ap told (ap (λ r. sends_up n link.0 peer r l.link.0) role ∙ ap (λ t. cond t (all_records (joined n.base peer.id)) (sends_own n link.0 (joined n.base peer.id) l.link.0)) s))
             at false s = inr (old (in_with there n.links (new_link link peer) l found.0))
               where
                 found : In l (with_link n.links (new_link link peer)) × (l.peer.id ≡ y)
                 found = linked_to (with_link n.links (new_link link peer)) y l e
 
                 old : (l ≡ new_link link peer) ⊎ (In l n.links × (l.link.0 ≡ link.0 → ⊥)) →
-                    (is_some (link_to n.links y) ≡ true) × (sends_up n link.0 peer peer.role l.link.0 ≡ own_record (joined n.base peer.id))
-                old (inl d) = absurd (eqb-false l.link.0 link.0 s (ap (λ (x : LinkState). x.link.0) d))
+                    (is_some (link_to n.links y) ≡ true) × (told (sends n (Up link peer) l.link) ≡ told (own_record (joined n.base peer.id)))
+                old (inl d) = absurd (eqb-false l.link.0 link.0 s (ap (λ (x : LinkPeer). x.link.0) d))
                 old (inr p) = (
                   some_found y l p.0 found.1,
-                  ap (λ r. sends_up n link.0 peer r l.link.0) role
+                  first_tells n (Up link peer) l.link
+                      ∙ ap told (ap (λ r. sends_up n link.0 peer r l.link.0) role
                       ∙ ap (λ t. cond t (all_records (joined n.base peer.id)) (sends_own n link.0 (joined n.base peer.id) l.link.0)) s
-                      ∙ ap (λ t. cond t (own_record (joined n.base peer.id)) []) (other_is h link.0 l p.0 p.1 (ap there found.1 ∙ router)),
+                      ∙ ap (λ t. cond t (own_record (joined n.base peer.id)) []) (other_is h link.0 l p.0 p.1 (ap there found.1 ∙ router))),
                 )
                   where
-                    some_found : (y : Name) (l : LinkState) → In l n.links → l.peer.id ≡ y → is_some (link_to n.links y) ≡ true
+                    some_found : (y : Name) (l : LinkPeer) → In l n.links → l.peer.id ≡ y → is_some (link_to n.links y) ≡ true
                     some_found y l i same =
                         let f = in_find (λ k. is_named k.peer.id y) n.links l i (ap (λ z. is_named z y) same ∙ same_refl y) in
                         ap is_some f.1
 
     -- once a router link went down each router to which a link is left is told the own record
-    pub down_tells : AreKnown there n.links → (k : LinkState) → In k n.links → k.peer.role ≡ Router → (y : Name) → is_some (link_to (after n (Down k.link)).links y) ≡ true → there y ≡ true →
-        sends_to n (Down k.link) y ≡ own_record (parted n.base k.peer.id)
+    pub down_tells : AreKnown there n.links → (k : LinkPeer) → In k n.links → k.peer.role ≡ Router → (y : Name) → is_some (link_to (after n (Down k.link)).links y) ≡ true → there y ≡ true →
+        told (sends_to n (Down k.link) y) ≡ told (own_record (parted n.base k.peer.id))
     down_tells h k ik role y linked router = by (link_to (after n (Down k.link)).links y) refl linked
       where
-        by : (o : Option LinkState) → link_to (after n (Down k.link)).links y ≡ o → is_some o ≡ true →
-            option_map_or (λ l. sends n (Down k.link) l.link) o [] ≡ own_record (parted n.base k.peer.id)
+        by : (o : Option LinkPeer) → link_to (after n (Down k.link)).links y ≡ o → is_some o ≡ true →
+            told (option_map_or (λ l. sends n (Down k.link) l.link) o []) ≡ told (own_record (parted n.base k.peer.id))
         by None e s = absurd (false≢true s)
         by (Some l) e s =
             let found = linked_to (after n (Down k.link)).links y l e in
             let old = in_without there n.links k.link.0 l found.0 in
-            ap (λ o. sends_down n k.link.0 o l.link.0) (is_at there n.links h k ik)
+            first_tells n (Down k.link) l.link
+            ∙ down_tells_first n k.link l.link
+            ∙ ap told (ap (λ o. sends_down n k.link.0 o l.link.0) (is_at there n.links h k ik)
             ∙ ap (λ r. sends_parted n k.link.0 k.peer r l.link.0) role
-            ∙ ap (λ t. cond t (own_record (parted n.base k.peer.id)) []) (other_is h k.link.0 l old.0 old.1 (ap there found.1 ∙ router))
+            ∙ ap (λ t. cond t (own_record (parted n.base k.peer.id)) []) (other_is h k.link.0 l old.0 old.1 (ap there found.1 ∙ router)))
 
     -- a newer record from a router is told to each other router
-    pub state_tells : AreKnown there n.links → (k : LinkState) → In k n.links → there k.peer.id ≡ true → (r : RecordState) → is_newer n.base r ≡ true →
-        (y : Name) → is_some (link_to n.links y) ≡ true → there y ≡ true → is_named k.peer.id y ≡ false → sends_to n (From k.link (State r)) y ≡ State r ∷ []
+    pub state_tells : AreKnown there n.links → (k : LinkPeer) → In k n.links → there k.peer.id ≡ true → (r : RecordState) → is_newer n.base r ≡ true →
+        (y : Name) → is_some (link_to n.links y) ≡ true → there y ≡ true → is_named k.peer.id y ≡ false → told (sends_to n (From k.link (State r)) y) ≡ note_of r ∷ []
     state_tells h k ik from_router r newer y linked router other = by (link_to n.links y) refl linked
       where
-        by : (o : Option LinkState) → link_to n.links y ≡ o → is_some o ≡ true → option_map_or (λ l. sends n (From k.link (State r)) l.link) o [] ≡ State r ∷ []
+        by : (o : Option LinkPeer) → link_to n.links y ≡ o → is_some o ≡ true → told (option_map_or (λ l. sends n (From k.link (State r)) l.link) o []) ≡ note_of r ∷ []
         by None e s = absurd (false≢true s)
         by (Some l) e s =
             let found = linked_to n.links y l e in
-            ap (λ t. cond (t && is_newer n.base r && is_other_router n k.link.0 l.link.0) (State r ∷ []) []) (leads_is there n.links h k ik ∙ from_router)
+            first_tells n (From k.link (State r)) l.link
+            ∙ ap told (ap (λ t. cond (t && is_newer n.base r && is_other_router n k.link.0 l.link.0) (State r ∷ []) []) (leads_is there n.links h k ik ∙ from_router)
             ∙ ap (λ t. cond (t && is_other_router n k.link.0 l.link.0) (State r ∷ []) []) newer
-            ∙ ap (λ t. cond t (State r ∷ []) []) (other_is h k.link.0 l found.0 (apart l found) (ap there found.1 ∙ router))
+            ∙ ap (λ t. cond t (State r ∷ []) []) (other_is h k.link.0 l found.0 (apart l found) (ap there found.1 ∙ router)))
           where
-            apart : (l : LinkState) → In l n.links × (l.peer.id ≡ y) → l.link.0 ≡ k.link.0 → ⊥
+            apart : (l : LinkPeer) → In l n.links × (l.peer.id ≡ y) → l.link.0 ≡ k.link.0 → ⊥
             apart l found same =
                 let one : l ≡ k = h.apart l k found.0 ik same in
-                true≢false (sym (same_refl y) ∙ ap (λ z. is_named z y) (sym found.1 ∙ ap (λ (x : LinkState). x.peer.id) one) ∙ other)
+                true≢false (sym (same_refl y) ∙ ap (λ z. is_named z y) (sym found.1 ∙ ap (λ (x : LinkPeer). x.peer.id) one) ∙ other)

@@ -8,6 +8,8 @@ use Rattle.std.specs.Cmp.Lexicographic.{slice_cmp}
 use Rattle.std.proofs.lemmas.Bool.{and_parts, leb-false}
 use Rattle.std.proofs.lemmas.Map.{length-set_value}
 use Rattle.zr_id.specs.Zid.{is_named}
+use Rattle.zr_msg.specs.declared.decl.Kind.TheVariants as k
+use Rattle.zr_msg.specs.declared.msg.Msg.TheVariants as m
 use Rattle.zr_msg.specs.declared.event.Event.{Event}
 use Rattle.zr_msg.specs.declared.event.Event.TheVariants.{Down, From}
 use Rattle.zr_msg.specs.declared.peer.Role.TheVariants.{Client}
@@ -21,7 +23,7 @@ use Rattle.zr_command.specs.declared.report.ReportLine.{ReportLine}
 use Rattle.zr_command.specs.declared.report.ReportLine.TheVariants.{Ran}
 use Rattle.zr_language.specs.Step.{◌>>=◌}
 use Rattle.zr_language.specs.Command.{command_of}
-use Rattle.zr_table.specs.Table.{after}
+use Rattle.zr_table.specs.Table.{able_kind, after}
 use Rattle.zr_network.specs.World.{RouterState, Routers, WorldState, router_of, with_router, new_router, most_routers, most_steps}
 use Rattle.zr_network.specs.Acts.{Outcome, outcome, hearing, weighing, up_event, peer_of}
 use Rattle.zr_network.specs.Next.{Done, next, run_steps, all_done, booking, book_step, run_done, applied}
@@ -29,7 +31,7 @@ use Rattle.zr_network.specs.Moments.{Moment, is_step, went}
 use Rattle.zr_network.specs.Run.{Run, start, stepped, commanded, on_line, run_lines}
 use Rattle.zr_network.proofs.Keyed.{not_there}
 use Rattle.zr_network.proofs.Names.{value_new, read_after}
-use Rattle.zr_network.proofs.Cases.{free_name, for_router, for_client, for_link, for_up, for_break, for_down, for_sub, for_unsub, for_publish, for_handle, for_take, for_mark, for_show}
+use Rattle.zr_network.proofs.Cases.{free_name, for_router, for_client, for_link, for_up, for_break, for_down, for_declare, for_undeclare, for_publish, for_handle, for_take, for_mark, for_show}
 use Rattle.zr_network.proofs.Lines.{all_steps}
 use Rattle.zr_settled.proofs.Spreading.{Name}
 use Rattle.zr_settled.proofs.Bounds.{IsBounded, cost, bounded_after, bounded_fresh, bounded_later}
@@ -95,12 +97,15 @@ module _ (n : ℕ) (now : Moment) (h : AreBounded n now.world.routers) where
   stays : AreBounded (n + 1) w.routers
   stays = later n (n + 1) w.routers (omega arith) h
 
+  heavier : (x : Name) (key : List ℕ) (r : RouterState) → router_of w.routers x ≡ Some r → AreBounded (n + 1) (with_router w.routers x (weighing r key))
+  heavier x key r there = bounded_set n (n + 1) w.routers x r (weighing r key) there (omega arith) h (bounded_later n (n + 1) r.node.base (omega arith) (h.each x r there))
+
   rests : AreBounded (n + 0) w.routers
   rests = later n (n + 0) w.routers (omega arith) h
 
   pub act_bounded : (line : ℕ) (act : Act) → IfSome (went now (outcome w line act)) (Bound (n + weight act))
   unfolding outcome
-  act_bounded line (a.Router id) = for_router now (Bound (n + 1)) id (λ free room alone.
+  act_bounded line (a.Router id) = for_router now (Bound (n + 1)) id (λ free room.
       let lt : length w.routers < most_routers = leb-false most_routers (length w.routers) room in
       later n (n + 1) _ (omega arith) (bounded_new n w.routers id (not_there (router_of w.routers id) (free_name w id free).0) lt h))
   act_bounded line (a.Client id router) = for_client now (Bound (n + 1)) line id router (λ r found free room taken. hears (n + 1) router r found (up_event r (record { id = id; role = Client })) (omega arith))
@@ -108,11 +113,12 @@ module _ (n : ℕ) (now : Moment) (h : AreBounded n now.world.routers) where
   act_bounded line (a.Up router name) = for_up now (Bound (n + 1)) line router name (λ r found there s at_end unbroken down taken. hears (n + 1) router r found (up_event r (peer_of w name)) (omega arith))
   act_bounded line (a.Break router name) = for_break now (Bound (n + 1)) router name (λ r found there s at_end unbroken. stays)
   act_bounded line (a.Down router name) = for_down now (Bound (n + 1)) line router name (λ r found there s at_end up cut l number taken. hears (n + 1) router r found (Down l) (omega arith))
-  act_bounded line (a.Sub client id key) = for_sub now (Bound (n + 1)) line client id key (λ s found fresh e at_end unbroken alone r there.
-      bounded_set n (n + 1) w.routers s.router r (weighing r key) there (omega arith) h (bounded_later n (n + 1) r.node.base (omega arith) (h.each s.router r there)))
-  act_bounded line (a.Unsub client id) = for_unsub now (Bound (n + 1)) line client id (λ s found known e at_end unbroken alone. stays)
-  act_bounded line (a.Publish client content) = for_publish now (Bound (n + 1)) line client content (λ s found e at_end unbroken alone. stays)
-  act_bounded line (a.Handle router from) = for_handle now (Bound (n + 0)) router from (λ r found there s at_end up msg tag xs front l number. hears (n + 0) router r found (From l msg) (omega arith))
+  act_bounded line (a.Sub client id key) = for_declare now (Bound (n + 1)) line client k.Sub id key (m.Sub id key) (λ s found fresh e at_end unbroken r there weighs. heavier s.router key r there)
+  act_bounded line (a.Unsub client id) = for_undeclare now (Bound (n + 1)) line client k.Sub id (m.Unsub id) (λ s found known e at_end unbroken. stays)
+  act_bounded line (a.Able client id key complete) = for_declare now (Bound (n + 1)) line client (able_kind complete) id key (m.Able id key complete) (λ s found fresh e at_end unbroken r there weighs. heavier s.router key r there)
+  act_bounded line (a.Unable client id) = for_undeclare now (Bound (n + 1)) line client k.Able id (m.Unable id) (λ s found known e at_end unbroken. stays)
+  act_bounded line (a.Publish client content) = for_publish now (Bound (n + 1)) line client content (λ s found e at_end unbroken. stays)
+  act_bounded line (a.Handle router from) = for_handle now (Bound (n + 0)) router from (λ r found there s at_end up msg tag xs front l number taken. hears (n + 0) router r found (From l msg) (omega arith))
   act_bounded line (a.Take router to) = for_take now (Bound (n + 0)) router to (λ r found there s at_end up unbroken msg tag xs front. rests)
   act_bounded line a.Mark = for_mark now (Bound (n + 1)) line (λ settled joined. stays)
   act_bounded line (a.Show router) = for_show now (Bound (n + 1)) router (λ r found. stays)

@@ -1,6 +1,6 @@
 -- Link records as what spreads: a base knows of each router the number and the links of its record, and the messages that carry records
--- are notes. A router that sends its whole base tells all that it knows, and one that sends its own record tells that.
-use Rattle.std.proofs.Common.{◌≡◌, ◌≤◌, ◌+◌, max, Bool, true, false, cond, not, List, [], ◌∷◌, map, Option, Some, None, ◌⊎◌, inl, inr, refl, sym, ap, ◌∙◌, arith}
+-- are notes. A record counts one more than its number, so that one of number 0 is more than none. A router that sends its whole base tells all that it knows, and one that sends its own record tells that.
+use Rattle.std.proofs.Common.{◌≡◌, ◌≤◌, ◌+◌, max, Bool, true, false, cond, not, List, [], ◌∷◌, map, Option, Some, None, is_some, ◌⊎◌, inl, inr, refl, sym, ap, ◌∙◌, arith}
 use Rattle.std.specs.Prelude.{◌&&◌, nat_lt, flat_map}
 use Rattle.std.specs.Option.{option_map_or}
 use Rattle.std.specs.List.{AllByRecursion}
@@ -30,14 +30,14 @@ Links = List Name
 -- what a record tells; one that is not there tells nothing
 abbrev pub known : Option RecordState → Known Links
 known None = record { number = 0; value = [] }
-known (Some r) = record { number = r.seq; value = r.links }
+known (Some r) = record { number = r.seq + 1; value = r.links }
 
 -- what a base knows of each router
 abbrev pub known_of : BaseState → Name → Known Links
 known_of b z = known (record_of b.records z)
 
 abbrev pub note_of : RecordState → Note Links
-note_of r = record { source = r.id; known = record { number = r.seq; value = r.links } }
+note_of r = record { source = r.id; known = record { number = r.seq + 1; value = r.links } }
 
 -- what a message tells: only records tell of links
 abbrev pub notes_in : Msg → List (Note Links)
@@ -66,12 +66,12 @@ told msgs = flat_map notes_in msgs
 
 -- ---- bases
 
-pub own_seq_is : (b : BaseState) → own_seq b ≡ (known_of b b.me).number
-own_seq_is b = by (record_of b.records b.me)
+pub own_seq_is : (b : BaseState) → is_some (record_of b.records b.me) ≡ true → own_seq b + 1 ≡ (known_of b b.me).number
+own_seq_is b own = by (record_of b.records b.me) own
   where
-    by : (o : Option RecordState) → option_map_or (λ r. r.seq) o 0 ≡ (known o).number
-    by None = refl
-    by (Some r) = refl
+    by : (o : Option RecordState) → is_some o ≡ true → option_map_or (λ r. r.seq) o 0 + 1 ≡ (known o).number
+    by None h = absurd (false≢true h)
+    by (Some r) h = refl
 
 pub own_links_is : (b : BaseState) → own_links b ≡ (known_of b b.me).value
 own_links_is b = by (record_of b.records b.me)
@@ -84,14 +84,14 @@ pub known_kept : (b : BaseState) (r : RecordState) (z : Name) → known_of (kept
 known_kept b r z = ap known (record_of-put b.records r z) ∙ read_cond known (is_named r.id z) (Some r) (record_of b.records z)
 
 -- once its links changed a router knows its new record, and the others as before
-pub known_relinked : (b : BaseState) (links : Links) (z : Name) →
+pub known_relinked : (b : BaseState) (links : Links) (z : Name) → is_some (record_of b.records b.me) ≡ true →
     known_of (relinked b links) z ≡ cond (is_named b.me z) (record { number = (known_of b b.me).number + 1; value = links }) (known_of b z)
-known_relinked b links z =
+known_relinked b links z own =
     known_kept b (record { id = b.me; seq = own_seq b + 1; links = links }) z
-    ∙ ap (λ n. cond (is_named b.me z) (record { number = n + 1; value = links }) (known_of b z)) (own_seq_is b)
+    ∙ ap (λ n. cond (is_named b.me z) (record { number = n + 1; value = links }) (known_of b z)) (own_seq_is b own)
 
 -- a newer record is another router's, and its number is no lower than that of the one that is known
-pub newer_is : (b : BaseState) (r : RecordState) → is_newer b r ≡ true → (is_named r.id b.me ≡ false) × ((known_of b r.id).number ≤ r.seq)
+pub newer_is : (b : BaseState) (r : RecordState) → is_newer b r ≡ true → (is_named r.id b.me ≡ false) × ((known_of b r.id).number ≤ r.seq + 1)
 newer_is b r h =
     let parts = and_parts (not (is_named r.id b.me)) (option_map_or (λ q. nat_lt q.seq r.seq) (record_of b.records r.id) true) h in
     (other (is_named r.id b.me) parts.0, by (record_of b.records r.id) parts.1)
@@ -100,19 +100,19 @@ newer_is b r h =
     other true e = absurd (false≢true e)
     other false e = refl
 
-    by : (o : Option RecordState) → option_map_or (λ q. nat_lt q.seq r.seq) o true ≡ true → (known o).number ≤ r.seq
+    by : (o : Option RecordState) → option_map_or (λ q. nat_lt q.seq r.seq) o true ≡ true → (known o).number ≤ r.seq + 1
     by None e = omega arith
     by (Some q) e = let lt = ltb-true q.seq r.seq e in omega arith
 
 -- another record is the router's own, or has a number that is no higher than that of the one that is known
-pub older_is : (b : BaseState) (r : RecordState) → is_newer b r ≡ false → (is_named r.id b.me ≡ true) ⊎ (r.seq ≤ (known_of b r.id).number)
+pub older_is : (b : BaseState) (r : RecordState) → is_newer b r ≡ false → (is_named r.id b.me ≡ true) ⊎ (r.seq + 1 ≤ (known_of b r.id).number)
 older_is b r h = at (is_named r.id b.me) refl h
   where
-    by : (o : Option RecordState) → option_map_or (λ q. nat_lt q.seq r.seq) o true ≡ false → r.seq ≤ (known o).number
+    by : (o : Option RecordState) → option_map_or (λ q. nat_lt q.seq r.seq) o true ≡ false → r.seq + 1 ≤ (known o).number
     by None e = absurd (false≢true (sym e))
-    by (Some q) e = ltb-false q.seq r.seq e
+    by (Some q) e = let le = ltb-false q.seq r.seq e in omega arith
 
-    at : (t : Bool) → is_named r.id b.me ≡ t → (not t && option_map_or (λ q. nat_lt q.seq r.seq) (record_of b.records r.id) true) ≡ false → (is_named r.id b.me ≡ true) ⊎ (r.seq ≤ (known_of b r.id).number)
+    at : (t : Bool) → is_named r.id b.me ≡ t → (not t && option_map_or (λ q. nat_lt q.seq r.seq) (record_of b.records r.id) true) ≡ false → (is_named r.id b.me ≡ true) ⊎ (r.seq + 1 ≤ (known_of b r.id).number)
     at true e k = inl e
     at false e k = inr (by (record_of b.records r.id) k)
 
@@ -124,7 +124,7 @@ all_tell [] z = omega arith
 all_tell (r ∷ rs) z = by (is_named r.id z) (all_tell rs z)
   where
     by : (t : Bool) → (known (record_of rs z)).number ≤ best z (told (map (λ r. State r) rs)) →
-        (known (cond t (Some r) (record_of rs z))).number ≤ max (cond t r.seq 0) (best z (told (map (λ r. State r) rs)))
+        (known (cond t (Some r) (record_of rs z))).number ≤ max (cond t (r.seq + 1) 0) (best z (told (map (λ r. State r) rs)))
     by true ih = omega arith
     by false ih = omega (arith, ih)
 
@@ -166,6 +166,6 @@ own_told b = by (record_of b.records b.me) refl
         let named : is_named r.id b.me ≡ true = (find_in (λ q. is_named q.id b.me) b.records r e).1 in
         here (is_named r.id b.me) named
       where
-        here : (t : Bool) → t ≡ true → r.seq ≤ max (cond t r.seq 0) 0
+        here : (t : Bool) → t ≡ true → r.seq + 1 ≤ max (cond t (r.seq + 1) 0) 0
         here true k = omega arith
         here false k = absurd (false≢true k)

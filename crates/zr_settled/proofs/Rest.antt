@@ -1,7 +1,7 @@
 -- Where a world is settled, tables agree. Nothing is on the way, and each link that is up at both ends feeds both ways: so its two routers
 -- know the same (`linked_level`), and a router knows of each that it reaches what that one knows (`walk_level`). What a router's own record
 -- lists are its ends, so edges are links (`edges_are`).
-use Rattle.std.proofs.Common.{◌≡◌, Bool, true, false, not, List, [], ◌∷◌, ◌++◌, Option, Some, None, refl, sym, ap, ◌∙◌}
+use Rattle.std.proofs.Common.{◌≡◌, ◌+◌, Bool, true, false, not, List, [], ◌∷◌, ◌++◌, Option, Some, None, refl, sym, ap, ◌∙◌, arith}
 use Rattle.std.specs.Prelude.{◌&&◌, ◌||◌}
 use Rattle.std.specs.List.{list_all}
 use Rattle.std.specs.Option.{option_map_or}
@@ -19,7 +19,7 @@ use Rattle.zr_network.specs.Joined.{graph}
 use Rattle.zr_network.specs.Sound.{IsSound}
 use Rattle.zr_network.proofs.Ends.{end_passes}
 use Rattle.zr_settled.specs.Tables.{TablesAgree}
-use Rattle.zr_settled.proofs.Spreading.{Name, Known, level}
+use Rattle.zr_settled.proofs.Spreading.{Name, Known, Note, level}
 use Rattle.zr_settled.proofs.Records.{Links, known, known_of, notes_in}
 use Rattle.zr_settled.proofs.Worlds.{there_in, knows, table_of, queue_at, wire_at, notes, way_of, lane_of, feeds_of, Holds}
 use Rattle.zr_settled.proofs.Quiet.{passes_there}
@@ -46,64 +46,70 @@ calm_notes (State links) h = absurd (false≢true h)
 calm_notes (Step source number added decl) h = refl
 calm_notes (Snap source number decls) h = refl
 
-no_notes : (ws : List Tagged) → list_all is_calm ws ≡ true → notes ws ≡ []
-no_notes [] h = refl
-no_notes (x ∷ xs) h =
+-- what tells nothing where it may be under way in a settled world
+abbrev pub IsCalm : {V : Type 0} → (Msg → List (Note V)) → Type 0
+IsCalm tells = (msg : Msg) → not (unsettles msg) ≡ true → tells msg ≡ []
+
+no_notes : {V : Type 0} (tells : Msg → List (Note V)) → IsCalm tells → (ws : List Tagged) → list_all is_calm ws ≡ true → notes tells ws ≡ []
+no_notes tells calm [] h = refl
+no_notes tells calm (x ∷ xs) h =
     let parts = and_parts (is_calm x) (list_all is_calm xs) h in
-    ap (λ z. z ++ notes xs) (calm_notes x.msg parts.0) ∙ no_notes xs parts.1
+    ap (λ z. z ++ notes tells xs) (calm x.msg parts.0) ∙ no_notes tells calm xs parts.1
 
 -- ---- records and edges
 
-lists_known : (records : List RecordState) (x y : Name) → lists records x y ≡ has (known (record_of records x)).value y
+pub lists_known : (records : List RecordState) (x y : Name) → lists records x y ≡ has (known (record_of records x)).value y
 lists_known records x y = by (record_of records x)
   where
     by : (o : Option RecordState) → option_map_or (λ r. has r.links y) o false ≡ has (known o).value y
     by None = refl
     by (Some r) = refl
 
--- two records of one router that tell the same, and list a name, are the same
-same_record : (z u : Name) (o p : Option RecordState) → ((r : RecordState) → o ≡ Some r → r.id ≡ z) → ((r : RecordState) → p ≡ Some r → r.id ≡ z) → known o ≡ known p → has (known p).value u ≡ true → o ≡ p
-same_record z u o None i j e h = absurd (false≢true h)
-same_record z u None (Some q) i j e h = absurd (false≢true (ap (λ (k : Known Links). has k.value u) e ∙ h))
-same_record z u (Some r) (Some q) i j e h = λ t. Some (record { id = ids t; seq = numbers t; links = values t })
+-- two records of one router that tell the same are the same
+pub same_record : (z : Name) (o p : Option RecordState) → ((r : RecordState) → o ≡ Some r → r.id ≡ z) → ((r : RecordState) → p ≡ Some r → r.id ≡ z) → known o ≡ known p → o ≡ p
+same_record z None None i j e = refl
+same_record z None (Some q) i j e = let no : 0 ≡ q.seq + 1 = ap (λ (k : Known Links). k.number) e in absurd (omega (arith, no))
+same_record z (Some r) None i j e = let no : r.seq + 1 ≡ 0 = ap (λ (k : Known Links). k.number) e in absurd (omega (arith, no))
+same_record z (Some r) (Some q) i j e = λ t. Some (record { id = ids t; seq = numbers t; links = values t })
   where
     ids : r.id ≡ q.id
     ids = i r refl ∙ sym (j q refl)
 
     numbers : r.seq ≡ q.seq
-    numbers = ap (λ (k : Known Links). k.number) e
+    numbers = let one : r.seq + 1 ≡ q.seq + 1 = ap (λ (k : Known Links). k.number) e in omega (arith, one)
 
     values : r.links ≡ q.links
     values = ap (λ (k : Known Links). k.value) e
 
-record_named : (records : List RecordState) (z : Name) (r : RecordState) → record_of records z ≡ Some r → r.id ≡ z
+pub record_named : (records : List RecordState) (z : Name) (r : RecordState) → record_of records z ≡ Some r → r.id ≡ z
 record_named records z r found = same_is r.id z (find_in (λ q. is_named q.id z) records r found).1
 
 -- ---- a settled world
 
 module _ (w : WorldState) (sound : IsSound w) (h : Holds w) (settled : is_settled w ≡ true) where
-  passes : (q : End) (s : EndState) → end_of w.ends q ≡ Some s → (is_met w q s && is_calm_end s) ≡ true
+  pub passes : (q : End) (s : EndState) → end_of w.ends q ≡ Some s → (is_met w q s && is_calm_end s) ≡ true
   passes q s found = end_passes (λ x. is_met w x.0 x.1 && is_calm_end x.1) w.ends q s settled found
 
-  wires : (q : End) → notes (wire_at (end_of w.ends q)) ≡ []
-  wires q = by (end_of w.ends q) refl
-    where
-      by : (o : Option EndState) → end_of w.ends q ≡ o → notes (wire_at o) ≡ []
-      by None e = refl
-      by (Some s) e = no_notes s.wire (and_parts (list_all is_calm s.wire) (list_all is_calm s.queue) (and_parts (is_met w q s) (is_calm_end s) (passes q s e)).1).0
+  module _ {V : Type 0} (tells : Msg → List (Note V)) (calm : IsCalm tells) where
+    wires : (q : End) → notes tells (wire_at (end_of w.ends q)) ≡ []
+    wires q = by (end_of w.ends q) refl
+      where
+        by : (o : Option EndState) → end_of w.ends q ≡ o → notes tells (wire_at o) ≡ []
+        by None e = refl
+        by (Some s) e = no_notes tells calm s.wire (and_parts (list_all is_calm s.wire) (list_all is_calm s.queue) (and_parts (is_met w q s) (is_calm_end s) (passes q s e)).1).0
 
-  queues : (q : End) → notes (queue_at (end_of w.ends q)) ≡ []
-  queues q = by (end_of w.ends q) refl
-    where
-      by : (o : Option EndState) → end_of w.ends q ≡ o → notes (queue_at o) ≡ []
-      by None e = refl
-      by (Some s) e = no_notes s.queue (and_parts (list_all is_calm s.wire) (list_all is_calm s.queue) (and_parts (is_met w q s) (is_calm_end s) (passes q s e)).1).1
+    queues : (q : End) → notes tells (queue_at (end_of w.ends q)) ≡ []
+    queues q = by (end_of w.ends q) refl
+      where
+        by : (o : Option EndState) → end_of w.ends q ≡ o → notes tells (queue_at o) ≡ []
+        by None e = refl
+        by (Some s) e = no_notes tells calm s.queue (and_parts (list_all is_calm s.wire) (list_all is_calm s.queue) (and_parts (is_met w q s) (is_calm_end s) (passes q s e)).1).1
 
-  still : (x y : Name) → way_of w.ends x y ≡ []
-  still x y = ap (λ z. z ++ notes (queue_at (end_of w.ends (x, y)))) (wires (y, x)) ∙ queues (x, y)
+    pub still : (x y : Name) → way_of tells w.ends x y ≡ []
+    still x y = ap (λ z. z ++ notes tells (queue_at (end_of w.ends (x, y)))) (wires (y, x)) ∙ queues (x, y)
 
   -- an end that is up is that of an unbroken link, and a router's end at its other side is up
-  met : (x y : Name) → is_up w.ends (x, y) ≡ true → (is_unbroken w.ends (x, y) ≡ true) × (there_in w y ≡ true → is_up w.ends (y, x) ≡ true)
+  pub met : (x y : Name) → is_up w.ends (x, y) ≡ true → (is_unbroken w.ends (x, y) ≡ true) × (there_in w y ≡ true → is_up w.ends (y, x) ≡ true)
   met x y up = by (end_of w.ends (x, y)) refl up
     where
       by : (o : Option EndState) → end_of w.ends (x, y) ≡ o → option_map_or (λ s. s.up) o false ≡ true →
@@ -123,35 +129,30 @@ module _ (w : WorldState) (sound : IsSound w) (h : Holds w) (settled : is_settle
               (parts.0, other (there_in w y) refl parts.1)
 
   -- an end that is up is a router's
-  router_of_end : (x y : Name) → is_up w.ends (x, y) ≡ true → there_in w x ≡ true
+  pub router_of_end : (x y : Name) → is_up w.ends (x, y) ≡ true → there_in w x ≡ true
   router_of_end x y up = sound.routers x y (passes_there (λ s. s.up) w.ends (x, y) up)
 
   linked_level : (x y z : Name) → is_linked w.ends x y ≡ true → table_of w x z ≡ table_of w y z
   linked_level x y z linked =
       let ups = and_parts (is_up w.ends (x, y)) (is_up w.ends (y, x)) linked in
-      level h.made (feeds_of w) (lane_of w) h.spreads x y z (feeds x y ups.0 ups.1) (feeds y x ups.1 ups.0) (still x y) (still y x)
+      level h.made (feeds_of w) (lane_of w) h.spreads x y z (feeds x y ups.0 ups.1) (feeds y x ups.1 ups.0) (still notes_in calm_notes x y) (still notes_in calm_notes y x)
     where
       feeds : (x y : Name) → is_up w.ends (x, y) ≡ true → is_up w.ends (y, x) ≡ true → feeds_of w z x y ≡ true
       feeds x y up back = and_from (there_in w y) (is_up w.ends (x, y) && is_unbroken w.ends (x, y)) (router_of_end y x back)
           (and_from (is_up w.ends (x, y)) (is_unbroken w.ends (x, y)) up (met x y up).0)
 
-  walk_level : (path : List Name) (x z s : Name) → IsWalk (graph w) x path z → table_of w x s ≡ table_of w z s
+  pub walk_level : (path : List Name) (x z s : Name) → IsWalk (graph w) x path z → table_of w x s ≡ table_of w z s
   walk_level [] x z s walk = ap (λ q. table_of w q s) walk
   walk_level (y ∷ path) x z s walk = linked_level x y s walk.0 ∙ walk_level path y z s walk.1
 
-  -- a walk that is not empty ends with a link
-  last_link : (path : List Name) (x y z : Name) → is_linked w.ends x y ≡ true → IsWalk (graph w) y path z → (u : Name) × (is_linked w.ends u z ≡ true)
-  last_link [] x y z linked walk = (x, ap (λ q. is_linked w.ends x q) (sym walk) ∙ linked)
-  last_link (v ∷ path) x y z linked walk = last_link path y v z walk.0 walk.1
-
   -- what a router's own record lists, where its end to a router is up
-  own_lists : (z u : Name) → is_up w.ends (z, u) ≡ true → there_in w u ≡ true → has (table_of w z z).value u ≡ true
+  pub own_lists : (z u : Name) → is_up w.ends (z, u) ≡ true → there_in w u ≡ true → has (table_of w z z).value u ≡ true
   own_lists z u up router = h.lists z u ∙ and_from (there_in w u) (is_up w.ends (z, u)) router up
 
-  table_is : (x z : Name) (r : RouterState) → router_of w.routers x ≡ Some r → table_of w x z ≡ known_of r.node.base z
+  pub table_is : (x z : Name) (r : RouterState) → router_of w.routers x ≡ Some r → table_of w x z ≡ known_of r.node.base z
   table_is x z r found = ap (λ o. knows o z) found
 
-  edges_are : (path : List Name) (x z y : Name) (r : RouterState) → router_of w.routers x ≡ Some r → IsWalk (graph w) x path z → has_edge r.node.base.records z y ≡ is_linked w.ends z y
+  pub edges_are : (path : List Name) (x z y : Name) (r : RouterState) → router_of w.routers x ≡ Some r → IsWalk (graph w) x path z → has_edge r.node.base.records z y ≡ is_linked w.ends z y
   edges_are path x z y r found walk =
       ap (λ t. t && lists r.node.base.records y z) (lists_known r.node.base.records z y ∙ ap (λ (k : Known Links). has k.value y) (sym (table_is x z r found) ∙ walk_level path x z z walk) ∙ h.lists z y)
       ∙ ap (λ t. (there_in w y && is_up w.ends (z, y)) && t) (lists_known r.node.base.records y z ∙ ap (λ (k : Known Links). has k.value z) (sym (table_is x y r found) ∙ walk_level path x z y walk))
@@ -170,18 +171,11 @@ module _ (w : WorldState) (sound : IsSound w) (h : Holds w) (settled : is_settle
           at true k false l = refl
           at false k t l = refl
 
-  records_are : (path : List Name) (x z : Name) (rx rz : RouterState) → router_of w.routers x ≡ Some rx → router_of w.routers z ≡ Some rz → IsWalk (graph w) x path z →
+  pub records_are : (path : List Name) (x z : Name) (rx rz : RouterState) → router_of w.routers x ≡ Some rx → router_of w.routers z ≡ Some rz → IsWalk (graph w) x path z →
       record_of rx.node.base.records z ≡ record_of rz.node.base.records z
-  records_are [] x z rx rz fx fz walk = let one : rx ≡ rz = some_same (sym fx ∙ ap (router_of w.routers) walk ∙ fz) in ap (λ (r : RouterState). record_of r.node.base.records z) one
-    where
-      some_same : Some rx ≡ Some rz → rx ≡ rz
-      some_same e = cc
-  records_are (y ∷ path) x z rx rz fx fz walk =
-      let last = last_link path x y z walk.0 walk.1 in
-      let ups = and_parts (is_up w.ends (last.0, z)) (is_up w.ends (z, last.0)) last.1 in
-      same_record z last.0 (record_of rx.node.base.records z) (record_of rz.node.base.records z) (record_named rx.node.base.records z) (record_named rz.node.base.records z)
-      (sym (table_is x z rx fx) ∙ walk_level (y ∷ path) x z z walk ∙ table_is z z rz fz)
-      (ap (λ (k : Known Links). has k.value last.0) (sym (table_is z z rz fz)) ∙ own_lists z last.0 ups.1 (router_of_end last.0 z ups.0))
+  records_are path x z rx rz fx fz walk =
+      same_record z (record_of rx.node.base.records z) (record_of rz.node.base.records z) (record_named rx.node.base.records z) (record_named rz.node.base.records z)
+      (sym (table_is x z rx fx) ∙ walk_level path x z z walk ∙ table_is z z rz fz)
 
   pub tables_agree : TablesAgree w
   tables_agree x z path rx rz fx fz walk = record { record_is = records_are path x z rx rz fx fz walk; edges_are = λ y. edges_are path x z y rx fx walk }

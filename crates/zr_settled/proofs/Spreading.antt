@@ -77,7 +77,7 @@ best_append z [] ys = omega arith
 best_append z (m ∷ xs) ys = let ih = best_append z xs ys in omega (arith, ih)
 
 -- notes of a table are no newer than it
-best_of : {V : Type 0} (t : Name → Known V) (z : Name) (ms : List (Note V)) → AllOf t ms → best z ms ≤ (t z).number
+pub best_of : {V : Type 0} (t : Name → Known V) (z : Name) (ms : List (Note V)) → AllOf t ms → best z ms ≤ (t z).number
 best_of t z [] h = omega arith
 best_of t z (m ∷ ms) h = by (is_named m.source z) refl (best_of t z ms h.1)
   where
@@ -86,7 +86,7 @@ best_of t z (m ∷ ms) h = by (is_named m.source z) refl (best_of t z ms h.1)
     by false e ih = omega (arith, ih)
 
 -- notes of a table fit as it does
-all_of_fit : {V : Type 0} (made : Made V) (most : Name → ℕ) (t : Name → Known V) → ((z : Name) → Fits made most z (t z)) → (ms : List (Note V)) → AllOf t ms → AllFit made most ms
+pub all_of_fit : {V : Type 0} (made : Made V) (most : Name → ℕ) (t : Name → Known V) → ((z : Name) → Fits made most z (t z)) → (ms : List (Note V)) → AllOf t ms → AllFit made most ms
 all_of_fit made most t f ms h = All-each (λ m. t m.source ≡ m.known) (λ m. Fits made most m.source m.known) ms (λ m e. subst (λ k. Fits made most m.source k) e (f m.source)) h
 
 -- a note among others counts
@@ -110,7 +110,7 @@ fits_later made made' most most' h z k f = (omega (arith, h.later z, f.0), f.1 �
 all_fit_later : {V : Type 0} (made made' : Made V) (most most' : Name → ℕ) → Later made made' most most' → (ms : List (Note V)) → AllFit made most ms → AllFit made' most' ms
 all_fit_later made made' most most' h ms f = All-each (λ m. Fits made most m.source m.known) (λ m. Fits made' most' m.source m.known) ms (λ m. fits_later made made' most most' h m.source m.known) f
 
--- The table of router a grows, and a sends what is in it: on each link that feeds, what the neighbour does not have yet.
+-- The table of router a grows, and a sends no more than what is in it: on each link that feeds, what the neighbour does not have yet.
 pub record GoesOn {V : Type 0} (made made' : Made V) (feeds feeds' : Feeds) (a : Name) (l l' : Lane V) : Type 0 where
   pub others : (x z : Name) → is_named a x ≡ false → l'.table x z ≡ l.table x z
   pub grows : (z : Name) → (l.table a z).number ≤ (l'.table a z).number
@@ -119,7 +119,8 @@ pub record GoesOn {V : Type 0} (made made' : Made V) (feeds feeds' : Feeds) (a :
   pub sent : Name → List (Note V)
   pub sends : (y : Name) → l'.way a y ≡ l.way a y ++ sent y
   pub silent : (x y : Name) → is_named a x ≡ false → l'.way x y ≡ l.way x y
-  pub sent_of : (y : Name) → AllOf (l'.table a) (sent y)
+  pub sent_fit : (y : Name) → AllFit made' (own l') (sent y)
+  pub sent_le : (y z : Name) → best z (sent y) ≤ (l'.table a z).number
   pub tells : (y z : Name) → feeds' z a y ≡ true → (l'.table a z).number ≤ max (l'.table y z).number (best z (l'.way a y))
   pub feeds_less : (x y z : Name) → is_named a x ≡ false → feeds' z x y ≡ true → feeds z x y ≡ true
 
@@ -130,11 +131,11 @@ goes_on_kept {V} made made' feeds feeds' a l l' s g = record {
   fits_way = λ x y. at_name a (λ q. AllFit made' (own l') (l'.way q y))
       (subst (λ (ms : List (Note V)). AllFit made' (own l') ms) (sym (g.sends y))
       (All-append (λ m. Fits made' (own l') m.source m.known) (l.way a y) (g.sent y) (all_fit_later made made' (own l) (own l') later (l.way a y) (s.fits_way a y))
-      (all_of_fit made' (own l') (l'.table a) g.fit (g.sent y) (g.sent_of y))))
+      (g.sent_fit y)))
       (λ q other. subst (λ (ms : List (Note V)). AllFit made' (own l') ms) (sym (g.silent q y other)) (all_fit_later made made' (own l) (own l') later (l.way q y) (s.fits_way q y))) x;
   way_le = λ x y z. at_name a (λ q. best z (l'.way q y) ≤ (l'.table q z).number)
       (let e : best z (l'.way a y) ≡ max (best z (l.way a y)) (best z (g.sent y)) = ap (best z) (g.sends y) ∙ best_append z (l.way a y) (g.sent y) in
-      omega (arith, e, s.way_le a y z, g.grows z, best_of (l'.table a) z (g.sent y) (g.sent_of y)))
+      omega (arith, e, s.way_le a y z, g.grows z, g.sent_le y z))
       (λ q other. let e : best z (l'.way q y) ≡ best z (l.way q y) = ap (best z) (g.silent q y other) in
       let k : (l'.table q z).number ≡ (l.table q z).number = ap (λ k. k.number) (g.others q z other) in omega (arith, e, k, s.way_le q y z)) x;
   told = λ x y z f. at_name a (λ q. feeds' z q y ≡ true → (l'.table q z).number ≤ max (l'.table y z).number (best z (l'.way q y))) (g.tells y z)

@@ -6,7 +6,7 @@ use Rattle.std.specs.Prelude.{◌&&◌, nat_lt}
 use Rattle.std.proofs.lemmas.Bool.{cond_both, le-ltb, lt-ltb}
 use Rattle.zr_id.specs.Zid.{is_named}
 use Rattle.zr_graph.proofs.Names.{same_is, same_refl}
-use Rattle.zr_settled.proofs.Spreading.{Name, Known, Note, Made, Lane, Feeds, own, best, Fits, AllFit, AllOf, Spreads, goes_on_kept, best_append, best_head}
+use Rattle.zr_settled.proofs.Spreading.{Name, Known, Note, Made, Lane, Feeds, own, best, Fits, AllFit, AllOf, Spreads, goes_on_kept, best_append, best_head, best_of, all_of_fit}
 
 -- what was made, with another value above a number of a source
 abbrev pub more : {V : Type 0} → Made V → Name → ℕ → V → Made V
@@ -31,11 +31,12 @@ tells_anew_kept {V} made feeds feeds' a v l l' s g = goes_on_kept made (more mad
       (λ e. let same : (l.table a z).number ≡ own l a = ap (λ q. (l.table a q).number) (sym (same_is a z e)) in omega (arith, same))
       (λ e. omega arith);
   stays = λ z n le. cond_both (is_named a z && nat_lt (own l a) n) v (made z n) (λ y. y ≡ made z n) (λ t. absurd (below z n le t)) (λ t. refl);
-  fit = λ z. of_table z (Fits (more made a (own l a) v) (own l') z) (fit_new z) (fit_old z);
+  fit = fit;
   sent = g.sent;
   sends = g.sends;
   silent = g.silent;
-  sent_of = g.sent_of;
+  sent_fit = λ y. all_of_fit (more made a (own l a) v) (own l') (l'.table a) fit (g.sent y) (g.sent_of y);
+  sent_le = λ y z. best_of (l'.table a) z (g.sent y) (g.sent_of y);
   tells = λ y z f. by_tell y z (g.tells y z f);
   feeds_less = g.feeds_less;
 })
@@ -72,6 +73,9 @@ tells_anew_kept {V} made feeds feeds' a v l l' s g = goes_on_kept made (more mad
       let same : own l' z ≡ own l z = ap (λ (k : Known V). k.number) (g.others z z e) in omega (arith, same, (s.fits a z).0),
       (s.fits a z).1 ∙ sym (ap (λ b. cond (b && nat_lt (own l a) (l.table a z).number) v (made z (l.table a z).number)) e),
     )
+
+    fit : (z : Name) → Fits (more made a (own l a) v) (own l') z (l'.table a z)
+    fit z = of_table z (Fits (more made a (own l a) v) (own l') z) (fit_new z) (fit_old z)
 
     best_is : (y z : Name) → best z (l'.way a y) ≡ max (best z (l.way a y)) (best z (g.sent y))
     best_is y z = ap (best z) (g.sends y) ∙ best_append z (l.way a y) (g.sent y)
@@ -117,11 +121,12 @@ takes_kept {V} made feeds a b m l l' s g = goes_on_kept made made feeds feeds a 
       (λ e. let same : (l.table a z).number ≡ (l.table a m.source).number = ap (λ q. (l.table a q).number) (sym (same_is m.source z e)) in omega (arith, same, g.newer))
       (λ e. omega arith);
   stays = λ z n le. refl;
-  fit = λ z. of_table z (Fits made (own l') z) (λ e. subst (λ q. Fits made (own l') q m.known) (same_is m.source z e) (fit_new)) (λ e. (omega (arith, own_is z, (s.fits a z).0), (s.fits a z).1));
+  fit = fit;
   sent = g.sent;
   sends = g.sends;
   silent = g.silent;
-  sent_of = g.sent_of;
+  sent_fit = λ y. all_of_fit made (own l') (l'.table a) fit (g.sent y) (g.sent_of y);
+  sent_le = λ y z. best_of (l'.table a) z (g.sent y) (g.sent_of y);
   tells = λ y z f. at y z f (is_named m.source z) refl;
   feeds_less = λ x y z other f. f;
 })
@@ -151,6 +156,9 @@ takes_kept {V} made feeds a b m l l' s g = goes_on_kept made made feeds feeds a 
 
     fit_new : Fits made (own l') m.source m.known
     fit_new = (omega (arith, own_is m.source, on_way.0.0), on_way.0.1)
+
+    fit : (z : Name) → Fits made (own l') z (l'.table a z)
+    fit z = of_table z (Fits made (own l') z) (λ e. subst (λ q. Fits made (own l') q m.known) (same_is m.source z e) (fit_new)) (λ e. (omega (arith, own_is z, (s.fits a z).0), (s.fits a z).1))
 
     best_is : (y z : Name) → best z (l'.way a y) ≡ max (best z (l.way a y)) (best z (g.sent y))
     best_is y z = ap (best z) (g.sends y) ∙ best_append z (l.way a y) (g.sent y)

@@ -1,13 +1,34 @@
 -- No event of a script's world is refused by its router.
-use Rattle.std.specs.Prelude.{◌≡◌, ℕ, ◌≤◌, List, length, Some, None}
+use Rattle.std.specs.Prelude.{◌≡◌, ℕ, ◌≤◌, true, List, ◌∷◌, length, Some, None, is_some}
+use Rattle.zr_id.specs.declared.link.LinkNo.{LinkNo}
 use Rattle.zr_msg.specs.declared.event.Event.{Event}
-use Rattle.zr_table.specs.Event.{MayCome}
+use Rattle.zr_msg.specs.declared.event.Event.TheVariants.{Up, Down, From}
+use Rattle.zr_msg.specs.declared.msg.Msg.{Msg}
+use Rattle.zr_msg.specs.declared.peer.LinkPeer.{LinkPeer}
+use Rattle.zr_routing.specs.Tables.{link_at}
+use Rattle.zr_table.specs.Event.{IsFresh}
 use Rattle.zr_table.specs.Table.{refuses}
 use Rattle.zr_language.specs.Lines.{most_bytes}
-use Rattle.zr_network.specs.World.{RouterState, router_of}
+use Rattle.zr_network.specs.World.{Tagged, RouterState, EndState, WorldState, router_of, end_of}
 use Rattle.zr_network.specs.Run.{run_lines}
 
--- behind any lines of a script, as many as a script may have, each router takes each event that may come
+-- a message is the oldest one that waits on the wire from the neighbour of a link that is up
+pub record IsOldest (w : WorldState) (x : List ℕ) (r : RouterState) (link : LinkNo) (msg : Msg) : Type 0 where
+  pub neighbour : LinkPeer
+  pub linked : link_at r.node.links link.0 ≡ Some neighbour
+  pub at : EndState
+  pub found : end_of w.ends (x, neighbour.peer.id) ≡ Some at
+  pub tag : ℕ
+  pub rest : List Tagged
+  pub front : at.wire ≡ record { msg = msg; tag = tag } ∷ rest
+
+-- an event that may come to router x in a world: an Up of a fresh link, a Down of a link that is up, or the oldest message on a wire
+abbrev pub IsHeard : WorldState → List ℕ → RouterState → Event → Type 0
+IsHeard w x r (Up link peer) = IsFresh r.node link peer
+IsHeard w x r (Down link) = is_some (link_at r.node.links link.0) ≡ true
+IsHeard w x r (From link msg) = IsOldest w x r link msg
+
+-- behind any lines of a script, as many as a script may have, each router takes each event that may come to it
 abbrev pub NoEventIsRefused : Type 0
 NoEventIsRefused = (ls : List (List ℕ)) (x : List ℕ) (r : RouterState) (event : Event) → length ls ≤ most_bytes →
-    router_of (run_lines ls).world.routers x ≡ Some r → MayCome r.node event → refuses r.node event ≡ None
+    router_of (run_lines ls).world.routers x ≡ Some r → IsHeard (run_lines ls).world x r event → refuses r.node event ≡ None

@@ -1,4 +1,4 @@
-use Rattle.zr_settled.proofs.Events as law
+use Rattle.zr_settled.proofs.Refused as law
 use Rattle.zr_settled.proofs.no_event_is_refused.Goals as goal
 
 pub returns : goal.returns

@@ -2,11 +2,13 @@
 -- wire between routers was sent from an end that is up, a client's end is up until its link is broken, the two ends of a link
 -- between routers are broken at once, and no client has a router's name.
 use Rattle.std.proofs.Common.{◌≡◌, ℕ, Bool, true, false, cond, List, [], ◌∷◌, Option, Some, None, ◌⊎◌, inl, inr, refl, sym, ap, ◌∙◌, subst, append-nil}
-use Rattle.std.specs.Prelude.{◌&&◌, not, is_some, IfSome}
+use Rattle.std.specs.Prelude.{not, is_some, IfSome}
 use Rattle.std.specs.Option.{option_map, option_map_or}
 use Rattle.std.proofs.lemmas.Bool.{false≢true, true≢false}
 use Rattle.zr_id.specs.Zid.{is_named}
 use Rattle.zr_id.specs.declared.link.LinkNo.{LinkNo}
+use Rattle.zr_msg.specs.declared.decl.Kind.{Kind}
+use Rattle.zr_msg.specs.declared.decl.Kind.TheVariants as sort
 use Rattle.zr_msg.specs.declared.msg.Msg.{Msg}
 use Rattle.zr_msg.specs.declared.msg.Msg.TheVariants as m
 use Rattle.zr_msg.specs.declared.event.Event.{Event}
@@ -14,43 +16,41 @@ use Rattle.zr_msg.specs.declared.event.Event.TheVariants.{Down, From}
 use Rattle.zr_msg.specs.declared.peer.Role.TheVariants as role
 use Rattle.zr_command.specs.declared.command.Act.{Act}
 use Rattle.zr_command.specs.declared.command.Act.TheVariants as c
-use Rattle.zr_table.specs.State.{LinkState, NodeState, link_to}
-use Rattle.zr_table.specs.Table.{sends, after}
-use Rattle.zr_network.specs.World.{Tagged, EndState, End, Ends, ClientState, RouterState, WorldState, is_end, turned, router_of, client_of, end_of, is_taken, with_router, with_end, put_end, changed, queued, sent, broken, lifted, lowered, with_wire, with_queue, new_router, new_client, new_end, is_empty}
-use Rattle.zr_network.specs.Acts.{sends_to, all_queued, hearing, peer_of, up_event, outcome}
+use Rattle.zr_routing.specs.Tables.{link_to}
+use Rattle.zr_table.specs.State.{NodeState}
+use Rattle.zr_msg.specs.declared.peer.LinkPeer.{LinkPeer}
+use Rattle.zr_table.specs.Table.{able_kind, sends, after}
+use Rattle.zr_network.specs.World.{Tagged, EndState, End, Ends, ClientState, RouterState, WorldState, is_end, turned, router_of, client_of, end_of, is_taken, with_router, with_end, put_end, changed, queued, sent, broken, lifted, lowered, with_wire, with_queue, new_router, new_client, new_end, is_empty, empty_world}
+use Rattle.zr_network.specs.Acts.{sends_to, all_queued, hearing, peer_of, up_event, declare_step, undeclare_step, outcome}
 use Rattle.zr_network.specs.Moments.{Moment, went}
 use Rattle.zr_network.specs.Sound.{IsSound}
 use Rattle.zr_network.proofs.Keyed.{read_cond, not_there}
 use Rattle.zr_network.proofs.Names.{same_name, value_new, value_after, read_kept}
-use Rattle.zr_network.proofs.Ends.{end_parts, same_end, read_with_end, keep_with_end, read_put_end, read_changed, keep_changed, read_all_queued, keep_all_queued}
+use Rattle.zr_network.proofs.Ends.{same_end, read_with_end, keep_with_end, read_put_end, read_changed, keep_changed, read_all_queued, keep_all_queued}
 use Rattle.zr_network.proofs.Fits.{up_of}
-use Rattle.zr_network.proofs.Cases.{free_name, on_router, on_client, on_link, on_up, on_break, on_down, on_handle, on_take, for_router, for_client, for_link, for_up, for_break, for_down, for_sub, for_unsub, for_publish, for_handle, for_take, for_mark, for_show}
-use Rattle.zr_laws.proofs.Ends.{queue_of, wire_of}
+use Rattle.zr_network.proofs.Cases.{free_name, on_router, on_client, on_link, on_up, on_break, on_down, on_handle, on_take, for_router, for_client, for_link, for_up, for_break, for_down, for_declare, for_undeclare, for_publish, for_handle, for_take, for_mark, for_show}
+use Rattle.zr_settled.proofs.Worlds.{there_in, queue_at, wire_at}
+use Rattle.zr_settled.proofs.Quiet.{turned_is}
+use Rattle.zr_settled.proofs.Moving.{unbroken_at}
 
 -- ---- readings
 
-abbrev pub unbroken_of : Option EndState → Bool
-unbroken_of o = option_map_or (λ s. s.unbroken) o false
-
 abbrev pub has_wire : Option EndState → Bool
-has_wire o = not (is_empty (wire_of o))
+has_wire o = not (is_empty (wire_at o))
 
 abbrev pub has_queue : Option EndState → Bool
-has_queue o = not (is_empty (queue_of o))
-
-abbrev pub is_router_in : WorldState → List ℕ → Bool
-is_router_in w x = is_some (router_of w.routers x)
+has_queue o = not (is_empty (queue_at o))
 
 abbrev pub is_client_in : WorldState → List ℕ → Bool
 is_client_in w x = is_some (client_of w.clients x)
 
 pub record Orderly (w : WorldState) : Type 0 where
   pub down_ends : (e : End) → up_of (end_of w.ends e) ≡ false → has_queue (end_of w.ends e) ≡ false
-  pub broken_links : (e : End) → unbroken_of (end_of w.ends e) ≡ false → has_wire (end_of w.ends e) ≡ false
-  pub senders : (e : End) → is_router_in w e.1 ≡ true → has_wire (end_of w.ends e) ≡ true → up_of (end_of w.ends (turned e)) ≡ true
-  pub clients : (e : End) → is_client_in w e.1 ≡ true → unbroken_of (end_of w.ends e) ≡ true → up_of (end_of w.ends e) ≡ true
-  pub both_ends : (e : End) → is_router_in w e.0 ≡ true → is_router_in w e.1 ≡ true → unbroken_of (end_of w.ends e) ≡ unbroken_of (end_of w.ends (turned e))
-  pub apart : (y : List ℕ) → is_client_in w y ≡ true → is_router_in w y ≡ false
+  pub broken_links : (e : End) → unbroken_at (end_of w.ends e) ≡ false → has_wire (end_of w.ends e) ≡ false
+  pub senders : (e : End) → there_in w e.1 ≡ true → has_wire (end_of w.ends e) ≡ true → up_of (end_of w.ends (turned e)) ≡ true
+  pub clients : (e : End) → is_client_in w e.1 ≡ true → unbroken_at (end_of w.ends e) ≡ true → up_of (end_of w.ends e) ≡ true
+  pub both_ends : (e : End) → there_in w e.0 ≡ true → there_in w e.1 ≡ true → unbroken_at (end_of w.ends e) ≡ unbroken_at (end_of w.ends (turned e))
+  pub apart : (y : List ℕ) → is_client_in w y ≡ true → there_in w y ≡ false
 
 -- an end with a message is there
 pub wire_there : (o : Option EndState) → has_wire o ≡ true → is_some o ≡ true
@@ -58,14 +58,8 @@ wire_there None k = absurd (false≢true k)
 wire_there (Some s) k = refl
 
 -- the ends of a link, turned
-turned_end : (a b : End) → is_end (turned a) b ≡ is_end a (turned b)
-turned_end a b = end_parts (turned a) b ∙ swap (is_named a.1 b.0) (is_named a.0 b.1) ∙ sym (end_parts a (turned b))
-  where
-    swap : (x y : Bool) → (x && y) ≡ (y && x)
-    swap true true = refl
-    swap true false = refl
-    swap false true = refl
-    swap false false = refl
+pub turned_end : (a b : End) → is_end (turned a) b ≡ is_end a (turned b)
+turned_end a b = turned_is a.0 a.1 b.1 b.0
 
 -- a router queues nothing at an end to which it has no link afterwards
 queue_after : (es : Ends) (router : List ℕ) (node : NodeState) (event : Event) (tag : ℕ) (e : End) →
@@ -73,7 +67,7 @@ queue_after : (es : Ends) (router : List ℕ) (node : NodeState) (event : Event)
     has_queue (end_of (all_queued es router node event tag) e) ≡ has_queue (end_of es e)
 queue_after es router node event tag e none = read_all_queued es router node event tag has_queue e ∙ by (is_named router e.0) refl
   where
-    nothing : (o : Option LinkState) → is_some o ≡ false → option_map_or (λ l. sends node event l.link) o [] ≡ []
+    nothing : (o : Option LinkPeer) → is_some o ≡ false → option_map_or (λ l. sends node event l.link) o [] ≡ []
     nothing None k = refl
     nothing (Some l) k = absurd (true≢false k)
 
@@ -100,10 +94,10 @@ module _ (now : Moment) (sound : IsSound now.world) (h : Orderly now.world) wher
 
   -- a message more on a wire is one on an unbroken link, from a router's end that is up
   abbrev MaySend : End → Type 0
-  MaySend e = (unbroken_of (end_of w.ends e) ≡ true) × (is_router_in w e.1 ≡ true → up_of (end_of w.ends (turned e)) ≡ true)
+  MaySend e = (unbroken_at (end_of w.ends e) ≡ true) × (there_in w e.1 ≡ true → up_of (end_of w.ends (turned e)) ≡ true)
 
-  steady : (w' : WorldState) → ((e : End) → up_of (end_of w'.ends e) ≡ up_of (end_of w.ends e)) → ((e : End) → unbroken_of (end_of w'.ends e) ≡ unbroken_of (end_of w.ends e)) →
-      ((x : List ℕ) → is_router_in w' x ≡ is_router_in w x) → ((x : List ℕ) → is_client_in w' x ≡ is_client_in w x) →
+  steady : (w' : WorldState) → ((e : End) → up_of (end_of w'.ends e) ≡ up_of (end_of w.ends e)) → ((e : End) → unbroken_at (end_of w'.ends e) ≡ unbroken_at (end_of w.ends e)) →
+      ((x : List ℕ) → there_in w' x ≡ there_in w x) → ((x : List ℕ) → is_client_in w' x ≡ is_client_in w x) →
       ((e : End) → up_of (end_of w.ends e) ≡ false → has_queue (end_of w'.ends e) ≡ has_queue (end_of w.ends e)) →
       ((e : End) → has_wire (end_of w'.ends e) ≡ true → (has_wire (end_of w.ends e) ≡ true) ⊎ MaySend e) → Orderly w'
   steady w' up un routers clients queues wires = record {
@@ -115,7 +109,7 @@ module _ (now : Moment) (sound : IsSound now.world) (h : Orderly now.world) wher
     apart = λ y k. routers y ∙ h.apart y (sym (clients y) ∙ k);
   }
     where
-      silent : (e : End) → unbroken_of (end_of w.ends e) ≡ false → (b : Bool) → has_wire (end_of w'.ends e) ≡ b → b ≡ false
+      silent : (e : End) → unbroken_at (end_of w.ends e) ≡ false → (b : Bool) → has_wire (end_of w'.ends e) ≡ b → b ≡ false
       silent e cut false k = refl
       silent e cut true k = absurd (by (wires e k))
         where
@@ -123,22 +117,22 @@ module _ (now : Moment) (sound : IsSound now.world) (h : Orderly now.world) wher
           by (inl old) = true≢false (sym old ∙ h.broken_links e cut)
           by (inr new) = true≢false (sym new.0 ∙ cut)
 
-      sends_on : (e : End) → is_router_in w e.1 ≡ true → (has_wire (end_of w.ends e) ≡ true) ⊎ MaySend e → up_of (end_of w.ends (turned e)) ≡ true
+      sends_on : (e : End) → there_in w e.1 ≡ true → (has_wire (end_of w.ends e) ≡ true) ⊎ MaySend e → up_of (end_of w.ends (turned e)) ≡ true
       sends_on e r (inl old) = h.senders e r old
       sends_on e r (inr new) = new.1 r
 
   -- a client writes
   written : (n : ℕ) (name : List ℕ) (s : ClientState) → client_of w.clients name ≡ Some s → (en : EndState) → end_of w.ends (s.router, name) ≡ Some en → en.unbroken ≡ true → (msg : Msg) →
-      (w' : WorldState) → w'.ends ≡ with_end w.ends (s.router, name) (sent en msg n) → ((x : List ℕ) → is_router_in w' x ≡ is_router_in w x) → ((x : List ℕ) → is_client_in w' x ≡ is_client_in w x) → Orderly w'
+      (w' : WorldState) → w'.ends ≡ with_end w.ends (s.router, name) (sent en msg n) → ((x : List ℕ) → there_in w' x ≡ there_in w x) → ((x : List ℕ) → is_client_in w' x ≡ is_client_in w x) → Orderly w'
   written n name s es en ee unbroken msg w' ends_are routers clients = steady w'
-      (λ e. kept up_of refl e) (λ e. kept unbroken_of refl e) routers clients (λ e down. kept has_queue refl e)
+      (λ e. kept up_of refl e) (λ e. kept unbroken_at refl e) routers clients (λ e down. kept has_queue refl e)
       (λ e k. by e (is_end (s.router, name) e) refl (sym (ap (λ z. has_wire (end_of z e)) ends_are ∙ read_with_end w.ends (s.router, name) (sent en msg n) has_wire e (ap is_some ee)) ∙ k))
     where
       kept : {Y : Type 0} (f : Option EndState → Y) → f (Some (sent en msg n)) ≡ f (Some en) → (e : End) → f (end_of w'.ends e) ≡ f (end_of w.ends e)
       kept f same e = ap (λ z. f (end_of z e)) ends_are ∙ keep_with_end w.ends (s.router, name) (sent en msg n) f e en ee same
 
       may : MaySend (s.router, name)
-      may = (ap unbroken_of ee ∙ unbroken, λ r. absurd (true≢false (sym r ∙ h.apart name (ap is_some es))))
+      may = (ap unbroken_at ee ∙ unbroken, λ r. absurd (true≢false (sym r ∙ h.apart name (ap is_some es))))
 
       by : (e : End) (b : Bool) → is_end (s.router, name) e ≡ b → cond b (has_wire (Some (sent en msg n))) (has_wire (end_of w.ends e)) ≡ true → (has_wire (end_of w.ends e) ≡ true) ⊎ MaySend e
       by e true same k = inr (subst MaySend (same_end (s.router, name) e same) may)
@@ -150,7 +144,7 @@ module _ (now : Moment) (sound : IsSound now.world) (h : Orderly now.world) wher
   -- a router handles a message
   handled : (router from : List ℕ) (r : RouterState) → router_of w.routers router ≡ Some r → (s : EndState) → end_of w.ends (router, from) ≡ Some s →
       (msg : Msg) (tag : ℕ) (xs : List Tagged) → s.wire ≡ record { msg = msg; tag = tag } ∷ xs → (l : LinkNo) → IsKept (on_handle now router from r s l msg tag xs)
-  handled router from r er s es msg tag xs front l sound' = steady w' (λ e. kept up_of (λ z ms. refl) refl e) (λ e. kept unbroken_of (λ z ms. refl) refl e)
+  handled router from r er s es msg tag xs front l sound' = steady w' (λ e. kept up_of (λ z ms. refl) refl e) (λ e. kept unbroken_at (λ z ms. refl) refl e)
       (λ x. read_kept is_some w.routers router x r (hearing r (From l msg)) er refl) (λ x. refl)
       (λ e down. queue_after half router r.node (From l msg) tag e (unsent router r er (From l msg) w' refl sound' e (kept up_of (λ z ms. refl) refl e ∙ down))
       ∙ keep_with_end w.ends (router, from) (with_wire s xs) has_queue e s es refl)
@@ -174,7 +168,7 @@ module _ (now : Moment) (sound : IsSound now.world) (h : Orderly now.world) wher
   -- a message is taken
   took : (router to : List ℕ) (r : RouterState) → router_of w.routers router ≡ Some r → (s : EndState) → end_of w.ends (router, to) ≡ Some s → s.up ≡ true → s.unbroken ≡ true →
       (msg : Msg) (tag : ℕ) (xs : List Tagged) → Orderly (on_take now router to s msg tag xs).world
-  took router to r er s es up unbroken msg tag xs = steady w' (λ e. kept up_of (λ z. refl) refl e) (λ e. kept unbroken_of (λ z. refl) refl e) (λ x. refl) (λ x. refl)
+  took router to r er s es up unbroken msg tag xs = steady w' (λ e. kept up_of (λ z. refl) refl e) (λ e. kept unbroken_at (λ z. refl) refl e) (λ x. refl) (λ x. refl)
       (λ e down. keep_changed half (to, router) (λ z. sent z msg tag) has_queue e (λ z. refl) ∙ read_with_end w.ends (router, to) (with_queue s xs) has_queue e (ap is_some es)
       ∙ queues e down (is_end (router, to) e) refl)
       (λ e k. by e (is_end (to, router) e) refl (sym (read_changed half (to, router) (λ z. sent z msg tag) has_wire e) ∙ k))
@@ -198,7 +192,7 @@ module _ (now : Moment) (sound : IsSound now.world) (h : Orderly now.world) wher
 
       -- where the end at the other router is there
       may : is_some (end_of w.ends (to, router)) ≡ true → MaySend (to, router)
-      may its = (h.both_ends (to, router) (sound.routers to router its) (ap is_some er) ∙ ap unbroken_of es ∙ unbroken, λ k. ap up_of es ∙ up)
+      may its = (h.both_ends (to, router) (sound.routers to router its) (ap is_some er) ∙ ap unbroken_at es ∙ unbroken, λ k. ap up_of es ∙ up)
 
       there_is : (o : Option EndState) → has_wire (option_map (λ z. sent z msg tag) o) ≡ true → is_some o ≡ true
       there_is None k = absurd (false≢true k)
@@ -225,7 +219,7 @@ module _ (now : Moment) (sound : IsSound now.world) (h : Orderly now.world) wher
     where
       by : (o : Option EndState) → end_of w.ends e ≡ o → o ≡ None
       by None k = refl
-      by (Some s) k = absurd (true≢false (sym (sound.routers e.0 e.1 (ap is_some k)) ∙ ap (is_router_in w) (same_name e.0 id same) ∙ (free_name w id free).0))
+      by (Some s) k = absurd (true≢false (sym (sound.routers e.0 e.1 (ap is_some k)) ∙ ap (there_in w) (same_name e.0 id same) ∙ (free_name w id free).0))
 
   router_came : (id : List ℕ) → is_taken w id ≡ false → Orderly (on_router now id).world
   router_came id free = record {
@@ -237,21 +231,21 @@ module _ (now : Moment) (sound : IsSound now.world) (h : Orderly now.world) wher
     apart = λ y k. routers_are y ∙ at y k (is_named y id) refl;
   }
     where
-      routers_are : (x : List ℕ) → is_router_in (on_router now id).world x ≡ cond (is_named x id) true (is_router_in w x)
+      routers_are : (x : List ℕ) → there_in (on_router now id).world x ≡ cond (is_named x id) true (there_in w x)
       routers_are x = ap is_some (value_new w.routers id x (new_router id) (not_there (router_of w.routers id) (free_name w id free).0))
           ∙ read_cond is_some (is_named x id) (Some (new_router id)) (router_of w.routers x)
 
-      sends_on : (e : End) → has_wire (end_of w.ends e) ≡ true → (b : Bool) → is_named e.1 id ≡ b → cond b true (is_router_in w e.1) ≡ true → up_of (end_of w.ends (turned e)) ≡ true
+      sends_on : (e : End) → has_wire (end_of w.ends e) ≡ true → (b : Bool) → is_named e.1 id ≡ b → cond b true (there_in w e.1) ≡ true → up_of (end_of w.ends (turned e)) ≡ true
       sends_on e k true same r = absurd (false≢true (sym (ap has_wire (no_end_to id free e same)) ∙ k))
       sends_on e k false other r = h.senders e r k
 
-      both : (e : End) (b : Bool) → is_named e.0 id ≡ b → cond b true (is_router_in w e.0) ≡ true → (b' : Bool) → is_named e.1 id ≡ b' → cond b' true (is_router_in w e.1) ≡ true →
-          unbroken_of (end_of w.ends e) ≡ unbroken_of (end_of w.ends (turned e))
-      both e true same r b' k q = ap unbroken_of (no_end_of id free e same) ∙ sym (ap unbroken_of (no_end_to id free (turned e) same))
-      both e false other r true k q = ap unbroken_of (no_end_to id free e k) ∙ sym (ap unbroken_of (no_end_of id free (turned e) k))
+      both : (e : End) (b : Bool) → is_named e.0 id ≡ b → cond b true (there_in w e.0) ≡ true → (b' : Bool) → is_named e.1 id ≡ b' → cond b' true (there_in w e.1) ≡ true →
+          unbroken_at (end_of w.ends e) ≡ unbroken_at (end_of w.ends (turned e))
+      both e true same r b' k q = ap unbroken_at (no_end_of id free e same) ∙ sym (ap unbroken_at (no_end_to id free (turned e) same))
+      both e false other r true k q = ap unbroken_at (no_end_to id free e k) ∙ sym (ap unbroken_at (no_end_of id free (turned e) k))
       both e false other r false k q = h.both_ends e r q
 
-      at : (y : List ℕ) → is_client_in w y ≡ true → (b : Bool) → is_named y id ≡ b → cond b true (is_router_in w y) ≡ false
+      at : (y : List ℕ) → is_client_in w y ≡ true → (b : Bool) → is_named y id ≡ b → cond b true (there_in w y) ≡ false
       at y k true same = absurd (true≢false (sym k ∙ ap (is_client_in w) (same_name y id same) ∙ (free_name w id free).1))
       at y k false other = h.apart y k
 
@@ -262,9 +256,9 @@ module _ (now : Moment) (sound : IsSound now.world) (h : Orderly now.world) wher
     senders = λ e q k. up_is (turned e) ∙ still (is_end (router, id) (turned e)) (up_of (end_of w.ends (turned e))) (sends_on e (sym (routers_are e.1) ∙ q) (is_end (router, id) e) (sym (wire_is e) ∙ k));
     clients = λ e k u. up_is e ∙ its e (is_end (router, id) e) (sym (unbroken_is e) ∙ u) (is_named e.1 id) refl (sym (clients_are e.1) ∙ k);
     both_ends = λ e a b.
-        unbroken_is e ∙ ap (λ z. cond z true (unbroken_of (end_of w.ends e))) (not_its e (sym (routers_are e.1) ∙ b))
+        unbroken_is e ∙ ap (λ z. cond z true (unbroken_at (end_of w.ends e))) (not_its e (sym (routers_are e.1) ∙ b))
         ∙ h.both_ends e (sym (routers_are e.0) ∙ a) (sym (routers_are e.1) ∙ b)
-        ∙ sym (unbroken_is (turned e) ∙ ap (λ z. cond z true (unbroken_of (end_of w.ends (turned e)))) (not_its (turned e) (sym (routers_are e.0) ∙ a)));
+        ∙ sym (unbroken_is (turned e) ∙ ap (λ z. cond z true (unbroken_at (end_of w.ends (turned e)))) (not_its (turned e) (sym (routers_are e.0) ∙ a)));
     apart = λ y k. routers_are y ∙ at y (is_named y id) refl (sym (clients_are y) ∙ k);
   }
     where
@@ -284,8 +278,8 @@ module _ (now : Moment) (sound : IsSound now.world) (h : Orderly now.world) wher
       up_is : (e : End) → up_of (end_of w'.ends e) ≡ cond (is_end (router, id) e) true (up_of (end_of w.ends e))
       up_is e = reads up_of (λ z ms. refl) e
 
-      unbroken_is : (e : End) → unbroken_of (end_of w'.ends e) ≡ cond (is_end (router, id) e) true (unbroken_of (end_of w.ends e))
-      unbroken_is e = reads unbroken_of (λ z ms. refl) e
+      unbroken_is : (e : End) → unbroken_at (end_of w'.ends e) ≡ cond (is_end (router, id) e) true (unbroken_at (end_of w.ends e))
+      unbroken_is e = reads unbroken_at (λ z ms. refl) e
 
       wire_is : (e : End) → has_wire (end_of w'.ends e) ≡ cond (is_end (router, id) e) false (has_wire (end_of w.ends e))
       wire_is e = reads has_wire (λ z ms. refl) e
@@ -293,7 +287,7 @@ module _ (now : Moment) (sound : IsSound now.world) (h : Orderly now.world) wher
       queue_is : (e : End) → up_of (end_of w'.ends e) ≡ false → has_queue (end_of w'.ends e) ≡ cond (is_end (router, id) e) false (has_queue (end_of w.ends e))
       queue_is e down = queue_after half router r.node event n e (unsent router r er event w' refl sound' e down) ∙ read_put_end w.ends (router, id) (lifted new_end) has_queue e
 
-      routers_are : (x : List ℕ) → is_router_in w' x ≡ is_router_in w x
+      routers_are : (x : List ℕ) → there_in w' x ≡ there_in w x
       routers_are x = read_kept is_some w.routers router x r (hearing r event) er refl
 
       clients_are : (x : List ℕ) → is_client_in w' x ≡ cond (is_named x id) true (is_client_in w x)
@@ -308,29 +302,29 @@ module _ (now : Moment) (sound : IsSound now.world) (h : Orderly now.world) wher
       empty e true k = refl
       empty e false k = h.down_ends e k
 
-      silent : (e : End) (b : Bool) → cond b true (unbroken_of (end_of w.ends e)) ≡ false → cond b false (has_wire (end_of w.ends e)) ≡ false
+      silent : (e : End) (b : Bool) → cond b true (unbroken_at (end_of w.ends e)) ≡ false → cond b false (has_wire (end_of w.ends e)) ≡ false
       silent e true k = refl
       silent e false k = h.broken_links e k
 
-      sends_on : (e : End) → is_router_in w e.1 ≡ true → (b : Bool) → cond b false (has_wire (end_of w.ends e)) ≡ true → up_of (end_of w.ends (turned e)) ≡ true
+      sends_on : (e : End) → there_in w e.1 ≡ true → (b : Bool) → cond b false (has_wire (end_of w.ends e)) ≡ true → up_of (end_of w.ends (turned e)) ≡ true
       sends_on e q true k = absurd (false≢true k)
       sends_on e q false k = h.senders e q k
 
-      its : (e : End) (b : Bool) → cond b true (unbroken_of (end_of w.ends e)) ≡ true → (b' : Bool) → is_named e.1 id ≡ b' → cond b' true (is_client_in w e.1) ≡ true →
+      its : (e : End) (b : Bool) → cond b true (unbroken_at (end_of w.ends e)) ≡ true → (b' : Bool) → is_named e.1 id ≡ b' → cond b' true (is_client_in w e.1) ≡ true →
           cond b true (up_of (end_of w.ends e)) ≡ true
       its e true u b' k q = refl
-      its e false u true k q = absurd (false≢true (sym (ap unbroken_of (no_end_to id free e k)) ∙ u))
+      its e false u true k q = absurd (false≢true (sym (ap unbroken_at (no_end_to id free e k)) ∙ u))
       its e false u false k q = h.clients e q u
 
-      not_its : (e : End) → is_router_in w e.1 ≡ true → is_end (router, id) e ≡ false
+      not_its : (e : End) → there_in w e.1 ≡ true → is_end (router, id) e ≡ false
       not_its e q = by (is_end (router, id) e) refl
         where
           by : (b : Bool) → is_end (router, id) e ≡ b → b ≡ false
           by false k = refl
-          by true k = absurd (true≢false (sym q ∙ ap (λ z. is_router_in w z.1) (sym (same_end (router, id) e k)) ∙ (free_name w id free).0))
+          by true k = absurd (true≢false (sym q ∙ ap (λ z. there_in w z.1) (sym (same_end (router, id) e k)) ∙ (free_name w id free).0))
 
-      at : (y : List ℕ) (b : Bool) → is_named y id ≡ b → cond b true (is_client_in w y) ≡ true → is_router_in w y ≡ false
-      at y true same k = ap (is_router_in w) (same_name y id same) ∙ (free_name w id free).0
+      at : (y : List ℕ) (b : Bool) → is_named y id ≡ b → cond b true (is_client_in w y) ≡ true → there_in w y ≡ false
+      at y true same k = ap (there_in w) (same_name y id same) ∙ (free_name w id free).0
       at y false other k = h.apart y k
 
   -- ---- links that come and go
@@ -338,17 +332,17 @@ module _ (now : Moment) (sound : IsSound now.world) (h : Orderly now.world) wher
   linked : (one other : List ℕ) (r q : RouterState) → router_of w.routers one ≡ Some r → router_of w.routers other ≡ Some q → Orderly (on_link now one other).world
   linked one other r q er eq = record {
     down_ends = λ e k. reads has_queue e ∙ empty e (is_end (other, one) e) (is_end (one, other) e) (sym (reads up_of e) ∙ k);
-    broken_links = λ e k. reads has_wire e ∙ silent e (is_end (other, one) e) (is_end (one, other) e) (sym (reads unbroken_of e) ∙ k);
+    broken_links = λ e k. reads has_wire e ∙ silent e (is_end (other, one) e) (is_end (one, other) e) (sym (reads unbroken_at e) ∙ k);
     senders = λ e k t. reads up_of (turned e)
         ∙ ap (λ b. cond b false (cond (is_end (one, other) (turned e)) false (up_of (end_of w.ends (turned e))))) (sym (turned_end (other, one) e))
         ∙ ap (λ b. cond (is_end (one, other) e) false (cond b false (up_of (end_of w.ends (turned e))))) (sym (turned_end (one, other) e))
         ∙ sends_on e k (is_end (other, one) e) (is_end (one, other) e) (sym (reads has_wire e) ∙ t);
-    clients = λ e k u. reads up_of e ∙ its e k (is_end (other, one) e) refl (is_end (one, other) e) refl (sym (reads unbroken_of e) ∙ u);
-    both_ends = λ e a b. reads unbroken_of e
-        ∙ swap (is_end (other, one) e) (is_end (one, other) e) (unbroken_of (end_of w.ends e)) (unbroken_of (end_of w.ends (turned e))) (h.both_ends e a b)
-        ∙ ap (λ z. cond z true (cond (is_end (other, one) e) true (unbroken_of (end_of w.ends (turned e))))) (turned_end (other, one) e)
-        ∙ ap (λ z. cond (is_end (other, one) (turned e)) true (cond z true (unbroken_of (end_of w.ends (turned e))))) (turned_end (one, other) e)
-        ∙ sym (reads unbroken_of (turned e));
+    clients = λ e k u. reads up_of e ∙ its e k (is_end (other, one) e) refl (is_end (one, other) e) refl (sym (reads unbroken_at e) ∙ u);
+    both_ends = λ e a b. reads unbroken_at e
+        ∙ swap (is_end (other, one) e) (is_end (one, other) e) (unbroken_at (end_of w.ends e)) (unbroken_at (end_of w.ends (turned e))) (h.both_ends e a b)
+        ∙ ap (λ z. cond z true (cond (is_end (other, one) e) true (unbroken_at (end_of w.ends (turned e))))) (turned_end (other, one) e)
+        ∙ ap (λ z. cond (is_end (other, one) (turned e)) true (cond z true (unbroken_at (end_of w.ends (turned e))))) (turned_end (one, other) e)
+        ∙ sym (reads unbroken_at (turned e));
     apart = h.apart;
   }
     where
@@ -362,21 +356,21 @@ module _ (now : Moment) (sound : IsSound now.world) (h : Orderly now.world) wher
       empty e false true k = refl
       empty e false false k = h.down_ends e k
 
-      silent : (e : End) (b d : Bool) → cond b true (cond d true (unbroken_of (end_of w.ends e))) ≡ false → cond b false (cond d false (has_wire (end_of w.ends e))) ≡ false
+      silent : (e : End) (b d : Bool) → cond b true (cond d true (unbroken_at (end_of w.ends e))) ≡ false → cond b false (cond d false (has_wire (end_of w.ends e))) ≡ false
       silent e true d k = refl
       silent e false true k = refl
       silent e false false k = h.broken_links e k
 
-      sends_on : (e : End) → is_router_in w e.1 ≡ true → (b d : Bool) → cond b false (cond d false (has_wire (end_of w.ends e))) ≡ true →
+      sends_on : (e : End) → there_in w e.1 ≡ true → (b d : Bool) → cond b false (cond d false (has_wire (end_of w.ends e))) ≡ true →
           cond d false (cond b false (up_of (end_of w.ends (turned e)))) ≡ true
       sends_on e k true d t = absurd (false≢true t)
       sends_on e k false true t = absurd (false≢true t)
       sends_on e k false false t = h.senders e k t
 
       its : (e : End) → is_client_in w e.1 ≡ true → (b : Bool) → is_end (other, one) e ≡ b → (d : Bool) → is_end (one, other) e ≡ d →
-          cond b true (cond d true (unbroken_of (end_of w.ends e))) ≡ true → cond b false (cond d false (up_of (end_of w.ends e))) ≡ true
-      its e k true same d j u = absurd (true≢false (sym (ap is_some er) ∙ ap (λ z. is_router_in w z.1) (same_end (other, one) e same) ∙ h.apart e.1 k))
-      its e k false g true j u = absurd (true≢false (sym (ap is_some eq) ∙ ap (λ z. is_router_in w z.1) (same_end (one, other) e j) ∙ h.apart e.1 k))
+          cond b true (cond d true (unbroken_at (end_of w.ends e))) ≡ true → cond b false (cond d false (up_of (end_of w.ends e))) ≡ true
+      its e k true same d j u = absurd (true≢false (sym (ap is_some er) ∙ ap (λ z. there_in w z.1) (same_end (other, one) e same) ∙ h.apart e.1 k))
+      its e k false g true j u = absurd (true≢false (sym (ap is_some eq) ∙ ap (λ z. there_in w z.1) (same_end (one, other) e j) ∙ h.apart e.1 k))
       its e k false g false j u = h.clients e k u
 
       swap : (b d u v : Bool) → u ≡ v → cond b true (cond d true u) ≡ cond d true (cond b true v)
@@ -389,11 +383,11 @@ module _ (now : Moment) (sound : IsSound now.world) (h : Orderly now.world) wher
   came_up n router name r er s es sound' = record {
     down_ends = λ e k. queue_after half router r.node event n e (unsent router r er event w' refl sound' e k) ∙ keep_with_end w.ends (router, name) (lifted s) has_queue e s es refl
         ∙ empty e (is_end (router, name) e) (sym (up_is e) ∙ k);
-    broken_links = λ e k. kept has_wire (λ z ms. refl) refl e ∙ h.broken_links e (sym (kept unbroken_of (λ z ms. refl) refl e) ∙ k);
+    broken_links = λ e k. kept has_wire (λ z ms. refl) refl e ∙ h.broken_links e (sym (kept unbroken_at (λ z ms. refl) refl e) ∙ k);
     senders = λ e q k. up_is (turned e) ∙ still (is_end (router, name) (turned e)) (up_of (end_of w.ends (turned e)))
         (h.senders e (sym (routers_are e.1) ∙ q) (sym (kept has_wire (λ z ms. refl) refl e) ∙ k));
-    clients = λ e k u. up_is e ∙ still (is_end (router, name) e) (up_of (end_of w.ends e)) (h.clients e k (sym (kept unbroken_of (λ z ms. refl) refl e) ∙ u));
-    both_ends = λ e a b. kept unbroken_of (λ z ms. refl) refl e ∙ h.both_ends e (sym (routers_are e.0) ∙ a) (sym (routers_are e.1) ∙ b) ∙ sym (kept unbroken_of (λ z ms. refl) refl (turned e));
+    clients = λ e k u. up_is e ∙ still (is_end (router, name) e) (up_of (end_of w.ends e)) (h.clients e k (sym (kept unbroken_at (λ z ms. refl) refl e) ∙ u));
+    both_ends = λ e a b. kept unbroken_at (λ z ms. refl) refl e ∙ h.both_ends e (sym (routers_are e.0) ∙ a) (sym (routers_are e.1) ∙ b) ∙ sym (kept unbroken_at (λ z ms. refl) refl (turned e));
     apart = λ y k. routers_are y ∙ h.apart y k;
   }
     where
@@ -413,7 +407,7 @@ module _ (now : Moment) (sound : IsSound now.world) (h : Orderly now.world) wher
       up_is : (e : End) → up_of (end_of w'.ends e) ≡ cond (is_end (router, name) e) true (up_of (end_of w.ends e))
       up_is e = keep_all_queued half router r.node event n up_of e (λ z. refl) ∙ read_with_end w.ends (router, name) (lifted s) up_of e (ap is_some es)
 
-      routers_are : (x : List ℕ) → is_router_in w' x ≡ is_router_in w x
+      routers_are : (x : List ℕ) → there_in w' x ≡ there_in w x
       routers_are x = read_kept is_some w.routers router x r (hearing r event) er refl
 
       still : (b v : Bool) → v ≡ true → cond b true v ≡ true
@@ -429,11 +423,11 @@ module _ (now : Moment) (sound : IsSound now.world) (h : Orderly now.world) wher
     down_ends = λ e k. kept has_queue (λ z. refl) e ∙ h.down_ends e (sym (kept up_of (λ z. refl) e) ∙ k);
     broken_links = λ e k. wire_is e ∙ silent e (is_end (name, router) e) (is_end (router, name) e) (sym (unbroken_is e) ∙ k);
     senders = λ e q k. kept up_of (λ z. refl) (turned e) ∙ h.senders e q (was (is_end (name, router) e) (is_end (router, name) e) (has_wire (end_of w.ends e)) (sym (wire_is e) ∙ k));
-    clients = λ e k u. kept up_of (λ z. refl) e ∙ h.clients e k (was (is_end (name, router) e) (is_end (router, name) e) (unbroken_of (end_of w.ends e)) (sym (unbroken_is e) ∙ u));
+    clients = λ e k u. kept up_of (λ z. refl) e ∙ h.clients e k (was (is_end (name, router) e) (is_end (router, name) e) (unbroken_at (end_of w.ends e)) (sym (unbroken_is e) ∙ u));
     both_ends = λ e a b. unbroken_is e
-        ∙ swap (is_end (name, router) e) (is_end (router, name) e) (unbroken_of (end_of w.ends e)) (unbroken_of (end_of w.ends (turned e))) (h.both_ends e a b)
-        ∙ ap (λ z. cond z false (cond (is_end (name, router) e) false (unbroken_of (end_of w.ends (turned e))))) (turned_end (name, router) e)
-        ∙ ap (λ z. cond (is_end (name, router) (turned e)) false (cond z false (unbroken_of (end_of w.ends (turned e))))) (turned_end (router, name) e)
+        ∙ swap (is_end (name, router) e) (is_end (router, name) e) (unbroken_at (end_of w.ends e)) (unbroken_at (end_of w.ends (turned e))) (h.both_ends e a b)
+        ∙ ap (λ z. cond z false (cond (is_end (name, router) e) false (unbroken_at (end_of w.ends (turned e))))) (turned_end (name, router) e)
+        ∙ ap (λ z. cond (is_end (name, router) (turned e)) false (cond z false (unbroken_at (end_of w.ends (turned e))))) (turned_end (router, name) e)
         ∙ sym (unbroken_is (turned e));
     apart = h.apart;
   }
@@ -459,13 +453,13 @@ module _ (now : Moment) (sound : IsSound now.world) (h : Orderly now.world) wher
           is_false None = none
           is_false (Some z) = cut z
 
-      unbroken_is : (e : End) → unbroken_of (end_of w'.ends e) ≡ cond (is_end (name, router) e) false (cond (is_end (router, name) e) false (unbroken_of (end_of w.ends e)))
-      unbroken_is e = falls unbroken_of refl (λ z. refl) e
+      unbroken_is : (e : End) → unbroken_at (end_of w'.ends e) ≡ cond (is_end (name, router) e) false (cond (is_end (router, name) e) false (unbroken_at (end_of w.ends e)))
+      unbroken_is e = falls unbroken_at refl (λ z. refl) e
 
       wire_is : (e : End) → has_wire (end_of w'.ends e) ≡ cond (is_end (name, router) e) false (cond (is_end (router, name) e) false (has_wire (end_of w.ends e)))
       wire_is e = falls has_wire refl (λ z. refl) e
 
-      silent : (e : End) (b d : Bool) → cond b false (cond d false (unbroken_of (end_of w.ends e))) ≡ false → cond b false (cond d false (has_wire (end_of w.ends e))) ≡ false
+      silent : (e : End) (b d : Bool) → cond b false (cond d false (unbroken_at (end_of w.ends e))) ≡ false → cond b false (cond d false (has_wire (end_of w.ends e))) ≡ false
       silent e true d k = refl
       silent e false true k = refl
       silent e false false k = h.broken_links e k
@@ -485,11 +479,11 @@ module _ (now : Moment) (sound : IsSound now.world) (h : Orderly now.world) wher
       IsKept (on_down now n router name r l)
   went_down n router name r er s es cut l sound' = record {
     down_ends = λ e k. queue_is e k ∙ empty e (is_end (router, name) e) (sym (up_is e) ∙ k);
-    broken_links = λ e k. kept has_wire (λ z ms. refl) (λ z. refl) e ∙ h.broken_links e (sym (kept unbroken_of (λ z ms. refl) (λ z. refl) e) ∙ k);
+    broken_links = λ e k. kept has_wire (λ z ms. refl) (λ z. refl) e ∙ h.broken_links e (sym (kept unbroken_at (λ z ms. refl) (λ z. refl) e) ∙ k);
     senders = λ e q k. up_is (turned e) ∙ sends_on e (sym (routers_are e.1) ∙ q) (sym (kept has_wire (λ z ms. refl) (λ z. refl) e) ∙ k) (is_end (router, name) (turned e)) refl;
-    clients = λ e k u. up_is e ∙ its e k (sym (kept unbroken_of (λ z ms. refl) (λ z. refl) e) ∙ u) (is_end (router, name) e) refl;
-    both_ends = λ e a b. kept unbroken_of (λ z ms. refl) (λ z. refl) e ∙ h.both_ends e (sym (routers_are e.0) ∙ a) (sym (routers_are e.1) ∙ b)
-        ∙ sym (kept unbroken_of (λ z ms. refl) (λ z. refl) (turned e));
+    clients = λ e k u. up_is e ∙ its e k (sym (kept unbroken_at (λ z ms. refl) (λ z. refl) e) ∙ u) (is_end (router, name) e) refl;
+    both_ends = λ e a b. kept unbroken_at (λ z ms. refl) (λ z. refl) e ∙ h.both_ends e (sym (routers_are e.0) ∙ a) (sym (routers_are e.1) ∙ b)
+        ∙ sym (kept unbroken_at (λ z ms. refl) (λ z. refl) (turned e));
     apart = λ y k. routers_are y ∙ h.apart y k;
   }
     where
@@ -518,7 +512,7 @@ module _ (now : Moment) (sound : IsSound now.world) (h : Orderly now.world) wher
       queue_is e down = falls has_queue refl (λ z. refl) e
           ∙ ap (λ z. cond (is_end (router, name) e) false z) (queue_after w.ends router r.node (Down l) n e (unsent router r er (Down l) w' refl sound' e down))
 
-      routers_are : (x : List ℕ) → is_router_in w' x ≡ is_router_in w x
+      routers_are : (x : List ℕ) → there_in w' x ≡ there_in w x
       routers_are x = read_kept is_some w.routers router x r (hearing r (Down l)) er refl
 
       empty : (e : End) (b : Bool) → cond b false (up_of (end_of w.ends e)) ≡ false → cond b false (has_queue (end_of w.ends e)) ≡ false
@@ -526,35 +520,53 @@ module _ (now : Moment) (sound : IsSound now.world) (h : Orderly now.world) wher
       empty e false k = h.down_ends e k
 
       -- at the other end of the broken link nothing is on the wire
-      sends_on : (e : End) → is_router_in w e.1 ≡ true → has_wire (end_of w.ends e) ≡ true → (b : Bool) → is_end (router, name) (turned e) ≡ b → cond b false (up_of (end_of w.ends (turned e))) ≡ true
+      sends_on : (e : End) → there_in w e.1 ≡ true → has_wire (end_of w.ends e) ≡ true → (b : Bool) → is_end (router, name) (turned e) ≡ b → cond b false (up_of (end_of w.ends (turned e))) ≡ true
       sends_on e q k false other = h.senders e q k
       sends_on e q k true same =
-          let cut_too : unbroken_of (end_of w.ends e) ≡ false =
-          h.both_ends e (sound.routers e.0 e.1 (wire_there (end_of w.ends e) k)) q ∙ ap (λ z. unbroken_of (end_of w.ends z)) (sym (same_end (router, name) (turned e) same)) ∙ ap unbroken_of es ∙ cut in
+          let cut_too : unbroken_at (end_of w.ends e) ≡ false =
+          h.both_ends e (sound.routers e.0 e.1 (wire_there (end_of w.ends e) k)) q ∙ ap (λ z. unbroken_at (end_of w.ends z)) (sym (same_end (router, name) (turned e) same)) ∙ ap unbroken_at es ∙ cut in
           absurd (true≢false (sym k ∙ h.broken_links e cut_too))
 
-      its : (e : End) → is_client_in w e.1 ≡ true → unbroken_of (end_of w.ends e) ≡ true → (b : Bool) → is_end (router, name) e ≡ b → cond b false (up_of (end_of w.ends e)) ≡ true
+      its : (e : End) → is_client_in w e.1 ≡ true → unbroken_at (end_of w.ends e) ≡ true → (b : Bool) → is_end (router, name) e ≡ b → cond b false (up_of (end_of w.ends e)) ≡ true
       its e k u false other = h.clients e k u
-      its e k u true same = absurd (true≢false (sym u ∙ ap (λ z. unbroken_of (end_of w.ends z)) (sym (same_end (router, name) e same)) ∙ ap unbroken_of es ∙ cut))
+      its e k u true same = absurd (true≢false (sym u ∙ ap (λ z. unbroken_at (end_of w.ends z)) (sym (same_end (router, name) e same)) ∙ ap unbroken_at es ∙ cut))
 
   -- ---- all acts
 
+  declares : (n : ℕ) (client : List ℕ) (kind : Kind) (id : ℕ) (key : List ℕ) (msg : Msg) → IfSome (went now (declare_step now.world n client kind id key msg)) IsKept
+  declares n client kind id key msg = for_declare now IsKept n client kind id key msg
+      (λ s es fresh en ee unbroken r er room sound'. written n client s es en ee unbroken msg _ refl
+      (λ x. read_kept is_some w.routers s.router x r _ er refl) (λ x. read_kept is_some w.clients client x s _ es refl))
+
+  undeclares : (n : ℕ) (client : List ℕ) (kind : Kind) (id : ℕ) (msg : Msg) → IfSome (went now (undeclare_step now.world n client kind id msg)) IsKept
+  undeclares n client kind id msg = for_undeclare now IsKept n client kind id msg
+      (λ s es known en ee unbroken sound'. written n client s es en ee unbroken msg _ refl (λ x. refl) (λ x. read_kept is_some w.clients client x s _ es refl))
+
   pub act_orderly : (n : ℕ) (act : Act) → IfSome (went now (outcome now.world n act)) IsKept
   unfolding outcome
-  act_orderly n (c.Router id) = for_router now IsKept id (λ free room alone sound'. router_came id free)
+  act_orderly n (c.Router id) = for_router now IsKept id (λ free room sound'. router_came id free)
   act_orderly n (c.Client id router) = for_client now IsKept n id router (λ r er free room taken. client_came n id router r er free)
   act_orderly n (c.Link one other) = for_link now IsKept one other (λ apart r er q eq free room sound'. linked one other r q er eq)
   act_orderly n (c.Up router name) = for_up now IsKept n router name (λ r er there s es unbroken down taken. came_up n router name r er s es)
   act_orderly n (c.Break router name) = for_break now IsKept router name (λ r er there s es unbroken sound'. broke router name)
   act_orderly n (c.Down router name) = for_down now IsKept n router name (λ r er there s es up cut l el taken. went_down n router name r er s es cut l)
-  act_orderly n (c.Sub client id key) = for_sub now IsKept n client id key
-      (λ s es fresh en ee unbroken alone r er sound'. written n client s es en ee unbroken (m.Sub id key) _ refl
-      (λ x. read_kept is_some w.routers s.router x r _ er refl) (λ x. read_kept is_some w.clients client x s _ es refl))
-  act_orderly n (c.Unsub client id) = for_unsub now IsKept n client id
-      (λ s es known en ee unbroken alone sound'. written n client s es en ee unbroken (m.Unsub id) _ refl (λ x. refl) (λ x. read_kept is_some w.clients client x s _ es refl))
+  act_orderly n (c.Sub client id key) = declares n client sort.Sub id key (m.Sub id key)
+  act_orderly n (c.Unsub client id) = undeclares n client sort.Sub id (m.Unsub id)
+  act_orderly n (c.Able client id key complete) = declares n client (able_kind complete) id key (m.Able id key complete)
+  act_orderly n (c.Unable client id) = undeclares n client sort.Able id (m.Unable id)
   act_orderly n (c.Publish client content) = for_publish now IsKept n client content
-      (λ s es en ee unbroken alone sound'. written n client s es en ee unbroken (m.Push None content) _ refl (λ x. refl) (λ x. refl))
-  act_orderly n (c.Handle router from) = for_handle now IsKept router from (λ r er there s es up msg tag xs front l el. handled router from r er s es msg tag xs front l)
+      (λ s es en ee unbroken sound'. written n client s es en ee unbroken (m.Push None content) _ refl (λ x. refl) (λ x. refl))
+  act_orderly n (c.Handle router from) = for_handle now IsKept router from (λ r er there s es up msg tag xs front l el taken. handled router from r er s es msg tag xs front l)
   act_orderly n (c.Take router to) = for_take now IsKept router to (λ r er there s es up unbroken msg tag xs front sound'. took router to r er s es up unbroken msg tag xs)
   act_orderly n c.Mark = for_mark now IsKept n (λ settled joined sound'. h)
   act_orderly n (c.Show router) = for_show now IsKept router (λ r er sound'. h)
+
+pub empty_orderly : Orderly empty_world
+empty_orderly = record {
+  down_ends = λ e k. refl;
+  broken_links = λ e k. refl;
+  senders = λ e r k. absurd (false≢true r);
+  clients = λ e k u. absurd (false≢true k);
+  both_ends = λ e a b. refl;
+  apart = λ y k. refl;
+}

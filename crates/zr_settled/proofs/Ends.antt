@@ -1,26 +1,22 @@
 -- What is known of each end of a world stays known after a change of its ends: one lemma for each change that acts make.
-use Rattle.std.proofs.Common.{◌≡◌, ℕ, Bool, true, false, cond, List, [], Option, Some, None, sym, subst}
+use Rattle.std.proofs.Common.{◌≡◌, ℕ, Bool, true, false, cond, List, Option, Some, None, sym, ◌∙◌, subst}
 use Rattle.std.specs.Prelude.{is_some, IfSome}
 use Rattle.std.specs.Option.{option_map}
+use Rattle.std.proofs.lemmas.Bool.{and_right}
 use Rattle.zr_id.specs.Zid.{is_named}
 use Rattle.zr_msg.specs.declared.event.Event.{Event}
 use Rattle.zr_table.specs.State.{NodeState}
-use Rattle.zr_network.specs.World.{Tagged, EndState, End, Ends, is_end, end_of, with_end, put_end, queued, changed}
+use Rattle.zr_network.specs.World.{EndState, End, Ends, is_end, end_of, with_end, put_end, queued, changed}
 use Rattle.zr_network.specs.Acts.{sends_to, all_queued}
-use Rattle.zr_network.proofs.Ends.{with_end_is, put_end_is, changed_is, all_queued_is}
-
--- the queue and the wire of an end: empty where there is none
-abbrev pub queue_of : Option EndState → List Tagged
-queue_of None = []
-queue_of (Some s) = s.queue
-
-abbrev pub wire_of : Option EndState → List Tagged
-wire_of None = []
-wire_of (Some s) = s.wire
+use Rattle.zr_network.proofs.Ends.{end_parts, with_end_is, put_end_is, changed_is, all_queued_is}
 
 -- something holds of each end that is there
 abbrev pub AtEnds : (EndState → Type 0) → Ends → Type 0
 AtEnds P es = (e : End) → IfSome (end_of es e) P
+
+-- the ends to two neighbours are two
+pub other_end : (x y name d : List ℕ) → is_named name d ≡ false → is_end (x, name) (y, d) ≡ false
+other_end x y name d k = end_parts (x, name) (y, d) ∙ and_right (is_named x y) (is_named name d) k
 
 -- what holds of what was found
 pub of_found : {X : Type 0} (P : X → Type 0) (o : Option X) (x : X) → o ≡ Some x → IfSome o P → P x

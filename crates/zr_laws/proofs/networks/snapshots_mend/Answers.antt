@@ -1,6 +1,6 @@
 use Rattle.std.proofs.Common.{refl}
 use Rattle.zr_laws.proofs.OnLiterals.{scripts_on_literals}
-use Rattle.zr_laws.proofs.networks.routers_tell_of_links_alone.Goals as goal
+use Rattle.zr_laws.proofs.networks.snapshots_mend.Goals as goal
 
 pub returns : goal.returns
 unfolding scripts_on_literals

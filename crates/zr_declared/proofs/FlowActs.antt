@@ -1,0 +1,104 @@
+-- Each act that is not refused keeps what clients have declared and their routers will have (`Flows`), so it holds at each moment to which acts lead.
+use Rattle.std.proofs.Common.{◌≡◌, ℕ, Bool, true, false, cond, List, [], ◌∷◌, ◌++◌, Option, Some, None, is_some, refl, sym, ap, subst}
+use Rattle.std.specs.Prelude.{◌&&◌, IfSome}
+use Rattle.std.specs.List.{AllByRecursion}
+use Rattle.std.proofs.lemmas.Bool.{true≢false}
+use Rattle.zr_id.specs.Zid.{is_named}
+use Rattle.zr_msg.specs.declared.decl.Kind.{Kind}
+use Rattle.zr_msg.specs.declared.decl.Kind.TheVariants as k
+use Rattle.zr_msg.specs.declared.msg.Msg.TheVariants as m
+use Rattle.zr_command.specs.declared.command.Act.{Act}
+use Rattle.zr_command.specs.declared.command.Act.TheVariants as a
+use Rattle.zr_table.specs.Table.{able_kind}
+use Rattle.zr_network.specs.World.{ClientState, WorldState, with_router}
+use Rattle.zr_network.specs.Acts.{outcome, weighing, declaring, undeclaring}
+use Rattle.zr_network.specs.Moments.{Numbered, Moment, beginning, went, reached}
+use Rattle.zr_network.specs.Sound.{IsSound}
+use Rattle.zr_network.proofs.Cases.{w_down, w_handle, number_found, for_router, for_client, for_link, for_up, for_break, for_down, for_declare, for_undeclare, for_publish, for_handle, for_take, for_mark, for_show}
+use Rattle.zr_settled.proofs.ClientRows.{ClientsHold, linked_stay, taken_stay, broken_stay, none_stay}
+use Rattle.zr_settled.proofs.Goes.{Goes, goes_first, act_goes}
+use Rattle.zr_laws.proofs.Folds.{after_all}
+use Rattle.zr_declared.specs.Declared.{is_same_id}
+use Rattle.zr_declared.proofs.Flows.{Flows, by_ends, says_kept, router_flows, up_flows, down_flows, handled_flows, client_flows, published_flows, said_flows}
+
+-- one test after the other
+both : {X : Type 0} (s t : Bool) (x y : X) → cond (s && t) x y ≡ cond s (cond t x y) y
+both true t x y = refl
+both false t x y = refl
+
+module _ (acts : List Numbered) (now : Moment) (sound : IsSound now.world) (h : ClientsHold now.world) (f : Flows acts now.world) where
+  abbrev w : WorldState
+  w = now.world
+
+  abbrev pub FlowsThen : ℕ → Act → Moment → Type 0
+  FlowsThen n act next = Flows (acts ++ (n, act) ∷ []) next.world
+
+  home_of : (s : ClientState) (kind : Kind) (id : ℕ) → (declaring s kind id).router ≡ s.router
+  home_of s k.Sub id = refl
+  home_of s k.Able id = refl
+  home_of s k.Full id = refl
+
+  pub flows_keep : (n : ℕ) (act : Act) → IfSome (went now (outcome w n act)) (FlowsThen n act)
+  unfolding outcome
+  flows_keep n (a.Router id) = for_router now (FlowsThen n (a.Router id)) id (λ free room. router_flows acts w sound h f n (a.Router id) (λ c kind i so_far. refl) id free)
+  flows_keep n (a.Client id router) = for_client now (FlowsThen n (a.Client id router)) n id router (λ r found free room taken.
+      client_flows acts w sound h f router r found n (a.Client id router) (λ c kind i so_far. refl) id free)
+  flows_keep n (a.Link one other) = for_link now (FlowsThen n (a.Link one other)) one other (λ apart r found q found' new room.
+      by_ends acts w sound h f n (a.Link one other) (λ c kind i so_far. refl) _ (linked_stay w h one other (ap is_some found) (ap is_some found')))
+  flows_keep n (a.Up router name) = for_up now (FlowsThen n (a.Up router name)) n router name (λ r found there s at_end unbroken down taken.
+      up_flows acts w sound h f router r found n (a.Up router name) (λ c kind i so_far. refl) name s at_end down)
+  flows_keep n (a.Break router name) = for_break now (FlowsThen n (a.Break router name)) router name (λ r found there s at_end unbroken.
+      by_ends acts w sound h f n (a.Break router name) (λ c kind i so_far. refl) _ (broken_stay w h router name))
+  flows_keep n (a.Down router name) = for_down now (FlowsThen n (a.Down router name)) n router name (λ r found there s at_end up cut link number taken.
+      let j = number_found r name link number in
+      subst (λ q. Flows (acts ++ (n, a.Down router name) ∷ []) (w_down w n router name r q)) j.2
+      (down_flows acts w sound h f router r found n (a.Down router name) (λ c kind i so_far. refl) name s at_end cut j.0 j.1))
+  flows_keep n (a.Sub client id key) = for_declare now (FlowsThen n (a.Sub client id key)) n client k.Sub id key (m.Sub id key) (λ s found fresh e at_end unbroken r there room.
+      said_flows acts w sound h f n (a.Sub client id key) client s found e at_end (m.Sub id key) (declaring s k.Sub id) refl (with_router w.routers s.router (weighing r key))
+      (λ x c kind i. says_kept w s.router r (weighing r key) there c kind i refl x)
+      (λ c kind i so_far. both (is_named c client) (is_same_id kind i k.Sub id) (Some (record { kind = k.Sub; key = key })) so_far))
+  flows_keep n (a.Unsub client id) = for_undeclare now (FlowsThen n (a.Unsub client id)) n client k.Sub id (m.Unsub id) (λ s found known e at_end unbroken.
+      said_flows acts w sound h f n (a.Unsub client id) client s found e at_end (m.Unsub id) (undeclaring s k.Sub id) refl w.routers (λ x c kind i. refl)
+      (λ c kind i so_far. both (is_named c client) (is_same_id kind i k.Sub id) None so_far))
+  flows_keep n (a.Able client id key complete) = for_declare now (FlowsThen n (a.Able client id key complete)) n client (able_kind complete) id key (m.Able id key complete) (λ s found fresh e at_end unbroken r there room.
+      said_flows acts w sound h f n (a.Able client id key complete) client s found e at_end (m.Able id key complete) (declaring s (able_kind complete) id) (home_of s (able_kind complete) id)
+      (with_router w.routers s.router (weighing r key)) (λ x c kind i. says_kept w s.router r (weighing r key) there c kind i refl x)
+      (λ c kind i so_far. both (is_named c client) (is_same_id kind i k.Able id) (Some (record { kind = able_kind complete; key = key })) so_far))
+  flows_keep n (a.Unable client id) = for_undeclare now (FlowsThen n (a.Unable client id)) n client k.Able id (m.Unable id) (λ s found known e at_end unbroken.
+      said_flows acts w sound h f n (a.Unable client id) client s found e at_end (m.Unable id) (undeclaring s k.Able id) refl w.routers (λ x c kind i. refl)
+      (λ c kind i so_far. both (is_named c client) (is_same_id kind i k.Able id) None so_far))
+  flows_keep n (a.Publish client content) = for_publish now (FlowsThen n (a.Publish client content)) n client content (λ s found e at_end unbroken.
+      published_flows acts w sound h f n (a.Publish client content) client s found e at_end (m.Push None content) (λ c kind i so_far. refl) (λ kind i so_far. refl))
+  flows_keep n (a.Handle router from) = for_handle now (FlowsThen n (a.Handle router from)) router from (λ r found there s at_end up msg tag xs front link number taken.
+      let j = number_found r from link number in
+      subst (λ q. Flows (acts ++ (n, a.Handle router from) ∷ []) (w_handle w router from r s q msg tag xs)) j.2
+      (handled_flows acts w sound h f router r found n (a.Handle router from) (λ c kind i so_far. refl) from s at_end j.0 j.1 msg tag xs front))
+  flows_keep n (a.Take router to) = for_take now (FlowsThen n (a.Take router to)) router to (λ r found there s at_end up unbroken msg tag xs front.
+      by_ends acts w sound h f n (a.Take router to) (λ c kind i so_far. refl) _ (taken_stay w h router to s at_end (ap is_some found) msg tag xs))
+  flows_keep n a.Mark = for_mark now (FlowsThen n a.Mark) n (λ settled joined. by_ends acts w sound h f n a.Mark (λ c kind i so_far. refl) w.ends (none_stay w h))
+  flows_keep n (a.Show router) = for_show now (FlowsThen n (a.Show router)) router (λ r found. by_ends acts w sound h f n (a.Show router) (λ c kind i so_far. refl) w.ends (none_stay w h))
+
+-- ---- moments
+
+-- what goes on, with what has been declared
+pub record GoesDeclared (acts : List Numbered) (now : Moment) : Type 0 where
+  pub goes : Goes now.world
+  pub flows : Flows acts now.world
+
+first : GoesDeclared [] beginning
+first = record { goes = goes_first; flows = record { fresh = λ c none kind id. refl; flows = λ c s client unbroken kind id. absurd (true≢false (sym unbroken)) } }
+
+next : (acts : List Numbered) (now : Moment) → GoesDeclared acts now → (n : ℕ) (act : Act) → IfSome (went now (outcome now.world n act)) (GoesDeclared (acts ++ (n, act) ∷ []))
+next acts now g n act = by (went now (outcome now.world n act)) (act_goes now n act g.goes) (flows_keep acts now g.goes.sound g.goes.clients g.flows n act)
+  where
+    by : (o : Option Moment) → IfSome o (λ then. Goes then.world) → IfSome o (λ then. Flows (acts ++ (n, act) ∷ []) then.world) → IfSome o (GoesDeclared (acts ++ (n, act) ∷ []))
+    by None goes flows = tt
+    by (Some then) goes flows = record { goes = goes; flows = flows }
+
+-- at the moment that some acts lead to
+pub goes_declared : (acts : List Numbered) → IfSome (reached acts) (GoesDeclared acts)
+goes_declared acts = after_all GoesDeclared (λ x. Unit {0}) (λ done now h x k. next done now h x.0 x.1) acts [] (Some beginning) first (all acts)
+  where
+    all : (xs : List Numbered) → AllByRecursion (λ x. Unit {0}) xs
+    all [] = tt
+    all (x ∷ xs) = (tt, all xs)

@@ -1,0 +1,5 @@
+pub mod Turns
+pub mod Told
+pub mod Flows
+pub mod FlowActs
+pub mod AtRest

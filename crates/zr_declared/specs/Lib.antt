@@ -1,0 +1,4 @@
+pub mod Turns
+pub mod Declared
+pub mod Rows
+pub mod Sets

@@ -1,0 +1,173 @@
+-- In a phase nobody publishes who is no client, and nothing is sent to a name to which no router's end is up.
+use Rattle.std.proofs.Common.{◌≡◌, ℕ, Bool, true, false, cond, List, [], ◌∷◌, ◌++◌, Option, Some, None, refl, sym, ap, ◌∙◌, append-nil}
+use Rattle.std.specs.Prelude.{◌==◌, ◌&&◌, ◌||◌, not, filter, is_some, IfSome}
+use Rattle.std.specs.List.{AllByRecursion, fold, list_all}
+use Rattle.std.specs.Option.{option_map_or}
+use Rattle.std.proofs.lemmas.Bool.{false≢true, true≢false, and_parts, and_from, and_right, not_from_false}
+use Rattle.std.proofs.lemmas.Grind.{flat_map-append}
+use Rattle.zr_id.specs.Zid.{is_named}
+use Rattle.zr_msg.specs.declared.msg.Msg.TheVariants as m
+use Rattle.zr_msg.specs.declared.event.Event.TheVariants.{From}
+use Rattle.zr_command.specs.declared.command.Act.{Act}
+use Rattle.zr_command.specs.declared.command.Act.TheVariants as c
+use Rattle.zr_command.specs.declared.report.ReportLine.{ReportLine}
+use Rattle.zr_command.specs.declared.report.ReportLine.TheVariants as line
+use Rattle.zr_network.specs.World.{End, Clients, client_of, end_of, sent, with_wire, with_queue, with_end}
+use Rattle.zr_network.specs.Acts.{shown, outcome}
+use Rattle.zr_network.specs.Moments.{Numbered, Moment, went, onward}
+use Rattle.zr_guarantee.specs.Phase.{stays, is_phase}
+use Rattle.zr_guarantee.specs.Item.{Item}
+use Rattle.zr_guarantee.specs.Broker.{Publication, publication, is_publisher, is_line_of, wants, item_for, from}
+use Rattle.zr_guarantee.specs.Sent.{item_of, sent_in, sent_to}
+use Rattle.zr_network.proofs.Names.{same_name}
+use Rattle.zr_network.proofs.Ends.{keep_with_end, keep_changed, keep_all_queued}
+use Rattle.zr_network.proofs.Fits.{up_of}
+use Rattle.zr_network.proofs.Cases.{on_publish, on_handle, on_take, on_mark, on_show, for_publish, for_handle, for_take, for_mark, for_show}
+use Rattle.zr_network.proofs.Lists.{all_both}
+use Rattle.zr_laws.proofs.Folds.{after_all}
+use Rattle.zr_laws.proofs.Watch.{shows_nothing}
+
+-- each act of a phase stays
+pub each_stays : (xs : List Numbered) → is_phase xs ≡ true → AllByRecursion (λ x. stays x.1 ≡ true) xs
+each_stays [] k = tt
+each_stays (x ∷ xs) k = let parts = and_parts (stays x.1) (is_phase xs) k in (parts.0, each_stays xs parts.1)
+
+-- ---- a publisher that is no client
+
+module _ (publisher : List ℕ) (clients : Clients) (none : client_of clients publisher ≡ None) where
+  pub record IsMute (done : List Numbered) (now : Moment) : Type 0 where
+    pub clients_is : now.world.clients ≡ clients
+    pub silent : list_all (λ x. not (is_publisher publisher x.1)) done ≡ true
+
+  mute : (done : List Numbered) (now : Moment) → IsMute done now → (n : ℕ) (act : Act) (next : Moment) → next.world.clients ≡ now.world.clients → is_publisher publisher act ≡ false →
+      IsMute (done ++ (n, act) ∷ []) next
+  mute done now h n act next same other = record {
+    clients_is = same ∙ h.clients_is;
+    silent = all_both (λ x. not (is_publisher publisher x.1)) done ((n, act) ∷ []) h.silent (and_from (not (is_publisher publisher act)) true (not_from_false (is_publisher publisher act) other) refl);
+  }
+
+  act_mute : (done : List Numbered) (now : Moment) → IsMute done now → (n : ℕ) (act : Act) → stays act ≡ true → IfSome (went now (outcome now.world n act)) (IsMute (done ++ (n, act) ∷ []))
+  unfolding outcome
+  act_mute done now h n (c.Router id) st = absurd (false≢true st)
+  act_mute done now h n (c.Client id router) st = absurd (false≢true st)
+  act_mute done now h n (c.Link one other) st = absurd (false≢true st)
+  act_mute done now h n (c.Up router name) st = absurd (false≢true st)
+  act_mute done now h n (c.Break router name) st = absurd (false≢true st)
+  act_mute done now h n (c.Down router name) st = absurd (false≢true st)
+  act_mute done now h n (c.Sub client id key) st = absurd (false≢true st)
+  act_mute done now h n (c.Unsub client id) st = absurd (false≢true st)
+  act_mute done now h n (c.Able client id key complete) st = absurd (false≢true st)
+  act_mute done now h n (c.Unable client id) st = absurd (false≢true st)
+  act_mute done now h n (c.Publish client content) st = for_publish now (IsMute (done ++ (n, c.Publish client content) ∷ [])) n client content
+      (λ s es e ee unbroken. mute done now h n (c.Publish client content) (on_publish now n client content s e) refl
+      (by (is_named publisher client) refl (ap is_some (ap (λ z. client_of z client) (sym h.clients_is) ∙ es))))
+    where
+      by : (b : Bool) → is_named publisher client ≡ b → is_some (client_of clients client) ≡ true → b ≡ false
+      by false e k = refl
+      by true e k = absurd (false≢true (sym (ap is_some none) ∙ ap (λ z. is_some (client_of clients z)) (same_name publisher client e) ∙ k))
+  act_mute done now h n (c.Handle router name) st = for_handle now (IsMute (done ++ (n, c.Handle router name) ∷ [])) router name
+      (λ r er there s es up msg tag xs front l el taken. mute done now h n (c.Handle router name) (on_handle now router name r s l msg tag xs) refl refl)
+  act_mute done now h n (c.Take router to) st = for_take now (IsMute (done ++ (n, c.Take router to) ∷ [])) router to
+      (λ r er there s es up unbroken msg tag xs front. mute done now h n (c.Take router to) (on_take now router to s msg tag xs) refl refl)
+  act_mute done now h n c.Mark st = for_mark now (IsMute (done ++ (n, c.Mark) ∷ [])) n (λ settled joined. mute done now h n c.Mark (on_mark now n) refl refl)
+  act_mute done now h n (c.Show router) st = for_show now (IsMute (done ++ (n, c.Show router) ∷ [])) router (λ r er. mute done now h n (c.Show router) (on_show now router r) refl refl)
+
+  pub phase_mute : (phase : List Numbered) (o : Option Moment) → IfSome o (λ now. now.world.clients ≡ clients) → is_phase phase ≡ true → IfSome (fold onward o phase) (IsMute phase)
+  phase_mute phase o h st = after_all IsMute (λ x. stays x.1 ≡ true) (λ done now k x s. act_mute done now k x.0 x.1 s) phase [] o (begins o h) (each_stays phase st)
+    where
+      begins : (o : Option Moment) → IfSome o (λ now. now.world.clients ≡ clients) → IfSome o (IsMute [])
+      begins None k = tt
+      begins (Some now) k = record { clients_is = k; silent = refl }
+
+-- no line of a phase is of a publisher that is silent in it
+pub no_line : (publisher : List ℕ) (phase : List Numbered) → list_all (λ x. not (is_publisher publisher x.1)) phase ≡ true → (t : ℕ) → is_line_of phase publisher t ≡ false
+no_line publisher [] h t = refl
+no_line publisher (x ∷ xs) h t =
+    let parts = and_parts (not (is_publisher publisher x.1)) (list_all (λ y. not (is_publisher publisher y.1)) xs) h in
+    by (is_publisher publisher x.1) parts.0 (x.0 == t) (no_line publisher xs parts.1 t)
+  where
+    by : (b : Bool) → not b ≡ true → (a : Bool) → is_line_of xs publisher t ≡ false → ((a && b) || is_line_of xs publisher t) ≡ false
+    by true k a ih = absurd (false≢true k)
+    by false k true ih = ih
+    by false k false ih = ih
+
+pub nothing_published : (before : List Numbered) (publisher receiver : List ℕ) (phase : List Numbered) → list_all (λ x. not (is_publisher publisher x.1)) phase ≡ true → from before phase publisher receiver ≡ []
+nothing_published before publisher receiver [] h = refl
+nothing_published before publisher receiver (x ∷ xs) h =
+    let parts = and_parts (not (is_publisher publisher x.1)) (list_all (λ y. not (is_publisher publisher y.1)) xs) h in
+    rw (none (publication x.1) parts.0) (nothing_published before publisher receiver xs parts.1)
+  where
+    none : (o : Option Publication) → not (option_map_or (λ p. is_named publisher p.client) o false) ≡ true → item_for before publisher receiver x.0 o ≡ []
+    none None k = refl
+    none (Some p) k = by (is_named publisher p.client) k
+      where
+        one : Item
+        one = record { line = x.0; content = p.content }
+
+        by : (b : Bool) → not b ≡ true → cond (b && wants before publisher receiver p.content.key) (one ∷ []) [] ≡ []
+        by true k = absurd (false≢true k)
+        by false k = refl
+
+-- who wants nothing is to have nothing
+pub nothing_wanted : (before : List Numbered) (publisher receiver : List ℕ) (phase : List Numbered) → ((key : List ℕ) → wants before publisher receiver key ≡ false) → from before phase publisher receiver ≡ []
+nothing_wanted before publisher receiver [] h = refl
+nothing_wanted before publisher receiver (x ∷ xs) h = rw (none (publication x.1)) (nothing_wanted before publisher receiver xs h)
+  where
+    none : (o : Option Publication) → item_for before publisher receiver x.0 o ≡ []
+    none None = refl
+    none (Some p) = ap (λ b. cond b (record { line = x.0; content = p.content } ∷ []) []) (and_right (is_named publisher p.client) (wants before publisher receiver p.content.key) (h p.content.key))
+
+-- a filter that nothing passes
+pub nothing_passes : (t : ℕ → Bool) → ((i : ℕ) → t i ≡ false) → (xs : List Item) → filter (λ i. t i.line) xs ≡ []
+nothing_passes t h [] = refl
+nothing_passes t h (x ∷ xs) = rw (h x.line) (nothing_passes t h xs)
+
+-- ---- a receiver to which no end is up
+
+module _ (receiver : List ℕ) (by_line : ℕ → Bool) where
+  pub record IsUnheard (done : List Numbered) (now : Moment) : Type 0 where
+    pub down : (x : List ℕ) → up_of (end_of now.world.ends (x, receiver)) ≡ false
+    pub nothing : filter (λ i. by_line i.line) (sent_to now.report receiver) ≡ []
+
+  unheard : (done done' : List Numbered) (now : Moment) → IsUnheard done now → (next : Moment) → ((e : End) → up_of (end_of next.world.ends e) ≡ up_of (end_of now.world.ends e)) →
+      (xs : List ReportLine) → next.report ≡ now.report ++ xs → sent_to xs receiver ≡ [] → IsUnheard done' next
+  unheard done done' now h next ups xs report none = record {
+    down = λ x. ups (x, receiver) ∙ h.down x;
+    nothing = ap (λ z. filter (λ i. by_line i.line) (sent_to z receiver)) report
+        ∙ ap (filter (λ i. by_line i.line)) (flat_map-append (sent_in receiver) now.report xs ∙ ap (λ z. sent_to now.report receiver ++ z) none ∙ append-nil (sent_to now.report receiver)) ∙ h.nothing;
+  }
+
+  act_unheard : (done : List Numbered) (now : Moment) → IsUnheard done now → (n : ℕ) (act : Act) → stays act ≡ true → IfSome (went now (outcome now.world n act)) (IsUnheard (done ++ (n, act) ∷ []))
+  unfolding outcome
+  act_unheard done now h n (c.Router id) st = absurd (false≢true st)
+  act_unheard done now h n (c.Client id router) st = absurd (false≢true st)
+  act_unheard done now h n (c.Link one other) st = absurd (false≢true st)
+  act_unheard done now h n (c.Up router name) st = absurd (false≢true st)
+  act_unheard done now h n (c.Break router name) st = absurd (false≢true st)
+  act_unheard done now h n (c.Down router name) st = absurd (false≢true st)
+  act_unheard done now h n (c.Sub client id key) st = absurd (false≢true st)
+  act_unheard done now h n (c.Unsub client id) st = absurd (false≢true st)
+  act_unheard done now h n (c.Able client id key complete) st = absurd (false≢true st)
+  act_unheard done now h n (c.Unable client id) st = absurd (false≢true st)
+  act_unheard done now h n (c.Publish client content) st = for_publish now (IsUnheard (done ++ (n, c.Publish client content) ∷ [])) n client content
+      (λ s es en ee unbroken. unheard done (done ++ (n, c.Publish client content) ∷ []) now h (on_publish now n client content s en)
+      (λ e. keep_with_end now.world.ends (s.router, client) (sent en (m.Push None content) n) up_of e en ee refl) [] refl refl)
+  act_unheard done now h n (c.Handle router name) st = for_handle now (IsUnheard (done ++ (n, c.Handle router name) ∷ [])) router name
+      (λ r er there s es up msg tag xs front l el taken. unheard done (done ++ (n, c.Handle router name) ∷ []) now h (on_handle now router name r s l msg tag xs)
+      (λ e. keep_all_queued (with_end now.world.ends (router, name) (with_wire s xs)) router r.node (From l msg) tag up_of e (λ z. refl) ∙ keep_with_end now.world.ends (router, name) (with_wire s xs) up_of e s es refl)
+      (line.Handled router name msg tag ∷ []) refl refl)
+  act_unheard done now h n (c.Take router to) st = for_take now (IsUnheard (done ++ (n, c.Take router to) ∷ [])) router to
+      (λ r er there s es up unbroken msg tag xs front. unheard done (done ++ (n, c.Take router to) ∷ []) now h (on_take now router to s msg tag xs)
+      (λ e. keep_changed (with_end now.world.ends (router, to) (with_queue s xs)) (to, router) (λ z. sent z msg tag) up_of e (λ z. refl) ∙ keep_with_end now.world.ends (router, to) (with_queue s xs) up_of e s es refl)
+      (line.Taken router to msg tag ∷ []) refl (by (is_named receiver to) refl (item_of msg tag) (ap up_of es ∙ up)))
+    where
+      by : (b : Bool) → is_named receiver to ≡ b → (its : List Item) → up_of (end_of now.world.ends (router, to)) ≡ true → cond b its [] ++ [] ≡ []
+      by false e its up = refl
+      by true e its up = absurd (true≢false (sym up ∙ ap (λ z. up_of (end_of now.world.ends (router, z))) (sym (same_name receiver to e)) ∙ h.down router))
+  act_unheard done now h n c.Mark st = for_mark now (IsUnheard (done ++ (n, c.Mark) ∷ [])) n
+      (λ settled joined. unheard done (done ++ (n, c.Mark) ∷ []) now h (on_mark now n) (λ e. refl) (line.Mark n ∷ []) refl refl)
+  act_unheard done now h n (c.Show router) st = for_show now (IsUnheard (done ++ (n, c.Show router) ∷ [])) router
+      (λ r er. unheard done (done ++ (n, c.Show router) ∷ []) now h (on_show now router r) (λ e. refl) (line.Show router ∷ shown r.node) refl (shows_nothing r.node receiver))
+
+  pub phase_unheard : (phase : List Numbered) (o : Option Moment) → IfSome o (IsUnheard []) → is_phase phase ≡ true → IfSome (fold onward o phase) (IsUnheard phase)
+  phase_unheard phase o h st = after_all IsUnheard (λ x. stays x.1 ≡ true) (λ done now k x s. act_unheard done now k x.0 x.1 s) phase [] o h (each_stays phase st)

@@ -1,0 +1,135 @@
+-- All that holds of every world of a script (`Goes`): each act that is not refused keeps it (`goes_on`), and by it no message that waits is refused
+-- (`all_taken`).
+use Rattle.std.proofs.Common.{◌≡◌, ℕ, List, [], ◌∷◌, Some, None, Ok, Err, subst}
+use Rattle.std.specs.Prelude.{IfOk, IfSome}
+use Rattle.zr_msg.specs.declared.msg.Msg.{Msg}
+use Rattle.zr_msg.specs.declared.event.Event.TheVariants.{From}
+use Rattle.zr_msg.specs.declared.peer.LinkPeer.{LinkPeer}
+use Rattle.zr_command.specs.declared.command.Act.{Act}
+use Rattle.zr_routing.specs.Tables.{link_to}
+use Rattle.zr_table.specs.Table.{refuses}
+use Rattle.zr_network.specs.World.{Tagged, RouterState, EndState, WorldState, router_of, end_of, empty_world, with_booked}
+use Rattle.zr_network.specs.Acts.{Outcome, outcome}
+use Rattle.zr_network.specs.Moments.{Numbered, Moment, went, reached}
+use Rattle.zr_network.specs.Sound.{IsSound, AllAreTaken}
+use Rattle.zr_network.proofs.Cases.{number_found}
+use Rattle.zr_network.proofs.Sound.{act_keeps, empty_sound}
+use Rattle.zr_settled.proofs.Spreading.{Name}
+use Rattle.zr_settled.proofs.Moments.{at_moments}
+use Rattle.zr_settled.proofs.Worlds.{Holds}
+use Rattle.zr_settled.proofs.Keeping.{acts_keep, empty_holds}
+use Rattle.zr_settled.proofs.Logs.{LogsHold}
+use Rattle.zr_settled.proofs.LogKeeping.{logs_keep, empty_logs}
+use Rattle.zr_settled.proofs.Making.{SetsHold, sets_keep, empty_sets}
+use Rattle.zr_settled.proofs.ClientRows.{ClientsHold}
+use Rattle.zr_settled.proofs.ClientKeeping.{clients_keep, empty_clients}
+use Rattle.zr_settled.proofs.GapKeeping.{GapsHold}
+use Rattle.zr_settled.proofs.GapActs.{gaps_keep, empty_gaps}
+use Rattle.zr_settled.proofs.Orderly.{Orderly, act_orderly, empty_orderly}
+use Rattle.zr_settled.proofs.Weights.{WeightsHold}
+use Rattle.zr_settled.proofs.WeightsActs.{weights_first, weights_keep, weights_counted, weights_take}
+use Rattle.zr_settled.proofs.InTurn.{in_turn}
+
+pub record Goes (w : WorldState) : Type 0 where
+  pub sound : IsSound w
+  pub holds : Holds w
+  pub logs : LogsHold w
+  pub sets : SetsHold w
+  pub clients : ClientsHold w
+  pub orderly : Orderly w
+  pub gaps : GapsHold w
+  pub weights : WeightsHold w
+
+-- ---- each act goes on
+
+pub goes_first : Goes empty_world
+goes_first = record {
+  sound = empty_sound;
+  holds = empty_holds;
+  logs = empty_logs;
+  sets = empty_sets;
+  clients = empty_clients;
+  orderly = empty_orderly;
+  gaps = empty_gaps;
+  weights = weights_first;
+}
+
+pub act_goes : (now : Moment) (n : ℕ) (act : Act) → Goes now.world → IfSome (went now (outcome now.world n act)) (λ next. Goes next.world)
+act_goes now n act g =
+    by (outcome now.world n act) (act_keeps now.world n act g.sound) (acts_keep now g.sound g.holds n act) (logs_keep now g.sound g.holds g.logs n act) (sets_keep now g.sound g.holds g.logs g.sets n act)
+    (clients_keep now g.sound g.clients n act) (act_orderly now g.sound g.orderly n act) (gaps_keep now g.sound g.holds g.logs g.gaps n act) (weights_keep now.world n act g.weights)
+  where
+    by : (o : Outcome) → IfOk o (λ x. IsSound x.1) → IfSome (went now o) (λ next. IsSound next.world → Holds next.world) → IfSome (went now o) (λ next. IsSound next.world → LogsHold next.world) →
+        IfSome (went now o) (λ next. SetsHold next.world) → IfSome (went now o) (λ next. ClientsHold next.world) → IfSome (went now o) (λ next. IsSound next.world → Orderly next.world) →
+        IfSome (went now o) (λ next. GapsHold next.world) → IfOk o (λ x. WeightsHold x.1) → IfSome (went now o) (λ next. Goes next.world)
+    by (Err e) sound holds logs sets clients orderly gaps weights = tt
+    by (Ok x) sound holds logs sets clients orderly gaps weights =
+        record { sound = sound; holds = holds sound; logs = logs sound; sets = sets; clients = clients; orderly = orderly sound; gaps = gaps; weights = weights }
+
+pub goes_on : (w : WorldState) (line : ℕ) (act : Act) → Goes w → IfOk (outcome w line act) (λ x. Goes x.1)
+goes_on w line act g = by (outcome w line act) (act_goes now line act g)
+  where
+    now : Moment
+    now = record { world = w; report = [] }
+
+    by : (o : Outcome) → IfSome (went now o) (λ next. Goes next.world) → IfOk o (λ x. Goes x.1)
+    by (Err e) k = tt
+    by (Ok x) k = k
+
+-- steps that a run asks for are of no matter
+pub goes_counted : (w : WorldState) (booked : ℕ) → Goes w → Goes (with_booked w booked)
+goes_counted w booked g = record {
+  sound = record {
+    in_order = g.sound.in_order;
+    routers = g.sound.routers;
+    neighbours = g.sound.neighbours;
+    apart = g.sound.apart;
+    clients = g.sound.clients;
+    own = g.sound.own;
+    unique = g.sound.unique;
+    links = g.sound.links;
+    roles = g.sound.roles;
+  };
+  holds = record { made = g.holds.made; spreads = g.holds.spreads; lists = g.holds.lists; in_order = g.holds.in_order; twins = g.holds.twins };
+  logs = record { spreads = g.logs.spreads; in_order = g.logs.in_order; own_name = g.logs.own_name };
+  sets = record { made = g.sets.made; sets = g.sets.sets; none = g.sets.none; known = g.sets.known; way = g.sets.way; rows = g.sets.rows };
+  clients = record {
+    apart = g.clients.apart;
+    homes = g.clients.homes;
+    ups = g.clients.ups;
+    emptied = g.clients.emptied;
+    hears = g.clients.hears;
+    rows = g.clients.rows;
+  };
+  orderly = record {
+    down_ends = g.orderly.down_ends;
+    broken_links = g.orderly.broken_links;
+    senders = g.orderly.senders;
+    clients = g.orderly.clients;
+    both_ends = g.orderly.both_ends;
+    apart = g.orderly.apart;
+  };
+  gaps = record { gapless = g.gaps.gapless };
+  weights = weights_counted w booked g.weights;
+}
+
+-- ---- no message is refused
+
+module _ (w : WorldState) (g : Goes w) (x y : Name) (r : RouterState) (found : router_of w.routers x ≡ Some r) (e : EndState) (at_end : end_of w.ends (x, y) ≡ Some e) where
+  -- the oldest message on a wire is taken
+  pub oldest_taken : (l : LinkPeer) → link_to r.node.links y ≡ Some l → (msg : Msg) (tag : ℕ) (xs : List Tagged) → e.wire ≡ record { msg = msg; tag = tag } ∷ xs → refuses r.node (From l.link msg) ≡ None
+  oldest_taken l linked msg tag xs front =
+      weights_take w g.weights x r found y e (record { msg = msg; tag = tag }) xs at_end front l.link (in_turn w g.sound g.orderly g.clients g.gaps x y r found e at_end l linked tag xs msg front)
+
+all_taken : (w : WorldState) → Goes w → AllAreTaken w
+all_taken w g x y r s l m more found at_end up front number =
+    let j = number_found r y l number in
+    subst (λ q. refuses r.node (From q m.msg) ≡ None) j.2 (oldest_taken w g x y r found s at_end j.0 j.1 m.msg m.tag more front)
+
+pub goes_says : (w : WorldState) → Goes w → IsSound w × AllAreTaken w
+goes_says w g = (g.sound, all_taken w g)
+
+-- ---- moments
+
+pub goes_at : (acts : List Numbered) → IfSome (reached acts) (λ m. Goes m.world)
+goes_at acts = at_moments (λ m. Goes m.world) act_goes goes_first acts

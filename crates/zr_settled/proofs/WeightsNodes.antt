@@ -1,0 +1,315 @@
+-- What one event does to a router by weight (`Weighs`): what it has stays within what was declared, its rows and its log's number gain no more than
+-- the message weighs, and what it sends was declared. And what a router has that weighs little enough it takes (`takes`, `lets_leave`).
+use Rattle.std.proofs.Common.{◌≡◌, ◌≤◌, ◌+◌, ℕ, Bool, true, false, cond, List, [], ◌∷◌, ◌++◌, length, Option, Some, None, refl, sym, ap, ◌∙◌, subst, arith}
+use Rattle.std.specs.Prelude.{◌&&◌, ◌||◌, ◌==◌, ◌^◌, ◌-◌, not, filter}
+use Rattle.std.specs.List.{AllByRecursion}
+use Rattle.std.specs.Ordering.{is_eq}
+use Rattle.std.specs.Option.{option_map, option_or}
+use Rattle.std.proofs.lemmas.Bool.{le-ltb}
+use Rattle.std.proofs.lemmas.List.Sums.{sum_by-cons}
+use Rattle.zr_id.specs.declared.link.LinkNo.{LinkNo}
+use Rattle.zr_graph.specs.Base.{is_newer}
+use Rattle.zr_msg.specs.Decl.{decl_cmp}
+use Rattle.zr_msg.specs.declared.decl.Decl.{Decl}
+use Rattle.zr_msg.specs.declared.decl.Kind.TheVariants as kind
+use Rattle.zr_msg.specs.declared.msg.Msg.{Msg}
+use Rattle.zr_msg.specs.declared.msg.Msg.TheVariants.{Sub, Unsub, Able, Unable, Interest, EndInterest, ToldSub, ToldAble, ToldUnsub, ToldUnable, ToldEnd, Push, Request, Response, Final, State, Step, Snap}
+use Rattle.zr_msg.specs.declared.error.NodeError.{NodeError}
+use Rattle.zr_msg.specs.declared.error.NodeError.TheVariants as e
+use Rattle.zr_msg.specs.declared.event.Event.{Event}
+use Rattle.zr_msg.specs.declared.event.Event.TheVariants.{Up, Down, From}
+use Rattle.zr_msg.specs.declared.peer.Peer.{Peer}
+use Rattle.zr_set.specs.Decls.{has, decl_weight, weight}
+use Rattle.zr_set.proofs.Order.{is_itself}
+use Rattle.zr_set.proofs.Puts.{All-put, All-filter}
+use Rattle.zr_set.proofs.Decls.{decl_order}
+use Rattle.zr_local.specs.Rows.{Key, row_key, key_cmp, declared, undeclared, left, weight_of, refuses_declare, refuses_undeclare}
+use Rattle.zr_local.specs.declared.row.Row.{Row}
+use Rattle.zr_local.specs.declared.error.LocalError.{LocalError}
+use Rattle.zr_local.specs.declared.error.LocalError.TheVariants as local
+use Rattle.zr_local.proofs.Rows.{key_order}
+use Rattle.zr_log.specs.Log.{Change}
+use Rattle.zr_log.specs.Known.{KnownState, position, after_step, after_snap, is_next, is_newer as is_beyond}
+use Rattle.zr_routing.specs.Tables.{link_at, leads_to_router, leads_to_client, is_to_child}
+use Rattle.zr_routing.specs.Changes.{changes, have_no_room}
+use Rattle.zr_routing.specs.Samples.{tree_of}
+use Rattle.zr_table.specs.State.{NodeState, tables}
+use Rattle.zr_table.specs.Table.{able_kind, row, key_of, rows_declared, rows_undeclared, rows_left, with_rows, sends_down, sends_rows, is_other_router, sends_first, sends, after, local_error, known_error, refuses_rows, refuses_declared, refuses_undeclared, refuses}
+use Rattle.zr_table.proofs.Inserted.{All-append, All-each}
+use Rattle.zr_network.specs.World.{most_weight}
+use Rattle.zr_network.proofs.Nodes.{me_after}
+use Rattle.zr_settled.proofs.Spreading.{Name}
+use Rattle.zr_settled.proofs.Positions.{me_changes, position_changes}
+use Rattle.zr_settled.proofs.WeightsRows.{IsAdded, less_costs, less_weigh, more_costs, more_weigh, added_of}
+use Rattle.zr_settled.proofs.Weights.{Ever, ever_more, weighs, gained, IsTold, IsSent, IsKnown, IsWithin, HasNoGap}
+use Rattle.zr_settled.proofs.WeightsKnown.{GoesOn, known_later, more_here, known_changes, step_known, snap_known, step_taken, snap_taken, IsApart, step_apart, snap_apart}
+use Rattle.zr_settled.proofs.WeightsSent.{AreSent, sent_if, push_sent, up_sent, down_sent, rows_sent, all_sent}
+
+-- its own log's number, with a change more for each row
+abbrev pub count : NodeState → ℕ
+count n = position n.known n.known.me + length n.rows
+
+pub record Weighs (ever : Ever) (x : Name) (n : NodeState) (event : Event) (more : ℕ) : Type 0 where
+  pub within : IsWithin ever x (after n event)
+  pub held : weight_of (after n event).rows ≤ weight_of n.rows + more
+  pub number : count (after n event) ≤ count n + more
+  pub sent : (to : LinkNo) → AreSent ever (sends n event to)
+
+-- ---- rows
+
+-- rows that stay, go, or come: they gain no more than so much, and so does the log's number with the changes
+record Costs (ever : List Decl) (before after : List Row) (more : ℕ) : Type 0 where
+  of : AllByRecursion (λ q. has ever q.decl ≡ true) after
+  held : weight_of after ≤ weight_of before + more
+  number : length (changes before after) + length after ≤ length before + more
+
+costs_less : (ever : List Decl) (rows : List Row) (p : Row → Bool) → AllByRecursion (λ q. has ever q.decl ≡ true) rows → Costs ever rows (filter p rows) 0
+costs_less ever rows p h = record {
+  of = All-filter p (λ q. has ever q.decl ≡ true) rows h;
+  held = omega (arith, less_weigh p rows);
+  number = omega (arith, less_costs p rows);
+}
+
+-- nothing changes where none goes
+all_stay : (rows : List Row) → filter (λ r. true) rows ≡ rows
+all_stay [] = refl
+all_stay (r ∷ rows) = ap (λ z. r ∷ z) (all_stay rows)
+
+costs_none : (ever : List Decl) (rows : List Row) (more : ℕ) → AllByRecursion (λ q. has ever q.decl ≡ true) rows → Costs ever rows rows more
+costs_none ever rows more h =
+    let same : Costs ever rows rows 0 = subst (λ z. Costs ever rows z 0) (all_stay rows) (costs_less ever rows (λ r. true) h) in
+    record { of = h; held = omega arith; number = omega (arith, same.number) }
+
+costs_more : (ever : List Decl) (rows : List Row) (r : Row) → AllByRecursion (λ q. has ever q.decl ≡ true) rows → has ever r.decl ≡ true → Costs ever rows (declared rows r) (decl_weight r.decl)
+costs_more ever rows r h there = record {
+  of = All-put key_cmp row_key key_order (λ q. has ever q.decl ≡ true) rows r h there;
+  held = more_weigh rows r;
+  number = omega (arith, more_costs rows r);
+}
+
+costs_if : (ever : List Decl) (before after : List Row) (more : ℕ) (t : Bool) → AllByRecursion (λ q. has ever q.decl ≡ true) before → Costs ever before after more → Costs ever before (cond t after before) more
+costs_if ever before after more true h c = c
+costs_if ever before after more false h c = costs_none ever before more h
+
+-- ---- events
+
+module _ (ever : Ever) (x : Name) (n : NodeState) (h : IsWithin ever x n) where
+  me : n.known.me ≡ n.base.me
+  me = h.mine ∙ sym h.own
+
+  -- the rows change
+  module _ (event : Event) (rows : List Row) (more : ℕ) (c : Costs (ever x) n.rows rows more) where
+    rows_weigh : (after n event).known ≡ (with_rows n rows).known → (after n event).rows ≡ rows → ((to : LinkNo) → AreSent ever (sends_rows n rows to.0) → AreSent ever (sends_first n event to)) → Weighs ever x n event more
+    rows_weigh known_is rows_is first = record {
+      within = record {
+        own = me_after n event ∙ h.own;
+        mine = ap (λ (k : KnownState). k.me) known_is ∙ me_changes n.known cs ∙ h.mine;
+        rows = subst (λ rs. AllByRecursion (λ q. has (ever x) q.decl ≡ true) rs) (sym rows_is) c.of;
+        logs = logs;
+      };
+      held = subst (λ rs. weight_of rs ≤ weight_of n.rows + more) (sym rows_is) c.held;
+      number = let e = ap (λ (k : KnownState). position k k.me) known_is ∙ ap (position (with_rows n rows).known) (me_changes n.known cs) ∙ position_changes n.known cs in
+          let l : length (after n event).rows ≡ length rows = ap length rows_is in omega (arith, e, l, c.number);
+      sent = λ to. all_sent ever n event to logs (first to (rows_sent ever n rows to.0 (subst (λ z. AllByRecursion (IsAdded (ever z)) cs) (sym h.own) added)));
+    }
+      where
+        cs : List Change
+        cs = changes n.rows rows
+
+        added : AllByRecursion (IsAdded (ever x)) cs
+        added = added_of (ever x) n.rows rows c.of
+
+        logs : AllByRecursion (IsKnown ever) (after n event).known.logs
+        logs = subst (λ (k : KnownState). AllByRecursion (IsKnown ever) k.logs) (sym known_is)
+            (known_changes ever cs n.known h.logs (subst (λ z. AllByRecursion (IsAdded (ever z)) cs) (sym h.mine) added))
+
+  -- the rows stay, and another log may be taken over
+  stays_weigh : (event : Event) (more : ℕ) → (after n event).rows ≡ n.rows → IsApart n.known (after n event).known → AllByRecursion (IsKnown ever) (after n event).known.logs →
+      ((to : LinkNo) → AreSent ever (sends_first n event to)) → Weighs ever x n event more
+  stays_weigh event more rows_is apart logs first = record {
+    within = record {
+      own = me_after n event ∙ h.own;
+      mine = apart.me ∙ h.mine;
+      rows = subst (λ rs. AllByRecursion (λ q. has (ever x) q.decl ≡ true) rs) (sym rows_is) h.rows;
+      logs = logs;
+    };
+    held = subst (λ rs. weight_of rs ≤ weight_of n.rows + more) (sym rows_is) (omega arith);
+    number = let l : length (after n event).rows ≡ length n.rows = ap length rows_is in omega (arith, apart.number, l);
+    sent = λ to. all_sent ever n event to logs (first to);
+  }
+
+  -- nothing of rows and logs changes
+  quiet_weigh : (event : Event) (more : ℕ) → (after n event).rows ≡ n.rows → (after n event).known ≡ n.known → ((to : LinkNo) → AreSent ever (sends_first n event to)) → Weighs ever x n event more
+  quiet_weigh event more rows_is known_is first =
+      stays_weigh event more rows_is (record { me = ap (λ (k : KnownState). k.me) known_is; number = ap (λ (k : KnownState). position k k.me) known_is })
+      (subst (λ (k : KnownState). AllByRecursion (IsKnown ever) k.logs) (sym known_is) h.logs) first
+
+  pub up_weighs : (link : LinkNo) (peer : Peer) → Weighs ever x n (Up link peer) 0
+  up_weighs link peer = quiet_weigh (Up link peer) 0 refl refl (λ to. up_sent ever n link.0 peer peer.role to.0)
+
+  pub down_weighs : (link : LinkNo) → Weighs ever x n (Down link) 0
+  down_weighs link =
+      rows_weigh (Down link) (rows_left n link.0) 0
+      (costs_if (ever x) n.rows (left n.rows link.0) 0 (leads_to_client n.links link.0) h.rows (costs_less (ever x) n.rows (λ r. not (r.link.0 == link.0)) h.rows)) refl refl
+      (λ to sent. All-append (IsSent ever) (sends_down n link.0 (link_at n.links link.0) to.0) (sends_rows n (rows_left n link.0) to.0) (down_sent ever n link.0 (link_at n.links link.0) to.0) sent)
+
+  -- a client declares something that was declared once, and takes something back
+  declare_weighs : (event : Event) (from : ℕ) (r : Row) → has (ever x) r.decl ≡ true → (after n event).known ≡ (with_rows n (rows_declared n from r)).known → (after n event).rows ≡ rows_declared n from r →
+      ((to : LinkNo) → AreSent ever (sends_rows n (rows_declared n from r) to.0) → AreSent ever (sends_first n event to)) → Weighs ever x n event (decl_weight r.decl)
+  declare_weighs event from r there = rows_weigh event (rows_declared n from r) (decl_weight r.decl)
+      (costs_if (ever x) n.rows (declared n.rows r) (decl_weight r.decl) (leads_to_client n.links from) h.rows (costs_more (ever x) n.rows r h.rows there))
+
+  undeclare_weighs : (event : Event) (from : ℕ) (k : Key) → (after n event).known ≡ (with_rows n (rows_undeclared n from k)).known → (after n event).rows ≡ rows_undeclared n from k →
+      ((to : LinkNo) → AreSent ever (sends_rows n (rows_undeclared n from k) to.0) → AreSent ever (sends_first n event to)) → Weighs ever x n event 0
+  undeclare_weighs event from k = rows_weigh event (rows_undeclared n from k) 0
+      (costs_if (ever x) n.rows (undeclared n.rows k) 0 (leads_to_client n.links from) h.rows (costs_less (ever x) n.rows (λ q. not (is_eq (key_cmp (row_key q) k))) h.rows))
+
+  -- another log is taken over, if a router tells of it
+  apart_if : (t : Bool) (k : KnownState) → IsApart n.known k → IsApart n.known (cond t k n.known)
+  apart_if true k a = a
+  apart_if false k a = record { me = refl; number = refl }
+
+  logs_if : (t : Bool) (k : KnownState) → AllByRecursion (IsKnown ever) k.logs → AllByRecursion (IsKnown ever) (cond t k n.known).logs
+  logs_if true k l = l
+  logs_if false k l = h.logs
+
+  -- a message that brings what was declared
+  pub from_weighs : (link : LinkNo) (msg : Msg) → AllByRecursion (λ d. has (ever x) d ≡ true) (gained msg) → IsTold ever msg → Weighs ever x n (From link msg) (weighs msg)
+  from_weighs link (Sub id key) g t = declare_weighs (From link (Sub id key)) link.0 (row link.0 id kind.Sub key) g.0 refl refl (λ to s. s)
+  from_weighs link (Unsub id) g t = undeclare_weighs (From link (Unsub id)) link.0 (key_of link.0 id kind.Sub) refl refl (λ to s. s)
+  from_weighs link (Able id key complete) g t = declare_weighs (From link (Able id key complete)) link.0 (row link.0 id (able_kind complete) key) g.0 refl refl (λ to s. s)
+  from_weighs link (Unable id) g t = undeclare_weighs (From link (Unable id)) link.0 (key_of link.0 id kind.Able) refl refl (λ to s. s)
+  from_weighs link (Interest id current future kinds key aggregate) g t = quiet_weigh (From link (Interest id current future kinds key aggregate)) 0 refl refl (λ to. tt)
+  from_weighs link (EndInterest id) g t = quiet_weigh (From link (EndInterest id)) 0 refl refl (λ to. tt)
+  from_weighs link (ToldSub id key interest) g t = quiet_weigh (From link (ToldSub id key interest)) 0 refl refl (λ to. tt)
+  from_weighs link (ToldAble id key complete interest) g t = quiet_weigh (From link (ToldAble id key complete interest)) 0 refl refl (λ to. tt)
+  from_weighs link (ToldUnsub id) g t = quiet_weigh (From link (ToldUnsub id)) 0 refl refl (λ to. tt)
+  from_weighs link (ToldUnable id) g t = quiet_weigh (From link (ToldUnable id)) 0 refl refl (λ to. tt)
+  from_weighs link (ToldEnd interest) g t = quiet_weigh (From link (ToldEnd interest)) 0 refl refl (λ to. tt)
+  from_weighs link (Push tree content) g t = quiet_weigh (From link (Push tree content)) 0 refl refl (λ to. push_sent ever (tables n) link.0 content (tree_of (tables n) (link_at n.links link.0) tree) to.0)
+  from_weighs link (Request tree id target content) g t = quiet_weigh (From link (Request tree id target content)) 0 refl refl (λ to. tt)
+  from_weighs link (Response id content) g t = quiet_weigh (From link (Response id content)) 0 refl refl (λ to. tt)
+  from_weighs link (Final id extras) g t = quiet_weigh (From link (Final id extras)) 0 refl refl (λ to. tt)
+  from_weighs link (State r) g t =
+      quiet_weigh (From link (State r)) 0 refl refl (λ to. sent_if ever (leads_to_router n.links link.0 && is_newer n.base r && is_other_router n link.0 to.0) (State r ∷ []) ((tt, refl), tt))
+  from_weighs link (Step source number added decl) g t =
+      stays_weigh (From link (Step source number added decl)) 0 refl
+      (apart_if (leads_to_router n.links link.0) (after_step n.known source number c) (step_apart n.known source number c))
+      (logs_if (leads_to_router n.links link.0) (after_step n.known source number c) (step_known ever n.known h.logs source number c t))
+      (λ to. sent_if ever (leads_to_router n.links link.0 && (is_next n.known source number && is_to_child (tables n) source to.0)) (Step source number added decl ∷ []) ((t, refl), tt))
+    where
+      c : Change
+      c = record { added = added; decl = decl }
+  from_weighs link (Snap source number ds) g t =
+      stays_weigh (From link (Snap source number ds)) 0 refl
+      (apart_if (leads_to_router n.links link.0) (after_snap n.known source number ds) (snap_apart n.known source number ds))
+      (logs_if (leads_to_router n.links link.0) (after_snap n.known source number ds) (snap_known ever n.known h.logs source number ds t))
+      (λ to. sent_if ever (leads_to_router n.links link.0 && (is_beyond n.known source number && is_to_child (tables n) source to.0)) (Snap source number ds ∷ []) ((t, refl), tt))
+
+-- what a router has stays within what is declared more
+pub within_later : (ever ever' : Ever) (x : Name) (n : NodeState) → GoesOn ever ever' → IsWithin ever x n → IsWithin ever' x n
+within_later ever ever' x n on h = record {
+  own = h.own;
+  mine = h.mine;
+  rows = All-each (λ q. has (ever x) q.decl ≡ true) (λ q. has (ever' x) q.decl ≡ true) n.rows (λ q k. on.stays x q.decl k) h.rows;
+  logs = known_later ever ever' on n.known.logs h.logs;
+}
+
+-- what a message declares weighs what the message weighs, and is among what is declared then
+pub gained_weigh : (msg : Msg) → weight (gained msg) ≡ weighs msg
+gained_weigh (Sub id key) = omega (arith, sum_by-cons decl_weight (record { kind = kind.Sub; key = key }) [])
+gained_weigh (Unsub id) = refl
+gained_weigh (Able id key complete) = omega (arith, sum_by-cons decl_weight (record { kind = able_kind complete; key = key }) [])
+gained_weigh (Unable id) = refl
+gained_weigh (Interest id current future kinds key aggregate) = refl
+gained_weigh (EndInterest id) = refl
+gained_weigh (ToldSub id key interest) = refl
+gained_weigh (ToldAble id key complete interest) = refl
+gained_weigh (ToldUnsub id) = refl
+gained_weigh (ToldUnable id) = refl
+gained_weigh (ToldEnd interest) = refl
+gained_weigh (Push tree content) = refl
+gained_weigh (Request tree id target content) = refl
+gained_weigh (Response id content) = refl
+gained_weigh (Final id extras) = refl
+gained_weigh (State links) = refl
+gained_weigh (Step source number added decl) = refl
+gained_weigh (Snap source number decls) = refl
+
+these_there : (ds rest : List Decl) → AllByRecursion (λ d. has (ds ++ rest) d ≡ true) ds
+these_there [] rest = tt
+these_there (d ∷ ds) rest =
+    (ap (λ t. t || has (ds ++ rest) d) (is_itself decl_cmp decl_order d), All-each (λ e. has (ds ++ rest) e ≡ true) (λ e. has (d ∷ ds ++ rest) e ≡ true) ds (λ e k. by e k (is_eq (decl_cmp d e))) (these_there ds rest))
+  where
+    by : (e : Decl) → has (ds ++ rest) e ≡ true → (t : Bool) → (t || has (ds ++ rest) e) ≡ true
+    by e k true = refl
+    by e k false = k
+
+pub gained_there : (ever : Ever) (x : Name) (more : List Decl) → AllByRecursion (λ d. has (ever_more ever x more x) d ≡ true) more
+gained_there ever x more = subst (λ ds. AllByRecursion (λ d. has ds d ≡ true) more) (sym (more_here ever x more)) (these_there more (ever x))
+
+-- ---- what is taken
+
+-- a router's rows, with what a message brings, and its log's number have room
+pub record HasRoom (n : NodeState) (more : ℕ) : Type 0 where
+  pub held : weight_of n.rows + more ≤ most_weight
+  pub number : count n + more ≤ most_weight
+
+module _ (ever : Ever) (x : Name) (n : NodeState) (h : IsWithin ever x n) where
+  rows_taken : (rows : List Row) (more : ℕ) → HasRoom n more → length (changes n.rows rows) + length rows ≤ length n.rows + more → refuses_rows n rows ≡ None
+  rows_taken rows more room cost = ap (λ t. cond t (Some e.Worn) None) fits
+    where
+      fits : have_no_room n.known (changes n.rows rows) ≡ false
+      fits = le-ltb (2 ^ 64 - 1) (position n.known n.known.me + length (changes n.rows rows)) (omega (arith, room.number, cost))
+
+  pub lets_leave : (link : ℕ) → HasRoom n 0 → refuses_rows n (rows_left n link) ≡ None
+  lets_leave link room = rows_taken (rows_left n link) 0 room
+      (costs_if (ever x) n.rows (left n.rows link) 0 (leads_to_client n.links link) h.rows (costs_less (ever x) n.rows (λ r. not (r.link.0 == link)) h.rows)).number
+
+  taken_if : (t : Bool) (o : Option NodeError) → (t ≡ true → o ≡ None) → cond t o None ≡ None
+  taken_if true o k = k refl
+  taken_if false o k = refl
+
+  both_none : (a : Option LocalError) (f : LocalError → NodeError) (b : Option NodeError) → a ≡ None → b ≡ None → option_or (option_map f a) b ≡ None
+  both_none a f b ea eb = ap (λ z. option_or (option_map f z) b) ea ∙ eb
+
+  declare_taken : (from : ℕ) (r : Row) → HasRoom n (decl_weight r.decl) → refuses_declared n from r ≡ None
+  declare_taken from r room = taken_if (leads_to_client n.links from) _ (λ client. both_none (refuses_declare n.rows r) (λ z. local_error r.id z) (refuses_rows n (rows_declared n from r)) weight_fits rows_fit)
+    where
+      weight_fits : refuses_declare n.rows r ≡ None
+      weight_fits = ap (λ t. cond t (Some (local.TextLimit (weight_of (undeclared n.rows (row_key r))) (decl_weight r.decl))) None)
+          (le-ltb most_weight (weight_of (undeclared n.rows (row_key r)) + decl_weight r.decl) (omega (arith, room.held, less_weigh (λ q. not (is_eq (key_cmp (row_key q) (row_key r)))) n.rows)))
+
+      rows_fit : refuses_rows n (rows_declared n from r) ≡ None
+      rows_fit = rows_taken (rows_declared n from r) (decl_weight r.decl) room (by (leads_to_client n.links from))
+        where
+          by : (t : Bool) → length (changes n.rows (cond t (declared n.rows r) n.rows)) + length (cond t (declared n.rows r) n.rows) ≤ length n.rows + decl_weight r.decl
+          by true = omega (arith, more_costs n.rows r)
+          by false = omega (arith, (costs_none (ever x) n.rows (decl_weight r.decl) h.rows).number)
+
+  undeclare_taken : (from : ℕ) (k : Key) → HasRoom n 0 → (leads_to_client n.links from ≡ true → refuses_undeclare n.rows k ≡ None) → refuses_undeclared n from k ≡ None
+  undeclare_taken from k room asked = taken_if (leads_to_client n.links from) _ (λ client. both_none (refuses_undeclare n.rows k) (λ z. local_error k.id z) (refuses_rows n (rows_undeclared n from k)) (asked client)
+      (rows_taken (rows_undeclared n from k) 0 room
+      (costs_if (ever x) n.rows (undeclared n.rows k) 0 (leads_to_client n.links from) h.rows (costs_less (ever x) n.rows (λ q. not (is_eq (key_cmp (row_key q) k))) h.rows)).number))
+
+  pub takes : ((z : Name) → weight (ever z) ≤ most_weight) → (link : LinkNo) (msg : Msg) → HasRoom n (weighs msg) → IsTold ever msg → HasNoGap n link.0 msg → refuses n (From link msg) ≡ None
+  takes most link (Sub id key) room t g = declare_taken link.0 (row link.0 id kind.Sub key) room
+  takes most link (Unsub id) room t g = undeclare_taken link.0 (key_of link.0 id kind.Sub) room g
+  takes most link (Able id key complete) room t g = declare_taken link.0 (row link.0 id (able_kind complete) key) room
+  takes most link (Unable id) room t g = undeclare_taken link.0 (key_of link.0 id kind.Able) room g
+  takes most link (Interest id current future kinds key aggregate) room t g = refl
+  takes most link (EndInterest id) room t g = refl
+  takes most link (ToldSub id key interest) room t g = refl
+  takes most link (ToldAble id key complete interest) room t g = refl
+  takes most link (ToldUnsub id) room t g = refl
+  takes most link (ToldUnable id) room t g = refl
+  takes most link (ToldEnd interest) room t g = refl
+  takes most link (Push tree content) room t g = refl
+  takes most link (Request tree id target content) room t g = refl
+  takes most link (Response id content) room t g = refl
+  takes most link (Final id extras) room t g = refl
+  takes most link (State links) room t g = refl
+  takes most link (Step source number added decl) room t g =
+      taken_if (leads_to_router n.links link.0) _ (λ router. ap (option_map (λ z. known_error z)) (step_taken ever n.known h.logs source number (record { added = added; decl = decl }) t (most source) (g router)))
+  takes most link (Snap source number ds) room t g =
+      taken_if (leads_to_router n.links link.0) _ (λ router. ap (option_map (λ z. known_error z)) (snap_taken ever n.known source number ds t (most source)))
