@@ -1,5 +1,5 @@
 -- The lists that the calls append are the rows of the router's table, link by link.
-use Rattle.std.proofs.Common.{◌≡◌, ℕ, ◌==◌, ◌&&◌, not, Bool, true, false, cond, List, [], ◌∷◌, ◌++◌, Option, Some, None, map, filter, refl, sym, ap, ◌∙◌}
+use Rattle.std.proofs.Common.{◌≡◌, ℕ, ◌==◌, ◌&&◌, not, Bool, true, false, cond, List, [], ◌∷◌, ◌++◌, Option, Some, None, map, refl, sym, ap, ◌∙◌}
 use Rattle.std.specs.Option.{option_map_or}
 use Rattle.std.proofs.lemmas.Bool.{eqb-true, eq-eqb, false_from_ne_true}
 use Rattle.std.proofs.lemmas.List.{append-nil}
@@ -13,21 +13,12 @@ use Rattle.zr_msg.specs.declared.peer.LinkPeer.{LinkPeer}
 use Rattle.zr_msg.specs.declared.peer.Peer.{Peer}
 use Rattle.zr_msg.specs.declared.peer.Role.TheVariants.{Router}
 use Rattle.zr_table.specs.Event.{on_link}
-use Rattle.zr_table.specs.State.{LinkState, NodeState, link_peer, is_router, leads_to_router}
+use Rattle.zr_routing.specs.Tables.{is_router, leads_to_router}
+use Rattle.zr_table.specs.State.{NodeState}
 use Rattle.zr_table.specs.Table.{joined, parted, is_other_router, all_records, sends_own, sends_up, sends_parted, sends_state}
 use Rattle.zr_table.proofs.Links.{asked_of_number}
-use Rattle.zr_table.proofs.Told.{on_link-append, on_picked, to_picked}
+use Rattle.zr_table.proofs.Told.{on_link-append, on_picked}
 use Rattle.zr_flood.specs.Flood.{AreOf, to_others, own_to_others, all_to}
-
-to_others-peers : (links : List LinkState) (from : ℕ) (msg : Msg) → to_others (map link_peer links) from msg ≡ to_picked (λ l. not (l.link.0 == from) && is_router l.peer.role) msg links
-to_others-peers [] from msg = refl
-to_others-peers (l ∷ links) from msg = by (not (l.link.0 == from) && is_router l.peer.role) (to_others-peers links from msg)
-  where
-    by : (b : Bool) → to_others (map link_peer links) from msg ≡ to_picked (λ k. not (k.link.0 == from) && is_router k.peer.role) msg links
-        → map {B = LinkNo × Msg} (λ k. (k.link, msg)) (cond b (link_peer l ∷ filter (λ k. not (k.link.0 == from) && is_router k.peer.role) (map link_peer links)) (filter (λ k. not (k.link.0 == from) && is_router k.peer.role) (map link_peer links)))
-        ≡ map {B = LinkNo × Msg} (λ k. (k.link, msg)) (cond b (l ∷ filter (λ k. not (k.link.0 == from) && is_router k.peer.role) links) (filter (λ k. not (k.link.0 == from) && is_router k.peer.role) links))
-    by true ih = ap (λ xs. (l.link, msg) ∷ xs) ih
-    by false ih = ih
 
 abbrev nothing : List Msg
 nothing = []
@@ -37,7 +28,6 @@ pub on_others : (node : NodeState) (links : List LinkPeer) → AreOf node links 
     → on_link to (to_others links from msg) ≡ cond (is_other_router node from to.0) (msg ∷ []) []
 on_others node links of from msg to =
     ap (λ ps. on_link to (to_others ps from msg)) of.same
-    ∙ ap (λ xs. on_link to xs) (to_others-peers node.links from msg)
     ∙ on_picked (λ l. not (l.link.0 == from) && is_router l.peer.role) msg node.links of.right.ascending to
     ∙ ap (λ b. cond b (msg ∷ []) []) (asked_of_number (λ l. is_router l.peer.role) from to.0 node.links)
 

@@ -7,13 +7,14 @@ use Rattle.zr_graph.specs.Record.{record_of}
 use Rattle.zr_msg.specs.declared.msg.Msg.{Msg}
 use Rattle.zr_msg.specs.declared.msg.Msg.TheVariants.{State}
 use Rattle.zr_msg.specs.declared.peer.LinkPeer.{LinkPeer}
-use Rattle.zr_table.specs.State.{NodeState, link_peer, is_router}
+use Rattle.zr_routing.specs.Tables.{is_router}
+use Rattle.zr_table.specs.State.{NodeState}
 use Rattle.zr_table.specs.Event.{AreLinks}
 
 -- these are the links of a router
 pub record AreOf (node : NodeState) (links : List LinkPeer) : Type 0 where
   pub right : AreLinks node.base.me node.links
-  pub same : links ≡ map link_peer node.links
+  pub same : links ≡ node.links
 
 -- a message for each link to a router, but for the one of a number
 abbrev pub to_others : List LinkPeer → ℕ → Msg → List (LinkNo × Msg)

@@ -1,1 +1,2 @@
 pub mod Flood
+pub mod Tell

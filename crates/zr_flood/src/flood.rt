@@ -6,7 +6,8 @@ ghost use Rattle.zr_graph.specs.Base.{is_newer};
 ghost use Rattle.zr_graph.specs.Record.{record_of};
 ghost use Rattle.zr_table.specs.Event.{Tells, TellsPrefix};
 ghost use Rattle.zr_table.specs.Prefix.{IsPrefixBehind};
-ghost use Rattle.zr_table.specs.State.{NodeState, is_router, leads_to_router};
+ghost use Rattle.zr_routing.specs.Tables.{is_router, leads_to_router};
+ghost use Rattle.zr_table.specs.State.{NodeState};
 ghost use Rattle.zr_table.specs.Table.{joined, parted, sends_up, sends_parted, sends_state};
 ghost use Rattle.zr_flood.specs.Flood.{AreOf, all_to, own_to_others, to_others};
 
@@ -140,7 +141,8 @@ fn is_other_router(link: &LinkPeer, from: LinkNo) -> bool
     link.link.0 != from.0 && is_router(link.peer.role)
 }
 
-fn is_router(role: Role) -> bool
+/// Whether a peer is a router.
+pub fn is_router(role: Role) -> bool
     ensures { result ≡ is_router role }
 {
     match role {

@@ -7,7 +7,7 @@ use Rattle.std.proofs.lemmas.Bool.{eqb-true, eq-eqb, ltb-true, ltb-false, false_
 use Rattle.std.proofs.lemmas.List.{at_drop_more}
 use Rattle.std.proofs.lemmas.Map.Keys.{sorted_head}
 use Rattle.zr_msg.specs.declared.peer.LinkPeer.{LinkPeer}
-use Rattle.zr_table.specs.State.{LinkState, link_peer, is_link, free_link}
+use Rattle.zr_routing.specs.Tables.{is_link, free_link}
 use Rattle.zr_table.proofs.Inserted.{All-each}
 use Rattle.zr_table.proofs.Links.{AreAscending, ascending_behind}
 
@@ -17,7 +17,7 @@ counted n [] = n
 counted n (p ∷ peers) = cond (p.link.0 == n) (counted (n + 1) peers) n
 
 -- no link has the number
-abbrev is_free : List LinkState → ℕ → Bool
+abbrev is_free : List LinkPeer → ℕ → Bool
 is_free links n = not (list_any (λ l. is_link n l) links)
 
 -- where two tests agree from a number on, they find the same from there
@@ -26,7 +26,7 @@ find_alike p q a zero h = refl
 find_alike p q a (suc n) h = rw (h a (omega arith), find_alike p q (a + 1) n (λ k le. h k (omega arith))) refl
 
 -- all numbers are above one
-abbrev AreAbove : ℕ → List LinkState → Type 0
+abbrev AreAbove : ℕ → List LinkPeer → Type 0
 AreAbove n links = AllByRecursion (λ m. nat_cmp n m ≡ Less) (map (λ l. l.link.0) links)
 
 differs : (n m : ℕ) → n < m → (m == n) ≡ false
@@ -42,16 +42,16 @@ strictly n m le e = by_cases (nat_lt n m) refl
     by_cases true t = ltb-true n m t
     by_cases false t = let u = ltb-false n m t in absurd (true≢false (sym (eq-eqb m n (omega (arith, u))) ∙ e))
 
-free_below : (n : ℕ) (links : List LinkState) → AllByRecursion (λ m. n < m) (map (λ l. l.link.0) links) → is_free links n ≡ true
+free_below : (n : ℕ) (links : List LinkPeer) → AllByRecursion (λ m. n < m) (map (λ l. l.link.0) links) → is_free links n ≡ true
 free_below n [] h = refl
 free_below n (l ∷ links) h = rw (differs n l.link.0 h.0) (free_below n links h.1)
 
-above : (n : ℕ) (links : List LinkState) → AreAbove n links → AllByRecursion (λ m. n < m) (map (λ l. l.link.0) links)
+above : (n : ℕ) (links : List LinkPeer) → AreAbove n links → AllByRecursion (λ m. n < m) (map (λ l. l.link.0) links)
 above n links h = All-each _ _ (map (λ l. l.link.0) links) (λ m less. ranked n m Less (sym less)) h
 
 -- of links that ascend and are not below a number the least free one from there on is counted
-counted_free : (links : List LinkState) (n : ℕ) → AreAscending links → AllByRecursion (λ m. n ≤ m) (map (λ l. l.link.0) links)
-    → find (is_free links) (range_with_len n (suc (length links))) ≡ Some (counted n (map link_peer links))
+counted_free : (links : List LinkPeer) (n : ℕ) → AreAscending links → AllByRecursion (λ m. n ≤ m) (map (λ l. l.link.0) links)
+    → find (is_free links) (range_with_len n (suc (length links))) ≡ Some (counted n links)
 counted_free [] n up h = refl
 counted_free (l ∷ links) n up h = by (l.link.0 == n) refl (λ more. counted_free links (n + 1) (ascending_behind l links up) more)
   where
@@ -59,20 +59,20 @@ counted_free (l ∷ links) n up h = by (l.link.0 == n) refl (λ more. counted_fr
     later = above l.link.0 links (sorted_head nat_cmp _ _ up)
 
     by : (b : Bool) → (l.link.0 == n) ≡ b
-        → (AllByRecursion (λ m. n + 1 ≤ m) (map (λ k. k.link.0) links) → find (is_free links) (range_with_len (n + 1) (suc (length links))) ≡ Some (counted (n + 1) (map link_peer links)))
-        → find (is_free (l ∷ links)) (range_with_len n (suc (suc (length links)))) ≡ Some (cond b (counted (n + 1) (map link_peer links)) n)
+        → (AllByRecursion (λ m. n + 1 ≤ m) (map (λ k. k.link.0) links) → find (is_free links) (range_with_len (n + 1) (suc (length links))) ≡ Some (counted (n + 1) links))
+        → find (is_free (l ∷ links)) (range_with_len n (suc (suc (length links)))) ≡ Some (cond b (counted (n + 1) links) n)
     by true e ih =
         let same : l.link.0 ≡ n = eqb-true l.link.0 n e in
         let taken : is_free (l ∷ links) n ≡ false = rw e refl in
         let rest : find (is_free (l ∷ links)) (range_with_len (n + 1) (suc (length links))) ≡ find (is_free links) (range_with_len (n + 1) (suc (length links))) =
         find_alike (is_free (l ∷ links)) (is_free links) (n + 1) (suc (length links)) (λ k le. rw (below_differs l.link.0 k (omega arith)) refl) in
-        subst (λ b. cond b (Some n) (find (is_free (l ∷ links)) (range_with_len (n + 1) (suc (length links)))) ≡ Some (counted (n + 1) (map link_peer links))) (sym taken) (rest ∙ ih (All-each _ _ (map (λ k. k.link.0) links) (λ m less. omega arith) later))
+        subst (λ b. cond b (Some n) (find (is_free (l ∷ links)) (range_with_len (n + 1) (suc (length links)))) ≡ Some (counted (n + 1) links)) (sym taken) (rest ∙ ih (All-each _ _ (map (λ k. k.link.0) links) (λ m less. omega arith) later))
     by false e ih =
         let first : n < l.link.0 = strictly n l.link.0 h.0 e in
         let free : is_free (l ∷ links) n ≡ true = free_below n (l ∷ links) (first, All-each _ _ (map (λ k. k.link.0) links) (λ m less. omega arith) later) in
         subst (λ b. cond b (Some n) (find (is_free (l ∷ links)) (range_with_len (n + 1) (suc (length links)))) ≡ Some n) (sym free) refl
 
-pub counted_all : (links : List LinkState) → AreAscending links → counted 0 (map link_peer links) ≡ free_link links
+pub counted_all : (links : List LinkPeer) → AreAscending links → counted 0 links ≡ free_link links
 counted_all links up =
     sym (ap (λ k. unwrap_or (find (is_free links) (range_with_len 0 k)) 0) (add-one (length links)) ∙ ap (λ o. unwrap_or o 0) (counted_free links 0 up (all_from (map (λ l. l.link.0) links))))
   where

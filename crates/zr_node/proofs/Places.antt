@@ -1,5 +1,5 @@
 -- A search in links that ascend finds the place of a number, by recursion over the links; what stands there is the link of the number.
-use Rattle.std.proofs.Common.{◌≡◌, ℕ, ◌+◌, ◌<◌, ◌≤◌, ◌==◌, nat_lt, zero, suc, List, [], ◌∷◌, Bool, true, false, cond, Less, Equal, Greater, Some, None, Result, Ok, Err, OnOk, length, get_or, set, map, refl, sym, ap, ◌∙◌, subst, arith}
+use Rattle.std.proofs.Common.{◌≡◌, ℕ, ◌+◌, ◌<◌, ◌≤◌, ◌==◌, nat_lt, zero, suc, List, [], ◌∷◌, Bool, true, false, cond, Less, Equal, Greater, Some, None, Result, Ok, Err, length, get_or, map, refl, sym, ap, ◌∙◌, arith}
 use Rattle.std.specs.Cmp.{ranked}
 use Rattle.std.specs.List.{AllWithin}
 use Rattle.std.specs.List.Sorted.{IsNonDecreasingBy, IsBinarySearchResult, IsSearchInRange}
@@ -10,10 +10,10 @@ use Rattle.std.proofs.lemmas.List.{get_or-map, length-map}
 use Rattle.std.proofs.lemmas.List.Sorted.{searchable_from_sorted}
 use Rattle.std.proofs.lemmas.Option.{none-some}
 use Rattle.std.proofs.lemmas.Map.Keys.{Less-from_sorted}
-use Rattle.zr_table.specs.State.{Subscription, LinkState, link_at}
-use Rattle.zr_table.specs.Table.{changed_on}
-use Rattle.zr_table.proofs.Links.{none_behind, ascending_behind}
-use Rattle.zr_node.specs.Place.{AreAscending, IsAt, IsGap, IsPlace, changed}
+use Rattle.zr_routing.specs.Tables.{link_at}
+use Rattle.zr_msg.specs.declared.peer.LinkPeer.{LinkPeer}
+use Rattle.zr_table.proofs.Links.{ascending_behind}
+use Rattle.zr_node.specs.Place.{AreAscending, IsAt, IsGap, IsPlace}
 
 -- what a comparison of numbers says of the tests on the two
 record Below (m n : ℕ) : Type 0 where
@@ -45,20 +45,20 @@ not_lower m n h = rw (below m n h).not_higher (by (n == m))
     by false = refl
 
 -- a later link has a higher number
-later_higher : (links : List LinkState) (i j : ℕ) (d : LinkState) → AreAscending links → i < j → j < length links → (get_or links i d).link.0 < (get_or links j d).link.0
+later_higher : (links : List LinkPeer) (i j : ℕ) (d : LinkPeer) → AreAscending links → i < j → j < length links → (get_or links i d).link.0 < (get_or links j d).link.0
 later_higher links i j d up less within =
     let ns : List ℕ = map (λ l. l.link.0) links in
-    let n : j < length ns = omega (arith, length-map links (λ (l : LinkState). l.link.0)) in
-    let e : get_or ns i 0 ≡ (get_or links i d).link.0 = get_or-map (λ (l : LinkState). l.link.0) links i d 0 (omega arith) in
-    let f : get_or ns j 0 ≡ (get_or links j d).link.0 = get_or-map (λ (l : LinkState). l.link.0) links j d 0 within in
+    let n : j < length ns = omega (arith, length-map links (λ (l : LinkPeer). l.link.0)) in
+    let e : get_or ns i 0 ≡ (get_or links i d).link.0 = get_or-map (λ (l : LinkPeer). l.link.0) links i d 0 (omega arith) in
+    let f : get_or ns j 0 ≡ (get_or links j d).link.0 = get_or-map (λ (l : LinkPeer). l.link.0) links j d 0 within in
     let l : nat_cmp (get_or ns i 0) (get_or ns j 0) ≡ Less = Less-from_sorted nat_cmp ns i j 0 up less n in
     from_less _ _ (rw (e, f) at l)
 
 -- what the comparisons with one number answer never falls along the links
-rising : (links : List LinkState) (n : ℕ) → AreAscending links → IsNonDecreasingBy (λ l. ordering_index (nat_cmp l.link.0 n)) links
-rising links n up = searchable_from_sorted nat_cmp_total (λ (l : LinkState). l.link.0) links n (λ k d a b. not_lower _ _ (later_higher links k (k + 1) d up (omega arith) b))
+rising : (links : List LinkPeer) (n : ℕ) → AreAscending links → IsNonDecreasingBy (λ l. ordering_index (nat_cmp l.link.0 n)) links
+rising links n up = searchable_from_sorted nat_cmp_total (λ (l : LinkPeer). l.link.0) links n (λ k d a b. not_lower _ _ (later_higher links k (k + 1) d up (omega arith) b))
 
-all_above : (links : List LinkState) (n : ℕ) → AllWithin (λ l. nat_cmp l.link.0 n ≡ Greater) links 0 (length links) → IsGap links n 0
+all_above : (links : List LinkPeer) (n : ℕ) → AllWithin (λ l. nat_cmp l.link.0 n ≡ Greater) links 0 (length links) → IsGap links n 0
 all_above [] n h = record { within = omega arith; absent = refl; below = refl; above = refl }
 all_above (l ∷ links) n h =
     let b = below n l.link.0 (from_greater l.link.0 n (h 0 l (omega arith) (omega arith))) in
@@ -71,7 +71,7 @@ all_above (l ∷ links) n h =
       above = rw b.lower (ap (λ ls. l ∷ ls) ih.above);
     }
 
-gap_place : (links : List LinkState) (n i : ℕ) → i ≤ length links → AllWithin (λ l. nat_cmp l.link.0 n ≡ Less) links 0 i → AllWithin (λ l. nat_cmp l.link.0 n ≡ Greater) links i (length links) → IsGap links n i
+gap_place : (links : List LinkPeer) (n i : ℕ) → i ≤ length links → AllWithin (λ l. nat_cmp l.link.0 n ≡ Less) links 0 i → AllWithin (λ l. nat_cmp l.link.0 n ≡ Greater) links i (length links) → IsGap links n i
 gap_place links n zero le lower higher = all_above links n higher
 gap_place [] n (suc i) le lower higher = absurd (omega arith)
 gap_place (l ∷ links) n (suc i) le lower higher =
@@ -84,14 +84,14 @@ gap_place (l ∷ links) n (suc i) le lower higher =
       above = rw b.not_higher ih.above;
     }
 
-pub found_place : (links : List LinkState) (n : ℕ) (r : Result ℕ ℕ) → AreAscending links → IsSearchInRange r (length links) → IsBinarySearchResult (λ l. nat_cmp l.link.0 n) links r → IsPlace links n r
+pub found_place : (links : List LinkPeer) (n : ℕ) (r : Result ℕ ℕ) → AreAscending links → IsSearchInRange r (length links) → IsBinarySearchResult (λ l. nat_cmp l.link.0 n) links r → IsPlace links n r
 found_place links n (Ok i) up less h = record { within = less; here = λ d. from_equal _ _ (h d) }
 found_place links n (Err i) up le h =
     let split = h (rising links n up) in
     gap_place links n i le split.0 split.1
 
 -- the link at the place of a number is found
-pub found_here : (links : List LinkState) (n i : ℕ) (d : LinkState) → AreAscending links → IsAt links n i → link_at links n ≡ Some (get_or links i d)
+pub found_here : (links : List LinkPeer) (n i : ℕ) (d : LinkPeer) → AreAscending links → IsAt links n i → link_at links n ≡ Some (get_or links i d)
 found_here [] n i d up at = let w = at.within in absurd (omega arith)
 found_here (l ∷ links) n zero d up at = rw (eq-eqb l.link.0 n (at.here l)) refl
 found_here (l ∷ links) n (suc i) d up at =
@@ -101,44 +101,6 @@ found_here (l ∷ links) n (suc i) d up at =
     rw ((below l.link.0 n (omega arith)).apart) (found_here links n i d (ascending_behind l links up) (record { within = omega arith; here = λ e. at.here e }))
 
 -- so none stands there where none is found
-pub not_here : (links : List LinkState) (n i : ℕ) → AreAscending links → link_at links n ≡ None → IsAt links n i → ⊥
+pub not_here : (links : List LinkPeer) (n i : ℕ) → AreAscending links → link_at links n ≡ None → IsAt links n i → ⊥
 not_here [] n i up none at = let w = at.within in absurd (omega arith)
 not_here (l ∷ links) n i up none at = none-some _ (sym none ∙ found_here (l ∷ links) n i l up at)
-
--- ---- what a declaration changes
-
-changed_none : (n : ℕ) (change : List Subscription → List Subscription) (links : List LinkState) → link_at links n ≡ None → map (λ l. changed_on n change l) links ≡ links
-changed_none n change [] h = refl
-changed_none n change (l ∷ links) h = by (l.link.0 == n) refl h (changed_none n change links)
-  where
-    by : (b : Bool) → (l.link.0 == n) ≡ b → cond b (Some l) (link_at links n) ≡ None → (link_at links n ≡ None → map (λ k. changed_on n change k) links ≡ links)
-        → changed_on n change l ∷ map (λ k. changed_on n change k) links ≡ l ∷ links
-    by true e h ih = cc
-    by false e h ih = rw e (ap (λ ls. l ∷ ls) (ih h))
-
--- only the link at the place of a number changes
-pub changed_here : (n : ℕ) (change : List Subscription → List Subscription) (links : List LinkState) (i : ℕ) (d : LinkState) → AreAscending links → IsAt links n i
-    → map (λ l. changed_on n change l) links ≡ set links i (changed change (get_or links i d))
-changed_here n change [] i d up at = let w = at.within in absurd (omega arith)
-changed_here n change (l ∷ links) zero d up at =
-    let same : l.link.0 ≡ n = at.here l in
-    rw (eq-eqb l.link.0 n same) (ap (λ ls. changed change l ∷ ls) (changed_none n change links (subst (λ m. link_at links m ≡ None) same (none_behind l links up))))
-changed_here n change (l ∷ links) (suc i) d up at =
-    let w = at.within in
-    let less : l.link.0 < (get_or links i d).link.0 = later_higher (l ∷ links) 0 (suc i) d up (omega arith) w in
-    let here : (get_or links i d).link.0 ≡ n = at.here d in
-    let ih = changed_here n change links i d (ascending_behind l links up) (record { within = omega arith; here = λ e. at.here e }) in
-    rw ((below l.link.0 n (omega arith)).apart) (ap (λ ls. l ∷ ls) ih)
-
-pub changed_nowhere : (n : ℕ) (change : List Subscription → List Subscription) (links : List LinkState) (i : ℕ) → IsGap links n i → map (λ l. changed_on n change l) links ≡ links
-changed_nowhere n change links i gap = changed_none n change links gap.absent
-
-pub changed_set : (n : ℕ) (change : List Subscription → List Subscription) (links : List LinkState) (i : ℕ) (new : List LinkState) → AreAscending links → IsAt links n i
-    → ((d : LinkState) → new ≡ set links i (changed change (get_or links i d))) → new ≡ map (λ l. changed_on n change l) links
-changed_set n change [] i new up at e = let w = at.within in absurd (omega arith)
-changed_set n change (l ∷ links) i new up at e = e l ∙ sym (changed_here n change (l ∷ links) i l up at)
-
-pub changed_ok : {T E : Type 0} (r : Result T E) (n : ℕ) (change : List Subscription → List Subscription) (links : List LinkState) (i : ℕ) (new : List LinkState) → AreAscending links → IsAt links n i
-    → OnOk r ((d : LinkState) → new ≡ set links i (changed change (get_or links i d))) → OnOk r (new ≡ map (λ l. changed_on n change l) links)
-changed_ok (Ok x) n change links i new up at e = changed_set n change links i new up at e
-changed_ok (Err x) n change links i new up at e = tt

@@ -1,27 +1,31 @@
--- A table of routes stays right over some links where the right route of one more key is put into it.
--- `put_right` says so: at the key's own bytes the new route is found, and at all others what was found before.
--- Right means here what `AreRoutes` says: each route is that of its key over the links.
-use Rattle.std.proofs.Common.{◌≡◌, ℕ, Bool, true, false, cond, List, Some, option_map, IfSome, String, BTreeMap, Vec, Global, string_bytes, refl, sym, ap, ◌∙◌}
-use Rattle.std.specs.BTreeMap.{Updates, get_by_text}
-use Rattle.std.specs.Cmp.Lexicographic.{bytes_decides}
+-- Remembered routes stay right by some tables where the right route of one more tree and key is put among them.
+use Rattle.std.proofs.Common.{◌≡◌, ℕ, ◌&&◌, Bool, true, false, cond, List, Option, Some, IfSome, BTreeMap, sym, ap, subst, ◌∙◌}
+use Rattle.std.specs.BTreeMap.{Updates, get, is_at}
+use Rattle.std.specs.Ordering.{nat_cmp}
 use Rattle.std.specs.Str.{bytes_eq}
-use Rattle.std.specs.String.{string_cmp}
-use Rattle.std.proofs.lemmas.Map.Text.{btree_map_updates_text}
-use Rattle.zr_id.specs.declared.link.LinkNo.{LinkNo}
-use Rattle.zr_table.specs.State.{LinkState}
-use Rattle.zr_node.specs.Routes.{route}
+use Rattle.std.proofs.lemmas.Bool.{and_parts}
+use Rattle.std.proofs.lemmas.Slice.Eq.{bytes_eq-Decides}
+use Rattle.zr_id.specs.Zid.{is_named}
+use Rattle.zr_graph.proofs.Names.{same_is}
+use Rattle.zr_routing.specs.Tables.{TableState}
+use Rattle.zr_push.specs.Route.{route_of}
+use Rattle.zr_node.specs.declared.routes.Remembered.{Remembered}
 
-module _ (links : List LinkState) where
-  abbrev AreRight : BTreeMap (String Global) (Vec LinkNo Global) → Type 0
-  AreRight known = (key : List ℕ) → IfSome (option_map (λ numbers. numbers.items) (get_by_text known key)) (λ numbers. numbers ≡ route links key)
+module _ (t : TableState) where
+  abbrev AreRight : BTreeMap ℕ Remembered → Type 0
+  AreRight known = (n : ℕ) → IfSome (get nat_cmp known n) (λ r. r.route ≡ route_of t r.tree r.key)
 
-  pub put_right : (old new : BTreeMap (String Global) (Vec LinkNo Global)) (text : String Global) (key : List ℕ) (numbers : Vec LinkNo Global)
-      → Updates string_cmp old new text (Some numbers) → AreRight old → string_bytes text ≡ key → numbers.items ≡ route links key → AreRight new
-  put_right old new text key numbers updates right same e =
-      λ q. rw (btree_map_updates_text (string_bytes text) old new (Some numbers) updates q) (by q (bytes_eq (string_bytes text) q) refl (right q))
+  pub put_right : (old new : BTreeMap ℕ Remembered) (number : ℕ) (more : Remembered) → Updates nat_cmp old new number (Some more) → AreRight old → more.route ≡ route_of t more.tree more.key → AreRight new
+  put_right old new number more updates right e = λ n. rw (updates.0 n) (by n (is_at (nat_cmp number) n) (right n))
     where
-      by : (q : List ℕ) (b : Bool) → bytes_eq (string_bytes text) q ≡ b
-          → IfSome (option_map (λ v. v.items) (get_by_text old q)) (λ ns. ns ≡ route links q)
-          → IfSome (option_map (λ v. v.items) (cond b (Some numbers) (get_by_text old q))) (λ ns. ns ≡ route links q)
-      by q true h before = e ∙ ap (route links) (sym same ∙ (bytes_decides (string_bytes text) q).0 h)
-      by q false h before = before
+      by : (n : ℕ) (b : Bool) → IfSome (get nat_cmp old n) (λ r. r.route ≡ route_of t r.tree r.key) → IfSome (cond b (Some more) (get nat_cmp old n)) (λ r. r.route ≡ route_of t r.tree r.key)
+      by n true h = e
+      by n false h = h
+
+  -- a route that is found where it is looked for, and is of the tree and the key, is the right one
+  pub found_right : (known : BTreeMap ℕ Remembered) (n : ℕ) (found : Remembered) (tree key : List ℕ) → Some found ≡ get nat_cmp known n → (is_named found.tree tree && bytes_eq found.key key) ≡ true → AreRight known
+      → found.route ≡ route_of t tree key
+  found_right known n found tree key at is right =
+      let of : found.route ≡ route_of t found.tree found.key = subst (λ (o : Option Remembered). IfSome o (λ r. r.route ≡ route_of t r.tree r.key)) (sym at) (right n) in
+      let both : (is_named found.tree tree ≡ true) × (bytes_eq found.key key ≡ true) = and_parts (is_named found.tree tree) (bytes_eq found.key key) is in
+      of ∙ ap (λ (x : List ℕ). route_of t x found.key) (same_is found.tree tree both.0) ∙ ap (λ (k : List ℕ). route_of t tree k) ((bytes_eq-Decides found.key key).0 both.1)

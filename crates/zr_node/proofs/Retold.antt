@@ -1,45 +1,56 @@
--- What is told by some rows is told by others that are the same on each link.
-use Rattle.std.proofs.Common.{◌≡◌, ℕ, ◌∙◌, List, [], Option, Some, None, option_map, refl, sym, ap, subst}
+-- What is told by rows in a row, and by rows that say nothing.
+use Rattle.std.proofs.Common.{◌≡◌, ℕ, ◌∙◌, List, [], ◌++◌, append_assoc, refl, sym, ap, subst}
 use Rattle.std.proofs.lemmas.List.{append-nil}
 use Rattle.zr_id.specs.declared.link.LinkNo.{LinkNo}
-use Rattle.zr_msg.specs.declared.event.Event.{Event}
 use Rattle.zr_msg.specs.declared.msg.Msg.{Msg}
-use Rattle.zr_msg.specs.declared.peer.Peer.{Peer}
-use Rattle.zr_table.specs.Event.{on_link, Tells, TellsPrefix, Sends, SendsPrefix}
+use Rattle.zr_table.specs.Event.{on_link, Tells, TellsPrefix}
 use Rattle.zr_table.specs.Prefix.{IsPrefixOf}
-use Rattle.zr_table.specs.State.{NodeState, LinkState}
-use Rattle.zr_table.specs.Table.{sends, sends_down, sends_parted}
-
-pub retold : (rows others : ℕ → List Msg) (before now : List (LinkNo × Msg)) → ((to : ℕ) → rows to ≡ others to) → Tells rows before now → Tells others before now
-retold rows others before now same h = record { sent = h.sent; appended = h.appended; each = λ to. h.each to ∙ same to.0 }
-
-pub retold_prefix : (rows others : ℕ → List Msg) (before now : List (LinkNo × Msg)) → ((to : ℕ) → rows to ≡ others to) → TellsPrefix rows before now → TellsPrefix others before now
-retold_prefix rows others before now same h = record {
-  sent = h.sent;
-  appended = h.appended;
-  each = λ to. subst (λ ms. IsPrefixOf (on_link to h.sent) ms) (same to.0) (h.each to);
-}
+use Rattle.zr_table.proofs.Told.{on_link-append}
 
 -- nothing at all is a prefix
 pub nothing_told : (rows : ℕ → List Msg) (before : List (LinkNo × Msg)) → TellsPrefix rows before before
 nothing_told rows before = record { sent = []; appended = sym (append-nil before); each = λ to. (rows to.0, refl) }
 
--- all of it is one
+-- where there is nothing to say, all is said
+pub silent : (rows : ℕ → List Msg) (before : List (LinkNo × Msg)) → ((to : ℕ) → rows to ≡ []) → Tells rows before before
+silent rows before none = record { sent = []; appended = sym (append-nil before); each = λ to. sym (none to.0) }
+
+-- all of it is a prefix
 pub all_told : (rows : ℕ → List Msg) (before now : List (LinkNo × Msg)) → Tells rows before now → TellsPrefix rows before now
 all_told rows before now h = record { sent = h.sent; appended = h.appended; each = λ to. ([], sym (h.each to) ∙ sym (append-nil (on_link to h.sent))) }
 
--- what an event sends
-pub sends_told : (rows : ℕ → List Msg) (node : NodeState) (event : Event) (before now : List (LinkNo × Msg)) → ((to : LinkNo) → rows to.0 ≡ sends node event to) → Tells rows before now → Sends node event before now
-sends_told rows node event before now same h = record { sent = h.sent; appended = h.appended; each = λ to. h.each to ∙ same to }
+-- the same is told
+pub retold : (a b : ℕ → List Msg) (before now : List (LinkNo × Msg)) → ((to : ℕ) → a to ≡ b to) → Tells a before now → Tells b before now
+retold a b before now e h = record { sent = h.sent; appended = h.appended; each = λ to. h.each to ∙ e to.0 }
 
-pub sends_prefix : (rows : ℕ → List Msg) (node : NodeState) (event : Event) (before now : List (LinkNo × Msg)) → ((to : LinkNo) → rows to.0 ≡ sends node event to) → TellsPrefix rows before now → SendsPrefix node event before now
-sends_prefix rows node event before now same h = record {
-  sent = h.sent;
-  appended = h.appended;
-  each = λ to. subst (λ ms. IsPrefixOf (on_link to h.sent) ms) (same to) (h.each to);
-}
+pub retold_prefix : (a b : ℕ → List Msg) (before now : List (LinkNo × Msg)) → ((to : ℕ) → a to ≡ b to) → TellsPrefix a before now → TellsPrefix b before now
+retold_prefix a b before now e h = record { sent = h.sent; appended = h.appended; each = λ to. subst (λ ms. IsPrefixOf (on_link to h.sent) ms) (e to.0) (h.each to) }
 
--- the Down of a link that is up sends what parting from its peer sends
-pub down_rows : (node : NodeState) (link : ℕ) (o : Option LinkState) (peer : Peer) → Some peer ≡ option_map (λ l. l.peer) o → (to : ℕ) → sends_parted node link peer peer.role to ≡ sends_down node link o to
-down_rows node link None peer e to = cc
-down_rows node link (Some l) peer e to = let same : peer ≡ l.peer = cc in ap (λ p. sends_parted node link p p.role to) same
+module _ (a b both : ℕ → List Msg) (before : List (LinkNo × Msg)) (e : (to : ℕ) → a to ++ b to ≡ both to) where
+  -- one after the other
+  pub told_both : (mid now : List (LinkNo × Msg)) → Tells a before mid → Tells b mid now → Tells both before now
+  told_both mid now h k = record {
+    sent = h.sent ++ k.sent;
+    appended = k.appended ∙ ap (λ xs. xs ++ k.sent) h.appended ∙ append_assoc before h.sent k.sent;
+    each = λ to. on_link-append to h.sent k.sent ∙ ap (λ ms. ms ++ on_link to k.sent) (h.each to) ∙ ap (λ ms. a to.0 ++ ms) (k.each to) ∙ e to.0;
+  }
+
+  -- where one stops in the first, a prefix of both was said
+  pub prefix_first : (now : List (LinkNo × Msg)) → TellsPrefix a before now → TellsPrefix both before now
+  prefix_first now h = record {
+    sent = h.sent;
+    appended = h.appended;
+    each = λ to. ((h.each to).0 ++ b to.0, sym (e to.0) ∙ ap (λ ms. ms ++ b to.0) (h.each to).1 ∙ append_assoc (on_link to h.sent) (h.each to).0 (b to.0));
+  }
+
+  -- and where one stops in the second
+  pub prefix_second : (mid now : List (LinkNo × Msg)) → Tells a before mid → TellsPrefix b mid now → TellsPrefix both before now
+  prefix_second mid now h k = record {
+    sent = h.sent ++ k.sent;
+    appended = k.appended ∙ ap (λ xs. xs ++ k.sent) h.appended ∙ append_assoc before h.sent k.sent;
+    each = λ to. (
+      (k.each to).0,
+      sym (e to.0) ∙ ap (λ ms. a to.0 ++ ms) (k.each to).1 ∙ sym (append_assoc (a to.0) (on_link to k.sent) (k.each to).0)
+          ∙ ap (λ ms. ms ++ (k.each to).0) (ap (λ ms. ms ++ on_link to k.sent) (sym (h.each to)) ∙ sym (on_link-append to h.sent k.sent)),
+    );
+  }

@@ -2,7 +2,9 @@
 //! What an event means is the table of the definitions; threads, clocks and bytes are not known here.
 #![tactic(auto)]
 
-mod link;
+mod asked;
+mod failure;
+mod kept;
 mod links;
 pub mod node;
 mod own;

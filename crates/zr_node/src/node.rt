@@ -1,27 +1,46 @@
 //! `Node`: a router's state, and what it does with each event.
 
-ghost use Rattle.std.specs.Prelude.{◌≡◌, ◌<◌, ◌^◌, ◌++◌, ◌⊎◌, ◌↔◌, true, false, Some, None, OnOk, OnErr, IfOk, IfErr, map, length};
+ghost use Rattle.std.specs.Prelude.{◌≡◌, ℕ, ◌<◌, ◌^◌, ◌+◌, ◌↔◌, true, Some, None, List, OnOk, OnErr, IfOk, IfSome, IfNone, [], is_some, length, if◌then◌else◌};
 ghost use Rattle.std.specs.Option.{option_map};
+ghost use Rattle.zr_graph.specs.Base.{is_newer, after_record};
+ghost use Rattle.zr_id.specs.Record.{RecordState};
+ghost use Rattle.zr_local.specs.Rows.{AreInOrder, gone, came};
+ghost use Rattle.zr_log.specs.Known.{position, is_next};
+ghost use Rattle.zr_log.specs.Known.{is_newer as is_newer_log};
+ghost use Rattle.zr_log.specs.Log.{Change};
+ghost use Rattle.zr_msg.specs.declared.decl.Decl.{Decl};
+ghost use Rattle.zr_routing.specs.Changes.{changes_of, after_changes, sends_changes};
+ghost use Rattle.zr_routing.specs.Snapshots.{sends_step, sends_snap, sends_snapshots};
+ghost use Rattle.zr_routing.specs.Tables.{TableState, HaveSameTrees, AreNumbered, link_at, link_to, leads_to_client, leads_to_router, free_link};
 ghost use Rattle.zr_table.specs.Event.{AreLinks, IsFresh, MayCome, Sends, SendsPrefix, Tells, TellsPrefix};
-ghost use Rattle.zr_table.specs.Prefix.{IsPrefixBehind};
-ghost use Rattle.zr_table.specs.State.{new_node, new_link, link_at, link_to, leads_to_client, leads_to_router, free_link, link_peer};
-ghost use Rattle.zr_table.specs.Table.{sends_up, sends_down, sends_parted, sends_from, sends_state, sends_push, after, after_from, base_parted, base_told, refuses, refuses_up, refuses_down, refuses_parting, joined, parted, with_base, with_link, with_links, without_link};
-ghost use Rattle.zr_node.specs.Answer.{refusal};
-ghost use Rattle.zr_node.specs.Routes.{sent_along};
+ghost use Rattle.zr_table.specs.State.{new_node, new_link, tables};
+ghost use Rattle.zr_table.specs.Table.{able_kind, row, key_of, after, refuses, with_base, with_known, with_link, without_link};
+ghost use Rattle.zr_node.specs.Answer.{IsAnswered, IsJudged, refusal_of};
+ghost use Rattle.zr_node.specs.Asked.{rows_after, refuses_asked, refuses_change};
+ghost use Rattle.zr_node.specs.Done.{IsDone};
+ghost use Rattle.zr_node.specs.Steps.{with_links, with_local, event_part, up_part, join_part, down_part, parting_part, leave_part, message_part, asked_part, declare_part, undeclare_part, step_part, snap_part, told_part, push_part};
 
-use crate::link::is_client;
+use crate::asked::{self, Asked, apply, copy_of, has_room};
+use crate::failure::Failure;
+use crate::kept::{lend, push_along, take_trees};
 use crate::links::Links;
 use crate::own;
 use crate::routes::Routes;
 use std::alloc::{AllocError, Global};
 use std::marker::Model;
-use zr_flood::flood::{flood_down, flood_newer, flood_up};
-use zr_graph::base::{Accepted, Base, ChangeError};
+use zr_flood::children::{fresh_children, pass_on, tell_changes};
+use zr_flood::flood::{flood_down, flood_newer, flood_up, is_router};
+use zr_graph::base::{Accepted, Base};
 use zr_id::link::LinkNo;
 use zr_id::record::LinkRecord;
 use zr_id::zid::Zid;
 use zr_key::key::KeyExpr;
+use zr_local::changes::Changes;
+use zr_local::local::Local;
+use zr_local::row::Row;
+use zr_log::known::{Known, Taken};
 use zr_msg::content::Content;
+use zr_msg::decl::{Decl, Decls, Kind};
 use zr_msg::error::NodeError;
 use zr_msg::event::Event;
 use zr_msg::msg::Msg;
@@ -29,27 +48,32 @@ use zr_msg::peer::{LinkPeer, Peer, Role};
 use zr_msg::shared::Shared;
 use zr_tree::trees::Trees;
 
-/// A router: its links with what their clients have declared, and what it knows of the links of all routers.
+/// A log with at most so many changes has room for those of one event: lists are shorter than the rest.
+const SURE_OF_ROOM: u64 = 0x4000_0000_0000_0000;
+
+/// A router: its links, what it knows of the links of all routers, what its clients have declared, and what it knows of all logs.
 #[derive(Drop)]
 pub struct Node {
     links: Links,
     base: Base,
-    // what the links answered for the keys of earlier samples; no contract sees it
+    local: Local,
+    known: Known,
+    // the trees of the base, if they were worked out since it last changed; no contract sees them
+    trees: Option<Trees>,
+    // where earlier samples went by what the node is now; no contract sees them
     routes: Routes,
     spent: bool,
 }
 
 impl Model for Node {
     ghost use Rattle.zr_table.specs.State.{NodeState};
+    ghost use Rattle.zr_node.specs.Whole.{IsWhole};
 
     ghost Value = { NodeState };
 
-    ghost view = { λ n. record { links = n.links; base = n.base; spent = n.spent } };
+    ghost view = { λ n. record { links = n.links; base = n.base; rows = n.local; known = n.known; spent = n.spent } };
 
-    ghost use Rattle.zr_table.specs.Event.{AreLinks};
-    ghost use Rattle.zr_node.specs.Routes.{AreRoutes};
-
-    ghost invariant = { λ n. AreRoutes n.routes n.links × AreLinks n.base.me n.links };
+    ghost invariant = { λ n. IsWhole (record { links = n.links; base = n.base; rows = n.local; known = n.known }) n.trees n.routes };
 }
 
 impl Node {
@@ -60,12 +84,15 @@ impl Node {
         Ok(Node {
             links: Links::new(alloc),
             base: Base::new(alloc, me)?,
+            local: Local::new(alloc),
+            known: Known::new(alloc, me),
+            trees: None,
             routes: Routes::new(alloc),
             spent: false,
         })
     }
 
-    /// The router's identifier.
+    /// The router itself.
     pub fn me(&self) -> Zid
         ensures { result ≡ self.now.base.me }
     {
@@ -74,7 +101,7 @@ impl Node {
 
     /// The links that are up, in ascending order of their numbers.
     pub fn links(&self) -> &[LinkPeer]
-        ensures value { result.now ≡ map link_peer self.now.links }
+        ensures value { result.now ≡ self.now.links }
         ensures are_links { AreLinks self.now.base.me self.now.links }
         ensures few { length self.now.links < 2 ^ 32 }
     {
@@ -88,7 +115,29 @@ impl Node {
         &self.base
     }
 
-    /// The trees of the base's routers, worked out anew: a change of the base costs nothing of that until they are asked for.
+    /// What the clients of its links have declared, by link, subscribers first, then by id.
+    pub fn rows(&self) -> &[Row]
+        ensures value { result.now ≡ self.now.rows }
+        ensures in_order { AreInOrder self.now.rows }
+    {
+        self.local.rows()
+    }
+
+    /// What its own clients have declared, as the table of it.
+    pub fn local(&self) -> &Local
+        ensures { result.now ≡ self.now.rows }
+    {
+        &self.local
+    }
+
+    /// What it knows of the change logs of all routers, its own among them.
+    pub fn known(&self) -> &Known
+        ensures { result.now ≡ self.now.known }
+    {
+        &self.known
+    }
+
+    /// The trees of the base's routers, worked out anew.
     pub fn trees(&self, alloc: Global) -> Result<Trees, AllocError>
         ensures { IfOk result (λ t. t ≡ self.now.base.records) }
     {
@@ -110,7 +159,7 @@ impl Node {
     pub fn peer_at(&self, link: LinkNo) -> Option<Peer>
         ensures { result ≡ option_map (λ l. l.peer) (link_at self.now.links link.0) }
     {
-        self.links.peer_at(link)
+        Some(self.links.at(link)?.peer)
     }
 
     /// The least number that no link has.
@@ -122,9 +171,9 @@ impl Node {
 
     /// Handles an event, and appends what it sends, each message with its link.
     ///
-    /// `Worn` comes where the own record has had its last number, or lists as many links as it may, and the event would change it;
-    /// `Spent` where memory ran out at an earlier event. Both leave everything as it was. Where memory runs out, a prefix of what is
-    /// to be sent is appended for each link, and the node is spent from now on: nothing is said of its links and records any more.
+    /// What the table refuses leaves everything as it was, and so does `Spent`, which comes where memory ran out at an earlier event.
+    /// Where memory runs out, a prefix of what is to be sent is appended for each link, and the node is spent from now on: nothing is
+    /// said of its links, records, declarations and logs any more.
     pub fn handle(
         &mut self,
         alloc: Global,
@@ -134,20 +183,19 @@ impl Node {
         requires { MayCome self.old event.now }
         ensures state { OnOk result (self.new ≡ after self.old event.now) }
         ensures sends { OnOk result (Sends self.old event.now out.old.items out.new.items) }
+        ensures refused { IsAnswered (refusal_of self.old event.now) result }
         ensures spent { (result ≡ Err NodeError.Spent) ↔ (self.old.spent ≡ true) }
-        ensures worn { (result ≡ Err NodeError.Worn) ↔ ((self.old.spent ≡ false) × (refuses self.old event.now ≡ Some NodeError.Worn)) }
-        ensures unchanged { ((result ≡ Err NodeError.Spent) ⊎ (result ≡ Err NodeError.Worn)) → (self.new ≡ self.old) × (out.new.items ≡ out.old.items) }
+        ensures unchanged { (e : NodeError) → refusal_of self.old event.now ≡ Some e → result ≡ Err e → (self.new ≡ self.old) × (out.new.items ≡ out.old.items) }
         ensures memory { result ≡ Err NodeError.NoMemory → self.new.spent ≡ true }
         ensures prefix { result ≡ Err NodeError.NoMemory → SendsPrefix self.old event.now out.old.items out.new.items }
-        ensures no_other { IfErr result (λ e. (e ≡ NodeError.Worn) ⊎ (e ≡ NodeError.Spent) ⊎ (e ≡ NodeError.NoMemory)) }
     {
         if self.spent {
             return Err(NodeError::Spent);
         }
         match self.on_event(alloc, event, out) {
             Ok(()) => Ok(()),
-            Err(ChangeError::Worn) => Err(NodeError::Worn),
-            Err(ChangeError::NoMemory) => {
+            Err(Failure::Refused(error)) => Err(error),
+            Err(Failure::NoMemory) => {
                 self.spent = true;
                 Err(NodeError::NoMemory)
             }
@@ -159,55 +207,14 @@ impl Node {
         alloc: Global,
         event: &Event,
         out: &mut Vec<(LinkNo, Msg)>,
-    ) -> Result<(), ChangeError>
+    ) -> Result<(), Failure>
         requires { MayCome self.old event.now }
-        ensures state { OnOk result (self.new ≡ after self.old event.now) }
-        ensures sends { OnOk result (Sends self.old event.now out.old.items out.new.items) }
-        ensures worn { refuses self.old event.now ≡ refusal result }
-        ensures unchanged { result ≡ Err ChangeError.Worn → (self.new ≡ self.old) × (out.new.items ≡ out.old.items) }
-        ensures prefix { OnErr result (SendsPrefix self.old event.now out.old.items out.new.items) }
+        ensures { IsDone (event_part self.old event.now) result self.new out.old.items out.new.items }
     {
         match event {
             Event::Up { link, peer } => self.up(alloc, *link, peer, out),
             Event::Down { link } => self.down(alloc, *link, out),
-            Event::From { link, msg } => Ok(self.on_message(alloc, *link, msg, out)?),
-        }
-    }
-
-    // A message has come over a link.
-    fn on_message(
-        &mut self,
-        alloc: Global,
-        link: LinkNo,
-        msg: &Msg,
-        out: &mut Vec<(LinkNo, Msg)>,
-    ) -> Result<(), AllocError>
-        ensures state { OnOk result (self.new ≡ after_from self.old link.0 msg.now) }
-        ensures sends { OnOk result (Tells (sends_from self.old link.0 msg.now) out.old.items out.new.items) }
-        ensures prefix { OnErr result (TellsPrefix (sends_from self.old link.0 msg.now) out.old.items out.new.items) }
-    {
-        match msg {
-            Msg::Sub { id, key } => self.declare(alloc, link, *id, key),
-            Msg::Unsub { id } => {
-                self.undeclare(link, *id);
-                Ok(())
-            }
-            Msg::Push { tree: _, content } => self.push(alloc, link, content, out),
-            Msg::State { links } => self.accept(alloc, link, links, out),
-            Msg::Able { .. }
-            | Msg::Unable { .. }
-            | Msg::Interest { .. }
-            | Msg::EndInterest { .. }
-            | Msg::ToldSub { .. }
-            | Msg::ToldAble { .. }
-            | Msg::ToldUnsub { .. }
-            | Msg::ToldUnable { .. }
-            | Msg::ToldEnd { .. }
-            | Msg::Request { .. }
-            | Msg::Response { .. }
-            | Msg::Final { .. }
-            | Msg::Step { .. }
-            | Msg::Snap { .. } => Ok(()),
+            Event::From { link, msg } => self.on_message(alloc, *link, msg, out),
         }
     }
 
@@ -218,19 +225,35 @@ impl Node {
         link: LinkNo,
         peer: &Peer,
         out: &mut Vec<(LinkNo, Msg)>,
-    ) -> Result<(), ChangeError>
+    ) -> Result<(), Failure>
         requires { IsFresh self.old link peer.now }
-        ensures state { OnOk result (self.new ≡ after self.old (Event.Up link peer.now)) }
-        ensures sends { OnOk result (Tells (sends_up self.old link.0 peer.now peer.now.role) out.old.items out.new.items) }
-        ensures worn { refuses_up self.old.base peer.now.role ≡ refusal result }
-        ensures unchanged { result ≡ Err ChangeError.Worn → (self.new ≡ self.old) × (out.new.items ≡ out.old.items) }
-        ensures prefix { OnErr result (TellsPrefix (sends_up self.old link.0 peer.now peer.now.role) out.old.items out.new.items) }
+        ensures { IsDone (up_part self.old link peer.now peer.now.role) result self.new out.old.items out.new.items }
     {
         match peer.role {
-            Role::Client => {}
-            Role::Router => self.join(alloc, link, peer, out)?,
+            Role::Client => Ok(self.add(link, peer)?),
+            Role::Router => self.router_up(alloc, link, peer, out),
         }
-        Ok(self.add(alloc, link, peer)?)
+    }
+
+    // A link to a router has come up: records go out, and what a router has to know that has become a child in a tree.
+    fn router_up(
+        &mut self,
+        alloc: Global,
+        link: LinkNo,
+        peer: &Peer,
+        out: &mut Vec<(LinkNo, Msg)>,
+    ) -> Result<(), Failure>
+        requires { IsFresh self.old link peer.now }
+        ensures { IsDone (up_part self.old link peer.now Role.Router) result self.new out.old.items out.new.items }
+    {
+        let before = self.trees_before(alloc)?;
+        match self.join(alloc, link, peer, out) {
+            Ok(()) => {
+                self.add(link, peer)?;
+                Ok(self.tell_new_children(alloc, before, out)?)
+            }
+            Err(failure) => Err(failure),
+        }
     }
 
     // The own record lists the router of a link that has come up, and records go out.
@@ -240,24 +263,22 @@ impl Node {
         link: LinkNo,
         peer: &Peer,
         out: &mut Vec<(LinkNo, Msg)>,
-    ) -> Result<(), ChangeError>
+    ) -> Result<(), Failure>
         requires { IsFresh self.old link peer.now }
-        ensures state { OnOk result (self.new ≡ with_base self.old (joined self.old.base peer.now.id)) }
-        ensures sends { OnOk result (Tells (sends_up self.old link.0 peer.now Role.Router) out.old.items out.new.items) }
-        ensures worn { refuses_up self.old.base Role.Router ≡ refusal result }
-        ensures unchanged { result ≡ Err ChangeError.Worn → (self.new ≡ self.old) × (out.new.items ≡ out.old.items) }
-        ensures prefix { OnErr result (TellsPrefix (sends_up self.old link.0 peer.now Role.Router) out.old.items out.new.items) }
+        ensures { IsDone (join_part self.old link peer.now) result self.new out.old.items out.new.items }
     {
         own::join(alloc, &mut self.base, &peer.id)?;
+        self.trees = None;
+        self.routes.clear();
         Ok(flood_up(alloc, &self.base, self.links.as_slice(), link, out)?)
     }
 
-    fn add(&mut self, alloc: Global, link: LinkNo, peer: &Peer) -> Result<(), AllocError>
+    fn add(&mut self, link: LinkNo, peer: &Peer) -> Result<(), AllocError>
         requires { IsFresh self.old link peer.now }
         ensures { OnOk result (self.new ≡ with_links self.old (with_link self.old.links (new_link link peer.now))) }
     {
         self.routes.clear(); // they are of the links so far
-        self.links.add(alloc, link, *peer)
+        self.links.add(link, *peer)
     }
 
     // A link has gone down.
@@ -266,38 +287,57 @@ impl Node {
         alloc: Global,
         link: LinkNo,
         out: &mut Vec<(LinkNo, Msg)>,
-    ) -> Result<(), ChangeError>
-        ensures state { OnOk result (self.new ≡ after self.old (Event.Down link)) }
-        ensures sends { OnOk result (Tells (sends_down self.old link.0 (link_at self.old.links link.0)) out.old.items out.new.items) }
-        ensures worn { refuses_down self.old.base (link_at self.old.links link.0) ≡ refusal result }
-        ensures unchanged { result ≡ Err ChangeError.Worn → (self.new ≡ self.old) × (out.new.items ≡ out.old.items) }
-        ensures prefix { OnErr result (TellsPrefix (sends_down self.old link.0 (link_at self.old.links link.0)) out.old.items out.new.items) }
+    ) -> Result<(), Failure>
+        requires { is_some (link_at self.old.links link.0) ≡ true }
+        ensures { IsDone (event_part self.old (Event.Down link)) result self.new out.old.items out.new.items }
     {
-        match self.peer_at(link) {
-            Some(peer) => self.leave(alloc, link, &peer, out)?,
-            None => {}
+        let Some(peer) = self.peer_at(link) else {
+            unreachable!()
+        };
+        match peer.role {
+            Role::Client => self.client_down(alloc, link, out),
+            Role::Router => {
+                prove!(self.known.position(self.base.me()) <= u64::MAX); // so rows that stay are not refused
+                self.router_down(alloc, link, &peer, out)
+            }
         }
-        self.remove(link);
-        Ok(())
     }
 
-    // Who stood at the other end of a link that has gone down leaves.
-    fn leave(
+    // A link to a client has gone down: all that the client had declared goes.
+    fn client_down(
+        &mut self,
+        alloc: Global,
+        link: LinkNo,
+        out: &mut Vec<(LinkNo, Msg)>,
+    ) -> Result<(), Failure>
+        ensures { IsDone (leave_part self.old link) result self.new out.old.items out.new.items }
+    {
+        match self.change_rows(alloc, Asked::Leave { link }, out) {
+            Ok(()) => {
+                self.remove(link);
+                Ok(())
+            }
+            Err(failure) => Err(failure),
+        }
+    }
+
+    // A link to a router has gone down: the own record goes out, and what a router has to know that has become a child in a tree.
+    fn router_down(
         &mut self,
         alloc: Global,
         link: LinkNo,
         peer: &Peer,
         out: &mut Vec<(LinkNo, Msg)>,
-    ) -> Result<(), ChangeError>
-        ensures state { OnOk result (self.new ≡ with_base self.old (base_parted self.old.base peer.now peer.now.role)) }
-        ensures sends { OnOk result (Tells (sends_parted self.old link.0 peer.now peer.now.role) out.old.items out.new.items) }
-        ensures worn { refuses_parting self.old.base peer.now.role ≡ refusal result }
-        ensures unchanged { result ≡ Err ChangeError.Worn → (self.new ≡ self.old) × (out.new.items ≡ out.old.items) }
-        ensures prefix { OnErr result (TellsPrefix (sends_parted self.old link.0 peer.now peer.now.role) out.old.items out.new.items) }
+    ) -> Result<(), Failure>
+        ensures { IsDone (down_part self.old link.0 peer.now) result self.new out.old.items out.new.items }
     {
-        match peer.role {
-            Role::Client => Ok(()),
-            Role::Router => self.part(alloc, link, peer, out),
+        let before = self.trees_before(alloc)?;
+        match self.part(alloc, link, peer, out) {
+            Ok(()) => {
+                self.remove(link);
+                Ok(self.tell_new_children(alloc, before, out)?)
+            }
+            Err(failure) => Err(failure),
         }
     }
 
@@ -308,14 +348,12 @@ impl Node {
         link: LinkNo,
         peer: &Peer,
         out: &mut Vec<(LinkNo, Msg)>,
-    ) -> Result<(), ChangeError>
-        ensures state { OnOk result (self.new ≡ with_base self.old (parted self.old.base peer.now.id)) }
-        ensures sends { OnOk result (Tells (sends_parted self.old link.0 peer.now Role.Router) out.old.items out.new.items) }
-        ensures worn { refuses_parting self.old.base Role.Router ≡ refusal result }
-        ensures unchanged { result ≡ Err ChangeError.Worn → (self.new ≡ self.old) × (out.new.items ≡ out.old.items) }
-        ensures prefix { OnErr result (TellsPrefix (sends_parted self.old link.0 peer.now Role.Router) out.old.items out.new.items) }
+    ) -> Result<(), Failure>
+        ensures { IsDone (parting_part self.old link.0 peer.now) result self.new out.old.items out.new.items }
     {
         own::part(alloc, &mut self.base, &peer.id)?;
+        self.trees = None;
+        self.routes.clear();
         Ok(flood_down(alloc, &self.base, self.links.as_slice(), link, out)?)
     }
 
@@ -326,48 +364,197 @@ impl Node {
         self.links.remove(link);
     }
 
+    // A message has come over a link.
+    fn on_message(
+        &mut self,
+        alloc: Global,
+        link: LinkNo,
+        msg: &Msg,
+        out: &mut Vec<(LinkNo, Msg)>,
+    ) -> Result<(), Failure>
+        ensures { IsDone (message_part self.old link.0 msg.now) result self.new out.old.items out.new.items }
+    {
+        match msg {
+            Msg::Sub { id, key } => self.declare(alloc, link, *id, Kind::Sub, key, out),
+            Msg::Unsub { id } => self.undeclare(alloc, link, *id, Kind::Sub, out),
+            Msg::Able { id, key, complete } => {
+                self.declare(alloc, link, *id, able_kind(*complete), key, out)
+            }
+            Msg::Unable { id } => self.undeclare(alloc, link, *id, Kind::Able, out),
+            Msg::Push { tree, content } => self.push(alloc, link, *tree, content, out),
+            Msg::State { links } => self.accept(alloc, link, links, out),
+            Msg::Step {
+                source,
+                number,
+                added,
+                decl,
+            } => self.step(alloc, link, msg, *source, *number, *added, decl.get(), out),
+            Msg::Snap {
+                source,
+                number,
+                decls,
+            } => self.snap(alloc, link, msg, *source, *number, decls, out),
+            Msg::Interest { .. }
+            | Msg::EndInterest { .. }
+            | Msg::ToldSub { .. }
+            | Msg::ToldAble { .. }
+            | Msg::ToldUnsub { .. }
+            | Msg::ToldUnable { .. }
+            | Msg::ToldEnd { .. }
+            | Msg::Request { .. }
+            | Msg::Response { .. }
+            | Msg::Final { .. } => Ok(()),
+        }
+    }
+
+    // The client of a link declares something; a router declares nothing in this way.
     fn declare(
         &mut self,
         alloc: Global,
         link: LinkNo,
         id: u32,
+        kind: Kind,
         key: &KeyExpr,
-    ) -> Result<(), AllocError>
-        ensures { OnOk result (self.new ≡ after_from self.old link.0 (Msg.Sub id key.now)) }
-    {
-        self.routes.clear(); // the client may have to stand on any of them
-        self.links.declare(alloc, link, id, key)
-    }
-
-    fn undeclare(&mut self, link: LinkNo, id: u32)
-        ensures { self.new ≡ after_from self.old link.0 (Msg.Unsub id) }
-    {
-        self.routes.clear(); // the client may stand on any of them
-        self.links.undeclare(link, id);
-    }
-
-    // A key that samples came on before, since the links last changed, is not asked of the links again.
-    fn push(
-        &mut self,
-        alloc: Global,
-        link: LinkNo,
-        content: &Content,
         out: &mut Vec<(LinkNo, Msg)>,
-    ) -> Result<(), AllocError>
-        ensures state { OnOk result (self.new ≡ self.old) }
-        ensures sends { OnOk result (Tells (sends_push self.old link.0 content.now) out.old.items out.new.items) }
-        ensures prefix { OnErr result (TellsPrefix (sends_push self.old link.0 content.now) out.old.items out.new.items) }
+    ) -> Result<(), Failure>
+        ensures { IsDone (declare_part self.old link.0 (row link.0 id kind key.now)) result self.new out.old.items out.new.items }
     {
         if !self.leads_to_client(link) {
             return Ok(());
         }
-        let key = content.key();
-        if let Some(numbers) = self.routes.find(key) {
-            return push_to(numbers, link, content, out);
+        let key = key.copy(alloc)?;
+        let decl = Decl { kind, key };
+        self.change_rows(alloc, Asked::Declare { link, id, decl }, out)
+    }
+
+    // The client of a link takes back what it has declared.
+    fn undeclare(
+        &mut self,
+        alloc: Global,
+        link: LinkNo,
+        id: u32,
+        kind: Kind,
+        out: &mut Vec<(LinkNo, Msg)>,
+    ) -> Result<(), Failure>
+        ensures { IsDone (undeclare_part self.old link.0 (key_of link.0 id kind)) result self.new out.old.items out.new.items }
+    {
+        if !self.leads_to_client(link) {
+            return Ok(());
         }
-        let numbers = self.links.subscribed(alloc, key)?;
-        push_to(numbers.as_slice(), link, content, out)?;
-        self.routes.remember(alloc, key, numbers)
+        self.change_rows(alloc, Asked::Undeclare { link, id, kind }, out)
+    }
+
+    // What a client asks is done: what became of the set of all declarations goes to the children in the own tree, and stands in the
+    // own log.
+    fn change_rows(
+        &mut self,
+        alloc: Global,
+        asked: Asked,
+        out: &mut Vec<(LinkNo, Msg)>,
+    ) -> Result<(), Failure>
+        ensures { IsDone (asked_part self.old asked) result self.new out.old.items out.new.items }
+    {
+        let number = self.known.position(self.base.me());
+        if number > SURE_OF_ROOM {
+            self.judge(alloc, number, &asked)?;
+        }
+        let changes = self.apply(asked)?;
+        if !has_room(number, &changes) {
+            return Err(Failure::NoMemory); // never: either there was room, or it was judged
+        }
+        Ok(self.tell(alloc, number, &changes, out)?)
+    }
+
+    // Whether what a client asks is refused, found out on a copy.
+    fn judge(&self, alloc: Global, number: u64, asked: &Asked) -> Result<(), Failure>
+        requires { number ≡ position self.now.known self.now.base.me }
+        ensures { IsJudged (refuses_change self.now asked.now) result }
+    {
+        let mut local = copy_of(alloc, &self.local)?;
+        let changes = apply(&mut local, asked.copy(alloc)?)?;
+        if !has_room(number, &changes) {
+            return Err(Failure::Refused(NodeError::Worn));
+        }
+        Ok(())
+    }
+
+    // The rows change, and nothing stands in the log of it yet.
+    fn apply(&mut self, asked: Asked) -> Result<Changes, Failure>
+        ensures gone { IfOk result (λ c. c.gone.items ≡ gone self.old.rows (rows_after self.old.rows asked)) }
+        ensures came { IfOk result (λ c. c.came.items ≡ came self.old.rows (rows_after self.old.rows asked)) }
+        ensures state { OnOk result (self.new ≡ with_local self.old (rows_after self.old.rows asked)) }
+        ensures refused { IsJudged (refuses_asked self.old.rows asked) result }
+        ensures unchanged { OnErr result (self.new ≡ self.old) }
+    {
+        self.routes.clear(); // the client may stand on any of them
+        apply(&mut self.local, asked)
+    }
+
+    // What has changed goes to the children in the own tree, and stands in the own log.
+    fn tell(
+        &mut self,
+        alloc: Global,
+        number: u64,
+        changes: &Changes,
+        out: &mut Vec<(LinkNo, Msg)>,
+    ) -> Result<(), AllocError>
+        requires number { number ≡ position self.old.known self.old.base.me }
+        requires room { number + (length changes.now.gone.items + length changes.now.came.items) < 2 ^ 64 }
+        ensures state { OnOk result (self.new ≡ with_known self.old (after_changes self.old.known (changes_of changes.now.gone.items changes.now.came.items))) }
+        ensures sends { OnOk result (Tells (sends_changes (tables self.old) (changes_of changes.now.gone.items changes.now.came.items)) out.old.items out.new.items) }
+        ensures prefix { OnErr result (TellsPrefix (sends_changes (tables self.old) (changes_of changes.now.gone.items changes.now.came.items)) out.old.items out.new.items) }
+    {
+        self.tell_children(alloc, number, changes, out)?;
+        self.log(changes)
+    }
+
+    fn tell_children(
+        &mut self,
+        alloc: Global,
+        number: u64,
+        changes: &Changes,
+        out: &mut Vec<(LinkNo, Msg)>,
+    ) -> Result<(), AllocError>
+        requires number { number ≡ position self.old.known self.old.base.me }
+        requires room { number + (length changes.now.gone.items + length changes.now.came.items) < 2 ^ 64 }
+        ensures same { self.new ≡ self.old }
+        ensures sends { OnOk result (Tells (sends_changes (tables self.old) (changes_of changes.now.gone.items changes.now.came.items)) out.old.items out.new.items) }
+        ensures prefix { OnErr result (TellsPrefix (sends_changes (tables self.old) (changes_of changes.now.gone.items changes.now.came.items)) out.old.items out.new.items) }
+    {
+        let trees = take_trees(alloc, &mut self.trees, &self.base)?;
+        let tables = lend(&self.links, &self.base, &trees, &self.local, &self.known);
+        let told = tell_changes(alloc, &tables, number, changes, out);
+        self.trees = Some(trees);
+        told
+    }
+
+    fn log(&mut self, changes: &Changes) -> Result<(), AllocError>
+        ensures { OnOk result (self.new ≡ with_known self.old (after_changes self.old.known (changes_of changes.now.gone.items changes.now.came.items))) }
+    {
+        self.routes.clear(); // they are of the logs so far
+        asked::log(&mut self.known, changes)
+    }
+
+    // A sample has come over a link. Where it goes on a tree and a key that samples came on before, since the tables last changed, is not
+    // asked of the tables again.
+    fn push(
+        &mut self,
+        alloc: Global,
+        link: LinkNo,
+        tree: Option<Zid>,
+        content: &Content,
+        out: &mut Vec<(LinkNo, Msg)>,
+    ) -> Result<(), Failure>
+        ensures { IsDone (push_part self.old link.0 tree content.now) result self.new out.old.items out.new.items }
+    {
+        let Some(from) = self.links.at(link) else {
+            return Ok(());
+        };
+        let trees = take_trees(alloc, &mut self.trees, &self.base)?;
+        let tables = lend(&self.links, &self.base, &trees, &self.local, &self.known);
+        let pushed = push_along(alloc, &tables, &mut self.routes, from, tree, content, out);
+        self.trees = Some(trees);
+        Ok(pushed?)
     }
 
     // A record has come over a link: a newer one of a router is kept, and goes on.
@@ -377,25 +564,163 @@ impl Node {
         link: LinkNo,
         told: &Shared<LinkRecord>,
         out: &mut Vec<(LinkNo, Msg)>,
-    ) -> Result<(), AllocError>
-        ensures state { OnOk result (self.new ≡ with_base self.old (base_told self.old link.0 told.now)) }
-        ensures sends { OnOk result (Tells (sends_state self.old link.0 told.now) out.old.items out.new.items) }
-        ensures prefix { OnErr result (TellsPrefix (sends_state self.old link.0 told.now) out.old.items out.new.items) }
+    ) -> Result<(), Failure>
+        ensures { IsDone (told_part self.old link.0 told.now) result self.new out.old.items out.new.items }
     {
         if !self.leads_to_router(link) {
             return Ok(());
         }
-        match self.base.accept(told.get())? {
-            Accepted::Old => Ok(()),
-            Accepted::Newer => flood_newer(told, self.links.as_slice(), link, out),
+        let before = self.trees_before(alloc)?;
+        match self.keep(told.get())? {
+            Accepted::Old => {
+                self.put_back(before);
+                Ok(())
+            }
+            Accepted::Newer => {
+                flood_newer(told, self.links.as_slice(), link, out)?;
+                Ok(self.tell_new_children(alloc, before, out)?)
+            }
         }
+    }
+
+    // A record is kept where it is newer.
+    fn keep(&mut self, told: &LinkRecord) -> Result<Accepted, AllocError>
+        ensures answer { IfOk result (λ a. a ≡ (if is_newer self.old.base told.now then Accepted.Newer else Accepted.Old)) }
+        ensures state { OnOk result (self.new ≡ with_base self.old (after_record self.old.base told.now)) }
+        ensures unchanged { OnErr result (self.new ≡ self.old) }
+    {
+        match self.base.accept(told)? {
+            Accepted::Old => Ok(Accepted::Old),
+            Accepted::Newer => {
+                self.trees = None;
+                self.routes.clear();
+                Ok(Accepted::Newer)
+            }
+        }
+    }
+
+    // A change of another router's log has come over a link from a router: one that is the next is taken over, and goes on.
+    fn step(
+        &mut self,
+        alloc: Global,
+        link: LinkNo,
+        msg: &Msg,
+        source: Zid,
+        number: u64,
+        added: bool,
+        decl: &Decl,
+        out: &mut Vec<(LinkNo, Msg)>,
+    ) -> Result<(), Failure>
+        requires { msg.now ≡ Msg.Step source number added decl.now }
+        ensures { IsDone (step_part self.old link.0 source number (record { added = added; decl = decl.now })) result self.new out.old.items out.new.items }
+    {
+        if !self.leads_to_router(link) {
+            return Ok(());
+        }
+        self.routes.clear(); // they are of the logs so far
+        match self.known.step(source, number, added, decl)? {
+            Taken::Old => Ok(()),
+            Taken::New => Ok(self.pass_on(alloc, source, msg, out)?),
+        }
+    }
+
+    // A snapshot of another router's log has come over a link from a router: one that is newer is taken over, and goes on.
+    fn snap(
+        &mut self,
+        alloc: Global,
+        link: LinkNo,
+        msg: &Msg,
+        source: Zid,
+        number: u64,
+        decls: &Decls,
+        out: &mut Vec<(LinkNo, Msg)>,
+    ) -> Result<(), Failure>
+        requires { msg.now ≡ Msg.Snap source number decls.now }
+        ensures { IsDone (snap_part self.old link.0 source number decls.now) result self.new out.old.items out.new.items }
+    {
+        if !self.leads_to_router(link) {
+            return Ok(());
+        }
+        self.routes.clear(); // they are of the logs so far
+        match self.known.snap(source, number, decls.as_slice())? {
+            Taken::Old => Ok(()),
+            Taken::New => Ok(self.pass_on(alloc, source, msg, out)?),
+        }
+    }
+
+    // What another router's log tells goes to the children in that router's tree.
+    fn pass_on(
+        &mut self,
+        alloc: Global,
+        source: Zid,
+        msg: &Msg,
+        out: &mut Vec<(LinkNo, Msg)>,
+    ) -> Result<(), AllocError>
+        ensures same { self.new ≡ self.old }
+        ensures step { (t : TableState) (from number : ℕ) (c : Change) → HaveSameTrees t (tables self.old) → AreNumbered t.links → leads_to_router t.links from ≡ true → is_next t.known source number ≡ true → msg.now ≡ Msg.Step source number c.added c.decl → OnOk result (Tells (sends_step t from source number c) out.old.items out.new.items) }
+        ensures step_prefix { (t : TableState) (from number : ℕ) (c : Change) → HaveSameTrees t (tables self.old) → AreNumbered t.links → leads_to_router t.links from ≡ true → is_next t.known source number ≡ true → msg.now ≡ Msg.Step source number c.added c.decl → OnErr result (TellsPrefix (sends_step t from source number c) out.old.items out.new.items) }
+        ensures snap { (t : TableState) (from number : ℕ) (decls : List Decl) → HaveSameTrees t (tables self.old) → AreNumbered t.links → leads_to_router t.links from ≡ true → is_newer_log t.known source number ≡ true → msg.now ≡ Msg.Snap source number decls → OnOk result (Tells (sends_snap t from source number decls) out.old.items out.new.items) }
+        ensures snap_prefix { (t : TableState) (from number : ℕ) (decls : List Decl) → HaveSameTrees t (tables self.old) → AreNumbered t.links → leads_to_router t.links from ≡ true → is_newer_log t.known source number ≡ true → msg.now ≡ Msg.Snap source number decls → OnErr result (TellsPrefix (sends_snap t from source number decls) out.old.items out.new.items) }
+    {
+        let trees = take_trees(alloc, &mut self.trees, &self.base)?;
+        let tables = lend(&self.links, &self.base, &trees, &self.local, &self.known);
+        let told = pass_on(alloc, &tables, source, msg, out);
+        self.trees = Some(trees);
+        told
+    }
+
+    // The trees of the records before an event that may change them, taken out. Where no log is known a new child is told nothing, so
+    // they aren't worked out for it.
+    fn trees_before(&mut self, alloc: Global) -> Result<Option<Trees>, AllocError>
+        ensures same { self.new ≡ self.old }
+        ensures trees { IfOk result (λ o. IfSome o (λ t. t ≡ self.old.base.records)) }
+        ensures none { IfOk result (λ o. IfNone o (self.old.known.logs ≡ [])) }
+    {
+        match self.trees.take() {
+            Some(trees) => Ok(Some(trees)),
+            None => {
+                if self.known.logs().is_empty() {
+                    return Ok(None);
+                }
+                Ok(Some(Trees::of(alloc, &self.base)?))
+            }
+        }
+    }
+
+    fn put_back(&mut self, trees: Option<Trees>)
+        requires { IfSome trees (λ t. t ≡ self.old.base.records) }
+        ensures { self.new ≡ self.old }
+    {
+        self.trees = trees;
+    }
+
+    // Each neighbour that has become a child in a router's tree is sent what is known of that router's log. `before` are the trees
+    // before that, if any log is known.
+    fn tell_new_children(
+        &mut self,
+        alloc: Global,
+        before: Option<Trees>,
+        out: &mut Vec<(LinkNo, Msg)>,
+    ) -> Result<(), AllocError>
+        ensures same { self.new ≡ self.old }
+        ensures sends { (records : List RecordState) → IfSome before (λ t. t ≡ records) → IfNone before (self.old.known.logs ≡ []) → OnOk result (Tells (sends_snapshots (tables self.old) records) out.old.items out.new.items) }
+        ensures prefix { (records : List RecordState) → IfSome before (λ t. t ≡ records) → IfNone before (self.old.known.logs ≡ []) → OnErr result (TellsPrefix (sends_snapshots (tables self.old) records) out.old.items out.new.items) }
+    {
+        let Some(before) = before else {
+            return Ok(());
+        };
+        let trees = take_trees(alloc, &mut self.trees, &self.base)?;
+        let tables = lend(&self.links, &self.base, &trees, &self.local, &self.known);
+        let told = fresh_children(alloc, &tables, &before, out);
+        self.trees = Some(trees);
+        told
     }
 
     fn leads_to_client(&self, link: LinkNo) -> bool
         ensures { result ≡ leads_to_client self.now.links link.0 }
     {
-        match self.peer_at(link) {
-            Some(peer) => is_client(peer.role),
+        match self.links.at(link) {
+            Some(link) => !is_router(link.peer.role),
             None => false,
         }
     }
@@ -403,31 +728,15 @@ impl Node {
     fn leads_to_router(&self, link: LinkNo) -> bool
         ensures { result ≡ leads_to_router self.now.links link.0 }
     {
-        match self.peer_at(link) {
-            Some(peer) => !is_client(peer.role),
+        match self.links.at(link) {
+            Some(link) => is_router(link.peer.role),
             None => false,
         }
     }
 }
 
-// A sample goes once to each link of its key's route, but for the publisher's. Its content is not copied.
-fn push_to(
-    numbers: &[LinkNo],
-    from: LinkNo,
-    content: &Content,
-    out: &mut Vec<(LinkNo, Msg)>,
-) -> Result<(), AllocError>
-    ensures ok { OnOk result (out.new.items ≡ out.old.items ++ sent_along numbers.now from.0 content.now) }
-    ensures err { OnErr result (IsPrefixBehind out.old.items (sent_along numbers.now from.0 content.now) out.new.items) }
+fn able_kind(complete: bool) -> Kind
+    ensures { result ≡ able_kind complete }
 {
-    for number in numbers {
-        if number.0 != from.0 {
-            let msg = Msg::Push {
-                tree: None,
-                content: content.copy()?,
-            };
-            out.push((*number, msg))?;
-        }
-    }
-    Ok(())
+    if complete { Kind::Full } else { Kind::Able }
 }

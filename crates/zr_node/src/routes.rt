@@ -1,32 +1,58 @@
-//! What a router remembers of the keys of samples, so that its links are asked once a key and not once a sample.
+//! What a router remembers of the trees and keys of samples, so that its tables are asked once a tree and key and not once a sample.
 
-ghost use Rattle.std.specs.Prelude.{◌≤◌};
+ghost use Rattle.std.specs.Prelude.{◌≡◌, ◌≤◌, ◌==◌, ◌&&◌};
 ghost use Rattle.std.specs.BTreeMap.{btree_map_len};
+ghost use Rattle.std.specs.Str.{bytes_eq};
+ghost use Rattle.zr_id.specs.Zid.{is_named};
 
 use std::alloc::{AllocError, Global};
 use std::collections::BTreeMap;
-use zr_id::link::LinkNo;
+use zr_id::zid::Zid;
 use zr_key::key::KeyExpr;
+use zr_push::route::Route;
 
 /// How many routes are remembered at most. Samples may come on ever new keys, so there has to be a bound. With a thousand numbers in
 /// each, the routes take some 16 megabytes, or twice that with the room that a `Vec` keeps to grow in.
 const MOST_ROUTES: usize = 4_096;
 
-/// By the text of a key, the numbers of the links whose clients subscribe to an expression that meets it, in the order of the links.
+/// Where the mixing of bytes starts, and what it multiplies by (the FNV-1a hash of 64 bits).
+const START: u64 = 0xcbf2_9ce4_8422_2325;
+
+const FACTOR: u64 = 0x0100_0000_01b3;
+
+/// A route, with the tree and the key that it is of.
+#[derive(Debug, Drop)]
+pub struct Remembered {
+    tree: Zid,
+    key: KeyExpr,
+    route: Route,
+}
+
+impl Remembered {
+    fn is_of(&self, tree: Zid, key: &KeyExpr) -> bool
+        ensures { result ≡ (is_named self.now.tree tree && bytes_eq self.now.key key.now) }
+    {
+        self.tree == tree && self.key.text() == key.text()
+    }
+}
+
+/// The routes that are remembered.
 #[derive(Debug, Drop)]
 pub struct Routes {
-    known: BTreeMap<String, Vec<LinkNo>>,
+    // by a number that is worked out from tree and key: a hint, which is checked at the route
+    known: BTreeMap<u64, Remembered>,
     ghost bounded: { btree_map_len known ≤ 4096 },
 }
 
 impl Routes {
-    ghost use Rattle.std.specs.Prelude.{◌≡◌, ◌<◌, List, Some, OnOk, option_copied};
-    ghost use Rattle.zr_table.specs.State.{LinkState};
-    ghost use Rattle.zr_node.specs.Routes.{AreRoutes, remembered, route};
+    ghost use Rattle.std.specs.Prelude.{◌<◌, IfSome};
+    ghost use Rattle.zr_routing.specs.Tables.{TableState};
+    ghost use Rattle.zr_push.specs.Route.{route_of};
+    ghost use Rattle.zr_node.specs.Routes.{AreRoutes};
 
     /// Nothing is remembered.
     pub fn new(alloc: Global) -> Routes
-        ensures { (links : List LinkState) → AreRoutes result links }
+        ensures { (t : TableState) → AreRoutes result t }
     {
         Routes {
             known: BTreeMap::new(alloc),
@@ -35,41 +61,59 @@ impl Routes {
 
     /// Forgets all routes. It takes no memory, so it can't fail.
     pub fn clear(&mut self)
-        ensures { (links : List LinkState) → AreRoutes self.new links }
+        ensures { (t : TableState) → AreRoutes self.new t }
     {
         self.known.clear();
     }
 
-    /// The route of a key, if it is remembered.
-    pub fn find(&self, key: &KeyExpr) -> Option<&[LinkNo]>
-        ensures { option_copied result ≡ remembered self.now key.now }
+    /// The route of a tree and a key, if it is remembered.
+    pub fn find(&self, tree: Zid, key: &KeyExpr) -> Option<&Route>
+        ensures { (t : TableState) → AreRoutes self.now t → IfSome result (λ r. r.now ≡ route_of t tree key.now) }
     {
-        Some(self.known.get(key.text())?.as_slice())
+        let found = self.known.get(&number_of(tree, key))?;
+        if found.is_of(tree, key) {
+            Some(&found.route)
+        } else {
+            None
+        }
     }
 
-    /// Remembers the route of a key. Where there is no room for it, all others are forgotten first.
+    /// Remembers the route of a tree and a key. Where there is no room for it, all others are forgotten first.
     pub fn remember(
         &mut self,
         alloc: Global,
+        tree: Zid,
         key: &KeyExpr,
-        numbers: Vec<LinkNo>,
+        route: Route,
     ) -> Result<(), AllocError>
-        ensures found { OnOk result (remembered self.new key.now ≡ Some numbers.items) }
-        ensures right { (links : List LinkState) → AreRoutes self.old links → numbers.items ≡ route links key.now → AreRoutes self.new links }
+        ensures { (t : TableState) → AreRoutes self.old t → route ≡ route_of t tree key.now → AreRoutes self.new t }
     {
         self.make_room();
-        let text = String::from_str(alloc, key.text())?;
-        self.known.insert(text, numbers)?;
+        let number = number_of(tree, key);
+        let key = key.copy(alloc)?;
+        self.known.insert(number, Remembered { tree, key, route })?;
         Ok(())
     }
 
     // There is room for one more route.
     fn make_room(&mut self)
         ensures room { btree_map_len self.new.known < 4096 }
-        ensures right { (links : List LinkState) → AreRoutes self.old links → AreRoutes self.new links }
+        ensures right { (t : TableState) → AreRoutes self.old t → AreRoutes self.new t }
     {
         if self.known.len() >= MOST_ROUTES {
             self.known.clear();
         }
     }
+}
+
+// A number for a tree and a key. Others may have the same.
+fn number_of(tree: Zid, key: &KeyExpr) -> u64 {
+    mix(mix(START, tree.bytes()), key.text().as_bytes())
+}
+
+fn mix(mut number: u64, bytes: &[u8]) -> u64 {
+    for byte in bytes {
+        number = (number ^ *byte as u64).wrapping_mul(FACTOR);
+    }
+    number
 }

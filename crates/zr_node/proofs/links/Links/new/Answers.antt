@@ -1,6 +1,6 @@
-use Rattle.std.proofs.Common.{[], refl, arith}
+use Rattle.std.proofs.Common.{[], arith}
 use Rattle.zr_table.proofs.AreLinks.{no_links}
 use Rattle.zr_node.proofs.links.Links.new.Goals as goal
 
 pub invariant_of-result : goal.invariant_of-result
-invariant_of-result c = rw (c.new.ensures.items, c.new-2.ensures.items) ((no_links []).ascending, refl, omega arith)
+invariant_of-result c = rw c.new.ensures.items ((no_links []).ascending, omega arith)

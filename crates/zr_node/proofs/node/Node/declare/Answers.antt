@@ -1,6 +1,17 @@
-use Rattle.zr_table.proofs.AreLinks.{are_links_same}
+use Rattle.std.proofs.Common.{ℕ, List, sym, subst, ◌∙◌}
+use Rattle.zr_local.specs.declared.row.Row.{Row}
+use Rattle.zr_table.specs.Table.{row}
+use Rattle.zr_node.specs.Done.{IsDone}
+use Rattle.zr_node.specs.Steps.{declare_part}
+use Rattle.zr_node.proofs.Parts.{declare_asked, declare_nothing}
 use Rattle.zr_node.proofs.node.Node.declare.Goals as goal
 
-pub invariant_of-self : goal.invariant_of-self
-invariant_of-self c =
-    (c.clear.ensures c.declare.new.self, are_links_same c.self.inside.base.me c.self.inside.links c.declare.new.self c.declare.ensures.same c.self.invariant.1)
+pub returns-then-not-leads_to_client : goal.returns-then-not-leads_to_client
+returns-then-not-leads_to_client c =
+    declare_nothing c.args.self.now c.args.link.0 (row c.args.link.0 c.args.id c.args.kind c.args.key.now) c.args.out.now.items (sym c.leads_to_client.ensures ∙ c.if-not-leads_to_client.true)
+
+pub returns : goal.returns
+returns c =
+    let r : Row = row c.args.link.0 c.args.id c.args.kind c.in_ok-key.key in
+    subst (λ (key : List ℕ). IsDone (declare_part c.args.self.now c.args.link.0 (row c.args.link.0 c.args.id c.args.kind key)) c.change_rows.result c.change_rows.new.self c.args.out.now.items c.change_rows.new.out.items) c.in_ok-key.ensures
+    (declare_asked c.args.self.now c.args.link.0 r c.change_rows.result c.change_rows.new.self c.args.out.now.items c.change_rows.new.out.items (sym c.leads_to_client.ensures ∙ c.if-not-leads_to_client.false) c.change_rows.ensures)

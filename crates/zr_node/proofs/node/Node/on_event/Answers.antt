@@ -1,16 +1,11 @@
-use Rattle.std.proofs.Common.{sym, ap}
-use Rattle.std.proofs.lemmas.Result.{err_from_is_err_and, on_err_weaker}
-use Rattle.zr_table.specs.Table.{sends}
-use Rattle.zr_node.proofs.Retold.{sends_prefix}
+use Rattle.zr_node.proofs.Parts.{at_event}
 use Rattle.zr_node.proofs.node.Node.on_event.Goals as goal
 
-pub returns-in_err-on_message-in-From-clause-prefix : goal.returns-in_err-on_message-in-From-clause-prefix
-returns-in_err-on_message-in-From-clause-prefix c =
-    let p = err_from_is_err_and c.from_residual.result c.from_residual.ensures.1 in
-    rw p.1 (sends_prefix _ _ _ _ _ (λ to. sym (ap (λ e. sends c.args.self.now e to) c.in-From.is)) c.in_err-on_message-in-From.ensures.prefix)
+pub returns-in-Up : goal.returns-in-Up
+returns-in-Up c = at_event c.args.self.now c.args.event.now _ c.in-Up.is c.up.result c.up.new.self c.args.out.now.items c.up.new.out.items c.up.ensures
 
-pub returns-in-Up-clause-prefix : goal.returns-in-Up-clause-prefix
-returns-in-Up-clause-prefix c = on_err_weaker _ (sends_prefix _ _ _ _ _ (λ to. sym (ap (λ e. sends c.args.self.now e to) c.in-Up.is))) c.up.ensures.prefix
+pub returns-in-Down : goal.returns-in-Down
+returns-in-Down c = at_event c.args.self.now c.args.event.now _ c.in-Down.is c.down.result c.down.new.self c.args.out.now.items c.down.new.out.items c.down.ensures
 
-pub returns-in-Down-clause-prefix : goal.returns-in-Down-clause-prefix
-returns-in-Down-clause-prefix c = on_err_weaker _ (sends_prefix _ _ _ _ _ (λ to. sym (ap (λ e. sends c.args.self.now e to) c.in-Down.is))) c.down.ensures.prefix
+pub returns-in-From : goal.returns-in-From
+returns-in-From c = at_event c.args.self.now c.args.event.now _ c.in-From.is c.on_message.result c.on_message.new.self c.args.out.now.items c.on_message.new.out.items c.on_message.ensures

@@ -1,13 +1,41 @@
-use Rattle.std.proofs.Common.{sym, ap}
-use Rattle.std.proofs.lemmas.Result.{on_err_weaker}
-use Rattle.zr_table.specs.Table.{sends_from}
-use Rattle.zr_node.proofs.Retold.{retold_prefix}
+use Rattle.std.proofs.Common.{inl, inr, refl, subst}
+use Rattle.zr_msg.specs.declared.decl.Decl.{Decl}
+use Rattle.zr_msg.specs.declared.decl.Kind.{Kind}
+use Rattle.zr_table.specs.Table.{row}
+use Rattle.zr_node.specs.Done.{IsDone}
+use Rattle.zr_node.specs.Steps.{declare_part, step_part}
+use Rattle.zr_node.proofs.Parts.{message_done, at_message, ignored}
 use Rattle.zr_node.proofs.node.Node.on_message.Goals as goal
 
-pub returns-in-Push-clause-prefix : goal.returns-in-Push-clause-prefix
-returns-in-Push-clause-prefix c =
-    on_err_weaker _ (retold_prefix _ _ _ _ (λ to. sym (ap (λ m. sends_from c.args.self.now c.args.link.0 m to) c.in-Push.is))) c.push.ensures.prefix
+pub returns-in-Sub : goal.returns-in-Sub
+returns-in-Sub c = message_done c.args.self.now c.args.link.0 _ c.args.msg.now c.in-Sub.is c.declare.result c.declare.new.self c.args.out.now.items c.declare.new.out.items _ c.declare.ensures refl refl (λ to. refl) refl refl
 
-pub returns-in-State-clause-prefix : goal.returns-in-State-clause-prefix
-returns-in-State-clause-prefix c =
-    on_err_weaker _ (retold_prefix _ _ _ _ (λ to. sym (ap (λ m. sends_from c.args.self.now c.args.link.0 m to) c.in-State.is))) c.accept.ensures.prefix
+pub returns-in-Unsub : goal.returns-in-Unsub
+returns-in-Unsub c = message_done c.args.self.now c.args.link.0 _ c.args.msg.now c.in-Unsub.is c.undeclare.result c.undeclare.new.self c.args.out.now.items c.undeclare.new.out.items _ c.undeclare.ensures refl refl (λ to. refl) refl refl
+
+pub returns-in-Able : goal.returns-in-Able
+returns-in-Able c =
+    message_done c.args.self.now c.args.link.0 _ c.args.msg.now c.in-Able.is c.declare-in-Able.result c.declare-in-Able.new.self c.args.out.now.items c.declare-in-Able.new.out.items _
+    (subst (λ (kind : Kind). IsDone (declare_part c.args.self.now c.args.link.0 (row c.args.link.0 c.in-Able.id kind c.in-Able.key)) c.declare-in-Able.result c.declare-in-Able.new.self c.args.out.now.items c.declare-in-Able.new.out.items) c.able_kind.ensures c.declare-in-Able.ensures)
+    refl refl (λ to. refl) refl refl
+
+pub returns-in-Unable : goal.returns-in-Unable
+returns-in-Unable c = message_done c.args.self.now c.args.link.0 _ c.args.msg.now c.in-Unable.is c.undeclare-in-Unable.result c.undeclare-in-Unable.new.self c.args.out.now.items c.undeclare-in-Unable.new.out.items _ c.undeclare-in-Unable.ensures refl refl (λ to. refl) refl refl
+
+pub returns-in-Push : goal.returns-in-Push
+returns-in-Push c = message_done c.args.self.now c.args.link.0 _ c.args.msg.now c.in-Push.is c.push.result c.push.new.self c.args.out.now.items c.push.new.out.items _ c.push.ensures refl refl (λ to. refl) refl refl
+
+pub returns-in-Step : goal.returns-in-Step
+returns-in-Step c =
+    message_done c.args.self.now c.args.link.0 _ c.args.msg.now c.in-Step.is c.step.result c.step.new.self c.args.out.now.items c.step.new.out.items _
+    (subst (λ (decl : Decl). IsDone (step_part c.args.self.now c.args.link.0 c.in-Step.source c.in-Step.number (record { added = c.in-Step.added; decl = decl })) c.step.result c.step.new.self c.args.out.now.items c.step.new.out.items) c.get.ensures c.step.ensures)
+    refl refl (λ to. refl) refl refl
+
+pub returns-in-Snap : goal.returns-in-Snap
+returns-in-Snap c = message_done c.args.self.now c.args.link.0 _ c.args.msg.now c.in-Snap.is c.snap.result c.snap.new.self c.args.out.now.items c.snap.new.out.items _ c.snap.ensures refl refl (λ to. refl) refl refl
+
+pub returns-in-State : goal.returns-in-State
+returns-in-State c = at_message c.args.self.now c.args.link.0 _ c.args.msg.now c.in-State.is c.accept.result c.accept.new.self c.args.out.now.items c.accept.new.out.items c.accept.ensures
+
+pub returns-in-Interest : goal.returns-in-Interest
+returns-in-Interest c = elim c.in-Interest.is [ inl v0 ↦ ignored c.args.self.now c.args.link.0 _ c.args.msg.now c.args.out.now.items v0.6 refl (λ to. refl) refl refl | inr w0 ↦ elim w0 [ inl v1 ↦ ignored c.args.self.now c.args.link.0 _ c.args.msg.now c.args.out.now.items v1.1 refl (λ to. refl) refl refl | inr w1 ↦ elim w1 [ inl v2 ↦ ignored c.args.self.now c.args.link.0 _ c.args.msg.now c.args.out.now.items v2.3 refl (λ to. refl) refl refl | inr w2 ↦ elim w2 [ inl v3 ↦ ignored c.args.self.now c.args.link.0 _ c.args.msg.now c.args.out.now.items v3.4 refl (λ to. refl) refl refl | inr w3 ↦ elim w3 [ inl v4 ↦ ignored c.args.self.now c.args.link.0 _ c.args.msg.now c.args.out.now.items v4.1 refl (λ to. refl) refl refl | inr w4 ↦ elim w4 [ inl v5 ↦ ignored c.args.self.now c.args.link.0 _ c.args.msg.now c.args.out.now.items v5.1 refl (λ to. refl) refl refl | inr w5 ↦ elim w5 [ inl v6 ↦ ignored c.args.self.now c.args.link.0 _ c.args.msg.now c.args.out.now.items v6.1 refl (λ to. refl) refl refl | inr w6 ↦ elim w6 [ inl v7 ↦ ignored c.args.self.now c.args.link.0 _ c.args.msg.now c.args.out.now.items v7.4 refl (λ to. refl) refl refl | inr w7 ↦ elim w7 [ inl v8 ↦ ignored c.args.self.now c.args.link.0 _ c.args.msg.now c.args.out.now.items v8.2 refl (λ to. refl) refl refl | inr w8 ↦ ignored c.args.self.now c.args.link.0 _ c.args.msg.now c.args.out.now.items w8.2 refl (λ to. refl) refl refl ] ] ] ] ] ] ] ] ]

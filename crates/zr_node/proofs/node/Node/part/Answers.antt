@@ -1,17 +1,40 @@
-use Rattle.std.proofs.lemmas.Result.{err_from_is_err_and}
+use Rattle.std.proofs.Common.{ap, subst}
 use Rattle.zr_flood.specs.Flood.{AreOf}
+use Rattle.zr_graph.specs.Base.{BaseState}
 use Rattle.zr_table.specs.State.{NodeState}
+use Rattle.zr_table.specs.Table.{with_base}
+use Rattle.zr_node.specs.Done.{IsLeft, IsDone}
+use Rattle.zr_node.specs.Steps.{parting_part}
+use Rattle.zr_node.specs.declared.failure.Failure.TheVariants.{NoMemory}
+use Rattle.zr_node.proofs.Answers.{change_failed}
+use Rattle.zr_node.proofs.Done.{failed}
 use Rattle.zr_node.proofs.node.Node.part.Goals as goal
 
-pub returns-in_err-flood_down-clause-prefix : goal.returns-in_err-flood_down-clause-prefix
-returns-in_err-flood_down-clause-prefix c =
-    let p = err_from_is_err_and c.from_residual-in_err-flood_down.result c.from_residual-in_err-flood_down.ensures.1 in
-    let node : NodeState = record { links = c.self.inside.links; base = c.self.inside.base; spent = c.self.inside.spent } in
-    let of : AreOf node c.as_slice.result.now = record { right = c.self.invariant.1; same = c.as_slice.ensures.value } in
-    rw (p.1, ← c.self.view_is) (c.in_err-flood_down.ensures.err node c.args.peer.now of c.in_ok-part.ensures.ok)
+pub returns-in_err-part : goal.returns-in_err-part
+returns-in_err-part c =
+    let node : NodeState = record { links = c.self.inside.links; base = c.self.inside.base; rows = c.self.inside.local; known = c.self.inside.known; spent = c.self.inside.spent } in
+    let now : NodeState = with_base node c.part.new.base in
+    subst (λ (m : NodeState). IsDone (parting_part m c.args.link.0 c.args.peer.now) c.from_residual.result now c.args.out.now.items c.args.out.now.items) c.self.view_is
+    (change_failed (parting_part node c.args.link.0 c.args.peer.now) c.in_err-part.field-0.0 c.from_residual.result now c.args.out.now.items c.from_residual.ensures.1 c.in_err-part.ensures.worn
+    (ap (λ (b : BaseState). with_base node b) c.in_err-part.ensures.unchanged))
 
-pub returns-clause-sends : goal.returns-clause-sends
-returns-clause-sends c =
-    let node : NodeState = record { links = c.self.inside.links; base = c.self.inside.base; spent = c.self.inside.spent } in
-    let of : AreOf node c.as_slice.result.now = record { right = c.self.invariant.1; same = c.as_slice.ensures.value } in
-    rw (← c.self.view_is) (c.in_ok-flood_down.ensures.ok node c.args.peer.now of c.in_ok-part.ensures.ok)
+pub returns-in_err-flood_down : goal.returns-in_err-flood_down
+returns-in_err-flood_down c =
+    let node : NodeState = record { links = c.self.inside.links; base = c.self.inside.base; rows = c.self.inside.local; known = c.self.inside.known; spent = c.self.inside.spent } in
+    let now : NodeState = with_base node c.part.new.base in
+    let of : AreOf node c.as_slice.result.now = record { right = c.self.invariant.links; same = c.as_slice.ensures.value } in
+    subst (λ (m : NodeState). IsDone (parting_part m c.args.link.0 c.args.peer.now) c.from_residual-in_err-flood_down.result now c.args.out.now.items c.flood_down.new.out.items) c.self.view_is
+    (failed (parting_part node c.args.link.0 c.args.peer.now) NoMemory c.from_residual-in_err-flood_down.result now c.args.out.now.items c.flood_down.new.out.items c.from_residual-in_err-flood_down.ensures.1
+    (c.in_err-flood_down.ensures.err node c.args.peer.now of c.in_ok-part.ensures.ok))
+
+pub returns : goal.returns
+returns c =
+    let node : NodeState = record { links = c.self.inside.links; base = c.self.inside.base; rows = c.self.inside.local; known = c.self.inside.known; spent = c.self.inside.spent } in
+    let now : NodeState = with_base node c.part.new.base in
+    let of : AreOf node c.as_slice.result.now = record { right = c.self.invariant.links; same = c.as_slice.ensures.value } in
+    subst (λ (m : NodeState). IsLeft (parting_part m c.args.link.0 c.args.peer.now) now c.args.out.now.items c.flood_down.new.out.items) c.self.view_is
+    (record {
+      allowed = c.in_ok-part.ensures.worn;
+      state = ap (λ (b : BaseState). with_base node b) c.in_ok-part.ensures.ok;
+      sends = c.in_ok-flood_down.ensures.ok node c.args.peer.now of c.in_ok-part.ensures.ok;
+    })

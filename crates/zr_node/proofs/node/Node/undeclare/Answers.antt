@@ -1,11 +1,11 @@
-use Rattle.std.proofs.Common.{map, ap, ◌∙◌}
-use Rattle.zr_table.specs.State.{link_peer}
-use Rattle.zr_table.specs.Table.{undeclared}
-use Rattle.zr_table.proofs.AreLinks.{are_links_same}
-use Rattle.zr_table.proofs.Links.{changed_peers}
+use Rattle.std.proofs.Common.{sym, ◌∙◌}
+use Rattle.zr_node.proofs.Parts.{undeclare_asked, undeclare_nothing}
 use Rattle.zr_node.proofs.node.Node.undeclare.Goals as goal
 
-pub invariant_of-self : goal.invariant_of-self
-invariant_of-self c =
-    let same = ap (λ ls. map link_peer ls) c.undeclare.ensures ∙ changed_peers c.args.link.0 (λ subs. undeclared subs c.args.id) c.self.inside.links in
-    (c.clear.ensures c.undeclare.new.self, are_links_same c.self.inside.base.me c.self.inside.links c.undeclare.new.self same c.self.invariant.1)
+pub returns-then-not-leads_to_client : goal.returns-then-not-leads_to_client
+returns-then-not-leads_to_client c =
+    undeclare_nothing c.args.self.now c.args.link c.args.id c.args.kind c.args.out.now.items (sym c.leads_to_client.ensures ∙ c.if-not-leads_to_client.true)
+
+pub returns : goal.returns
+returns c =
+    undeclare_asked c.args.self.now c.args.link c.args.id c.args.kind c.change_rows.result c.change_rows.new.self c.args.out.now.items c.change_rows.new.out.items (sym c.leads_to_client.ensures ∙ c.if-not-leads_to_client.false) c.change_rows.ensures

@@ -1,7 +1,13 @@
-use Rattle.std.proofs.lemmas.Result.{err_from_is_err_and}
+use Rattle.std.proofs.Common.{sym, subst}
+use Rattle.zr_msg.specs.declared.peer.Role.{Role}
+use Rattle.zr_node.specs.Done.{IsDone}
+use Rattle.zr_node.specs.Steps.{up_part}
+use Rattle.zr_node.proofs.Ups.{client_up}
 use Rattle.zr_node.proofs.node.Node.up.Goals as goal
 
-pub returns-in_err-join-in-Router-clause-prefix : goal.returns-in_err-join-in-Router-clause-prefix
-returns-in_err-join-in-Router-clause-prefix c =
-    let p = err_from_is_err_and c.from_residual.result c.from_residual.ensures.1 in
-    rw (p.1, c.in-Router.is) c.in_err-join-in-Router.ensures.prefix
+pub returns-in_ok-add-in-Client : goal.returns-in_ok-add-in-Client
+returns-in_ok-add-in-Client c = client_up c.args.self.now c.args.link c.args.peer.now c.add.new.self c.args.out.now.items c.in-Client.is c.in_ok-add-in-Client.ensures
+
+pub returns-in-Router : goal.returns-in-Router
+returns-in-Router c =
+    subst (λ (role : Role). IsDone (up_part c.args.self.now c.args.link c.args.peer.now role) c.router_up.result c.router_up.new.self c.args.out.now.items c.router_up.new.out.items) (sym c.in-Router.is) c.router_up.ensures

@@ -1,7 +1,9 @@
-use Rattle.std.proofs.Common.{◌∙◌}
+use Rattle.std.proofs.Common.{ℕ, List, sym, ap, ◌∙◌}
+use Rattle.zr_push.specs.Route.{route_of}
 use Rattle.zr_node.proofs.Remembering.{put_right}
 use Rattle.zr_node.proofs.routes.Routes.remember.Goals as goal
 
-pub returns-clause-right : goal.returns-clause-right
-returns-clause-right c = λ links right numbers.
-    put_right links c.make_room.new.self.known c.insert.new.self c.in_ok-text.text _ c.args.numbers c.in_ok-insert.ensures.updates (c.make_room.ensures.right links right) (c.in_ok-text.ensures.ok ∙ c.text.ensures.value) numbers
+pub returns : goal.returns
+returns c = λ t right is.
+    put_right t c.make_room.new.self.known c.insert.new.self _ _ c.in_ok-insert.ensures.updates (c.make_room.ensures.right t right)
+    (is ∙ ap (λ (key : List ℕ). route_of t c.args.tree key) (sym c.in_ok-key.ensures))

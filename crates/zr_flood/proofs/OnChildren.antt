@@ -1,0 +1,119 @@
+-- The lists that are told to children are, on the link of each number, what the definitions of routing say.
+use Rattle.std.proofs.Common.{◌≡◌, ℕ, ◌+◌, ◌&&◌, Bool, true, false, cond, List, [], ◌∷◌, ◌++◌, Option, Some, None, length, map, refl, sym, ap, ◌∙◌, arith}
+use Rattle.std.specs.List.{flat_map}
+use Rattle.std.specs.Option.{option_map_or}
+use Rattle.std.proofs.lemmas.List.{length-map}
+use Rattle.zr_graph.specs.Base.{BaseState}
+use Rattle.zr_id.specs.Record.{RecordState}
+use Rattle.zr_id.specs.declared.link.LinkNo.{LinkNo}
+use Rattle.zr_log.specs.Known.{is_next, is_newer, position}
+use Rattle.zr_log.specs.Log.{Change}
+use Rattle.zr_log.specs.declared.log.Log.{Log}
+use Rattle.zr_msg.specs.declared.decl.Decl.{Decl}
+use Rattle.zr_msg.specs.declared.msg.Msg.{Msg}
+use Rattle.zr_msg.specs.declared.msg.Msg.TheVariants.{Step, Snap}
+use Rattle.zr_msg.specs.declared.peer.LinkPeer.{LinkPeer}
+use Rattle.zr_routing.specs.Changes.{changes_of, steps, sends_changes}
+use Rattle.zr_routing.specs.Snapshots.{is_new_child, snapshot, sends_step, sends_snap, sends_snapshots}
+use Rattle.zr_routing.specs.Tables.{TableState, HaveSameTrees, AreNumbered, is_router, link_at, leads_to_router, leads_to_child, is_to_child}
+use Rattle.zr_table.specs.Event.{on_link}
+use Rattle.zr_table.proofs.Told.{on_link-append}
+use Rattle.zr_tree.specs.Tree.{is_child}
+use Rattle.zr_tree.specs.Walk.{graph_of}
+use Rattle.zr_flood.specs.Tell.{picked, to_each, all_to_each, child_links, leads_to_new_child, to_new_children}
+use Rattle.zr_flood.proofs.Picked.{on_picked, on_all_picked, all_to_each-append}
+
+abbrev children_among : List ℕ → List LinkPeer → BaseState → List LinkNo
+children_among root links b = picked (λ l. is_router l.peer.role && is_child (graph_of b.records) root b.me l.peer.id) links
+
+-- where links and records are the same the children are
+pub same_children : (t u : TableState) → HaveSameTrees t u → (root : List ℕ) → child_links u root ≡ child_links t root
+same_children t u h root = ap (λ ls. children_among root ls u.base) (sym h.links) ∙ ap (λ b. children_among root t.links b) (sym h.base)
+
+-- a change or a snapshot that is passed on
+pub on_step : (t : TableState) (from : ℕ) (source : List ℕ) (number : ℕ) (c : Change) → AreNumbered t.links → leads_to_router t.links from ≡ true → is_next t.known source number ≡ true
+    → (to : LinkNo) → on_link to (to_each (child_links t source) (Step source number c.added c.decl)) ≡ sends_step t from source number c to.0
+on_step t from source number c up leads next to =
+    on_picked (λ l. leads_to_child t source l) (Step source number c.added c.decl) t.links up to
+    ∙ ap (λ b. cond b (Step source number c.added c.decl ∷ []) []) (by (leads_to_router t.links from) (is_next t.known source number) leads next)
+  where
+    by : (a b : Bool) → a ≡ true → b ≡ true → is_to_child t source to.0 ≡ (a && (b && is_to_child t source to.0))
+    by a b h k = rw (h, k) refl
+
+pub on_snap : (t : TableState) (from : ℕ) (source : List ℕ) (number : ℕ) (decls : List Decl) → AreNumbered t.links → leads_to_router t.links from ≡ true → is_newer t.known source number ≡ true
+    → (to : LinkNo) → on_link to (to_each (child_links t source) (Snap source number decls)) ≡ sends_snap t from source number decls to.0
+on_snap t from source number decls up leads newer to =
+    on_picked (λ l. leads_to_child t source l) (Snap source number decls) t.links up to
+    ∙ ap (λ b. cond b (Snap source number decls ∷ []) []) (by (leads_to_router t.links from) (is_newer t.known source number) leads newer)
+  where
+    by : (a b : Bool) → a ≡ true → b ≡ true → is_to_child t source to.0 ≡ (a && (b && is_to_child t source to.0))
+    by a b h k = rw (h, k) refl
+
+-- changes of the own log
+pub on_changes : (t : TableState) (cs : List Change) → AreNumbered t.links → (to : LinkNo)
+    → on_link to (all_to_each (child_links t t.base.me) (steps t.base.me (position t.known t.base.me) cs)) ≡ sends_changes t cs to.0
+on_changes t cs up to = on_all_picked (λ l. leads_to_child t t.base.me l) (steps t.base.me (position t.known t.base.me) cs) t.links up to
+
+pub steps-append : (source : List ℕ) (n : ℕ) (a b : List Change) → steps source n (a ++ b) ≡ steps source n a ++ steps source (n + length a) b
+steps-append source n [] b = let e : n ≡ n + length {A = Change} [] = omega arith in ap (λ k. steps source k b) e
+steps-append source n (c ∷ a) b =
+    let e : (n + 1) + length a ≡ n + length (c ∷ a) = omega arith in
+    ap (λ ms. Step source (n + 1) c.added c.decl ∷ ms) (steps-append source (n + 1) a b ∙ ap (λ k. steps source (n + 1) a ++ steps source k b) e)
+
+-- the snapshots for new children
+module _ (t : TableState) (before : List RecordState) where
+  abbrev snapshots_of : List Log → LinkPeer → List Msg
+  snapshots_of logs l = flat_map (λ log. cond (is_new_child before t.base.records t.base.me log.source l.peer.id) (snapshot log ∷ []) []) logs
+
+  abbrev told_of : List Log → Option LinkPeer → List Msg
+  told_of logs o = option_map_or (λ l. cond (is_router l.peer.role) (snapshots_of logs l) []) o []
+
+  nothing_told : (o : Option LinkPeer) → [] ≡ told_of [] o
+  nothing_told None = refl
+  nothing_told (Some l) = by (is_router l.peer.role)
+    where
+      by : (r : Bool) → [] ≡ cond r (snapshots_of [] l) []
+      by true = refl
+      by false = refl
+
+  one_more : (log : Log) (logs : List Log) (o : Option LinkPeer)
+      → cond (option_map_or (λ l. leads_to_new_child t before log.source l) o false) (snapshot log ∷ []) [] ++ told_of logs o ≡ told_of (log ∷ logs) o
+  one_more log logs None = refl
+  one_more log logs (Some l) = by (is_router l.peer.role)
+    where
+      by : (r : Bool) → cond (r && is_new_child before t.base.records t.base.me log.source l.peer.id) (snapshot log ∷ []) [] ++ cond r (snapshots_of logs l) [] ≡ cond r (snapshots_of (log ∷ logs) l) []
+      by true = refl
+      by false = refl
+
+  on_logs : (logs : List Log) → AreNumbered t.links → (to : LinkNo) → on_link to (flat_map (to_new_children t before) logs) ≡ told_of logs (link_at t.links to.0)
+  on_logs [] up to = nothing_told (link_at t.links to.0)
+  on_logs (log ∷ logs) up to =
+      on_link-append to (to_new_children t before log) (flat_map (to_new_children t before) logs)
+      ∙ ap (λ ms. ms ++ on_link to (flat_map (to_new_children t before) logs)) (on_picked (λ l. leads_to_new_child t before log.source l) (snapshot log) t.links up to)
+      ∙ ap (λ ms. cond (option_map_or (λ l. leads_to_new_child t before log.source l) (link_at t.links to.0) false) (snapshot log ∷ []) [] ++ ms) (on_logs logs up to)
+      ∙ one_more log logs (link_at t.links to.0)
+
+  pub on_snapshots : AreNumbered t.links → (to : LinkNo) → on_link to (flat_map (to_new_children t before) t.known.logs) ≡ sends_snapshots t before to.0
+  on_snapshots up to = on_logs t.known.logs up to
+
+-- what goes to the children by the tables that are lent goes to those by a state with the same links and records
+pub passed : (t u : TableState) → HaveSameTrees t u → (root : List ℕ) (slice to : List LinkNo) (msg told : Msg) → slice ≡ to → to ≡ child_links u root → msg ≡ told → to_each slice msg ≡ to_each (child_links t root) told
+passed t u h root slice to msg told s e m = ap (λ ls. to_each ls msg) (s ∙ e ∙ same_children t u h root) ∙ ap (λ x. to_each (child_links t root) x) m
+
+pub own_passed : (t u : TableState) → HaveSameTrees t u → (me : List ℕ) (number : ℕ) (slice to : List LinkNo) (cs : List Change) → slice ≡ to → to ≡ child_links u me → me ≡ u.base.me → number ≡ position t.known t.base.me
+    → all_to_each slice (steps me number cs) ≡ all_to_each (child_links t t.base.me) (steps t.base.me (position t.known t.base.me) cs)
+own_passed t u h me number slice to cs s e m n =
+    let own : me ≡ t.base.me = m ∙ ap (λ (b : BaseState). b.me) (sym h.base) in
+    ap (λ ls. all_to_each ls (steps me number cs)) (s ∙ e ∙ same_children t u h me)
+    ∙ ap (λ x. all_to_each (child_links t x) (steps x number cs)) own
+    ∙ ap (λ k. all_to_each (child_links t t.base.me) (steps t.base.me k cs)) n
+
+-- gone first, then come
+pub both_steps : (links : List LinkNo) (source : List ℕ) (n m : ℕ) (a b : List Decl) → m ≡ n + length a
+    → all_to_each links (steps source n (changes_of a b)) ≡ all_to_each links (steps source n (map (λ d. record { added = false; decl = d }) a)) ++ all_to_each links (steps source m (map (λ d. record { added = true; decl = d }) b))
+both_steps links source n m a b e =
+    let lost : List Change = map (λ d. record { added = false; decl = d }) a in
+    let won : List Change = map (λ d. record { added = true; decl = d }) b in
+    let long : n + length lost ≡ m = ap (λ k. n + k) (length-map a (λ (d : Decl). record { added = false; decl = d })) ∙ sym e in
+    ap (λ ms. all_to_each links ms) (steps-append source n lost won ∙ ap (λ k. steps source n lost ++ steps source k won) long)
+    ∙ all_to_each-append links (steps source n lost) (steps source m won)

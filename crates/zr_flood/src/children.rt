@@ -1,0 +1,237 @@
+//! What the children of a router in a tree are sent: changes and snapshots of the tree's router, and what a new child has to know.
+
+ghost use Rattle.std.specs.Prelude.{◌≡◌, ◌++◌, ◌+◌, ◌<◌, ◌^◌, ℕ, List, true, length, map, IfOk, OnOk, OnErr};
+ghost use Rattle.std.specs.List.{flat_map};
+ghost use Rattle.zr_log.specs.Known.{position, is_next, is_newer};
+ghost use Rattle.zr_log.specs.Log.{Change};
+ghost use Rattle.zr_tree.specs.Tree.{is_child};
+ghost use Rattle.zr_tree.specs.Walk.{graph_of};
+ghost use Rattle.zr_routing.specs.Changes.{changes_of, steps, sends_changes};
+ghost use Rattle.zr_routing.specs.Snapshots.{snapshot, sends_step, sends_snap, sends_snapshots};
+ghost use Rattle.zr_routing.specs.Tables.{TableState, HaveSameTrees, AreNumbered, is_router, leads_to_router, leads_to_child};
+ghost use Rattle.zr_table.specs.Event.{Tells, TellsPrefix};
+ghost use Rattle.zr_table.specs.Prefix.{IsPrefixBehind};
+ghost use Rattle.zr_flood.specs.Tell.{picked, to_each, all_to_each, child_links, leads_to_new_child, to_new_children};
+
+use crate::flood::is_router;
+use crate::tell::tell_each;
+use std::alloc::{AllocError, Global};
+use zr_id::link::LinkNo;
+use zr_id::zid::Zid;
+use zr_local::changes::Changes;
+use zr_log::log::Log;
+use zr_msg::decl::{Decl, Decls};
+use zr_msg::msg::Msg;
+use zr_msg::peer::LinkPeer;
+use zr_msg::shared::Shared;
+use zr_routing::tables::Tables;
+use zr_tree::trees::Trees;
+
+/// After an event that changed the records: each neighbour that has become a child in a router's tree is sent what is known of that
+/// router's log, in ascending order of these routers. `before` are the trees before the event. Each list of declarations is made once.
+pub fn fresh_children(
+    alloc: Global,
+    tables: &Tables,
+    before: &Trees,
+    out: &mut Vec<(LinkNo, Msg)>,
+) -> Result<(), AllocError>
+    ensures ok { AreNumbered tables.now.links → OnOk result (Tells (sends_snapshots tables.now before.now) out.old.items out.new.items) }
+    ensures err { AreNumbered tables.now.links → OnErr result (TellsPrefix (sends_snapshots tables.now before.now) out.old.items out.new.items) }
+{
+    tell_logs(alloc, tables, before, tables.known().logs(), out)
+}
+
+/// A change or a snapshot of another router's log that is new here goes on to each child in that router's tree. It is not copied.
+pub fn pass_on(
+    alloc: Global,
+    tables: &Tables,
+    source: Zid,
+    msg: &Msg,
+    out: &mut Vec<(LinkNo, Msg)>,
+) -> Result<(), AllocError>
+    ensures each { OnOk result (out.new.items ≡ out.old.items ++ to_each (child_links tables.now source) msg.now) }
+    ensures some { OnErr result (IsPrefixBehind out.old.items (to_each (child_links tables.now source) msg.now) out.new.items) }
+    ensures step { (t : TableState) (from number : ℕ) (c : Change) → HaveSameTrees t tables.now → AreNumbered t.links → leads_to_router t.links from ≡ true → is_next t.known source number ≡ true → msg.now ≡ Msg.Step source number c.added c.decl → OnOk result (Tells (sends_step t from source number c) out.old.items out.new.items) }
+    ensures step_prefix { (t : TableState) (from number : ℕ) (c : Change) → HaveSameTrees t tables.now → AreNumbered t.links → leads_to_router t.links from ≡ true → is_next t.known source number ≡ true → msg.now ≡ Msg.Step source number c.added c.decl → OnErr result (TellsPrefix (sends_step t from source number c) out.old.items out.new.items) }
+    ensures snap { (t : TableState) (from number : ℕ) (decls : List Decl) → HaveSameTrees t tables.now → AreNumbered t.links → leads_to_router t.links from ≡ true → is_newer t.known source number ≡ true → msg.now ≡ Msg.Snap source number decls → OnOk result (Tells (sends_snap t from source number decls) out.old.items out.new.items) }
+    ensures snap_prefix { (t : TableState) (from number : ℕ) (decls : List Decl) → HaveSameTrees t tables.now → AreNumbered t.links → leads_to_router t.links from ≡ true → is_newer t.known source number ≡ true → msg.now ≡ Msg.Snap source number decls → OnErr result (TellsPrefix (sends_snap t from source number decls) out.old.items out.new.items) }
+{
+    let to = child_links(alloc, tables, source)?;
+    tell_each(alloc, &to, msg, out)
+}
+
+/// What became of the own clients' declarations goes to each child in the own tree, as changes of the own log: first what is gone, then
+/// what came. Before them the log has `number` changes. Each declaration is copied once.
+pub fn tell_changes(
+    alloc: Global,
+    tables: &Tables,
+    number: u64,
+    changes: &Changes,
+    out: &mut Vec<(LinkNo, Msg)>,
+) -> Result<(), AllocError>
+    requires { number + (length changes.now.gone.items + length changes.now.came.items) < 2 ^ 64 }
+    ensures ok { (t : TableState) → HaveSameTrees t tables.now → AreNumbered t.links → number ≡ position t.known t.base.me → OnOk result (Tells (sends_changes t (changes_of changes.now.gone.items changes.now.came.items)) out.old.items out.new.items) }
+    ensures err { (t : TableState) → HaveSameTrees t tables.now → AreNumbered t.links → number ≡ position t.known t.base.me → OnErr result (TellsPrefix (sends_changes t (changes_of changes.now.gone.items changes.now.came.items)) out.old.items out.new.items) }
+{
+    let me = tables.me();
+    let to = child_links(alloc, tables, me)?;
+    tell_both(alloc, &to, me, number, changes, out)
+}
+
+// The links that lead to a child in the tree of a root.
+fn child_links(alloc: Global, tables: &Tables, root: Zid) -> Result<Vec<LinkNo>, AllocError>
+    ensures { IfOk result (λ v. v.items ≡ child_links tables.now root) }
+{
+    let links = tables.links();
+    links
+        .iter()
+        .filter(|link| leads_to_child(tables, root, link))
+        .map(|link| link.link)
+        .collect(alloc)
+}
+
+// The links that lead to a child in the tree of a root that wasn't one before.
+fn new_child_links(
+    alloc: Global,
+    tables: &Tables,
+    before: &Trees,
+    root: Zid,
+) -> Result<Vec<LinkNo>, AllocError>
+    ensures { IfOk result (λ v. v.items ≡ picked (λ l. leads_to_new_child tables.now before.now root l) tables.now.links) }
+{
+    let links = tables.links();
+    links
+        .iter()
+        .filter(|link| leads_to_new_child(tables, before, root, link))
+        .map(|link| link.link)
+        .collect(alloc)
+}
+
+fn leads_to_child(tables: &Tables, root: Zid, link: &LinkPeer) -> bool
+    ensures { result ≡ leads_to_child tables.now root link.now }
+{
+    is_router(link.peer.role) && is_child(tables.trees(), root, tables.me(), link.peer.id)
+}
+
+fn leads_to_new_child(tables: &Tables, before: &Trees, root: Zid, link: &LinkPeer) -> bool
+    ensures { result ≡ leads_to_new_child tables.now before.now root link.now }
+{
+    is_router(link.peer.role)
+        && is_child(tables.trees(), root, tables.me(), link.peer.id)
+        && !is_child(before, root, tables.me(), link.peer.id)
+}
+
+// Whether the parent of a router in the tree of a root is this one.
+fn is_child(trees: &Trees, root: Zid, me: Zid, name: Zid) -> bool
+    ensures { result ≡ is_child (graph_of trees.now) root me name }
+{
+    match trees.parent(root, name) {
+        Some(parent) => parent == me,
+        None => false,
+    }
+}
+
+// What is known of each of these logs goes to each new child in its router's tree.
+fn tell_logs(
+    alloc: Global,
+    tables: &Tables,
+    before: &Trees,
+    logs: &[Log],
+    out: &mut Vec<(LinkNo, Msg)>,
+) -> Result<(), AllocError>
+    ensures ok { OnOk result (out.new.items ≡ out.old.items ++ flat_map (to_new_children tables.now before.now) logs.now) }
+    ensures err { OnErr result (IsPrefixBehind out.old.items (flat_map (to_new_children tables.now before.now) logs.now) out.new.items) }
+{
+    for log in logs {
+        tell_log(alloc, tables, before, log, out)?;
+    }
+    Ok(())
+}
+
+fn tell_log(
+    alloc: Global,
+    tables: &Tables,
+    before: &Trees,
+    log: &Log,
+    out: &mut Vec<(LinkNo, Msg)>,
+) -> Result<(), AllocError>
+    ensures ok { OnOk result (out.new.items ≡ out.old.items ++ to_new_children tables.now before.now log.now) }
+    ensures err { OnErr result (IsPrefixBehind out.old.items (to_new_children tables.now before.now log.now) out.new.items) }
+{
+    let to = new_child_links(alloc, tables, before, log.source)?;
+    if to.is_empty() {
+        return Ok(());
+    }
+    let msg = snapshot(alloc, log)?;
+    tell_each(alloc, &to, &msg, out)
+}
+
+// What is known of a log, as a message.
+fn snapshot(alloc: Global, log: &Log) -> Result<Msg, AllocError>
+    ensures { IfOk result (λ m. m ≡ snapshot log.now) }
+{
+    Ok(Msg::Snap {
+        source: log.source,
+        number: log.position,
+        decls: Decls::new(copies(alloc, log.decls.as_slice())?)?,
+    })
+}
+
+fn copies(alloc: Global, decls: &[Decl]) -> Result<Vec<Decl>, AllocError>
+    ensures { IfOk result (λ v. v.items ≡ decls.now) }
+{
+    let mut copies = Vec::with_capacity(alloc, decls.len())?;
+    for decl in decls {
+        copies.push(decl.copy(alloc)?)?;
+    }
+    Ok(copies)
+}
+
+fn tell_both(
+    alloc: Global,
+    to: &[LinkNo],
+    me: Zid,
+    number: u64,
+    changes: &Changes,
+    out: &mut Vec<(LinkNo, Msg)>,
+) -> Result<(), AllocError>
+    requires { number + (length changes.now.gone.items + length changes.now.came.items) < 2 ^ 64 }
+    ensures ok { OnOk result (out.new.items ≡ out.old.items ++ all_to_each to.now (steps me number (changes_of changes.now.gone.items changes.now.came.items))) }
+    ensures err { OnErr result (IsPrefixBehind out.old.items (all_to_each to.now (steps me number (changes_of changes.now.gone.items changes.now.came.items))) out.new.items) }
+{
+    if to.is_empty() {
+        return Ok(());
+    }
+    let gone = changes.gone.as_slice();
+    tell_steps(alloc, to, me, number, false, gone, out)?;
+    let then = number + gone.len() as u64;
+    tell_steps(alloc, to, me, then, true, changes.came.as_slice(), out)
+}
+
+// Declarations go to each of these links as changes of the own log behind its first `number`.
+fn tell_steps(
+    alloc: Global,
+    to: &[LinkNo],
+    me: Zid,
+    mut number: u64,
+    added: bool,
+    decls: &[Decl],
+    out: &mut Vec<(LinkNo, Msg)>,
+) -> Result<(), AllocError>
+    requires { number + length decls.now < 2 ^ 64 }
+    ensures ok { OnOk result (out.new.items ≡ out.old.items ++ all_to_each to.now (steps me number (map (λ d. record { added = added; decl = d }) decls.now))) }
+    ensures err { OnErr result (IsPrefixBehind out.old.items (all_to_each to.now (steps me number (map (λ d. record { added = added; decl = d }) decls.now))) out.new.items) }
+{
+    for decl in decls {
+        number += 1;
+        let decl = Shared::new(alloc, decl.copy(alloc)?)?;
+        let msg = Msg::Step {
+            source: me,
+            number,
+            added,
+            decl,
+        };
+        tell_each(alloc, to, &msg, out)?;
+    }
+    Ok(())
+}

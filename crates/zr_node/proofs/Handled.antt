@@ -1,0 +1,39 @@
+-- What a router refuses is neither that it is spent nor that memory ran out; and where memory ran out it refused nothing.
+use Rattle.std.proofs.Common.{◌≡◌, Bool, false, cond, List, Some, Result, Err, ap, sym, subst, ◌∙◌}
+use Rattle.zr_id.specs.declared.link.LinkNo.{LinkNo}
+use Rattle.zr_msg.specs.declared.error.NodeError.{NodeError}
+use Rattle.zr_msg.specs.declared.error.NodeError.TheVariants.{Spent, NoMemory}
+use Rattle.zr_msg.specs.declared.event.Event.{Event}
+use Rattle.zr_msg.specs.declared.msg.Msg.{Msg}
+use Rattle.zr_table.specs.State.{NodeState}
+use Rattle.zr_table.specs.Table.{refuses}
+use Rattle.zr_node.specs.Answer.{refusal_of}
+use Rattle.zr_node.specs.Done.{IsRefused, IsDone}
+use Rattle.zr_node.specs.Steps.{event_part}
+use Rattle.zr_node.specs.declared.failure.Failure.{Failure}
+use Rattle.zr_node.specs.declared.failure.Failure.TheVariants.{Refused}
+use Rattle.zr_node.proofs.Refusals.{not_memory, not_spent}
+
+-- an answer that is an error
+abbrev error : NodeError → Result (Unit {0}) NodeError
+error why = Err why
+
+same_error : (x y : NodeError) → error x ≡ error y → x ≡ y
+same_error x y h = cc
+
+module _ (n : NodeState) (event : Event) where
+  module _ (why : NodeError) (failure : Failure) (now : NodeState) (said all : List (LinkNo × Msg)) (is : failure ≡ Refused why) (done : IsDone (event_part n event) (Err failure) now said all) where
+    refused : refuses n event ≡ Some why
+    refused =
+        let h : IsRefused (event_part n event) why now said all = subst (λ (f : Failure). IsDone (event_part n event) (Err f) now said all) is done in
+        h.refused
+
+    pub refused_not_memory : error why ≡ error NoMemory → ⊥
+    refused_not_memory e = not_memory n event (refused ∙ ap Some (same_error _ _ e))
+
+    pub refused_not_spent : error why ≡ error Spent → ⊥
+    refused_not_spent e = not_spent n event (refused ∙ ap Some (same_error _ _ e))
+
+  pub memory_not_refused : n.spent ≡ false → (why : NodeError) → refusal_of n event ≡ Some why → error NoMemory ≡ error why → ⊥
+  memory_not_refused awake why h e =
+      not_memory n event (sym (ap (λ (b : Bool). cond b (Some Spent) (refuses n event)) awake) ∙ h ∙ ap Some (sym (same_error _ _ e)))

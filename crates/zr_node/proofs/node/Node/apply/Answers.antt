@@ -1,0 +1,12 @@
+use Rattle.zr_routing.specs.Tables.{TableState}
+use Rattle.zr_node.proofs.node.Node.apply.Goals as goal
+
+pub invariant_of-self : goal.invariant_of-self
+invariant_of-self c =
+    let now : TableState = record { links = c.self.inside.links; base = c.self.inside.base; rows = c.apply.new.local; known = c.self.inside.known } in
+    record {
+      links = c.self.invariant.links;
+      own = c.self.invariant.own;
+      trees = c.self.invariant.trees;
+      routes = c.clear.ensures now;
+    }

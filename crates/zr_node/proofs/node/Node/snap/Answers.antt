@@ -1,0 +1,35 @@
+use Rattle.std.proofs.Common.{◌≡◌, List, None, true, refl, sym, ap, subst, ◌∙◌}
+use Rattle.zr_log.specs.Known.{KnownState, after_snap, is_newer, refuses_snap}
+use Rattle.zr_msg.specs.declared.decl.Decl.{Decl}
+use Rattle.zr_msg.specs.declared.msg.Msg.TheVariants.{Snap}
+use Rattle.zr_routing.specs.Tables.{HaveSameTrees, leads_to_router}
+use Rattle.zr_table.specs.State.{NodeState, tables}
+use Rattle.zr_table.specs.Table.{with_known}
+use Rattle.zr_node.specs.Done.{IsLeft, IsDone}
+use Rattle.zr_node.specs.Steps.{snap_part}
+use Rattle.zr_node.specs.declared.failure.Failure.TheVariants.{NoMemory}
+use Rattle.zr_node.proofs.Done.{failed}
+use Rattle.zr_node.proofs.News.{new_is, news_taken}
+use Rattle.zr_node.proofs.node.Node.snap.Goals as goal
+
+pub returns-in_err-pass_on-in-New : goal.returns-in_err-pass_on-in-New
+returns-in_err-pass_on-in-New c =
+    let node : NodeState = record { links = c.self.inside.links; base = c.self.inside.base; rows = c.self.inside.local; known = c.self.inside.known; spent = c.self.inside.spent } in
+    let router : leads_to_router node.links c.args.link.0 ≡ true = subst (λ (m : NodeState). leads_to_router m.links c.args.link.0 ≡ true) (sym c.self.view_is) (sym c.leads_to_router.ensures ∙ c.if-not-leads_to_router.false) in
+    let next : is_newer node.known c.args.source c.args.number ≡ true = new_is _ (sym c.in-New.is ∙ c.in_ok-snap.ensures.answer) in
+    let same : HaveSameTrees (tables node) (tables (with_known node c.snap.new.self)) = record { links = refl; base = refl } in
+    subst (λ (m : NodeState). IsDone (snap_part m c.args.link.0 c.args.source c.args.number c.args.decls.now) c.from_residual-in_err-pass_on-in-New.result c.pass_on.new.self c.args.out.now.items c.pass_on.new.out.items) c.self.view_is
+    (failed (snap_part node c.args.link.0 c.args.source c.args.number c.args.decls.now) NoMemory c.from_residual-in_err-pass_on-in-New.result c.pass_on.new.self c.args.out.now.items c.pass_on.new.out.items c.from_residual-in_err-pass_on-in-New.ensures.1
+    (c.in_err-pass_on-in-New.ensures.snap_prefix (tables node) c.args.link.0 c.args.number c.args.decls.now same c.self.invariant.links.ascending router next c.requires))
+
+pub returns-in_ok-pass_on-in-New : goal.returns-in_ok-pass_on-in-New
+returns-in_ok-pass_on-in-New c =
+    let node : NodeState = record { links = c.self.inside.links; base = c.self.inside.base; rows = c.self.inside.local; known = c.self.inside.known; spent = c.self.inside.spent } in
+    let router : leads_to_router node.links c.args.link.0 ≡ true = subst (λ (m : NodeState). leads_to_router m.links c.args.link.0 ≡ true) (sym c.self.view_is) (sym c.leads_to_router.ensures ∙ c.if-not-leads_to_router.false) in
+    let next : is_newer node.known c.args.source c.args.number ≡ true = new_is _ (sym c.in-New.is ∙ c.in_ok-snap.ensures.answer) in
+    let same : HaveSameTrees (tables node) (tables (with_known node c.snap.new.self)) = record { links = refl; base = refl } in
+    subst (λ (m : NodeState). IsLeft (snap_part m c.args.link.0 c.args.source c.args.number c.args.decls.now) c.pass_on.new.self c.args.out.now.items c.pass_on.new.out.items) c.self.view_is
+    (news_taken node c.args.link.0 c.args.source (after_snap node.known c.args.source c.args.number c.args.decls.now) (is_newer node.known c.args.source c.args.number) (Snap c.args.source c.args.number c.args.decls.now) (refuses_snap node.known c.args.source c.args.number c.args.decls.now)
+    router c.pass_on.new.self c.args.out.now.items c.pass_on.new.out.items (subst (λ (ds : List Decl). refuses_snap node.known c.args.source c.args.number ds ≡ None) c.as_slice.ensures c.in_ok-snap.ensures.refused)
+    (c.pass_on.ensures.same ∙ ap (λ (k : KnownState). with_known node k) (subst (λ (ds : List Decl). c.snap.new.self ≡ after_snap node.known c.args.source c.args.number ds) c.as_slice.ensures c.in_ok-snap.ensures.known))
+    (c.in_ok-pass_on-in-New.ensures.snap (tables node) c.args.link.0 c.args.number c.args.decls.now same c.self.invariant.links.ascending router next c.requires))

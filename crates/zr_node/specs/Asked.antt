@@ -1,0 +1,26 @@
+-- What a client asks of its declarations: what becomes of the rows, and what is refused.
+use Rattle.std.specs.Prelude.{List, Option, None}
+use Rattle.std.specs.Option.{option_map, option_or}
+use Rattle.zr_local.specs.Rows.{id_kind, declared, undeclared, left, refuses_declare, refuses_undeclare}
+use Rattle.zr_local.specs.declared.row.Row.{Row}
+use Rattle.zr_msg.specs.declared.error.NodeError.{NodeError}
+use Rattle.zr_table.specs.State.{NodeState}
+use Rattle.zr_table.specs.Table.{local_error, refuses_rows}
+use Rattle.zr_node.specs.declared.asked.Asked.{Asked}
+use Rattle.zr_node.specs.declared.asked.Asked.TheVariants.{Declare, Undeclare, Leave}
+
+-- the rows once it is done
+abbrev pub rows_after : List Row → Asked → List Row
+rows_after rows (Declare link id decl) = declared rows (record { link = link; id = id; decl = decl })
+rows_after rows (Undeclare link id kind) = undeclared rows (record { link = link.0; kind = id_kind kind; id = id })
+rows_after rows (Leave link) = left rows link.0
+
+-- why it is refused for itself
+abbrev pub refuses_asked : List Row → Asked → Option NodeError
+refuses_asked rows (Declare link id decl) = option_map (λ e. local_error id e) (refuses_declare rows (record { link = link; id = id; decl = decl }))
+refuses_asked rows (Undeclare link id kind) = option_map (λ e. local_error id e) (refuses_undeclare rows (record { link = link.0; kind = id_kind kind; id = id }))
+refuses_asked rows (Leave link) = None
+
+-- why it is refused for itself, or for what the own log has no room for
+abbrev pub refuses_change : NodeState → Asked → Option NodeError
+refuses_change node asked = option_or (refuses_asked node.rows asked) (refuses_rows node (rows_after node.rows asked))

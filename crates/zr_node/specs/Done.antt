@@ -1,0 +1,37 @@
+-- What a part of an event comes to.
+use Rattle.std.specs.Prelude.{◌≡◌, ℕ, List, Option, Some, None, Result, Ok, Err}
+use Rattle.zr_id.specs.declared.link.LinkNo.{LinkNo}
+use Rattle.zr_msg.specs.declared.error.NodeError.{NodeError}
+use Rattle.zr_msg.specs.declared.msg.Msg.{Msg}
+use Rattle.zr_table.specs.Event.{Tells, TellsPrefix}
+use Rattle.zr_table.specs.State.{NodeState}
+use Rattle.zr_node.specs.declared.failure.Failure.{Failure}
+use Rattle.zr_node.specs.declared.failure.Failure.TheVariants.{Refused, NoMemory}
+
+-- a part of an event, as the table has it
+pub record Part : Type 0 where
+  -- the state before it, and the one that it leaves
+  pub before : NodeState
+  pub left : NodeState
+  -- what it sends on each link
+  pub sends : ℕ → List Msg
+  -- why it is refused, if it is
+  pub refused : Option NodeError
+
+-- it is done, and so it wasn't refused
+pub record IsLeft (part : Part) (now : NodeState) (said all : List (LinkNo × Msg)) : Type 0 where
+  pub allowed : part.refused ≡ None
+  pub state : now ≡ part.left
+  pub sends : Tells part.sends said all
+
+-- it is refused, and nothing has changed
+pub record IsRefused (part : Part) (why : NodeError) (now : NodeState) (said all : List (LinkNo × Msg)) : Type 0 where
+  pub refused : part.refused ≡ Some why
+  pub state : now ≡ part.before
+  pub sends : all ≡ said
+
+-- what is answered of it is right: `said` was sent before it, and `all` is sent now
+abbrev pub IsDone : Part → Result (Unit {0}) Failure → NodeState → List (LinkNo × Msg) → List (LinkNo × Msg) → Type 0
+IsDone part (Ok x) now said all = IsLeft part now said all
+IsDone part (Err (Refused why)) now said all = IsRefused part why now said all
+IsDone part (Err NoMemory) now said all = TellsPrefix part.sends said all

@@ -1,0 +1,156 @@
+-- An event in its parts: what becomes of a router, what it sends, and what is refused.
+use Rattle.std.specs.Prelude.{ℕ, List, ◌++◌, Option, None}
+use Rattle.zr_id.specs.Record.{RecordState}
+use Rattle.zr_id.specs.declared.link.LinkNo.{LinkNo}
+use Rattle.zr_local.specs.Rows.{Key}
+use Rattle.zr_local.specs.declared.row.Row.{Row}
+use Rattle.zr_log.specs.Log.{Change}
+use Rattle.zr_msg.specs.declared.content.Parts.{Parts}
+use Rattle.zr_msg.specs.declared.decl.Decl.{Decl}
+use Rattle.zr_msg.specs.declared.event.Event.{Event}
+use Rattle.zr_msg.specs.declared.msg.Msg.{Msg}
+use Rattle.zr_msg.specs.declared.peer.Peer.{Peer}
+use Rattle.zr_msg.specs.declared.peer.Role.{Role}
+use Rattle.zr_msg.specs.declared.peer.Role.TheVariants.{Router}
+use Rattle.zr_msg.specs.declared.peer.LinkPeer.{LinkPeer}
+use Rattle.zr_routing.specs.Samples.{sends_push}
+use Rattle.zr_routing.specs.Snapshots.{sends_step, sends_snap, sends_snapshots}
+use Rattle.zr_table.specs.State.{NodeState, new_link, tables}
+use Rattle.zr_table.specs.Table.{after, sends, refuses, base_up, base_told, joined, parted, with_base, with_link, without_link, with_known, with_rows, known_step, known_snap, rows_declared, rows_undeclared, sends_up, sends_parted, sends_state, sends_from, sends_rows, after_from, refuses_up, refuses_parting, refuses_from, refuses_declared, refuses_undeclared, refuses_step_from, refuses_snap_from}
+use Rattle.zr_node.specs.Asked.{rows_after, refuses_change}
+use Rattle.zr_node.specs.Done.{Part}
+use Rattle.zr_node.specs.declared.asked.Asked.{Asked}
+use Rattle.zr_node.specs.declared.asked.Asked.TheVariants.{Leave}
+
+-- a router with other links, and one whose clients have declared other rows, of which nothing stands in its log yet
+abbrev pub with_links : NodeState → List LinkPeer → NodeState
+with_links node links = record { links = links; base = node.base; rows = node.rows; known = node.known; spent = node.spent }
+
+abbrev pub with_local : NodeState → List Row → NodeState
+with_local node rows = record { links = node.links; base = node.base; rows = rows; known = node.known; spent = node.spent }
+
+-- the snapshots for the children that an event has made, by the state that it leaves and the one before it
+abbrev pub news_to : NodeState → NodeState → ℕ → List Msg
+news_to before now to = sends_snapshots (tables now) before.base.records to
+
+-- an event
+abbrev pub event_part : NodeState → Event → Part
+event_part node event = record { before = node; left = after node event; sends = λ to. sends node event (record { 0 = to }); refused = refuses node event }
+
+-- the Up of a peer of this role
+abbrev pub up_as : NodeState → LinkNo → Peer → Role → NodeState
+up_as node link peer role = with_links (with_base node (base_up node.base peer role)) (with_link node.links (new_link link peer))
+
+abbrev pub up_part : NodeState → LinkNo → Peer → Role → Part
+up_part node link peer role =
+    record {
+      before = node;
+      left = up_as node link peer role;
+      sends = λ to. sends_up node link.0 peer role to ++ news_to node (up_as node link peer role) to;
+      refused = refuses_up node.base role;
+    }
+
+-- the records of the Up of a router, whose link isn't there yet
+abbrev pub join_part : NodeState → LinkNo → Peer → Part
+join_part node link peer =
+    record { before = node; left = with_base node (joined node.base peer.id); sends = λ to. sends_up node link.0 peer Router to; refused = refuses_up node.base Router }
+
+-- the Down of a link to a router
+abbrev pub parted_from : NodeState → ℕ → Peer → NodeState
+parted_from node link peer = with_links (with_base node (parted node.base peer.id)) (without_link node.links link)
+
+abbrev pub down_part : NodeState → ℕ → Peer → Part
+down_part node link peer =
+    record {
+      before = node;
+      left = parted_from node link peer;
+      sends = λ to. sends_parted node link peer Router to ++ news_to node (parted_from node link peer) to;
+      refused = refuses_parting node.base Router;
+    }
+
+-- the records of the Down of a router, whose link is still there
+abbrev pub parting_part : NodeState → ℕ → Peer → Part
+parting_part node link peer =
+    record { before = node; left = with_base node (parted node.base peer.id); sends = λ to. sends_parted node link peer Router to; refused = refuses_parting node.base Router }
+
+-- the Down of a link to a client
+abbrev pub leave_part : NodeState → LinkNo → Part
+leave_part node link =
+    record {
+      before = node;
+      left = with_links (with_rows node (rows_after node.rows (Leave link))) (without_link node.links link.0);
+      sends = λ to. sends_rows node (rows_after node.rows (Leave link)) to;
+      refused = refuses_change node (Leave link);
+    }
+
+-- a message
+abbrev pub message_part : NodeState → ℕ → Msg → Part
+message_part node from msg =
+    record {
+      before = node;
+      left = after_from node from msg;
+      sends = λ to. sends_from node from msg to ++ news_to node (after_from node from msg) to;
+      refused = refuses_from node from msg;
+    }
+
+-- what a client asks of its declarations
+abbrev pub asked_part : NodeState → Asked → Part
+asked_part node asked =
+    record {
+      before = node;
+      left = with_rows node (rows_after node.rows asked);
+      sends = λ to. sends_rows node (rows_after node.rows asked) to;
+      refused = refuses_change node asked;
+    }
+
+-- what a link declares, and what it takes back
+abbrev pub declare_part : NodeState → ℕ → Row → Part
+declare_part node from r =
+    record {
+      before = node;
+      left = with_rows node (rows_declared node from r);
+      sends = λ to. sends_rows node (rows_declared node from r) to;
+      refused = refuses_declared node from r;
+    }
+
+abbrev pub undeclare_part : NodeState → ℕ → Key → Part
+undeclare_part node from k =
+    record {
+      before = node;
+      left = with_rows node (rows_undeclared node from k);
+      sends = λ to. sends_rows node (rows_undeclared node from k) to;
+      refused = refuses_undeclared node from k;
+    }
+
+-- a change and a snapshot of another router's log
+abbrev pub step_part : NodeState → ℕ → List ℕ → ℕ → Change → Part
+step_part node from source number c =
+    record {
+      before = node;
+      left = with_known node (known_step node from source number c);
+      sends = λ to. sends_step (tables node) from source number c to;
+      refused = refuses_step_from node from source number c;
+    }
+
+abbrev pub snap_part : NodeState → ℕ → List ℕ → ℕ → List Decl → Part
+snap_part node from source number decls =
+    record {
+      before = node;
+      left = with_known node (known_snap node from source number decls);
+      sends = λ to. sends_snap (tables node) from source number decls to;
+      refused = refuses_snap_from node from source number decls;
+    }
+
+-- a record
+abbrev pub told_part : NodeState → ℕ → RecordState → Part
+told_part node from told =
+    record {
+      before = node;
+      left = with_base node (base_told node from told);
+      sends = λ to. sends_state node from told to ++ news_to node (with_base node (base_told node from told)) to;
+      refused = None;
+    }
+
+-- a sample
+abbrev pub push_part : NodeState → ℕ → Option (List ℕ) → Parts → Part
+push_part node from tree content = record { before = node; left = node; sends = λ to. sends_push (tables node) from tree content to; refused = None }

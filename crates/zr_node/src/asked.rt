@@ -1,0 +1,123 @@
+//! What a client asks of its declarations, and what becomes of them.
+
+ghost use Rattle.std.specs.Prelude.{◌≡◌, ◌+◌, ◌-◌, ◌^◌, not, nat_lt, length, map, IfOk, OnOk, OnErr};
+ghost use Rattle.zr_local.specs.Rows.{gone, came};
+ghost use Rattle.zr_routing.specs.Changes.{changes_of, after_changes};
+ghost use Rattle.zr_node.specs.Answer.{IsJudged, answered};
+ghost use Rattle.zr_node.specs.Asked.{rows_after, refuses_asked};
+
+use crate::failure::Failure;
+use std::alloc::{AllocError, Global};
+use zr_id::link::LinkNo;
+use zr_local::changes::Changes;
+use zr_local::error::LocalError;
+use zr_local::local::Local;
+use zr_log::known::Known;
+use zr_msg::decl::{Decl, Kind};
+use zr_msg::error::NodeError;
+
+/// What a client asks of its declarations.
+#[derive(Debug, Drop)]
+pub enum Asked {
+    /// It declares something under an id.
+    Declare { link: LinkNo, id: u32, decl: Decl },
+    /// It takes back what it has declared under an id in this kind.
+    Undeclare { link: LinkNo, id: u32, kind: Kind },
+    /// It leaves.
+    Leave { link: LinkNo },
+}
+
+impl Asked {
+    /// The same again.
+    pub fn copy(&self, alloc: Global) -> Result<Asked, AllocError>
+        ensures { IfOk result (λ a. a ≡ self.now) }
+    {
+        Ok(match self {
+            Asked::Declare { link, id, decl } => Asked::Declare {
+                link: *link,
+                id: *id,
+                decl: decl.copy(alloc)?,
+            },
+            Asked::Undeclare { link, id, kind } => Asked::Undeclare {
+                link: *link,
+                id: *id,
+                kind: *kind,
+            },
+            Asked::Leave { link } => Asked::Leave { link: *link },
+        })
+    }
+}
+
+/// Does what a client asks, and tells what became of the set of all declarations.
+pub fn apply(local: &mut Local, asked: Asked) -> Result<Changes, Failure>
+    ensures gone { IfOk result (λ c. c.gone.items ≡ gone local.old (rows_after local.old asked)) }
+    ensures came { IfOk result (λ c. c.came.items ≡ came local.old (rows_after local.old asked)) }
+    ensures rows { OnOk result (local.new ≡ rows_after local.old asked) }
+    ensures refused { IsJudged (refuses_asked local.old asked) result }
+    ensures unchanged { OnErr result (local.new ≡ local.old) }
+{
+    match asked {
+        Asked::Declare { link, id, decl } => answer(id, local.declare(link, id, decl)),
+        Asked::Undeclare { link, id, kind } => answer(id, local.undeclare(link, id, kind)),
+        Asked::Leave { link } => Ok(local.leave(link)?),
+    }
+}
+
+// What became of it, as an answer of the router.
+fn answer(id: u32, changes: Result<Changes, LocalError>) -> Result<Changes, Failure>
+    ensures { result ≡ answered id changes }
+{
+    match changes {
+        Ok(changes) => Ok(changes),
+        Err(LocalError::UnknownId) => Err(Failure::Refused(NodeError::NotDeclared { id })),
+        Err(LocalError::TextLimit { held, more }) => {
+            Err(Failure::Refused(NodeError::TextLimit { held, more }))
+        }
+        Err(LocalError::NoMemory) => Err(Failure::NoMemory),
+    }
+}
+
+/// The same declarations of the same clients.
+pub fn copy_of(alloc: Global, local: &Local) -> Result<Local, AllocError>
+    ensures { IfOk result (λ l. l ≡ local.now) }
+{
+    let mut copy = Local::new(alloc);
+    for row in local.rows() {
+        let decl = row.decl.copy(alloc)?;
+        if copy.declare(row.link, row.id, decl).is_err() {
+            return Err(AllocError);
+        }
+    }
+    Ok(copy)
+}
+
+/// Whether a log with so many changes has room for these.
+pub fn has_room(position: u64, changes: &Changes) -> bool
+    ensures { result ≡ not (nat_lt (2 ^ 64 - 1) (position + length (changes_of changes.now.gone.items changes.now.came.items))) }
+{
+    let room = u64::MAX - position;
+    let gone = changes.gone.len() as u64;
+    let came = changes.came.len() as u64;
+    gone <= room && came <= room - gone
+}
+
+/// The own log has these changes too: first what is gone, then what came.
+pub fn log(known: &mut Known, changes: &Changes) -> Result<(), AllocError>
+    ensures known { OnOk result (known.new ≡ after_changes known.old (changes_of changes.now.gone.items changes.now.came.items)) }
+    ensures me { known.new.me ≡ known.old.me }
+{
+    log_each(known, false, changes.gone.as_slice())?;
+    log_each(known, true, changes.came.as_slice())
+}
+
+fn log_each(known: &mut Known, added: bool, decls: &[Decl]) -> Result<(), AllocError>
+    ensures known { OnOk result (known.new ≡ after_changes known.old (map (λ d. record { added = added; decl = d }) decls.now)) }
+    ensures me { known.new.me ≡ known.old.me }
+{
+    for decl in decls {
+        if known.own(added, decl).is_err() {
+            return Err(AllocError);
+        }
+    }
+    Ok(())
+}

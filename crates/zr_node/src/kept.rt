@@ -1,0 +1,79 @@
+//! What a router works out of its tables and keeps: trees, and where samples go.
+
+ghost use Rattle.std.specs.Prelude.{◌≡◌, Some, None, OnOk, OnErr, IfOk, IfSome};
+ghost use Rattle.zr_routing.specs.Samples.{sends_push};
+ghost use Rattle.zr_routing.specs.Tables.{AreNumbered, link_at};
+ghost use Rattle.zr_table.specs.Event.{Tells, TellsPrefix};
+ghost use Rattle.zr_node.specs.Routes.{AreRoutes};
+
+use crate::links::Links;
+use crate::routes::Routes;
+use std::alloc::{AllocError, Global};
+use zr_graph::base::Base;
+use zr_id::link::LinkNo;
+use zr_id::zid::Zid;
+use zr_local::local::Local;
+use zr_log::known::Known;
+use zr_msg::content::Content;
+use zr_msg::msg::Msg;
+use zr_msg::peer::LinkPeer;
+use zr_push::push::tree_of;
+use zr_push::route::Route;
+use zr_routing::tables::Tables;
+use zr_tree::trees::Trees;
+
+/// The trees of the records: those that are kept, or worked out anew.
+pub fn take_trees(alloc: Global, kept: &mut Option<Trees>, base: &Base) -> Result<Trees, AllocError>
+    requires { IfSome kept.old (λ t. t ≡ base.now.records) }
+    ensures trees { IfOk result (λ t. t ≡ base.now.records) }
+    ensures left { kept.new ≡ None }
+{
+    match kept.take() {
+        Some(trees) => Ok(trees),
+        None => Trees::of(alloc, base),
+    }
+}
+
+/// What a router goes by, lent.
+pub fn lend<'a>(
+    links: &'a Links,
+    base: &Base,
+    trees: &'a Trees,
+    local: &'a Local,
+    known: &'a Known,
+) -> Tables<'a>
+    requires { trees.now ≡ base.now.records }
+    ensures { result ≡ record { links = links.now; base = base.now; rows = local.now; known = known.now } }
+{
+    Tables::new(base.me(), links.as_slice(), trees, local, known)
+}
+
+/// A sample of a link goes along the route of its tree and key: one that is remembered, or else one that is worked out, and remembered.
+pub fn push_along(
+    alloc: Global,
+    tables: &Tables,
+    routes: &mut Routes,
+    from: LinkPeer,
+    named: Option<Zid>,
+    content: &Content,
+    out: &mut Vec<(LinkNo, Msg)>,
+) -> Result<(), AllocError>
+    requires routes { AreRoutes routes.old tables.now }
+    requires numbered { AreNumbered tables.now.links }
+    requires at { link_at tables.now.links from.link.0 ≡ Some from }
+    ensures routes { AreRoutes routes.new tables.now }
+    ensures sends { OnOk result (Tells (sends_push tables.now from.link.0 named content.now) out.old.items out.new.items) }
+    ensures prefix { OnErr result (TellsPrefix (sends_push tables.now from.link.0 named content.now) out.old.items out.new.items) }
+{
+    let link = from.link;
+    let Some(tree) = tree_of(tables, from, named) else {
+        return Ok(());
+    };
+    let key = content.key();
+    if let Some(route) = routes.find(tree, key) {
+        return route.send(alloc, link, tree, content, out);
+    }
+    let route = Route::of(alloc, tables, tree, key)?;
+    route.send(alloc, link, tree, content, out)?;
+    routes.remember(alloc, tree, key, route)
+}

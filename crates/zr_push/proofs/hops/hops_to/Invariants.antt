@@ -1,0 +1,9 @@
+-- A neighbour is among those so far, or on the way to one of the logs that are left.
+use Rattle.std.proofs.Common.{◌≡◌, ◌||◌, ℕ, List, drop}
+use Rattle.std.specs.List.{list_any}
+use Rattle.zr_graph.specs.Record.{has}
+use Rattle.zr_push.specs.Route.{is_way_to}
+use Rattle.zr_push.proofs.hops.hops_to.Given as goal
+
+abbrev pub invariant-loop-log : goal.invariant-loop-log
+invariant-loop-log l = (name : List ℕ) → (has l.hops name || list_any (is_way_to l.tables l.tree l.key name) (drop l.log-index l.logs)) ≡ list_any (is_way_to l.tables l.tree l.key name) l.logs

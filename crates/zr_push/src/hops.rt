@@ -1,0 +1,129 @@
+//! `Hops`: the neighbours on the way to some routers.
+
+ghost use Rattle.std.specs.Prelude.{◌≡◌, ◌||◌, ℕ, List, [], false, IfOk, OnOk};
+ghost use Rattle.std.specs.Cmp.Lexicographic.{slice_cmp};
+ghost use Rattle.std.specs.List.{list_any};
+ghost use Rattle.std.specs.Option.{option_map_or};
+ghost use Rattle.std.specs.Ordering.{nat_cmp};
+ghost use Rattle.zr_graph.specs.Record.{has, IsAscending};
+ghost use Rattle.zr_id.specs.Zid.{is_named};
+ghost use Rattle.zr_push.specs.Route.{is_way_to};
+ghost use Rattle.zr_routing.specs.Samples.{leads_to_subscriber};
+ghost use Rattle.zr_set.specs.Ascending.{put};
+ghost use Rattle.zr_set.specs.Place.{IsGap, IsPlace};
+
+use crate::subscribers::has_subscriber;
+use std::alloc::{AllocError, Global};
+use std::marker::Model;
+use zr_id::zid::Zid;
+use zr_key::key::KeyExpr;
+use zr_log::log::Log;
+use zr_routing::tables::Tables;
+
+/// Some neighbours, in ascending order.
+#[derive(Drop)]
+pub struct Hops {
+    names: Vec<Zid>,
+}
+
+impl Model for Hops {
+    ghost use Rattle.std.specs.Prelude.{List, ℕ};
+    ghost use Rattle.zr_graph.specs.Record.{IsAscending};
+
+    ghost Value = { List (List ℕ) };
+
+    ghost view = { λ h. h.names.items };
+
+    ghost invariant = { λ h. IsAscending h.names.items };
+}
+
+impl Hops {
+    fn new(alloc: Global) -> Hops
+        ensures { result ≡ [] }
+    {
+        Hops {
+            names: Vec::new(alloc),
+        }
+    }
+
+    /// The neighbours on the way in a tree to the routers that are reached and whose clients subscribe to an expression that meets the key.
+    pub fn to_subscribers(
+        alloc: Global,
+        tables: &Tables,
+        tree: Zid,
+        key: &KeyExpr,
+    ) -> Result<Hops, AllocError>
+        ensures { IfOk result (λ h. (name : List ℕ) → has h name ≡ leads_to_subscriber tables.now tree key.now name) }
+    {
+        hops_to(alloc, tables, tree, key, tables.known().logs())
+    }
+
+    /// Whether a neighbour is among them.
+    pub fn has(&self, name: &Zid) -> bool
+        ensures { result ≡ has self.now name.now }
+    {
+        place_of(&self.names, name).is_ok()
+    }
+
+    fn extend(&mut self, hop: Option<Zid>) -> Result<(), AllocError>
+        ensures { (name : List ℕ) → OnOk result (has self.new name ≡ (option_map_or (λ y. is_named y name) hop false || has self.old name)) }
+    {
+        match hop {
+            Some(name) => self.add(name),
+            None => Ok(()),
+        }
+    }
+
+    fn add(&mut self, name: Zid) -> Result<(), AllocError>
+        ensures { OnOk result (self.new ≡ put (slice_cmp nat_cmp) (λ n. n) self.old name) }
+    {
+        match place_of(&self.names, &name) {
+            Ok(_) => Ok(()),
+            Err(at) => self.insert(at, name),
+        }
+    }
+
+    fn insert(&mut self, at: usize, name: Zid) -> Result<(), AllocError>
+        requires { IsGap (slice_cmp nat_cmp) (λ n. n) self.old name at }
+        ensures { OnOk result (self.new ≡ put (slice_cmp nat_cmp) (λ n. n) self.old name) }
+    {
+        self.names.insert(at, name)?;
+        Ok(())
+    }
+}
+
+fn hops_to(
+    alloc: Global,
+    tables: &Tables,
+    tree: Zid,
+    key: &KeyExpr,
+    logs: &[Log],
+) -> Result<Hops, AllocError>
+    ensures { IfOk result (λ h. (name : List ℕ) → has h name ≡ list_any (is_way_to tables.now tree key.now name) logs.now) }
+{
+    let mut hops = Hops::new(alloc);
+    for log in logs {
+        hops.extend(hop_to(tables, tree, key, log))?;
+    }
+    Ok(hops)
+}
+
+fn place_of(names: &[Zid], name: &Zid) -> Result<usize, usize>
+    requires { IsAscending names.now }
+    ensures { IsPlace (slice_cmp nat_cmp) (λ n. n) names.now name.now result }
+{
+    names.binary_search(name)
+}
+
+// The neighbour on the way to the router of a log, if it is reached and its clients subscribe.
+fn hop_to(tables: &Tables, tree: Zid, key: &KeyExpr, log: &Log) -> Option<Zid>
+    ensures { (name : List ℕ) → option_map_or (λ y. is_named y name) result false ≡ is_way_to tables.now tree key.now name log.now }
+{
+    let me = tables.me();
+    let trees = tables.trees();
+    if has_subscriber(log, key) && trees.reached(me, log.source) {
+        trees.toward(tree, me, log.source)
+    } else {
+        None
+    }
+}
