@@ -1,5 +1,5 @@
 -- What a call has done at an end.
-use Rattle.std.specs.Prelude.{◌≡◌, List, Option, Some, None, Result, Ok, Err}
+use Rattle.std.specs.Prelude.{◌≡◌, List, ◌∷◌, Option, Some, None, Result, Ok, Err}
 use Rattle.zr_command.specs.declared.error.ScriptError.{ScriptError}
 use Rattle.zr_language.specs.Step.{◌>>=◌}
 use Rattle.zr_network.specs.World.{Tagged, EndState, End, Ends, end_of, with_end, with_wire, with_queue}
@@ -14,6 +14,10 @@ Gives (Err refusal) said old new = (said ≡ Err refusal) × (new ≡ old)
 abbrev pub changed_at : Ends → End → (EndState → EndState) → Option EndState → Ends
 changed_at ends e change None = ends
 changed_at ends e change (Some s) = with_end ends e (change s)
+
+-- a message is back on the wire, before all others
+abbrev pub returned : EndState → Tagged → EndState
+returned s x = with_wire s (x ∷ s.wire)
 
 -- the oldest message on the wire of an end that is up, and the ends without it
 unfoldable pub from_wire : Ends → End → Result (Tagged × Ends) ScriptError

@@ -4,6 +4,7 @@ ghost use Rattle.std.specs.Prelude.{◌≡◌, ◌∷◌, [], not, IfNone, IfSom
 ghost use Rattle.std.specs.List.{list_all};
 ghost use Rattle.zr_network.specs.World.{new_end, sent, queued, with_wire, with_queue, broken, lifted, lowered, is_empty, unsettles, is_calm, is_calm_end};
 ghost use Rattle.zr_network.specs.Next.{can_handle, can_take};
+ghost use Rattle.zr_ends.specs.Steps.{returned};
 
 use std::alloc::{AllocError, Global};
 use std::collections::VecDeque;
@@ -139,6 +140,16 @@ impl LinkEnd {
         ensures none { IfNone result ((self.old.wire ≡ []) × (self.new ≡ self.old)) }
     {
         self.wire.pop_front()
+    }
+
+    /// A message that was taken off the wire is back on it, before all others.
+    pub fn put_back(&mut self, x: Tagged) -> Result<(), AllocError>
+        ensures back { OnOk result (self.new ≡ returned self.old x) }
+        ensures err { OnErr result (self.new ≡ self.old) }
+        ensures take { can_take self.new ≡ can_take self.old }
+    {
+        self.wire.push_front(x)?;
+        Ok(())
     }
 
     /// The oldest message that is queued, which leaves the queue.

@@ -4,7 +4,7 @@ ghost use Rattle.std.specs.Prelude.{◌≡◌, ◌∷◌, [], true, OnOk};
 ghost use Rattle.std.specs.Option.{option_copied};
 ghost use Rattle.zr_network.specs.World.{end_of, put_end, changed, is_idle, sent, queued, broken, lifted, lowered};
 ghost use Rattle.zr_network.specs.Next.{first_where, can_handle, can_take};
-ghost use Rattle.zr_ends.specs.Steps.{Gives, changed_at, from_wire, from_queue};
+ghost use Rattle.zr_ends.specs.Steps.{Gives, changed_at, returned, from_wire, from_queue};
 
 use crate::end::{LinkEnd, Tagged};
 use crate::end_set::first;
@@ -133,6 +133,13 @@ impl Ends {
         ensures { Gives result (from_wire self.old at) self.old self.new }
     {
         waiting::next_sent(&mut self.map, &mut self.to_handle, at)
+    }
+
+    /// A message that was taken off the wire to an end is back on it, before all others, where the end is there.
+    pub fn put_back(&mut self, at: (Zid, Zid), x: Tagged) -> Result<(), AllocError>
+        ensures { OnOk result (self.new ≡ changed_at self.old at (λ s. returned s x) (end_of self.old at)) }
+    {
+        waiting::put_back(&mut self.map, &mut self.to_handle, at, x)
     }
 
     /// The oldest message that is queued at an end that is up, where the link is unbroken. It leaves the queue.

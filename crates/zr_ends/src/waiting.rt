@@ -5,7 +5,7 @@
 ghost use Rattle.std.specs.Prelude.{◌≡◌, ◌∷◌, [], true, List, OnOk};
 ghost use Rattle.zr_network.specs.World.{End, end_of, is_idle, sent, queued, broken, lifted, lowered, put_end};
 ghost use Rattle.zr_ends.specs.Index.{IsIndexed};
-ghost use Rattle.zr_ends.specs.Steps.{Gives, changed_at, from_wire, from_queue};
+ghost use Rattle.zr_ends.specs.Steps.{Gives, changed_at, returned, from_wire, from_queue};
 
 use crate::end::{LinkEnd, Tagged};
 use crate::end_set::{drop_unless, note};
@@ -78,6 +78,26 @@ pub fn next_sent(
     };
     drop_unless(to_handle, at, end.can_handle());
     Ok(x)
+}
+
+/// A message that was taken off the wire of an end is back on it, before all others.
+#[tactic(auto, using(std::proofs::lemmas::Map::Steps::set_value_same))]
+pub fn put_back(
+    map: &mut BTreeMap<(Zid, Zid), LinkEnd>,
+    to_handle: &mut BTreeSet<(Zid, Zid)>,
+    at: (Zid, Zid),
+    x: Tagged,
+) -> Result<(), AllocError>
+    ensures back { OnOk result (map.new.entries ≡ changed_at map.old.entries at (λ s. returned s x) (end_of map.old.entries at)) }
+    ensures index { (to_take : List End) → IsIndexed map.old.entries to_handle.old.keys to_take → IsIndexed map.new.entries to_handle.new.keys to_take }
+{
+    let Some(end) = map.get_mut(&at) else {
+        return Ok(());
+    };
+    note(to_handle, at, end.can_handle())?;
+    let done = end.put_back(x);
+    drop_unless(to_handle, at, end.can_handle());
+    done
 }
 
 /// The oldest message in the queue of an end that is up, where the link is unbroken. It leaves the queue.

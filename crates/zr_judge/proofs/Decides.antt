@@ -17,12 +17,13 @@ use Rattle.zr_network.proofs.Names.{names, same_name}
 use Rattle.zr_table.specs.Prefix.{IsPrefixOf}
 use Rattle.zr_network.specs.World.{WorldState, is_quiet}
 use Rattle.zr_network.specs.Moments.{Numbered}
+use Rattle.zr_guarantee.specs.Names.{is_router}
 use Rattle.zr_guarantee.specs.Item.{Item}
 use Rattle.zr_guarantee.specs.Broker.{attached_by, is_attached, declarations, asks_for, wants, Publication, publication, is_publisher, is_line_of, is_sample_line, item_for, from}
 use Rattle.zr_guarantee.specs.Sent.{sample_of, items_of, item_of, sent_in, sent_to}
 use Rattle.zr_guarantee.specs.Refines.{Refines}
 use Rattle.zr_network.proofs.Lists.{all_both, all_parts}
-use Rattle.zr_judge.specs.Judge.{Judged, Judges, is_same_bytes, is_same_extras, is_same_content, is_same, is_prefix, sent_by, pair_holds, holds_for_client, holds_for_receiver, holds_for_all, holds_for, holds_for_publisher, is_allowed, may_be_sent, judgement}
+use Rattle.zr_judge.specs.Judge.{is_right, Judged, Judges, is_same_bytes, is_same_extras, is_same_content, is_same, is_prefix, sent_by, pair_holds, holds_for_client, holds_for_receiver, holds_for_all, holds_for, holds_for_publisher, is_allowed, may_be_sent, judgement}
 
 -- ---- prefixes
 
@@ -164,6 +165,7 @@ tells_of d (r.Mark line) = false
 tells_of d (r.Show router) = false
 tells_of d (r.Record links) = false
 tells_of d (r.Parent root parent) = false
+tells_of d (r.Source source number decls) = false
 
 none_sent : (report : List ReportLine) (d : List ℕ) → list_any (tells_of d) report ≡ false → sent_to report d ≡ []
 none_sent [] d h = refl
@@ -179,11 +181,12 @@ none_sent (x ∷ xs) d h =
     by (r.Show router) k = refl
     by (r.Record links) k = refl
     by (r.Parent root parent) k = refl
+    by (r.Source source number decls) k = refl
 
 module _ (j : Judged) where
   -- where nothing is to be had and nothing was sent
   nothing_holds : (a d : List ℕ) → sent_by j a d ≡ [] → from j.before j.phase a d ≡ [] → pair_holds j a d ≡ true
-  nothing_holds a d es ed = rw (es, ed) (or_right (not j.quiet) true refl)
+  nothing_holds a d es ed = or_right (is_router j.before d) (is_right j a d) (rw (es, ed) (or_right (not j.quiet) true refl))
 
   -- ---- names that are looked at
 
@@ -234,6 +237,7 @@ module _ (j : Judged) where
       by (r.Show router) here ih (inl e) = absurd (false≢true e)
       by (r.Record links) here ih (inl e) = absurd (false≢true e)
       by (r.Parent root parent) here ih (inl e) = absurd (false≢true e)
+      by (r.Source source number decls) here ih (inl e) = absurd (false≢true e)
       by line here ih (inr e) = ih e
 
   -- so every pair of names holds
@@ -281,6 +285,7 @@ module _ (j : Judged) where
       by (r.Show router) k = refl
       by (r.Record links) k = refl
       by (r.Parent root parent) k = refl
+      by (r.Source source number decls) k = refl
 
   may_all : (report : List ReportLine) → ((d : List ℕ) → list_all may_be (sent_to report d) ≡ true) → list_all (λ x. may_be_sent j x) report ≡ true
   may_all [] h = refl
@@ -300,28 +305,31 @@ module _ (j : Judged) where
       by (r.Show router) k = refl
       by (r.Record links) k = refl
       by (r.Parent root parent) k = refl
+      by (r.Source source number decls) k = refl
 
   -- ---- both ways
 
   module _ (w : WorldState) (quiet_is : is_quiet w ≡ j.quiet) where
     sound : judgement j ≡ true → Refines j.before j.mark j.phase (record { world = w; report = j.report })
     sound h = record {
-      prefix = λ a d. prefix_means (sent_by j a d) (from j.before j.phase a d) (pair a d).0;
+      prefix = λ a d other. prefix_means (sent_by j a d) (from j.before j.phase a d) (pair a d other).0;
       nothing_else = λ d. all_may j.report d (and_parts (list_all (λ x. holds_for_publisher j x.1) j.phase) (list_all (λ x. may_be_sent j x) j.report) h).1;
-      whole = λ quiet a d. both_prefixes (sent_by j a d) (from j.before j.phase a d) (pair a d).0
-          (ap (λ b. not b || is_prefix (from j.before j.phase a d) (sent_by j a d)) (sym (sym quiet_is ∙ quiet)) ∙ (pair a d).1);
+      whole = λ quiet a d other. both_prefixes (sent_by j a d) (from j.before j.phase a d) (pair a d other).0
+          (ap (λ b. not b || is_prefix (from j.before j.phase a d) (sent_by j a d)) (sym (sym quiet_is ∙ quiet)) ∙ (pair a d other).1);
     }
       where
-        pair : (a d : List ℕ) → (is_prefix (sent_by j a d) (from j.before j.phase a d) ≡ true) × ((not j.quiet || is_prefix (from j.before j.phase a d) (sent_by j a d)) ≡ true)
-        pair a d = and_parts (is_prefix (sent_by j a d) (from j.before j.phase a d)) (not j.quiet || is_prefix (from j.before j.phase a d) (sent_by j a d)) (every_pair h a d)
+        pair : (a d : List ℕ) → is_router j.before d ≡ false →
+            (is_prefix (sent_by j a d) (from j.before j.phase a d) ≡ true) × ((not j.quiet || is_prefix (from j.before j.phase a d) (sent_by j a d)) ≡ true)
+        pair a d other = and_parts (is_prefix (sent_by j a d) (from j.before j.phase a d)) (not j.quiet || is_prefix (from j.before j.phase a d) (sent_by j a d))
+            (sym (ap (λ b. b || is_right j a d) other) ∙ every_pair h a d)
 
     complete : Refines j.before j.mark j.phase (record { world = w; report = j.report }) → judgement j ≡ true
     complete h = and_from (list_all (λ x. holds_for_publisher j x.1) j.phase) (list_all (λ x. may_be_sent j x) j.report)
         (all_true (λ x. holds_for_publisher j x.1) (λ x. publisher x.1) j.phase) (may_all j.report h.nothing_else)
       where
-        pair : (a d : List ℕ) → pair_holds j a d ≡ true
-        pair a d = and_from (is_prefix sent due) (not j.quiet || is_prefix due sent)
-            (ap (is_prefix sent) (h.prefix a d).1 ∙ prefix_of sent (h.prefix a d).0) (by j.quiet refl)
+        right : (a d : List ℕ) → is_router j.before d ≡ false → is_right j a d ≡ true
+        right a d other = and_from (is_prefix sent due) (not j.quiet || is_prefix due sent)
+            (ap (is_prefix sent) (h.prefix a d other).1 ∙ prefix_of sent (h.prefix a d other).0) (by j.quiet refl)
           where
             sent : List Item
             sent = sent_by j a d
@@ -331,7 +339,14 @@ module _ (j : Judged) where
 
             by : (b : Bool) → j.quiet ≡ b → (not b || is_prefix due sent) ≡ true
             by false e = refl
-            by true e = ap (is_prefix due) (h.whole (quiet_is ∙ e) a d) ∙ prefix_self due
+            by true e = ap (is_prefix due) (h.whole (quiet_is ∙ e) a d other) ∙ prefix_self due
+
+        pair : (a d : List ℕ) → pair_holds j a d ≡ true
+        pair a d = at (is_router j.before d) refl
+          where
+            at : (b : Bool) → is_router j.before d ≡ b → (b || is_right j a d) ≡ true
+            at true e = refl
+            at false e = right a d e
 
         client : (a : List ℕ) (act : Act) → holds_for_client j a act ≡ true
         client a (c.Client id router) = pair a id
@@ -345,6 +360,7 @@ module _ (j : Judged) where
         receiver a (r.Show router) = refl
         receiver a (r.Record links) = refl
         receiver a (r.Parent root parent) = refl
+        receiver a (r.Source source number decls) = refl
 
         all : (name : List ℕ) → holds_for_all j name ≡ true
         all name = and_from (list_all (λ x. holds_for_client j name x.1) j.before) (list_all (λ x. holds_for_receiver j name x) j.report)

@@ -12,6 +12,7 @@ use Rattle.zr_command.specs.declared.report.ReportLine.TheVariants as r
 use Rattle.zr_network.specs.World.{WorldState, is_quiet}
 use Rattle.zr_network.specs.Moments.{Numbered}
 use Rattle.zr_guarantee.specs.Item.{Item}
+use Rattle.zr_guarantee.specs.Names.{is_router}
 use Rattle.zr_guarantee.specs.Broker.{Publication, publication, is_line_of, is_sample_line, from}
 use Rattle.zr_guarantee.specs.Sent.{sample_of, sent_to}
 use Rattle.zr_guarantee.specs.Refines.{Refines}
@@ -65,10 +66,14 @@ abbrev pub sent_by : Judged → List ℕ → List ℕ → List Item
 sent_by j publisher receiver = filter (λ i. is_line_of j.phase publisher i.line) (sent_to j.report receiver)
 
 -- whether that begins what it is to have, and is the whole where nothing is under way
-abbrev pub pair_holds : Judged → List ℕ → List ℕ → Bool
-pair_holds j publisher receiver =
+abbrev pub is_right : Judged → List ℕ → List ℕ → Bool
+is_right j publisher receiver =
     is_prefix (sent_by j publisher receiver) (from j.before j.phase publisher receiver)
     && (not j.quiet || is_prefix (from j.before j.phase publisher receiver) (sent_by j publisher receiver))
+
+-- so it is with each receiver, but of what a router is sent nothing is said
+abbrev pub pair_holds : Judged → List ℕ → List ℕ → Bool
+pair_holds j publisher receiver = is_router j.before receiver || is_right j publisher receiver
 
 -- the same for the client that an act attaches
 abbrev pub holds_for_client : Judged → List ℕ → Act → Bool
@@ -80,6 +85,8 @@ holds_for_client j publisher (a.Break router neighbour) = true
 holds_for_client j publisher (a.Down router neighbour) = true
 holds_for_client j publisher (a.Sub client id key) = true
 holds_for_client j publisher (a.Unsub client id) = true
+holds_for_client j publisher (a.Able client id key complete) = true
+holds_for_client j publisher (a.Unable client id) = true
 holds_for_client j publisher (a.Publish client content) = true
 holds_for_client j publisher (a.Handle router from) = true
 holds_for_client j publisher (a.Take router to) = true
@@ -95,6 +102,7 @@ holds_for_receiver j publisher (r.Mark line) = true
 holds_for_receiver j publisher (r.Show router) = true
 holds_for_receiver j publisher (r.Record links) = true
 holds_for_receiver j publisher (r.Parent root parent) = true
+holds_for_receiver j publisher (r.Source source number decls) = true
 
 -- ---- all of them
 
@@ -125,6 +133,7 @@ may_be_sent j (r.Mark line) = true
 may_be_sent j (r.Show router) = true
 may_be_sent j (r.Record links) = true
 may_be_sent j (r.Parent root parent) = true
+may_be_sent j (r.Source source number decls) = true
 
 -- the judgement
 abbrev pub judgement : Judged → Bool

@@ -3,7 +3,8 @@
 ghost use Rattle.std.specs.Prelude.{◌≡◌, IfOk};
 ghost use Rattle.std.specs.List.{list_all};
 ghost use Rattle.zr_guarantee.specs.Broker.{publishes, is_sample_line};
-ghost use Rattle.zr_judge.specs.Judge.{Judges, pair_holds, holds_for_client, holds_for_receiver, holds_for_all, holds_for_publisher, may_be_sent, judgement};
+ghost use Rattle.zr_guarantee.specs.Names.{brings_router, is_router};
+ghost use Rattle.zr_judge.specs.Judge.{Judges, is_right, pair_holds, holds_for_client, holds_for_receiver, holds_for_all, holds_for_publisher, may_be_sent, judgement};
 
 use crate::sample::{due, is_prefix, sample_of, sent};
 use std::alloc::{AllocError, Global};
@@ -144,6 +145,15 @@ fn pair_holds(
 ) -> Result<bool, AllocError>
     ensures { IfOk result (λ answer. answer ≡ pair_holds case.now publisher.now receiver.now) }
 {
+    if is_router(case.before.as_slice(), receiver) {
+        return Ok(true);
+    }
+    is_right(alloc, case, publisher, receiver)
+}
+
+fn is_right(alloc: Global, case: &Case, publisher: &Zid, receiver: &Zid) -> Result<bool, AllocError>
+    ensures { IfOk result (λ answer. answer ≡ is_right case.now publisher.now receiver.now) }
+{
     let before = case.before.as_slice();
     let phase = case.phase.as_slice();
     let sent = sent(alloc, phase, case.report.as_slice(), publisher, receiver)?;
@@ -151,6 +161,21 @@ fn pair_holds(
     let begins = is_prefix(sent.as_slice(), due.as_slice());
     let ends = is_prefix(due.as_slice(), sent.as_slice());
     Ok(begins && (!case.quiet || ends))
+}
+
+fn is_router(before: &[(u64, Act)], name: &Zid) -> bool
+    ensures { result ≡ is_router before.now name.now }
+{
+    before.iter().any(|x| brings_router(name, &x.1))
+}
+
+fn brings_router(name: &Zid, act: &Act) -> bool
+    ensures { result ≡ brings_router name.now act.now }
+{
+    match act {
+        Act::Router { id } => name == id,
+        _ => false,
+    }
 }
 
 fn may_all_be_sent(case: &Case) -> bool

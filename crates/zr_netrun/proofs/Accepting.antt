@@ -1,11 +1,11 @@
 -- Which acts lines add: it depends on the run before them but for its text (`accepted_with`), some lines and then others add theirs one
 -- after another (`accepted_append`), and of a line that is not whole yet the prefix of 4,097 bytes is enough (`accepted_kept`).
-use Rattle.std.proofs.Common.{◌≡◌, ℕ, ◌+◌, cond, List, [], ◌∷◌, ◌++◌, take, Option, Some, None, Result, Ok, Err, is_some, refl, sym, ap, ◌∙◌, append_assoc, arith, subst}
+use Rattle.std.proofs.Common.{◌≡◌, ℕ, ◌+◌, cond, List, [], ◌∷◌, ◌++◌, take, Option, Some, Result, Ok, Err, is_some, refl, sym, ap, ◌∙◌, append_assoc, arith, subst}
 use Rattle.std.specs.Prelude.{OnOk}
 use Rattle.std.specs.List.{fold}
 use Rattle.std.proofs.lemmas.List.{take_all}
 use Rattle.std.proofs.lemmas.List.Sums.{fold-append}
-use Rattle.zr_language.specs.Lines.{most_kept, parts, all_but_last, ended_lines, open_line, lines, unless_empty}
+use Rattle.zr_language.specs.Lines.{most_kept, parts, all_but_last, ended_lines, open_line, unless_empty}
 use Rattle.zr_language.specs.Command.{command_of}
 use Rattle.zr_network.specs.Run.{Run, start, commanded, on_line, run_lines, run_of_ended}
 use Rattle.zr_network.specs.Moments.{Numbered, Moment, beginning, onward, reached}

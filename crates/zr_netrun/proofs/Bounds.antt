@@ -1,7 +1,7 @@
 -- No count of a script passes 2 ^ 64 - 1 (`counts_fit`): each act adds one at most (`act_keeps`), a line has no more acts than a run may
 -- ask for steps (`acts_of_line`), and a script has no more lines than bytes but for one (`few_lines`).
-use Rattle.std.proofs.Common.{◌≡◌, ℕ, zero, suc, ◌+◌, ◌-◌, ◌*◌, ◌^◌, ◌≤◌, min, Bool, true, false, cond, List, [], ◌∷◌, ◌++◌, length, Option, Some, None, Result, Ok, Err, refl, sym, ap, ◌∙◌, arith, subst}
-use Rattle.std.specs.Prelude.{◌==◌, is_some, nat_le, map, IfSome}
+use Rattle.std.proofs.Common.{◌≡◌, ℕ, zero, suc, ◌+◌, ◌-◌, ◌*◌, ◌^◌, ◌≤◌, min, Bool, true, false, cond, List, [], ◌∷◌, ◌++◌, length, Option, Some, None, Result, Ok, Err, refl, sym, ap, ◌∙◌, arith}
+use Rattle.std.specs.Prelude.{◌==◌, is_some, nat_le, IfSome}
 use Rattle.std.specs.List.{fold, count_by}
 use Rattle.std.proofs.lemmas.Bool.{false≢true, leb-true}
 use Rattle.std.proofs.lemmas.List.{length-append}
@@ -15,16 +15,15 @@ use Rattle.zr_command.specs.declared.command.Command.TheVariants as c
 use Rattle.zr_command.specs.declared.report.ReportLine.{ReportLine}
 use Rattle.zr_command.specs.declared.report.ReportLine.TheVariants as line
 use Rattle.zr_language.specs.Step.{◌>>=◌}
-use Rattle.zr_language.specs.Lines.{most_bytes, parts, all_but_last, last_part, ended_lines, open_line, unless_empty, lines}
+use Rattle.zr_language.specs.Lines.{most_bytes, parts, all_but_last, ended_lines, open_line, unless_empty, lines}
 use Rattle.zr_language.specs.Command.{command_of}
 use Rattle.zr_network.specs.World.{WorldState, Routers, most_steps}
-use Rattle.zr_network.specs.Acts.{Outcome, outcome}
+use Rattle.zr_network.specs.Acts.{outcome}
 use Rattle.zr_network.specs.Next.{Done, next, world_after, with_more, run_steps, acts, booking, book_step, run_done, applied}
 use Rattle.zr_network.specs.Run.{Run, start, stepped, commanded, on_line}
 use Rattle.zr_network.specs.Moments.{Numbered, Moment, beginning, went, onward, reached}
 use Rattle.zr_network.specs.Accepted.{entries, accepted_from, accepted}
 use Rattle.zr_network.proofs.Lines.{numbered, refused_stays}
-use Rattle.zr_netrun.specs.declared.counts.Counts.{Counts}
 use Rattle.zr_netrun.specs.Summary.{tells_handled, tells_taken, tells_sent, tells_mark, counts_in, counts_of}
 use Rattle.zr_netrun.specs.Counted.{all_capped}
 use Rattle.zr_netrun.proofs.Known.{is_counted, Goes, count_cons, act_keeps}
@@ -170,6 +169,7 @@ counts_less rs ls n few room = λ i. record {
     h (line.Show router) e = refl
     h (line.Record links) e = refl
     h (line.Parent root parent) e = refl
+    h (line.Source source number decls) e = refl
 
     t : (l : ReportLine) → is_counted l ≡ false → tells_taken rs l ≡ false
     t (line.Handled router from msg tag) e = refl
@@ -179,6 +179,7 @@ counts_less rs ls n few room = λ i. record {
     t (line.Show router) e = refl
     t (line.Record links) e = refl
     t (line.Parent root parent) e = refl
+    t (line.Source source number decls) e = refl
 
     s : (l : ReportLine) → is_counted l ≡ false → tells_sent rs l ≡ false
     s (line.Handled router from msg tag) e = refl
@@ -188,6 +189,7 @@ counts_less rs ls n few room = λ i. record {
     s (line.Show router) e = refl
     s (line.Record links) e = refl
     s (line.Parent root parent) e = refl
+    s (line.Source source number decls) e = refl
 
     k : (l : ReportLine) → is_counted l ≡ false → tells_mark l ≡ false
     k (line.Handled router from msg tag) e = refl
@@ -197,6 +199,7 @@ counts_less rs ls n few room = λ i. record {
     k (line.Show router) e = refl
     k (line.Record links) e = refl
     k (line.Parent root parent) e = refl
+    k (line.Source source number decls) e = refl
 
 -- what is counted of a script is just what there is
 pub counts_fit : (bytes : List ℕ) (m : Moment) → length bytes ≤ most_bytes → reached (accepted (lines bytes)) ≡ Some m → all_capped (counts_of m) ≡ counts_of m

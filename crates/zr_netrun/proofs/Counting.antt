@@ -1,8 +1,8 @@
 -- Counting goes on act by act (`act_counts`), with what was said of a moment's report. What is ahead is a list of accepted acts: of a
 -- line, of a run, of a piece; each part that is done leaves the rest (`ahead_more`), until none is left.
-use Rattle.std.proofs.Common.{◌≡◌, ℕ, zero, suc, ◌+◌, ◌-◌, ◌<◌, Bool, true, false, cond, not, List, [], ◌∷◌, ◌++◌, Option, Some, None, Result, Ok, Err, refl, sym, ap, ◌∙◌, ◌⊎◌, inl, inr, append-nil, append_assoc, add-zero, arith, subst}
+use Rattle.std.proofs.Common.{◌≡◌, ℕ, suc, ◌+◌, ◌-◌, ◌<◌, Bool, true, false, cond, not, List, [], ◌∷◌, ◌++◌, Option, Some, None, Result, Ok, Err, refl, sym, ap, ◌∙◌, ◌⊎◌, inl, append-nil, arith, subst}
 use Rattle.std.specs.Prelude.{nat_le, is_some, is_none, IfSome, OnOk, map}
-use Rattle.std.specs.List.{fold, count_by, list_all}
+use Rattle.std.specs.List.{fold}
 use Rattle.std.specs.Option.{option_map}
 use Rattle.std.proofs.lemmas.Bool.{false≢true, true≢false}
 use Rattle.std.proofs.lemmas.List.Sums.{fold-append, sum_by-append}
@@ -16,21 +16,20 @@ use Rattle.zr_command.specs.declared.report.ReportLine.TheVariants as line
 use Rattle.zr_language.specs.Command.{command_of}
 use Rattle.zr_network.specs.World.{WorldState, Routers, with_booked, router_of, most_steps}
 use Rattle.zr_network.specs.Acts.{Outcome, outcome}
-use Rattle.zr_network.specs.Next.{next, world_after, with_more, run_steps, acts, booking, book_step}
-use Rattle.zr_network.specs.Run.{Run, on_line}
+use Rattle.zr_network.specs.Next.{next, world_after, with_more, run_steps, booking, book_step}
+use Rattle.zr_network.specs.Run.{on_line}
 use Rattle.zr_network.specs.Moments.{Numbered, Moment, went, onward}
 use Rattle.zr_network.specs.Accepted.{entries, accepted_from}
 use Rattle.zr_network.proofs.Counting.{recounted, outcome_recounted, steps_recounted}
-use Rattle.zr_network.proofs.Lines.{at_some}
 use Rattle.zr_network.proofs.Next.{none_left}
-use Rattle.zr_world.specs.Living.{Living, alive, Applies, Books}
+use Rattle.zr_world.specs.Living.{Living, Applies, Books}
 use Rattle.zr_netrun.specs.declared.counts.Counts.{Counts}
 use Rattle.zr_netrun.specs.declared.runner.Stop.{Stop}
 use Rattle.zr_netrun.specs.Summary.{tells_handled, tells_taken, tells_sent, tells_mark, counts_in, counts_of}
-use Rattle.zr_netrun.specs.Kept.{Kept, fresh, IsAt, Turns, StepsOn, run_behind, run_by}
-use Rattle.zr_netrun.specs.Counted.{all_capped, with_taken, with_line, with_lines, is_known, IsCounted, CountsAhead, CountsOn, acts_by, step_by}
+use Rattle.zr_netrun.specs.Kept.{Kept, fresh, Turns, StepsOn, run_behind}
+use Rattle.zr_netrun.specs.Counted.{all_capped, with_taken, with_line, with_lines, IsCounted, CountsAhead, CountsOn, acts_by, step_by}
 use Rattle.zr_netrun.proofs.Known.{Goes, act_keeps, known_stay, counts_stay}
-use Rattle.zr_netrun.proofs.Stepping.{counted, IsRunning, IsStep, the_step}
+use Rattle.zr_netrun.proofs.Stepping.{counted, IsRunning, IsStep, one_left, the_step}
 
 -- ---- counts
 
@@ -53,6 +52,7 @@ line_counted routers (line.Mark n) t = same_counts _ _ (omega arith) (omega arit
 line_counted routers (line.Show router) t = same_counts _ _ (omega arith) (omega arith) (omega arith) (omega arith)
 line_counted routers (line.Record links) t = same_counts _ _ (omega arith) (omega arith) (omega arith) (omega arith)
 line_counted routers (line.Parent root parent) t = same_counts _ _ (omega arith) (omega arith) (omega arith) (omega arith)
+line_counted routers (line.Source source number decls) t = same_counts _ _ (omega arith) (omega arith) (omega arith) (omega arith)
 
 -- what is counted of two reports together
 counts_append : (routers : Routers) (xs ys : List ReportLine) → counts_in routers (xs ++ ys) ≡ plus (counts_in routers xs) (counts_in routers ys)
@@ -232,20 +232,26 @@ pub counts_step : (k0 k m : Kept) (steps done : ℕ) (a b b' c' : Option (List �
     CountsAhead k0 (acts_by k0 (c.Run steps)) (steps_left k0 (steps - (done + 1)) m.world.state) m
 counts_step k0 k m steps done a b b' c' h less moves ahead on = by (next k.world.state) refl moves on
   where
-    by : (o : Option Act) → next k.world.state ≡ o → StepsOn o (Ok true) k m b' c' → CountsOn (step_by k o) k m →
+    one : (step : Act) (x : List ReportLine × WorldState) → IsStep k0 k step x → StepsOn (Some step) (Ok true) k m b' c' → CountsOn (step_by k (Some step)) k m →
         CountsAhead k0 (acts_by k0 (c.Run steps)) (steps_left k0 (steps - (done + 1)) m.world.state) m
-    by None e t on = absurd (true≢false t.0)
-    by (Some step) e t on =
-        let s = the_step k0 k step h.at.number h.sound e in
-        let state : m.world.state ≡ s.0.1 = ap (λ (z : Living). z.state) t.1.world ∙ ap (λ (d : Outcome). (run_behind k d).world) s.1.is_all in
+    one step x s t on =
+        let state : m.world.state ≡ x.1 = ap (λ (z : Living). z.state) t.1.world ∙ ap (λ (d : Outcome). (run_behind k d).world) s.is_all in
         let more : steps - done ≡ suc (steps - (done + 1)) = omega arith in
         let rest : run_steps k0.number (steps - done) k.world.state ≡ step ∷ run_steps k0.number (steps - (done + 1)) m.world.state =
-        ap (λ z. run_steps k0.number z k.world.state) more ∙ steps_next k0.number (steps - (done + 1)) k.world.state step s.0 e s.1.is_done
+        ap (λ z. run_steps k0.number z k.world.state) more ∙ steps_next k0.number (steps - (done + 1)) k.world.state step x s.is_next s.is_done
         ∙ ap (λ z. step ∷ run_steps k0.number (steps - (done + 1)) z) (sym state) in
         let left : steps_left k0 (steps - done) k.world.state ≡ (k.number, step) ∷ steps_left k0 (steps - (done + 1)) m.world.state =
         ap (map (λ x. (k0.number, x))) rest ∙ ap (λ z. (z, step) ∷ steps_left k0 (steps - (done + 1)) m.world.state) (sym h.at.number) in
         ahead_more k0 k m (acts_by k0 (c.Run steps)) ((k.number, step) ∷ []) (steps_left k0 (steps - (done + 1)) m.world.state)
         (ahead_as k0 k (acts_by k0 (c.Run steps)) (steps_left k0 (steps - done) k.world.state) ((k.number, step) ∷ steps_left k0 (steps - (done + 1)) m.world.state) left ahead) on
+
+    by : (o : Option Act) → next k.world.state ≡ o → StepsOn o (Ok true) k m b' c' → CountsOn (step_by k o) k m →
+        CountsAhead k0 (acts_by k0 (c.Run steps)) (steps_left k0 (steps - (done + 1)) m.world.state) m
+    by None e t on = absurd (true≢false t.0)
+    by (Some step) e t on =
+        let l = one_left done h.left steps h.sum less in
+        let s = the_step k0 k steps done a b step h l.0 l.1 e in
+        one step s.0 s.1 t on
 
 -- no step is left, and the end of the run is told
 pub counts_end : (k0 k m : Kept) (ahead : List Numbered) (left : ℕ) → CountsAhead k0 ahead (steps_left k0 left k.world.state) k → (next k.world.state ≡ None) ⊎ (left ≡ 0) →

@@ -1,6 +1,6 @@
 -- A name that is there stays there, and stays that of a router or of a client, whatever act follows (`act_keeps`): so it is all one
 -- in which later world a report's neighbours are told apart (`counts_stay`).
-use Rattle.std.proofs.Common.{◌≡◌, ℕ, ◌+◌, ◌≤◌, Bool, true, false, cond, not, List, [], ◌∷◌, ◌++◌, Option, Some, None, refl, sym, ap, ◌∙◌, zero-add, arith}
+use Rattle.std.proofs.Common.{◌≡◌, ℕ, ◌+◌, ◌≤◌, Bool, true, false, cond, not, List, [], ◌∷◌, ◌++◌, Some, None, refl, sym, ap, ◌∙◌, zero-add, arith}
 use Rattle.std.specs.Prelude.{◌||◌, is_some, IfSome, map, filter}
 use Rattle.std.specs.List.{list_all, count_by}
 use Rattle.std.specs.Ordering.{nat_cmp}
@@ -11,6 +11,9 @@ use Rattle.std.proofs.lemmas.List.Sums.{sum_by-append}
 use Rattle.zr_id.specs.Zid.{is_named}
 use Rattle.zr_graph.specs.Record.{ids}
 use Rattle.zr_graph.specs.Base.{BaseState}
+use Rattle.zr_msg.specs.declared.decl.Kind.{Kind}
+use Rattle.zr_msg.specs.declared.decl.Kind.TheVariants as k
+use Rattle.zr_msg.specs.declared.msg.Msg.{Msg}
 use Rattle.zr_msg.specs.declared.msg.Msg.TheVariants as message
 use Rattle.zr_msg.specs.declared.event.Event.TheVariants.{Down, From}
 use Rattle.zr_msg.specs.declared.peer.Role.TheVariants as role
@@ -18,14 +21,15 @@ use Rattle.zr_command.specs.declared.command.Act.{Act}
 use Rattle.zr_command.specs.declared.command.Act.TheVariants as c
 use Rattle.zr_command.specs.declared.report.ReportLine.{ReportLine}
 use Rattle.zr_command.specs.declared.report.ReportLine.TheVariants as line
+use Rattle.zr_table.specs.State.{NodeState}
+use Rattle.zr_table.specs.Table.{able_kind}
 use Rattle.zr_network.specs.World.{RouterState, ClientState, WorldState, Routers, Clients, with_routers, router_of, client_of, with_router, with_client, is_taken, new_router, new_client}
-use Rattle.zr_network.specs.Acts.{outcome, hearing, weighing, declaring, undeclaring, up_event, peer_of, parent_line, shown}
+use Rattle.zr_network.specs.Acts.{outcome, declare_step, undeclare_step, hearing, weighing, declaring, undeclaring, up_event, peer_of, parent_line, source_line, shown_base, shown}
 use Rattle.zr_network.specs.Moments.{Moment, went}
-use Rattle.zr_network.proofs.Keyed.{not_there, read_cond}
+use Rattle.zr_network.proofs.Keyed.{not_there}
 use Rattle.zr_network.proofs.Names.{same_name, value_new, read_kept}
-use Rattle.zr_network.proofs.Cases.{free_name, w_client, w_link, w_up, w_break, w_down, w_sub, w_unsub, w_sent, w_handle, w_take, for_router, for_client, for_link, for_up, for_break, for_down, for_sub, for_unsub, for_publish, for_handle, for_take, for_mark, for_show}
+use Rattle.zr_network.proofs.Cases.{free_name, w_client, w_link, w_up, w_break, w_down, w_sent, w_declare, w_undeclare, w_handle, w_take, for_router, for_client, for_link, for_up, for_break, for_down, for_declare, for_undeclare, for_publish, for_handle, for_take, for_mark, for_show}
 use Rattle.zr_network.proofs.Lists.{weaker, all_both, all_mapped}
-use Rattle.zr_netrun.specs.declared.counts.Counts.{Counts}
 use Rattle.zr_netrun.specs.Summary.{tells_handled, tells_taken, tells_sent, tells_mark, counts_in}
 use Rattle.zr_netrun.specs.Counted.{is_known}
 
@@ -83,6 +87,7 @@ is_counted (line.Mark n) = true
 is_counted (line.Show router) = false
 is_counted (line.Record links) = false
 is_counted (line.Parent root parent) = false
+is_counted (line.Source source number decls) = false
 
 -- names stay, where all neighbours of the report were there, so they are now, and at most one line more is counted
 pub record Goes (m n : Moment) : Type 0 where
@@ -100,16 +105,21 @@ none_counted f none [] = refl
 none_counted f none (y ∷ ys) =
     count_cons is_counted (f y) (map f ys) ∙ ap (λ b. cond b 1 0 + count_by is_counted (map f ys)) (none y) ∙ zero-add (count_by is_counted (map f ys)) ∙ none_counted f none ys
 
-show_counts : (b : BaseState) → count_by is_counted (shown b) ≡ 0
-show_counts b =
+base_counts : (b : BaseState) → count_by is_counted (shown_base b) ≡ 0
+base_counts b =
     let records : List ReportLine = map (λ r. line.Record r) b.records in
     let parents : List ReportLine = map (λ root. parent_line b root) (filter (λ id. not (is_named id b.me)) (ids b.records)) in
     sum_by-append (λ x. cond (is_counted x) 1 0) records parents
     ∙ (λ i. none_counted (λ r. line.Record r) (λ r. refl) b.records i + none_counted (λ root. parent_line b root) (λ root. refl) (filter (λ id. not (is_named id b.me)) (ids b.records)) i)
 
+show_counts : (node : NodeState) → count_by is_counted (shown node) ≡ 0
+show_counts node =
+    sum_by-append (λ x. cond (is_counted x) 1 0) (shown_base node.base) (map source_line node.known.logs)
+    ∙ (λ i. base_counts node.base i + none_counted source_line (λ log. refl) node.known.logs i)
+
 -- nor names it a neighbour
-show_known : (w : WorldState) (b : BaseState) → list_all (is_known w) (shown b) ≡ true
-show_known w b = all_both (is_known w) (map_records) (map_parents)
+base_known : (w : WorldState) (b : BaseState) → list_all (is_known w) (shown_base b) ≡ true
+base_known w b = all_both (is_known w) (map_records) (map_parents)
     (all_mapped (is_known w) (λ r. line.Record r) (λ r. refl) b.records) (all_mapped (is_known w) (λ root. parent_line b root) (λ root. refl) (filter (λ id. not (is_named id b.me)) (ids b.records)))
   where
     map_records : List ReportLine
@@ -117,6 +127,11 @@ show_known w b = all_both (is_known w) (map_records) (map_parents)
 
     map_parents : List ReportLine
     map_parents = map (λ root. parent_line b root) (filter (λ id. not (is_named id b.me)) (ids b.records))
+
+show_known : (w : WorldState) (node : NodeState) → list_all (is_known w) (shown node) ≡ true
+show_known w node =
+    all_both (is_known w) (shown_base node.base) (map source_line node.known.logs) (base_known w node.base)
+    (all_mapped (is_known w) source_line (λ log. refl) node.known.logs)
 
 pub act_keeps : (m : Moment) (n : ℕ) (act : Act) → IfSome (went m (outcome m.world n act)) (Goes m)
 unfolding outcome
@@ -138,8 +153,17 @@ act_keeps m n act = by act
         ((q : List ℕ) → is_some (client_of v.clients q) ≡ is_some (client_of w.clients q)) → Goes m (record { world = v; report = m.report ++ [] })
     still v routers clients = goes v [] (same_names w v routers clients) refl (omega arith)
 
+    -- what a client declares, or takes back
+    declares : (client : List ℕ) (kind : Kind) (id : ℕ) (key : List ℕ) (msg : Msg) → IfSome (went m (declare_step w n client kind id key msg)) (Goes m)
+    declares client kind id key msg = for_declare m (Goes m) n client kind id key msg (λ s es fresh e ee unbroken r er room.
+        still (w_declare w n client kind id key msg s e r) (same_router w.routers s.router r (weighing r key) er) (same_client w.clients client s (declaring s kind id) es))
+
+    undeclares : (client : List ℕ) (kind : Kind) (id : ℕ) (msg : Msg) → IfSome (went m (undeclare_step w n client kind id msg)) (Goes m)
+    undeclares client kind id msg = for_undeclare m (Goes m) n client kind id msg (λ s es known e ee unbroken.
+        still (w_undeclare w n client kind id msg s e) (λ q. refl) (same_client w.clients client s (undeclaring s kind id) es))
+
     by : (act : Act) → IfSome (went m (outcome m.world n act)) (Goes m)
-    by (c.Router id) = for_router m (Goes m) id (λ free room alone. goes (with_routers w (insert_entry (slice_cmp nat_cmp) w.routers id (new_router id))) [] (record {
+    by (c.Router id) = for_router m (Goes m) id (λ free room. goes (with_routers w (insert_entry (slice_cmp nat_cmp) w.routers id (new_router id))) [] (record {
       routers = λ q there. router_comes w id q free there;
       taken = λ q there. ap (λ b. b || is_some (client_of w.clients q)) (router_comes w id q free there) ∙ there;
     }) refl (omega arith))
@@ -155,19 +179,20 @@ act_keeps m n act = by act
     by (c.Break router name) = for_break m (Goes m) router name (λ r er there s es unbroken. still (w_break w router name) (λ q. refl) (λ q. refl))
     by (c.Down router name) = for_down m (Goes m) n router name (λ r er there s es up cut l el taken.
         still (w_down w n router name r l) (same_router w.routers router r (hearing r (Down l)) er) (λ q. refl))
-    by (c.Sub client id key) = for_sub m (Goes m) n client id key (λ s es fresh e ee unbroken alone r er.
-        still (w_sub w n client id key s e r) (same_router w.routers s.router r (weighing r key) er) (same_client w.clients client s (declaring s id) es))
-    by (c.Unsub client id) = for_unsub m (Goes m) n client id (λ s es known e ee unbroken alone. still (w_unsub w n client id s e) (λ q. refl) (same_client w.clients client s (undeclaring s id) es))
-    by (c.Publish client content) = for_publish m (Goes m) n client content (λ s es e ee unbroken alone. still (w_sent w n client s e (message.Push None content)) (λ q. refl) (λ q. refl))
-    by (c.Handle router from) = for_handle m (Goes m) router from (λ r er there s es up msg tag xs front l el.
+    by (c.Sub client id key) = declares client k.Sub id key (message.Sub id key)
+    by (c.Unsub client id) = undeclares client k.Sub id (message.Unsub id)
+    by (c.Able client id key complete) = declares client (able_kind complete) id key (message.Able id key complete)
+    by (c.Unable client id) = undeclares client k.Able id (message.Unable id)
+    by (c.Publish client content) = for_publish m (Goes m) n client content (λ s es e ee unbroken. still (w_sent w n client s e (message.Push None content)) (λ q. refl) (λ q. refl))
+    by (c.Handle router from) = for_handle m (Goes m) router from (λ r er there s es up msg tag xs front l el taken.
         goes (w_handle w router from r s l msg tag xs) (line.Handled router from msg tag ∷ [])
         (same_names w (w_handle w router from r s l msg tag xs) (same_router w.routers router r (hearing r (From l msg)) er) (λ q. refl)) refl (omega arith))
     by (c.Take router to) = for_take m (Goes m) router to (λ r er there s es up unbroken msg tag xs front.
         goes (w_take w router to s msg tag xs) (line.Taken router to msg tag ∷ []) (same_names w (w_take w router to s msg tag xs) (λ q. refl) (λ q. refl)) (and_from (is_taken w to) true there refl) (omega arith))
     by c.Mark = for_mark m (Goes m) n (λ settled joined. goes w (line.Mark n ∷ []) (same_names w w (λ q. refl) (λ q. refl)) refl (omega arith))
     by (c.Show router) = for_show m (Goes m) router (λ r er.
-        goes w (line.Show router ∷ shown r.node.base) (same_names w w (λ q. refl) (λ q. refl)) (show_known w r.node.base)
-        (let none = show_counts r.node.base in let all = count_cons is_counted (line.Show router) (shown r.node.base) in omega arith))
+        goes w (line.Show router ∷ shown r.node) (same_names w w (λ q. refl) (λ q. refl)) (show_known w r.node)
+        (let none = show_counts r.node in let all = count_cons is_counted (line.Show router) (shown r.node) in omega arith))
 
 -- ---- a report
 
@@ -183,6 +208,7 @@ known_stay w v keeps lines h = weaker (is_known w) (is_known v) by lines h
     by (line.Show router) e = refl
     by (line.Record links) e = refl
     by (line.Parent root parent) e = refl
+    by (line.Source source number decls) e = refl
 
 -- two tests that agree on what passes a third
 count_same : (t p q : ReportLine → Bool) → ((l : ReportLine) → t l ≡ true → p l ≡ q l) → (lines : List ReportLine) → list_all t lines ≡ true → count_by p lines ≡ count_by q lines
@@ -208,6 +234,7 @@ counts_stay w v keeps lines h = λ i. record {
     takes (line.Show router) e = refl
     takes (line.Record links) e = refl
     takes (line.Parent root parent) e = refl
+    takes (line.Source source number decls) e = refl
 
     sends : (l : ReportLine) → is_known w l ≡ true → tells_sent v.routers l ≡ tells_sent w.routers l
     sends (line.Handled router from msg tag) e = refl
@@ -217,3 +244,4 @@ counts_stay w v keeps lines h = λ i. record {
     sends (line.Show router) e = refl
     sends (line.Record links) e = refl
     sends (line.Parent root parent) e = refl
+    sends (line.Source source number decls) e = refl

@@ -12,3 +12,4 @@ pub mod Feeding
 pub mod Reading
 pub mod Telling
 pub mod Summing
+pub mod Going

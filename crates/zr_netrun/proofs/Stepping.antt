@@ -1,8 +1,8 @@
 -- A run is fed step by step, as a piece is fed line by line. At each step what is kept is the world of a run so far (`IsRunning`): the
 -- report lines so far are behind what waited before, and with what the steps that are left come to they are what the whole run says (`IsAhead`).
--- `starts` begins it, `goes_on` is a step that was done, `ends` the last line; `stops` is a step at which memory or a write failed.
-use Rattle.std.proofs.Common.{◌≡◌, ℕ, zero, suc, ◌+◌, ◌<◌, true, false, List, [], ◌∷◌, ◌++◌, Option, Some, None, Result, Ok, Err, refl, sym, ap, ◌∙◌, ◌⊎◌, inl, inr, append_assoc, append-nil, arith, subst}
-use Rattle.std.specs.Prelude.{is_none, is_ok, IfOk}
+-- `starts` begins it where all its steps are possible, `goes_on` is a step that was done, `ends` the last line; `stops` is a step at which memory or a write failed.
+use Rattle.std.proofs.Common.{◌≡◌, ℕ, zero, suc, ◌+◌, ◌<◌, Bool, true, false, cond, List, [], ◌∷◌, ◌++◌, Option, Some, None, Result, Ok, Err, refl, sym, ap, ◌∙◌, ◌⊎◌, inl, inr, append_assoc, append-nil, arith, subst}
+use Rattle.std.specs.Prelude.{nat_le, is_none, is_ok, IfOk}
 use Rattle.std.specs.List.{flat_map}
 use Rattle.std.proofs.lemmas.Bool.{true≢false, false≢true}
 use Rattle.std.proofs.lemmas.Grind.{flat_map-append}
@@ -17,17 +17,17 @@ use Rattle.zr_language.specs.Step.{◌>>=◌, IsSaid}
 use Rattle.zr_table.specs.Prefix.{IsPrefixOf}
 use Rattle.zr_language.specs.Command.{command_of}
 use Rattle.zr_language.specs.Report.{line_text}
-use Rattle.zr_network.specs.Sound.{IsSound}
-use Rattle.zr_network.specs.World.{WorldState}
+use Rattle.zr_network.specs.World.{WorldState, most_steps}
 use Rattle.zr_network.specs.Acts.{Outcome, outcome}
-use Rattle.zr_network.specs.Next.{Done, next, book_step, applied}
+use Rattle.zr_network.specs.Next.{Done, next, world_after, with_more, run_steps, all_done, booking, book_step, applied}
 use Rattle.zr_network.specs.Run.{Run, stepped, commanded, on_line}
-use Rattle.zr_network.proofs.Next.{one_act, IsAhead, ahead_at_start, ahead_by_step, closes, ran, applied_run, run_ends, run_prefix, run_refused}
-use Rattle.zr_network.proofs.Sound.{act_keeps, next_goes, run_goes}
+use Rattle.zr_network.proofs.Counting.{recounted, steps_recounted, done_recounted}
+use Rattle.zr_network.proofs.Next.{one_act, behind, IsAhead, ahead_at_start, ahead_by_step, closes, ran, applied_run, run_ends, run_prefix, run_refused}
 use Rattle.zr_outside.specs.Told.{AppendsPrefix}
 use Rattle.zr_world.specs.Living.{Living, alive, Books}
 use Rattle.zr_netrun.specs.declared.runner.Stop.{Stop}
 use Rattle.zr_netrun.specs.declared.runner.Stop.TheVariants.{Refused, NoMemory, WriteFault}
+use Rattle.zr_netrun.specs.Possible.{RunsGo}
 use Rattle.zr_netrun.specs.Kept.{Kept, writes, seen, fresh, run_behind, run_by, Written, IsAt, Stopped, Turns, StepsOn, stop_of}
 use Rattle.zr_netrun.proofs.Runs.{with_text}
 use Rattle.zr_netrun.proofs.Writing.{turn_behind, nothing_said, prefix_none, prefix_more, prefix_longer}
@@ -107,20 +107,34 @@ end_fails k said a b out = subst (λ (z : List ℕ). AppendsPrefix (k.pending ++
 
 -- ---- a run
 
-ok_is : {A : Type 0} (o : Result A ScriptError) → is_ok o ≡ true → (x : A) × (o ≡ Ok x)
-ok_is (Ok x) h = (x, refl)
-ok_is (Err e) h = absurd (false≢true h)
-
 -- steps that could be counted were counted
 counts : (said : Result WorldState ScriptError) (old new : Living) (u : Unit {0}) → Books (Ok u) said old new → (w : WorldState) × (said ≡ Ok w) × (new ≡ alive w)
 counts (Ok w) old new u h = (w, refl, h.0)
 counts (Err e) old new u h = absurd (false≢true h.1)
 
+-- the steps of a run that begins once they were counted are possible, where they are before that
+is_booked : (w start : WorldState) (steps : ℕ) → book_step w steps ≡ Ok start → start ≡ booking w steps
+unfolding book_step
+is_booked w start steps fits = by (nat_le (w.booked + steps) most_steps) fits
+  where
+    by : (b : Bool) → cond b (Ok (booking w steps)) (Err e.Limit) ≡ Ok start → start ≡ booking w steps
+    by true h = cc
+    by false h = absurd (false≢true (ap is_ok h))
+
+booked_goes : (w start : WorldState) (line steps : ℕ) → RunsGo w → book_step w steps ≡ Ok start → is_ok (ran line steps start) ≡ true
+booked_goes w start line steps goes fits =
+    ap (λ v. is_ok (ran line steps v)) (is_booked w start steps fits)
+    ∙ ap (λ z. is_ok (all_done (booking w steps) line z)) (steps_recounted line steps w (w.booked + steps))
+    ∙ ap is_ok (done_recounted line (run_steps line steps w) w (w.booked + steps)) ∙ same (all_done w line (run_steps line steps w)) ∙ goes line steps
+  where
+    same : (d : Done) → is_ok (recounted (w.booked + steps) d) ≡ is_ok d
+    same (Ok x) = refl
+    same (Err x) = refl
+
 pub record IsRunning (k0 : Kept) (steps done : ℕ) (k : Kept) (a b : Option (List ℕ)) : Type 0 where
   pub start : WorldState
   pub fits : book_step k0.world.state steps ≡ Ok start
-  pub start_sound : IsSound start
-  pub sound : IsSound k.world.state
+  pub goes : is_ok (ran k0.number steps start) ≡ true
   pub left : ℕ
   pub sum : done + left ≡ steps
   pub lines : List ReportLine
@@ -133,16 +147,43 @@ pub record IsStep (k0 k : Kept) (step : Act) (x : List ReportLine × WorldState)
   pub is_done : outcome k.world.state k0.number step ≡ Ok x
   pub is_all : outcome k.world.state k.number step ≡ Ok x
 
+-- where steps are left there is a next one to count
+pub one_left : (done left steps : ℕ) → done + left ≡ steps → done < steps → (more : ℕ) × (left ≡ suc more)
+one_left done zero steps sum less = absurd (omega arith)
+one_left done (suc more) steps sum less = (more, refl)
+
+-- where all steps that are left are possible, the first one is
+first_goes : (line more : ℕ) (w : WorldState) (step : Act) → next w ≡ Some step → is_ok (ran line (suc more) w) ≡ true → (x : List ReportLine × WorldState) × (outcome w line step ≡ Ok x)
+unfolding run_steps
+first_goes line more w step is_next goes =
+    by (outcome w line step) (subst (λ (o : Option Act). is_ok (all_done w line (with_more o (λ s. run_steps line more (world_after w (outcome w line s))))) ≡ true) is_next goes)
+  where
+    rest : List Act
+    rest = run_steps line more (world_after w (outcome w line step))
+
+    others : List ReportLine × WorldState → Done
+    others x = all_done x.1 line rest >>= (λ y. Ok (x.0 ++ y.0, y.1))
+
+    by : (o : Outcome) → is_ok (o >>= others) ≡ true → (x : List ReportLine × WorldState) × (o ≡ Ok x)
+    by (Ok x) h = (x, refl)
+    by (Err x) h = absurd (false≢true h)
+
+-- what is left of a run that is possible is possible
+rest_goes : (lines : List ReportLine) (d : Done) → is_ok (behind lines d) ≡ true → is_ok d ≡ true
+rest_goes lines (Ok y) h = refl
+rest_goes lines (Err x) h = h
+
 -- the step that is next is possible
-pub the_step : (k0 k : Kept) (step : Act) → k.number ≡ k0.number → IsSound k.world.state → next k.world.state ≡ Some step →
+pub the_step : (k0 k : Kept) (steps done : ℕ) (a b : Option (List ℕ)) (step : Act) (h : IsRunning k0 steps done k a b) (more : ℕ) → h.left ≡ suc more → next k.world.state ≡ Some step →
     (x : List ReportLine × WorldState) × IsStep k0 k step x
-the_step k0 k step number sound is_next =
-    let x = ok_is (outcome k.world.state k0.number step) (next_goes k.world.state k0.number step sound is_next) in (
+the_step k0 k steps done a b step h more is_left is_next =
+    let left : is_ok (ran k0.number h.left k.world.state) ≡ true = rest_goes h.lines (ran k0.number h.left k.world.state) (ap is_ok (sym h.ahead.comes) ∙ h.goes) in
+    let x = first_goes k0.number more k.world.state step is_next (subst (λ (n : ℕ). is_ok (ran k0.number n k.world.state) ≡ true) is_left left) in (
       x.0,
       record {
         is_next = is_next;
         is_done = x.1;
-        is_all = ap (λ n. outcome k.world.state n step) number ∙ x.1;
+        is_all = ap (λ n. outcome k.world.state n step) h.at.number ∙ x.1;
       },
     )
 
@@ -164,18 +205,16 @@ module _ (k0 : Kept) (steps : ℕ) (a : Option (List ℕ)) where
       )))
 
   -- they were counted
-  pub starts : (m : Kept) (u : Unit {0}) → IsSound m.world.state → Books (Ok u) (book_step k0.world.state steps) k0.world m.world →
+  pub starts : (m : Kept) (u : Unit {0}) → RunsGo k0.world.state → Books (Ok u) (book_step k0.world.state steps) k0.world m.world →
       m ≡ record { world = m.world; number = k0.number; line = k0.line; pending = k0.pending; counts = k0.counts } → IsRunning k0 steps 0 m a a
-  starts m u sound h same =
+  starts m u goes h same =
       let w = counts (book_step k0.world.state steps) k0.world m.world u h in
       let now : m ≡ record { world = alive w.0; number = k0.number; line = k0.line; pending = k0.pending; counts = k0.counts } =
       same ∙ ap (λ (z : Living). record { world = z; number = k0.number; line = k0.line; pending = k0.pending; counts = k0.counts }) w.2 in
-      let good : IsSound w.0 = subst (λ (z : Living). IsSound z.state) w.2 sound in
       subst (λ (z : Kept). IsRunning k0 steps 0 z a a) (sym now) (record {
         start = w.0;
         fits = w.1;
-        start_sound = good;
-        sound = good;
+        goes = booked_goes k0.world.state w.0 k0.number steps goes w.1;
         left = steps;
         sum = omega arith;
         lines = [];
@@ -204,8 +243,7 @@ module _ (k0 : Kept) (steps : ℕ) (a : Option (List ℕ)) where
       record {
         start = h.start;
         fits = h.fits;
-        start_sound = h.start_sound;
-        sound = subst IsSound (sym state) (subst (λ (o : Outcome). IfOk o (λ y. IsSound y.1)) s.is_done (act_keeps k.world.state k0.number step h.sound));
+        goes = h.goes;
         left = more;
         sum = let sum : done + h.left ≡ steps = h.sum in omega arith;
         lines = h.lines ++ x.0;
@@ -220,11 +258,6 @@ module _ (k0 : Kept) (steps : ℕ) (a : Option (List ℕ)) where
         };
       }
 
-  -- where steps are left there is a next one to count
-  one_left : (done left : ℕ) → done + left ≡ steps → done < steps → (more : ℕ) × (left ≡ suc more)
-  one_left done zero sum less = absurd (omega arith)
-  one_left done (suc more) sum less = (more, refl)
-
   -- a step was done
   pub goes_on : (done : ℕ) (k m : Kept) (b c : Option (List ℕ)) → IsRunning k0 steps done k a b → done < steps → StepsOn (next k.world.state) (Ok true) k m b c →
       IsRunning k0 steps (done + 1) m a c
@@ -233,8 +266,8 @@ module _ (k0 : Kept) (steps : ℕ) (a : Option (List ℕ)) where
       by : (o : Option Act) → next k.world.state ≡ o → StepsOn o (Ok true) k m b c → IsRunning k0 steps (done + 1) m a c
       by None e t = absurd (true≢false t.0)
       by (Some step) e t =
-          let s = the_step k0 k step h.at.number h.sound e in
-          let l = one_left done h.left h.sum less in
+          let l = one_left done h.left steps h.sum less in
+          let s = the_step k0 k steps done a b step h l.0 l.1 e in
           step_behind done k m b c step s.0 l.0 h l.1 s.1 t.1
 
   -- no step is possible any more
@@ -250,19 +283,19 @@ module _ (k0 : Kept) (steps : ℕ) (a : Option (List ℕ)) where
       by (Some step) e t = absurd (false≢true t.0)
 
   -- what a run whose steps were counted comes to
-  whole_is : (start : WorldState) → IsSound start → book_step k0.world.state steps ≡ Ok start → (y : List ReportLine × WorldState) × (whole ≡ Ok y)
-  whole_is start sound fits = by (ran k0.number steps start) (run_goes k0.number steps start sound) (applied_run k0.number steps k0.world.state start fits)
+  whole_is : (start : WorldState) → is_ok (ran k0.number steps start) ≡ true → book_step k0.world.state steps ≡ Ok start → (y : List ReportLine × WorldState) × (whole ≡ Ok y)
+  whole_is start goes fits = by (ran k0.number steps start) goes (applied_run k0.number steps k0.world.state start fits)
     where
       by : (d : Done) → is_ok d ≡ true → whole ≡ (d >>= closes k0.number steps start) → (y : List ReportLine × WorldState) × (whole ≡ Ok y)
       by (Ok x) h e = (_, e)
       by (Err x) h e = absurd (false≢true h)
 
   -- a prefix of the text so far and of a further step is a prefix of what the whole run says
-  prefix_of : (start : WorldState) (done left : ℕ) (w : WorldState) (lines more : List ReportLine) (b c : Option (List ℕ)) (p : List ℕ) → IsSound start →
+  prefix_of : (start : WorldState) (done left : ℕ) (w : WorldState) (lines more : List ReportLine) (b c : Option (List ℕ)) (p : List ℕ) → is_ok (ran k0.number steps start) ≡ true →
       book_step k0.world.state steps ≡ Ok start → IsAhead k0.number steps start done left w (lines ++ more) →
       Written (k0.pending ++ flat_map line_text lines) p a b → AppendsPrefix (p ++ flat_map line_text more) b c → AppendsPrefix (k0.pending ++ (run_behind k0 whole).text) a c
-  prefix_of start done left w lines more b c p sound fits ahead written out =
-      let y = whole_is start sound fits in
+  prefix_of start done left w lines more b c p goes fits ahead written out =
+      let y = whole_is start goes fits in
       let rest : IsPrefixOf (lines ++ more) y.0.0 =
       subst (λ (d : Done). IfOk d (λ x. IsPrefixOf (lines ++ more) x.0)) y.1 (run_prefix k0.number steps k0.world.state start done left w (lines ++ more) fits ahead) in
       let t : List ℕ = flat_map line_text lines in
@@ -284,17 +317,17 @@ module _ (k0 : Kept) (steps : ℕ) (a : Option (List ℕ)) where
           Stopped stop (run_behind k (Ok x)) k.pending m b c → Stopped stop (run_behind k0 whole) k0.pending m a c
       at_step step x s more is_left (Refused e) t = absurd (cc (t.0))
       at_step step x s more is_left NoMemory t =
-          prefix_of h.start (done + 1) more x.1 h.lines x.0 b c k.pending h.start_sound h.fits
+          prefix_of h.start (done + 1) more x.1 h.lines x.0 b c k.pending h.goes h.fits
           (ahead_by_step k0.number steps h.start done h.left more k.world.state h.lines step x h.ahead is_left s.is_next s.is_done) h.at.text t
       at_step step x s more is_left WriteFault t =
-          prefix_of h.start (done + 1) more x.1 h.lines x.0 b c k.pending h.start_sound h.fits
+          prefix_of h.start (done + 1) more x.1 h.lines x.0 b c k.pending h.goes h.fits
           (ahead_by_step k0.number steps h.start done h.left more k.world.state h.lines step x h.ahead is_left s.is_next s.is_done) h.at.text t
 
       by : (o : Option Act) → next k.world.state ≡ o → StepsOn o (Err stop) k m b c → Stopped stop (run_behind k0 whole) k0.pending m a c
       by None e t = absurd t
       by (Some step) e t =
-          let s = the_step k0 k step h.at.number h.sound e in
-          let left = one_left done h.left h.sum less in
+          let left = one_left done h.left steps h.sum less in
+          let s = the_step k0 k steps done a b step h left.0 left.1 e in
           at_step step s.0 s.1 left.0 left.1 stop (subst (λ (d : Done). Stopped stop (run_behind k d) k.pending m b c) s.1.is_all t)
 
   -- the run's last line was said

@@ -1,10 +1,10 @@
 -- What a summary tells is what was counted of all acts of the script, which lead to the moment of its lines (`summed`). Where the script
 -- has not ended or is refused, nothing is told (`not_summed`).
-use Rattle.std.proofs.Common.{◌≡◌, ℕ, ◌+◌, ◌≤◌, Bool, true, false, List, [], ◌++◌, length, Option, Some, None, refl, sym, ap, ◌∙◌, append-nil, inl, inr, subst}
+use Rattle.std.proofs.Common.{◌≡◌, ℕ, Bool, true, false, List, [], Option, Some, None, refl, sym, ap, ◌∙◌, append-nil, inl, inr, subst}
 use Rattle.std.specs.Prelude.{is_none, IfSome}
 use Rattle.std.proofs.lemmas.Bool.{true≢false}
 use Rattle.zr_outside.specs.Told.{IsAsBefore, Appends, AppendsPrefix}
-use Rattle.zr_language.specs.Lines.{most_bytes, lines}
+use Rattle.zr_language.specs.Lines.{lines}
 use Rattle.zr_network.specs.Moments.{Moment, reached}
 use Rattle.zr_network.specs.Accepted.{accepted, IsMoment}
 use Rattle.zr_network.proofs.Lines.{lines_are_moments}
@@ -14,7 +14,7 @@ use Rattle.zr_netrun.specs.declared.status.Status.TheVariants as s
 use Rattle.zr_netrun.specs.Summary.{counts_of, summary_text}
 use Rattle.zr_netrun.specs.Kept.{Kept, writes}
 use Rattle.zr_netrun.specs.Judged.{is_refused, complaint}
-use Rattle.zr_netrun.specs.Clauses.{OfRead, OfSummary, Reports, SumsUp, IsSummedUp}
+use Rattle.zr_netrun.specs.Clauses.{OfRead, Reports, SumsUp, IsSummedUp}
 use Rattle.zr_netrun.specs.Counted.{all_capped, CountsWhole, IsRun, TellsSummary}
 use Rattle.zr_netrun.proofs.Bounds.{counts_fit}
 use Rattle.zr_netrun.proofs.Reading.{as_before}

@@ -3,9 +3,8 @@ use Rattle.std.specs.Prelude.{◌≡◌, ℕ, ◌+◌, ◌-◌, ◌^◌, min, Bo
 use Rattle.std.specs.List.{fold, list_all}
 use Rattle.zr_command.specs.declared.command.Act.{Act}
 use Rattle.zr_command.specs.declared.command.Command.{Command}
-use Rattle.zr_command.specs.declared.command.Command.TheVariants as c
 use Rattle.zr_command.specs.declared.report.ReportLine.{ReportLine}
-use Rattle.zr_command.specs.declared.report.ReportLine.TheVariants.{Handled, Taken, Ran, Mark, Show, Record, Parent}
+use Rattle.zr_command.specs.declared.report.ReportLine.TheVariants.{Handled, Taken, Ran, Mark, Show, Record, Parent, Source}
 use Rattle.zr_network.specs.World.{Routers, WorldState, with_booked, router_of, is_taken}
 use Rattle.zr_network.specs.Next.{acts}
 use Rattle.zr_language.specs.Lines.{lines}
@@ -50,6 +49,7 @@ with_line routers c (Mark line) = record { handled = c.handled; taken = c.taken;
 with_line routers c (Show router) = c
 with_line routers c (Record links) = c
 with_line routers c (Parent root parent) = c
+with_line routers c (Source source number decls) = c
 
 -- some lines are counted
 abbrev pub with_lines : Routers → Counts → List ReportLine → Counts
@@ -66,6 +66,7 @@ is_known w (Mark line) = true
 is_known w (Show router) = true
 is_known w (Record links) = true
 is_known w (Parent root parent) = true
+is_known w (Source source number decls) = true
 
 -- What is kept has the world of a moment, but for the steps that runs asked for, and has counted its report, where it counts.
 pub record IsCounted (k : Kept) (m : Moment) : Type 0 where

@@ -1,5 +1,6 @@
 pub mod Status
 pub mod Summary
+pub mod Possible
 pub mod Kept
 pub mod Judged
 pub mod Clauses

@@ -4,7 +4,7 @@ use Rattle.std.specs.Prelude.{ℕ, not, Bool, true, false, List, ◌++◌, codes
 use Rattle.std.specs.Fmt.{decimal}
 use Rattle.std.specs.List.{count_by}
 use Rattle.zr_command.specs.declared.report.ReportLine.{ReportLine}
-use Rattle.zr_command.specs.declared.report.ReportLine.TheVariants.{Handled, Taken, Ran, Mark, Show, Record, Parent}
+use Rattle.zr_command.specs.declared.report.ReportLine.TheVariants.{Handled, Taken, Ran, Mark, Show, Record, Parent, Source}
 use Rattle.zr_language.specs.Report.{line_end}
 use Rattle.zr_network.specs.World.{Routers, router_of}
 use Rattle.zr_network.specs.Moments.{Moment}
@@ -19,6 +19,7 @@ tells_handled (Mark line) = false
 tells_handled (Show router) = false
 tells_handled (Record links) = false
 tells_handled (Parent root parent) = false
+tells_handled (Source source number decls) = false
 
 -- whether it tells of a message that went onto the wire to a router
 abbrev pub tells_taken : Routers → ReportLine → Bool
@@ -29,6 +30,7 @@ tells_taken routers (Mark line) = false
 tells_taken routers (Show router) = false
 tells_taken routers (Record links) = false
 tells_taken routers (Parent root parent) = false
+tells_taken routers (Source source number decls) = false
 
 -- whether it tells of a message that was sent to a client: a neighbour that is no router
 abbrev pub tells_sent : Routers → ReportLine → Bool
@@ -39,6 +41,7 @@ tells_sent routers (Mark line) = false
 tells_sent routers (Show router) = false
 tells_sent routers (Record links) = false
 tells_sent routers (Parent root parent) = false
+tells_sent routers (Source source number decls) = false
 
 -- whether it tells that a phase has begun
 abbrev pub tells_mark : ReportLine → Bool
@@ -49,6 +52,7 @@ tells_mark (Mark line) = true
 tells_mark (Show router) = false
 tells_mark (Record links) = false
 tells_mark (Parent root parent) = false
+tells_mark (Source source number decls) = false
 
 -- how many report lines are of each of these kinds, where these are the routers
 abbrev pub counts_in : Routers → List ReportLine → Counts

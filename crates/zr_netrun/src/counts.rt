@@ -54,7 +54,8 @@ impl Counts {
             ReportLine::Ran { .. }
             | ReportLine::Show { .. }
             | ReportLine::Record { .. }
-            | ReportLine::Parent { .. } => {}
+            | ReportLine::Parent { .. }
+            | ReportLine::Source { .. } => {}
         }
     }
 

@@ -3,6 +3,8 @@
 ghost use Rattle.std.specs.Prelude.{◌≡◌, ◌≤◌, ◌⊎◌, true, false};
 ghost use Rattle.zr_outside.specs.Counts.{Rose};
 ghost use Rattle.zr_language.specs.Report.{refused_text, too_long_text};
+ghost use Rattle.zr_network.specs.Run.{start};
+ghost use Rattle.zr_netrun.specs.Possible.{StepsGo};
 ghost use Rattle.zr_netrun.specs.Kept.{begun, seen, writes, Tells, Complains};
 ghost use Rattle.zr_netrun.specs.Clauses.{OfRead, IsReported, IsReadToEnd, IsSummedUp};
 ghost use Rattle.zr_netrun.specs.Counted.{CountsFromNone, IsRun, TellsSummary};
@@ -13,6 +15,7 @@ use crate::runner::{Runner, Stop};
 use crate::status::Status;
 use std::alloc::Global;
 use zr_command::error::ScriptError;
+use zr_laws::runs::steps_are_possible;
 use zr_outside::sink::{Sink, write_all};
 use zr_outside::source::{Got, Source};
 use zr_script::text::refused_text;
@@ -50,6 +53,7 @@ pub fn run_script<S: Source, K: Sink, E: Sink>(
     ensures out_later { K.faults out.old ≤ K.faults out.new }
     ensures err_later { E.faults err.old ≤ E.faults err.new }
 {
+    steps_are_possible();
     if summary {
         return sum_up(alloc, input, out, err);
     }
@@ -64,6 +68,7 @@ fn sum_up<S: Source, K: Sink, E: Sink>(
     out: &mut K,
     err: &mut E,
 ) -> Status
+    requires { StepsGo start }
     ensures summed_up { OfRead (S.left input.old) (S.left input.new) (IsSummedUp (IsReadToEnd (S.ends input.old) (S.ends input.new) (S.quiets input.old) (S.quiets input.new)) result (K.held out.old) (K.held out.new) (E.held err.old) (E.held err.new)) }
     ensures whole { result ≡ Status.Done → IsReadToEnd (S.ends input.old) (S.ends input.new) (S.quiets input.old) (S.quiets input.new) }
     ensures read { result ≡ Status.ReadFault → Rose (S.faults input.old) (S.faults input.new) }
@@ -107,6 +112,7 @@ fn run_lines<S: Source, K: Sink, E: Sink>(
     out: &mut K,
     err: &mut E,
 ) -> Status
+    requires possible { StepsGo start }
     requires begins { runner.old ≡ begun runner.old.counts }
     requires counts { CountsFromNone runner.old.counts }
     ensures mode { result ≡ Status.Done → writes runner.new ≡ writes runner.old }

@@ -8,12 +8,12 @@ ghost use Rattle.zr_language.specs.Report.{line_text};
 ghost use Rattle.zr_network.specs.Accepted.{accepted_from};
 ghost use Rattle.zr_network.specs.Next.{applied, book_step, next};
 ghost use Rattle.zr_network.specs.Run.{on_line};
-ghost use Rattle.zr_network.specs.Sound.{IsSound};
 ghost use Rattle.zr_outside.specs.Counts.{Rose};
 ghost use Rattle.zr_outside.specs.Told.{Appends, AppendsPrefix};
 ghost use Rattle.zr_world.specs.Living.{Books};
 ghost use Rattle.zr_netrun.specs.Kept.{begun, fresh, most_pending, run_behind, run_by, seen, writes, StepsOn, Turns, Written};
 ghost use Rattle.zr_netrun.specs.Counted.{acts_by, step_by, with_lines, CountsOn};
+ghost use Rattle.zr_netrun.specs.Possible.{RunsGo, StepsGo};
 
 use crate::counts::Counts;
 use std::alloc::{AllocError, Global};
@@ -105,6 +105,7 @@ impl Runner {
     /// acts less than 64 KiB of the report wait.
     pub fn feed<K: Sink>(&mut self, piece: &[u8], out: &mut K) -> Result<(), Stop>
         requires alive { self.old.world.spent ≡ false }
+        requires goes { StepsGo (fresh self.old) }
         requires room { self.old.number + length piece.now < 2 ^ 63 }
         ensures turn { Turns result (fold on_line (fresh self.old) (ended_lines (self.old.line ++ piece.now))) (take most_kept (open_line (self.old.line ++ piece.now))) self.old.pending self.new (seen (writes self.old) (K.held out.old)) (seen (writes self.old) (K.held out.new)) }
         ensures counts { OnOk result (CountsOn (accepted_from (fresh self.old) (ended_lines (self.old.line ++ piece.now))) self.old self.new) }
@@ -120,6 +121,7 @@ impl Runner {
     /// The script has ended: what was kept is its last line, unless that has no bytes.
     pub fn finish<K: Sink>(&mut self, out: &mut K) -> Result<(), Stop>
         requires alive { self.old.world.spent ≡ false }
+        requires goes { StepsGo (fresh self.old) }
         requires room { self.old.number < 2 ^ 63 }
         ensures turn { Turns result (fold on_line (fresh self.old) (unless_empty self.old.line)) [] self.old.pending self.new (seen (writes self.old) (K.held out.old)) (seen (writes self.old) (K.held out.new)) }
         ensures counts { OnOk result (CountsOn (accepted_from (fresh self.old) (unless_empty self.old.line)) self.old self.new) }
@@ -146,6 +148,7 @@ impl Runner {
     // The lines that end in a piece are applied, and the rest is kept.
     fn feed_lines<K: Sink>(&mut self, piece: &[u8], out: &mut K) -> Result<(), Stop>
         requires alive { self.old.world.spent ≡ false }
+        requires goes { StepsGo (fresh self.old) }
         requires room { self.old.number + length piece.now < 2 ^ 63 }
         ensures turn { Turns result (fold on_line (fresh self.old) (ended_lines (self.old.line ++ piece.now))) (take most_kept (open_line (self.old.line ++ piece.now))) self.old.pending self.new (seen (writes self.old) (K.held out.old)) (seen (writes self.old) (K.held out.new)) }
         ensures counts { OnOk result (CountsOn (accepted_from (fresh self.old) (ended_lines (self.old.line ++ piece.now))) self.old self.new) }
@@ -165,6 +168,7 @@ impl Runner {
     // What was kept is the last line, unless it has no bytes.
     fn end_last_line<K: Sink>(&mut self, out: &mut K) -> Result<(), Stop>
         requires alive { self.old.world.spent ≡ false }
+        requires goes { StepsGo (fresh self.old) }
         requires room { self.old.number < 2 ^ 63 }
         ensures turn { Turns result (fold on_line (fresh self.old) (unless_empty self.old.line)) [] self.old.pending self.new (seen (writes self.old) (K.held out.old)) (seen (writes self.old) (K.held out.new)) }
         ensures counts { OnOk result (CountsOn (accepted_from (fresh self.old) (unless_empty self.old.line)) self.old self.new) }
@@ -182,6 +186,7 @@ impl Runner {
     #[tactic(auto, using(crate::proofs::Runs::command_kept))]
     fn end_line<K: Sink>(&mut self, part: &[u8], out: &mut K) -> Result<(), Stop>
         requires alive { self.old.world.spent ≡ false }
+        requires goes { StepsGo (fresh self.old) }
         requires room { self.old.number < 2 ^ 63 }
         requires open { parts part.now ≡ part.now ∷ [] }
         ensures turn { Turns result (on_line (fresh self.old) (self.old.line ++ part.now)) [] self.old.pending self.new (seen (writes self.old) (K.held out.old)) (seen (writes self.old) (K.held out.new)) }
@@ -201,6 +206,7 @@ impl Runner {
     // A line has ended: it is counted, and what it asks is done.
     fn on_line<K: Sink>(&mut self, line: &[u8], out: &mut K) -> Result<(), Stop>
         requires alive { self.old.world.spent ≡ false }
+        requires goes { StepsGo (fresh self.old) }
         requires room { self.old.number < 2 ^ 63 }
         ensures turn { Turns result (on_line (fresh self.old) line.now) self.old.line self.old.pending self.new (seen (writes self.old) (K.held out.old)) (seen (writes self.old) (K.held out.new)) }
         ensures counts { OnOk result (CountsOn (accepted_from (fresh self.old) (line.now ∷ [])) self.old self.new) }
@@ -251,6 +257,7 @@ impl Runner {
     // one step and what may wait.
     fn run<K: Sink>(&mut self, steps: u32, out: &mut K) -> Result<(), Stop>
         requires alive { self.old.world.spent ≡ false }
+        requires goes { RunsGo self.old.world.state }
         ensures turn { Turns result (run_behind self.old (applied self.old.world.state self.old.number (Command.Run steps))) self.old.line self.old.pending self.new (seen (writes self.old) (K.held out.old)) (seen (writes self.old) (K.held out.new)) }
         ensures counts { OnOk result (CountsOn (acts_by self.old (Command.Run steps)) self.old self.new) }
         ensures fault { result ≡ Err Stop.WriteFault → Rose (K.faults out.old) (K.faults out.new) }
@@ -270,7 +277,6 @@ impl Runner {
     fn count_steps(&mut self, steps: u32) -> Result<(), ScriptError>
         requires alive { self.old.world.spent ≡ false }
         ensures books { Books result (book_step self.old.world.state steps) self.old.world self.new.world }
-        ensures sound { OnOk result (IsSound self.new.world.state) }
         ensures rest { self.new ≡ record { world = self.new.world; number = self.old.number; line = self.old.line; pending = self.old.pending; counts = self.old.counts } }
     {
         self.world.book(steps)

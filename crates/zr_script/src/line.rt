@@ -3,7 +3,7 @@
 ghost use Rattle.std.specs.Prelude.{◌≡◌, ◌≤◌, length, true, map, Ok};
 ghost use Rattle.zr_language.specs.Lines.{most_line};
 ghost use Rattle.zr_language.specs.Step.{IsSaid};
-ghost use Rattle.zr_language.specs.Command.{command_of, by_words, by_name, is_command, is_silent, plain, router_line, client_line, link_line, up_line, break_line, down_line, sub_line, unsub_line, put_line, del_line, handle_line, take_line, run_line, mark_line, show_line};
+ghost use Rattle.zr_language.specs.Command.{command_of, by_words, by_name, is_command, is_silent, plain, router_line, client_line, link_line, up_line, break_line, down_line, sub_line, unsub_line, able_line, unable_line, put_line, del_line, handle_line, take_line, run_line, mark_line, show_line};
 ghost use Rattle.zr_script.specs.Short.{are_short};
 
 use crate::word::{is_clean, key, number, one, payload, three, two, words_of, zid};
@@ -75,6 +75,9 @@ fn is_command(name: &[u8]) -> bool
         || name == b"down".as_slice()
         || name == b"sub".as_slice()
         || name == b"unsub".as_slice()
+        || name == b"able".as_slice()
+        || name == b"full".as_slice()
+        || name == b"unable".as_slice()
         || name == b"put".as_slice()
         || name == b"del".as_slice()
         || name == b"handle".as_slice()
@@ -105,6 +108,12 @@ fn by_name(alloc: Global, name: &[u8], args: &[&[u8]]) -> Result<Command, Script
         sub(alloc, args)
     } else if name == b"unsub".as_slice() {
         unsub(args)
+    } else if name == b"able".as_slice() {
+        able(alloc, false, args)
+    } else if name == b"full".as_slice() {
+        able(alloc, true, args)
+    } else if name == b"unable".as_slice() {
+        unable(args)
     } else if name == b"put".as_slice() {
         put(alloc, args)
     } else if name == b"del".as_slice() {
@@ -212,6 +221,34 @@ fn unsub(args: &[&[u8]]) -> Result<Command, ScriptError>
     let client = zid(client)?;
     let id = number(id)?;
     let act = Act::Unsub { client, id };
+    Ok(Command::Act { act })
+}
+
+#[tactic(auto, unfolding(zr_language::specs::Command::able_line))]
+fn able(alloc: Global, complete: bool, args: &[&[u8]]) -> Result<Command, ScriptError>
+    ensures { IsSaid result (able_line complete (map (λ w. w.now) args.now)) }
+{
+    let (client, id, word) = three(args)?;
+    let client = zid(client)?;
+    let id = number(id)?;
+    let key = key(alloc, word)?;
+    let act = Act::Able {
+        client,
+        id,
+        key,
+        complete,
+    };
+    Ok(Command::Act { act })
+}
+
+#[tactic(auto, unfolding(zr_language::specs::Command::unable_line))]
+fn unable(args: &[&[u8]]) -> Result<Command, ScriptError>
+    ensures { IsSaid result (unable_line (map (λ w. w.now) args.now)) }
+{
+    let (client, id) = two(args)?;
+    let client = zid(client)?;
+    let id = number(id)?;
+    let act = Act::Unable { client, id };
     Ok(Command::Act { act })
 }
 

@@ -236,7 +236,8 @@ fn put_snapshot(
     put_decls(decls, out)
 }
 
-fn put_decls(decls: &[Decl], out: &mut Vec<u8>) -> Result<(), AllocError>
+/// Several declarations, each behind a space.
+pub fn put_decls(decls: &[Decl], out: &mut Vec<u8>) -> Result<(), AllocError>
     ensures { OnOk result (out.new.items ≡ out.old.items ++ flat_map decl_text decls.now) }
 {
     for decl in decls {

@@ -2,15 +2,17 @@
 
 ghost use Rattle.std.specs.Prelude.{◌≡◌, ◌++◌, [], codes, OnOk, OnErr};
 ghost use Rattle.std.specs.Fmt.{decimal};
-ghost use Rattle.zr_language.specs.Report.{line_end, line_text, msg_text, rest_text, id_text, optional_id_text, record_text, refusal_text, refused_text};
+ghost use Rattle.std.specs.List.{flat_map};
+ghost use Rattle.zr_language.specs.Report.{decl_text, line_end, line_text, msg_text, rest_text, id_text, optional_id_text, record_text, refusal_text, refused_text};
 
-use crate::message::{put_msg, put_record};
+use crate::message::{put_decls, put_msg, put_record};
 use crate::part::{put_id, put_number, put_optional_id};
 use std::alloc::AllocError;
 use zr_command::error::ScriptError;
 use zr_command::report::ReportLine;
 use zr_id::record::LinkRecord;
 use zr_id::zid::Zid;
+use zr_msg::decl::Decl;
 use zr_msg::msg::Msg;
 
 /// Writes the text of a report line, its end included, in the place of what was there. Where memory runs out nothing is there.
@@ -64,6 +66,11 @@ fn put_line(line: &ReportLine, out: &mut Vec<u8>) -> Result<(), AllocError>
         ReportLine::Show { router } => put_show(router, out),
         ReportLine::Record { record } => put_record_line(record, out),
         ReportLine::Parent { root, parent } => put_parent(root, parent, out),
+        ReportLine::Source {
+            source,
+            number,
+            decls,
+        } => put_source(source, *number, decls.as_slice(), out),
     }
 }
 
@@ -132,6 +139,22 @@ fn put_parent(root: &Zid, parent: &Option<Zid>, out: &mut Vec<u8>) -> Result<(),
     put_id(root, out)?;
     out.extend_from_slice(b" ")?;
     put_optional_id(parent, out)?;
+    out.extend_from_slice(b"\n")
+}
+
+fn put_source(
+    source: &Zid,
+    number: u64,
+    decls: &[Decl],
+    out: &mut Vec<u8>,
+) -> Result<(), AllocError>
+    ensures { OnOk result (out.new.items ≡ out.old.items ++ (codes "source " ++ id_text source.now ++ codes " " ++ decimal number ++ flat_map decl_text decls.now ++ line_end)) }
+{
+    out.extend_from_slice(b"source ")?;
+    put_id(source, out)?;
+    out.extend_from_slice(b" ")?;
+    put_number(number, out)?;
+    put_decls(decls, out)?;
     out.extend_from_slice(b"\n")
 }
 

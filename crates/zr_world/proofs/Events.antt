@@ -9,7 +9,9 @@ use Rattle.zr_msg.specs.declared.event.Event.{Event}
 use Rattle.zr_msg.specs.declared.event.Event.TheVariants.{Up, Down, From}
 use Rattle.zr_msg.specs.declared.peer.Peer.{Peer}
 use Rattle.zr_table.specs.Event.{IsFresh, MayCome}
-use Rattle.zr_table.specs.State.{LinkState, NodeState, new_link, link_at, link_to, free_link}
+use Rattle.zr_routing.specs.Tables.{link_at, link_to, free_link}
+use Rattle.zr_table.specs.State.{NodeState, new_link}
+use Rattle.zr_msg.specs.declared.peer.LinkPeer.{LinkPeer}
 use Rattle.zr_table.specs.Table.{after}
 use Rattle.zr_network.specs.World.{EndState, RouterState, WorldState, router_of, client_of, is_taken, end_of, is_up}
 use Rattle.zr_network.specs.Sound.{AreUnique, IsSound}
@@ -42,11 +44,11 @@ module _ (w : WorldState) (sound : IsSound w) (x : List ℕ) (r : RouterState) (
   }
 
   -- the link to a neighbour is that of its number
-  pub has_link : (y : List ℕ) (l : LinkState) → link_to r.node.links y ≡ Some l → is_some (link_at r.node.links l.link.0) ≡ true
+  pub has_link : (y : List ℕ) (l : LinkPeer) → link_to r.node.links y ≡ Some l → is_some (link_at r.node.links l.link.0) ≡ true
   has_link y l e = ap is_some (numbered_link r.node.links (sound.unique x r found) y l e)
 
   -- a link is that of a neighbour who is there
-  pub known : (y : List ℕ) (l : LinkState) → link_to r.node.links y ≡ Some l → is_taken w y ≡ true
+  pub known : (y : List ℕ) (l : LinkPeer) → link_to r.node.links y ≡ Some l → is_taken w y ≡ true
   known y l e = sound.neighbours x y (up_is_there (end_of w.ends (x, y)) (sym (sound.links x y r found) ∙ ap is_some e))
 
   -- where there is no link, the end is down
@@ -66,10 +68,10 @@ module _ (w : WorldState) (sound : IsSound w) (x : List ℕ) (r : RouterState) (
       apart true e = absurd (false≢true (sym new ∙ ap (λ z. is_taken w z) (sym (same_name x peer.id e)) ∙ ap (λ (o : Option RouterState). is_some o || is_some (client_of w.clients x)) found))
 
 -- a number that a look-up found is that of the link that it found
-pub link_found : (o : Option LinkState) (link : LinkNo) → Some link ≡ option_map (λ l. l.link) o → (l : LinkState) × (o ≡ Some l) × (l.link ≡ link)
+pub link_found : (o : Option LinkPeer) (link : LinkNo) → Some link ≡ option_map (λ l. l.link) o → (l : LinkPeer) × (o ≡ Some l) × (l.link ≡ link)
 link_found None link h = absurd (cc)
 link_found (Some l) link h = let same : l.link ≡ link = cc in (l, refl, same)
 
-pub no_link_found : (o : Option LinkState) → None ≡ option_map (λ l. l.link) o → o ≡ None
+pub no_link_found : (o : Option LinkPeer) → None ≡ option_map (λ l. l.link) o → o ≡ None
 no_link_found None h = refl
 no_link_found (Some l) h = absurd (cc)

@@ -2,6 +2,9 @@ pub mod Queued
 pub mod Events
 pub mod Searching
 pub mod Possible
+pub mod Hearing
 pub mod Moving
 pub mod Passing
+pub mod Returned
+pub mod Refusing
 pub mod Show

@@ -22,7 +22,8 @@ use Rattle.zr_command.specs.declared.report.ReportLine.{ReportLine}
 use Rattle.zr_command.specs.declared.report.ReportLine.TheVariants.{Handled, Taken, Show}
 use Rattle.zr_table.specs.Event.{MayCome}
 use Rattle.zr_table.specs.Prefix.{IsPrefixBehind}
-use Rattle.zr_table.specs.State.{LinkState, link_to}
+use Rattle.zr_routing.specs.Tables.{link_to}
+use Rattle.zr_msg.specs.declared.peer.LinkPeer.{LinkPeer}
 use Rattle.zr_table.specs.Table.{refuses}
 use Rattle.zr_language.specs.Step.{◌>>=◌}
 use Rattle.zr_network.specs.World.{Tagged, EndState, End, Ends, RouterState, WorldState, end_cmp, with_ends, with_clients, with_router, router_of, is_taken, is_up, end_of, with_end, put_end, new_end, new_client, most_clients, lifted, lowered, with_wire, with_queue, changed, sent}
@@ -43,12 +44,12 @@ use Rattle.zr_world.proofs.Queued.{spread_is}
 -- an event that is heard, and what it sends queued message by message
 pub hears_is : (w : WorldState) (es es' : Ends) (x : List ℕ) (r r' : RouterState) (event : Event) (out : List (LinkNo × Msg)) (tag : ℕ) → IsHeard (Ok tt) r r' event out →
     IsStrictlySortedBy end_cmp (keys_of es) → AreUnique r.node.links → MayCome r.node event → es' ≡ all_queued_on r'.node.links es x out tag →
-    hears (with_ends w es) x r event tag ≡ Ok (record { routers = with_router w.routers x r'; clients = w.clients; ends = es'; used = w.used; booked = w.booked })
+    hears (with_ends w es) x r event tag ≡ Ok (record { routers = with_router w.routers x r'; clients = w.clients; ends = es'; booked = w.booked })
 hears_is w es es' x r r' event out tag heard ordered h may spread =
     let same = sym (spread ∙ ap (λ (z : RouterState). all_queued_on z.node.links es x out tag) heard.1
     ∙ spread_is es x r.node event out tag ordered (unique_after r.node event h may) heard.2) in
     ap (heard_by (with_ends w es) x r event tag) heard.0
-    ∙ (λ i. Ok (record { routers = with_router w.routers x (sym heard.1 i); clients = w.clients; ends = same i; used = w.used; booked = w.booked }))
+    ∙ (λ i. Ok (record { routers = with_router w.routers x (sym heard.1 i); clients = w.clients; ends = same i; booked = w.booked }))
 
 -- an event that is refused
 pub hears_refused : (w : WorldState) (x : List ℕ) (r r' : RouterState) (event : Event) (out : List (LinkNo × Msg)) (tag : ℕ) (error : ScriptError) →
@@ -100,7 +101,7 @@ abbrev pub handled_by : WorldState → List ℕ → List ℕ → RouterState →
 handled_by w router from r l y = hears (with_ends w y.1) router r (From l y.0.msg) y.0.tag >>= (λ v. Ok (Handled router from y.0.msg y.0.tag ∷ [], v))
 
 -- the step is the message's taking, and then the router's
-pub handle_by : (w : WorldState) (router from : List ℕ) (r : RouterState) (l : LinkState) → router_of w.routers router ≡ Some r → is_taken w from ≡ true → link_to r.node.links from ≡ Some l →
+pub handle_by : (w : WorldState) (router from : List ℕ) (r : RouterState) (l : LinkPeer) → router_of w.routers router ≡ Some r → is_taken w from ≡ true → link_to r.node.links from ≡ Some l →
     handle_step w router from ≡ from_wire w.ends (router, from) >>= handled_by w router from r l.link
 unfolding handle_step from_wire
 handle_by w router from r l er et el = rw (er, et, el) (by (end_at (end_of w.ends (router, from))))
@@ -241,7 +242,7 @@ wire_ordered es q y h ordered = by (end_of es q) h
 
 -- ---- refusals
 
-pub handle_refused : (w w' : WorldState) (router from : List ℕ) (r : RouterState) (l : LinkState) (error : ScriptError) (es' : Ends) (before : List ReportLine) →
+pub handle_refused : (w w' : WorldState) (router from : List ℕ) (r : RouterState) (l : LinkPeer) (error : ScriptError) (es' : Ends) (before : List ReportLine) →
     router_of w.routers router ≡ Some r → is_taken w from ≡ true → link_to r.node.links from ≡ Some l → Gives {A = Tagged} {S = Ends} (Err error) (from_wire w.ends (router, from)) w.ends es' →
     (es' ≡ w.ends → w' ≡ w) → AppliesTo (Err error) (handle_step w router from) w w' before before
 handle_refused w w' router from r l error es' before er et el h same =
@@ -288,13 +289,13 @@ up_is w v line router name r s er et es unbroken up h =
     more = hears (with_ends w (with_end w.ends (router, name) (lifted s))) router r (up_event r (peer_of w name)) line >>= (λ x. Ok ([], x))
 
 -- an end that goes down
-pub down_is : (w v : WorldState) (line : ℕ) (router name : List ℕ) (r : RouterState) (s : EndState) (l : LinkState) → router_of w.routers router ≡ Some r → is_taken w name ≡ true →
+pub down_is : (w v : WorldState) (line : ℕ) (router name : List ℕ) (r : RouterState) (s : EndState) (l : LinkPeer) → router_of w.routers router ≡ Some r → is_taken w name ≡ true →
     end_of w.ends (router, name) ≡ Some s → s.up ≡ true → s.unbroken ≡ false → link_to r.node.links name ≡ Some l → hears w router r (Down l.link) line ≡ Ok v →
     down_step w line router name ≡ Ok ([], with_ends v (changed v.ends (router, name) lowered))
 unfolding down_step
 down_is w v line router name r s l er et es up unbroken el h = rw (er, et, es, up, unbroken, el, h) refl
 
 -- a router's tables
-pub show_is : (w : WorldState) (router : List ℕ) (r : RouterState) → router_of w.routers router ≡ Some r → show_step w router ≡ Ok (Show router ∷ shown r.node.base, w)
+pub show_is : (w : WorldState) (router : List ℕ) (r : RouterState) → router_of w.routers router ≡ Some r → show_step w router ≡ Ok (Show router ∷ shown r.node, w)
 unfolding show_step
 show_is w router r er = rw er refl

@@ -1,4 +1,5 @@
--- What code has done keeps a world sound, and in a sound world the next step is possible. That it is so is shown of the definitions.
+-- What code has done keeps a world sound, and in a sound world where each message is taken the next step is possible. That it is so is shown
+-- of the definitions.
 use Rattle.std.proofs.Common.{◌≡◌, ℕ, List, Option, Some, None, Result, Ok, Err, sym, subst}
 use Rattle.std.specs.Prelude.{IfOk, IfSome}
 use Rattle.std.proofs.lemmas.Bool.{false≢true}
@@ -8,7 +9,7 @@ use Rattle.zr_command.specs.declared.report.ReportLine.{ReportLine}
 use Rattle.zr_network.specs.World.{WorldState}
 use Rattle.zr_network.specs.Acts.{Outcome, outcome}
 use Rattle.zr_network.specs.Next.{next, book_step}
-use Rattle.zr_network.specs.Sound.{IsSound}
+use Rattle.zr_network.specs.Sound.{IsSound, AllAreTaken}
 use Rattle.zr_network.proofs.Sound.{Keeps, act_keeps, book_keeps, next_goes}
 use Rattle.zr_world.specs.Steps.{AppliesTo, Counts}
 use Rattle.zr_world.specs.Living.{IsPossible}
@@ -27,6 +28,6 @@ done_sound w w' line act before after k h = by (outcome w line act) k (act_keeps
     by (Err e) a l = absurd (false≢true a.1)
 
 -- the next step, if there is one
-pub next_possible : (o : Option Act) (w : WorldState) → IsSound w → o ≡ next w → IfSome o (IsPossible w)
-next_possible None w h e = tt
-next_possible (Some step) w h e = λ line. next_goes w line step h (sym e)
+pub next_possible : (o : Option Act) (w : WorldState) → IsSound w → AllAreTaken w → o ≡ next w → IfSome o (IsPossible w)
+next_possible None w h taken e = tt
+next_possible (Some step) w h taken e = λ line. next_goes w line step h taken (sym e)

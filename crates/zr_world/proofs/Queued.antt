@@ -12,7 +12,9 @@ use Rattle.zr_id.specs.declared.link.LinkNo.{LinkNo}
 use Rattle.zr_msg.specs.declared.msg.Msg.{Msg}
 use Rattle.zr_msg.specs.declared.event.Event.{Event}
 use Rattle.zr_table.specs.Event.{Sends, on_link}
-use Rattle.zr_table.specs.State.{LinkState, NodeState, is_link, link_at, link_to}
+use Rattle.zr_routing.specs.Tables.{is_link, link_at, link_to}
+use Rattle.zr_table.specs.State.{NodeState}
+use Rattle.zr_msg.specs.declared.peer.LinkPeer.{LinkPeer}
 use Rattle.zr_table.specs.Table.{sends, after}
 use Rattle.zr_tree.proofs.Finds.{In, find_in, in_find}
 use Rattle.zr_network.specs.World.{Tagged, EndState, End, Ends, end_cmp, is_end, end_of, changed, queued}
@@ -28,7 +30,7 @@ use Rattle.zr_world.specs.Spread.{queued_on, all_queued_on}
 -- ---- links and neighbours
 
 -- whether the link of a number is up and leads to a neighbour
-abbrev leads : List LinkState → List ℕ → LinkNo → Bool
+abbrev leads : List LinkPeer → List ℕ → LinkNo → Bool
 leads links y link = option_map_or (λ l. is_named l.peer.id y) (link_at links link.0) false
 
 either_way : (a b : Bool) → (a ≡ true → b ≡ true) → (b ≡ true → a ≡ true) → a ≡ b
@@ -38,10 +40,10 @@ either_way true false f g = sym (f refl)
 either_way false true f g = g refl
 
 -- of two links that are found by one number, or that lead to one neighbour, the one is the other
-leads_is : (links : List LinkState) (y : List ℕ) (l : LinkState) → AreUnique links → link_to links y ≡ Some l → (n : LinkNo) → leads links y n ≡ (n.0 == l.link.0)
+leads_is : (links : List LinkPeer) (y : List ℕ) (l : LinkPeer) → AreUnique links → link_to links y ≡ Some l → (n : LinkNo) → leads links y n ≡ (n.0 == l.link.0)
 leads_is links y l h found n = by (link_at links n.0) refl
   where
-    by : (o : Option LinkState) → link_at links n.0 ≡ o → option_map_or (λ k. is_named k.peer.id y) o false ≡ (n.0 == l.link.0)
+    by : (o : Option LinkPeer) → link_at links n.0 ≡ o → option_map_or (λ k. is_named k.peer.id y) o false ≡ (n.0 == l.link.0)
     by None e = either_way false (n.0 == l.link.0) (λ k. absurd (false≢true k))
         (λ k. ap is_some (sym e ∙ ap (link_at links) (eqb-true n.0 l.link.0 k) ∙ numbered_link links h y l found))
     by (Some k) e = either_way (is_named k.peer.id y) (n.0 == l.link.0) there back
@@ -51,18 +53,18 @@ leads_is links y l h found n = by (link_at links n.0) refl
             let i = find_in (is_link n.0) links k e in
             let one : Some k ≡ Some l = sym (each_in _ links k h.names i.0) ∙ ap (link_to links) (same_name k.peer.id y same) ∙ found in
             let is : k ≡ l = cc in
-            eq-eqb n.0 l.link.0 (sym (eqb-true k.link.0 n.0 i.1) ∙ ap (λ (z : LinkState). z.link.0) is)
+            eq-eqb n.0 l.link.0 (sym (eqb-true k.link.0 n.0 i.1) ∙ ap (λ (z : LinkPeer). z.link.0) is)
 
         back : (n.0 == l.link.0) ≡ true → is_named k.peer.id y ≡ true
         back same =
             let one : Some k ≡ Some l = sym e ∙ ap (link_at links) (eqb-true n.0 l.link.0 same) ∙ numbered_link links h y l found in
             let is : k ≡ l = cc in
-            ap (λ (z : LinkState). is_named z.peer.id y) is ∙ ap (λ z. is_named z y) (named_link links y l found) ∙ names.refl y
+            ap (λ (z : LinkPeer). is_named z.peer.id y) is ∙ ap (λ z. is_named z y) (named_link links y l found) ∙ names.refl y
 
-leads_none : (links : List LinkState) (y : List ℕ) → link_to links y ≡ None → (n : LinkNo) → leads links y n ≡ false
+leads_none : (links : List LinkPeer) (y : List ℕ) → link_to links y ≡ None → (n : LinkNo) → leads links y n ≡ false
 leads_none links y none n = by (link_at links n.0) refl
   where
-    by : (o : Option LinkState) → link_at links n.0 ≡ o → option_map_or (λ k. is_named k.peer.id y) o false ≡ false
+    by : (o : Option LinkPeer) → link_at links n.0 ≡ o → option_map_or (λ k. is_named k.peer.id y) o false ≡ false
     by None e = refl
     by (Some k) e = either_way (is_named k.peer.id y) false there (λ b. absurd (false≢true b))
       where
@@ -73,7 +75,7 @@ leads_none links y none n = by (link_at links n.0) refl
 
 -- ---- the messages for a neighbour
 
-abbrev told : List LinkState → List ℕ → List (LinkNo × Msg) → List Msg
+abbrev told : List LinkPeer → List ℕ → List (LinkNo × Msg) → List Msg
 told links y sent = map (λ m. m.1) (filter (λ m. leads links y m.0) sent)
 
 alike : (p q : LinkNo × Msg → Bool) (xs : List (LinkNo × Msg)) → ((m : LinkNo × Msg) → p m ≡ q m) → filter p xs ≡ filter q xs
@@ -88,10 +90,10 @@ told_is : (node : NodeState) (event : Event) (sent : List (LinkNo × Msg)) → A
     (y : List ℕ) → told (after node event).links y sent ≡ sends_to node event y
 told_is node event sent h each y = by (link_to (after node event).links y) refl
   where
-    links : List LinkState
+    links : List LinkPeer
     links = (after node event).links
 
-    by : (o : Option LinkState) → link_to (after node event).links y ≡ o → told (after node event).links y sent ≡ option_map_or (λ l. sends node event l.link) o []
+    by : (o : Option LinkPeer) → link_to (after node event).links y ≡ o → told (after node event).links y sent ≡ option_map_or (λ l. sends node event l.link) o []
     by None e = ap (λ (z : List (LinkNo × Msg)). map (λ m. m.1) z)
         (alike (λ m. leads (after node event).links y m.0) (λ m. false) sent (λ m. leads_none (after node event).links y e m.0) ∙ none_of sent)
     by (Some l) e = ap (λ (z : List (LinkNo × Msg)). map (λ m. m.1) z)
@@ -100,7 +102,7 @@ told_is node event sent h each y = by (link_to (after node event).links y) refl
 
 -- ---- what a look-up finds
 
-module _ (links : List LinkState) (x : List ℕ) (tag : ℕ) where
+module _ (links : List LinkPeer) (x : List ℕ) (tag : ℕ) where
   abbrev more : List Msg → EndState → EndState
   more ms s = queued s ms tag
 
@@ -116,7 +118,7 @@ module _ (links : List LinkState) (x : List ℕ) (tag : ℕ) where
   keys_queued_on : (es : Ends) (m : LinkNo × Msg) → keys_of (queued_on links es x m.0 m.1 tag) ≡ keys_of es
   keys_queued_on es m = by (link_at links m.0.0)
     where
-      by : (o : Option LinkState) → keys_of (option_map_or (λ l. changed es (x, l.peer.id) (more (m.1 ∷ []))) o es) ≡ keys_of es
+      by : (o : Option LinkPeer) → keys_of (option_map_or (λ l. changed es (x, l.peer.id) (more (m.1 ∷ []))) o es) ≡ keys_of es
       by None = refl
       by (Some l) = keys_changed es (x, l.peer.id) (more (m.1 ∷ []))
 
@@ -136,7 +138,7 @@ module _ (links : List LinkState) (x : List ℕ) (tag : ℕ) where
       old : Option EndState
       old = end_of es q
 
-      by : (o : Option LinkState) →
+      by : (o : Option LinkPeer) →
           cond (is_named x q.0) (option_map (more (told links q.1 ms)) (end_of (option_map_or (λ l. changed es (x, l.peer.id) (more (m.1 ∷ []))) o es) q))
           (end_of (option_map_or (λ l. changed es (x, l.peer.id) (more (m.1 ∷ []))) o es) q)
           ≡ cond (is_named x q.0) (option_map (more (map (λ n. n.1) (cond (option_map_or (λ l. is_named l.peer.id q.1) o false) (m ∷ filter (λ n. leads links q.1 n.0) ms)

@@ -8,7 +8,8 @@ use Rattle.zr_id.specs.Zid.{is_named}
 use Rattle.zr_graph.specs.Record.{ids}
 use Rattle.zr_command.specs.declared.report.ReportLine.{ReportLine}
 use Rattle.zr_table.specs.Prefix.{IsPrefixBehind}
-use Rattle.zr_world.specs.Show.{record_lines, parent_told, parent_lines}
+use Rattle.zr_log.specs.declared.log.Log.{Log}
+use Rattle.zr_world.specs.Show.{record_lines, parent_told, parent_lines, source_lines}
 use Rattle.zr_tree.specs.Walk.{graph_of}
 use Rattle.zr_tree.specs.Tree.{parent}
 use Rattle.zr_command.specs.declared.report.ReportLine.TheVariants.{Parent}
@@ -18,21 +19,13 @@ use Rattle.zr_command.specs.declared.report.ReportLine.TheVariants.{Parent}
 pub behind_begun : (before all begin rest after : List ReportLine) → all ≡ begin ++ rest → after ≡ before ++ begin → IsPrefixBehind before all after
 behind_begun before all begin rest after e h = (begin, (rest, e), h)
 
-pub behind_last : (before first lines after : List ReportLine) → IsPrefixBehind (before ++ first) lines after → IsPrefixBehind before (first ++ lines) after
-behind_last before first lines after p =
-    (first ++ p.0, (p.1.0, ap (λ z. first ++ z) p.1.1 ∙ sym (append_assoc first p.0 p.1.0)), p.2 ∙ append_assoc before first p.0)
-
-pub behind_more : (before first lines after more : List ReportLine) → IsPrefixBehind (before ++ first) lines after → IsPrefixBehind before ((first ++ lines) ++ more) after
-behind_more before first lines after more p = (
-  first ++ p.0,
-  (p.1.0 ++ more, ap (λ z. (first ++ z) ++ more) p.1.1 ∙ ap (λ z. z ++ more) (sym (append_assoc first p.0 p.1.0)) ∙ append_assoc (first ++ p.0) p.1.0 more),
-  p.2 ∙ append_assoc before first p.0,
-)
-
 -- ---- lines
 
 pub records_cut : (records : List RecordState) (i : ℕ) → record_lines records ≡ record_lines (take i records) ++ record_lines (drop i records)
 records_cut records i = ap record_lines (sym (take-append-drop i records)) ∙ map-append _ (take i records) (drop i records)
+
+pub sources_cut : (logs : List Log) (i : ℕ) → source_lines logs ≡ source_lines (take i logs) ++ source_lines (drop i logs)
+sources_cut logs i = ap source_lines (sym (take-append-drop i logs)) ∙ map-append _ (take i logs) (drop i logs)
 
 pub parents_append : (trees : List RecordState) (me : List ℕ) (xs ys : List RecordState) → parent_lines trees me (xs ++ ys) ≡ parent_lines trees me xs ++ parent_lines trees me ys
 parents_append trees me [] ys = refl

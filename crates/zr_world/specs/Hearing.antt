@@ -1,5 +1,5 @@
 -- What a router that has heard of an event answers.
-use Rattle.std.specs.Prelude.{◌≡◌, ◌⊎◌, true, List, [], Option, Some, None, is_some, Result, Ok, Err}
+use Rattle.std.specs.Prelude.{◌≡◌, true, List, [], Option, Some, None, is_some, Result, Ok, Err}
 use Rattle.zr_id.specs.declared.link.LinkNo.{LinkNo}
 use Rattle.zr_msg.specs.declared.error.NodeError.{NodeError}
 use Rattle.zr_msg.specs.declared.error.NodeError.TheVariants as n
@@ -10,14 +10,11 @@ use Rattle.zr_command.specs.declared.error.ScriptError.{ScriptError}
 use Rattle.zr_command.specs.declared.error.ScriptError.TheVariants.{Limit, NoMemory}
 use Rattle.zr_table.specs.Event.{Sends}
 use Rattle.zr_table.specs.Table.{refuses}
-use Rattle.zr_network.specs.World.{RouterState}
+use Rattle.zr_network.specs.World.{Tagged, RouterState, End, Ends, end_of}
 use Rattle.zr_network.specs.Acts.{hearing}
+use Rattle.zr_ends.specs.Steps.{changed_at, returned}
 
--- the errors of a router that knows of links and samples alone
-abbrev pub IsOfLinks : NodeError → Type 0
-IsOfLinks e = (e ≡ n.Worn) ⊎ (e ≡ n.Spent) ⊎ (e ≡ n.NoMemory)
-
--- what they are in a script
+-- what a router's refusal is in a script
 abbrev pub refusal : NodeError → ScriptError
 refusal n.Worn = Limit
 refusal n.Spent = NoMemory
@@ -34,6 +31,13 @@ abbrev pub IsHeard : Result (Unit {0}) ScriptError → RouterState → RouterSta
 IsHeard (Ok u) old new event out = (refuses old.node event ≡ None) × (new ≡ hearing old event) × Sends old.node event [] out
 IsHeard (Err NoMemory) old new event out = Unit {0}
 IsHeard (Err e) old new event out = (e ≡ Limit) × (is_some (refuses old.node event) ≡ true) × (new ≡ old)
+
+-- The router has heard of a message from a link, which is given back, and no end has changed; a message that it refuses is back on the wire
+-- to the end, and the router has not changed; where memory ran out nothing is said.
+abbrev pub IsHandled : Result Msg ScriptError → RouterState → RouterState → LinkNo → Tagged → End → Ends → Ends → List (LinkNo × Msg) → Type 0
+IsHandled (Ok msg) old new link x at ends ends' out = (msg ≡ x.msg) × IsHeard (Ok tt) old new (From link x.msg) out × (ends' ≡ ends)
+IsHandled (Err NoMemory) old new link x at ends ends' out = Unit {0}
+IsHandled (Err e) old new link x at ends ends' out = IsHeard (Err e) old new (From link x.msg) out × (ends' ≡ changed_at ends at (λ s. returned s x) (end_of ends at))
 
 -- the message that an event brings, if it brings one
 abbrev pub message_of : Event → Option Msg

@@ -1,5 +1,6 @@
 pub mod Hearing
 pub mod Living
+pub mod Messages
 pub mod Search
 pub mod Show
 pub mod Spread

@@ -7,6 +7,8 @@ use Rattle.zr_tree.specs.Walk.{graph_of}
 use Rattle.zr_tree.specs.Tree.{parent}
 use Rattle.zr_command.specs.declared.report.ReportLine.{ReportLine}
 use Rattle.zr_command.specs.declared.report.ReportLine.TheVariants.{Record, Parent}
+use Rattle.zr_log.specs.declared.log.Log.{Log}
+use Rattle.zr_network.specs.Acts.{source_line}
 
 -- the records
 abbrev pub record_lines : List RecordState → List ReportLine
@@ -19,3 +21,7 @@ parent_told trees me root = if is_named root me then [] else Parent root (parent
 -- the router's parents in the trees of these routers
 abbrev pub parent_lines : List RecordState → List ℕ → List RecordState → List ReportLine
 parent_lines trees me roots = map (λ root. Parent root (parent (graph_of trees) root me)) (filter (λ id. not (is_named id me)) (ids roots))
+
+-- what is known of each log
+abbrev pub source_lines : List Log → List ReportLine
+source_lines logs = map source_line logs

@@ -3,6 +3,8 @@
 ghost use Rattle.std.specs.Prelude.{◌≡◌};
 ghost use Rattle.zr_network.specs.World.{router_of};
 ghost use Rattle.zr_network.specs.Acts.{weighed};
+ghost use Rattle.zr_table.specs.Table.{able_kind};
+ghost use Rattle.zr_world.specs.Messages.{declaration, withdrawal};
 ghost use Rattle.zr_world.specs.Steps.{Changes, Does};
 
 use crate::router::Router;
@@ -12,23 +14,30 @@ use zr_command::error::ScriptError;
 use zr_id::zid::Zid;
 use zr_key::key::KeyExpr;
 use zr_msg::content::Content;
+use zr_msg::decl::Kind;
 use zr_msg::msg::Msg;
 
 impl Tables {
     ghost use Rattle.zr_network.specs.World.{is_unbroken};
-    ghost use Rattle.zr_network.specs.Acts.{is_alone, sub_step, unsub_step, publish_step};
+    ghost use Rattle.zr_network.specs.Acts.{declare_step, undeclare_step, publish_step};
     ghost use Rattle.zr_world.specs.State.{state_of};
 
-    /// A client declares a subscriber.
-    #[tactic(auto, using(std::proofs::lemmas::Map::Steps::set_value_same), unfolding(zr_network::specs::Acts::sub_step, zr_network::specs::Acts::client_sends))]
-    pub fn sub(&mut self, line: u64, client: Zid, id: u32, key: KeyExpr) -> Result<(), ScriptError>
-        ensures { Does result (sub_step (state_of self.old) line client id key) (state_of self.old) (state_of self.new) }
+    /// A client declares something under an id that is new in its sort.
+    #[tactic(auto, using(std::proofs::lemmas::Map::Steps::set_value_same), unfolding(zr_network::specs::Acts::declare_step, zr_network::specs::Acts::client_sends))]
+    pub fn declare(
+        &mut self,
+        line: u64,
+        client: Zid,
+        kind: Kind,
+        id: u32,
+        key: KeyExpr,
+    ) -> Result<(), ScriptError>
+        ensures { Does result (declare_step (state_of self.old) line client kind id key (declaration kind id key)) (state_of self.old) (state_of self.new) }
     {
-        let is_alone = self.is_alone();
         let Some(c) = self.clients.get_mut(&client) else {
             return Err(ScriptError::UnknownName);
         };
-        if c.has(id) {
+        if c.has(kind, id) {
             return Err(ScriptError::NameTaken);
         }
         let Some(end) = self.ends.get((c.router(), client)) else {
@@ -37,27 +46,43 @@ impl Tables {
         if !end.is_unbroken() {
             return Err(ScriptError::NotLinked);
         }
-        if !is_alone {
-            return Err(ScriptError::Limit);
-        }
         weigh(&mut self.routers, &c.router(), &key)?;
-        self.ends
-            .send((c.router(), client), Msg::Sub { id, key }, line)?;
-        c.declare(id)?;
-        self.used = true;
+        let msg = declaration(kind, id, key);
+        self.ends.send((c.router(), client), msg, line)?;
+        c.declare(kind, id)?;
         Ok(())
     }
 
-    /// A client takes back the subscriber that it declared under an id.
-    #[tactic(auto, using(std::proofs::lemmas::Map::Steps::set_value_same), unfolding(zr_network::specs::Acts::unsub_step, zr_network::specs::Acts::client_sends))]
-    pub fn unsub(&mut self, line: u64, client: Zid, id: u32) -> Result<(), ScriptError>
-        ensures { Does result (unsub_step (state_of self.old) line client id) (state_of self.old) (state_of self.new) }
+    /// A client declares a queryable, complete or not.
+    pub fn able(
+        &mut self,
+        line: u64,
+        client: Zid,
+        id: u32,
+        key: KeyExpr,
+        complete: bool,
+    ) -> Result<(), ScriptError>
+        ensures { Does result (declare_step (state_of self.old) line client (able_kind complete) id key (Msg.Able id key complete)) (state_of self.old) (state_of self.new) }
     {
-        let is_alone = self.is_alone();
+        let kind = if complete { Kind::Full } else { Kind::Able };
+        self.declare(line, client, kind, id, key)
+    }
+
+    /// A client takes back what it declared of a sort under an id.
+    #[tactic(auto, using(std::proofs::lemmas::Map::Steps::set_value_same), unfolding(zr_network::specs::Acts::undeclare_step, zr_network::specs::Acts::client_sends))]
+    pub fn undeclare(
+        &mut self,
+        line: u64,
+        client: Zid,
+        kind: Kind,
+        id: u32,
+    ) -> Result<(), ScriptError>
+        ensures { Does result (undeclare_step (state_of self.old) line client kind id (withdrawal kind id)) (state_of self.old) (state_of self.new) }
+    {
         let Some(c) = self.clients.get_mut(&client) else {
             return Err(ScriptError::UnknownName);
         };
-        if !c.has(id) {
+        if !c.has(kind, id) {
             return Err(ScriptError::UnknownName);
         }
         let Some(end) = self.ends.get((c.router(), client)) else {
@@ -66,13 +91,9 @@ impl Tables {
         if !end.is_unbroken() {
             return Err(ScriptError::NotLinked);
         }
-        if !is_alone {
-            return Err(ScriptError::Limit);
-        }
-        self.ends
-            .send((c.router(), client), Msg::Unsub { id }, line)?;
-        c.undeclare(id);
-        self.used = true;
+        let msg = withdrawal(kind, id);
+        self.ends.send((c.router(), client), msg, line)?;
+        c.undeclare(kind, id);
         Ok(())
     }
 
@@ -91,21 +112,10 @@ impl Tables {
         if !end.is_unbroken() {
             return Err(ScriptError::NotLinked);
         }
-        if !self.is_alone() {
-            return Err(ScriptError::Limit);
-        }
         let tree = None;
         self.ends
             .send((router, client), Msg::Push { tree, content }, line)?;
-        self.used = true;
         Ok(())
-    }
-
-    // Routers tell each other of links alone: so far a world with more than one has no declarations and samples.
-    fn is_alone(&self) -> bool
-        ensures { result ≡ is_alone (state_of self.now) }
-    {
-        self.routers.len() <= 1
     }
 }
 
@@ -122,4 +132,33 @@ fn weigh(routers: &mut BTreeMap<Zid, Router>, name: &Zid, key: &KeyExpr) -> Resu
     }
     router.weigh(key);
     Ok(())
+}
+
+// The message by which a client declares something.
+fn declaration(kind: Kind, id: u32, key: KeyExpr) -> Msg
+    ensures { result ≡ declaration kind id key }
+{
+    match kind {
+        Kind::Sub => Msg::Sub { id, key },
+        Kind::Able => Msg::Able {
+            id,
+            key,
+            complete: false,
+        },
+        Kind::Full => Msg::Able {
+            id,
+            key,
+            complete: true,
+        },
+    }
+}
+
+// The message by which a client takes back what it declared.
+fn withdrawal(kind: Kind, id: u32) -> Msg
+    ensures { result ≡ withdrawal kind id }
+{
+    match kind {
+        Kind::Sub => Msg::Unsub { id },
+        Kind::Able | Kind::Full => Msg::Unable { id },
+    }
 }

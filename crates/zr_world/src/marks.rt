@@ -1,8 +1,9 @@
 //! Phases begin, and routers' tables are told.
 
-ghost use Rattle.std.specs.Prelude.{◌≡◌, ◌++◌, OnOk, OnErr};
+ghost use Rattle.std.specs.Prelude.{◌≡◌, ◌++◌, IfOk, OnOk, OnErr};
 ghost use Rattle.zr_table.specs.Prefix.{IsPrefixBehind};
-ghost use Rattle.zr_world.specs.Show.{record_lines, parent_lines, parent_told};
+ghost use Rattle.zr_network.specs.Acts.{shown, shown_base, source_line};
+ghost use Rattle.zr_world.specs.Show.{record_lines, parent_lines, parent_told, source_lines};
 ghost use Rattle.zr_world.specs.Steps.{AppliesTo};
 
 use crate::tables::Tables;
@@ -12,6 +13,9 @@ use zr_command::report::ReportLine;
 use zr_graph::base::Base;
 use zr_id::record::LinkRecord;
 use zr_id::zid::Zid;
+use zr_log::log::Log;
+use zr_msg::decl::{Decl, Decls};
+use zr_node::node::Node;
 use zr_tree::trees::Trees;
 
 impl Tables {
@@ -35,7 +39,7 @@ impl Tables {
         Ok(())
     }
 
-    /// A router's tables: its records, and its parent in the tree of each other router.
+    /// A router's tables: its records, its parent in the tree of each other router, and what it knows of each log.
     #[tactic(auto, unfolding(zr_network::specs::Acts::show_step))]
     pub fn show(&mut self, router: Zid, report: &mut Vec<ReportLine>) -> Result<(), ScriptError>
         ensures { AppliesTo result (show_step (state_of self.old) router) (state_of self.old) (state_of self.new) report.old.items report.new.items }
@@ -44,10 +48,25 @@ impl Tables {
             return Err(ScriptError::UnknownName);
         };
         report.push(ReportLine::Show { router })?;
-        tell_records(self.alloc, r.node().base().records(), report)?;
-        tell_parents(self.alloc, r.node().base(), report)?;
+        tell_tables(self.alloc, r.node(), report)?;
         Ok(())
     }
+}
+
+fn tell_tables(alloc: Global, node: &Node, report: &mut Vec<ReportLine>) -> Result<(), AllocError>
+    ensures told { OnOk result (report.new.items ≡ report.old.items ++ shown node.now) }
+    ensures err { OnErr result (IsPrefixBehind report.old.items (shown node.now) report.new.items) }
+{
+    tell_base(alloc, node.base(), report)?;
+    tell_sources(alloc, node.known().logs(), report)
+}
+
+fn tell_base(alloc: Global, base: &Base, report: &mut Vec<ReportLine>) -> Result<(), AllocError>
+    ensures told { OnOk result (report.new.items ≡ report.old.items ++ shown_base base.now) }
+    ensures err { OnErr result (IsPrefixBehind report.old.items (shown_base base.now) report.new.items) }
+{
+    tell_records(alloc, base.records(), report)?;
+    tell_parents(alloc, base, report)
 }
 
 fn tell_records(
@@ -91,4 +110,35 @@ fn tell_parent(
         report.push(ReportLine::Parent { root, parent })?;
     }
     Ok(())
+}
+
+fn tell_sources(alloc: Global, logs: &[Log], report: &mut Vec<ReportLine>) -> Result<(), AllocError>
+    ensures told { OnOk result (report.new.items ≡ report.old.items ++ source_lines logs.now) }
+    ensures err { OnErr result (IsPrefixBehind report.old.items (source_lines logs.now) report.new.items) }
+{
+    for log in logs {
+        let line = source_line(alloc, log)?;
+        report.push(line)?;
+    }
+    Ok(())
+}
+
+fn source_line(alloc: Global, log: &Log) -> Result<ReportLine, AllocError>
+    ensures { IfOk result (λ line. line ≡ source_line log.now) }
+{
+    Ok(ReportLine::Source {
+        source: log.source,
+        number: log.position,
+        decls: Decls::new(copies(alloc, log.decls.as_slice())?)?,
+    })
+}
+
+fn copies(alloc: Global, decls: &[Decl]) -> Result<Vec<Decl>, AllocError>
+    ensures { IfOk result (λ v. v.items ≡ decls.now) }
+{
+    let mut copies = Vec::with_capacity(alloc, decls.len())?;
+    for decl in decls {
+        copies.push(decl.copy(alloc)?)?;
+    }
+    Ok(copies)
 }

@@ -35,11 +35,7 @@ impl Tables {
         if self.is_taken(&id) {
             return Err(ScriptError::NameTaken);
         }
-        let count = self.routers.len();
-        if count >= MOST_ROUTERS {
-            return Err(ScriptError::Limit);
-        }
-        if self.used && count >= 1 {
+        if self.routers.len() >= MOST_ROUTERS {
             return Err(ScriptError::Limit);
         }
         let router = Router::new(self.alloc, id)?;

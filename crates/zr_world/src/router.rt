@@ -2,10 +2,10 @@
 
 ghost use Rattle.std.specs.Prelude.{◌≡◌, ◌+◌, ◌≤◌, nat_le, option_map, IfOk};
 ghost use Rattle.zr_table.specs.Event.{MayCome};
-ghost use Rattle.zr_table.specs.State.{link_at, link_to};
+ghost use Rattle.zr_routing.specs.Tables.{link_at, link_to};
 ghost use Rattle.zr_network.specs.World.{new_router, weight_of, most_weight};
 ghost use Rattle.zr_network.specs.Acts.{weighing, up_event};
-ghost use Rattle.zr_world.specs.Hearing.{IsHeard, IsOfLinks, refusal};
+ghost use Rattle.zr_world.specs.Hearing.{IsHeard, refusal};
 
 use std::alloc::{AllocError, Global};
 use std::marker::Model;
@@ -117,18 +117,17 @@ impl Router {
     }
 }
 
-// What a router's refusal is in a script. A router is spent only where it was out of memory before; links and samples have no other.
+// What a router's refusal is in a script. A router is spent only where it was out of memory before.
 fn refusal(error: NodeError) -> ScriptError
-    requires { IsOfLinks error }
     ensures { result ≡ refusal error }
 {
     match error {
-        NodeError::Worn => ScriptError::Limit,
         NodeError::Spent | NodeError::NoMemory => ScriptError::NoMemory,
         NodeError::Gap { .. }
         | NodeError::NotDeclared { .. }
         | NodeError::TextLimit { .. }
         | NodeError::NumberTaken { .. }
-        | NodeError::TooMany { .. } => unreachable!(),
+        | NodeError::TooMany { .. }
+        | NodeError::Worn => ScriptError::Limit,
     }
 }

@@ -2,15 +2,19 @@
 
 ghost use Rattle.std.specs.Prelude.{◌≡◌, if◌then◌else◌, false, is_some, Some, IsSome, OnOk};
 ghost use Rattle.zr_network.specs.World.{changed, end_of, sent};
-ghost use Rattle.zr_world.specs.Hearing.{message_of};
+ghost use Rattle.zr_table.specs.Event.{MayCome};
+ghost use Rattle.zr_world.specs.Hearing.{IsHandled, message_of};
 ghost use Rattle.zr_world.specs.Steps.{AppliesTo};
 
+use crate::router::Router;
 use crate::spread::spread;
 use crate::tables::Tables;
 use std::alloc::{AllocError, Global};
 use zr_command::error::ScriptError;
 use zr_command::report::ReportLine;
+use zr_ends::end::Tagged;
 use zr_ends::ends::Ends;
+use zr_id::link::LinkNo;
 use zr_id::zid::Zid;
 use zr_msg::event::Event;
 use zr_msg::msg::Msg;
@@ -40,10 +44,9 @@ impl Tables {
         };
         let x = self.ends.next_sent((router, from))?;
         let tag = x.tag;
-        let event = Event::From { link, msg: x.msg };
-        r.hear(self.alloc, &event, &mut self.out)?;
+        let at = (router, from);
+        let msg = hear_message(self.alloc, r, link, x, at, &mut self.ends, &mut self.out)?;
         spread(r, router, &mut self.ends, &mut self.out, tag)?;
-        let msg = message_of(event);
         report.push(ReportLine::Handled {
             router,
             from,
@@ -106,6 +109,32 @@ impl Tables {
             error
         } else {
             ScriptError::UnknownName
+        }
+    }
+}
+
+// A router hears of a message that has left the wire to its end. One that it refuses is back there.
+fn hear_message(
+    alloc: Global,
+    router: &mut Router,
+    link: LinkNo,
+    x: Tagged,
+    at: (Zid, Zid),
+    ends: &mut Ends,
+    out: &mut Vec<(LinkNo, Msg)>,
+) -> Result<Msg, ScriptError>
+    requires { MayCome router.old.node (Event.From link x.msg) }
+    ensures { IsHandled result router.old router.new link x at ends.old ends.new out.new.items }
+{
+    let tag = x.tag;
+    let event = Event::From { link, msg: x.msg };
+    let heard = router.hear(alloc, &event, out);
+    let msg = message_of(event);
+    match heard {
+        Ok(()) => Ok(msg),
+        Err(refusal) => {
+            ends.put_back(at, Tagged { msg, tag })?;
+            Err(refusal)
         }
     }
 }

@@ -13,20 +13,20 @@ use zr_command::report::ReportLine;
 use zr_ends::ends::Ends;
 use zr_id::link::LinkNo;
 use zr_id::zid::Zid;
+use zr_msg::decl::Kind;
 use zr_msg::msg::Msg;
 use zr_msg::peer::{Peer, Role};
 
 /// How many steps all runs ask for at most.
 const MOST_STEPS: u64 = 10_000_000;
 
-/// Routers, clients and ends by name, whether a client has declared or published anything, and how many steps all runs so far asked for.
+/// Routers, clients and ends by name, and how many steps all runs so far asked for.
 #[derive(Drop)]
 pub struct Tables {
     pub alloc: Global,
     pub routers: BTreeMap<Zid, Router>,
     pub clients: BTreeMap<Zid, Client>,
     pub ends: Ends,
-    pub used: bool,
     pub booked: u64,
     /// What a router has just sent, on its way into the queues. It is kept for its memory alone.
     pub out: Vec<(LinkNo, Msg)>,
@@ -48,7 +48,6 @@ impl Tables {
             routers: BTreeMap::new(alloc),
             clients: BTreeMap::new(alloc),
             ends: Ends::new(alloc),
-            used: false,
             booked: 0,
             out: Vec::new(alloc),
         }
@@ -72,8 +71,15 @@ impl Tables {
             Act::Up { router, neighbour } => self.up(line, router, neighbour),
             Act::Break { router, neighbour } => self.break_link(router, neighbour),
             Act::Down { router, neighbour } => self.down(line, router, neighbour),
-            Act::Sub { client, id, key } => self.sub(line, client, id, key),
-            Act::Unsub { client, id } => self.unsub(line, client, id),
+            Act::Sub { client, id, key } => self.declare(line, client, Kind::Sub, id, key),
+            Act::Unsub { client, id } => self.undeclare(line, client, Kind::Sub, id),
+            Act::Able {
+                client,
+                id,
+                key,
+                complete,
+            } => self.able(line, client, id, key, complete),
+            Act::Unable { client, id } => self.undeclare(line, client, Kind::Able, id),
             Act::Publish { client, content } => self.publish(line, client, content),
             Act::Handle { router, from } => self.handle(router, from, report),
             Act::Take { router, to } => self.take(router, to, report),

@@ -3,7 +3,7 @@
 ghost use Rattle.std.specs.Prelude.{◌≡◌, true, false, is_some, IfSome};
 ghost use Rattle.zr_network.specs.Acts.{outcome};
 ghost use Rattle.zr_network.specs.Next.{next, book_step};
-ghost use Rattle.zr_network.specs.Sound.{IsSound};
+ghost use Rattle.zr_network.specs.Sound.{IsSound, AllAreTaken};
 ghost use Rattle.zr_network.specs.World.{router_of};
 ghost use Rattle.zr_world.specs.Living.{Applies, Books, IsPossible, new_world};
 
@@ -50,7 +50,7 @@ impl World {
     /// the `take` of the first at which one waits to be taken. None where no step is possible. Of a spent world nothing is said.
     pub fn next(&self) -> Option<Act>
         ensures step { self.now.spent ≡ false → result ≡ next self.now.state }
-        ensures possible { self.now.spent ≡ false → IfSome result (λ step. IsPossible self.now.state step) }
+        ensures possible { self.now.spent ≡ false → AllAreTaken self.now.state → IfSome result (λ step. IsPossible self.now.state step) }
         ensures sound { self.now.spent ≡ false → IsSound self.now.state }
     {
         self.tables.next()

@@ -1,24 +1,28 @@
-use Rattle.std.proofs.Common.{◌≡◌, ℕ, ◌-◌, ◌≤◌, List, length, min, Option, refl, sym, ap, ◌∙◌, rules, arith, subst}
+use Rattle.std.proofs.Common.{◌≡◌, ℕ, ◌-◌, ◌≤◌, List, ◌++◌, length, min, take, Option, refl, sym, ap, ◌∙◌, rules, arith, subst}
 use Rattle.std.proofs.lemmas.List.{length-take}
 use Rattle.std.proofs.lemmas.Bool.{false≢true}
 use Rattle.zr_world.specs.Living.{Living}
+use Rattle.zr_language.specs.Lines.{ended_lines}
 use Rattle.zr_language.specs.Report.{too_long_text}
 use Rattle.zr_outside.specs.Told.{Consumes}
-use Rattle.zr_netrun.specs.Kept.{Kept, seen, writes, Tells, Complains}
+use Rattle.zr_netrun.specs.Kept.{Kept, fresh, writes, Tells, Complains}
+use Rattle.zr_netrun.specs.Possible.{StepsGo}
 use Rattle.zr_netrun.specs.Clauses.{IsReadToEnd}
 use Rattle.zr_netrun.proofs.Writing.{seen_at, seen_stopped}
 use Rattle.zr_netrun.proofs.Reading.{after_nothing, reads_piece, seen_tells}
 use Rattle.zr_netrun.proofs.Telling.{stops_reading, passes_limit, fails_reading, ends_reading, stops_at_end, not_done, fault_not_done}
+use Rattle.zr_netrun.proofs.Going.{goes_behind}
 use Rattle.zr_netrun.proofs.netrun.run_lines.Goals as goal
 
 pub reading-init : goal.reading-init
 reading-init g c =
-    let fresh = c.requires.begins in
-    let number : c.args.runner.now.number ≡ 0 = ap (λ (z : Kept). z.number) fresh in
+    let begins = c.requires.begins in
+    let number : c.args.runner.now.number ≡ 0 = ap (λ (z : Kept). z.number) begins in
     record {
       lines = omega (arith, number);
       mode = refl;
-      alive = ap (λ (z : Kept). z.world.spent) fresh;
+      alive = ap (λ (z : Kept). z.world.spent) begins;
+      goes = subst (λ (z : Kept). StepsGo (fresh z)) (sym begins) c.requires.possible;
       most = omega arith;
       sized = search rules;
       quiet = omega arith;
@@ -30,7 +34,7 @@ reading-init g c =
       out = omega arith;
       err = omega arith;
       err_same = refl;
-      read = after_nothing _ _ _ fresh c.requires.counts;
+      read = after_nothing _ _ _ begins c.requires.counts;
     }
 
 pub returns-in-Err-clause-report : goal.returns-in-Err-clause-report
@@ -66,6 +70,7 @@ reading-preserved-else-used-count g c =
       lines = omega (arith, c.in-Ok.ensures.count, c.reading.invariant.lines, length-take c.min-used.result c.read.new.into);
       mode = c.in-Ok.ensures.counts.mode ∙ c.reading.invariant.mode;
       alive = ap (λ (w : Living). w.spent) c.in-Ok.ensures.turn.world;
+      goes = goes_behind c.reading.runner c.feed.new.self (ended_lines (c.reading.runner.line ++ take c.min-used.result c.read.new.into)) _ _ _ _ c.reading.invariant.goes turn;
       most = omega (arith, cut, c.reading.invariant.most);
       sized = search rules;
       quiet = omega arith;

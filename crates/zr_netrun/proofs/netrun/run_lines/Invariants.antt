@@ -1,6 +1,7 @@
 -- While it is read: what was kept is the run of what was read, all of its report was written, and the counts tell what happened.
 use Rattle.std.proofs.Common.{◌≡◌, ◌+◌, ◌-◌, ◌*◌, ◌^◌, ◌≤◌, true, false, min, length, if◌then◌else◌}
-use Rattle.zr_netrun.specs.Kept.{seen, writes}
+use Rattle.zr_netrun.specs.Kept.{fresh, seen, writes}
+use Rattle.zr_netrun.specs.Possible.{StepsGo}
 use Rattle.zr_netrun.specs.Clauses.{OfRead, IsReadToEnd}
 use Rattle.zr_netrun.proofs.Reading.{IsAfter}
 use Rattle.zr_netrun.proofs.netrun.run_lines.Given as goal
@@ -10,6 +11,7 @@ invariant-reading g l = record {
   lines : l.runner.number ≤ l.total;
   mode : writes l.runner ≡ writes l.fn.runner;
   alive : l.runner.world.spent ≡ false;
+  goes : StepsGo (fresh l.runner);
   most : l.total ≤ 67108864;
   sized : length l.piece ≡ 65536;
   quiet : l.quiet ≤ 2 ^ 32;

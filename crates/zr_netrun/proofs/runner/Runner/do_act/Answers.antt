@@ -1,4 +1,4 @@
-use Rattle.std.proofs.Common.{◌≡◌, List, [], Ok, refl, subst}
+use Rattle.std.proofs.Common.{◌≡◌, List, Ok, refl, subst}
 use Rattle.std.specs.Option.{option_map}
 use Rattle.std.proofs.lemmas.Result.{err_from_is_err_and}
 use Rattle.zr_command.specs.declared.report.ReportLine.{ReportLine}

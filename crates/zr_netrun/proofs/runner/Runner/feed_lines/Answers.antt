@@ -8,6 +8,7 @@ use Rattle.zr_netrun.specs.Kept.{fresh, writes}
 use Rattle.zr_netrun.proofs.Writing.{seen_at, seen_stopped}
 use Rattle.zr_netrun.proofs.Counting.{ahead_start}
 use Rattle.zr_netrun.proofs.Accepting.{next_counts, keeps_counts}
+use Rattle.zr_netrun.proofs.Going.{goes_past}
 use Rattle.zr_netrun.proofs.Lines.{IsOpen}
 use Rattle.zr_netrun.proofs.Feeding.{left_shorter, start_at, cut_rest, place_within, next_at, stops_at, keeps_at}
 use Rattle.zr_netrun.proofs.runner.Runner.feed_lines.Goals as goal
@@ -15,6 +16,7 @@ use Rattle.zr_netrun.proofs.runner.Runner.feed_lines.Goals as goal
 pub loop-place-init : goal.loop-place-init
 loop-place-init g c = record {
   alive = c.requires.alive;
+  goes = c.requires.goes;
   is_open = rw (← c.self.view_is) c.self.invariant.1;
   count = omega arith;
   later = omega arith;
@@ -40,6 +42,7 @@ loop-place-preserved g c =
     let cut = cut_rest c.loop-place.rest.now c.in-Some.place (sym c.in-Some.ensures) in
     record {
       alive = ap (λ (w : Living). w.spent) turn.world;
+      goes = goes_past c.loop-place.self c.end_line.new.self _ _ _ _ _ c.loop-place.invariant.goes turn;
       is_open = subst IsOpen (sym turn.line_is) refl;
       count = le_trans (left_shorter c.end_line.new.self.number c.loop-place.self.number c.in-Some.place _ c.loop-place.rest.now within c.in_ok-end_line.ensures.count)
           c.loop-place.invariant.count;

@@ -5,6 +5,7 @@ use Rattle.zr_language.specs.Lines.{ended_lines, open_line}
 use Rattle.zr_network.specs.Run.{Run, on_line}
 use Rattle.zr_network.specs.Accepted.{accepted_from}
 use Rattle.zr_netrun.specs.Kept.{fresh, seen, writes, IsAt}
+use Rattle.zr_netrun.specs.Possible.{StepsGo}
 use Rattle.zr_netrun.specs.Counted.{CountsAhead}
 use Rattle.zr_netrun.proofs.Lines.{IsOpen}
 use Rattle.zr_netrun.proofs.runner.Runner.feed_lines.Given as goal
@@ -12,6 +13,7 @@ use Rattle.zr_netrun.proofs.runner.Runner.feed_lines.Given as goal
 abbrev pub invariant-loop-place : goal.invariant-loop-place
 invariant-loop-place g l = record {
   alive : l.self.world.spent ≡ false;
+  goes : StepsGo (fresh l.self);
   is_open : IsOpen l.self.line;
   count : l.self.number + length l.rest ≤ l.fn.self.number + length l.fn.piece;
   later : g.K.Sink.faults l.fn.out ≤ g.K.Sink.faults l.out;

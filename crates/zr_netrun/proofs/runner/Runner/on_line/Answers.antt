@@ -1,8 +1,10 @@
-use Rattle.std.proofs.Common.{◌≡◌, Some, None, Ok, rules}
+use Rattle.std.proofs.Common.{◌≡◌, [], Some, None, Ok, sym, rules, subst}
 use Rattle.std.proofs.lemmas.Result.{err_from_is_err_and}
 use Rattle.zr_command.specs.declared.command.Command.TheVariants as k
 use Rattle.zr_language.specs.Command.{command_of}
-use Rattle.zr_netrun.proofs.Stepping.{reading_stops, silent_turns, act_line_turns, line_turns}
+use Rattle.zr_netrun.specs.Kept.{Kept}
+use Rattle.zr_netrun.specs.Possible.{RunsGo}
+use Rattle.zr_netrun.proofs.Stepping.{reading_stops, act_line_turns, line_turns}
 use Rattle.zr_netrun.proofs.Counting.{silent_counts, line_counts_if}
 use Rattle.zr_netrun.proofs.runner.Runner.on_line.Goals as goal
 
@@ -27,6 +29,9 @@ returns-in-Some-Act-clause-counts g c =
     line_counts_if c.args.self.now c.count_line.new.self c.do_act.new.self c.args.line.now _ _ (k.Act c.in-Some-Act.act) _ _ c.do_act.result asks c.count_line.ensures
     (act_line_turns c.args.self.now c.count_line.new.self c.do_act.new.self c.args.line.now c.in-Some-Act.act (g.K.Sink.held c.args.out.now) (g.K.Sink.held c.do_act.new.out) c.do_act.result asks c.count_line.ensures c.do_act.ensures.turn)
     c.do_act.ensures.counts
+
+pub run-requires-clause-goes : goal.run-requires-clause-goes
+run-requires-clause-goes g c = subst (λ (z : Kept). RunsGo z.world.state) (sym c.count_line.ensures) (c.requires.goes [])
 
 pub returns-in-Some-Run-clause-turn : goal.returns-in-Some-Run-clause-turn
 returns-in-Some-Run-clause-turn g c =

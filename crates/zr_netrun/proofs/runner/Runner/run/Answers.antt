@@ -1,7 +1,7 @@
 use Rattle.std.proofs.Common.{◌≡◌, ℕ, ◌+◌, ◌-◌, Bool, true, false, Ok, Err, ap, ◌∙◌, refl, inl, inr, rules, arith, subst}
 use Rattle.std.proofs.lemmas.Result.{err_from_is_err_and}
 use Rattle.zr_network.specs.Next.{next}
-use Rattle.std.specs.Prelude.{is_none, List, [], ◌∷◌}
+use Rattle.std.specs.Prelude.{is_none, [], ◌∷◌}
 use Rattle.zr_command.specs.declared.report.ReportLine.TheVariants.{Ran}
 use Rattle.zr_netrun.specs.Kept.{Kept, run_behind, seen, writes, StepsOn}
 use Rattle.zr_netrun.proofs.Writing.{seen_turns}
@@ -16,7 +16,7 @@ returns-in_err-count_steps-clause-turn g c =
 
 pub loop-done-init : goal.loop-done-init
 loop-done-init g c =
-    let h = starts c.args.self.now c.args.steps (seen (writes c.args.self.now) (g.K.Sink.held c.args.out.now)) c.count_steps.new.self c.in_ok-count_steps.field-0 c.in_ok-count_steps.ensures.sound c.in_ok-count_steps.ensures.books c.in_ok-count_steps.ensures.rest in
+    let h = starts c.args.self.now c.args.steps (seen (writes c.args.self.now) (g.K.Sink.held c.args.out.now)) c.count_steps.new.self c.in_ok-count_steps.field-0 c.requires.goes c.in_ok-count_steps.ensures.books c.in_ok-count_steps.ensures.rest in
     record {
       alive = lives c.args.self.now c.args.steps (seen (writes c.args.self.now) (g.K.Sink.held c.args.out.now)) 0 c.count_steps.new.self _ h;
       number = h.at.number;

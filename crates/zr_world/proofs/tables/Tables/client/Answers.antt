@@ -47,4 +47,4 @@ returns c =
     (hears_is w es c.spread.new.ends c.args.router r r' (up_event r peer) c.hear.new.out.items c.args.line heard
     (sorted_put_end w.ends (c.args.router, c.args.id) (lifted new_end) c.requires.in_order) (c.requires.unique c.args.router r er)
     (fresh_client w c.requires c.args.router r er peer new) spread)
-    ∙ (λ i. Ok ([], record { routers = sym lent i; clients = sym clients i; ends = c.spread.new.ends; used = c.args.self.now.used; booked = c.args.self.now.booked }))
+    ∙ (λ i. Ok ([], record { routers = sym lent i; clients = sym clients i; ends = c.spread.new.ends; booked = c.args.self.now.booked }))

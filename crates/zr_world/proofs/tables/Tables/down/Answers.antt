@@ -1,12 +1,17 @@
-use Rattle.std.proofs.Common.{◌≡◌, true, false, [], Ok, Some, sym, ap, ◌∙◌, rules}
+use Rattle.std.proofs.Common.{◌≡◌, true, false, [], Ok, Err, Some, sym, ap, ◌∙◌, rules}
 use Rattle.std.specs.Prelude.{is_some, option_map}
+use Rattle.std.proofs.lemmas.Map.Steps.{set_value_same}
+use Rattle.std.proofs.lemmas.Result.{err_from_is_err_and}
+use Rattle.zr_id.specs.Zid.{is_named}
 use Rattle.zr_msg.specs.declared.event.Event.TheVariants.{Down}
-use Rattle.zr_table.specs.State.{LinkState, link_to, link_at}
+use Rattle.zr_routing.specs.Tables.{link_to, link_at}
+use Rattle.zr_msg.specs.declared.peer.LinkPeer.{LinkPeer}
 use Rattle.zr_network.specs.World.{Ends, router_of, is_taken, end_of, with_router, changed, lowered}
 use Rattle.zr_world.specs.Hearing.{IsHeard}
 use Rattle.zr_world.specs.State.{state_of}
 use Rattle.zr_world.proofs.Events.{has_link, link_found}
 use Rattle.zr_world.proofs.Moving.{hears_is, down_is}
+use Rattle.zr_world.proofs.Refusing.{down_refused}
 use Rattle.zr_world.proofs.tables.Tables.down.Goals as goal
 
 pub hear-requires : goal.hear-requires
@@ -34,4 +39,25 @@ returns c =
     down_is w _ c.args.line c.args.router c.args.neighbour r s l.0 er et es up broken l.1
     (hears_is w w.ends c.spread.new.ends c.args.router r r' (Down l.0.link) c.hear.new.out.items c.args.line heard c.requires.in_order (c.requires.unique c.args.router r er)
     (has_link w c.requires c.args.router r er c.args.neighbour l.0 l.1) c.in_ok-spread.ensures)
-    ∙ (λ i. Ok ([], record { routers = sym lent i; clients = c.args.self.now.clients.entries; ends = lower i; used = c.args.self.now.used; booked = c.args.self.now.booked }))
+    ∙ (λ i. Ok ([], record { routers = sym lent i; clients = c.args.self.now.clients.entries; ends = lower i; booked = c.args.self.now.booked }))
+
+pub returns-in_err-hear : goal.returns-in_err-hear
+returns-in_err-hear c =
+    let w = state_of c.args.self.now in
+    let p = err_from_is_err_and c.from_residual.result c.from_residual.ensures.1 in
+    let er : router_of (state_of c.args.self.now).routers c.args.router ≡ Some c.in-Some.r.now = search rules in
+    let et : is_taken (state_of c.args.self.now) c.args.neighbour ≡ true = sym c.is_taken-is_known.ensures ∙ c.if-not-is_known.false in
+    let es : end_of (state_of c.args.self.now).ends (c.args.router, c.args.neighbour) ≡ Some c.in-Some-get.end.now = search rules in
+    let up : c.in-Some-get.end.now.up ≡ true = sym c.is_up.ensures ∙ c.if-not-is_up.false in
+    let broken : c.in-Some-get.end.now.unbroken ≡ false = sym c.is_unbroken.ensures ∙ c.if-is_unbroken.false in
+    let l = link_found (link_to c.in-Some.r.now.node.links c.args.neighbour) c.in-Some-link_to.link c.in-Some-link_to.ensures in
+    let heard : IsHeard (Err c.in_err-hear.field-0.0) c.in-Some.r.now c.hear.new.self (Down l.0.link) c.hear.new.out.items = rw (← l.2) at c.in_err-hear.ensures in
+    let lent : (c.get_mut.follows.lender c.hear.new.self).entries ≡ with_router c.args.self.now.routers.entries c.args.router c.hear.new.self = search rules in
+    rw (p.1, p.2)
+    (down_refused w _ c.args.line c.args.router c.args.neighbour c.in-Some.r.now c.hear.new.self c.in-Some-get.end.now l.0 c.hear.new.out.items c.in_err-hear.field-0.0 er et es up broken l.1 heard
+    (λ k. λ i. record {
+      routers = (lent ∙ ap (with_router c.args.self.now.routers.entries c.args.router) k ∙ set_value_same (is_named c.args.router) c.args.self.now.routers.entries c.in-Some.r.now er) i;
+      clients = c.args.self.now.clients.entries;
+      ends = c.args.self.now.ends;
+      booked = c.args.self.now.booked;
+    }))

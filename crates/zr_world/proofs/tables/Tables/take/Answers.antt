@@ -9,7 +9,8 @@ use Rattle.zr_command.specs.declared.error.ScriptError.{ScriptError}
 use Rattle.zr_command.specs.declared.error.ScriptError.TheVariants as e
 use Rattle.zr_command.specs.declared.report.ReportLine.TheVariants.{Handled, Taken}
 use Rattle.zr_language.specs.Step.{◌>>=◌}
-use Rattle.zr_table.specs.State.{LinkState, link_to}
+use Rattle.zr_routing.specs.Tables.{link_to}
+use Rattle.zr_msg.specs.declared.peer.LinkPeer.{LinkPeer}
 use Rattle.zr_network.specs.World.{Tagged, Ends, WorldState, RouterState, router_of, is_taken, with_router, with_ends, is_up, changed, sent, end_of}
 use Rattle.zr_network.specs.Acts.{handle_step, take_step}
 use Rattle.zr_network.proofs.Keyed.{there}
@@ -24,7 +25,7 @@ use Rattle.zr_world.proofs.tables.Tables.take.Goals as goal
 pub returns-in-Err : goal.returns-in-Err
 returns-in-Err c =
     take_refused (state_of c.args.self.now) _ c.args.router c.args.to c.in-Err.e c.refusal_of.result c.next_queued.new.self c.args.report.now.items c.refusal_of.ensures c.in-Err.ensures
-    (λ h. λ i. record { routers = c.args.self.now.routers.entries; clients = c.args.self.now.clients.entries; ends = h i; used = c.args.self.now.used; booked = c.args.self.now.booked })
+    (λ h. λ i. record { routers = c.args.self.now.routers.entries; clients = c.args.self.now.clients.entries; ends = h i; booked = c.args.self.now.booked })
 
 pub returns-in_err-push : goal.returns-in_err-push
 returns-in_err-push c =
@@ -43,12 +44,12 @@ returns c =
     let r = there (router_of w.routers c.args.router) (c.requires.routers c.args.router c.args.to end) in
     let ends : changed c.next_queued.new.self (c.args.to, c.args.router) (λ s. sent s x.msg x.tag) ≡ c.pass_on.new.ends = sym c.in_ok-pass_on.ensures in
     applied (take_step w c.args.router c.args.to) (Taken c.args.router c.args.to x.msg x.tag ∷ []) w
-    (record { routers = c.args.self.now.routers.entries; clients = c.args.self.now.clients.entries; ends = c.pass_on.new.ends; used = c.args.self.now.used; booked = c.args.self.now.booked })
+    (record { routers = c.args.self.now.routers.entries; clients = c.args.self.now.clients.entries; ends = c.pass_on.new.ends; booked = c.args.self.now.booked })
     c.args.report.now.items c.push.new.self.items
     (take_by w c.args.router c.args.to r.0 r.1 (c.requires.neighbours c.args.router c.args.to end) ∙ ap (λ o. o >>= taken_by w c.args.router c.args.to) told
     ∙ (λ i. Ok (
       Taken c.args.router c.args.to x.msg x.tag ∷ [],
-      record { routers = c.args.self.now.routers.entries; clients = c.args.self.now.clients.entries; ends = ends i; used = c.args.self.now.used; booked = c.args.self.now.booked },
+      record { routers = c.args.self.now.routers.entries; clients = c.args.self.now.clients.entries; ends = ends i; booked = c.args.self.now.booked },
     )))
     c.in_ok-push.ensures.items
 

@@ -45,4 +45,4 @@ returns c =
     (hears_is w ends c.spread.new.ends c.args.router r r' (up_event r (peer_of w c.args.neighbour)) c.hear.new.out.items c.args.line heard
     (ordered_with w.ends (c.args.router, c.args.neighbour) (lifted s) c.requires.in_order) (c.requires.unique c.args.router r er)
     (fresh w c.requires c.args.router r er (peer_of w c.args.neighbour) down (c.requires.apart c.args.router c.args.neighbour (ap is_some es))) spread)
-    ∙ (λ i. Ok ([], record { routers = sym lent i; clients = c.args.self.now.clients.entries; ends = c.spread.new.ends; used = c.args.self.now.used; booked = c.args.self.now.booked }))
+    ∙ (λ i. Ok ([], record { routers = sym lent i; clients = c.args.self.now.clients.entries; ends = c.spread.new.ends; booked = c.args.self.now.booked }))
