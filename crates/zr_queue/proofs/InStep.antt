@@ -13,8 +13,10 @@ use Rattle.zr_msg.specs.declared.msg.Msg.{Msg}
 use Rattle.zr_msg.specs.declared.msg.Msg.TheVariants.{Sub, Unsub, Able, Unable, Interest, EndInterest, ToldSub, ToldAble, ToldUnsub, ToldUnable, ToldEnd, Push, Request, Response, Final, State, Step, Snap}
 use Rattle.zr_msg.specs.declared.event.Event.{Event}
 use Rattle.zr_msg.specs.declared.event.Event.TheVariants.{Up, Down, From}
-use Rattle.zr_table.specs.State.{LinkState, NodeState, Subscription, new_link, link_at, is_link, is_router}
-use Rattle.zr_table.specs.Table.{after, after_from, with_link, without_link, changed_on, declared, undeclared}
+use Rattle.zr_routing.specs.Tables.{link_at, is_link}
+use Rattle.zr_table.specs.State.{NodeState, new_link}
+use Rattle.zr_msg.specs.declared.peer.LinkPeer.{LinkPeer}
+use Rattle.zr_table.specs.Table.{after, after_from, with_link, without_link}
 use Rattle.zr_frame.specs.Outbox.{OutboxState}
 use Rattle.zr_port.specs.declared.entry.Entry.{Entry}
 use Rattle.zr_queue.specs.Tables.{LinkQueue, Tables, new_tables, new_queue, with_down, other_queues, queues_at, queued_by, advanced, replay_from, replay, open_queues}
@@ -111,14 +113,14 @@ some_map f None = refl
 some_map f (Some x) = refl
 
 -- a link that has come up, and the links before it
-pub linked : (links : List LinkState) (l : LinkState) (n : ℕ) → is_some (link_at (with_link links l) n) ≡ (l.link.0 == n) || is_some (link_at links n)
+pub linked : (links : List LinkPeer) (l : LinkPeer) (n : ℕ) → is_some (link_at (with_link links l) n) ≡ (l.link.0 == n) || is_some (link_at links n)
 linked links l n =
     ap is_some (find-append (λ k. is_link n k) below (l ∷ back)) ∙ some_or (link_at below n) (link_at (l ∷ back) n) ∙ by (l.link.0 == n) (nat_lt n l.link.0) refl refl
   where
-    below : List LinkState
+    below : List LinkPeer
     below = filter (λ k. nat_lt k.link.0 l.link.0) links
 
-    back : List LinkState
+    back : List LinkPeer
     back = filter (λ k. nat_lt l.link.0 k.link.0) links
 
     by : (a b : Bool) → (l.link.0 == n) ≡ a → nat_lt n l.link.0 ≡ b → is_some (link_at below n) || is_some (cond a (Some l) (link_at back n)) ≡ a || is_some (link_at links n)
@@ -136,20 +138,13 @@ linked links l n =
         )
         refl
 
-same_changed : (from : ℕ) (change : List Subscription → List Subscription) (n : ℕ) (l : LinkState) → is_link n (changed_on from change l) ≡ is_link n l
-same_changed from change n l = by (is_link from l && not (is_router l.peer.role))
-  where
-    by : (b : Bool) → is_link n (cond b (record { link = l.link; peer = l.peer; subs = change l.subs }) l) ≡ is_link n l
-    by true = refl
-    by false = refl
-
 find_mapped : {X : Type 0} (test : X → Bool) (f : X → X) → ((x : X) → test (f x) ≡ test x) → (xs : List X) → is_some (find test (map f xs)) ≡ is_some (find test xs)
 find_mapped test f same xs = ap is_some (find_changed test f same xs) ∙ some_map f (find test xs)
 
--- a message changes no link but what its client declares
+-- a message changes no link
 pub from_links : (node : NodeState) (from : ℕ) (msg : Msg) (n : ℕ) → is_some (link_at (after_from node from msg).links n) ≡ is_some (link_at node.links n)
-from_links node from (Sub id key) n = find_mapped (λ l. is_link n l) (λ l. changed_on from (λ subs. declared subs id key) l) (same_changed from (λ subs. declared subs id key) n) node.links
-from_links node from (Unsub id) n = find_mapped (λ l. is_link n l) (λ l. changed_on from (λ subs. undeclared subs id) l) (same_changed from (λ subs. undeclared subs id) n) node.links
+from_links node from (Sub id key) n = refl
+from_links node from (Unsub id) n = refl
 from_links node from (Able id key complete) n = refl
 from_links node from (Unable id) n = refl
 from_links node from (Interest id current future kinds key aggregate) n = refl

@@ -1,9 +1,14 @@
 pub mod Batches
 pub mod Entering
 pub mod InStep
+pub mod Kept
+pub mod KeptReplays
+pub mod Logs
 pub mod Lookups
 pub mod Plans
 pub mod Replays
 pub mod Settling
+pub mod Snapshots
 pub mod Spelled
 pub mod Stepped
+pub mod Weights

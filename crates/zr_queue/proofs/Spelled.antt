@@ -1,23 +1,39 @@
--- Every message that an event sends has a spelling on the wire, where the message that came has one.
-use Rattle.std.proofs.Common.{◌≡◌, ℕ, ◌==◌, Bool, true, false, cond, List, [], ◌∷◌, Option, Some, None, map, filter, All}
-use Rattle.std.specs.List.{AllByRecursion}
+-- Every message that a router sends can be written, where the message that came has a spelling.
+use Rattle.std.proofs.Common.{◌≡◌, ℕ, ◌+◌, ◌==◌, Bool, true, false, cond, List, [], ◌∷◌, Option, Some, None, map, filter, All, inl, inr, arith}
+use Rattle.std.specs.Prelude.{◌&&◌}
+use Rattle.std.specs.List.{AllByRecursion, flat_map}
 use Rattle.std.specs.Option.{option_map_or}
 use Rattle.std.proofs.lemmas.List.Elements.{All-from_recursion}
 use Rattle.zr_id.specs.Record.{RecordState}
 use Rattle.zr_id.specs.declared.link.LinkNo.{LinkNo}
 use Rattle.zr_graph.specs.Base.{BaseState}
 use Rattle.zr_graph.specs.Record.{record_of}
+use Rattle.zr_log.specs.declared.log.Log.{Log}
+use Rattle.zr_log.specs.Log.{Change}
+use Rattle.zr_log.specs.Known.{position, is_newer, is_next}
+use Rattle.zr_local.specs.declared.row.Row.{Row}
+use Rattle.zr_msg.specs.declared.content.Parts.{Parts}
+use Rattle.zr_msg.specs.declared.decl.Kind.TheVariants as kind
 use Rattle.zr_msg.specs.declared.msg.Msg.{Msg}
 use Rattle.zr_msg.specs.declared.msg.Msg.TheVariants.{Sub, Unsub, Able, Unable, Interest, EndInterest, ToldSub, ToldAble, ToldUnsub, ToldUnable, ToldEnd, Push, Request, Response, Final, State, Step, Snap}
 use Rattle.zr_msg.specs.declared.event.Event.{Event}
 use Rattle.zr_msg.specs.declared.event.Event.TheVariants.{Up, Down, From}
+use Rattle.zr_msg.specs.declared.peer.LinkPeer.{LinkPeer}
 use Rattle.zr_msg.specs.declared.peer.Peer.{Peer}
 use Rattle.zr_msg.specs.declared.peer.Role.{Role}
 use Rattle.zr_msg.specs.declared.peer.Role.TheVariants.{Client, Router}
-use Rattle.zr_table.specs.State.{LinkState, NodeState, link_at}
-use Rattle.zr_table.specs.Table.{sends, sends_up, sends_down, sends_parted, sends_own, sends_from, own_record, all_records, joined, parted, is_other_router}
+use Rattle.zr_routing.specs.Changes.{changes, steps}
+use Rattle.zr_routing.specs.Samples.{leads_to_subscriber, push_along, push_on, push_to, tree_of}
+use Rattle.zr_routing.specs.Snapshots.{is_new_child, sends_snapshots, snapshot, snapshots_for, snapshots_on}
+use Rattle.zr_routing.specs.Tables.{TableState, is_router, is_to_child, leads_to_router, link_at}
+use Rattle.zr_table.proofs.Inserted.{All-append}
+use Rattle.zr_table.specs.State.{NodeState, tables}
+use Rattle.zr_table.specs.Table.{able_kind, after, all_records, is_other_router, joined, key_of, own_record, parted, refuses, row, rows_declared, rows_left, rows_undeclared, sends, sends_down, sends_first, sends_from, sends_own, sends_parted, sends_rows, sends_up}
 use Rattle.zr_table.specs.Event.{on_link}
 use Rattle.zr_wire.specs.Writing.{IsSpelled}
+use Rattle.zr_queue.specs.Writable.{IsWritable}
+use Rattle.zr_queue.proofs.Kept.{IsKept, kept_after}
+use Rattle.zr_queue.proofs.Logs.{IsLight, logs_light}
 use Rattle.zr_queue.proofs.Lookups.{same_number}
 
 -- the message that came, if one has, has a spelling
@@ -26,82 +42,145 @@ ComesSpelled (Up link peer) = Unit {0}
 ComesSpelled (Down link) = Unit {0}
 ComesSpelled (From link msg) = IsSpelled msg
 
-abbrev AreSpelled : List Msg → Type 0
-AreSpelled messages = AllByRecursion (λ m. IsSpelled m) messages
+abbrev AreWritable : List Msg → Type 0
+AreWritable messages = AllByRecursion (λ m. IsWritable m) messages
 
-either : (b : Bool) (xs ys : List Msg) → AreSpelled xs → AreSpelled ys → AreSpelled (cond b xs ys)
+either : (b : Bool) (xs ys : List Msg) → AreWritable xs → AreWritable ys → AreWritable (cond b xs ys)
 either true xs ys h k = h
 either false xs ys h k = k
 
-records_spelled : (rs : List RecordState) → AreSpelled (map (λ r. State r) rs)
-records_spelled [] = tt
-records_spelled (r ∷ rs) = (tt, records_spelled rs)
+-- ---- records
 
-own_spelled : (b : BaseState) → AreSpelled (own_record b)
-own_spelled b = by (record_of b.records b.me)
+records_written : (rs : List RecordState) → AreWritable (map (λ r. State r) rs)
+records_written [] = tt
+records_written (r ∷ rs) = (inl tt, records_written rs)
+
+own_written : (b : BaseState) → AreWritable (own_record b)
+own_written b = by (record_of b.records b.me)
   where
-    by : (o : Option RecordState) → AreSpelled (option_map_or (λ r. State r ∷ []) o [])
+    by : (o : Option RecordState) → AreWritable (option_map_or (λ r. State r ∷ []) o [])
     by None = tt
-    by (Some r) = (tt, tt)
+    by (Some r) = (inl tt, tt)
 
-told_spelled : (node : NodeState) (from : ℕ) (b : BaseState) (to : ℕ) → AreSpelled (sends_own node from b to)
-told_spelled node from b to = either (is_other_router node from to) (own_record b) [] (own_spelled b) tt
+told_written : (node : NodeState) (from : ℕ) (b : BaseState) (to : ℕ) → AreWritable (sends_own node from b to)
+told_written node from b to = either (is_other_router node from to) (own_record b) [] (own_written b) tt
 
-up_spelled : (node : NodeState) (link : ℕ) (peer : Peer) (role : Role) (to : ℕ) → AreSpelled (sends_up node link peer role to)
-up_spelled node link peer Client to = tt
-up_spelled node link peer Router to =
+up_written : (node : NodeState) (link : ℕ) (peer : Peer) (role : Role) (to : ℕ) → AreWritable (sends_up node link peer role to)
+up_written node link peer Client to = tt
+up_written node link peer Router to =
     either (to == link) (all_records (joined node.base peer.id)) (sends_own node link (joined node.base peer.id) to)
-    (records_spelled (joined node.base peer.id).records) (told_spelled node link (joined node.base peer.id) to)
+    (records_written (joined node.base peer.id).records) (told_written node link (joined node.base peer.id) to)
 
-parted_spelled : (node : NodeState) (link : ℕ) (peer : Peer) (role : Role) (to : ℕ) → AreSpelled (sends_parted node link peer role to)
-parted_spelled node link peer Client to = tt
-parted_spelled node link peer Router to = told_spelled node link (parted node.base peer.id) to
+parted_written : (node : NodeState) (link : ℕ) (peer : Peer) (role : Role) (to : ℕ) → AreWritable (sends_parted node link peer role to)
+parted_written node link peer Client to = tt
+parted_written node link peer Router to = told_written node link (parted node.base peer.id) to
 
-down_spelled : (node : NodeState) (link : ℕ) (o : Option LinkState) (to : ℕ) → AreSpelled (sends_down node link o to)
-down_spelled node link None to = tt
-down_spelled node link (Some l) to = parted_spelled node link l.peer l.peer.role to
+down_written : (node : NodeState) (link : ℕ) (o : Option LinkPeer) (to : ℕ) → AreWritable (sends_down node link o to)
+down_written node link None to = tt
+down_written node link (Some l) to = parted_written node link l.peer l.peer.role to
 
-from_spelled : (node : NodeState) (from : ℕ) (msg : Msg) (to : ℕ) → IsSpelled msg → AreSpelled (sends_from node from msg to)
-from_spelled node from (Sub id key) to h = tt
-from_spelled node from (Unsub id) to h = tt
-from_spelled node from (Able id key complete) to h = tt
-from_spelled node from (Unable id) to h = tt
-from_spelled node from (Interest id current future kinds key aggregate) to h = tt
-from_spelled node from (EndInterest id) to h = tt
-from_spelled node from (ToldSub id key interest) to h = tt
-from_spelled node from (ToldAble id key complete interest) to h = tt
-from_spelled node from (ToldUnsub id) to h = tt
-from_spelled node from (ToldUnable id) to h = tt
-from_spelled node from (ToldEnd interest) to h = tt
-from_spelled node from (Push tree content) to h =
-    either _ (Push None content ∷ []) [] (h, tt) tt
-from_spelled node from (Request tree id target content) to h = tt
-from_spelled node from (Response id content) to h = tt
-from_spelled node from (Final id extras) to h = tt
-from_spelled node from (State links) to h =
-    either _ (State links ∷ []) [] (tt, tt) tt
-from_spelled node from (Step source number added decl) to h = tt
-from_spelled node from (Snap source number decls) to h = tt
+-- ---- logs
 
-pub sends_spelled : (node : NodeState) (event : Event) (to : LinkNo) → ComesSpelled event → AllByRecursion (λ m. IsSpelled m) (sends node event to)
-sends_spelled node (Up link peer) to h = up_spelled node link.0 peer peer.role to.0
-sends_spelled node (Down link) to h = down_spelled node link.0 (link_at node.links link.0) to.0
-sends_spelled node (From link msg) to h = from_spelled node link.0 msg to.0 h
+-- the changes of the own log are numbered from 1 on
+steps_written : (source : List ℕ) (number : ℕ) (cs : List Change) → AreWritable (steps source number cs)
+steps_written source number [] = tt
+steps_written source number (c ∷ cs) = (inl (omega arith), steps_written source (number + 1) cs)
 
--- what has a spelling link by link has one
-by_links : (sent : List (LinkNo × Msg)) → ((to : LinkNo) → AllByRecursion (λ m. IsSpelled m) (on_link to sent)) → AllByRecursion (λ x. IsSpelled x.1) sent
+rows_written : (node : NodeState) (rows : List Row) (to : ℕ) → AreWritable (sends_rows node rows to)
+rows_written node rows to =
+    let cs : List Change = changes node.rows rows in
+    let all : List Msg = steps node.base.me (position node.known node.base.me) cs in
+    either (is_to_child (tables node) node.base.me to) all [] (steps_written node.base.me (position node.known node.base.me) cs) tt
+
+-- what a router knows of logs is light
+snapshots_written : (t : TableState) (before : List RecordState) (to : ℕ) → AllByRecursion IsLight t.known.logs → AreWritable (sends_snapshots t before to)
+snapshots_written t before to light = by (link_at t.links to)
+  where
+    one : (b : Bool) (log : Log) → IsLight log → AreWritable (cond b (snapshot log ∷ []) [])
+    one true log h = (inr h, tt)
+    one false log h = tt
+
+    all : (name : List ℕ) (logs : List Log) → AllByRecursion IsLight logs →
+        AreWritable (flat_map (λ log. cond (is_new_child before t.base.records t.base.me log.source name) (snapshot log ∷ []) []) logs)
+    all name [] h = tt
+    all name (log ∷ logs) h =
+        let b = is_new_child before t.base.records t.base.me log.source name in
+        All-append (λ m. IsWritable m) (cond b (snapshot log ∷ []) []) (flat_map (λ log. cond (is_new_child before t.base.records t.base.me log.source name) (snapshot log ∷ []) []) logs)
+        (one b log h.0) (all name logs h.1)
+
+    by : (o : Option LinkPeer) → AreWritable (option_map_or (λ l. snapshots_on t before l) o [])
+    by None = tt
+    by (Some l) = either (is_router l.peer.role) (snapshots_for t before l.peer.id) [] (all l.peer.id t.known.logs light) tt
+
+-- ---- samples
+
+push_written : (t : TableState) (from : ℕ) (named : Option (List ℕ)) (content : Parts) (to : ℕ) → IsSpelled (Push named content) → AreWritable (push_along t from (tree_of t (link_at t.links from) named) content to)
+push_written t from named content to h = by (tree_of t (link_at t.links from) named)
+  where
+    on : (tree : List ℕ) (l : LinkPeer) (r : Role) → AreWritable (push_to t from tree content l r)
+    on tree l Client = either _ (Push None content ∷ []) [] (inl h, tt) tt
+    on tree l Router = either (leads_to_subscriber t tree content.key l.peer.id) (Push (Some tree) content ∷ []) [] (inl h, tt) tt
+
+    over : (tree : List ℕ) (o : Option LinkPeer) → AreWritable (push_on t from tree content o)
+    over tree None = tt
+    over tree (Some l) = on tree l l.peer.role
+
+    by : (tree : Option (List ℕ)) → AreWritable (push_along t from tree content to)
+    by None = tt
+    by (Some tree) = over tree (link_at t.links to)
+
+-- ---- events
+
+from_written : (node : NodeState) (from : ℕ) (msg : Msg) (to : ℕ) → IsSpelled msg → AreWritable (sends_from node from msg to)
+from_written node from (Sub id key) to h = rows_written node (rows_declared node from (row from id kind.Sub key)) to
+from_written node from (Unsub id) to h = rows_written node (rows_undeclared node from (key_of from id kind.Sub)) to
+from_written node from (Able id key complete) to h = rows_written node (rows_declared node from (row from id (able_kind complete) key)) to
+from_written node from (Unable id) to h = rows_written node (rows_undeclared node from (key_of from id kind.Able)) to
+from_written node from (Interest id current future kinds key aggregate) to h = tt
+from_written node from (EndInterest id) to h = tt
+from_written node from (ToldSub id key interest) to h = tt
+from_written node from (ToldAble id key complete interest) to h = tt
+from_written node from (ToldUnsub id) to h = tt
+from_written node from (ToldUnable id) to h = tt
+from_written node from (ToldEnd interest) to h = tt
+from_written node from (Push tree content) to h = push_written (tables node) from tree content to h
+from_written node from (Request tree id target content) to h = tt
+from_written node from (Response id content) to h = tt
+from_written node from (Final id extras) to h = tt
+from_written node from (State links) to h = either _ (State links ∷ []) [] (inl tt, tt) tt
+from_written node from (Step source number added decl) to h =
+    either (leads_to_router node.links from && (is_next node.known source number && is_to_child (tables node) source to)) (Step source number added decl ∷ []) [] (inl h, tt) tt
+from_written node from (Snap source number decls) to h =
+    either (leads_to_router node.links from && (is_newer node.known source number && is_to_child (tables node) source to)) (Snap source number decls ∷ []) [] (inl h, tt) tt
+
+first_written : (node : NodeState) (event : Event) (to : LinkNo) → ComesSpelled event → AreWritable (sends_first node event to)
+first_written node (Up link peer) to h = up_written node link.0 peer peer.role to.0
+first_written node (Down link) to h =
+    All-append (λ m. IsWritable m) (sends_down node link.0 (link_at node.links link.0) to.0) (sends_rows node (rows_left node link.0) to.0)
+    (down_written node link.0 (link_at node.links link.0) to.0) (rows_written node (rows_left node link.0) to.0)
+first_written node (From link msg) to h = from_written node link.0 msg to.0 h
+
+sends_written : (node : NodeState) (event : Event) (to : LinkNo) → IsKept node → refuses node event ≡ None → ComesSpelled event → AllByRecursion (λ m. IsWritable m) (sends node event to)
+sends_written node event to kept taken h =
+    let k = kept_after node event kept taken in
+    All-append (λ m. IsWritable m) (sends_first node event to) (sends_snapshots (tables (after node event)) node.base.records to.0)
+    (first_written node event to h) (snapshots_written (tables (after node event)) node.base.records to.0 (logs_light (after node event).known (after node event).rows k.logs k.light))
+
+-- what can be written link by link can be written
+by_links : (sent : List (LinkNo × Msg)) → ((to : LinkNo) → AllByRecursion (λ m. IsWritable m) (on_link to sent)) → AllByRecursion (λ x. IsWritable x.1) sent
 by_links [] h = tt
 by_links (x ∷ xs) h = (head (x.0.0 == x.0.0) (same_number x.0.0) (h x.0), by_links xs (λ to. tail (x.0.0 == to.0) to (h to)))
   where
-    head : (b : Bool) → b ≡ true → AllByRecursion (λ m. IsSpelled m) (map (λ y. y.1) (cond b (x ∷ filter (λ y. y.0.0 == x.0.0) xs) (filter (λ y. y.0.0 == x.0.0) xs))) → IsSpelled x.1
+    head : (b : Bool) → b ≡ true → AllByRecursion (λ m. IsWritable m) (map (λ y. y.1) (cond b (x ∷ filter (λ y. y.0.0 == x.0.0) xs) (filter (λ y. y.0.0 == x.0.0) xs))) → IsWritable x.1
     head true e k = k.0
     head false e k = cc
 
-    tail : (b : Bool) (to : LinkNo) → AllByRecursion (λ m. IsSpelled m) (map (λ y. y.1) (cond b (x ∷ filter (λ y. y.0.0 == to.0) xs) (filter (λ y. y.0.0 == to.0) xs)))
-        → AllByRecursion (λ m. IsSpelled m) (on_link to xs)
+    tail : (b : Bool) (to : LinkNo) → AllByRecursion (λ m. IsWritable m) (map (λ y. y.1) (cond b (x ∷ filter (λ y. y.0.0 == to.0) xs) (filter (λ y. y.0.0 == to.0) xs)))
+        → AllByRecursion (λ m. IsWritable m) (on_link to xs)
     tail true to k = k.1
     tail false to k = k
 
-pub sent_spelled : (node : NodeState) (event : Event) (sent : List (LinkNo × Msg)) → ComesSpelled event → ((to : LinkNo) → on_link to sent ≡ sends node event to) →
-    All (λ x. IsSpelled x.1) sent
-sent_spelled node event sent h e = All-from_recursion (λ x. IsSpelled x.1) sent (by_links sent (λ to. rw (e to) (sends_spelled node event to h)))
+pub sent_written : (node : NodeState) (event : Event) (sent : List (LinkNo × Msg)) → IsKept node → refuses node event ≡ None → ComesSpelled event →
+    ((to : LinkNo) → on_link to sent ≡ sends node event to) → All (λ x. IsWritable x.1) sent
+sent_written node event sent kept taken h e =
+    All-from_recursion (λ x. IsWritable x.1) sent (by_links sent (λ to. rw (e to) (sends_written node event to kept taken h)))

@@ -7,7 +7,8 @@ use Rattle.zr_id.specs.declared.link.LinkNo.{LinkNo}
 use Rattle.zr_msg.specs.declared.peer.Peer.{Peer}
 use Rattle.zr_msg.specs.declared.event.Event.{Event}
 use Rattle.zr_msg.specs.declared.event.Event.TheVariants.{Up, Down, From}
-use Rattle.zr_table.specs.State.{NodeState, link_at, link_to}
+use Rattle.zr_routing.specs.Tables.{link_at, link_to}
+use Rattle.zr_table.specs.State.{NodeState}
 use Rattle.zr_table.specs.Table.{sends, refuses}
 use Rattle.zr_port.specs.declared.entry.Entry.{Entry}
 use Rattle.zr_queue.specs.Tables.{LinkQueue, Tables, new_tables, batches_for, queues_at, advanced, slots_of, is_droppable, is_other}

@@ -1,5 +1,6 @@
 pub mod Tables
 pub mod History
 pub mod Note
+pub mod Writable
 pub mod Ends
 pub mod Grows

@@ -10,7 +10,8 @@ use Rattle.zr_msg.specs.declared.peer.Role.{Role}
 use Rattle.zr_msg.specs.declared.peer.Role.TheVariants as role
 use Rattle.zr_msg.specs.declared.event.Event.{Event}
 use Rattle.zr_msg.specs.declared.event.Event.TheVariants.{Up, Down, From}
-use Rattle.zr_table.specs.State.{NodeState, new_node, link_at}
+use Rattle.zr_routing.specs.Tables.{link_at}
+use Rattle.zr_table.specs.State.{NodeState, new_node}
 use Rattle.zr_table.specs.Table.{sends, after}
 use Rattle.zr_frame.specs.Outbox.{OutboxState}
 use Rattle.zr_frame.specs.Packing.{Parcels, parcels}

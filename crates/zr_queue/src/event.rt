@@ -7,7 +7,7 @@ ghost use Rattle.zr_hist.specs.Words.{IsKeptOf, IsPassOf, IsSameKept, IsSamePass
 ghost use Rattle.zr_port.specs.Adding.{IsEntryOf};
 ghost use Rattle.zr_table.specs.Event.{on_link};
 ghost use Rattle.zr_table.specs.State.{NodeState};
-ghost use Rattle.zr_wire.specs.Writing.{IsSpelled};
+ghost use Rattle.zr_queue.specs.Writable.{IsWritable};
 ghost use Rattle.zr_queue.specs.Tables.{open_queues, replay};
 ghost use Rattle.zr_queue.specs.History.{is_legal};
 ghost use Rattle.zr_queue.specs.Ends.{IsAsked, IsEntered, IsPlannedAnew, IsPlannedFor, IsSameRing, IsSettled, MayEnter, is_closing, is_dropped};
@@ -31,7 +31,7 @@ pub fn prepare(
     outbox: Option<Outbox>,
     reason: Option<u8>,
 ) -> Result<Entry, AllocError>
-    requires { All (λ x. IsSpelled x.1) sent.now }
+    requires { All (λ x. IsWritable x.1) sent.now }
     ensures each { OnOk result (AllZip (λ old new. (new.queue ≡ old.queue) × IsPlannedFor (on_link old.queue.link sent.now) new) ends.old ends.new) }
     ensures asked { OnOk result (AllZip (λ old new. IsAsked old new) ends.old ends.new) }
     ensures entry { IfOk result (λ e. IsEntryOf event outbox reason e) }
@@ -50,7 +50,7 @@ pub fn prepare(
 
 #[tactic(auto, using(crate::proofs::Stepped::stepped_first, crate::proofs::Stepped::stepped_all))]
 fn plan_all(alloc: Global, ends: &mut [LinkEnd], sent: &[(LinkNo, Msg)]) -> Result<(), AllocError>
-    requires { All (λ x. IsSpelled x.1) sent.now }
+    requires { All (λ x. IsWritable x.1) sent.now }
     ensures { OnOk result (AllZip (λ old new. IsPlannedAnew (on_link old.queue.link sent.now) old new) ends.old ends.new) }
 {
     for end in ends.iter_mut() {

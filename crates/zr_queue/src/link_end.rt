@@ -9,7 +9,7 @@ ghost use Rattle.zr_ring.specs.Items.{GoOnFrom, end_of, most_parcels, ones};
 ghost use Rattle.zr_ring.specs.Taker.{taken, take_calls};
 ghost use Rattle.zr_table.specs.Event.{on_link};
 ghost use Rattle.zr_table.specs.State.{NodeState};
-ghost use Rattle.zr_wire.specs.Writing.{IsSpelled};
+ghost use Rattle.zr_queue.specs.Writable.{IsWritable};
 ghost use Rattle.zr_queue.specs.Tables as tables;
 ghost use Rattle.zr_queue.specs.Tables.{is_among, queued, queued_by, new_queue, with_parcels, with_closed};
 ghost use Rattle.zr_queue.specs.Note.{batches_of, Vouches, full_reason};
@@ -131,7 +131,7 @@ impl LinkEnd {
 
     /// Works out what an event has for the link among all that it sends. A link that an event has closed gets nothing any more.
     pub(crate) fn plan(&mut self, alloc: Global, sent: &[(LinkNo, Msg)]) -> Result<(), AllocError>
-        requires { All (λ x. IsSpelled x.1) sent.now }
+        requires { All (λ x. IsWritable x.1) sent.now }
         ensures queue { self.new.queue ≡ self.old.queue }
         ensures planned { OnOk result (IsPlannedFor (on_link self.old.queue.link sent.now) self.new) }
         ensures asked { OnOk result (IsAsked self.old self.new) }

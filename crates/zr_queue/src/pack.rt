@@ -4,7 +4,8 @@ ghost use Rattle.std.specs.Prelude.{◌≡◌, ◌≤◌, ◌++◌, map, length,
 ghost use Rattle.std.specs.List.{AllByRecursion};
 ghost use Rattle.zr_frame.specs.Packing.{parcels};
 ghost use Rattle.zr_table.specs.Event.{on_link};
-ghost use Rattle.zr_wire.specs.Writing.{IsSpelled, writes_message};
+ghost use Rattle.zr_queue.specs.Writable.{IsSourced, IsWritable};
+ghost use Rattle.zr_wire.specs.Writing.{writes_message};
 
 use std::alloc::{AllocError, Global};
 use zr_bytes::ByteString;
@@ -19,7 +20,7 @@ pub(crate) struct Packed {
     pub outbox: Outbox,
 }
 
-/// Packs the messages for one link among all that were sent. Each has a spelling, and no batch is longer than a parcel may be.
+/// Packs the messages for one link among all that were sent. Each can be written, and no batch is longer than a parcel may be.
 #[tactic(auto, using(crate::proofs::Plans::short_parcels))]
 pub(crate) fn pack(
     alloc: Global,
@@ -27,7 +28,7 @@ pub(crate) fn pack(
     link: LinkNo,
     outbox: Outbox,
 ) -> Result<Packed, AllocError>
-    requires { All (λ x. IsSpelled x.1) sent.now }
+    requires { All (λ x. IsWritable x.1) sent.now }
     ensures batches { IfOk result (λ p. p.batches.items ≡ (parcels outbox (map writes_message (on_link link sent.now))).batches) }
     ensures outbox { IfOk result (λ p. p.outbox ≡ (parcels outbox (map writes_message (on_link link sent.now))).outbox) }
     ensures short { IfOk result (λ p. AllByRecursion (λ b. length b ≤ 65535) p.batches.items) }
@@ -46,7 +47,7 @@ fn written_for(
     sent: &[(LinkNo, Msg)],
     link: LinkNo,
 ) -> Result<Vec<ByteString>, AllocError>
-    requires { All (λ x. IsSpelled x.1) sent.now }
+    requires { All (λ x. IsWritable x.1) sent.now }
     ensures { IfOk result (λ w. w.items ≡ map writes_message (on_link link sent.now)) }
 {
     let mut written = Vec::new(alloc);
@@ -58,11 +59,22 @@ fn written_for(
     Ok(written)
 }
 
+#[tactic(auto, using(crate::proofs::Snapshots::writable_spelled))]
 fn message_bytes(alloc: Global, msg: &Msg) -> Result<ByteString, AllocError>
-    requires { IsSpelled msg.now }
+    requires { IsWritable msg.now }
     ensures { IfOk result (λ b. b ≡ writes_message msg.now) }
 {
+    is_sourced(msg);
     let mut bytes = Vec::new(alloc);
     write_message(&mut bytes, msg)?;
     Ok(ByteString::new(bytes))
+}
+
+// The source of a snapshot is an identifier, as its type keeps it.
+fn is_sourced(msg: &Msg)
+    ensures { IsSourced msg.now }
+{
+    if let Msg::Snap { source, .. } = msg {
+        let _ = source.bytes();
+    }
 }

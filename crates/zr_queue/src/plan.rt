@@ -6,7 +6,8 @@ ghost use Rattle.std.proofs.Props.{props};
 ghost use Rattle.zr_frame.specs.Packing.{parcels};
 ghost use Rattle.zr_queue.specs.Tables.{may_drop, is_droppable};
 ghost use Rattle.zr_table.specs.Event.{on_link};
-ghost use Rattle.zr_wire.specs.Writing.{IsSpelled, writes_message};
+ghost use Rattle.zr_queue.specs.Writable.{IsWritable};
+ghost use Rattle.zr_wire.specs.Writing.{writes_message};
 
 use crate::note::Queued;
 use crate::pack::{Packed, pack};
@@ -42,14 +43,14 @@ impl Model for Plan {
 }
 
 impl Plan {
-    /// The plan for a link among all that was sent, whose messages have spellings.
+    /// The plan for a link among all that was sent, whose messages can be written.
     pub fn of(
         alloc: Global,
         sent: &[(LinkNo, Msg)],
         link: LinkNo,
         outbox: Outbox,
     ) -> Result<Plan, AllocError>
-        requires { All (λ x. IsSpelled x.1) sent.now }
+        requires { All (λ x. IsWritable x.1) sent.now }
         ensures parcels { IfOk result (λ p. p.parcels ≡ parcels outbox (map writes_message (on_link link sent.now))) }
         ensures droppable { IfOk result (λ p. p.droppable ≡ is_droppable (on_link link sent.now)) }
     {

@@ -19,21 +19,22 @@ use Rattle.zr_queue.specs.History.{has_parts, is_legal, may_come}
 use Rattle.zr_queue.specs.Ends.{EndState, IsPlanned, IsPlannedFor, IsReplay, MayEnter, is_closing, is_dropped}
 use Rattle.zr_queue.proofs.Entering.{each_planned}
 use Rattle.zr_queue.proofs.Replays.{replays_more}
-use Rattle.zr_queue.proofs.Spelled.{ComesSpelled, sent_spelled}
+use Rattle.zr_queue.proofs.KeptReplays.{kept_replay}
+use Rattle.zr_queue.proofs.Spelled.{ComesSpelled, sent_written}
 use Rattle.zr_router.specs.Handled.{IsHandled}
 
 -- what the router handled, at the replay of the list
 pub handled : (me : List ℕ) (h : List Entry) (node left : NodeState) (ends : List EndState) (event : Event) (outbox : Option OutboxState) (reason : Option ℕ) (sent : List (LinkNo × Msg)) →
-    node ≡ (replay me h).node → may_come node event ≡ true → refuses node event ≡ None → left ≡ after node event →
+    is_legal me h ≡ true → node ≡ (replay me h).node → may_come node event ≡ true → refuses node event ≡ None → left ≡ after node event →
     ((to : LinkNo) → on_link to sent ≡ sends node event to) → ComesSpelled event → has_parts event (is_some outbox) (is_some reason) ≡ true →
     map (λ e. e.queue) ends ≡ filter (λ q. q.is_up) (queues_at (replay me h).queues event outbox) → length h < most_entries →
     IsHandled me h left ends event outbox reason sent
-handled me h node left ends event outbox reason sent is comes taken left_is sends_is spelled parts queues room = record {
+handled me h node left ends event outbox reason sent legal is comes taken left_is sends_is spelled parts queues room = record {
   comes = subst (λ n. may_come n event ≡ true) is comes;
   taken = subst (λ n. refuses n event ≡ None) is taken;
   node_is = left_is ∙ ap (λ n. after n event) is;
   sends = λ to. sends_is to ∙ ap (λ n. sends n event to) is;
-  spelled = sent_spelled node event sent spelled sends_is;
+  written = sent_written (replay me h).node event sent (kept_replay me h legal) (subst (λ n. refuses n event ≡ None) is taken) spelled (λ to. sends_is to ∙ ap (λ n. sends n event to) is);
   parts = parts;
   queues = queues;
   room = room;

@@ -8,13 +8,12 @@ use Rattle.std.proofs.lemmas.Option.{slice_get-get_or, slice_get_past}
 use Rattle.std.proofs.lemmas.List.Folds.{find_at}
 use Rattle.atomic_table.specs.Seated.{TableId}
 use Rattle.zr_id.specs.declared.link.LinkNo.{LinkNo}
-use Rattle.std.proofs.lemmas.List.{length-map}
-use Rattle.zr_msg.specs.declared.peer.LinkPeer.{LinkPeer}
 use Rattle.zr_msg.specs.declared.peer.Peer.{Peer}
 use Rattle.zr_msg.specs.declared.event.Event.{Event}
 use Rattle.zr_msg.specs.declared.event.Event.TheVariants.{Up, Down, From}
 use Rattle.zr_tree.proofs.Finds.{find_in}
-use Rattle.zr_table.specs.State.{LinkState, NodeState, is_router, link_at, link_peer}
+use Rattle.zr_routing.specs.Tables.{link_at}
+use Rattle.zr_table.specs.State.{NodeState}
 use Rattle.zr_frame.specs.Outbox.{OutboxState}
 use Rattle.zr_port.specs.Adding.{IsEntryOf}
 use Rattle.zr_port.specs.declared.entry.Entry.{Entry}
@@ -192,13 +191,8 @@ module _ (me : List ℕ) (h : List Entry) (node : NodeState) (ends : List EndSta
   pub down_vouched : (more : List Entry) → more ≡ h ++ e ∷ [] → Vouches me link more (end reason) (length x.queue.batches)
   down_vouched more same = subst (λ l. Vouches me link l (end reason) (length x.queue.batches)) (sym same) (sym (ap length queued_still), ends_there)
 
--- ---- counts
+-- ---- what is found
 
 pub some_mapped : {X Y : Type 0} (f : X → Y) (o : Option X) → is_some (option_map f o) ≡ is_some o
 some_mapped f None = refl
 some_mapped f (Some x) = refl
-
-pub routers_counted : (links : List LinkState) → length (filter (λ l. is_router l.peer.role) (map link_peer links)) ≡ length (filter (λ l. is_router l.peer.role) links)
-routers_counted links =
-    let here : LinkPeer → Bool = λ l. is_router l.peer.role in
-    ap length (sym (filter_mapped here link_peer links)) ∙ length-map (filter (λ l. is_router l.peer.role) links) link_peer

@@ -8,7 +8,8 @@ use Rattle.zr_msg.specs.declared.event.Event.{Event}
 use Rattle.zr_msg.specs.declared.event.Event.TheVariants.{Up, Down, From}
 use Rattle.zr_msg.specs.declared.peer.Peer.{Peer}
 use Rattle.zr_table.specs.Event.{IsFresh}
-use Rattle.zr_table.specs.State.{NodeState, new_link, link_at, link_to, free_link}
+use Rattle.zr_routing.specs.Tables.{link_at, link_to, free_link}
+use Rattle.zr_table.specs.State.{NodeState, new_link}
 use Rattle.zr_table.specs.Table.{after, refuses}
 use Rattle.zr_frame.specs.Outbox.{OutboxState}
 use Rattle.zr_port.specs.Adding.{IsAdmitted, IsEntryOf, IsLeastFree}

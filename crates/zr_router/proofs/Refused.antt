@@ -9,7 +9,9 @@ use Rattle.zr_msg.specs.declared.msg.Msg.{Msg}
 use Rattle.zr_msg.specs.declared.error.NodeError.{NodeError}
 use Rattle.zr_msg.specs.declared.peer.Peer.{Peer}
 use Rattle.zr_msg.specs.declared.peer.Role.{Role}
-use Rattle.zr_table.specs.State.{LinkState, NodeState, link_at}
+use Rattle.zr_routing.specs.Tables.{link_at}
+use Rattle.zr_table.specs.State.{NodeState}
+use Rattle.zr_msg.specs.declared.peer.LinkPeer.{LinkPeer}
 use Rattle.zr_table.specs.Table.{refuses}
 use Rattle.zr_port.specs.Adding.{IsAdmitted}
 use Rattle.zr_port.specs.declared.entry.Entry.{Entry}
@@ -23,11 +25,11 @@ use Rattle.zr_router.specs.Before.{message_refusal, open_refusal}
 use Rattle.zr_router.specs.Refusals.{IsClosed, RefusesAt, RefusesOn, RefusesMessage, closing_of, is_worn, refused_by, refuses_on}
 
 -- what is found under a number, where its peer is
-pub found_peer : (o : Option LinkState) (p : Peer) → option_map (λ l. l.peer) o ≡ Some p → (l : LinkState) × (o ≡ Some l) × (l.peer ≡ p)
+pub found_peer : (o : Option LinkPeer) (p : Peer) → option_map (λ l. l.peer) o ≡ Some p → (l : LinkPeer) × (o ≡ Some l) × (l.peer ≡ p)
 found_peer None p e = cc
 found_peer (Some l) p e = (l, refl, (let same : l.peer ≡ p = cc in same))
 
-pub no_peer : (o : Option LinkState) → option_map (λ l. l.peer) o ≡ None → o ≡ None
+pub no_peer : (o : Option LinkPeer) → option_map (λ l. l.peer) o ≡ None → o ≡ None
 no_peer None e = refl
 no_peer (Some l) e = cc
 
@@ -49,7 +51,7 @@ find_closed link (x ∷ xs) = by (x.queue.link.0 == link.0) (find_closed link xs
     by false ih = ih
 
 module _ (me : List ℕ) (h : List Entry) (node : NodeState) (ends : List EndState) (r : IsReplay me h node ends) (link : LinkNo) (msg : Msg) where
-  here : (o : Option LinkState) → link_at node.links link.0 ≡ o → link_at (replay me h).node.links link.0 ≡ o
+  here : (o : Option LinkPeer) → link_at node.links link.0 ≡ o → link_at (replay me h).node.links link.0 ≡ o
   here o e = ap (λ n. link_at n.links link.0) (sym r.node_is) ∙ e
 
   closing : (o : Option ℕ) → closed_at ends link ≡ o → closing_of (replay me h) link ≡ o
@@ -58,12 +60,12 @@ module _ (me : List ℕ) (h : List Entry) (node : NodeState) (ends : List EndSta
   not_up : (e : DeliverError) → link_at node.links link.0 ≡ None → e ≡ deliver.NotUp link → RefusesMessage me h link msg e
   not_up e none is = subst (λ o. RefusesAt (replay me h) h link msg o e) (sym (here None none)) is
 
-  refused_on : (l : LinkState) (o : Option ℕ) (e : DeliverError) → link_at node.links link.0 ≡ Some l → closed_at ends link ≡ o → RefusesOn (replay me h) h link l.peer.role msg o e → RefusesMessage me h link msg e
+  refused_on : (l : LinkPeer) (o : Option ℕ) (e : DeliverError) → link_at node.links link.0 ≡ Some l → closed_at ends link ≡ o → RefusesOn (replay me h) h link l.peer.role msg o e → RefusesMessage me h link msg e
   refused_on l o e up shut is =
       subst (λ p. RefusesAt (replay me h) h link msg p e) (sym (here (Some l) up))
       (subst (λ p. RefusesOn (replay me h) h link l.peer.role msg p e) (sym (closing o shut)) is)
 
-  refused_open : (l : LinkState) (e : DeliverError) → link_at node.links link.0 ≡ Some l → closed_at ends link ≡ None → refuses_on node h link l.peer.role msg ≡ Some e → RefusesMessage me h link msg e
+  refused_open : (l : LinkPeer) (e : DeliverError) → link_at node.links link.0 ≡ Some l → closed_at ends link ≡ None → refuses_on node h link l.peer.role msg ≡ Some e → RefusesMessage me h link msg e
   refused_open l e up unshut is = refused_on l None e up unshut (subst (λ n. refuses_on n h link l.peer.role msg ≡ Some e) r.node_is is)
 
   -- a link that is up and open admits the message, or says why not
@@ -92,7 +94,7 @@ module _ (me : List ℕ) (h : List Entry) (node : NodeState) (ends : List EndSta
 
   -- what follows where nothing of that refuses it
   unshut : (p : Option Peer) (c : Option Closing) → p ≡ option_map (λ l. l.peer) (link_at node.links link.0) → asked c ≡ closed_at ends link → message_refusal p c link msg (is_worn h) ≡ None →
-      (l : LinkState) × (link_at node.links link.0 ≡ Some l) × (closed_at ends link ≡ None) × (open_refusal l.peer msg (is_worn h) ≡ None)
+      (l : LinkPeer) × (link_at node.links link.0 ≡ Some l) × (closed_at ends link ≡ None) × (open_refusal l.peer msg (is_worn h) ≡ None)
   unshut None c at shut is = cc
   unshut (Some q) (Some c) at shut is = cc
   unshut (Some q) None at shut is =

@@ -9,10 +9,10 @@ use Rattle.zr_table.specs.Table.{sends, after, refuses}
 use Rattle.zr_table.specs.Event.{on_link}
 use Rattle.zr_frame.specs.Outbox.{OutboxState}
 use Rattle.zr_port.specs.declared.entry.Entry.{Entry}
-use Rattle.zr_wire.specs.Writing.{IsSpelled}
 use Rattle.zr_queue.specs.Tables.{queues_at, replay}
 use Rattle.zr_queue.specs.History.{may_come, has_parts}
 use Rattle.zr_queue.specs.Ends.{EndState}
+use Rattle.zr_queue.specs.Writable.{IsWritable}
 
 -- After a list of entries an event could come and was not refused. The router is as the event leaves it, and has sent what it sends; the ends are
 -- those of the links that are up then
@@ -21,7 +21,7 @@ pub record IsHandled (me : List ℕ) (h : List Entry) (node : NodeState) (ends :
   pub taken : refuses (replay me h).node event ≡ None
   pub node_is : node ≡ after (replay me h).node event
   pub sends : (to : LinkNo) → on_link to sent ≡ sends (replay me h).node event to
-  pub spelled : All (λ x. IsSpelled x.1) sent
+  pub written : All (λ x. IsWritable x.1) sent
   pub parts : has_parts event (is_some outbox) (is_some reason) ≡ true
   pub queues : map (λ e. e.queue) ends ≡ filter (λ q. q.is_up) (queues_at (replay me h).queues event outbox)
   pub room : length h < most_entries

@@ -3,3 +3,4 @@ pub mod Before
 pub mod Handled
 pub mod Replayed
 pub mod Words
+pub mod Failures

@@ -10,7 +10,9 @@ use Rattle.zr_msg.specs.declared.peer.Peer.{Peer}
 use Rattle.zr_msg.specs.declared.peer.Role.{Role}
 use Rattle.zr_msg.specs.declared.event.Event.{Event}
 use Rattle.zr_msg.specs.declared.event.Event.TheVariants.{Up, Down, From}
-use Rattle.zr_table.specs.State.{LinkState, NodeState, link_at, link_to, is_router, free_link}
+use Rattle.zr_routing.specs.Tables.{link_at, link_to, is_router, free_link}
+use Rattle.zr_table.specs.State.{NodeState}
+use Rattle.zr_msg.specs.declared.peer.LinkPeer.{LinkPeer}
 use Rattle.zr_table.specs.Table.{refuses}
 use Rattle.zr_port.specs.declared.entry.Entry.{Entry}
 use Rattle.zr_port.specs.declared.error.UpError.{UpError}
@@ -104,7 +106,7 @@ RefusesOn t h link role msg (Some n) e = IsClosed (Some n) e
 RefusesOn t h link role msg None e = refuses_on t.node h link role msg ≡ Some e
 
 -- the link isn't up, or it refuses the message
-abbrev pub RefusesAt : Tables → List Entry → LinkNo → Msg → Option LinkState → DeliverError → Type 0
+abbrev pub RefusesAt : Tables → List Entry → LinkNo → Msg → Option LinkPeer → DeliverError → Type 0
 RefusesAt t h link msg None e = e ≡ deliver.NotUp link
 RefusesAt t h link msg (Some l) e = RefusesOn t h link l.peer.role msg (closing_of t link) e
 

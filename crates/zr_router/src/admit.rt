@@ -1,7 +1,7 @@
 //! Whether a call is refused, as the tables stand.
 
 ghost use Rattle.std.specs.Prelude.{◌≡◌, ◌≤◌, ◌&&◌, ◌||◌, nat_le, filter, length};
-ghost use Rattle.zr_table.specs.State as state;
+ghost use Rattle.zr_routing.specs.Tables.{is_router};
 ghost use Rattle.zr_router.specs.Before.{message_refusal};
 ghost use Rattle.zr_router.specs.Refusals as refusals;
 ghost use Rattle.zr_router.specs.Refusals.{down_refusal, most_routers, most_sessions, peer_refusal};
@@ -46,7 +46,6 @@ fn sessions(node: &Node) -> u32
 }
 
 // How many of them lead to routers.
-#[tactic(auto, using(crate::proofs::OpenEnds::routers_counted))]
 fn routers(node: &Node) -> u32
     ensures { result ≡ refusals.routers node.now }
 {
@@ -55,7 +54,7 @@ fn routers(node: &Node) -> u32
 
 // Whether there is no room for one more session with a peer of that role.
 fn is_full(sessions: u32, routers: u32, role: Role) -> bool
-    ensures { result ≡ (nat_le most_sessions sessions || (state.is_router role && nat_le most_routers routers)) }
+    ensures { result ≡ (nat_le most_sessions sessions || (is_router role && nat_le most_routers routers)) }
 {
     sessions >= MOST_SESSIONS || is_router(role) && routers >= MOST_ROUTERS
 }
@@ -69,7 +68,7 @@ fn is_twice(node: &Node, peer: &Peer) -> bool
 }
 
 fn is_router(role: Role) -> bool
-    ensures { result ≡ state.is_router role }
+    ensures { result ≡ is_router role }
 {
     match role {
         Role::Client => false,
@@ -79,7 +78,7 @@ fn is_router(role: Role) -> bool
 
 // How many of the links lead to routers.
 fn routers_among(links: &[LinkPeer]) -> usize
-    ensures count { result ≡ length (filter (λ l. state.is_router l.peer.role) links.now) }
+    ensures count { result ≡ length (filter (λ l. is_router l.peer.role) links.now) }
     ensures bound { result ≤ length links.now }
 {
     links.iter().filter(|l| is_router(l.peer.role)).count()

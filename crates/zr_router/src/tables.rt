@@ -15,19 +15,20 @@ ghost use Rattle.zr_wire.specs.Writing.{IsSpelled};
 ghost use Rattle.zr_queue.specs.Ends.{IsReplay, new_end, taker_ring};
 ghost use Rattle.zr_queue.specs.History.{is_legal};
 ghost use Rattle.zr_queue.specs.Tables.{is_up, new_queue};
+ghost use Rattle.zr_router.specs.Failures.{HasFailed};
 ghost use Rattle.zr_router.specs.Handled.{IsHandled};
 ghost use Rattle.zr_router.specs.Replayed.{IsReplay-prop};
 ghost use Rattle.zr_router.specs.Refusals.{RefusesDown, RefusesMessage, RefusesUp, is_worn};
 
 use crate::admit::{refuses_down, refuses_message, refuses_peer};
 use crate::ends::{closing_of, taken_out};
+use crate::failure::Failure;
 use std::alloc::{AllocError, Global};
 use std::marker::PhantomData;
 use zr_frame::Outbox;
 use zr_hist::{History, Kept, Pass};
 use zr_id::link::LinkNo;
 use zr_id::zid::Zid;
-use zr_msg::error::NodeError;
 use zr_msg::event::Event;
 use zr_msg::msg::Msg;
 use zr_msg::peer::{Peer, Role};
@@ -121,8 +122,8 @@ impl<B: Naming> Tables<B> {
         let event = Event::From { link, msg };
         let sent = match self.handle(alloc, &event) {
             Ok(sent) => sent,
-            Err(NodeError::NoMemory) => return Err(DeliverError::NoMemory),
-            Err(refused) => return Err(DeliverError::Node(refused)),
+            Err(Failure::NoMemory) => return Err(DeliverError::NoMemory),
+            Err(Failure::Refused(error)) => return Err(DeliverError::Node(error)),
         };
         let arrival = Arrival {
             event,
@@ -168,8 +169,8 @@ impl<B: Naming> Tables<B> {
         let event = Event::Up { link, peer };
         let sent = match self.handle(alloc, &event) {
             Ok(sent) => sent,
-            Err(NodeError::NoMemory) => return Err(UpError::NoMemory),
-            Err(_) => return Err(UpError::Worn), // a number that the event needs
+            Err(Failure::NoMemory) => return Err(UpError::NoMemory),
+            Err(Failure::Refused(_)) => return Err(UpError::Worn), // a number that the event needs
         };
         let Ok(taker) = self.add_end(alloc, link, peer.role, outbox) else {
             return Err(UpError::NoMemory);
@@ -215,8 +216,8 @@ impl<B: Naming> Tables<B> {
         let event = Event::Down { link };
         let sent = match self.handle(alloc, &event) {
             Ok(sent) => sent,
-            Err(NodeError::NoMemory) => return Err(DownError::NoMemory),
-            Err(_) => return Err(DownError::Worn), // a number that the event needs
+            Err(Failure::NoMemory) => return Err(DownError::NoMemory),
+            Err(Failure::Refused(_)) => return Err(DownError::Worn), // a number that the event needs
         };
         let gone = taken_out(&mut self.ends, link);
         let arrival = Arrival {
@@ -289,15 +290,14 @@ impl<B: Naming> Tables<B> {
 
     // Lets the router handle an event that may come. What it sends is the answer; until the event is entered the tables count as spent. Where the
     // event is refused nothing has changed.
-    fn handle(&mut self, alloc: Global, event: &Event) -> Result<Vec<(LinkNo, Msg)>, NodeError>
+    fn handle(&mut self, alloc: Global, event: &Event) -> Result<Vec<(LinkNo, Msg)>, Failure>
         requires { MayCome self.old.node event.now }
         ensures kept { list_of self.new.kept ≡ list_of self.old.kept }
         ensures ends { self.new.ends ≡ self.old.ends }
         ensures handled { OnOk result ((self.new.node ≡ after self.old.node event.now) × (refuses self.old.node event.now ≡ None)) }
         ensures sent { IfOk result (λ sent. (to : LinkNo) → on_link to sent.items ≡ sends self.old.node event.now to) }
         ensures spent { OnOk result (self.new.is_spent ≡ true) }
-        ensures memory { result ≡ Err NodeError.NoMemory → self.new.is_spent ≡ true }
-        ensures refused { IfErr result (λ e. e ≢ NodeError.NoMemory → (refuses self.old.node event.now ≡ Some e) × (self.new.is_spent ≡ self.old.is_spent)) }
+        ensures failed { IfErr result (λ f. HasFailed (refuses self.old.node event.now) self.old.is_spent self.new.is_spent f) }
     {
         let mut sent = Vec::new(alloc);
         match self.node.handle(alloc, event, &mut sent) {
@@ -305,18 +305,13 @@ impl<B: Naming> Tables<B> {
                 self.is_spent = true;
                 Ok(sent)
             }
-            Err(NodeError::NoMemory | NodeError::Spent) => {
-                self.is_spent = true;
-                Err(NodeError::NoMemory)
-            }
-            Err(NodeError::Worn) => Err(NodeError::Worn),
-            Err(
-                NodeError::Gap { .. }
-                | NodeError::NotDeclared { .. }
-                | NodeError::TextLimit { .. }
-                | NodeError::NumberTaken { .. }
-                | NodeError::TooMany { .. },
-            ) => unreachable!(),
+            Err(error) => match Failure::of(error) {
+                Failure::NoMemory => {
+                    self.is_spent = true;
+                    Err(Failure::NoMemory)
+                }
+                Failure::Refused(refused) => Err(Failure::Refused(refused)),
+            },
         }
     }
 

@@ -5,9 +5,14 @@ use Rattle.zr_port.specs.Adding.{IsAdmitted}
 use Rattle.zr_table.specs.Event.{on_link}
 use Rattle.zr_queue.specs.Ends.{EndState, IsReplay}
 use Rattle.zr_router.specs.Before.{message_refusal}
+use Rattle.zr_port.specs.declared.error.DeliverError.TheVariants as deliver
+use Rattle.zr_table.specs.Table.{refuses}
+use Rattle.zr_router.specs.Failures.{HasFailed}
+use Rattle.zr_router.specs.declared.failure.Failure.{Failure}
+use Rattle.zr_router.specs.declared.failure.Failure.TheVariants.{Refused}
 use Rattle.zr_router.specs.Refusals.{RefusesMessage, is_worn}
 use Rattle.zr_router.proofs.Entered.{added, handled}
-use Rattle.zr_router.proofs.Refused.{closed_at, message_admitted, message_comes, message_refused, message_room, never_memory}
+use Rattle.zr_router.proofs.Refused.{closed_at, message_admitted, message_comes, message_node, message_refused, message_room, never_memory}
 use Rattle.zr_router.proofs.tables.Tables.deliver.Goals as goal
 
 pub returns-in-Some-clause-refused : goal.returns-in-Some-clause-refused
@@ -56,7 +61,7 @@ enter-requires-clause-handled g c =
     let none : message_refusal p k c.args.link c.args.msg (is_worn h) ≡ None =
     ap (λ b. message_refusal p k c.args.link c.args.msg b) w ∙ sym c.refuses_message.ensures ∙ c.in_default-refuses_message.is in
     handled me (list_of n.kept) l.node n.node n.ends.items (From c.args.link c.args.msg) None None c.as_slice-2.result.now
-    q.node_is
+    n.legal q.node_is
     (message_comes me h l.node l.ends.items r c.args.link c.args.msg p k at shut none)
     handled_is.1 handled_is.0
     (λ to. ap (λ xs. on_link to xs) c.as_slice-2.ensures.value ∙ c.in-Ok-handle.ensures.sent to)
@@ -91,3 +96,24 @@ returns-in-Ok-enter-clause-added g c =
     (a.0, a.1, a.2 ∙ ap (λ x. x ++ a.0 ∷ []) kept, a.3, a.4)
     (subst (λ x. IsAdmitted (λ e. RefusesMessage me x c.args.link c.args.msg e)) c.look.ensures.kept
     (message_admitted me h l.node l.ends.items r c.args.link c.args.msg p k at shut none handled_is.1))
+
+pub returns-in-Err-Refused-clause-refused : goal.returns-in-Err-Refused-clause-refused
+returns-in-Err-Refused-clause-refused g c =
+    let t = c.args.self.now in
+    let me = g.B.Naming.me in
+    let l = c.look.new.self in
+    let h = list_of l.kept in
+    let open_now : l.is_spent ≡ false = c.look.ensures.same.2 ∙ sym c.in-Ok.ensures.spent in
+    let r : IsReplay me h l.node l.ends.items = l.replayed open_now in
+    let w : is_worn h ≡ c.in-Ok.worn = ap (λ x. is_worn x) c.look.ensures.kept ∙ sym c.in-Ok.ensures.worn in
+    let p = c.peer_at-peer.result in
+    let k = c.closing_of-closing.result in
+    let at = c.peer_at-peer.ensures in
+    let shut = c.closing_of-closing.ensures ∙ ap (λ xs. closed_at xs c.args.link) c.as_slice.ensures.value in
+    let none : message_refusal p k c.args.link c.args.msg (is_worn h) ≡ None =
+    ap (λ b. message_refusal p k c.args.link c.args.msg b) w ∙ sym c.refuses_message.ensures ∙ c.in_default-refuses_message.is in
+    let refused = c.in-Err-Refused.error in
+    let failed : HasFailed (refuses l.node (From c.args.link c.args.msg)) l.is_spent c.handle.new.self.is_spent (Refused refused) =
+    subst (λ (x : Failure). HasFailed (refuses l.node (From c.args.link c.args.msg)) l.is_spent c.handle.new.self.is_spent x) c.in-Err-Refused.field-0-is c.in-Err-Refused.ensures.failed in
+    λ _. rw c.in-Err-Refused.field-0-is (subst (λ x. RefusesMessage me x c.args.link c.args.msg (deliver.Node refused)) c.look.ensures.kept
+    (message_node me h l.node l.ends.items r c.args.link c.args.msg p k at shut none refused failed.0))

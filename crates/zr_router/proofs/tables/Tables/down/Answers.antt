@@ -5,10 +5,18 @@ use Rattle.zr_table.specs.Event.{on_link}
 use Rattle.zr_ring.specs.Content.{end}
 use Rattle.zr_queue.specs.Ends.{EndState, IsReplay}
 use Rattle.zr_queue.specs.Note.{Vouches}
-use Rattle.zr_router.specs.Refusals.{down_refusal, is_worn}
-use Rattle.zr_router.proofs.Entered.{handled}
+use Rattle.zr_hist.specs.Words.{mine}
+use Rattle.zr_port.specs.Adding.{IsAdmitted}
+use Rattle.zr_port.specs.declared.error.DownError.TheVariants as down
+use Rattle.zr_table.specs.Table.{refuses}
+use Rattle.zr_router.specs.Failures.{HasFailed}
+use Rattle.zr_router.specs.declared.failure.Failure.{Failure}
+use Rattle.zr_router.specs.declared.failure.Failure.TheVariants.{Refused}
+use Rattle.zr_router.specs.Refusals.{RefusesDown, down_refusal, is_worn}
+use Rattle.zr_router.proofs.Entered.{added, handled}
 use Rattle.zr_router.proofs.OpenEnds.{distinct_ends, down_vouched, queues_down}
-use Rattle.zr_router.proofs.Peers.{down_none}
+use Rattle.zr_router.proofs.Peers.{down_admitted, down_none, down_worn}
+use Rattle.zr_router.proofs.tables.Tables.down.Goals.{in-Some-gone, in_default-gone}
 use Rattle.zr_router.proofs.tables.Tables.down.Goals as goal
 
 pub enter-requires-clause-handled : goal.enter-requires-clause-handled
@@ -28,7 +36,7 @@ enter-requires-clause-handled g c =
     let none : down_refusal l.node c.args.link c.in-Ok.worn ≡ None = sym c.refuses_down.ensures ∙ c.in_default-refuses_down.is in
     let open_is = down_none l.node c.args.link c.in-Ok.worn none in
     handled me (list_of n.kept) l.node n.node c.taken_out-gone.new.ends.items (Down c.args.link) None c.args.reason c.as_slice.result.now
-    q.node_is open_is.0 handled_is.1 handled_is.0
+    n.legal q.node_is open_is.0 handled_is.1 handled_is.0
     (λ to. ap (λ xs. on_link to xs) c.as_slice.ensures.value ∙ c.in-Ok-handle.ensures.sent to)
     tt refl
     (ap (λ (xs : List EndState). map (λ x. x.queue) xs) (c.taken_out-gone.ensures.rest (distinct_ends me (list_of n.kept) l.node n.ends.items q))
@@ -53,3 +61,42 @@ end-requires g c =
     λ _. subst (λ m. Vouches m c.args.link (seen c.split.result) (end c.args.reason) (length c.in-Some-gone.end.queue.batches)) (sym c.enter.new.self.own)
     (down_vouched me (list_of n.kept) l.node n.ends.items q c.args.link c.in-Some-gone.end (sym c.taken_out-gone.ensures.out ∙ c.in-Some-gone.is) c.args.reason a.0 a.1
     (seen c.split.result) (c.split.ensures.new.0 ∙ a.4 ∙ a.2))
+
+pub returns-in-Err-Refused-clause-refused : goal.returns-in-Err-Refused-clause-refused
+returns-in-Err-Refused-clause-refused g c =
+    let t = c.args.self.now in
+    let me = g.B.Naming.me in
+    let l = c.look.new.self in
+    let h = list_of l.kept in
+    let open_now : l.is_spent ≡ false = c.look.ensures.same.2 ∙ sym c.in-Ok.ensures.spent in
+    let r : IsReplay me h l.node l.ends.items = l.replayed open_now in
+    let none : down_refusal l.node c.args.link c.in-Ok.worn ≡ None = sym c.refuses_down.ensures ∙ c.in_default-refuses_down.is in
+    let refused = c.in-Err-Refused.field-0-0 in
+    let failed : HasFailed (refuses l.node (Down c.args.link)) l.is_spent c.handle.new.self.is_spent (Refused refused) =
+    subst (λ (x : Failure). HasFailed (refuses l.node (Down c.args.link)) l.is_spent c.handle.new.self.is_spent x) c.in-Err-Refused.field-0-is c.in-Err-Refused.ensures.failed in
+    λ _. subst (λ x. RefusesDown me x c.args.link down.Worn) c.look.ensures.kept (down_worn me h l.node l.ends.items r c.args.link c.in-Ok.worn refused none failed.0)
+
+pub returns-clause-added : goal.returns-clause-added
+returns-clause-added g c =
+    let t = c.args.self.now in
+    let me = g.B.Naming.me in
+    let l = c.look.new.self in
+    let h = list_of l.kept in
+    let open_now : l.is_spent ≡ false = c.look.ensures.same.2 ∙ sym c.in-Ok.ensures.spent in
+    let r : IsReplay me h l.node l.ends.items = l.replayed open_now in
+    let w : is_worn h ≡ c.in-Ok.worn = ap (λ x. is_worn x) c.look.ensures.kept ∙ sym c.in-Ok.ensures.worn in
+    let n = c.handle.new.self in
+    let kept : list_of n.kept ≡ list_of t.kept = c.handle.ensures.kept ∙ c.look.ensures.kept in
+    let handled_is = c.in-Ok-handle.ensures.handled in
+    let none : down_refusal l.node c.args.link (is_worn h) ≡ None = ap (λ b. down_refusal l.node c.args.link b) w ∙ sym c.refuses_down.ensures ∙ c.in_default-refuses_down.is in
+    let a = c.in-Ok-enter.ensures.added in
+    let same : (seen c.match-gone-3.pass ≡ seen c.enter.new.pass) × (mine c.match-gone-3.pass ≡ mine c.enter.new.pass) =
+    elim c.match-gone-3.branch [
+      | in-Some-gone w ↦ (ap (λ p. seen p) w.pass-is ∙ w.split.ensures.unchanged.0, ap (λ p. mine p) w.pass-is ∙ w.split.ensures.unchanged.1)
+      | in_default-gone w ↦ (ap (λ p. seen p) w.pass-is, ap (λ p. mine p) w.pass-is)
+    ] in
+    added c.args.pass.now c.look.new.pass c.match-gone-3.pass (list_of t.kept) (list_of c.enter.new.self.kept) (Down c.args.link) None c.args.reason
+    (λ before. IsAdmitted (λ e. RefusesDown me before c.args.link e))
+    c.look.ensures.pass.1 c.look.ensures.prefix
+    (a.0, a.1, a.2 ∙ ap (λ x. x ++ a.0 ∷ []) kept, same.1 ∙ a.3, same.0 ∙ a.4)
+    (subst (λ x. IsAdmitted (λ e. RefusesDown me x c.args.link e)) c.look.ensures.kept (down_admitted me h l.node l.ends.items r c.args.link none handled_is.1))

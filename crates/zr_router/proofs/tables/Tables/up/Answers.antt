@@ -6,10 +6,14 @@ use Rattle.zr_table.specs.Event.{on_link}
 use Rattle.zr_table.specs.Table.{refuses}
 use Rattle.zr_queue.specs.Ends.{EndState, IsReplay, taker_ring}
 use Rattle.zr_queue.specs.Tables.{is_up}
+use Rattle.zr_port.specs.declared.error.UpError.TheVariants as up
+use Rattle.zr_router.specs.Failures.{HasFailed}
+use Rattle.zr_router.specs.declared.failure.Failure.{Failure}
+use Rattle.zr_router.specs.declared.failure.Failure.TheVariants.{Refused}
 use Rattle.zr_router.specs.Refusals.{RefusesUp, is_worn, peer_refusal, up_event}
 use Rattle.zr_router.proofs.Entered.{added, handled}
 use Rattle.zr_router.proofs.OpenEnds.{queues_up}
-use Rattle.zr_router.proofs.Peers.{fresh, least, may_come_up, now_up, peer_admitted, peer_none, same_event}
+use Rattle.zr_router.proofs.Peers.{fresh, least, may_come_up, now_up, peer_admitted, peer_none, peer_worn, same_event}
 use Rattle.zr_router.proofs.tables.Tables.up.Goals as goal
 
 pub handle-requires : goal.handle-requires
@@ -35,7 +39,7 @@ enter-requires-clause-handled g c =
     let b = c.add_end.new.self in
     let rb : IsReplay me (list_of b.kept) l.node n.ends.items = subst (λ x. IsReplay me x l.node n.ends.items) (sym c.add_end.ensures.same.1) q in
     handled me (list_of b.kept) l.node b.node b.ends.items (Up link c.args.peer) (Some c.args.outbox) None c.as_slice.result.now
-    rb.node_is (may_come_up l.node link c.args.peer new) handled_is.1 (c.add_end.ensures.same.0 ∙ handled_is.0)
+    b.legal rb.node_is (may_come_up l.node link c.args.peer new) handled_is.1 (c.add_end.ensures.same.0 ∙ handled_is.0)
     (λ to. ap (λ xs. on_link to xs) c.as_slice.ensures.value ∙ c.in-Ok-handle.ensures.sent to)
     tt refl
     (ap (λ (xs : List EndState). map (λ x. x.queue) xs) c.in-Ok-add_end.ensures.ends
@@ -81,3 +85,19 @@ returns-in-Ok-enter-clause-link g c =
     let a = c.in-Ok-enter.ensures.added in
     now_up me h l.node l.ends.items r c.free_link-link.result c.args.peer (Some c.args.outbox) a.0 (list_of c.enter.new.self.kept) a.1
     (a.2 ∙ ap (λ x. x ++ a.0 ∷ []) (c.add_end.ensures.same.1 ∙ c.handle.ensures.kept))
+
+pub returns-in-Err-Refused-clause-refused : goal.returns-in-Err-Refused-clause-refused
+returns-in-Err-Refused-clause-refused g c =
+    let t = c.args.self.now in
+    let me = g.B.Naming.me in
+    let l = c.look.new.self in
+    let h = list_of l.kept in
+    let open_now : l.is_spent ≡ false = c.look.ensures.same.2 ∙ sym c.in-Ok.ensures.spent in
+    let r : IsReplay me h l.node l.ends.items = l.replayed open_now in
+    let none : peer_refusal l.node c.args.peer c.in-Ok.worn ≡ None = sym c.refuses_peer.ensures ∙ c.in_default-refuses_peer.is in
+    let link = c.free_link-link.result in
+    let refused = c.in-Err-Refused.field-0-0 in
+    let failed : HasFailed (refuses l.node (Up link c.args.peer)) l.is_spent c.handle.new.self.is_spent (Refused refused) =
+    subst (λ (x : Failure). HasFailed (refuses l.node (Up link c.args.peer)) l.is_spent c.handle.new.self.is_spent x) c.in-Err-Refused.field-0-is c.in-Err-Refused.ensures.failed in
+    let denied : refuses l.node (up_event l.node c.args.peer) ≡ Some refused = ap (λ e. refuses l.node e) (sym (same_event l.node link c.args.peer c.free_link-link.ensures)) ∙ failed.0 in
+    λ _. subst (λ x. RefusesUp me x c.args.peer up.Worn) c.look.ensures.kept (peer_worn me h l.node l.ends.items r c.args.peer c.in-Ok.worn refused none denied)
