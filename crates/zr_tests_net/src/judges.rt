@@ -1,13 +1,12 @@
 //! A script with a subscriber and one sample for it: the definition at each moment of its phase, and at forged reports.
 
+use crate::parts::{key, name, value};
 use std::alloc::Global;
 use std::test::Fail;
 use zr_body::Body;
 use zr_command::command::Act;
 use zr_command::report::ReportLine;
-use zr_id::zid::Zid;
 use zr_judge::judge::{Case, refines};
-use zr_key::key::KeyExpr;
 use zr_msg::content::Content;
 use zr_msg::extras::Extras;
 use zr_msg::msg::Msg;
@@ -18,6 +17,9 @@ const PUBLISHER: u8 = 0xc1;
 
 const SUBSCRIBER: u8 = 0xc2;
 
+/// No line brings this one.
+const NOBODY: u8 = 0xee;
+
 const MARK: u64 = 6;
 
 const SAMPLE: u64 = 7;
@@ -25,21 +27,6 @@ const SAMPLE: u64 = 7;
 const BYTE: u8 = b'h';
 
 const OTHER_BYTE: u8 = b'o';
-
-fn name(byte: u8) -> Result<Zid, Fail> {
-    Ok(Zid::from_bytes(&[byte])?)
-}
-
-fn key(alloc: Global, text: &[u8]) -> Result<KeyExpr, Fail> {
-    Ok(KeyExpr::read(alloc, text)?)
-}
-
-// A value of one byte on a key.
-fn value(alloc: Global, text: &[u8], byte: u8, extras: Extras) -> Result<Content, Fail> {
-    let key = key(alloc, text)?;
-    let body = Body::put(alloc, &[byte])?;
-    Ok(Content::new(alloc, key, extras, body)?)
-}
 
 // The sample of the phase, but for its byte.
 fn sample(alloc: Global, byte: u8) -> Result<Content, Fail> {
@@ -179,7 +166,7 @@ fn refuses_forged_reports(rt: HostRuntime) -> Result<(), Fail> {
     let forged = [
         (SUBSCRIBER, OTHER_BYTE, SAMPLE, "another payload"),
         (PUBLISHER, BYTE, SAMPLE, "the publisher hears itself"),
-        (ROUTER, BYTE, SAMPLE, "sent to no client"),
+        (NOBODY, BYTE, SAMPLE, "sent to no client"),
         (SUBSCRIBER, BYTE, 8, "a sample of no line"),
     ];
     for (to, byte, tag, what) in forged {

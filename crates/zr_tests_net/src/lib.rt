@@ -3,8 +3,12 @@
 #![tactic(auto)]
 
 #[cfg(test)]
+mod events;
+#[cfg(test)]
 mod judges;
 #[cfg(test)]
 mod nodes;
+#[cfg(test)]
+mod parts;
 #[cfg(test)]
 mod worlds;

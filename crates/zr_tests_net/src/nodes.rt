@@ -1,8 +1,6 @@
 //! Who gets a sample, before and after what is remembered of its key has to be forgotten; and what routers tell each other of links.
 
-ghost use Rattle.std.specs.Prelude.{◌≡◌, true};
-ghost use Rattle.zr_table.specs.Event.{IsFresh, MayCome};
-
+use crate::events::{from, handle, up};
 use std::alloc::Global;
 use std::test::Fail;
 use zr_body::Body;
@@ -13,7 +11,7 @@ use zr_msg::content::Content;
 use zr_msg::event::Event;
 use zr_msg::extras::Extras;
 use zr_msg::msg::Msg;
-use zr_msg::peer::{Peer, Role};
+use zr_msg::peer::Role;
 use zr_node::node::Node;
 
 /// What comes in at a link.
@@ -30,42 +28,10 @@ enum Step<'a> {
 type Row<'a> = (u32, Step<'a>, &'a [u32]);
 
 // A client's link comes up.
-fn up(number: u32) -> Result<Event, Fail> {
+fn client_up(number: u32) -> Result<Event, Fail> {
     let [a, b, c, d] = number.to_be_bytes();
     let id = Zid::from_bytes(&[1, a, b, c, d])?;
-    let link = LinkNo(number);
-    let role = Role::Client;
-    let peer = Peer { id, role };
-    Ok(Event::Up { link, peer })
-}
-
-// Whether an event may come: a link that is to come up is a fresh one, and any other is up.
-fn may_come(node: &Node, event: &Event) -> bool
-    ensures { result ≡ true → MayCome node.now event.now }
-{
-    match event {
-        Event::Up { link, peer } => is_fresh(node, *link, *peer),
-        Event::Down { link } | Event::From { link, .. } => node.peer_at(*link).is_some(),
-    }
-}
-
-fn is_fresh(node: &Node, link: LinkNo, peer: Peer) -> bool
-    ensures { result ≡ true → IsFresh node.now link peer }
-{
-    node.peer_at(link).is_none() && node.link_to(&peer.id).is_none() && peer.id != node.me()
-}
-
-// The router handles an event that may come, and appends what it sends.
-fn handle(
-    alloc: Global,
-    node: &mut Node,
-    event: &Event,
-    out: &mut Vec<(LinkNo, Msg)>,
-) -> Result<(), Fail> {
-    if may_come(node, event) {
-        node.handle(alloc, event, out)?;
-    }
-    Ok(())
+    Ok(up(LinkNo(number), id, Role::Client))
 }
 
 fn router(alloc: Global) -> Result<Node, Fail> {
@@ -77,14 +43,9 @@ fn three_links(alloc: Global) -> Result<Node, Fail> {
     let mut node = router(alloc)?;
     let mut out = Vec::new(alloc);
     for number in 0..3 {
-        handle(alloc, &mut node, &up(number)?, &mut out)?;
+        handle(alloc, &mut node, &client_up(number)?, &mut out)?;
     }
     Ok(node)
-}
-
-// A message that comes from a link.
-fn from(link: LinkNo, msg: Msg) -> Event {
-    Event::From { link, msg }
 }
 
 fn sample(alloc: Global, text: &str) -> Result<Msg, Fail> {
@@ -106,7 +67,7 @@ fn event(alloc: Global, number: u32, step: Step<'_>) -> Result<Event, Fail> {
         Step::Unsub(id) => Ok(from(link, Msg::Unsub { id })),
         Step::Sample(text) => Ok(from(link, sample(alloc, text)?)),
         Step::Down => Ok(Event::Down { link }),
-        Step::Up => up(number),
+        Step::Up => client_up(number),
     }
 }
 
@@ -180,15 +141,26 @@ fn a_message_has_64_bytes_at_most(rt: HostRuntime) {
     assert!(rt; size_of::<Msg>() <= 64);
 }
 
+// A client's link comes up, and the client subscribes.
+fn subscribe(alloc: Global, node: &mut Node, number: u32) -> Result<(), Fail> {
+    let mut out = Vec::new(alloc);
+    handle(alloc, node, &client_up(number)?, &mut out)?;
+    let sub = event(alloc, number, Step::Sub(1, "a"))?;
+    handle(alloc, node, &sub, &mut out)
+}
+
+// A router with so many clients that all subscribe to one key.
+fn subscribed(alloc: Global, links: u32) -> Result<Node, Fail> {
+    let mut node = router(alloc)?;
+    for number in 0..links {
+        subscribe(alloc, &mut node, number)?;
+    }
+    Ok(node)
+}
+
 // How many links get a sample that comes from the first of so many, where the clients of all subscribe to its key.
 fn reached(alloc: Global, links: u32) -> Result<usize, Fail> {
-    let mut node = router(alloc)?;
-    let mut out = Vec::new(alloc);
-    for number in 0..links {
-        handle(alloc, &mut node, &up(number)?, &mut out)?;
-        let sub = event(alloc, number, Step::Sub(1, "a"))?;
-        handle(alloc, &mut node, &sub, &mut out)?;
-    }
+    let mut node = subscribed(alloc, links)?;
     let sample = event(alloc, 0, Step::Sample("a"))?;
     Ok(receivers(alloc, &mut node, &sample)?.len())
 }

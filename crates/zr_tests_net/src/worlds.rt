@@ -1,5 +1,6 @@
 //! Acts of a small script and steps of its runs, against report lines that were worked out by hand from the rules.
 
+use crate::parts::{byte, key, name};
 use std::alloc::Global;
 use std::test::Fail;
 use zr_body::Body;
@@ -32,6 +33,7 @@ enum Seen {
     Show(u8),
     Record(u8),
     Parent(u8),
+    Source(u8),
 }
 
 // A line of the script.
@@ -74,14 +76,6 @@ const SCRIPT: [Line; 8] = [
     Line::Steps(100),
 ];
 
-fn name(byte: u8) -> Result<Zid, Fail> {
-    Ok(Zid::from_bytes(&[byte])?)
-}
-
-fn byte(name: &Zid) -> u8 {
-    name.bytes().first().copied().unwrap_or(0)
-}
-
 fn shown(line: &ReportLine) -> Seen {
     match line {
         ReportLine::Handled { from, tag, .. } => Seen::Handled(byte(from), *tag),
@@ -91,6 +85,7 @@ fn shown(line: &ReportLine) -> Seen {
         ReportLine::Show { router } => Seen::Show(byte(router)),
         ReportLine::Record { record } => Seen::Record(byte(&record.id())),
         ReportLine::Parent { root, .. } => Seen::Parent(byte(root)),
+        ReportLine::Source { source, .. } => Seen::Source(byte(source)),
     }
 }
 
@@ -102,7 +97,7 @@ fn client(client: u8) -> Result<Act, Fail> {
 
 fn sub(alloc: Global, client: u8) -> Result<Act, Fail> {
     let client = name(client)?;
-    let key = KeyExpr::read(alloc, b"a/b".as_slice())?;
+    let key = key(alloc, b"a/b".as_slice())?;
     Ok(Act::Sub { client, id: 1, key })
 }
 

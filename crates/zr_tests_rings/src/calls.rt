@@ -10,6 +10,7 @@ use std::test::Fail;
 use zr_frame::Outbox;
 use zr_hist::{History, Kept, Pass};
 use zr_id::zid::Zid;
+use zr_msg::error::NodeError;
 use zr_msg::peer::{Peer, Role};
 use zr_port::{DeliverError, DownError, Entry, Naming, UpError};
 use zr_queue::Queued;
@@ -65,6 +66,9 @@ pub enum Told {
     NotUp(u32),
     Misplaced(Role),
     Full(u64, u32),
+    NotDeclared(u32),
+    /// So many entries of the log are known, and this one came.
+    Gap(u64, u64),
     Parcels(u64),
     Ended(u64, Option<u8>),
     Other,
@@ -195,6 +199,8 @@ fn delivered(answer: Result<(), DeliverError>) -> Result<Told, Fail> {
         Err(DeliverError::NotUp { link }) => Ok(Told::NotUp(link.0)),
         Err(DeliverError::Misplaced { role }) => Ok(Told::Misplaced(role)),
         Err(DeliverError::Full { asked, free }) => Ok(Told::Full(asked, free)),
+        Err(DeliverError::Node(NodeError::NotDeclared { id })) => Ok(Told::NotDeclared(id)),
+        Err(DeliverError::Node(NodeError::Gap { has, came, .. })) => Ok(Told::Gap(has, came)),
         Err(error) => Err(error)?,
     }
 }

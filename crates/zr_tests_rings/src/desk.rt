@@ -7,6 +7,7 @@ use std::alloc::{AllocError, Global};
 use std::marker::PhantomData;
 use std::sync::Wait;
 use zr_body::Body;
+use zr_bytes::Cursor;
 use zr_frame::Outbox;
 use zr_hist::Pass;
 use zr_id::link::LinkNo;
@@ -16,6 +17,7 @@ use zr_msg::content::Content;
 use zr_msg::extras::Extras;
 use zr_msg::msg::Msg;
 use zr_msg::peer::Peer;
+use zr_oam::read_oam;
 use zr_port::{DeliverError, DownError, Entry, Naming, Port, UpError};
 use zr_queue::Queued;
 use zr_ring::Taker;
@@ -95,6 +97,10 @@ pub enum Say {
     Along,
     /// What a router tells its clients of a subscriber.
     Told,
+    /// The client no longer subscribes.
+    Unsub,
+    /// What a router tells of its links or of its clients, in these bytes.
+    Tells(&'static [u8]),
 }
 
 /// The quality of service that asks not to drop a sample (Zenoh protocol 1.0, "QoS").
@@ -122,6 +128,19 @@ fn message(alloc: Global, say: Say) -> Result<Msg, AllocError>
         Say::Long => sample(alloc, None, None, long(alloc)?),
         Say::LongKeep => sample(alloc, None, Some(DONT_DROP), long(alloc)?),
         Say::Along => sample(alloc, root(), None, hi(alloc)?),
+        Say::Unsub => Ok(Msg::Unsub { id: 1 }),
+        Say::Tells(bytes) => told(alloc, bytes),
+    }
+}
+
+// What a router tells in these bytes.
+#[tactic(auto, using(crate::proofs::Told::told_spelled))]
+fn told(alloc: Global, bytes: &[u8]) -> Result<Msg, AllocError>
+    ensures { IfOk result (λ m. IsSpelled m) }
+{
+    match read_oam(alloc, &mut Cursor::new(bytes)) {
+        Ok(Some(msg)) => Ok(msg),
+        Ok(None) | Err(_) => Err(AllocError),
     }
 }
 

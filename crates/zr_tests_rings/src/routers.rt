@@ -177,6 +177,61 @@ const ROLES: [Row; 9] = [
     (Call::Say(1, Say::Along), Told::Ok),
 ];
 
+/// The record of router 0b, which has a link to router 01.
+const LINKS: &[u8] = &[
+    0x5F, 0x81, 0xB4, 0x01, 0x06, 0x01, 0x0B, 0x01, 0x01, 0x01, 0x01,
+];
+
+/// The first change of router 0b's log: a client subscribes to `a/b`.
+const FIRST: &[u8] = &[
+    0x5F, 0x82, 0xB4, 0x01, 0x09, 0x01, 0x01, 0x0B, 0x01, 0x00, 0x03, 0x61, 0x2F, 0x62,
+];
+
+/// The second one: no client does any more.
+const SECOND: &[u8] = &[
+    0x5F, 0x82, 0xB4, 0x01, 0x09, 0x02, 0x01, 0x0B, 0x02, 0x00, 0x03, 0x61, 0x2F, 0x62,
+];
+
+/// A router that becomes a child is told what this router's clients declare, and then each change. What it tells itself decides where samples go.
+/// What is taken back and isn't declared is refused, and so is a change that comes too early.
+const CHILD: [Row; 17] = [
+    (Call::Router(11), Told::Link(0)),
+    (Call::Client(10), Told::Link(1)),
+    (Call::Say(1, Say::Sub), Told::Ok),
+    (Call::Take(0), Told::Parcels(1)),
+    (Call::Say(0, Say::Tells(LINKS)), Told::Ok),
+    (
+        Call::Next(
+            0,
+            &[
+                0x25, 0x01, 0x5F, 0x82, 0xB4, 0x01, 0x0A, 0x00, 0x01, 0x01, 0x01, 0x01, 0x00, 0x03,
+                0x61, 0x2F, 0x62,
+            ],
+        ),
+        Told::Ok,
+    ),
+    (Call::Say(1, Say::Unsub), Told::Ok),
+    (
+        Call::Next(
+            0,
+            &[
+                0x25, 0x02, 0x5F, 0x82, 0xB4, 0x01, 0x09, 0x02, 0x01, 0x01, 0x02, 0x00, 0x03, 0x61,
+                0x2F, 0x62,
+            ],
+        ),
+        Told::Ok,
+    ),
+    (Call::Say(1, Say::Unsub), Told::NotDeclared(1)),
+    (Call::Say(0, Say::Tells(SECOND)), Told::Gap(0, 2)),
+    (Call::Take(0), Told::Parcels(0)),
+    (Call::Say(0, Say::Tells(FIRST)), Told::Ok),
+    (Call::Say(1, Say::Sample), Told::Ok),
+    (Call::Take(0), Told::Parcels(1)),
+    (Call::Say(0, Say::Tells(SECOND)), Told::Ok),
+    (Call::Say(1, Say::Sample), Told::Ok),
+    (Call::Take(0), Told::Parcels(0)),
+];
+
 #[test]
 fn a_router_has_128_sessions_at_most(rt: HostRuntime) -> Result<(), Fail> {
     assert_eq!(rt; first_wrong(rt, rt.alloc(), &FULL_OF_CLIENTS)?, None);
@@ -228,5 +283,11 @@ fn a_link_has_the_least_free_number(rt: HostRuntime) -> Result<(), Fail> {
 #[test]
 fn each_role_has_its_messages(rt: HostRuntime) -> Result<(), Fail> {
     assert_eq!(rt; first_wrong(rt, rt.alloc(), &ROLES)?, None);
+    Ok(())
+}
+
+#[test]
+fn a_child_is_told_what_clients_declare(rt: HostRuntime) -> Result<(), Fail> {
+    assert_eq!(rt; first_wrong(rt, rt.alloc(), &CHILD)?, None);
     Ok(())
 }

@@ -6,7 +6,10 @@ ghost use Rattle.zr_outside.specs.Counts.{Rose};
 ghost use Rattle.zr_guarantee.specs.Scripts.{IsRefined};
 ghost use Rattle.zr_laws.specs.Keys.{AskingIsMeeting};
 ghost use Rattle.zr_laws.specs.Runs.{RestIsQuiet};
-ghost use Rattle.zr_settled.specs.Tables.{AgreeWhereSettled};
+ghost use Rattle.zr_declared.specs.Rows.{SettledRowsAreDeclared};
+ghost use Rattle.zr_declared.specs.Sets.{SettledSetsAreDeclared};
+ghost use Rattle.zr_settled.specs.Events.{NoEventIsRefused};
+ghost use Rattle.zr_settled.specs.Tables.{AgreeWhereSettled, SettledLogsAgree};
 ghost use Rattle.zr_netrun.specs.Clauses.{OfRead, OfLines, IsReported, IsReadToEnd, IsSummedUp};
 ghost use Rattle.zr_top.specs.Means.{HaveKeyTexts, LeadToTheirReport};
 ghost use Rattle.zr_crew.specs.Crew.{crew_faults, crew_told};
@@ -23,6 +26,7 @@ use std::alloc::Global;
 use std::sync::Wait;
 use std::thread::Threads;
 use zr_crew::Crew;
+use zr_declared::{settled_rows_are_declared, settled_sets_are_declared};
 use zr_laws::keys::{asking_is_meeting, keys_are_texts};
 use zr_laws::refines::{lines_are_moments, lines_refine};
 use zr_laws::runs::rest_is_quiet;
@@ -32,7 +36,7 @@ use zr_outside::host::Host;
 use zr_outside::sink::Sink;
 use zr_outside::source::Source;
 use zr_serve::LinkJob;
-use zr_settled::settled_tables_agree;
+use zr_settled::{no_event_is_refused, settled_logs_agree, settled_tables_agree};
 
 /// The whole program. Its words, without its name, ask for one of four things. `net` reads a script from `input`, and writes the report to `out`;
 /// `net --summary` writes, at the script's end, four counts of the report in its place.
@@ -48,7 +52,9 @@ use zr_settled::settled_tables_agree;
 ///
 /// The clause `tables` says what routers know of links: at each moment of the lines that were read, also between two steps of a run, at
 /// which the network is settled, each router sees exactly the links that are up at both ends, as far as it reaches, whatever links came,
-/// broke and went before.
+/// broke and went before. Beside it stand four that hold of all scripts. Where a network is settled each router knows the whole log of each router that
+/// it reaches (`logs`), so just what the clients attached there have declared (`sets`); its own rows are what its clients have declared, key and kind
+/// (`rows`); and no router refuses an event that may come to it (`taken`).
 ///
 /// The clause `served` says what was called of the host, which jobs the crew started, and what was written, where a router was served. The clauses
 /// `made` and `helped` say which text was written, where a script was made or something was told: all of it at `Done`, and else a prefix.
@@ -79,6 +85,10 @@ where
     ensures told { is_net (map string_bytes words.now) ≡ true → OfLines (S.left input.old) (S.left input.new) LeadToTheirReport }
     ensures keys { is_net (map string_bytes words.now) ≡ true → OfLines (S.left input.old) (S.left input.new) HaveKeyTexts }
     ensures tables { is_net (map string_bytes words.now) ≡ true → OfLines (S.left input.old) (S.left input.new) AgreeWhereSettled }
+    ensures logs { SettledLogsAgree }
+    ensures rows { SettledRowsAreDeclared }
+    ensures sets { SettledSetsAreDeclared }
+    ensures taken { NoEventIsRefused }
     ensures meeting { AskingIsMeeting }
     ensures rest { RestIsQuiet }
     ensures served { IfSome (served_of (map string_bytes words.now)) (λ s. IsServing s result (H.calls host.old) (H.calls host.new) (crew_told crew.old) (crew_told crew.new) (crew_faults crew.old) (crew_faults crew.new) (outputs (K.held out.old) (E.held err.old) (E.faults err.old)) (outputs (K.held out.new) (E.held err.new) (E.faults err.new))) }
@@ -98,6 +108,10 @@ where
 {
     asking_is_meeting();
     rest_is_quiet();
+    settled_logs_agree();
+    settled_rows_are_declared();
+    settled_sets_are_declared();
+    no_event_is_refused();
     let Some(summary) = net_of(words) else {
         return run_beside_net(rt, alloc, words, out, err, host, crew);
     };

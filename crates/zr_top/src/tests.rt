@@ -232,9 +232,9 @@ fn refused_scripts_say_why(rt: HostRuntime) -> Result<(), Fail> {
             "line 6: 10 NotSettled\n",
         ),
         (
-            "router 0a\nclient c1 0a\nsub c1 1 a\nrouter 0b\n",
+            "router 0a\nclient c1 0a\nsub c1 1 a\nunable c1 1\n",
             "",
-            "line 4: 12 Limit\n",
+            "line 4: 3 UnknownName\n",
         ),
         (
             "run 10000000\nrun 1\n",
