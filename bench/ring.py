@@ -3,7 +3,7 @@
 
 Each router has a link to the next, both ends up, and the network comes to rest. Then, N times, the next link in turn breaks, both ends notice it,
 the network comes to rest, the link comes back at both ends, and the network comes to rest again. Each rest is a `run` of at most --steps steps. At
-the end one router's tables are told. There are no clients: so far routers tell each other of links alone.
+the end one router's tables are told. There are no clients, so that records alone move.
 """
 import argparse
 
