@@ -1,3 +1,4 @@
 pub mod Same
 pub mod Index
+pub mod Names
 pub mod First

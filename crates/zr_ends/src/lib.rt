@@ -5,4 +5,5 @@
 pub mod end;
 mod end_set;
 pub mod ends;
+pub mod name;
 mod waiting;
