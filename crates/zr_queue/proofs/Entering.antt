@@ -171,6 +171,14 @@ settled node entry [] (y ∷ ys) p r = absurd r
 settled node entry (x ∷ xs) [] p r = absurd r
 settled node entry (x ∷ xs) (y ∷ ys) p r = rw (r.0.0 node p.0, settled node entry xs ys p.1 r.1) refl
 
+-- each queue is what the entry makes of it
+pub each_given : (node : NodeState) (entry : Entry) (xs ys : List EndState) → AllByRecursion (λ x. IsPlanned node entry.event x) xs →
+    AllZip (λ old new. IsSettled entry old new) xs ys → AllZip (λ old new. new.queue ≡ queued_by node entry old.queue) xs ys
+each_given node entry [] [] p r = tt
+each_given node entry [] (y ∷ ys) p r = absurd r
+each_given node entry (x ∷ xs) [] p r = absurd r
+each_given node entry (x ∷ xs) (y ∷ ys) p r = (r.0.0 node p.0, each_given node entry xs ys p.1 r.1)
+
 pub queues_entered : (me : List ℕ) (h : List Entry) (entry : Entry) (xs ys : List EndState) → MayEnter me h entry xs →
     AllZip (λ old new. IsSettled entry old new) xs ys →
     map (λ x. x.queue) ys ≡ open_queues (replay me (h ++ entry ∷ []))

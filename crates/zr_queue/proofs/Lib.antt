@@ -7,6 +7,7 @@ pub mod Logs
 pub mod Lookups
 pub mod Plans
 pub mod Replays
+pub mod Rings
 pub mod Settling
 pub mod Snapshots
 pub mod Spelled

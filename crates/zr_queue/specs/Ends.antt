@@ -1,7 +1,7 @@
 -- A link that is up, as the tables keep it, and what an event has for it.
-use Rattle.std.specs.Prelude.{◌≡◌, ℕ, ◌+◌, ◌<◌, ◌&&◌, ◌++◌, not, nat_lt, Bool, true, false, List, [], ◌∷◌, length, map, Option, Some, None, IfSome, is_some}
+use Rattle.std.specs.Prelude.{◌≡◌, ℕ, ◌+◌, ◌<◌, ◌&&◌, ◌++◌, not, nat_lt, Bool, true, false, List, [], ◌∷◌, length, map, Option, Some, None, IfSome, is_some, is_none}
 use Rattle.std.specs.Option.{option_map_or}
-use Rattle.std.specs.List.{AllByRecursion, filter}
+use Rattle.std.specs.List.{AllByRecursion, AllZip, filter}
 use Rattle.atomic_table.specs.Seated.{TableId}
 use Rattle.zr_msg.specs.declared.event.Event.{Event}
 use Rattle.zr_msg.specs.declared.msg.Msg.{Msg}
@@ -13,7 +13,7 @@ use Rattle.zr_table.specs.Table.{sends, refuses}
 use Rattle.zr_frame.specs.Packing.{Parcels, parcels}
 use Rattle.zr_port.specs.declared.entry.Entry.{Entry}
 use Rattle.zr_wire.specs.Writing.{writes_message}
-use Rattle.zr_queue.specs.Tables.{LinkQueue, slots_of, is_droppable, is_among, queued, queued_by, queues_at, replay, open_queues}
+use Rattle.zr_queue.specs.Tables.{LinkQueue, batches_for, slots_of, is_droppable, is_among, queued, queued_by, queues_at, replay, open_queues}
 use Rattle.zr_queue.specs.Note.{full_reason}
 use Rattle.zr_queue.specs.History.{has_parts, is_legal, may_come}
 
@@ -51,9 +51,9 @@ with_queue e q = record { queue = q; ring = e.ring; free = e.free; calls = e.cal
 abbrev pub IsAsked : EndState → EndState → Type 0
 IsAsked old new = (new.ring ≡ old.ring) × IfSome new.plan (λ p. 0 < length p.parcels.batches → new.calls ≡ old.calls + 1)
 
--- it is the same ring, which was not asked again
+-- it is the same ring, which was not asked again: the free slots that are known are fewer by the parcels that it was given
 abbrev pub IsSameRing : EndState → EndState → Type 0
-IsSameRing old new = (new.ring ≡ old.ring) × (new.calls ≡ old.calls)
+IsSameRing old new = (new.ring ≡ old.ring) × (new.calls ≡ old.calls) × (new.free + length new.queue.batches ≡ old.free + length old.queue.batches)
 
 -- the reason with which the ring of a link that goes down has its end: that of a full ring where an event had closed the link
 abbrev pub last_reason : Option ℕ → Option ℕ → Option ℕ
@@ -109,6 +109,30 @@ pub record IsEntered (me : List ℕ) (h : List Entry) (node : NodeState) (entry 
   pub queue : queued me h e.queue.link ≡ (queued_by node entry e.queue).batches
   pub closed : is_among entry.closed e.queue.link ≡ is_closing e
   pub dropped : is_among entry.dropped e.queue.link ≡ is_dropped e
+
+-- how many parcels an event has for a link
+abbrev pub parcels_for : NodeState → Event → LinkQueue → ℕ
+parcels_for node event q = length (batches_for node event q.outbox q.link).batches
+
+-- no event has closed the link before, and this one has more parcels for it than its ring has free slots
+abbrev pub is_too_full : ℕ → NodeState → Event → LinkQueue → Bool
+is_too_full free node event q = is_none q.closed && nat_lt free (parcels_for node event q)
+
+-- An entry goes by the ring of a link that is up. Where the event has parcels for the link, which no event has closed before, the ring was asked once
+-- more for its free slots. The entry names the link exactly where the parcels are more than the answer: as one to which one sample isn't sent, or
+-- else as one that is closed. The ring, which stays the same one, is given what the entry queues, and has so many free slots fewer
+pub record GoesByRing (node : NodeState) (entry : Entry) (old new : EndState) : Type 0 where
+  pub answer : ℕ
+  pub asked : old.queue.closed ≡ None → 0 < parcels_for node entry.event old.queue → new.calls ≡ old.calls + 1
+  pub dropped : is_among entry.dropped old.queue.link ≡ (is_too_full answer node entry.event old.queue && is_droppable (sends node entry.event old.queue.link))
+  pub closed : is_among entry.closed old.queue.link ≡ (is_too_full answer node entry.event old.queue && not (is_droppable (sends node entry.event old.queue.link)))
+  pub ring : new.ring ≡ old.ring
+  pub queue : new.queue ≡ queued_by node entry old.queue
+  pub free : new.free + length new.queue.batches ≡ answer + length old.queue.batches
+
+-- an entry that comes after a list goes by the rings of all links that are up as its event comes
+abbrev pub GoesByRings : List ℕ → List Entry → Entry → List EndState → List EndState → Type 0
+GoesByRings me h entry old new = AllZip (λ o n. GoesByRing (replay me h).node entry o n) old new
 
 -- the tables are the replay of a list: the router itself, and the queues of the links that are up, in the order in which they came up
 pub record IsReplay (me : List ℕ) (h : List Entry) (node : NodeState) (ends : List EndState) : Type 0 where

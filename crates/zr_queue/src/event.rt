@@ -8,7 +8,7 @@ ghost use Rattle.zr_port.specs.Adding.{IsEntryOf};
 ghost use Rattle.zr_table.specs.Event.{on_link};
 ghost use Rattle.zr_table.specs.State.{NodeState};
 ghost use Rattle.zr_queue.specs.Writable.{IsWritable};
-ghost use Rattle.zr_queue.specs.Tables.{open_queues, replay};
+ghost use Rattle.zr_queue.specs.Tables.{open_queues, queued_by, replay};
 ghost use Rattle.zr_queue.specs.History.{is_legal};
 ghost use Rattle.zr_queue.specs.Ends.{IsAsked, IsEntered, IsPlannedAnew, IsPlannedFor, IsSameRing, IsSettled, MayEnter, is_closing, is_dropped};
 
@@ -105,6 +105,7 @@ pub fn enter(
     ensures seen { seen pass.new ≡ list_of kept.new }
     ensures legal { is_legal me (list_of kept.new) ≡ true }
     ensures rings { AllZip (λ old new. IsSameRing old new) ends.old ends.new }
+    ensures given { AllZip (λ old new. new.queue ≡ queued_by (replay me (list_of kept.old)).node entry.now old.queue) ends.old ends.new }
     ensures queues { map (λ x. x.queue) ends.new ≡ open_queues (replay me (list_of kept.new)) }
 {
     match history.append(kept, pass, entry) {

@@ -88,6 +88,18 @@ added old mid new h more event outbox reason Says own prefix a says = record {
   says = (refl, a.1, says);
 }
 
+-- the same, of what is said of the entry itself
+pub added_beside : (old mid new : Pass Entry) (h more : List Entry) (Says : List Entry → Entry → Type 0) → mine mid ≡ mine old → IsPrefix (seen old) h →
+    (e : Entry) → more ≡ h ++ e ∷ [] → mine new ≡ mine mid ++ e ∷ [] → seen new ≡ more → Says h e → Adds old new (λ before e. (before ≡ h) × Says before e)
+added_beside old mid new h more Says own prefix e is more_own all says = record {
+  before = h;
+  entry = e;
+  own = more_own ∙ ap (λ l. l ++ e ∷ []) own;
+  last = all ∙ is;
+  prefix = prefix;
+  says = (refl, says);
+}
+
 -- a list that was written over from its beginning, by one as long
 pub written_over : {X : Type 0} (n : ℕ) (ys rest : List X) → length ys ≡ n → take n (ys ++ rest) ≡ ys
 written_over {X = X} n ys rest e = subst (λ m. take m (ys ++ rest) ≡ ys) e (front ys)

@@ -1,7 +1,7 @@
 //! The tables under a router's lock, and the three calls on them. Each looks at the history first, so that every refusal speaks of all that has
 //! happened.
 
-ghost use Rattle.std.specs.Prelude.{◌≡◌, ◌≢◌, ◌↔◌, ◌<◌, ◌++◌, ◌∷◌, [], false, true, length, Err, IfErr, IfOk, OnErr, OnOk, Some, None, is_err};
+ghost use Rattle.std.specs.Prelude.{◌≡◌, ◌≢◌, ◌↔◌, ◌<◌, ◌==◌, ◌++◌, ◌∷◌, [], not, filter, false, true, length, Err, IfErr, IfOk, OnErr, OnOk, Some, None, is_err};
 ghost use mathlib.Core.List.{IsPrefix};
 ghost use Rattle.zr_hist.specs.Words.{IsSamePass, kept_name, list_of, mine, most_entries, name, pass_name, seen};
 ghost use Rattle.zr_id.specs.declared.link.LinkNo.{LinkNo};
@@ -12,7 +12,7 @@ ghost use Rattle.zr_ring.specs.Taker.{taken, take_calls};
 ghost use Rattle.zr_table.specs.Event.{MayCome, on_link};
 ghost use Rattle.zr_table.specs.Table.{after, refuses, sends};
 ghost use Rattle.zr_wire.specs.Writing.{IsSpelled};
-ghost use Rattle.zr_queue.specs.Ends.{IsReplay, new_end, taker_ring};
+ghost use Rattle.zr_queue.specs.Ends.{GoesByRings, IsReplay, new_end, taker_ring};
 ghost use Rattle.zr_queue.specs.History.{is_legal};
 ghost use Rattle.zr_queue.specs.Tables.{is_up, new_queue};
 ghost use Rattle.zr_router.specs.Failures.{HasFailed};
@@ -69,14 +69,14 @@ struct Arrival {
 }
 
 impl<B: Naming> Tables<B> {
-    ghost use Rattle.zr_router.specs.Words.{entries, is_spent};
+    ghost use Rattle.zr_router.specs.Words.{entries, is_spent, open_links};
 
     /// The tables of a router without links, and an empty history.
     pub fn new(alloc: Global, me: Zid, kept: Kept<Entry>) -> Result<Tables<B>, AllocError>
         requires named { kept_name kept ≡ B.history }
         requires own { me ≡ B.me }
         requires empty { list_of kept ≡ [] }
-        ensures { IfOk result (λ t. (entries t ≡ []) × (is_spent t ≡ false)) }
+        ensures { IfOk result (λ t. (entries t ≡ []) × (is_spent t ≡ false) × (open_links t ≡ [])) }
     {
         Ok(Tables {
             me,
@@ -106,8 +106,10 @@ impl<B: Naming> Tables<B> {
         ensures seen { seen pass.new ≡ entries self.new }
         ensures legal { is_legal B.me (entries self.new) ≡ true }
         ensures added { IfOk result (λ _. Adds pass.old pass.new (λ before e. (before ≡ entries self.old) × IsEntryOf (event.From link msg) None None e × IsAdmitted (λ r. RefusesMessage B.me before link msg r))) }
+        ensures rings { IfOk result (λ _. Adds pass.old pass.new (λ before e. (before ≡ entries self.old) × GoesByRings B.me before e (open_links self.old) (open_links self.new))) }
         ensures refused { IfErr result (λ r. r ≢ DeliverError.NoMemory → RefusesMessage B.me (entries self.old) link msg r) }
         ensures unchanged { OnErr result ((entries self.new ≡ entries self.old) × (mine pass.new ≡ mine pass.old)) }
+        ensures unasked { IfErr result (λ r. r ≢ DeliverError.NoMemory → open_links self.new ≡ open_links self.old) }
         ensures spent { (result ≡ Err DeliverError.NoMemory) ↔ (is_spent self.new ≡ true) }
         ensures stays { is_spent self.old ≡ true → is_spent self.new ≡ true }
     {
@@ -152,10 +154,12 @@ impl<B: Naming> Tables<B> {
         ensures seen { seen pass.new ≡ entries self.new }
         ensures legal { is_legal B.me (entries self.new) ≡ true }
         ensures added { IfOk result (λ r. Adds pass.old pass.new (λ before e. (before ≡ entries self.old) × IsEntryOf (event.Up r.0 peer) (Some outbox) None e × (IsLeastFree (λ l. is_up B.me before l) r.0 × IsAdmitted (λ e. RefusesUp B.me before peer e)))) }
+        ensures rings { IfOk result (λ r. Adds pass.old pass.new (λ before e. (before ≡ entries self.old) × GoesByRings B.me before e (open_links self.old ++ new_end (new_queue r.0 peer.role outbox) (taker_ring r.1) ∷ []) (open_links self.new))) }
         ensures link { IfOk result (λ r. is_up B.me (entries self.new) r.0 ≡ true) }
         ensures taker { IfOk result (λ r. (taken r.1 ≡ []) × (take_calls r.1 ≡ 0)) }
         ensures refused { IfErr result (λ e. e ≢ UpError.NoMemory → RefusesUp B.me (entries self.old) peer e) }
         ensures unchanged { OnErr result ((entries self.new ≡ entries self.old) × (mine pass.new ≡ mine pass.old)) }
+        ensures unasked { IfErr result (λ e. e ≢ UpError.NoMemory → open_links self.new ≡ open_links self.old) }
         ensures spent { (result ≡ Err UpError.NoMemory) ↔ (is_spent self.new ≡ true) }
         ensures stays { is_spent self.old ≡ true → is_spent self.new ≡ true }
     {
@@ -202,8 +206,10 @@ impl<B: Naming> Tables<B> {
         ensures seen { seen pass.new ≡ entries self.new }
         ensures legal { is_legal B.me (entries self.new) ≡ true }
         ensures added { IfOk result (λ _. Adds pass.old pass.new (λ before e. (before ≡ entries self.old) × IsEntryOf (event.Down link) None reason e × IsAdmitted (λ e. RefusesDown B.me before link e))) }
+        ensures rings { IfOk result (λ _. Adds pass.old pass.new (λ before e. (before ≡ entries self.old) × GoesByRings B.me before e (filter (λ x. not (x.queue.link.0 == link.0)) (open_links self.old)) (open_links self.new))) }
         ensures refused { IfErr result (λ e. e ≢ DownError.NoMemory → RefusesDown B.me (entries self.old) link e) }
         ensures unchanged { OnErr result ((entries self.new ≡ entries self.old) × (mine pass.new ≡ mine pass.old)) }
+        ensures unasked { IfErr result (λ e. e ≢ DownError.NoMemory → open_links self.new ≡ open_links self.old) }
         ensures spent { (result ≡ Err DownError.NoMemory) ↔ (is_spent self.new ≡ true) }
         ensures stays { is_spent self.old ≡ true → is_spent self.new ≡ true }
     {
@@ -242,7 +248,7 @@ impl<B: Naming> Tables<B> {
 
     /// The links whose writers have something new since the last call, a bit for each.
     pub fn take_due(&mut self) -> u128
-        ensures { (entries self.new ≡ entries self.old) × (is_spent self.new ≡ is_spent self.old) }
+        ensures { (entries self.new ≡ entries self.old) × (is_spent self.new ≡ is_spent self.old) × (open_links self.new ≡ open_links self.old) }
     {
         let due = self.due;
         self.due = 0;
@@ -329,7 +335,7 @@ impl<B: Naming> Tables<B> {
         requires spent { self.old.is_spent ≡ true }
         requires handled { IsHandled B.me (list_of self.old.kept) self.old.node self.old.ends.items arrival.event arrival.outbox arrival.reason sent.now }
         ensures same { IsSamePass pass.old pass.new }
-        ensures added { OnOk result ((e : Entry) × IsEntryOf arrival.event arrival.outbox arrival.reason e × (list_of self.new.kept ≡ list_of self.old.kept ++ e ∷ []) × (mine pass.new ≡ mine pass.old ++ e ∷ []) × (seen pass.new ≡ list_of self.new.kept)) }
+        ensures added { OnOk result ((e : Entry) × IsEntryOf arrival.event arrival.outbox arrival.reason e × (list_of self.new.kept ≡ list_of self.old.kept ++ e ∷ []) × (mine pass.new ≡ mine pass.old ++ e ∷ []) × (seen pass.new ≡ list_of self.new.kept) × GoesByRings B.me (list_of self.old.kept) e self.old.ends.items self.new.ends.items) }
         ensures unchanged { OnErr result ((list_of self.new.kept ≡ list_of self.old.kept) × (mine pass.new ≡ mine pass.old) × (seen pass.new ≡ seen pass.old)) }
         ensures spent { self.new.is_spent ≡ is_err result }
     {

@@ -5,7 +5,7 @@ use Rattle.zr_queue.specs.Tables.{open_queues, replay}
 use Rattle.zr_queue.specs.History.{is_legal}
 use Rattle.zr_queue.specs.Ends.{IsEntered, IsSameRing, IsSettled}
 use Rattle.zr_queue.proofs.Stepped.{zip_so}
-use Rattle.zr_queue.proofs.Entering.{each_entered, legal_entered, queues_entered}
+use Rattle.zr_queue.proofs.Entering.{each_entered, each_given, legal_entered, queues_entered}
 use Rattle.zr_queue.proofs.event.enter.Goals as goal
 
 pub settle_all-requires-clause-entered : goal.settle_all-requires-clause-entered
@@ -27,3 +27,6 @@ returns-clause-queues c =
 
 pub returns-clause-rings : goal.returns-clause-rings
 returns-clause-rings c = zip_so (λ old new. IsSettled c.args.entry.now old new) (λ old new. IsSameRing old new) (λ old new s. s.1) c.args.ends.now c.settle_all.new.ends c.settle_all.ensures.each
+
+pub returns-clause-given : goal.returns-clause-given
+returns-clause-given c = each_given (replay c.args.me (list_of c.args.kept.now)).node c.args.entry.now c.args.ends.now c.settle_all.new.ends c.requires.may.planned c.settle_all.ensures.each

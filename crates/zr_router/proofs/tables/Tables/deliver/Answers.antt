@@ -3,7 +3,7 @@ use Rattle.zr_hist.specs.Words.{list_of, most_entries, seen}
 use Rattle.zr_msg.specs.declared.event.Event.TheVariants.{From}
 use Rattle.zr_port.specs.Adding.{IsAdmitted}
 use Rattle.zr_table.specs.Event.{on_link}
-use Rattle.zr_queue.specs.Ends.{EndState, IsReplay}
+use Rattle.zr_queue.specs.Ends.{EndState, GoesByRings, IsReplay}
 use Rattle.zr_router.specs.Before.{message_refusal}
 use Rattle.zr_port.specs.declared.error.DeliverError.TheVariants as deliver
 use Rattle.zr_table.specs.Table.{refuses}
@@ -11,7 +11,7 @@ use Rattle.zr_router.specs.Failures.{HasFailed}
 use Rattle.zr_router.specs.declared.failure.Failure.{Failure}
 use Rattle.zr_router.specs.declared.failure.Failure.TheVariants.{Refused}
 use Rattle.zr_router.specs.Refusals.{RefusesMessage, is_worn}
-use Rattle.zr_router.proofs.Entered.{added, handled}
+use Rattle.zr_router.proofs.Entered.{added, added_beside, handled}
 use Rattle.zr_router.proofs.Refused.{closed_at, message_admitted, message_comes, message_node, message_refused, message_room, never_memory}
 use Rattle.zr_router.proofs.tables.Tables.deliver.Goals as goal
 
@@ -117,3 +117,16 @@ returns-in-Err-Refused-clause-refused g c =
     subst (λ (x : Failure). HasFailed (refuses l.node (From c.args.link c.args.msg)) l.is_spent c.handle.new.self.is_spent x) c.in-Err-Refused.field-0-is c.in-Err-Refused.ensures.failed in
     λ _. rw c.in-Err-Refused.field-0-is (subst (λ x. RefusesMessage me x c.args.link c.args.msg (deliver.Node refused)) c.look.ensures.kept
     (message_node me h l.node l.ends.items r c.args.link c.args.msg p k at shut none refused failed.0))
+
+pub returns-in-Ok-enter-clause-rings : goal.returns-in-Ok-enter-clause-rings
+returns-in-Ok-enter-clause-rings g c =
+    let t = c.args.self.now in
+    let me = g.B.Naming.me in
+    let n = c.handle.new.self in
+    let kept : list_of n.kept ≡ list_of t.kept = c.handle.ensures.kept ∙ c.look.ensures.kept in
+    let ends : n.ends.items ≡ t.ends.items = ap (λ v. v.items) c.handle.ensures.ends ∙ ap (λ v. v.items) c.look.ensures.same.1 in
+    let left : List EndState = c.enter.new.self.ends.items in
+    let a = c.in-Ok-enter.ensures.added in
+    added_beside c.args.pass.now c.look.new.pass c.enter.new.pass (list_of t.kept) (list_of c.enter.new.self.kept) (λ before e. GoesByRings me before e t.ends.items left)
+    c.look.ensures.pass.1 c.look.ensures.prefix a.0 (a.2 ∙ ap (λ x. x ++ a.0 ∷ []) kept) a.3 a.4
+    (subst (λ (xs : List EndState). GoesByRings me (list_of t.kept) a.0 xs left) ends (subst (λ h. GoesByRings me h a.0 n.ends.items left) kept a.5))

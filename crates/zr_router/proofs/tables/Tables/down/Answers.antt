@@ -1,9 +1,9 @@
-use Rattle.std.proofs.Common.{◌≡◌, ◌<◌, true, false, List, [], ◌∷◌, ◌++◌, length, map, Option, Some, None, refl, sym, ap, subst, ◌∙◌}
+use Rattle.std.proofs.Common.{◌≡◌, ◌<◌, true, false, List, [], ◌∷◌, ◌++◌, ◌==◌, not, filter, length, map, Option, Some, None, refl, sym, ap, subst, ◌∙◌}
 use Rattle.zr_hist.specs.Words.{list_of, most_entries, seen}
 use Rattle.zr_msg.specs.declared.event.Event.TheVariants.{Down}
 use Rattle.zr_table.specs.Event.{on_link}
 use Rattle.zr_ring.specs.Content.{end}
-use Rattle.zr_queue.specs.Ends.{EndState, IsReplay}
+use Rattle.zr_queue.specs.Ends.{EndState, GoesByRings, IsReplay}
 use Rattle.zr_queue.specs.Note.{Vouches}
 use Rattle.zr_hist.specs.Words.{mine}
 use Rattle.zr_port.specs.Adding.{IsAdmitted}
@@ -13,7 +13,7 @@ use Rattle.zr_router.specs.Failures.{HasFailed}
 use Rattle.zr_router.specs.declared.failure.Failure.{Failure}
 use Rattle.zr_router.specs.declared.failure.Failure.TheVariants.{Refused}
 use Rattle.zr_router.specs.Refusals.{RefusesDown, down_refusal, is_worn}
-use Rattle.zr_router.proofs.Entered.{added, handled}
+use Rattle.zr_router.proofs.Entered.{added, added_beside, handled}
 use Rattle.zr_router.proofs.OpenEnds.{distinct_ends, down_vouched, queues_down}
 use Rattle.zr_router.proofs.Peers.{down_admitted, down_none, down_worn}
 use Rattle.zr_router.proofs.tables.Tables.down.Goals.{in-Some-gone, in_default-gone}
@@ -100,3 +100,32 @@ returns-clause-added g c =
     c.look.ensures.pass.1 c.look.ensures.prefix
     (a.0, a.1, a.2 ∙ ap (λ x. x ++ a.0 ∷ []) kept, same.1 ∙ a.3, same.0 ∙ a.4)
     (subst (λ x. IsAdmitted (λ e. RefusesDown me x c.args.link e)) c.look.ensures.kept (down_admitted me h l.node l.ends.items r c.args.link none handled_is.1))
+
+pub returns-clause-rings : goal.returns-clause-rings
+returns-clause-rings g c =
+    let t = c.args.self.now in
+    let me = g.B.Naming.me in
+    let l = c.look.new.self in
+    let h = list_of l.kept in
+    let open_now : l.is_spent ≡ false = c.look.ensures.same.2 ∙ sym c.in-Ok.ensures.spent in
+    let r : IsReplay me h l.node l.ends.items = l.replayed open_now in
+    let n = c.handle.new.self in
+    let kept : list_of n.kept ≡ list_of t.kept = c.handle.ensures.kept ∙ c.look.ensures.kept in
+    let q : IsReplay me (list_of n.kept) l.node n.ends.items =
+    subst (λ x. IsReplay me x l.node n.ends.items) (sym c.handle.ensures.kept) (subst (λ (xs : List EndState). IsReplay me h l.node xs) (sym (ap (λ v. v.items) c.handle.ensures.ends)) r) in
+    let others : List EndState → List EndState = λ xs. filter (λ x. not (x.queue.link.0 == c.args.link.0)) xs in
+    let ends : c.taken_out-gone.new.ends.items ≡ others t.ends.items =
+    c.taken_out-gone.ensures.rest (distinct_ends me (list_of n.kept) l.node n.ends.items q) ∙ ap others (ap (λ v. v.items) c.handle.ensures.ends ∙ ap (λ v. v.items) c.look.ensures.same.1) in
+    let left : List EndState = c.enter.new.self.ends.items in
+    let a = c.in-Ok-enter.ensures.added in
+    let own : mine c.match-gone-3.pass ≡ mine c.look.new.pass ++ a.0 ∷ [] = elim c.match-gone-3.branch [
+      | in-Some-gone w ↦ ap (λ p. mine p) w.pass-is ∙ w.split.ensures.unchanged.1 ∙ a.3
+      | in_default-gone w ↦ ap (λ p. mine p) w.pass-is ∙ a.3
+    ] in
+    let all : seen c.match-gone-3.pass ≡ list_of c.enter.new.self.kept = elim c.match-gone-3.branch [
+      | in-Some-gone w ↦ ap (λ p. seen p) w.pass-is ∙ w.split.ensures.unchanged.0 ∙ a.4
+      | in_default-gone w ↦ ap (λ p. seen p) w.pass-is ∙ a.4
+    ] in
+    added_beside c.args.pass.now c.look.new.pass c.match-gone-3.pass (list_of t.kept) (list_of c.enter.new.self.kept) (λ before e. GoesByRings me before e (others t.ends.items) left)
+    c.look.ensures.pass.1 c.look.ensures.prefix a.0 (a.2 ∙ ap (λ x. x ++ a.0 ∷ []) kept) own all
+    (subst (λ (xs : List EndState). GoesByRings me (list_of t.kept) a.0 xs left) ends (subst (λ h. GoesByRings me h a.0 c.taken_out-gone.new.ends.items left) kept a.5))

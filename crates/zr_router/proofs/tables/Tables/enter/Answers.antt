@@ -2,9 +2,11 @@ use Rattle.std.proofs.Common.{◌≡◌, true, List, map, sym, subst, ◌∙◌,
 use Rattle.std.specs.List.{AllZip}
 use Rattle.zr_hist.specs.Words.{list_of}
 use Rattle.zr_table.specs.Event.{on_link}
-use Rattle.zr_queue.specs.Ends.{EndState, IsPlannedFor, IsReplay, MayEnter}
+use Rattle.zr_queue.specs.Ends.{EndState, GoesByRings, IsAsked, IsPlannedFor, IsReplay, MayEnter}
 use Rattle.zr_queue.specs.History.{is_legal}
-use Rattle.zr_queue.specs.Tables.{open_queues, replay}
+use Rattle.zr_queue.specs.Tables.{open_queues, queued_by, replay}
+use Rattle.zr_queue.proofs.Rings.{goes_by_rings}
+use Rattle.zr_queue.proofs.Stepped.{zip_so}
 use Rattle.zr_router.proofs.Entered.{entered, may_enter, written_over}
 use Rattle.zr_router.proofs.tables.Tables.enter.Goals as goal
 
@@ -33,4 +35,27 @@ invariant_of-self-2 g c =
     }
 
 pub returns-clause-added : goal.returns-clause-added
-returns-clause-added g c = (c.in_ok-entry.entry, c.in_ok-entry.ensures.entry, c.enter.ensures.list, c.enter.ensures.mine, c.enter.ensures.seen)
+returns-clause-added g c =
+    let t = c.args.self.now in
+    let me = g.B.Naming.me in
+    let h = list_of t.kept in
+    let entry = c.in_ok-entry.entry in
+    let e = c.in_ok-entry.ensures in
+    let each = subst (λ (xs : List EndState). AllZip (λ (old new : EndState). (new.queue ≡ old.queue) × IsPlannedFor (on_link old.queue.link c.args.sent.now) new) xs c.prepare.new.ends)
+    c.as_mut_slice-ends.ensures.value e.each in
+    let asked = subst (λ (xs : List EndState). AllZip (λ (old new : EndState). IsAsked old new) xs c.prepare.new.ends) c.as_mut_slice-ends.ensures.value e.asked in
+    let given = subst (λ m. AllZip (λ (old new : EndState). new.queue ≡ queued_by (replay m h).node entry old.queue) c.prepare.new.ends c.enter.new.ends) t.own c.enter.ensures.given in
+    let may = may_enter me h t.node t.ends.items c.prepare.new.ends c.args.arrival.event c.args.arrival.outbox c.args.arrival.reason c.args.sent.now entry t.legal c.requires.handled each
+    e.entry e.dropped e.closed in
+    let rings = goes_by_rings me h entry t.ends.items c.prepare.new.ends c.enter.new.ends may
+    (zip_so (λ (old new : EndState). (new.queue ≡ old.queue) × IsPlannedFor (on_link old.queue.link c.args.sent.now) new) (λ (old new : EndState). new.queue ≡ old.queue)
+    (λ old new p. p.0) t.ends.items c.prepare.new.ends each)
+    asked given c.enter.ensures.rings in (
+      entry,
+      e.entry,
+      c.enter.ensures.list,
+      c.enter.ensures.mine,
+      c.enter.ensures.seen,
+      subst (λ (xs : List EndState). GoesByRings me h entry t.ends.items xs)
+          (sym (written_over t.ends.len c.enter.new.ends _ (omega (arith, c.enter.auto.ends, c.prepare.auto.ends, c.as_mut_slice-ends.ensures.len)))) rings,
+    )

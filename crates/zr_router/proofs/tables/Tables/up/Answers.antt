@@ -4,14 +4,14 @@ use Rattle.zr_msg.specs.declared.event.Event.TheVariants.{Up}
 use Rattle.zr_port.specs.Adding.{IsAdmitted, IsLeastFree}
 use Rattle.zr_table.specs.Event.{on_link}
 use Rattle.zr_table.specs.Table.{refuses}
-use Rattle.zr_queue.specs.Ends.{EndState, IsReplay, taker_ring}
-use Rattle.zr_queue.specs.Tables.{is_up}
+use Rattle.zr_queue.specs.Ends.{EndState, GoesByRings, IsReplay, new_end, taker_ring}
+use Rattle.zr_queue.specs.Tables.{is_up, new_queue}
 use Rattle.zr_port.specs.declared.error.UpError.TheVariants as up
 use Rattle.zr_router.specs.Failures.{HasFailed}
 use Rattle.zr_router.specs.declared.failure.Failure.{Failure}
 use Rattle.zr_router.specs.declared.failure.Failure.TheVariants.{Refused}
 use Rattle.zr_router.specs.Refusals.{RefusesUp, is_worn, peer_refusal, up_event}
-use Rattle.zr_router.proofs.Entered.{added, handled}
+use Rattle.zr_router.proofs.Entered.{added, added_beside, handled}
 use Rattle.zr_router.proofs.OpenEnds.{queues_up}
 use Rattle.zr_router.proofs.Peers.{fresh, least, may_come_up, now_up, peer_admitted, peer_none, peer_worn, same_event}
 use Rattle.zr_router.proofs.tables.Tables.up.Goals as goal
@@ -101,3 +101,19 @@ returns-in-Err-Refused-clause-refused g c =
     subst (λ (x : Failure). HasFailed (refuses l.node (Up link c.args.peer)) l.is_spent c.handle.new.self.is_spent x) c.in-Err-Refused.field-0-is c.in-Err-Refused.ensures.failed in
     let denied : refuses l.node (up_event l.node c.args.peer) ≡ Some refused = ap (λ e. refuses l.node e) (sym (same_event l.node link c.args.peer c.free_link-link.ensures)) ∙ failed.0 in
     λ _. subst (λ x. RefusesUp me x c.args.peer up.Worn) c.look.ensures.kept (peer_worn me h l.node l.ends.items r c.args.peer c.in-Ok.worn refused none denied)
+
+pub returns-in-Ok-enter-clause-rings : goal.returns-in-Ok-enter-clause-rings
+returns-in-Ok-enter-clause-rings g c =
+    let t = c.args.self.now in
+    let me = g.B.Naming.me in
+    let n = c.handle.new.self in
+    let b = c.add_end.new.self in
+    let new : EndState = new_end (new_queue c.free_link-link.result c.args.peer.role c.args.outbox) (taker_ring c.in-Ok-add_end.taker) in
+    let kept : list_of b.kept ≡ list_of t.kept = c.add_end.ensures.same.1 ∙ c.handle.ensures.kept ∙ c.look.ensures.kept in
+    let ends : b.ends.items ≡ t.ends.items ++ new ∷ [] =
+    c.in-Ok-add_end.ensures.ends ∙ ap (λ (xs : List EndState). xs ++ new ∷ []) (ap (λ v. v.items) c.handle.ensures.ends ∙ ap (λ v. v.items) c.look.ensures.same.1) in
+    let left : List EndState = c.enter.new.self.ends.items in
+    let a = c.in-Ok-enter.ensures.added in
+    added_beside c.args.pass.now c.look.new.pass c.enter.new.pass (list_of t.kept) (list_of c.enter.new.self.kept) (λ before e. GoesByRings me before e (t.ends.items ++ new ∷ []) left)
+    c.look.ensures.pass.1 c.look.ensures.prefix a.0 (a.2 ∙ ap (λ x. x ++ a.0 ∷ []) kept) a.3 a.4
+    (subst (λ (xs : List EndState). GoesByRings me (list_of t.kept) a.0 xs left) ends (subst (λ h. GoesByRings me h a.0 b.ends.items left) kept a.5))
