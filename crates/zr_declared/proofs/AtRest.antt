@@ -1,7 +1,7 @@
 -- Where a world is settled, the rows of routers are what their clients have declared, and so are the sets that routers know.
 use Rattle.std.proofs.Common.{◌≡◌, ℕ, Bool, true, false, cond, not, List, [], ◌∷◌, Option, Some, None, is_some, Ordering, Less, inl, inr, refl, sym, ap, ◌∙◌, subst}
 use Rattle.std.specs.Prelude.{◌||◌}
-use Rattle.std.specs.List.{AllByRecursion, list_all}
+use Rattle.std.specs.List.{list_all}
 use Rattle.std.specs.Option.{option_map, option_map_or}
 use Rattle.std.specs.Ordering.{is_eq}
 use Rattle.std.proofs.lemmas.Bool.{false≢true, and_parts, not-true, eqb-true}
@@ -37,22 +37,14 @@ use Rattle.zr_settled.proofs.Agreeing.{logs_agree}
 use Rattle.zr_guarantee.specs.Broker as broker
 use Rattle.zr_laws.proofs.Known as views
 use Rattle.zr_laws.proofs.Always.{Always, always}
-use Rattle.zr_declared.specs.Declared.{stands}
-use Rattle.zr_declared.specs.Rows.{IsClientOf, IsLinkedClient, row_of, AreDeclared, SettledRowsAreDeclared}
+use Rattle.zr_declared.specs.Declared.{stands, IsClientOf}
+use Rattle.zr_declared.specs.Rows.{IsLinkedClient, row_of, AreDeclared, SettledRowsAreDeclared}
 use Rattle.zr_declared.specs.Sets.{IsDeclaredAt, SettledSetsAreDeclared}
+use Rattle.zr_declared.proofs.Elements.{all_in, all_of}
 use Rattle.zr_declared.proofs.Told.{calm_all_told, decl_at, row_is}
+use Rattle.zr_declared.proofs.Homes.{router_at}
 use Rattle.zr_declared.proofs.Flows.{says, flow}
 use Rattle.zr_declared.proofs.FlowActs.{GoesDeclared, goes_declared}
-
--- what each element is, an element is
-all_in : {X : Type 0} (P : X → Type 0) (xs : List X) (x : X) → AllByRecursion P xs → In x xs → P x
-all_in P [] x all i = absurd i
-all_in P (y ∷ ys) x all (inl e) = subst P (sym e) all.0
-all_in P (y ∷ ys) x all (inr i) = all_in P ys x all.1 i
-
-all_of : {X : Type 0} (P : X → Type 0) (xs : List X) → ((x : X) → In x xs → P x) → AllByRecursion P xs
-all_of P [] each = tt
-all_of P (x ∷ xs) each = (each x (inl refl), all_of P xs (λ y i. each y (inr i)))
 
 -- in an ascending list each element is the one of its key
 module _ {X K : Type 0} (cmp : K → K → Ordering) (key : X → K) (order : IsExactOrder cmp) where
@@ -111,12 +103,20 @@ module _ (acts : List Numbered) (now : Moment) (is : reached acts ≡ Some now) 
       by (Some t) e = let one : Some (views.end_view t) ≡ Some st.its_end = sym (ap (option_map views.end_view) e) ∙ st.found in
           let same : views.end_view t ≡ st.its_end = cc in ap (λ z. z.unbroken) same ∙ st.unbroken
 
-  unbroken_of : (x c : Name) (q : IsClientOf acts w x c) → is_unbroken w.ends (q.state.router, c) ≡ true
-  unbroken_of x c q = attached_is c q.state q.found ∙ q.attached
+  -- the state of a client that is attached
+  its_state : (x c : Name) → IsClientOf acts x c → (s : ClientState) × (client_of w.clients c ≡ Some s) × (s.router ≡ x)
+  its_state x c q = by (client_of w.clients c) refl (sym (g.homed c) ∙ q.home_is)
+    where
+      by : (o : Option ClientState) → client_of w.clients c ≡ o → router_at o ≡ Some x → (s : ClientState) × (client_of w.clients c ≡ Some s) × (s.router ≡ x)
+      by None e k = absurd (false≢true (ap is_some k))
+      by (Some s) e k = (s, e, cc)
 
   module _ (x : Name) (r : RouterState) (found : router_of w.routers x ≡ Some r) where
-    linked : (c : Name) → IsClientOf acts w x c → (l : LinkPeer) × (link_to r.node.links c ≡ Some l)
-    linked c q = there (link_to r.node.links c) (g.goes.sound.links x c r found ∙ ap (λ y. is_up w.ends (y, c)) (sym q.home) ∙ g.goes.clients.ups q.state.router c q.state q.found (unbroken_of x c q))
+    linked : (c : Name) → IsClientOf acts x c → (l : LinkPeer) × (link_to r.node.links c ≡ Some l)
+    linked c q =
+        let s = its_state x c q in
+        let up : is_up w.ends (s.0.router, c) ≡ true = g.goes.clients.ups s.0.router c s.0 s.1 (attached_is c s.0 s.1 ∙ q.attached) in
+        there (link_to r.node.links c) (g.goes.sound.links x c r found ∙ ap (λ y. is_up w.ends (y, c)) (sym s.2) ∙ up)
 
     module _ (settled : is_settled w ≡ true) where
       calm : (q : Name) → list_all is_calm (wire_at (end_of w.ends (x, q))) ≡ true
@@ -126,17 +126,17 @@ module _ (acts : List Numbered) (now : Moment) (is : reached acts ≡ Some now) 
           by None e = refl
           by (Some s) e = (and_parts (list_all is_calm s.wire) (list_all is_calm s.queue) (and_parts (is_met w (x, q) s) (is_calm_end s) (passes w g.goes.sound g.goes.holds settled (x, q) s e)).1).0
 
-      rows : (c : Name) (l : LinkPeer) (kind : Kind) (id : ℕ) → IsClientOf acts w x c → link_to r.node.links c ≡ Some l → row_at r.node.rows (key_of l.link.0 id kind) ≡ row_of l.link id (stands acts c kind id)
-      rows c l kind id q to = row_is r.node.rows l.link kind id ∙ ap (row_of l.link id) (
+      rows : (c : Name) (l : LinkPeer) (kind : Kind) (id : ℕ) → IsClientOf acts x c → link_to r.node.links c ≡ Some l → row_at r.node.rows (key_of l.link.0 id kind) ≡ row_of l.link id (stands acts c kind id)
+      rows c l kind id q to = let s = its_state x c q in row_is r.node.rows l.link kind id ∙ ap (row_of l.link id) (
           sym (ap (λ o. says o c kind id) found ∙ ap (λ o. option_map_or (λ (k : LinkPeer). decl_at r.node.rows k.link.0 kind id) o None) to)
           ∙ sym (calm_all_told kind id (says (router_of w.routers x) c kind id) (wire_at (end_of w.ends (x, c))) (calm c))
-          ∙ ap (λ y. flow w y c kind id) (sym q.home) ∙ g.flows.flows c q.state q.found (unbroken_of x c q) kind id)
+          ∙ ap (λ y. flow w y c kind id) (sym s.2) ∙ g.flows.flows c s.0 s.1 (attached_is c s.0 s.1 ∙ q.attached) kind id)
 
       -- a row is of a link to a client that is attached
-      owner : (q : Row) → leads_to_client r.node.links q.link.0 ≡ true → IsLinkedClient acts w x r q.link
+      owner : (q : Row) → leads_to_client r.node.links q.link.0 ≡ true → IsLinkedClient acts x r q.link
       owner q leads = by (link_at r.node.links q.link.0) refl leads
         where
-          by : (o : Option LinkPeer) → link_at r.node.links q.link.0 ≡ o → option_map_or (λ l. not (is_router l.peer.role)) o false ≡ true → IsLinkedClient acts w x r q.link
+          by : (o : Option LinkPeer) → link_at r.node.links q.link.0 ≡ o → option_map_or (λ l. not (is_router l.peer.role)) o false ≡ true → IsLinkedClient acts x r q.link
           by None e k = absurd (false≢true k)
           by (Some l) e k =
               let i = find_in (λ z. is_link q.link.0 z) r.node.links l e in
@@ -150,25 +150,23 @@ module _ (acts : List Numbered) (now : Moment) (is : reached acts ≡ Some now) 
                 name = l.peer.id;
                 client = record {
                   attached = sym (attached_is l.peer.id c.0 c.1) ∙ ap (λ y. is_unbroken w.ends (y, l.peer.id)) home ∙ (met w g.goes.sound g.goes.holds settled x l.peer.id up).0;
-                  state = c.0;
-                  found = c.1;
-                  home = home;
+                  home_is = g.homed l.peer.id ∙ ap router_at c.1 ∙ ap Some home;
                 };
                 neighbour = l;
                 linked = to;
                 number = λ j. record { 0 = eqb-true l.link.0 q.link.0 i.1 j };
               }
 
-      pub are_declared : AreDeclared acts w x r
+      pub are_declared : AreDeclared acts x r
       are_declared = record {
         linked = linked;
         rows = rows;
-        owners = all_of (λ q. IsLinkedClient acts w x r q.link) r.node.rows (λ q i. owner q (all_in (λ z. leads_to_client r.node.links z.link.0 ≡ true) r.node.rows q (g.goes.clients.rows x r found) i));
+        owners = all_of (λ q. IsLinkedClient acts x r q.link) r.node.rows (λ q i. owner q (all_in (λ z. leads_to_client r.node.links z.link.0 ≡ true) r.node.rows q (g.goes.clients.rows x r found) i));
       }
 
       -- ---- sets
 
-      from_rows : (d : Decl) → has (decls_of r.node.rows) d ≡ true → IsDeclaredAt acts w x d
+      from_rows : (d : Decl) → has (decls_of r.node.rows) d ≡ true → IsDeclaredAt acts x d
       from_rows d there =
           let q = row_with r.node.rows d there in
           let c = owner q.0 (all_in (λ z. leads_to_client r.node.links z.link.0 ≡ true) r.node.rows q.0 (g.goes.clients.rows x r found) q.1) in
@@ -184,7 +182,7 @@ module _ (acts : List Numbered) (now : Moment) (is : reached acts ≡ Some now) 
                 ∙ ap Some q.2;
           }
 
-      to_rows : (d : Decl) → IsDeclaredAt acts w x d → has (decls_of r.node.rows) d ≡ true
+      to_rows : (d : Decl) → IsDeclaredAt acts x d → has (decls_of r.node.rows) d ≡ true
       to_rows d k =
           let l = linked k.name k.client in
           let at : row_at r.node.rows (key_of l.0.link.0 k.id k.kind) ≡ Some (record { link = l.0.link; id = k.id; decl = d }) = rows k.name l.0 k.kind k.id k.client l.1 ∙ ap (row_of l.0.link k.id) k.standing in

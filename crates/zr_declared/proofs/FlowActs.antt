@@ -1,7 +1,6 @@
 -- Each act that is not refused keeps what clients have declared and their routers will have (`Flows`), so it holds at each moment to which acts lead.
 use Rattle.std.proofs.Common.{◌≡◌, ℕ, Bool, true, false, cond, List, [], ◌∷◌, ◌++◌, Option, Some, None, is_some, refl, sym, ap, subst}
 use Rattle.std.specs.Prelude.{◌&&◌, IfSome}
-use Rattle.std.specs.List.{AllByRecursion}
 use Rattle.std.proofs.lemmas.Bool.{true≢false}
 use Rattle.zr_id.specs.Zid.{is_named}
 use Rattle.zr_msg.specs.declared.decl.Kind.{Kind}
@@ -19,6 +18,8 @@ use Rattle.zr_settled.proofs.ClientRows.{ClientsHold, linked_stay, taken_stay, b
 use Rattle.zr_settled.proofs.Goes.{Goes, goes_first, act_goes}
 use Rattle.zr_laws.proofs.Folds.{after_all}
 use Rattle.zr_declared.specs.Declared.{is_same_id}
+use Rattle.zr_declared.proofs.Elements.{all_of}
+use Rattle.zr_declared.proofs.Homes.{Homed, homes_keep}
 use Rattle.zr_declared.proofs.Flows.{Flows, by_ends, says_kept, router_flows, up_flows, down_flows, handled_flows, client_flows, published_flows, said_flows}
 
 -- one test after the other
@@ -84,21 +85,24 @@ module _ (acts : List Numbered) (now : Moment) (sound : IsSound now.world) (h : 
 pub record GoesDeclared (acts : List Numbered) (now : Moment) : Type 0 where
   pub goes : Goes now.world
   pub flows : Flows acts now.world
+  pub homed : Homed acts now.world
 
 first : GoesDeclared [] beginning
-first = record { goes = goes_first; flows = record { fresh = λ c none kind id. refl; flows = λ c s client unbroken kind id. absurd (true≢false (sym unbroken)) } }
+first = record {
+  goes = goes_first;
+  flows = record { fresh = λ c none kind id. refl; flows = λ c s client unbroken kind id. absurd (true≢false (sym unbroken)) };
+  homed = λ c. refl;
+}
 
 next : (acts : List Numbered) (now : Moment) → GoesDeclared acts now → (n : ℕ) (act : Act) → IfSome (went now (outcome now.world n act)) (GoesDeclared (acts ++ (n, act) ∷ []))
-next acts now g n act = by (went now (outcome now.world n act)) (act_goes now n act g.goes) (flows_keep acts now g.goes.sound g.goes.clients g.flows n act)
+next acts now g n act =
+    by (went now (outcome now.world n act)) (act_goes now n act g.goes) (flows_keep acts now g.goes.sound g.goes.clients g.flows n act) (homes_keep acts now g.homed n act)
   where
-    by : (o : Option Moment) → IfSome o (λ then. Goes then.world) → IfSome o (λ then. Flows (acts ++ (n, act) ∷ []) then.world) → IfSome o (GoesDeclared (acts ++ (n, act) ∷ []))
-    by None goes flows = tt
-    by (Some then) goes flows = record { goes = goes; flows = flows }
+    by : (o : Option Moment) → IfSome o (λ then. Goes then.world) → IfSome o (λ then. Flows (acts ++ (n, act) ∷ []) then.world) → IfSome o (λ then. Homed (acts ++ (n, act) ∷ []) then.world) →
+        IfSome o (GoesDeclared (acts ++ (n, act) ∷ []))
+    by None goes flows homed = tt
+    by (Some then) goes flows homed = record { goes = goes; flows = flows; homed = homed }
 
 -- at the moment that some acts lead to
 pub goes_declared : (acts : List Numbered) → IfSome (reached acts) (GoesDeclared acts)
-goes_declared acts = after_all GoesDeclared (λ x. Unit {0}) (λ done now h x k. next done now h x.0 x.1) acts [] (Some beginning) first (all acts)
-  where
-    all : (xs : List Numbered) → AllByRecursion (λ x. Unit {0}) xs
-    all [] = tt
-    all (x ∷ xs) = (tt, all xs)
+goes_declared acts = after_all GoesDeclared (λ x. Unit {0}) (λ done now h x k. next done now h x.0 x.1) acts [] (Some beginning) first (all_of (λ x. Unit {0}) acts (λ x i. tt))

@@ -2,3 +2,4 @@ pub mod Turns
 pub mod Declared
 pub mod Rows
 pub mod Sets
+pub mod Logs

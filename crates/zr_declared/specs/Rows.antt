@@ -10,22 +10,14 @@ use Rattle.zr_local.specs.Rows.{row_at}
 use Rattle.zr_local.specs.declared.row.Row.{Row}
 use Rattle.zr_routing.specs.Tables.{link_to}
 use Rattle.zr_table.specs.Table.{key_of}
-use Rattle.zr_network.specs.World.{RouterState, ClientState, WorldState, router_of, client_of, is_settled}
+use Rattle.zr_network.specs.World.{RouterState, router_of, is_settled}
 use Rattle.zr_network.specs.Moments.{Numbered, Moment, reached}
-use Rattle.zr_guarantee.specs.Broker.{is_attached}
-use Rattle.zr_declared.specs.Declared.{stands}
-
--- a client that is attached to router x
-pub record IsClientOf (acts : List Numbered) (w : WorldState) (x : List ℕ) (name : List ℕ) : Type 0 where
-  pub attached : is_attached acts name ≡ true
-  pub state : ClientState
-  pub found : client_of w.clients name ≡ Some state
-  pub home : state.router ≡ x
+use Rattle.zr_declared.specs.Declared.{stands, IsClientOf}
 
 -- a client that is attached to router x, which has the link to it
-pub record IsLinkedClient (acts : List Numbered) (w : WorldState) (x : List ℕ) (r : RouterState) (link : LinkNo) : Type 0 where
+pub record IsLinkedClient (acts : List Numbered) (x : List ℕ) (r : RouterState) (link : LinkNo) : Type 0 where
   pub name : List ℕ
-  pub client : IsClientOf acts w x name
+  pub client : IsClientOf acts x name
   pub neighbour : LinkPeer
   pub linked : link_to r.node.links name ≡ Some neighbour
   pub number : neighbour.link ≡ link
@@ -36,13 +28,13 @@ row_of link id standing = option_map (λ d. record { link = link; id = id; decl 
 
 -- The rows of router x are what its clients have declared: it has a link to each client that is attached to it, under each id it has just the
 -- row of what stands there, and each row is of such a client.
-pub record AreDeclared (acts : List Numbered) (w : WorldState) (x : List ℕ) (r : RouterState) : Type 0 where
-  pub linked : (name : List ℕ) → IsClientOf acts w x name → (l : LinkPeer) × (link_to r.node.links name ≡ Some l)
-  pub rows : (name : List ℕ) (l : LinkPeer) (kind : Kind) (id : ℕ) → IsClientOf acts w x name → link_to r.node.links name ≡ Some l →
+pub record AreDeclared (acts : List Numbered) (x : List ℕ) (r : RouterState) : Type 0 where
+  pub linked : (name : List ℕ) → IsClientOf acts x name → (l : LinkPeer) × (link_to r.node.links name ≡ Some l)
+  pub rows : (name : List ℕ) (l : LinkPeer) (kind : Kind) (id : ℕ) → IsClientOf acts x name → link_to r.node.links name ≡ Some l →
       row_at r.node.rows (key_of l.link.0 id kind) ≡ row_of l.link id (stands acts name kind id)
-  pub owners : AllByRecursion (λ q. IsLinkedClient acts w x r q.link) r.node.rows
+  pub owners : AllByRecursion (λ q. IsLinkedClient acts x r q.link) r.node.rows
 
 -- at each moment to which acts lead: where it is settled, the rows of each router are what its clients have declared
 abbrev pub SettledRowsAreDeclared : Type 0
 SettledRowsAreDeclared = (acts : List Numbered) (m : Moment) (x : List ℕ) (r : RouterState) → reached acts ≡ Some m → is_settled m.world ≡ true →
-    router_of m.world.routers x ≡ Some r → AreDeclared acts m.world x r
+    router_of m.world.routers x ≡ Some r → AreDeclared acts x r

@@ -5,6 +5,7 @@
 ghost use Rattle.zr_declared.specs.Turns.{AlwaysTaken};
 ghost use Rattle.zr_declared.specs.Rows.{SettledRowsAreDeclared};
 ghost use Rattle.zr_declared.specs.Sets.{SettledSetsAreDeclared};
+ghost use Rattle.zr_declared.specs.Logs.{LogsAreMade, SettledLogsAreKnown};
 
 /// At each moment, also within a run, each router takes the message that is its turn.
 pub fn always_taken()
@@ -21,4 +22,16 @@ pub fn settled_rows_are_declared()
 /// one has declared it.
 pub fn settled_sets_are_declared()
     ensures { SettledSetsAreDeclared }
+{}
+
+/// At each moment, also within a run, a router knows all of its own log: as many changes as it has made, and the set that they lead to. No router
+/// knows of more changes.
+pub fn logs_are_made()
+    ensures { LogsAreMade }
+{}
+
+/// At each settled moment each router knows all of the log of each router that it reaches: its length as position, and as set what its changes
+/// lead to.
+pub fn settled_logs_are_known()
+    ensures { SettledLogsAreKnown }
 {}

@@ -6,6 +6,7 @@ ghost use Rattle.zr_outside.specs.Counts.{Rose};
 ghost use Rattle.zr_guarantee.specs.Scripts.{IsRefined};
 ghost use Rattle.zr_laws.specs.Keys.{AskingIsMeeting};
 ghost use Rattle.zr_laws.specs.Runs.{RestIsQuiet};
+ghost use Rattle.zr_declared.specs.Logs.{SettledLogsAreKnown};
 ghost use Rattle.zr_declared.specs.Rows.{SettledRowsAreDeclared};
 ghost use Rattle.zr_declared.specs.Sets.{SettledSetsAreDeclared};
 ghost use Rattle.zr_settled.specs.Events.{NoEventIsRefused};
@@ -26,7 +27,7 @@ use std::alloc::Global;
 use std::sync::Wait;
 use std::thread::Threads;
 use zr_crew::Crew;
-use zr_declared::{settled_rows_are_declared, settled_sets_are_declared};
+use zr_declared::{settled_logs_are_known, settled_rows_are_declared, settled_sets_are_declared};
 use zr_laws::keys::{asking_is_meeting, keys_are_texts};
 use zr_laws::refines::{lines_are_moments, lines_refine};
 use zr_laws::runs::rest_is_quiet;
@@ -86,6 +87,7 @@ where
     ensures keys { is_net (map string_bytes words.now) ≡ true → OfLines (S.left input.old) (S.left input.new) HaveKeyTexts }
     ensures tables { is_net (map string_bytes words.now) ≡ true → OfLines (S.left input.old) (S.left input.new) AgreeWhereSettled }
     ensures logs { SettledLogsAgree }
+    ensures known { SettledLogsAreKnown }
     ensures rows { SettledRowsAreDeclared }
     ensures sets { SettledSetsAreDeclared }
     ensures taken { NoEventIsRefused }
@@ -109,6 +111,7 @@ where
     asking_is_meeting();
     rest_is_quiet();
     settled_logs_agree();
+    settled_logs_are_known();
     settled_rows_are_declared();
     settled_sets_are_declared();
     no_event_is_refused();
