@@ -7,6 +7,7 @@ use std::alloc::Global;
 use std::test::Fail;
 use zr_id::link::LinkNo;
 use zr_id::zid::Zid;
+use zr_msg::error::NodeError;
 use zr_msg::event::Event;
 use zr_msg::msg::Msg;
 use zr_msg::peer::{Peer, Role};
@@ -30,10 +31,30 @@ pub fn handle(
     event: &Event,
     out: &mut Vec<(LinkNo, Msg)>,
 ) -> Result<(), Fail> {
-    if may_come(node, event) {
-        node.handle(alloc, event, out)?;
+    match refusal(alloc, node, event, out) {
+        Some(error) => Err(Fail::from(error)),
+        None => Ok(()),
     }
-    Ok(())
+}
+
+/// The router handles an event that may come, and what it sends is let go.
+pub fn bring(alloc: Global, node: &mut Node, event: &Event) -> Result<(), Fail> {
+    let mut out = Vec::new(alloc);
+    handle(alloc, node, event, &mut out)
+}
+
+/// The router's refusal of an event that may come, if it refuses it.
+pub fn refusal(
+    alloc: Global,
+    node: &mut Node,
+    event: &Event,
+    out: &mut Vec<(LinkNo, Msg)>,
+) -> Option<NodeError> {
+    if may_come(node, event) {
+        node.handle(alloc, event, out).err()
+    } else {
+        None
+    }
 }
 
 /// Whether an event may come: a link that is to come up is a fresh one, and any other is up.

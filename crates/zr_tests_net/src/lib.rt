@@ -3,12 +3,18 @@
 #![tactic(auto)]
 
 #[cfg(test)]
+mod declarations;
+#[cfg(test)]
 mod events;
 #[cfg(test)]
 mod judges;
 #[cfg(test)]
+mod networks;
+#[cfg(test)]
 mod nodes;
 #[cfg(test)]
 mod parts;
+#[cfg(test)]
+mod scripts;
 #[cfg(test)]
 mod worlds;

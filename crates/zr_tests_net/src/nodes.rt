@@ -1,6 +1,6 @@
 //! Who gets a sample, before and after what is remembered of its key has to be forgotten; and what routers tell each other of links.
 
-use crate::events::{from, handle, up};
+use crate::events::{bring, from, handle, up};
 use std::alloc::Global;
 use std::test::Fail;
 use zr_body::Body;
@@ -38,12 +38,16 @@ fn router(alloc: Global) -> Result<Node, Fail> {
     Ok(Node::new(alloc, Zid::from_bytes(&[9])?)?)
 }
 
+fn bring_client(alloc: Global, node: &mut Node, number: u32) -> Result<(), Fail> {
+    let event = client_up(number)?;
+    bring(alloc, node, &event)
+}
+
 // A router with links 0, 1 and 2.
 fn three_links(alloc: Global) -> Result<Node, Fail> {
     let mut node = router(alloc)?;
-    let mut out = Vec::new(alloc);
     for number in 0..3 {
-        handle(alloc, &mut node, &client_up(number)?, &mut out)?;
+        bring_client(alloc, &mut node, number)?;
     }
     Ok(node)
 }
@@ -141,32 +145,37 @@ fn a_message_has_64_bytes_at_most(rt: HostRuntime) {
     assert!(rt; size_of::<Msg>() <= 64);
 }
 
-// A client's link comes up, and the client subscribes.
-fn subscribe(alloc: Global, node: &mut Node, number: u32) -> Result<(), Fail> {
-    let mut out = Vec::new(alloc);
-    handle(alloc, node, &client_up(number)?, &mut out)?;
-    let sub = event(alloc, number, Step::Sub(1, "a"))?;
-    handle(alloc, node, &sub, &mut out)
+// The client of a link comes, and subscribes.
+fn bring_subscriber(alloc: Global, node: &mut Node, number: u32) -> Result<(), Fail> {
+    bring_client(alloc, node, number)?;
+    let event = event(alloc, number, Step::Sub(1, "a"))?;
+    bring(alloc, node, &event)
 }
 
-// A router with so many clients that all subscribe to one key.
-fn subscribed(alloc: Global, links: u32) -> Result<Node, Fail> {
-    let mut node = router(alloc)?;
+fn bring_subscribers(alloc: Global, node: &mut Node, links: u32) -> Result<(), Fail> {
     for number in 0..links {
-        subscribe(alloc, &mut node, number)?;
+        bring_subscriber(alloc, node, number)?;
     }
-    Ok(node)
+    Ok(())
+}
+
+// How many links get a sample that comes from the first one.
+fn count_receivers(alloc: Global, node: &mut Node) -> Result<usize, Fail> {
+    let event = event(alloc, 0, Step::Sample("a"))?;
+    let numbers = receivers(alloc, node, &event)?;
+    Ok(numbers.len())
 }
 
 // How many links get a sample that comes from the first of so many, where the clients of all subscribe to its key.
 fn reached(alloc: Global, links: u32) -> Result<usize, Fail> {
-    let mut node = subscribed(alloc, links)?;
-    let sample = event(alloc, 0, Step::Sample("a"))?;
-    Ok(receivers(alloc, &mut node, &sample)?.len())
+    let mut node = router(alloc)?;
+    bring_subscribers(alloc, &mut node, links)?;
+    count_receivers(alloc, &mut node)
 }
 
 #[test]
 fn a_sample_goes_to_a_thousand_clients(rt: HostRuntime) -> Result<(), Fail> {
-    assert_eq!(rt; reached(rt.alloc(), 1024)?, 1023);
+    let count = reached(rt.alloc(), 1024)?;
+    assert_eq!(rt; count, 1023);
     Ok(())
 }

@@ -1,15 +1,12 @@
 //! Acts of a small script and steps of its runs, against report lines that were worked out by hand from the rules.
 
-use crate::parts::{byte, key, name};
+use crate::parts::{byte, name, value};
+use crate::scripts::{apply, book, client, link, link_up, next, publish, router, sub};
 use std::alloc::Global;
 use std::test::Fail;
-use zr_body::Body;
 use zr_command::command::Act;
 use zr_command::error::ScriptError;
 use zr_command::report::ReportLine;
-use zr_id::zid::Zid;
-use zr_key::key::KeyExpr;
-use zr_msg::content::Content;
 use zr_msg::extras::Extras;
 use zr_world::world::World;
 
@@ -76,6 +73,45 @@ const SCRIPT: [Line; 8] = [
     Line::Steps(100),
 ];
 
+// What the script reports.
+const FIRST_RUN: [Seen; 3] = [
+    Seen::Handled(PUBLISHER, 7),
+    Seen::Handled(FIRST_BY_NAME, 6),
+    Seen::Handled(FIRST_TO_COME, 5),
+];
+
+// Two more samples, and runs that are cut off.
+const LATER: [Line; 6] = [
+    Line::Put,
+    Line::Put,
+    Line::Steps(3),
+    Line::Steps(0),
+    Line::Steps(9),
+    Line::Mark,
+];
+
+const LATER_RUNS: [Seen; 7] = [
+    Seen::Handled(PUBLISHER, 9),
+    Seen::Handled(PUBLISHER, 10),
+    Seen::Taken(FIRST_BY_NAME, 9),
+    Seen::Taken(FIRST_BY_NAME, 10),
+    Seen::Taken(FIRST_TO_COME, 9),
+    Seen::Taken(FIRST_TO_COME, 10),
+    Seen::Mark(14),
+];
+
+// What two routers report.
+const TOLD: [Seen; 8] = [
+    Seen::Taken(OTHER_ROUTER, 4),
+    Seen::Handled(ROUTER, 4),
+    Seen::Taken(ROUTER, 5),
+    Seen::Handled(OTHER_ROUTER, 5),
+    Seen::Show(ROUTER),
+    Seen::Record(ROUTER),
+    Seen::Record(OTHER_ROUTER),
+    Seen::Parent(OTHER_ROUTER),
+];
+
 fn shown(line: &ReportLine) -> Seen {
     match line {
         ReportLine::Handled { from, tag, .. } => Seen::Handled(byte(from), *tag),
@@ -89,24 +125,17 @@ fn shown(line: &ReportLine) -> Seen {
     }
 }
 
-fn client(client: u8) -> Result<Act, Fail> {
-    let id = name(client)?;
-    let router = name(ROUTER)?;
-    Ok(Act::Client { id, router })
-}
-
-fn sub(alloc: Global, client: u8) -> Result<Act, Fail> {
-    let client = name(client)?;
-    let key = key(alloc, b"a/b".as_slice())?;
-    Ok(Act::Sub { client, id: 1, key })
-}
-
 fn put(alloc: Global) -> Result<Act, Fail> {
-    let client = name(PUBLISHER)?;
-    let key = KeyExpr::read(alloc, b"a/b".as_slice())?;
-    let body = Body::put(alloc, b"hi".as_slice())?;
-    let content = Content::new(alloc, key, Extras::none(), body)?;
-    Ok(Act::Publish { client, content })
+    let content = value(alloc, b"a/b".as_slice(), b'h', Extras::none())?;
+    publish(PUBLISHER, content)
+}
+
+// The next step is done, if there is one.
+fn step(world: &mut World, number: u64, report: &mut Vec<ReportLine>) -> Result<(), Fail> {
+    match next(world) {
+        Some(step) => apply(world, number, step, report),
+        None => Ok(()),
+    }
 }
 
 // At most so many steps, each the next one.
@@ -116,30 +145,28 @@ fn go(
     steps: u32,
     report: &mut Vec<ReportLine>,
 ) -> Result<(), Fail> {
-    world.book(steps)?;
+    book(world, steps)?;
     for _ in 0..steps {
-        let Some(step) = world.next() else {
-            return Ok(());
-        };
-        world.apply(number, step, report)?;
+        step(world, number, report)?;
     }
     Ok(())
 }
 
-// What a line of several routers asks.
-fn between(line: Line) -> Result<Act, Fail> {
-    let router = name(ROUTER)?;
-    let other = name(OTHER_ROUTER)?;
-    Ok(match line {
-        Line::OtherRouter => Act::Router { id: other },
-        Line::Link => Act::Link { one: router, other },
-        Line::Up(from, to) => up(name(from)?, name(to)?),
-        _ => Act::Show { router },
-    })
-}
-
-fn up(router: Zid, neighbour: Zid) -> Act {
-    Act::Up { router, neighbour }
+// The act of a line that is no run.
+fn act(alloc: Global, line: Line) -> Result<Act, Fail> {
+    match line {
+        Line::Router => router(ROUTER),
+        Line::Client(id) => client(id, ROUTER),
+        Line::Sub(id) => sub(alloc, id, b"a/b".as_slice()),
+        Line::Put => put(alloc),
+        Line::Steps(_) | Line::Mark => Ok(Act::Mark),
+        Line::OtherRouter => router(OTHER_ROUTER),
+        Line::Link => link(ROUTER, OTHER_ROUTER),
+        Line::Up(from, to) => link_up(from, to),
+        Line::Show => Ok(Act::Show {
+            router: name(ROUTER)?,
+        }),
+    }
 }
 
 fn on_line(
@@ -149,33 +176,34 @@ fn on_line(
     line: Line,
     report: &mut Vec<ReportLine>,
 ) -> Result<(), Fail> {
-    let act = match line {
-        Line::Router => Act::Router { id: name(ROUTER)? },
-        Line::Client(byte) => client(byte)?,
-        Line::Sub(byte) => sub(alloc, byte)?,
-        Line::Put => put(alloc)?,
-        Line::Steps(steps) => return go(world, number, steps, report),
-        Line::Mark => Act::Mark,
-        Line::OtherRouter | Line::Link | Line::Up(..) | Line::Show => between(line)?,
-    };
-    world.apply(number, act, report)?;
-    Ok(())
+    match line {
+        Line::Steps(steps) => go(world, number, steps, report),
+        _ => apply(world, number, act(alloc, line)?, report),
+    }
+}
+
+// The lines are done one after the other, the first of them under the number behind the given one; the last number is given back.
+fn play(
+    alloc: Global,
+    world: &mut World,
+    before: u64,
+    lines: &[Line],
+    report: &mut Vec<ReportLine>,
+) -> Result<u64, Fail> {
+    let mut number = before;
+    for line in lines {
+        number = number.saturating_add(1);
+        on_line(alloc, world, number, *line, report)?;
+    }
+    Ok(number)
 }
 
 // A world after the script and these lines behind it, with its report.
 fn after(alloc: Global, more: &[Line]) -> Result<(World, Vec<ReportLine>), Fail> {
-    run(alloc, &SCRIPT, more)
-}
-
-// A world after these lines and those behind them, with its report.
-fn run(alloc: Global, lines: &[Line], more: &[Line]) -> Result<(World, Vec<ReportLine>), Fail> {
     let mut world = World::new(alloc);
     let mut report = Vec::new(alloc);
-    let mut number: u64 = 0;
-    for line in lines.iter().chain(more.iter()) {
-        number = number.saturating_add(1);
-        on_line(alloc, &mut world, number, *line, &mut report)?;
-    }
+    let last = play(alloc, &mut world, 0, &SCRIPT, &mut report)?;
+    play(alloc, &mut world, last, more, &mut report)?;
     Ok((world, report))
 }
 
@@ -183,6 +211,18 @@ fn run(alloc: Global, lines: &[Line], more: &[Line]) -> Result<(World, Vec<Repor
 fn report_behind(alloc: Global, more: &[Line], first: usize) -> Result<Vec<Seen>, Fail> {
     let (_, report) = after(alloc, more)?;
     all_shown(alloc, &report, first)
+}
+
+// The report of the script of two routers.
+fn report_of_two(alloc: Global) -> Result<Vec<Seen>, Fail> {
+    let mut world = World::new(alloc);
+    let mut report = Vec::new(alloc);
+    play(alloc, &mut world, 0, &TWO_ROUTERS, &mut report)?;
+    all_shown(alloc, &report, 0)
+}
+
+fn is_same(seen: &[Seen], want: &[Seen]) -> bool {
+    seen == want
 }
 
 fn all_shown(alloc: Global, report: &[ReportLine], first: usize) -> Result<Vec<Seen>, Fail> {
@@ -197,8 +237,12 @@ fn all_shown(alloc: Global, report: &[ReportLine], first: usize) -> Result<Vec<S
 fn is_unsettled(alloc: Global, more: &[Line]) -> Result<bool, Fail> {
     let (mut world, mut report) = after(alloc, more)?;
     let before = report.len();
-    let given = world.apply(99, Act::Mark, &mut report);
-    Ok(matches!(given, Err(ScriptError::NotSettled)) && report.len() == before)
+    Ok(refuses_mark(&mut world, &mut report) && report.len() == before)
+}
+
+fn refuses_mark(world: &mut World, report: &mut Vec<ReportLine>) -> bool {
+    let given = world.apply(99, Act::Mark, report);
+    matches!(given, Err(ScriptError::NotSettled))
 }
 
 // Whether the world says that it has counted these steps.
@@ -208,49 +252,24 @@ fn is_booked(world: &mut World, steps: u32) -> bool {
 
 #[test]
 fn runs_by_name(rt: HostRuntime) -> Result<(), Fail> {
-    let want = [
-        Seen::Handled(PUBLISHER, 7),
-        Seen::Handled(FIRST_BY_NAME, 6),
-        Seen::Handled(FIRST_TO_COME, 5),
-    ];
     let seen = report_behind(rt.alloc(), &[], 0)?;
-    assert!(rt; seen.as_slice() == want.as_slice(), "the first run");
+    assert!(rt; is_same(&seen, &FIRST_RUN), "the first run");
     Ok(())
 }
 
 #[test]
 fn handles_before_it_takes(rt: HostRuntime) -> Result<(), Fail> {
-    let lines = [
-        Line::Put,
-        Line::Put,
-        Line::Steps(3),
-        Line::Steps(0),
-        Line::Steps(9),
-        Line::Mark,
-    ];
-    let want = [
-        Seen::Handled(PUBLISHER, 9),
-        Seen::Handled(PUBLISHER, 10),
-        Seen::Taken(FIRST_BY_NAME, 9),
-        Seen::Taken(FIRST_BY_NAME, 10),
-        Seen::Taken(FIRST_TO_COME, 9),
-        Seen::Taken(FIRST_TO_COME, 10),
-        Seen::Mark(14),
-    ];
-    let seen = report_behind(rt.alloc(), &lines, 3)?;
-    assert!(rt; seen.as_slice() == want.as_slice(), "the later runs");
+    let seen = report_behind(rt.alloc(), &LATER, FIRST_RUN.len())?;
+    assert!(rt; is_same(&seen, &LATER_RUNS), "the later runs");
     Ok(())
 }
 
 #[test]
 fn marks_where_nothing_unsettles(rt: HostRuntime) -> Result<(), Fail> {
-    let sent = [Line::Put];
-    let declared = [Line::Client(0xc4), Line::Sub(0xc4)];
-    assert!(rt; !is_unsettled(rt.alloc(), &sent)?, "a sample under way");
-    assert!(rt;
-        is_unsettled(rt.alloc(), &declared)?,
-        "a declaration under way"
-    );
+    let of_sample = is_unsettled(rt.alloc(), &[Line::Put])?;
+    assert!(rt; !of_sample, "a sample under way");
+    let of_declaration = is_unsettled(rt.alloc(), &[Line::Client(0xc4), Line::Sub(0xc4)])?;
+    assert!(rt; of_declaration, "a declaration under way");
     Ok(())
 }
 
@@ -266,25 +285,15 @@ fn counts_all_steps(rt: HostRuntime) -> Result<(), Fail> {
 #[test]
 fn rests_where_nothing_waits(rt: HostRuntime) -> Result<(), Fail> {
     let (world, _) = after(rt.alloc(), &[])?;
-    assert!(rt; world.next().is_none(), "a quiet world");
-    assert!(rt; World::new(rt.alloc()).next().is_none(), "an empty world");
+    assert!(rt; next(&world).is_none(), "a quiet world");
+    let world = World::new(rt.alloc());
+    assert!(rt; next(&world).is_none(), "an empty world");
     Ok(())
 }
 
 #[test]
 fn two_routers_tell_each_other_of_their_link(rt: HostRuntime) -> Result<(), Fail> {
-    let want = [
-        Seen::Taken(OTHER_ROUTER, 4),
-        Seen::Handled(ROUTER, 4),
-        Seen::Taken(ROUTER, 5),
-        Seen::Handled(OTHER_ROUTER, 5),
-        Seen::Show(ROUTER),
-        Seen::Record(ROUTER),
-        Seen::Record(OTHER_ROUTER),
-        Seen::Parent(OTHER_ROUTER),
-    ];
-    let (_, report) = run(rt.alloc(), &TWO_ROUTERS, &[])?;
-    let seen = all_shown(rt.alloc(), &report, 0)?;
-    assert!(rt; seen.as_slice() == want.as_slice(), "records and tables");
+    let seen = report_of_two(rt.alloc())?;
+    assert!(rt; is_same(&seen, &TOLD), "records and tables");
     Ok(())
 }
