@@ -35,12 +35,6 @@ redone p q (Ok x) now said all before left sends refused h =
 redone p q (Err (Refused why)) now said all before left sends refused h = record { refused = sym refused ∙ h.refused; state = h.state ∙ before; sends = h.sends }
 redone p q (Err NoMemory) now said all before left sends refused h = retold_prefix p.sends q.sends said all sends h
 
--- one that failed is the same where it is refused alike, and sends the same
-pub failed_alike : (p q : Part) (e : Failure) (now : NodeState) (said all : List (LinkNo × Msg)) → p.before ≡ q.before → ((to : ℕ) → p.sends to ≡ q.sends to) → p.refused ≡ q.refused
-    → IsDone p (Err e) now said all → IsDone q (Err e) now said all
-failed_alike p q (Refused why) now said all before sends refused h = record { refused = sym refused ∙ h.refused; state = h.state ∙ before; sends = h.sends }
-failed_alike p q NoMemory now said all before sends refused h = retold_prefix p.sends q.sends said all sends h
-
 -- ---- one behind the other
 
 -- the second part is the first, and behind it more is sent

@@ -1,5 +1,5 @@
 -- The Down of a link, by who stood at its other end.
-use Rattle.std.proofs.Common.{◌≡◌, ℕ, ◌^◌, ◌<◌, ◌++◌, not, false, cond, List, Option, Some, None, Result, option_map, refl, sym, ap, subst, ◌∙◌}
+use Rattle.std.proofs.Common.{◌≡◌, ℕ, ◌^◌, ◌<◌, ◌++◌, not, false, cond, List, [], Option, Some, None, Result, Err, option_map, refl, sym, ap, subst, ◌∙◌}
 use Rattle.std.specs.Option.{option_or, option_map_or}
 use Rattle.std.proofs.lemmas.List.{append-nil}
 use Rattle.zr_id.specs.declared.link.LinkNo.{LinkNo}
@@ -13,16 +13,22 @@ use Rattle.zr_msg.specs.declared.peer.LinkPeer.{LinkPeer}
 use Rattle.zr_msg.specs.declared.peer.Peer.{Peer}
 use Rattle.zr_msg.specs.declared.peer.Role.{Role}
 use Rattle.zr_msg.specs.declared.peer.Role.TheVariants.{Client, Router}
+use Rattle.zr_pend.specs.Pending.{dropped}
 use Rattle.zr_routing.specs.Changes.{changes, after_changes}
+use Rattle.zr_routing.specs.Queries.{link_no, sends_ends}
 use Rattle.zr_routing.specs.Snapshots.{sends_snapshots}
 use Rattle.zr_routing.specs.Tables.{link_at, is_router}
+use Rattle.zr_table.specs.Event.{Tells, TellsPrefix}
 use Rattle.zr_table.specs.State.{NodeState, tables}
-use Rattle.zr_table.specs.Table.{base_down, base_parted, without_link, with_rows, sends_rows, sends_down, sends_parted, refuses_rows, refuses_down, refuses_parting}
-use Rattle.zr_node.specs.Done.{Part, IsDone}
-use Rattle.zr_node.specs.Steps.{event_part, leave_part, down_part, parted_from}
+use Rattle.zr_table.specs.Table.{base_down, base_parted, without_link, with_pending, with_rows, sends_rows, sends_down, sends_parted, refuses_rows, refuses_down, refuses_parting}
+use Rattle.zr_node.specs.Done.{Part, IsLeft, IsDone}
+use Rattle.zr_node.specs.Steps.{with_links, event_part, asked_part, leave_part, down_part, parted_from}
+use Rattle.zr_node.specs.declared.asked.Asked.TheVariants.{Leave}
 use Rattle.zr_node.specs.declared.failure.Failure.{Failure}
+use Rattle.zr_node.specs.declared.failure.Failure.TheVariants.{Refused, NoMemory}
 use Rattle.zr_node.proofs.Done.{redone}
 use Rattle.zr_node.proofs.Quiet.{nothing_more, rows_stay, rows_silent, rows_allowed}
+use Rattle.zr_node.proofs.Retold.{nothing_told, all_told, told_behind, told_both, prefix_first}
 
 first_alone : (x y : Option NodeError) → y ≡ None → x ≡ option_or x y
 first_alone None y e = sym e
@@ -40,6 +46,7 @@ module _ (n : NodeState) (link : LinkNo) where
         base = base_parted n.base peer role;
         rows = rows_by role;
         known = after_changes n.known (changes n.rows (rows_by role));
+        pending = dropped (link_no link.0) n.pending;
         spent = n.spent;
       }
 
@@ -48,7 +55,7 @@ module _ (n : NodeState) (link : LinkNo) where
       record {
         before = n;
         left = left_by peer role;
-        sends = λ to. (sends_parted n link.0 peer role to ++ sends_rows n (rows_by role) to) ++ sends_snapshots (tables (left_by peer role)) n.base.records to;
+        sends = λ to. (sends_ends n.pending link.0 to ++ (sends_parted n link.0 peer role to ++ sends_rows n (rows_by role) to)) ++ sends_snapshots (tables (left_by peer role)) n.base.records to;
         refused = option_or (refuses_parting n.base role) (refuses_rows n (rows_by role));
       }
 
@@ -63,6 +70,7 @@ module _ (n : NodeState) (link : LinkNo) where
         base = base_down n.base o;
         rows = rows_of o;
         known = after_changes n.known (changes n.rows (rows_of o));
+        pending = dropped (link_no link.0) n.pending;
         spent = n.spent;
       }
 
@@ -71,7 +79,7 @@ module _ (n : NodeState) (link : LinkNo) where
       record {
         before = n;
         left = left_of o;
-        sends = λ to. (sends_down n link.0 o to ++ sends_rows n (rows_of o) to) ++ sends_snapshots (tables (left_of o)) n.base.records to;
+        sends = λ to. (sends_ends n.pending link.0 to ++ (sends_down n link.0 o to ++ sends_rows n (rows_of o) to)) ++ sends_snapshots (tables (left_of o)) n.base.records to;
         refused = option_or (refuses_down n.base o) (refuses_rows n (rows_of o));
       }
 
@@ -92,7 +100,7 @@ module _ (n : NodeState) (link : LinkNo) where
         → IsDone (event_part n (Down link)) r now said all
     client_gone peer at is h =
         of_link peer Client at is
-        (redone (leave_part n link) (down_by peer Client) r now said all refl refl (λ to. nothing_more (tables (left_by peer Client)) n.base.records (sends_rows n (left n.rows link.0) to) refl to) refl h)
+        (redone (leave_part n link) (down_by peer Client) r now said all refl refl (λ to. nothing_more (tables (left_by peer Client)) n.base.records (sends_ends n.pending link.0 to ++ sends_rows n (left n.rows link.0) to) refl to) refl h)
 
     pub router_gone : (peer : Peer) → Some peer ≡ option_map (λ l. l.peer) (link_at n.links link.0) → peer.role ≡ Router → position n.known n.known.me < 2 ^ 64
         → IsDone (down_part n link.0 peer) r now said all → IsDone (event_part n (Down link)) r now said all
@@ -103,6 +111,40 @@ module _ (n : NodeState) (link : LinkNo) where
         of_link peer Router at is
         (redone (down_part n link.0 peer) (down_by peer Router) r now said all refl stays
         (λ to.
-        ap (λ (m : NodeState). sent to ++ sends_snapshots (tables m) n.base.records to) stays
-        ∙ ap (λ (ms : List Msg). ms ++ sends_snapshots (tables (with_rows last last.rows)) n.base.records to) (sym (ap (λ (ms : List Msg). sent to ++ ms) (rows_silent n to) ∙ append-nil (sent to))))
+        ap (λ (m : NodeState). (sends_ends n.pending link.0 to ++ sent to) ++ sends_snapshots (tables m) n.base.records to) stays
+        ∙ ap (λ (ms : List Msg). (sends_ends n.pending link.0 to ++ ms) ++ sends_snapshots (tables (with_rows last last.rows)) n.base.records to) (sym (ap (λ (ms : List Msg). sent to ++ ms) (rows_silent n to) ∙ append-nil (sent to))))
         (first_alone (refuses_parting n.base Router) (refuses_rows n n.rows) (rows_allowed n fits)) h)
+
+-- ---- a client leaves
+
+module _ (n : NodeState) (link : LinkNo) where
+  abbrev leaves : Part
+  leaves = asked_part n (Leave link)
+
+  -- that fails, and what was to be told of it is forgotten
+  pub leaving_failed : (e : Failure) (now : NodeState) (said told : List (LinkNo × Msg)) → IsDone leaves (Err e) now [] told → IsDone (leave_part n link) (Err e) now said said
+  leaving_failed (Refused why) now said told h = record { refused = h.refused; state = h.state; sends = refl }
+  leaving_failed NoMemory now said told h = nothing_told (leave_part n link).sends said
+
+  module _ (first : NodeState) (told : List (LinkNo × Msg)) (left : IsLeft leaves first [] told) (said mid : List (LinkNo × Msg)) where
+    -- memory ran out in the finals
+    pub ending_failed : TellsPrefix (sends_ends first.pending link.0) said mid → TellsPrefix (leave_part n link).sends said mid
+    ending_failed h =
+        prefix_first (sends_ends n.pending link.0) leaves.sends (leave_part n link).sends said (λ to. refl) mid
+        (subst (λ (m : NodeState). TellsPrefix (sends_ends m.pending link.0) said mid) left.state h)
+
+    -- or behind them
+    pub finals_told : Tells (sends_ends first.pending link.0) said mid → TellsPrefix (leave_part n link).sends said mid
+    finals_told h = ending_failed (all_told (sends_ends first.pending link.0) said mid h)
+
+    -- the finals are told, and then what was to be told
+    pub client_left : (second last : NodeState) (all : List (LinkNo × Msg)) → Tells (sends_ends first.pending link.0) said mid → second ≡ with_pending first (dropped link first.pending)
+        → all ≡ mid ++ told → last ≡ with_links second (without_link second.links link.0) → IsLeft (leave_part n link) last said all
+    client_left second last all h ended appended e = record {
+      allowed = left.allowed;
+      state = e ∙ ap (λ (m : NodeState). with_links m (without_link m.links link.0)) (ended ∙ ap (λ (m : NodeState). with_pending m (dropped link m.pending)) left.state);
+      sends =
+          told_both (sends_ends n.pending link.0) leaves.sends (leave_part n link).sends said (λ to. refl) mid all
+          (subst (λ (m : NodeState). Tells (sends_ends m.pending link.0) said mid) left.state h)
+          (told_behind leaves.sends told mid all left.sends appended);
+    }

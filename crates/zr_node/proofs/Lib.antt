@@ -15,6 +15,7 @@ pub mod Pushed
 pub mod Quiet
 pub mod Refusals
 pub mod Remembering
+pub mod Requests
 pub mod Retold
 pub mod Rows
 pub mod Staying

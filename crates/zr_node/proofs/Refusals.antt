@@ -1,7 +1,8 @@
 -- What the table refuses is neither that the router is spent nor that memory ran out.
-use Rattle.std.proofs.Common.{◌≡◌, ℕ, Bool, true, false, cond, nat_lt, ◌+◌, List, Option, Some, None, option_map, is_some, subst, ◌||◌}
+use Rattle.std.proofs.Common.{◌≡◌, ℕ, Bool, true, false, cond, nat_lt, ◌+◌, List, Option, Some, None, option_map, is_some, subst, ◌||◌, ◌&&◌}
 use Rattle.std.specs.Option.{option_or}
 use Rattle.zr_graph.specs.Base.{BaseState}
+use Rattle.zr_id.specs.declared.link.LinkNo.{LinkNo}
 use Rattle.zr_local.specs.Rows as rows
 use Rattle.zr_local.specs.declared.error.LocalError.TheVariants as local
 use Rattle.zr_local.specs.declared.row.Row.{Row}
@@ -19,11 +20,13 @@ use Rattle.zr_msg.specs.declared.msg.Msg.TheVariants as msg
 use Rattle.zr_msg.specs.declared.peer.LinkPeer.{LinkPeer}
 use Rattle.zr_msg.specs.declared.peer.Role.{Role}
 use Rattle.zr_msg.specs.declared.peer.Role.TheVariants.{Client, Router}
+use Rattle.zr_pend.specs.Pending.{asked}
 use Rattle.zr_routing.specs.Changes.{changes, have_no_room}
+use Rattle.zr_routing.specs.Queries.{asked_links, asker, asks_most, has_no_number, most_pending}
 use Rattle.zr_routing.specs.Tables.{link_at, leads_to_client, leads_to_router}
 use Rattle.zr_set.specs.Decls.{decl_weight, most_weight, set_of, weight}
-use Rattle.zr_table.specs.State.{NodeState}
-use Rattle.zr_table.specs.Table.{refuses, refuses_up, refuses_parting, refuses_down, refuses_rows, refuses_declared, refuses_undeclared, refuses_step_from, refuses_snap_from, refuses_from, local_error, known_error, is_worn, is_full, able_kind, row, key_of, rows_declared, rows_undeclared, rows_left}
+use Rattle.zr_table.specs.State.{NodeState, tables}
+use Rattle.zr_table.specs.Table.{refuses, refuses_up, refuses_parting, refuses_down, refuses_rows, refuses_declared, refuses_undeclared, refuses_step_from, refuses_snap_from, refuses_from, refuses_request, local_error, known_error, is_worn, is_full, able_kind, row, key_of, rows_declared, rows_undeclared, rows_left}
 
 abbrev pub IsOfTable : NodeError → Type 0
 IsOfTable (e.Gap router has came) = Unit {0}
@@ -125,6 +128,12 @@ module _ (n : NodeState) (from : ℕ) where
       by true = log_limit 0 (weight (set_of ds))
       by false = tt
 
+  of_request : (id : ℕ) (links : List LinkNo) → AreOfTable (refuses_request n from id links)
+  of_request id links =
+      either (asked (asker from id) n.pending) (Some (e.NumberTaken id)) (cond (leads_to_client n.links from && asks_most n.pending from) (Some (e.TooMany most_pending)) (cond (has_no_number n.pending links) (Some e.Worn) None))
+      tt
+      (either (leads_to_client n.links from && asks_most n.pending from) (Some (e.TooMany most_pending)) (cond (has_no_number n.pending links) (Some e.Worn) None) tt (worn (has_no_number n.pending links)))
+
   of_message : (m : Msg) → AreOfTable (refuses_from n from m)
   of_message (msg.Sub id key) = of_declared (row from id kind.Sub key)
   of_message (msg.Unsub id) = of_undeclared (key_of from id kind.Sub)
@@ -138,7 +147,7 @@ module _ (n : NodeState) (from : ℕ) where
   of_message (msg.ToldUnable id) = tt
   of_message (msg.ToldEnd interest) = tt
   of_message (msg.Push tree content) = tt
-  of_message (msg.Request tree id target content) = tt
+  of_message (msg.Request tree id target content) = of_request id (asked_links (tables n) from tree target content.key)
   of_message (msg.Response id content) = tt
   of_message (msg.Final id extras) = tt
   of_message (msg.State links) = tt

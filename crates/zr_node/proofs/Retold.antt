@@ -26,6 +26,10 @@ retold a b before now e h = record { sent = h.sent; appended = h.appended; each 
 pub retold_prefix : (a b : ℕ → List Msg) (before now : List (LinkNo × Msg)) → ((to : ℕ) → a to ≡ b to) → TellsPrefix a before now → TellsPrefix b before now
 retold_prefix a b before now e h = record { sent = h.sent; appended = h.appended; each = λ to. subst (λ ms. IsPrefixOf (on_link to h.sent) ms) (e to.0) (h.each to) }
 
+-- what was told into a list of its own is told where that list is appended
+pub told_behind : (rows : ℕ → List Msg) (told before now : List (LinkNo × Msg)) → Tells rows [] told → now ≡ before ++ told → Tells rows before now
+told_behind rows told before now h e = record { sent = told; appended = e; each = λ to. ap (λ (xs : List (LinkNo × Msg)). on_link to xs) h.appended ∙ h.each to }
+
 module _ (a b both : ℕ → List Msg) (before : List (LinkNo × Msg)) (e : (to : ℕ) → a to ++ b to ≡ both to) where
   -- one after the other
   pub told_both : (mid now : List (LinkNo × Msg)) → Tells a before mid → Tells b mid now → Tells both before now

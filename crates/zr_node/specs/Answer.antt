@@ -9,6 +9,8 @@ use Rattle.zr_log.specs.declared.error.KnownError.TheVariants as known
 use Rattle.zr_msg.specs.declared.error.NodeError.{NodeError}
 use Rattle.zr_msg.specs.declared.error.NodeError.TheVariants as node
 use Rattle.zr_msg.specs.declared.event.Event.{Event}
+use Rattle.zr_query.specs.declared.asking.RequestError.{RequestError}
+use Rattle.zr_query.specs.declared.asking.RequestError.TheVariants as request
 use Rattle.zr_table.specs.State.{NodeState}
 use Rattle.zr_table.specs.Table.{refuses}
 use Rattle.zr_node.specs.declared.failure.Failure.{Failure}
@@ -30,6 +32,10 @@ known_failure (known.Gap source has came) = Refused (node.Gap source has came)
 known_failure (known.TextLimit held more) = Refused (node.TextLimit held more)
 known_failure known.Worn = Refused node.Worn
 known_failure known.NoMemory = NoMemory
+
+abbrev pub request_failure : RequestError → Failure
+request_failure request.NoNumber = Refused node.Worn
+request_failure request.NoMemory = NoMemory
 
 -- what became of a client's declarations, as the router answers it
 abbrev pub answered : {X : Type 0} → ℕ → Result X LocalError → Result X Failure

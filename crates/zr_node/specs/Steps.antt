@@ -8,15 +8,19 @@ use Rattle.zr_log.specs.Log.{Change}
 use Rattle.zr_msg.specs.declared.content.Parts.{Parts}
 use Rattle.zr_msg.specs.declared.decl.Decl.{Decl}
 use Rattle.zr_msg.specs.declared.event.Event.{Event}
+use Rattle.zr_msg.specs.declared.extras.Extras.{Extras}
 use Rattle.zr_msg.specs.declared.msg.Msg.{Msg}
+use Rattle.zr_msg.specs.declared.msg.Target.{Target}
 use Rattle.zr_msg.specs.declared.peer.Peer.{Peer}
 use Rattle.zr_msg.specs.declared.peer.Role.{Role}
 use Rattle.zr_msg.specs.declared.peer.Role.TheVariants.{Router}
 use Rattle.zr_msg.specs.declared.peer.LinkPeer.{LinkPeer}
+use Rattle.zr_pend.specs.Pending.{dropped}
+use Rattle.zr_routing.specs.Queries.{link_no, asked_links, sends_request, sends_reply, sends_final, sends_ends, after_request, after_final}
 use Rattle.zr_routing.specs.Samples.{sends_push}
 use Rattle.zr_routing.specs.Snapshots.{sends_step, sends_snap, sends_snapshots}
 use Rattle.zr_table.specs.State.{NodeState, new_link, tables}
-use Rattle.zr_table.specs.Table.{after, sends, refuses, base_up, base_told, joined, parted, with_base, with_link, without_link, with_known, with_rows, known_step, known_snap, rows_declared, rows_undeclared, sends_up, sends_parted, sends_state, sends_from, sends_rows, after_from, refuses_up, refuses_parting, refuses_from, refuses_declared, refuses_undeclared, refuses_step_from, refuses_snap_from}
+use Rattle.zr_table.specs.Table.{after, sends, refuses, base_up, base_told, joined, parted, with_base, with_pending, with_link, without_link, with_known, with_rows, known_step, known_snap, rows_declared, rows_undeclared, sends_up, sends_parted, sends_state, sends_from, sends_rows, after_from, refuses_up, refuses_parting, refuses_from, refuses_request, refuses_declared, refuses_undeclared, refuses_step_from, refuses_snap_from}
 use Rattle.zr_node.specs.Asked.{rows_after, refuses_change}
 use Rattle.zr_node.specs.Done.{Part}
 use Rattle.zr_node.specs.declared.asked.Asked.{Asked}
@@ -24,10 +28,10 @@ use Rattle.zr_node.specs.declared.asked.Asked.TheVariants.{Leave}
 
 -- a router with other links, and one whose clients have declared other rows, of which nothing stands in its log yet
 abbrev pub with_links : NodeState → List LinkPeer → NodeState
-with_links node links = record { links = links; base = node.base; rows = node.rows; known = node.known; spent = node.spent }
+with_links node links = record { links = links; base = node.base; rows = node.rows; known = node.known; pending = node.pending; spent = node.spent }
 
 abbrev pub with_local : NodeState → List Row → NodeState
-with_local node rows = record { links = node.links; base = node.base; rows = rows; known = node.known; spent = node.spent }
+with_local node rows = record { links = node.links; base = node.base; rows = rows; known = node.known; pending = node.pending; spent = node.spent }
 
 -- the snapshots for the children that an event has made, by the state that it leaves and the one before it
 abbrev pub news_to : NodeState → NodeState → ℕ → List Msg
@@ -57,29 +61,34 @@ join_part node link peer =
 
 -- the Down of a link to a router
 abbrev pub parted_from : NodeState → ℕ → Peer → NodeState
-parted_from node link peer = with_links (with_base node (parted node.base peer.id)) (without_link node.links link)
+parted_from node link peer = with_links (with_pending (with_base node (parted node.base peer.id)) (dropped (link_no link) node.pending)) (without_link node.links link)
 
 abbrev pub down_part : NodeState → ℕ → Peer → Part
 down_part node link peer =
     record {
       before = node;
       left = parted_from node link peer;
-      sends = λ to. sends_parted node link peer Router to ++ news_to node (parted_from node link peer) to;
+      sends = λ to. (sends_ends node.pending link to ++ sends_parted node link peer Router to) ++ news_to node (parted_from node link peer) to;
       refused = refuses_parting node.base Router;
     }
 
--- the records of the Down of a router, whose link is still there
+-- the finals and the records of the Down of a router, whose link is still there
 abbrev pub parting_part : NodeState → ℕ → Peer → Part
 parting_part node link peer =
-    record { before = node; left = with_base node (parted node.base peer.id); sends = λ to. sends_parted node link peer Router to; refused = refuses_parting node.base Router }
+    record {
+      before = node;
+      left = with_pending (with_base node (parted node.base peer.id)) (dropped (link_no link) node.pending);
+      sends = λ to. sends_ends node.pending link to ++ sends_parted node link peer Router to;
+      refused = refuses_parting node.base Router;
+    }
 
 -- the Down of a link to a client
 abbrev pub leave_part : NodeState → LinkNo → Part
 leave_part node link =
     record {
       before = node;
-      left = with_links (with_rows node (rows_after node.rows (Leave link))) (without_link node.links link.0);
-      sends = λ to. sends_rows node (rows_after node.rows (Leave link)) to;
+      left = with_links (with_pending (with_rows node (rows_after node.rows (Leave link))) (dropped link node.pending)) (without_link node.links link.0);
+      sends = λ to. sends_ends node.pending link.0 to ++ sends_rows node (rows_after node.rows (Leave link)) to;
       refused = refuses_change node (Leave link);
     }
 
@@ -154,3 +163,20 @@ told_part node from told =
 -- a sample
 abbrev pub push_part : NodeState → ℕ → Option (List ℕ) → Parts → Part
 push_part node from tree content = record { before = node; left = node; sends = λ to. sends_push (tables node) from tree content to; refused = None }
+
+-- a request, a reply, and a final
+abbrev pub request_part : NodeState → ℕ → Option (List ℕ) → ℕ → Target → Parts → Part
+request_part node from named number target content =
+    record {
+      before = node;
+      left = with_pending node (after_request (tables node) node.pending from named number target content.key);
+      sends = λ to. sends_request (tables node) node.pending from named number target content to;
+      refused = refuses_request node from number (asked_links (tables node) from named target content.key);
+    }
+
+abbrev pub response_part : NodeState → ℕ → ℕ → Parts → Part
+response_part node from number content = record { before = node; left = node; sends = λ to. sends_reply node.pending from number content to; refused = None }
+
+abbrev pub final_part : NodeState → ℕ → ℕ → Extras → Part
+final_part node from number extras =
+    record { before = node; left = with_pending node (after_final node.pending from number); sends = λ to. sends_final node.pending from number extras to; refused = None }

@@ -3,6 +3,7 @@
 ghost use Rattle.std.specs.Prelude.{◌≡◌, ◌+◌, ◌-◌, ◌^◌, not, nat_lt, length, map, IfOk, OnOk, OnErr};
 ghost use Rattle.zr_local.specs.Rows.{gone, came};
 ghost use Rattle.zr_routing.specs.Changes.{changes_of, after_changes};
+ghost use Rattle.zr_table.specs.Table.{able_kind};
 ghost use Rattle.zr_node.specs.Answer.{IsJudged, answered};
 ghost use Rattle.zr_node.specs.Asked.{rows_after, refuses_asked};
 
@@ -46,6 +47,13 @@ impl Asked {
             Asked::Leave { link } => Asked::Leave { link: *link },
         })
     }
+}
+
+/// The kind of a queryable.
+pub fn able_kind(complete: bool) -> Kind
+    ensures { result ≡ able_kind complete }
+{
+    if complete { Kind::Full } else { Kind::Able }
 }
 
 /// Does what a client asks, and tells what became of the set of all declarations.

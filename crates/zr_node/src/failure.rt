@@ -4,6 +4,7 @@ use std::alloc::AllocError;
 use zr_graph::base::ChangeError;
 use zr_log::error::KnownError;
 use zr_msg::error::NodeError;
+use zr_query::asking::RequestError;
 
 /// Why an event wasn't handled.
 #[derive(Debug, Drop)]
@@ -22,6 +23,20 @@ impl From<AllocError> for Failure {
 
     fn from(_: AllocError) -> Failure {
         Failure::NoMemory
+    }
+}
+
+impl From<RequestError> for Failure {
+    ghost use Rattle.std.specs.Prelude.{◌≡◌};
+    ghost use Rattle.zr_node.specs.Answer.{request_failure};
+
+    ghost from_gives = { λ e f. f ≡ request_failure e };
+
+    fn from(error: RequestError) -> Failure {
+        match error {
+            RequestError::NoNumber => Failure::Refused(NodeError::Worn),
+            RequestError::NoMemory => Failure::NoMemory,
+        }
     }
 }
 

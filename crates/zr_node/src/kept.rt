@@ -19,6 +19,7 @@ use zr_msg::msg::Msg;
 use zr_msg::peer::LinkPeer;
 use zr_push::push::tree_of;
 use zr_push::route::Route;
+use zr_push::sought::Sought;
 use zr_routing::tables::Tables;
 use zr_tree::trees::Trees;
 
@@ -70,10 +71,10 @@ pub fn push_along(
         return Ok(());
     };
     let key = content.key();
-    if let Some(route) = routes.find(tree, key) {
-        return route.send(alloc, link, tree, content, out);
+    if let Some(route) = routes.find(tree, Sought::Subscribers, key) {
+        return route.send(link, tree, content, out);
     }
-    let route = Route::of(alloc, tables, tree, key)?;
-    route.send(alloc, link, tree, content, out)?;
-    routes.remember(alloc, tree, key, route)
+    let route = Route::of(alloc, tables, tree, Sought::Subscribers, key)?;
+    route.send(link, tree, content, out)?;
+    routes.remember(alloc, tree, Sought::Subscribers, key, route)
 }

@@ -3,6 +3,7 @@
 #![tactic(auto)]
 
 mod asked;
+mod asking;
 mod failure;
 mod kept;
 mod links;

@@ -1,6 +1,6 @@
 //! `Node`: a router's state, and what it does with each event.
 
-ghost use Rattle.std.specs.Prelude.{◌≡◌, ℕ, ◌<◌, ◌^◌, ◌+◌, ◌↔◌, true, Some, None, List, OnOk, OnErr, IfOk, IfSome, IfNone, [], is_some, length, if◌then◌else◌};
+ghost use Rattle.std.specs.Prelude.{◌≡◌, ℕ, ◌<◌, ◌^◌, ◌+◌, ◌↔◌, true, Some, None, List, OnOk, OnErr, IfOk, IfSome, IfNone, [], length, if◌then◌else◌};
 ghost use Rattle.std.specs.Option.{option_map};
 ghost use Rattle.zr_graph.specs.Base.{is_newer, after_record};
 ghost use Rattle.zr_id.specs.Record.{RecordState};
@@ -12,24 +12,26 @@ ghost use Rattle.zr_msg.specs.declared.decl.Decl.{Decl};
 ghost use Rattle.zr_routing.specs.Changes.{changes_of, after_changes, sends_changes};
 ghost use Rattle.zr_routing.specs.Snapshots.{sends_step, sends_snap, sends_snapshots};
 ghost use Rattle.zr_routing.specs.Tables.{TableState, HaveSameTrees, AreNumbered, link_at, link_to, leads_to_client, leads_to_router, free_link};
-ghost use Rattle.zr_table.specs.Event.{AreLinks, IsFresh, MayCome, Sends, SendsPrefix, Tells, TellsPrefix};
-ghost use Rattle.zr_table.specs.State.{new_node, new_link, tables};
-ghost use Rattle.zr_table.specs.Table.{able_kind, row, key_of, after, refuses, with_base, with_known, with_link, without_link};
+ghost use Rattle.zr_table.specs.Event.{AreLinks, MayCome, Sends, SendsPrefix, Tells, TellsPrefix};
+ghost use Rattle.zr_table.specs.State.{new_node, tables};
+ghost use Rattle.zr_table.specs.Table.{row, key_of, after, refuses, with_base, with_known};
 ghost use Rattle.zr_node.specs.Answer.{IsAnswered, IsJudged, refusal_of};
 ghost use Rattle.zr_node.specs.Asked.{rows_after, refuses_asked, refuses_change};
 ghost use Rattle.zr_node.specs.Done.{IsDone};
-ghost use Rattle.zr_node.specs.Steps.{with_links, with_local, event_part, up_part, join_part, down_part, parting_part, leave_part, message_part, asked_part, declare_part, undeclare_part, step_part, snap_part, told_part, push_part};
+ghost use Rattle.zr_node.specs.Steps.{with_local, event_part, message_part, asked_part, declare_part, undeclare_part, step_part, snap_part, told_part};
 
-use crate::asked::{self, Asked, apply, copy_of, has_room};
+mod neighbours;
+mod traffic;
+
+use crate::asked::{self, Asked, able_kind, apply, copy_of, has_room};
 use crate::failure::Failure;
-use crate::kept::{lend, push_along, take_trees};
+use crate::kept::{lend, take_trees};
 use crate::links::Links;
-use crate::own;
 use crate::routes::Routes;
 use std::alloc::{AllocError, Global};
 use std::marker::Model;
 use zr_flood::children::{fresh_children, pass_on, tell_changes};
-use zr_flood::flood::{flood_down, flood_newer, flood_up, is_router};
+use zr_flood::flood::{flood_newer, is_router};
 use zr_graph::base::{Accepted, Base};
 use zr_id::link::LinkNo;
 use zr_id::record::LinkRecord;
@@ -39,28 +41,30 @@ use zr_local::changes::Changes;
 use zr_local::local::Local;
 use zr_local::row::Row;
 use zr_log::known::{Known, Taken};
-use zr_msg::content::Content;
 use zr_msg::decl::{Decl, Decls, Kind};
 use zr_msg::error::NodeError;
 use zr_msg::event::Event;
 use zr_msg::msg::Msg;
-use zr_msg::peer::{LinkPeer, Peer, Role};
+use zr_msg::peer::{LinkPeer, Peer};
 use zr_msg::shared::Shared;
+use zr_pend::pending::Pending;
 use zr_tree::trees::Trees;
 
 /// A log with at most so many changes has room for those of one event: lists are shorter than the rest.
 const SURE_OF_ROOM: u64 = 0x4000_0000_0000_0000;
 
-/// A router: its links, what it knows of the links of all routers, what its clients have declared, and what it knows of all logs.
+/// A router: its links, what it knows of the links of all routers, what its clients have declared, what it knows of all logs, and the requests
+/// that it has passed on and that have not ended.
 #[derive(Drop)]
 pub struct Node {
     links: Links,
     base: Base,
     local: Local,
     known: Known,
+    pending: Pending,
     // the trees of the base, if they were worked out since it last changed; no contract sees them
     trees: Option<Trees>,
-    // where earlier samples went by what the node is now; no contract sees them
+    // where earlier samples and requests went by what the node is now; no contract sees them
     routes: Routes,
     spent: bool,
 }
@@ -71,7 +75,7 @@ impl Model for Node {
 
     ghost Value = { NodeState };
 
-    ghost view = { λ n. record { links = n.links; base = n.base; rows = n.local; known = n.known; spent = n.spent } };
+    ghost view = { λ n. record { links = n.links; base = n.base; rows = n.local; known = n.known; pending = n.pending; spent = n.spent } };
 
     ghost invariant = { λ n. IsWhole (record { links = n.links; base = n.base; rows = n.local; known = n.known }) n.trees n.routes };
 }
@@ -86,6 +90,7 @@ impl Node {
             base: Base::new(alloc, me)?,
             local: Local::new(alloc),
             known: Known::new(alloc, me),
+            pending: Pending::new(alloc),
             trees: None,
             routes: Routes::new(alloc),
             spent: false,
@@ -218,152 +223,6 @@ impl Node {
         }
     }
 
-    // A link has come up.
-    fn up(
-        &mut self,
-        alloc: Global,
-        link: LinkNo,
-        peer: &Peer,
-        out: &mut Vec<(LinkNo, Msg)>,
-    ) -> Result<(), Failure>
-        requires { IsFresh self.old link peer.now }
-        ensures { IsDone (up_part self.old link peer.now peer.now.role) result self.new out.old.items out.new.items }
-    {
-        match peer.role {
-            Role::Client => Ok(self.add(link, peer)?),
-            Role::Router => self.router_up(alloc, link, peer, out),
-        }
-    }
-
-    // A link to a router has come up: records go out, and what a router has to know that has become a child in a tree.
-    fn router_up(
-        &mut self,
-        alloc: Global,
-        link: LinkNo,
-        peer: &Peer,
-        out: &mut Vec<(LinkNo, Msg)>,
-    ) -> Result<(), Failure>
-        requires { IsFresh self.old link peer.now }
-        ensures { IsDone (up_part self.old link peer.now Role.Router) result self.new out.old.items out.new.items }
-    {
-        let before = self.trees_before(alloc)?;
-        match self.join(alloc, link, peer, out) {
-            Ok(()) => {
-                self.add(link, peer)?;
-                Ok(self.tell_new_children(alloc, before, out)?)
-            }
-            Err(failure) => Err(failure),
-        }
-    }
-
-    // The own record lists the router of a link that has come up, and records go out.
-    fn join(
-        &mut self,
-        alloc: Global,
-        link: LinkNo,
-        peer: &Peer,
-        out: &mut Vec<(LinkNo, Msg)>,
-    ) -> Result<(), Failure>
-        requires { IsFresh self.old link peer.now }
-        ensures { IsDone (join_part self.old link peer.now) result self.new out.old.items out.new.items }
-    {
-        own::join(alloc, &mut self.base, &peer.id)?;
-        self.trees = None;
-        self.routes.clear();
-        Ok(flood_up(alloc, &self.base, self.links.as_slice(), link, out)?)
-    }
-
-    fn add(&mut self, link: LinkNo, peer: &Peer) -> Result<(), AllocError>
-        requires { IsFresh self.old link peer.now }
-        ensures { OnOk result (self.new ≡ with_links self.old (with_link self.old.links (new_link link peer.now))) }
-    {
-        self.routes.clear(); // they are of the links so far
-        self.links.add(link, *peer)
-    }
-
-    // A link has gone down.
-    fn down(
-        &mut self,
-        alloc: Global,
-        link: LinkNo,
-        out: &mut Vec<(LinkNo, Msg)>,
-    ) -> Result<(), Failure>
-        requires { is_some (link_at self.old.links link.0) ≡ true }
-        ensures { IsDone (event_part self.old (Event.Down link)) result self.new out.old.items out.new.items }
-    {
-        let Some(peer) = self.peer_at(link) else {
-            unreachable!()
-        };
-        match peer.role {
-            Role::Client => self.client_down(alloc, link, out),
-            Role::Router => {
-                prove!(self.known.position(self.base.me()) <= u64::MAX); // so rows that stay are not refused
-                self.router_down(alloc, link, &peer, out)
-            }
-        }
-    }
-
-    // A link to a client has gone down: all that the client had declared goes.
-    fn client_down(
-        &mut self,
-        alloc: Global,
-        link: LinkNo,
-        out: &mut Vec<(LinkNo, Msg)>,
-    ) -> Result<(), Failure>
-        ensures { IsDone (leave_part self.old link) result self.new out.old.items out.new.items }
-    {
-        match self.change_rows(alloc, Asked::Leave { link }, out) {
-            Ok(()) => {
-                self.remove(link);
-                Ok(())
-            }
-            Err(failure) => Err(failure),
-        }
-    }
-
-    // A link to a router has gone down: the own record goes out, and what a router has to know that has become a child in a tree.
-    fn router_down(
-        &mut self,
-        alloc: Global,
-        link: LinkNo,
-        peer: &Peer,
-        out: &mut Vec<(LinkNo, Msg)>,
-    ) -> Result<(), Failure>
-        ensures { IsDone (down_part self.old link.0 peer.now) result self.new out.old.items out.new.items }
-    {
-        let before = self.trees_before(alloc)?;
-        match self.part(alloc, link, peer, out) {
-            Ok(()) => {
-                self.remove(link);
-                Ok(self.tell_new_children(alloc, before, out)?)
-            }
-            Err(failure) => Err(failure),
-        }
-    }
-
-    // The own record lists the router of a link that has gone down no more, and goes out.
-    fn part(
-        &mut self,
-        alloc: Global,
-        link: LinkNo,
-        peer: &Peer,
-        out: &mut Vec<(LinkNo, Msg)>,
-    ) -> Result<(), Failure>
-        ensures { IsDone (parting_part self.old link.0 peer.now) result self.new out.old.items out.new.items }
-    {
-        own::part(alloc, &mut self.base, &peer.id)?;
-        self.trees = None;
-        self.routes.clear();
-        Ok(flood_down(alloc, &self.base, self.links.as_slice(), link, out)?)
-    }
-
-    fn remove(&mut self, link: LinkNo)
-        ensures { self.new ≡ with_links self.old (without_link self.old.links link.0) }
-    {
-        self.routes.clear(); // the link may stand on any of them
-        self.links.remove(link);
-    }
-
     // A message has come over a link.
     fn on_message(
         &mut self,
@@ -382,6 +241,14 @@ impl Node {
             }
             Msg::Unable { id } => self.undeclare(alloc, link, *id, Kind::Able, out),
             Msg::Push { tree, content } => self.push(alloc, link, *tree, content, out),
+            Msg::Request {
+                tree,
+                id,
+                target,
+                content,
+            } => self.request(alloc, link, *tree, *id, *target, content, out),
+            Msg::Response { id, content } => self.response(link, *id, content, out),
+            Msg::Final { id, extras } => self.end(link, *id, extras, out),
             Msg::State { links } => self.accept(alloc, link, links, out),
             Msg::Step {
                 source,
@@ -400,10 +267,7 @@ impl Node {
             | Msg::ToldAble { .. }
             | Msg::ToldUnsub { .. }
             | Msg::ToldUnable { .. }
-            | Msg::ToldEnd { .. }
-            | Msg::Request { .. }
-            | Msg::Response { .. }
-            | Msg::Final { .. } => Ok(()),
+            | Msg::ToldEnd { .. } => Ok(()),
         }
     }
 
@@ -533,28 +397,6 @@ impl Node {
     {
         self.routes.clear(); // they are of the logs so far
         asked::log(&mut self.known, changes)
-    }
-
-    // A sample has come over a link. Where it goes on a tree and a key that samples came on before, since the tables last changed, is not
-    // asked of the tables again.
-    fn push(
-        &mut self,
-        alloc: Global,
-        link: LinkNo,
-        tree: Option<Zid>,
-        content: &Content,
-        out: &mut Vec<(LinkNo, Msg)>,
-    ) -> Result<(), Failure>
-        ensures { IsDone (push_part self.old link.0 tree content.now) result self.new out.old.items out.new.items }
-    {
-        let Some(from) = self.links.at(link) else {
-            return Ok(());
-        };
-        let trees = take_trees(alloc, &mut self.trees, &self.base)?;
-        let tables = lend(&self.links, &self.base, &trees, &self.local, &self.known);
-        let pushed = push_along(alloc, &tables, &mut self.routes, from, tree, content, out);
-        self.trees = Some(trees);
-        Ok(pushed?)
     }
 
     // A record has come over a link: a newer one of a router is kept, and goes on.
@@ -733,10 +575,4 @@ impl Node {
             None => false,
         }
     }
-}
-
-fn able_kind(complete: bool) -> Kind
-    ensures { result ≡ able_kind complete }
-{
-    if complete { Kind::Full } else { Kind::Able }
 }

@@ -1,18 +1,21 @@
-//! What a router remembers of the trees and keys of samples, so that its tables are asked once a tree and key and not once a sample.
+//! What a router remembers of the trees and keys of samples and requests, so that its tables are asked once a tree and key and not once a
+//! message.
 
 ghost use Rattle.std.specs.Prelude.{◌≡◌, ◌≤◌, ◌==◌, ◌&&◌};
 ghost use Rattle.std.specs.BTreeMap.{btree_map_len};
 ghost use Rattle.std.specs.Str.{bytes_eq};
 ghost use Rattle.zr_id.specs.Zid.{is_named};
+ghost use Rattle.zr_node.specs.Sought.{sought_number};
 
 use std::alloc::{AllocError, Global};
 use std::collections::BTreeMap;
 use zr_id::zid::Zid;
 use zr_key::key::KeyExpr;
 use zr_push::route::Route;
+use zr_push::sought::Sought;
 
-/// How many routes are remembered at most. Samples may come on ever new keys, so there has to be a bound. With a thousand numbers in
-/// each, the routes take some 16 megabytes, or twice that with the room that a `Vec` keeps to grow in.
+/// How many routes are remembered at most. Messages may come on ever new keys, so there has to be a bound. With a thousand stops in
+/// each, the routes take some 32 megabytes, or twice that with the room that a `Vec` keeps to grow in.
 const MOST_ROUTES: usize = 4_096;
 
 /// Where the mixing of bytes starts, and what it multiplies by (the FNV-1a hash of 64 bits).
@@ -20,26 +23,29 @@ const START: u64 = 0xcbf2_9ce4_8422_2325;
 
 const FACTOR: u64 = 0x0100_0000_01b3;
 
-/// A route, with the tree and the key that it is of.
+/// A route, with the tree, what is sought and the key that it is of.
 #[derive(Debug, Drop)]
 pub struct Remembered {
     tree: Zid,
+    sought: Sought,
     key: KeyExpr,
     route: Route,
 }
 
 impl Remembered {
-    fn is_of(&self, tree: Zid, key: &KeyExpr) -> bool
-        ensures { result ≡ (is_named self.now.tree tree && bytes_eq self.now.key key.now) }
+    fn is_of(&self, tree: Zid, sought: Sought, key: &KeyExpr) -> bool
+        ensures { result ≡ (is_named self.now.tree tree && (sought_number self.now.sought == sought_number sought && bytes_eq self.now.key key.now)) }
     {
-        self.tree == tree && self.key.text() == key.text()
+        self.tree == tree
+            && number_of_sought(self.sought) == number_of_sought(sought)
+            && self.key.text() == key.text()
     }
 }
 
 /// The routes that are remembered.
 #[derive(Debug, Drop)]
 pub struct Routes {
-    // by a number that is worked out from tree and key: a hint, which is checked at the route
+    // by a number that is worked out from tree, what is sought and key: a hint, which is checked at the route
     known: BTreeMap<u64, Remembered>,
     ghost bounded: { btree_map_len known ≤ 4096 },
 }
@@ -66,32 +72,41 @@ impl Routes {
         self.known.clear();
     }
 
-    /// The route of a tree and a key, if it is remembered.
-    pub fn find(&self, tree: Zid, key: &KeyExpr) -> Option<&Route>
-        ensures { (t : TableState) → AreRoutes self.now t → IfSome result (λ r. r.now ≡ route_of t tree key.now) }
+    /// The route in a tree to what is sought for a key, if it is remembered.
+    pub fn find(&self, tree: Zid, sought: Sought, key: &KeyExpr) -> Option<&Route>
+        ensures { (t : TableState) → AreRoutes self.now t → IfSome result (λ r. r.now ≡ route_of t tree sought key.now) }
     {
-        let found = self.known.get(&number_of(tree, key))?;
-        if found.is_of(tree, key) {
+        let found = self.known.get(&number_of(tree, sought, key))?;
+        if found.is_of(tree, sought, key) {
             Some(&found.route)
         } else {
             None
         }
     }
 
-    /// Remembers the route of a tree and a key. Where there is no room for it, all others are forgotten first.
+    /// Remembers the route in a tree to what is sought for a key. Where there is no room for it, all others are forgotten first.
     pub fn remember(
         &mut self,
         alloc: Global,
         tree: Zid,
+        sought: Sought,
         key: &KeyExpr,
         route: Route,
     ) -> Result<(), AllocError>
-        ensures { (t : TableState) → AreRoutes self.old t → route ≡ route_of t tree key.now → AreRoutes self.new t }
+        ensures { (t : TableState) → AreRoutes self.old t → route ≡ route_of t tree sought key.now → AreRoutes self.new t }
     {
         self.make_room();
-        let number = number_of(tree, key);
+        let number = number_of(tree, sought, key);
         let key = key.copy(alloc)?;
-        self.known.insert(number, Remembered { tree, key, route })?;
+        self.known.insert(
+            number,
+            Remembered {
+                tree,
+                sought,
+                key,
+                route,
+            },
+        )?;
         Ok(())
     }
 
@@ -106,9 +121,20 @@ impl Routes {
     }
 }
 
-// A number for a tree and a key. Others may have the same.
-fn number_of(tree: Zid, key: &KeyExpr) -> u64 {
-    mix(mix(START, tree.bytes()), key.text().as_bytes())
+// A number for a tree, what is sought and a key. Others may have the same.
+fn number_of(tree: Zid, sought: Sought, key: &KeyExpr) -> u64 {
+    let start = mix(START, &[number_of_sought(sought)]);
+    mix(mix(start, tree.bytes()), key.text().as_bytes())
+}
+
+fn number_of_sought(sought: Sought) -> u8
+    ensures { result ≡ sought_number sought }
+{
+    match sought {
+        Sought::Subscribers => 0,
+        Sought::Queryables => 1,
+        Sought::Complete => 2,
+    }
 }
 
 fn mix(mut number: u64, bytes: &[u8]) -> u64 {

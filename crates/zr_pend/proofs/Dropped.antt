@@ -118,7 +118,7 @@ pending_orphaned : (link : LinkNo) (rows : List RowState) (b : Branch) → is_pe
 pending_orphaned link rows b = sym (any_branch b (all_orphaned link rows)) ∙ ap (λ bs. list_any (λ c. is_branch b c) bs) (all_orphaned_branches link rows) ∙ any_branch b rows
 
 -- the branches of a link that have these numbers
-ended_has : (link : LinkNo) (n : ℕ) (ns : List ℕ) → is_in n ns ≡ true → list_any (λ b. is_branch b (branch link n)) (map (λ m. branch link m) ns) ≡ true
+pub ended_has : (link : LinkNo) (n : ℕ) (ns : List ℕ) → is_in n ns ≡ true → list_any (λ b. is_branch b (branch link n)) (map (λ m. branch link m) ns) ≡ true
 ended_has link n [] h = h
 ended_has link n (m ∷ ms) h = by (m == n) refl (ended_has link n ms) h
   where
@@ -127,7 +127,7 @@ ended_has link n (m ∷ ms) h = by (m == n) refl (ended_has link n ms) h
     by true e ih q = or_first _ _ (and_both _ _ (eq-eqb link.0 link.0 refl) (eq-eqb n m (sym (eqb-true m n e))))
     by false e ih q = or_second _ _ (ih q)
 
-ended_apart : (link : LinkNo) (c : Branch) (ns : List ℕ) → (c.link.0 == link.0) ≡ false → list_any (λ b. is_branch b c) (map (λ m. branch link m) ns) ≡ false
+pub ended_apart : (link : LinkNo) (c : Branch) (ns : List ℕ) → (c.link.0 == link.0) ≡ false → list_any (λ b. is_branch b c) (map (λ m. branch link m) ns) ≡ false
 ended_apart link c [] h = refl
 ended_apart link c (m ∷ ms) h = or_none _ _ (rw h refl) (ended_apart link c ms h)
 

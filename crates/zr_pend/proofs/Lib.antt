@@ -4,3 +4,5 @@ pub mod Branches
 pub mod Sound
 pub mod OneRow
 pub mod Dropped
+pub mod Readings
+pub mod ReadingsOfDrop

@@ -38,11 +38,11 @@ rows_stay b (r ∷ rows) h k =
     ∙ ap (λ z. r ∷ z) (rows_stay b rows (or_right _ _ h) (and_right _ _ k))
 
 -- and are not found
-none_found : (b : Branch) (rows : List RowState) → is_pending b rows ≡ false → find (λ r. has b r) rows ≡ None
+pub none_found : (b : Branch) (rows : List RowState) → is_pending b rows ≡ false → find (λ r. has b r) rows ≡ None
 none_found b [] h = refl
 none_found b (r ∷ rows) h = let e : has b r ≡ false = or_left _ _ h in rw e (none_found b rows (or_right _ _ h))
 
-none_last : (b : Branch) (rows : List RowState) → is_pending b rows ≡ false → find (λ r. is_last b r) rows ≡ None
+pub none_last : (b : Branch) (rows : List RowState) → is_pending b rows ≡ false → find (λ r. is_last b r) rows ≡ None
 none_last b [] h = refl
 none_last b (r ∷ rows) h = let e : has b r ≡ false = or_left _ _ h in rw e (none_last b rows (or_right _ _ h))
 

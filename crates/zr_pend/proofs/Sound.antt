@@ -83,7 +83,7 @@ begun_sound rows from to some apart fresh s =
     }
 
 -- a link is its number
-free_of_number : (l k : LinkNo) (rows : List RowState) → l.0 ≡ k.0 → free_number l rows ≡ free_number k rows
+pub free_of_number : (l k : LinkNo) (rows : List RowState) → l.0 ≡ k.0 → free_number l rows ≡ free_number k rows
 free_of_number l k rows e = ap (λ n. free_number (record { 0 = n }) rows) e
 
 -- a branch on each link that it goes to
@@ -141,7 +141,7 @@ asked_left a (r ∷ rows) b h = by (is_done (without b r)) (asked_left a rows b 
     by true ih = ih
     by false ih = or_none _ _ (or_left _ _ h) ih
 
-askers_left : (rows : List RowState) (b : Branch) → askers_differ rows ≡ true → askers_differ (finished rows b) ≡ true
+pub askers_left : (rows : List RowState) (b : Branch) → askers_differ rows ≡ true → askers_differ (finished rows b) ≡ true
 askers_left [] b h = refl
 askers_left (r ∷ rows) b h = by (is_done (without b r)) (askers_left rows b (and_right _ _ h))
   where
@@ -166,7 +166,7 @@ all_finished_sound rows (b ∷ bs) s = all_finished_sound (finished rows b) bs (
 
 -- ---- a link goes down
 
-orphaned_branches : (link : LinkNo) (r : RowState) → (orphaned link r).branches ≡ r.branches
+pub orphaned_branches : (link : LinkNo) (r : RowState) → (orphaned link r).branches ≡ r.branches
 orphaned_branches link r = by (is_of link r)
   where
     by : (t : Bool) → (cond t (record { asker = None; branches = r.branches }) r).branches ≡ r.branches
@@ -191,7 +191,7 @@ asked_orphaned link a (r ∷ rows) h = or_none _ _ (by (is_of link r)) (asked_or
     by true = refl
     by false = or_left _ _ h
 
-askers_orphaned : (link : LinkNo) (rows : List RowState) → askers_differ rows ≡ true → askers_differ (all_orphaned link rows) ≡ true
+pub askers_orphaned : (link : LinkNo) (rows : List RowState) → askers_differ rows ≡ true → askers_differ (all_orphaned link rows) ≡ true
 askers_orphaned link [] h = refl
 askers_orphaned link (r ∷ rows) h = and_both _ _ (true_not _ (by (is_of link r))) (askers_orphaned link rows (and_right _ _ h))
   where

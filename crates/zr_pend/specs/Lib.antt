@@ -1,3 +1,4 @@
 pub mod Row
 pub mod Pending
 pub mod Laws
+pub mod Readings

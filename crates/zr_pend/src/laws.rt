@@ -1,5 +1,6 @@
 //! Laws of pending requests, for the proofs of the crates above.
 
+ghost use Rattle.zr_pend.specs.Readings.{BegunRowsAreRead, FinishedRowsAreRead, BranchesStandInRows, DroppedRowsAreRead};
 ghost use Rattle.zr_pend.specs.Laws.{NumbersAreLeast, NumbersAreTaken, BeginKeeps, FinishKeeps, DropKeeps, BranchesAreOfOneRow, RowsEndOnce, DroppedLinksAreGone, AscendingNumbersAscend};
 
 /// The number that a request is given on a link is the least one, from 1, that isn't pending there.
@@ -45,4 +46,24 @@ pub fn dropped_links_are_gone()
 /// Numbers in ascending order ascend, and are the same ones.
 pub fn ascending_numbers_ascend()
     ensures { AscendingNumbersAscend }
+{}
+
+/// Once a request has begun its branches are pending for who asked it, and on each of its links one number more is pending.
+pub fn begun_rows_are_read()
+    ensures { BegunRowsAreRead }
+{}
+
+/// Once a branch has ended, the row of who asked is without it, and is gone where that was its last one; who asked then gets the final.
+pub fn finished_rows_are_read()
+    ensures { FinishedRowsAreRead }
+{}
+
+/// A branch that is pending for an asker stands in the row of that asker.
+pub fn branches_stand_in_rows()
+    ensures { BranchesStandInRows }
+{}
+
+/// Once a link went down its branches are pending no more, and what it asked is pending for nobody.
+pub fn dropped_rows_are_read()
+    ensures { DroppedRowsAreRead }
 {}

@@ -1,4 +1,4 @@
--- The neighbours on the way to subscribers, as they are collected.
+-- The neighbours on the way to what is sought, as they are collected.
 use Rattle.std.proofs.Common.{◌≡◌, ℕ, ◌||◌, Bool, true, false, List, [], Result, is_ok, set, refl, sym, ap, ◌∙◌}
 use Rattle.std.specs.Cmp.Lexicographic.{slice_cmp}
 use Rattle.std.specs.List.{insert}

@@ -1,42 +1,56 @@
--- The links over which a sample on a key goes on in a tree.
-use Rattle.std.specs.Prelude.{ℕ, ◌==◌, ◌&&◌, not, Bool, List, ◌++◌, filter, Some, None}
+-- The links over which a sample or a request goes on in a tree.
+use Rattle.std.specs.Prelude.{ℕ, ◌==◌, ◌&&◌, not, Bool, true, List, filter, map}
+use Rattle.zr_graph.specs.Record.{has}
 use Rattle.zr_id.specs.declared.link.LinkNo.{LinkNo}
 use Rattle.zr_log.specs.declared.log.Log.{Log}
 use Rattle.zr_msg.specs.declared.content.Parts.{Parts}
 use Rattle.zr_msg.specs.declared.msg.Msg.{Msg}
 use Rattle.zr_msg.specs.declared.msg.Msg.TheVariants.{Push}
 use Rattle.zr_msg.specs.declared.peer.LinkPeer.{LinkPeer}
-use Rattle.zr_flood.specs.Tell.{picked, to_each}
-use Rattle.zr_routing.specs.Samples.{subscribes, has_subscriber, is_toward, leads_to_subscriber}
-use Rattle.zr_routing.specs.Tables.{TableState, graph, is_router}
+use Rattle.zr_msg.specs.declared.peer.Role.{Role}
+use Rattle.zr_msg.specs.declared.peer.Role.TheVariants.{Client, Router}
+use Rattle.zr_push.specs.declared.route.Stop.{Stop}
+use Rattle.zr_push.specs.declared.sought.Sought.{Sought}
+use Rattle.zr_push.specs.Sought.{has_declared, is_in_log, leads_to}
+use Rattle.zr_routing.specs.Queries.{tree_for}
+use Rattle.zr_routing.specs.Samples.{is_toward}
+use Rattle.zr_routing.specs.Tables.{TableState, graph}
 use Rattle.zr_tree.specs.Tree.{reached}
 
--- the neighbour is on the way in the tree to the router of a log, which is reached and whose clients subscribe to an expression that
--- meets the key
-abbrev pub is_way_to : TableState → List ℕ → List ℕ → List ℕ → Log → Bool
-is_way_to t tree key name log = has_subscriber key log && (reached (graph t) t.base.me log.source && is_toward t tree log.source name)
+-- the neighbour is on the way in the tree to the router of a log, which is reached and whose clients have declared what is sought
+abbrev pub is_way_to : TableState → List ℕ → Sought → List ℕ → List ℕ → Log → Bool
+is_way_to t tree sought key name log = is_in_log sought key log && (reached (graph t) t.base.me log.source && is_toward t tree log.source name)
 
--- links to routers, and links to clients
-pub record RouteState : Type 0 where
-  pub routers : List LinkNo
-  pub clients : List LinkNo
+-- a link is on the route: it leads to a router on the way to one whose clients have declared what is sought, or to a client that has
+abbrev pub is_on_route : TableState → List ℕ → Sought → List ℕ → LinkPeer → Role → Bool
+is_on_route t tree sought key l Client = has_declared t.rows l.link.0 sought key
+is_on_route t tree sought key l Router = leads_to t tree sought key l.peer.id
 
--- a link leads to a router on the way in the tree to one whose clients subscribe to an expression that meets the key
-abbrev pub is_on_way : TableState → List ℕ → List ℕ → LinkPeer → Bool
-is_on_way t tree key l = is_router l.peer.role && leads_to_subscriber t tree key l.peer.id
+-- the same, where these neighbours are those on the way
+abbrev pub is_stop : TableState → List (List ℕ) → Sought → List ℕ → LinkPeer → Role → Bool
+is_stop t hops sought key l Client = has_declared t.rows l.link.0 sought key
+is_stop t hops sought key l Router = has hops l.peer.id
 
--- a link leads to a client that subscribes to one
-abbrev pub is_subscribed : TableState → List ℕ → LinkPeer → Bool
-is_subscribed t key l = not (is_router l.peer.role) && subscribes t.rows l.link.0 key
+-- the stop at a link
+abbrev pub stop_at : LinkPeer → Stop
+stop_at l = record { link = l.link; role = l.peer.role }
 
--- all of them, each in the order of the links
-abbrev pub route_of : TableState → List ℕ → List ℕ → RouteState
-route_of t tree key = record { routers = picked (is_on_way t tree key) t.links; clients = picked (is_subscribed t key) t.links }
+-- all stops, in the order of the links
+abbrev pub route_of : TableState → List ℕ → Sought → List ℕ → List Stop
+route_of t tree sought key = map (λ l. stop_at l) (filter (λ l. is_on_route t tree sought key l l.peer.role) t.links)
 
--- the links but for that of a number
-abbrev pub without_link : List LinkNo → ℕ → List LinkNo
-without_link links from = filter (λ n. not (n.0 == from)) links
+-- what came over a link goes on to a stop, but for the client that it came from
+abbrev pub goes_on : ℕ → Stop → Role → Bool
+goes_on from s Client = not (s.link.0 == from)
+goes_on from s Router = true
 
--- a sample along a route: with the tree for each router, and without it for each client but its publisher
-abbrev pub sent_along : RouteState → ℕ → List ℕ → Parts → List (LinkNo × Msg)
-sent_along route from tree content = to_each route.routers (Push (Some tree) content) ++ to_each (without_link route.clients from) (Push None content)
+abbrev pub stops_from : List Stop → ℕ → List Stop
+stops_from stops from = filter (λ s. goes_on from s s.role) stops
+
+-- a sample for a stop: the tree is named to routers alone
+abbrev pub push_for : List ℕ → Parts → Stop → LinkNo × Msg
+push_for tree content s = (s.link, Push (tree_for tree s.role) content)
+
+-- a sample along a route
+abbrev pub sent_along : List Stop → ℕ → List ℕ → Parts → List (LinkNo × Msg)
+sent_along stops from tree content = map (λ s. push_for tree content s) (stops_from stops from)

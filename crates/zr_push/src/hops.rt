@@ -8,11 +8,12 @@ ghost use Rattle.std.specs.Ordering.{nat_cmp};
 ghost use Rattle.zr_graph.specs.Record.{has, IsAscending};
 ghost use Rattle.zr_id.specs.Zid.{is_named};
 ghost use Rattle.zr_push.specs.Route.{is_way_to};
-ghost use Rattle.zr_routing.specs.Samples.{leads_to_subscriber};
+ghost use Rattle.zr_push.specs.Sought.{leads_to};
 ghost use Rattle.zr_set.specs.Ascending.{put};
 ghost use Rattle.zr_set.specs.Place.{IsGap, IsPlace};
 
-use crate::subscribers::has_subscriber;
+use crate::search::is_in_log;
+use crate::sought::Sought;
 use std::alloc::{AllocError, Global};
 use std::marker::Model;
 use zr_id::zid::Zid;
@@ -46,16 +47,17 @@ impl Hops {
         }
     }
 
-    /// The neighbours on the way in a tree to the routers that are reached and whose clients subscribe to an expression that meets the key.
-    pub fn to_subscribers(
+    /// The neighbours on the way in a tree to the routers that are reached and whose clients have declared what is sought.
+    pub fn to(
         alloc: Global,
         tables: &Tables,
         tree: Zid,
+        sought: Sought,
         key: &KeyExpr,
     ) -> Result<Hops, AllocError>
-        ensures { IfOk result (λ h. (name : List ℕ) → has h name ≡ leads_to_subscriber tables.now tree key.now name) }
+        ensures { IfOk result (λ h. (name : List ℕ) → has h name ≡ leads_to tables.now tree sought key.now name) }
     {
-        hops_to(alloc, tables, tree, key, tables.known().logs())
+        hops_to(alloc, tables, tree, sought, key, tables.known().logs())
     }
 
     /// Whether a neighbour is among them.
@@ -96,14 +98,15 @@ fn hops_to(
     alloc: Global,
     tables: &Tables,
     tree: Zid,
+    sought: Sought,
     key: &KeyExpr,
     logs: &[Log],
 ) -> Result<Hops, AllocError>
-    ensures { IfOk result (λ h. (name : List ℕ) → has h name ≡ list_any (is_way_to tables.now tree key.now name) logs.now) }
+    ensures { IfOk result (λ h. (name : List ℕ) → has h name ≡ list_any (is_way_to tables.now tree sought key.now name) logs.now) }
 {
     let mut hops = Hops::new(alloc);
     for log in logs {
-        hops.extend(hop_to(tables, tree, key, log))?;
+        hops.extend(hop_to(tables, tree, sought, key, log))?;
     }
     Ok(hops)
 }
@@ -115,13 +118,13 @@ fn place_of(names: &[Zid], name: &Zid) -> Result<usize, usize>
     names.binary_search(name)
 }
 
-// The neighbour on the way to the router of a log, if it is reached and its clients subscribe.
-fn hop_to(tables: &Tables, tree: Zid, key: &KeyExpr, log: &Log) -> Option<Zid>
-    ensures { (name : List ℕ) → option_map_or (λ y. is_named y name) result false ≡ is_way_to tables.now tree key.now name log.now }
+// The neighbour on the way to the router of a log, if it is reached and its clients have declared what is sought.
+fn hop_to(tables: &Tables, tree: Zid, sought: Sought, key: &KeyExpr, log: &Log) -> Option<Zid>
+    ensures { (name : List ℕ) → option_map_or (λ y. is_named y name) result false ≡ is_way_to tables.now tree sought key.now name log.now }
 {
     let me = tables.me();
     let trees = tables.trees();
-    if has_subscriber(log, key) && trees.reached(me, log.source) {
+    if is_in_log(log, sought, key) && trees.reached(me, log.source) {
         trees.toward(tree, me, log.source)
     } else {
         None

@@ -9,6 +9,7 @@ ghost use Rattle.std.specs.Option.{option_map_or};
 ghost use Rattle.zr_table.specs.Event.{Tells, TellsPrefix};
 
 use crate::route::Route;
+use crate::sought::Sought;
 use std::alloc::{AllocError, Global};
 use zr_id::link::LinkNo;
 use zr_id::zid::Zid;
@@ -33,11 +34,11 @@ pub fn push(
     let Some(tree) = tree_of(tables, from, named) else {
         return Ok(());
     };
-    let route = Route::of(alloc, tables, tree, content.key())?;
-    route.send(alloc, link, tree, content, out)
+    let route = Route::of(alloc, tables, tree, Sought::Subscribers, content.key())?;
+    route.send(link, tree, content, out)
 }
 
-/// The tree along which a sample from a link goes on, if it goes on: a client's along this router's own, and a router's along the one that
+/// The tree along which a sample or a request from a link goes on, if it goes on: a client's along this router's own, and a router's along the one that
 /// it names, where it comes from this router's parent there.
 pub fn tree_of(tables: &Tables, from: LinkPeer, named: Option<Zid>) -> Option<Zid>
     ensures { result ≡ tree_by tables.now from from.peer.role named }

@@ -1,167 +1,176 @@
-//! `Route`: the links over which a sample on a key goes on in a tree.
+//! `Route`: the links over which a sample or a request on a key goes on in a tree.
 
-ghost use Rattle.std.specs.Prelude.{◌≡◌, ◌++◌, ◌&&◌, Some, None, IfOk, OnOk, OnErr};
+ghost use Rattle.std.specs.Prelude.{◌≡◌, ◌++◌, IfOk, OnOk, OnErr, map, filter};
+ghost use Rattle.zr_routing.specs.Queries.{tree_for};
 ghost use Rattle.zr_routing.specs.Samples.{push_along};
-ghost use Rattle.zr_graph.specs.Record.{has};
-ghost use Rattle.zr_routing.specs.Tables.{TableState, AreNumbered, is_router};
+ghost use Rattle.zr_routing.specs.Tables.{TableState, AreNumbered};
 ghost use Rattle.zr_table.specs.Event.{Tells, TellsPrefix};
 ghost use Rattle.zr_table.specs.Prefix.{IsPrefixBehind};
-ghost use Rattle.zr_flood.specs.Tell.{picked, to_each};
-ghost use Rattle.zr_push.specs.Route.{RouteState, is_on_way, is_subscribed, route_of, sent_along, without_link};
+ghost use Rattle.zr_push.specs.declared.sought.Sought.TheVariants.{Subscribers};
+ghost use Rattle.zr_push.specs.Route.{goes_on, is_stop, route_of, sent_along, stop_at, stops_from};
 
 use crate::hops::Hops;
-use crate::subscribers::subscribes;
+use crate::search::has_declared;
+use crate::sought::Sought;
 use std::alloc::{AllocError, Global};
 use std::marker::Model;
-use zr_flood::flood::is_router;
-use zr_flood::tell::tell_each;
 use zr_id::link::LinkNo;
 use zr_id::zid::Zid;
 use zr_key::key::KeyExpr;
 use zr_msg::content::Content;
 use zr_msg::msg::Msg;
-use zr_msg::peer::LinkPeer;
+use zr_msg::peer::{LinkPeer, Role};
 use zr_routing::tables::Tables;
 
-/// The links over which a sample on a key goes on in a tree: to routers and to clients, each in the order of the links. The client that
-/// published the sample is among them if it subscribes.
+/// A link of a route, and who is at its other end.
+#[derive(Clone, Copy, Debug, PartialEq, Eq)]
+pub struct Stop {
+    pub link: LinkNo,
+    pub role: Role,
+}
+
+impl Stop {
+    /// Whether what came over a link goes on to this stop: it doesn't go back to a client.
+    pub fn takes_from(&self, from: LinkNo) -> bool
+        ensures { result ≡ goes_on from.0 self.now self.now.role }
+    {
+        match self.role {
+            Role::Client => self.link.0 != from.0,
+            Role::Router => true,
+        }
+    }
+
+    /// The tree that a message names to this stop: clients know of no trees.
+    pub fn named(&self, tree: Zid) -> Option<Zid>
+        ensures { result ≡ tree_for tree self.now.role }
+    {
+        match self.role {
+            Role::Client => None,
+            Role::Router => Some(tree),
+        }
+    }
+}
+
+/// The links over which a sample or a request on a key goes on in a tree, in their order. The client that it comes from is among them if
+/// it has declared what is sought.
 #[derive(Debug, Drop)]
 pub struct Route {
-    routers: Vec<LinkNo>,
-    clients: Vec<LinkNo>,
+    stops: Vec<Stop>,
 }
 
 impl Model for Route {
-    ghost use Rattle.zr_push.specs.Route.{RouteState};
+    ghost use Rattle.std.specs.Prelude.{List};
+    ghost use Rattle.zr_push.specs.declared.route.Stop.{Stop};
 
-    ghost Value = { RouteState };
+    ghost Value = { List Stop };
 
-    ghost view = { λ r. record { routers = r.routers.items; clients = r.clients.items } };
+    ghost view = { λ r. r.stops.items };
 }
 
 impl Route {
-    /// The route of a key in a tree.
-    pub fn of(alloc: Global, tables: &Tables, tree: Zid, key: &KeyExpr) -> Result<Route, AllocError>
-        ensures { IfOk result (λ r. r ≡ route_of tables.now tree key.now) }
+    /// The route in a tree to what is sought for a key.
+    pub fn of(
+        alloc: Global,
+        tables: &Tables,
+        tree: Zid,
+        sought: Sought,
+        key: &KeyExpr,
+    ) -> Result<Route, AllocError>
+        ensures { IfOk result (λ r. r ≡ route_of tables.now tree sought key.now) }
     {
+        let hops = Hops::to(alloc, tables, tree, sought, key)?;
         Ok(Route {
-            routers: routers_on(alloc, tables, tree, key)?,
-            clients: clients_on(alloc, tables, key)?,
+            stops: stops_on(alloc, tables, &hops, sought, key)?,
         })
     }
 
-    /// A sample that has come over the link `from` goes along the route of its key: with the tree to each router, and without it to each
-    /// client but its publisher. Its content is not copied.
+    /// The stops but for the client that a message has come from, in the order of their links.
+    pub fn stops_from(&self, alloc: Global, from: LinkNo) -> Result<Vec<Stop>, AllocError>
+        ensures { IfOk result (λ v. v.items ≡ stops_from self.now from.0) }
+    {
+        stops_from(alloc, self.stops.as_slice(), from)
+    }
+
+    /// A sample that has come over the link `from` goes along the route to the subscribers of its key: with the tree to each router, and
+    /// without it to each client but its publisher. Its content is not copied.
     pub fn send(
         &self,
-        alloc: Global,
         from: LinkNo,
         tree: Zid,
         content: &Content,
         out: &mut Vec<(LinkNo, Msg)>,
     ) -> Result<(), AllocError>
-        ensures ok { (t : TableState) → AreNumbered t.links → self.now ≡ route_of t tree content.now.key → OnOk result (Tells (push_along t from.0 (Some tree) content.now) out.old.items out.new.items) }
-        ensures err { (t : TableState) → AreNumbered t.links → self.now ≡ route_of t tree content.now.key → OnErr result (TellsPrefix (push_along t from.0 (Some tree) content.now) out.old.items out.new.items) }
+        ensures ok { (t : TableState) → AreNumbered t.links → self.now ≡ route_of t tree Subscribers content.now.key → OnOk result (Tells (push_along t from.0 (Some tree) content.now) out.old.items out.new.items) }
+        ensures err { (t : TableState) → AreNumbered t.links → self.now ≡ route_of t tree Subscribers content.now.key → OnErr result (TellsPrefix (push_along t from.0 (Some tree) content.now) out.old.items out.new.items) }
     {
-        self.send_along(alloc, from, tree, content, out)
-    }
-
-    fn send_along(
-        &self,
-        alloc: Global,
-        from: LinkNo,
-        tree: Zid,
-        content: &Content,
-        out: &mut Vec<(LinkNo, Msg)>,
-    ) -> Result<(), AllocError>
-        ensures ok { OnOk result (out.new.items ≡ out.old.items ++ sent_along self.now from.0 tree content.now) }
-        ensures err { OnErr result (IsPrefixBehind out.old.items (sent_along self.now from.0 tree content.now) out.new.items) }
-    {
-        let msg = Msg::Push {
-            tree: Some(tree),
-            content: content.copy()?,
-        };
-        tell_each(alloc, self.routers(), &msg, out)?;
-        send_to_clients(self.clients(), from, content, out)
-    }
-
-    fn routers(&self) -> &[LinkNo]
-        ensures { result.now ≡ self.now.routers }
-    {
-        self.routers.as_slice()
-    }
-
-    fn clients(&self) -> &[LinkNo]
-        ensures { result.now ≡ self.now.clients }
-    {
-        self.clients.as_slice()
+        send_along(self.stops.as_slice(), from, tree, content, out)
     }
 }
 
-// The links to routers on the way.
-fn routers_on(
-    alloc: Global,
-    tables: &Tables,
-    tree: Zid,
-    key: &KeyExpr,
-) -> Result<Vec<LinkNo>, AllocError>
-    ensures { IfOk result (λ v. v.items ≡ picked (is_on_way tables.now tree key.now) tables.now.links) }
+fn stops_from(alloc: Global, stops: &[Stop], from: LinkNo) -> Result<Vec<Stop>, AllocError>
+    ensures { IfOk result (λ v. v.items ≡ stops_from stops.now from.0) }
 {
-    let hops = Hops::to_subscribers(alloc, tables, tree, key)?;
-    links_to(alloc, tables.links(), &hops)
-}
-
-fn links_to(alloc: Global, links: &[LinkPeer], hops: &Hops) -> Result<Vec<LinkNo>, AllocError>
-    ensures { IfOk result (λ v. v.items ≡ picked (λ l. is_router l.peer.role && has hops.now l.peer.id) links.now) }
-{
-    links
+    stops
         .iter()
-        .filter(|link| leads_to(link, hops))
-        .map(|link| link.link)
+        .copied()
+        .filter(|stop| stop.takes_from(from))
         .collect(alloc)
 }
 
-fn leads_to(link: &LinkPeer, hops: &Hops) -> bool
-    ensures { result ≡ (is_router link.now.peer.role && has hops.now link.now.peer.id) }
+fn send_along(
+    stops: &[Stop],
+    from: LinkNo,
+    tree: Zid,
+    content: &Content,
+    out: &mut Vec<(LinkNo, Msg)>,
+) -> Result<(), AllocError>
+    ensures ok { OnOk result (out.new.items ≡ out.old.items ++ sent_along stops.now from.0 tree content.now) }
+    ensures err { OnErr result (IsPrefixBehind out.old.items (sent_along stops.now from.0 tree content.now) out.new.items) }
 {
-    is_router(link.peer.role) && hops.has(&link.peer.id)
+    for stop in stops {
+        if stop.takes_from(from) {
+            let msg = Msg::Push {
+                tree: stop.named(tree),
+                content: content.copy()?,
+            };
+            out.push((stop.link, msg))?;
+        }
+    }
+    Ok(())
 }
 
-// The links to clients that subscribe.
-fn clients_on(alloc: Global, tables: &Tables, key: &KeyExpr) -> Result<Vec<LinkNo>, AllocError>
-    ensures { IfOk result (λ v. v.items ≡ picked (is_subscribed tables.now key.now) tables.now.links) }
+// The stops at the links on the route, where these neighbours are those on the way.
+fn stops_on(
+    alloc: Global,
+    tables: &Tables,
+    hops: &Hops,
+    sought: Sought,
+    key: &KeyExpr,
+) -> Result<Vec<Stop>, AllocError>
+    ensures { IfOk result (λ v. v.items ≡ map (λ l. stop_at l) (filter (λ l. is_stop tables.now hops.now sought key.now l l.peer.role) tables.now.links)) }
 {
     let links = tables.links();
     links
         .iter()
-        .filter(|link| is_subscribed(tables, key, link))
-        .map(|link| link.link)
+        .filter(|link| is_stop(tables, hops, sought, key, link))
+        .map(|link| stop_at(link))
         .collect(alloc)
 }
 
-fn is_subscribed(tables: &Tables, key: &KeyExpr, link: &LinkPeer) -> bool
-    ensures { result ≡ is_subscribed tables.now key.now link.now }
+fn is_stop(tables: &Tables, hops: &Hops, sought: Sought, key: &KeyExpr, link: &LinkPeer) -> bool
+    ensures { result ≡ is_stop tables.now hops.now sought key.now link.now link.now.peer.role }
 {
-    !is_router(link.peer.role) && subscribes(tables.local(), link.link, key)
+    match link.peer.role {
+        Role::Client => has_declared(tables.local(), link.link, sought, key),
+        Role::Router => hops.has(&link.peer.id),
+    }
 }
 
-fn send_to_clients(
-    clients: &[LinkNo],
-    from: LinkNo,
-    content: &Content,
-    out: &mut Vec<(LinkNo, Msg)>,
-) -> Result<(), AllocError>
-    ensures ok { OnOk result (out.new.items ≡ out.old.items ++ to_each (without_link clients.now from.0) (Msg.Push None content.now)) }
-    ensures err { OnErr result (IsPrefixBehind out.old.items (to_each (without_link clients.now from.0) (Msg.Push None content.now)) out.new.items) }
+fn stop_at(link: &LinkPeer) -> Stop
+    ensures { result ≡ stop_at link.now }
 {
-    for client in clients {
-        if client.0 != from.0 {
-            let msg = Msg::Push {
-                tree: None,
-                content: content.copy()?,
-            };
-            out.push((*client, msg))?;
-        }
+    Stop {
+        link: link.link,
+        role: link.peer.role,
     }
-    Ok(())
 }

@@ -1,4 +1,5 @@
 pub mod Tables
 pub mod Changes
 pub mod Samples
+pub mod Queries
 pub mod Snapshots

@@ -44,24 +44,27 @@ has_subscriber key log = list_any (λ d. is_for key d) log.decls
 abbrev pub is_toward : TableState → List ℕ → List ℕ → List ℕ → Bool
 is_toward t tree dest name = option_map_or (λ y. is_named y name) (toward (graph t) tree t.base.me dest) false
 
+-- the neighbour is on the way in the tree to a router that is reached and whose log passes a test
+abbrev pub leads_to_source : TableState → List ℕ → (Log → Bool) → List ℕ → Bool
+leads_to_source t tree test name = list_any (λ log. test log && (reached (graph t) t.base.me log.source && is_toward t tree log.source name)) t.known.logs
+
 -- the neighbour is on the way in the tree to a router that is reached and whose clients subscribe
 abbrev pub leads_to_subscriber : TableState → List ℕ → List ℕ → List ℕ → Bool
-leads_to_subscriber t tree key name =
-    list_any (λ log. has_subscriber key log && (reached (graph t) t.base.me log.source && is_toward t tree log.source name)) t.known.logs
+leads_to_subscriber t tree key name = leads_to_source t tree (λ log. has_subscriber key log) name
 
 -- ---- in which tree
 
--- a router's sample stays in the tree that it names, where it comes from this router's parent there; otherwise it goes nowhere
+-- a router's sample or request stays in the tree that it names, where it comes from this router's parent there; otherwise it goes nowhere
 abbrev pub named_tree : TableState → List ℕ → Option (List ℕ) → Option (List ℕ)
 named_tree t name None = None
 named_tree t name (Some tree) = if option_map_or (λ p. is_named p name) (parent (graph t) tree t.base.me) false then Some tree else None
 
--- a client's sample goes along this router's own tree
+-- a client's goes along this router's own tree
 abbrev pub tree_by : TableState → LinkPeer → Role → Option (List ℕ) → Option (List ℕ)
 tree_by t l Client named = Some t.base.me
 tree_by t l Router named = named_tree t l.peer.id named
 
--- the tree along which a sample from a link goes on, if it goes on
+-- the tree along which a sample or a request from a link goes on, if it goes on
 abbrev pub tree_of : TableState → Option LinkPeer → Option (List ℕ) → Option (List ℕ)
 tree_of t None named = None
 tree_of t (Some l) named = tree_by t l l.peer.role named

@@ -6,21 +6,24 @@ use Rattle.zr_msg.specs.declared.peer.Peer.{Peer}
 use Rattle.zr_msg.specs.declared.peer.LinkPeer.{LinkPeer}
 use Rattle.zr_local.specs.declared.row.Row.{Row}
 use Rattle.zr_log.specs.Known.{KnownState, nothing_known}
+use Rattle.zr_pend.specs.Row.{RowState}
 use Rattle.zr_routing.specs.Tables.{TableState}
 
 -- a router: its links in ascending order of their numbers, what it knows of the links of all routers, itself among them, what the clients of
--- its links have declared, and what it knows of the change logs of all routers, its own among them
+-- its links have declared, what it knows of the change logs of all routers, its own among them, and the requests that it has passed on and
+-- that have not ended, in the order in which they came
 pub record NodeState : Type 0 where
   pub links : List LinkPeer
   pub base : BaseState
   pub rows : List Row
   pub known : KnownState
+  pub pending : List RowState
   -- memory ran out at an earlier event: nothing is said of the rest, and the router answers no more
   pub spent : Bool
 
 -- a router without links
 abbrev pub new_node : List ℕ → NodeState
-new_node me = record { links = []; base = fresh me; rows = []; known = nothing_known me; spent = false }
+new_node me = record { links = []; base = fresh me; rows = []; known = nothing_known me; pending = []; spent = false }
 
 -- a link that has come up
 abbrev pub new_link : LinkNo → Peer → LinkPeer

@@ -28,9 +28,12 @@ use Rattle.zr_log.specs.Log.{Change}
 use Rattle.zr_log.specs.Known.{KnownState, after_step, after_snap, refuses_step, refuses_snap}
 use Rattle.zr_log.specs.declared.error.KnownError.{KnownError}
 use Rattle.zr_log.specs.declared.error.KnownError.TheVariants as known
+use Rattle.zr_pend.specs.Row.{RowState}
+use Rattle.zr_pend.specs.Pending.{asked, dropped}
 use Rattle.zr_routing.specs.Tables.{is_link, link_at, leads_to_router, leads_to_client}
 use Rattle.zr_routing.specs.Changes.{changes, after_changes, sends_changes, have_no_room}
 use Rattle.zr_routing.specs.Samples.{sends_push}
+use Rattle.zr_routing.specs.Queries.{link_no, asker, asked_links, sends_request, sends_reply, sends_final, sends_ends, after_request, after_final, most_pending, asks_most, has_no_number}
 use Rattle.zr_routing.specs.Snapshots.{sends_step, sends_snap, sends_snapshots}
 use Rattle.zr_table.specs.State.{NodeState, new_link, tables}
 
@@ -104,7 +107,14 @@ rows_left node from = if leads_to_client node.links from then left node.rows fro
 -- a router whose clients have declared these rows: what has changed of their set stands in its log
 abbrev pub with_rows : NodeState → List Row → NodeState
 with_rows node rows =
-    record { links = node.links; base = node.base; rows = rows; known = after_changes node.known (changes node.rows rows); spent = node.spent }
+    record {
+      links = node.links;
+      base = node.base;
+      rows = rows;
+      known = after_changes node.known (changes node.rows rows);
+      pending = node.pending;
+      spent = node.spent;
+    }
 
 -- what has changed of their set goes to the children in the own tree
 abbrev pub sends_rows : NodeState → List Row → ℕ → List Msg
@@ -162,17 +172,19 @@ sends_from node from (ToldUnsub id) to = []
 sends_from node from (ToldUnable id) to = []
 sends_from node from (ToldEnd interest) to = []
 sends_from node from (Push tree content) to = sends_push (tables node) from tree content to
-sends_from node from (Request tree id target content) to = []
-sends_from node from (Response id content) to = []
-sends_from node from (Final id extras) to = []
+sends_from node from (Request tree id target content) to = sends_request (tables node) node.pending from tree id target content to
+sends_from node from (Response id content) to = sends_reply node.pending from id content to
+sends_from node from (Final id extras) to = sends_final node.pending from id extras to
 sends_from node from (State links) to = sends_state node from links to
 sends_from node from (Step source number added decl) to = sends_step (tables node) from source number (record { added = added; decl = decl }) to
 sends_from node from (Snap source number decls) to = sends_snap (tables node) from source number decls to
 
--- what an event sends on the link of a number, but for the snapshots of new children: records, and what has changed where a client leaves
+-- what an event sends on the link of a number, but for the snapshots of new children: records; where a link goes down, first the finals of
+-- the requests that end by that, and last what has changed where a client leaves
 abbrev pub sends_first : NodeState → Event → LinkNo → List Msg
 sends_first node (Up link peer) to = sends_up node link.0 peer peer.role to.0
-sends_first node (Down link) to = sends_down node link.0 (link_at node.links link.0) to.0 ++ sends_rows node (rows_left node link.0) to.0
+sends_first node (Down link) to =
+    sends_ends node.pending link.0 to.0 ++ (sends_down node link.0 (link_at node.links link.0) to.0 ++ sends_rows node (rows_left node link.0) to.0)
 sends_first node (From link msg) to = sends_from node link.0 msg to.0
 
 -- ---- what is left
@@ -187,10 +199,14 @@ without_link links link = filter (λ l. not (is_link link l)) links
 
 -- a router with another base, or that knows other logs
 abbrev pub with_base : NodeState → BaseState → NodeState
-with_base node base = record { links = node.links; base = base; rows = node.rows; known = node.known; spent = node.spent }
+with_base node base = record { links = node.links; base = base; rows = node.rows; known = node.known; pending = node.pending; spent = node.spent }
 
 abbrev pub with_known : NodeState → KnownState → NodeState
-with_known node known = record { links = node.links; base = node.base; rows = node.rows; known = known; spent = node.spent }
+with_known node known = record { links = node.links; base = node.base; rows = node.rows; known = known; pending = node.pending; spent = node.spent }
+
+-- a router where other requests are pending
+abbrev pub with_pending : NodeState → List RowState → NodeState
+with_pending node pending = record { links = node.links; base = node.base; rows = node.rows; known = node.known; pending = pending; spent = node.spent }
 
 -- what is known once a router tells a change or a snapshot: clients tell none
 abbrev pub known_step : NodeState → ℕ → List ℕ → ℕ → Change → KnownState
@@ -213,9 +229,10 @@ after_from node from (ToldUnsub id) = node
 after_from node from (ToldUnable id) = node
 after_from node from (ToldEnd interest) = node
 after_from node from (Push tree content) = node
-after_from node from (Request tree id target content) = node
+after_from node from (Request tree id target content) =
+    with_pending node (after_request (tables node) node.pending from tree id target content.key)
 after_from node from (Response id content) = node
-after_from node from (Final id extras) = node
+after_from node from (Final id extras) = with_pending node (after_final node.pending from id)
 after_from node from (State links) = with_base node (base_told node from links)
 after_from node from (Step source number added decl) = with_known node (known_step node from source number (record { added = added; decl = decl }))
 after_from node from (Snap source number decls) = with_known node (known_snap node from source number decls)
@@ -223,9 +240,17 @@ after_from node from (Snap source number decls) = with_known node (known_snap no
 -- the state that the Up of a link leaves
 abbrev pub after_up : NodeState → LinkNo → Peer → NodeState
 after_up node link peer =
-    record { links = with_link node.links (new_link link peer); base = base_up node.base peer peer.role; rows = node.rows; known = node.known; spent = node.spent }
+    record {
+      links = with_link node.links (new_link link peer);
+      base = base_up node.base peer peer.role;
+      rows = node.rows;
+      known = node.known;
+      pending = node.pending;
+      spent = node.spent;
+    }
 
--- the state that the Down of a link leaves, once what its client has declared is gone
+-- the state that the Down of a link leaves, once what its client has declared is gone: its branches have ended, and what it asked has no
+-- asker any more
 abbrev pub after_down : NodeState → ℕ → NodeState
 after_down node link =
     record {
@@ -233,6 +258,7 @@ after_down node link =
       base = base_down node.base (link_at node.links link);
       rows = node.rows;
       known = node.known;
+      pending = dropped (link_no link) node.pending;
       spent = node.spent;
     }
 
@@ -307,6 +333,15 @@ abbrev pub refuses_snap_from : NodeState → ℕ → List ℕ → ℕ → List D
 refuses_snap_from node from source number decls =
     if leads_to_router node.links from then option_map (λ x. known_error x) (refuses_snap node.known source number decls) else None
 
+-- a request is refused under a number that its link has pending, where its client has as many pending as it may, or where a link over which
+-- it goes has no number left
+abbrev pub refuses_request : NodeState → ℕ → ℕ → List LinkNo → Option NodeError
+refuses_request node from id links =
+    if asked (asker from id) node.pending then Some (e.NumberTaken id)
+    else if leads_to_client node.links from && asks_most node.pending from then Some (e.TooMany most_pending)
+    else if has_no_number node.pending links then Some e.Worn
+    else None
+
 -- the refusal of a message from a link, if it is refused
 abbrev pub refuses_from : NodeState → ℕ → Msg → Option NodeError
 refuses_from node from (Sub id key) = refuses_declared node from (row from id kind.Sub key)
@@ -321,7 +356,7 @@ refuses_from node from (ToldUnsub id) = None
 refuses_from node from (ToldUnable id) = None
 refuses_from node from (ToldEnd interest) = None
 refuses_from node from (Push tree content) = None
-refuses_from node from (Request tree id target content) = None
+refuses_from node from (Request tree id target content) = refuses_request node from id (asked_links (tables node) from tree target content.key)
 refuses_from node from (Response id content) = None
 refuses_from node from (Final id extras) = None
 refuses_from node from (State links) = None

@@ -17,5 +17,5 @@ asked_more way logs i log hop old new less is e f h =
 
 pub loop-log-preserved : goal.loop-log-preserved
 loop-log-preserved c = λ name.
-    asked_more (is_way_to c.args.tables.now c.args.tree c.args.key.now name) c.args.logs.now c.loop-log.log-index c.log-item.result _ _ _ (omega arith) c.log-item.is
+    asked_more (is_way_to c.args.tables.now c.args.tree c.args.sought c.args.key.now name) c.args.logs.now c.loop-log.log-index c.log-item.result _ _ _ (omega arith) c.log-item.is
     (c.hop_to.ensures name) (c.in_ok-extend.ensures name) (c.loop-log.invariant name)

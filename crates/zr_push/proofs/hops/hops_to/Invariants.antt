@@ -6,4 +6,4 @@ use Rattle.zr_push.specs.Route.{is_way_to}
 use Rattle.zr_push.proofs.hops.hops_to.Given as goal
 
 abbrev pub invariant-loop-log : goal.invariant-loop-log
-invariant-loop-log l = (name : List ℕ) → (has l.hops name || list_any (is_way_to l.tables l.tree l.key name) (drop l.log-index l.logs)) ≡ list_any (is_way_to l.tables l.tree l.key name) l.logs
+invariant-loop-log l = (name : List ℕ) → (has l.hops name || list_any (is_way_to l.tables l.tree l.sought l.key name) (drop l.log-index l.logs)) ≡ list_any (is_way_to l.tables l.tree l.sought l.key name) l.logs

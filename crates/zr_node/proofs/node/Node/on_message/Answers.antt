@@ -25,6 +25,15 @@ returns-in-Unable c = message_done c.args.self.now c.args.link.0 _ c.args.msg.no
 pub returns-in-Push : goal.returns-in-Push
 returns-in-Push c = message_done c.args.self.now c.args.link.0 _ c.args.msg.now c.in-Push.is c.push.result c.push.new.self c.args.out.now.items c.push.new.out.items _ c.push.ensures refl refl (λ to. refl) refl refl
 
+pub returns-in-Request : goal.returns-in-Request
+returns-in-Request c = message_done c.args.self.now c.args.link.0 _ c.args.msg.now c.in-Request.is c.request.result c.request.new.self c.args.out.now.items c.request.new.out.items _ c.request.ensures refl refl (λ to. refl) refl refl
+
+pub returns-in-Response : goal.returns-in-Response
+returns-in-Response c = message_done c.args.self.now c.args.link.0 _ c.args.msg.now c.in-Response.is c.response.result c.response.new.self c.args.out.now.items c.response.new.out.items _ c.response.ensures refl refl (λ to. refl) refl refl
+
+pub returns-in-Final : goal.returns-in-Final
+returns-in-Final c = message_done c.args.self.now c.args.link.0 _ c.args.msg.now c.in-Final.is c.end.result c.end.new.self c.args.out.now.items c.end.new.out.items _ c.end.ensures refl refl (λ to. refl) refl refl
+
 pub returns-in-Step : goal.returns-in-Step
 returns-in-Step c =
     message_done c.args.self.now c.args.link.0 _ c.args.msg.now c.in-Step.is c.step.result c.step.new.self c.args.out.now.items c.step.new.out.items _
@@ -38,4 +47,4 @@ pub returns-in-State : goal.returns-in-State
 returns-in-State c = at_message c.args.self.now c.args.link.0 _ c.args.msg.now c.in-State.is c.accept.result c.accept.new.self c.args.out.now.items c.accept.new.out.items c.accept.ensures
 
 pub returns-in-Interest : goal.returns-in-Interest
-returns-in-Interest c = elim c.in-Interest.is [ inl v0 ↦ ignored c.args.self.now c.args.link.0 _ c.args.msg.now c.args.out.now.items v0.6 refl (λ to. refl) refl refl | inr w0 ↦ elim w0 [ inl v1 ↦ ignored c.args.self.now c.args.link.0 _ c.args.msg.now c.args.out.now.items v1.1 refl (λ to. refl) refl refl | inr w1 ↦ elim w1 [ inl v2 ↦ ignored c.args.self.now c.args.link.0 _ c.args.msg.now c.args.out.now.items v2.3 refl (λ to. refl) refl refl | inr w2 ↦ elim w2 [ inl v3 ↦ ignored c.args.self.now c.args.link.0 _ c.args.msg.now c.args.out.now.items v3.4 refl (λ to. refl) refl refl | inr w3 ↦ elim w3 [ inl v4 ↦ ignored c.args.self.now c.args.link.0 _ c.args.msg.now c.args.out.now.items v4.1 refl (λ to. refl) refl refl | inr w4 ↦ elim w4 [ inl v5 ↦ ignored c.args.self.now c.args.link.0 _ c.args.msg.now c.args.out.now.items v5.1 refl (λ to. refl) refl refl | inr w5 ↦ elim w5 [ inl v6 ↦ ignored c.args.self.now c.args.link.0 _ c.args.msg.now c.args.out.now.items v6.1 refl (λ to. refl) refl refl | inr w6 ↦ elim w6 [ inl v7 ↦ ignored c.args.self.now c.args.link.0 _ c.args.msg.now c.args.out.now.items v7.4 refl (λ to. refl) refl refl | inr w7 ↦ elim w7 [ inl v8 ↦ ignored c.args.self.now c.args.link.0 _ c.args.msg.now c.args.out.now.items v8.2 refl (λ to. refl) refl refl | inr w8 ↦ ignored c.args.self.now c.args.link.0 _ c.args.msg.now c.args.out.now.items w8.2 refl (λ to. refl) refl refl ] ] ] ] ] ] ] ] ]
+returns-in-Interest c = elim c.in-Interest.is [ inl v0 ↦ ignored c.args.self.now c.args.link.0 _ c.args.msg.now c.args.out.now.items v0.6 refl (λ to. refl) refl refl | inr w0 ↦ elim w0 [ inl v1 ↦ ignored c.args.self.now c.args.link.0 _ c.args.msg.now c.args.out.now.items v1.1 refl (λ to. refl) refl refl | inr w1 ↦ elim w1 [ inl v2 ↦ ignored c.args.self.now c.args.link.0 _ c.args.msg.now c.args.out.now.items v2.3 refl (λ to. refl) refl refl | inr w2 ↦ elim w2 [ inl v3 ↦ ignored c.args.self.now c.args.link.0 _ c.args.msg.now c.args.out.now.items v3.4 refl (λ to. refl) refl refl | inr w3 ↦ elim w3 [ inl v4 ↦ ignored c.args.self.now c.args.link.0 _ c.args.msg.now c.args.out.now.items v4.1 refl (λ to. refl) refl refl | inr w4 ↦ elim w4 [ inl v5 ↦ ignored c.args.self.now c.args.link.0 _ c.args.msg.now c.args.out.now.items v5.1 refl (λ to. refl) refl refl | inr w5 ↦ ignored c.args.self.now c.args.link.0 _ c.args.msg.now c.args.out.now.items w5.1 refl (λ to. refl) refl refl ] ] ] ] ] ]

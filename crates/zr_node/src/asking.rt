@@ -1,0 +1,118 @@
+//! Requests at a router: which are refused for who asks, and along which route one goes.
+
+ghost use Rattle.std.specs.Prelude.{◌≡◌, ℕ, List, Option, Some, None, false, true, OnOk, OnErr};
+ghost use Rattle.zr_node.specs.Requests.{refuses_asker};
+ghost use Rattle.zr_node.specs.Routes.{AreRoutes};
+ghost use Rattle.zr_pend.specs.Pending.{asked};
+ghost use Rattle.zr_routing.specs.Queries.{after_request, asked_links, has_no_number, sends_request};
+ghost use Rattle.zr_routing.specs.Samples.{tree_of};
+ghost use Rattle.zr_routing.specs.Tables.{AreNumbered, link_at};
+ghost use Rattle.zr_table.specs.Event.{Tells, TellsPrefix};
+
+use crate::routes::Routes;
+use std::alloc::Global;
+use zr_id::link::LinkNo;
+use zr_id::zid::Zid;
+use zr_msg::content::Content;
+use zr_msg::error::NodeError;
+use zr_msg::msg::{Msg, Target};
+use zr_msg::peer::LinkPeer;
+use zr_pend::branch::Asker;
+use zr_pend::pending::Pending;
+use zr_push::push::tree_of;
+use zr_push::route::Route;
+use zr_push::sought::sought_by;
+use zr_query::asking::{RequestError, refuse, request};
+use zr_routing::tables::Tables;
+
+/// How many requests a client has pending at most.
+const MOST_PENDING: u32 = 4_096;
+
+/// Why a request is refused for who asks: under its number one is pending, or the client has as many pending as it may.
+pub fn refusal(pending: &Pending, from: Asker, is_client: bool) -> Option<NodeError>
+    ensures { result ≡ refuses_asker pending.now from is_client }
+{
+    if pending.asked(from.link, from.number) {
+        return Some(NodeError::NumberTaken { id: from.number });
+    }
+    if is_client && pending.count(from.link) >= MOST_PENDING as u64 {
+        return Some(NodeError::TooMany {
+            pending: MOST_PENDING,
+        });
+    }
+    None
+}
+
+/// A request of a link goes on in the tree that it stays in, or a final goes back at once where it stays in none.
+pub fn ask(
+    alloc: Global,
+    tables: &Tables,
+    routes: &mut Routes,
+    pending: &mut Pending,
+    from: Asker,
+    link: Option<LinkPeer>,
+    named: Option<Zid>,
+    target: Target,
+    content: &Content,
+    out: &mut Vec<(LinkNo, Msg)>,
+) -> Result<(), RequestError>
+    requires routes { AreRoutes routes.old tables.now }
+    requires numbered { AreNumbered tables.now.links }
+    requires fresh { asked from pending.old ≡ false }
+    requires at { link_at tables.now.links from.link.0 ≡ link }
+    ensures routes { AreRoutes routes.new tables.now }
+    ensures sends { OnOk result (Tells (sends_request tables.now pending.old from.link.0 named from.number target content.now) out.old.items out.new.items) }
+    ensures rows { OnOk result (pending.new ≡ after_request tables.now pending.old from.link.0 named from.number target content.now.key) }
+    ensures room { OnOk result (has_no_number pending.old (asked_links tables.now from.link.0 named target content.now.key) ≡ false) }
+    ensures full { result ≡ Err RequestError.NoNumber → has_no_number pending.old (asked_links tables.now from.link.0 named target content.now.key) ≡ true }
+    ensures unchanged { result ≡ Err RequestError.NoNumber → (pending.new ≡ pending.old) × (out.new.items ≡ out.old.items) }
+    ensures prefix { OnErr result (TellsPrefix (sends_request tables.now pending.old from.link.0 named from.number target content.now) out.old.items out.new.items) }
+{
+    match tree_for(tables, link, named) {
+        Some(tree) => request_along(
+            alloc, tables, routes, pending, from, tree, target, content, out,
+        ),
+        None => Ok(refuse(alloc, from, out)?),
+    }
+}
+
+// The tree along which a request goes on, if it goes on.
+fn tree_for(tables: &Tables, link: Option<LinkPeer>, named: Option<Zid>) -> Option<Zid>
+    ensures { result ≡ tree_of tables.now link named }
+{
+    tree_of(tables, link?, named)
+}
+
+// A request goes along the route of its tree, of what it seeks and of its key: one that is remembered, or else one that is worked out,
+// and remembered.
+fn request_along(
+    alloc: Global,
+    tables: &Tables,
+    routes: &mut Routes,
+    pending: &mut Pending,
+    from: Asker,
+    tree: Zid,
+    target: Target,
+    content: &Content,
+    out: &mut Vec<(LinkNo, Msg)>,
+) -> Result<(), RequestError>
+    requires routes { AreRoutes routes.old tables.now }
+    requires numbered { AreNumbered tables.now.links }
+    requires fresh { asked from pending.old ≡ false }
+    ensures routes { AreRoutes routes.new tables.now }
+    ensures sends { (named : Option (List ℕ)) → tree_of tables.now (link_at tables.now.links from.link.0) named ≡ Some tree → OnOk result (Tells (sends_request tables.now pending.old from.link.0 named from.number target content.now) out.old.items out.new.items) }
+    ensures rows { (named : Option (List ℕ)) → tree_of tables.now (link_at tables.now.links from.link.0) named ≡ Some tree → OnOk result (pending.new ≡ after_request tables.now pending.old from.link.0 named from.number target content.now.key) }
+    ensures room { (named : Option (List ℕ)) → tree_of tables.now (link_at tables.now.links from.link.0) named ≡ Some tree → OnOk result (has_no_number pending.old (asked_links tables.now from.link.0 named target content.now.key) ≡ false) }
+    ensures full { (named : Option (List ℕ)) → tree_of tables.now (link_at tables.now.links from.link.0) named ≡ Some tree → result ≡ Err RequestError.NoNumber → has_no_number pending.old (asked_links tables.now from.link.0 named target content.now.key) ≡ true }
+    ensures unchanged { result ≡ Err RequestError.NoNumber → (pending.new ≡ pending.old) × (out.new.items ≡ out.old.items) }
+    ensures prefix { (named : Option (List ℕ)) → tree_of tables.now (link_at tables.now.links from.link.0) named ≡ Some tree → OnErr result (TellsPrefix (sends_request tables.now pending.old from.link.0 named from.number target content.now) out.old.items out.new.items) }
+{
+    let sought = sought_by(target);
+    let key = content.key();
+    if let Some(route) = routes.find(tree, sought, key) {
+        return request(alloc, route, pending, from, tree, target, content, out);
+    }
+    let route = Route::of(alloc, tables, tree, sought, key)?;
+    request(alloc, &route, pending, from, tree, target, content, out)?;
+    Ok(routes.remember(alloc, tree, sought, key, route)?)
+}
