@@ -3,6 +3,7 @@
 use zr_id::zid::Zid;
 use zr_key::key::KeyExpr;
 use zr_msg::content::Content;
+use zr_msg::msg::Target;
 
 /// What one line of a script asks.
 #[derive(Debug, Drop)]
@@ -72,6 +73,24 @@ pub enum Act {
     Publish {
         client: Zid,
         content: Content,
+    },
+    /// A client asks a query under a number of its own.
+    Get {
+        client: Zid,
+        number: u32,
+        target: Target,
+        content: Content,
+    },
+    /// A client replies to the request that it was sent under a number.
+    Reply {
+        client: Zid,
+        number: u32,
+        content: Content,
+    },
+    /// A client ends the request that it was sent under a number.
+    End {
+        client: Zid,
+        number: u32,
     },
     /// A router handles the oldest message on the wire from a neighbour.
     Handle {

@@ -22,6 +22,8 @@ pub enum ScriptError {
     AlreadyLinked,
     #[error("nothing waits there")]
     NothingThere,
+    #[error("the client is not asked that")]
+    NotAsked,
     #[error("the network is not settled")]
     NotSettled,
     #[error("not each router is reached from each other")]

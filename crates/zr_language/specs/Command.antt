@@ -8,10 +8,11 @@
 --   BadWords        the words or the bytes don't fit the form of the command
 --   BadKey          a word that is to be a key expression is none
 --   UnknownName     a router or a client isn't there; an id to undeclare isn't declared
---   NameTaken       the name is taken; the id is declared
+--   NameTaken       the name is taken; the id is declared; the number is that of a query whose final was not sent yet
 --   NotLinked       there is no such link, or it or its end isn't as the command needs it
 --   AlreadyLinked   the link is in place, or its end is up
 --   NothingThere    nothing waits there
+--   NotAsked        the client was not sent that request, or has ended it
 --   NotSettled      the network is not settled
 --   NotJoined       not each router is reached from each other
 --   Limit           a limit of the world would be passed
@@ -24,12 +25,12 @@ use Rattle.zr_msg.specs.declared.content.Parts.{Parts}
 use Rattle.zr_msg.specs.Extras.{no_extras}
 use Rattle.zr_command.specs.declared.error.ScriptError.{ScriptError}
 use Rattle.zr_command.specs.declared.error.ScriptError.TheVariants.{UnknownCommand, BadWords, Limit}
-use Rattle.zr_command.specs.declared.command.Act.TheVariants.{Router, Client, Link, Up, Break, Down, Show, Sub, Unsub, Able, Unable, Publish, Handle, Take, Mark}
+use Rattle.zr_command.specs.declared.command.Act.TheVariants.{Router, Client, Link, Up, Break, Down, Show, Sub, Unsub, Able, Unable, Publish, Get, Reply, End, Handle, Take, Mark}
 use Rattle.zr_command.specs.declared.command.Command.{Command}
 use Rattle.zr_command.specs.declared.command.Command.TheVariants.{Act, Run}
 use Rattle.zr_language.specs.Step.{◌>>=◌}
 use Rattle.zr_language.specs.Lines.{most_line}
-use Rattle.zr_language.specs.Words.{words, is_word, is_clean, one_of, two_of, three_of, zid_at, number_at, key_at, payload_at}
+use Rattle.zr_language.specs.Words.{words, is_word, is_clean, one_of, two_of, three_of, four_of, zid_at, number_at, target_at, key_at, payload_at}
 
 -- ---- one command each, by the words behind its name
 
@@ -114,7 +115,7 @@ unable_line args = do
   id ← number_at w.1
   Ok (Act (Unable client id))
 
--- a sample as a script makes it: its body has no flags, and nothing stands beside key and body
+-- a sample, a query or a reply as a script makes it: its body has no flags, and nothing stands beside key and body
 abbrev pub plain : List ℕ → List ℕ → Parts
 plain key body = record { key = key; extras = no_extras; body = body }
 
@@ -133,6 +134,40 @@ del_line args = do
   client ← zid_at w.0
   key ← key_at w.1
   Ok (Act (Publish client (plain key del_body)))
+
+-- the body of a query, and that of a reply with a payload, without flags and extensions
+abbrev pub query_body : List ℕ
+query_body = 3 ∷ []
+
+abbrev pub reply_body : List ℕ → List ℕ
+reply_body payload = 4 ∷ put_body payload
+
+-- get CLIENT N KEY TARGET
+unfoldable pub get_line : List (List ℕ) → Result Command ScriptError
+get_line args = do
+  w ← four_of args
+  client ← zid_at w.0
+  number ← number_at w.1
+  target ← target_at w.3
+  key ← key_at w.2
+  Ok (Act (Get client number target (plain key query_body)))
+
+-- reply CLIENT N KEY PAYLOAD
+unfoldable pub reply_line : List (List ℕ) → Result Command ScriptError
+reply_line args = do
+  w ← four_of args
+  client ← zid_at w.0
+  number ← number_at w.1
+  key ← key_at w.2
+  Ok (Act (Reply client number (plain key (reply_body (payload_at w.3)))))
+
+-- end CLIENT N
+unfoldable pub end_line : List (List ℕ) → Result Command ScriptError
+end_line args = do
+  w ← two_of args
+  client ← zid_at w.0
+  number ← number_at w.1
+  Ok (Act (End client number))
 
 -- handle ROUTER FROM
 unfoldable pub handle_line : List (List ℕ) → Result Command ScriptError
@@ -177,7 +212,8 @@ is_command name =
     is_word name (codes "router") || is_word name (codes "client") || is_word name (codes "link") || is_word name (codes "up")
     || is_word name (codes "break") || is_word name (codes "down") || is_word name (codes "sub") || is_word name (codes "unsub")
     || is_word name (codes "able") || is_word name (codes "full") || is_word name (codes "unable")
-    || is_word name (codes "put") || is_word name (codes "del") || is_word name (codes "handle") || is_word name (codes "take")
+    || is_word name (codes "put") || is_word name (codes "del") || is_word name (codes "get") || is_word name (codes "reply")
+    || is_word name (codes "end") || is_word name (codes "handle") || is_word name (codes "take")
     || is_word name (codes "run") || is_word name (codes "mark") || is_word name (codes "show")
 
 -- what a command's name and the words behind it ask
@@ -196,6 +232,9 @@ by_name name args =
     else if is_word name (codes "unable") then unable_line args
     else if is_word name (codes "put") then put_line args
     else if is_word name (codes "del") then del_line args
+    else if is_word name (codes "get") then get_line args
+    else if is_word name (codes "reply") then reply_line args
+    else if is_word name (codes "end") then end_line args
     else if is_word name (codes "handle") then handle_line args
     else if is_word name (codes "take") then take_line args
     else if is_word name (codes "run") then run_line args

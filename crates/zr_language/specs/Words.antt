@@ -1,10 +1,12 @@
--- The words of a line, and what a word may be: a name, a number, a key expression or a payload.
+-- The words of a line, and what a word may be: a name, a number, a target, a key expression or a payload.
 use Rattle.std.specs.Prelude.{ℕ, ◌+◌, ◌-◌, ◌*◌, ◌^◌, ◌==◌, ◌&&◌, not, nat_eq, nat_lt, nat_le, Bool, false, if◌then◌else◌, List, [], ◌∷◌, length, filter, codes, Option, Some, None, Result, Ok, Err}
 use Rattle.std.specs.List.{fold, list_all, slice_split, slice_get}
 use Rattle.std.specs.Cmp.Lexicographic.{pointwise}
 use Rattle.zr_id.specs.Zid.{zid_of_hex}
 use Rattle.zr_key.specs.Key.{read_key}
 use Rattle.zr_key.specs.declared.key.KeyError.{KeyError}
+use Rattle.zr_msg.specs.declared.msg.Target.{Target}
+use Rattle.zr_msg.specs.declared.msg.Target.TheVariants.{Best, All, Complete}
 use Rattle.zr_command.specs.declared.error.ScriptError.{ScriptError}
 use Rattle.zr_command.specs.declared.error.ScriptError.TheVariants.{BadWords, BadKey}
 
@@ -51,6 +53,14 @@ three_of (a ∷ b ∷ []) = Err BadWords
 three_of (a ∷ b ∷ c ∷ []) = Ok (a, b, c)
 three_of (a ∷ b ∷ c ∷ d ∷ more) = Err BadWords
 
+abbrev pub four_of : List (List ℕ) → Result (List ℕ × List ℕ × List ℕ × List ℕ) ScriptError
+four_of [] = Err BadWords
+four_of (a ∷ []) = Err BadWords
+four_of (a ∷ b ∷ []) = Err BadWords
+four_of (a ∷ b ∷ c ∷ []) = Err BadWords
+four_of (a ∷ b ∷ c ∷ d ∷ []) = Ok (a, b, c, d)
+four_of (a ∷ b ∷ c ∷ d ∷ e ∷ more) = Err BadWords
+
 -- ---- names
 
 -- the identifier that a word names
@@ -81,6 +91,16 @@ value_of digits = fold (λ n b. n * 10 + (b - 48)) 0 digits
 -- a number of at most 32 bits
 abbrev pub number_at : List ℕ → Result ℕ ScriptError
 number_at word = if is_number word && nat_lt (value_of word) (2 ^ 32) then Ok (value_of word) else Err BadWords
+
+-- ---- targets
+
+-- which queryables a word asks
+abbrev pub target_at : List ℕ → Result Target ScriptError
+target_at word =
+    if is_word word (codes "best") then Ok Best
+    else if is_word word (codes "all") then Ok All
+    else if is_word word (codes "complete") then Ok Complete
+    else Err BadWords
 
 -- ---- keys and payloads
 

@@ -13,6 +13,7 @@ use Rattle.zr_graph.specs.Record.{ids}
 use Rattle.zr_graph.specs.Base.{BaseState}
 use Rattle.zr_msg.specs.declared.decl.Kind.{Kind}
 use Rattle.zr_msg.specs.declared.decl.Kind.TheVariants as k
+use Rattle.zr_msg.specs.Extras.{no_extras}
 use Rattle.zr_msg.specs.declared.msg.Msg.{Msg}
 use Rattle.zr_msg.specs.declared.msg.Msg.TheVariants as message
 use Rattle.zr_msg.specs.declared.event.Event.TheVariants.{Down, From}
@@ -23,12 +24,13 @@ use Rattle.zr_command.specs.declared.report.ReportLine.{ReportLine}
 use Rattle.zr_command.specs.declared.report.ReportLine.TheVariants as line
 use Rattle.zr_table.specs.State.{NodeState}
 use Rattle.zr_table.specs.Table.{able_kind}
-use Rattle.zr_network.specs.World.{RouterState, ClientState, WorldState, Routers, Clients, with_routers, router_of, client_of, with_router, with_client, is_taken, new_router, new_client}
-use Rattle.zr_network.specs.Acts.{outcome, declare_step, undeclare_step, hearing, weighing, declaring, undeclaring, up_event, peer_of, parent_line, source_line, shown_base, shown}
+use Rattle.zr_network.specs.World.{RouterState, ClientState, WorldState, Routers, Clients, with_routers, with_clients, router_of, client_of, with_router, with_client, is_taken, new_router, new_client}
+use Rattle.zr_network.specs.Acts.{outcome, declare_step, undeclare_step, hearing, weighing, declaring, undeclaring, up_event, peer_of, parent_line, source_line, shown_base, shown, received}
 use Rattle.zr_network.specs.Moments.{Moment, went}
 use Rattle.zr_network.proofs.Keyed.{not_there}
 use Rattle.zr_network.proofs.Names.{same_name, value_new, read_kept}
-use Rattle.zr_network.proofs.Cases.{free_name, w_client, w_link, w_up, w_break, w_down, w_sent, w_declare, w_undeclare, w_handle, w_take, for_router, for_client, for_link, for_up, for_break, for_down, for_declare, for_undeclare, for_publish, for_handle, for_take, for_mark, for_show}
+use Rattle.zr_network.proofs.Clients.{there_same, same_received}
+use Rattle.zr_network.proofs.Cases.{free_name, w_client, w_link, w_up, w_break, w_down, w_sent, w_declare, w_undeclare, w_handle, w_take, for_router, for_client, for_link, for_up, for_break, for_down, for_declare, for_undeclare, Says, publish_says, get_says, reply_says, end_says, for_handle, for_take, for_mark, for_show}
 use Rattle.zr_network.proofs.Lists.{weaker, all_both, all_mapped}
 use Rattle.zr_netrun.specs.Summary.{tells_handled, tells_taken, tells_sent, tells_mark, counts_in}
 use Rattle.zr_netrun.specs.Counted.{is_known}
@@ -162,6 +164,9 @@ act_keeps m n act = by act
     undeclares client kind id msg = for_undeclare m (Goes m) n client kind id msg (λ s es known e ee unbroken.
         still (w_undeclare w n client kind id msg s e) (λ q. refl) (same_client w.clients client s (undeclaring s kind id) es))
 
+    says : (client : List ℕ) (msg : Msg) → Says m (Goes m) n client msg
+    says client msg s es e ee unbroken clients same = still (with_clients (w_sent w n client s e msg) clients) (λ q. refl) (there_same w.clients clients same)
+
     by : (act : Act) → IfSome (went m (outcome m.world n act)) (Goes m)
     by (c.Router id) = for_router m (Goes m) id (λ free room. goes (with_routers w (insert_entry (slice_cmp nat_cmp) w.routers id (new_router id))) [] (record {
       routers = λ q there. router_comes w id q free there;
@@ -183,12 +188,15 @@ act_keeps m n act = by act
     by (c.Unsub client id) = undeclares client k.Sub id (message.Unsub id)
     by (c.Able client id key complete) = declares client (able_kind complete) id key (message.Able id key complete)
     by (c.Unable client id) = undeclares client k.Able id (message.Unable id)
-    by (c.Publish client content) = for_publish m (Goes m) n client content (λ s es e ee unbroken. still (w_sent w n client s e (message.Push None content)) (λ q. refl) (λ q. refl))
+    by (c.Publish client content) = publish_says m (Goes m) n client content (says client (message.Push None content))
+    by (c.Get client number target content) = get_says m (Goes m) n client number target content (says client (message.Request None number target content))
+    by (c.Reply client number content) = reply_says m (Goes m) n client number content (says client (message.Response number content))
+    by (c.End client number) = end_says m (Goes m) n client number (says client (message.Final number no_extras))
     by (c.Handle router from) = for_handle m (Goes m) router from (λ r er there s es up msg tag xs front l el taken.
         goes (w_handle w router from r s l msg tag xs) (line.Handled router from msg tag ∷ [])
         (same_names w (w_handle w router from r s l msg tag xs) (same_router w.routers router r (hearing r (From l msg)) er) (λ q. refl)) refl (omega arith))
     by (c.Take router to) = for_take m (Goes m) router to (λ r er there s es up unbroken msg tag xs front.
-        goes (w_take w router to s msg tag xs) (line.Taken router to msg tag ∷ []) (same_names w (w_take w router to s msg tag xs) (λ q. refl) (λ q. refl)) (and_from (is_taken w to) true there refl) (omega arith))
+        goes (w_take w router to s msg tag xs) (line.Taken router to msg tag ∷ []) (same_names w (w_take w router to s msg tag xs) (λ q. refl) (there_same w.clients (received w.clients to msg (client_of w.clients to)) (same_received w.clients to msg))) (and_from (is_taken w to) true there refl) (omega arith))
     by c.Mark = for_mark m (Goes m) n (λ settled joined. goes w (line.Mark n ∷ []) (same_names w w (λ q. refl) (λ q. refl)) refl (omega arith))
     by (c.Show router) = for_show m (Goes m) router (λ r er.
         goes w (line.Show router ∷ shown r.node) (same_names w w (λ q. refl) (λ q. refl)) (show_known w r.node)

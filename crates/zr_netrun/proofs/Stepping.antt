@@ -1,10 +1,10 @@
 -- A run is fed step by step, as a piece is fed line by line. At each step what is kept is the world of a run so far (`IsRunning`): the
 -- report lines so far are behind what waited before, and with what the steps that are left come to they are what the whole run says (`IsAhead`).
 -- `starts` begins it where all its steps are possible, `goes_on` is a step that was done, `ends` the last line; `stops` is a step at which memory or a write failed.
-use Rattle.std.proofs.Common.{◌≡◌, ℕ, zero, suc, ◌+◌, ◌<◌, Bool, true, false, cond, List, [], ◌∷◌, ◌++◌, Option, Some, None, Result, Ok, Err, refl, sym, ap, ◌∙◌, ◌⊎◌, inl, inr, append_assoc, append-nil, arith, subst}
+use Rattle.std.proofs.Common.{◌≡◌, ℕ, zero, suc, ◌+◌, ◌<◌, ◌≤◌, Bool, true, false, cond, List, [], ◌∷◌, ◌++◌, Option, Some, None, Result, Ok, Err, refl, sym, ap, ◌∙◌, ◌⊎◌, inl, inr, append_assoc, append-nil, arith, subst}
 use Rattle.std.specs.Prelude.{nat_le, is_none, is_ok, IfOk}
 use Rattle.std.specs.List.{flat_map}
-use Rattle.std.proofs.lemmas.Bool.{true≢false, false≢true}
+use Rattle.std.proofs.lemmas.Bool.{true≢false, false≢true, leb-true}
 use Rattle.std.proofs.lemmas.Grind.{flat_map-append}
 use Rattle.zr_command.specs.declared.error.ScriptError.{ScriptError}
 use Rattle.zr_command.specs.declared.error.ScriptError.TheVariants as e
@@ -121,11 +121,20 @@ is_booked w start steps fits = by (nat_le (w.booked + steps) most_steps) fits
     by true h = cc
     by false h = absurd (false≢true (ap is_ok h))
 
+-- as many as all runs may ask for
+is_few : (w start : WorldState) (steps : ℕ) → book_step w steps ≡ Ok start → steps ≤ most_steps
+unfolding book_step
+is_few w start steps fits = by (nat_le (w.booked + steps) most_steps) refl fits
+  where
+    by : (b : Bool) → nat_le (w.booked + steps) most_steps ≡ b → cond b (Ok (booking w steps)) (Err e.Limit) ≡ Ok start → steps ≤ most_steps
+    by true fit h = let room : w.booked + steps ≤ most_steps = leb-true (w.booked + steps) most_steps fit in omega arith
+    by false fit h = absurd (false≢true (ap is_ok h))
+
 booked_goes : (w start : WorldState) (line steps : ℕ) → RunsGo w → book_step w steps ≡ Ok start → is_ok (ran line steps start) ≡ true
 booked_goes w start line steps goes fits =
     ap (λ v. is_ok (ran line steps v)) (is_booked w start steps fits)
     ∙ ap (λ z. is_ok (all_done (booking w steps) line z)) (steps_recounted line steps w (w.booked + steps))
-    ∙ ap is_ok (done_recounted line (run_steps line steps w) w (w.booked + steps)) ∙ same (all_done w line (run_steps line steps w)) ∙ goes line steps
+    ∙ ap is_ok (done_recounted line (run_steps line steps w) w (w.booked + steps)) ∙ same (all_done w line (run_steps line steps w)) ∙ goes line steps (is_few w start steps fits)
   where
     same : (d : Done) → is_ok (recounted (w.booked + steps) d) ≡ is_ok d
     same (Ok x) = refl

@@ -100,6 +100,7 @@ stop_of e.BadKey = Refused e.BadKey
 stop_of e.NotLinked = Refused e.NotLinked
 stop_of e.AlreadyLinked = Refused e.AlreadyLinked
 stop_of e.NothingThere = Refused e.NothingThere
+stop_of e.NotAsked = Refused e.NotAsked
 stop_of e.NotSettled = Refused e.NotSettled
 stop_of e.NotJoined = Refused e.NotJoined
 stop_of e.Limit = Refused e.Limit

@@ -15,7 +15,7 @@ use crate::runner::{Runner, Stop};
 use crate::status::Status;
 use std::alloc::Global;
 use zr_command::error::ScriptError;
-use zr_laws::runs::steps_are_possible;
+use zr_numbers::steps_are_possible;
 use zr_outside::sink::{Sink, write_all};
 use zr_outside::source::{Got, Source};
 use zr_script::text::refused_text;
@@ -34,6 +34,7 @@ const PIECE: usize = 65_536;
 ///
 /// A refused line ends the run: `err` then has `line N: NUMBER NAME`. So does a script of more than 67,108,864 bytes, none of whose
 /// lines within them is refused: `err` has `script too long`. A status of fault comes only where that count rose in this call.
+#[tactic(auto, using(crate::proofs::Going::from_start))]
 pub fn run_script<S: Source, K: Sink, E: Sink>(
     alloc: Global,
     input: &mut S,

@@ -3,7 +3,7 @@
 ghost use Rattle.std.specs.Prelude.{◌≡◌, ◌==◌, ◌+◌, ◌^◌, ◌<◌, ◌≤◌, ◌∷◌, ◌++◌, [], true, false, length, take, position, is_none, OnOk, OnErr};
 ghost use Rattle.std.specs.List.{fold, flat_map};
 ghost use Rattle.std.specs.Option.{option_map};
-ghost use Rattle.zr_language.specs.Lines.{most_kept, ended_lines, open_line, parts, unless_empty};
+ghost use Rattle.zr_language.specs.Lines.{most_bytes, most_kept, ended_lines, open_line, parts, unless_empty};
 ghost use Rattle.zr_language.specs.Report.{line_text};
 ghost use Rattle.zr_network.specs.Accepted.{accepted_from};
 ghost use Rattle.zr_network.specs.Next.{applied, book_step, next};
@@ -106,7 +106,7 @@ impl Runner {
     pub fn feed<K: Sink>(&mut self, piece: &[u8], out: &mut K) -> Result<(), Stop>
         requires alive { self.old.world.spent ≡ false }
         requires goes { StepsGo (fresh self.old) }
-        requires room { self.old.number + length piece.now < 2 ^ 63 }
+        requires room { self.old.number + length piece.now ≤ most_bytes }
         ensures turn { Turns result (fold on_line (fresh self.old) (ended_lines (self.old.line ++ piece.now))) (take most_kept (open_line (self.old.line ++ piece.now))) self.old.pending self.new (seen (writes self.old) (K.held out.old)) (seen (writes self.old) (K.held out.new)) }
         ensures counts { OnOk result (CountsOn (accepted_from (fresh self.old) (ended_lines (self.old.line ++ piece.now))) self.old self.new) }
         ensures flushed { OnOk result (self.new.pending ≡ []) }
@@ -122,7 +122,7 @@ impl Runner {
     pub fn finish<K: Sink>(&mut self, out: &mut K) -> Result<(), Stop>
         requires alive { self.old.world.spent ≡ false }
         requires goes { StepsGo (fresh self.old) }
-        requires room { self.old.number < 2 ^ 63 }
+        requires room { self.old.number ≤ most_bytes }
         ensures turn { Turns result (fold on_line (fresh self.old) (unless_empty self.old.line)) [] self.old.pending self.new (seen (writes self.old) (K.held out.old)) (seen (writes self.old) (K.held out.new)) }
         ensures counts { OnOk result (CountsOn (accepted_from (fresh self.old) (unless_empty self.old.line)) self.old self.new) }
         ensures flushed { OnOk result (self.new.pending ≡ []) }
@@ -149,7 +149,7 @@ impl Runner {
     fn feed_lines<K: Sink>(&mut self, piece: &[u8], out: &mut K) -> Result<(), Stop>
         requires alive { self.old.world.spent ≡ false }
         requires goes { StepsGo (fresh self.old) }
-        requires room { self.old.number + length piece.now < 2 ^ 63 }
+        requires room { self.old.number + length piece.now ≤ most_bytes }
         ensures turn { Turns result (fold on_line (fresh self.old) (ended_lines (self.old.line ++ piece.now))) (take most_kept (open_line (self.old.line ++ piece.now))) self.old.pending self.new (seen (writes self.old) (K.held out.old)) (seen (writes self.old) (K.held out.new)) }
         ensures counts { OnOk result (CountsOn (accepted_from (fresh self.old) (ended_lines (self.old.line ++ piece.now))) self.old self.new) }
         ensures fault { result ≡ Err Stop.WriteFault → Rose (K.faults out.old) (K.faults out.new) }
@@ -169,7 +169,7 @@ impl Runner {
     fn end_last_line<K: Sink>(&mut self, out: &mut K) -> Result<(), Stop>
         requires alive { self.old.world.spent ≡ false }
         requires goes { StepsGo (fresh self.old) }
-        requires room { self.old.number < 2 ^ 63 }
+        requires room { self.old.number ≤ most_bytes }
         ensures turn { Turns result (fold on_line (fresh self.old) (unless_empty self.old.line)) [] self.old.pending self.new (seen (writes self.old) (K.held out.old)) (seen (writes self.old) (K.held out.new)) }
         ensures counts { OnOk result (CountsOn (accepted_from (fresh self.old) (unless_empty self.old.line)) self.old self.new) }
         ensures fault { result ≡ Err Stop.WriteFault → Rose (K.faults out.old) (K.faults out.new) }
@@ -187,7 +187,7 @@ impl Runner {
     fn end_line<K: Sink>(&mut self, part: &[u8], out: &mut K) -> Result<(), Stop>
         requires alive { self.old.world.spent ≡ false }
         requires goes { StepsGo (fresh self.old) }
-        requires room { self.old.number < 2 ^ 63 }
+        requires room { self.old.number ≤ most_bytes }
         requires open { parts part.now ≡ part.now ∷ [] }
         ensures turn { Turns result (on_line (fresh self.old) (self.old.line ++ part.now)) [] self.old.pending self.new (seen (writes self.old) (K.held out.old)) (seen (writes self.old) (K.held out.new)) }
         ensures counts { OnOk result (CountsOn (accepted_from (fresh self.old) ((self.old.line ++ part.now) ∷ [])) self.old self.new) }
@@ -207,7 +207,7 @@ impl Runner {
     fn on_line<K: Sink>(&mut self, line: &[u8], out: &mut K) -> Result<(), Stop>
         requires alive { self.old.world.spent ≡ false }
         requires goes { StepsGo (fresh self.old) }
-        requires room { self.old.number < 2 ^ 63 }
+        requires room { self.old.number ≤ most_bytes }
         ensures turn { Turns result (on_line (fresh self.old) line.now) self.old.line self.old.pending self.new (seen (writes self.old) (K.held out.old)) (seen (writes self.old) (K.held out.new)) }
         ensures counts { OnOk result (CountsOn (accepted_from (fresh self.old) (line.now ∷ [])) self.old self.new) }
         ensures fault { result ≡ Err Stop.WriteFault → Rose (K.faults out.old) (K.faults out.new) }

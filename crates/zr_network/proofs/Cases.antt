@@ -13,6 +13,8 @@ use Rattle.zr_msg.specs.declared.decl.Kind.{Kind}
 use Rattle.zr_msg.specs.declared.error.NodeError.{NodeError}
 use Rattle.zr_msg.specs.declared.msg.Msg.{Msg}
 use Rattle.zr_msg.specs.declared.msg.Msg.TheVariants as m
+use Rattle.zr_msg.specs.declared.msg.Target.{Target}
+use Rattle.zr_msg.specs.Extras.{no_extras}
 use Rattle.zr_msg.specs.declared.event.Event.{Event}
 use Rattle.zr_msg.specs.declared.event.Event.TheVariants.{Down, From}
 use Rattle.zr_msg.specs.declared.peer.Role.TheVariants as role
@@ -23,10 +25,11 @@ use Rattle.zr_routing.specs.Tables.{link_to}
 use Rattle.zr_msg.specs.declared.peer.LinkPeer.{LinkPeer}
 use Rattle.zr_table.specs.Table.{refuses}
 use Rattle.zr_language.specs.Step.{◌>>=◌}
-use Rattle.zr_network.specs.World.{Tagged, ClientState, RouterState, EndState, Routers, WorldState, with_routers, with_clients, with_ends, new_router, new_client, new_end, router_of, client_of, with_router, with_client, is_taken, end_of, with_end, put_end, most_routers, most_clients, most_links, most_weight, weight_of, is_in_place, links_in_place, sent, with_wire, with_queue, broken, lifted, lowered, changed, is_settled}
+use Rattle.zr_network.specs.World.{Tagged, ClientState, RouterState, EndState, Routers, Clients, WorldState, with_routers, with_clients, with_ends, new_router, new_client, new_end, router_of, client_of, with_router, with_client, is_taken, end_of, with_end, put_end, most_routers, most_clients, most_links, most_weight, most_queries, weight_of, is_in_place, links_in_place, sent, with_wire, with_queue, broken, lifted, lowered, changed, is_settled}
 use Rattle.zr_network.specs.Joined.{is_joined}
-use Rattle.zr_network.specs.Acts.{Outcome, unless, router_at, client_at, end_at, oldest, has_id, weighing, weighed, declaring, undeclaring, heard, heard_by, hears, peer_of, up_event, number_at, number_to, shown, client_sends, router_step, client_step, link_step, up_step, break_step, down_step, declare_step, undeclare_step, publish_step, handle_step, take_step, mark_step, show_step}
+use Rattle.zr_network.specs.Acts.{Outcome, unless, router_at, client_at, end_at, oldest, has_number, has_id, weighing, weighed, declaring, undeclaring, asking, ending, received, heard, heard_by, hears, peer_of, up_event, number_at, number_to, shown, client_sends, router_step, client_step, link_step, up_step, break_step, down_step, declare_step, undeclare_step, publish_step, get_step, reply_step, end_step, handle_step, take_step, mark_step, show_step}
 use Rattle.zr_network.specs.Moments.{Moment, went}
+use Rattle.zr_network.proofs.Clients.{SameClients, same_clients, same_with_client}
 
 -- ---- the worlds that acts lead to
 
@@ -65,7 +68,8 @@ abbrev pub w_handle : WorldState → List ℕ → List ℕ → RouterState → E
 w_handle w router from r s l msg tag xs = heard (with_ends w (with_end w.ends (router, from) (with_wire s xs))) router r (From l msg) tag
 
 abbrev pub w_take : WorldState → List ℕ → List ℕ → EndState → Msg → ℕ → List Tagged → WorldState
-w_take w router to s msg tag xs = with_ends w (changed (with_end w.ends (router, to) (with_queue s xs)) (to, router) (λ e. sent e msg tag))
+w_take w router to s msg tag xs =
+    with_clients (with_ends w (changed (with_end w.ends (router, to) (with_queue s xs)) (to, router) (λ e. sent e msg tag))) (received w.clients to msg (client_of w.clients to))
 
 -- ---- the moments
 
@@ -95,6 +99,10 @@ on_undeclare now n name kind id msg s e = record { world = w_undeclare now.world
 
 abbrev pub on_publish : Moment → ℕ → List ℕ → Parts → ClientState → EndState → Moment
 on_publish now n name content s e = record { world = w_sent now.world n name s e (m.Push None content); report = now.report ++ [] }
+
+-- a client says something, and its queries or requests may be others then
+abbrev pub on_said : Moment → ℕ → List ℕ → Msg → ClientState → EndState → Clients → Moment
+on_said now n name msg s e clients = record { world = with_clients (w_sent now.world n name s e msg) clients; report = now.report ++ [] }
 
 abbrev pub on_handle : Moment → List ℕ → List ℕ → RouterState → EndState → LinkNo → Msg → ℕ → List Tagged → Moment
 on_handle now router from r s l msg tag xs = record { world = w_handle now.world router from r s l msg tag xs; report = now.report ++ line.Handled router from msg tag ∷ [] }
@@ -285,6 +293,53 @@ module _ (now : Moment) (Q : Moment → Type 0) where
   for_publish n name content step =
       for_bind (client_at (client_of w.clients name)) _ (λ s es. for_client_sends n name s (m.Push None content) _ (λ e there unbroken.
       step s (client_found (client_of w.clients name) s es) e there unbroken))
+
+  pub for_get : (n : ℕ) (name : List ℕ) (number : ℕ) (target : Target) (content : Parts) →
+      ((s : ClientState) → client_of w.clients name ≡ Some s → has_number s.queries number ≡ false → (e : EndState) → end_of w.ends (s.router, name) ≡ Some e → e.unbroken ≡ true →
+      nat_le most_queries (length s.queries) ≡ false → Q (on_said now n name (m.Request None number target content) s e (with_client w.clients name (asking s number)))) →
+      IfSome (went now (get_step w n name number target content)) Q
+  unfolding get_step
+  for_get n name number target content step =
+      for_bind (client_at (client_of w.clients name)) _ (λ s es. for_unless (has_number s.queries number) _ _ (λ fresh.
+      for_client_sends n name s (m.Request None number target content) _ (λ e there unbroken. for_unless (nat_le most_queries (length s.queries)) _ _ (λ room.
+      step s (client_found (client_of w.clients name) s es) fresh e there unbroken room))))
+
+  pub for_reply : (n : ℕ) (name : List ℕ) (number : ℕ) (content : Parts) →
+      ((s : ClientState) → client_of w.clients name ≡ Some s → (e : EndState) → end_of w.ends (s.router, name) ≡ Some e → e.unbroken ≡ true → has_number s.requests number ≡ true →
+      Q (on_said now n name (m.Response number content) s e w.clients)) →
+      IfSome (went now (reply_step w n name number content)) Q
+  unfolding reply_step
+  for_reply n name number content step =
+      for_bind (client_at (client_of w.clients name)) _ (λ s es. for_client_sends n name s (m.Response number content) _ (λ e there unbroken.
+      for_test (has_number s.requests number) _ _ (λ asked. step s (client_found (client_of w.clients name) s es) e there unbroken asked)))
+
+  pub for_end : (n : ℕ) (name : List ℕ) (number : ℕ) →
+      ((s : ClientState) → client_of w.clients name ≡ Some s → (e : EndState) → end_of w.ends (s.router, name) ≡ Some e → e.unbroken ≡ true → has_number s.requests number ≡ true →
+      Q (on_said now n name (m.Final number no_extras) s e (with_client w.clients name (ending s number)))) →
+      IfSome (went now (end_step w n name number)) Q
+  unfolding end_step
+  for_end n name number step =
+      for_bind (client_at (client_of w.clients name)) _ (λ s es. for_client_sends n name s (m.Final number no_extras) _ (λ e there unbroken.
+      for_test (has_number s.requests number) _ _ (λ asked. step s (client_found (client_of w.clients name) s es) e there unbroken asked)))
+
+  -- a client says something and declares nothing: what is shown of this is shown of a sample, a query, a reply and an end
+  abbrev pub Says : ℕ → List ℕ → Msg → Type 0
+  Says n name msg = (s : ClientState) → client_of w.clients name ≡ Some s → (e : EndState) → end_of w.ends (s.router, name) ≡ Some e → e.unbroken ≡ true →
+      (clients : Clients) → SameClients w.clients clients → Q (on_said now n name msg s e clients)
+
+  pub publish_says : (n : ℕ) (name : List ℕ) (content : Parts) → Says n name (m.Push None content) → IfSome (went now (publish_step w n name content)) Q
+  publish_says n name content says = for_publish n name content (λ s found e there unbroken. says s found e there unbroken w.clients (same_clients w.clients))
+
+  pub get_says : (n : ℕ) (name : List ℕ) (number : ℕ) (target : Target) (content : Parts) → Says n name (m.Request None number target content) → IfSome (went now (get_step w n name number target content)) Q
+  get_says n name number target content says = for_get n name number target content (λ s found fresh e there unbroken room.
+      says s found e there unbroken (with_client w.clients name (asking s number)) (same_with_client w.clients name s (asking s number) found refl))
+
+  pub reply_says : (n : ℕ) (name : List ℕ) (number : ℕ) (content : Parts) → Says n name (m.Response number content) → IfSome (went now (reply_step w n name number content)) Q
+  reply_says n name number content says = for_reply n name number content (λ s found e there unbroken asked. says s found e there unbroken w.clients (same_clients w.clients))
+
+  pub end_says : (n : ℕ) (name : List ℕ) (number : ℕ) → Says n name (m.Final number no_extras) → IfSome (went now (end_step w n name number)) Q
+  end_says n name number says = for_end n name number (λ s found e there unbroken asked.
+      says s found e there unbroken (with_client w.clients name (ending s number)) (same_with_client w.clients name s (ending s number) found refl))
 
   pub for_handle : (router from : List ℕ) →
       ((r : RouterState) → router_of w.routers router ≡ Some r → is_taken w from ≡ true → (s : EndState) → end_of w.ends (router, from) ≡ Some s → s.up ≡ true →

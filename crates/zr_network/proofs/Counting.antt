@@ -13,9 +13,10 @@ use Rattle.zr_msg.specs.declared.event.Event.{Event}
 use Rattle.zr_msg.specs.declared.event.Event.TheVariants.{Down, From}
 use Rattle.zr_msg.specs.declared.msg.Msg.{Msg}
 use Rattle.zr_msg.specs.declared.msg.Msg.TheVariants as m
+use Rattle.zr_msg.specs.Extras.{no_extras}
 use Rattle.zr_msg.specs.declared.peer.Role.TheVariants as role
 use Rattle.zr_command.specs.declared.error.ScriptError.{ScriptError}
-use Rattle.zr_command.specs.declared.error.ScriptError.TheVariants.{BadWords, NameTaken, UnknownName, AlreadyLinked, NotLinked, Limit, NotSettled, NotJoined}
+use Rattle.zr_command.specs.declared.error.ScriptError.TheVariants.{BadWords, NameTaken, UnknownName, AlreadyLinked, NotLinked, NotAsked, Limit, NotSettled, NotJoined}
 use Rattle.zr_command.specs.declared.command.Act.{Act}
 use Rattle.zr_command.specs.declared.command.Act.TheVariants as c
 use Rattle.zr_command.specs.declared.command.Command.{Command}
@@ -23,9 +24,9 @@ use Rattle.zr_command.specs.declared.command.Command.TheVariants as command
 use Rattle.zr_command.specs.declared.report.ReportLine.TheVariants as line
 use Rattle.zr_language.specs.Step.{◌>>=◌}
 use Rattle.zr_table.specs.Table.{able_kind, refuses}
-use Rattle.zr_network.specs.World.{Tagged, RouterState, ClientState, EndState, WorldState, with_booked, with_ends, with_clients, new_client, sent, router_of, client_of, is_taken, end_of, with_end, put_end, lifted, new_end, with_wire, is_in_place, links_in_place, most_routers, most_clients, most_links, is_settled}
+use Rattle.zr_network.specs.World.{Tagged, RouterState, ClientState, EndState, WorldState, with_booked, with_ends, with_clients, new_client, sent, router_of, client_of, is_taken, end_of, with_end, put_end, lifted, new_end, with_wire, is_in_place, links_in_place, most_routers, most_clients, most_links, most_queries, is_settled}
 use Rattle.zr_network.specs.Joined.{is_joined}
-use Rattle.zr_network.specs.Acts.{Outcome, unless, router_at, client_at, end_at, up_at, unbroken_at, oldest, has_id, weighed, heard, heard_by, hears, peer_of, up_event, number_to, client_sends, router_step, client_step, link_step, up_step, break_step, down_step, declare_step, undeclare_step, publish_step, handle_step, take_step, mark_step, show_step, outcome}
+use Rattle.zr_network.specs.Acts.{Outcome, unless, router_at, client_at, end_at, up_at, unbroken_at, oldest, has_number, has_id, weighed, heard, heard_by, hears, peer_of, up_event, number_to, client_sends, router_step, client_step, link_step, up_step, break_step, down_step, declare_step, undeclare_step, publish_step, get_step, reply_step, end_step, handle_step, take_step, mark_step, show_step, outcome}
 use Rattle.zr_network.specs.Next.{Done, next, world_after, with_more, run_steps, acts, all_done}
 
 -- the same with another count in the world
@@ -88,7 +89,7 @@ module _ (w : WorldState) (booked : ℕ) where
       bind_recounted (client_at (client_of w.clients client)) _ _ (λ s. bind_recounted (unless (not (has_id s kind id)) UnknownName) _ _ (λ a. sends_recounted n client s msg _ _ (λ v. refl)))
 
   pub outcome_recounted : (n : ℕ) (act : Act) → outcome (with_booked w booked) n act ≡ recounted booked (outcome w n act)
-  unfolding outcome router_step client_step link_step up_step break_step down_step publish_step handle_step take_step mark_step show_step
+  unfolding outcome router_step client_step link_step up_step break_step down_step publish_step get_step reply_step end_step handle_step take_step mark_step show_step
   outcome_recounted n (c.Router id) =
       bind_recounted (unless (is_taken w id) NameTaken) _ _ (λ a. bind_recounted (unless (nat_le most_routers (length w.routers)) Limit) _ _ (λ b. refl))
   outcome_recounted n (c.Client id router) =
@@ -113,6 +114,15 @@ module _ (w : WorldState) (booked : ℕ) where
   outcome_recounted n (c.Unable client id) = undeclare_recounted n client k.Able id (m.Unable id)
   outcome_recounted n (c.Publish client content) =
       bind_recounted (client_at (client_of w.clients client)) _ _ (λ s. sends_recounted n client s (m.Push None content) _ _ (λ v. refl))
+  outcome_recounted n (c.Get client number target content) =
+      bind_recounted (client_at (client_of w.clients client)) _ _ (λ s. bind_recounted (unless (has_number s.queries number) NameTaken) _ _ (λ a.
+      sends_recounted n client s (m.Request None number target content) _ _ (λ v. bind_recounted (unless (nat_le most_queries (length s.queries)) Limit) _ _ (λ b. refl))))
+  outcome_recounted n (c.Reply client number content) =
+      bind_recounted (client_at (client_of w.clients client)) _ _ (λ s. sends_recounted n client s (m.Response number content) _ _ (λ v.
+      bind_recounted (unless (not (has_number s.requests number)) NotAsked) _ _ (λ a. refl)))
+  outcome_recounted n (c.End client number) =
+      bind_recounted (client_at (client_of w.clients client)) _ _ (λ s. sends_recounted n client s (m.Final number no_extras) _ _ (λ v.
+      bind_recounted (unless (not (has_number s.requests number)) NotAsked) _ _ (λ a. refl)))
   outcome_recounted n (c.Handle router from) =
       bind_recounted (router_at (router_of w.routers router)) _ _ (λ r. bind_recounted (unless (not (is_taken w from)) UnknownName) _ _ (λ a. bind_recounted (end_at (end_of w.ends (router, from))) _ _ (λ s.
       bind_recounted (up_at s) _ _ (λ b. bind_recounted (oldest s.wire) _ _ (λ x. bind_recounted (number_to r from) _ _ (λ l.

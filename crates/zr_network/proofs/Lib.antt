@@ -1,6 +1,7 @@
 pub mod Keyed
 pub mod Names
 pub mod Ends
+pub mod Clients
 pub mod Cases
 pub mod Next
 pub mod Links

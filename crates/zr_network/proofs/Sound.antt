@@ -23,6 +23,7 @@ use Rattle.zr_msg.specs.declared.msg.Msg.TheVariants as m
 use Rattle.zr_msg.specs.declared.error.NodeError.{NodeError}
 use Rattle.zr_msg.specs.declared.event.Event.{Event}
 use Rattle.zr_msg.specs.declared.event.Event.TheVariants.{Down, From}
+use Rattle.zr_msg.specs.Extras.{no_extras}
 use Rattle.zr_msg.specs.declared.peer.Role.TheVariants as role
 use Rattle.zr_command.specs.declared.error.ScriptError.{ScriptError}
 use Rattle.zr_command.specs.declared.error.ScriptError.TheVariants.{UnknownName, NotLinked, Limit}
@@ -36,17 +37,18 @@ use Rattle.zr_routing.specs.Tables.{is_router, link_at, link_to}
 use Rattle.zr_table.specs.Table.{able_kind, after, refuses}
 use Rattle.zr_table.specs.Event.{MayCome}
 use Rattle.zr_language.specs.Step.{◌>>=◌}
-use Rattle.zr_network.specs.World.{Tagged, ClientState, RouterState, EndState, End, Routers, Clients, Ends, WorldState, end_cmp, is_end, router_of, client_of, is_taken, end_of, is_up, is_unbroken, is_in_place, with_routers, with_ends, with_router, with_client, with_end, put_end, new_end, new_router, new_client, lifted, changed, broken, lowered, sent, with_wire, with_queue, is_empty, most_steps}
-use Rattle.zr_network.specs.Acts.{Outcome, unless, router_at, end_at, oldest, number_at, handle_step, take_step, heard, hearing, weighing, ids_of, with_ids, declaring, undeclaring, hears, heard_by, all_queued, up_event, peer_of, number_to, outcome}
+use Rattle.zr_network.specs.World.{Tagged, ClientState, RouterState, EndState, End, Routers, Clients, Ends, WorldState, end_cmp, is_end, router_of, client_of, is_taken, end_of, is_up, is_unbroken, is_in_place, with_routers, with_clients, with_ends, with_router, with_client, with_end, put_end, new_end, new_router, new_client, lifted, changed, broken, lowered, sent, with_wire, with_queue, is_empty, most_steps}
+use Rattle.zr_network.specs.Acts.{Outcome, unless, router_at, end_at, oldest, number_at, handle_step, take_step, heard, hearing, weighing, ids_of, with_ids, declaring, undeclaring, received, hears, heard_by, all_queued, up_event, peer_of, number_to, outcome}
 use Rattle.zr_network.specs.Next.{Done, lesser, ends_where, first_where, can_handle, can_take, step_at, next, world_after, with_more, run_steps, all_done, booking, book_step, run_done, applied}
 use Rattle.zr_network.specs.Moments.{Moment, went}
 use Rattle.zr_network.specs.Sound.{IsSound, AllAreTaken}
 use Rattle.zr_tree.proofs.Finds.{In, in_map, in_filter}
 use Rattle.zr_network.proofs.Keyed.{there, not_there, read_cond}
+use Rattle.zr_network.proofs.Clients.{SameClients, read_same_clients, same_received}
 use Rattle.zr_network.proofs.Names.{names, same_name, value_new, read_kept}
 use Rattle.zr_network.proofs.Ends.{end_found, end_parts, keys_with_end, keys_changed, read_with_end, keep_with_end, read_put_end, keep_put_end, sorted_put_end, read_changed, keep_changed}
 use Rattle.zr_network.proofs.Links.{numbered_link, free_is_free, unique_nothing}
-use Rattle.zr_network.proofs.Cases.{w_client, w_link, w_up, w_break, w_down, w_sent, w_declare, w_undeclare, w_handle, w_take, free_name, number_found, oldest_found, for_router, for_client, for_link, for_up, for_break, for_down, for_declare, for_undeclare, for_publish, for_handle, for_take, for_mark, for_show}
+use Rattle.zr_network.proofs.Cases.{w_client, w_link, w_up, w_break, w_down, w_sent, w_declare, w_undeclare, w_handle, w_take, free_name, number_found, oldest_found, for_router, for_client, for_link, for_up, for_break, for_down, for_declare, for_undeclare, Says, publish_says, get_says, reply_says, end_says, for_handle, for_take, for_mark, for_show}
 use Rattle.zr_network.proofs.Fits.{up_of, home, up_is_there, Places, places_same, still_true, of_put, places_put, Fits, Nodes, fits_same, nodes_set, fits_up, fits_down, fits_from, SameEnds, same_then, same_with, same_changed, same_queued, own_end, other_end, places_of, nodes_of, sound_of}
 pub use Rattle.zr_network.proofs.Fits.{empty_sound}
 
@@ -117,11 +119,16 @@ module _ (w : WorldState) (line : ℕ) (h : IsSound w) where
       (same_client name s (undeclaring s kind id) es (same_home s kind (filter (λ i. not (i == id)) (ids_of s kind)))) same.there_too)
       (nodes_same ends' same)
 
-  publish_sound : (name : List ℕ) (msg : Msg) (s : ClientState) (e : EndState) → end_of w.ends (s.router, name) ≡ Some e → IsSound (w_sent w line name s e msg)
-  publish_sound name msg s e ee =
+  -- the clients may have other queries and requests
+  clients_keep : (ends' : Ends) → SameEnds w.ends ends' → (clients : Clients) → SameClients w.clients clients → Places w.routers clients ends'
+  clients_keep ends' e clients same = places_same w.routers w.routers w.clients clients w.ends ends' p (e.sorted p.in_order) (λ q. refl)
+      (read_same_clients w.clients clients same (λ s. s.router) (λ s. refl)) e.there_too
+
+  says_sound : (name : List ℕ) (msg : Msg) → Says now sound line name msg
+  says_sound name msg s es e ee unbroken clients alike =
       let ends' : Ends = with_end w.ends (s.router, name) (sent e msg line) in
       let same : SameEnds w.ends ends' = on_wire name s e msg ee in
-      sound_of (w_sent w line name s e msg) (ends_keep ends' same) (nodes_same ends' same)
+      sound_of (with_clients (w_sent w line name s e msg) clients) (clients_keep ends' same clients alike) (nodes_same ends' same)
 
   take_sound : (router to : List ℕ) (s : EndState) → end_of w.ends (router, to) ≡ Some s → (msg : Msg) (tag : ℕ) (xs : List Tagged) → IsSound (w_take w router to s msg tag xs)
   take_sound router to s es msg tag xs =
@@ -129,7 +136,7 @@ module _ (w : WorldState) (line : ℕ) (h : IsSound w) where
       let ends' : Ends = changed taken (to, router) (λ e. sent e msg tag) in
       let same : SameEnds w.ends ends' =
       same_then w.ends taken ends' (same_with w.ends (router, to) s (with_queue s xs) es refl) (same_changed taken (to, router) (λ e. sent e msg tag) (λ e. refl)) in
-      sound_of (w_take w router to s msg tag xs) (ends_keep ends' same) (nodes_same ends' same)
+      sound_of (w_take w router to s msg tag xs) (clients_keep ends' same (received w.clients to msg (client_of w.clients to)) (same_received w.clients to msg)) (nodes_same ends' same)
 
   break_sound : (router name : List ℕ) → IsSound (w_break w router name)
   break_sound router name =
@@ -376,7 +383,10 @@ module _ (w : WorldState) (line : ℕ) (h : IsSound w) where
       kept (outcome w line (a.Able client id key complete)) (for_declare now sound line client (able_kind complete) id key (m.Able id key complete)
       (λ s es fresh e ee unbroken r er room. declare_sound client (able_kind complete) id key (m.Able id key complete) s es e ee r er))
   each_act (a.Unable client id) = kept (outcome w line (a.Unable client id)) (for_undeclare now sound line client k.Able id (m.Unable id) (λ s es known e ee unbroken. undeclare_sound client k.Able id (m.Unable id) s es e ee))
-  each_act (a.Publish client content) = kept (outcome w line (a.Publish client content)) (for_publish now sound line client content (λ s es e ee unbroken. publish_sound client (m.Push None content) s e ee))
+  each_act (a.Publish client content) = kept (outcome w line (a.Publish client content)) (publish_says now sound line client content (says_sound client (m.Push None content)))
+  each_act (a.Get client number target content) = kept (outcome w line (a.Get client number target content)) (get_says now sound line client number target content (says_sound client (m.Request None number target content)))
+  each_act (a.Reply client number content) = kept (outcome w line (a.Reply client number content)) (reply_says now sound line client number content (says_sound client (m.Response number content)))
+  each_act (a.End client number) = kept (outcome w line (a.End client number)) (end_says now sound line client number (says_sound client (m.Final number no_extras)))
   each_act (a.Handle router from) = kept (outcome w line (a.Handle router from)) (for_handle now sound router from (λ r er there s es up msg tag xs front l el taken. handle_sound router from r er s es msg tag xs l))
   each_act (a.Take router to) = kept (outcome w line (a.Take router to)) (for_take now sound router to (λ r er there s es up unbroken msg tag xs front. take_sound router to s es msg tag xs))
   each_act a.Mark = kept (outcome w line a.Mark) (for_mark now sound line (λ settled joined. h))

@@ -15,15 +15,17 @@ use Rattle.zr_tree.specs.Tree.{parent}
 use Rattle.zr_msg.specs.declared.content.Parts.{Parts}
 use Rattle.zr_msg.specs.declared.decl.Kind.{Kind}
 use Rattle.zr_msg.specs.declared.decl.Kind.TheVariants as k
+use Rattle.zr_msg.specs.Extras.{no_extras}
 use Rattle.zr_msg.specs.declared.error.NodeError.{NodeError}
 use Rattle.zr_msg.specs.declared.msg.Msg.{Msg}
 use Rattle.zr_msg.specs.declared.msg.Msg.TheVariants as m
+use Rattle.zr_msg.specs.declared.msg.Target.{Target}
 use Rattle.zr_msg.specs.declared.event.Event.{Event}
 use Rattle.zr_msg.specs.declared.event.Event.TheVariants.{Up, Down, From}
 use Rattle.zr_msg.specs.declared.peer.Peer.{Peer}
 use Rattle.zr_msg.specs.declared.peer.Role.TheVariants as role
 use Rattle.zr_command.specs.declared.error.ScriptError.{ScriptError}
-use Rattle.zr_command.specs.declared.error.ScriptError.TheVariants.{BadWords, UnknownName, NameTaken, NotLinked, AlreadyLinked, NothingThere, NotSettled, NotJoined, Limit}
+use Rattle.zr_command.specs.declared.error.ScriptError.TheVariants.{BadWords, UnknownName, NameTaken, NotLinked, AlreadyLinked, NothingThere, NotAsked, NotSettled, NotJoined, Limit}
 use Rattle.zr_command.specs.declared.command.Act.{Act}
 use Rattle.zr_command.specs.declared.command.Act.TheVariants as a
 use Rattle.zr_command.specs.declared.report.ReportLine.{ReportLine}
@@ -34,7 +36,7 @@ use Rattle.zr_msg.specs.declared.peer.LinkPeer.{LinkPeer}
 use Rattle.zr_log.specs.declared.log.Log.{Log}
 use Rattle.zr_table.specs.Table.{able_kind, sends, after, refuses}
 use Rattle.zr_language.specs.Step.{◌>>=◌}
-use Rattle.zr_network.specs.World.{Tagged, ClientState, RouterState, EndState, Ends, Routers, WorldState, with_routers, with_clients, with_ends, new_router, new_client, new_end, router_of, client_of, with_router, with_client, is_taken, end_of, with_end, put_end, most_routers, most_clients, most_links, most_weight, weight_of, is_in_place, links_in_place, sent, queued, with_wire, with_queue, broken, lifted, lowered, changed, is_settled}
+use Rattle.zr_network.specs.World.{Tagged, ClientState, RouterState, EndState, Ends, Routers, Clients, WorldState, with_routers, with_clients, with_ends, new_router, new_client, new_end, router_of, client_of, with_router, with_client, is_taken, end_of, with_end, put_end, most_routers, most_clients, most_links, most_weight, most_queries, weight_of, is_in_place, links_in_place, sent, queued, with_wire, with_queue, broken, lifted, lowered, changed, is_settled}
 use Rattle.zr_network.specs.Joined.{is_joined}
 
 abbrev pub Outcome : Type 0
@@ -79,9 +81,17 @@ ids_of s k.Sub = s.subs
 ids_of s k.Able = s.ables
 ids_of s k.Full = s.ables
 
+-- a number is among some
+abbrev pub has_number : List ℕ → ℕ → Bool
+has_number numbers number = list_any (λ n. n == number) numbers
+
+-- numbers without one of them
+abbrev pub without_number : List ℕ → ℕ → List ℕ
+without_number numbers number = filter (λ n. not (n == number)) numbers
+
 -- whether a client has declared an id in a sort
 abbrev pub has_id : ClientState → Kind → ℕ → Bool
-has_id s kind id = list_any (λ i. i == id) (ids_of s kind)
+has_id s kind id = has_number (ids_of s kind) id
 
 -- one more declaration weighs on the router
 abbrev pub weighing : RouterState → List ℕ → RouterState
@@ -95,9 +105,9 @@ weighed routers name key (Some r) =
 
 -- the same client with other ids of a sort
 abbrev pub with_ids : ClientState → Kind → List ℕ → ClientState
-with_ids s k.Sub ids = record { router = s.router; subs = ids; ables = s.ables }
-with_ids s k.Able ids = record { router = s.router; subs = s.subs; ables = ids }
-with_ids s k.Full ids = record { router = s.router; subs = s.subs; ables = ids }
+with_ids s k.Sub ids = record { router = s.router; subs = ids; ables = s.ables; queries = s.queries; requests = s.requests }
+with_ids s k.Able ids = record { router = s.router; subs = s.subs; ables = ids; queries = s.queries; requests = s.requests }
+with_ids s k.Full ids = record { router = s.router; subs = s.subs; ables = ids; queries = s.queries; requests = s.requests }
 
 -- the client has declared the id
 abbrev pub declaring : ClientState → Kind → ℕ → ClientState
@@ -105,7 +115,48 @@ declaring s kind id = with_ids s kind (ids_of s kind ++ id ∷ [])
 
 -- the client has taken the id back
 abbrev pub undeclaring : ClientState → Kind → ℕ → ClientState
-undeclaring s kind id = with_ids s kind (filter (λ i. not (i == id)) (ids_of s kind))
+undeclaring s kind id = with_ids s kind (without_number (ids_of s kind) id)
+
+-- the same client with other open queries, and with other requests
+abbrev pub with_queries : ClientState → List ℕ → ClientState
+with_queries s queries = record { router = s.router; subs = s.subs; ables = s.ables; queries = queries; requests = s.requests }
+
+abbrev pub with_requests : ClientState → List ℕ → ClientState
+with_requests s requests = record { router = s.router; subs = s.subs; ables = s.ables; queries = s.queries; requests = requests }
+
+-- the client has asked a query under the number
+abbrev pub asking : ClientState → ℕ → ClientState
+asking s number = with_queries s (s.queries ++ number ∷ [])
+
+-- the client has ended the request of the number
+abbrev pub ending : ClientState → ℕ → ClientState
+ending s number = with_requests s (without_number s.requests number)
+
+-- the client was sent a message: a request is its own to answer until it ends it, and a final closes its query
+abbrev pub receiving : ClientState → Msg → ClientState
+receiving s (m.Sub id key) = s
+receiving s (m.Unsub id) = s
+receiving s (m.Able id key complete) = s
+receiving s (m.Unable id) = s
+receiving s (m.Interest id current future kinds key aggregate) = s
+receiving s (m.EndInterest id) = s
+receiving s (m.ToldSub id key interest) = s
+receiving s (m.ToldAble id key complete interest) = s
+receiving s (m.ToldUnsub id) = s
+receiving s (m.ToldUnable id) = s
+receiving s (m.ToldEnd interest) = s
+receiving s (m.Push tree content) = s
+receiving s (m.Request tree id target content) = with_requests s (s.requests ++ id ∷ [])
+receiving s (m.Response id content) = s
+receiving s (m.Final id extras) = with_queries s (without_number s.queries id)
+receiving s (m.State links) = s
+receiving s (m.Step source number added decl) = s
+receiving s (m.Snap source number decls) = s
+
+-- the clients once a neighbour was sent a message: a router is none of them
+abbrev pub received : Clients → List ℕ → Msg → Option ClientState → Clients
+received clients name msg None = clients
+received clients name msg (Some s) = with_client clients name (receiving s msg)
 
 -- ---- what a router hears
 
@@ -239,6 +290,31 @@ publish_step w line name content = do
   v ← client_sends w line name s (m.Push None content)
   Ok ([], v)
 
+-- a client asks a query under a number that is none of its open ones; on its link no tree is named
+unfoldable pub get_step : WorldState → ℕ → List ℕ → ℕ → Target → Parts → Outcome
+get_step w line name number target content = do
+  s ← client_at (client_of w.clients name)
+  a ← unless (has_number s.queries number) NameTaken
+  v ← client_sends w line name s (m.Request None number target content)
+  b ← unless (nat_le most_queries (length s.queries)) Limit
+  Ok ([], with_clients v (with_client v.clients name (asking s number)))
+
+-- a client replies to a request that it was sent and has not ended
+unfoldable pub reply_step : WorldState → ℕ → List ℕ → ℕ → Parts → Outcome
+reply_step w line name number content = do
+  s ← client_at (client_of w.clients name)
+  v ← client_sends w line name s (m.Response number content)
+  a ← unless (not (has_number s.requests number)) NotAsked
+  Ok ([], v)
+
+-- a client ends a request
+unfoldable pub end_step : WorldState → ℕ → List ℕ → ℕ → Outcome
+end_step w line name number = do
+  s ← client_at (client_of w.clients name)
+  v ← client_sends w line name s (m.Final number no_extras)
+  a ← unless (not (has_number s.requests number)) NotAsked
+  Ok ([], with_clients v (with_client v.clients name (ending s number)))
+
 -- a router handles the oldest message on the wire from a neighbour; what it sends has that message's tag
 unfoldable pub handle_step : WorldState → List ℕ → List ℕ → Outcome
 handle_step w router from = do
@@ -262,7 +338,9 @@ take_step w router to = do
   x ← oldest s.queue
   Ok (
     Taken router to x.0.msg x.0.tag ∷ [],
-    with_ends w (changed (with_end w.ends (router, to) (with_queue s x.1)) (to, router) (λ e. sent e x.0.msg x.0.tag)),
+    with_clients
+        (with_ends w (changed (with_end w.ends (router, to) (with_queue s x.1)) (to, router) (λ e. sent e x.0.msg x.0.tag)))
+        (received w.clients to x.0.msg (client_of w.clients to)),
   )
 
 -- a phase begins, where the world is settled and its routers are joined
@@ -303,6 +381,9 @@ outcome w line (a.Unsub client id) = undeclare_step w line client k.Sub id (m.Un
 outcome w line (a.Able client id key complete) = declare_step w line client (able_kind complete) id key (m.Able id key complete)
 outcome w line (a.Unable client id) = undeclare_step w line client k.Able id (m.Unable id)
 outcome w line (a.Publish client content) = publish_step w line client content
+outcome w line (a.Get client number target content) = get_step w line client number target content
+outcome w line (a.Reply client number content) = reply_step w line client number content
+outcome w line (a.End client number) = end_step w line client number
 outcome w line (a.Handle router from) = handle_step w router from
 outcome w line (a.Take router to) = take_step w router to
 outcome w line a.Mark = mark_step w line

@@ -26,11 +26,14 @@ pub record RouterState : Type 0 where
   pub node : NodeState
   pub weight : ℕ
 
--- a client: its router, and the ids under which it has a subscriber and those under which it has a queryable declared
+-- a client: its router, the ids under which it has a subscriber and those under which it has a queryable declared, the numbers of its queries
+-- whose final was not sent yet, and those of the requests that it was sent and has not ended
 pub record ClientState : Type 0 where
   pub router : List ℕ
   pub subs : List ℕ
   pub ables : List ℕ
+  pub queries : List ℕ
+  pub requests : List ℕ
 
 -- one end of a link, that of a router; the neighbour at the other end is a router or a client
 abbrev pub End : Type 0
@@ -80,9 +83,9 @@ with_booked w booked = record { routers = w.routers; clients = w.clients; ends =
 abbrev pub new_router : List ℕ → RouterState
 new_router id = record { node = new_node id; weight = 0 }
 
--- a client that has declared nothing
+-- a client that has declared nothing and has asked nothing
 abbrev pub new_client : List ℕ → ClientState
-new_client router = record { router = router; subs = []; ables = [] }
+new_client router = record { router = router; subs = []; ables = []; queries = []; requests = [] }
 
 -- the end of a new link: nothing waits there
 abbrev pub new_end : EndState
@@ -146,6 +149,10 @@ most_links = 512
 -- what all declarations of one router's clients weigh together at most, also those that were taken back
 abbrev pub most_weight : ℕ
 most_weight = 4194304
+
+-- how many queries of a client are open at most
+abbrev pub most_queries : ℕ
+most_queries = 4096
 
 -- how many steps all runs ask for at most
 abbrev pub most_steps : ℕ

@@ -1,5 +1,5 @@
 -- Every message that a router sends can be written, where the message that came has a spelling.
-use Rattle.std.proofs.Common.{◌≡◌, ℕ, ◌+◌, ◌==◌, Bool, true, false, cond, List, [], ◌∷◌, Option, Some, None, map, filter, All, inl, inr, arith}
+use Rattle.std.proofs.Common.{◌≡◌, ℕ, ◌+◌, ◌==◌, Bool, true, false, cond, List, [], ◌∷◌, ◌++◌, Option, Some, None, map, filter, All, inl, inr, refl, arith}
 use Rattle.std.specs.Prelude.{◌&&◌}
 use Rattle.std.specs.List.{AllByRecursion, flat_map}
 use Rattle.std.specs.Option.{option_map_or}
@@ -22,6 +22,13 @@ use Rattle.zr_msg.specs.declared.peer.LinkPeer.{LinkPeer}
 use Rattle.zr_msg.specs.declared.peer.Peer.{Peer}
 use Rattle.zr_msg.specs.declared.peer.Role.{Role}
 use Rattle.zr_msg.specs.declared.peer.Role.TheVariants.{Client, Router}
+use Rattle.zr_msg.specs.Extras.{no_extras}
+use Rattle.zr_msg.specs.declared.extras.Extras.{Extras}
+use Rattle.zr_msg.specs.declared.msg.Target.{Target}
+use Rattle.zr_pend.specs.declared.branch.Asker.{Asker}
+use Rattle.zr_pend.specs.Row.{RowState}
+use Rattle.zr_pend.specs.Pending.{asker_of, branch, final_to, finals_of_drop, free_number}
+use Rattle.zr_routing.specs.Queries.{asked_links, final_at_once, final_for, is_asked, link_no, reply_to, request_along, request_to, sends_ends, sends_final, sends_reply, sends_request, tree_for}
 use Rattle.zr_routing.specs.Changes.{changes, steps}
 use Rattle.zr_routing.specs.Samples.{leads_to_subscriber, push_along, push_on, push_to, tree_of}
 use Rattle.zr_routing.specs.Snapshots.{is_new_child, sends_snapshots, snapshot, snapshots_for, snapshots_on}
@@ -129,6 +136,52 @@ push_written t from named content to h = by (tree_of t (link_at t.links from) na
     by None = tt
     by (Some tree) = over tree (link_at t.links to)
 
+-- ---- queries
+
+no_extras_fit : IsSpelled (Final 0 no_extras)
+no_extras_fit = (record { marks = refl; stamp = tt; responder = tt }, refl, refl, refl)
+
+at_once_written : (from number : ℕ) (links : List LinkNo) (to : ℕ) → AreWritable (final_at_once from number links to)
+at_once_written from number [] to = either (to == from) (Final number no_extras ∷ []) [] (inl no_extras_fit, tt) tt
+at_once_written from number (l ∷ links) to = tt
+
+request_written : (t : TableState) (pending : List RowState) (from : ℕ) (named : Option (List ℕ)) (id : ℕ) (target : Target) (content : Parts) (to : ℕ) →
+    IsSpelled (Request named id target content) → AreWritable (sends_request t pending from named id target content to)
+request_written t pending from named id target content to h =
+    All-append (λ m. IsWritable m) (final_at_once from id (asked_links t from named target content.key) to) (request_along t pending from (tree_of t (link_at t.links from) named) target content to)
+    (at_once_written from id (asked_links t from named target content.key) to) (by (tree_of t (link_at t.links from) named))
+  where
+    over : (tree : List ℕ) (o : Option LinkPeer) → AreWritable (option_map_or (λ l. request_to t pending from tree target content l) o [])
+    over tree None = tt
+    over tree (Some l) = either (is_asked t from tree target content.key l l.peer.role) (Request (tree_for tree l.peer.role) (free_number l.link pending) target content ∷ []) [] (inl h, tt) tt
+
+    by : (tree : Option (List ℕ)) → AreWritable (request_along t pending from tree target content to)
+    by None = tt
+    by (Some tree) = over tree (link_at t.links to)
+
+reply_written : (pending : List RowState) (from id : ℕ) (content : Parts) (to : ℕ) → IsSpelled (Response id content) → AreWritable (sends_reply pending from id content to)
+reply_written pending from id content to h = by (asker_of (branch (link_no from) id) pending)
+  where
+    by : (o : Option Asker) → AreWritable (option_map_or (λ a. reply_to content to a) o [])
+    by None = tt
+    by (Some a) = either (to == a.link.0) (Response a.number content ∷ []) [] (inl h, tt) tt
+
+final_written : (pending : List RowState) (from id : ℕ) (extras : Extras) (to : ℕ) → IsSpelled (Final id extras) → AreWritable (sends_final pending from id extras to)
+final_written pending from id extras to h = by (final_to pending (branch (link_no from) id))
+  where
+    by : (o : Option Asker) → AreWritable (option_map_or (λ a. final_for extras to a) o [])
+    by None = tt
+    by (Some a) = either (to == a.link.0) (Final a.number extras ∷ []) [] (inl h, tt) tt
+
+ends_written : (pending : List RowState) (link to : ℕ) → AreWritable (sends_ends pending link to)
+ends_written pending link to = by (finals_of_drop (link_no link) pending)
+  where
+    by : (askers : List Asker) → AreWritable (flat_map (λ a. final_for no_extras to a) askers)
+    by [] = tt
+    by (a ∷ askers) =
+        All-append (λ m. IsWritable m) (final_for no_extras to a) (flat_map (λ b. final_for no_extras to b) askers)
+        (either (to == a.link.0) (Final a.number no_extras ∷ []) [] (inl no_extras_fit, tt) tt) (by askers)
+
 -- ---- events
 
 from_written : (node : NodeState) (from : ℕ) (msg : Msg) (to : ℕ) → IsSpelled msg → AreWritable (sends_from node from msg to)
@@ -144,9 +197,9 @@ from_written node from (ToldUnsub id) to h = tt
 from_written node from (ToldUnable id) to h = tt
 from_written node from (ToldEnd interest) to h = tt
 from_written node from (Push tree content) to h = push_written (tables node) from tree content to h
-from_written node from (Request tree id target content) to h = tt
-from_written node from (Response id content) to h = tt
-from_written node from (Final id extras) to h = tt
+from_written node from (Request tree id target content) to h = request_written (tables node) node.pending from tree id target content to h
+from_written node from (Response id content) to h = reply_written node.pending from id content to h
+from_written node from (Final id extras) to h = final_written node.pending from id extras to h
 from_written node from (State links) to h = either _ (State links ∷ []) [] (inl tt, tt) tt
 from_written node from (Step source number added decl) to h =
     either (leads_to_router node.links from && (is_next node.known source number && is_to_child (tables node) source to)) (Step source number added decl ∷ []) [] (inl h, tt) tt
@@ -156,8 +209,10 @@ from_written node from (Snap source number decls) to h =
 first_written : (node : NodeState) (event : Event) (to : LinkNo) → ComesSpelled event → AreWritable (sends_first node event to)
 first_written node (Up link peer) to h = up_written node link.0 peer peer.role to.0
 first_written node (Down link) to h =
-    All-append (λ m. IsWritable m) (sends_down node link.0 (link_at node.links link.0) to.0) (sends_rows node (rows_left node link.0) to.0)
-    (down_written node link.0 (link_at node.links link.0) to.0) (rows_written node (rows_left node link.0) to.0)
+    All-append (λ m. IsWritable m) (sends_ends node.pending link.0 to.0) (sends_down node link.0 (link_at node.links link.0) to.0 ++ sends_rows node (rows_left node link.0) to.0)
+    (ends_written node.pending link.0 to.0)
+    (All-append (λ m. IsWritable m) (sends_down node link.0 (link_at node.links link.0) to.0) (sends_rows node (rows_left node link.0) to.0)
+    (down_written node link.0 (link_at node.links link.0) to.0) (rows_written node (rows_left node link.0) to.0))
 first_written node (From link msg) to h = from_written node link.0 msg to.0 h
 
 sends_written : (node : NodeState) (event : Event) (to : LinkNo) → IsKept node → refuses node event ≡ None → ComesSpelled event → AllByRecursion (λ m. IsWritable m) (sends node event to)

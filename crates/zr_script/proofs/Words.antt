@@ -4,7 +4,7 @@ use Rattle.std.specs.List.{list_all, filter, slice_split, onto_first}
 use Rattle.std.proofs.lemmas.Bool.{and_parts, and_from, leb-true, le-leb}
 use Rattle.zr_command.specs.declared.error.ScriptError.{ScriptError}
 use Rattle.zr_language.specs.Lines.{most_line}
-use Rattle.zr_language.specs.Words.{words, three_of, payload_at, is_word}
+use Rattle.zr_language.specs.Words.{words, three_of, four_of, payload_at, is_word}
 use Rattle.zr_script.specs.Short.{are_short}
 
 abbrev within : ℕ → List (List ℕ) → Bool
@@ -52,6 +52,14 @@ words_short line le =
     filter_within most_line (λ word. nat_lt 0 (length word)) (slice_split (λ b. b == 32) line)
     (within_more (length line) most_line (slice_split (λ b. b == 32) line) le (parts_short (λ b. b == 32) line))
 
+-- a payload that a short word spells is short enough for a body
+payload_short : (word : List ℕ) → length word ≤ most_line → length (payload_at word) < 2 ^ 32
+payload_short word short = by (is_word word (45 ∷ []))
+  where
+    by : (t : Bool) → length (cond t [] word) < 2 ^ 32
+    by true = omega arith
+    by false = omega (arith, short)
+
 abbrev third_or_none : Result (List ℕ × List ℕ × List ℕ) ScriptError → List ℕ
 third_or_none (Ok w) = w.2
 third_or_none (Err e) = []
@@ -67,9 +75,24 @@ third_short (x ∷ y ∷ z ∷ []) a b c h e =
     let second = and_parts (nat_le (length y) most_line) (are_short (z ∷ [])) first.1 in
     let third = and_parts (nat_le (length z) most_line) true second.1 in
     let short : length z ≤ most_line = leb-true (length z) most_line third.0 in
-    subst (λ w. length (payload_at w) < 2 ^ 32) same (by (is_word z (45 ∷ [])) short)
-  where
-    by : (t : Bool) → length z ≤ most_line → length (cond t [] z) < 2 ^ 32
-    by true le = omega arith
-    by false le = omega arith
+    subst (λ w. length (payload_at w) < 2 ^ 32) same (payload_short z short)
 third_short (x ∷ y ∷ z ∷ w ∷ more) a b c h e = absurd (cc)
+
+abbrev fourth_or_none : Result (List ℕ × List ℕ × List ℕ × List ℕ) ScriptError → List ℕ
+fourth_or_none (Ok w) = w.3
+fourth_or_none (Err e) = []
+
+-- the payload of the fourth of four words is short enough for a body
+pub fourth_short : (args : List (List ℕ)) (a b c d : List ℕ) → are_short args ≡ true → four_of args ≡ Ok (a, b, c, d) → length (payload_at d) < 2 ^ 32
+fourth_short [] a b c d h e = absurd (cc)
+fourth_short (x ∷ []) a b c d h e = absurd (cc)
+fourth_short (x ∷ y ∷ []) a b c d h e = absurd (cc)
+fourth_short (x ∷ y ∷ z ∷ []) a b c d h e = absurd (cc)
+fourth_short (x ∷ y ∷ z ∷ w ∷ []) a b c d h e =
+    let same : w ≡ d = ap fourth_or_none e in
+    let first = and_parts (nat_le (length x) most_line) (are_short (y ∷ z ∷ w ∷ [])) h in
+    let second = and_parts (nat_le (length y) most_line) (are_short (z ∷ w ∷ [])) first.1 in
+    let third = and_parts (nat_le (length z) most_line) (are_short (w ∷ [])) second.1 in
+    let fourth = and_parts (nat_le (length w) most_line) true third.1 in
+    subst (λ v. length (payload_at v) < 2 ^ 32) same (payload_short w (leb-true (length w) most_line fourth.0))
+fourth_short (x ∷ y ∷ z ∷ w ∷ v ∷ more) a b c d h e = absurd (cc)

@@ -3,10 +3,11 @@
 ghost use Rattle.std.specs.Prelude.{◌≡◌, ◌≤◌, length, true, map, Ok};
 ghost use Rattle.zr_language.specs.Lines.{most_line};
 ghost use Rattle.zr_language.specs.Step.{IsSaid};
-ghost use Rattle.zr_language.specs.Command.{command_of, by_words, by_name, is_command, is_silent, plain, router_line, client_line, link_line, up_line, break_line, down_line, sub_line, unsub_line, able_line, unable_line, put_line, del_line, handle_line, take_line, run_line, mark_line, show_line};
+ghost use Rattle.zr_language.specs.Command.{command_of, by_words, by_name, is_command, is_silent, plain, router_line, client_line, link_line, up_line, break_line, down_line, sub_line, unsub_line, able_line, unable_line, put_line, del_line, get_line, reply_line, end_line, handle_line, take_line, run_line, mark_line, show_line};
 ghost use Rattle.zr_script.specs.Short.{are_short};
 
-use crate::word::{is_clean, key, number, one, payload, three, two, words_of, zid};
+use crate::body::{query_body, reply_body};
+use crate::word::{four, is_clean, key, number, one, payload, target, three, two, words_of, zid};
 use std::alloc::Global;
 use zr_body::Body;
 use zr_command::command::{Act, Command};
@@ -80,6 +81,9 @@ fn is_command(name: &[u8]) -> bool
         || name == b"unable".as_slice()
         || name == b"put".as_slice()
         || name == b"del".as_slice()
+        || name == b"get".as_slice()
+        || name == b"reply".as_slice()
+        || name == b"end".as_slice()
         || name == b"handle".as_slice()
         || name == b"take".as_slice()
         || name == b"run".as_slice()
@@ -118,6 +122,12 @@ fn by_name(alloc: Global, name: &[u8], args: &[&[u8]]) -> Result<Command, Script
         put(alloc, args)
     } else if name == b"del".as_slice() {
         del(alloc, args)
+    } else if name == b"get".as_slice() {
+        get(alloc, args)
+    } else if name == b"reply".as_slice() {
+        reply(alloc, args)
+    } else if name == b"end".as_slice() {
+        end(args)
     } else if name == b"handle".as_slice() {
         handle(args)
     } else if name == b"take".as_slice() {
@@ -281,6 +291,56 @@ fn publish(alloc: Global, client: Zid, key: KeyExpr, body: Body) -> Result<Comma
 {
     let content = Content::new(alloc, key, Extras::none(), body)?;
     let act = Act::Publish { client, content };
+    Ok(Command::Act { act })
+}
+
+#[tactic(auto, unfolding(zr_language::specs::Command::get_line))]
+fn get(alloc: Global, args: &[&[u8]]) -> Result<Command, ScriptError>
+    ensures { IsSaid result (get_line (map (λ w. w.now) args.now)) }
+{
+    let (client, id, text, word) = four(args)?;
+    let client = zid(client)?;
+    let number = number(id)?;
+    let target = target(word)?;
+    let key = key(alloc, text)?;
+    let body = query_body(alloc)?;
+    let content = Content::new(alloc, key, Extras::none(), body)?;
+    let act = Act::Get {
+        client,
+        number,
+        target,
+        content,
+    };
+    Ok(Command::Act { act })
+}
+
+#[tactic(auto, unfolding(zr_language::specs::Command::reply_line))]
+fn reply(alloc: Global, args: &[&[u8]]) -> Result<Command, ScriptError>
+    requires { are_short (map (λ w. w.now) args.now) ≡ true }
+    ensures { IsSaid result (reply_line (map (λ w. w.now) args.now)) }
+{
+    let (client, id, text, word) = four(args)?;
+    let client = zid(client)?;
+    let number = number(id)?;
+    let key = key(alloc, text)?;
+    let body = reply_body(alloc, payload(word))?;
+    let content = Content::new(alloc, key, Extras::none(), body)?;
+    let act = Act::Reply {
+        client,
+        number,
+        content,
+    };
+    Ok(Command::Act { act })
+}
+
+#[tactic(auto, unfolding(zr_language::specs::Command::end_line))]
+fn end(args: &[&[u8]]) -> Result<Command, ScriptError>
+    ensures { IsSaid result (end_line (map (λ w. w.now) args.now)) }
+{
+    let (client, id) = two(args)?;
+    let client = zid(client)?;
+    let number = number(id)?;
+    let act = Act::End { client, number };
     Ok(Command::Act { act })
 }
 

@@ -180,6 +180,7 @@ fn refusal_text(error: ScriptError) -> &'static [u8]
         ScriptError::AlreadyLinked => b"6 AlreadyLinked",
         ScriptError::NotLinked => b"7 NotLinked",
         ScriptError::NothingThere => b"8 NothingThere",
+        ScriptError::NotAsked => b"9 NotAsked",
         ScriptError::NotSettled => b"10 NotSettled",
         ScriptError::NotJoined => b"11 NotJoined",
         ScriptError::Limit => b"12 Limit",

@@ -4,12 +4,13 @@ ghost use Rattle.std.specs.Prelude.{◌≡◌, ◌==◌, ◌&&◌, ◌+◌, ◌*
 ghost use Rattle.std.specs.List.{list_all};
 ghost use Rattle.std.specs.Option.{option_copied};
 ghost use Rattle.zr_language.specs.Step.{IsSaid, IsSaidBy};
-ghost use Rattle.zr_language.specs.Words.{words, is_clean, is_space, is_printable, is_digit, is_number, value_of, number_at, zid_at, key_at, payload_at, one_of, two_of, three_of};
+ghost use Rattle.zr_language.specs.Words.{words, is_clean, is_space, is_printable, is_digit, is_number, value_of, number_at, zid_at, target_at, key_at, payload_at, one_of, two_of, three_of, four_of};
 
 use std::alloc::{AllocError, Global};
 use zr_command::error::ScriptError;
 use zr_id::zid::Zid;
 use zr_key::key::{KeyError, KeyExpr};
+use zr_msg::msg::Target;
 
 /// The words of a line, parted by one or more spaces.
 pub fn words_of(alloc: Global, line: &[u8]) -> Result<Vec<&[u8]>, AllocError>
@@ -47,6 +48,21 @@ pub fn number(word: &[u8]) -> Result<u32, ScriptError>
     match value(word) {
         Some(n) => Ok(n),
         None => Err(ScriptError::BadWords),
+    }
+}
+
+/// Which queryables a word asks.
+pub fn target(word: &[u8]) -> Result<Target, ScriptError>
+    ensures { IsSaid result (target_at word.now) }
+{
+    if word == b"best".as_slice() {
+        Ok(Target::Best)
+    } else if word == b"all".as_slice() {
+        Ok(Target::All)
+    } else if word == b"complete".as_slice() {
+        Ok(Target::Complete)
+    } else {
+        Err(ScriptError::BadWords)
     }
 }
 
@@ -94,6 +110,16 @@ pub fn three<'a>(words: &[&'a [u8]]) -> Result<(&'a [u8], &'a [u8], &'a [u8]), S
 {
     match words {
         [a, b, c] => Ok((a, b, c)),
+        _ => Err(ScriptError::BadWords),
+    }
+}
+
+/// The four words that there are.
+pub fn four<'a>(words: &[&'a [u8]]) -> Result<(&'a [u8], &'a [u8], &'a [u8], &'a [u8]), ScriptError>
+    ensures { IsSaidBy (λ x. (x.0.now, x.1.now, x.2.now, x.3.now)) result (four_of (map (λ w. w.now) words.now)) }
+{
+    match words {
+        [a, b, c, d] => Ok((a, b, c, d)),
         _ => Err(ScriptError::BadWords),
     }
 }

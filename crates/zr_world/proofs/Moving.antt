@@ -26,8 +26,8 @@ use Rattle.zr_routing.specs.Tables.{link_to}
 use Rattle.zr_msg.specs.declared.peer.LinkPeer.{LinkPeer}
 use Rattle.zr_table.specs.Table.{refuses}
 use Rattle.zr_language.specs.Step.{◌>>=◌}
-use Rattle.zr_network.specs.World.{Tagged, EndState, End, Ends, RouterState, WorldState, end_cmp, with_ends, with_clients, with_router, router_of, is_taken, is_up, end_of, with_end, put_end, new_end, new_client, most_clients, lifted, lowered, with_wire, with_queue, changed, sent}
-use Rattle.zr_network.specs.Acts.{Outcome, unless, router_at, end_at, up_at, unbroken_at, oldest, hears, heard_by, number_to, peer_of, up_event, shown, client_step, up_step, down_step, handle_step, take_step, show_step}
+use Rattle.zr_network.specs.World.{Tagged, EndState, End, Ends, RouterState, WorldState, end_cmp, with_ends, with_clients, with_router, router_of, client_of, is_taken, is_up, end_of, with_end, put_end, new_end, new_client, most_clients, lifted, lowered, with_wire, with_queue, changed, sent}
+use Rattle.zr_network.specs.Acts.{Outcome, unless, router_at, end_at, up_at, unbroken_at, oldest, hears, heard_by, number_to, peer_of, up_event, shown, received, client_step, up_step, down_step, handle_step, take_step, show_step}
 use Rattle.zr_network.specs.Sound.{AreUnique, IsSound}
 use Rattle.zr_network.proofs.Ends.{keys_with_end}
 use Rattle.zr_network.proofs.Keyed.{not_there, there}
@@ -148,8 +148,12 @@ handle_unlinked w router from r er down = rw er (by (is_taken w from))
 
 -- ---- `take`
 
+-- a message has gone to the neighbour, where these are the ends without it
+abbrev pub went_to : WorldState → List ℕ → List ℕ → Tagged → Ends → WorldState
+went_to w router to x ends = with_clients (with_ends w (changed ends (to, router) (λ e. sent e x.msg x.tag))) (received w.clients to x.msg (client_of w.clients to))
+
 abbrev pub taken_by : WorldState → List ℕ → List ℕ → Tagged × Ends → Outcome
-taken_by w router to y = Ok (Taken router to y.0.msg y.0.tag ∷ [], with_ends w (changed y.1 (to, router) (λ s. sent s y.0.msg y.0.tag)))
+taken_by w router to y = Ok (Taken router to y.0.msg y.0.tag ∷ [], went_to w router to y.0 y.1)
 
 pub take_by : (w : WorldState) (router to : List ℕ) (r : RouterState) → router_of w.routers router ≡ Some r → is_taken w to ≡ true →
     take_step w router to ≡ from_queue w.ends (router, to) >>= taken_by w router to
@@ -157,7 +161,7 @@ unfolding take_step from_queue
 take_by w router to r er et = rw (er, et) (by (end_at (end_of w.ends (router, to))))
   where
     one : EndState → Tagged × List Tagged → Outcome
-    one s x = Ok (Taken router to x.0.msg x.0.tag ∷ [], with_ends w (changed (with_end w.ends (router, to) (with_queue s x.1)) (to, router) (λ e. sent e x.0.msg x.0.tag)))
+    one s x = Ok (Taken router to x.0.msg x.0.tag ∷ [], went_to w router to x.0 (with_end w.ends (router, to) (with_queue s x.1)))
 
     two : EndState → Tagged × List Tagged → Result (Tagged × Ends) ScriptError
     two s x = Ok (x.0, with_end w.ends (router, to) (with_queue s x.1))
@@ -210,7 +214,7 @@ take_untaken w router to h = rw h (by (router_of w.routers router))
       b ← up_at s
       c ← unbroken_at s
       x ← oldest s.queue
-      Ok (Taken router to x.0.msg x.0.tag ∷ [], with_ends w (changed (with_end w.ends (router, to) (with_queue s x.1)) (to, router) (λ e. sent e x.0.msg x.0.tag)))
+      Ok (Taken router to x.0.msg x.0.tag ∷ [], went_to w router to x.0 (with_end w.ends (router, to) (with_queue s x.1)))
 
     by : (o : Option RouterState) → (router_at o >>= (λ r. unless true e.UnknownName >>= more)) ≡ Err e.UnknownName
     by None = refl

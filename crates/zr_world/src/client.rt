@@ -1,13 +1,17 @@
-//! One client: its router, and the ids under which it has something declared.
+//! One client: its router, the ids under which it has something declared, its open queries, and the requests that it has not ended.
 
-ghost use Rattle.std.specs.Prelude.{◌≡◌, ◌==◌, ◌∷◌, ◌++◌, [], not, filter, OnOk};
-ghost use Rattle.zr_network.specs.World.{new_client};
-ghost use Rattle.zr_network.specs.Acts.{ids_of, has_id, declaring, undeclaring};
+ghost use Rattle.std.specs.Prelude.{◌≡◌, ◌==◌, ◌∷◌, ◌++◌, [], not, nat_le, filter, length, OnOk};
+ghost use Rattle.zr_network.specs.World.{new_client, most_queries};
+ghost use Rattle.zr_network.specs.Acts.{ids_of, has_id, has_number, declaring, undeclaring, asking, ending, receiving};
 
 use std::alloc::{AllocError, Global};
 use std::marker::Model;
 use zr_id::zid::Zid;
 use zr_msg::decl::Kind;
+use zr_msg::msg::Msg;
+
+/// How many queries of a client are open at most.
+const MOST_QUERIES: usize = 4096;
 
 /// A client of the world.
 #[derive(Debug, Drop)]
@@ -15,6 +19,8 @@ pub struct Client {
     router: Zid,
     subs: Vec<u32>,
     ables: Vec<u32>,
+    queries: Vec<u32>,
+    requests: Vec<u32>,
 }
 
 impl Model for Client {
@@ -22,11 +28,11 @@ impl Model for Client {
 
     ghost Value = { ClientState };
 
-    ghost view = { λ c. record { router = c.router; subs = c.subs.items; ables = c.ables.items } };
+    ghost view = { λ c. record { router = c.router; subs = c.subs.items; ables = c.ables.items; queries = c.queries.items; requests = c.requests.items } };
 }
 
 impl Client {
-    /// A client that has declared nothing.
+    /// A client that has declared nothing and has asked nothing.
     pub fn new(alloc: Global, router: Zid) -> Client
         ensures { result ≡ new_client router }
     {
@@ -34,6 +40,8 @@ impl Client {
             router,
             subs: Vec::new(alloc),
             ables: Vec::new(alloc),
+            queries: Vec::new(alloc),
+            requests: Vec::new(alloc),
         }
     }
 
@@ -48,7 +56,7 @@ impl Client {
     pub fn has(&self, kind: Kind, id: u32) -> bool
         ensures { result ≡ has_id self.now kind id }
     {
-        self.ids(kind).iter().any(|i| *i == id)
+        is_among(self.ids(kind), id)
     }
 
     fn ids(&self, kind: Kind) -> &[u32]
@@ -79,6 +87,61 @@ impl Client {
             Kind::Able | Kind::Full => forget(&mut self.ables, id),
         }
     }
+
+    /// Whether a query of its own is open under the number.
+    pub fn has_open(&self, number: u32) -> bool
+        ensures { result ≡ has_number self.now.queries number }
+    {
+        is_among(self.queries.as_slice(), number)
+    }
+
+    /// Whether as many of its queries are open as may be.
+    pub fn is_full(&self) -> bool
+        ensures { result ≡ nat_le most_queries (length self.now.queries) }
+    {
+        self.queries.len() >= MOST_QUERIES
+    }
+
+    /// Whether it was sent a request under the number and has not ended it.
+    pub fn is_asked(&self, number: u32) -> bool
+        ensures { result ≡ has_number self.now.requests number }
+    {
+        is_among(self.requests.as_slice(), number)
+    }
+
+    /// It has asked a query under the number.
+    pub fn ask(&mut self, number: u32) -> Result<(), AllocError>
+        ensures { OnOk result (self.new ≡ asking self.old number) }
+    {
+        keep(&mut self.queries, number)
+    }
+
+    /// It has ended the request of the number.
+    pub fn end(&mut self, number: u32)
+        ensures { self.new ≡ ending self.old number }
+    {
+        forget(&mut self.requests, number);
+    }
+
+    /// It was sent a message: a request is its own to answer until it ends it, and a final closes its query.
+    pub fn receive(&mut self, msg: &Msg) -> Result<(), AllocError>
+        ensures { OnOk result (self.new ≡ receiving self.old msg.now) }
+    {
+        match msg {
+            Msg::Request { id, .. } => keep(&mut self.requests, *id),
+            Msg::Final { id, .. } => {
+                forget(&mut self.queries, *id);
+                Ok(())
+            }
+            _ => Ok(()),
+        }
+    }
+}
+
+fn is_among(ids: &[u32], id: u32) -> bool
+    ensures { result ≡ has_number ids.now id }
+{
+    ids.iter().any(|i| *i == id)
 }
 
 fn keep(ids: &mut Vec<u32>, id: u32) -> Result<(), AllocError>

@@ -2,6 +2,7 @@
 //! What an act does is the step of the definitions; runs, lines, texts and bytes are not known here.
 #![tactic(auto)]
 
+mod asked;
 mod client;
 mod declared;
 mod joined;

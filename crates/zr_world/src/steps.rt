@@ -1,15 +1,18 @@
 //! Messages move on: a router handles one, or one is taken from its queue.
 
 ghost use Rattle.std.specs.Prelude.{◌≡◌, if◌then◌else◌, false, is_some, Some, IsSome, OnOk};
-ghost use Rattle.zr_network.specs.World.{changed, end_of, sent};
+ghost use Rattle.zr_network.specs.Acts.{received};
+ghost use Rattle.zr_network.specs.World.{changed, client_of, end_of, sent};
 ghost use Rattle.zr_table.specs.Event.{MayCome};
 ghost use Rattle.zr_world.specs.Hearing.{IsHandled, message_of};
 ghost use Rattle.zr_world.specs.Steps.{AppliesTo};
 
+use crate::client::Client;
 use crate::router::Router;
 use crate::spread::spread;
 use crate::tables::Tables;
 use std::alloc::{AllocError, Global};
+use std::collections::BTreeMap;
 use zr_command::error::ScriptError;
 use zr_command::report::ReportLine;
 use zr_ends::end::Tagged;
@@ -81,6 +84,7 @@ impl Tables {
             &x.msg,
             tag,
         )?;
+        receive(&mut self.clients, &to, &x.msg)?;
         report.push(ReportLine::Taken {
             router,
             to,
@@ -155,6 +159,17 @@ fn pass_on(
         return ends.send_copy(alloc, at, msg, tag);
     }
     Ok(())
+}
+
+// A client is sent a message. A router is none of the clients.
+#[tactic(auto, using(std::proofs::lemmas::Map::Steps::set_value_same))]
+fn receive(clients: &mut BTreeMap<Zid, Client>, name: &Zid, msg: &Msg) -> Result<(), AllocError>
+    ensures { OnOk result (clients.new.entries ≡ received clients.old.entries name.now msg.now (client_of clients.old.entries name.now)) }
+{
+    match clients.get_mut(name) {
+        Some(client) => client.receive(msg),
+        None => Ok(()),
+    }
 }
 
 // The message of an event that brings one.

@@ -81,6 +81,18 @@ impl Tables {
             } => self.able(line, client, id, key, complete),
             Act::Unable { client, id } => self.undeclare(line, client, Kind::Able, id),
             Act::Publish { client, content } => self.publish(line, client, content),
+            Act::Get {
+                client,
+                number,
+                target,
+                content,
+            } => self.get(line, client, number, target, content),
+            Act::Reply {
+                client,
+                number,
+                content,
+            } => self.reply(line, client, number, content),
+            Act::End { client, number } => self.end(line, client, number),
             Act::Handle { router, from } => self.handle(router, from, report),
             Act::Take { router, to } => self.take(router, to, report),
             Act::Mark => self.mark(line, report),

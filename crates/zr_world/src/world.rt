@@ -78,8 +78,8 @@ impl World {
     /// Does an act of a line, and appends what is reported of it.
     ///
     /// A refusal is the first that applies, and leaves the world as it was: `BadWords` of a link from a router to itself, `UnknownName`,
-    /// `NameTaken`, `NotLinked`, `AlreadyLinked`, `NothingThere`, `NotSettled`, `NotJoined`, `Limit`. After `NoMemory`, by which a prefix
-    /// of the act's lines is appended, the world is spent, and answers `NoMemory` from then on.
+    /// `NameTaken`, `NotLinked`, `AlreadyLinked`, `NothingThere`, `NotAsked`, `NotSettled`, `NotJoined`, `Limit`. After `NoMemory`, by which a
+    /// prefix of the act's lines is appended, the world is spent, and answers `NoMemory` from then on.
     pub fn apply(
         &mut self,
         line: u64,

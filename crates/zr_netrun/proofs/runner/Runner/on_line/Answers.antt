@@ -1,7 +1,8 @@
-use Rattle.std.proofs.Common.{◌≡◌, [], Some, None, Ok, sym, rules, subst}
+use Rattle.std.proofs.Common.{◌≡◌, ◌≤◌, ◌+◌, [], Some, None, Ok, sym, rules, arith, subst}
 use Rattle.std.proofs.lemmas.Result.{err_from_is_err_and}
 use Rattle.zr_command.specs.declared.command.Command.TheVariants as k
 use Rattle.zr_language.specs.Command.{command_of}
+use Rattle.zr_language.specs.Lines.{most_bytes}
 use Rattle.zr_netrun.specs.Kept.{Kept}
 use Rattle.zr_netrun.specs.Possible.{RunsGo}
 use Rattle.zr_netrun.proofs.Stepping.{reading_stops, act_line_turns, line_turns}
@@ -31,7 +32,9 @@ returns-in-Some-Act-clause-counts g c =
     c.do_act.ensures.counts
 
 pub run-requires-clause-goes : goal.run-requires-clause-goes
-run-requires-clause-goes g c = subst (λ (z : Kept). RunsGo z.world.state) (sym c.count_line.ensures) (c.requires.goes [])
+run-requires-clause-goes g c =
+    let room : c.args.self.now.number + 0 ≤ most_bytes = omega (arith, c.requires.room) in
+    subst (λ (z : Kept). RunsGo z.world.state) (sym c.count_line.ensures) (c.requires.goes [] room)
 
 pub returns-in-Some-Run-clause-turn : goal.returns-in-Some-Run-clause-turn
 returns-in-Some-Run-clause-turn g c =

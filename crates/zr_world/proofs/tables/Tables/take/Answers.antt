@@ -11,8 +11,8 @@ use Rattle.zr_command.specs.declared.report.ReportLine.TheVariants.{Handled, Tak
 use Rattle.zr_language.specs.Step.{◌>>=◌}
 use Rattle.zr_routing.specs.Tables.{link_to}
 use Rattle.zr_msg.specs.declared.peer.LinkPeer.{LinkPeer}
-use Rattle.zr_network.specs.World.{Tagged, Ends, WorldState, RouterState, router_of, is_taken, with_router, with_ends, is_up, changed, sent, end_of}
-use Rattle.zr_network.specs.Acts.{handle_step, take_step}
+use Rattle.zr_network.specs.World.{Tagged, Ends, WorldState, RouterState, router_of, is_taken, client_of, changed, sent}
+use Rattle.zr_network.specs.Acts.{received, take_step}
 use Rattle.zr_network.proofs.Keyed.{there}
 use Rattle.zr_ends.specs.Steps.{from_wire, from_queue}
 use Rattle.zr_world.specs.Hearing.{IsHeard}
@@ -43,13 +43,14 @@ returns c =
     let end = queue_there w.ends (c.args.router, c.args.to) (x, c.next_queued.new.self) told in
     let r = there (router_of w.routers c.args.router) (c.requires.routers c.args.router c.args.to end) in
     let ends : changed c.next_queued.new.self (c.args.to, c.args.router) (λ s. sent s x.msg x.tag) ≡ c.pass_on.new.ends = sym c.in_ok-pass_on.ensures in
+    let clients : received w.clients c.args.to x.msg (client_of w.clients c.args.to) ≡ c.receive.new.clients.entries = sym c.in_ok-receive.ensures in
     applied (take_step w c.args.router c.args.to) (Taken c.args.router c.args.to x.msg x.tag ∷ []) w
-    (record { routers = c.args.self.now.routers.entries; clients = c.args.self.now.clients.entries; ends = c.pass_on.new.ends; booked = c.args.self.now.booked })
+    (record { routers = c.args.self.now.routers.entries; clients = c.receive.new.clients.entries; ends = c.pass_on.new.ends; booked = c.args.self.now.booked })
     c.args.report.now.items c.push.new.self.items
     (take_by w c.args.router c.args.to r.0 r.1 (c.requires.neighbours c.args.router c.args.to end) ∙ ap (λ o. o >>= taken_by w c.args.router c.args.to) told
     ∙ (λ i. Ok (
       Taken c.args.router c.args.to x.msg x.tag ∷ [],
-      record { routers = c.args.self.now.routers.entries; clients = c.args.self.now.clients.entries; ends = ends i; booked = c.args.self.now.booked },
+      record { routers = c.args.self.now.routers.entries; clients = clients i; ends = ends i; booked = c.args.self.now.booked },
     )))
     c.in_ok-push.ensures.items
 
