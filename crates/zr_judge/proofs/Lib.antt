@@ -1,1 +1,3 @@
 pub mod Decides
+mod Delivered
+mod Equal

@@ -1,21 +1,18 @@
 -- What a judgement of a report says: whether the network has done what the one broker does.
-use Rattle.std.specs.Prelude.{◌≡◌, ℕ, ◌==◌, ◌&&◌, ◌||◌, not, nat_eq, nat_lt, Bool, true, false, List, [], ◌∷◌, ◌↔◌, filter, Option, Some, None}
+use Rattle.std.specs.Prelude.{◌≡◌, ℕ, ◌&&◌, ◌||◌, not, nat_lt, Bool, true, List, ◌↔◌, filter, Option, Some, None}
 use Rattle.std.specs.List.{list_all}
-use Rattle.std.specs.Option.{option_eq}
-use Rattle.std.specs.Cmp.Lexicographic.{pointwise}
-use Rattle.zr_msg.specs.declared.content.Parts.{Parts}
-use Rattle.zr_msg.specs.declared.extras.Extras.{Extras}
 use Rattle.zr_command.specs.declared.command.Act.{Act}
 use Rattle.zr_command.specs.declared.command.Act.TheVariants as a
 use Rattle.zr_command.specs.declared.report.ReportLine.{ReportLine}
 use Rattle.zr_command.specs.declared.report.ReportLine.TheVariants as r
 use Rattle.zr_network.specs.World.{WorldState, is_quiet}
 use Rattle.zr_network.specs.Moments.{Numbered}
-use Rattle.zr_guarantee.specs.Item.{Item}
+use Rattle.zr_guarantee.specs.Item.{Item, Carried}
 use Rattle.zr_guarantee.specs.Names.{is_router}
-use Rattle.zr_guarantee.specs.Broker.{Publication, publication, is_line_of, is_sample_line, from}
-use Rattle.zr_guarantee.specs.Sent.{sample_of, sent_to}
-use Rattle.zr_guarantee.specs.Refines.{Refines}
+use Rattle.zr_guarantee.specs.Broker.{Publication, publication, is_line_of, is_line, from}
+use Rattle.zr_guarantee.specs.Sent.{carried_by, sent_to}
+use Rattle.zr_guarantee.specs.Refines.{Delivers}
+use Rattle.zr_judge.specs.Same.{is_same, is_prefix}
 
 -- what is judged: the acts before a mark, the number of its line, the acts after it, the report so far, and whether
 -- nothing is under way
@@ -26,38 +23,10 @@ pub record Judged : Type 0 where
   pub report : List ReportLine
   pub quiet : Bool
 
--- the answer is yes exactly where the network refines the one broker at a moment with this report and this quiet
+-- the answer is yes exactly where samples and requests come as one broker sends them, at a moment with this report and this quiet
 abbrev pub Judges : Bool → Judged → Type 0
 Judges answer j =
-    (w : WorldState) → is_quiet w ≡ j.quiet → (answer ≡ true) ↔ Refines j.before j.mark j.phase (record { world = w; report = j.report })
-
--- ---- samples
-
--- whether two lists of bytes are one
-abbrev pub is_same_bytes : List ℕ → List ℕ → Bool
-is_same_bytes x y = pointwise nat_eq x y
-
--- whether two messages have the same extensions
-abbrev pub is_same_extras : Extras → Extras → Bool
-is_same_extras x y =
-    option_eq nat_eq x.qos y.qos
-    && (option_eq is_same_bytes x.stamp y.stamp
-    && (option_eq nat_eq x.budget y.budget
-    && (option_eq nat_eq x.timeout y.timeout && (option_eq is_same_bytes x.responder y.responder && x.marks == y.marks))))
-
--- whether two contents are one
-abbrev pub is_same_content : Parts → Parts → Bool
-is_same_content x y = is_same_bytes x.key y.key && (is_same_extras x.extras y.extras && is_same_bytes x.body y.body)
-
--- whether two items are one
-abbrev pub is_same : Item → Item → Bool
-is_same x y = x.line == y.line && is_same_content x.content y.content
-
--- whether some items begin others
-abbrev pub is_prefix : List Item → List Item → Bool
-is_prefix [] ys = true
-is_prefix (x ∷ xs) [] = false
-is_prefix (x ∷ xs) (y ∷ ys) = is_same x y && is_prefix xs ys
+    (w : WorldState) → is_quiet w ≡ j.quiet → (answer ≡ true) ↔ Delivers j.before j.mark j.phase (record { world = w; report = j.report })
 
 -- ---- a publisher and a receiver
 
@@ -68,8 +37,8 @@ sent_by j publisher receiver = filter (λ i. is_line_of j.phase publisher i.line
 -- whether that begins what it is to have, and is the whole where nothing is under way
 abbrev pub is_right : Judged → List ℕ → List ℕ → Bool
 is_right j publisher receiver =
-    is_prefix (sent_by j publisher receiver) (from j.before j.phase publisher receiver)
-    && (not j.quiet || is_prefix (from j.before j.phase publisher receiver) (sent_by j publisher receiver))
+    is_prefix is_same (sent_by j publisher receiver) (from j.before j.phase publisher receiver)
+    && (not j.quiet || is_prefix is_same (from j.before j.phase publisher receiver) (sent_by j publisher receiver))
 
 -- so it is with each receiver, but of what a router is sent nothing is said
 abbrev pub pair_holds : Judged → List ℕ → List ℕ → Bool
@@ -88,6 +57,9 @@ holds_for_client j publisher (a.Unsub client id) = true
 holds_for_client j publisher (a.Able client id key complete) = true
 holds_for_client j publisher (a.Unable client id) = true
 holds_for_client j publisher (a.Publish client content) = true
+holds_for_client j publisher (a.Get client number target content) = true
+holds_for_client j publisher (a.Reply client number content) = true
+holds_for_client j publisher (a.End client number) = true
 holds_for_client j publisher (a.Handle router from) = true
 holds_for_client j publisher (a.Take router to) = true
 holds_for_client j publisher a.Mark = true
@@ -119,15 +91,15 @@ holds_for j (Some p) = holds_for_all j p.client
 abbrev pub holds_for_publisher : Judged → Act → Bool
 holds_for_publisher j act = holds_for j (publication act)
 
--- whether a sample, if it is one, is a line of the phase, or comes from before the mark
-abbrev pub is_allowed : Judged → Option Parts → ℕ → Bool
+-- whether a sample or a request, if it is one, is a line of the phase, or comes from before the mark
+abbrev pub is_allowed : Judged → Option Carried → ℕ → Bool
 is_allowed j None tag = true
-is_allowed j (Some content) tag = nat_lt tag j.mark || is_sample_line j.phase tag
+is_allowed j (Some carried) tag = nat_lt tag j.mark || is_line j.phase tag
 
 -- the same of what was sent
 abbrev pub may_be_sent : Judged → ReportLine → Bool
 may_be_sent j (r.Handled router from msg tag) = true
-may_be_sent j (r.Taken router to msg tag) = is_allowed j (sample_of msg) tag
+may_be_sent j (r.Taken router to msg tag) = is_allowed j (carried_by msg) tag
 may_be_sent j (r.Ran steps quiet) = true
 may_be_sent j (r.Mark line) = true
 may_be_sent j (r.Show router) = true

@@ -2,11 +2,12 @@
 
 ghost use Rattle.std.specs.Prelude.{◌≡◌, IfOk};
 ghost use Rattle.std.specs.List.{list_all};
-ghost use Rattle.zr_guarantee.specs.Broker.{publishes, is_sample_line};
 ghost use Rattle.zr_guarantee.specs.Names.{brings_router, is_router};
 ghost use Rattle.zr_judge.specs.Judge.{Judges, is_right, pair_holds, holds_for_client, holds_for_receiver, holds_for_all, holds_for_publisher, may_be_sent, judgement};
 
-use crate::sample::{due, is_prefix, sample_of, sent};
+use crate::broker::{due, is_line, publisher};
+use crate::same::is_prefix;
+use crate::sent::{is_carried, sent};
 use std::alloc::{AllocError, Global};
 use std::marker::Model;
 use zr_command::command::Act;
@@ -36,7 +37,7 @@ impl Model for Case {
     ghost view = { λ c. record { before = c.before.items; mark = c.mark; phase = c.phase.items; report = c.report.items; quiet = c.quiet } };
 }
 
-/// Whether the network refines one broker.
+/// Whether samples and requests come as one broker sends them.
 pub fn refines(alloc: Global, case: &Case) -> Result<bool, AllocError>
     ensures { IfOk result (λ answer. Judges answer case.now) }
 {
@@ -63,9 +64,9 @@ fn holds_for_publishers(alloc: Global, case: &Case, acts: &[(u64, Act)]) -> Resu
 fn holds_for_publisher(alloc: Global, case: &Case, act: &Act) -> Result<bool, AllocError>
     ensures { IfOk result (λ answer. answer ≡ holds_for_publisher case.now act.now) }
 {
-    match act {
-        Act::Publish { client, .. } => holds_for_all(alloc, case, client),
-        _ => Ok(true),
+    match publisher(act) {
+        Some(client) => holds_for_all(alloc, case, client),
+        None => Ok(true),
     }
 }
 
@@ -188,25 +189,9 @@ fn may_be_sent(case: &Case, line: &ReportLine) -> bool
     ensures { result ≡ may_be_sent case.now line.now }
 {
     match line {
-        ReportLine::Taken { msg, tag, .. } => match sample_of(msg) {
-            Some(_) => *tag < case.mark || is_sample_line(case.phase.as_slice(), *tag),
-            None => true,
-        },
+        ReportLine::Taken { msg, tag, .. } if is_carried(msg) => {
+            *tag < case.mark || is_line(case.phase.as_slice(), *tag)
+        }
         _ => true,
-    }
-}
-
-fn is_sample_line(phase: &[(u64, Act)], line: u64) -> bool
-    ensures { result ≡ is_sample_line phase.now line }
-{
-    phase.iter().any(|x| x.0 == line && publishes(&x.1))
-}
-
-fn publishes(act: &Act) -> bool
-    ensures { result ≡ publishes act.now }
-{
-    match act {
-        Act::Publish { .. } => true,
-        _ => false,
     }
 }

@@ -2,5 +2,7 @@
 //! It is no part of the product. It shows that the definition can be evaluated, and which reports it refuses.
 #![tactic(auto)]
 
+mod broker;
 pub mod judge;
-mod sample;
+mod same;
+mod sent;

@@ -1,0 +1,136 @@
+-- What is found to be one is one, and each thing is found to be one with itself; so where some begin others, they do.
+use Rattle.std.proofs.Common.{◌≡◌, ℕ, true, List, [], ◌∷◌, ◌++◌, refl, sym, ap, ◌∙◌}
+use Rattle.std.specs.Prelude.{◌==◌, ◌&&◌, nat_eq, Bool, Option, Some, None}
+use Rattle.std.specs.Option.{option_eq}
+use Rattle.std.specs.Cmp.Lexicographic.{bytes_decides, nat_list_eq_equiv}
+use Rattle.std.proofs.lemmas.Bool.{false≢true, and_parts, and_from, eqb-true, eq-eqb}
+use Rattle.zr_msg.specs.declared.content.Parts.{Parts}
+use Rattle.zr_msg.specs.declared.extras.Extras.{Extras}
+use Rattle.zr_msg.specs.declared.msg.Target.{Target}
+use Rattle.zr_msg.specs.declared.msg.Target.TheVariants.{Best, All, Complete}
+use Rattle.zr_table.specs.Prefix.{IsPrefixOf}
+use Rattle.zr_guarantee.specs.Item.{Item, Carried, Sample, Query}
+use Rattle.zr_judge.specs.Same.{is_same_bytes, is_same_extras, is_same_content, is_same_target, is_same_carried, is_same, is_prefix}
+
+-- ---- what is found to be one
+
+same_bytes : (x y : List ℕ) → is_same_bytes x y ≡ true → x ≡ y
+same_bytes x y h = (bytes_decides x y).0 h
+
+same_option : {X : Type 0} (same : X → X → Bool) → ((x y : X) → same x y ≡ true → x ≡ y) → (o p : Option X) → option_eq same o p ≡ true → o ≡ p
+same_option same f None None h = refl
+same_option same f None (Some y) h = absurd (false≢true h)
+same_option same f (Some x) None h = absurd (false≢true h)
+same_option same f (Some x) (Some y) h = ap Some (f x y h)
+
+same_extras : (x y : Extras) → is_same_extras x y ≡ true → x ≡ y
+same_extras x y h =
+    let qos = and_parts (option_eq nat_eq x.qos y.qos)
+    (option_eq is_same_bytes x.stamp y.stamp && (option_eq nat_eq x.budget y.budget && (option_eq nat_eq x.timeout y.timeout && (option_eq is_same_bytes x.responder y.responder && x.marks == y.marks)))) h in
+    let stamp = and_parts (option_eq is_same_bytes x.stamp y.stamp)
+    (option_eq nat_eq x.budget y.budget && (option_eq nat_eq x.timeout y.timeout && (option_eq is_same_bytes x.responder y.responder && x.marks == y.marks))) qos.1 in
+    let budget = and_parts (option_eq nat_eq x.budget y.budget) (option_eq nat_eq x.timeout y.timeout && (option_eq is_same_bytes x.responder y.responder && x.marks == y.marks)) stamp.1 in
+    let timeout = and_parts (option_eq nat_eq x.timeout y.timeout) (option_eq is_same_bytes x.responder y.responder && x.marks == y.marks) budget.1 in
+    let responder = and_parts (option_eq is_same_bytes x.responder y.responder) (x.marks == y.marks) timeout.1 in
+    equal (same_option nat_eq eqb-true x.qos y.qos qos.0) (same_option is_same_bytes same_bytes x.stamp y.stamp stamp.0) (same_option nat_eq eqb-true x.budget y.budget budget.0)
+    (same_option nat_eq eqb-true x.timeout y.timeout timeout.0) (same_option is_same_bytes same_bytes x.responder y.responder responder.0) (eqb-true x.marks y.marks responder.1)
+  where
+    equal : x.qos ≡ y.qos → x.stamp ≡ y.stamp → x.budget ≡ y.budget → x.timeout ≡ y.timeout → x.responder ≡ y.responder → x.marks ≡ y.marks → x ≡ y
+    equal eq es eb et er em i = record { qos = eq i; stamp = es i; budget = eb i; timeout = et i; responder = er i; marks = em i }
+
+same_content : (x y : Parts) → is_same_content x y ≡ true → x ≡ y
+same_content x y h =
+    let key = and_parts (is_same_bytes x.key y.key) (is_same_extras x.extras y.extras && is_same_bytes x.body y.body) h in
+    let extras = and_parts (is_same_extras x.extras y.extras) (is_same_bytes x.body y.body) key.1 in
+    equal (same_bytes x.key y.key key.0) (same_extras x.extras y.extras extras.0) (same_bytes x.body y.body extras.1)
+  where
+    equal : x.key ≡ y.key → x.extras ≡ y.extras → x.body ≡ y.body → x ≡ y
+    equal ek ee eb i = record { key = ek i; extras = ee i; body = eb i }
+
+same_target : (x y : Target) → is_same_target x y ≡ true → x ≡ y
+same_target Best Best h = refl
+same_target Best All h = absurd (false≢true h)
+same_target Best Complete h = absurd (false≢true h)
+same_target All Best h = absurd (false≢true h)
+same_target All All h = refl
+same_target All Complete h = absurd (false≢true h)
+same_target Complete Best h = absurd (false≢true h)
+same_target Complete All h = absurd (false≢true h)
+same_target Complete Complete h = refl
+
+same_carried : (x y : Carried) → is_same_carried x y ≡ true → x ≡ y
+same_carried (Sample x) (Sample y) h = ap Sample (same_content x y h)
+same_carried (Sample x) (Query target y) h = absurd (false≢true h)
+same_carried (Query target x) (Sample y) h = absurd (false≢true h)
+same_carried (Query target x) (Query other y) h =
+    let parts = and_parts (is_same_target target other) (is_same_content x y) h in
+    ap (λ t. Query t x) (same_target target other parts.0) ∙ ap (Query other) (same_content x y parts.1)
+
+pub same_item : (x y : Item) → is_same x y ≡ true → x ≡ y
+same_item x y h =
+    let parts = and_parts (x.line == y.line) (is_same_carried x.carried y.carried) h in
+    equal (eqb-true x.line y.line parts.0) (same_carried x.carried y.carried parts.1)
+  where
+    equal : x.line ≡ y.line → x.carried ≡ y.carried → x ≡ y
+    equal el ec i = record { line = el i; carried = ec i }
+
+-- ---- each with itself
+
+option_itself : {X : Type 0} (same : X → X → Bool) → ((x : X) → same x x ≡ true) → (o : Option X) → option_eq same o o ≡ true
+option_itself same f None = refl
+option_itself same f (Some x) = f x
+
+-- two tests that hold
+both : (p q : Bool) → p ≡ true → q ≡ true → (p && q) ≡ true
+both p q h k = and_from p q h k
+
+number_itself : (n : ℕ) → (n == n) ≡ true
+number_itself n = eq-eqb n n refl
+
+extras_itself : (x : Extras) → is_same_extras x x ≡ true
+extras_itself x =
+    both _ _ (option_itself nat_eq number_itself x.qos) (both _ _ (option_itself is_same_bytes nat_list_eq_equiv.refl x.stamp)
+    (both _ _ (option_itself nat_eq number_itself x.budget) (both _ _ (option_itself nat_eq number_itself x.timeout)
+    (both _ _ (option_itself is_same_bytes nat_list_eq_equiv.refl x.responder) (number_itself x.marks)))))
+
+content_itself : (x : Parts) → is_same_content x x ≡ true
+content_itself x = both _ _ (nat_list_eq_equiv.refl x.key) (both _ _ (extras_itself x.extras) (nat_list_eq_equiv.refl x.body))
+
+target_itself : (t : Target) → is_same_target t t ≡ true
+target_itself Best = refl
+target_itself All = refl
+target_itself Complete = refl
+
+carried_itself : (x : Carried) → is_same_carried x x ≡ true
+carried_itself (Sample content) = content_itself content
+carried_itself (Query target content) = both _ _ (target_itself target) (content_itself content)
+
+pub item_itself : (x : Item) → is_same x x ≡ true
+item_itself x = both _ _ (number_itself x.line) (carried_itself x.carried)
+
+-- ---- prefixes
+
+module _ {X : Type 0} (same : X → X → Bool) where
+  pub prefix_means : ((x y : X) → same x y ≡ true → x ≡ y) → (xs ys : List X) → is_prefix same xs ys ≡ true → IsPrefixOf xs ys
+  prefix_means one [] ys h = (ys, refl)
+  prefix_means one (x ∷ xs) [] h = absurd (false≢true h)
+  prefix_means one (x ∷ xs) (y ∷ ys) h =
+      let parts = and_parts (same x y) (is_prefix same xs ys) h in
+      let rest = prefix_means one xs ys parts.1 in
+      (rest.0, ap (λ z. z ∷ ys) (sym (one x y parts.0)) ∙ ap (λ z. x ∷ z) rest.1)
+
+  pub both_prefixes : ((x y : X) → same x y ≡ true → x ≡ y) → (xs ys : List X) → is_prefix same xs ys ≡ true → is_prefix same ys xs ≡ true → xs ≡ ys
+  both_prefixes one [] [] h k = refl
+  both_prefixes one [] (y ∷ ys) h k = absurd (false≢true k)
+  both_prefixes one (x ∷ xs) [] h k = absurd (false≢true h)
+  both_prefixes one (x ∷ xs) (y ∷ ys) h k =
+      let parts = and_parts (same x y) (is_prefix same xs ys) h in
+      ap (λ z. z ∷ xs) (one x y parts.0) ∙ ap (λ z. y ∷ z) (both_prefixes one xs ys parts.1 (and_parts (same y x) (is_prefix same ys xs) k).1)
+
+  pub prefix_of : ((x : X) → same x x ≡ true) → (xs rest : List X) → is_prefix same xs (xs ++ rest) ≡ true
+  prefix_of itself [] rest = refl
+  prefix_of itself (x ∷ xs) rest = and_from (same x x) (is_prefix same xs (xs ++ rest)) (itself x) (prefix_of itself xs rest)
+
+  pub prefix_self : ((x : X) → same x x ≡ true) → (xs : List X) → is_prefix same xs xs ≡ true
+  prefix_self itself [] = refl
+  prefix_self itself (x ∷ xs) = and_from (same x x) (is_prefix same xs xs) (itself x) (prefix_self itself xs)

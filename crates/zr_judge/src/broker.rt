@@ -1,0 +1,363 @@
+//! Samples and queries as the one broker sends them.
+
+ghost use Rattle.std.specs.Prelude.{◌≡◌, ◌==◌, ◌++◌, not, IfOk, OnOk, filter};
+ghost use Rattle.std.specs.List.{list_any};
+ghost use Rattle.std.specs.Option.{option_copied, option_map};
+ghost use Rattle.zr_guarantee.specs.Broker.{able_by, asks_for, attached_by, can_answer, declarations, declared_by, from, is_attached, is_for, is_line, is_line_of, is_publisher, item_for, publication, publishes, queryables, takes};
+ghost use Rattle.zr_judge.specs.Given.{carried_of};
+
+use std::alloc::{AllocError, Global};
+use std::marker::Model;
+use zr_command::command::Act;
+use zr_id::zid::Zid;
+use zr_key::key::KeyExpr;
+use zr_match::{covers, meets};
+use zr_msg::content::Content;
+use zr_msg::msg::Target;
+
+/// What goes to all clients that are to have it.
+#[derive(Drop)]
+pub enum Carried {
+    /// A sample.
+    Sample { content: Content },
+    /// A query, which is sent to each client that it asks as a request.
+    Query { target: Target, content: Content },
+}
+
+/// A sample or a query, with the number of the line that publishes or asks it.
+#[derive(Drop)]
+pub struct Item {
+    pub line: u64,
+    pub carried: Carried,
+}
+
+impl Model for Item {
+    ghost use Rattle.zr_guarantee.specs.Item.{Item};
+    ghost use Rattle.zr_judge.specs.Given.{carried_of};
+
+    ghost Value = { Item };
+
+    ghost view = { λ i. record { line = i.line; carried = carried_of i.carried } };
+}
+
+// What an act publishes: the client that does it, and the sample or the query.
+#[derive(Drop)]
+struct Publication {
+    client: Zid,
+    carried: Carried,
+}
+
+impl Model for Publication {
+    ghost use Rattle.zr_guarantee.specs.Broker.{Publication};
+    ghost use Rattle.zr_judge.specs.Given.{carried_of};
+
+    ghost Value = { Publication };
+
+    ghost view = { λ p. record { client = p.client; carried = carried_of p.carried } };
+}
+
+// What a client has declared that it takes, under an id of its own.
+#[derive(Drop)]
+struct Declaration {
+    id: u32,
+    key: KeyExpr,
+}
+
+impl Model for Declaration {
+    ghost use Rattle.zr_guarantee.specs.Broker.{Declaration};
+
+    ghost Value = { Declaration };
+
+    ghost view = { λ d. record { id = d.id; key = d.key } };
+}
+
+// What a client has declared that it can answer, under an id of its own.
+#[derive(Drop)]
+struct Queryable {
+    id: u32,
+    key: KeyExpr,
+    complete: bool,
+}
+
+impl Model for Queryable {
+    ghost use Rattle.zr_guarantee.specs.Broker.{Queryable};
+
+    ghost Value = { Queryable };
+
+    ghost view = { λ q. record { id = q.id; key = q.key; complete = q.complete } };
+}
+
+/// What the receiver is to have of the publisher's lines in a phase.
+pub fn due(
+    alloc: Global,
+    before: &[(u64, Act)],
+    phase: &[(u64, Act)],
+    publisher: &Zid,
+    receiver: &Zid,
+) -> Result<Vec<Item>, AllocError>
+    ensures { IfOk result (λ v. v.items ≡ from before.now phase.now publisher.now receiver.now) }
+{
+    let mut due = Vec::new(alloc);
+    for x in phase {
+        add_due(alloc, before, x, publisher, receiver, &mut due)?;
+    }
+    Ok(due)
+}
+
+/// Whether a line of the phase is a sample or a query of the publisher.
+pub fn is_line_of(phase: &[(u64, Act)], publisher: &Zid, line: u64) -> bool
+    ensures { result ≡ is_line_of phase.now publisher.now line }
+{
+    phase
+        .iter()
+        .any(|x| x.0 == line && is_publisher(publisher, &x.1))
+}
+
+/// Whether a line of the phase is a sample or a query.
+pub fn is_line(phase: &[(u64, Act)], line: u64) -> bool
+    ensures { result ≡ is_line phase.now line }
+{
+    phase.iter().any(|x| x.0 == line && publishes(&x.1))
+}
+
+/// The client of a sample or a query, if the act is one.
+pub fn publisher(act: &Act) -> Option<&Zid>
+    ensures { option_copied result ≡ option_map (λ p. p.client) (publication act.now) }
+{
+    match act {
+        Act::Publish { client, .. } | Act::Get { client, .. } => Some(client),
+        _ => None,
+    }
+}
+
+fn publishes(act: &Act) -> bool
+    ensures { result ≡ publishes act.now }
+{
+    publisher(act).is_some()
+}
+
+fn is_publisher(name: &Zid, act: &Act) -> bool
+    ensures { result ≡ is_publisher name.now act.now }
+{
+    match publisher(act) {
+        Some(client) => name == client,
+        None => false,
+    }
+}
+
+fn published(act: &Act) -> Result<Option<Publication>, AllocError>
+    ensures { IfOk result (λ p. p ≡ publication act.now) }
+{
+    Ok(match act {
+        Act::Publish { client, content } => Some(Publication {
+            client: *client,
+            carried: Carried::Sample {
+                content: content.copy()?,
+            },
+        }),
+        Act::Get {
+            client,
+            target,
+            content,
+            ..
+        } => Some(Publication {
+            client: *client,
+            carried: Carried::Query {
+                target: *target,
+                content: content.copy()?,
+            },
+        }),
+        _ => None,
+    })
+}
+
+fn add_due(
+    alloc: Global,
+    before: &[(u64, Act)],
+    x: &(u64, Act),
+    publisher: &Zid,
+    receiver: &Zid,
+    out: &mut Vec<Item>,
+) -> Result<(), AllocError>
+    ensures { OnOk result (out.new.items ≡ out.old.items ++ item_for before.now publisher.now receiver.now x.now.0 (publication x.now.1)) }
+{
+    if let Some(p) = published(&x.1)? {
+        if publisher == &p.client && is_for(alloc, before, publisher, receiver, &p.carried)? {
+            let carried = p.carried;
+            out.push(Item { line: x.0, carried })?;
+        }
+    }
+    Ok(())
+}
+
+// Whether a sample or a query of a publisher is for a receiver.
+fn is_for(
+    alloc: Global,
+    before: &[(u64, Act)],
+    publisher: &Zid,
+    receiver: &Zid,
+    carried: &Carried,
+) -> Result<bool, AllocError>
+    ensures { IfOk result (λ answer. answer ≡ is_for before.now publisher.now receiver.now (carried_of carried.now)) }
+{
+    if publisher == receiver || !is_attached(before, receiver) {
+        return Ok(false);
+    }
+    takes(alloc, before, receiver, carried)
+}
+
+// Whether a client has declared that it takes a sample, or that it can answer a query.
+fn takes(
+    alloc: Global,
+    before: &[(u64, Act)],
+    name: &Zid,
+    carried: &Carried,
+) -> Result<bool, AllocError>
+    ensures { IfOk result (λ answer. answer ≡ takes before.now name.now (carried_of carried.now)) }
+{
+    match carried {
+        Carried::Sample { content } => {
+            let declared = declarations(alloc, before, name)?;
+            Ok(does_any_ask(declared.as_slice(), content.key()))
+        }
+        Carried::Query { target, content } => {
+            let declared = queryables(alloc, before, name)?;
+            Ok(can_any_answer(declared.as_slice(), *target, content.key()))
+        }
+    }
+}
+
+fn is_attached(acts: &[(u64, Act)], name: &Zid) -> bool
+    ensures { result ≡ is_attached acts.now name.now }
+{
+    let mut so_far = false;
+    for x in acts {
+        so_far = attached_by(name, so_far, &x.1);
+    }
+    so_far
+}
+
+// A client is attached from its line on until its link is broken.
+fn attached_by(name: &Zid, so_far: bool, act: &Act) -> bool
+    ensures { result ≡ attached_by name.now so_far act.now }
+{
+    match act {
+        Act::Client { id, .. } => so_far || name == id,
+        Act::Break { neighbour, .. } => so_far && name != neighbour,
+        _ => so_far,
+    }
+}
+
+// The subscriptions of a client.
+fn declarations(
+    alloc: Global,
+    acts: &[(u64, Act)],
+    name: &Zid,
+) -> Result<Vec<Declaration>, AllocError>
+    ensures { IfOk result (λ v. v.items ≡ declarations acts.now name.now) }
+{
+    let mut so_far = Vec::new(alloc);
+    for x in acts {
+        declare(alloc, name, &x.1, &mut so_far)?;
+    }
+    Ok(so_far)
+}
+
+// One more act is done.
+fn declare(
+    alloc: Global,
+    name: &Zid,
+    act: &Act,
+    so_far: &mut Vec<Declaration>,
+) -> Result<(), AllocError>
+    ensures { OnOk result (so_far.new.items ≡ declared_by name.now so_far.old.items act.now) }
+{
+    match act {
+        Act::Sub { client, id, key } if name == client => {
+            let key = key.copy(alloc)?;
+            so_far.push(Declaration { id: *id, key })?;
+        }
+        Act::Unsub { client, id } if name == client => forget(so_far, *id),
+        _ => {}
+    }
+    Ok(())
+}
+
+fn forget(so_far: &mut Vec<Declaration>, id: u32)
+    ensures { so_far.new.items ≡ filter (λ d. not (d.id == id)) so_far.old.items }
+{
+    so_far.retain(|d| d.id != id);
+}
+
+// The queryables of a client.
+fn queryables(alloc: Global, acts: &[(u64, Act)], name: &Zid) -> Result<Vec<Queryable>, AllocError>
+    ensures { IfOk result (λ v. v.items ≡ queryables acts.now name.now) }
+{
+    let mut so_far = Vec::new(alloc);
+    for x in acts {
+        enable(alloc, name, &x.1, &mut so_far)?;
+    }
+    Ok(so_far)
+}
+
+// One more act is done.
+fn enable(
+    alloc: Global,
+    name: &Zid,
+    act: &Act,
+    so_far: &mut Vec<Queryable>,
+) -> Result<(), AllocError>
+    ensures { OnOk result (so_far.new.items ≡ able_by name.now so_far.old.items act.now) }
+{
+    match act {
+        Act::Able {
+            client,
+            id,
+            key,
+            complete,
+        } if name == client => {
+            let key = key.copy(alloc)?;
+            so_far.push(Queryable {
+                id: *id,
+                key,
+                complete: *complete,
+            })?;
+        }
+        Act::Unable { client, id } if name == client => disable(so_far, *id),
+        _ => {}
+    }
+    Ok(())
+}
+
+fn disable(so_far: &mut Vec<Queryable>, id: u32)
+    ensures { so_far.new.items ≡ filter (λ d. not (d.id == id)) so_far.old.items }
+{
+    so_far.retain(|d| d.id != id);
+}
+
+fn does_any_ask(declared: &[Declaration], key: &KeyExpr) -> bool
+    ensures { result ≡ list_any (λ d. asks_for key.now d) declared.now }
+{
+    declared.iter().any(|d| asks_for(key, d))
+}
+
+fn asks_for(key: &KeyExpr, declared: &Declaration) -> bool
+    ensures { result ≡ asks_for key.now declared.now }
+{
+    meets(&declared.key, key)
+}
+
+fn can_any_answer(declared: &[Queryable], target: Target, key: &KeyExpr) -> bool
+    ensures { result ≡ list_any (λ d. can_answer target key.now d) declared.now }
+{
+    declared.iter().any(|d| can_answer(target, key, d))
+}
+
+fn can_answer(target: Target, key: &KeyExpr, declared: &Queryable) -> bool
+    ensures { result ≡ can_answer target key.now declared.now }
+{
+    match target {
+        Target::Best | Target::All => meets(&declared.key, key),
+        Target::Complete => declared.complete && covers(&declared.key, key),
+    }
+}
