@@ -1,5 +1,5 @@
 -- Where a world is settled, the rows of routers are what their clients have declared, and so are the sets that routers know.
-use Rattle.std.proofs.Common.{◌≡◌, ℕ, Bool, true, false, cond, not, List, [], ◌∷◌, Option, Some, None, is_some, Ordering, Less, inl, inr, refl, sym, ap, ◌∙◌, subst}
+use Rattle.std.proofs.Common.{◌≡◌, ℕ, Bool, true, false, cond, not, List, [], ◌∷◌, Option, Some, None, is_some, Ordering, Less, inl, inr, refl, sym, ap, ◌∙◌}
 use Rattle.std.specs.Prelude.{◌||◌}
 use Rattle.std.specs.List.{list_all}
 use Rattle.std.specs.Option.{option_map, option_map_or}
@@ -31,12 +31,8 @@ use Rattle.zr_guarantee.specs.Broker.{is_attached}
 use Rattle.zr_settled.proofs.Spreading.{Name}
 use Rattle.zr_settled.proofs.Worlds.{there_in, wire_at}
 use Rattle.zr_settled.proofs.Quiet.{passes_there}
-use Rattle.zr_settled.proofs.Moving.{unbroken_at}
 use Rattle.zr_settled.proofs.Rest.{passes, met}
 use Rattle.zr_settled.proofs.Agreeing.{logs_agree}
-use Rattle.zr_guarantee.specs.Broker as broker
-use Rattle.zr_laws.proofs.Known as views
-use Rattle.zr_laws.proofs.Always.{Always, always}
 use Rattle.zr_declared.specs.Declared.{stands, IsClientOf}
 use Rattle.zr_declared.specs.Rows.{IsLinkedClient, row_of, AreDeclared, SettledRowsAreDeclared}
 use Rattle.zr_declared.specs.Sets.{IsDeclaredAt, SettledSetsAreDeclared}
@@ -74,34 +70,17 @@ has_row (p ∷ rows) q (inr i) = by (is_decl p.decl q.decl) (has_row rows q i)
     by true h = refl
     by false h = h
 
-its_decl : (link : LinkNo) (id : ℕ) (o : Option Decl) → option_map (λ (q : Row). q.decl) (row_of link id o) ≡ o
+pub its_decl : (link : LinkNo) (id : ℕ) (o : Option Decl) → option_map (λ (q : Row). q.decl) (row_of link id o) ≡ o
 its_decl link id None = refl
 its_decl link id (Some d) = refl
 
-module _ (acts : List Numbered) (now : Moment) (is : reached acts ≡ Some now) where
+module _ (acts : List Numbered) (now : Moment) (g : GoesDeclared acts now) where
   abbrev w : WorldState
   w = now.world
 
-  g : GoesDeclared acts now
-  g = at_some (GoesDeclared acts) (moments.reached acts) now is (goes_declared acts)
-
-  told_of : Always acts now
-  told_of = at_some (Always acts) (moments.reached acts) now is (always acts)
-
   -- a client is attached as long as its link is unbroken
-  stands_at : (c : Name) (s : ClientState) → client_of w.clients c ≡ Some s → views.Stands (is_attached acts c) (broker.declarations acts c) (views.view_at w c s)
-  stands_at c s client = subst (λ (v : Option views.View). views.Holds (is_attached acts c) (broker.declarations acts c) v) (ap (views.view_of w c) client) (told_of.known c)
-
-  attached_is : (c : Name) (s : ClientState) → client_of w.clients c ≡ Some s → is_unbroken w.ends (s.router, c) ≡ is_attached acts c
-  attached_is c s client = by (end_of w.ends (s.router, c)) refl
-    where
-      st : views.Stands (is_attached acts c) (broker.declarations acts c) (views.view_at w c s)
-      st = stands_at c s client
-
-      by : (o : Option EndState) → end_of w.ends (s.router, c) ≡ o → unbroken_at o ≡ is_attached acts c
-      by None e = let no : None ≡ Some st.its_end = sym (ap (option_map views.end_view) e) ∙ st.found in absurd (false≢true (ap is_some no))
-      by (Some t) e = let one : Some (views.end_view t) ≡ Some st.its_end = sym (ap (option_map views.end_view) e) ∙ st.found in
-          let same : views.end_view t ≡ st.its_end = cc in ap (λ z. z.unbroken) same ∙ st.unbroken
+  pub attached_is : (c : Name) (s : ClientState) → client_of w.clients c ≡ Some s → is_unbroken w.ends (s.router, c) ≡ is_attached acts c
+  attached_is c s client = (g.spoken.clients c s client).attached
 
   -- the state of a client that is attached
   its_state : (x c : Name) → IsClientOf acts x c → (s : ClientState) × (client_of w.clients c ≡ Some s) × (s.router ≡ x)
@@ -178,7 +157,7 @@ module _ (acts : List Numbered) (now : Moment) (is : reached acts ≡ Some now) 
             standing = sym (its_decl c.neighbour.link q.0.id (stands acts c.name q.0.decl.kind q.0.id))
                 ∙ ap (option_map (λ z. z.decl)) (sym (rows c.name c.neighbour q.0.decl.kind q.0.id c.client c.linked)
                 ∙ ap (λ z. row_at r.node.rows (key_of z.0 q.0.id q.0.decl.kind)) c.number
-                ∙ at_in key_cmp row_key key_order r.node.rows q.0 (told_of.homes.tidy x r found).in_order q.1)
+                ∙ at_in key_cmp row_key key_order r.node.rows q.0 (g.ascend x r found) q.1)
                 ∙ ap Some q.2;
           }
 
@@ -188,12 +167,15 @@ module _ (acts : List Numbered) (now : Moment) (is : reached acts ≡ Some now) 
           let at : row_at r.node.rows (key_of l.0.link.0 k.id k.kind) ≡ Some (record { link = l.0.link; id = k.id; decl = d }) = rows k.name l.0 k.kind k.id k.client l.1 ∙ ap (row_of l.0.link k.id) k.standing in
           has_row r.node.rows (record { link = l.0.link; id = k.id; decl = d }) (find_in (λ z. is_eq (key_cmp (row_key z) (key_of l.0.link.0 k.id k.kind))) r.node.rows (record { link = l.0.link; id = k.id; decl = d }) at).0
 
+goes_then : (acts : List Numbered) (m : Moment) → reached acts ≡ Some m → GoesDeclared acts m
+goes_then acts m is = at_some (GoesDeclared acts) (moments.reached acts) m is (goes_declared acts)
+
 pub rows_are_declared : SettledRowsAreDeclared
-rows_are_declared acts m x r is settled found = are_declared acts m is x r found settled
+rows_are_declared acts m x r is settled found = are_declared acts m (goes_then acts m is) x r found settled
 
 pub sets_are_declared : SettledSetsAreDeclared
 sets_are_declared acts m x y path rx ry d is settled at_x at_y walk =
-    (λ h. from_rows acts m is x rx at_x settled d (sym same ∙ h), λ k. same ∙ to_rows acts m is x rx at_x settled d k)
+    (λ h. from_rows acts m (goes_then acts m is) x rx at_x settled d (sym same ∙ h), λ k. same ∙ to_rows acts m (goes_then acts m is) x rx at_x settled d k)
   where
     same : has (decls ry.node.known x) d ≡ has (decls_of rx.node.rows) d
     same = let k = logs_agree acts m is settled y x path ry rx at_y at_x walk in ap (λ ds. has ds d) (k.decls_are ∙ k.declared_is) ∙ has_all (decls_of rx.node.rows) d

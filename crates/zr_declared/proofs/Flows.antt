@@ -22,7 +22,7 @@ use Rattle.zr_routing.specs.Tables.{is_router, link_to, free_link, leads_to_clie
 use Rattle.zr_table.specs.State.{new_link}
 use Rattle.zr_table.specs.Table.{rows_left, after}
 use Rattle.zr_local.specs.Rows.{left}
-use Rattle.zr_network.specs.World.{Tagged, RouterState, EndState, ClientState, End, Ends, Routers, WorldState, with_routers, with_clients, with_ends, new_router, new_client, with_router, with_client, router_of, client_of, end_of, is_end, put_end, with_end, with_wire, lifted, lowered, new_end, is_up, is_unbroken, is_taken, sent}
+use Rattle.zr_network.specs.World.{Tagged, RouterState, EndState, ClientState, End, Ends, Routers, Clients, WorldState, with_routers, with_clients, with_ends, new_router, new_client, with_router, with_client, router_of, client_of, end_of, is_end, put_end, with_end, with_wire, lifted, lowered, new_end, is_up, is_unbroken, is_taken, sent}
 use Rattle.zr_network.specs.Acts.{hearing, peer_of, all_queued}
 use Rattle.zr_network.specs.Moments.{Numbered}
 use Rattle.zr_network.specs.Sound.{IsSound}
@@ -30,6 +30,7 @@ use Rattle.zr_network.proofs.Keyed.{not_there}
 use Rattle.zr_network.proofs.Names.{names, value_new, read_kept, read_after}
 use Rattle.zr_network.proofs.Ends.{ends, read_with_end, keep_with_end, read_put_end, keep_changed, keep_all_queued}
 use Rattle.zr_network.proofs.Links.{free_is_free, link_to_with, link_to_apart}
+use Rattle.zr_network.proofs.Clients.{SameClients, there_same, client_was}
 use Rattle.zr_network.proofs.Cases.{w_client, w_up, w_down, w_handle, w_sent, free_name}
 use Rattle.zr_settled.proofs.Spreading.{Name}
 use Rattle.zr_settled.proofs.Worlds.{there_in, wire_at}
@@ -61,6 +62,15 @@ pub record Flows (acts : List Numbered) (w : WorldState) : Type 0 where
 
 pub stands_more : (acts : List Numbered) (n : ℕ) (act : Act) (c : Name) (kind : Kind) (id : ℕ) → stands (acts ++ (n, act) ∷ []) c kind id ≡ stands_by c kind id (stands acts c kind id) act
 stands_more acts n act c kind id = fold-append (λ (so_far : Option Decl) (x : Numbered). stands_by c kind id so_far x.1) None acts ((n, act) ∷ [])
+
+-- clients whose queries and requests alone are others
+pub same_flows : (acts : List Numbered) (w : WorldState) (clients : Clients) → SameClients w.clients clients → Flows acts w → Flows acts (with_clients w clients)
+same_flows acts w clients same f = record {
+  fresh = λ c none kind id. f.fresh c (not_there (client_of w.clients c) (sym (there_same w.clients clients same c) ∙ ap is_some none)) kind id;
+  flows = λ c t found unbroken kind id.
+      let s = client_was w.clients clients same c t found in
+      subst (λ (x : Name). is_unbroken w.ends (x, c) ≡ true → flow w x c kind id ≡ stands acts c kind id) (ap (λ (q : ClientState). q.router) s.2) (λ u. f.flows c s.0 s.1 u kind id) unbroken;
+}
 
 -- it goes by the rows and by the wire
 flow_same : (w v : WorldState) (x c : Name) (kind : Kind) (id : ℕ) → says (router_of v.routers x) c kind id ≡ says (router_of w.routers x) c kind id → wire_at (end_of v.ends (x, c)) ≡ wire_at (end_of w.ends (x, c)) →

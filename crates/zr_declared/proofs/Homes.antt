@@ -6,16 +6,19 @@ use Rattle.std.proofs.lemmas.List.Sums.{fold-append}
 use Rattle.zr_id.specs.Zid.{is_named}
 use Rattle.zr_msg.specs.declared.decl.Kind.{Kind}
 use Rattle.zr_msg.specs.declared.decl.Kind.TheVariants as k
+use Rattle.zr_msg.specs.Extras.{no_extras}
+use Rattle.zr_msg.specs.declared.msg.Msg.{Msg}
 use Rattle.zr_msg.specs.declared.msg.Msg.TheVariants as m
 use Rattle.zr_command.specs.declared.command.Act.{Act}
 use Rattle.zr_command.specs.declared.command.Act.TheVariants as a
 use Rattle.zr_table.specs.Table.{able_kind}
-use Rattle.zr_network.specs.World.{ClientState, WorldState, client_of, with_client, new_client, is_taken}
-use Rattle.zr_network.specs.Acts.{outcome, declaring, undeclaring}
+use Rattle.zr_network.specs.World.{ClientState, Clients, WorldState, client_of, with_client, new_client, is_taken}
+use Rattle.zr_network.specs.Acts.{outcome, declaring, undeclaring, received}
 use Rattle.zr_network.specs.Moments.{Numbered, Moment, went}
 use Rattle.zr_network.proofs.Keyed.{not_there}
 use Rattle.zr_network.proofs.Names.{value_new, read_kept}
-use Rattle.zr_network.proofs.Cases.{free_name, for_router, for_client, for_link, for_up, for_break, for_down, for_declare, for_undeclare, for_publish, for_handle, for_take, for_mark, for_show}
+use Rattle.zr_network.proofs.Clients.{SameClients, read_same_clients, same_received}
+use Rattle.zr_network.proofs.Cases.{free_name, for_router, for_client, for_link, for_up, for_break, for_down, for_declare, for_undeclare, Says, publish_says, get_says, reply_says, end_says, for_handle, for_take, for_mark, for_show}
 use Rattle.zr_settled.proofs.Spreading.{Name}
 use Rattle.zr_declared.specs.Declared.{home_by, home}
 
@@ -52,6 +55,14 @@ module _ (acts : List Numbered) (now : Moment) (h : Homed acts now.world) where
   home_of s k.Able id = refl
   home_of s k.Full id = refl
 
+  -- an act that brings no client, and changes queries and requests alone
+  same_homes : (n : ℕ) (act : Act) → ((c : Name) (so_far : Option Name) → home_by c so_far act ≡ so_far) → (clients : Clients) → SameClients w.clients clients → (c : Name) →
+      home (acts ++ (n, act) ∷ []) c ≡ router_at (client_of clients c)
+  same_homes n act quiet clients same c = home_more acts n act c ∙ quiet c (home acts c) ∙ h c ∙ sym (read_same_clients w.clients clients same (λ s. s.router) (λ s. refl) c)
+
+  says : (n : ℕ) (act : Act) (client : Name) (msg : Msg) → ((c : Name) (so_far : Option Name) → home_by c so_far act ≡ so_far) → Says now (HomedThen n act) n client msg
+  says n act client msg quiet s found e at_end unbroken clients same = same_homes n act quiet clients same
+
   pub homes_keep : (n : ℕ) (act : Act) → IfSome (went now (outcome w n act)) (HomedThen n act)
   unfolding outcome
   homes_keep n (a.Router id) = for_router now (HomedThen n (a.Router id)) id (λ free room c. home_more acts n (a.Router id) c ∙ h c)
@@ -69,8 +80,13 @@ module _ (acts : List Numbered) (now : Moment) (h : Homed acts now.world) where
       home_more acts n (a.Able client id key complete) c ∙ kept client s (declaring s (able_kind complete) id) found (home_of s (able_kind complete) id) c)
   homes_keep n (a.Unable client id) = for_undeclare now (HomedThen n (a.Unable client id)) n client k.Able id (m.Unable id) (λ s found known e at_end unbroken c.
       home_more acts n (a.Unable client id) c ∙ kept client s (undeclaring s k.Able id) found refl c)
-  homes_keep n (a.Publish client content) = for_publish now (HomedThen n (a.Publish client content)) n client content (λ s found e at_end unbroken c. home_more acts n (a.Publish client content) c ∙ h c)
+  homes_keep n (a.Publish client content) = publish_says now (HomedThen n (a.Publish client content)) n client content (says n (a.Publish client content) client (m.Push None content) (λ c so_far. refl))
+  homes_keep n (a.Get client number target content) = get_says now (HomedThen n (a.Get client number target content)) n client number target content
+      (says n (a.Get client number target content) client (m.Request None number target content) (λ c so_far. refl))
+  homes_keep n (a.Reply client number content) = reply_says now (HomedThen n (a.Reply client number content)) n client number content (says n (a.Reply client number content) client (m.Response number content) (λ c so_far. refl))
+  homes_keep n (a.End client number) = end_says now (HomedThen n (a.End client number)) n client number (says n (a.End client number) client (m.Final number no_extras) (λ c so_far. refl))
   homes_keep n (a.Handle router from) = for_handle now (HomedThen n (a.Handle router from)) router from (λ r found there s at_end up msg tag xs front link number taken c. home_more acts n (a.Handle router from) c ∙ h c)
-  homes_keep n (a.Take router to) = for_take now (HomedThen n (a.Take router to)) router to (λ r found there s at_end up unbroken msg tag xs front c. home_more acts n (a.Take router to) c ∙ h c)
+  homes_keep n (a.Take router to) = for_take now (HomedThen n (a.Take router to)) router to (λ r found there s at_end up unbroken msg tag xs front.
+      same_homes n (a.Take router to) (λ c so_far. refl) (received w.clients to msg (client_of w.clients to)) (same_received w.clients to msg))
   homes_keep n a.Mark = for_mark now (HomedThen n a.Mark) n (λ settled joined c. home_more acts n a.Mark c ∙ h c)
   homes_keep n (a.Show router) = for_show now (HomedThen n (a.Show router)) router (λ r found c. home_more acts n (a.Show router) c ∙ h c)

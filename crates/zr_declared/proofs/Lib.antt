@@ -1,8 +1,11 @@
-pub mod Turns
+pub mod Folds
 pub mod Elements
 pub mod Told
 pub mod Flows
 pub mod Homes
+pub mod Said
+pub mod Ordered
+pub mod Spoken
 pub mod FlowActs
 pub mod AtRest
 pub mod Logged

@@ -43,14 +43,14 @@ use Rattle.zr_network.specs.Moments as moments
 use Rattle.zr_network.proofs.Lines.{at_some}
 use Rattle.zr_network.proofs.Keyed.{not_there}
 use Rattle.zr_network.proofs.Names.{value_after, value_new}
-use Rattle.zr_network.proofs.Cases.{free_name, for_router, for_client, for_link, for_up, for_break, for_down, for_declare, for_undeclare, for_publish, for_handle, for_take, for_mark, for_show}
+use Rattle.zr_network.proofs.Cases.{free_name, for_router, for_client, for_link, for_up, for_break, for_down, for_declare, for_undeclare, publish_says, get_says, reply_says, end_says, for_handle, for_take, for_mark, for_show}
 use Rattle.zr_settled.proofs.Spreading.{Name}
 use Rattle.zr_settled.proofs.Positions.{position_with, position_changes}
 use Rattle.zr_settled.proofs.Values.{rows_lead}
 use Rattle.zr_settled.proofs.Logs.{knows_logs, logs_of}
 use Rattle.zr_settled.proofs.Agreeing.{logs_agree}
 use Rattle.zr_settled.proofs.Goes.{Goes, goes_at}
-use Rattle.zr_laws.proofs.Folds.{after_all}
+use Rattle.zr_declared.proofs.Folds.{after_all}
 use Rattle.zr_declared.specs.Logs.{rows_at, Logged, logged_by, log_of, LogsAreMade, SettledLogsAreKnown}
 use Rattle.zr_declared.proofs.Elements.{all_of}
 
@@ -183,7 +183,10 @@ module _ (now : Moment) (own_name : (x : Name) (r : RouterState) → router_of n
   acts_count n (a.Able client id key complete) =
       for_declare now CountsOn n client (able_kind complete) id key (m.Able id key complete) (λ s found fresh e at_end unbroken r there room. weighs s.router r there key)
   acts_count n (a.Unable client id) = for_undeclare now CountsOn n client k.Able id (m.Unable id) (λ s found known e at_end unbroken. stays)
-  acts_count n (a.Publish client content) = for_publish now CountsOn n client content (λ s found e at_end unbroken. stays)
+  acts_count n (a.Publish client content) = publish_says now CountsOn n client content (λ s found e at_end unbroken clients same. stays)
+  acts_count n (a.Get client number target content) = get_says now CountsOn n client number target content (λ s found e at_end unbroken clients same. stays)
+  acts_count n (a.Reply client number content) = reply_says now CountsOn n client number content (λ s found e at_end unbroken clients same. stays)
+  acts_count n (a.End client number) = end_says now CountsOn n client number (λ s found e at_end unbroken clients same. stays)
   acts_count n (a.Handle router from) = for_handle now CountsOn router from (λ r found there s at_end up msg tag xs front link number taken. hears router r found (From link msg))
   acts_count n (a.Take router to) = for_take now CountsOn router to (λ r found there s at_end up unbroken msg tag xs front. stays)
   acts_count n a.Mark = for_mark now CountsOn n (λ settled joined. stays)

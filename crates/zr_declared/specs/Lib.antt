@@ -1,4 +1,3 @@
-pub mod Turns
 pub mod Declared
 pub mod Rows
 pub mod Sets

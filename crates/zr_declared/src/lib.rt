@@ -2,15 +2,9 @@
 //! Who needs a law calls its function.
 #![tactic(auto)]
 
-ghost use Rattle.zr_declared.specs.Turns.{AlwaysTaken};
 ghost use Rattle.zr_declared.specs.Rows.{SettledRowsAreDeclared};
 ghost use Rattle.zr_declared.specs.Sets.{SettledSetsAreDeclared};
 ghost use Rattle.zr_declared.specs.Logs.{LogsAreMade, SettledLogsAreKnown};
-
-/// At each moment, also within a run, each router takes the message that is its turn.
-pub fn always_taken()
-    ensures { AlwaysTaken }
-{}
 
 /// At each settled moment the rows of each router are what the clients attached to it have declared, key and kind: each has a link, under each of
 /// its ids stands just what it has declared there, and no row is another's.

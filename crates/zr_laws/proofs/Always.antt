@@ -1,12 +1,13 @@
--- What holds at every moment of a script, and that each act keeps it.
-use Rattle.std.proofs.Common.{◌≡◌, ℕ, Bool, true, false, cond, List, [], ◌∷◌, ◌++◌, Some, Ok, Err, refl, sym, ap, ◌∙◌}
-use Rattle.std.specs.Prelude.{◌||◌, is_some, IfOk, IfSome}
-use Rattle.std.specs.List.{AllByRecursion, fold}
+-- What holds at every moment of a script: what is known of its world and of what clients have declared, and that each router came by an act.
+use Rattle.std.proofs.Common.{◌≡◌, ℕ, Bool, true, false, cond, List, [], ◌∷◌, ◌++◌, Option, Some, None, refl, sym, ap, ◌∙◌}
+use Rattle.std.specs.Prelude.{◌||◌, is_some, IfSome}
+use Rattle.std.specs.List.{AllByRecursion}
 use Rattle.std.proofs.lemmas.Bool.{false≢true, or_left, or_right}
 use Rattle.std.proofs.lemmas.List.Folds.{list_any-append}
 use Rattle.zr_id.specs.Zid.{is_named}
 use Rattle.zr_msg.specs.declared.decl.Kind.{Kind}
 use Rattle.zr_msg.specs.declared.decl.Kind.TheVariants as sort
+use Rattle.zr_msg.specs.Extras.{no_extras}
 use Rattle.zr_msg.specs.declared.msg.Msg.{Msg}
 use Rattle.zr_msg.specs.declared.msg.Msg.TheVariants as m
 use Rattle.zr_msg.specs.declared.event.Event.TheVariants.{Down, From}
@@ -14,20 +15,15 @@ use Rattle.zr_msg.specs.declared.peer.Role.TheVariants as role
 use Rattle.zr_command.specs.declared.command.Act.{Act}
 use Rattle.zr_command.specs.declared.command.Act.TheVariants as c
 use Rattle.zr_table.specs.Table.{able_kind}
-use Rattle.zr_network.specs.World.{RouterState, router_of, with_router, new_router}
-use Rattle.zr_network.specs.Acts.{Outcome, weighing, hearing, peer_of, up_event, declare_step, undeclare_step, outcome}
-use Rattle.zr_network.specs.Moments.{Numbered, Moment, beginning, went, onward}
-use Rattle.zr_network.specs.Sound.{IsSound}
+use Rattle.zr_network.specs.World.{RouterState, WorldState, router_of, with_router, new_router}
+use Rattle.zr_network.specs.Acts.{weighing, hearing, peer_of, up_event, declare_step, undeclare_step, outcome}
+use Rattle.zr_network.specs.Moments.{Numbered, Moment, beginning, went, reached}
 use Rattle.zr_guarantee.specs.Names.{is_router, brings_router}
 use Rattle.zr_network.proofs.Keyed.{not_there}
 use Rattle.zr_network.proofs.Names.{value_new, read_kept}
-use Rattle.zr_network.proofs.Cases.{free_name, on_router, on_client, on_link, on_up, on_break, on_down, on_declare, on_undeclare, on_publish, on_handle, on_take, on_mark, on_show, for_router, for_client, for_link, for_up, for_break, for_down, for_declare, for_undeclare, for_publish, for_handle, for_take, for_mark, for_show}
-use Rattle.zr_network.proofs.Sound.{act_keeps, empty_sound}
-use Rattle.zr_laws.proofs.Folds.{after_all}
-use Rattle.zr_laws.proofs.Homes.{Homes, act_homes}
-use Rattle.zr_laws.proofs.Known.{Known}
-use Rattle.zr_laws.proofs.Tables.{act_known}
-use Rattle.zr_settled.proofs.Orderly.{Orderly, act_orderly, empty_orderly}
+use Rattle.zr_network.proofs.Cases.{free_name, on_router, on_client, on_link, on_up, on_break, on_down, on_declare, on_undeclare, on_said, on_handle, on_take, on_mark, on_show, for_router, for_client, for_link, for_up, for_break, for_down, for_declare, for_undeclare, Says, publish_says, get_says, reply_says, end_says, for_handle, for_take, for_mark, for_show}
+use Rattle.zr_declared.proofs.Folds.{after_all}
+use Rattle.zr_declared.proofs.FlowActs.{GoesDeclared, same_declared, goes_declared}
 
 -- ---- the names of routers
 
@@ -55,6 +51,9 @@ module _ (acts : List Numbered) (now : Moment) (h : Named acts now) where
   undeclares n act client kind id msg = for_undeclare now (NamedBy n act) n client kind id msg
       (λ s es known e ee unbroken. same_names n act (on_undeclare now n client kind id msg s e) (λ x. refl))
 
+  says : (n : ℕ) (act : Act) (client : List ℕ) (msg : Msg) → Says now (NamedBy n act) n client msg
+  says n act client msg s es e ee unbroken clients same = same_names n act (on_said now n client msg s e clients) (λ x. refl)
+
   router_named : (n : ℕ) (id : List ℕ) → is_some (router_of now.world.routers id) ≡ false → Named (acts ++ (n, c.Router id) ∷ []) (on_router now id)
   router_named n id free x k = list_any-append (λ y. brings_router x y.1) acts ((n, c.Router id) ∷ [])
       ∙ by (is_named x id) refl (sym (ap is_some (value_new now.world.routers id x (new_router id) (not_there (router_of now.world.routers id) free))) ∙ k)
@@ -78,8 +77,11 @@ module _ (acts : List Numbered) (now : Moment) (h : Named acts now) where
   act_named n (c.Unsub client id) = undeclares n (c.Unsub client id) client sort.Sub id (m.Unsub id)
   act_named n (c.Able client id key complete) = declares n (c.Able client id key complete) client (able_kind complete) id key (m.Able id key complete)
   act_named n (c.Unable client id) = undeclares n (c.Unable client id) client sort.Able id (m.Unable id)
-  act_named n (c.Publish client content) = for_publish now (NamedBy n (c.Publish client content)) n client content
-      (λ s es e ee unbroken. same_names n (c.Publish client content) (on_publish now n client content s e) (λ x. refl))
+  act_named n (c.Publish client content) = publish_says now (NamedBy n (c.Publish client content)) n client content (says n (c.Publish client content) client (m.Push None content))
+  act_named n (c.Get client number target content) =
+      get_says now (NamedBy n (c.Get client number target content)) n client number target content (says n (c.Get client number target content) client (m.Request None number target content))
+  act_named n (c.Reply client number content) = reply_says now (NamedBy n (c.Reply client number content)) n client number content (says n (c.Reply client number content) client (m.Response number content))
+  act_named n (c.End client number) = end_says now (NamedBy n (c.End client number)) n client number (says n (c.End client number) client (m.Final number no_extras))
   act_named n (c.Handle router name) = for_handle now (NamedBy n (c.Handle router name)) router name
       (λ r er there s es up msg tag xs front l el taken. same_names n (c.Handle router name) (on_handle now router name r s l msg tag xs) (heard_names n (c.Handle router name) router r (hearing r (From l msg)) er))
   act_named n (c.Take router to) = for_take now (NamedBy n (c.Take router to)) router to
@@ -90,39 +92,27 @@ module _ (acts : List Numbered) (now : Moment) (h : Named acts now) where
 -- ---- all of it
 
 pub record Always (acts : List Numbered) (now : Moment) : Type 0 where
-  pub sound : IsSound now.world
-  pub orderly : Orderly now.world
-  pub homes : Homes now.world
+  pub declared : GoesDeclared acts now
   pub named : Named acts now
-  pub known : Known acts now.world
 
-begins : Always [] beginning
-begins = record {
-  sound = empty_sound;
-  orderly = empty_orderly;
-  homes = record {
-    apart = λ name k. refl;
-    ends = λ name x s e k. absurd (false≢true k);
-    tidy = λ x r e. absurd (false≢true (ap is_some e));
-  };
-  named = λ x k. absurd (false≢true k);
-  known = λ d. (refl, refl);
+-- it is said of the world alone
+pub same_always : (acts : List Numbered) (now more : Moment) → more.world ≡ now.world → Always acts now → Always acts more
+same_always acts now more same h = record {
+  declared = same_declared acts now more same h.declared;
+  named = λ x k. h.named x (ap (λ (w : WorldState). is_some (router_of w.routers x)) (sym same) ∙ k);
 }
 
-act_always : (acts : List Numbered) (now : Moment) → Always acts now → (n : ℕ) (act : Act) → IfSome (went now (outcome now.world n act)) (Always (acts ++ (n, act) ∷ []))
-act_always acts now h n act =
-    by (outcome now.world n act) (act_keeps now.world n act h.sound) (act_orderly now h.sound h.orderly n act) (act_homes now h.sound h.homes n act) (act_named acts now h.named n act)
-    (act_known acts now h.sound h.homes h.known n act)
-  where
-    by : (o : Outcome) → IfOk o (λ x. IsSound x.1) → IfSome (went now o) (λ next. IsSound next.world → Orderly next.world) → IfSome (went now o) (λ next. Homes next.world) →
-        IfSome (went now o) (Named (acts ++ (n, act) ∷ [])) → IfSome (went now o) (λ next. Known (acts ++ (n, act) ∷ []) next.world) → IfSome (went now o) (Always (acts ++ (n, act) ∷ []))
-    by (Err e) sound orderly homes named known = tt
-    by (Ok x) sound orderly homes named known = record { sound = sound; orderly = orderly sound; homes = homes; named = named; known = known }
+begins : Named [] beginning
+begins x k = absurd (false≢true k)
 
 -- at the moment that some acts lead to
-pub always : (acts : List Numbered) → IfSome (fold onward (Some beginning) acts) (Always acts)
-always acts = after_all Always (λ x. Unit {0}) (λ done now h x k. act_always done now h x.0 x.1) acts [] (Some beginning) begins (all acts)
+pub always : (acts : List Numbered) → IfSome (reached acts) (Always acts)
+always acts = by (reached acts) (goes_declared acts) (after_all Named (λ x. Unit {0}) (λ done now h x k. act_named done now h x.0 x.1) acts [] (Some beginning) begins (all acts))
   where
     all : (xs : List Numbered) → AllByRecursion (λ x. Unit {0}) xs
     all [] = tt
     all (x ∷ xs) = (tt, all xs)
+
+    by : (o : Option Moment) → IfSome o (GoesDeclared acts) → IfSome o (Named acts) → IfSome o (Always acts)
+    by None declared named = tt
+    by (Some now) declared named = record { declared = declared; named = named }

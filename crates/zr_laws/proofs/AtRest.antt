@@ -7,8 +7,10 @@ use Rattle.std.specs.List.{AllByRecursion, fold, list_all, reduce}
 use Rattle.std.specs.Map.{values_of}
 use Rattle.std.proofs.lemmas.Bool.{false≢true, true≢false, and_parts, and_from, or_cases}
 use Rattle.std.proofs.lemmas.List.Sums.{fold-append}
+use Rattle.zr_msg.specs.declared.msg.Msg.{Msg}
 use Rattle.zr_msg.specs.declared.msg.Msg.TheVariants as m
 use Rattle.zr_msg.specs.declared.event.Event.TheVariants.{From}
+use Rattle.zr_msg.specs.Extras.{no_extras}
 use Rattle.zr_command.specs.declared.command.Act.{Act}
 use Rattle.zr_command.specs.declared.command.Act.TheVariants as c
 use Rattle.zr_network.specs.World.{EndState, End, Ends, WorldState, turned, end_of, with_wire, with_queue, with_end, sent, is_empty, is_idle, is_quiet, is_met, is_calm_end, is_settled}
@@ -22,13 +24,13 @@ use Rattle.zr_network.proofs.Names.{read_kept}
 use Rattle.zr_network.proofs.Ends.{end_order, same_end, keep_with_end, keep_changed, keep_all_queued}
 use Rattle.zr_network.proofs.Fits.{up_of}
 use Rattle.zr_network.proofs.Lines.{prefix_reached}
-use Rattle.zr_network.proofs.Cases.{on_publish, on_handle, on_take, for_publish, for_handle, for_take, for_mark, for_show}
+use Rattle.zr_network.proofs.Cases.{on_said, on_handle, on_take, Says, publish_says, get_says, reply_says, end_says, for_handle, for_take, for_mark, for_show}
 use Rattle.zr_laws.specs.Runs.{RestIsQuiet}
-use Rattle.zr_laws.proofs.Folds.{at_some, after_all}
+use Rattle.zr_declared.proofs.Folds.{at_some, after_all}
 use Rattle.zr_settled.proofs.Worlds.{there_in}
 use Rattle.zr_settled.proofs.Moving.{unbroken_at}
 use Rattle.zr_settled.proofs.Orderly.{has_wire, has_queue, is_client_in, Orderly}
-use Rattle.zr_laws.proofs.Always.{Always, always}
+use Rattle.zr_settled.proofs.Goes.{Goes, goes_at}
 
 -- ---- the next step
 
@@ -109,6 +111,10 @@ met_same w w' up unbroken routers h e k =
     let old = h e (sym (up e) ∙ k) in
     (unbroken e ∙ old.0, λ r. up (turned e) ∙ old.1 (sym (routers e.1) ∙ r))
 
+met_says : (now : Moment) → IsMet now.world → (n : ℕ) (client : List ℕ) (msg : Msg) → Says now (λ next. IsMet next.world) n client msg
+met_says now h n client msg s es en ee unbroken clients same = met_same now.world (on_said now n client msg s en clients).world
+    (λ e. keep_with_end now.world.ends (s.router, client) (sent en msg n) up_of e en ee refl) (λ e. keep_with_end now.world.ends (s.router, client) (sent en msg n) unbroken_at e en ee refl) (λ x. refl) h
+
 act_met : (now : Moment) → IsMet now.world → (n : ℕ) (act : Act) → stays act ≡ true → IfSome (went now (outcome now.world n act)) (λ next. IsMet next.world)
 unfolding outcome
 act_met now h n (c.Router id) st = absurd (false≢true st)
@@ -121,9 +127,10 @@ act_met now h n (c.Sub client id key) st = absurd (false≢true st)
 act_met now h n (c.Unsub client id) st = absurd (false≢true st)
 act_met now h n (c.Able client id key complete) st = absurd (false≢true st)
 act_met now h n (c.Unable client id) st = absurd (false≢true st)
-act_met now h n (c.Publish client content) st = for_publish now (λ next. IsMet next.world) n client content
-    (λ s es en ee unbroken. met_same now.world (on_publish now n client content s en).world (λ e. keep_with_end now.world.ends (s.router, client) (sent en (m.Push None content) n) up_of e en ee refl)
-    (λ e. keep_with_end now.world.ends (s.router, client) (sent en (m.Push None content) n) unbroken_at e en ee refl) (λ x. refl) h)
+act_met now h n (c.Publish client content) st = publish_says now (λ next. IsMet next.world) n client content (met_says now h n client (m.Push None content))
+act_met now h n (c.Get client number target content) st = get_says now (λ next. IsMet next.world) n client number target content (met_says now h n client (m.Request None number target content))
+act_met now h n (c.Reply client number content) st = reply_says now (λ next. IsMet next.world) n client number content (met_says now h n client (m.Response number content))
+act_met now h n (c.End client number) st = end_says now (λ next. IsMet next.world) n client number (met_says now h n client (m.Final number no_extras))
 act_met now h n (c.Handle router from) st = for_handle now (λ next. IsMet next.world) router from
     (λ r er there s es up msg tag xs front l el taken.
     let half : Ends = with_end now.world.ends (router, from) (with_wire s xs) in
@@ -210,8 +217,8 @@ rest_is_quiet ls before phase rest mark cut st = (m.0, m.1, at_end m.0 m.1)
         (at_some (λ now. IsMet now.world) (fold onward (onward (reached before) (mark, c.Mark)) phase) m (sym (fold-append onward (Some beginning) before ((mark, c.Mark) ∷ phase)) ∙ e)
         (after_all (λ done now. IsMet now.world) (λ x. stays x.1 ≡ true) (λ done now met x k. act_met now met x.0 x.1 k) phase [] (onward (reached before) (mark, c.Mark)) (marked mark (reached before)) (each phase st)))
       where
-        holds : Always (before ++ (mark, c.Mark) ∷ phase) m
-        holds = at_some (Always acts) (reached acts) m e (always acts)
+        holds : Goes m.world
+        holds = at_some (λ now. Goes now.world) (reached acts) m e (goes_at acts)
 
         each : (xs : List Numbered) → is_phase xs ≡ true → AllByRecursion (λ x. stays x.1 ≡ true) xs
         each [] k = tt

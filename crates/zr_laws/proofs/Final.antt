@@ -1,12 +1,12 @@
--- The law on samples. The lines before the mark give what is known there, the lines of the phase keep the flow, and at any
+-- The law on samples and requests. The lines before the mark give what is known there, the lines of the phase keep the flow, and at any
 -- moment the flow is the law: what was sent is a prefix of all that stands in the places, and where nothing is under way
 -- nothing follows it. That nothing else was sent is the invariant of the tags. Of who is no client nothing is published, and to who is not
 -- attached nothing is sent.
 use Rattle.std.proofs.Common.{◌≡◌, ℕ, Bool, true, false, List, [], ◌∷◌, ◌++◌, Option, Some, None, refl, sym, ap, ◌∙◌, append-nil}
-use Rattle.std.specs.Prelude.{◌||◌, nat_lt, is_some, IfSome}
+use Rattle.std.specs.Prelude.{◌||◌, nat_lt, is_some, is_none, IfSome}
 use Rattle.std.specs.List.{fold, list_all}
 use Rattle.std.specs.Map.{values_of}
-use Rattle.std.proofs.lemmas.Bool.{false≢true, true≢false, and_parts, or_left}
+use Rattle.std.proofs.lemmas.Bool.{false≢true, true≢false, and_parts, or_left, or_right}
 use Rattle.std.proofs.lemmas.List.Sums.{fold-append}
 use Rattle.zr_command.specs.declared.command.Act.TheVariants as c
 use Rattle.zr_command.specs.declared.report.ReportLine.TheVariants as line
@@ -17,24 +17,25 @@ use Rattle.zr_network.specs.Acts.{outcome}
 use Rattle.zr_network.specs.Moments.{Numbered, ascends, Moment, beginning, onward, reached}
 use Rattle.zr_guarantee.specs.Names.{is_router}
 use Rattle.zr_guarantee.specs.Item.{Item}
-use Rattle.zr_guarantee.specs.Broker.{is_attached, is_line_of, is_sample_line, from}
-use Rattle.zr_guarantee.specs.Sent.{sent_to}
-use Rattle.zr_guarantee.specs.Refines.{sent_of, Refines, SamplesRefine}
+use Rattle.zr_guarantee.specs.Broker.{is_attached, is_line_of, is_line, from}
+use Rattle.zr_guarantee.specs.Sent.{carried_by, sent_to}
+use Rattle.zr_network.proofs.Clients.{same_clients}
+use Rattle.zr_guarantee.specs.Refines.{sent_of, Delivers, PhasesDeliver}
 use Rattle.zr_network.proofs.Keyed.{found_entry}
 use Rattle.zr_network.proofs.Ends.{end_order, same_end}
 use Rattle.zr_network.proofs.Cases.{on_mark, for_mark}
 use Rattle.zr_network.proofs.Lists.{weaker}
 use Rattle.zr_laws.proofs.Places.{hops, along, bare}
 use Rattle.zr_settled.proofs.Worlds.{queue_at, wire_at}
-use Rattle.zr_laws.proofs.Folds.{refused_stays, at_some}
+use Rattle.zr_declared.proofs.Folds.{refused_stays, at_some}
 use Rattle.zr_laws.proofs.Watch.{Passes}
 use Rattle.zr_laws.proofs.Pair.{Pair, items, kept_for, wanted_of, held, OnWay, Between, Flows, sent_more}
 use Rattle.zr_laws.proofs.Held.{kept_none}
 use Rattle.zr_laws.proofs.Phases.{phase_keeps}
 use Rattle.zr_laws.proofs.Silent.{IsMute, phase_mute, no_line, nothing_published, nothing_wanted, nothing_passes, IsUnheard, phase_unheard}
-use Rattle.zr_laws.proofs.Numbers.{around_mark, agrees_from, tagging_before, tagging_phase}
-use Rattle.zr_laws.proofs.Tags.{Tags, tags_kept}
-use Rattle.zr_laws.proofs.Always.{Always, always}
+use Rattle.zr_laws.proofs.Numbers.{around_mark, agrees_from, tagging_before, publishing_phase}
+use Rattle.zr_laws.proofs.Tags.{Tags, tags_kept, CarriedTags, carried_tags_kept}
+use Rattle.zr_laws.proofs.Always.{Always, always, same_always}
 use Rattle.zr_laws.proofs.Start.{AreSettled, Marked, detached, wants_nothing, who_is_attached, nothing_sent, the_pair, the_routes, starts}
 
 -- ---- where nothing is under way
@@ -76,7 +77,7 @@ module _ (agree : TablesAreSettled) where
       by : (o : Option Moment) → reached before ≡ o → IfSome o (Always before) → IfSome o (Tags (λ i. nat_lt i mark)) → IfSome (onward o (mark, c.Mark)) (Marked before mark)
       by None e h tags = tt
       by (Some now) e h tags = for_mark now (Marked before mark) mark (λ settled joined. record {
-        always = record { sound = h.sound; orderly = h.orderly; homes = h.homes; named = h.named; known = h.known };
+        always = same_always before now (on_mark now mark) refl h;
         tags = record { waits = tags.waits; sends_only = λ q. more q };
         settled = settled;
         tables = agree before now e settled joined;
@@ -85,31 +86,32 @@ module _ (agree : TablesAreSettled) where
           more : (q : List ℕ) → list_all (λ i. nat_lt i.line mark) (sent_to (on_mark now mark).report q) ≡ true
           more q = ap (list_all (λ i. nat_lt i.line mark)) (sent_more now.report (line.Mark mark) q ∙ append-nil (sent_to now.report q)) ∙ tags.sends_only q
 
-  pub samples_refine : SamplesRefine
-  samples_refine before phase mark m ascending stays reaches =
+  pub phases_deliver : PhasesDeliver
+  phases_deliver before phase mark m ascending stays reaches =
       by_mark (onward (reached before) (mark, c.Mark)) (sym (fold-append onward (Some beginning) before ((mark, c.Mark) ∷ phase)) ∙ reaches) (marked before mark around.0)
     where
       around : (list_all (λ y. nat_lt y.0 mark) before ≡ true) × (ascends mark phase ≡ true)
       around = around_mark 0 mark before phase ascending
 
       passes : ℕ → Bool
-      passes i = nat_lt i mark || is_sample_line phase i
+      passes i = nat_lt i mark || is_line phase i
 
       -- nothing else was sent
-      nothing_else : (now : Moment) → fold onward (Some now) phase ≡ Some m → Tags (λ i. nat_lt i mark) now → Tags passes m
-      nothing_else now e tags = at_some (Tags passes) (fold onward (Some now) phase) m e (tags_kept passes phase (Some now) old (tagging_phase mark phase [] stays))
+      nothing_else : (now : Moment) → fold onward (Some now) phase ≡ Some m → Tags (λ i. nat_lt i mark) now → CarriedTags passes m
+      nothing_else now e tags = at_some (CarriedTags passes) (fold onward (Some now) phase) m e (carried_tags_kept passes phase (Some now) old stays (publishing_phase mark phase []))
         where
           -- before the phase all tags are below the mark
-          old : Tags passes now
+          old : CarriedTags passes now
           old = record {
             waits = λ q. at_ends (end_of now.world.ends q) (tags.waits q);
-            sends_only = λ q. weaker (λ i. nat_lt i.line mark) (λ i. passes i.line) (λ i k. or_left (nat_lt i.line mark) (is_sample_line phase i.line) k) (sent_to now.report q) (tags.sends_only q);
+            sends_only = λ q. weaker (λ i. nat_lt i.line mark) (λ i. passes i.line) (λ i k. or_left (nat_lt i.line mark) (is_line phase i.line) k) (sent_to now.report q) (tags.sends_only q);
           }
             where
-              wider : (xs : List Tagged) → list_all (λ x. nat_lt x.tag mark) xs ≡ true → list_all (λ x. passes x.tag) xs ≡ true
-              wider xs h = weaker (λ x. nat_lt x.tag mark) (λ x. passes x.tag) (λ x k. or_left (nat_lt x.tag mark) (is_sample_line phase x.tag) k) xs h
+              wider : (xs : List Tagged) → list_all (λ x. nat_lt x.tag mark) xs ≡ true → list_all (λ x. is_none (carried_by x.msg) || passes x.tag) xs ≡ true
+              wider xs h = weaker (λ x. nat_lt x.tag mark) (λ x. is_none (carried_by x.msg) || passes x.tag)
+                  (λ x k. or_right (is_none (carried_by x.msg)) (passes x.tag) (or_left (nat_lt x.tag mark) (is_line phase x.tag) k)) xs h
 
-              at_ends : (o : Option EndState) → IfSome o (Passes (λ x. nat_lt x.tag mark)) → IfSome o (Passes (λ x. passes x.tag))
+              at_ends : (o : Option EndState) → IfSome o (Passes (λ x. nat_lt x.tag mark)) → IfSome o (Passes (λ x. is_none (carried_by x.msg) || passes x.tag))
               at_ends None h = tt
               at_ends (Some s) h = (wider s.wire h.0, wider s.queue h.1)
 
@@ -117,12 +119,12 @@ module _ (agree : TablesAreSettled) where
       Says : List ℕ → List ℕ → Type 0
       Says a d = IsPrefixOf (sent_of phase m a d) (from before phase a d) × (is_quiet m.world ≡ true → sent_of phase m a d ≡ from before phase a d)
 
-      by_mark : (o : Option Moment) → fold onward o phase ≡ Some m → IfSome o (Marked before mark) → Refines before mark phase m
+      by_mark : (o : Option Moment) → fold onward o phase ≡ Some m → IfSome o (Marked before mark) → Delivers before mark phase m
       by_mark None e h = absurd (false≢true (ap is_some (sym (refused_stays phase) ∙ e)))
       by_mark (Some now) e h = record {
         prefix = λ a d k. (says a d k).0;
-        nothing_else = λ d. (nothing_else now e h.tags).sends_only d;
         whole = λ quiet a d k. (says a d k).1 quiet;
+        nothing_else = λ d. (nothing_else now e h.tags).sends_only d;
       }
         where
           no_router : (d : List ℕ) → is_router before d ≡ false → is_some (router_of now.world.routers d) ≡ false
@@ -140,7 +142,7 @@ module _ (agree : TablesAreSettled) where
           no_publisher a d none = neither a d (nothing_passes (is_line_of phase a) (no_line a phase mute.silent) (sent_to m.report d)) (nothing_published before a d phase mute.silent)
             where
               mute : IsMute a now.world.clients none phase m
-              mute = at_some (IsMute a now.world.clients none phase) (fold onward (Some now) phase) m e (phase_mute a now.world.clients none phase (Some now) refl stays)
+              mute = at_some (IsMute a now.world.clients none phase) (fold onward (Some now) phase) m e (phase_mute a now.world.clients none phase (Some now) (same_clients now.world.clients) stays)
 
           no_receiver : (a d : List ℕ) → is_router before d ≡ false → is_attached before d ≡ false → Says a d
           no_receiver a d k gone = neither a d unheard.nothing (nothing_wanted before a d phase (wants_nothing before mark now h a d gone))

@@ -1,54 +1,54 @@
 -- Handling in a phase keeps the flow: what a router takes from its wire goes into its queues, and its tables stay. On the way it goes on to the
 -- next router, or to the receiver, once where the receiver is to have it, and everywhere it goes down the tree.
-use Rattle.std.proofs.Common.{◌≡◌, ℕ, Bool, true, false, cond, List, [], ◌∷◌, ◌++◌, Option, Some, Ok, refl, sym, ap, ◌∙◌, subst, append-nil, inl, inr}
-use Rattle.std.specs.Prelude.{◌&&◌, ◌||◌, not, is_some}
+use Rattle.std.proofs.Common.{◌≡◌, ℕ, Bool, true, false, cond, List, [], ◌∷◌, ◌++◌, map, Option, Some, Ok, refl, sym, ap, ◌∙◌, subst, append-nil, inl, inr}
+use Rattle.std.specs.Prelude.{◌&&◌, ◌||◌, not, is_some, is_none}
 use Rattle.std.specs.List.{list_all}
-use Rattle.std.proofs.lemmas.Bool.{true≢false, and_parts, and_from, or_right, not_from_false}
-use Rattle.std.proofs.lemmas.Map.Steps.{set_value_same}
+use Rattle.std.specs.Option.{option_map}
+use Rattle.std.proofs.lemmas.Bool.{true≢false, and_parts, and_from, or_left, or_right, not_from_false}
 use Rattle.zr_id.specs.Zid.{is_named}
 use Rattle.zr_id.specs.declared.link.LinkNo.{LinkNo}
-use Rattle.zr_msg.specs.declared.content.Parts.{Parts}
 use Rattle.zr_msg.specs.declared.msg.Msg.{Msg}
-use Rattle.zr_msg.specs.declared.msg.Msg.TheVariants as m
 use Rattle.zr_msg.specs.declared.event.Event.TheVariants.{From}
 use Rattle.zr_command.specs.declared.command.Act.TheVariants as c
 use Rattle.zr_command.specs.declared.report.ReportLine.TheVariants as line
-use Rattle.zr_table.specs.Table.{after_from}
-use Rattle.zr_network.specs.World.{Tagged, EndState, End, Ends, RouterState, is_end, router_of, end_of, with_router, with_end, queued, with_wire, is_calm, unsettles}
-use Rattle.zr_network.specs.Acts.{sends_to, number_to}
+use Rattle.zr_table.specs.State.{NodeState}
+use Rattle.zr_table.specs.Table.{after_from, with_pending}
+use Rattle.zr_network.specs.World.{Tagged, EndState, End, Ends, RouterState, is_end, router_of, end_of, with_end, queued, with_wire, is_calm, unsettles}
+use Rattle.zr_network.specs.Acts.{sends_to, number_to, hearing}
 use Rattle.zr_network.specs.Moments.{Numbered, Moment}
-use Rattle.zr_guarantee.specs.Item.{Item}
-use Rattle.zr_guarantee.specs.Broker.{wants}
-use Rattle.zr_guarantee.specs.Sent.{items_of, item_of, sent_to}
-use Rattle.zr_network.proofs.Names.{names, same_name}
+use Rattle.zr_guarantee.specs.Item.{Item, Carried}
+use Rattle.zr_guarantee.specs.Broker.{is_for}
+use Rattle.zr_guarantee.specs.Sent.{carried_by, items_of, item_of, sent_to}
+use Rattle.zr_network.proofs.Names.{names, same_name, read_kept}
 use Rattle.zr_network.proofs.Ends.{end_parts, same_end, read_with_end, keep_with_end, read_all_queued, keep_all_queued}
 use Rattle.zr_network.proofs.Cases.{on_handle}
 use Rattle.zr_network.proofs.Lists.{all_both, weaker}
 use Rattle.zr_laws.proofs.Places.{Sent, Queue, Wire, Hop, hops, along, keeps, handled}
 use Rattle.zr_settled.proofs.Worlds.{queue_at, wire_at}
-use Rattle.zr_laws.proofs.Pushes.{names_tree, goes_nowhere, calm_sent}
+use Rattle.zr_laws.proofs.Carried.{carried_in}
+use Rattle.zr_laws.proofs.Pushes.{names_tree, goes_on}
 use Rattle.zr_laws.proofs.Watch.{tagged_all}
-use Rattle.zr_laws.proofs.Messages.{IsSilent}
-use Rattle.zr_laws.proofs.Held.{items_both, items_tag, each_passes, loses, queue_adds, wanted_both, kept_both, kept_none, foreign_wanted, foreign_kept, end_is}
-use Rattle.zr_laws.proofs.Pair.{Pair, items, all_tagged, of_publisher, wanted_of, kept_for, held, has_router, leads, comes_down, fits, Flows, IsSentOn, OnWay, Between, IsRouted, sent_more, from_same}
+use Rattle.zr_laws.proofs.Messages.{IsQuiet}
+use Rattle.zr_laws.proofs.Held.{items_both, items_tag, items_are, each_none, router_was, each_passes, loses, queue_adds, wanted_both, kept_both, kept_none, foreign_wanted, foreign_kept, end_is}
+use Rattle.zr_laws.proofs.Pair.{Pair, items, all_tagged, of_publisher, wanted_of, kept_for, held, has_router, leads, comes_down, passes_down, fits, idle_router, Flows, IsSentOn, OnWay, Between, IsRouted, sent_more, from_same}
 
 module _ (p : Pair) (routed : IsRouted p) (done : List Numbered) (now : Moment) (h : Flows p done now) where
   abbrev es : Ends
   es = now.world.ends
 
-  -- A message has left the wire, and the router's tables stay. Of what it is on the wire for the receiver, all has come to the queue on the way,
+  -- A message has left the wire, and the router's tables stay, but for what is pending. Of what it is on the wire for the receiver, all has come to the queue on the way,
   -- and nothing else has.
   handle_keeps : (n : ℕ) (router name : List ℕ) (r : RouterState) → router_of now.world.routers router ≡ Some r →
       (s : EndState) → end_of es (router, name) ≡ Some s → (l : LinkNo) (msg : Msg) (tag : ℕ) (xs : List Tagged) → s.wire ≡ record { msg = msg; tag = tag } ∷ xs →
-      after_from r.node l.0 msg ≡ r.node →
+      with_pending (after_from r.node l.0 msg) [] ≡ with_pending r.node [] →
       ((v : List ℕ) → list_all (λ z. not (unsettles z)) (sends_to r.node (From l msg) v) ≡ true) →
       ((v : List ℕ) → has_router p v ≡ true → list_all (fits p v router) (all_tagged tag (sends_to r.node (From l msg) v)) ≡ true) →
       ((to v : List ℕ) → OnWay p to router v → is_named name v ≡ true → kept_for p to (items (all_tagged tag (sends_to r.node (From l msg) to))) ≡ wanted_of p (item_of msg tag)) →
       ((to v : List ℕ) → OnWay p to router v → is_named name v ≡ false → kept_for p to (items (all_tagged tag (sends_to r.node (From l msg) to))) ≡ []) →
       Flows p (done ++ (n, c.Handle router name) ∷ []) (on_handle now router name r s l msg tag xs)
   handle_keeps n router name r found_r s found l msg tag xs front tables calm down own_is other_is = record {
-    routers_is = ap (with_router now.world.routers router) (ap (λ z. record { node = z; weight = r.weight }) tables) ∙ set_value_same (is_named router) now.world.routers r found_r ∙ h.routers_is;
-    clients_is = h.clients_is;
+    routers = λ x. read_kept (option_map idle_router) now.world.routers router x r (hearing r (From l msg)) found_r (ap (λ z. Some (record { node = z; weight = r.weight })) tables) ∙ h.routers x;
+    clients = h.clients;
     ends_are = λ q. kept is_some (λ z sent_. refl) q ∙ left is_some refl q ∙ h.ends_are q;
     calm = λ q. ap (list_all is_calm) (wire_reads q) ∙ loses is_calm one xs (is_end (router, name) q) (wire_at (end_of es q)) (wire_was q) (h.calm q);
     calm_queues = λ q. ap (list_all is_calm) (queue_reads q)
@@ -149,44 +149,59 @@ module _ (p : Pair) (routed : IsRouted p) (done : List Numbered) (now : Moment) 
             wire_is u v false (end_b false e),
           )
 
-  -- a message that the router takes in silence
-  pub silent_keeps : (n : ℕ) (router name : List ℕ) (r : RouterState) → router_of now.world.routers router ≡ Some r →
-      (s : EndState) → end_of es (router, name) ≡ Some s → (l : LinkNo) (msg : Msg) (tag : ℕ) (xs : List Tagged) → s.wire ≡ record { msg = msg; tag = tag } ∷ xs → IsSilent msg →
+  -- a message that the router takes quietly
+  pub quiet_keeps : (n : ℕ) (router name : List ℕ) (r : RouterState) → router_of now.world.routers router ≡ Some r →
+      (s : EndState) → end_of es (router, name) ≡ Some s → (l : LinkNo) (msg : Msg) (tag : ℕ) (xs : List Tagged) → s.wire ≡ record { msg = msg; tag = tag } ∷ xs → IsQuiet msg →
       Flows p (done ++ (n, c.Handle router name) ∷ []) (on_handle now router name r s l msg tag xs)
-  silent_keeps n router name r found_r s found l msg tag xs front silent =
-      handle_keeps n router name r found_r s found l msg tag xs front (silent.keeps_nothing r.node l.0)
-      (λ v. ap (list_all (λ z. not (unsettles z))) (none v))
-      (λ v is. ap (λ z. list_all (fits p v router) (all_tagged tag z)) (none v))
-      (λ to v k e. nothing to ∙ sym (ap (λ o. wanted_of p (items_of o tag)) silent.no_sample))
+  quiet_keeps n router name r found_r s found l msg tag xs front quiet =
+      handle_keeps n router name r found_r s found l msg tag xs front (quiet.keeps r.node l.0)
+      (goes_on r.node l msg (quiet.keeps r.node l.0) (λ ms. list_all (λ z. not (unsettles z)) ms ≡ true) refl (quiet.calms r.node l.0))
+      (λ v is. tagged_all (fits p v router) tag (ms v) (weaker (λ z. is_none (carried_by z)) (λ z. fits p v router (record { msg = z; tag = tag }))
+      (λ z k. or_right (not (p.by tag)) (passes_down p v router z) (or_left (is_none (carried_by z)) (comes_down p v router z) k)) (ms v) (each_none (ms v) (none v))))
+      (λ to v k e. nothing to ∙ sym (ap (λ o. wanted_of p (items_of o tag)) quiet.carries))
       (λ to v k e. nothing to)
     where
-      none : (v : List ℕ) → sends_to r.node (From l msg) v ≡ []
-      none v = goes_nowhere r.node l msg (silent.keeps_nothing r.node l.0) (silent.sends_nothing r.node l.0) v
+      ms : List ℕ → List Msg
+      ms v = sends_to r.node (From l msg) v
+
+      none : (v : List ℕ) → carried_in (sends_to r.node (From l msg) v) ≡ []
+      none v = goes_on r.node l msg (quiet.keeps r.node l.0) (λ ms. carried_in ms ≡ []) refl (quiet.sends r.node l.0) v
 
       nothing : (to : List ℕ) → kept_for p to (items (all_tagged tag (sends_to r.node (From l msg) to))) ≡ []
-      nothing to = ap (λ z. kept_for p to (items (all_tagged tag z))) (none to) ∙ kept_none p to
+      nothing to = ap (kept_for p to) (items_are tag (sends_to r.node (From l msg) to) ∙ ap (map (λ x. record { line = tag; carried = x })) (none to)) ∙ kept_none p to
 
-  -- a sample
-  pub push_keeps : (n : ℕ) (router name : List ℕ) (r : RouterState) → router_of now.world.routers router ≡ Some r →
-      (s : EndState) → end_of es (router, name) ≡ Some s → (l : LinkNo) → number_to r name ≡ Ok l → (tree : Option (List ℕ)) (content : Parts) (tag : ℕ) (xs : List Tagged) →
-      s.wire ≡ record { msg = m.Push tree content; tag = tag } ∷ xs → Flows p (done ++ (n, c.Handle router name) ∷ []) (on_handle now router name r s l (m.Push tree content) tag xs)
-  push_keeps n router name r found_r s found l el tree content tag xs front = by (p.by tag) refl
+  -- a sample or a request
+  pub carried_keeps : (n : ℕ) (router name : List ℕ) (r : RouterState) → router_of now.world.routers router ≡ Some r →
+      (s : EndState) → end_of es (router, name) ≡ Some s → (l : LinkNo) → number_to r name ≡ Ok l → (msg : Msg) (carried : Carried) → carried_by msg ≡ Some carried →
+      with_pending (after_from r.node l.0 msg) [] ≡ with_pending r.node [] → ((v : List ℕ) → list_all (λ z. not (unsettles z)) (sends_to r.node (From l msg) v) ≡ true) →
+      (tag : ℕ) (xs : List Tagged) → s.wire ≡ record { msg = msg; tag = tag } ∷ xs → Flows p (done ++ (n, c.Handle router name) ∷ []) (on_handle now router name r s l msg tag xs)
+  carried_keeps n router name r found_r s found l el msg carried carries tables calm tag xs front = by (p.by tag) refl
     where
       item : Item
-      item = record { line = tag; content = content }
+      item = record { line = tag; carried = carried }
 
       ms : List ℕ → List Msg
-      ms v = sends_to r.node (From l (m.Push tree content)) v
+      ms v = sends_to r.node (From l msg) v
 
       w : Bool
-      w = wants p.before p.publisher p.receiver content.key
+      w = is_for p.before p.publisher p.receiver carried
 
-      -- the router's state is that of the mark
-      found_p : router_of p.world.routers router ≡ Some r
-      found_p = ap (λ z. router_of z router) (sym h.routers_is) ∙ found_r
+      its_item : item_of msg tag ≡ item ∷ []
+      its_item = ap (λ o. items_of o tag) carries
 
-      fits_it : fits p router name (record { msg = m.Push tree content; tag = tag }) ≡ true
-      fits_it = (and_parts (fits p router name (record { msg = m.Push tree content; tag = tag })) (list_all (fits p router name) xs)
+      -- the router's tables are those of the mark
+      was : (q : RouterState) × (router_of p.world.routers router ≡ Some q) × (idle_router q ≡ idle_router r)
+      was = router_was p routed done now h router r found_r
+
+      number_was : (v : List ℕ) → number_to r v ≡ Ok l → number_to was.0 v ≡ Ok l
+      number_was v e = ap (λ (q : RouterState). number_to q v) was.2 ∙ e
+
+      -- with what is pending now
+      node_is : with_pending was.0.node r.node.pending ≡ r.node
+      node_is = ap (λ (q : RouterState). with_pending q.node r.node.pending) was.2
+
+      fits_it : fits p router name (record { msg = msg; tag = tag }) ≡ true
+      fits_it = (and_parts (fits p router name (record { msg = msg; tag = tag })) (list_all (fits p router name) xs)
           (ap (list_all (fits p router name)) (sym (ap wire_at found ∙ front)) ∙ h.wires router name)).0
 
       kept_case : (a w : Bool) → cond (a && w) (item ∷ []) [] ≡ cond w (cond a (item ∷ []) []) []
@@ -195,41 +210,43 @@ module _ (p : Pair) (routed : IsRouted p) (done : List Numbered) (now : Moment) 
       kept_case false true = refl
       kept_case false false = refl
 
-      by : (b : Bool) → p.by tag ≡ b → Flows p (done ++ (n, c.Handle router name) ∷ []) (on_handle now router name r s l (m.Push tree content) tag xs)
+      by : (b : Bool) → p.by tag ≡ b → Flows p (done ++ (n, c.Handle router name) ∷ []) (on_handle now router name r s l msg tag xs)
       by false foreign =
-          handle_keeps n router name r found_r s found l (m.Push tree content) tag xs front refl
-          (calm_sent r.node l tree content)
-          (λ v is. tagged_all (fits p v router) tag (ms v) (each_passes (λ z. fits p v router (record { msg = z; tag = tag })) (λ z. ap (λ b. not b || comes_down p v router z) foreign) (ms v)))
-          (λ to v k e. none to ∙ sym (foreign_wanted p (item ∷ []) (and_from (not (p.by tag)) true (not_from_false (p.by tag) foreign) refl)))
+          handle_keeps n router name r found_r s found l msg tag xs front tables calm
+          (λ v is. tagged_all (fits p v router) tag (ms v) (each_passes (λ z. fits p v router (record { msg = z; tag = tag })) (λ z. ap (λ b. not b || passes_down p v router z) foreign) (ms v)))
+          (λ to v k e. none to ∙ sym (ap (wanted_of p) its_item ∙ foreign_wanted p (item ∷ []) (and_from (not (p.by tag)) true (not_from_false (p.by tag) foreign) refl)))
           (λ to v k e. none to)
         where
           none : (to : List ℕ) → kept_for p to (items (all_tagged tag (ms to))) ≡ []
           none to = foreign_kept p to (items (all_tagged tag (ms to))) (items_tag (λ i. not (p.by i)) tag (not_from_false (p.by tag) foreign) (ms to))
       by true own =
-          handle_keeps n router name r found_r s found l (m.Push tree content) tag xs front refl
-          (calm_sent r.node l tree content)
-          (λ v is. tagged_all (fits p v router) tag (ms v) (weaker (comes_down p v router) (λ z. fits p v router (record { msg = z; tag = tag })) (λ z k. or_right (not (p.by tag)) (comes_down p v router z) k) (ms v)
-          (routed.goes_down router name v r found_p l el tree content down is)))
-          (λ to v k e. goes_on to v k e)
+          handle_keeps n router name r found_r s found l msg tag xs front tables calm
+          (λ v is. tagged_all (fits p v router) tag (ms v) (weaker (passes_down p v router) (λ z. fits p v router (record { msg = z; tag = tag })) (λ z k. or_right (not (p.by tag)) (passes_down p v router z) k) (ms v)
+          (ap (λ (z : NodeState). list_all (passes_down p v router) (sends_to z (From l msg) v)) (sym node_is)
+          ∙ routed.goes_down router name v was.0 was.1 r.node.pending l (number_was name el) msg carried carries down is)))
+          (λ to v k e. goes_on_way to v k e ∙ sym (ap (wanted_of p) its_item))
           (λ to v k e. absurd (true≢false (sym (ap (is_named name) (sym (k.only name leads_it)) ∙ names.refl name) ∙ e)))
         where
-          down : comes_down p router name (m.Push tree content) ≡ true
-          down = ap (λ b. not b || comes_down p router name (m.Push tree content)) (sym own) ∙ fits_it
+          down : comes_down p router name msg ≡ true
+          down = sym (ap (λ o. is_none o || comes_down p router name msg) carries) ∙ sym (ap (λ b. not b || passes_down p router name msg) own) ∙ fits_it
 
           leads_it : leads p router name ≡ true
-          leads_it = (and_parts (leads p router name) (is_named p.root router || names_tree p.root (m.Push tree content)) down).0
+          leads_it = (and_parts (leads p router name) (is_named p.root router || names_tree p.root msg) down).0
 
-          goes_on : (to v : List ℕ) → OnWay p to router v → is_named name v ≡ true → kept_for p to (items (all_tagged tag (ms to))) ≡ wanted_of p (item ∷ [])
-          goes_on to v k e = ap (λ z. kept_for p to (items (all_tagged tag z))) sent.sent_is ∙ at (is_named p.receiver to) refl sent.goes refl w refl
+          goes_on_way : (to v : List ℕ) → OnWay p to router v → is_named name v ≡ true → kept_for p to (items (all_tagged tag (ms to))) ≡ wanted_of p (item ∷ [])
+          goes_on_way to v k e =
+              ap (kept_for p to) (items_are tag (ms to) ∙ ap (λ (z : NodeState). map (λ x. record { line = tag; carried = x }) (carried_in (sends_to z (From l msg) to))) (sym node_is)
+              ∙ ap (map (λ x. record { line = tag; carried = x })) sent.sent_is)
+              ∙ at (is_named p.receiver to) refl sent.goes refl w refl
             where
               is : name ≡ v
               is = same_name name v e
 
-              sent : IsSentOn p to content (ms to)
-              sent = k.routes r found_p l (ap (number_to r) (sym is) ∙ el) tree content (ap (λ z. comes_down p router z (m.Push tree content)) (sym is) ∙ down)
+              sent : IsSentOn p to carried (sends_to (with_pending was.0.node r.node.pending) (From l msg) to)
+              sent = k.routes was.0 was.1 r.node.pending l (ap (number_to was.0) (sym is) ∙ number_was name el) msg carried carries (ap (λ z. comes_down p router z msg) (sym is) ∙ down)
 
               at : (b : Bool) → is_named p.receiver to ≡ b → (g : Bool) → sent.goes ≡ g → (v : Bool) → w ≡ v →
-                  cond b (of_publisher p (items (all_tagged tag (cond g (m.Push sent.tree content ∷ []) [])))) (wanted_of p (items (all_tagged tag (cond g (m.Push sent.tree content ∷ []) []))))
+                  cond b (of_publisher p (map (λ x. record { line = tag; carried = x }) (cond g (carried ∷ []) []))) (wanted_of p (map (λ x. record { line = tag; carried = x }) (cond g (carried ∷ []) [])))
                   ≡ cond (p.by tag && v) (item ∷ []) []
               at true e true eg true ev = sym (kept_case (p.by tag) true)
               at true e false eg false ev = sym (kept_case (p.by tag) false)

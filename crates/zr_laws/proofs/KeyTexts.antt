@@ -1,13 +1,15 @@
 -- The keys of accepted acts are texts of expressions: a line's command has what its KEY word was read as, by cases on the command's
 -- name, and a run's steps have no key.
 use Rattle.std.proofs.Common.{◌≡◌, ℕ, zero, suc, Bool, true, false, cond, List, [], ◌∷◌, ◌++◌, ◌+◌, map, Option, Some, None, Result, Ok, Err, refl, subst}
-use Rattle.std.specs.Prelude.{IfOk, codes, not, nat_lt, length}
+use Rattle.std.specs.Prelude.{◌↔◌, IfOk, codes, not, nat_lt, length}
+use Rattle.std.proofs.lemmas.Bool.{and_parts, and_from}
 use Rattle.zr_id.specs.Zid.{is_named}
-use Rattle.zr_key.specs.Key.{read_key, IsKeyText}
+use Rattle.zr_key.specs.Key.{read_key, expression_of, IsKeyText}
 use Rattle.zr_key.specs.declared.key.KeyError.{KeyError}
 use Rattle.zr_key.proofs.Reading.{Sound-from_read}
-use Rattle.zr_match.specs.Table.{texts_meet}
-use Rattle.zr_match.proofs.Right.{meets_right}
+use Rattle.zr_match.specs.Table.{texts_meet, texts_cover}
+use Rattle.zr_match.specs.Match.{Covers}
+use Rattle.zr_match.proofs.Right.{meets_right, covers_right}
 use Rattle.zr_command.specs.declared.error.ScriptError.{ScriptError}
 use Rattle.zr_command.specs.declared.error.ScriptError.TheVariants.{UnknownCommand, BadWords, Limit}
 use Rattle.zr_command.specs.declared.command.Act.{Act}
@@ -15,8 +17,8 @@ use Rattle.zr_command.specs.declared.command.Act.TheVariants as c
 use Rattle.zr_command.specs.declared.command.Command.{Command}
 use Rattle.zr_command.specs.declared.command.Command.TheVariants as command
 use Rattle.zr_language.specs.Lines.{most_line}
-use Rattle.zr_language.specs.Words.{words, is_word, is_clean, one_of, two_of, three_of, zid_at, number_at, key_of_word, key_at}
-use Rattle.zr_language.specs.Command.{router_line, client_line, link_line, up_line, break_line, down_line, sub_line, unsub_line, able_line, unable_line, put_line, del_line, handle_line, take_line, run_line, mark_line, show_line, is_command, by_name, by_words, is_silent, command_of}
+use Rattle.zr_language.specs.Words.{words, is_word, is_clean, one_of, two_of, three_of, four_of, zid_at, number_at, target_at, key_of_word, key_at}
+use Rattle.zr_language.specs.Command.{router_line, client_line, link_line, up_line, break_line, down_line, sub_line, unsub_line, able_line, unable_line, put_line, del_line, get_line, reply_line, end_line, handle_line, take_line, run_line, mark_line, show_line, is_command, by_name, by_words, is_silent, command_of}
 use Rattle.zr_language.specs.Step.{◌>>=◌}
 use Rattle.zr_network.specs.World.{End, WorldState}
 use Rattle.zr_network.specs.Acts.{outcome}
@@ -24,7 +26,7 @@ use Rattle.zr_network.specs.Next.{first_where, can_handle, can_take, step_at, wo
 use Rattle.zr_network.specs.Run.{Run, start, on_line}
 use Rattle.zr_network.specs.Moments.{Numbered}
 use Rattle.zr_network.specs.Accepted.{entries, accepted_from}
-use Rattle.zr_laws.specs.Keys.{HasKeyText, KeysAreTexts, AskingIsMeeting}
+use Rattle.zr_laws.specs.Keys.{HasKeyText, KeysAreTexts, AskingIsMeeting, AnsweringIsMeeting, AnsweringIsCovering}
 
 -- ---- one line
 
@@ -68,7 +70,29 @@ del_text args =
     for_bind AsksKeyText (zid_at w.0) _ (λ client ec.
     for_bind AsksKeyText (key_at w.1) _ (λ key ek. key_is_text w.1 key ek)))
 
+get_text : (args : List (List ℕ)) → IfOk (get_line args) AsksKeyText
+unfolding get_line
+get_text args =
+    for_bind AsksKeyText (four_of args) _ (λ w ew.
+    for_bind AsksKeyText (zid_at w.0) _ (λ client ec.
+    for_bind AsksKeyText (number_at w.1) _ (λ number en.
+    for_bind AsksKeyText (target_at w.3) _ (λ target et.
+    for_bind AsksKeyText (key_at w.2) _ (λ key ek. key_is_text w.2 key ek)))))
+
+reply_text : (args : List (List ℕ)) → IfOk (reply_line args) AsksKeyText
+unfolding reply_line
+reply_text args =
+    for_bind AsksKeyText (four_of args) _ (λ w ew.
+    for_bind AsksKeyText (zid_at w.0) _ (λ client ec.
+    for_bind AsksKeyText (number_at w.1) _ (λ number en.
+    for_bind AsksKeyText (key_at w.2) _ (λ key ek. key_is_text w.2 key ek))))
+
 -- commands without a key
+end_text : (args : List (List ℕ)) → IfOk (end_line args) AsksKeyText
+unfolding end_line
+end_text args =
+    for_bind AsksKeyText (two_of args) _ (λ w ew. for_bind AsksKeyText (zid_at w.0) _ (λ client e. for_bind AsksKeyText (number_at w.1) _ (λ number en. tt)))
+
 router_text : (args : List (List ℕ)) → IfOk (router_line args) AsksKeyText
 unfolding router_line
 router_text args = for_bind AsksKeyText (one_of args) _ (λ w ew. for_bind AsksKeyText (zid_at w) _ (λ id e. tt))
@@ -160,11 +184,14 @@ name_text name args =
     (one_line (is_word name (codes "unable")) _ _ (unable_text args)
     (one_line (is_word name (codes "put")) _ _ (put_text args)
     (one_line (is_word name (codes "del")) _ _ (del_text args)
+    (one_line (is_word name (codes "get")) _ _ (get_text args)
+    (one_line (is_word name (codes "reply")) _ _ (reply_text args)
+    (one_line (is_word name (codes "end")) _ _ (end_text args)
     (one_line (is_word name (codes "handle")) _ _ (handle_text args)
     (one_line (is_word name (codes "take")) _ _ (take_text args)
     (one_line (is_word name (codes "run")) _ _ (run_text args)
     (one_line (is_word name (codes "mark")) _ _ (mark_text args)
-    (one_line (is_word name (codes "show")) _ _ (show_text args) tt)))))))))))))))))
+    (one_line (is_word name (codes "show")) _ _ (show_text args) tt))))))))))))))))))))
 
 words_text : (clean : Bool) (ws : List (List ℕ)) → IfOk (by_words clean ws) AsksKeyText
 unfolding by_words
@@ -242,3 +269,15 @@ keys_are_texts ls before rest n act cut = within before rest n act (subst Texts 
 pub asking_is_meeting : AskingIsMeeting
 unfolding texts_meet
 asking_is_meeting key declaration d k = meets_right declaration.key key d k
+
+pub answering_is_meeting : AnsweringIsMeeting
+unfolding texts_meet
+answering_is_meeting key queryable d k = meets_right queryable.key key d k
+
+-- a queryable covers only where it is complete
+pub answering_is_covering : AnsweringIsCovering
+unfolding texts_cover
+answering_is_covering key queryable d k = (λ h. let parts = and_parts queryable.complete (texts_cover queryable.key key) h in (parts.0, right.0 parts.1), λ h. and_from queryable.complete (texts_cover queryable.key key) h.0 (right.1 h.1))
+  where
+    right : (texts_cover queryable.key key ≡ true) ↔ Covers (expression_of queryable.key) (expression_of key)
+    right = covers_right queryable.key key

@@ -1,8 +1,9 @@
 pub mod OnLiterals
 pub mod Places
 pub mod Ways
+pub mod Carried
+pub mod Told
 pub mod Pushes
-pub mod Folds
 pub mod Messages
 pub mod Watch
 pub mod Pair
@@ -12,12 +13,7 @@ pub mod Held
 pub mod Steps
 pub mod Handles
 pub mod Phases
-pub mod Said
-pub mod Heard
 pub mod Asking
-pub mod Homes
-pub mod Known
-pub mod Tables
 pub mod Routed
 pub mod Always
 pub mod Silent
@@ -26,5 +22,4 @@ pub mod Final
 pub mod Settled
 pub mod Lines
 pub mod KeyTexts
-pub mod Sound
 pub mod AtRest

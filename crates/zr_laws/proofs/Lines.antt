@@ -1,14 +1,14 @@
--- The law on samples holds of every script: its accepted acts lead to moments, and their numbers ascend.
+-- The law holds of every script: its accepted acts lead to moments, and their numbers ascend.
 use Rattle.std.proofs.Common.{◌≡◌, true, List, ◌∷◌, ◌++◌, Some, sym, ap, ◌∙◌, append_assoc}
 use Rattle.zr_command.specs.declared.command.Act.TheVariants as c
 use Rattle.zr_network.specs.Moments.{Numbered, ascends, Moment, reached}
 use Rattle.zr_network.specs.Accepted.{accepted}
-use Rattle.zr_guarantee.specs.Scripts.{LinesRefine}
+use Rattle.zr_guarantee.specs.Scripts.{LinesDeliver}
 use Rattle.zr_network.proofs.Lines.{prefix_ascends, prefix_reached, lines_are_moments}
-use Rattle.zr_laws.proofs.Final.{TablesAreSettled, samples_refine}
+use Rattle.zr_laws.proofs.Final.{TablesAreSettled, phases_deliver}
 
-pub lines_refine : TablesAreSettled → LinesRefine
-lines_refine agree ls before phase rest mark cut stays = (m.0, m.1, samples_refine agree before phase mark m.0 ascending stays m.1)
+pub lines_deliver : TablesAreSettled → LinesDeliver
+lines_deliver agree ls before phase rest mark cut stays = (m.0, m.1, phases_deliver agree before phase mark m.0 ascending stays m.1)
   where
     prefix : List Numbered
     prefix = before ++ (mark, c.Mark) ∷ phase

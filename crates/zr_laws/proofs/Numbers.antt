@@ -11,8 +11,7 @@ use Rattle.zr_id.specs.Zid.{is_named}
 use Rattle.zr_command.specs.declared.command.Act.{Act}
 use Rattle.zr_command.specs.declared.command.Act.TheVariants as c
 use Rattle.zr_network.specs.Moments.{Numbered, is_step, is_later, ascends}
-use Rattle.zr_guarantee.specs.Phase.{stays, is_phase}
-use Rattle.zr_guarantee.specs.Broker.{publishes, is_publisher, is_line_of, is_sample_line}
+use Rattle.zr_guarantee.specs.Broker.{publishes, is_publisher, is_line_of, is_line}
 use Rattle.zr_laws.proofs.Pair.{Pair, Agrees, AllAgree}
 use Rattle.zr_network.proofs.Lists.{weaker, all_both}
 
@@ -68,6 +67,7 @@ none_later a t last (x ∷ xs) le h =
 
     by_act : (n : ℕ) (act : Act) → is_later last (n, act) ≡ true → (n == t && is_publisher a act) ≡ false
     by_act n (c.Publish client content) k = sample n client (later_lt last n (c.Publish client content) refl k)
+    by_act n (c.Get client number target content) k = sample n client (later_lt last n (c.Get client number target content) refl k)
     by_act n other k = and_right (n == t) false refl
 
 -- a number above those of all lines is none of theirs
@@ -106,6 +106,7 @@ agrees_from p (x ∷ xs) done last tags below h = (
 
     by_act : (act : Act) → is_later last (x.0, act) ≡ true → ((t : ℕ) → p.by t ≡ is_line_of (done ++ (x.0, act) ∷ xs) p.publisher t) → Agrees p x.0 act
     by_act (c.Publish client content) k all = sample (c.Publish client content) (later_lt last x.0 (c.Publish client content) refl k) all
+    by_act (c.Get client number target content) k all = sample (c.Get client number target content) (later_lt last x.0 (c.Get client number target content) refl k) all
     by_act other k all = tt
 
 -- whether a line gives a message its tag
@@ -121,6 +122,9 @@ writes (c.Unsub client id) = true
 writes (c.Able client id key complete) = true
 writes (c.Unable client id) = true
 writes (c.Publish client content) = true
+writes (c.Get client number target content) = true
+writes (c.Reply client number content) = true
+writes (c.End client number) = true
 writes (c.Handle router from) = false
 writes (c.Take router to) = false
 writes c.Mark = false
@@ -134,39 +138,24 @@ Tagging t lines = list_all (λ x. not (writes x.1) || t x.0) lines ≡ true
 pub tagging_before : (mark : ℕ) (before : List Numbered) → list_all (λ y. nat_lt y.0 mark) before ≡ true → Tagging (λ i. nat_lt i mark) before
 tagging_before mark before h = weaker (λ y. nat_lt y.0 mark) (λ x. not (writes x.1) || nat_lt x.0 mark) (λ x k. or_right (not (writes x.1)) (nat_lt x.0 mark) k) before h
 
--- in a phase they are those of its samples
-pub tagging_phase : (mark : ℕ) (rest done : List Numbered) → is_phase rest ≡ true → Tagging (λ i. nat_lt i mark || is_sample_line (done ++ rest) i) rest
-tagging_phase mark [] done st = refl
-tagging_phase mark (x ∷ xs) done st =
-    and_from (test x) (list_all test xs) (by_act x.1 parts.0 refl)
-    (ap (λ z. list_all (λ y. not (writes y.1) || (nat_lt y.0 mark || is_sample_line z y.0)) xs) (sym (append_assoc done (x ∷ []) xs)) ∙ tagging_phase mark xs (done ++ x ∷ []) parts.1)
+-- each line of some that publishes something passes a test
+abbrev pub Publishing : (ℕ → Bool) → List Numbered → Type 0
+Publishing t lines = list_all (λ x. not (publishes x.1) || t x.0) lines ≡ true
+
+-- in a phase they are those of its samples and queries
+pub publishing_phase : (mark : ℕ) (rest done : List Numbered) → Publishing (λ i. nat_lt i mark || is_line (done ++ rest) i) rest
+publishing_phase mark [] done = refl
+publishing_phase mark (x ∷ xs) done =
+    and_from (test x) (list_all test xs) (by (publishes x.1) refl)
+    (ap (λ z. list_all (λ y. not (publishes y.1) || (nat_lt y.0 mark || is_line z y.0)) xs) (sym (append_assoc done (x ∷ []) xs)) ∙ publishing_phase mark xs (done ++ x ∷ []))
   where
     test : Numbered → Bool
-    test y = not (writes y.1) || (nat_lt y.0 mark || is_sample_line (done ++ x ∷ xs) y.0)
+    test y = not (publishes y.1) || (nat_lt y.0 mark || is_line (done ++ x ∷ xs) y.0)
 
-    parts : (stays x.1 ≡ true) × (is_phase xs ≡ true)
-    parts = and_parts (stays x.1) (is_phase xs) st
-
-    sample : publishes x.1 ≡ true → (nat_lt x.0 mark || is_sample_line (done ++ x ∷ xs) x.0) ≡ true
-    sample e =
-        or_right (nat_lt x.0 mark) (is_sample_line (done ++ x ∷ xs) x.0)
+    by : (b : Bool) → publishes x.1 ≡ b → (not b || (nat_lt x.0 mark || is_line (done ++ x ∷ xs) x.0)) ≡ true
+    by false e = refl
+    by true e =
+        or_right (nat_lt x.0 mark) (is_line (done ++ x ∷ xs) x.0)
         (list_any-append (λ y. y.0 == x.0 && publishes y.1) done (x ∷ xs)
-        ∙ or_right (is_sample_line done x.0) (is_sample_line (x ∷ xs) x.0)
-        (or_left (x.0 == x.0 && publishes x.1) (is_sample_line xs x.0) (and_from (x.0 == x.0) (publishes x.1) (eq-eqb x.0 x.0 refl) e)))
-
-    by_act : (act : Act) → stays act ≡ true → x.1 ≡ act → (not (writes act) || (nat_lt x.0 mark || is_sample_line (done ++ x ∷ xs) x.0)) ≡ true
-    by_act (c.Router id) k e = absurd (false≢true k)
-    by_act (c.Client id router) k e = absurd (false≢true k)
-    by_act (c.Link one other) k e = absurd (false≢true k)
-    by_act (c.Up router neighbour) k e = absurd (false≢true k)
-    by_act (c.Break router neighbour) k e = absurd (false≢true k)
-    by_act (c.Down router neighbour) k e = absurd (false≢true k)
-    by_act (c.Sub client id key) k e = absurd (false≢true k)
-    by_act (c.Unsub client id) k e = absurd (false≢true k)
-    by_act (c.Able client id key complete) k e = absurd (false≢true k)
-    by_act (c.Unable client id) k e = absurd (false≢true k)
-    by_act (c.Publish client content) k e = sample (ap publishes e)
-    by_act (c.Handle router from) k e = refl
-    by_act (c.Take router to) k e = refl
-    by_act c.Mark k e = refl
-    by_act (c.Show router) k e = refl
+        ∙ or_right (is_line done x.0) (is_line (x ∷ xs) x.0)
+        (or_left (x.0 == x.0 && publishes x.1) (is_line xs x.0) (and_from (x.0 == x.0) (publishes x.1) (eq-eqb x.0 x.0 refl) e)))

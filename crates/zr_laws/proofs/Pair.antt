@@ -2,34 +2,38 @@
 -- moments (`Flows`). Its heart is one equation: what stands in the places from the receiver back to the publisher, joined, is what is to be
 -- had. Beside it stands that the publisher's messages wait only on links that lead down the tree of its router, so what a router on the way
 -- takes from another side is none of them. What has to be known of the routers' tables at the mark is `IsRouted`, and nothing else of them
--- is used.
-use Rattle.std.proofs.Common.{◌≡◌, ℕ, Bool, true, false, cond, List, [], ◌∷◌, ◌++◌, map, Option, Some, Ok, ◌∙◌, ap, append-nil}
-use Rattle.std.specs.Prelude.{◌&&◌, ◌||◌, not, filter, is_some, if◌then◌else◌}
+-- is used. A router may have any requests pending there: only the numbers under which it passes requests on are others then.
+use Rattle.std.proofs.Common.{◌≡◌, ℕ, Bool, true, false, cond, List, [], ◌∷◌, ◌++◌, map, Some, Ok, ◌∙◌, ap, append-nil}
+use Rattle.std.specs.Prelude.{◌&&◌, ◌||◌, not, filter, is_some, is_none, if◌then◌else◌}
 use Rattle.std.specs.List.{AllByRecursion, flat_map, list_all}
+use Rattle.std.specs.Option.{option_map}
 use Rattle.std.proofs.lemmas.Grind.{flat_map-append}
 use Rattle.zr_id.specs.Zid.{is_named}
 use Rattle.zr_id.specs.declared.link.LinkNo.{LinkNo}
 use Rattle.zr_tree.specs.Tree.{is_child}
-use Rattle.zr_msg.specs.declared.content.Parts.{Parts}
 use Rattle.zr_msg.specs.declared.msg.Msg.{Msg}
-use Rattle.zr_msg.specs.declared.msg.Msg.TheVariants as m
 use Rattle.zr_msg.specs.declared.event.Event.TheVariants.{From}
 use Rattle.zr_command.specs.declared.command.Act.{Act}
 use Rattle.zr_command.specs.declared.command.Act.TheVariants as c
 use Rattle.zr_command.specs.declared.report.ReportLine.{ReportLine}
+use Rattle.zr_pend.specs.Row.{RowState}
+use Rattle.zr_table.specs.Table.{with_pending}
 use Rattle.zr_network.specs.World.{Tagged, End, RouterState, ClientState, WorldState, is_calm, router_of, client_of, end_of}
 use Rattle.zr_network.specs.Joined.{graph}
 use Rattle.zr_network.specs.Acts.{number_to, sends_to}
 use Rattle.zr_network.specs.Moments.{Numbered, Moment}
 use Rattle.zr_network.specs.Sound.{IsSound}
-use Rattle.zr_guarantee.specs.Item.{Item}
-use Rattle.zr_guarantee.specs.Broker.{wants, publication, item_for, from}
-use Rattle.zr_guarantee.specs.Sent.{item_of, sent_in, sent_to}
+use Rattle.zr_guarantee.specs.Item.{Item, Carried}
+use Rattle.zr_guarantee.specs.Broker.{is_for, publication, item_for, from}
+use Rattle.zr_guarantee.specs.Sent.{carried_by, item_of, sent_to}
+use Rattle.zr_network.proofs.Clients.{SameClients}
+use Rattle.zr_laws.proofs.Carried.{carried_in}
+use Rattle.zr_laws.proofs.Told.{sent_append}
 use Rattle.zr_laws.proofs.Places.{Spot, Sent, Queue, Wire, AtEach, path, along}
 use Rattle.zr_settled.proofs.Worlds.{queue_at, wire_at}
 use Rattle.zr_laws.proofs.Pushes.{names_tree}
 
--- the samples among the messages that wait
+-- the samples and requests among the messages that wait
 abbrev pub items : List Tagged → List Item
 items xs = flat_map (λ x. item_of x.msg x.tag) xs
 
@@ -57,7 +61,7 @@ of_publisher p xs = filter (λ i. p.by i.line) xs
 
 -- the items that are the publisher's and are for the receiver
 abbrev pub wanted_of : Pair → List Item → List Item
-wanted_of p xs = filter (λ i. p.by i.line && wants p.before p.publisher p.receiver i.content.key) xs
+wanted_of p xs = filter (λ i. p.by i.line && is_for p.before p.publisher p.receiver i.carried) xs
 
 -- of what is queued for the receiver all that are there, since the choice is behind it, and of what is queued for others those for the receiver
 abbrev pub kept_for : Pair → List ℕ → List Item → List Item
@@ -86,14 +90,25 @@ leads p x y = if is_named p.root x then is_named p.publisher y else is_child (gr
 abbrev pub comes_down : Pair → List ℕ → List ℕ → Msg → Bool
 comes_down p x y msg = leads p x y && (is_named p.root x || names_tree p.root msg)
 
--- a message on its way from y to the router x is none of the publisher's, or comes down the tree
+-- it carries nothing, or comes down the tree
+abbrev pub passes_down : Pair → List ℕ → List ℕ → Msg → Bool
+passes_down p x y msg = is_none (carried_by msg) || comes_down p x y msg
+
+-- a message on its way from y to the router x is none of the publisher's, or carries nothing, or comes down the tree
 abbrev pub fits : Pair → List ℕ → List ℕ → Tagged → Bool
-fits p x y t = not (p.by t.tag) || comes_down p x y t.msg
+fits p x y t = not (p.by t.tag) || passes_down p x y t.msg
+
+-- ---- what stays
+
+-- a router without what is pending: its tables
+abbrev pub idle_router : RouterState → RouterState
+idle_router r = record { node = with_pending r.node []; weight = r.weight }
 
 -- what holds at a moment, where `done` are the lines of the phase so far
 pub record Flows (p : Pair) (done : List Numbered) (m : Moment) : Type 0 where
-  pub routers_is : m.world.routers ≡ p.world.routers
-  pub clients_is : m.world.clients ≡ p.world.clients
+  -- routers have the tables that they had at the mark, and clients their routers and what they had declared
+  pub routers : (x : List ℕ) → option_map idle_router (router_of m.world.routers x) ≡ option_map idle_router (router_of p.world.routers x)
+  pub clients : SameClients p.world.clients m.world.clients
   pub ends_are : (e : End) → is_some (end_of m.world.ends e) ≡ is_some (end_of p.world.ends e)
   -- nothing under way unsettles
   pub calm : (e : End) → list_all is_calm (wire_at (end_of m.world.ends e)) ≡ true
@@ -106,21 +121,20 @@ pub record Flows (p : Pair) (done : List Numbered) (m : Moment) : Type 0 where
 
 -- ---- what has to be known of tables
 
--- a sample goes on at most once, and it does so where the receiver is to have it; to the receiver itself nowhere else
-pub record IsSentOn (p : Pair) (to : List ℕ) (content : Parts) (ms : List Msg) : Type 0 where
+-- what a message carries goes on at most once, and it does so where the receiver is to have it; to the receiver itself nowhere else
+pub record IsSentOn (p : Pair) (to : List ℕ) (carried : Carried) (ms : List Msg) : Type 0 where
   pub goes : Bool
-  pub tree : Option (List ℕ)
-  pub sent_is : ms ≡ cond goes (m.Push tree content ∷ []) []
-  pub where_wanted : wants p.before p.publisher p.receiver content.key ≡ true → goes ≡ true
-  pub to_receiver : is_named p.receiver to ≡ true → goes ≡ wants p.before p.publisher p.receiver content.key
+  pub sent_is : carried_in ms ≡ cond goes (carried ∷ []) []
+  pub where_wanted : is_for p.before p.publisher p.receiver carried ≡ true → goes ≡ true
+  pub to_receiver : is_named p.receiver to ≡ true → goes ≡ is_for p.before p.publisher p.receiver carried
 
 -- a router on the way, between the next one toward the receiver and the next one toward the publisher
 pub record OnWay (p : Pair) (to r s : List ℕ) : Type 0 where
   pub end_is : is_some (end_of p.world.ends (r, to)) ≡ true
   pub only : (y : List ℕ) → leads p r y ≡ true → y ≡ s
   pub last : is_named p.publisher s ≡ true → is_named p.root r ≡ true
-  pub routes : (rr : RouterState) → router_of p.world.routers r ≡ Some rr → (l : LinkNo) → number_to rr s ≡ Ok l → (tree : Option (List ℕ)) (content : Parts) →
-      comes_down p r s (m.Push tree content) ≡ true → IsSentOn p to content (sends_to rr.node (From l (m.Push tree content)) to)
+  pub routes : (rr : RouterState) → router_of p.world.routers r ≡ Some rr → (pending : List RowState) (l : LinkNo) → number_to rr s ≡ Ok l → (msg : Msg) (carried : Carried) → carried_by msg ≡ Some carried →
+      comes_down p r s msg ≡ true → IsSentOn p to carried (sends_to (with_pending rr.node pending) (From l msg) to)
 
 -- and a router with the next one, which is a router too
 pub record Between (p : Pair) (r s : List ℕ) : Type 0 where
@@ -135,8 +149,8 @@ pub record IsRouted (p : Pair) : Type 0 where
   pub home : (s : ClientState) → client_of p.world.clients p.publisher ≡ Some s → s.router ≡ p.root
   pub receiver_home : (x : List ℕ) → is_some (end_of p.world.ends (x, p.receiver)) ≡ true → x ≡ p.first
   -- what comes down the tree goes on down the tree
-  pub goes_down : (x y z : List ℕ) (r : RouterState) → router_of p.world.routers x ≡ Some r → (l : LinkNo) → number_to r y ≡ Ok l → (tree : Option (List ℕ)) (content : Parts) →
-      comes_down p x y (m.Push tree content) ≡ true → has_router p z ≡ true → list_all (comes_down p z x) (sends_to r.node (From l (m.Push tree content)) z) ≡ true
+  pub goes_down : (x y z : List ℕ) (r : RouterState) → router_of p.world.routers x ≡ Some r → (pending : List RowState) (l : LinkNo) → number_to r y ≡ Ok l → (msg : Msg) (carried : Carried) → carried_by msg ≡ Some carried →
+      comes_down p x y msg ≡ true → has_router p z ≡ true → list_all (passes_down p z x) (sends_to (with_pending r.node pending) (From l msg) z) ≡ true
   pub whole_way : AtEach (OnWay p) (Between p) p.receiver (p.first ∷ p.more) p.publisher
 
 -- ---- lines of a phase
@@ -154,6 +168,9 @@ Agrees p n (c.Unsub client id) = Unit {0}
 Agrees p n (c.Able client id key complete) = Unit {0}
 Agrees p n (c.Unable client id) = Unit {0}
 Agrees p n (c.Publish client content) = p.by n ≡ is_named p.publisher client
+Agrees p n (c.Get client number target content) = p.by n ≡ is_named p.publisher client
+Agrees p n (c.Reply client number content) = Unit {0}
+Agrees p n (c.End client number) = Unit {0}
 Agrees p n (c.Handle router from) = Unit {0}
 Agrees p n (c.Take router to) = Unit {0}
 Agrees p n c.Mark = Unit {0}
@@ -163,8 +180,8 @@ abbrev pub AllAgree : Pair → List Numbered → Type 0
 AllAgree p xs = AllByRecursion (λ x. Agrees p x.0 x.1) xs
 
 -- one report line more
-pub sent_more : (report : List ReportLine) (line : ReportLine) (d : List ℕ) → sent_to (report ++ line ∷ []) d ≡ sent_to report d ++ sent_in d line
-sent_more report line d = flat_map-append (sent_in d) report (line ∷ []) ∙ ap (λ z. sent_to report d ++ z) (append-nil (sent_in d line))
+pub sent_more : (report : List ReportLine) (line : ReportLine) (d : List ℕ) → sent_to (report ++ line ∷ []) d ≡ sent_to report d ++ sent_to (line ∷ []) d
+sent_more report line d = sent_append report (line ∷ []) d
 
 -- what a line of the phase has for the receiver
 abbrev pub for_receiver : List Numbered → List ℕ → List ℕ → Numbered → List Item

@@ -1,24 +1,28 @@
 -- The flow is kept over a whole phase: by each act that may stand in it, and so by any number of them. A refused step
 -- leads to no moment, and owes nothing; a message that unsettles cannot be there to be handled.
-use Rattle.std.proofs.Common.{◌≡◌, ℕ, true, false, List, [], ◌∷◌, ◌++◌, Option, Some, Ok, sym, ap, ◌∙◌}
+use Rattle.std.proofs.Common.{◌≡◌, ℕ, true, false, List, [], ◌∷◌, ◌++◌, Option, Some, None, Ok, refl, sym, ap, ◌∙◌}
 use Rattle.std.specs.Prelude.{IfSome}
 use Rattle.std.specs.List.{AllByRecursion, list_all, fold}
 use Rattle.std.proofs.lemmas.Bool.{false≢true, and_parts, not-true}
 use Rattle.zr_id.specs.declared.link.LinkNo.{LinkNo}
+use Rattle.zr_msg.specs.Extras.{no_extras}
 use Rattle.zr_msg.specs.declared.msg.Msg.{Msg}
+use Rattle.zr_msg.specs.declared.msg.Msg.TheVariants as m
 use Rattle.zr_command.specs.declared.command.Act.{Act}
 use Rattle.zr_command.specs.declared.command.Act.TheVariants as c
 use Rattle.zr_network.specs.World.{Tagged, EndState, RouterState, router_of, end_of, is_calm, unsettles}
 use Rattle.zr_network.specs.Acts.{number_to, outcome}
 use Rattle.zr_network.specs.Moments.{Numbered, Moment, went, onward}
+use Rattle.zr_guarantee.specs.Item.{Sample, Query}
 use Rattle.zr_guarantee.specs.Phase.{stays, is_phase}
-use Rattle.zr_network.proofs.Cases.{on_handle, for_publish, for_handle, for_take, for_mark, for_show}
+use Rattle.zr_network.proofs.Cases.{on_handle, publish_says, get_says, reply_says, end_says, for_handle, for_take, for_mark, for_show}
 use Rattle.zr_settled.proofs.Worlds.{wire_at}
-use Rattle.zr_laws.proofs.Folds.{after_all}
+use Rattle.zr_declared.proofs.Folds.{after_all}
 use Rattle.zr_laws.proofs.Pair.{Pair, Flows, IsRouted, Agrees, AllAgree}
 use Rattle.zr_laws.proofs.Messages.{by_calm}
-use Rattle.zr_laws.proofs.Steps.{publish_keeps, take_keeps, mark_keeps, show_keeps}
-use Rattle.zr_laws.proofs.Handles.{silent_keeps, push_keeps}
+use Rattle.zr_laws.proofs.Steps.{says_keeps, publication_said, answer_said, take_keeps, mark_keeps, show_keeps}
+use Rattle.zr_laws.proofs.Pushes.{calm_sent, calm_asked}
+use Rattle.zr_laws.proofs.Handles.{quiet_keeps, carried_keeps}
 
 module _ (p : Pair) (routed : IsRouted p) where
   act_flows : (done : List Numbered) (now : Moment) → Flows p done now → (n : ℕ) (act : Act) → stays act ≡ true → Agrees p n act →
@@ -34,8 +38,18 @@ module _ (p : Pair) (routed : IsRouted p) where
   act_flows done now h n (c.Unsub client id) st ag = absurd (false≢true st)
   act_flows done now h n (c.Able client id key complete) st ag = absurd (false≢true st)
   act_flows done now h n (c.Unable client id) st ag = absurd (false≢true st)
-  act_flows done now h n (c.Publish client content) st ag =
-      for_publish now (Flows p (done ++ (n, c.Publish client content) ∷ [])) n client content (λ s es e ee unbroken. publish_keeps p routed done now h n client content ag s es e ee)
+  act_flows done now h n (c.Publish client content) st ag = publish_says now (Flows p (done ++ (n, c.Publish client content) ∷ [])) n client content
+      (says_keeps p routed done now h n (c.Publish client content) client (m.Push None content)
+      (publication_said p routed done now h n (c.Publish client content) client (m.Push None content) (Sample content) refl refl refl ag))
+  act_flows done now h n (c.Get client number target content) st ag = get_says now (Flows p (done ++ (n, c.Get client number target content) ∷ [])) n client number target content
+      (says_keeps p routed done now h n (c.Get client number target content) client (m.Request None number target content)
+      (publication_said p routed done now h n (c.Get client number target content) client (m.Request None number target content) (Query target content) refl refl refl ag))
+  act_flows done now h n (c.Reply client number content) st ag = reply_says now (Flows p (done ++ (n, c.Reply client number content) ∷ [])) n client number content
+      (says_keeps p routed done now h n (c.Reply client number content) client (m.Response number content)
+      (answer_said p routed done now h n (c.Reply client number content) client (m.Response number content) refl refl refl))
+  act_flows done now h n (c.End client number) st ag = end_says now (Flows p (done ++ (n, c.End client number) ∷ [])) n client number
+      (says_keeps p routed done now h n (c.End client number) client (m.Final number no_extras)
+      (answer_said p routed done now h n (c.End client number) client (m.Final number no_extras) refl refl refl))
   act_flows done now h n (c.Handle router name) st ag = for_handle now (Flows p (done ++ (n, c.Handle router name) ∷ [])) router name
       (λ r er there s es up msg tag xs front l el taken. by_message r er s es msg tag xs front l el)
     where
@@ -44,8 +58,10 @@ module _ (p : Pair) (routed : IsRouted p) where
           Flows p (done ++ (n, c.Handle router name) ∷ []) (on_handle now router name r s l msg tag xs)
       by_message r er s es msg tag xs front l el =
           by_calm (λ z. s.wire ≡ record { msg = z; tag = tag } ∷ xs → Flows p (done ++ (n, c.Handle router name) ∷ []) (on_handle now router name r s l z tag xs))
-          (λ tree content f. push_keeps p routed done now h n router name r er s es l el tree content tag xs f)
-          (λ z silent f. silent_keeps p routed done now h n router name r er s es l z tag xs f silent)
+          (λ tree content f. carried_keeps p routed done now h n router name r er s es l el (m.Push tree content) (Sample content) refl refl (calm_sent r.node l tree content) tag xs f)
+          (λ tree number target content f. carried_keeps p routed done now h n router name r er s es l el (m.Request tree number target content) (Query target content) refl refl
+          (calm_asked r.node l tree number target content) tag xs f)
+          (λ z quiet f. quiet_keeps p routed done now h n router name r er s es l z tag xs f quiet)
           msg calm front
         where
           -- no message that unsettles is on a wire in a phase

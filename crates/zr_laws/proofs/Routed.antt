@@ -1,11 +1,11 @@
--- What a settled world of joined routers says of a publisher and a receiver that is attached: by which routers the publisher's samples go, and
+-- What a settled world of joined routers says of a publisher and a receiver that is attached: by which routers the publisher's samples and requests go, and
 -- that each of these sends what the receiver is to have to the next one, once, and nothing of the publisher's goes anywhere but down the tree
 -- of its router.
-use Rattle.std.proofs.Common.{◌≡◌, ℕ, Bool, true, false, cond, List, [], ◌∷◌, Option, Some, None, Ok, inl, inr, refl, sym, ap, ◌∙◌, subst}
-use Rattle.std.specs.Prelude.{◌==◌, ◌&&◌, ◌||◌, not, is_some}
+use Rattle.std.proofs.Common.{◌≡◌, ℕ, Bool, true, false, cond, List, Option, Some, None, Ok, inl, inr, refl, sym, ap, ◌∙◌, subst}
+use Rattle.std.specs.Prelude.{◌==◌, ◌&&◌, ◌||◌, not, is_some, is_none}
 use Rattle.std.specs.List.{list_all, list_any}
 use Rattle.std.specs.Option.{option_map_or}
-use Rattle.std.proofs.lemmas.Bool.{false≢true, true≢false, and_parts, and_from, or_right, eqb-true, eq-eqb}
+use Rattle.std.proofs.lemmas.Bool.{false≢true, true≢false, and_parts, and_from, or_left, or_right, eqb-true, eq-eqb}
 use Rattle.zr_id.specs.Zid.{is_named}
 use Rattle.zr_id.specs.declared.link.LinkNo.{LinkNo}
 use Rattle.zr_tree.specs.Laws.{IsGraph}
@@ -13,30 +13,32 @@ use Rattle.zr_tree.specs.Walk.{Graph, graph_of}
 use Rattle.zr_tree.specs.Tree.{dist, reached, parent, is_child, below, toward}
 use Rattle.zr_tree.proofs.Finds.{in_filter}
 use Rattle.zr_tree.proofs.Branches.{parent_is, child_is, child_from}
-use Rattle.zr_msg.specs.declared.content.Parts.{Parts}
-use Rattle.zr_msg.specs.declared.msg.Msg.TheVariants as m
+use Rattle.zr_msg.specs.declared.msg.Msg.{Msg}
 use Rattle.zr_msg.specs.declared.event.Event.TheVariants.{From}
 use Rattle.zr_msg.specs.declared.peer.LinkPeer.{LinkPeer}
 use Rattle.zr_local.specs.Rows.{declared_set}
 use Rattle.zr_log.specs.Known.{decls}
 use Rattle.zr_routing.specs.Tables.{is_router, link_at, link_to}
-use Rattle.zr_routing.specs.Samples.{is_for, subscribes, leads_to_subscriber, tree_of}
+use Rattle.zr_pend.specs.Row.{RowState}
+use Rattle.zr_routing.specs.Samples.{leads_to_source, tree_of}
 use Rattle.zr_table.specs.State.{tables}
-use Rattle.zr_table.specs.Table.{sends_from}
+use Rattle.zr_table.specs.Table.{with_pending}
 use Rattle.zr_network.specs.World.{EndState, RouterState, ClientState, WorldState, router_of, client_of, end_of, is_up, is_linked}
 use Rattle.zr_network.specs.Joined.{graph}
 use Rattle.zr_network.specs.Acts.{number_to, sends_to}
 use Rattle.zr_network.specs.Moments.{Numbered}
 use Rattle.zr_network.specs.Sound.{IsSound}
-use Rattle.zr_guarantee.specs.Broker.{is_attached, declarations, asks_for, wants, is_line_of}
+use Rattle.zr_guarantee.specs.Item.{Carried}
+use Rattle.zr_guarantee.specs.Broker.{is_attached, takes, is_for, is_line_of}
+use Rattle.zr_guarantee.specs.Sent.{carried_by}
 use Rattle.zr_network.proofs.Keyed.{there}
 use Rattle.zr_network.proofs.Names.{names, same_name}
 use Rattle.zr_network.proofs.Links.{named_link, numbered_link}
 use Rattle.zr_network.proofs.Cases.{number_found}
 use Rattle.zr_laws.proofs.Ways.{root_no_child, one_parent, up_from, IsNext, on_whole_way}
-use Rattle.zr_laws.proofs.Pushes.{goes_to, goes_along, tree_from_client, tree_from_parent, leads_to_child, leads_there, names_tree, to_router, to_client}
+use Rattle.zr_laws.proofs.Pushes.{tree_from_client, tree_from_parent, takes_it, asks_it, has_taker, goes_over, leads_to_child, leads_there, names_tree, Goes, goes_of, over_client, over_router}
 use Rattle.zr_laws.proofs.Asking.{set_asks}
-use Rattle.zr_laws.proofs.Pair.{Pair, leads, comes_down, IsSentOn, OnWay, Between, IsRouted}
+use Rattle.zr_laws.proofs.Pair.{Pair, leads, comes_down, passes_down, IsSentOn, OnWay, Between, IsRouted}
 
 -- what is known where a mark is accepted: no client has a router's name or an end at another router than its own; each router reaches each,
 -- has the graph of the world, and knows what the clients of each have declared; a client that is attached is linked, and what it has
@@ -51,12 +53,7 @@ pub record AreReady (before : List Numbered) (w : WorldState) : Type 0 where
   pub logs : (x z : List ℕ) (rx rz : RouterState) → router_of w.routers x ≡ Some rx → router_of w.routers z ≡ Some rz → decls rx.node.known z ≡ declared_set rz.node.rows
   pub linked : (name : List ℕ) (s : ClientState) → client_of w.clients name ≡ Some s → is_attached before name ≡ true → is_up w.ends (s.router, name) ≡ true
   pub asked : (name : List ℕ) (s : ClientState) (r : RouterState) (k : LinkPeer) → client_of w.clients name ≡ Some s → is_attached before name ≡ true →
-      router_of w.routers s.router ≡ Some r → link_to r.node.links name ≡ Some k → (key : List ℕ) → subscribes r.node.rows k.link.0 key ≡ list_any (λ d. asks_for key d) (declarations before name)
-
--- the tree that a message names
-tree_named : (root : List ℕ) (tree : Option (List ℕ)) (content : Parts) → names_tree root (m.Push tree content) ≡ true → tree ≡ Some root
-tree_named root None content h = absurd (false≢true h)
-tree_named root (Some t) content h = ap Some (sym (same_name root t h))
+      router_of w.routers s.router ≡ Some r → link_to r.node.links name ≡ Some k → (carried : Carried) → asks_it r.node.rows k.link.0 carried ≡ takes before name carried
 
 -- an end that is up is there
 up_there : (o : Option EndState) → option_map_or (λ s. s.up) o false ≡ true → is_some o ≡ true
@@ -139,10 +136,13 @@ module _ (before phase : List Numbered) (w : WorldState) (h : AreReady before w)
 
   -- ---- the tree in which a router sends on
 
-  module _ (x : List ℕ) (r : RouterState) (er : router_of w.routers x ≡ Some r) where
-    tree_is : (y : List ℕ) (l : LinkNo) → number_to r y ≡ Ok l → (tree : Option (List ℕ)) (content : Parts) → comes_down pair_of x y (m.Push tree content) ≡ true →
-        tree_of (tables r.node) (link_at r.node.links l.0) tree ≡ Some sa.router
-    tree_is y l el tree content down = by (is_named sa.router x) refl down
+  module _ (x : List ℕ) (r : RouterState) (er : router_of w.routers x ≡ Some r) (pending : List RowState) (y : List ℕ) (l : LinkNo) (el : number_to r y ≡ Ok l) (msg : Msg) (carried : Carried)
+      (carries : carried_by msg ≡ Some carried) (down : comes_down pair_of x y msg ≡ true) where
+    abbrev sends : Goes (with_pending r.node pending) l msg carried
+    sends = goes_of (with_pending r.node pending) l msg carried carries
+
+    in_tree : tree_of (tables r.node) (link_at r.node.links l.0) sends.tree ≡ Some sa.router
+    in_tree = by (is_named sa.router x) refl down
       where
         j : (k : LinkPeer) × (link_to r.node.links y ≡ Some k) × (k.link ≡ l)
         j = number_found r y l el
@@ -153,45 +153,38 @@ module _ (before phase : List Numbered) (w : WorldState) (h : AreReady before w)
         role : is_router j.0.peer.role ≡ is_there y
         role = h.sound.roles x y r j.0 er j.1
 
-        by : (b : Bool) → is_named sa.router x ≡ b → (cond b (is_named publisher y) (is_child (graph w) sa.router y x) && (b || names_tree sa.router (m.Push tree content))) ≡ true →
-            tree_of (tables r.node) (link_at r.node.links l.0) tree ≡ Some sa.router
+        by : (b : Bool) → is_named sa.router x ≡ b → (cond b (is_named publisher y) (is_child (graph w) sa.router y x) && (b || names_tree sa.router msg)) ≡ true →
+            tree_of (tables r.node) (link_at r.node.links l.0) sends.tree ≡ Some sa.router
         by true same k =
-            tree_from_client (tables r.node) tree j.0 (link_at r.node.links l.0) at
+            tree_from_client (tables r.node) sends.tree j.0 (link_at r.node.links l.0) at
             (role ∙ ap is_there (sym (same_name publisher y (and_parts (is_named publisher y) true k).0)) ∙ publisher_apart)
             ∙ ap Some (h.sound.own x r er ∙ sym (same_name sa.router x same))
         by false other k =
-            let parts = and_parts (is_child (graph w) sa.router y x) (names_tree sa.router (m.Push tree content)) k in
-            tree_from_parent (tables r.node) tree j.0 (link_at r.node.links l.0) at (role ∙ router_there y x (child_linked y x parts.0).0) sa.router (tree_named sa.router tree content parts.1)
+            let parts = and_parts (is_child (graph w) sa.router y x) (names_tree sa.router msg) k in
+            tree_from_parent (tables r.node) sends.tree j.0 (link_at r.node.links l.0) at (role ∙ router_there y x (child_linked y x parts.0).0) sa.router (sends.tree_is sa.router parts.1)
             (ap (λ (z : Graph). parent z sa.router r.node.base.me) (h.graphs x r er) ∙ ap (parent (graph w) sa.router) (h.sound.own x r er) ∙ child_is (graph w) sa.router y x parts.0
             ∙ ap Some (sym (named_link r.node.links y j.0 j.1)))
 
-    -- everything goes on down the tree
-    goes_down : (y z : List ℕ) (l : LinkNo) → number_to r y ≡ Ok l → (tree : Option (List ℕ)) (content : Parts) → comes_down pair_of x y (m.Push tree content) ≡ true →
-        is_there z ≡ true → list_all (comes_down pair_of z x) (sends_to r.node (From l (m.Push tree content)) z) ≡ true
-    goes_down y z l el tree content down is_z = by (link_to r.node.links z) refl
+    -- everything that carries something goes on down the tree
+    goes_down : (z : List ℕ) → is_there z ≡ true → list_all (passes_down pair_of z x) (sends_to (with_pending r.node pending) (From l msg) z) ≡ true
+    goes_down z is_z = by (link_to r.node.links z) refl
       where
-        by : (o : Option LinkPeer) → link_to r.node.links z ≡ o → list_all (comes_down pair_of z x) (sends_to r.node (From l (m.Push tree content)) z) ≡ true
-        by None e = ap (list_all (comes_down pair_of z x)) (goes_to r.node l (m.Push tree content) refl z ∙ ap (λ o. option_map_or (λ (k : LinkPeer). sends_from r.node l.0 (m.Push tree content) k.link.0) o []) e)
-        by (Some k) e =
-            ap (list_all (comes_down pair_of z x))
-            (goes_along r.node l tree content sa.router (tree_is y l el tree content down) z k e (numbered_link r.node.links (h.sound.unique x r er) z k e)
-            ∙ to_router r.node l content sa.router k (h.sound.roles x z r k er e ∙ is_z))
-            ∙ goes (leads_to_subscriber (tables r.node) sa.router content.key k.peer.id) refl
+        by : (o : Option LinkPeer) → link_to r.node.links z ≡ o → list_all (passes_down pair_of z x) (sends_to (with_pending r.node pending) (From l msg) z) ≡ true
+        by None e = ap (list_all (passes_down pair_of z x)) (sends.nowhere z e)
+        by (Some k) e = sends.passes sa.router in_tree z k e (numbered_link r.node.links (h.sound.unique x r er) z k e) (h.sound.roles x z r k er e ∙ is_z) (passes_down pair_of z x)
+            (λ m none. or_left (is_none (carried_by m)) (comes_down pair_of z x m) (ap is_none none)) (λ over m named. or_right (is_none (carried_by m)) (comes_down pair_of z x m) (comes over m named))
           where
-            goes : (b : Bool) → leads_to_subscriber (tables r.node) sa.router content.key k.peer.id ≡ b →
-                list_all (comes_down pair_of z x) (cond b (m.Push (Some sa.router) content ∷ []) []) ≡ true
-            goes false f = refl
-            goes true f =
-                and_from (comes_down pair_of z x (m.Push (Some sa.router) content)) true
-                (and_from (leads pair_of z x) (is_named sa.router z || is_named sa.router sa.router)
+            comes : leads_to_source (tables r.node) sa.router (has_taker carried) k.peer.id ≡ true → (m : Msg) → names_tree sa.router m ≡ true → comes_down pair_of z x m ≡ true
+            comes over m named =
+                and_from (leads pair_of z x) (is_named sa.router z || names_tree sa.router m)
                 (ap (λ b. cond b (is_named publisher x) (is_child (graph w) sa.router x z)) (root_apart x z child) ∙ child)
-                (or_right (is_named sa.router z) (is_named sa.router sa.router) (names.refl sa.router))) refl
+                (or_right (is_named sa.router z) (names_tree sa.router m) named)
               where
                 child : is_child (graph w) sa.router x z ≡ true
                 child =
                     sym (ap (λ (v : Graph). is_child v sa.router r.node.base.me k.peer.id) (h.graphs x r er)
                     ∙ ap (λ v. is_child (graph w) sa.router v k.peer.id) (h.sound.own x r er) ∙ ap (is_child (graph w) sa.router x) (named_link r.node.links z k e))
-                    ∙ leads_to_child (tables r.node) sa.router content.key k.peer.id f
+                    ∙ leads_to_child (tables r.node) sa.router (has_taker carried) k.peer.id over
 
   -- ---- the receiver's own router
 
@@ -203,13 +196,11 @@ module _ (before phase : List Numbered) (w : WorldState) (h : AreReady before w)
   receiver_link r er = there (link_to r.node.links receiver) (h.sound.links sd.router receiver r er ∙ h.linked receiver sd ed attached)
 
   -- it sends to the receiver what is for it
-  at_dest : (s : List ℕ) → is_named s receiver ≡ is_named publisher receiver → (r : RouterState) → router_of w.routers sd.router ≡ Some r → (l : LinkNo) → number_to r s ≡ Ok l →
-      (tree : Option (List ℕ)) (content : Parts) → comes_down pair_of sd.router s (m.Push tree content) ≡ true → IsSentOn pair_of receiver content (sends_to r.node (From l (m.Push tree content)) receiver)
-  at_dest s same r er l el tree content down = record {
-    goes = not (k.0.link.0 == l.0) && subscribes r.node.rows k.0.link.0 content.key;
-    tree = None;
-    sent_is = goes_along r.node l tree content sa.router (tree_is sd.router r er s l el tree content down) receiver k.0 k.1 k_at
-        ∙ to_client r.node l content sa.router k.0 (h.sound.roles sd.router receiver r k.0 er k.1 ∙ receiver_apart);
+  at_dest : (s : List ℕ) → is_named s receiver ≡ is_named publisher receiver → (r : RouterState) → router_of w.routers sd.router ≡ Some r → (pending : List RowState) (l : LinkNo) → number_to r s ≡ Ok l →
+      (msg : Msg) (carried : Carried) → carried_by msg ≡ Some carried → comes_down pair_of sd.router s msg ≡ true → IsSentOn pair_of receiver carried (sends_to (with_pending r.node pending) (From l msg) receiver)
+  at_dest s same r er pending l el msg carried carries down = record {
+    goes = goes_over (tables r.node) l.0 sa.router carried k.0 k.0.peer.role;
+    sent_is = (goes_of (with_pending r.node pending) l msg carried carries).carries sa.router (in_tree sd.router r er pending s l el msg carried carries down) receiver k.0 k.1 k_at;
     where_wanted = λ v. chosen ∙ v;
     to_receiver = λ v. chosen;
   }
@@ -242,35 +233,36 @@ module _ (before phase : List Numbered) (w : WorldState) (h : AreReady before w)
               let name_is : s ≡ receiver = sym (named_link r.node.links s j.0 j.1) ∙ ap (λ z. z.peer.id) (sym is) ∙ named_link r.node.links receiver k.0 k.1 in
               absurd (false≢true (sym other ∙ ap (is_named s) (sym name_is) ∙ names.refl s))
 
-      chosen : (not (k.0.link.0 == l.0) && subscribes r.node.rows k.0.link.0 content.key) ≡ wants before publisher receiver content.key
+      chosen : goes_over (tables r.node) l.0 sa.router carried k.0 k.0.peer.role ≡ is_for before publisher receiver carried
       chosen =
-          ap (λ b. not b && subscribes r.node.rows k.0.link.0 content.key) (same_link (is_named s receiver) refl ∙ same)
-          ∙ ap (λ b. not (is_named publisher receiver) && b) (h.asked receiver sd r k.0 ed attached er k.1 content.key)
-          ∙ ap (λ b. not (is_named publisher receiver) && (b && list_any (λ d. asks_for content.key d) (declarations before receiver))) (sym attached)
+          over_client (tables r.node) l.0 sa.router carried k.0 k.0.peer.role (h.sound.roles sd.router receiver r k.0 er k.1 ∙ receiver_apart)
+          ∙ ap (λ b. not b && asks_it r.node.rows k.0.link.0 carried) (same_link (is_named s receiver) refl ∙ same)
+          ∙ ap (λ b. not (is_named publisher receiver) && b) (h.asked receiver sd r k.0 ed attached er k.1 carried)
+          ∙ ap (λ b. not (is_named publisher receiver) && (b && takes before receiver carried)) (sym attached)
 
   -- ---- the others on the way
 
-  -- what the receiver wants all routers know that its router wants
-  asked_there : (x : List ℕ) (r : RouterState) → router_of w.routers x ≡ Some r → (key : List ℕ) → wants before publisher receiver key ≡ true →
-      list_any (λ d. is_for key d) (decls r.node.known sd.router) ≡ true
-  asked_there x r er key v =
+  -- what the receiver takes all routers know that its router takes
+  asked_there : (x : List ℕ) (r : RouterState) → router_of w.routers x ≡ Some r → (carried : Carried) → is_for before publisher receiver carried ≡ true →
+      list_any (λ d. takes_it carried d) (decls r.node.known sd.router) ≡ true
+  asked_there x r er carried v =
       let rd = dest_router in
       let k = receiver_link rd.0 rd.1 in
-      let asks = (and_parts (is_attached before receiver) (list_any (λ d. asks_for key d) (declarations before receiver))
-      (and_parts (not (is_named publisher receiver)) (is_attached before receiver && list_any (λ d. asks_for key d) (declarations before receiver)) v).1).1 in
-      ap (list_any (λ d. is_for key d)) (h.logs x sd.router r rd.0 er rd.1)
-      ∙ set_asks rd.0.node.rows k.0.link.0 key (h.asked receiver sd rd.0 k.0 ed attached rd.1 k.1 key ∙ asks)
+      let asks = (and_parts (is_attached before receiver) (takes before receiver carried)
+      (and_parts (not (is_named publisher receiver)) (is_attached before receiver && takes before receiver carried) v).1).1 in
+      ap (list_any (λ d. takes_it carried d)) (h.logs x sd.router r rd.0 er rd.1)
+      ∙ set_asks (takes_it carried) rd.0.node.rows k.0.link.0 (h.asked receiver sd rd.0 k.0 ed attached rd.1 k.1 carried ∙ asks)
 
   -- a router sends to its child toward the receiver what the receiver is to have
   at_child : (x to s : List ℕ) → toward (graph w) sa.router x sd.router ≡ Some to → is_child (graph w) sa.router x to ≡ true → (r : RouterState) → router_of w.routers x ≡ Some r →
-      (l : LinkNo) → number_to r s ≡ Ok l → (tree : Option (List ℕ)) (content : Parts) → comes_down pair_of x s (m.Push tree content) ≡ true →
-      IsSentOn pair_of to content (sends_to r.node (From l (m.Push tree content)) to)
-  at_child x to s next child r er l el tree content down = record {
-    goes = leads_to_subscriber (tables r.node) sa.router content.key k.0.peer.id;
-    tree = Some sa.router;
-    sent_is = goes_along r.node l tree content sa.router (tree_is x r er s l el tree content down) to k.0 k.1 (numbered_link r.node.links (h.sound.unique x r er) to k.0 k.1)
-        ∙ to_router r.node l content sa.router k.0 (h.sound.roles x to r k.0 er k.1 ∙ to_there);
-    where_wanted = λ v. leads_there (tables r.node) sa.router content.key sd.router k.0.peer.id (asked_there x r er content.key v)
+      (pending : List RowState) (l : LinkNo) → number_to r s ≡ Ok l → (msg : Msg) (carried : Carried) → carried_by msg ≡ Some carried → comes_down pair_of x s msg ≡ true →
+      IsSentOn pair_of to carried (sends_to (with_pending r.node pending) (From l msg) to)
+  at_child x to s next child r er pending l el msg carried carries down = record {
+    goes = goes_over (tables r.node) l.0 sa.router carried k.0 k.0.peer.role;
+    sent_is = (goes_of (with_pending r.node pending) l msg carried carries).carries sa.router (in_tree x r er pending s l el msg carried carries down) to k.0 k.1
+        (numbered_link r.node.links (h.sound.unique x r er) to k.0 k.1);
+    where_wanted = λ v. over_router (tables r.node) l.0 sa.router carried k.0 k.0.peer.role (h.sound.roles x to r k.0 er k.1 ∙ to_there)
+        ∙ leads_there (tables r.node) sa.router carried sd.router k.0.peer.id (asked_there x r er carried v)
         (ap (λ (z : Graph). reached z r.node.base.me sd.router) (h.graphs x r er) ∙ ap (λ z. reached (graph w) z sd.router) (h.sound.own x r er) ∙ h.reaches x sd.router (ap is_some er) dest_there)
         (ap (λ (z : Graph). toward z sa.router r.node.base.me sd.router) (h.graphs x r er) ∙ ap (λ z. toward (graph w) sa.router z sd.router) (h.sound.own x r er) ∙ next
         ∙ ap Some (sym (named_link r.node.links to k.0 k.1)));
@@ -323,12 +315,12 @@ module _ (before phase : List Numbered) (w : WorldState) (h : AreReady before w)
     end_is (inl n) = ap (λ z. is_some (end_of w.ends (z, to))) n.1 ∙ ap (λ z. is_some (end_of w.ends (sd.router, z))) n.0 ∙ h.sound.clients receiver sd ed
     end_is (inr n) = end_there x to (child_linked x to n.1).0
 
-    routes : Next → (r : RouterState) → router_of w.routers x ≡ Some r → (l : LinkNo) → number_to r s ≡ Ok l → (tree : Option (List ℕ)) (content : Parts) →
-        comes_down pair_of x s (m.Push tree content) ≡ true → IsSentOn pair_of to content (sends_to r.node (From l (m.Push tree content)) to)
-    routes (inl n) r er l el tree content down =
-        subst (λ (z : List ℕ). IsSentOn pair_of z content (sends_to r.node (From l (m.Push tree content)) z)) (sym n.0)
-        (at_dest s (same_at_dest n.1) r (ap (router_of w.routers) (sym n.1) ∙ er) l el tree content (ap (λ z. comes_down pair_of z s (m.Push tree content)) (sym n.1) ∙ down))
-    routes (inr n) r er l el tree content down = at_child x to s n.0 n.1 r er l el tree content down
+    routes : Next → (r : RouterState) → router_of w.routers x ≡ Some r → (pending : List RowState) (l : LinkNo) → number_to r s ≡ Ok l → (msg : Msg) (carried : Carried) → carried_by msg ≡ Some carried →
+        comes_down pair_of x s msg ≡ true → IsSentOn pair_of to carried (sends_to (with_pending r.node pending) (From l msg) to)
+    routes (inl n) r er pending l el msg carried carries down =
+        subst (λ (z : List ℕ). IsSentOn pair_of z carried (sends_to (with_pending r.node pending) (From l msg) z)) (sym n.0)
+        (at_dest s (same_at_dest n.1) r (ap (router_of w.routers) (sym n.1) ∙ er) pending l el msg carried carries (ap (λ z. comes_down pair_of z s msg) (sym n.1) ∙ down))
+    routes (inr n) r er pending l el msg carried carries down = at_child x to s n.0 n.1 r er pending l el msg carried carries down
 
     on : Next → OnWay pair_of to x s
     on n = record { end_is = end_is n; only = only; last = last; routes = routes n }
@@ -361,6 +353,6 @@ module _ (before phase : List Numbered) (w : WorldState) (h : AreReady before w)
     clients_apart = h.apart;
     home = λ s e. let one : Some s ≡ Some sa = sym e ∙ ea in let is : s ≡ sa = cc in ap (λ z. z.router) is;
     receiver_home = λ x k. h.homes receiver x sd ed k;
-    goes_down = λ x y z r er l el tree content down is_z. goes_down x r er y z l el tree content down is_z;
+    goes_down = λ x y z r er pending l el msg carried carries down is_z. goes_down x r er pending y l el msg carried carries down z is_z;
     whole_way = on_whole_way (graph w) h.is_graph sa.router sd.router far.0 far.1 publisher (OnWay pair_of) (Between pair_of) between receiver inner at_root;
   }

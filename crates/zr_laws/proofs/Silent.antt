@@ -4,27 +4,30 @@ use Rattle.std.specs.Prelude.{◌==◌, ◌&&◌, ◌||◌, not, filter, is_some
 use Rattle.std.specs.List.{AllByRecursion, fold, list_all}
 use Rattle.std.specs.Option.{option_map_or}
 use Rattle.std.proofs.lemmas.Bool.{false≢true, true≢false, and_parts, and_from, and_right, not_from_false}
-use Rattle.std.proofs.lemmas.Grind.{flat_map-append}
 use Rattle.zr_id.specs.Zid.{is_named}
+use Rattle.zr_msg.specs.Extras.{no_extras}
+use Rattle.zr_msg.specs.declared.msg.Msg.{Msg}
 use Rattle.zr_msg.specs.declared.msg.Msg.TheVariants as m
 use Rattle.zr_msg.specs.declared.event.Event.TheVariants.{From}
 use Rattle.zr_command.specs.declared.command.Act.{Act}
 use Rattle.zr_command.specs.declared.command.Act.TheVariants as c
 use Rattle.zr_command.specs.declared.report.ReportLine.{ReportLine}
 use Rattle.zr_command.specs.declared.report.ReportLine.TheVariants as line
-use Rattle.zr_network.specs.World.{End, Clients, client_of, end_of, sent, with_wire, with_queue, with_end}
+use Rattle.zr_network.specs.World.{End, Clients, ClientState, client_of, end_of, sent, with_wire, with_queue, with_end}
 use Rattle.zr_network.specs.Acts.{shown, outcome}
 use Rattle.zr_network.specs.Moments.{Numbered, Moment, went, onward}
 use Rattle.zr_guarantee.specs.Phase.{stays, is_phase}
-use Rattle.zr_guarantee.specs.Item.{Item}
-use Rattle.zr_guarantee.specs.Broker.{Publication, publication, is_publisher, is_line_of, wants, item_for, from}
-use Rattle.zr_guarantee.specs.Sent.{item_of, sent_in, sent_to}
+use Rattle.zr_guarantee.specs.Item.{Item, Carried}
+use Rattle.zr_guarantee.specs.Broker.{Publication, publication, is_publisher, is_line_of, is_for, item_for, from}
+use Rattle.zr_guarantee.specs.Sent.{item_of, sent_to}
+use Rattle.zr_network.proofs.Clients.{SameClients, same_clients, same_received, there_same}
 use Rattle.zr_network.proofs.Names.{same_name}
 use Rattle.zr_network.proofs.Ends.{keep_with_end, keep_changed, keep_all_queued}
 use Rattle.zr_network.proofs.Fits.{up_of}
-use Rattle.zr_network.proofs.Cases.{on_publish, on_handle, on_take, on_mark, on_show, for_publish, for_handle, for_take, for_mark, for_show}
+use Rattle.zr_network.proofs.Cases.{Says, on_said, on_handle, on_take, on_mark, on_show, publish_says, get_says, reply_says, end_says, for_handle, for_take, for_mark, for_show}
 use Rattle.zr_network.proofs.Lists.{all_both}
-use Rattle.zr_laws.proofs.Folds.{after_all}
+use Rattle.zr_declared.proofs.Folds.{after_all}
+use Rattle.zr_laws.proofs.Told.{sent_append, sent_taken}
 use Rattle.zr_laws.proofs.Watch.{shows_nothing}
 
 -- each act of a phase stays
@@ -36,15 +39,23 @@ each_stays (x ∷ xs) k = let parts = and_parts (stays x.1) (is_phase xs) k in (
 
 module _ (publisher : List ℕ) (clients : Clients) (none : client_of clients publisher ≡ None) where
   pub record IsMute (done : List Numbered) (now : Moment) : Type 0 where
-    pub clients_is : now.world.clients ≡ clients
+    pub clients_are : SameClients clients now.world.clients
     pub silent : list_all (λ x. not (is_publisher publisher x.1)) done ≡ true
 
-  mute : (done : List Numbered) (now : Moment) → IsMute done now → (n : ℕ) (act : Act) (next : Moment) → next.world.clients ≡ now.world.clients → is_publisher publisher act ≡ false →
+  mute : (done : List Numbered) (now : Moment) → IsMute done now → (n : ℕ) (act : Act) (next : Moment) → SameClients now.world.clients next.world.clients → is_publisher publisher act ≡ false →
       IsMute (done ++ (n, act) ∷ []) next
   mute done now h n act next same other = record {
-    clients_is = same ∙ h.clients_is;
+    clients_are = record { names = same.names ∙ h.clients_are.names; each = λ q. same.each q ∙ h.clients_are.each q };
     silent = all_both (λ x. not (is_publisher publisher x.1)) done ((n, act) ∷ []) h.silent (and_from (not (is_publisher publisher act)) true (not_from_false (is_publisher publisher act) other) refl);
   }
+
+  -- who says something is a client, and the publisher is none
+  nobody : (done : List Numbered) (now : Moment) → IsMute done now → (client : List ℕ) (s : ClientState) → client_of now.world.clients client ≡ Some s → is_named publisher client ≡ false
+  nobody done now h client s found = by (is_named publisher client) refl (sym (there_same clients now.world.clients h.clients_are client) ∙ ap is_some found)
+    where
+      by : (b : Bool) → is_named publisher client ≡ b → is_some (client_of clients client) ≡ true → b ≡ false
+      by false e k = refl
+      by true e k = absurd (false≢true (sym (ap is_some none) ∙ ap (λ z. is_some (client_of clients z)) (same_name publisher client e) ∙ k))
 
   act_mute : (done : List Numbered) (now : Moment) → IsMute done now → (n : ℕ) (act : Act) → stays act ≡ true → IfSome (went now (outcome now.world n act)) (IsMute (done ++ (n, act) ∷ []))
   unfolding outcome
@@ -58,26 +69,27 @@ module _ (publisher : List ℕ) (clients : Clients) (none : client_of clients pu
   act_mute done now h n (c.Unsub client id) st = absurd (false≢true st)
   act_mute done now h n (c.Able client id key complete) st = absurd (false≢true st)
   act_mute done now h n (c.Unable client id) st = absurd (false≢true st)
-  act_mute done now h n (c.Publish client content) st = for_publish now (IsMute (done ++ (n, c.Publish client content) ∷ [])) n client content
-      (λ s es e ee unbroken. mute done now h n (c.Publish client content) (on_publish now n client content s e) refl
-      (by (is_named publisher client) refl (ap is_some (ap (λ z. client_of z client) (sym h.clients_is) ∙ es))))
-    where
-      by : (b : Bool) → is_named publisher client ≡ b → is_some (client_of clients client) ≡ true → b ≡ false
-      by false e k = refl
-      by true e k = absurd (false≢true (sym (ap is_some none) ∙ ap (λ z. is_some (client_of clients z)) (same_name publisher client e) ∙ k))
+  act_mute done now h n (c.Publish client content) st = publish_says now (IsMute (done ++ (n, c.Publish client content) ∷ [])) n client content
+      (λ s es e ee unbroken more same. mute done now h n (c.Publish client content) (on_said now n client (m.Push None content) s e more) same (nobody done now h client s es))
+  act_mute done now h n (c.Get client number target content) st = get_says now (IsMute (done ++ (n, c.Get client number target content) ∷ [])) n client number target content
+      (λ s es e ee unbroken more same. mute done now h n (c.Get client number target content) (on_said now n client (m.Request None number target content) s e more) same (nobody done now h client s es))
+  act_mute done now h n (c.Reply client number content) st = reply_says now (IsMute (done ++ (n, c.Reply client number content) ∷ [])) n client number content
+      (λ s es e ee unbroken more same. mute done now h n (c.Reply client number content) (on_said now n client (m.Response number content) s e more) same refl)
+  act_mute done now h n (c.End client number) st = end_says now (IsMute (done ++ (n, c.End client number) ∷ [])) n client number
+      (λ s es e ee unbroken more same. mute done now h n (c.End client number) (on_said now n client (m.Final number no_extras) s e more) same refl)
   act_mute done now h n (c.Handle router name) st = for_handle now (IsMute (done ++ (n, c.Handle router name) ∷ [])) router name
-      (λ r er there s es up msg tag xs front l el taken. mute done now h n (c.Handle router name) (on_handle now router name r s l msg tag xs) refl refl)
+      (λ r er there s es up msg tag xs front l el taken. mute done now h n (c.Handle router name) (on_handle now router name r s l msg tag xs) (same_clients now.world.clients) refl)
   act_mute done now h n (c.Take router to) st = for_take now (IsMute (done ++ (n, c.Take router to) ∷ [])) router to
-      (λ r er there s es up unbroken msg tag xs front. mute done now h n (c.Take router to) (on_take now router to s msg tag xs) refl refl)
-  act_mute done now h n c.Mark st = for_mark now (IsMute (done ++ (n, c.Mark) ∷ [])) n (λ settled joined. mute done now h n c.Mark (on_mark now n) refl refl)
-  act_mute done now h n (c.Show router) st = for_show now (IsMute (done ++ (n, c.Show router) ∷ [])) router (λ r er. mute done now h n (c.Show router) (on_show now router r) refl refl)
+      (λ r er there s es up unbroken msg tag xs front. mute done now h n (c.Take router to) (on_take now router to s msg tag xs) (same_received now.world.clients to msg) refl)
+  act_mute done now h n c.Mark st = for_mark now (IsMute (done ++ (n, c.Mark) ∷ [])) n (λ settled joined. mute done now h n c.Mark (on_mark now n) (same_clients now.world.clients) refl)
+  act_mute done now h n (c.Show router) st = for_show now (IsMute (done ++ (n, c.Show router) ∷ [])) router (λ r er. mute done now h n (c.Show router) (on_show now router r) (same_clients now.world.clients) refl)
 
-  pub phase_mute : (phase : List Numbered) (o : Option Moment) → IfSome o (λ now. now.world.clients ≡ clients) → is_phase phase ≡ true → IfSome (fold onward o phase) (IsMute phase)
+  pub phase_mute : (phase : List Numbered) (o : Option Moment) → IfSome o (λ now. SameClients clients now.world.clients) → is_phase phase ≡ true → IfSome (fold onward o phase) (IsMute phase)
   phase_mute phase o h st = after_all IsMute (λ x. stays x.1 ≡ true) (λ done now k x s. act_mute done now k x.0 x.1 s) phase [] o (begins o h) (each_stays phase st)
     where
-      begins : (o : Option Moment) → IfSome o (λ now. now.world.clients ≡ clients) → IfSome o (IsMute [])
+      begins : (o : Option Moment) → IfSome o (λ now. SameClients clients now.world.clients) → IfSome o (IsMute [])
       begins None k = tt
-      begins (Some now) k = record { clients_is = k; silent = refl }
+      begins (Some now) k = record { clients_are = k; silent = refl }
 
 -- no line of a phase is of a publisher that is silent in it
 pub no_line : (publisher : List ℕ) (phase : List Numbered) → list_all (λ x. not (is_publisher publisher x.1)) phase ≡ true → (t : ℕ) → is_line_of phase publisher t ≡ false
@@ -102,20 +114,20 @@ nothing_published before publisher receiver (x ∷ xs) h =
     none (Some p) k = by (is_named publisher p.client) k
       where
         one : Item
-        one = record { line = x.0; content = p.content }
+        one = record { line = x.0; carried = p.carried }
 
-        by : (b : Bool) → not b ≡ true → cond (b && wants before publisher receiver p.content.key) (one ∷ []) [] ≡ []
+        by : (b : Bool) → not b ≡ true → cond (b && is_for before publisher receiver p.carried) (one ∷ []) [] ≡ []
         by true k = absurd (false≢true k)
         by false k = refl
 
 -- who wants nothing is to have nothing
-pub nothing_wanted : (before : List Numbered) (publisher receiver : List ℕ) (phase : List Numbered) → ((key : List ℕ) → wants before publisher receiver key ≡ false) → from before phase publisher receiver ≡ []
+pub nothing_wanted : (before : List Numbered) (publisher receiver : List ℕ) (phase : List Numbered) → ((carried : Carried) → is_for before publisher receiver carried ≡ false) → from before phase publisher receiver ≡ []
 nothing_wanted before publisher receiver [] h = refl
 nothing_wanted before publisher receiver (x ∷ xs) h = rw (none (publication x.1)) (nothing_wanted before publisher receiver xs h)
   where
     none : (o : Option Publication) → item_for before publisher receiver x.0 o ≡ []
     none None = refl
-    none (Some p) = ap (λ b. cond b (record { line = x.0; content = p.content } ∷ []) []) (and_right (is_named publisher p.client) (wants before publisher receiver p.content.key) (h p.content.key))
+    none (Some p) = ap (λ b. cond b (record { line = x.0; carried = p.carried } ∷ []) []) (and_right (is_named publisher p.client) (is_for before publisher receiver p.carried) (h p.carried))
 
 -- a filter that nothing passes
 pub nothing_passes : (t : ℕ → Bool) → ((i : ℕ) → t i ≡ false) → (xs : List Item) → filter (λ i. t i.line) xs ≡ []
@@ -134,8 +146,12 @@ module _ (receiver : List ℕ) (by_line : ℕ → Bool) where
   unheard done done' now h next ups xs report none = record {
     down = λ x. ups (x, receiver) ∙ h.down x;
     nothing = ap (λ z. filter (λ i. by_line i.line) (sent_to z receiver)) report
-        ∙ ap (filter (λ i. by_line i.line)) (flat_map-append (sent_in receiver) now.report xs ∙ ap (λ z. sent_to now.report receiver ++ z) none ∙ append-nil (sent_to now.report receiver)) ∙ h.nothing;
+        ∙ ap (filter (λ i. by_line i.line)) (sent_append now.report xs receiver ∙ ap (λ z. sent_to now.report receiver ++ z) none ∙ append-nil (sent_to now.report receiver)) ∙ h.nothing;
   }
+
+  says : (done : List Numbered) (now : Moment) → IsUnheard done now → (n : ℕ) (act : Act) (client : List ℕ) (msg : Msg) → Says now (IsUnheard (done ++ (n, act) ∷ [])) n client msg
+  says done now h n act client msg s es en ee unbroken clients same = unheard done (done ++ (n, act) ∷ []) now h (on_said now n client msg s en clients)
+      (λ e. keep_with_end now.world.ends (s.router, client) (sent en msg n) up_of e en ee refl) [] refl refl
 
   act_unheard : (done : List Numbered) (now : Moment) → IsUnheard done now → (n : ℕ) (act : Act) → stays act ≡ true → IfSome (went now (outcome now.world n act)) (IsUnheard (done ++ (n, act) ∷ []))
   unfolding outcome
@@ -149,9 +165,12 @@ module _ (receiver : List ℕ) (by_line : ℕ → Bool) where
   act_unheard done now h n (c.Unsub client id) st = absurd (false≢true st)
   act_unheard done now h n (c.Able client id key complete) st = absurd (false≢true st)
   act_unheard done now h n (c.Unable client id) st = absurd (false≢true st)
-  act_unheard done now h n (c.Publish client content) st = for_publish now (IsUnheard (done ++ (n, c.Publish client content) ∷ [])) n client content
-      (λ s es en ee unbroken. unheard done (done ++ (n, c.Publish client content) ∷ []) now h (on_publish now n client content s en)
-      (λ e. keep_with_end now.world.ends (s.router, client) (sent en (m.Push None content) n) up_of e en ee refl) [] refl refl)
+  act_unheard done now h n (c.Publish client content) st = publish_says now (IsUnheard (done ++ (n, c.Publish client content) ∷ [])) n client content (says done now h n (c.Publish client content) client (m.Push None content))
+  act_unheard done now h n (c.Get client number target content) st =
+      get_says now (IsUnheard (done ++ (n, c.Get client number target content) ∷ [])) n client number target content (says done now h n (c.Get client number target content) client (m.Request None number target content))
+  act_unheard done now h n (c.Reply client number content) st =
+      reply_says now (IsUnheard (done ++ (n, c.Reply client number content) ∷ [])) n client number content (says done now h n (c.Reply client number content) client (m.Response number content))
+  act_unheard done now h n (c.End client number) st = end_says now (IsUnheard (done ++ (n, c.End client number) ∷ [])) n client number (says done now h n (c.End client number) client (m.Final number no_extras))
   act_unheard done now h n (c.Handle router name) st = for_handle now (IsUnheard (done ++ (n, c.Handle router name) ∷ [])) router name
       (λ r er there s es up msg tag xs front l el taken. unheard done (done ++ (n, c.Handle router name) ∷ []) now h (on_handle now router name r s l msg tag xs)
       (λ e. keep_all_queued (with_end now.world.ends (router, name) (with_wire s xs)) router r.node (From l msg) tag up_of e (λ z. refl) ∙ keep_with_end now.world.ends (router, name) (with_wire s xs) up_of e s es refl)
@@ -159,9 +178,9 @@ module _ (receiver : List ℕ) (by_line : ℕ → Bool) where
   act_unheard done now h n (c.Take router to) st = for_take now (IsUnheard (done ++ (n, c.Take router to) ∷ [])) router to
       (λ r er there s es up unbroken msg tag xs front. unheard done (done ++ (n, c.Take router to) ∷ []) now h (on_take now router to s msg tag xs)
       (λ e. keep_changed (with_end now.world.ends (router, to) (with_queue s xs)) (to, router) (λ z. sent z msg tag) up_of e (λ z. refl) ∙ keep_with_end now.world.ends (router, to) (with_queue s xs) up_of e s es refl)
-      (line.Taken router to msg tag ∷ []) refl (by (is_named receiver to) refl (item_of msg tag) (ap up_of es ∙ up)))
+      (line.Taken router to msg tag ∷ []) refl (sent_taken router to msg tag receiver ∙ by (is_named receiver to) refl (item_of msg tag) (ap up_of es ∙ up)))
     where
-      by : (b : Bool) → is_named receiver to ≡ b → (its : List Item) → up_of (end_of now.world.ends (router, to)) ≡ true → cond b its [] ++ [] ≡ []
+      by : (b : Bool) → is_named receiver to ≡ b → (its : List Item) → up_of (end_of now.world.ends (router, to)) ≡ true → cond b its [] ≡ []
       by false e its up = refl
       by true e its up = absurd (true≢false (sym up ∙ ap (λ z. up_of (end_of now.world.ends (router, z))) (sym (same_name receiver to e)) ∙ h.down router))
   act_unheard done now h n c.Mark st = for_mark now (IsUnheard (done ++ (n, c.Mark) ∷ [])) n

@@ -1,40 +1,38 @@
 -- At an accepted mark the flow begins: nothing under way has a tag of the phase, no declaration is under way, so the routers' rows are what the
 -- clients have declared, and the routers' tables agree (`AreSettled`, which is shown of settled worlds elsewhere).
-use Rattle.std.proofs.Common.{◌≡◌, ℕ, Bool, true, false, List, [], ◌∷◌, ◌++◌, Option, Some, None, ◌<◌, refl, sym, ap, ◌∙◌, subst, arith}
+use Rattle.std.proofs.Common.{◌≡◌, ℕ, Bool, true, false, List, [], ◌∷◌, ◌++◌, Option, Some, None, ◌<◌, refl, sym, ap, ◌∙◌, arith}
 use Rattle.std.specs.Prelude.{◌&&◌, ◌||◌, not, nat_lt, filter, is_some, IfSome}
-use Rattle.std.specs.List.{fold, list_all, list_any}
-use Rattle.std.specs.Option.{option_map, option_map_or}
+use Rattle.std.specs.List.{list_all}
+use Rattle.std.specs.Option.{option_map_or}
 use Rattle.std.proofs.lemmas.Bool.{false≢true, true≢false, and_parts, and_left, and_right, or_left, not_from_false, ltb-true}
 use Rattle.zr_id.specs.Zid.{is_named}
 use Rattle.zr_tree.specs.Laws.{IsGraph}
 use Rattle.zr_tree.specs.Walk.{graph_of}
 use Rattle.zr_tree.specs.Tree.{reached}
-use Rattle.zr_msg.specs.declared.peer.LinkPeer.{LinkPeer}
 use Rattle.zr_local.specs.Rows.{declared_set}
 use Rattle.zr_log.specs.Known.{decls}
-use Rattle.zr_routing.specs.Tables.{link_to}
-use Rattle.zr_routing.specs.Samples.{subscribes}
-use Rattle.zr_network.specs.World.{Tagged, EndState, End, RouterState, ClientState, WorldState, router_of, client_of, end_of, is_up, unsettles, is_calm, is_calm_end, is_met, is_settled}
+use Rattle.zr_network.specs.World.{Tagged, EndState, End, RouterState, ClientState, WorldState, router_of, client_of, end_of, is_up, is_unbroken, is_calm, is_calm_end, is_met, is_settled}
 use Rattle.zr_network.specs.Joined.{graph}
 use Rattle.zr_network.specs.Moments.{Numbered, ascends, Moment}
-use Rattle.zr_guarantee.specs.Broker.{is_attached, declarations, asks_for, wants, is_line_of}
+use Rattle.zr_guarantee.specs.Item.{Carried}
+use Rattle.zr_guarantee.specs.Broker.{is_attached, takes, is_for, is_line_of}
+use Rattle.zr_network.proofs.Clients.{same_clients}
 use Rattle.zr_guarantee.specs.Sent.{item_of, sent_to}
-use Rattle.zr_network.proofs.Keyed.{found_entry}
+use Rattle.zr_network.proofs.Keyed.{there, found_entry}
 use Rattle.zr_network.proofs.Ends.{end_order, same_end}
 use Rattle.zr_network.proofs.Fits.{up_of}
 use Rattle.zr_network.proofs.Lists.{filter_none_of_all, weaker, all_both}
 use Rattle.zr_laws.proofs.Places.{hops, along, bare}
 use Rattle.zr_settled.proofs.Worlds.{queue_at, wire_at}
 use Rattle.zr_laws.proofs.Watch.{Passes}
-use Rattle.zr_laws.proofs.Pair.{Pair, items, fits, comes_down, held, OnWay, Between, Flows, IsRouted}
+use Rattle.zr_laws.proofs.Pair.{Pair, items, fits, passes_down, held, OnWay, Between, Flows, IsRouted}
 use Rattle.zr_laws.proofs.Held.{foreign_wanted, foreign_kept}
 use Rattle.zr_laws.proofs.Numbers.{none_later}
 use Rattle.zr_laws.proofs.Tags.{Tags, item_tag}
-use Rattle.zr_laws.proofs.Messages.{hear, news_of, by_calm}
-use Rattle.zr_laws.proofs.Heard.{key_at}
-use Rattle.zr_laws.proofs.Said.{key_in}
-use Rattle.zr_laws.proofs.Asking.{rows_ask}
-use Rattle.zr_laws.proofs.Known.{waiting, EndView, end_view, rows_say, View, view_at, view_of, Joins, Stands, Holds}
+use Rattle.zr_declared.proofs.Homes.{router_at}
+use Rattle.zr_declared.proofs.FlowActs.{GoesDeclared}
+use Rattle.zr_declared.proofs.AtRest.{attached_is, are_declared}
+use Rattle.zr_laws.proofs.Asking.{rows_take}
 use Rattle.zr_laws.proofs.Always.{Always}
 use Rattle.zr_laws.proofs.Routed.{AreReady, pair_of, routed}
 
@@ -61,17 +59,6 @@ items_pass t [] h = refl
 items_pass t (x ∷ xs) h =
     let parts = and_parts (t x.tag) (list_all (λ y. t y.tag) xs) h in
     all_both (λ i. t i.line) (item_of x.msg x.tag) (items xs) (item_tag t x.msg x.tag parts.0) (items_pass t xs parts.1)
-
--- where nothing unsettles, nothing waits that changes subscriptions
-none_waits : (ws : List Tagged) → list_all is_calm ws ≡ true → waiting ws ≡ []
-none_waits [] h = refl
-none_waits (x ∷ xs) h =
-    let parts = and_parts (is_calm x) (list_all is_calm xs) h in
-    ap (λ z. z ++ waiting xs) (by_calm (λ z. news_of z ≡ []) (λ tree content. refl) (λ z silent. silent.no_news) x.msg (calm (unsettles x.msg) parts.0)) ∙ none_waits xs parts.1
-  where
-    calm : (b : Bool) → not b ≡ true → b ≡ false
-    calm true k = absurd (false≢true k)
-    calm false k = refl
 
 -- what passes at an end
 pub wire_passes : (t : Tagged → Bool) (o : Option EndState) → IfSome o (Passes t) → list_all t (wire_at o) ≡ true
@@ -107,67 +94,44 @@ module _ (before : List Numbered) (mark : ℕ) (now : Moment) (h : Marked before
 
   -- ---- clients
 
-  known_of : (d : List ℕ) (s : ClientState) → client_of w.clients d ≡ Some s → Stands (is_attached before d) (declarations before d) (view_at w d s)
-  known_of d s e = subst (λ (v : Option View). Holds (is_attached before d) (declarations before d) v) (ap (view_of w d) e) (h.always.known d)
+  g : GoesDeclared before now
+  g = h.always.declared
 
-  known_none : (d : List ℕ) → client_of w.clients d ≡ None → is_attached before d ≡ false
-  known_none d e = (subst (λ (v : Option View). Holds (is_attached before d) (declarations before d) v) (ap (view_of w d) e) (h.always.known d)).0
+  -- a client is attached as long as its link is unbroken
+  unbroken_is : (d : List ℕ) (s : ClientState) → client_of w.clients d ≡ Some s → is_unbroken w.ends (s.router, d) ≡ is_attached before d
+  unbroken_is d s e = attached_is before now g d s e
 
-  -- a client's end
-  client_end : (d : List ℕ) (s : ClientState) (e : client_of w.clients d ≡ Some s) → (z : EndState) × (end_of w.ends (s.router, d) ≡ Some z) × ((known_of d s e).its_end ≡ end_view z)
-  client_end d s e = by (end_of w.ends (s.router, d)) refl (known_of d s e).found
-    where
-      by : (o : Option EndState) → end_of w.ends (s.router, d) ≡ o → option_map end_view o ≡ Some (known_of d s e).its_end →
-          (z : EndState) × (end_of w.ends (s.router, d) ≡ Some z) × ((known_of d s e).its_end ≡ end_view z)
-      by None k f = absurd (false≢true (ap is_some f))
-      by (Some z) k f = let one : Some (end_view z) ≡ Some (known_of d s e).its_end = f in (z, k, cc)
+  home_is : (d x : List ℕ) (s : ClientState) → client_of w.clients d ≡ Some s → is_some (end_of w.ends (x, d)) ≡ true → x ≡ s.router
+  home_is d x s e k = sym (g.goes.clients.homes x d s e k)
+
+  client_apart : (name : List ℕ) → is_some (client_of w.clients name) ≡ true → is_some (router_of w.routers name) ≡ false
+  client_apart name k = let s = there (client_of w.clients name) k in g.goes.clients.apart name s.0 s.1
 
   pub ready : AreReady before now.world
   ready = record {
-    sound = h.always.sound;
-    apart = h.always.homes.apart;
-    homes = h.always.homes.ends;
+    sound = g.goes.sound;
+    apart = client_apart;
+    homes = home_is;
     is_graph = h.tables.is_graph;
     reaches = h.tables.reaches;
     graphs = h.tables.graphs;
     logs = h.tables.logs;
-    linked = λ d s e attached.
-        let z = client_end d s e in
-        ap (λ o. option_map_or (λ (x : EndState). x.up) o false) z.1 ∙ ap (λ (v : EndView). v.up) (sym z.2) ∙ ((known_of d s e).joins attached).up;
-    asked = asked;
+    linked = λ d s e attached. g.goes.clients.ups s.router d s e (unbroken_is d s e ∙ attached);
+    asked = λ d s r k e attached er ek carried.
+        rows_take before d s w r.node.rows k.link (g.spoken.clients d s e) (g.ascend s.router r er)
+        (λ kind id. (are_declared before now g s.router r er h.settled).rows d k kind id (record { attached = attached; home_is = g.homed d ∙ ap router_at e }) ek) carried;
   }
-    where
-      asked : (d : List ℕ) (s : ClientState) (r : RouterState) (k : LinkPeer) → client_of w.clients d ≡ Some s → is_attached before d ≡ true →
-          router_of w.routers s.router ≡ Some r → link_to r.node.links d ≡ Some k → (key : List ℕ) → subscribes r.node.rows k.link.0 key ≡ list_any (λ x. asks_for key x) (declarations before d)
-      asked d s r k e attached er ek key = rows_ask r.node.rows k.link.0 (declarations before d) (h.always.homes.tidy s.router r er).in_order same j.apart key
-        where
-          j : Joins (declarations before d) (view_at w d s) (known_of d s e).its_end
-          j = (known_of d s e).joins attached
-
-          nothing_waits : (known_of d s e).its_end.on_way ≡ []
-          nothing_waits =
-              let z = client_end d s e in
-              ap (λ (v : EndView). v.on_way) z.2 ∙ none_waits z.0.wire (sym (ap (λ o. list_all is_calm (wire_at o)) z.1) ∙ (calm_end (s.router, d)).0)
-
-          same : (id : ℕ) → key_at r.node.rows k.link.0 id ≡ key_in (declarations before d) id
-          same id =
-              sym (ap (λ o. rows_say o d id) er ∙ ap (λ o. option_map_or (λ (x : LinkPeer). key_at r.node.rows x.link.0 id) o None) ek)
-              ∙ sym (ap (fold (hear id) (rows_say (router_of w.routers s.router) d id)) nothing_waits) ∙ j.flow id
 
   -- to who is neither a router nor attached no end is up
   pub detached : (d : List ℕ) → is_some (router_of w.routers d) ≡ false → is_attached before d ≡ false → (x : List ℕ) → up_of (end_of w.ends (x, d)) ≡ false
   detached d no_router gone x = by (end_of w.ends (x, d)) refl
     where
       taken : is_some (end_of w.ends (x, d)) ≡ true → is_some (client_of w.clients d) ≡ true
-      taken k = sym (ap (λ b. b || is_some (client_of w.clients d)) no_router) ∙ h.always.sound.neighbours x d k
+      taken k = sym (ap (λ b. b || is_some (client_of w.clients d)) no_router) ∙ g.goes.sound.neighbours x d k
 
       cut : (s : ClientState) → client_of w.clients d ≡ Some s → (z : EndState) → end_of w.ends (x, d) ≡ Some z → z.unbroken ≡ false
       cut s e z k =
-          let its = client_end d s e in
-          let home : x ≡ s.router = h.always.homes.ends d x s e (ap is_some k) in
-          let one : Some z ≡ Some its.0 = sym k ∙ ap (λ v. end_of w.ends (v, d)) home ∙ its.1 in
-          let is : z ≡ its.0 = cc in
-          ap (λ (v : EndState). v.unbroken) is ∙ ap (λ (v : EndView). v.unbroken) (sym its.2) ∙ (known_of d s e).unbroken ∙ gone
+          sym (ap (λ o. option_map_or (λ (q : EndState). q.unbroken) o false) k) ∙ ap (λ y. is_unbroken w.ends (y, d)) (home_is d x s e (ap is_some k)) ∙ unbroken_is d s e ∙ gone
 
       at : (z : EndState) → end_of w.ends (x, d) ≡ Some z → (o : Option ClientState) → client_of w.clients d ≡ o → (b : Bool) → z.up ≡ b → b ≡ false
       at z k o e false u = refl
@@ -179,16 +143,15 @@ module _ (before : List Numbered) (mark : ℕ) (now : Moment) (h : Marked before
       by (Some z) k = at z k (client_of w.clients d) refl z.up refl
 
   -- who is not attached is to have nothing
-  pub wants_nothing : (publisher receiver : List ℕ) → is_attached before receiver ≡ false → (key : List ℕ) → wants before publisher receiver key ≡ false
-  wants_nothing publisher receiver gone key =
-      and_right (not (is_named publisher receiver)) (is_attached before receiver && list_any (λ s. asks_for key s) (declarations before receiver))
-      (and_left (is_attached before receiver) (list_any (λ s. asks_for key s) (declarations before receiver)) gone)
+  pub wants_nothing : (publisher receiver : List ℕ) → is_attached before receiver ≡ false → (carried : Carried) → is_for before publisher receiver carried ≡ false
+  wants_nothing publisher receiver gone carried =
+      and_right (not (is_named publisher receiver)) (is_attached before receiver && takes before receiver carried) (and_left (is_attached before receiver) (takes before receiver carried) gone)
 
   pub who_is_attached : (d : List ℕ) → is_attached before d ≡ true → (s : ClientState) × (client_of w.clients d ≡ Some s)
   who_is_attached d k = by (client_of w.clients d) refl
     where
       by : (o : Option ClientState) → client_of w.clients d ≡ o → (s : ClientState) × (client_of w.clients d ≡ Some s)
-      by None e = absurd (true≢false (sym k ∙ known_none d e))
+      by None e = absurd (true≢false (sym k ∙ (g.spoken.others d e).attached))
       by (Some s) e = (s, e)
 
   -- ---- nothing is under way that is a line of the phase
@@ -215,7 +178,7 @@ module _ (before : List Numbered) (mark : ℕ) (now : Moment) (h : Marked before
       the_routes = routed before phase now.world ready publisher receiver sa sd ea ed attached
 
       old_fits : (x y : List ℕ) (ws : List Tagged) → list_all (λ z. nat_lt z.tag mark) ws ≡ true → list_all (fits the_pair x y) ws ≡ true
-      old_fits x y ws all = weaker (λ z. nat_lt z.tag mark) (fits the_pair x y) (λ z k. or_left (not (is_line_of phase publisher z.tag)) (comes_down the_pair x y z.msg)
+      old_fits x y ws all = weaker (λ z. nat_lt z.tag mark) (fits the_pair x y) (λ z k. or_left (not (is_line_of phase publisher z.tag)) (passes_down the_pair x y z.msg)
           (not_from_false (is_line_of phase publisher z.tag) (old z.tag k))) ws all
 
       wire_old : (e : End) → list_all (λ z. nat_lt z.tag mark) (wire_at (end_of w.ends e)) ≡ true
@@ -226,8 +189,8 @@ module _ (before : List Numbered) (mark : ℕ) (now : Moment) (h : Marked before
 
       pub starts : Flows the_pair [] now
       starts = record {
-        routers_is = refl;
-        clients_is = refl;
+        routers = λ x. refl;
+        clients = same_clients now.world.clients;
         ends_are = λ e. refl;
         calm = λ e. (calm_end e).0;
         calm_queues = λ e. (calm_end e).1;

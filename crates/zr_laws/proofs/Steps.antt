@@ -1,31 +1,30 @@
--- Each step of a phase keeps the flow: a sample is written to the publisher's wire, handled from a router's wire into its queues, or sent from
+-- Each step of a phase keeps the flow: a sample or a query is written to the publisher's wire, handled from a router's wire into its queues, or sent from
 -- a router's queue to the next router's wire or to the receiver; a mark moves nothing, and neither does a message that a router takes in
 -- silence. One lemma a kind of step, from what the step does to each end's wire and queue.
 use Rattle.std.proofs.Common.{◌≡◌, ℕ, Bool, true, false, cond, List, [], ◌∷◌, ◌++◌, Option, Some, None, refl, sym, ap, ◌∙◌, append-nil, inl, inr}
-use Rattle.std.specs.Prelude.{◌&&◌, ◌||◌, not, is_some}
+use Rattle.std.specs.Prelude.{◌&&◌, ◌||◌, not, is_some, is_none}
 use Rattle.std.specs.List.{list_all}
-use Rattle.std.proofs.lemmas.Bool.{and_parts, and_from}
-use Rattle.std.proofs.lemmas.Grind.{flat_map-append}
+use Rattle.std.proofs.lemmas.Bool.{true≢false, and_parts, and_from}
 use Rattle.std.proofs.lemmas.List.Elements.{filter-append}
 use Rattle.zr_id.specs.Zid.{is_named}
 use Rattle.zr_tree.specs.Tree.{is_child}
-use Rattle.zr_msg.specs.declared.content.Parts.{Parts}
 use Rattle.zr_msg.specs.declared.msg.Msg.{Msg}
-use Rattle.zr_msg.specs.declared.msg.Msg.TheVariants as m
 use Rattle.zr_command.specs.declared.command.Act.{Act}
 use Rattle.zr_command.specs.declared.command.Act.TheVariants as c
 use Rattle.zr_command.specs.declared.report.ReportLine.{ReportLine}
 use Rattle.zr_command.specs.declared.report.ReportLine.TheVariants as line
-use Rattle.zr_network.specs.World.{Tagged, EndState, End, Ends, ClientState, RouterState, is_end, client_of, end_of, with_end, sent, with_queue, is_calm}
+use Rattle.zr_network.specs.World.{Tagged, EndState, End, Ends, ClientState, RouterState, is_end, client_of, end_of, with_end, sent, with_queue, unsettles, is_calm}
 use Rattle.zr_network.specs.Joined.{graph}
-use Rattle.zr_network.specs.Acts.{shown}
+use Rattle.zr_network.specs.Acts.{received, shown}
 use Rattle.zr_network.specs.Moments.{Numbered, Moment}
-use Rattle.zr_guarantee.specs.Item.{Item}
-use Rattle.zr_guarantee.specs.Broker.{wants}
-use Rattle.zr_guarantee.specs.Sent.{item_of, sent_in, sent_to}
+use Rattle.zr_guarantee.specs.Item.{Item, Carried}
+use Rattle.zr_guarantee.specs.Broker.{is_for, publication, item_for}
+use Rattle.zr_guarantee.specs.Sent.{carried_by, items_of, item_of, sent_to}
+use Rattle.zr_network.proofs.Clients.{client_was, there_same, same_received}
+use Rattle.zr_laws.proofs.Told.{sent_append, sent_taken}
 use Rattle.zr_network.proofs.Names.{names, same_name}
 use Rattle.zr_network.proofs.Ends.{end_parts, same_end, read_with_end, keep_with_end, test_with_end, read_changed, keep_changed}
-use Rattle.zr_network.proofs.Cases.{on_publish, on_take, on_mark, on_show}
+use Rattle.zr_network.proofs.Cases.{Says, on_said, on_take, on_mark, on_show}
 use Rattle.zr_network.proofs.Lists.{all_both}
 use Rattle.zr_laws.proofs.Places.{Sent, Queue, Wire, Hop, hops, along, keeps, gains, handled, taken, written}
 use Rattle.zr_settled.proofs.Worlds.{queue_at, wire_at}
@@ -33,86 +32,88 @@ use Rattle.zr_settled.proofs.Ends.{other_end}
 use Rattle.zr_laws.proofs.Pushes.{names_tree}
 use Rattle.zr_laws.proofs.Watch.{shows_nothing}
 use Rattle.zr_settled.proofs.Orderly.{turned_end}
-use Rattle.zr_laws.proofs.Held.{items_both, loses, wire_adds, wanted_both, kept_both, there, apart, end_is}
+use Rattle.zr_laws.proofs.Held.{items_both, loses, wire_adds, wanted_both, kept_both, there, apart, clients_still, end_is}
 use Rattle.zr_laws.proofs.Pair.{Pair, items, of_publisher, wanted_of, kept_for, held, way, has_router, comes_down, fits, Flows, OnWay, Between, IsRouted, for_receiver, sent_more, from_more, from_same}
 
 module _ (p : Pair) (routed : IsRouted p) (done : List Numbered) (now : Moment) (h : Flows p done now) where
   abbrev es : Ends
   es = now.world.ends
 
-  -- ---- publish
+  -- ---- a client says something
 
-  -- what the publisher writes for the receiver
-  wire_gains : (n : ℕ) (client : List ℕ) (content : Parts) → p.by n ≡ is_named p.publisher client → (ws : List Tagged) →
-      wanted_of p (items (cond (is_named client p.publisher) (ws ++ record { msg = m.Push None content; tag = n } ∷ []) ws))
-      ≡ wanted_of p (items ws) ++ for_receiver p.before p.publisher p.receiver (n, c.Publish client content)
-  wire_gains n client content agrees ws = by (is_named client p.publisher) refl
+  -- what a client's message carries, of what its line publishes: the publisher's is what its line has for the receiver, another one's line has nothing
+  -- for it; and where the line is the publisher's, the message is the publisher's own or carries nothing
+  pub record IsSaid (n : ℕ) (act : Act) (client : List ℕ) (msg : Msg) : Type 0 where
+    pub calm : unsettles msg ≡ false
+    pub own : is_named client p.publisher ≡ true → wanted_of p (item_of msg n) ≡ for_receiver p.before p.publisher p.receiver (n, act)
+    pub other : is_named client p.publisher ≡ false → for_receiver p.before p.publisher p.receiver (n, act) ≡ []
+    pub writer : p.by n ≡ true → is_none (carried_by msg) ≡ false → is_named p.publisher client ≡ true
+
+  -- what comes to a wire
+  wire_gains : (n : ℕ) (act : Act) (client : List ℕ) (msg : Msg) → IsSaid n act client msg → (ws : List Tagged) →
+      wanted_of p (items (cond (is_named client p.publisher) (ws ++ record { msg = msg; tag = n } ∷ []) ws)) ≡ wanted_of p (items ws) ++ for_receiver p.before p.publisher p.receiver (n, act)
+  wire_gains n act client msg said ws = by (is_named client p.publisher) refl
     where
-      item : Item
-      item = record { line = n; content = content }
-
-      w : Bool
-      w = wants p.before p.publisher p.receiver content.key
-
       by : (b : Bool) → is_named client p.publisher ≡ b →
-          wanted_of p (items (cond b (ws ++ record { msg = m.Push None content; tag = n } ∷ []) ws))
-          ≡ wanted_of p (items ws) ++ cond (is_named p.publisher client && w) (item ∷ []) []
+          wanted_of p (items (cond b (ws ++ record { msg = msg; tag = n } ∷ []) ws)) ≡ wanted_of p (items ws) ++ for_receiver p.before p.publisher p.receiver (n, act)
       by true e =
-          ap (wanted_of p) (items_both ws (record { msg = m.Push None content; tag = n } ∷ []))
-          ∙ wanted_both p (items ws) (item ∷ [])
-          ∙ ap (λ z. wanted_of p (items ws) ++ cond (z && w) (item ∷ []) []) agrees
-      by false e =
-          sym (append-nil (wanted_of p (items ws)))
-          ∙ ap (λ z. wanted_of p (items ws) ++ cond (z && w) (item ∷ []) []) (sym (names.symm p.publisher client ∙ e))
+          ap (wanted_of p) (items_both ws (record { msg = msg; tag = n } ∷ []))
+          ∙ wanted_both p (items ws) (item_of msg n ++ [])
+          ∙ ap (λ z. wanted_of p (items ws) ++ wanted_of p z) (append-nil (item_of msg n))
+          ∙ ap (λ z. wanted_of p (items ws) ++ z) (said.own e)
+      by false e = sym (append-nil (wanted_of p (items ws))) ∙ ap (λ z. wanted_of p (items ws) ++ z) (sym (said.other e))
 
-  pub publish_keeps : (n : ℕ) (client : List ℕ) (content : Parts) → p.by n ≡ is_named p.publisher client → (s : ClientState) → client_of now.world.clients client ≡ Some s →
-      (e : EndState) → end_of es (s.router, client) ≡ Some e → Flows p (done ++ (n, c.Publish client content) ∷ []) (on_publish now n client content s e)
-  publish_keeps n client content agrees s is_client e found = record {
-    routers_is = h.routers_is;
-    clients_is = h.clients_is;
+  pub says_keeps : (n : ℕ) (act : Act) (client : List ℕ) (msg : Msg) → IsSaid n act client msg → Says now (Flows p (done ++ (n, act) ∷ [])) n client msg
+  says_keeps n act client msg said s is_client e found unbroken clients same = record {
+    routers = h.routers;
+    clients = clients_still p routed done now h clients same;
     ends_are = λ q. kept is_some refl q ∙ h.ends_are q;
-    calm = λ q. test_with_end es (s.router, client) e' (λ o. list_all is_calm (wire_at o)) q e found (h.calm q) (λ same all. all_both is_calm e.wire (x ∷ []) all refl);
+    calm = λ q. test_with_end es (s.router, client) e' (λ o. list_all is_calm (wire_at o)) q e found (h.calm q)
+        (λ k all. all_both is_calm e.wire (x ∷ []) all (and_from (is_calm x) true (ap not said.calm) refl));
     calm_queues = λ q. kept (λ o. list_all is_calm (queue_at o)) refl q ∙ h.calm_queues q;
     wires = λ u v. test_with_end es (s.router, client) e' (λ o. list_all (fits p u v) (wire_at o)) (u, v) e found (h.wires u v)
-        (λ same all. all_both (fits p u v) e.wire (x ∷ []) all (and_from (fits p u v x) true (fits_own u v same) refl));
+        (λ k all. all_both (fits p u v) e.wire (x ∷ []) all (and_from (fits p u v x) true (fits_own u v k) refl));
     queues = λ u v r. kept (λ o. list_all (fits p v u) (queue_at o)) refl (u, v) ∙ h.queues u v r;
-    flow = gains (held p now) (held p next) (for_receiver p.before p.publisher p.receiver (n, c.Publish client content)) (way p)
-        (written (OnWay p) (Between p) p.publisher (held p now) (held p next) (for_receiver p.before p.publisher p.receiver (n, c.Publish client content)) queue_is between_is last_is p.receiver p.first p.more routed.whole_way sent_is)
-        ∙ ap (λ z. z ++ for_receiver p.before p.publisher p.receiver (n, c.Publish client content)) h.flow
-        ∙ sym (from_more p.before done (n, c.Publish client content) p.publisher p.receiver);
+    flow = gains (held p now) (held p next) (for_receiver p.before p.publisher p.receiver (n, act)) (way p)
+        (written (OnWay p) (Between p) p.publisher (held p now) (held p next) (for_receiver p.before p.publisher p.receiver (n, act)) queue_is between_is last_is p.receiver p.first p.more routed.whole_way sent_is)
+        ∙ ap (λ z. z ++ for_receiver p.before p.publisher p.receiver (n, act)) h.flow
+        ∙ sym (from_more p.before done (n, act) p.publisher p.receiver);
   }
     where
       x : Tagged
-      x = record { msg = m.Push None content; tag = n }
+      x = record { msg = msg; tag = n }
 
       e' : EndState
-      e' = sent e (m.Push None content) n
+      e' = sent e msg n
 
       next : Moment
-      next = on_publish now n client content s e
+      next = on_said now n client msg s e clients
 
       kept : {Y : Type 0} (f : Option EndState → Y) → f (Some e') ≡ f (Some e) → (q : End) → f (end_of next.world.ends q) ≡ f (end_of es q)
-      kept f same q = keep_with_end es (s.router, client) e' f q e found same
+      kept f alike q = keep_with_end es (s.router, client) e' f q e found alike
 
       -- the publisher's own wire is at its router
       at_root : is_named p.publisher client ≡ true → s.router ≡ p.root
-      at_root own = routed.home s (ap (λ z. client_of z p.publisher) (sym h.clients_is) ∙ ap (client_of now.world.clients) (same_name p.publisher client own) ∙ is_client)
+      at_root own =
+          let was = client_was p.world.clients now.world.clients h.clients p.publisher s (ap (client_of now.world.clients) (same_name p.publisher client own) ∙ is_client) in
+          sym (ap (λ (q : ClientState). q.router) was.2) ∙ routed.home was.0 was.1
 
       no_router : has_router p client ≡ false
-      no_router = routed.clients_apart client (ap (λ z. is_some (client_of z client)) (sym h.clients_is) ∙ ap is_some is_client)
+      no_router = routed.clients_apart client (sym (there_same p.world.clients now.world.clients h.clients client) ∙ ap is_some is_client)
 
       fits_own : (u v : List ℕ) → is_end (s.router, client) (u, v) ≡ true → fits p u v x ≡ true
-      fits_own u v same = by (p.by n) refl
+      fits_own u v k = by (p.by n) refl (is_none (carried_by msg)) refl
         where
           parts : (is_named s.router u ≡ true) × (is_named client v ≡ true)
-          parts = and_parts (is_named s.router u) (is_named client v) (sym (end_parts (s.router, client) (u, v)) ∙ same)
+          parts = and_parts (is_named s.router u) (is_named client v) (sym (end_parts (s.router, client) (u, v)) ∙ k)
 
-          by : (b : Bool) → p.by n ≡ b → (not b || comes_down p u v x.msg) ≡ true
-          by false k = refl
-          by true k =
-              let own : is_named p.publisher client ≡ true = sym agrees ∙ k in
+          by : (b : Bool) → p.by n ≡ b → (t : Bool) → is_none (carried_by msg) ≡ t → (not b || (t || comes_down p u v msg)) ≡ true
+          by false f t g = refl
+          by true f true g = refl
+          by true f false g =
+              let own : is_named p.publisher client ≡ true = said.writer f g in
               let root_is : is_named p.root u ≡ true = ap (is_named p.root) (sym (same_name s.router u parts.0) ∙ at_root own) ∙ names.refl p.root in
-              ap (λ z. cond z (is_named p.publisher v) (is_child (graph p.world) p.root v u) && (z || names_tree p.root x.msg)) root_is
+              ap (λ z. cond z (is_named p.publisher v) (is_child (graph p.world) p.root v u) && (z || names_tree p.root msg)) root_is
               ∙ ap (λ z. z && true) (ap (is_named p.publisher) (sym (same_name client v parts.1)) ∙ own)
 
       sent_is : held p next (Sent p.receiver) ≡ held p now (Sent p.receiver)
@@ -130,12 +131,12 @@ module _ (p : Pair) (routed : IsRouted p) (done : List Numbered) (now : Moment) 
           other : is_end (s.router, client) (r, v) ≡ false
           other = other_end s.router r client v (names.symm client v ∙ apart p routed done now h v client k.router no_router)
 
-      last_is : (to r : List ℕ) → OnWay p to r p.publisher → held p next (Wire r p.publisher) ≡ held p now (Wire r p.publisher) ++ for_receiver p.before p.publisher p.receiver (n, c.Publish client content)
+      last_is : (to r : List ℕ) → OnWay p to r p.publisher → held p next (Wire r p.publisher) ≡ held p now (Wire r p.publisher) ++ for_receiver p.before p.publisher p.receiver (n, act)
       last_is to r k =
           ap (λ z. wanted_of p (items z)) (wire_reads (r, p.publisher)
           ∙ ap (λ b. cond b (e.wire ++ x ∷ []) (wire_at (end_of es (r, p.publisher)))) (own_end (is_named client p.publisher) refl)
           ∙ by (is_named client p.publisher) refl)
-          ∙ wire_gains n client content agrees (wire_at (end_of es (r, p.publisher)))
+          ∙ wire_gains n act client msg said (wire_at (end_of es (r, p.publisher)))
         where
           own_end : (b : Bool) → is_named client p.publisher ≡ b → is_end (s.router, client) (r, p.publisher) ≡ is_named client p.publisher
           own_end true own = end_parts (s.router, client) (r, p.publisher)
@@ -147,13 +148,41 @@ module _ (p : Pair) (routed : IsRouted p) (done : List Numbered) (now : Moment) 
           by false own = refl
           by true own = ap (λ z. z ++ x ∷ []) (sym (ap (λ z. wire_at (end_of es z)) (sym (same_end (s.router, client) (r, p.publisher) (own_end true own ∙ own))) ∙ ap wire_at found))
 
+  -- a sample or a query
+  pub publication_said : (n : ℕ) (act : Act) (client : List ℕ) (msg : Msg) (carried : Carried) → publication act ≡ Some (record { client = client; carried = carried }) → carried_by msg ≡ Some carried →
+      unsettles msg ≡ false → p.by n ≡ is_named p.publisher client → IsSaid n act client msg
+  publication_said n act client msg carried published carries calm agrees = record {
+    calm = calm;
+    own = λ e. ap (λ o. wanted_of p (items_of o n)) carries ∙ ap (λ b. cond (b && is_for p.before p.publisher p.receiver carried) (item ∷ []) []) agrees ∙ sym for_it;
+    other = λ e. for_it ∙ ap (λ b. cond (b && is_for p.before p.publisher p.receiver carried) (item ∷ []) []) (names.symm p.publisher client ∙ e);
+    writer = λ f g. sym agrees ∙ f;
+  }
+    where
+      item : Item
+      item = record { line = n; carried = carried }
+
+      for_it : for_receiver p.before p.publisher p.receiver (n, act) ≡ cond (is_named p.publisher client && is_for p.before p.publisher p.receiver carried) (item ∷ []) []
+      for_it = ap (item_for p.before p.publisher p.receiver n) published
+
+  -- a reply or an end
+  pub answer_said : (n : ℕ) (act : Act) (client : List ℕ) (msg : Msg) → publication act ≡ None → carried_by msg ≡ None → unsettles msg ≡ false → IsSaid n act client msg
+  answer_said n act client msg silent carries calm = record {
+    calm = calm;
+    own = λ e. ap (λ o. wanted_of p (items_of o n)) carries ∙ sym for_it;
+    other = λ e. for_it;
+    writer = λ f g. absurd (true≢false (sym (ap is_none carries) ∙ g));
+  }
+    where
+      for_it : for_receiver p.before p.publisher p.receiver (n, act) ≡ []
+      for_it = ap (item_for p.before p.publisher p.receiver n) silent
+
   -- ---- take
 
   pub take_keeps : (n : ℕ) (router to : List ℕ) (s : EndState) → end_of es (router, to) ≡ Some s → (msg : Msg) (tag : ℕ) (xs : List Tagged) → s.queue ≡ record { msg = msg; tag = tag } ∷ xs →
       Flows p (done ++ (n, c.Take router to) ∷ []) (on_take now router to s msg tag xs)
   take_keeps n router to s found msg tag xs front = record {
-    routers_is = h.routers_is;
-    clients_is = h.clients_is;
+    routers = h.routers;
+    clients = clients_still p routed done now h (received now.world.clients to msg (client_of now.world.clients to)) (same_received now.world.clients to msg);
     ends_are = λ q. kept is_some refl (λ y. refl) q ∙ h.ends_are q;
     calm = λ q. ap (list_all is_calm) (wire_reads q) ∙ gains_one is_calm (is_end (to, router) q && is_some (end_of es q)) (wire_at (end_of es q)) (λ k. first_of is_calm (h.calm_queues (router, to))) (h.calm q);
     calm_queues = λ q. ap (list_all is_calm) (queue_reads q) ∙ loses is_calm one xs (is_end (router, to) q) (queue_at (end_of es q)) (queue_was q) (h.calm_queues q);
@@ -209,7 +238,7 @@ module _ (p : Pair) (routed : IsRouted p) (done : List Numbered) (now : Moment) 
       moved = kept_for p to (item_of msg tag)
 
       sent_is : held p next (Sent p.receiver) ≡ of_publisher p (sent_to now.report p.receiver ++ cond (is_named p.receiver to) (item_of msg tag) [])
-      sent_is = ap (of_publisher p) (sent_more now.report (line.Taken router to msg tag) p.receiver)
+      sent_is = ap (of_publisher p) (sent_more now.report (line.Taken router to msg tag) p.receiver ∙ ap (λ z. sent_to now.report p.receiver ++ z) (sent_taken router to msg tag p.receiver))
 
       queue_is : (r v : List ℕ) → held p next (Queue r v) ≡ kept_for p v (items (cond (is_end (router, to) (r, v)) xs (queue_at (end_of es (r, v)))))
       queue_is r v = ap (λ z. kept_for p v (items z)) (queue_reads (r, v))
@@ -289,19 +318,19 @@ module _ (p : Pair) (routed : IsRouted p) (done : List Numbered) (now : Moment) 
 
   -- ---- mark and show
 
-  -- lines of the report without samples, in the same world
+  -- lines of the report without samples and requests, in the same world
   told_keeps : (n : ℕ) (act : Act) (xs : List ReportLine) → sent_to xs p.receiver ≡ [] → for_receiver p.before p.publisher p.receiver (n, act) ≡ [] →
       Flows p (done ++ (n, act) ∷ []) (record { world = now.world; report = now.report ++ xs })
   told_keeps n act xs none nothing = record {
-    routers_is = h.routers_is;
-    clients_is = h.clients_is;
+    routers = h.routers;
+    clients = h.clients;
     ends_are = h.ends_are;
     calm = h.calm;
     calm_queues = h.calm_queues;
     wires = h.wires;
     queues = h.queues;
     flow = ap (λ z. of_publisher p z ++ along (held p next) (hops p.receiver (p.first ∷ p.more) p.publisher))
-        (flat_map-append (sent_in p.receiver) now.report xs ∙ ap (λ z. sent_to now.report p.receiver ++ z) none ∙ append-nil (sent_to now.report p.receiver))
+        (sent_append now.report xs p.receiver ∙ ap (λ z. sent_to now.report p.receiver ++ z) none ∙ append-nil (sent_to now.report p.receiver))
         ∙ ap (λ z. held p now (Sent p.receiver) ++ z) (keeps (held p now) (held p next) [] (hops p.receiver (p.first ∷ p.more) p.publisher)
         (handled (OnWay p) (Between p) p.publisher (held p now) (held p next) [] (λ to r v k. inr (refl, refl)) p.receiver (p.first ∷ p.more) routed.whole_way))
         ∙ h.flow ∙ sym (from_same p.before done (n, act) p.publisher p.receiver nothing);

@@ -1,11 +1,10 @@
 -- A test that all messages pass which are under way, and one that all samples pass which were sent: acts that put no other
 -- messages on their way keep it so. It serves tags, and worlds in which no client has sent anything.
-use Rattle.std.proofs.Common.{◌≡◌, ℕ, Bool, true, false, cond, List, [], ◌∷◌, ◌++◌, map, Option, Some, None, refl, sym, ap, ◌∙◌, append-nil}
+use Rattle.std.proofs.Common.{◌≡◌, ℕ, Bool, true, false, cond, List, [], ◌∷◌, ◌++◌, map, Option, Some, None, refl, sym, ap, ◌∙◌}
 use Rattle.std.specs.Prelude.{not, is_some, filter, IfSome}
-use Rattle.std.specs.List.{list_all, flat_map}
+use Rattle.std.specs.List.{list_all}
 use Rattle.std.specs.Option.{option_map_or}
 use Rattle.std.proofs.lemmas.Bool.{and_parts, and_from}
-use Rattle.std.proofs.lemmas.Grind.{flat_map-append}
 use Rattle.zr_id.specs.Record.{RecordState}
 use Rattle.zr_id.specs.Zid.{is_named}
 use Rattle.zr_id.specs.declared.link.LinkNo.{LinkNo}
@@ -14,6 +13,7 @@ use Rattle.zr_graph.specs.Base.{BaseState}
 use Rattle.zr_log.specs.declared.log.Log.{Log}
 use Rattle.zr_msg.specs.declared.decl.Kind.{Kind}
 use Rattle.zr_msg.specs.declared.decl.Kind.TheVariants as sort
+use Rattle.zr_msg.specs.Extras.{no_extras}
 use Rattle.zr_msg.specs.declared.msg.Msg.{Msg}
 use Rattle.zr_msg.specs.declared.msg.Msg.TheVariants as m
 use Rattle.zr_msg.specs.declared.event.Event.{Event}
@@ -32,8 +32,9 @@ use Rattle.zr_network.specs.World.{Tagged, ClientState, RouterState, EndState, E
 use Rattle.zr_network.specs.Acts.{peer_of, up_event, sends_to, all_queued, parent_line, source_line, shown_base, shown, declare_step, undeclare_step, outcome}
 use Rattle.zr_network.specs.Moments.{Moment, went}
 use Rattle.zr_guarantee.specs.Item.{Item}
-use Rattle.zr_guarantee.specs.Sent.{item_of, sent_in, sent_to}
-use Rattle.zr_network.proofs.Cases.{for_router, for_client, for_link, for_up, for_break, for_down, for_declare, for_undeclare, for_publish, for_handle, for_take, for_mark, for_show}
+use Rattle.zr_guarantee.specs.Sent.{item_of, sent_to}
+use Rattle.zr_laws.proofs.Told.{sent_append, sent_taken}
+use Rattle.zr_network.proofs.Cases.{for_router, for_client, for_link, for_up, for_break, for_down, for_declare, for_undeclare, Says, publish_says, get_says, reply_says, end_says, for_handle, for_take, for_mark, for_show}
 use Rattle.zr_network.proofs.Lists.{all_both}
 use Rattle.zr_settled.proofs.Ends.{AtEnds, of_found, with_end_all, put_end_all, changed_all, all_queued_all}
 
@@ -62,6 +63,9 @@ Allows t n (c.Unsub client id) = t (record { msg = m.Unsub id; tag = n }) ≡ tr
 Allows t n (c.Able client id key complete) = t (record { msg = m.Able id key complete; tag = n }) ≡ true
 Allows t n (c.Unable client id) = t (record { msg = m.Unable id; tag = n }) ≡ true
 Allows t n (c.Publish client content) = t (record { msg = m.Push None content; tag = n }) ≡ true
+Allows t n (c.Get client number target content) = t (record { msg = m.Request None number target content; tag = n }) ≡ true
+Allows t n (c.Reply client number content) = t (record { msg = m.Response number content; tag = n }) ≡ true
+Allows t n (c.End client number) = t (record { msg = m.Final number no_extras; tag = n }) ≡ true
 Allows t n (c.Handle router from) = Unit {0}
 Allows t n (c.Take router to) = Unit {0}
 Allows t n c.Mark = Unit {0}
@@ -72,21 +76,21 @@ Allows t n (c.Show router) = Unit {0}
 -- the report of a router's tables has no sample
 shows_no_base : (b : BaseState) (q : List ℕ) → sent_to (shown_base b) q ≡ []
 shows_no_base b q =
-    flat_map-append (sent_in q) (map (λ r. line.Record r) b.records) (map (λ root. parent_line b root) (filter (λ id. not (is_named id b.me)) (ids b.records)))
+    sent_append (map (λ r. line.Record r) b.records) (map (λ root. parent_line b root) (filter (λ id. not (is_named id b.me)) (ids b.records))) q
     ∙ rw (records b.records, parents (filter (λ id. not (is_named id b.me)) (ids b.records))) refl
   where
-    records : (rs : List RecordState) → flat_map (sent_in q) (map (λ r. line.Record r) rs) ≡ []
+    records : (rs : List RecordState) → sent_to (map (λ r. line.Record r) rs) q ≡ []
     records [] = refl
     records (r ∷ rs) = records rs
 
-    parents : (xs : List (List ℕ)) → flat_map (sent_in q) (map (λ root. parent_line b root) xs) ≡ []
+    parents : (xs : List (List ℕ)) → sent_to (map (λ root. parent_line b root) xs) q ≡ []
     parents [] = refl
     parents (x ∷ xs) = parents xs
 
 pub shows_nothing : (node : NodeState) (q : List ℕ) → sent_to (shown node) q ≡ []
-shows_nothing node q = flat_map-append (sent_in q) (shown_base node.base) (map source_line node.known.logs) ∙ rw (shows_no_base node.base q) (sources node.known.logs)
+shows_nothing node q = sent_append (shown_base node.base) (map source_line node.known.logs) q ∙ rw (shows_no_base node.base q) (sources node.known.logs)
   where
-    sources : (logs : List Log) → flat_map (sent_in q) (map source_line logs) ≡ []
+    sources : (logs : List Log) → sent_to (map source_line logs) q ≡ []
     sources [] = refl
     sources (x ∷ xs) = sources xs
 
@@ -127,7 +131,7 @@ module _ (t : Tagged → Bool) (i : Item → Bool) (carried : (msg : Msg) (tag :
   module _ (now : Moment) (h : Watched t i now) where
     -- the report gains lines without samples
     more : (xs : List ReportLine) → ((q : List ℕ) → list_all i (sent_to xs q) ≡ true) → (q : List ℕ) → list_all i (sent_to (now.report ++ xs) q) ≡ true
-    more xs k q = ap (list_all i) (flat_map-append (sent_in q) now.report xs) ∙ all_both i (sent_to now.report q) (sent_to xs q) (h.sends_only q) (k q)
+    more xs k q = ap (list_all i) (sent_append now.report xs q) ∙ all_both i (sent_to now.report q) (sent_to xs q) (h.sends_only q) (k q)
 
     abbrev es : Ends
     es = now.world.ends
@@ -147,6 +151,9 @@ module _ (t : Tagged → Bool) (i : Item → Bool) (carried : (msg : Msg) (tag :
         IfSome (went now (undeclare_step now.world n client kind id msg)) (Watched t i)
     undeclares n client kind id msg k = for_undeclare now (Watched t i) n client kind id msg
         (λ s e known en ee unbroken. record { waits = wrote n client s msg en ee k; sends_only = more [] (λ q. refl) })
+
+    says : (n : ℕ) (client : List ℕ) (msg : Msg) → t (record { msg = msg; tag = n }) ≡ true → Says now (Watched t i) n client msg
+    says n client msg k s e en ee unbroken clients same = record { waits = wrote n client s msg en ee k; sends_only = more [] (λ q. refl) }
 
     pub act_watched : (n : ℕ) (act : Act) → Allows t n act → IfSome (went now (outcome now.world n act)) (Watched t i)
     unfolding outcome
@@ -181,8 +188,10 @@ module _ (t : Tagged → Bool) (i : Item → Bool) (carried : (msg : Msg) (tag :
     act_watched n (c.Unsub client id) k = undeclares n client sort.Sub id (m.Unsub id) k
     act_watched n (c.Able client id key complete) k = declares n client (able_kind complete) id key (m.Able id key complete) k
     act_watched n (c.Unable client id) k = undeclares n client sort.Able id (m.Unable id) k
-    act_watched n (c.Publish client content) k = for_publish now (Watched t i) n client content
-        (λ s e en ee unbroken. record { waits = wrote n client s (m.Push None content) en ee k; sends_only = more [] (λ q. refl) })
+    act_watched n (c.Publish client content) k = publish_says now (Watched t i) n client content (says n client (m.Push None content) k)
+    act_watched n (c.Get client number target content) k = get_says now (Watched t i) n client number target content (says n client (m.Request None number target content) k)
+    act_watched n (c.Reply client number content) k = reply_says now (Watched t i) n client number content (says n client (m.Response number content) k)
+    act_watched n (c.End client number) k = end_says now (Watched t i) n client number (says n client (m.Final number no_extras) k)
     act_watched n (c.Handle router from) k = for_handle now (Watched t i) router from
         (λ r er there s es_ up msg tag xs front l el taken.
         let old = of_found (Passes t) (end_of es (router, from)) s es_ (h.waits (router, from)) in
@@ -199,12 +208,12 @@ module _ (t : Tagged → Bool) (i : Item → Bool) (carried : (msg : Msg) (tag :
         record {
           waits = changed_all (Passes t) (with_end es (router, to) (with_queue s xs))
               (with_end_all (Passes t) es h.waits (router, to) (with_queue s xs) (ap is_some es_) (old.0, parts.1)) (to, router) (λ e. sent e msg tag) (λ e p. sent_passes t e msg tag parts.0 p);
-          sends_only = more (line.Taken router to msg tag ∷ []) (λ q. taken router to msg tag parts.0 (is_named q to));
+          sends_only = more (line.Taken router to msg tag ∷ []) (λ q. ap (list_all i) (sent_taken router to msg tag q) ∙ taken msg tag parts.0 (is_named q to));
         })
       where
-        taken : (router to : List ℕ) (msg : Msg) (tag : ℕ) → t (record { msg = msg; tag = tag }) ≡ true → (b : Bool) → list_all i (cond b (item_of msg tag) [] ++ []) ≡ true
-        taken router to msg tag p true = ap (list_all i) (append-nil (item_of msg tag)) ∙ carried msg tag p
-        taken router to msg tag p false = refl
+        taken : (msg : Msg) (tag : ℕ) → t (record { msg = msg; tag = tag }) ≡ true → (b : Bool) → list_all i (cond b (item_of msg tag) []) ≡ true
+        taken msg tag p true = carried msg tag p
+        taken msg tag p false = refl
     act_watched n c.Mark k = for_mark now (Watched t i) n (λ settled joined. record { waits = h.waits; sends_only = more (line.Mark n ∷ []) (λ q. refl) })
     act_watched n (c.Show router) k = for_show now (Watched t i) router
         (λ r er. record { waits = h.waits; sends_only = more (line.Show router ∷ shown r.node) (λ q. ap (list_all i) (shows_nothing r.node q)) })

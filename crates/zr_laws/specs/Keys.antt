@@ -1,13 +1,14 @@
--- The keys of a script's acts: each is the canonical text of an expression. So whether a subscription asks for a sample, which the
--- definitions test on texts, is whether some key is matched by both expressions.
+-- The keys of a script's acts: each is the canonical text of an expression. So whether a subscription asks for a sample or a queryable can answer
+-- a query, which the definitions test on texts, is whether some key is matched by both expressions, or the one covers the other.
 use Rattle.std.specs.Prelude.{◌≡◌, ◌↔◌, ℕ, true, List, ◌∷◌, ◌++◌}
 use Rattle.zr_key.specs.Key.{expression_of, IsKeyText}
-use Rattle.zr_match.specs.Match.{Meets}
+use Rattle.zr_match.specs.Match.{Meets, Covers}
+use Rattle.zr_msg.specs.declared.msg.Target.TheVariants.{All, Complete}
 use Rattle.zr_command.specs.declared.command.Act.{Act}
 use Rattle.zr_command.specs.declared.command.Act.TheVariants as a
 use Rattle.zr_network.specs.Moments.{Numbered}
 use Rattle.zr_network.specs.Accepted.{accepted}
-use Rattle.zr_guarantee.specs.Broker.{Declaration, asks_for}
+use Rattle.zr_guarantee.specs.Broker.{Declaration, Queryable, asks_for, can_answer}
 
 -- the key of an act, if it has one, is the canonical text of an expression
 abbrev pub HasKeyText : Act → Type 0
@@ -22,6 +23,9 @@ HasKeyText (a.Unsub client id) = Unit {0}
 HasKeyText (a.Able client id key complete) = IsKeyText key
 HasKeyText (a.Unable client id) = Unit {0}
 HasKeyText (a.Publish client content) = IsKeyText content.key
+HasKeyText (a.Get client number target content) = IsKeyText content.key
+HasKeyText (a.Reply client number content) = IsKeyText content.key
+HasKeyText (a.End client number) = Unit {0}
 HasKeyText (a.Handle router from) = Unit {0}
 HasKeyText (a.Take router to) = Unit {0}
 HasKeyText a.Mark = Unit {0}
@@ -36,3 +40,13 @@ KeysAreTexts = (ls : List (List ℕ)) (before rest : List Numbered) (number : �
 abbrev pub AskingIsMeeting : Type 0
 AskingIsMeeting = (key : List ℕ) (declaration : Declaration) → IsKeyText declaration.key → IsKeyText key →
     (asks_for key declaration ≡ true) ↔ Meets (expression_of declaration.key) (expression_of key)
+
+-- a queryable can answer a query of all exactly where some key is matched by both expressions
+abbrev pub AnsweringIsMeeting : Type 0
+AnsweringIsMeeting = (key : List ℕ) (queryable : Queryable) → IsKeyText queryable.key → IsKeyText key →
+    (can_answer All key queryable ≡ true) ↔ Meets (expression_of queryable.key) (expression_of key)
+
+-- and one of complete queryables alone exactly where it is complete and its expression covers that of the query
+abbrev pub AnsweringIsCovering : Type 0
+AnsweringIsCovering = (key : List ℕ) (queryable : Queryable) → IsKeyText queryable.key → IsKeyText key →
+    (can_answer Complete key queryable ≡ true) ↔ ((queryable.complete ≡ true) × Covers (expression_of queryable.key) (expression_of key))

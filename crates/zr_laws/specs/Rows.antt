@@ -13,7 +13,7 @@ use Rattle.zr_network.specs.World.{is_quiet}
 use Rattle.zr_network.specs.Run.{run_of}
 use Rattle.zr_network.specs.Moments.{Numbered, reached}
 use Rattle.zr_network.specs.Accepted.{accepted}
-use Rattle.zr_guarantee.specs.Item.{Item}
+use Rattle.zr_guarantee.specs.Item.{Item, Sample}
 use Rattle.zr_guarantee.specs.Broker.{from}
 use Rattle.zr_guarantee.specs.Sent.{sent_to}
 use Rattle.zr_guarantee.specs.Refines.{sent_of}
@@ -66,7 +66,7 @@ phase = (7, Publish c1 (value (codes "a/b") (codes "hi"))) ∷ (8, Handle a c1) 
 
 -- what the one broker sends in that script
 abbrev pub sample : Item
-sample = record { line = 7; content = value (codes "a/b") (codes "hi") }
+sample = record { line = 7; carried = Sample (value (codes "a/b") (codes "hi")) }
 
 -- in that script the one broker sends the sample to the subscriber alone, and so does the network
 pub record BrokerSendsIt : Type 0 where
@@ -150,7 +150,7 @@ said_after = (12, Publish c1 (value (codes "a") (codes "x"))) ∷ (13, Publish c
 
 -- of them the one broker sends the deletion alone
 abbrev pub DeletionIsDue : Type 0
-DeletionIsDue = from said_before said_after c1 c2 ≡ record { line = 13; content = deletion (codes "b/c") } ∷ []
+DeletionIsDue = from said_before said_after c1 c2 ≡ record { line = 13; carried = Sample (deletion (codes "b/c")) } ∷ []
 
 -- a run does as many steps as it asks for, and the next one goes on where it stopped, up to the last step that is possible
 abbrev pub RunsGoOn : Type 0

@@ -6,7 +6,7 @@ use Rattle.zr_msg.specs.declared.decl.Kind.TheVariants as k
 use Rattle.zr_msg.specs.declared.decl.Decl.{Decl}
 use Rattle.zr_msg.specs.declared.msg.Target.TheVariants.{Best, All, Complete}
 use Rattle.zr_msg.specs.declared.msg.Msg.TheVariants.{Sub, Unsub, Able, Unable, Interest, EndInterest, ToldSub, ToldAble, ToldUnsub, ToldUnable, ToldEnd, Push, Request, Response, Final, State, Step, Snap}
-use Rattle.zr_language.specs.Command.{plain}
+use Rattle.zr_language.specs.Command.{plain, query_body, reply_body}
 use Rattle.zr_language.specs.Report.{msg_text}
 
 -- three identifiers
@@ -29,18 +29,12 @@ able_b = record { kind = k.Able; key = codes "b" }
 abbrev pub full_ab : Decl
 full_ab = record { kind = k.Full; key = codes "a/b" }
 
--- the bodies of a reply with a value and of one with a deletion, of an error, and of a query
-abbrev pub reply_body : List ℕ → List ℕ
-reply_body payload = 4 ∷ put_body payload
-
+-- the bodies of a reply with a deletion and of an error
 abbrev pub end_body : List ℕ
 end_body = 4 ∷ del_body
 
 abbrev pub error_body : List ℕ
 error_body = 5 ∷ 2 ∷ codes "no"
-
-abbrev pub query_body : List ℕ
-query_body = 3 ∷ []
 
 -- what clients declare, and the end of it
 pub record DeclarationsAreTold : Type 0 where

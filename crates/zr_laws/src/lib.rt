@@ -4,6 +4,7 @@
 
 pub mod keys;
 pub mod networks;
+pub mod queries;
 pub mod refines;
 pub mod rows;
 pub mod runs;

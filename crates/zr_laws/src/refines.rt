@@ -1,13 +1,13 @@
-//! The network refines one broker: what each client was sent is, publisher by publisher, a prefix of what one broker that holds
-//! all clients sends it, and the whole where nothing is under way.
+//! The network delivers samples and requests as one broker does: what each client was sent of them is, publisher by publisher, a prefix of what one
+//! broker that holds all clients sends it, in one order, and the whole where nothing is under way.
 
 ghost use Rattle.zr_network.specs.Accepted.{LinesAreMoments};
-ghost use Rattle.zr_guarantee.specs.Refines.{SamplesRefine};
-ghost use Rattle.zr_guarantee.specs.Scripts.{LinesRefine};
+ghost use Rattle.zr_guarantee.specs.Refines.{PhasesDeliver};
+ghost use Rattle.zr_guarantee.specs.Scripts.{LinesDeliver};
 
-/// From each accepted mark on, at every moment of its phase, in every order of steps.
-pub fn samples_refine()
-    ensures { SamplesRefine }
+/// From each accepted mark on, at every moment of its phase, in every order of steps, samples and requests come as one broker sends them.
+pub fn phases_deliver()
+    ensures { PhasesDeliver }
 {}
 
 /// The accepted acts of a script's lines, a run's steps among them, have ascending numbers and lead to a moment. Its world is
@@ -16,7 +16,7 @@ pub fn lines_are_moments()
     ensures { LinesAreMoments }
 {}
 
-/// Every script's lines refine one broker, a refused script's up to the line that is refused.
-pub fn lines_refine()
-    ensures { LinesRefine }
+/// So it is with every script's lines, a refused script's up to the line that is refused.
+pub fn lines_deliver()
+    ensures { LinesDeliver }
 {}

@@ -34,10 +34,11 @@ use Rattle.zr_routing.specs.Samples.{tree_of}
 use Rattle.zr_routing.specs.Snapshots.{snapshots_for, snapshots_on, sends_snapshots}
 use Rattle.zr_table.specs.State.{NodeState, tables}
 use Rattle.zr_table.specs.Table.{joined, parted, own_record, all_records, is_other_router, sends_own, sends_up, sends_parted, sends_down, sends_rows, sends_first, sends, rows_declared, rows_undeclared, rows_left, with_rows, row, key_of, able_kind, known_step, known_snap, after}
+use Rattle.zr_settled.proofs.Answering.{request_silent, reply_silent, final_silent, behind_ends}
 use Rattle.zr_settled.proofs.Spreading.{Name}
 use Rattle.zr_settled.proofs.Silent.{silent_if, push_silent}
 use Rattle.zr_settled.proofs.Positions.{position_with, decls_with, me_changes, position_changes, position_others, logs_found}
-use Rattle.zr_settled.proofs.Values.{brings, Sets, AllMade, made_later, made_of_append, made_if, made_on, made_old, steps_made, sets_on, decls_changes, decls_others, rows_lead, decls_fold, set_again, snaps_made}
+use Rattle.zr_settled.proofs.Values.{brings_none, brings, Sets, AllMade, made_later, made_of_append, made_if, made_on, made_old, steps_made, sets_on, decls_changes, decls_others, rows_lead, decls_fold, set_again, snaps_made}
 
 -- What a router knows is what was made, and its own set is what its clients have declared.
 pub record KnowsMade (made : Sets) (n : NodeState) : Type 0 where
@@ -241,9 +242,10 @@ module _ (n : NodeState) where
     from_brings sets link (ToldEnd interest) came = keeps (From link (ToldEnd interest)) refl refl (λ to. refl)
     from_brings sets link (Push tree content) came =
         keeps (From link (Push tree content)) refl refl (λ to. push_silent brings (tables n) link.0 content (λ tree. refl) (tree_of (tables n) (link_at n.links link.0) tree) to.0)
-    from_brings sets link (Request tree id target content) came = keeps (From link (Request tree id target content)) refl refl (λ to. refl)
-    from_brings sets link (Response id content) came = keeps (From link (Response id content)) refl refl (λ to. refl)
-    from_brings sets link (Final id extras) came = keeps (From link (Final id extras)) refl refl (λ to. refl)
+    from_brings sets link (Request tree id target content) came =
+        keeps (From link (Request tree id target content)) refl refl (λ to. request_silent brings brings_none (tables n) n.pending link.0 tree id target content to.0)
+    from_brings sets link (Response id content) came = keeps (From link (Response id content)) refl refl (λ to. reply_silent brings brings_none n.pending link.0 id content to.0)
+    from_brings sets link (Final id extras) came = keeps (From link (Final id extras)) refl refl (λ to. final_silent brings brings_none n.pending link.0 id extras to.0)
     from_brings sets link (State r) came = keeps (From link (State r)) refl refl (λ to. silent_if brings (leads_to_router n.links link.0 && is_newer n.base r && is_other_router n link.0 to.0) (State r ∷ []) refl)
     from_brings sets link (Step source number added decl) came = step_brings link source number added decl came
     from_brings sets link (Snap source number ds) came = snap_brings link source number ds sets came
@@ -253,5 +255,6 @@ module _ (n : NodeState) where
 
     pub down_brings : (link : LinkNo) → Brings n (Down link) made most
     down_brings link = rows_bring (Down link) (rows_left n link.0) refl refl (λ to.
-        flat_map-append brings (sends_down n link.0 (link_at n.links link.0) to.0) (sends_rows n (rows_left n link.0) to.0)
+        behind_ends brings brings_none n.pending link.0 to.0 (sends_down n link.0 (link_at n.links link.0) to.0 ++ sends_rows n (rows_left n link.0) to.0)
+        ∙ flat_map-append brings (sends_down n link.0 (link_at n.links link.0) to.0) (sends_rows n (rows_left n link.0) to.0)
         ∙ ap (λ z. z ++ flat_map brings (sends_rows n (rows_left n link.0) to.0)) (down_silent link.0 (link_at n.links link.0) to.0))

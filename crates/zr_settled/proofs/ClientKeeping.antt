@@ -12,6 +12,7 @@ use Rattle.zr_msg.specs.declared.decl.Kind.{Kind}
 use Rattle.zr_msg.specs.declared.decl.Kind.TheVariants as k
 use Rattle.zr_msg.specs.declared.msg.Msg.{Msg}
 use Rattle.zr_msg.specs.declared.msg.Msg.TheVariants as m
+use Rattle.zr_msg.specs.Extras.{no_extras}
 use Rattle.zr_msg.specs.declared.event.Event.TheVariants.{Up, Down}
 use Rattle.zr_msg.specs.declared.peer.LinkPeer.{LinkPeer}
 use Rattle.zr_msg.specs.declared.peer.Peer.{Peer}
@@ -22,8 +23,8 @@ use Rattle.zr_local.specs.Rows.{row_at}
 use Rattle.zr_routing.specs.Tables.{is_router, link_to, leads_to_client, free_link}
 use Rattle.zr_table.specs.State.{new_link}
 use Rattle.zr_table.specs.Table.{key_of, able_kind, with_link}
-use Rattle.zr_network.specs.World.{Tagged, RouterState, EndState, ClientState, End, Ends, WorldState, with_clients, with_ends, new_client, with_client, router_of, client_of, end_of, is_end, put_end, with_end, new_end, is_up, is_unbroken, is_taken, empty_world, lifted, lowered, sent, changed, unsettles, is_calm, is_calm_end, is_met}
-use Rattle.zr_network.specs.Acts.{outcome, peer_of, hearing, heard, has_id, declaring, undeclaring}
+use Rattle.zr_network.specs.World.{Tagged, RouterState, EndState, ClientState, End, Ends, WorldState, with_clients, with_ends, new_client, with_client, router_of, client_of, end_of, is_end, put_end, with_end, with_queue, new_end, is_up, is_unbroken, is_taken, empty_world, lifted, lowered, sent, changed, unsettles, is_calm, is_calm_end, is_met}
+use Rattle.zr_network.specs.Acts.{outcome, peer_of, hearing, heard, has_id, declaring, undeclaring, received}
 use Rattle.zr_network.specs.Moments.{Numbered, Moment, beginning, went, onward, reached}
 use Rattle.zr_network.specs.Moments as moments
 use Rattle.zr_network.specs.Sound.{IsSound}
@@ -32,7 +33,8 @@ use Rattle.zr_network.proofs.Names.{names}
 use Rattle.zr_network.proofs.Ends.{end_parts, same_end, read_with_end, keep_with_end, read_put_end, keep_changed, keep_all_queued}
 use Rattle.zr_network.proofs.Links.{free_is_free, link_to_with}
 use Rattle.zr_network.proofs.Lines.{at_some}
-use Rattle.zr_network.proofs.Cases.{w_client, w_down, w_sent, w_declare, w_undeclare, w_handle, free_name, number_found, for_router, for_client, for_link, for_up, for_break, for_down, for_declare, for_undeclare, for_publish, for_handle, for_take, for_mark, for_show}
+use Rattle.zr_network.proofs.Clients.{same_received}
+use Rattle.zr_network.proofs.Cases.{w_client, w_down, w_sent, w_declare, w_undeclare, w_handle, free_name, number_found, for_router, for_client, for_link, for_up, for_break, for_down, for_declare, for_undeclare, Says, publish_says, get_says, reply_says, end_says, for_handle, for_take, for_mark, for_show}
 use Rattle.zr_network.proofs.Sound.{empty_sound}
 use Rattle.zr_settled.specs.Rows.{SettledRowsAreOfClients}
 use Rattle.zr_settled.proofs.Spreading.{Name}
@@ -43,7 +45,7 @@ use Rattle.zr_settled.proofs.Moving.{up_at, unbroken_at}
 use Rattle.zr_settled.proofs.Keeping.{Stands, act_stands, empty_holds}
 use Rattle.zr_settled.proofs.Rest.{passes, met}
 use Rattle.zr_settled.proofs.Declaring.{Ids, sort_of, sort_kind, said, IsAsked, all_said, has_ids, has_is, has_declaring, has_undeclaring, has_rows, none_there}
-use Rattle.zr_settled.proofs.ClientRows.{Hears, ClientsHold, EndsStay, ends_kept, reads_same, linked_stay, taken_stay, cut_stay, none_stay, broken_stay, router_clients, weighed_clients, client_says, up_clients, down_clients, handled_clients, client_added}
+use Rattle.zr_settled.proofs.ClientRows.{Hears, ClientsHold, EndsStay, ends_kept, same_hold, reads_same, linked_stay, taken_stay, cut_stay, none_stay, broken_stay, router_clients, weighed_clients, client_says, up_clients, down_clients, handled_clients, client_added}
 
 -- ---- what is said
 
@@ -107,6 +109,11 @@ module _ (now : Moment) (sound : IsSound now.world) (h : ClientsHold now.world) 
       ClientsHold (w_sent w n name s e msg)
   publishes n name msg s found e at_end on asked leads =
       subst (λ cs. ClientsHold (with_clients (w_sent w n name s e msg) cs)) (set_value_same (is_named name) w.clients s found) (client_says w h name s s found e at_end msg n on refl asked leads)
+
+  -- a client says something that says nothing of ids
+  says : (n : ℕ) (name : List ℕ) (msg : Msg) → ((p : Ids) → IsAsked p msg) → ((p : Ids) → said p msg ≡ p) → Says now KeptClients n name msg
+  says n name msg asked leads s found e at_end on clients same =
+      same_hold (w_sent w n name s e msg) clients same (publishes n name msg s found e at_end on (asked (has_ids s)) (leads (has_ids s)))
 
   -- a client comes
   client_comes : (n : ℕ) (id router : List ℕ) (r : RouterState) → router_of w.routers router ≡ Some r → is_taken w id ≡ false → ClientsHold (w_client w n id router r)
@@ -286,11 +293,16 @@ module _ (now : Moment) (sound : IsSound now.world) (h : ClientsHold now.world) 
       declares n client (able_kind complete) id key (m.Able id key complete) s found e at_end unbroken r there (home_of s (able_kind complete) id) tt (able_said s id key complete))
   clients_keep n (a.Unable client id) = for_undeclare now KeptClients n client k.Able id (m.Unable id) (λ s found known e at_end unbroken.
       undeclares n client k.Able id (m.Unable id) s found e at_end unbroken refl (sym (has_is s k.Able id) ∙ known) (sym (has_undeclaring s k.Able id)))
-  clients_keep n (a.Publish client content) = for_publish now KeptClients n client content (λ s found e at_end unbroken. publishes n client (m.Push None content) s found e at_end unbroken tt refl)
+  clients_keep n (a.Publish client content) = publish_says now KeptClients n client content (says n client (m.Push None content) (λ p. tt) (λ p. refl))
+  clients_keep n (a.Get client number target content) = get_says now KeptClients n client number target content (says n client (m.Request None number target content) (λ p. tt) (λ p. refl))
+  clients_keep n (a.Reply client number content) = reply_says now KeptClients n client number content (says n client (m.Response number content) (λ p. tt) (λ p. refl))
+  clients_keep n (a.End client number) = end_says now KeptClients n client number (says n client (m.Final number no_extras) (λ p. tt) (λ p. refl))
   clients_keep n (a.Handle router from) = for_handle now KeptClients router from (λ r found there s at_end up msg tag xs front link number taken.
       let j = number_found r from link number in
       subst (λ q. ClientsHold (w_handle w router from r s q msg tag xs)) j.2 (handled_clients w sound h router r found from j.0 j.1 s at_end msg tag xs front))
-  clients_keep n (a.Take router to) = for_take now KeptClients router to (λ r found there s at_end up unbroken msg tag xs front. ends_kept w _ h (taken_stay w h router to s at_end (ap is_some found) msg tag xs))
+  clients_keep n (a.Take router to) = for_take now KeptClients router to (λ r found there s at_end up unbroken msg tag xs front.
+      same_hold (with_ends w (changed (with_end w.ends (router, to) (with_queue s xs)) (to, router) (λ e. sent e msg tag))) (received w.clients to msg (client_of w.clients to))
+      (same_received w.clients to msg) (ends_kept w _ h (taken_stay w h router to s at_end (ap is_some found) msg tag xs)))
   clients_keep n a.Mark = for_mark now KeptClients n (λ settled joined. h)
   clients_keep n (a.Show router) = for_show now KeptClients router (λ r found. h)
 

@@ -22,7 +22,7 @@ use Rattle.zr_local.specs.declared.row.Row.{Row}
 use Rattle.zr_routing.specs.Tables.{is_link, link_at, link_to, is_router, leads_to_client}
 use Rattle.zr_table.specs.State.{NodeState, new_link}
 use Rattle.zr_table.specs.Table.{with_link, without_link, after}
-use Rattle.zr_network.specs.World.{Tagged, RouterState, EndState, ClientState, End, Ends, WorldState, with_routers, with_clients, with_ends, new_router, new_client, with_router, with_client, router_of, client_of, end_of, is_end, put_end, with_end, with_wire, with_queue, new_end, is_up, is_unbroken, is_taken, broken, sent, queued, changed}
+use Rattle.zr_network.specs.World.{Tagged, RouterState, EndState, ClientState, End, Ends, Clients, WorldState, with_routers, with_clients, with_ends, new_router, new_client, with_router, with_client, router_of, client_of, end_of, is_end, put_end, with_end, with_wire, with_queue, new_end, is_up, is_unbroken, is_taken, broken, sent, queued, changed}
 use Rattle.zr_network.specs.Acts.{weighing, hearing, heard, sends_to}
 use Rattle.zr_network.specs.Sound.{IsSound}
 use Rattle.zr_network.proofs.Keyed.{not_there}
@@ -31,6 +31,7 @@ use Rattle.zr_network.proofs.Ends.{end_parts, same_end, ends, read_with_end, kee
 use Rattle.zr_network.proofs.Links.{named_link, numbered_link, free_is_free, link_to_with, link_at_with, link_at_without, link_to_without}
 use Rattle.zr_network.proofs.Links as links
 use Rattle.zr_network.proofs.Cases.{free_name}
+use Rattle.zr_network.proofs.Clients.{SameClients, idle_client, client_was}
 use Rattle.zr_settled.proofs.Spreading.{Name}
 use Rattle.zr_settled.proofs.Worlds.{there_in, wire_at}
 use Rattle.zr_settled.proofs.Quiet.{passes_there}
@@ -83,6 +84,28 @@ ends_kept w es h e = record {
       subst (λ ws. Hears r.node l.link.0 s ws) (sym (e.wire x c s client whole)) (h.hears x c r s l found client linked (e.whole x c s client whole));
   rows = h.rows;
 }
+
+-- queries and requests are none of a client's ids
+idle_ids : (s : ClientState) → has_ids (idle_client s) ≡ has_ids s
+idle_ids s = λ u t i. at t i u
+  where
+    at : (t : Bool) (i : ℕ) → has_ids (idle_client s) t i ≡ has_ids s t i
+    at true i = refl
+    at false i = refl
+
+-- clients whose queries and requests alone are others
+pub same_hold : (w : WorldState) (clients : Clients) → SameClients w.clients clients → ClientsHold w → ClientsHold (with_clients w clients)
+same_hold w clients same h = record {
+  apart = λ c t found. let s = was c t found in h.apart c s.0 s.1;
+  homes = λ x c t found some. let s = was c t found in sym (ap (λ (q : ClientState). q.router) s.2) ∙ h.homes x c s.0 s.1 some;
+  ups = λ x c t found whole. let s = was c t found in h.ups x c s.0 s.1 whole;
+  emptied = λ x c t found cut. let s = was c t found in h.emptied x c s.0 s.1 cut;
+  hears = λ x c r t l there found linked whole. let s = was c t found in let old = h.hears x c r s.0 l there s.1 linked whole in record { asked = old.asked; leads = old.leads ∙ sym (idle_ids s.0) ∙ ap has_ids s.2 ∙ idle_ids t };
+  rows = h.rows;
+}
+  where
+    was : (c : Name) (t : ClientState) → client_of clients c ≡ Some t → (s : ClientState) × (client_of w.clients c ≡ Some s) × (idle_client s ≡ idle_client t)
+    was c t found = client_was w.clients clients same c t found
 
 -- where each end of a client reads as before, but for its queue
 pub reads_same : (w : WorldState) (es : Ends) → ((x c : Name) (s : ClientState) → client_of w.clients c ≡ Some s → (is_some (end_of es (x, c)) ≡ is_some (end_of w.ends (x, c)))

@@ -33,9 +33,10 @@ use Rattle.zr_routing.specs.Changes.{changes, after_changes, steps, sends_change
 use Rattle.zr_routing.specs.Samples.{tree_of}
 use Rattle.zr_table.specs.State.{NodeState, tables}
 use Rattle.zr_table.specs.Table.{joined, parted, own_record, all_records, is_other_router, sends_own, sends_up, sends_parted, sends_down, sends_rows, sends_first, rows_declared, rows_undeclared, rows_left, with_rows, row, key_of, able_kind, known_step, known_snap, after}
+use Rattle.zr_settled.proofs.Answering.{request_silent, reply_silent, final_silent, behind_ends}
 use Rattle.zr_settled.proofs.Spreading.{Name, best}
 use Rattle.zr_settled.proofs.Silent.{silent_if, push_silent}
-use Rattle.zr_settled.proofs.Positions.{placed, places_in, places, places-append, best_both, position_others}
+use Rattle.zr_settled.proofs.Positions.{no_places, placed, places_in, places, places-append, best_both, position_others}
 use Rattle.zr_settled.proofs.Children.{child_by, IsTold, base_told, first_told, rows_grow, rows_le, rows_told, taken_grows, taken_le, taken_told, step_now, step_newer, snap_now, snap_newer}
 
 -- what a router hears of logs at an event
@@ -200,9 +201,9 @@ module _ (n : NodeState) where
     from_follows link (ToldUnable id) = keeps (From link (ToldUnable id)) refl (λ to. refl)
     from_follows link (ToldEnd interest) = keeps (From link (ToldEnd interest)) refl (λ to. refl)
     from_follows link (Push tree content) = keeps (From link (Push tree content)) refl (λ to. push_silent places_in (tables n) link.0 content (λ tree. refl) (tree_of (tables n) (link_at n.links link.0) tree) to.0)
-    from_follows link (Request tree id target content) = keeps (From link (Request tree id target content)) refl (λ to. refl)
-    from_follows link (Response id content) = keeps (From link (Response id content)) refl (λ to. refl)
-    from_follows link (Final id extras) = keeps (From link (Final id extras)) refl (λ to. refl)
+    from_follows link (Request tree id target content) = keeps (From link (Request tree id target content)) refl (λ to. request_silent places_in no_places (tables n) n.pending link.0 tree id target content to.0)
+    from_follows link (Response id content) = keeps (From link (Response id content)) refl (λ to. reply_silent places_in no_places n.pending link.0 id content to.0)
+    from_follows link (Final id extras) = keeps (From link (Final id extras)) refl (λ to. final_silent places_in no_places n.pending link.0 id extras to.0)
     from_follows link (State r) = keeps (From link (State r)) refl (λ to. silent_if places_in (leads_to_router n.links link.0 && is_newer n.base r && is_other_router n link.0 to.0) (State r ∷ []) refl)
     from_follows link (Step source number added decl) =
         taken_follow link (Step source number added decl) source number refl (log.is_next n.known source number) (known_step n link.0 source number (record { added = added; decl = decl })) refl refl
@@ -224,9 +225,11 @@ module _ (n : NodeState) where
       where
         first : (to : LinkNo) (z : Name) → best z (places (sends_first n (Down link) to)) ≡ best z (places (sends_rows n (rows_left n link.0) to.0))
         first to z =
+            let behind : best z (places (sends_first n (Down link) to)) ≡ best z (places (sends_down n link.0 (link_at n.links link.0) to.0 ++ sends_rows n (rows_left n link.0) to.0)) =
+            ap (best z) (behind_ends places_in no_places n.pending link.0 to.0 (sends_down n link.0 (link_at n.links link.0) to.0 ++ sends_rows n (rows_left n link.0) to.0)) in
             let e = best_both z (sends_down n link.0 (link_at n.links link.0) to.0) (sends_rows n (rows_left n link.0) to.0) in
             let none : best z (places (sends_down n link.0 (link_at n.links link.0) to.0)) ≡ 0 = ap (best z) (down_silent link.0 (link_at n.links link.0) to.0) in
-            omega (arith, e, none)
+            omega (arith, behind, e, none)
 
         by : (l : LinkPeer) (z : Name) → (position (with_rows n (rows_left n link.0)).known z ≤ best z (places (sends_rows n (rows_left n link.0) l.link.0))) ⊎ (position (with_rows n (rows_left n link.0)).known z ≡ position n.known z) →
             (position (after n (Down link)).known z ≤ best z (places (sends_first n (Down link) l.link))) ⊎ (position (after n (Down link)).known z ≡ position n.known z)
@@ -249,7 +252,8 @@ module _ (n : NodeState) where
 
       silent : (to : LinkNo) → places (sends_first n (Down link) to) ≡ []
       silent to =
-          places-append (sends_down n link.0 (link_at n.links link.0) to.0) (sends_rows n (rows_left n link.0) to.0)
+          behind_ends places_in no_places n.pending link.0 to.0 (sends_down n link.0 (link_at n.links link.0) to.0 ++ sends_rows n (rows_left n link.0) to.0)
+          ∙ places-append (sends_down n link.0 (link_at n.links link.0) to.0) (sends_rows n (rows_left n link.0) to.0)
           ∙ ap (λ z. z ++ places (sends_rows n (rows_left n link.0) to.0)) (down_silent link.0 (link_at n.links link.0) to.0)
           ∙ ap (λ rows. places (sends_rows n rows to.0)) rows_same
           ∙ ap (λ cs. places (sends_changes (tables n) cs to.0)) (no_changes n.rows)

@@ -12,6 +12,7 @@ use Rattle.zr_graph.proofs.Names.{same_is}
 use Rattle.zr_msg.specs.declared.msg.Msg.{Msg}
 use Rattle.zr_msg.specs.declared.decl.Kind.TheVariants as k
 use Rattle.zr_msg.specs.declared.msg.Msg.TheVariants as m
+use Rattle.zr_msg.specs.Extras.{no_extras}
 use Rattle.zr_msg.specs.declared.event.Event.TheVariants.{Up, Down, From}
 use Rattle.zr_msg.specs.declared.peer.LinkPeer.{LinkPeer}
 use Rattle.zr_msg.specs.declared.peer.Peer.{Peer}
@@ -31,7 +32,7 @@ use Rattle.zr_network.proofs.Names.{value_new, read_kept}
 use Rattle.zr_network.proofs.Ends.{same_end, keep_with_end, read_put_end, keep_put_end, read_changed}
 use Rattle.zr_network.proofs.Links.{named_link, numbered_link, free_is_free, link_at_with, link_at_without, unique_with, unique_without}
 use Rattle.zr_network.proofs.Links as links
-use Rattle.zr_network.proofs.Cases.{w_client, w_down, w_sent, w_handle, free_name, number_found, for_router, for_client, for_link, for_up, for_break, for_down, for_declare, for_undeclare, for_publish, for_handle, for_take, for_mark, for_show}
+use Rattle.zr_network.proofs.Cases.{w_client, w_down, w_sent, w_handle, free_name, number_found, for_router, for_client, for_link, for_up, for_break, for_down, for_declare, for_undeclare, Says, publish_says, get_says, reply_says, end_says, for_handle, for_take, for_mark, for_show}
 use Rattle.zr_settled.proofs.Spreading.{Name, best}
 use Rattle.zr_settled.proofs.Records.{notes_in}
 use Rattle.zr_settled.proofs.Worlds.{there_in, table_of, queue_at, wire_at, notes, way_of, notes-append, Holds, unbroken_heard}
@@ -256,6 +257,10 @@ module _ (now : Moment) (sound : IsSound now.world) (h : Holds now.world) (l : L
       n (put_end w.ends (router, id) (lifted new_end)) (λ q. refl) (λ x y. refl) in
       record { gapless = came.gapless }
 
+  -- a client says something that brings nothing of logs
+  said_gaps : (n : ℕ) (name : List ℕ) (msg : Msg) → brings msg ≡ [] → Says now KeptGaps n name msg
+  said_gaps n name msg silent s found e at_end unbroken clients same = let on = sent_gaps w g s.router name e at_end msg n silent in record { gapless = on.gapless }
+
   pub gaps_keep : (n : ℕ) (act : Act) → IfSome (went now (outcome w n act)) KeptGaps
   unfolding outcome
   gaps_keep n (a.Router id) = for_router now KeptGaps id (λ free room. router_gaps w sound g id free)
@@ -276,12 +281,16 @@ module _ (now : Moment) (sound : IsSound now.world) (h : Holds now.world) (l : L
       let weighed = weighed_gaps (w_sent w n client s e (m.Able id key complete)) (sent_gaps w g s.router client e at_end (m.Able id key complete) n refl) s.router r key there in record { gapless = weighed.gapless })
   gaps_keep n (a.Unable client id) = for_undeclare now KeptGaps n client k.Able id (m.Unable id) (λ s found known e at_end unbroken.
       let on = sent_gaps w g s.router client e at_end (m.Unable id) n refl in record { gapless = on.gapless })
-  gaps_keep n (a.Publish client content) = for_publish now KeptGaps n client content (λ s found e at_end unbroken. sent_gaps w g s.router client e at_end (m.Push None content) n refl)
+  gaps_keep n (a.Publish client content) = publish_says now KeptGaps n client content (said_gaps n client (m.Push None content) refl)
+  gaps_keep n (a.Get client number target content) = get_says now KeptGaps n client number target content (said_gaps n client (m.Request None number target content) refl)
+  gaps_keep n (a.Reply client number content) = reply_says now KeptGaps n client number content (said_gaps n client (m.Response number content) refl)
+  gaps_keep n (a.End client number) = end_says now KeptGaps n client number (said_gaps n client (m.Final number no_extras) refl)
   gaps_keep n (a.Handle router from) = for_handle now KeptGaps router from (λ r found there s at_end up msg tag xs front link number taken.
       let j = number_found r from link number in
       subst (λ q. refuses r.node (From q msg) ≡ None → GapsHold (w_handle w router from r s q msg tag xs)) j.2
       (λ taken'. gaps_handled w h l g sound router r found (sound.own router r found) from j.0 j.1 s at_end msg tag xs front taken') taken)
-  gaps_keep n (a.Take router to) = for_take now KeptGaps router to (λ r found there s at_end up unbroken msg tag xs front. taken_gaps w g router to h s at_end msg tag xs front)
+  gaps_keep n (a.Take router to) = for_take now KeptGaps router to (λ r found there s at_end up unbroken msg tag xs front.
+      let on = taken_gaps w g router to h s at_end msg tag xs front in record { gapless = on.gapless })
   gaps_keep n a.Mark = for_mark now KeptGaps n (λ settled joined. g)
   gaps_keep n (a.Show router) = for_show now KeptGaps router (λ r found. g)
 

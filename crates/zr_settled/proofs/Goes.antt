@@ -14,6 +14,7 @@ use Rattle.zr_network.specs.Moments.{Numbered, Moment, went, reached}
 use Rattle.zr_network.specs.Sound.{IsSound, AllAreTaken}
 use Rattle.zr_network.proofs.Cases.{number_found}
 use Rattle.zr_network.proofs.Sound.{act_keeps, empty_sound}
+use Rattle.zr_settled.specs.Events.{RequestsAreTaken}
 use Rattle.zr_settled.proofs.Spreading.{Name}
 use Rattle.zr_settled.proofs.Moments.{at_moments}
 use Rattle.zr_settled.proofs.Worlds.{Holds}
@@ -115,19 +116,16 @@ goes_counted w booked g = record {
 
 -- ---- no message is refused
 
-module _ (w : WorldState) (g : Goes w) (x y : Name) (r : RouterState) (found : router_of w.routers x ≡ Some r) (e : EndState) (at_end : end_of w.ends (x, y) ≡ Some e) where
+module _ (w : WorldState) (g : Goes w) (requests : RequestsAreTaken w) (x y : Name) (r : RouterState) (found : router_of w.routers x ≡ Some r) (e : EndState) (at_end : end_of w.ends (x, y) ≡ Some e) where
   -- the oldest message on a wire is taken
   pub oldest_taken : (l : LinkPeer) → link_to r.node.links y ≡ Some l → (msg : Msg) (tag : ℕ) (xs : List Tagged) → e.wire ≡ record { msg = msg; tag = tag } ∷ xs → refuses r.node (From l.link msg) ≡ None
   oldest_taken l linked msg tag xs front =
-      weights_take w g.weights x r found y e (record { msg = msg; tag = tag }) xs at_end front l.link (in_turn w g.sound g.orderly g.clients g.gaps x y r found e at_end l linked tag xs msg front)
+      weights_take w g.weights x r found y e (record { msg = msg; tag = tag }) xs at_end front l.link (in_turn w g.sound g.orderly g.clients g.gaps requests x y r found e at_end l linked tag xs msg front)
 
-all_taken : (w : WorldState) → Goes w → AllAreTaken w
-all_taken w g x y r s l m more found at_end up front number =
+pub all_taken : (w : WorldState) → Goes w → RequestsAreTaken w → AllAreTaken w
+all_taken w g requests x y r s l m more found at_end up front number =
     let j = number_found r y l number in
-    subst (λ q. refuses r.node (From q m.msg) ≡ None) j.2 (oldest_taken w g x y r found s at_end j.0 j.1 m.msg m.tag more front)
-
-pub goes_says : (w : WorldState) → Goes w → IsSound w × AllAreTaken w
-goes_says w g = (g.sound, all_taken w g)
+    subst (λ q. refuses r.node (From q m.msg) ≡ None) j.2 (oldest_taken w g requests x y r found s at_end j.0 j.1 m.msg m.tag more front)
 
 -- ---- moments
 

@@ -79,9 +79,9 @@ module _ (n : NodeState) where
   from_of from (ToldUnable id) to = tt
   from_of from (ToldEnd interest) to = tt
   from_of from (Push tree content) to = silent_of from (Push tree content) to refl
-  from_of from (Request tree id target content) to = tt
-  from_of from (Response id content) to = tt
-  from_of from (Final id extras) to = tt
+  from_of from (Request tree id target content) to = silent_of from (Request tree id target content) to refl
+  from_of from (Response id content) to = silent_of from (Response id content) to refl
+  from_of from (Final id extras) to = silent_of from (Final id extras) to refl
   from_of from (State links) to = state_of from.0 links to.0
   from_of from (Step source number added decl) to = silent_of from (Step source number added decl) to refl
   from_of from (Snap source number decls) to = silent_of from (Snap source number decls) to refl

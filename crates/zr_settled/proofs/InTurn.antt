@@ -1,5 +1,5 @@
 -- What is oldest on a wire comes in turn (`in_turn`): what a client takes back is there, and a change that a router tells has no gap before it, since
--- what waits on a wire between routers waits on that of an unbroken link.
+-- what waits on a wire between routers waits on that of an unbroken link. That requests find free numbers is a premise here.
 use Rattle.std.proofs.Common.{◌≡◌, ℕ, Bool, true, false, not, List, ◌∷◌, ◌++◌, Some, is_some, refl, sym, ap, ◌∙◌, subst}
 use Rattle.std.specs.Prelude.{◌||◌}
 use Rattle.std.specs.Option.{option_map_or}
@@ -14,6 +14,7 @@ use Rattle.zr_routing.specs.Tables.{is_router, link_to, leads_to_router, leads_t
 use Rattle.zr_network.specs.World.{Tagged, RouterState, ClientState, EndState, WorldState, router_of, client_of, end_of, is_empty, is_unbroken}
 use Rattle.zr_network.specs.Sound.{IsSound}
 use Rattle.zr_network.proofs.Keyed.{there}
+use Rattle.zr_settled.specs.Events.{RequestsAreTaken}
 use Rattle.zr_settled.proofs.Spreading.{Name}
 use Rattle.zr_settled.proofs.Links.{AreKnown, linked_to, is_at, leads_is}
 use Rattle.zr_settled.proofs.Worlds.{there_in, queue_at, wire_at, notes}
@@ -25,7 +26,7 @@ use Rattle.zr_settled.proofs.Asked.{unsub_taken, unable_taken}
 use Rattle.zr_settled.proofs.Gaps.{Gapless, first_fits}
 use Rattle.zr_settled.proofs.GapKeeping.{GapsHold}
 use Rattle.zr_settled.proofs.Orderly.{Orderly, has_wire}
-use Rattle.zr_settled.proofs.Weights.{HasNoGap}
+use Rattle.zr_settled.proofs.Weights.{IsInTurn}
 
 -- the oldest change on the wire from a router over an unbroken link has no gap before it
 no_gap : (w : WorldState) → GapsHold w → (x b : Name) (r : RouterState) → router_of w.routers x ≡ Some r → there_in w b ≡ true → (e : EndState) → end_of w.ends (x, b) ≡ Some e → is_unbroken w.ends (b, x) ≡ true →
@@ -36,7 +37,7 @@ no_gap w g x b r found router e at_end whole source number added decl tag xs fro
     (subst (λ ws. Gapless source (logs_of w x source).number (notes brings ws ++ notes brings (queue_at (end_of w.ends (b, x))))) (ap wire_at at_end ∙ front)
     (g.gapless b x source router (ap is_some found) whole)))
 
-module _ (w : WorldState) (sound : IsSound w) (orderly : Orderly w) (clients : ClientsHold w) (gaps : GapsHold w) (x y : Name) (r : RouterState) (found : router_of w.routers x ≡ Some r)
+module _ (w : WorldState) (sound : IsSound w) (orderly : Orderly w) (clients : ClientsHold w) (gaps : GapsHold w) (requests : RequestsAreTaken w) (x y : Name) (r : RouterState) (found : router_of w.routers x ≡ Some r)
     (e : EndState) (at_end : end_of w.ends (x, y) ≡ Some e) (l : LinkPeer) (linked : link_to r.node.links y ≡ Some l) (tag : ℕ) (xs : List Tagged) where
   links : AreKnown (there_in w) r.node.links
   links = links_known w sound x r found
@@ -65,7 +66,7 @@ module _ (w : WorldState) (sound : IsSound w) (orderly : Orderly w) (clients : C
       by true whole = refl
       by false cut = absurd (true≢false (sym (ap has_wire at_end ∙ ap (λ ws. not (is_empty ws)) front) ∙ orderly.broken_links (x, y) cut))
 
-  pub in_turn : (msg : Msg) → e.wire ≡ record { msg = msg; tag = tag } ∷ xs → HasNoGap r.node l.link.0 msg
+  pub in_turn : (msg : Msg) → e.wire ≡ record { msg = msg; tag = tag } ∷ xs → IsInTurn r.node l.link.0 msg
   in_turn (Sub id key) front = tt
   in_turn (Unsub id) front = λ leads. let c = from_client leads in unsub_taken w clients x y r c.0 l found c.1 linked e at_end tag xs id front
   in_turn (Able id key complete) front = tt
@@ -78,7 +79,7 @@ module _ (w : WorldState) (sound : IsSound w) (orderly : Orderly w) (clients : C
   in_turn (ToldUnable id) front = tt
   in_turn (ToldEnd interest) front = tt
   in_turn (Push tree content) front = tt
-  in_turn (Request tree id target content) front = tt
+  in_turn (Request tree id target content) front = requests x y r l e found linked at_end tree id target content tag xs front
   in_turn (Response id content) front = tt
   in_turn (Final id extras) front = tt
   in_turn (State told) front = tt

@@ -10,6 +10,7 @@ use Rattle.zr_msg.specs.declared.msg.Msg.{Msg}
 use Rattle.zr_msg.specs.declared.decl.Kind.{Kind}
 use Rattle.zr_msg.specs.declared.decl.Kind.TheVariants as k
 use Rattle.zr_msg.specs.declared.msg.Msg.TheVariants as m
+use Rattle.zr_msg.specs.Extras.{no_extras}
 use Rattle.zr_msg.specs.declared.event.Event.TheVariants.{Up, Down}
 use Rattle.zr_msg.specs.declared.peer.Peer.{Peer}
 use Rattle.zr_msg.specs.declared.peer.Role.{Role}
@@ -25,7 +26,7 @@ use Rattle.zr_network.specs.Acts.{Outcome, outcome, sends_to, heard, peer_of, up
 use Rattle.zr_network.specs.Moments.{Numbered, Moment, went, reached}
 use Rattle.zr_network.specs.Sound.{IsSound}
 use Rattle.zr_network.proofs.Keyed.{not_there}
-use Rattle.zr_network.proofs.Cases.{w_client, w_up, w_down, w_sent, w_declare, w_handle, free_name, number_found, for_router, for_client, for_link, for_up, for_break, for_down, for_declare, for_undeclare, for_publish, for_handle, for_take, for_mark, for_show}
+use Rattle.zr_network.proofs.Cases.{w_client, w_up, w_down, w_sent, w_declare, w_handle, free_name, number_found, for_router, for_client, for_link, for_up, for_break, for_down, for_declare, for_undeclare, Says, publish_says, get_says, reply_says, end_says, for_handle, for_take, for_mark, for_show}
 use Rattle.zr_network.proofs.Sound.{act_keeps, empty_sound}
 use Rattle.zr_settled.proofs.Spreading.{Name}
 use Rattle.zr_settled.proofs.Moments.{at_moments}
@@ -83,6 +84,10 @@ module _ (now : Moment) (sound : IsSound now.world) (h : Holds now.world) where
   -- a client's message is on the wire
   on_wire : (n : ℕ) (name : List ℕ) (s : ClientState) (e : EndState) → end_of w.ends (s.router, name) ≡ Some e → (msg : Msg) → notes_in msg ≡ [] → Holds (w_sent w n name s e msg)
   on_wire n name s e found msg silent = moves_kept w _ h (sent_moves notes_in (table_of w) w h.twins s.router name e found msg n silent)
+
+  -- it says something that tells nothing of links
+  says : (n : ℕ) (name : List ℕ) (msg : Msg) → notes_in msg ≡ [] → Says now Kept n name msg
+  says n name msg silent s found e at_end unbroken clients same sound' = clients_kept _ clients (on_wire n name s e at_end msg silent)
 
   client_declares : (n : ℕ) (name : List ℕ) (kind : Kind) (id : ℕ) (key : List ℕ) (msg : Msg) → notes_in msg ≡ [] → (s : ClientState) (e : EndState) → end_of w.ends (s.router, name) ≡ Some e →
       (r : RouterState) → router_of w.routers s.router ≡ Some r → Holds (w_declare w n name kind id key msg s e r)
@@ -152,11 +157,14 @@ module _ (now : Moment) (sound : IsSound now.world) (h : Holds now.world) where
   acts_keep n (a.Able client id key complete) = for_declare now Kept n client (able_kind complete) id key (m.Able id key complete) (λ s found fresh e at_end unbroken r there room sound'.
       client_declares n client (able_kind complete) id key (m.Able id key complete) refl s e at_end r there)
   acts_keep n (a.Unable client id) = for_undeclare now Kept n client k.Able id (m.Unable id) (λ s found known e at_end unbroken sound'. clients_kept _ _ (on_wire n client s e at_end (m.Unable id) refl))
-  acts_keep n (a.Publish client content) = for_publish now Kept n client content (λ s found e at_end unbroken sound'. on_wire n client s e at_end (m.Push None content) refl)
+  acts_keep n (a.Publish client content) = publish_says now Kept n client content (says n client (m.Push None content) refl)
+  acts_keep n (a.Get client number target content) = get_says now Kept n client number target content (says n client (m.Request None number target content) refl)
+  acts_keep n (a.Reply client number content) = reply_says now Kept n client number content (says n client (m.Response number content) refl)
+  acts_keep n (a.End client number) = end_says now Kept n client number (says n client (m.Final number no_extras) refl)
   acts_keep n (a.Handle router from) = for_handle now Kept router from (λ r found there s at_end up msg tag xs front l number taken sound'.
       let k = number_found r from l number in
       subst (λ l. Holds (w_handle w router from r s l msg tag xs)) k.2 (message_handled router from r found s at_end msg tag xs front k.0 k.1))
-  acts_keep n (a.Take router to) = for_take now Kept router to (λ r found there s at_end up unbroken msg tag xs front sound'. moves_kept w _ h (taken_moves notes_in (table_of w) w h.twins router to s at_end msg tag xs front))
+  acts_keep n (a.Take router to) = for_take now Kept router to (λ r found there s at_end up unbroken msg tag xs front sound'. clients_kept _ _ (moves_kept w _ h (taken_moves notes_in (table_of w) w h.twins router to s at_end msg tag xs front)))
   acts_keep n a.Mark = for_mark now Kept n (λ settled joined sound'. h)
   acts_keep n (a.Show router) = for_show now Kept router (λ r found sound'. h)
 

@@ -3,6 +3,7 @@ pub mod Moments
 pub mod Telling
 pub mod Links
 pub mod Records
+pub mod Answering
 pub mod Silent
 pub mod Hearing
 pub mod Worlds

@@ -31,7 +31,7 @@ use Rattle.zr_network.specs.Moments.{Moment, is_step, went}
 use Rattle.zr_network.specs.Run.{Run, start, stepped, commanded, on_line, run_lines}
 use Rattle.zr_network.proofs.Keyed.{not_there}
 use Rattle.zr_network.proofs.Names.{value_new, read_after}
-use Rattle.zr_network.proofs.Cases.{free_name, for_router, for_client, for_link, for_up, for_break, for_down, for_declare, for_undeclare, for_publish, for_handle, for_take, for_mark, for_show}
+use Rattle.zr_network.proofs.Cases.{free_name, for_router, for_client, for_link, for_up, for_break, for_down, for_declare, for_undeclare, publish_says, get_says, reply_says, end_says, for_handle, for_take, for_mark, for_show}
 use Rattle.zr_network.proofs.Lines.{all_steps}
 use Rattle.zr_settled.proofs.Spreading.{Name}
 use Rattle.zr_settled.proofs.Bounds.{IsBounded, cost, bounded_after, bounded_fresh, bounded_later}
@@ -117,7 +117,10 @@ module _ (n : ℕ) (now : Moment) (h : AreBounded n now.world.routers) where
   act_bounded line (a.Unsub client id) = for_undeclare now (Bound (n + 1)) line client k.Sub id (m.Unsub id) (λ s found known e at_end unbroken. stays)
   act_bounded line (a.Able client id key complete) = for_declare now (Bound (n + 1)) line client (able_kind complete) id key (m.Able id key complete) (λ s found fresh e at_end unbroken r there weighs. heavier s.router key r there)
   act_bounded line (a.Unable client id) = for_undeclare now (Bound (n + 1)) line client k.Able id (m.Unable id) (λ s found known e at_end unbroken. stays)
-  act_bounded line (a.Publish client content) = for_publish now (Bound (n + 1)) line client content (λ s found e at_end unbroken. stays)
+  act_bounded line (a.Publish client content) = publish_says now (Bound (n + 1)) line client content (λ s found e at_end unbroken clients same. stays)
+  act_bounded line (a.Get client number target content) = get_says now (Bound (n + 1)) line client number target content (λ s found e at_end unbroken clients same. stays)
+  act_bounded line (a.Reply client number content) = reply_says now (Bound (n + 1)) line client number content (λ s found e at_end unbroken clients same. stays)
+  act_bounded line (a.End client number) = end_says now (Bound (n + 1)) line client number (λ s found e at_end unbroken clients same. stays)
   act_bounded line (a.Handle router from) = for_handle now (Bound (n + 0)) router from (λ r found there s at_end up msg tag xs front l number taken. hears (n + 0) router r found (From l msg) (omega arith))
   act_bounded line (a.Take router to) = for_take now (Bound (n + 0)) router to (λ r found there s at_end up unbroken msg tag xs front. rests)
   act_bounded line a.Mark = for_mark now (Bound (n + 1)) line (λ settled joined. stays)

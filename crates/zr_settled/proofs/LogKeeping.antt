@@ -12,6 +12,7 @@ use Rattle.zr_msg.specs.declared.decl.Kind.{Kind}
 use Rattle.zr_msg.specs.declared.decl.Kind.TheVariants as k
 use Rattle.zr_msg.specs.declared.msg.Msg.{Msg}
 use Rattle.zr_msg.specs.declared.msg.Msg.TheVariants as m
+use Rattle.zr_msg.specs.Extras.{no_extras}
 use Rattle.zr_msg.specs.declared.event.Event.TheVariants.{From}
 use Rattle.zr_msg.specs.declared.peer.Role.TheVariants.{Client}
 use Rattle.zr_command.specs.declared.command.Act.{Act}
@@ -26,7 +27,7 @@ use Rattle.zr_network.specs.Moments.{Numbered, Moment, went, reached}
 use Rattle.zr_network.specs.Sound.{IsSound}
 use Rattle.zr_network.proofs.Keyed.{not_there}
 use Rattle.zr_network.proofs.Names.{value_new, read_kept, read_after}
-use Rattle.zr_network.proofs.Cases.{w_client, w_down, w_sent, w_declare, w_handle, free_name, number_found, for_router, for_client, for_link, for_up, for_break, for_down, for_declare, for_undeclare, for_publish, for_handle, for_take, for_mark, for_show}
+use Rattle.zr_network.proofs.Cases.{w_client, w_down, w_sent, w_declare, w_handle, free_name, number_found, for_router, for_client, for_link, for_up, for_break, for_down, for_declare, for_undeclare, Says, publish_says, get_says, reply_says, end_says, for_handle, for_take, for_mark, for_show}
 use Rattle.zr_network.proofs.Sound.{empty_sound}
 use Rattle.zr_settled.proofs.Spreading.{Name, is_all, drops_kept}
 use Rattle.zr_settled.proofs.Moments.{at_moments}
@@ -133,6 +134,10 @@ module _ (now : Moment) (sound : IsSound now.world) (h : Holds now.world) (l : L
   on_wire : (n : ℕ) (name : List ℕ) (s : ClientState) (e : EndState) → end_of w.ends (s.router, name) ≡ Some e → (msg : Msg) → places_in msg ≡ [] → LogsHold (w_sent w n name s e msg)
   on_wire n name s e found msg silent = logs_moved w _ l (sent_moves places_in (logs_of w) w h.twins s.router name e found msg n silent)
 
+  -- it says something that tells nothing of logs
+  says : (n : ℕ) (name : List ℕ) (msg : Msg) → places_in msg ≡ [] → Says now KeptLogs n name msg
+  says n name msg silent s found e at_end unbroken clients same sound' = clients_logs _ clients (on_wire n name s e at_end msg silent)
+
   client_declares : (n : ℕ) (name : List ℕ) (kind : Kind) (id : ℕ) (key : List ℕ) (msg : Msg) → places_in msg ≡ [] → (s : ClientState) (e : EndState) → end_of w.ends (s.router, name) ≡ Some e →
       (r : RouterState) → router_of w.routers s.router ≡ Some r → LogsHold (w_declare w n name kind id key msg s e r)
   client_declares n name kind id key msg silent s e at_end r found =
@@ -163,12 +168,15 @@ module _ (now : Moment) (sound : IsSound now.world) (h : Holds now.world) (l : L
   logs_keep n (a.Able client id key complete) = for_declare now KeptLogs n client (able_kind complete) id key (m.Able id key complete) (λ s found fresh e at_end unbroken r there room sound'.
       client_declares n client (able_kind complete) id key (m.Able id key complete) refl s e at_end r there)
   logs_keep n (a.Unable client id) = for_undeclare now KeptLogs n client k.Able id (m.Unable id) (λ s found known e at_end unbroken sound'. clients_logs _ _ (on_wire n client s e at_end (m.Unable id) refl))
-  logs_keep n (a.Publish client content) = for_publish now KeptLogs n client content (λ s found e at_end unbroken sound'. on_wire n client s e at_end (m.Push None content) refl)
+  logs_keep n (a.Publish client content) = publish_says now KeptLogs n client content (says n client (m.Push None content) refl)
+  logs_keep n (a.Get client number target content) = get_says now KeptLogs n client number target content (says n client (m.Request None number target content) refl)
+  logs_keep n (a.Reply client number content) = reply_says now KeptLogs n client number content (says n client (m.Response number content) refl)
+  logs_keep n (a.End client number) = end_says now KeptLogs n client number (says n client (m.Final number no_extras) refl)
   logs_keep n (a.Handle router from) = for_handle now KeptLogs router from (λ r found there s at_end up msg tag xs front link number taken sound'.
       let k = number_found r from link number in
       subst (λ q. refuses r.node (From q msg) ≡ None → IsSound (w_handle w router from r s q msg tag xs) → LogsHold (w_handle w router from r s q msg tag xs)) k.2
       (λ taken' sound''. logs_handled w h l router r found (sound.own router r found) sound from k.0 k.1 s at_end msg tag xs front taken' sound'') taken sound')
-  logs_keep n (a.Take router to) = for_take now KeptLogs router to (λ r found there s at_end up unbroken msg tag xs front sound'. logs_moved w _ l (taken_moves places_in (logs_of w) w h.twins router to s at_end msg tag xs front))
+  logs_keep n (a.Take router to) = for_take now KeptLogs router to (λ r found there s at_end up unbroken msg tag xs front sound'. clients_logs _ _ (logs_moved w _ l (taken_moves places_in (logs_of w) w h.twins router to s at_end msg tag xs front)))
   logs_keep n a.Mark = for_mark now KeptLogs n (λ settled joined sound'. l)
   logs_keep n (a.Show router) = for_show now KeptLogs router (λ r found sound'. l)
 

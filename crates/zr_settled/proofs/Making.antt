@@ -15,6 +15,7 @@ use Rattle.zr_msg.specs.declared.decl.Kind.{Kind}
 use Rattle.zr_msg.specs.declared.decl.Kind.TheVariants as k
 use Rattle.zr_msg.specs.declared.msg.Msg.{Msg}
 use Rattle.zr_msg.specs.declared.msg.Msg.TheVariants as m
+use Rattle.zr_msg.specs.Extras.{no_extras}
 use Rattle.zr_msg.specs.declared.event.Event.{Event}
 use Rattle.zr_msg.specs.declared.event.Event.TheVariants.{Up, Down, From}
 use Rattle.zr_msg.specs.declared.peer.LinkPeer.{LinkPeer}
@@ -37,7 +38,7 @@ use Rattle.zr_network.specs.Sound.{IsSound}
 use Rattle.zr_network.proofs.Keyed.{not_there}
 use Rattle.zr_network.proofs.Names.{value_new, read_kept, read_after}
 use Rattle.zr_network.proofs.Ends.{ends}
-use Rattle.zr_network.proofs.Cases.{w_sent, w_declare, w_handle, free_name, for_router, for_client, for_link, for_up, for_break, for_down, for_declare, for_undeclare, for_publish, for_handle, for_take, for_mark, for_show}
+use Rattle.zr_network.proofs.Cases.{w_sent, w_declare, w_handle, free_name, for_router, for_client, for_link, for_up, for_break, for_down, for_declare, for_undeclare, Says, publish_says, get_says, reply_says, end_says, for_handle, for_take, for_mark, for_show}
 use Rattle.zr_settled.proofs.Spreading.{at_name, Name, Known, Note, IsPart, own}
 use Rattle.zr_settled.proofs.Moments.{at_moments}
 use Rattle.zr_settled.proofs.Worlds.{way_of, Holds, sent_at, way_sent, way_other}
@@ -236,6 +237,10 @@ module _ (now : Moment) (sound : IsSound now.world) (h : Holds now.world) (l : L
   on_wire : (n : ℕ) (name : List ℕ) (c : ClientState) (e : EndState) → end_of w.ends (c.router, name) ≡ Some e → (msg : Msg) → brings msg ≡ [] → SetsHold (w_sent w n name c e msg)
   on_wire n name c e found msg silent = sets_moved w _ s ((sent_moves brings no_table w h.twins c.router name e found msg n silent).part)
 
+  -- it says something that brings nothing of logs
+  says : (n : ℕ) (name : List ℕ) (msg : Msg) → brings msg ≡ [] → Says now KeptSets n name msg
+  says n name msg silent c found e at_end unbroken clients same = clients_sets _ clients (on_wire n name c e at_end msg silent)
+
   client_declares : (n : ℕ) (name : List ℕ) (kind : Kind) (id : ℕ) (key : List ℕ) (msg : Msg) → brings msg ≡ [] → (c : ClientState) (e : EndState) → end_of w.ends (c.router, name) ≡ Some e →
       (r : RouterState) → router_of w.routers c.router ≡ Some r → SetsHold (w_declare w n name kind id key msg c e r)
   client_declares n name kind id key msg silent c e at_end r found =
@@ -307,9 +312,12 @@ module _ (now : Moment) (sound : IsSound now.world) (h : Holds now.world) (l : L
   sets_keep n (a.Able client id key complete) =
       for_declare now KeptSets n client (able_kind complete) id key (m.Able id key complete) (λ c found fresh e at_end unbroken r there room. client_declares n client (able_kind complete) id key (m.Able id key complete) refl c e at_end r there)
   sets_keep n (a.Unable client id) = for_undeclare now KeptSets n client k.Able id (m.Unable id) (λ c found known e at_end unbroken. clients_sets _ _ (on_wire n client c e at_end (m.Unable id) refl))
-  sets_keep n (a.Publish client content) = for_publish now KeptSets n client content (λ c found e at_end unbroken. on_wire n client c e at_end (m.Push None content) refl)
+  sets_keep n (a.Publish client content) = publish_says now KeptSets n client content (says n client (m.Push None content) refl)
+  sets_keep n (a.Get client number target content) = get_says now KeptSets n client number target content (says n client (m.Request None number target content) refl)
+  sets_keep n (a.Reply client number content) = reply_says now KeptSets n client number content (says n client (m.Response number content) refl)
+  sets_keep n (a.End client number) = end_says now KeptSets n client number (says n client (m.Final number no_extras) refl)
   sets_keep n (a.Handle router from) = for_handle now KeptSets router from (λ r found there at at_end up msg tag xs front link number taken. handled router from r found at at_end msg tag xs front link)
-  sets_keep n (a.Take router to) = for_take now KeptSets router to (λ r found there at at_end up unbroken msg tag xs front. sets_moved w _ s ((taken_moves brings no_table w h.twins router to at at_end msg tag xs front).part))
+  sets_keep n (a.Take router to) = for_take now KeptSets router to (λ r found there at at_end up unbroken msg tag xs front. clients_sets _ _ (sets_moved w _ s ((taken_moves brings no_table w h.twins router to at at_end msg tag xs front).part)))
   sets_keep n a.Mark = for_mark now KeptSets n (λ settled joined. s)
   sets_keep n (a.Show router) = for_show now KeptSets router (λ r found. s)
 

@@ -16,7 +16,7 @@ use Rattle.zr_network.specs.World.{RouterState, Routers, with_router, new_router
 use Rattle.zr_network.specs.Acts.{outcome}
 use Rattle.zr_network.specs.Moments.{Numbered, Moment, beginning, went, reached}
 use Rattle.zr_network.proofs.Keyed.{sorted_insert}
-use Rattle.zr_network.proofs.Cases.{for_router, for_client, for_link, for_up, for_break, for_down, for_declare, for_undeclare, for_publish, for_handle, for_take, for_mark, for_show}
+use Rattle.zr_network.proofs.Cases.{for_router, for_client, for_link, for_up, for_break, for_down, for_declare, for_undeclare, publish_says, get_says, reply_says, end_says, for_handle, for_take, for_mark, for_show}
 use Rattle.zr_settled.proofs.Spreading.{Name}
 use Rattle.zr_settled.proofs.Moments.{at_moments}
 
@@ -39,7 +39,10 @@ act_ascends now h n (a.Unsub client id) = for_undeclare now Ascend n client k.Su
 act_ascends now h n (a.Able client id key complete) =
     for_declare now Ascend n client (able_kind complete) id key (m.Able id key complete) (λ s found fresh e at_end unbroken r there room. same_keys now.world.routers s.router _ h)
 act_ascends now h n (a.Unable client id) = for_undeclare now Ascend n client k.Able id (m.Unable id) (λ s found known e at_end unbroken. h)
-act_ascends now h n (a.Publish client content) = for_publish now Ascend n client content (λ s found e at_end unbroken. h)
+act_ascends now h n (a.Publish client content) = publish_says now Ascend n client content (λ s found e at_end unbroken clients same. h)
+act_ascends now h n (a.Get client number target content) = get_says now Ascend n client number target content (λ s found e at_end unbroken clients same. h)
+act_ascends now h n (a.Reply client number content) = reply_says now Ascend n client number content (λ s found e at_end unbroken clients same. h)
+act_ascends now h n (a.End client number) = end_says now Ascend n client number (λ s found e at_end unbroken clients same. h)
 act_ascends now h n (a.Handle router from) = for_handle now Ascend router from (λ r found there s at_end up msg tag xs front l number taken. same_keys now.world.routers router _ h)
 act_ascends now h n (a.Take router to) = for_take now Ascend router to (λ r found there s at_end up unbroken msg tag xs front. h)
 act_ascends now h n a.Mark = for_mark now Ascend n (λ settled joined. h)

@@ -11,6 +11,7 @@ use Rattle.zr_msg.specs.declared.decl.Kind.{Kind}
 use Rattle.zr_msg.specs.declared.decl.Kind.TheVariants as sort
 use Rattle.zr_msg.specs.declared.msg.Msg.{Msg}
 use Rattle.zr_msg.specs.declared.msg.Msg.TheVariants as m
+use Rattle.zr_msg.specs.Extras.{no_extras}
 use Rattle.zr_msg.specs.declared.event.Event.{Event}
 use Rattle.zr_msg.specs.declared.event.Event.TheVariants.{Down, From}
 use Rattle.zr_msg.specs.declared.peer.Role.TheVariants as role
@@ -21,14 +22,15 @@ use Rattle.zr_table.specs.State.{NodeState}
 use Rattle.zr_msg.specs.declared.peer.LinkPeer.{LinkPeer}
 use Rattle.zr_table.specs.Table.{able_kind, sends, after}
 use Rattle.zr_network.specs.World.{Tagged, EndState, End, Ends, ClientState, RouterState, WorldState, is_end, turned, router_of, client_of, end_of, is_taken, with_router, with_end, put_end, changed, queued, sent, broken, lifted, lowered, with_wire, with_queue, new_router, new_client, new_end, is_empty, empty_world}
-use Rattle.zr_network.specs.Acts.{sends_to, all_queued, hearing, peer_of, up_event, declare_step, undeclare_step, outcome}
+use Rattle.zr_network.specs.Acts.{sends_to, all_queued, hearing, peer_of, up_event, declare_step, undeclare_step, received, outcome}
 use Rattle.zr_network.specs.Moments.{Moment, went}
 use Rattle.zr_network.specs.Sound.{IsSound}
 use Rattle.zr_network.proofs.Keyed.{read_cond, not_there}
 use Rattle.zr_network.proofs.Names.{same_name, value_new, value_after, read_kept}
 use Rattle.zr_network.proofs.Ends.{same_end, read_with_end, keep_with_end, read_put_end, read_changed, keep_changed, read_all_queued, keep_all_queued}
 use Rattle.zr_network.proofs.Fits.{up_of}
-use Rattle.zr_network.proofs.Cases.{free_name, on_router, on_client, on_link, on_up, on_break, on_down, on_handle, on_take, for_router, for_client, for_link, for_up, for_break, for_down, for_declare, for_undeclare, for_publish, for_handle, for_take, for_mark, for_show}
+use Rattle.zr_network.proofs.Clients.{there_same, same_received}
+use Rattle.zr_network.proofs.Cases.{free_name, on_router, on_client, on_link, on_up, on_break, on_down, on_handle, on_take, for_router, for_client, for_link, for_up, for_break, for_down, for_declare, for_undeclare, Says, publish_says, get_says, reply_says, end_says, for_handle, for_take, for_mark, for_show}
 use Rattle.zr_settled.proofs.Worlds.{there_in, queue_at, wire_at}
 use Rattle.zr_settled.proofs.Quiet.{turned_is}
 use Rattle.zr_settled.proofs.Moving.{unbroken_at}
@@ -168,7 +170,8 @@ module _ (now : Moment) (sound : IsSound now.world) (h : Orderly now.world) wher
   -- a message is taken
   took : (router to : List ℕ) (r : RouterState) → router_of w.routers router ≡ Some r → (s : EndState) → end_of w.ends (router, to) ≡ Some s → s.up ≡ true → s.unbroken ≡ true →
       (msg : Msg) (tag : ℕ) (xs : List Tagged) → Orderly (on_take now router to s msg tag xs).world
-  took router to r er s es up unbroken msg tag xs = steady w' (λ e. kept up_of (λ z. refl) refl e) (λ e. kept unbroken_at (λ z. refl) refl e) (λ x. refl) (λ x. refl)
+  took router to r er s es up unbroken msg tag xs = steady w' (λ e. kept up_of (λ z. refl) refl e) (λ e. kept unbroken_at (λ z. refl) refl e) (λ x. refl)
+      (there_same w.clients (received w.clients to msg (client_of w.clients to)) (same_received w.clients to msg))
       (λ e down. keep_changed half (to, router) (λ z. sent z msg tag) has_queue e (λ z. refl) ∙ read_with_end w.ends (router, to) (with_queue s xs) has_queue e (ap is_some es)
       ∙ queues e down (is_end (router, to) e) refl)
       (λ e k. by e (is_end (to, router) e) refl (sym (read_changed half (to, router) (λ z. sent z msg tag) has_wire e) ∙ k))
@@ -542,6 +545,9 @@ module _ (now : Moment) (sound : IsSound now.world) (h : Orderly now.world) wher
   undeclares n client kind id msg = for_undeclare now IsKept n client kind id msg
       (λ s es known en ee unbroken sound'. written n client s es en ee unbroken msg _ refl (λ x. refl) (λ x. read_kept is_some w.clients client x s _ es refl))
 
+  says : (n : ℕ) (client : List ℕ) (msg : Msg) → Says now IsKept n client msg
+  says n client msg s es en ee unbroken clients same sound' = written n client s es en ee unbroken msg _ refl (λ x. refl) (there_same w.clients clients same)
+
   pub act_orderly : (n : ℕ) (act : Act) → IfSome (went now (outcome now.world n act)) IsKept
   unfolding outcome
   act_orderly n (c.Router id) = for_router now IsKept id (λ free room sound'. router_came id free)
@@ -554,8 +560,10 @@ module _ (now : Moment) (sound : IsSound now.world) (h : Orderly now.world) wher
   act_orderly n (c.Unsub client id) = undeclares n client sort.Sub id (m.Unsub id)
   act_orderly n (c.Able client id key complete) = declares n client (able_kind complete) id key (m.Able id key complete)
   act_orderly n (c.Unable client id) = undeclares n client sort.Able id (m.Unable id)
-  act_orderly n (c.Publish client content) = for_publish now IsKept n client content
-      (λ s es en ee unbroken sound'. written n client s es en ee unbroken (m.Push None content) _ refl (λ x. refl) (λ x. refl))
+  act_orderly n (c.Publish client content) = publish_says now IsKept n client content (says n client (m.Push None content))
+  act_orderly n (c.Get client number target content) = get_says now IsKept n client number target content (says n client (m.Request None number target content))
+  act_orderly n (c.Reply client number content) = reply_says now IsKept n client number content (says n client (m.Response number content))
+  act_orderly n (c.End client number) = end_says now IsKept n client number (says n client (m.Final number no_extras))
   act_orderly n (c.Handle router from) = for_handle now IsKept router from (λ r er there s es up msg tag xs front l el taken. handled router from r er s es msg tag xs front l)
   act_orderly n (c.Take router to) = for_take now IsKept router to (λ r er there s es up unbroken msg tag xs front sound'. took router to r er s es up unbroken msg tag xs)
   act_orderly n c.Mark = for_mark now IsKept n (λ settled joined sound'. h)

@@ -26,6 +26,7 @@ use Rattle.zr_log.specs.Known.{KnownState, AreInOrder, log_of, position, decls, 
 use Rattle.zr_log.proofs.Logs.{name_order, source_of}
 use Rattle.zr_routing.specs.Changes.{after_changes, steps}
 use Rattle.zr_routing.specs.Snapshots.{is_new_child, snapshot}
+use Rattle.zr_settled.proofs.Answering.{TellsNothing}
 use Rattle.zr_settled.proofs.Spreading.{Name, Known, Note, best, best_append}
 
 -- ---- readings
@@ -57,6 +58,10 @@ places_in (Final id extras) = []
 places_in (State links) = []
 places_in (Step source number added decl) = record { source = source; known = placed number } ∷ []
 places_in (Snap source number decls) = record { source = source; known = placed number } ∷ []
+
+-- a query tells nothing of logs, nor does what answers it
+pub no_places : TellsNothing places_in
+no_places = record { asks = λ tree number target content. refl; replies = λ number content. refl; ends = λ number extras. refl }
 
 -- what messages tell of logs, in order
 abbrev pub places : List Msg → List (Note Place)

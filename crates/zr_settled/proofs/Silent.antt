@@ -26,6 +26,7 @@ use Rattle.zr_table.specs.State.{NodeState, tables}
 use Rattle.zr_table.specs.Table.{rows_left, sends_rows, sends_down, sends_from, sends_first, sends, after_from, after}
 use Rattle.zr_settled.proofs.Spreading.{Name, Note}
 use Rattle.zr_settled.proofs.Records.{notes_in, told}
+use Rattle.zr_settled.proofs.Answering.{TellsNothing, request_silent, reply_silent, final_silent, behind_ends}
 
 pub told-append : (xs ys : List Msg) → told (xs ++ ys) ≡ told xs ++ told ys
 told-append xs ys = flat_map-append notes_in xs ys
@@ -78,6 +79,10 @@ module _ (t : TableState) (before : List RecordState) where
 
 -- ---- events
 
+-- a query tells nothing of links, nor does what answers it
+no_notes : TellsNothing notes_in
+no_notes = record { asks = λ tree number target content. refl; replies = λ number content. refl; ends = λ number extras. refl }
+
 module _ (n : NodeState) where
   rows_silent : (rows : List Row) (to : ℕ) → told (sends_rows n rows to) ≡ []
   rows_silent rows to = silent_if notes_in (is_to_child (tables n) n.base.me to) _ (steps_silent n.base.me (position n.known n.base.me) (changes n.rows rows))
@@ -95,9 +100,9 @@ module _ (n : NodeState) where
   from_silent from (ToldUnable id) to e = refl
   from_silent from (ToldEnd interest) to e = refl
   from_silent from (Push tree content) to e = push_silent notes_in (tables n) from content (λ tree. refl) (tree_of (tables n) (link_at n.links from) tree) to
-  from_silent from (Request tree id target content) to e = refl
-  from_silent from (Response id content) to e = refl
-  from_silent from (Final id extras) to e = refl
+  from_silent from (Request tree id target content) to e = request_silent notes_in no_notes (tables n) n.pending from tree id target content to
+  from_silent from (Response id content) to e = reply_silent notes_in no_notes n.pending from id content to
+  from_silent from (Final id extras) to e = final_silent notes_in no_notes n.pending from id extras to
   from_silent from (State links) to e = absurd (cc)
   from_silent from (Step source number added decl) to e =
       silent_if notes_in (leads_to_router n.links from && (is_next n.known source number && is_to_child (tables n) source to)) (Step source number added decl ∷ []) refl
@@ -134,6 +139,7 @@ module _ (n : NodeState) where
 
   pub down_tells_first : (link to : LinkNo) → told (sends_first n (Down link) to) ≡ told (sends_down n link.0 (link_at n.links link.0) to.0)
   down_tells_first link to =
-      told-append (sends_down n link.0 (link_at n.links link.0) to.0) (sends_rows n (rows_left n link.0) to.0)
+      behind_ends notes_in no_notes n.pending link.0 to.0 (sends_down n link.0 (link_at n.links link.0) to.0 ++ sends_rows n (rows_left n link.0) to.0)
+      ∙ told-append (sends_down n link.0 (link_at n.links link.0) to.0) (sends_rows n (rows_left n link.0) to.0)
       ∙ ap (λ z. told (sends_down n link.0 (link_at n.links link.0) to.0) ++ z) (rows_silent (rows_left n link.0) to.0)
       ∙ append-nil (told (sends_down n link.0 (link_at n.links link.0) to.0))

@@ -24,6 +24,7 @@ use Rattle.zr_log.specs.Known.{KnownState, log_of, position, decls, after_own}
 use Rattle.zr_log.proofs.Changes.{set_changed}
 use Rattle.zr_routing.specs.Changes.{changes, after_changes, steps}
 use Rattle.zr_routing.specs.Snapshots.{is_new_child, snapshot}
+use Rattle.zr_settled.proofs.Answering.{TellsNothing}
 use Rattle.zr_settled.proofs.Spreading.{Name, Note, Made}
 use Rattle.zr_settled.proofs.Telling.{more}
 use Rattle.zr_settled.proofs.Positions.{decls_with}
@@ -54,6 +55,10 @@ brings (Final id extras) = []
 brings (State links) = []
 brings (Step source number added decl) = record { source = source; known = record { number = number; value = inl (record { added = added; decl = decl }) } } ∷ []
 brings (Snap source number decls) = record { source = source; known = record { number = number; value = inr decls } } ∷ []
+
+-- a query brings nothing of logs, nor does what answers it
+pub brings_none : TellsNothing brings
+brings_none = record { asks = λ tree number target content. refl; replies = λ number content. refl; ends = λ number extras. refl }
 
 abbrev pub Sets : Type 0
 Sets = Made (List Decl)

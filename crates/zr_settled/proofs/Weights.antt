@@ -13,8 +13,9 @@ use Rattle.zr_local.specs.Rows.{weight_of, refuses_undeclare}
 use Rattle.zr_log.specs.declared.log.Log.{Log}
 use Rattle.zr_log.specs.Known.{position, is_gap}
 use Rattle.zr_routing.specs.Tables.{leads_to_router, leads_to_client}
-use Rattle.zr_table.specs.State.{NodeState}
-use Rattle.zr_table.specs.Table.{able_kind, key_of}
+use Rattle.zr_table.specs.State.{NodeState, tables}
+use Rattle.zr_routing.specs.Queries.{asked_links}
+use Rattle.zr_table.specs.Table.{able_kind, key_of, refuses_request}
 use Rattle.zr_network.specs.World.{Tagged, RouterState, EndState, End, Ends, WorldState, router_of, end_of, most_weight}
 use Rattle.zr_network.specs.World as world
 use Rattle.zr_settled.proofs.Spreading.{Name}
@@ -152,23 +153,23 @@ pub record WeightsHold (w : WorldState) : Type 0 where
 
 -- ---- what else makes a router refuse a message
 
--- what is taken back is there, and no change is missing before one that comes
-abbrev pub HasNoGap : NodeState → ℕ → Msg → Type 0
-HasNoGap n from (Sub id key) = Unit {0}
-HasNoGap n from (Unsub id) = leads_to_client n.links from ≡ true → refuses_undeclare n.rows (key_of from id kind.Sub) ≡ None
-HasNoGap n from (Able id key complete) = Unit {0}
-HasNoGap n from (Unable id) = leads_to_client n.links from ≡ true → refuses_undeclare n.rows (key_of from id kind.Able) ≡ None
-HasNoGap n from (Interest id current future kinds key aggregate) = Unit {0}
-HasNoGap n from (EndInterest id) = Unit {0}
-HasNoGap n from (ToldSub id key interest) = Unit {0}
-HasNoGap n from (ToldAble id key complete interest) = Unit {0}
-HasNoGap n from (ToldUnsub id) = Unit {0}
-HasNoGap n from (ToldUnable id) = Unit {0}
-HasNoGap n from (ToldEnd interest) = Unit {0}
-HasNoGap n from (Push tree content) = Unit {0}
-HasNoGap n from (Request tree id target content) = Unit {0}
-HasNoGap n from (Response id content) = Unit {0}
-HasNoGap n from (Final id extras) = Unit {0}
-HasNoGap n from (State links) = Unit {0}
-HasNoGap n from (Step source number added decl) = leads_to_router n.links from ≡ true → is_gap n.known source number ≡ false
-HasNoGap n from (Snap source number decls) = Unit {0}
+-- what is taken back is there, no change is missing before one that comes, and a request has a number that is free and goes where numbers are left
+abbrev pub IsInTurn : NodeState → ℕ → Msg → Type 0
+IsInTurn n from (Sub id key) = Unit {0}
+IsInTurn n from (Unsub id) = leads_to_client n.links from ≡ true → refuses_undeclare n.rows (key_of from id kind.Sub) ≡ None
+IsInTurn n from (Able id key complete) = Unit {0}
+IsInTurn n from (Unable id) = leads_to_client n.links from ≡ true → refuses_undeclare n.rows (key_of from id kind.Able) ≡ None
+IsInTurn n from (Interest id current future kinds key aggregate) = Unit {0}
+IsInTurn n from (EndInterest id) = Unit {0}
+IsInTurn n from (ToldSub id key interest) = Unit {0}
+IsInTurn n from (ToldAble id key complete interest) = Unit {0}
+IsInTurn n from (ToldUnsub id) = Unit {0}
+IsInTurn n from (ToldUnable id) = Unit {0}
+IsInTurn n from (ToldEnd interest) = Unit {0}
+IsInTurn n from (Push tree content) = Unit {0}
+IsInTurn n from (Request tree id target content) = refuses_request n from id (asked_links (tables n) from tree target content.key) ≡ None
+IsInTurn n from (Response id content) = Unit {0}
+IsInTurn n from (Final id extras) = Unit {0}
+IsInTurn n from (State links) = Unit {0}
+IsInTurn n from (Step source number added decl) = leads_to_router n.links from ≡ true → is_gap n.known source number ≡ false
+IsInTurn n from (Snap source number decls) = Unit {0}

@@ -15,6 +15,7 @@ use Rattle.zr_msg.specs.declared.decl.Kind.{Kind}
 use Rattle.zr_msg.specs.declared.decl.Kind.TheVariants as k
 use Rattle.zr_msg.specs.declared.msg.Msg.{Msg}
 use Rattle.zr_msg.specs.declared.msg.Msg.TheVariants as m
+use Rattle.zr_msg.specs.Extras.{no_extras}
 use Rattle.zr_msg.specs.declared.event.Event.TheVariants.{Up, Down, From}
 use Rattle.zr_msg.specs.declared.peer.Peer.{Peer}
 use Rattle.zr_msg.specs.declared.peer.Role.TheVariants.{Client}
@@ -25,14 +26,14 @@ use Rattle.zr_local.specs.Rows as rows
 use Rattle.zr_routing.specs.Tables.{free_link}
 use Rattle.zr_table.specs.Table.{able_kind, rows_left, refuses_rows, refuses}
 use Rattle.zr_table.proofs.Inserted.{All-append}
-use Rattle.zr_network.specs.World.{Tagged, RouterState, EndState, ClientState, End, Ends, WorldState, with_booked, with_ends, with_client, with_end, with_wire, with_queue, put_end, new_end, new_client, router_of, end_of, empty_world, lifted, lowered, broken, sent, changed, most_weight, weight_of}
-use Rattle.zr_network.specs.Acts.{Outcome, outcome, heard, peer_of, declaring, undeclaring}
+use Rattle.zr_network.specs.World.{Tagged, RouterState, EndState, ClientState, End, Ends, WorldState, with_booked, with_ends, with_client, with_end, with_wire, with_queue, put_end, new_end, new_client, router_of, client_of, end_of, empty_world, lifted, lowered, broken, sent, changed, most_weight, weight_of}
+use Rattle.zr_network.specs.Acts.{Outcome, outcome, heard, peer_of, declaring, undeclaring, received}
 use Rattle.zr_network.specs.Moments.{Moment, went}
 use Rattle.zr_network.proofs.Names.{names}
-use Rattle.zr_network.proofs.Cases.{w_client, w_link, w_up, w_break, w_sent, w_declare, w_handle, w_take, for_router, for_client, for_link, for_up, for_break, for_down, for_declare, for_undeclare, for_publish, for_handle, for_take, for_mark, for_show}
+use Rattle.zr_network.proofs.Cases.{w_client, w_link, w_up, w_break, w_sent, w_declare, w_handle, w_take, for_router, for_client, for_link, for_up, for_break, for_down, for_declare, for_undeclare, Says, publish_says, get_says, reply_says, end_says, for_handle, for_take, for_mark, for_show}
 use Rattle.zr_settled.proofs.Spreading.{Name}
 use Rattle.zr_settled.proofs.Ends.{AtEnds, of_found, with_end_all, put_end_all, changed_all}
-use Rattle.zr_settled.proofs.Weights.{Ever, ever_more, weighs, gained, wire_weight, waiting, IsTold, IsSent, IsUnderWay, weight_at, held_at, number_at, WeightsHold, HasNoGap}
+use Rattle.zr_settled.proofs.Weights.{Ever, ever_more, weighs, gained, wire_weight, waiting, IsTold, IsSent, IsUnderWay, weight_at, held_at, number_at, WeightsHold, IsInTurn}
 use Rattle.zr_settled.proofs.WeightsKnown.{GoesOn, more_goes_on, more_weighs, more_other}
 use Rattle.zr_settled.proofs.WeightsNodes.{HasRoom, up_weighs, down_weighs, from_weighs, within_later, gained_weigh, gained_there, takes, lets_leave}
 use Rattle.zr_settled.proofs.WeightsWaiting.{waiting_changed, waiting_put, waiting_same, waiting_sent, waiting_popped, wire_push, one_waits}
@@ -89,13 +90,13 @@ module _ (w : WorldState) (h : WeightsHold w) where
 
   -- a router's message goes onto the wire
   take_holds : (router to : Name) (s : EndState) → end_of w.ends (router, to) ≡ Some s → (msg : Msg) (tag : ℕ) (xs : List Tagged) → s.queue ≡ record { msg = msg; tag = tag } ∷ xs → WeightsHold (w_take w router to s msg tag xs)
-  take_holds router to s found msg tag xs front =
+  take_holds router to s found msg tag xs front = clients_hold _ (received w.clients to msg (client_of w.clients to)) (
       ends_hold w h (changed popped (to, router) (λ e. sent e msg tag))
       (λ x. let same = waiting_same w.ends (router, to) s found msg tag x (with_queue s xs) refl in
       omega (arith, waiting_changed popped (to, router) (λ e. sent e msg tag) x light, same))
       (changed_all (IsUnderWay h.ever) popped
       (with_end_all (IsUnderWay h.ever) w.ends h.way (router, to) (with_queue s xs) (ap is_some found) (record { wire = (at_end (router, to) s found).wire; queue = all.1 })) (to, router) (λ e. sent e msg tag)
-      (λ e u. wire_more e msg tag all.0.0 u))
+      (λ e u. wire_more e msg tag all.0.0 u)))
     where
       popped : Ends
       popped = with_end w.ends (router, to) (with_queue s xs)
@@ -210,6 +211,10 @@ module _ (now : Moment) (h : WeightsHold now.world) where
   abbrev pub KeptWeights : Moment → Type 0
   KeptWeights next = WeightsHold next.world
 
+  -- a client says something that declares nothing
+  says : (n : ℕ) (name : Name) (msg : Msg) → IsTold h.ever msg → weighs msg ≡ 0 → Says now KeptWeights n name msg
+  says n name msg told light s found e at unbroken clients same = clients_hold _ clients (says_holds w h n name s e at msg told light)
+
   pub weights_kept : (n : ℕ) (act : Act) → IfSome (went now (outcome w n act)) KeptWeights
   unfolding outcome
   weights_kept n (a.Router id) = for_router now KeptWeights id (λ free room. router_holds w h id free)
@@ -225,7 +230,10 @@ module _ (now : Moment) (h : WeightsHold now.world) where
       declare_holds w h n client (able_kind complete) id key (m.Able id key complete) s e at r there room tt refl)
   weights_kept n (a.Unable client id) = for_undeclare now KeptWeights n client k.Able id (m.Unable id) (λ s found known e at unbroken.
       clients_hold _ (with_client w.clients client (undeclaring s k.Able id)) (says_holds w h n client s e at (m.Unable id) tt refl))
-  weights_kept n (a.Publish client content) = for_publish now KeptWeights n client content (λ s found e at unbroken. says_holds w h n client s e at (m.Push None content) tt refl)
+  weights_kept n (a.Publish client content) = publish_says now KeptWeights n client content (says n client (m.Push None content) tt refl)
+  weights_kept n (a.Get client number target content) = get_says now KeptWeights n client number target content (says n client (m.Request None number target content) tt refl)
+  weights_kept n (a.Reply client number content) = reply_says now KeptWeights n client number content (says n client (m.Response number content) tt refl)
+  weights_kept n (a.End client number) = end_says now KeptWeights n client number (says n client (m.Final number no_extras) tt refl)
   weights_kept n (a.Handle router from) = for_handle now KeptWeights router from (λ r found there s at up msg tag xs front link number taken. handle_holds w h router from r found s at msg tag xs front link)
   weights_kept n (a.Take router to) = for_take now KeptWeights router to (λ r found there s at up unbroken msg tag xs front. take_holds w h router to s at msg tag xs front)
   weights_kept n a.Mark = for_mark now KeptWeights n (λ settled joined. h)
@@ -258,7 +266,7 @@ module _ (w : WorldState) (h : WeightsHold w) (x : Name) (r : RouterState) (foun
   weights_leave link = lets_leave h.ever x r.node (h.within x r found) link (room_for 0 (omega arith))
 
   -- the oldest message that waits at an end is taken, if it takes back what is there, or no change is missing before it
-  pub weights_take : (y : Name) (s : EndState) (t : Tagged) (more : List Tagged) → end_of w.ends (x, y) ≡ Some s → s.wire ≡ t ∷ more → (link : LinkNo) → HasNoGap r.node link.0 t.msg → refuses r.node (From link t.msg) ≡ None
+  pub weights_take : (y : Name) (s : EndState) (t : Tagged) (more : List Tagged) → end_of w.ends (x, y) ≡ Some s → s.wire ≡ t ∷ more → (link : LinkNo) → IsInTurn r.node link.0 t.msg → refuses r.node (From link t.msg) ≡ None
   weights_take y s t more there front link none =
       takes h.ever x r.node (h.within x r found) all_light link t.msg (room_for (weighs t.msg) (one_waits w.ends (x, y) s there t more front x (same_refl x)))
       (subst (λ q. AllByRecursion (λ z. IsTold h.ever z.msg) q) front (of_found (IsUnderWay h.ever) (end_of w.ends (x, y)) s there (h.way (x, y))).wire).0 none

@@ -33,15 +33,17 @@ use Rattle.zr_log.specs.Known.{KnownState, position, after_step, after_snap, is_
 use Rattle.zr_routing.specs.Tables.{link_at, leads_to_router, leads_to_client, is_to_child}
 use Rattle.zr_routing.specs.Changes.{changes, have_no_room}
 use Rattle.zr_routing.specs.Samples.{tree_of}
+use Rattle.zr_routing.specs.Queries.{sends_ends}
 use Rattle.zr_table.specs.State.{NodeState, tables}
 use Rattle.zr_table.specs.Table.{able_kind, row, key_of, rows_declared, rows_undeclared, rows_left, with_rows, sends_down, sends_rows, is_other_router, sends_first, sends, after, local_error, known_error, refuses_rows, refuses_declared, refuses_undeclared, refuses}
 use Rattle.zr_table.proofs.Inserted.{All-append, All-each}
 use Rattle.zr_network.specs.World.{most_weight}
 use Rattle.zr_network.proofs.Nodes.{me_after}
+use Rattle.zr_settled.proofs.Answering.{request_all, reply_all, final_all, ends_all}
 use Rattle.zr_settled.proofs.Spreading.{Name}
 use Rattle.zr_settled.proofs.Positions.{me_changes, position_changes}
 use Rattle.zr_settled.proofs.WeightsRows.{IsAdded, less_costs, less_weigh, more_costs, more_weigh, added_of}
-use Rattle.zr_settled.proofs.Weights.{Ever, ever_more, weighs, gained, IsTold, IsSent, IsKnown, IsWithin, HasNoGap}
+use Rattle.zr_settled.proofs.Weights.{Ever, ever_more, weighs, gained, IsTold, IsSent, IsKnown, IsWithin, IsInTurn}
 use Rattle.zr_settled.proofs.WeightsKnown.{GoesOn, known_later, more_here, known_changes, step_known, snap_known, step_taken, snap_taken, IsApart, step_apart, snap_apart}
 use Rattle.zr_settled.proofs.WeightsSent.{AreSent, sent_if, push_sent, up_sent, down_sent, rows_sent, all_sent}
 
@@ -151,7 +153,9 @@ module _ (ever : Ever) (x : Name) (n : NodeState) (h : IsWithin ever x n) where
   down_weighs link =
       rows_weigh (Down link) (rows_left n link.0) 0
       (costs_if (ever x) n.rows (left n.rows link.0) 0 (leads_to_client n.links link.0) h.rows (costs_less (ever x) n.rows (λ r. not (r.link.0 == link.0)) h.rows)) refl refl
-      (λ to sent. All-append (IsSent ever) (sends_down n link.0 (link_at n.links link.0) to.0) (sends_rows n (rows_left n link.0) to.0) (down_sent ever n link.0 (link_at n.links link.0) to.0) sent)
+      (λ to sent. All-append (IsSent ever) (sends_ends n.pending link.0 to.0) (sends_down n link.0 (link_at n.links link.0) to.0 ++ sends_rows n (rows_left n link.0) to.0)
+      (ends_all (IsSent ever) (λ number extras. (tt, refl)) n.pending link.0 to.0)
+      (All-append (IsSent ever) (sends_down n link.0 (link_at n.links link.0) to.0) (sends_rows n (rows_left n link.0) to.0) (down_sent ever n link.0 (link_at n.links link.0) to.0) sent))
 
   -- a client declares something that was declared once, and takes something back
   declare_weighs : (event : Event) (from : ℕ) (r : Row) → has (ever x) r.decl ≡ true → (after n event).known ≡ (with_rows n (rows_declared n from r)).known → (after n event).rows ≡ rows_declared n from r →
@@ -187,9 +191,12 @@ module _ (ever : Ever) (x : Name) (n : NodeState) (h : IsWithin ever x n) where
   from_weighs link (ToldUnable id) g t = quiet_weigh (From link (ToldUnable id)) 0 refl refl (λ to. tt)
   from_weighs link (ToldEnd interest) g t = quiet_weigh (From link (ToldEnd interest)) 0 refl refl (λ to. tt)
   from_weighs link (Push tree content) g t = quiet_weigh (From link (Push tree content)) 0 refl refl (λ to. push_sent ever (tables n) link.0 content (tree_of (tables n) (link_at n.links link.0) tree) to.0)
-  from_weighs link (Request tree id target content) g t = quiet_weigh (From link (Request tree id target content)) 0 refl refl (λ to. tt)
-  from_weighs link (Response id content) g t = quiet_weigh (From link (Response id content)) 0 refl refl (λ to. tt)
-  from_weighs link (Final id extras) g t = quiet_weigh (From link (Final id extras)) 0 refl refl (λ to. tt)
+  from_weighs link (Request tree id target content) g t = quiet_weigh (From link (Request tree id target content)) 0 refl refl (λ to.
+      request_all (IsSent ever) (λ number extras. (tt, refl)) (λ tree number target content. (tt, refl)) (tables n) n.pending link.0 tree id target content to.0)
+  from_weighs link (Response id content) g t = quiet_weigh (From link (Response id content)) 0 refl refl (λ to.
+      reply_all (IsSent ever) (λ number content. (tt, refl)) n.pending link.0 id content to.0)
+  from_weighs link (Final id extras) g t = quiet_weigh (From link (Final id extras)) 0 refl refl (λ to.
+      final_all (IsSent ever) (λ number extras. (tt, refl)) n.pending link.0 id extras to.0)
   from_weighs link (State r) g t =
       quiet_weigh (From link (State r)) 0 refl refl (λ to. sent_if ever (leads_to_router n.links link.0 && is_newer n.base r && is_other_router n link.0 to.0) (State r ∷ []) ((tt, refl), tt))
   from_weighs link (Step source number added decl) g t =
@@ -292,7 +299,7 @@ module _ (ever : Ever) (x : Name) (n : NodeState) (h : IsWithin ever x n) where
       (rows_taken (rows_undeclared n from k) 0 room
       (costs_if (ever x) n.rows (undeclared n.rows k) 0 (leads_to_client n.links from) h.rows (costs_less (ever x) n.rows (λ q. not (is_eq (key_cmp (row_key q) k))) h.rows)).number))
 
-  pub takes : ((z : Name) → weight (ever z) ≤ most_weight) → (link : LinkNo) (msg : Msg) → HasRoom n (weighs msg) → IsTold ever msg → HasNoGap n link.0 msg → refuses n (From link msg) ≡ None
+  pub takes : ((z : Name) → weight (ever z) ≤ most_weight) → (link : LinkNo) (msg : Msg) → HasRoom n (weighs msg) → IsTold ever msg → IsInTurn n link.0 msg → refuses n (From link msg) ≡ None
   takes most link (Sub id key) room t g = declare_taken link.0 (row link.0 id kind.Sub key) room
   takes most link (Unsub id) room t g = undeclare_taken link.0 (key_of link.0 id kind.Sub) room g
   takes most link (Able id key complete) room t g = declare_taken link.0 (row link.0 id (able_kind complete) key) room
@@ -305,7 +312,7 @@ module _ (ever : Ever) (x : Name) (n : NodeState) (h : IsWithin ever x n) where
   takes most link (ToldUnable id) room t g = refl
   takes most link (ToldEnd interest) room t g = refl
   takes most link (Push tree content) room t g = refl
-  takes most link (Request tree id target content) room t g = refl
+  takes most link (Request tree id target content) room t g = g
   takes most link (Response id content) room t g = refl
   takes most link (Final id extras) room t g = refl
   takes most link (State links) room t g = refl

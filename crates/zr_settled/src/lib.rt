@@ -4,7 +4,6 @@
 
 ghost use Rattle.zr_settled.specs.Tables.{SettledTablesAgree, GraphsAreOne, SettledLogsAgree};
 ghost use Rattle.zr_settled.specs.Rows.{SettledRowsAreOfClients};
-ghost use Rattle.zr_settled.specs.Events.{NoEventIsRefused};
 
 /// At each settled moment of each script each router sees the links that are up at both ends, as far as it reaches, and has the newest
 /// record of each router that it reaches, whatever links came and went before.
@@ -28,10 +27,4 @@ pub fn settled_logs_agree()
 /// where it has declared the id, and each row is of such a link.
 pub fn settled_rows_are_of_clients()
     ensures { SettledRowsAreOfClients }
-{}
-
-/// No event of a script's world is refused by its router: that a fresh link comes up, that a link goes down, and the oldest message on the
-/// wire from a neighbour.
-pub fn no_event_is_refused()
-    ensures { NoEventIsRefused }
 {}

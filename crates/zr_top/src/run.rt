@@ -3,12 +3,13 @@
 ghost use Rattle.std.specs.Prelude.{◌≡◌, ◌≤◌, ◌⊎◌, ◌↔◌, true, false, is_some, map, Some, IfSome, IsTrue};
 ghost use Rattle.std.specs.String.{string_bytes};
 ghost use Rattle.zr_outside.specs.Counts.{Rose};
-ghost use Rattle.zr_guarantee.specs.Scripts.{IsRefined};
-ghost use Rattle.zr_laws.specs.Keys.{AskingIsMeeting};
+ghost use Rattle.zr_guarantee.specs.Scripts.{IsDelivered};
+ghost use Rattle.zr_laws.specs.Keys.{AnsweringIsCovering, AnsweringIsMeeting, AskingIsMeeting};
 ghost use Rattle.zr_laws.specs.Runs.{RestIsQuiet};
 ghost use Rattle.zr_declared.specs.Logs.{SettledLogsAreKnown};
 ghost use Rattle.zr_declared.specs.Rows.{SettledRowsAreDeclared};
 ghost use Rattle.zr_declared.specs.Sets.{SettledSetsAreDeclared};
+ghost use Rattle.zr_numbers.specs.Numbers.{NumbersAlwaysHold};
 ghost use Rattle.zr_settled.specs.Events.{NoEventIsRefused};
 ghost use Rattle.zr_settled.specs.Tables.{AgreeWhereSettled, SettledLogsAgree};
 ghost use Rattle.zr_netrun.specs.Clauses.{OfRead, OfLines, IsReported, IsReadToEnd, IsSummedUp};
@@ -28,16 +29,19 @@ use std::sync::Wait;
 use std::thread::Threads;
 use zr_crew::Crew;
 use zr_declared::{settled_logs_are_known, settled_rows_are_declared, settled_sets_are_declared};
-use zr_laws::keys::{asking_is_meeting, keys_are_texts};
-use zr_laws::refines::{lines_are_moments, lines_refine};
+use zr_laws::keys::{
+    answering_is_covering, answering_is_meeting, asking_is_meeting, keys_are_texts,
+};
+use zr_laws::refines::{lines_are_moments, lines_deliver};
 use zr_laws::runs::rest_is_quiet;
 use zr_netrun::netrun::run_script;
 use zr_netrun::status::Status;
+use zr_numbers::{no_event_is_refused, numbers_always_hold};
 use zr_outside::host::Host;
 use zr_outside::sink::Sink;
 use zr_outside::source::Source;
 use zr_serve::LinkJob;
-use zr_settled::{no_event_is_refused, settled_logs_agree, settled_tables_agree};
+use zr_settled::{settled_logs_agree, settled_tables_agree};
 
 /// The whole program. Its words, without its name, ask for one of four things. `net` reads a script from `input`, and writes the report to `out`;
 /// `net --summary` writes, at the script's end, four counts of the report in its place.
@@ -49,13 +53,14 @@ use zr_settled::{no_event_is_refused, settled_logs_agree, settled_tables_agree};
 /// The clause `headline` says what clients were sent, and `told` that the report, of which `report` speaks, tells just this: the accepted
 /// acts of the lines that were read lead to the moment that the report tells. Beside them stands what the headline's words mean: the keys
 /// of a script are texts of expressions (`keys`), the one broker sends to a subscription exactly where some key is matched by both
-/// expressions (`meeting`), and in a phase nothing is under way exactly where no step is possible, which a run tells by `quiet` (`rest`).
+/// expressions (`meeting`), and asks a queryable exactly there (`answering`) or where a complete one covers the key (`covering`), and in a phase nothing is under way exactly where no step is possible, which a run tells by `quiet` (`rest`).
 ///
 /// The clause `tables` says what routers know of links: at each moment of the lines that were read, also between two steps of a run, at
 /// which the network is settled, each router sees exactly the links that are up at both ends, as far as it reaches, whatever links came,
-/// broke and went before. Beside it stand four that hold of all scripts. Where a network is settled each router knows the whole log of each router that
+/// broke and went before. Beside it stand some that hold of all scripts. Where a network is settled each router knows the whole log of each router that
 /// it reaches (`logs`), so just what the clients attached there have declared (`sets`); its own rows are what its clients have declared, key and kind
-/// (`rows`); and no router refuses an event that may come to it (`taken`).
+/// (`rows`); no router refuses an event that may come to it (`taken`); and at each moment both ends of a link agree on each number of a request (`numbers`):
+/// it is free, or asked, or kept with some replies on their way back, or ended with the final behind them.
 ///
 /// The clause `served` says what was called of the host, which jobs the crew started, and what was written, where a router was served. The clauses
 /// `made` and `helped` say which text was written, where a script was made or something was told: all of it at `Done`, and else a prefix.
@@ -82,7 +87,7 @@ where
     H::Time: 'static,
     ensures report { net_of (map string_bytes words.now) ≡ Some false → OfRead (S.left input.old) (S.left input.new) (IsReported (IsReadToEnd (S.ends input.old) (S.ends input.new) (S.quiets input.old) (S.quiets input.new)) result (K.held out.old) (K.held out.new) (E.held err.old) (E.held err.new)) }
     ensures summed_up { net_of (map string_bytes words.now) ≡ Some true → OfRead (S.left input.old) (S.left input.new) (IsSummedUp (IsReadToEnd (S.ends input.old) (S.ends input.new) (S.quiets input.old) (S.quiets input.new)) result (K.held out.old) (K.held out.new) (E.held err.old) (E.held err.new)) }
-    ensures headline { is_net (map string_bytes words.now) ≡ true → OfLines (S.left input.old) (S.left input.new) IsRefined }
+    ensures headline { is_net (map string_bytes words.now) ≡ true → OfLines (S.left input.old) (S.left input.new) IsDelivered }
     ensures told { is_net (map string_bytes words.now) ≡ true → OfLines (S.left input.old) (S.left input.new) LeadToTheirReport }
     ensures keys { is_net (map string_bytes words.now) ≡ true → OfLines (S.left input.old) (S.left input.new) HaveKeyTexts }
     ensures tables { is_net (map string_bytes words.now) ≡ true → OfLines (S.left input.old) (S.left input.new) AgreeWhereSettled }
@@ -91,7 +96,10 @@ where
     ensures rows { SettledRowsAreDeclared }
     ensures sets { SettledSetsAreDeclared }
     ensures taken { NoEventIsRefused }
+    ensures numbers { NumbersAlwaysHold }
     ensures meeting { AskingIsMeeting }
+    ensures answering { AnsweringIsMeeting }
+    ensures covering { AnsweringIsCovering }
     ensures rest { RestIsQuiet }
     ensures served { IfSome (served_of (map string_bytes words.now)) (λ s. IsServing s result (H.calls host.old) (H.calls host.new) (crew_told crew.old) (crew_told crew.new) (crew_faults crew.old) (crew_faults crew.new) (outputs (K.held out.old) (E.held err.old) (E.faults err.old)) (outputs (K.held out.new) (E.held err.new) (E.faults err.new))) }
     ensures whole { is_net (map string_bytes words.now) ≡ true → result ≡ Status.Done → IsReadToEnd (S.ends input.old) (S.ends input.new) (S.quiets input.old) (S.quiets input.new) }
@@ -109,16 +117,19 @@ where
     ensures usage { result ≡ Status.Words → TellsUsage (E.held err.old) (E.held err.new) (E.faults err.old) (E.faults err.new) × (K.held out.new ≡ K.held out.old) × (S.left input.new ≡ S.left input.old) }
 {
     asking_is_meeting();
+    answering_is_meeting();
+    answering_is_covering();
     rest_is_quiet();
     settled_logs_agree();
     settled_logs_are_known();
     settled_rows_are_declared();
     settled_sets_are_declared();
     no_event_is_refused();
+    numbers_always_hold();
     let Some(summary) = net_of(words) else {
         return run_beside_net(rt, alloc, words, out, err, host, crew);
     };
-    lines_refine();
+    lines_deliver();
     lines_are_moments();
     keys_are_texts();
     settled_tables_agree();

@@ -1,0 +1,464 @@
+-- What the lines say of a client, and what the world has of it (`Spoken`): its link is unbroken as long as it is attached, and its ids are those of
+-- what it has declared, of each kind. Each act keeps it.
+use Rattle.std.proofs.Common.{◌≡◌, ℕ, Bool, true, false, cond, not, List, [], ◌∷◌, ◌++◌, Option, Some, None, is_some, refl, sym, ap, ◌∙◌, subst}
+use Rattle.std.specs.Prelude.{◌&&◌, ◌||◌, ◌==◌, filter, IfSome}
+use Rattle.std.specs.List.{list_any}
+use Rattle.std.specs.Option.{option_map}
+use Rattle.std.proofs.Math.Bool.{or-false}
+use Rattle.std.proofs.lemmas.Bool.{true≢false, false_from_ne_true, or_right}
+use Rattle.std.proofs.lemmas.List.Sums.{fold-append}
+use Rattle.zr_id.specs.Zid.{is_named}
+use Rattle.zr_graph.proofs.Names.{same_is, same_refl}
+use Rattle.zr_msg.specs.declared.decl.Decl.{Decl}
+use Rattle.zr_msg.specs.declared.decl.Kind.{Kind}
+use Rattle.zr_msg.specs.declared.decl.Kind.TheVariants as k
+use Rattle.zr_msg.specs.Extras.{no_extras}
+use Rattle.zr_msg.specs.declared.msg.Msg.{Msg}
+use Rattle.zr_msg.specs.declared.msg.Msg.TheVariants as m
+use Rattle.zr_msg.specs.declared.event.Event.TheVariants.{Down, From}
+use Rattle.zr_msg.specs.declared.peer.Role.TheVariants.{Client}
+use Rattle.zr_command.specs.declared.command.Act.{Act}
+use Rattle.zr_command.specs.declared.command.Act.TheVariants as a
+use Rattle.zr_table.specs.Table.{able_kind}
+use Rattle.zr_network.specs.World.{RouterState, EndState, ClientState, End, Ends, WorldState, router_of, client_of, end_of, is_end, with_end, put_end, with_client, new_client, new_end, lifted, lowered, broken, sent, with_wire, with_queue, changed, is_taken, is_unbroken}
+use Rattle.zr_network.specs.Acts.{outcome, up_event, peer_of, all_queued, has_id, declaring, undeclaring}
+use Rattle.zr_network.specs.Moments.{Numbered, Moment, went}
+use Rattle.zr_guarantee.specs.Broker.{Declaration, Queryable, attached_by, is_attached, declared_by, declarations, able_by, queryables}
+use Rattle.zr_network.proofs.Keyed.{not_there}
+use Rattle.zr_network.proofs.Names.{names, value_new, read_after}
+use Rattle.zr_network.proofs.Ends.{ends, keep_with_end, read_put_end, read_changed, keep_changed, keep_all_queued}
+use Rattle.zr_network.proofs.Clients.{SameClients, idle_client, same_clients, same_received, there_same, client_was}
+use Rattle.zr_network.proofs.Cases.{free_name, on_router, on_client, on_link, on_up, on_break, on_down, on_declare, on_undeclare, on_said, on_handle, on_take, for_router, for_client, for_link, for_up, for_break, for_down, for_declare, for_undeclare, Says, publish_says, get_says, reply_says, end_says, for_handle, for_take, for_mark, for_show}
+use Rattle.zr_settled.proofs.Spreading.{Name}
+use Rattle.zr_settled.proofs.Moving.{unbroken_at}
+use Rattle.zr_settled.proofs.Ends.{other_end}
+use Rattle.zr_settled.proofs.ClientRows.{ClientsHold}
+use Rattle.zr_declared.specs.Declared.{is_same_id, stands_by, stands}
+use Rattle.zr_declared.proofs.Flows.{Flows, stands_more}
+use Rattle.zr_declared.proofs.Said.{AreListed, none_listed, same_listed, listed_more, listed_less}
+
+-- ---- the invariant
+
+abbrev pub sub_id : Declaration → ℕ
+sub_id d = d.id
+
+abbrev pub sub_decl : Declaration → Decl
+sub_decl d = record { kind = k.Sub; key = d.key }
+
+abbrev pub able_id : Queryable → ℕ
+able_id q = q.id
+
+abbrev pub able_decl : Queryable → Decl
+able_decl q = record { kind = able_kind q.complete; key = q.key }
+
+abbrev pub AreSubs : List Declaration → List ℕ → (ℕ → Option Decl) → Type 0
+AreSubs said ids standing = AreListed Declaration sub_id sub_decl said ids standing
+
+abbrev pub AreAbles : List Queryable → List ℕ → (ℕ → Option Decl) → Type 0
+AreAbles said ids standing = AreListed Queryable able_id able_decl said ids standing
+
+pub record IsSpoken (acts : List Numbered) (w : WorldState) (c : Name) (s : ClientState) : Type 0 where
+  pub attached : is_unbroken w.ends (s.router, c) ≡ is_attached acts c
+  pub subs : AreSubs (declarations acts c) s.subs (λ id. stands acts c k.Sub id)
+  pub ables : AreAbles (queryables acts c) s.ables (λ id. stands acts c k.Able id)
+
+-- a name of no client
+pub record IsUnspoken (acts : List Numbered) (c : Name) : Type 0 where
+  pub attached : is_attached acts c ≡ false
+  pub subs : declarations acts c ≡ []
+  pub ables : queryables acts c ≡ []
+
+pub record Spoken (acts : List Numbered) (w : WorldState) : Type 0 where
+  pub clients : (c : Name) (s : ClientState) → client_of w.clients c ≡ Some s → IsSpoken acts w c s
+  pub others : (c : Name) → client_of w.clients c ≡ None → IsUnspoken acts c
+
+-- an id of the other kind
+neither : (b : Bool) (x y : Option Decl) → cond (b && false) x y ≡ y
+neither true x y = refl
+neither false x y = refl
+
+-- an act says nothing of a name
+record IsNoNews (act : Act) (c : Name) : Type 0 where
+  attached : (so_far : Bool) → attached_by c so_far act ≡ so_far
+  subs : (so_far : List Declaration) → declared_by c so_far act ≡ so_far
+  ables : (so_far : List Queryable) → able_by c so_far act ≡ so_far
+  standing : (kind : Kind) (id : ℕ) (so_far : Option Decl) → stands_by c kind id so_far act ≡ so_far
+
+module _ (acts : List Numbered) (n : ℕ) (act : Act) (c : Name) where
+  attached_more : is_attached (acts ++ (n, act) ∷ []) c ≡ attached_by c (is_attached acts c) act
+  attached_more = fold-append (λ so_far x. attached_by c so_far x.1) false acts ((n, act) ∷ [])
+
+  subs_more : declarations (acts ++ (n, act) ∷ []) c ≡ declared_by c (declarations acts c) act
+  subs_more = fold-append (λ so_far x. declared_by c so_far x.1) [] acts ((n, act) ∷ [])
+
+  ables_more : queryables (acts ++ (n, act) ∷ []) c ≡ able_by c (queryables acts c) act
+  ables_more = fold-append (λ so_far x. able_by c so_far x.1) [] acts ((n, act) ∷ [])
+
+  -- what is so of a name of which an act is no news is so then
+  still_spoken : (w v : WorldState) (s t : ClientState) → IsNoNews act c → idle_client s ≡ idle_client t → is_unbroken v.ends (t.router, c) ≡ is_unbroken w.ends (s.router, c) →
+      IsSpoken acts w c s → IsSpoken (acts ++ (n, act) ∷ []) v c t
+  still_spoken w v s t quiet same whole h = record {
+    attached = whole ∙ h.attached ∙ sym (attached_more ∙ quiet.attached (is_attached acts c));
+    subs = same_listed (subs_more ∙ quiet.subs (declarations acts c)) (ap (λ (q : ClientState). q.subs) (sym same))
+        (λ id. stands_more acts n act c k.Sub id ∙ quiet.standing k.Sub id (stands acts c k.Sub id)) h.subs;
+    ables = same_listed (ables_more ∙ quiet.ables (queryables acts c)) (ap (λ (q : ClientState). q.ables) (sym same))
+        (λ id. stands_more acts n act c k.Able id ∙ quiet.standing k.Able id (stands acts c k.Able id)) h.ables;
+  }
+
+  still_unspoken : IsNoNews act c → IsUnspoken acts c → IsUnspoken (acts ++ (n, act) ∷ []) c
+  still_unspoken quiet h = record {
+    attached = attached_more ∙ quiet.attached (is_attached acts c) ∙ h.attached;
+    subs = subs_more ∙ quiet.subs (declarations acts c) ∙ h.subs;
+    ables = ables_more ∙ quiet.ables (queryables acts c) ∙ h.ables;
+  }
+
+module _ (acts : List Numbered) (now : Moment) (clients : ClientsHold now.world) (flows : Flows acts now.world) (h : Spoken acts now.world) where
+  abbrev w : WorldState
+  w = now.world
+
+  abbrev pub SpokenThen : ℕ → Act → Moment → Type 0
+  SpokenThen n act next = Spoken (acts ++ (n, act) ∷ []) next.world
+
+  -- ---- no news of anybody
+
+  still : (n : ℕ) (act : Act) (v : WorldState) → ((c : Name) → IsNoNews act c) → SameClients w.clients v.clients →
+      ((c : Name) (s : ClientState) → client_of w.clients c ≡ Some s → is_unbroken v.ends (s.router, c) ≡ is_unbroken w.ends (s.router, c)) → Spoken (acts ++ (n, act) ∷ []) v
+  still n act v quiet same whole = record {
+    clients = λ c t found.
+        let s = client_was w.clients v.clients same c t found in
+        still_spoken acts n act c w v s.0 t (quiet c) s.2 (ap (λ (q : ClientState). is_unbroken v.ends (q.router, c)) (sym s.2) ∙ whole c s.0 s.1) (h.clients c s.0 s.1);
+    others = λ c none. still_unspoken acts n act c (quiet c) (h.others c (not_there (client_of w.clients c) (sym (there_same w.clients v.clients same c) ∙ ap is_some none)));
+  }
+
+  -- a client says something that is nothing of ids
+  says : (n : ℕ) (act : Act) (client : Name) (msg : Msg) → ((c : Name) → IsNoNews act c) → Says now (SpokenThen n act) n client msg
+  says n act client msg quiet s found e at_end unbroken cs same =
+      still n act (on_said now n client msg s e cs).world quiet same (λ c t client_is. keep_with_end w.ends (s.router, client) (sent e msg n) unbroken_at (t.router, c) e at_end refl)
+
+  -- a router is no client
+  no_client : (x : Name) → is_some (router_of w.routers x) ≡ true → (c : Name) (s : ClientState) → client_of w.clients c ≡ Some s → is_named x c ≡ false
+  no_client x there c s found = false_from_ne_true (is_named x c) (λ e. true≢false (sym there ∙ ap (λ z. is_some (router_of w.routers z)) (same_is x c e) ∙ clients.apart c s found))
+
+  -- ---- a link between two routers
+
+  linked : (n : ℕ) (one other : Name) (r q : RouterState) → router_of w.routers one ≡ Some r → router_of w.routers other ≡ Some q → Spoken (acts ++ (n, a.Link one other) ∷ []) (on_link now one other).world
+  linked n one other r q found found' = still n (a.Link one other) (on_link now one other).world
+      (λ c. record { attached = λ so_far. refl; subs = λ so_far. refl; ables = λ so_far. refl; standing = λ kind id so_far. refl }) (same_clients w.clients)
+      (λ c s client.
+      read_put_end (put_end w.ends (one, other) new_end) (other, one) new_end unbroken_at (s.router, c)
+      ∙ ap (λ b. cond b true (is_unbroken (put_end w.ends (one, other) new_end) (s.router, c))) (other_end other s.router one c (no_client one (ap is_some found) c s client))
+      ∙ read_put_end w.ends (one, other) new_end unbroken_at (s.router, c)
+      ∙ ap (λ b. cond b true (is_unbroken w.ends (s.router, c))) (other_end one s.router other c (no_client other (ap is_some found') c s client)))
+
+  -- ---- a client comes
+
+  comes : (n : ℕ) (id router : Name) (r : RouterState) → router_of w.routers router ≡ Some r → is_taken w id ≡ false → Spoken (acts ++ (n, a.Client id router) ∷ []) (on_client now n id router r).world
+  comes n id router r found free = record {
+    clients = λ c t there. at c t (is_named c id) refl (sym (clients_are c) ∙ there);
+    others = λ c none. nobody c (is_named c id) refl (sym (clients_are c) ∙ none);
+  }
+    where
+      act : Act
+      act = a.Client id router
+
+      v : WorldState
+      v = (on_client now n id router r).world
+
+      is_new : client_of w.clients id ≡ None
+      is_new = not_there (client_of w.clients id) (free_name w id free).1
+
+      before : IsUnspoken acts id
+      before = h.others id is_new
+
+      clients_are : (c : Name) → client_of v.clients c ≡ cond (is_named c id) (Some (new_client router)) (client_of w.clients c)
+      clients_are c = value_new w.clients id c (new_client router) is_new
+
+      whole : (q : End) → is_unbroken v.ends q ≡ cond (is_end (router, id) q) true (is_unbroken w.ends q)
+      whole q = keep_all_queued (put_end w.ends (router, id) (lifted new_end)) router r.node (up_event r (record { id = id; role = Client })) n unbroken_at q (λ e. refl)
+          ∙ read_put_end w.ends (router, id) (lifted new_end) unbroken_at q
+
+      quiet : (c : Name) → is_named c id ≡ false → IsNoNews act c
+      quiet c other = record {
+        attached = λ so_far. ap (λ b. so_far || b) other ∙ or-false so_far;
+        subs = λ so_far. refl;
+        ables = λ so_far. refl;
+        standing = λ kind i so_far. refl;
+      }
+
+      its_own : IsSpoken (acts ++ (n, act) ∷ []) v id (new_client router)
+      its_own = record {
+        attached = whole (router, id) ∙ ap (λ b. cond b true (is_unbroken w.ends (router, id))) (ends.refl (router, id))
+            ∙ sym (attached_more acts n act id ∙ or_right (is_attached acts id) (is_named id id) (same_refl id));
+        subs = same_listed (subs_more acts n act id ∙ before.subs) refl (λ i. refl) (none_listed (λ i. stands_more acts n act id k.Sub i ∙ flows.fresh id is_new k.Sub i));
+        ables = same_listed (ables_more acts n act id ∙ before.ables) refl (λ i. refl) (none_listed (λ i. stands_more acts n act id k.Able i ∙ flows.fresh id is_new k.Able i));
+      }
+
+      at : (c : Name) (t : ClientState) (b : Bool) → is_named c id ≡ b → cond b (Some (new_client router)) (client_of w.clients c) ≡ Some t → IsSpoken (acts ++ (n, act) ∷ []) v c t
+      at c t true e there =
+          let one : new_client router ≡ t = cc in
+          subst (λ (q : ClientState). IsSpoken (acts ++ (n, act) ∷ []) v c q) one (subst (λ (y : Name). IsSpoken (acts ++ (n, act) ∷ []) v y (new_client router)) (sym (same_is c id e)) its_own)
+      at c t false e there = still_spoken acts n act c w v t t (quiet c e) refl
+          (whole (t.router, c) ∙ ap (λ b. cond b true (is_unbroken w.ends (t.router, c))) (other_end router t.router id c (names.symm id c ∙ e))) (h.clients c t there)
+
+      nobody : (c : Name) (b : Bool) → is_named c id ≡ b → cond b (Some (new_client router)) (client_of w.clients c) ≡ None → IsUnspoken (acts ++ (n, act) ∷ []) c
+      nobody c true e none = absurd (true≢false (ap is_some none))
+      nobody c false e none = still_unspoken acts n act c (quiet c e) (h.others c none)
+
+  -- ---- a link breaks
+
+  breaks : (n : ℕ) (router name : Name) (r : RouterState) → router_of w.routers router ≡ Some r → (e : EndState) → end_of w.ends (router, name) ≡ Some e →
+      Spoken (acts ++ (n, a.Break router name) ∷ []) (on_break now router name).world
+  breaks n router name r found e at_end = record {
+    clients = λ c s there. at c s there (is_named c name) refl;
+    others = λ c none. nobody c (h.others c none);
+  }
+    where
+      act : Act
+      act = a.Break router name
+
+      v : WorldState
+      v = (on_break now router name).world
+
+      half : Ends
+      half = changed w.ends (router, name) broken
+
+      cut : (o : Option EndState) → unbroken_at (option_map broken o) ≡ false
+      cut None = refl
+      cut (Some s) = refl
+
+      -- a client's end isn't the other one of the link
+      whole : (c : Name) (s : ClientState) → client_of w.clients c ≡ Some s →
+          is_unbroken v.ends (s.router, c) ≡ cond (is_end (router, name) (s.router, c)) (unbroken_at (option_map broken (end_of w.ends (s.router, c)))) (is_unbroken w.ends (s.router, c))
+      whole c s there =
+          read_changed half (name, router) broken unbroken_at (s.router, c)
+          ∙ ap (λ b. cond b (unbroken_at (option_map broken (end_of half (s.router, c)))) (is_unbroken half (s.router, c))) (other_end name s.router router c (no_client router (ap is_some found) c s there))
+          ∙ read_changed w.ends (router, name) broken unbroken_at (s.router, c)
+
+      both_false : (b : Bool) → (b && false) ≡ false
+      both_false true = refl
+      both_false false = refl
+
+      both_true : (b : Bool) → (b && true) ≡ b
+      both_true true = refl
+      both_true false = refl
+
+      quiet : (c : Name) → is_named c name ≡ false → IsNoNews act c
+      quiet c other = record {
+        attached = λ so_far. ap (λ b. so_far && not b) other ∙ both_true so_far;
+        subs = λ so_far. refl;
+        ables = λ so_far. refl;
+        standing = λ kind i so_far. refl;
+      }
+
+      gone : (c : Name) → is_named c name ≡ true → is_attached (acts ++ (n, act) ∷ []) c ≡ false
+      gone c same = attached_more acts n act c ∙ ap (λ b. is_attached acts c && not b) same ∙ both_false (is_attached acts c)
+
+      its_end : (c : Name) (s : ClientState) → client_of w.clients c ≡ Some s → is_named c name ≡ true → is_end (router, name) (s.router, c) ≡ true
+      its_end c s there same =
+          let c_is : c ≡ name = same_is c name same in
+          let home : s.router ≡ router = clients.homes router c s there (ap (λ y. is_some (end_of w.ends (router, y))) c_is ∙ ap is_some at_end) in
+          let one : ◌≡◌ {A = End} (router, name) (s.router, c) = λ i. (sym home i, sym c_is i) in
+          subst (λ (q : End). is_end (router, name) q ≡ true) one (ends.refl (router, name))
+
+      at : (c : Name) (s : ClientState) → client_of w.clients c ≡ Some s → (b : Bool) → is_named c name ≡ b → IsSpoken (acts ++ (n, act) ∷ []) v c s
+      at c s there false other = still_spoken acts n act c w v s s (quiet c other) refl
+          (whole c s there ∙ ap (λ b. cond b (unbroken_at (option_map broken (end_of w.ends (s.router, c)))) (is_unbroken w.ends (s.router, c))) (other_end router s.router name c (names.symm name c ∙ other)))
+          (h.clients c s there)
+      at c s there true same =
+          let was = h.clients c s there in
+          record {
+            attached = whole c s there ∙ ap (λ b. cond b (unbroken_at (option_map broken (end_of w.ends (s.router, c)))) (is_unbroken w.ends (s.router, c))) (its_end c s there same)
+                ∙ cut (end_of w.ends (s.router, c)) ∙ sym (gone c same);
+            subs = same_listed (subs_more acts n act c) refl (λ i. stands_more acts n act c k.Sub i) was.subs;
+            ables = same_listed (ables_more acts n act c) refl (λ i. stands_more acts n act c k.Able i) was.ables;
+          }
+
+      nobody : (c : Name) → IsUnspoken acts c → IsUnspoken (acts ++ (n, act) ∷ []) c
+      nobody c was = record {
+        attached = attached_more acts n act c ∙ ap (λ b. b && not (is_named c name)) was.attached;
+        subs = subs_more acts n act c ∙ was.subs;
+        ables = ables_more acts n act c ∙ was.ables;
+      }
+
+  -- ---- a client declares something, or takes it back
+
+  module _ (n : ℕ) (act : Act) (name : Name) (s t : ClientState) (found : client_of w.clients name ≡ Some s) (home : t.router ≡ s.router) (e : EndState) (at_end : end_of w.ends (s.router, name) ≡ Some e)
+      (msg : Msg) (quiet : (c : Name) → is_named c name ≡ false → IsNoNews act c) (attached : (c : Name) (so_far : Bool) → attached_by c so_far act ≡ so_far)
+      (subs : AreSubs (declared_by name (declarations acts name) act) t.subs (λ id. stands_by name k.Sub id (stands acts name k.Sub id) act))
+      (ables : AreAbles (able_by name (queryables acts name) act) t.ables (λ id. stands_by name k.Able id (stands acts name k.Able id) act)) where
+    news : (v : WorldState) → v.ends ≡ with_end w.ends (s.router, name) (sent e msg n) → v.clients ≡ with_client w.clients name t → Spoken (acts ++ (n, act) ∷ []) v
+    news v ends_are clients_are = record {
+      clients = λ c q there. at c q (is_named name c) refl (sym (client_is c) ∙ there);
+      others = λ c none. nobody c (is_named name c) refl (sym (client_is c) ∙ none);
+    }
+      where
+        client_is : (c : Name) → client_of v.clients c ≡ cond (is_named name c) (Some t) (client_of w.clients c)
+        client_is c = ap (λ cs. client_of cs c) clients_are ∙ read_after (λ o. o) w.clients name c s t found
+
+        whole : (q : End) → is_unbroken v.ends q ≡ is_unbroken w.ends q
+        whole q = ap (λ es. is_unbroken es q) ends_are ∙ keep_with_end w.ends (s.router, name) (sent e msg n) unbroken_at q e at_end refl
+
+        its_own : IsSpoken (acts ++ (n, act) ∷ []) v name t
+        its_own = record {
+          attached = ap (λ x. is_unbroken v.ends (x, name)) home ∙ whole (s.router, name) ∙ (h.clients name s found).attached ∙ sym (attached_more acts n act name ∙ attached name (is_attached acts name));
+          subs = same_listed (subs_more acts n act name) refl (λ id. stands_more acts n act name k.Sub id) subs;
+          ables = same_listed (ables_more acts n act name) refl (λ id. stands_more acts n act name k.Able id) ables;
+        }
+
+        at : (c : Name) (q : ClientState) (b : Bool) → is_named name c ≡ b → cond b (Some t) (client_of w.clients c) ≡ Some q → IsSpoken (acts ++ (n, act) ∷ []) v c q
+        at c q true same there =
+            let one : t ≡ q = cc in
+            subst (λ (x : ClientState). IsSpoken (acts ++ (n, act) ∷ []) v c x) one (subst (λ (y : Name). IsSpoken (acts ++ (n, act) ∷ []) v y t) (same_is name c same) its_own)
+        at c q false other there = still_spoken acts n act c w v q q (quiet c (names.symm c name ∙ other)) refl (whole (q.router, c)) (h.clients c q there)
+
+        nobody : (c : Name) (b : Bool) → is_named name c ≡ b → cond b (Some t) (client_of w.clients c) ≡ None → IsUnspoken (acts ++ (n, act) ∷ []) c
+        nobody c true same none = absurd (true≢false (ap is_some none))
+        nobody c false other none = still_unspoken acts n act c (quiet c (names.symm c name ∙ other)) (h.others c none)
+
+  subs_declared : (n : ℕ) (name : Name) (id : ℕ) (key : List ℕ) → IfSome (went now (outcome w n (a.Sub name id key))) (SpokenThen n (a.Sub name id key))
+  unfolding outcome
+  subs_declared n name id key = for_declare now (SpokenThen n (a.Sub name id key)) n name k.Sub id key (m.Sub id key) (λ s found fresh e at_end unbroken r there room.
+      let was = h.clients name s found in
+      news n (a.Sub name id key) name s (declaring s k.Sub id) found refl e at_end (m.Sub id key) quiet (λ c so_far. refl)
+      (same_listed (ap (λ b. cond b (declarations acts name ++ new ∷ []) (declarations acts name)) (same_refl name)) refl (λ i. refl)
+      (listed_more new fresh (λ i. ap (λ b. cond (b && (id == i)) (Some (sub_decl new)) (stands acts name k.Sub i)) (same_refl name)) was.subs))
+      (same_listed refl refl (λ i. neither (is_named name name) (Some (sub_decl new)) (stands acts name k.Able i)) was.ables)
+      (on_declare now n name k.Sub id key (m.Sub id key) s e r).world refl refl)
+    where
+      new : Declaration
+      new = record { id = id; key = key }
+
+      quiet : (c : Name) → is_named c name ≡ false → IsNoNews (a.Sub name id key) c
+      quiet c other = record {
+        attached = λ so_far. refl;
+        subs = λ so_far. ap (λ b. cond b (so_far ++ new ∷ []) so_far) other;
+        ables = λ so_far. refl;
+        standing = λ kind i so_far. ap (λ b. cond (b && is_same_id kind i k.Sub id) (Some (sub_decl new)) so_far) other;
+      }
+
+  subs_ended : (n : ℕ) (name : Name) (id : ℕ) → IfSome (went now (outcome w n (a.Unsub name id))) (SpokenThen n (a.Unsub name id))
+  unfolding outcome
+  subs_ended n name id = for_undeclare now (SpokenThen n (a.Unsub name id)) n name k.Sub id (m.Unsub id) (λ s found known e at_end unbroken.
+      let was = h.clients name s found in
+      news n (a.Unsub name id) name s (undeclaring s k.Sub id) found refl e at_end (m.Unsub id) quiet (λ c so_far. refl)
+      (same_listed (ap (λ b. cond b (filter (λ d. not (sub_id d == id)) (declarations acts name)) (declarations acts name)) (same_refl name)) refl (λ i. refl)
+      (listed_less id (λ i. ap (λ b. cond (b && (id == i)) None (stands acts name k.Sub i)) (same_refl name)) was.subs))
+      (same_listed refl refl (λ i. neither (is_named name name) None (stands acts name k.Able i)) was.ables)
+      (on_undeclare now n name k.Sub id (m.Unsub id) s e).world refl refl)
+    where
+      quiet : (c : Name) → is_named c name ≡ false → IsNoNews (a.Unsub name id) c
+      quiet c other = record {
+        attached = λ so_far. refl;
+        subs = λ so_far. ap (λ b. cond b (filter (λ d. not (sub_id d == id)) so_far) so_far) other;
+        ables = λ so_far. refl;
+        standing = λ kind i so_far. ap (λ b. cond (b && is_same_id kind i k.Sub id) None so_far) other;
+      }
+
+  module _ (n : ℕ) (name : Name) (id : ℕ) (key : List ℕ) (complete : Bool) where
+    abbrev able_act : Act
+    able_act = a.Able name id key complete
+
+    abbrev new_able : Queryable
+    new_able = record { id = id; key = key; complete = complete }
+
+    able_quiet : (c : Name) → is_named c name ≡ false → IsNoNews able_act c
+    able_quiet c other = record {
+      attached = λ so_far. refl;
+      subs = λ so_far. refl;
+      ables = λ so_far. ap (λ b. cond b (so_far ++ new_able ∷ []) so_far) other;
+      standing = λ kind i so_far. ap (λ b. cond (b && is_same_id kind i k.Able id) (Some (able_decl new_able)) so_far) other;
+    }
+
+    -- of either kind
+    kinds : (complete : Bool) (s : ClientState) → has_id s (able_kind complete) id ≡ false →
+        ((declaring s (able_kind complete) id).router ≡ s.router) × ((declaring s (able_kind complete) id).subs ≡ s.subs) × ((declaring s (able_kind complete) id).ables ≡ s.ables ++ id ∷ [])
+        × (list_any (λ y. y == id) s.ables ≡ false)
+    kinds true s fresh = (refl, refl, refl, fresh)
+    kinds false s fresh = (refl, refl, refl, fresh)
+
+    able_declared : (s t : ClientState) → client_of w.clients name ≡ Some s → (t.router ≡ s.router) × (t.subs ≡ s.subs) × (t.ables ≡ s.ables ++ id ∷ []) × (list_any (λ y. y == id) s.ables ≡ false) →
+        (e : EndState) → end_of w.ends (s.router, name) ≡ Some e → (msg : Msg) (v : WorldState) → v.ends ≡ with_end w.ends (s.router, name) (sent e msg n) → v.clients ≡ with_client w.clients name t →
+        Spoken (acts ++ (n, able_act) ∷ []) v
+    able_declared s t found is e at_end msg v ends_are clients_are =
+        let was = h.clients name s found in
+        news n able_act name s t found is.0 e at_end msg able_quiet (λ c so_far. refl)
+        (same_listed refl is.1 (λ i. neither (is_named name name) (Some (able_decl new_able)) (stands acts name k.Sub i)) was.subs)
+        (same_listed (ap (λ b. cond b (queryables acts name ++ new_able ∷ []) (queryables acts name)) (same_refl name)) is.2 (λ i. refl)
+        (listed_more new_able is.3 (λ i. ap (λ b. cond (b && (id == i)) (Some (able_decl new_able)) (stands acts name k.Able i)) (same_refl name)) was.ables))
+        v ends_are clients_are
+
+    ables_declared : IfSome (went now (outcome w n (a.Able name id key complete))) (SpokenThen n (a.Able name id key complete))
+    unfolding outcome
+    ables_declared = for_declare now (SpokenThen n able_act) n name (able_kind complete) id key (m.Able id key complete) (λ s found fresh e at_end unbroken r there room.
+        able_declared s (declaring s (able_kind complete) id) found (kinds complete s fresh) e at_end (m.Able id key complete) (on_declare now n name (able_kind complete) id key (m.Able id key complete) s e r).world refl refl)
+
+  ables_ended : (n : ℕ) (name : Name) (id : ℕ) → IfSome (went now (outcome w n (a.Unable name id))) (SpokenThen n (a.Unable name id))
+  unfolding outcome
+  ables_ended n name id = for_undeclare now (SpokenThen n (a.Unable name id)) n name k.Able id (m.Unable id) (λ s found known e at_end unbroken.
+      let was = h.clients name s found in
+      news n (a.Unable name id) name s (undeclaring s k.Able id) found refl e at_end (m.Unable id) quiet (λ c so_far. refl)
+      (same_listed refl refl (λ i. neither (is_named name name) None (stands acts name k.Sub i)) was.subs)
+      (same_listed (ap (λ b. cond b (filter (λ d. not (able_id d == id)) (queryables acts name)) (queryables acts name)) (same_refl name)) refl (λ i. refl)
+      (listed_less id (λ i. ap (λ b. cond (b && (id == i)) None (stands acts name k.Able i)) (same_refl name)) was.ables))
+      (on_undeclare now n name k.Able id (m.Unable id) s e).world refl refl)
+    where
+      quiet : (c : Name) → is_named c name ≡ false → IsNoNews (a.Unable name id) c
+      quiet c other = record {
+        attached = λ so_far. refl;
+        subs = λ so_far. refl;
+        ables = λ so_far. ap (λ b. cond b (filter (λ d. not (able_id d == id)) so_far) so_far) other;
+        standing = λ kind i so_far. ap (λ b. cond (b && is_same_id kind i k.Able id) None so_far) other;
+      }
+
+  -- ---- acts
+
+  pub spoken_keep : (n : ℕ) (act : Act) → IfSome (went now (outcome w n act)) (SpokenThen n act)
+  unfolding outcome
+  spoken_keep n (a.Router id) = for_router now (SpokenThen n (a.Router id)) id (λ free room.
+      still n (a.Router id) (on_router now id).world
+      (λ c. record { attached = λ so_far. refl; subs = λ so_far. refl; ables = λ so_far. refl; standing = λ kind i so_far. refl }) (same_clients w.clients) (λ c s there. refl))
+  spoken_keep n (a.Client id router) = for_client now (SpokenThen n (a.Client id router)) n id router (λ r found free room taken. comes n id router r found free)
+  spoken_keep n (a.Link one other) = for_link now (SpokenThen n (a.Link one other)) one other (λ apart r found q found' new room. linked n one other r q found found')
+  spoken_keep n (a.Up router name) = for_up now (SpokenThen n (a.Up router name)) n router name (λ r found there s at_end unbroken down taken.
+      still n (a.Up router name) (on_up now n router name r s).world
+      (λ c. record { attached = λ so_far. refl; subs = λ so_far. refl; ables = λ so_far. refl; standing = λ kind i so_far. refl })
+      (same_clients w.clients) (λ c t client. keep_all_queued (with_end w.ends (router, name) (lifted s)) router r.node (up_event r (peer_of w name)) n unbroken_at (t.router, c) (λ e. refl)
+      ∙ keep_with_end w.ends (router, name) (lifted s) unbroken_at (t.router, c) s at_end refl))
+  spoken_keep n (a.Break router name) = for_break now (SpokenThen n (a.Break router name)) router name (λ r found there s at_end unbroken. breaks n router name r found s at_end)
+  spoken_keep n (a.Down router name) = for_down now (SpokenThen n (a.Down router name)) n router name (λ r found there s at_end up cut link number taken.
+      still n (a.Down router name) (on_down now n router name r link).world
+      (λ c. record { attached = λ so_far. refl; subs = λ so_far. refl; ables = λ so_far. refl; standing = λ kind i so_far. refl })
+      (same_clients w.clients) (λ c t client. keep_changed (all_queued w.ends router r.node (Down link) n) (router, name) lowered unbroken_at (t.router, c) (λ e. refl)
+      ∙ keep_all_queued w.ends router r.node (Down link) n unbroken_at (t.router, c) (λ e. refl)))
+  spoken_keep n (a.Sub client id key) = subs_declared n client id key
+  spoken_keep n (a.Unsub client id) = subs_ended n client id
+  spoken_keep n (a.Able client id key complete) = ables_declared n client id key complete
+  spoken_keep n (a.Unable client id) = ables_ended n client id
+  spoken_keep n (a.Publish client content) = publish_says now (SpokenThen n (a.Publish client content)) n client content
+      (says n (a.Publish client content) client (m.Push None content)
+      (λ c. record { attached = λ so_far. refl; subs = λ so_far. refl; ables = λ so_far. refl; standing = λ kind i so_far. refl }))
+  spoken_keep n (a.Get client number target content) = get_says now (SpokenThen n (a.Get client number target content)) n client number target content
+      (says n (a.Get client number target content) client (m.Request None number target content)
+      (λ c. record { attached = λ so_far. refl; subs = λ so_far. refl; ables = λ so_far. refl; standing = λ kind i so_far. refl }))
+  spoken_keep n (a.Reply client number content) = reply_says now (SpokenThen n (a.Reply client number content)) n client number content
+      (says n (a.Reply client number content) client (m.Response number content)
+      (λ c. record { attached = λ so_far. refl; subs = λ so_far. refl; ables = λ so_far. refl; standing = λ kind i so_far. refl }))
+  spoken_keep n (a.End client number) = end_says now (SpokenThen n (a.End client number)) n client number
+      (says n (a.End client number) client (m.Final number no_extras)
+      (λ c. record { attached = λ so_far. refl; subs = λ so_far. refl; ables = λ so_far. refl; standing = λ kind i so_far. refl }))
+  spoken_keep n (a.Handle router from) = for_handle now (SpokenThen n (a.Handle router from)) router from (λ r found there s at_end up msg tag xs front link number taken.
+      still n (a.Handle router from) (on_handle now router from r s link msg tag xs).world
+      (λ c. record { attached = λ so_far. refl; subs = λ so_far. refl; ables = λ so_far. refl; standing = λ kind i so_far. refl })
+      (same_clients w.clients) (λ c t client. keep_all_queued (with_end w.ends (router, from) (with_wire s xs)) router r.node (From link msg) tag unbroken_at (t.router, c) (λ e. refl)
+      ∙ keep_with_end w.ends (router, from) (with_wire s xs) unbroken_at (t.router, c) s at_end refl))
+  spoken_keep n (a.Take router to) = for_take now (SpokenThen n (a.Take router to)) router to (λ r found there s at_end up unbroken msg tag xs front.
+      still n (a.Take router to) (on_take now router to s msg tag xs).world
+      (λ c. record { attached = λ so_far. refl; subs = λ so_far. refl; ables = λ so_far. refl; standing = λ kind i so_far. refl })
+      (same_received w.clients to msg) (λ c t client. keep_changed (with_end w.ends (router, to) (with_queue s xs)) (to, router) (λ e. sent e msg tag) unbroken_at (t.router, c) (λ e. refl)
+      ∙ keep_with_end w.ends (router, to) (with_queue s xs) unbroken_at (t.router, c) s at_end refl))
+  spoken_keep n a.Mark = for_mark now (SpokenThen n a.Mark) n (λ settled joined.
+      still n a.Mark now.world
+      (λ c. record { attached = λ so_far. refl; subs = λ so_far. refl; ables = λ so_far. refl; standing = λ kind i so_far. refl }) (same_clients w.clients) (λ c s there. refl))
+  spoken_keep n (a.Show router) = for_show now (SpokenThen n (a.Show router)) router (λ r found.
+      still n (a.Show router) now.world
+      (λ c. record { attached = λ so_far. refl; subs = λ so_far. refl; ables = λ so_far. refl; standing = λ kind i so_far. refl }) (same_clients w.clients) (λ c s there. refl))

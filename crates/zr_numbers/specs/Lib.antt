@@ -1,0 +1,5 @@
+pub mod Rows
+pub mod Waiting
+pub mod Deeds
+pub mod Numbers
+pub mod Taken
