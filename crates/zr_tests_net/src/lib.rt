@@ -15,6 +15,8 @@ mod nodes;
 #[cfg(test)]
 mod parts;
 #[cfg(test)]
+mod requests;
+#[cfg(test)]
 mod scripts;
 #[cfg(test)]
 mod worlds;

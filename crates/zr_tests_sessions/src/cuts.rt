@@ -1,7 +1,7 @@
 //! A long session in random pieces against the same in one piece.
 
-use crate::link::{Link, framed, open_client};
-use std::alloc::Global;
+use crate::link::{Link, Start, framed, led};
+use std::alloc::{AllocError, Global};
 use std::test::Fail;
 use zr_session::Fate;
 
@@ -11,19 +11,32 @@ fn random(state: &mut u32) -> usize {
     (*state >> 16) as usize
 }
 
-/// So many frames, each with up to four pushes on `k` of up to 70 bytes, and a KEEP_ALIVE behind.
-fn session(alloc: Global, frames: u8) -> Result<Vec<u8>, Fail> {
+// A push on `k` of so many bytes.
+fn push_on_k(batch: &mut Vec<u8>, length: u8) -> Result<(), AllocError> {
+    batch.extend_from_slice(&[0x3D, 0x00, 0x01, 0x6B, 0x01, length])?;
+    for _ in 0..length {
+        batch.push(0x78)?;
+    }
+    Ok(())
+}
+
+// A frame of this number with up to four pushes on `k` of up to 70 bytes, and a KEEP_ALIVE behind.
+fn frame(alloc: Global, number: u8, state: &mut u32) -> Result<Vec<u8>, AllocError> {
+    let mut batch = [0x25, number].to_vec(alloc)?;
+    for _ in 0..random(state) % 5 {
+        let length = random(state) % 71;
+        push_on_k(&mut batch, length as u8)?;
+    }
+    batch.push(0x04)?;
+    framed(alloc, &batch)
+}
+
+/// So many such frames.
+fn session(alloc: Global, frames: u8) -> Result<Vec<u8>, AllocError> {
     let mut state = 7;
     let mut bytes = Vec::new(alloc);
     for number in 0..frames {
-        let mut batch = [0x25, number % 128].to_vec(alloc)?;
-        for _ in 0..random(&mut state) % 5 {
-            let length = random(&mut state) % 71;
-            batch.extend_from_slice(&[0x3D, 0x00, 0x01, 0x6B, 0x01, length as u8])?;
-            batch.append(&mut vec![in alloc; 0x78; length]?)?;
-        }
-        batch.push(0x04)?;
-        bytes.append(&mut framed(alloc, &batch)?)?;
+        bytes.append(&mut frame(alloc, number % 128, &mut state)?)?;
     }
     Ok(bytes)
 }
@@ -41,17 +54,54 @@ fn in_pieces(link: &mut Link, bytes: &[u8], seed: u32, most: usize) -> Result<()
     link.feed(rest)
 }
 
+// A client's session that is fed the bytes in one piece, or by a seed in pieces of up to 40 bytes.
+fn fed(alloc: Global, bytes: &[u8], seed: Option<u32>) -> Result<Link, Fail> {
+    let mut link = led(alloc, Start::Client, &[])?;
+    feed(&mut link, bytes, seed)?;
+    Ok(link)
+}
+
+fn feed(link: &mut Link, bytes: &[u8], seed: Option<u32>) -> Result<(), Fail> {
+    match seed {
+        Some(seed) => in_pieces(link, bytes, seed, 40),
+        None => link.feed(bytes),
+    }
+}
+
+// The events of a session that goes on, and how many there are.
+fn told(link: &Link) -> Result<Option<(String, usize)>, Fail> {
+    if link.fate == Fate::Going {
+        Ok(Some((link.events()?, link.fed.events.len())))
+    } else {
+        Ok(None)
+    }
+}
+
+// The first seed whose pieces lead to other events than the whole; and how many events that has.
+fn first_wrong(alloc: Global, bytes: &[u8], seeds: u32) -> Result<(Option<u32>, usize), Fail> {
+    let Some((events, count)) = told(&fed(alloc, bytes, None)?)? else {
+        return Ok((None, 0));
+    };
+    for seed in 0..seeds {
+        if !are_told(alloc, bytes, seed, &events)? {
+            return Ok((Some(seed), count));
+        }
+    }
+    Ok((None, count))
+}
+
+fn are_told(alloc: Global, bytes: &[u8], seed: u32, events: &str) -> Result<bool, Fail> {
+    match told(&fed(alloc, bytes, Some(seed))?)? {
+        Some((others, _)) => Ok(others.as_str() == events),
+        None => Ok(false),
+    }
+}
+
 #[test]
 fn no_cut_of_a_long_session_matters(rt: HostRuntime) -> Result<(), Fail> {
     let bytes = session(rt.alloc(), 120)?;
-    let mut whole = open_client(rt.alloc())?;
-    whole.feed(&bytes)?;
-    let events = whole.events()?;
-    assert!(rt; whole.fate == Fate::Going && whole.fed.events.len() > 200);
-    for seed in 0..8 {
-        let mut link = open_client(rt.alloc())?;
-        in_pieces(&mut link, &bytes, seed, 40)?;
-        assert!(rt; link.fate == Fate::Going && link.events()?.as_str() == events.as_str());
-    }
+    let (wrong, events) = first_wrong(rt.alloc(), &bytes, 8)?;
+    assert_eq!(rt; wrong, None);
+    assert!(rt; events > 200);
     Ok(())
 }

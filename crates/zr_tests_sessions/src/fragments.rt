@@ -1,6 +1,6 @@
 //! A long message in fragments.
 
-use std::alloc::Global;
+use std::alloc::{AllocError, Global};
 use std::test::Fail;
 use zr_bytes::{ByteString, Cursor};
 use zr_frame::{Channel, ChannelError, MOST_OF_CLIENT, Outbox};
@@ -13,8 +13,26 @@ const BATCH: u16 = 65_535;
 
 const LONG: usize = 200_000;
 
+/// What a channel makes of a fragment.
+#[derive(Clone, Copy, PartialEq, Eq)]
+enum Heard {
+    /// It is kept.
+    Kept,
+    /// It ends a message of so many bytes.
+    Whole(usize),
+    Refused(ChannelError),
+    /// It was no fragment.
+    Other,
+}
+
+/// Fragments of the long message, by their places, and what comes of the last of them.
+const JOINED: [(&[usize], Heard); 2] = [
+    (&[0, 1, 2, 3], Heard::Whole(LONG)),
+    (&[0, 2], Heard::Refused(ChannelError::OutOfTurn)),
+];
+
 /// A message of 200,000 bytes, packed as the first one of a session.
-fn long_message(alloc: Global) -> Result<Vec<ByteString>, Fail> {
+fn long_message(alloc: Global) -> Result<Vec<ByteString>, AllocError> {
     let message = ByteString::new(vec![in alloc; 7; LONG]?);
     let mut parcels = Vec::new(alloc);
     let mut outbox = Outbox::new(BATCH, BITS, 0);
@@ -23,71 +41,70 @@ fn long_message(alloc: Global) -> Result<Vec<ByteString>, Fail> {
 }
 
 /// The header, the number and the length of the piece of each.
-fn shapes(parcels: &[ByteString]) -> [(u8, u8, usize); 4] {
-    let mut all = [(0, 0, 0); 4];
-    for (shape, parcel) in all.iter_mut().zip(parcels) {
+fn shapes(alloc: Global) -> Result<Vec<(u8, u8, usize)>, AllocError> {
+    let mut all = Vec::new(alloc);
+    for parcel in &long_message(alloc)? {
         if let [header, number, piece @ ..] = parcel.as_slice() {
-            *shape = (*header, *number, piece.len());
+            all.push((*header, *number, piece.len()))?;
         }
     }
-    all
+    Ok(all)
+}
+
+fn heard_of(alloc: Global, channel: &mut Channel, more: bool, number: u64, piece: &[u8]) -> Heard {
+    match channel.fragment(alloc, MOST_OF_CLIENT, more, number, piece) {
+        Ok(None) => Heard::Kept,
+        Ok(Some(message)) => Heard::Whole(message.as_slice().len()),
+        Err(e) => Heard::Refused(e),
+    }
 }
 
 /// What a channel that is handed one more parcel makes of it.
-fn receive(
-    alloc: Global,
-    channel: &mut Channel,
-    parcel: &ByteString,
-) -> Result<Result<Option<ByteString>, ChannelError>, Fail> {
-    let mut c = Cursor::new(parcel.as_slice());
+fn received(alloc: Global, channel: &mut Channel, parcel: &[u8]) -> Result<Heard, Fail> {
+    let mut c = Cursor::new(parcel);
     match read_trans(alloc, &mut c)? {
         Trans::Fragment {
             more,
             number,
             piece,
             ..
-        } => { Ok(channel.fragment(alloc, MOST_OF_CLIENT, more, number, piece.as_slice())) }
-        _ => Ok(Err(ChannelError::NoMemory)),
+        } => Ok(heard_of(alloc, channel, more, number, piece.as_slice())),
+        _ => Ok(Heard::Other),
     }
 }
 
-/// What the last of these parcels led to.
-fn last_of(
-    alloc: Global,
-    parcels: &[&ByteString],
-) -> Result<Result<Option<ByteString>, ChannelError>, Fail> {
+/// What the last of these parcels of the long message led to.
+fn last_of(alloc: Global, places: &[usize]) -> Result<Heard, Fail> {
+    let parcels = long_message(alloc)?;
     let mut channel = Channel::new(BITS, 0);
-    let mut last = Ok(None);
-    for parcel in parcels {
-        last = receive(alloc, &mut channel, parcel)?;
+    let mut last = Heard::Other;
+    for at in places {
+        if let Some(parcel) = parcels.get(*at) {
+            last = received(alloc, &mut channel, parcel.as_slice())?;
+        }
     }
     Ok(last)
 }
 
 #[test]
 fn a_long_message_goes_in_fragments(rt: HostRuntime) -> Result<(), Fail> {
-    let parcels = long_message(rt.alloc())?;
-    assert_eq!(rt; parcels.len(), 4);
     assert!(rt;
-        shapes(&parcels)
+        shapes(rt.alloc())?.as_slice()
             == [
                 (0x66, 0, 65_533),
                 (0x66, 1, 65_533),
                 (0x66, 2, 65_533),
                 (0x26, 3, 3_401)
             ]
+            .as_slice()
     );
     Ok(())
 }
 
 #[test]
 fn fragments_are_joined(rt: HostRuntime) -> Result<(), Fail> {
-    let parcels = long_message(rt.alloc())?;
-    if let [a, b, c, d] = parcels.as_slice() {
-        let whole = last_of(rt.alloc(), &[a, b, c, d])?;
-        assert!(rt; matches!(&whole, Ok(Some(message)) if message.as_slice().len() == LONG));
-        let without_second = last_of(rt.alloc(), &[a, c])?;
-        assert!(rt; matches!(without_second, Err(ChannelError::OutOfTurn)));
+    for (places, want) in JOINED {
+        assert!(rt; last_of(rt.alloc(), places)? == want);
     }
     Ok(())
 }
@@ -102,12 +119,18 @@ fn full_channel(alloc: Global) -> Result<Channel, Fail> {
     Ok(channel)
 }
 
+// What it makes of one byte more, and of the end.
+fn at_the_limit(alloc: Global) -> Result<[Heard; 2], Fail> {
+    let mut channel = full_channel(alloc)?;
+    let above = heard_of(alloc, &mut channel, true, 128, &[7]);
+    let whole = heard_of(alloc, &mut channel, false, 128, &[]);
+    Ok([above, whole])
+}
+
 #[test]
 fn one_byte_above_the_limit_is_refused(rt: HostRuntime) -> Result<(), Fail> {
-    let mut channel = full_channel(rt.alloc())?;
-    let above = channel.fragment(rt.alloc(), MOST_OF_CLIENT, true, 128, &[7]);
-    assert!(rt; matches!(above, Err(ChannelError::TooLong)));
-    let whole = channel.fragment(rt.alloc(), MOST_OF_CLIENT, false, 128, &[])?;
-    assert!(rt; matches!(&whole, Some(message) if message.as_slice().len() == MOST_OF_CLIENT));
+    let [above, whole] = at_the_limit(rt.alloc())?;
+    assert!(rt; above == Heard::Refused(ChannelError::TooLong));
+    assert!(rt; whole == Heard::Whole(MOST_OF_CLIENT));
     Ok(())
 }

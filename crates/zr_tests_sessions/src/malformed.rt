@@ -1,6 +1,6 @@
 //! Malformed bytes, and what a session makes of them.
 
-use crate::link::{CLIENT_INIT, Link, accepting, framed, open_client};
+use crate::link::{Link, Outcome, Start, Step, leads_to, led};
 use std::alloc::Global;
 use std::test::Fail;
 use zr_open::Reason;
@@ -141,30 +141,120 @@ const OPEN: [(&[u8], &str, Fate); 19] = [
     ),
 ];
 
-/// The CLOSE with which this end says that it has ended the session so.
-fn close_of(alloc: Global, fate: Fate) -> Result<Vec<u8>, Fail> {
+/// To a client's session that is open, step by step: nothing is read or written behind the end, which is answered again.
+const ENDED: [(&[Step], Outcome); 2] = [
+    (
+        &[
+            Step::Whole(&[&[0x01, 0x00, 0x07]]),
+            Step::Whole(&[&[0x02, 0x00, 0x23, 0x00]]),
+        ],
+        CLOSED,
+    ),
+    (
+        &[
+            Step::Whole(&[&[0x01, 0x00, 0x07]]),
+            Step::Whole(&[&[0x02, 0x00, 0x23, 0x00]]),
+            Step::Tick(99_999),
+        ],
+        CLOSED,
+    ),
+];
+
+const CLOSED: Outcome = Outcome {
+    events: "",
+    fate: INVALID,
+    bytes: &[&[0x02, 0x00, 0x23, 0x02]],
+};
+
+/// INITs to a new session, and how they are answered: batches of 64 bytes are told, and two unknown extensions are skipped.
+const ANSWERED: [(&[u8], &[u8]); 2] = [
+    (
+        &[0x07, 0x00, 0x41, 0x09, 0x02, 0x0A, 0x0A, 0x40, 0x00],
+        &[0x28, 0x00, 0x61, 0x09, 0x00, 0x01, 0x0A, 0x40, 0x00, 0x20],
+    ),
+    (
+        &[0x06, 0x00, 0x81, 0x09, 0x02, 0x0A, 0x81, 0x05],
+        &[0x25, 0x00, 0x21, 0x09, 0x00, 0x01, 0x20],
+    ),
+];
+
+/// The push on `a` that a message of 200,000 bytes is, up to its payload of 199,992 bytes, behind the head of the first fragment.
+const FIRST: [u8; 10] = [0x66, 0x00, 0x3D, 0x00, 0x01, 0x61, 0x01, 0xB8, 0x9A, 0x0C];
+
+/// To a client's session that is open, how many messages it gives, and how it stands: that push in four fragments, and without the second one.
+const LONG: [(&[Step], usize, Fate); 2] = [
+    (
+        &[
+            Step::Batch(&FIRST, 65_525),
+            Step::Batch(&[0x66, 0x01], 65_533),
+            Step::Batch(&[0x66, 0x02], 65_533),
+            Step::Batch(&[0x26, 0x03], 3_401),
+        ],
+        1,
+        Fate::Going,
+    ),
+    (
+        &[
+            Step::Batch(&FIRST, 65_525),
+            Step::Batch(&[0x66, 0x02], 65_533),
+            Step::Batch(&[0x26, 0x03], 3_401),
+        ],
+        0,
+        INVALID,
+    ),
+];
+
+/// The same where 8,388,608 bytes of a message come from a client, which may be, and where one more does. Numbers from 128 on take two bytes.
+const LIMIT: [(&[Step], usize, Fate); 2] = [
+    (
+        &[Step::Fragments(128), Step::Batch(&[0x66, 0x80, 0x01], 384)],
+        0,
+        Fate::Going,
+    ),
+    (
+        &[
+            Step::Fragments(128),
+            Step::Batch(&[0x66, 0x80, 0x01], 384),
+            Step::Batch(&[0x66, 0x81, 0x01], 1),
+        ],
+        0,
+        INVALID,
+    ),
+];
+
+// Whether the bytes are the CLOSE with which this end says that it has ended the session so.
+fn is_close(bytes: &[u8], fate: Fate) -> bool {
     match fate {
-        Fate::Closed(reason) => Ok([0x02, 0x00, 0x23, reason.byte()].to_vec(alloc)?),
-        Fate::Going | Fate::Peer(_) => Ok(Vec::new(alloc)),
+        Fate::Closed(reason) => bytes == [0x02, 0x00, 0x23, reason.byte()].as_slice(),
+        Fate::Going | Fate::Peer(_) => bytes.is_empty(),
     }
 }
 
-/// The bytes lead to these events, this end and its CLOSE, and nothing else.
-fn leads_to(link: &mut Link, bytes: &[u8], events: &str, fate: Fate) -> Result<bool, Fail> {
+// Whether the bytes, one by one, lead to these events, this end and its CLOSE, and nothing else.
+fn ends(link: &mut Link, bytes: &[u8], events: &str, fate: Fate) -> Result<bool, Fail> {
     link.feed_each(bytes)?;
-    let close = close_of(link.alloc, fate)?;
-    Ok(
-        link.fate == fate
-            && link.events()?.as_str() == events
-            && link.fed.bytes.as_slice() == close.as_slice(),
-    )
+    let has_events = link.events()?.as_str() == events;
+    Ok(has_events && link.fate == fate && is_close(&link.fed.bytes, fate))
+}
+
+fn ends_so(
+    alloc: Global,
+    start: Start,
+    bytes: &[u8],
+    events: &str,
+    fate: Fate,
+) -> Result<bool, Fail> {
+    let mut link = led(alloc, start, &[])?;
+    ends(&mut link, bytes, events, fate)
 }
 
 #[test]
 fn to_a_new_session(rt: HostRuntime) -> Result<(), Fail> {
     for (bytes, fate) in NEW {
-        let mut link = accepting(rt.alloc())?;
-        assert!(rt; leads_to(&mut link, bytes, "", fate)?, "at {bytes:?}");
+        assert!(rt;
+            ends_so(rt.alloc(), Start::Accepting, bytes, "", fate)?,
+            "at {bytes:?}"
+        );
     }
     Ok(())
 }
@@ -172,10 +262,10 @@ fn to_a_new_session(rt: HostRuntime) -> Result<(), Fail> {
 #[test]
 fn to_a_session_that_has_answered_init(rt: HostRuntime) -> Result<(), Fail> {
     for bytes in GREETED {
-        let mut link = accepting(rt.alloc())?;
-        link.feed(&CLIENT_INIT)?;
-        link.fed.bytes.clear();
-        assert!(rt; leads_to(&mut link, bytes, "", INVALID)?, "at {bytes:?}");
+        assert!(rt;
+            ends_so(rt.alloc(), Start::Greeted, bytes, "", INVALID)?,
+            "at {bytes:?}"
+        );
     }
     Ok(())
 }
@@ -183,91 +273,53 @@ fn to_a_session_that_has_answered_init(rt: HostRuntime) -> Result<(), Fail> {
 #[test]
 fn to_an_open_session(rt: HostRuntime) -> Result<(), Fail> {
     for (bytes, events, fate) in OPEN {
-        let mut link = open_client(rt.alloc())?;
-        assert!(rt; leads_to(&mut link, bytes, events, fate)?, "at {bytes:?}");
+        assert!(rt;
+            ends_so(rt.alloc(), Start::Client, bytes, events, fate)?,
+            "at {bytes:?}"
+        );
     }
     Ok(())
 }
 
-/// Batches of 64 bytes are told in the answer to INIT, and two unknown extensions of INIT are skipped.
-#[test]
-fn inits_that_are_answered(rt: HostRuntime) -> Result<(), Fail> {
-    let mut small = accepting(rt.alloc())?;
-    small.feed(&[0x07, 0x00, 0x41, 0x09, 0x02, 0x0A, 0x0A, 0x40, 0x00])?;
-    assert!(rt;
-        small.fed.bytes.starts_with(&[0x28, 0x00, 0x61, 0x09, 0x00, 0x01, 0x0A, 0x40, 0x00, 0x20])
-    );
-    let mut extended = accepting(rt.alloc())?;
-    extended.feed(&[0x06, 0x00, 0x81, 0x09, 0x02, 0x0A, 0x81, 0x05])?;
-    assert!(rt;
-        extended
-            .fed
-            .bytes
-            .starts_with(&[0x25, 0x00, 0x21, 0x09, 0x00, 0x01, 0x20])
-    );
-    Ok(())
-}
-
-/// A session that has ended answers the same, and reads and writes nothing.
 #[test]
 fn an_end_is_the_last(rt: HostRuntime) -> Result<(), Fail> {
-    let mut link = open_client(rt.alloc())?;
-    link.feed(&[0x01, 0x00, 0x07])?;
-    link.feed(&[0x02, 0x00, 0x23, 0x00])?;
-    let late = link.session.tick(99_999, &mut link.fed.bytes)?;
-    assert!(rt; link.fate == INVALID && late == INVALID);
-    assert!(rt; link.fed.bytes.as_slice() == [0x02, 0x00, 0x23, 0x02].as_slice());
+    for (steps, outcome) in ENDED {
+        assert!(rt; leads_to(rt.alloc(), Start::Client, steps, outcome)?);
+    }
     Ok(())
 }
 
-/// The batch of a fragment with so many bytes of a message.
-fn fragment(alloc: Global, header: u8, number: u8, length: usize) -> Result<Vec<u8>, Fail> {
-    let mut batch = [header, number].to_vec(alloc)?;
-    batch.append(&mut vec![in alloc; 0x61; length]?)?;
-    framed(alloc, &batch)
+fn answer_begins(alloc: Global, bytes: &[u8], with: &[u8]) -> Result<bool, Fail> {
+    let mut link = led(alloc, Start::Accepting, &[])?;
+    link.feed(bytes)?;
+    Ok(link.fed.bytes.starts_with(with))
 }
 
-/// A push on `a` whose payload is so long that it has 200,000 bytes, in four fragments. The second one is fed or not.
-fn push_in_fragments(alloc: Global, has_second: bool) -> Result<Link, Fail> {
-    let mut link = open_client(alloc)?;
-    // the push up to its payload of 199,992 bytes, behind the head of the fragment
-    let mut first = [0x66, 0x00, 0x3D, 0x00, 0x01, 0x61, 0x01, 0xB8, 0x9A, 0x0C].to_vec(alloc)?;
-    first.append(&mut vec![in alloc; 0x61; 65_525]?)?;
-    link.feed(&framed(alloc, &first)?)?;
-    if has_second {
-        link.feed(&fragment(alloc, 0x66, 1, 65_533)?)?;
+#[test]
+fn inits_that_are_answered(rt: HostRuntime) -> Result<(), Fail> {
+    for (bytes, with) in ANSWERED {
+        assert!(rt; answer_begins(rt.alloc(), bytes, with)?, "at {bytes:?}");
     }
-    link.feed(&fragment(alloc, 0x66, 2, 65_533)?)?;
-    link.feed(&fragment(alloc, 0x26, 3, 3_401)?)?;
-    Ok(link)
+    Ok(())
+}
+
+fn counted(alloc: Global, steps: &[Step]) -> Result<(usize, Fate), Fail> {
+    let link = led(alloc, Start::Client, steps)?;
+    Ok((link.fed.events.len(), link.fate))
 }
 
 #[test]
 fn a_long_push_comes_in_fragments(rt: HostRuntime) -> Result<(), Fail> {
-    let whole = push_in_fragments(rt.alloc(), true)?;
-    assert!(rt; whole.fate == Fate::Going && whole.fed.events.len() == 1);
-    let skipped = push_in_fragments(rt.alloc(), false)?;
-    assert!(rt; skipped.fate == INVALID && skipped.fed.events.is_empty());
-    Ok(())
-}
-
-/// 8,388,608 bytes of a message may come from a client, and not one more.
-#[test]
-fn a_message_above_the_limit(rt: HostRuntime) -> Result<(), Fail> {
-    let mut link = open_client(rt.alloc())?;
-    for number in 0..128 {
-        link.feed(&fragment(rt.alloc(), 0x66, number, 65_533)?)?;
+    for (steps, events, fate) in LONG {
+        assert!(rt; counted(rt.alloc(), steps)? == (events, fate));
     }
-    link.feed(&long_number(rt.alloc(), 0x00, 384)?)?;
-    assert!(rt; link.fate == Fate::Going);
-    link.feed(&long_number(rt.alloc(), 0x01, 1)?)?;
-    assert!(rt; link.fate == INVALID);
     Ok(())
 }
 
-/// The same as a fragment of number 128 or 129, which takes two bytes.
-fn long_number(alloc: Global, above: u8, length: usize) -> Result<Vec<u8>, Fail> {
-    let mut batch = [0x66, 0x80 | above, 0x01].to_vec(alloc)?;
-    batch.append(&mut vec![in alloc; 0x61; length]?)?;
-    framed(alloc, &batch)
+#[test]
+fn a_message_has_a_limit(rt: HostRuntime) -> Result<(), Fail> {
+    for (steps, events, fate) in LIMIT {
+        assert!(rt; counted(rt.alloc(), steps)? == (events, fate));
+    }
+    Ok(())
 }

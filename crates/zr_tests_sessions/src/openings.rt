@@ -2,24 +2,17 @@
 
 ghost use Rattle.zr_trans.specs.Writing.{Fits};
 
-use std::alloc::Global;
+use crate::link::{COOKIE, SECRET, joined};
+use std::alloc::{AllocError, Global};
 use std::test::Fail;
 use zr_batch::put_batch;
 use zr_bytes::Cursor;
-use zr_id::zid::Zid;
+use zr_id::zid::{BadId, Zid};
 use zr_msg::peer::Role;
 use zr_open::{Expected, OpenError, Opened, Opening, Progress, Reason};
 use zr_trans::{Trans, read_trans, write_trans};
 
-const SECRET: [u8; 32] = [7; 32];
-
-/// SHA-256 of 32 bytes 07, of link number 3 as eight bytes, the low one first, and of `01 0A`.
-const COOKIE: [u8; 32] = [
-    0x0C, 0xA4, 0xFB, 0xED, 0xFB, 0x36, 0x48, 0x4F, 0x6E, 0xFC, 0x82, 0xF5, 0xFE, 0x1D, 0x99, 0xC8,
-    0xEA, 0x20, 0x2C, 0x82, 0x00, 0xFC, 0x7C, 0x4B, 0xFF, 0x2F, 0xE2, 0x1D, 0xB3, 0x49, 0x36, 0x21,
-];
-
-/// The same with link number 4.
+/// The cookie of the same identifier with link number 4.
 const COOKIE_OF_LINK_4: [u8; 32] = [
     0x4C, 0x8D, 0x5B, 0x14, 0xCB, 0xC2, 0x1D, 0xC0, 0x3B, 0x30, 0x1F, 0x53, 0xBB, 0xDF, 0xB8, 0xA0,
     0x37, 0x64, 0xCF, 0x59, 0x7A, 0x7A, 0x33, 0xE9, 0x76, 0x25, 0xCC, 0xF7, 0x01, 0xCC, 0xD9, 0x50,
@@ -32,6 +25,60 @@ const ANSWER: [u8; 7] = [0x25, 0x00, 0x21, 0x09, 0x00, 0x01, 0x20];
 const OPEN_ANSWER: [u8; 3] = [0x62, 0x0A, 0x64];
 
 const CLIENT_INIT: [u8; 4] = [0x01, 0x09, 0x02, 0x0A];
+
+/// What the end of a session that is open knows: the peer's role and the first byte of its identifier, its lease, the most bytes of a batch, the numbers of the
+/// first frames of the peer and of this end, and whether it has the usual answer to OPEN to send, which tells ten seconds.
+#[derive(Clone, Copy, PartialEq, Eq)]
+struct Summary {
+    role: Role,
+    id: u8,
+    lease: u64,
+    batch: u16,
+    first: u64,
+    next: u64,
+    answers: bool,
+}
+
+/// What router 01 knows of client `0A`.
+const OF_CLIENT: Summary = Summary {
+    role: Role::Client,
+    id: 0x0A,
+    lease: 10_000,
+    batch: 65_535,
+    first: 0,
+    next: 0,
+    answers: true,
+};
+
+/// What router 01 knows of router 02, and the other way round.
+const ACCEPTED_BY_01: Summary = Summary {
+    role: Role::Router,
+    id: 2,
+    lease: 10_000,
+    batch: 65_535,
+    first: 200,
+    next: 100,
+    answers: true,
+};
+
+const DIALLED_BY_02: Summary = Summary {
+    role: Role::Router,
+    id: 1,
+    lease: 10_000,
+    batch: 65_535,
+    first: 100,
+    next: 200,
+    answers: false,
+};
+
+const INVALID: OpenError = OpenError::Closed(Reason::Invalid);
+
+/// OPENs, by their lease in seconds and their cookie, and what they lead to.
+const OPENS: [(u8, &[u8], Result<Summary, OpenError>); 3] = [
+    (10, &COOKIE, Ok(OF_CLIENT)),
+    (0, &COOKIE, Err(INVALID)),
+    (10, &COOKIE_OF_LINK_4, Err(INVALID)),
+];
 
 const ACCEPTED: [&[u8]; 2] = [
     &[0x01, 0x09, 0x02, 0x0A],
@@ -69,19 +116,35 @@ const BELOW_THE_OFFER: [u8; 9] = [0x61, 0x09, 0x02, 0x0A, 0x05, 0x40, 0x00, 0x01
 
 const ITS_OPEN: [u8; 8] = [0x06, 0x00, 0x42, 0x0A, 0xC8, 0x01, 0x01, 0xAA];
 
-/// What one end makes of the bytes of a message: what it expects then, and its answer behind its length.
+/// What one end makes of a message: its answer behind its length, or that the session is open, or why it comes to nothing.
 #[derive(Drop)]
 enum Told {
-    Answers(Expected, Vec<u8>),
-    Opened(Opened),
+    Answer(Vec<u8>),
+    Opened(Summary),
     Ended(OpenError),
 }
 
-fn router(id: u8, number: u64, word: u64) -> Result<Opening, Fail> {
-    Ok(Opening::new(Zid::from_bytes(&[id])?, &SECRET, number, word))
+/// One end: what it starts from, and the message that it expects.
+#[derive(Drop)]
+struct End {
+    opening: Opening,
+    expected: Expected,
 }
 
-fn batch_of(alloc: Global, t: &Trans) -> Result<Vec<u8>, Fail>
+fn end_of(id: u8, number: u64, word: u64, expected: Expected) -> Result<End, BadId> {
+    let me = Zid::from_bytes(&[id])?;
+    Ok(End {
+        opening: Opening::new(me, &SECRET, number, word),
+        expected,
+    })
+}
+
+/// Router 01 on link 3, where it accepts.
+fn accepting(word: u64) -> Result<End, BadId> {
+    end_of(1, 3, word, Expected::Init)
+}
+
+fn batch_of(alloc: Global, t: &Trans) -> Result<Vec<u8>, AllocError>
     requires { Fits t.now }
 {
     let mut batch = Vec::new(alloc);
@@ -93,73 +156,125 @@ fn batch_of(alloc: Global, t: &Trans) -> Result<Vec<u8>, Fail>
     Ok(out)
 }
 
-fn outcome(
-    alloc: Global,
-    opening: &Opening,
-    expected: Expected,
-    bytes: &[u8],
-) -> Result<Told, Fail> {
-    let mut c = Cursor::new(bytes);
-    let t = read_trans(alloc, &mut c)?;
-    Ok(match opening.receive(alloc, expected, &t) {
-        Ok(Progress::Answers { expected, answer }) => {
-            Told::Answers(expected, batch_of(alloc, &answer)?)
-        }
-        Ok(Progress::Opened(o)) => Told::Opened(o),
-        Err(e) => Told::Ended(e),
-    })
+fn has_usual_answer(answer: &Option<Trans>, next: u64) -> bool {
+    match answer {
+        Some(
+            Trans::Open {
+                answer: true,
+                seconds: true,
+                lease: 10,
+                number,
+                cookie: None,
+            },
+        ) => *number == next,
+        _ => false,
+    }
 }
 
-/// The bytes of OPEN with this cookie, and a lease of so many seconds.
-fn opening_bytes(alloc: Global, lease: u8, cookie: &[u8]) -> Result<Vec<u8>, Fail> {
+fn summary_of(o: &Opened) -> Summary {
+    let next = o.outbox.next();
+    Summary {
+        role: o.peer.role,
+        id: o.peer.id.bytes().first().copied().unwrap_or(0),
+        lease: o.lease,
+        batch: o.outbox.batch(),
+        first: o.first,
+        next,
+        answers: has_usual_answer(&o.answer, next),
+    }
+}
+
+// What an end makes of a message that can be spelled.
+fn receive(alloc: Global, end: &mut End, t: &Trans) -> Result<Told, AllocError>
+    requires { Fits t.now }
+{
+    match end.opening.receive(alloc, end.expected, t) {
+        Ok(Progress::Answers { expected, answer }) => {
+            end.expected = expected;
+            Ok(Told::Answer(batch_of(alloc, &answer)?))
+        }
+        Ok(Progress::Opened(o)) => Ok(Told::Opened(summary_of(&o))),
+        Err(e) => Ok(Told::Ended(e)),
+    }
+}
+
+fn told_by(alloc: Global, end: &mut End, bytes: &[u8]) -> Result<Told, Fail> {
+    let t = read_trans(alloc, &mut Cursor::new(bytes))?;
+    Ok(receive(alloc, end, &t)?)
+}
+
+/// What the accepting end makes of a first message.
+fn told_first(alloc: Global, bytes: &[u8]) -> Result<Told, Fail> {
+    told_by(alloc, &mut accepting(0)?, bytes)
+}
+
+/// What the dialling end makes of an answer to its INIT.
+fn told_answer(alloc: Global, bytes: &[u8]) -> Result<Told, Fail> {
+    told_by(alloc, &mut end_of(1, 3, 200, Expected::InitAnswer)?, bytes)
+}
+
+/// What the accepting end makes of an OPEN of the client `0A`, with this cookie and a lease of so many seconds.
+fn told_open(alloc: Global, lease: u8, cookie: &[u8]) -> Result<Told, Fail> {
+    let mut accepting = accepting(0)?;
+    told_by(alloc, &mut accepting, &CLIENT_INIT)?;
+    told_by(alloc, &mut accepting, &open_of(alloc, lease, cookie)?)
+}
+
+fn open_of(alloc: Global, lease: u8, cookie: &[u8]) -> Result<Vec<u8>, AllocError> {
     let mut bytes = [0x42, lease, 0x00, 0x20].to_vec(alloc)?;
     bytes.extend_from_slice(cookie)?;
     Ok(bytes)
 }
 
-/// What a router makes of an OPEN of the client `0A`.
-fn opened(alloc: Global, lease: u8, cookie: &[u8]) -> Result<Told, Fail> {
-    let opening = router(1, 3, 0)?;
-    let (expected, _answer) = answer_of(outcome(alloc, &opening, Expected::Init, &CLIENT_INIT)?)?;
-    let bytes = opening_bytes(alloc, lease, cookie)?;
-    outcome(alloc, &opening, expected, &bytes)
+fn is_answer(told: &Told, bytes: &[u8]) -> bool {
+    match told {
+        Told::Answer(answer) => answer.as_slice() == bytes,
+        _ => false,
+    }
+}
+
+fn ends_so(told: &Told, want: Result<Summary, OpenError>) -> bool {
+    match told {
+        Told::Answer(_) => false,
+        Told::Opened(summary) => want == Ok(*summary),
+        Told::Ended(e) => want == Err(*e),
+    }
 }
 
 #[test]
 fn an_init_is_answered(rt: HostRuntime) -> Result<(), Fail> {
-    let opening = router(1, 3, 0)?;
-    let mut wanted = ANSWER.to_vec(rt.alloc())?;
-    wanted.extend_from_slice(&COOKIE)?;
+    let wanted = joined(rt.alloc(), &[&ANSWER, &COOKIE])?;
     for bytes in ACCEPTED {
-        let told = outcome(rt.alloc(), &opening, Expected::Init, bytes)?;
-        assert!(rt;
-            matches!(&told, Told::Answers(_, answer) if answer.as_slice() == wanted.as_slice()),
-            "at {bytes:?}"
-        );
+        let told = told_first(rt.alloc(), bytes)?;
+        assert!(rt; is_answer(&told, &wanted), "at {bytes:?}");
     }
     Ok(())
 }
 
 #[test]
 fn an_init_is_refused(rt: HostRuntime) -> Result<(), Fail> {
-    let opening = router(1, 3, 0)?;
     for (bytes, why) in REFUSED {
-        let told = outcome(rt.alloc(), &opening, Expected::Init, bytes)?;
-        assert!(rt; matches!(told, Told::Ended(e) if e == why), "at {bytes:?}");
+        let told = told_first(rt.alloc(), bytes)?;
+        assert!(rt; ends_so(&told, Err(why)), "at {bytes:?}");
     }
     Ok(())
 }
 
 #[test]
 fn an_open_is_judged(rt: HostRuntime) -> Result<(), Fail> {
-    let good = opened(rt.alloc(), 10, &COOKIE)?;
-    assert!(rt;
-        matches!(&good, Told::Opened(o) if o.lease == 10_000 && o.peer.role == Role::Client && o.outbox.batch() == 65_535)
-    );
-    let no_lease = opened(rt.alloc(), 0, &COOKIE)?;
-    assert!(rt; matches!(no_lease, Told::Ended(OpenError::Closed(Reason::Invalid))));
-    let other_link = opened(rt.alloc(), 10, &COOKIE_OF_LINK_4)?;
-    assert!(rt; matches!(other_link, Told::Ended(OpenError::Closed(Reason::Invalid))));
+    for (lease, cookie, want) in OPENS {
+        let told = told_open(rt.alloc(), lease, cookie)?;
+        assert!(rt; ends_so(&told, want), "with a lease of {lease}");
+    }
+    Ok(())
+}
+
+#[test]
+fn an_answer_to_init_is_judged(rt: HostRuntime) -> Result<(), Fail> {
+    let above = told_answer(rt.alloc(), &ABOVE_THE_OFFER)?;
+    assert!(rt; ends_so(&above, Err(INVALID)));
+    let below = told_answer(rt.alloc(), &BELOW_THE_OFFER)?;
+    assert!(rt; is_answer(&below, &ITS_OPEN));
     Ok(())
 }
 
@@ -171,78 +286,44 @@ fn payload(batch: &[u8]) -> &[u8] {
     }
 }
 
-/// What is expected next, and the answer.
-fn answer_of(told: Told) -> Result<(Expected, Vec<u8>), Fail> {
-    match told {
-        Told::Answers(expected, batch) => Ok((expected, batch)),
-        Told::Opened(_) => Err(Fail::from(OpenError::Closed(Reason::Generic))),
-        Told::Ended(e) => Err(Fail::from(e)),
+// What an end answers to a message.
+fn answer(alloc: Global, end: &mut End, bytes: &[u8]) -> Result<Vec<u8>, Fail> {
+    match told_by(alloc, end, bytes)? {
+        Told::Answer(batch) => Ok(batch),
+        _ => Err("no answer")?,
     }
 }
 
-fn opened_of(told: Told) -> Result<Opened, Fail> {
-    match told {
-        Told::Opened(o) => Ok(o),
-        Told::Answers(_, _) => Err(Fail::from(OpenError::Closed(Reason::Generic))),
-        Told::Ended(e) => Err(Fail::from(e)),
+// What the end of a session knows that a message opens.
+fn opened(alloc: Global, end: &mut End, bytes: &[u8]) -> Result<Summary, Fail> {
+    match told_by(alloc, end, bytes)? {
+        Told::Opened(summary) => Ok(summary),
+        _ => Err("not open")?,
     }
 }
 
-/// Two routers open with each other: what the dialling one, 02, and the accepting one, 01, come to. The number of the first
+// The OPEN of the dialling end, once INIT and its answer have passed.
+fn greeted(alloc: Global, accepting: &mut End, dialling: &mut End) -> Result<Vec<u8>, Fail> {
+    let init = batch_of(alloc, &dialling.opening.greeting())?;
+    let init_answer = answer(alloc, accepting, payload(&init))?;
+    answer(alloc, dialling, payload(&init_answer))
+}
+
+/// Two routers open with each other: what the accepting one, 01, and the dialling one, 02, come to. The number of the first
 /// frame of each is its word.
-fn both_opened(alloc: Global) -> Result<(Opened, Opened), Fail> {
-    let accepting = router(1, 3, 100)?;
-    let dialling = router(2, 9, 200)?;
-    let init = batch_of(alloc, &dialling.greeting())?;
-    let (wants_open, init_answer) = answer_of(outcome(
-        alloc,
-        &accepting,
-        Expected::Init,
-        payload(&init),
-    )?)?;
-    let (wants_answer, open) = answer_of(outcome(
-        alloc,
-        &dialling,
-        Expected::InitAnswer,
-        payload(&init_answer),
-    )?)?;
-    let accepted = opened_of(outcome(alloc, &accepting, wants_open, payload(&open))?)?;
-    let dialled = opened_of(outcome(alloc, &dialling, wants_answer, &OPEN_ANSWER)?)?;
-    Ok((accepted, dialled))
-}
-
-#[test]
-fn an_answer_to_init_is_judged(rt: HostRuntime) -> Result<(), Fail> {
-    let opening = router(1, 3, 200)?;
-    let above = outcome(rt.alloc(), &opening, Expected::InitAnswer, &ABOVE_THE_OFFER)?;
-    assert!(rt; matches!(above, Told::Ended(OpenError::Closed(Reason::Invalid))));
-    let below = outcome(rt.alloc(), &opening, Expected::InitAnswer, &BELOW_THE_OFFER)?;
-    assert!(rt; matches!(&below, Told::Answers(_, open) if open.as_slice() == ITS_OPEN.as_slice()));
-    Ok(())
+fn both_opened(alloc: Global) -> Result<[Summary; 2], Fail> {
+    let mut accepting = accepting(100)?;
+    let mut dialling = end_of(2, 9, 200, Expected::InitAnswer)?;
+    let open = greeted(alloc, &mut accepting, &mut dialling)?;
+    let accepted = opened(alloc, &mut accepting, payload(&open))?;
+    let dialled = opened(alloc, &mut dialling, &OPEN_ANSWER)?;
+    Ok([accepted, dialled])
 }
 
 #[test]
 fn two_routers_open_with_each_other(rt: HostRuntime) -> Result<(), Fail> {
-    let (accepted, dialled) = both_opened(rt.alloc())?;
-    assert!(rt; accepted.peer.role == Role::Router && accepted.peer.id.bytes() == [2].as_slice());
-    assert!(rt; dialled.peer.role == Role::Router && dialled.peer.id.bytes() == [1].as_slice());
-    assert!(rt;
-        accepted.first == 200
-            && accepted.outbox.next() == 100
-            && dialled.first == 100
-            && dialled.outbox.next() == 200
-    );
-    assert!(rt;
-        matches!(
-            &accepted.answer,
-            Some(Trans::Open {
-                answer: true,
-                seconds: true,
-                lease: 10,
-                number: 100,
-                cookie: None
-            })
-        )
-    );
+    let [accepted, dialled] = both_opened(rt.alloc())?;
+    assert!(rt; accepted == ACCEPTED_BY_01);
+    assert!(rt; dialled == DIALLED_BY_02);
     Ok(())
 }

@@ -1,6 +1,6 @@
 //! What a peer may send, by its role, and the texts that it numbers.
 
-use crate::link::{Link, framed, open_client, open_router};
+use crate::link::{Link, Outcome, Start, Step, leads_to, led};
 use std::alloc::Global;
 use std::test::Fail;
 use zr_open::Reason;
@@ -98,93 +98,97 @@ const MESSAGES: [(&[u8], &str, Fate, &str, Fate); 16] = [
     (&[0x1F, 0x07], "", Fate::Going, "", Fate::Going),
 ];
 
-/// Feeds a frame of number 0 with these messages.
-fn frame(link: &mut Link, messages: &[u8]) -> Result<(), Fail> {
-    let mut batch = [0x25, 0x00].to_vec(link.alloc)?;
-    batch.extend_from_slice(messages)?;
-    let bytes = framed(link.alloc, &batch)?;
-    link.feed(&bytes)
+/// Messages in one frame of number 0, by whom they are sent, and what comes of them.
+const NUMBERED: [(Start, &[u8], &str, Fate); 2] = [
+    // Key 1 is `a`, then `b`, then nothing; what is pushed on it is given on each, and refused in the end. Forgetting a number that stands
+    // for nothing changes nothing.
+    (
+        Start::Client,
+        &[
+            0x1E, 0x20, 0x01, 0x00, 0x01, 0x61, 0x5D, 0x01, 0x02, 0x1E, 0x20, 0x01, 0x00, 0x01,
+            0x62, 0x5D, 0x01, 0x02, 0x1E, 0x01, 0x07, 0x5D, 0x01, 0x02, 0x1E, 0x01, 0x01, 0x5D,
+            0x01, 0x02,
+        ],
+        "push a [2]; push b [2]; push b [2]; ",
+        INVALID,
+    ),
+    (
+        Start::Router,
+        &[
+            0x1E, 0x20, 0x01, 0x00, 0x01, 0x61, 0xDD, 0x01, 0x57, 0x01, 0x01, 0x02,
+        ],
+        "push tree a [2]; ",
+        Fate::Going,
+    ),
+];
+
+/// Numbered texts have 1,048,576 bytes together at most, as 512 texts of 2,048 bytes have.
+const LIMIT: [(&[Step], Outcome); 2] = [
+    (
+        &[Step::Numberings(512)],
+        Outcome {
+            events: "",
+            fate: Fate::Going,
+            bytes: &[],
+        },
+    ),
+    (
+        &[Step::Numberings(512), Step::Numbering(512, 1)],
+        Outcome {
+            events: "",
+            fate: Fate::Closed(Reason::Generic),
+            bytes: &[&[0x02, 0x00, 0x23, 0x00]],
+        },
+    ),
+];
+
+// Whether a frame of number 0 with these messages leads to these events and this end.
+fn ends(link: &mut Link, messages: &[u8], events: &str, fate: Fate) -> Result<bool, Fail> {
+    link.feed_frame(messages)?;
+    Ok(link.fate == fate && link.events()?.as_str() == events)
 }
 
-fn gives(mut link: Link, messages: &[u8], events: &str, fate: Fate) -> Result<bool, Fail> {
-    frame(&mut link, messages)?;
-    Ok(link.fate == fate && link.events()?.as_str() == events)
+fn gives(
+    alloc: Global,
+    start: Start,
+    messages: &[u8],
+    events: &str,
+    fate: Fate,
+) -> Result<bool, Fail> {
+    let mut link = led(alloc, start, &[])?;
+    ends(&mut link, messages, events, fate)
 }
 
 #[test]
 fn what_each_role_may_send(rt: HostRuntime) -> Result<(), Fail> {
     for (messages, of_client, client_fate, of_router, router_fate) in MESSAGES {
-        let client = open_client(rt.alloc())?;
         assert!(rt;
-            gives(client, messages, of_client, client_fate)?,
+            gives(rt.alloc(), Start::Client, messages, of_client, client_fate)?,
             "client {messages:?}"
         );
-        let router = open_router(rt.alloc())?;
         assert!(rt;
-            gives(router, messages, of_router, router_fate)?,
+            gives(rt.alloc(), Start::Router, messages, of_router, router_fate)?,
             "router {messages:?}"
         );
     }
     Ok(())
 }
 
-/// Key 1 is `a`, then `b`, then nothing; what is pushed on it is given on each, and refused in the end. Forgetting a number that stands
-/// for nothing changes nothing.
 #[test]
 fn numbered_keys_are_replaced_and_forgotten(rt: HostRuntime) -> Result<(), Fail> {
-    let client = open_client(rt.alloc())?;
-    let messages = [
-        0x1E, 0x20, 0x01, 0x00, 0x01, 0x61, 0x5D, 0x01, 0x02, 0x1E, 0x20, 0x01, 0x00, 0x01, 0x62,
-        0x5D, 0x01, 0x02, 0x1E, 0x01, 0x07, 0x5D, 0x01, 0x02, 0x1E, 0x01, 0x01, 0x5D, 0x01, 0x02,
-    ];
-    assert!(rt;
-        gives(
-            client,
-            &messages,
-            "push a [2]; push b [2]; push b [2]; ",
-            INVALID
-        )?
-    );
-    let router = open_router(rt.alloc())?;
-    let messages = [
-        0x1E, 0x20, 0x01, 0x00, 0x01, 0x61, 0xDD, 0x01, 0x57, 0x01, 0x01, 0x02,
-    ];
-    assert!(rt; gives(router, &messages, "push tree a [2]; ", Fate::Going)?);
+    for (start, messages, events, fate) in NUMBERED {
+        assert!(rt;
+            gives(rt.alloc(), start, messages, events, fate)?,
+            "at {messages:?}"
+        );
+    }
     Ok(())
 }
 
-/// A frame of this number that numbers a text of so many bytes, under the number plus one. Both numbers take two bytes.
-fn numbering(alloc: Global, number: u16, length: u16) -> Result<Vec<u8>, Fail> {
-    let low = 0x80 | (number % 128) as u8;
-    let next = number.saturating_add(1);
-    let text_low = 0x80 | (length % 128) as u8;
-    let mut batch = [
-        0x25,
-        low,
-        (number / 128 % 128) as u8,
-        0x1E,
-        0x20,
-        0x80 | (next % 128) as u8,
-        (next / 128 % 128) as u8,
-        0x00,
-        text_low,
-        (length / 128 % 128) as u8,
-    ]
-    .to_vec(alloc)?;
-    batch.append(&mut vec![in alloc; 0x61; usize::from(length)]?)?;
-    framed(alloc, &batch)
-}
-
-/// Numbered texts have 1,048,576 bytes together at most, as 512 texts of 2,048 bytes have.
 #[test]
 fn numbered_texts_have_a_limit(rt: HostRuntime) -> Result<(), Fail> {
-    let mut link = open_client(rt.alloc())?;
-    for number in 0..512 {
-        link.feed(&numbering(rt.alloc(), number, 2_048)?)?;
+    for (steps, outcome) in LIMIT {
+        assert!(rt; leads_to(rt.alloc(), Start::Client, steps, outcome)?);
     }
-    assert!(rt; link.fate == Fate::Going && link.fed.bytes.is_empty());
-    link.feed(&numbering(rt.alloc(), 512, 1)?)?;
-    assert!(rt; link.fate == Fate::Closed(Reason::Generic));
-    assert!(rt; link.fed.bytes.as_slice() == [0x02, 0x00, 0x23, 0x00].as_slice());
     Ok(())
 }

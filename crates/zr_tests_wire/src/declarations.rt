@@ -1,21 +1,20 @@
 //! Declarations and interests: which bytes are read as which, which are refused, and how messages are written.
 
+use crate::common::{NONE, declared, show_bytes};
 use std::alloc::{AllocError, Global};
 use std::test::Fail;
 use zr_bytes::{Cursor, ReadError};
 use zr_decl::{Declared, read_decl, read_interest, write_decl};
 use zr_key::key::KeyExpr;
 use zr_msg::msg::{Kinds, Msg};
-use zr_wirekey::{ScopeError, Scopes};
+use zr_wirekey::Scopes;
 
-/// The numbers in a row by which the kinds of messages begin, and what stands for a key that is not there.
+/// The numbers in a row by which the kinds of messages begin.
 const NUMBER: u64 = 20;
 
 const UNNUMBER: u64 = 21;
 
 const IGNORED: u64 = 22;
-
-const NONE: u64 = 999;
 
 /// Bytes of a DECLARE of a sender that declared `a/b` as 1, and what it is read as: a message's id on the wire, its fields in their order, byte
 /// strings byte by byte; or a number with its text.
@@ -83,19 +82,6 @@ const INTERESTS: [(&[u8], &[u64]); 4] = [
     (&[0x19, 0x05], &[5]),
 ];
 
-fn declared(alloc: Global) -> Result<Scopes, ScopeError> {
-    let mut scopes = Scopes::new(alloc);
-    scopes.declare(1, b"a/b")?;
-    Ok(scopes)
-}
-
-fn show_bytes(bytes: &[u8], out: &mut Vec<u64>) -> Result<(), AllocError> {
-    for byte in bytes {
-        out.push(u64::from(*byte))?;
-    }
-    Ok(())
-}
-
 fn show_key(key: &Option<KeyExpr>, out: &mut Vec<u64>) -> Result<(), AllocError> {
     match key {
         Some(key) => show_bytes(key.text().as_bytes(), out),
@@ -120,8 +106,8 @@ fn show_told(msg: &Msg, out: &mut Vec<u64>) -> Result<(), AllocError> {
     }
 }
 
-fn show(declared: &Declared, out: &mut Vec<u64>) -> Result<(), AllocError> {
-    match declared {
+fn show(read: &Declared, out: &mut Vec<u64>) -> Result<(), AllocError> {
+    match read {
         Declared::Told(msg) => show_told(msg, out),
         Declared::Number(number, text) => {
             out.extend_from_slice(&[NUMBER, u64::from(*number)])?;
@@ -151,28 +137,50 @@ fn show_interest(msg: &Msg, out: &mut Vec<u64>) -> Result<(), AllocError> {
     }
 }
 
-fn shown(alloc: Global, bytes: &[u8]) -> Result<(Vec<u64>, usize), Fail> {
+// What a sender that declared `a/b` as 1 has written.
+fn read(alloc: Global, c: &mut Cursor<'_>) -> Result<Declared, Fail> {
     let (theirs, ours) = (declared(alloc)?, Scopes::new(alloc));
-    let mut c = Cursor::new(bytes);
-    let read = read_decl(alloc, &mut c, &theirs, &ours)?;
+    Ok(read_decl(alloc, c, &theirs, &ours)?)
+}
+
+fn fault_at(alloc: Global, c: &mut Cursor<'_>) -> Result<Option<ReadError>, Fail> {
+    let (theirs, ours) = (declared(alloc)?, Scopes::new(alloc));
+    Ok(read_decl(alloc, c, &theirs, &ours).err())
+}
+
+fn interest(alloc: Global, c: &mut Cursor<'_>) -> Result<Msg, Fail> {
+    let (theirs, ours) = (declared(alloc)?, Scopes::new(alloc));
+    Ok(read_interest(alloc, c, &theirs, &ours)?)
+}
+
+fn numbers(alloc: Global, read: &Declared) -> Result<Vec<u64>, Fail> {
     let mut out = Vec::new(alloc);
-    show(&read, &mut out)?;
+    show(read, &mut out)?;
+    Ok(out)
+}
+
+fn interest_numbers(alloc: Global, msg: &Msg) -> Result<Vec<u64>, Fail> {
+    let mut out = Vec::new(alloc);
+    show_interest(msg, &mut out)?;
+    Ok(out)
+}
+
+// What the bytes are read as, and how many are left.
+fn shown(alloc: Global, bytes: &[u8]) -> Result<(Vec<u64>, usize), Fail> {
+    let mut c = Cursor::new(bytes);
+    let out = numbers(alloc, &read(alloc, &mut c)?)?;
     Ok((out, c.left()))
 }
 
 fn fault(alloc: Global, bytes: &[u8]) -> Result<(Option<ReadError>, usize), Fail> {
-    let (theirs, ours) = (declared(alloc)?, Scopes::new(alloc));
     let mut c = Cursor::new(bytes);
-    let read = read_decl(alloc, &mut c, &theirs, &ours);
-    Ok((read.err(), c.left()))
+    let fault = fault_at(alloc, &mut c)?;
+    Ok((fault, c.left()))
 }
 
 fn interest_shown(alloc: Global, bytes: &[u8]) -> Result<(Vec<u64>, usize), Fail> {
-    let (theirs, ours) = (declared(alloc)?, Scopes::new(alloc));
     let mut c = Cursor::new(bytes);
-    let msg = read_interest(alloc, &mut c, &theirs, &ours)?;
-    let mut out = Vec::new(alloc);
-    show_interest(&msg, &mut out)?;
+    let out = interest_numbers(alloc, &interest(alloc, &mut c)?)?;
     Ok((out, c.left()))
 }
 

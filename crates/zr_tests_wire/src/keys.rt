@@ -1,5 +1,6 @@
 //! Keys on the wire: how they are read and refused by scopes, how scopes are limited, and how a key is written.
 
+use crate::common::declared;
 use std::alloc::{AllocError, Global};
 use std::test::Fail;
 use zr_bytes::{Cursor, ReadError};
@@ -28,13 +29,6 @@ const REFUSED: [(&[u8], bool, ReadError); 9] = [
     (&[0x00, 0x01, 0x23], true, ReadError::BadKey),
     (&[0x01, 0x01, 0x2F], true, ReadError::BadKey),
 ];
-
-// Scopes in which `a/b` is 1.
-fn declared(alloc: Global) -> Result<Scopes, ScopeError> {
-    let mut scopes = Scopes::new(alloc);
-    scopes.declare(1, b"a/b")?;
-    Ok(scopes)
-}
 
 fn written(alloc: Global, text: &[u8], number: u16) -> Result<Vec<u8>, Fail> {
     let key = KeyExpr::read(alloc, text)?;

@@ -1,4 +1,5 @@
-//! Tests of the wire's formats: bytes, extensions, bodies, keys, transport messages, declarations, network messages and messages between routers.
+//! Tests of what names a network (identifiers, key expressions and how they compare, links, trees, change logs, pending requests), and of the wire's
+//! formats (bytes, extensions, bodies, keys, transport messages, declarations, network messages, messages between routers).
 //! Each file tests one crate, as rows of a table, and `passing` what is read and written again. What the contracts say for all inputs is not tested.
 #![tactic(auto)]
 
@@ -7,16 +8,32 @@ mod bodies;
 #[cfg(test)]
 mod bytes;
 #[cfg(test)]
+mod common;
+#[cfg(test)]
 mod declarations;
+#[cfg(test)]
+mod expressions;
 #[cfg(test)]
 mod extensions;
 #[cfg(test)]
+mod graphs;
+#[cfg(test)]
 mod keys;
+#[cfg(test)]
+mod logs;
+#[cfg(test)]
+mod matches;
 #[cfg(test)]
 mod messages;
 #[cfg(test)]
 mod passing;
 #[cfg(test)]
+mod pending;
+#[cfg(test)]
 mod routers;
 #[cfg(test)]
+mod sets;
+#[cfg(test)]
 mod transport;
+#[cfg(test)]
+mod trees;

@@ -1,20 +1,19 @@
 //! Network messages: which bytes are read as which, which are refused, and how messages are written.
 
+use crate::common::{NONE, declared};
 use std::alloc::{AllocError, Global};
 use std::test::Fail;
 use zr_body::Body;
 use zr_bytes::{Cursor, ReadError};
 use zr_decl::Declared;
+use zr_id::zid::Zid;
 use zr_key::key::KeyExpr;
 use zr_msg::content::Content;
 use zr_msg::extras::Extras;
 use zr_msg::msg::{Msg, Target};
 use zr_msg::peer::Role;
 use zr_net::{read_net, write_net};
-use zr_wirekey::{ScopeError, Scopes};
-
-/// What stands in a row for a part that isn't there.
-const NONE: u64 = 999;
+use zr_wirekey::Scopes;
 
 /// The number by which a declaration begins in a row.
 const DECLARED: u64 = 1;
@@ -117,12 +116,6 @@ const REFUSED: [(&[u8], bool, ReadError); 14] = [
     (&[0x9A, 0x01, 0x13], false, ReadError::Mandatory),
 ];
 
-fn declared(alloc: Global) -> Result<Scopes, ScopeError> {
-    let mut scopes = Scopes::new(alloc);
-    scopes.declare(1, b"a/b")?;
-    Ok(scopes)
-}
-
 fn role(is_router: bool) -> Role {
     if is_router {
         Role::Router
@@ -144,17 +137,32 @@ fn show_content(content: &Content, out: &mut Vec<u64>) -> Result<(), AllocError>
     Ok(out.push(content.body().as_slice().len() as u64)?)
 }
 
-fn first(bytes: Option<&[u8]>) -> u64 {
+fn first(tree: &Option<Zid>) -> u64 {
+    match tree {
+        Some(id) => first_byte(id.bytes()),
+        None => NONE,
+    }
+}
+
+fn first_byte(bytes: &[u8]) -> u64 {
     match bytes {
-        Some([byte, ..]) => u64::from(*byte),
-        _ => NONE,
+        [byte, ..] => u64::from(*byte),
+        [] => NONE,
+    }
+}
+
+fn number_of(target: Target) -> u64 {
+    match target {
+        Target::Best => 0,
+        Target::All => 1,
+        Target::Complete => 2,
     }
 }
 
 fn show(msg: &Msg, out: &mut Vec<u64>) -> Result<(), AllocError> {
     match msg {
         Msg::Push { tree, content } => {
-            out.extend_from_slice(&[0x1D, first(tree.as_ref().map(|id| id.bytes()))])?;
+            out.extend_from_slice(&[0x1D, first(tree)])?;
             show_content(content, out)
         }
         Msg::Request {
@@ -163,13 +171,7 @@ fn show(msg: &Msg, out: &mut Vec<u64>) -> Result<(), AllocError> {
             target,
             content,
         } => {
-            let target = match target {
-                Target::Best => 0,
-                Target::All => 1,
-                Target::Complete => 2,
-            };
-            let tree = first(tree.as_ref().map(|id| id.bytes()));
-            out.extend_from_slice(&[0x1C, tree, u64::from(*id), target])?;
+            out.extend_from_slice(&[0x1C, first(tree), u64::from(*id), number_of(*target)])?;
             show_content(content, out)
         }
         Msg::Response { id, content } => {
@@ -184,22 +186,36 @@ fn show(msg: &Msg, out: &mut Vec<u64>) -> Result<(), AllocError> {
     }
 }
 
-fn shown(alloc: Global, bytes: &[u8], is_router: bool) -> Result<(Vec<u64>, usize), Fail> {
+// What a peer that declared `a/b` as 1 has written.
+fn read(alloc: Global, c: &mut Cursor<'_>, role: Role) -> Result<Declared, Fail> {
     let (theirs, ours) = (declared(alloc)?, Scopes::new(alloc));
-    let mut c = Cursor::new(bytes);
-    let read = read_net(alloc, &mut c, &theirs, &ours, role(is_router))?;
+    Ok(read_net(alloc, c, &theirs, &ours, role)?)
+}
+
+fn fault_at(alloc: Global, c: &mut Cursor<'_>, role: Role) -> Result<Option<ReadError>, Fail> {
+    let (theirs, ours) = (declared(alloc)?, Scopes::new(alloc));
+    Ok(read_net(alloc, c, &theirs, &ours, role).err())
+}
+
+fn numbers(alloc: Global, read: &Declared) -> Result<Vec<u64>, Fail> {
     let mut out = Vec::new(alloc);
-    if let Declared::Told(msg) = &read {
+    if let Declared::Told(msg) = read {
         show(msg, &mut out)?;
     }
+    Ok(out)
+}
+
+// What the bytes are read as, and how many are left.
+fn shown(alloc: Global, bytes: &[u8], is_router: bool) -> Result<(Vec<u64>, usize), Fail> {
+    let mut c = Cursor::new(bytes);
+    let out = numbers(alloc, &read(alloc, &mut c, role(is_router))?)?;
     Ok((out, c.left()))
 }
 
 fn fault(alloc: Global, bytes: &[u8], is_router: bool) -> Result<(Option<ReadError>, usize), Fail> {
-    let (theirs, ours) = (declared(alloc)?, Scopes::new(alloc));
     let mut c = Cursor::new(bytes);
-    let read = read_net(alloc, &mut c, &theirs, &ours, role(is_router));
-    Ok((read.err(), c.left()))
+    let fault = fault_at(alloc, &mut c, role(is_router))?;
+    Ok((fault, c.left()))
 }
 
 fn push_written(alloc: Global, number: u16) -> Result<Vec<u8>, Fail> {

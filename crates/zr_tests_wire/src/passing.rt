@@ -1,7 +1,9 @@
 //! Messages that are read and written again: as a router passes them on, and with bytes changed at random.
 
 ghost use Rattle.zr_net.specs.Writing.{AnyFits};
+ghost use Rattle.zr_oam.specs.Writing.{Fits};
 
+use crate::common::declared;
 use rand_core::utils::NextWord;
 use rand_pcg::Pcg32;
 use std::alloc::{AllocError, Global};
@@ -12,7 +14,7 @@ use zr_msg::msg::Msg;
 use zr_msg::peer::Role;
 use zr_net::{read_net, write_net};
 use zr_oam::{read_oam, write_oam};
-use zr_wirekey::{ScopeError, Scopes};
+use zr_wirekey::Scopes;
 
 /// What a peer that declared `a/b` as 1 sends, and what a router passes on of it, with whole keys.
 const PASSED_ON: [(&[u8], &[u8]); 5] = [
@@ -88,12 +90,6 @@ struct Seen {
     written: Vec<u8>,
 }
 
-fn declared(alloc: Global) -> Result<Scopes, ScopeError> {
-    let mut scopes = Scopes::new(alloc);
-    scopes.declare(1, b"a/b")?;
-    Ok(scopes)
-}
-
 fn written(alloc: Global, msg: &Msg) -> Result<Vec<u8>, AllocError>
     requires { AnyFits msg.now }
 {
@@ -117,29 +113,38 @@ fn fields(alloc: Global, msg: &Msg) -> Result<String, AllocError> {
     Ok(format!(in alloc; "{msg:?}")?)
 }
 
+fn seen_of(alloc: Global, msg: &Msg) -> Result<Option<Seen>, ReadError>
+    requires { AnyFits msg.now }
+{
+    let written = written(alloc, msg)?;
+    let fields = fields(alloc, msg)?;
+    Ok(Some(Seen { fields, written }))
+}
+
 // What a network message is read as; none where it is nothing that is written.
 fn network(alloc: Global, c: &mut Cursor<'_>, theirs: &Scopes) -> Result<Option<Seen>, ReadError> {
     let ours = Scopes::new(alloc);
     match read_net(alloc, c, theirs, &ours, Role::Router)? {
-        Declared::Told(msg) => Ok(Some(Seen {
-            fields: fields(alloc, &msg)?,
-            written: written(alloc, &msg)?,
-        })),
+        Declared::Told(msg) => seen_of(alloc, &msg),
         _ => Ok(None),
     }
 }
 
 // The same of a message between routers.
 fn between_routers(alloc: Global, c: &mut Cursor<'_>) -> Result<Option<Seen>, ReadError> {
-    let Some(msg) = read_oam(alloc, c)? else {
-        return Ok(None);
-    };
-    let mut out = Vec::new(alloc);
-    write_oam(&mut out, &msg)?;
-    Ok(Some(Seen {
-        fields: fields(alloc, &msg)?,
-        written: out,
-    }))
+    match read_oam(alloc, c)? {
+        Some(msg) => seen_between_routers(alloc, &msg),
+        None => Ok(None),
+    }
+}
+
+fn seen_between_routers(alloc: Global, msg: &Msg) -> Result<Option<Seen>, ReadError>
+    requires { Fits msg.now }
+{
+    let mut written = Vec::new(alloc);
+    write_oam(&mut written, msg)?;
+    let fields = fields(alloc, msg)?;
+    Ok(Some(Seen { fields, written }))
 }
 
 fn look(alloc: Global, c: &mut Cursor<'_>, theirs: &Scopes) -> Result<Option<Seen>, ReadError> {

@@ -1,5 +1,6 @@
 //! Messages between routers: which bytes are read as which, which are refused, and how a record and an entry are written.
 
+use crate::common::show_bytes;
 use std::alloc::{AllocError, Global};
 use std::test::Fail;
 use zr_bytes::{Cursor, ReadError};
@@ -94,13 +95,6 @@ fn show_id(id: Zid, out: &mut Vec<u64>) -> Result<(), AllocError> {
     show_bytes(id.bytes(), out)
 }
 
-fn show_bytes(bytes: &[u8], out: &mut Vec<u64>) -> Result<(), AllocError> {
-    for byte in bytes {
-        out.push(u64::from(*byte))?;
-    }
-    Ok(())
-}
-
 fn show_record(record: &LinkRecord, out: &mut Vec<u64>) -> Result<(), AllocError> {
     out.push(1)?;
     show_id(record.id(), out)?;
@@ -154,14 +148,18 @@ fn show(msg: &Msg, out: &mut Vec<u64>) -> Result<(), AllocError> {
     }
 }
 
+fn numbers(alloc: Global, msg: &Option<Msg>) -> Result<Vec<u64>, AllocError> {
+    let mut out = Vec::new(alloc);
+    if let Some(msg) = msg {
+        show(msg, &mut out)?;
+    }
+    Ok(out)
+}
+
 // What the bytes are read as, and how many are left.
 fn shown(alloc: Global, bytes: &[u8]) -> Result<(Vec<u64>, usize), ReadError> {
     let mut c = Cursor::new(bytes);
-    let msg = read_oam(alloc, &mut c)?;
-    let mut out = Vec::new(alloc);
-    if let Some(msg) = msg {
-        show(&msg, &mut out)?;
-    }
+    let out = numbers(alloc, &read_oam(alloc, &mut c)?)?;
     Ok((out, c.left()))
 }
 

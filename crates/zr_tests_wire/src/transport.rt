@@ -1,13 +1,11 @@
 //! Transport messages: which bytes are read as which, which are refused, and how messages are written.
 
+use crate::common::{NONE, show_bytes};
 use std::alloc::{AllocError, Global};
 use std::test::Fail;
 use zr_bytes::{ByteString, Cursor, ReadError};
 use zr_id::zid::Zid;
 use zr_trans::{Sizes, Trans, read_trans, write_trans};
-
-/// What stands in a row for a part that a message doesn't have.
-const NONE: u64 = 999;
 
 const REFUSED: [(&[u8], ReadError); 12] = [
     (&[], ReadError::Short),
@@ -59,13 +57,6 @@ const READ: [(&[u8], &[u64], usize); 8] = [
         0,
     ),
 ];
-
-fn show_bytes(bytes: &[u8], out: &mut Vec<u64>) -> Result<(), AllocError> {
-    for byte in bytes {
-        out.push(u64::from(*byte))?;
-    }
-    Ok(())
-}
 
 fn show_sizes(sizes: &Option<Sizes>, out: &mut Vec<u64>) -> Result<(), AllocError> {
     match sizes {

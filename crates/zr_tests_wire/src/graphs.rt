@@ -87,19 +87,27 @@ fn edge(base: &Base, x: &str, y: &str) -> Result<bool, BadId> {
 // The base of this router before it lists links, or at a moment after: it lists both others; they list it or each other; it lists one.
 fn base_at(alloc: Global, moment: u32) -> Result<Base, Fail> {
     let mut base = Base::new(alloc, zid(ME)?)?;
-    if moment > 0 {
-        relink(&mut base, zids(alloc, &[ONE, THREE])?.as_slice())?;
-    }
-    if moment > 1 {
-        let first = record(alloc, ONE, 5, &[ME, THREE])?;
-        accepted(&mut base, first)?;
-        let second = record(alloc, THREE, 5, &[ONE])?;
-        accepted(&mut base, second)?;
-    }
-    if moment > 2 {
-        relink(&mut base, zids(alloc, &[THREE])?.as_slice())?;
+    for passed in 0..moment {
+        advance(alloc, &mut base, passed)?;
     }
     Ok(base)
+}
+
+// What happens behind a moment.
+fn advance(alloc: Global, base: &mut Base, moment: u32) -> Result<(), Fail> {
+    match moment {
+        0 => relink(base, &zids(alloc, &[ONE, THREE])?),
+        1 => {
+            accept(alloc, base, ONE, &[ME, THREE])?;
+            accept(alloc, base, THREE, &[ONE])
+        }
+        _ => relink(base, &zids(alloc, &[THREE])?),
+    }
+}
+
+fn accept(alloc: Global, base: &mut Base, id: &str, links: &[&str]) -> Result<(), Fail> {
+    accepted(base, record(alloc, id, 5, links)?)?;
+    Ok(())
 }
 
 #[test]

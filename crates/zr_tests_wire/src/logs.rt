@@ -1,6 +1,6 @@
 //! What a router knows of change logs, change by change.
 
-use std::alloc::Global;
+use std::alloc::{AllocError, Global};
 use std::test::Fail;
 use zr_id::zid::Zid;
 use zr_key::key::KeyExpr;
@@ -16,11 +16,14 @@ const OTHER: u8 = 0x0b;
 const THIRD: u8 = 0x0c;
 
 /// What comes to it: a change of its own, a change of a router's log with its number, or a snapshot. Keys are those of subscribers, and `true` adds one.
+/// A long key has 2,032 bytes and begins with a number, of which a snapshot may have all besides its own keys.
 #[derive(Clone, Copy)]
 enum Change {
     Own(bool, &'static str),
     Step(u8, u64, bool, &'static str),
+    StepLong(u8, u64, bool, u32),
     Snap(u8, u64, &'static [&'static str]),
+    SnapLong(u8, u64, &'static [&'static str]),
 }
 
 /// What is answered.
@@ -92,8 +95,12 @@ pub fn decl(alloc: Global, kind: Kind, text: &[u8]) -> Result<Decl, Fail> {
     Ok(Decl { kind, key })
 }
 
-fn subscribers(alloc: Global, keys: &[&str]) -> Result<Vec<Decl>, Fail> {
+// Subscribers on these keys, behind so many on long ones.
+fn subscribers(alloc: Global, long_ones: u32, keys: &[&str]) -> Result<Vec<Decl>, Fail> {
     let mut all = Vec::new(alloc);
+    for number in 0..long_ones {
+        all.push(long(alloc, number)?)?;
+    }
     for key in keys {
         all.push(decl(alloc, Kind::Sub, key.as_bytes())?)?;
     }
@@ -142,13 +149,21 @@ fn snap(known: &mut Known, source: u8, number: u64, decls: &[Decl]) -> Result<To
 fn answer(alloc: Global, known: &mut Known, change: Change) -> Result<Told, Fail> {
     match change {
         Change::Own(added, key) => own(known, added, &decl(alloc, Kind::Sub, key.as_bytes())?),
-        Change::Step(source, number, added, key) => {
-            let decl = decl(alloc, Kind::Sub, key.as_bytes())?;
-            step(known, source, number, added, &decl)
+        Change::Step(source, number, added, key) => step(
+            known,
+            source,
+            number,
+            added,
+            &decl(alloc, Kind::Sub, key.as_bytes())?,
+        ),
+        Change::StepLong(source, number, added, key) => {
+            step(known, source, number, added, &long(alloc, key)?)
         }
         Change::Snap(source, number, keys) => {
-            let decls = subscribers(alloc, keys)?;
-            snap(known, source, number, decls.as_slice())
+            snap(known, source, number, &subscribers(alloc, 0, keys)?)
+        }
+        Change::SnapLong(source, number, keys) => {
+            snap(known, source, number, &subscribers(alloc, MOST_LONG, keys)?)
         }
     }
 }
@@ -167,7 +182,10 @@ fn known_text(alloc: Global, known: &Known, source: u8) -> Result<String, Fail> 
 fn source_of(change: Change) -> u8 {
     match change {
         Change::Own(..) => OWN,
-        Change::Step(source, ..) | Change::Snap(source, ..) => source,
+        Change::Step(source, ..)
+        | Change::StepLong(source, ..)
+        | Change::Snap(source, ..)
+        | Change::SnapLong(source, ..) => source,
     }
 }
 
@@ -209,6 +227,10 @@ fn sources(alloc: Global, routers: &[u8]) -> Result<Vec<u8>, Fail> {
         answer(alloc, &mut known, Change::Snap(*router, 1, &["a"]))?;
     }
     answer(alloc, &mut known, Change::Own(true, "a"))?;
+    Ok(order(alloc, &known)?)
+}
+
+fn order(alloc: Global, known: &Known) -> Result<Vec<u8>, AllocError> {
     let mut bytes = Vec::new(alloc);
     for id in known.sources() {
         bytes.push(first_byte(id))?;
@@ -242,43 +264,36 @@ fn long(alloc: Global, number: u32) -> Result<Decl, Fail> {
     decl(alloc, Kind::Sub, text.as_slice())
 }
 
-fn all_long(alloc: Global) -> Result<Vec<Decl>, Fail> {
-    let mut all = Vec::new(alloc);
-    for number in 0..MOST_LONG {
-        all.push(long(alloc, number)?)?;
-    }
-    Ok(all)
-}
+/// What comes to it at the limit, and the answers: the snapshot of a full set, one declaration more, one that is there, one less, one more then, and a
+/// snapshot with one more.
+const LIMIT: [(Change, Told); 6] = [
+    (Change::SnapLong(OTHER, 1, &[]), Told::New),
+    (
+        Change::Step(OTHER, 2, true, "a"),
+        Told::TextLimit(4_194_304, 17),
+    ),
+    (Change::StepLong(OTHER, 2, true, 7), Told::New),
+    (Change::StepLong(OTHER, 3, false, 7), Told::New),
+    (Change::Step(OTHER, 4, true, "a"), Told::New),
+    (
+        Change::SnapLong(OTHER, 5, &["a"]),
+        Told::TextLimit(0, 4_194_321),
+    ),
+];
 
-// What is answered at the limit: the snapshot of a full set, one declaration more, one that is there, and a snapshot with one more; the last again
-// behind a declaration less.
-fn told_at_limit(alloc: Global) -> Result<[Told; 6], Fail> {
+// The first change that is answered otherwise, where they come one after the other.
+fn first_other(alloc: Global, rows: &[(Change, Told)]) -> Result<Option<usize>, Fail> {
     let mut known = Known::new(alloc, zid(OWN)?);
-    let mut all = all_long(alloc)?;
-    let full = snap(&mut known, OTHER, 1, all.as_slice())?;
-    let short = decl(alloc, Kind::Sub, b"a".as_slice())?;
-    let more = step(&mut known, OTHER, 2, true, &short)?;
-    let again = step(&mut known, OTHER, 2, true, &long(alloc, 7)?)?;
-    let less = step(&mut known, OTHER, 3, false, &long(alloc, 7)?)?;
-    let then = step(&mut known, OTHER, 4, true, &short)?;
-    all.push(short)?;
-    let beyond = snap(&mut known, OTHER, 5, all.as_slice())?;
-    Ok([full, more, again, less, then, beyond])
+    for (i, (change, want)) in rows.iter().enumerate() {
+        if answer(alloc, &mut known, *change)? != *want {
+            return Ok(Some(i));
+        }
+    }
+    Ok(None)
 }
 
 #[test]
 fn a_set_weighs_4194304_at_most(rt: HostRuntime) -> Result<(), Fail> {
-    let told = told_at_limit(rt.alloc())?;
-    assert_eq!(rt;
-        told,
-        [
-            Told::New,
-            Told::TextLimit(4_194_304, 17),
-            Told::New,
-            Told::New,
-            Told::New,
-            Told::TextLimit(0, 4_194_321),
-        ]
-    );
+    assert_eq!(rt; first_other(rt.alloc(), &LIMIT)?, None);
     Ok(())
 }

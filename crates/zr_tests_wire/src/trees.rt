@@ -160,11 +160,16 @@ fn known(i: u8) -> Option<usize> {
     if i == NONE { None } else { Some(i as usize) }
 }
 
-fn children_of(alloc: Global, parents: &Table, root: usize, at: usize) -> Result<Vec<Zid>, Fail> {
+fn children_of(
+    alloc: Global,
+    parents: &Table,
+    root: usize,
+    at: usize,
+) -> Result<Vec<usize>, AllocError> {
     let mut children = Vec::new(alloc);
     for y in 0..ROUTERS {
         if cell(parents, root, y) as usize == at {
-            children.push(name(y)?)?;
+            children.push(y)?;
         }
     }
     Ok(children)
@@ -179,16 +184,11 @@ fn are_same(
     step: usize,
 ) -> Result<bool, Fail> {
     let (root, at, dest) = (step / 25, step / 5 % ROUTERS, step % ROUTERS);
-    let (r, x) = (name(root)?, name(at)?);
+    let has_way = has_parent(trees, root, at, known(cell(parents, root, at)))?
+        && has_toward(trees, root, at, dest, toward_of(parents, root, at, dest))?
+        && is_reached(trees, root, at)? == (cell(far, root, at) < NONE);
     let children = children_of(alloc, parents, root, at)?;
-    let parent = name_of(known(cell(parents, root, at)))?;
-    let toward = name_of(toward_of(parents, root, at, dest))?;
-    Ok(
-        trees.parent(r, x) == parent
-            && trees.children(r, x) == children.as_slice()
-            && trees.toward(r, x, name(dest)?) == toward
-            && trees.reached(r, x) == (cell(far, root, at) < NONE),
-    )
+    Ok(has_way && has_children(alloc, trees, root, at, &children)?)
 }
 
 fn is_like_the_slow_program(alloc: Global, graph: u32) -> Result<bool, Fail> {

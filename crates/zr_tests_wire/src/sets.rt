@@ -47,21 +47,36 @@ fn weights(set: &mut DeclSet, decl: &Decl) -> [(u64, u64, bool); 2] {
     ]
 }
 
+// The same of the declaration that a row names.
+fn weighed(
+    alloc: Global,
+    set: &mut DeclSet,
+    row: (Kind, &str),
+) -> Result<[(u64, u64, bool); 2], Fail> {
+    let (kind, text) = row;
+    let decl = decl(alloc, kind, text.as_bytes())?;
+    Ok(weights(set, &decl))
+}
+
 #[test]
 fn a_set_stands_in_order(rt: HostRuntime) -> Result<(), Fail> {
-    let alloc = rt.alloc();
-    let mut set = set_of(alloc, [5, 2, 0, 3, 1, 2, 4])?;
+    let set = set_of(rt.alloc(), [5, 2, 0, 3, 1, 2, 4])?;
     assert!(rt; is_in_order(&set));
-    let there = decl(alloc, Kind::Sub, b"a/b".as_slice())?;
-    assert_eq!(rt;
-        weights(&mut set, &there),
-        [(104, 85, true), (85, 85, false)]
-    );
-    let another = decl(alloc, Kind::Able, b"b".as_slice())?;
-    assert_eq!(rt;
-        weights(&mut set, &another),
-        [(85, 85, false), (85, 85, false)]
-    );
+    Ok(())
+}
+
+/// Declarations that are taken out one after the other, and what is told of each.
+const TAKEN: [((Kind, &str), [(u64, u64, bool); 2]); 2] = [
+    ((Kind::Sub, "a/b"), [(104, 85, true), (85, 85, false)]),
+    ((Kind::Able, "b"), [(85, 85, false), (85, 85, false)]),
+];
+
+#[test]
+fn a_set_weighs_what_it_has(rt: HostRuntime) -> Result<(), Fail> {
+    let mut set = set_of(rt.alloc(), [5, 2, 0, 3, 1, 2, 4])?;
+    for (row, want) in TAKEN {
+        assert_eq!(rt; weighed(rt.alloc(), &mut set, row)?, want);
+    }
     assert_eq!(rt; set.into_vec().len(), 5);
     Ok(())
 }
