@@ -1,0 +1,57 @@
+#!/usr/bin/env python3
+"""Writes a script of queries: bench/queries.py [--routers R] [--clients C] [--queries Q]
+
+R routers in a tree, each linked with the one at half its number, and C clients, one router after another. Every fifth client declares a queryable on a key
+of its own. Then, in one phase, Q queries one after another, each by another client: a query is asked of one queryable, which replies once and ends, and
+the network moves until nothing is under way.
+"""
+import argparse
+
+
+def name(number, letter):
+    return f"{letter}{number:05x}"
+
+
+def network(routers, clients):
+    for router in range(1, routers + 1):
+        yield f"router {name(router, 'a')}"
+    for router in range(2, routers + 1):
+        above = router // 2
+        yield f"link {name(above, 'a')} {name(router, 'a')}"
+        yield f"up {name(above, 'a')} {name(router, 'a')}"
+        yield f"up {name(router, 'a')} {name(above, 'a')}"
+    for client in range(clients):
+        yield f"client {name(client, 'c')} {name(1 + client % routers, 'a')}"
+
+
+def queries(clients, count):
+    queryables = range(0, clients, 5)
+    for client in queryables:
+        yield f"able {name(client, 'c')} 1 q/{client}"
+    yield "run 1000000"
+    yield "mark"
+    for query in range(count):
+        asked = queryables[query % len(queryables)]
+        asker = (asked + 1 + query) % clients
+        if asker == asked:
+            asker = (asker + 1) % clients
+        yield f"get {name(asker, 'c')} 1 q/{asked} all"
+        yield "run 200"
+        yield f"reply {name(asked, 'c')} 1 q/{asked} {query}"
+        yield f"end {name(asked, 'c')} 1"
+        yield "run 200"
+
+
+def main():
+    words = argparse.ArgumentParser(description=__doc__, formatter_class=argparse.RawDescriptionHelpFormatter)
+    words.add_argument("--routers", type=int, default=64)
+    words.add_argument("--clients", type=int, default=1024)
+    words.add_argument("--queries", type=int, default=2000)
+    plan = words.parse_args()
+    for line in network(plan.routers, plan.clients):
+        print(line)
+    for line in queries(plan.clients, plan.queries):
+        print(line)
+
+
+main()
