@@ -2,7 +2,7 @@
 -- client and its router alone.
 use Rattle.std.proofs.Common.{◌≡◌, ℕ, ◌==◌, ◌⊎◌, inl, inr, Bool, true, false, cond, not, List, [], ◌∷◌, ◌++◌, Option, Some, None, is_some, refl, sym, ap, ◌∙◌, subst, append-nil}
 use Rattle.std.specs.Prelude.{◌&&◌, ◌||◌}
-use Rattle.std.specs.List.{flat_map, list_all}
+use Rattle.std.specs.List.{AllByRecursion, flat_map, list_all}
 use Rattle.std.specs.Option.{option_map, option_or}
 use Rattle.std.proofs.lemmas.Bool.{false≢true, eqb-true, eq-eqb, false_from_ne_true, and_right}
 use Rattle.std.proofs.lemmas.List.Folds.{list_any-append}
@@ -24,10 +24,9 @@ use Rattle.zr_settled.proofs.Moving.{unbroken_at}
 use Rattle.zr_settled.proofs.ClientRows.{ClientsHold}
 use Rattle.zr_numbers.specs.Waiting.{Place, wire_at, queue_at, waits, asks_in, answers_in, is_kept_by, back_at, link_of, is_whole}
 use Rattle.zr_numbers.specs.Deeds.{Half, Deed, Asks, Replies as Says, Ends as Finishes, with_deeds, MayDoAll, asked_by_deed, answered_by_deed, handles_msg, is_own, IsHalf}
-use Rattle.zr_numbers.proofs.Leading.{Leads, Stays, link_is, led, own_upper, own_lower, front_upper, front_lower}
+use Rattle.zr_numbers.proofs.Doing.{Moves, Same, Upper, Lower, may_handle}
 use Rattle.zr_numbers.proofs.Waits.{wire_of, queue_of, asks_among, answers_among, asks_append, answers_append, router_holds, client_holds, router_awaits, client_awaits, link_same}
 use Rattle.zr_numbers.proofs.Whole.{LinksGo, whole_end, whole_same, client_alone, no_own_end}
-use Rattle.zr_numbers.proofs.ActLinks.{stays_same}
 
 -- ---- what a client keeps
 
@@ -68,7 +67,7 @@ number_less ns k n =
     by false c = refl
 
 -- a query more is one that its client waits for, and one less is none
-asked_more : (c : List ℕ) (ns : List ℕ) (k n : ℕ) →
+pub asked_more : (c : List ℕ) (ns : List ℕ) (k n : ℕ) →
     cond (has_number (ns ++ k ∷ []) n) (for_itself c n) None
     ≡ cond (k == n) (for_itself c k) (cond (has_number ns n) (for_itself c n) None)
 asked_more c ns k n = ap (λ b. cond b (for_itself c n) None) (number_more ns k n) ∙ by (k == n) refl
@@ -96,7 +95,7 @@ pub record SaysDeeds (c : List ℕ) (s s' : ClientState) (n : ℕ) (msg : Msg) :
   pub may : MayDoAll (client_half c s) own
 
 -- a client declares something, takes it back or publishes
-pub quiet_deeds : (c : List ℕ) (s s' : ClientState) (n : ℕ) (msg : Msg) → asks_in n msg ≡ [] → answers_in n msg ≡ [] → s'.queries ≡ s.queries → s'.requests ≡ s.requests → SaysDeeds c s s' n msg
+abbrev pub quiet_deeds : (c : List ℕ) (s s' : ClientState) (n : ℕ) (msg : Msg) → asks_in n msg ≡ [] → answers_in n msg ≡ [] → s'.queries ≡ s.queries → s'.requests ≡ s.requests → SaysDeeds c s s' n msg
 quiet_deeds c s s' n msg asks answers queries requests = record {
   own = [];
   owns = refl;
@@ -107,7 +106,7 @@ quiet_deeds c s s' n msg asks answers queries requests = record {
 }
 
 -- it asks, replies, or ends
-pub get_deeds : (c : List ℕ) (s : ClientState) (n number : ℕ) (target : Target) (content : Parts) → has_number s.queries number ≡ false →
+abbrev pub get_deeds : (c : List ℕ) (s : ClientState) (n number : ℕ) (target : Target) (content : Parts) → has_number s.queries number ≡ false →
     SaysDeeds c s (asking s number) n (Request None number target content)
 get_deeds c s n number target content free = record {
   own = Asks number (record { line = n; tree = None; target = target; content = content }) (Some (record { name = c; number = number })) ∷ [];
@@ -118,7 +117,7 @@ get_deeds c s n number target content free = record {
   may = (ap (λ b. cond b (for_itself c number) None) free, tt);
 }
 
-pub reply_deeds : (c : List ℕ) (s : ClientState) (n number : ℕ) (content : Parts) → has_number s.requests number ≡ true → SaysDeeds c s s n (Response number content)
+abbrev pub reply_deeds : (c : List ℕ) (s : ClientState) (n number : ℕ) (content : Parts) → has_number s.requests number ≡ true → SaysDeeds c s s n (Response number content)
 reply_deeds c s n number content kept = record {
   own = Says number (record { line = n; content = content }) ∷ [];
   owns = refl;
@@ -128,7 +127,7 @@ reply_deeds c s n number content kept = record {
   may = (kept, tt);
 }
 
-pub end_deeds : (c : List ℕ) (s : ClientState) (n number : ℕ) → has_number s.requests number ≡ true → SaysDeeds c s (ending s number) n (Final number no_extras)
+abbrev pub end_deeds : (c : List ℕ) (s : ClientState) (n number : ℕ) → has_number s.requests number ≡ true → SaysDeeds c s (ending s number) n (Final number no_extras)
 end_deeds c s n number kept = record {
   own = Finishes number ∷ [];
   owns = refl;
@@ -209,29 +208,30 @@ module _ (w : WorldState) (sound : IsSound w) (orderly : Orderly w) (holds : Cli
       by (inr e) = holds.homes y c s found e
 
   module _ (unbroken : (q : End) → is_unbroken v.ends q ≡ is_unbroken w.ends q) (same_waits : (x y : List ℕ) → is_named c x ≡ false → is_named c y ≡ false → waits v x y ≡ waits w x y)
-      (upper : Leads (link_of w c s.router) (link_of v c s.router)) (lower : Leads (link_of w s.router c) (link_of v s.router c)) where
-    client_goes : LinksGo w v
+      (above below : List ℕ → List ℕ → Deed → Type 0) (upper : Moves (above c s.router) (below c s.router) (link_of w c s.router) (link_of v c s.router))
+      (lower : Moves (above s.router c) (below s.router c) (link_of w s.router c) (link_of v s.router c)) where
+    client_goes : LinksGo above below w v
     client_goes x y whole = (inl was, by (is_named c x) refl (is_named c y) refl)
       where
         was : is_whole w x y ≡ true
         was = whole_same w v unbroken x y whole
 
-        by : (b : Bool) → is_named c x ≡ b → (d : Bool) → is_named c y ≡ d → Leads (link_of w x y) (link_of v x y)
+        by : (b : Bool) → is_named c x ≡ b → (d : Bool) → is_named c y ≡ d → Moves (above x y) (below x y) (link_of w x y) (link_of v x y)
         by true e d f =
             let one : c ≡ x = same_is c x e in
             let far : s.router ≡ y = only_home y (ap (λ z. is_whole w z y) one ∙ was) in
-            subst (λ z. Leads (link_of w z y) (link_of v z y)) one (subst (λ z. Leads (link_of w c z) (link_of v c z)) far upper)
+            subst (λ z. Moves (above z y) (below z y) (link_of w z y) (link_of v z y)) one (subst (λ z. Moves (above c z) (below c z) (link_of w c z) (link_of v c z)) far upper)
         by false e true f =
             let one : c ≡ y = same_is c y f in
             let far : s.router ≡ x = only_home x ((λ i. is_unbroken w.ends (one i, x) || is_unbroken w.ends (x, one i)) ∙ swap (is_unbroken w.ends (x, y)) (is_unbroken w.ends (y, x)) was) in
-            subst (λ z. Leads (link_of w x z) (link_of v x z)) one (subst (λ z. Leads (link_of w z c) (link_of v z c)) far lower)
+            subst (λ z. Moves (above x z) (below x z) (link_of w x z) (link_of v x z)) one (subst (λ z. Moves (above z c) (below z c) (link_of w z c) (link_of v z c)) far lower)
           where
             swap : (b d : Bool) → (b || d) ≡ true → (d || b) ≡ true
             swap true true k = refl
             swap true false k = refl
             swap false true k = refl
             swap false false k = k
-        by false e false f = stays_same w v x y (link_same w v x y (same_waits x y e f) (same_waits y x f e) (keeps_elsewhere x y f) (back_elsewhere x y e))
+        by false e false f = Same (link_same w v x y (same_waits x y e f) (same_waits y x f e) (keeps_elsewhere x y f) (back_elsewhere x y e))
 
   module _ (n : ℕ) (msg : Msg) (e : EndState) (at : end_of w.ends (s.router, c) ≡ Some e) (ends_are : v.ends ≡ with_end w.ends (s.router, c) (sent e msg n)) (does : SaysDeeds c s s' n msg) where
     wire_then : (q : End) → wire_at v.ends q ≡ cond (is_end (s.router, c) q) (e.wire ++ record { msg = msg; tag = n } ∷ []) (wire_at w.ends q)
@@ -243,7 +243,7 @@ module _ (w : WorldState) (sound : IsSound w) (orderly : Orderly w) (holds : Cli
     no_queue : queue_at w.ends (c, s.router) ≡ []
     no_queue = ap queue_of (not_there (end_of w.ends (c, s.router)) (no_own_end w sound orderly c s.router s found))
 
-    says_waits : waits v c s.router ≡ waits w c s.router ++ record { msg = msg; tag = n } ∷ []
+    pub says_waits : waits v c s.router ≡ waits w c s.router ++ record { msg = msg; tag = n } ∷ []
     says_waits =
         (λ i. wire_then (s.router, c) i ++ (queue_then (c, s.router) ∙ no_queue) i)
         ∙ append-nil (cond (is_end (s.router, c) (s.router, c)) (e.wire ++ record { msg = msg; tag = n } ∷ []) (wire_at w.ends (s.router, c)))
@@ -257,27 +257,37 @@ module _ (w : WorldState) (sound : IsSound w) (orderly : Orderly w) (holds : Cli
         wire = wire_then (y, x) ∙ ap (λ b. cond b (e.wire ++ record { msg = msg; tag = n } ∷ []) (wire_at w.ends (y, x)))
             (end_parts (s.router, c) (y, x) ∙ and_right (is_named s.router y) (is_named c x) other)
 
-    pub said_links : LinksGo w v
-    said_links = client_goes (λ q. ap (λ z. is_unbroken z q) ends_are ∙ keep_with_end w.ends (s.router, c) (sent e msg n) unbroken_at q e at refl) (λ x y a b. waits_apart x y a)
-        (led (link_of w c s.router) _ (link_of v c s.router)
-        (own_upper (link_of w c s.router) (link_of w c s.router) (client_half c s) does.own back_before does.owns does.may Stays)
-        (link_is (record { asks = asks_among (waits w c s.router) ++ flat_map asked_by_deed does.own; answers = answers_among (waits w s.router c); keeps = λ m. is_kept_by w c s.router m; back = leaves.back })
-        (link_of v c s.router)
-        (sym (ap asks_among says_waits ∙ asks_append (waits w c s.router) (record { msg = msg; tag = n } ∷ [])
-        ∙ ap (λ z. asks_among (waits w c s.router) ++ z) (append-nil (asks_in n msg) ∙ does.asks)))
-        (ap answers_among (sym (waits_apart s.router c home_apart)))
-        (λ m. sym (keeps_elsewhere c s.router home_apart m)) (λ m. sym (back_then m ∙ does.leaves.back m))))
-        (led (link_of w s.router c) _ (link_of v s.router c)
-        (own_lower (link_of w s.router c) (link_of w s.router c) (client_half c s) does.own keeps_before does.owns does.may Stays)
-        (link_is (record { asks = asks_among (waits w s.router c); answers = answers_among (waits w c s.router) ++ flat_map answered_by_deed does.own; keeps = leaves.keeps; back = λ m. back_at w s.router c m })
-        (link_of v s.router c)
-        (ap asks_among (sym (waits_apart s.router c home_apart)))
-        (sym (ap answers_among says_waits ∙ answers_append (waits w c s.router) (record { msg = msg; tag = n } ∷ [])
-        ∙ ap (λ z. answers_among (waits w c s.router) ++ z) (append-nil (answers_in n msg) ∙ does.answers)))
-        (λ m. sym (keeps_then m ∙ does.leaves.keeps m)) (λ m. sym (back_elsewhere s.router c home_apart m))))
-      where
-        leaves : Half
-        leaves = with_deeds (client_half c s) does.own
+    pub said_links : (above below : List ℕ → List ℕ → Deed → Type 0) → AllByRecursion (above c s.router) does.own → AllByRecursion (below s.router c) does.own → LinksGo above below w v
+    said_links above below up low =
+        client_goes (λ q. ap (λ z. is_unbroken z q) ends_are ∙ keep_with_end w.ends (s.router, c) (sent e msg n) unbroken_at q e at refl) (λ x y a b. waits_apart x y a) above below
+        (Upper (record {
+          came = None;
+          half = client_half c s;
+          own = does.own;
+          owns = does.owns;
+          fits = up;
+          may = does.may;
+          asks = ap asks_among says_waits ∙ asks_append (waits w c s.router) (record { msg = msg; tag = n } ∷ [])
+              ∙ ap (λ z. asks_among (waits w c s.router) ++ z) (append-nil (asks_in n msg) ∙ does.asks);
+          answers = ap answers_among (sym (waits_apart s.router c home_apart));
+          keeps = λ m. keeps_elsewhere c s.router home_apart m;
+          before = back_before;
+          leaves = λ m. back_then m ∙ does.leaves.back m;
+        }))
+        (Lower (record {
+          came = None;
+          half = client_half c s;
+          own = does.own;
+          owns = does.owns;
+          fits = low;
+          may = does.may;
+          asks = ap asks_among (sym (waits_apart s.router c home_apart));
+          answers = ap answers_among says_waits ∙ answers_append (waits w c s.router) (record { msg = msg; tag = n } ∷ [])
+              ∙ ap (λ z. answers_among (waits w c s.router) ++ z) (append-nil (answers_in n msg) ∙ does.answers);
+          back = λ m. back_elsewhere s.router c home_apart m;
+          before = keeps_before;
+          leaves = λ m. keeps_then m ∙ does.leaves.keeps m;
+        }))
 
   -- ---- the client is sent something
 
@@ -312,22 +322,36 @@ module _ (w : WorldState) (sound : IsSound w) (orderly : Orderly w) (holds : Cli
         ∙ sym (ap (λ z. record { msg = msg; tag = tag } ∷ z) (λ i. (wire_still (c, s.router) ∙ no_wire) i
         ++ (queue_less (s.router, c) ∙ ap (λ b. cond b xs (queue_at w.ends (s.router, c))) (ends.refl (s.router, c))) i))
 
-    waits_other : (x y : List ℕ) → is_named c y ≡ false → waits v x y ≡ waits w x y
+    pub waits_other : (x y : List ℕ) → is_named c y ≡ false → waits v x y ≡ waits w x y
     waits_other x y other = (λ i. wire_still (y, x) i ++ (queue_less (x, y)
         ∙ ap (λ b. cond b xs (queue_at w.ends (x, y))) (end_parts (s.router, c) (x, y) ∙ and_right (is_named s.router x) (is_named c y) other)) i)
 
-    pub taken_links : LinksGo w v
-    taken_links = client_goes (λ q. reads unbroken_at q ∙ keep_with_end w.ends (s.router, c) (with_queue e xs) unbroken_at q e at refl) (λ x y a b. waits_other x y b)
-        (led (link_of w c s.router) _ (link_of v c s.router)
-        (front_upper (link_of w c s.router) (link_of w c s.router) tag (client_half c s) Stays msg (answers_among (waits v s.router c)) (ap answers_among taken_first) back_before)
-        (link_is (record { asks = asks_among (waits w c s.router); answers = answers_among (waits v s.router c); keeps = λ m. is_kept_by w c s.router m; back = leaves_.back }) (link_of v c s.router)
-        (ap asks_among (sym (waits_other c s.router home_apart))) refl
-        (λ m. sym (keeps_elsewhere c s.router home_apart m)) (λ m. sym (back_then m ∙ leaves.back m))))
-        (led (link_of w s.router c) _ (link_of v s.router c)
-        (front_lower (link_of w s.router c) (link_of w s.router c) tag (client_half c s) Stays msg (asks_among (waits v s.router c)) (ap asks_among taken_first) keeps_before)
-        (link_is (record { asks = asks_among (waits v s.router c); answers = answers_among (waits w c s.router); keeps = leaves_.keeps; back = λ m. back_at w s.router c m }) (link_of v s.router c)
-        refl (ap answers_among (sym (waits_other c s.router home_apart)))
-        (λ m. sym (keeps_then m ∙ leaves.keeps m)) (λ m. sym (back_elsewhere s.router c home_apart m))))
-      where
-        leaves_ : Half
-        leaves_ = with_deeds (client_half c s) (handles_msg msg)
+    pub taken_links : (above below : List ℕ → List ℕ → Deed → Type 0) → LinksGo above below w v
+    taken_links above below =
+        client_goes (λ q. reads unbroken_at q ∙ keep_with_end w.ends (s.router, c) (with_queue e xs) unbroken_at q e at refl) (λ x y a b. waits_other x y b) above below
+        (Upper (record {
+          came = Some (record { msg = msg; tag = tag });
+          half = client_half c s;
+          own = [];
+          owns = refl;
+          fits = tt;
+          may = may_handle (client_half c s) msg;
+          asks = ap asks_among (waits_other c s.router home_apart) ∙ sym (append-nil (asks_among (waits w c s.router)));
+          answers = ap answers_among taken_first;
+          keeps = λ m. keeps_elsewhere c s.router home_apart m;
+          before = back_before;
+          leaves = λ m. back_then m ∙ leaves.back m ∙ ap (λ ds. (with_deeds (client_half c s) ds).back m) (sym (append-nil (handles_msg msg)));
+        }))
+        (Lower (record {
+          came = Some (record { msg = msg; tag = tag });
+          half = client_half c s;
+          own = [];
+          owns = refl;
+          fits = tt;
+          may = may_handle (client_half c s) msg;
+          asks = ap asks_among taken_first;
+          answers = ap answers_among (waits_other c s.router home_apart) ∙ sym (append-nil (answers_among (waits w c s.router)));
+          back = λ m. back_elsewhere s.router c home_apart m;
+          before = keeps_before;
+          leaves = λ m. keeps_then m ∙ leaves.keeps m ∙ ap (λ ds. (with_deeds (client_half c s) ds).keeps m) (sym (append-nil (handles_msg msg)));
+        }))

@@ -29,11 +29,12 @@ use Rattle.zr_settled.proofs.Orderly.{Orderly}
 use Rattle.zr_settled.proofs.Moving.{unbroken_at}
 use Rattle.zr_asking.specs.Link.{fresh}
 use Rattle.zr_numbers.specs.Waiting.{wire_at, queue_at, waits, is_kept_by, back_at, link_of, is_whole}
-use Rattle.zr_numbers.specs.Deeds.{handles_msg, EventIsDone}
-use Rattle.zr_numbers.proofs.Leading.{Leads, led, handled}
+use Rattle.zr_numbers.specs.Deeds.{Deed, handles_msg, EventIsDone}
+use Rattle.zr_numbers.proofs.Leading.{handled}
+use Rattle.zr_numbers.proofs.Doing.{Moves, moved}
 use Rattle.zr_numbers.proofs.Waits.{wire_of, queue_of, router_holds, client_holds, router_awaits, client_awaits, link_same}
 use Rattle.zr_numbers.proofs.Neighbours.{handles_by, stays_from, stays_up, stays_down, does_at, handles_from}
-use Rattle.zr_numbers.proofs.HeardLinks.{front, Fronts, heard_leads}
+use Rattle.zr_numbers.proofs.HeardLinks.{front, Fits, Fronts, heard_moves}
 use Rattle.zr_numbers.proofs.Whole.{LinksGo, whole_apart, whole_turned, whole_same, whole_more, router_alone, unlinked_keeps_nothing, nobody_keeps_nothing, idle_link}
 
 -- an end to which there is a link then is there
@@ -93,11 +94,11 @@ module _ (w : WorldState) (sound : IsSound w) (orderly : Orderly w) (a : List �
             ∙ sym (ap (λ b. front (cond b came None) ++ wire_at wire_taken (a, y)) e ∙ ap (λ z. record { msg = msg; tag = tag } ∷ z) (wire_then y ∙ ap (λ b. cond b xs (wire_at w.ends (a, y))) e))
         own y false e = sym (ap (λ b. front (cond b came None) ++ wire_at wire_taken (a, y)) e ∙ wire_then y ∙ ap (λ b. cond b xs (wire_at w.ends (a, y))) e)
 
-    pub handle_links : IsSound w_from → LinksGo w w_from
-    handle_links sound' x y whole =
+    pub handle_links : (above below : List ℕ → List ℕ → Deed → Type 0) → Fits above below a r.node (From k.link msg) tag → IsSound w_from → LinksGo above below w w_from
+    handle_links above below fits sound' x y whole =
         let was : is_whole w x y ≡ true = whole_same w w_from unbroken x y whole in (
           inl was,
-          heard_leads w wire_taken a r found none (From k.link msg) tag (handle_fronts sound')
+          heard_moves w wire_taken a r found none (From k.link msg) tag (handle_fronts sound') above below fits
               (λ z to. does_at r.node (From k.link msg) done tag unique (sound'.unique a (hearing r (From k.link msg)) (router_heard (with_ends w wire_taken) a r found (From k.link msg) tag)) z to)
               x y (whole_apart w sound x y was) (λ e. stays_from r.node k.link msg y) (λ e. stays_from r.node k.link msg x),
         )
@@ -112,9 +113,9 @@ module _ (w : WorldState) (sound : IsSound w) (orderly : Orderly w) (a : List �
     abbrev w_lifted : WorldState
     w_lifted = heard (with_ends w es) a r (Up link peer) tag
 
-    pub up_leads : ((y : List ℕ) → is_some (link_to (after r.node (Up link peer)).links y) ≡ is_up w_lifted.ends (a, y)) → AreUnique (after r.node (Up link peer)).links → (x y : List ℕ) →
-        is_named x y ≡ false → Leads (link_of w x y) (link_of w_lifted x y)
-    up_leads ups unique' x y apart = heard_leads w es a r found none (Up link peer) tag fronts (λ z to. does_at r.node (Up link peer) done tag unique unique' z to) x y apart
+    pub up_moves : (above below : List ℕ → List ℕ → Deed → Type 0) → Fits above below a r.node (Up link peer) tag → ((y : List ℕ) → is_some (link_to (after r.node (Up link peer)).links y) ≡ is_up w_lifted.ends (a, y)) → AreUnique (after r.node (Up link peer)).links → (x y : List ℕ) →
+        is_named x y ≡ false → Moves (above x y) (below x y) (link_of w x y) (link_of w_lifted x y)
+    up_moves above below fits ups unique' x y apart = heard_moves w es a r found none (Up link peer) tag fronts above below fits (λ z to. does_at r.node (Up link peer) done tag unique unique' z to) x y apart
         (λ e. stays_up r.node unique link peer y may.number may.name) (λ e. stays_up r.node unique link peer x may.number may.name)
       where
         fronts : Fronts w es a r (Up link peer)
@@ -134,12 +135,12 @@ module _ (w : WorldState) (sound : IsSound w) (orderly : Orderly w) (a : List �
     abbrev w_then : WorldState
     w_then = w_up w n a name r s
 
-    pub up_links : IsSound w_then → LinksGo w w_then
-    up_links sound' x y whole =
+    pub up_links : (above below : List ℕ → List ℕ → Deed → Type 0) → Fits above below a r.node (up_event r (peer_of w name)) n → IsSound w_then → LinksGo above below w w_then
+    up_links above below fits sound' x y whole =
         let was : is_whole w x y ≡ true = whole_same w w_then unbroken x y whole in (
           inl was,
-          up_leads (record { 0 = free_link r.node.links }) (peer_of w name) may done n es_up
-              (λ e. keep_with_end w.ends (a, name) (lifted s) queue_of e s at refl) (λ e. keep_with_end w.ends (a, name) (lifted s) wire_of e s at refl)
+          up_moves (record { 0 = free_link r.node.links }) (peer_of w name) may done n es_up
+              (λ e. keep_with_end w.ends (a, name) (lifted s) queue_of e s at refl) (λ e. keep_with_end w.ends (a, name) (lifted s) wire_of e s at refl) above below fits
               (λ y. sound'.links a y (hearing r (up_event r (peer_of w name))) router) (sound'.unique a (hearing r (up_event r (peer_of w name))) router) x y (whole_apart w sound x y was),
         )
       where
@@ -207,8 +208,8 @@ module _ (w : WorldState) (sound : IsSound w) (orderly : Orderly w) (a : List �
           idle_link w id a (λ i. wire_of (at_id i) ++ queue_of (at_home i)) (λ i. wire_of (at_home i) ++ queue_of (at_id i)) nobody unlinked,
         )
 
-    pub client_links : IsSound w_came → LinksGo w w_came
-    client_links sound' x y whole = (by (whole_more w w_came (λ q. is_end (a, id) q) unbroken x y whole), leads)
+    pub client_links : (above below : List ℕ → List ℕ → Deed → Type 0) → Fits above below a r.node event_came n → IsSound w_came → LinksGo above below w w_came
+    client_links above below fits sound' x y whole = (by (whole_more w w_came (λ q. is_end (a, id) q) unbroken x y whole), moves)
       where
         unbroken : (q : End) → is_unbroken w_came.ends q ≡ cond (is_end (a, id) q) true (is_unbroken w.ends q)
         unbroken q = unbroken_heard (with_ends w es_came) a r found event_came n q ∙ read_put_end w.ends (a, id) (lifted new_end) unbroken_at q
@@ -219,10 +220,10 @@ module _ (w : WorldState) (sound : IsSound w) (orderly : Orderly w) (a : List �
         apart : is_named x y ≡ false
         apart = whole_apart w_came sound' x y whole
 
-        leads : Leads (link_of w x y) (link_of w_came x y)
-        leads = led (link_of w x y) (link_of w_met x y) (link_of w_came x y)
-            (up_leads (record { 0 = free_link r.node.links }) (record { id = id; role = role.Client }) may done n es_came
-            (λ e. keep_put_end w.ends (a, id) (lifted new_end) queue_of e (sym (ap queue_of at_id))) (λ e. keep_put_end w.ends (a, id) (lifted new_end) wire_of e (sym (ap wire_of at_id)))
+        moves : Moves (above x y) (below x y) (link_of w x y) (link_of w_came x y)
+        moves = moved (above x y) (below x y) (link_of w x y) (link_of w_met x y) (link_of w_came x y)
+            (up_moves (record { 0 = free_link r.node.links }) (record { id = id; role = role.Client }) may done n es_came
+            (λ e. keep_put_end w.ends (a, id) (lifted new_end) queue_of e (sym (ap queue_of at_id))) (λ e. keep_put_end w.ends (a, id) (lifted new_end) wire_of e (sym (ap wire_of at_id))) above below fits
             (λ z. sound'.links a z (hearing r event_came) router) (sound'.unique a (hearing r event_came) router) x y apart)
             (link_same w_met w_came x y refl refl (new_keeps x y) (new_back x y))
 
@@ -256,11 +257,11 @@ module _ (w : WorldState) (sound : IsSound w) (orderly : Orderly w) (a : List �
         here : is_unbroken w.ends (a, name) ≡ false
         here = ap unbroken_at at ∙ cut
 
-    pub down_links : IsSound w_less → LinksGo w w_less
-    down_links sound' x y whole = (
+    pub down_links : (above below : List ℕ → List ℕ → Deed → Type 0) → Fits above below a r.node (Down k.link) n → IsSound w_less → LinksGo above below w w_less
+    down_links above below fits sound' x y whole = (
       inl was,
-      led (link_of w x y) (link_of w_heard x y) (link_of w_less x y)
-          (heard_leads w w.ends a r found none (Down k.link) n fronts (λ z to. does_at r.node (Down k.link) done n unique unique' z to) x y (whole_apart w sound x y was)
+      moved (above x y) (below x y) (link_of w x y) (link_of w_heard x y) (link_of w_less x y)
+          (heard_moves w w.ends a r found none (Down k.link) n fronts above below fits (λ z to. does_at r.node (Down k.link) done n unique unique' z to) x y (whole_apart w sound x y was)
           (λ e. stays_down r.node unique name k y linked (other y (λ f. upper e f)))
           (λ e. stays_down r.node unique name k x linked (other x (λ f. lower e f))))
           (link_same w_heard w_less x y (waits_are x y upper_end) (waits_are y x lower_end) (λ m. refl) (λ m. refl)),

@@ -19,21 +19,17 @@ use Rattle.zr_settled.proofs.Orderly.{Orderly, has_wire, has_queue, turned_end}
 use Rattle.zr_settled.proofs.Moving.{unbroken_at}
 use Rattle.zr_asking.specs.Link.{fresh}
 use Rattle.zr_numbers.specs.Waiting.{wire_at, queue_at, waits, is_kept_by, back_at, link_of, is_whole}
-use Rattle.zr_numbers.proofs.Leading.{Leads, Stays, led}
 use Rattle.zr_numbers.proofs.Waits.{wire_of, queue_of, router_holds, client_holds, router_awaits, client_awaits, link_same}
-use Rattle.zr_numbers.proofs.Whole.{LinksGo, whole_same, whole_more, router_alone, unlinked_keeps_nothing, idle_link}
+use Rattle.zr_numbers.proofs.Whole.{LinksStay, whole_same, whole_more, router_alone, unlinked_keeps_nothing, idle_link}
 
 -- ---- where a link is as before
 
-pub stays_same : (w v : WorldState) (x y : List ℕ) → link_of w x y ≡ link_of v x y → Leads (link_of w x y) (link_of v x y)
-stays_same w v x y e = led (link_of w x y) (link_of w x y) (link_of v x y) Stays e
-
 -- where nothing has changed that a link is read from
 pub all_same : (w v : WorldState) → ((q : End) → is_unbroken v.ends q ≡ is_unbroken w.ends q) → ((q : End) → wire_at v.ends q ≡ wire_at w.ends q) → ((q : End) → queue_at v.ends q ≡ queue_at w.ends q) →
-    ((x y : List ℕ) (n : ℕ) → is_kept_by v x y n ≡ is_kept_by w x y n) → ((x y : List ℕ) (n : ℕ) → back_at v x y n ≡ back_at w x y n) → LinksGo w v
+    ((x y : List ℕ) (n : ℕ) → is_kept_by v x y n ≡ is_kept_by w x y n) → ((x y : List ℕ) (n : ℕ) → back_at v x y n ≡ back_at w x y n) → LinksStay w v
 all_same w v unbroken wires queues keeps back x y whole = (
   inl (whole_same w v unbroken x y whole),
-  stays_same w v x y (link_same w v x y (λ i. wires (y, x) i ++ queues (x, y) i) (λ i. wires (x, y) i ++ queues (y, x) i) (keeps x y) (back x y)),
+  link_same w v x y (λ i. wires (y, x) i ++ queues (x, y) i) (λ i. wires (x, y) i ++ queues (y, x) i) (keeps x y) (back x y),
 )
 
 -- an emptied list
@@ -64,7 +60,7 @@ module _ (w : WorldState) (id : List ℕ) (free : is_taken w id ≡ false) where
   no_router : router_of w.routers id ≡ None
   no_router = not_there (router_of w.routers id) (free_name w id free).0
 
-  pub router_links : LinksGo w w_router
+  pub router_links : LinksStay w w_router
   router_links = all_same w w_router (λ q. refl) (λ q. refl) (λ q. refl)
       (λ x y n. ap (λ z. z || client_holds x n (client_of w.clients y)) (ap (router_holds x n) (value_new w.routers id y (new_router id) no_router) ∙ holds x y n (is_named y id) refl))
       (λ x y n. ap (λ z. option_or z (client_awaits x y n (client_of w.clients x))) (ap (router_awaits y n) (value_new w.routers id x (new_router id) no_router) ∙ awaits x y n (is_named x id) refl))
@@ -126,10 +122,10 @@ module _ (w : WorldState) (sound : IsSound w) (orderly : Orderly w) (one other :
       here : waits w other one ≡ []
       here = (λ i. no_wire w.ends (one, other) (orderly.broken_links (one, other) cut.0) i ++ no_queue w.ends (other, one) (orderly.down_ends (other, one) cut.2) i)
 
-  pub link_links : LinksGo w w_new
+  pub link_links : LinksStay w w_new
   link_links x y whole = (
     by (whole_more w w_new (λ e. is_end (other, one) e || is_end (one, other) e) unbroken x y whole),
-    stays_same w w_new x y (link_same w w_new x y (λ i. same_wire (y, x) i ++ same_queue (x, y) i) (λ i. same_wire (x, y) i ++ same_queue (y, x) i) (λ n. refl) (λ n. refl)),
+    link_same w w_new x y (λ i. same_wire (y, x) i ++ same_queue (x, y) i) (λ i. same_wire (x, y) i ++ same_queue (y, x) i) (λ n. refl) (λ n. refl),
   )
     where
       unbroken : (e : End) → is_unbroken w_new.ends e ≡ cond (is_end (other, one) e || is_end (one, other) e) true (is_unbroken w.ends e)
@@ -184,12 +180,12 @@ module _ (w : WorldState) (router name : List ℕ) where
       read_changed once (name, router) broken f e ∙ ap (λ b. cond b (f (option_map broken (end_of once e))) (f (end_of once e))) j
       ∙ read_changed w.ends (router, name) broken f e ∙ ap (λ b. cond b (f (option_map broken (end_of w.ends e))) (f (end_of w.ends e))) k
 
-  pub break_links : LinksGo w w_broken
+  pub break_links : LinksStay w w_broken
   break_links x y whole = (
     inl ((λ i. sym (reads_so unbroken_at (x, y) apart.0 apart.1) i || sym (reads_so unbroken_at (y, x) turned_.0 turned_.1) i) ∙ whole),
-    stays_same w w_broken x y (link_same w w_broken x y
+    link_same w w_broken x y
         (λ i. reads_so wire_of (y, x) turned_.0 turned_.1 i ++ reads_so queue_of (x, y) apart.0 apart.1 i)
-        (λ i. reads_so wire_of (x, y) apart.0 apart.1 i ++ reads_so queue_of (y, x) turned_.0 turned_.1 i) (λ n. refl) (λ n. refl)),
+        (λ i. reads_so wire_of (x, y) apart.0 apart.1 i ++ reads_so queue_of (y, x) turned_.0 turned_.1 i) (λ n. refl) (λ n. refl),
   )
     where
       swap : (e : End) → (is_end (router, name) (turned e) ≡ false) × (is_end (name, router) (turned e) ≡ false) → (is_end (router, name) e ≡ false) × (is_end (name, router) e ≡ false)

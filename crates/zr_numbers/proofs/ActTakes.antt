@@ -11,8 +11,7 @@ use Rattle.zr_settled.proofs.Orderly.{turned_end}
 use Rattle.zr_settled.proofs.Moving.{unbroken_at}
 use Rattle.zr_numbers.specs.Waiting.{wire_at, queue_at, waits}
 use Rattle.zr_numbers.proofs.Waits.{wire_of, queue_of, keeps_same, back_same, link_same}
-use Rattle.zr_numbers.proofs.Whole.{LinksGo, whole_same}
-use Rattle.zr_numbers.proofs.ActLinks.{stays_same}
+use Rattle.zr_numbers.proofs.Whole.{LinksStay, whole_same}
 
 module _ (w : WorldState) (a to : List ℕ) (none : client_of w.clients to ≡ None) (its : is_some (end_of w.ends (to, a)) ≡ true) (msg : Msg) (tag : ℕ) (xs : List Tagged) (e : EndState)
     (at : end_of w.ends (a, to) ≡ Some e) (first : e.queue ≡ record { msg = msg; tag = tag } ∷ xs) where
@@ -52,10 +51,10 @@ module _ (w : WorldState) (a to : List ℕ) (none : client_of w.clients to ≡ N
           append_assoc (wire_at w.ends (to, a)) (record { msg = msg; tag = tag } ∷ []) xs ∙ ap (λ z. wire_at w.ends (to, a) ++ z) (sym (ap queue_of at ∙ first))
           ∙ ap (λ (q : End). wire_at w.ends (turned q) ++ queue_at w.ends q) (same_end (a, to) (x, y) k)
 
-  pub take_links : LinksGo w v
+  pub take_links : LinksStay w v
   take_links x y whole = (
     inl (whole_same w v unbroken x y whole),
-    stays_same w v x y (link_same w v x y (still_waits x y) (still_waits y x) (keeps_same w v x y refl (same_client y)) (back_same w v x y refl (same_client x))),
+    link_same w v x y (still_waits x y) (still_waits y x) (keeps_same w v x y refl (same_client y)) (back_same w v x y refl (same_client x)),
   )
     where
       unbroken : (q : End) → is_unbroken v.ends q ≡ is_unbroken w.ends q

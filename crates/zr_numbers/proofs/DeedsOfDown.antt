@@ -1,6 +1,6 @@
 -- A link goes down: on each other link the numbers leave whose askers were on it, and the requests end whose last branches were on it.
-use Rattle.std.proofs.Common.{◌≡◌, ℕ, ◌==◌, ◌&&◌, ◌||◌, Bool, true, false, cond, List, [], ◌∷◌, ◌++◌, map, filter, Option, Some, None, refl, sym, ap, subst, ◌∙◌}
-use Rattle.std.specs.List.{flat_map}
+use Rattle.std.proofs.Common.{◌≡◌, ℕ, ◌==◌, ◌&&◌, ◌||◌, Bool, true, false, cond, List, [], ◌∷◌, ◌++◌, map, filter, append-nil, Option, Some, None, refl, sym, ap, subst, ◌∙◌}
+use Rattle.std.specs.List.{AllByRecursion, flat_map}
 use Rattle.std.specs.Option.{option_map, option_map_or, option_and_then}
 use Rattle.std.proofs.lemmas.Bool.{eqb-true, eq-eqb, false_from_ne_true, false≢true}
 use Rattle.std.proofs.lemmas.Grind.{flat_map-append}
@@ -20,17 +20,18 @@ use Rattle.zr_pend.proofs.Sound.{all_orphaned_sound}
 use Rattle.zr_pend.proofs.ReadingsOfDrop.{dropped_back}
 use Rattle.zr_routing.specs.Tables.{link_at}
 use Rattle.zr_routing.specs.Queries.{final_for}
+use Rattle.zr_table.proofs.Inserted.{All-append}
 use Rattle.zr_table.specs.State.{NodeState}
 use Rattle.zr_table.specs.Table.{after, without_link}
 use Rattle.zr_asking.specs.Link.{put}
 use Rattle.zr_numbers.specs.Waiting.{Place, asks_in, answers_in}
-use Rattle.zr_numbers.specs.Deeds.{Half, Deed, Leaves, with_deed, asked_by_deed, answered_by_deed, place_in, half_of, IsDone}
+use Rattle.zr_numbers.specs.Deeds.{Half, Deed, Leaves, with_deed, asked_by_deed, answered_by_deed, place_in, half_of, IsMeant, IsDone}
 use Rattle.zr_numbers.proofs.RowsKept.{is_who}
 use Rattle.zr_numbers.proofs.RowsBegun.{not_back}
 use Rattle.zr_numbers.proofs.LinksAfter.{at_without_link}
 use Rattle.zr_numbers.proofs.DeedLists.{Leads, leads-append, ends_for, all_ends_lead, half_by, asks_on, same_half}
 use Rattle.zr_numbers.proofs.SentOfQueries.{down_tells}
-use Rattle.zr_numbers.proofs.DeedsDone.{back_in, asks_are, answers_are, done_alone, final_is_deed}
+use Rattle.zr_numbers.proofs.DeedsDone.{back_in, asks_are, answers_are, done_alone, final_is_deed, end_meant}
 
 -- ---- numbers leave
 
@@ -165,6 +166,16 @@ module _ (node : NodeState) (link : LinkNo) (tag : ℕ) (l : LinkPeer) (sound : 
       (record { keeps = λ n. sym (asked_elsewhere link (asks_on l.link n) node.pending other); back = λ n. sym (now_is n) }))
       (leaves_lead (half_of node l) (leavers link node.pending l.link) leaver)
 
+  leaves_meant : (ns : List ℕ) → AllByRecursion (λ d. IsMeant node (Down link) tag l d) (map (λ n. Leaves n) ns)
+  leaves_meant [] = tt
+  leaves_meant (n ∷ ns) = (tt, leaves_meant ns)
+
+  finals_meant : (askers : List Asker) → AllByRecursion (λ d. IsMeant node (Down link) tag l d) (flat_map (λ a. ends_for l.link a) askers)
+  finals_meant [] = tt
+  finals_meant (a ∷ askers) =
+      subst (λ ds. AllByRecursion (λ d. IsMeant node (Down link) tag l d) ds) (sym (flat_map-append (λ z. ends_for l.link z) (a ∷ []) askers ∙ ap (λ z. z ++ flat_map (λ z. ends_for l.link z) askers) (append-nil (ends_for l.link a))))
+      (All-append (λ d. IsMeant node (Down link) tag l d) (ends_for l.link a) (flat_map (λ z. ends_for l.link z) askers) (end_meant node (Down link) tag l l.link a) (finals_meant askers))
+
   pub down_done : IsDone node (Down link) tag l
   down_done =
       let ns : List Deed = map (λ n. Leaves n) (leavers link node.pending l.link) in
@@ -176,3 +187,4 @@ module _ (node : NodeState) (link : LinkNo) (tag : ℕ) (l : LinkPeer) (sound : 
       ∙ sym (flat_map-append asked_by_deed ns es ∙ ap (λ z. z ++ flat_map asked_by_deed es) (nothing_told asked_by_deed (λ n. refl) (leavers link node.pending l.link))))
       (down_tells (λ m. answers_in tag m) (answers_are tag) node link l.link ∙ (ends_sent tag l.link (finals_of_drop link node.pending)).1
       ∙ sym (flat_map-append answered_by_deed ns es ∙ ap (λ z. z ++ flat_map answered_by_deed es) (nothing_told answered_by_deed (λ n. refl) (leavers link node.pending l.link))))
+      (All-append (λ d. IsMeant node (Down link) tag l d) ns es (leaves_meant (leavers link node.pending l.link)) (finals_meant (finals_of_drop link node.pending)))

@@ -1,6 +1,6 @@
 -- A reply is heard, and goes on to who asked; a final closes its number, and ends the row that has no other branch.
 use Rattle.std.proofs.Common.{◌≡◌, ℕ, ◌==◌, ◌&&◌, Bool, true, false, cond, List, [], ◌∷◌, Option, Some, None, refl, sym, ap, subst, ◌∙◌}
-use Rattle.std.specs.List.{flat_map}
+use Rattle.std.specs.List.{AllByRecursion, flat_map}
 use Rattle.std.specs.Option.{option_map, option_map_or, option_and_then}
 use Rattle.std.proofs.lemmas.Bool.{eqb-true}
 use Rattle.zr_id.specs.declared.link.LinkNo.{LinkNo}
@@ -19,10 +19,10 @@ use Rattle.zr_routing.specs.Queries.{link_no, reply_to, final_for}
 use Rattle.zr_table.specs.State.{NodeState}
 use Rattle.zr_table.specs.Table.{after}
 use Rattle.zr_numbers.specs.Waiting.{Place, asks_in, answers_in}
-use Rattle.zr_numbers.specs.Deeds.{Half, Deed, Hears, Closes, Replies, with_deeds, asked_by_deed, answered_by_deed, place_in, half_of, IsDone}
+use Rattle.zr_numbers.specs.Deeds.{Half, Deed, Hears, Closes, Replies, with_deeds, asked_by_deed, answered_by_deed, place_in, half_of, IsMeant, IsDone}
 use Rattle.zr_numbers.proofs.RowsKept.{found_asked}
 use Rattle.zr_numbers.proofs.DeedLists.{Leads, ends_of, ends_lead, half_by, asks_on, same_half, swapped}
-use Rattle.zr_numbers.proofs.DeedsDone.{back_in, done_from, final_is_deed}
+use Rattle.zr_numbers.proofs.DeedsDone.{back_in, done_from, final_is_deed, ends_meant}
 
 -- ---- a reply
 
@@ -64,10 +64,30 @@ module _ (node : NodeState) (link : LinkNo) (id : ℕ) (content : Parts) (tag : 
       by true = (refl, refl)
       by false = (refl, refl)
 
+  reply_meant : (o : Option Asker) → asker_of (branch (link_no link.0) id) node.pending ≡ o → AllByRecursion (λ d. IsMeant node (From link (Response id content)) tag l d) (replies_of tag content l.link o)
+  reply_meant None e = tt
+  reply_meant (Some a) e = by (l.link.0 == a.link.0) refl
+    where
+      by : (t : Bool) → (l.link.0 == a.link.0) ≡ t →
+          AllByRecursion (λ d. IsMeant node (From link (Response id content)) tag l d) (cond t (Replies a.number (record { line = tag; content = content }) ∷ []) [])
+      by true f =
+          let same : l.link.0 ≡ a.link.0 = eqb-true l.link.0 a.link.0 f in (
+            record {
+              link = link;
+              id = id;
+              content = content;
+              came = refl;
+              reply = refl;
+              asker = e ∙ (λ i. Some (record { link = record { 0 = sym same i }; number = a.number }));
+            },
+            tt,
+          )
+      by false f = tt
+
   pub response_done : IsDone node (From link (Response id content)) tag l
   response_done =
       let o : Option Asker = asker_of (branch (link_no link.0) id) node.pending in
-      done_from node link (Response id content) tag l (Hears id) (replies_of tag content l.link o) refl refl refl (λ h. tt) (reply_leads o refl) (reply_sent o).0 (reply_sent o).1
+      done_from node link (Response id content) tag l (Hears id) (replies_of tag content l.link o) refl refl refl (λ h. tt) (reply_leads o refl) (reply_sent o).0 (reply_sent o).1 (reply_meant o refl)
 
 -- ---- a final
 
@@ -112,3 +132,4 @@ module _ (node : NodeState) (link : LinkNo) (id : ℕ) (extras : Extras) (tag : 
       done_from node link (Final id extras) tag l (Closes id) (ends_of l.link (final_to node.pending b)) refl refl refl (λ h. tt)
       (subst (λ h. Leads h (ends_of l.link (final_to node.pending b)) (half_by (finished node.pending b) l.link pending)) same (ends_lead node.pending b l.link pending sound))
       (final_sent (final_to node.pending b)).0 (final_sent (final_to node.pending b)).1
+      (ends_meant node (From link (Final id extras)) tag l l.link (final_to node.pending b))

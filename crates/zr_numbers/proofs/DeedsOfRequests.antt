@@ -1,6 +1,6 @@
 -- A request is taken, and goes on over each link where it is asked under the least free number there; where it goes nowhere it is ended at once.
 use Rattle.std.proofs.Common.{◌≡◌, ℕ, ◌==◌, ◌&&◌, ◌||◌, Bool, true, false, cond, List, [], ◌∷◌, ◌++◌, map, filter, Option, Some, None, refl, sym, ap, ◌∙◌}
-use Rattle.std.specs.List.{flat_map, list_all}
+use Rattle.std.specs.List.{AllByRecursion, flat_map, list_all}
 use Rattle.std.specs.Option.{option_map, option_map_or, option_and_then}
 use Rattle.std.proofs.lemmas.Bool.{eqb-true, eq-eqb, false≢true, true≢false}
 use Rattle.std.proofs.lemmas.Option.{none-some}
@@ -26,7 +26,7 @@ use Rattle.zr_table.specs.State.{NodeState, tables}
 use Rattle.zr_table.specs.Table.{with_pending, refuses_request}
 use Rattle.zr_table.proofs.Links.{none_behind, ascending_behind}
 use Rattle.zr_numbers.specs.Waiting.{asks_in, answers_in}
-use Rattle.zr_numbers.specs.Deeds.{Deed, Asks, Takes, Ends, with_deeds, MayDoAll, is_own, asked_by_deed, answered_by_deed, place_in, half_of, IsDone}
+use Rattle.zr_numbers.specs.Deeds.{Deed, Asks, Takes, Ends, with_deeds, MayDoAll, is_own, asked_by_deed, answered_by_deed, place_in, half_of, IsMeant, IsDone}
 use Rattle.zr_numbers.proofs.Apart.{none_kept}
 use Rattle.zr_numbers.proofs.RowsBegun.{free_back, is_over, begun_back_on}
 use Rattle.zr_numbers.proofs.DeedLists.{Leads, asks_on, swapped}
@@ -187,6 +187,31 @@ module _ (node : NodeState) (from id : ℕ) (named : Option (List ℕ)) (target 
       may true false = (none, tt)
       may false t = tt
 
+  request_meant : (link : LinkNo) (tree : Option (List ℕ)) → link.0 ≡ from → (to : List LinkNo) → AllByRecursion (λ d. IsMeant node (From link (Request tree id target content)) tag l d) (own_deeds to)
+  request_meant link tree e [] = by (from == l.link.0)
+    where
+      by : (t : Bool) → AllByRecursion (λ d. IsMeant node (From link (Request tree id target content)) tag l d) (ends_for t)
+      by true = (tt, tt)
+      by false = tt
+  request_meant link tree e (k ∷ ks) = by (is_over l.link (k ∷ ks))
+    where
+      by : (t : Bool) → AllByRecursion (λ d. IsMeant node (From link (Request tree id target content)) tag l d) (asks_for t)
+      by true = (
+        record {
+          link = link;
+          tree = tree;
+          id = id;
+          target = target;
+          content = content;
+          came = refl;
+          line = refl;
+          asker = ap (λ n. place_in node (asker n id)) (sym e);
+          free = free_back node.pending l.link;
+        },
+        tt,
+      )
+      by false = tt
+
   request_leads : (to : List LinkNo) → Leads (with_deeds (half_of node l) (cond (from == l.link.0) (Takes id ∷ []) [])) (own_deeds to) (half_of (with_pending node (asked_over node.pending (asker from id) to)) l)
   request_leads [] = nowhere (from == l.link.0) refl
   request_leads (k ∷ ks) = somewhere (k ∷ ks) (from == l.link.0) refl
@@ -206,3 +231,4 @@ request_done node link tree id target content tag l up here r =
     done_from node link (Request tree id target content) tag l (Takes id) own refl refl refl (λ h. tt) (request_leads node link.0 id named target content tag l free to)
     (ap (λ ms. flat_map (λ m. asks_in tag m) (final_at_once link.0 id to l.link.0 ++ ms)) same ∙ told.0)
     (ap (λ ms. flat_map (λ m. answers_in tag m) (final_at_once link.0 id to l.link.0 ++ ms)) same ∙ told.1)
+    (request_meant node link.0 id named target content tag l free link tree refl to)

@@ -55,7 +55,7 @@ quiet_done node link msg tag l e =
     done_alone node (From link msg) tag l [] (ap (λ ds. cond (link.0 == l.link.0) ds []) e ∙ by (link.0 == l.link.0))
     (nothing_leads (half_of node l) (half_of (after_from node link.0 msg) l) (quiet_half node link.0 msg l e))
     (from_silent (λ m. asks_in tag m) (asks_are tag) node link.0 msg l.link.0 e)
-    (from_silent (λ m. answers_in tag m) (answers_are tag) node link.0 msg l.link.0 e)
+    (from_silent (λ m. answers_in tag m) (answers_are tag) node link.0 msg l.link.0 e) tt
   where
     nothing : List Deed
     nothing = []
@@ -110,7 +110,7 @@ module _ (node : NodeState) (link : LinkNo) (peer : Peer) (fresh : IsFresh node 
           back = λ n. places (back node.pending (branch l.link n)) (λ a e. asker_passes (λ m. IsUp node.links m) node.pending (branch l.link n) a h.askers e);
         }))
         (up_silent (λ m. asks_in tag m) (asks_are tag) node link.0 peer peer.role l.link.0)
-        (up_silent (λ m. answers_in tag m) (answers_are tag) node link.0 peer peer.role l.link.0)
+        (up_silent (λ m. answers_in tag m) (answers_are tag) node link.0 peer peer.role l.link.0) tt
 
     pub up_new : link_at node.links l.link.0 ≡ None → IsNew node (Up link peer) tag l
     up_new none = record {

@@ -18,10 +18,11 @@ use Rattle.zr_msg.specs.declared.peer.LinkPeer.{LinkPeer}
 use Rattle.zr_command.specs.declared.command.Act.{Act}
 use Rattle.zr_command.specs.declared.command.Act.TheVariants as c
 use Rattle.zr_routing.specs.Tables.{link_to}
-use Rattle.zr_table.specs.State.{new_node}
+use Rattle.zr_table.specs.State.{NodeState, new_node}
 use Rattle.zr_table.specs.Table.{able_kind, refuses}
 use Rattle.zr_table.specs.Event.{MayCome}
 use Rattle.zr_table.proofs.AreLinks.{no_links}
+use Rattle.zr_table.proofs.Inserted.{All-any}
 use Rattle.zr_network.specs.World.{Tagged, RouterState, ClientState, EndState, WorldState, with_clients, router_of, client_of, end_of, is_taken, is_unbroken, with_router, with_client, with_end, with_queue, sent, changed, new_router, new_client}
 use Rattle.zr_network.specs.Acts.{has_number, without_number, weighing, ids_of, with_ids, declaring, undeclaring, asking, ending, receiving, received, hearing, peer_of, up_event, declare_step, undeclare_step, outcome}
 use Rattle.zr_network.specs.Moments.{Moment, went}
@@ -36,12 +37,14 @@ use Rattle.zr_asking.specs.Link.{Hop, Free, Shows, fresh}
 use Rattle.zr_asking.proofs.Hops.{front_ask, fresh_shows}
 use Rattle.zr_numbers.specs.Rows.{AreOfLinks}
 use Rattle.zr_numbers.specs.Waiting.{Asked, Said, Place, asks_in, answers_in, waits, link_of, is_whole}
-use Rattle.zr_numbers.specs.Deeds.{EventIsDone}
+use Rattle.zr_numbers.specs.Deeds.{Deed, EventIsDone}
 use Rattle.zr_numbers.specs.Numbers.{are_apart}
 use Rattle.zr_numbers.proofs.Leading.{shows_on}
 use Rattle.zr_numbers.proofs.Waits.{asks_among, router_holds, router_awaits}
 use Rattle.zr_numbers.proofs.Done.{events_are_done}
-use Rattle.zr_numbers.proofs.Whole.{LinksGo}
+use Rattle.zr_numbers.proofs.Whole.{LinksGo, links_stay}
+use Rattle.zr_numbers.proofs.Doing.{moves_lead}
+use Rattle.zr_numbers.proofs.HeardLinks.{Fits}
 use Rattle.zr_numbers.proofs.ActHears.{handle_links, up_links, client_links, down_links}
 use Rattle.zr_numbers.proofs.ActLinks.{w_router, router_links, link_links, break_links}
 use Rattle.zr_numbers.proofs.ActTakes.{take_links}
@@ -59,10 +62,17 @@ pub record NumbersGo (w : WorldState) : Type 0 where
   pub nodes : (x : List ℕ) (r : RouterState) → router_of w.routers x ≡ Some r → AreOfLinks r.node
   pub clients : (c : List ℕ) (s : ClientState) → client_of w.clients c ≡ Some s → IsApart s
 
+-- nothing is asked of deeds
+abbrev AnyDeed : List ℕ → List ℕ → Deed → Type 0
+AnyDeed x y d = Unit {0}
+
+any_fits : (a : List ℕ) (node : NodeState) (event : Event) (tag : ℕ) → Fits AnyDeed AnyDeed a node event tag
+any_fits a node event tag y d m = (tt, tt)
+
 -- links that led to what they are show hops
-shown_then : (w v : WorldState) → ((x y : List ℕ) → is_whole w x y ≡ true → (hops : ℕ → Hop Asked Place Said) × Shows (link_of w x y) hops) → LinksGo w v →
+shown_then : (w v : WorldState) → ((x y : List ℕ) → is_whole w x y ≡ true → (hops : ℕ → Hop Asked Place Said) × Shows (link_of w x y) hops) → LinksGo AnyDeed AnyDeed w v →
     (x y : List ℕ) → is_whole v x y ≡ true → (hops : ℕ → Hop Asked Place Said) × Shows (link_of v x y) hops
-shown_then w v shown links x y whole = let was = by (links x y whole).0 in shows_on (link_of w x y) (link_of v x y) (links x y whole).1 was.0 was.1
+shown_then w v shown links x y whole = let was = by (links x y whole).0 in shows_on (link_of w x y) (link_of v x y) (moves_lead (AnyDeed x y) (AnyDeed x y) (link_of w x y) (link_of v x y) (links x y whole).1) was.0 was.1
   where
     by : (is_whole w x y ≡ true) ⊎ (link_of w x y ≡ fresh) → (hops : ℕ → Hop Asked Place Said) × Shows (link_of w x y) hops
     by (inl old) = shown x y old
@@ -123,7 +133,7 @@ received_apart s (m.Step source number added decl) h new = h
 received_apart s (m.Snap source number decls) h new = h
 
 -- ids are none of its numbers
-ids_apart : (s : ClientState) (kind : Kind) (ids : List ℕ) → ((with_ids s kind ids).router ≡ s.router) × ((with_ids s kind ids).queries ≡ s.queries) × ((with_ids s kind ids).requests ≡ s.requests)
+pub ids_apart : (s : ClientState) (kind : Kind) (ids : List ℕ) → ((with_ids s kind ids).router ≡ s.router) × ((with_ids s kind ids).queries ≡ s.queries) × ((with_ids s kind ids).requests ≡ s.requests)
 ids_apart s sort.Sub ids = (refl, refl, refl)
 ids_apart s sort.Able ids = (refl, refl, refl)
 ids_apart s sort.Full ids = (refl, refl, refl)
@@ -162,14 +172,14 @@ module _ (now : Moment) (g : Goes now.world) (h : NumbersGo now.world) where
         (k : LinkPeer) → link_to r.node.links from ≡ Some k → MayCome r.node (From k.link msg) → refuses r.node (From k.link msg) ≡ None → Goes (w_handle w a from r s k.link msg tag xs) →
         NumbersGo (w_handle w a from r s k.link msg tag xs)
     handled_at from s es msg tag xs first k linked may taken g' = record {
-      shown = shown_then w (w_handle w a from r s k.link msg tag xs) h.shown (handle_links w g.sound g.orderly a r er from s es msg tag xs first k linked (done (From k.link msg) may taken) g'.sound);
+      shown = shown_then w (w_handle w a from r s k.link msg tag xs) h.shown (handle_links w g.sound g.orderly a r er from s es msg tag xs first k linked (done (From k.link msg) may taken) AnyDeed AnyDeed (any_fits a r.node (From k.link msg) tag) g'.sound);
       nodes = rows_then (From k.link msg) may taken;
       clients = h.clients;
     }
 
     upped : (n : ℕ) (name : List ℕ) (s : EndState) → end_of w.ends (a, name) ≡ Some s → s.up ≡ false → refuses r.node (up_event r (peer_of w name)) ≡ None → Goes (w_up w n a name r s) → NumbersGo (w_up w n a name r s)
     upped n name s es down taken g' = record {
-      shown = shown_then w (w_up w n a name r s) h.shown (up_links w g.sound g.orderly a r er name s es n may (done (up_event r (peer_of w name)) may taken) g'.sound);
+      shown = shown_then w (w_up w n a name r s) h.shown (up_links w g.sound g.orderly a r er name s es n may (done (up_event r (peer_of w name)) may taken) AnyDeed AnyDeed (any_fits a r.node (up_event r (peer_of w name)) n) g'.sound);
       nodes = rows_then (up_event r (peer_of w name)) may taken;
       clients = h.clients;
     }
@@ -179,7 +189,8 @@ module _ (now : Moment) (g : Goes now.world) (h : NumbersGo now.world) where
 
     client_came : (n : ℕ) (id : List ℕ) → is_taken w id ≡ false → refuses r.node (up_event r (record { id = id; role = role.Client })) ≡ None → Goes (w_client w n id a r) → NumbersGo (w_client w n id a r)
     client_came n id free taken g' = record {
-      shown = shown_then w (w_client w n id a r) h.shown (client_links w g.sound g.orderly a r er id free n may (done (up_event r (record { id = id; role = role.Client })) may taken) g'.sound);
+      shown = shown_then w (w_client w n id a r) h.shown (client_links w g.sound g.orderly a r er id free n may (done (up_event r (record { id = id; role = role.Client })) may taken) AnyDeed AnyDeed
+          (any_fits a r.node (up_event r (record { id = id; role = role.Client })) n) g'.sound);
       nodes = rows_then (up_event r (record { id = id; role = role.Client })) may taken;
       clients = λ q s found. each_then IsApart (is_named q id) (new_client a) (client_of w.clients q) s (new_is_apart a) (h.clients q)
           (sym (value_new w.clients id q (new_client a) (not_there (client_of w.clients id) (free_name w id free).1)) ∙ found);
@@ -191,7 +202,7 @@ module _ (now : Moment) (g : Goes now.world) (h : NumbersGo now.world) where
     downed : (n : ℕ) (name : List ℕ) (s : EndState) → end_of w.ends (a, name) ≡ Some s → s.unbroken ≡ false → (k : LinkPeer) → link_to r.node.links name ≡ Some k → MayCome r.node (Down k.link) →
         refuses r.node (Down k.link) ≡ None → Goes (w_down w n a name r k.link) → NumbersGo (w_down w n a name r k.link)
     downed n name s es cut k linked may taken g' = record {
-      shown = shown_then w (w_down w n a name r k.link) h.shown (down_links w g.sound g.orderly a r er name s es cut n k linked (done (Down k.link) may taken) g'.sound);
+      shown = shown_then w (w_down w n a name r k.link) h.shown (down_links w g.sound g.orderly a r er name s es cut n k linked (done (Down k.link) may taken) AnyDeed AnyDeed (any_fits a r.node (Down k.link) n) g'.sound);
       nodes = rows_then (Down k.link) may taken;
       clients = h.clients;
     }
@@ -205,7 +216,7 @@ module _ (now : Moment) (g : Goes now.world) (h : NumbersGo now.world) where
     -- it may have other queries or requests then
     said : (s' : ClientState) → s'.router ≡ s.router → SaysDeeds name s s' n msg → IsApart s' → NumbersGo (with_clients (w_sent w n name s e msg) (with_client w.clients name s'))
     said s' home deeds is = record {
-      shown = shown_then w v h.shown (said_links w g.sound g.orderly g.clients name s es v s' home (λ q. value_after w.clients name q s' (ap is_some es)) (λ x y k. refl) (λ x y k. refl) n msg e ee refl deeds);
+      shown = shown_then w v h.shown (said_links w g.sound g.orderly g.clients name s es v s' home (λ q. value_after w.clients name q s' (ap is_some es)) (λ x y k. refl) (λ x y k. refl) n msg e ee refl deeds AnyDeed AnyDeed (All-any deeds.own) (All-any deeds.own));
       nodes = h.nodes;
       clients = apart_then s' is;
     }
@@ -217,7 +228,7 @@ module _ (now : Moment) (g : Goes now.world) (h : NumbersGo now.world) where
     said_alone : SaysDeeds name s s n msg → NumbersGo (w_sent w n name s e msg)
     said_alone deeds = record {
       shown = shown_then w (w_sent w n name s e msg) h.shown
-          (said_links w g.sound g.orderly g.clients name s es (w_sent w n name s e msg) s refl (λ q. same q (is_named name q) refl) (λ x y k. refl) (λ x y k. refl) n msg e ee refl deeds);
+          (said_links w g.sound g.orderly g.clients name s es (w_sent w n name s e msg) s refl (λ q. same q (is_named name q) refl) (λ x y k. refl) (λ x y k. refl) n msg e ee refl deeds AnyDeed AnyDeed (All-any deeds.own) (All-any deeds.own));
       nodes = h.nodes;
       clients = h.clients;
     }
@@ -233,7 +244,7 @@ module _ (now : Moment) (g : Goes now.world) (h : NumbersGo now.world) where
       shown = shown_then w v h.shown
           (said_links w g.sound g.orderly g.clients name s es v s' ids.0 (λ q. value_after w.clients name q s' (ap is_some es))
           (λ x y k. read_kept (router_holds x k) w.routers s.router y r (weighing r key) er refl) (λ x y k. read_kept (router_awaits y k) w.routers s.router x r (weighing r key) er refl)
-          n msg e ee refl (quiet_deeds name s s' n msg no_ask no_answer ids.1 ids.2));
+          n msg e ee refl (quiet_deeds name s s' n msg no_ask no_answer ids.1 ids.2) AnyDeed AnyDeed tt tt);
       nodes = λ x q found. each_then (λ (z : RouterState). AreOfLinks z.node) (is_named s.router x) (weighing r key) (router_of w.routers x) q (h.nodes s.router r er) (h.nodes x)
           (sym (value_after w.routers s.router x (weighing r key) (ap is_some er)) ∙ found);
       clients = apart_then s' (same_apart s s' ids.1 ids.2 (h.clients name s es));
@@ -260,7 +271,8 @@ module _ (now : Moment) (g : Goes now.world) (h : NumbersGo now.world) where
     -- by a router
     taken_on : client_of w.clients to ≡ None → is_some (router_of w.routers to) ≡ true → NumbersGo (w_take w a to e msg tag xs)
     taken_on none there = record {
-      shown = shown_then w (w_take w a to e msg tag xs) h.shown (take_links w a to none (g.holds.twins a to (ap is_some ee) there) msg tag xs e ee first);
+      shown = shown_then w (w_take w a to e msg tag xs) h.shown
+          (links_stay AnyDeed AnyDeed w (w_take w a to e msg tag xs) (take_links w a to none (g.holds.twins a to (ap is_some ee) there) msg tag xs e ee first));
       nodes = h.nodes;
       clients = λ q s found. h.clients q s (sym (ap (λ o. client_of (received w.clients to msg o) q) none) ∙ found);
     }
@@ -268,7 +280,7 @@ module _ (now : Moment) (g : Goes now.world) (h : NumbersGo now.world) where
     -- by a client, of its own router
     taken_by : (s : ClientState) → client_of w.clients to ≡ Some s → s.router ≡ a → NumbersGo (w_take w a to e msg tag xs)
     taken_by s es home = record {
-      shown = shown_then w v h.shown (taken_links w g.sound g.orderly g.clients to s es v s' (ids msg) are (λ x y k. refl) (λ x y k. refl) msg tag xs e at first ends_are (receives to s msg));
+      shown = shown_then w v h.shown (taken_links w g.sound g.orderly g.clients to s es v s' (ids msg) are (λ x y k. refl) (λ x y k. refl) msg tag xs e at first ends_are (receives to s msg) AnyDeed AnyDeed);
       nodes = h.nodes;
       clients = λ q t found. each_then IsApart (is_named to q) s' (client_of w.clients q) t is (h.clients q) (sym (are q) ∙ found);
     }
@@ -325,20 +337,20 @@ module _ (now : Moment) (g : Goes now.world) (h : NumbersGo now.world) where
   pub act_numbers : (n : ℕ) (act : Act) → IfSome (went now (outcome now.world n act)) IsKept
   unfolding outcome
   act_numbers n (c.Router id) = for_router now IsKept id (λ free room g'. record {
-    shown = shown_then w (w_router w id free) h.shown (router_links w id free);
+    shown = shown_then w (w_router w id free) h.shown (links_stay AnyDeed AnyDeed w (w_router w id free) (router_links w id free));
     nodes = λ x q found. each_then (λ (z : RouterState). AreOfLinks z.node) (is_named x id) (new_router id) (router_of w.routers x) q (new_rows id) (h.nodes x)
         (sym (value_new w.routers id x (new_router id) (not_there (router_of w.routers id) (free_name w id free).0)) ∙ found);
     clients = h.clients;
   })
   act_numbers n (c.Client id router) = for_client now IsKept n id router (λ r er free room taken. client_came router r er n id free taken)
   act_numbers n (c.Link one other) = for_link now IsKept one other (λ apart r er q eq new room g'. record {
-    shown = shown_then w (w_link w one other) h.shown (link_links w g.sound g.orderly one other r q er eq new);
+    shown = shown_then w (w_link w one other) h.shown (links_stay AnyDeed AnyDeed w (w_link w one other) (link_links w g.sound g.orderly one other r q er eq new));
     nodes = h.nodes;
     clients = h.clients;
   })
   act_numbers n (c.Up router name) = for_up now IsKept n router name (λ r er there s es unbroken down taken. upped router r er n name s es down taken)
   act_numbers n (c.Break router name) = for_break now IsKept router name (λ r er there s es unbroken g'. record {
-    shown = shown_then w (w_break w router name) h.shown (break_links w router name);
+    shown = shown_then w (w_break w router name) h.shown (links_stay AnyDeed AnyDeed w (w_break w router name) (break_links w router name));
     nodes = h.nodes;
     clients = h.clients;
   })

@@ -17,6 +17,7 @@ pub mod Open
 pub mod Counted
 pub mod Taken
 pub mod Leading
+pub mod Doing
 pub mod Waits
 pub mod Neighbours
 pub mod HeardLinks

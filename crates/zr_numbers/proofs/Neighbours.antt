@@ -1,6 +1,6 @@
 -- What an event of a router does on its link to a neighbour, by the neighbour's name: with `EventIsDone`, where the link does not go down.
 use Rattle.std.proofs.Common.{◌≡◌, ℕ, ◌==◌, Bool, true, false, cond, List, [], ◌++◌, Option, Some, None, is_some, refl, sym, ap, ◌∙◌, subst}
-use Rattle.std.specs.List.{flat_map, list_all}
+use Rattle.std.specs.List.{AllByRecursion, flat_map, list_all}
 use Rattle.std.specs.Option.{option_map_or, option_and_then}
 use Rattle.std.proofs.lemmas.Bool.{false≢true, true≢false, eqb-true, eq-eqb, false_from_ne_true}
 use Rattle.std.proofs.lemmas.Grind.{flat_map-append}
@@ -14,12 +14,13 @@ use Rattle.zr_msg.specs.declared.peer.Peer.{Peer}
 use Rattle.zr_msg.specs.declared.peer.LinkPeer.{LinkPeer}
 use Rattle.zr_routing.specs.Tables.{link_at, link_to}
 use Rattle.zr_table.specs.State.{NodeState, new_link}
+use Rattle.zr_table.proofs.Inserted.{All-each}
 use Rattle.zr_table.specs.Table.{with_link, without_link, sends, after}
 use Rattle.zr_network.specs.Sound.{AreUnique}
 use Rattle.zr_network.proofs.Links.{numbered_link, named_link, link_to_with, link_to_apart}
 use Rattle.zr_settled.proofs.Heard.{links_from}
 use Rattle.zr_numbers.specs.Waiting.{asks_in, answers_in}
-use Rattle.zr_numbers.specs.Deeds.{Half, Deed, with_deeds, MayDoAll, asked_by_deed, answered_by_deed, half_of, IsHalf, handles_msg, handles, is_own, IsDone, IsNew, EventIsDone}
+use Rattle.zr_numbers.specs.Deeds.{Half, Deed, with_deeds, MayDoAll, asked_by_deed, answered_by_deed, half_of, IsHalf, handles_msg, handles, is_own, IsMeant, IsDone, IsNew, EventIsDone}
 use Rattle.zr_numbers.proofs.Leading.{handling_is_silent}
 
 -- ---- halves by name
@@ -89,6 +90,10 @@ handled_is_silent (From link msg) l = by (link.0 == l.link.0)
     by true = handling_is_silent msg
     by false = (refl, refl)
 
+-- a deed on the link to a neighbour, as it was before
+abbrev pub IsMeantTo : NodeState → Event → ℕ → Option LinkPeer → Deed → Type 0
+IsMeantTo node event tag before d = (l : LinkPeer) × (before ≡ Some l) × IsMeant node event tag l d
+
 -- the deeds on the link to a neighbour, as it was before and is then
 pub record DoesBy (node : NodeState) (event : Event) (tag : ℕ) (before then : Option LinkPeer) : Type 0 where
   pub own : List Deed
@@ -97,16 +102,17 @@ pub record DoesBy (node : NodeState) (event : Event) (tag : ℕ) (before then : 
   pub answers : flat_map (λ m. answers_in tag m) (option_map_or (λ l. sends node event l.link) then []) ≡ flat_map answered_by_deed own
   pub leaves : IsHalf (half_by (after node event) then) (with_deeds (half_by node before) (handles_by event before ++ own))
   pub may : MayDoAll (half_by node before) (handles_by event before ++ own)
+  pub meant : AllByRecursion (λ d. IsMeantTo node event tag before d) own
 
 abbrev pub DoesAt : NodeState → Event → ℕ → List ℕ → Type 0
 DoesAt node event tag name = DoesBy node event tag (link_to node.links name) (link_to (after node event).links name)
 
 module _ (node : NodeState) (event : Event) (done : EventIsDone node event) (tag : ℕ) where
   nothing : DoesBy node event tag None None
-  nothing = record { own = []; owns = refl; asks = refl; answers = refl; leaves = record { keeps = λ n. refl; back = λ n. refl }; may = tt }
+  nothing = record { own = []; owns = refl; asks = refl; answers = refl; leaves = record { keeps = λ n. refl; back = λ n. refl }; may = tt; meant = tt }
 
   fresh : (l : LinkPeer) → IsNew node event tag l → DoesBy node event tag None (Some l)
-  fresh l new = record { own = []; owns = refl; asks = new.asks; answers = new.answers; leaves = record { keeps = new.leaves.keeps; back = new.leaves.back }; may = tt }
+  fresh l new = record { own = []; owns = refl; asks = new.asks; answers = new.answers; leaves = record { keeps = new.leaves.keeps; back = new.leaves.back }; may = tt; meant = tt }
 
   stays : (l : LinkPeer) → IsDone node event tag l → DoesBy node event tag (Some l) (Some l)
   stays l is = record {
@@ -116,6 +122,7 @@ module _ (node : NodeState) (event : Event) (done : EventIsDone node event) (tag
     answers = is.does.answers ∙ flat_map-append answered_by_deed (handles event l) is.own ∙ ap (λ z. z ++ flat_map answered_by_deed is.own) (handled_is_silent event l).1;
     leaves = record { keeps = is.does.leaves.keeps; back = is.does.leaves.back };
     may = is.does.may;
+    meant = All-each (λ d. IsMeant node event tag l d) (λ d. IsMeantTo node event tag (Some l) d) is.own (λ d m. (l, refl, m)) is.meant;
   }
 
   pub does_at : AreUnique node.links → AreUnique (after node event).links → (name : List ℕ) → StaysTo node event name → DoesAt node event tag name

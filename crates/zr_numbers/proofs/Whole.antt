@@ -13,13 +13,22 @@ use Rattle.zr_settled.proofs.Quiet.{passes_there}
 use Rattle.zr_settled.proofs.Orderly.{Orderly}
 use Rattle.zr_asking.specs.Link.{fresh}
 use Rattle.zr_numbers.specs.Waiting.{waits, is_kept_by, back_at, link_of, is_whole}
-use Rattle.zr_numbers.proofs.Leading.{Leads, link_is}
+use Rattle.zr_numbers.specs.Deeds.{Deed}
+use Rattle.zr_numbers.proofs.Leading.{link_is}
+use Rattle.zr_numbers.proofs.Doing.{Moves, Same}
 use Rattle.zr_numbers.proofs.Neighbours.{half_by}
 use Rattle.zr_numbers.proofs.Waits.{asks_among, answers_among, router_keeps, router_back, nobody_keeps, nobody_back}
 
 -- what an act leads to on all links
-abbrev pub LinksGo : WorldState → WorldState → Type 0
-LinksGo w v = (x y : List ℕ) → is_whole v x y ≡ true → ((is_whole w x y ≡ true) ⊎ (link_of w x y ≡ fresh)) × Leads (link_of w x y) (link_of v x y)
+abbrev pub LinksGo : (above below : List ℕ → List ℕ → Deed → Type 0) → WorldState → WorldState → Type 0
+LinksGo above below w v = (x y : List ℕ) → is_whole v x y ≡ true → ((is_whole w x y ≡ true) ⊎ (link_of w x y ≡ fresh)) × Moves (above x y) (below x y) (link_of w x y) (link_of v x y)
+
+-- and one that changes nothing on those that are unbroken then
+abbrev pub LinksStay : WorldState → WorldState → Type 0
+LinksStay w v = (x y : List ℕ) → is_whole v x y ≡ true → ((is_whole w x y ≡ true) ⊎ (link_of w x y ≡ fresh)) × (link_of w x y ≡ link_of v x y)
+
+pub links_stay : (above below : List ℕ → List ℕ → Deed → Type 0) (w v : WorldState) → LinksStay w v → LinksGo above below w v
+links_stay above below w v stay x y whole = ((stay x y whole).0, Same (stay x y whole).1)
 
 -- ---- unbroken links
 

@@ -1,15 +1,18 @@
 -- What one event of a router does on one of its links, as far as requests go: seen from that router, number by number. As the upper end it asks over
 -- the link and hears what comes back; as the lower end it takes requests, replies to them and ends them.
 use Rattle.std.specs.Prelude.{◌≡◌, ℕ, ◌==◌, Bool, true, false, cond, List, [], ◌∷◌, ◌++◌, Option, Some, None}
-use Rattle.std.specs.List.{flat_map, list_all}
+use Rattle.std.specs.List.{AllByRecursion, flat_map, list_all}
 use Rattle.std.specs.Option.{option_map, option_and_then}
+use Rattle.zr_id.specs.declared.link.LinkNo.{LinkNo}
+use Rattle.zr_msg.specs.declared.content.Parts.{Parts}
 use Rattle.zr_msg.specs.declared.event.Event.{Event}
 use Rattle.zr_msg.specs.declared.event.Event.TheVariants.{Up, Down, From}
 use Rattle.zr_msg.specs.declared.msg.Msg.{Msg}
 use Rattle.zr_msg.specs.declared.msg.Msg.TheVariants.{Sub, Unsub, Able, Unable, Interest, EndInterest, ToldSub, ToldAble, ToldUnsub, ToldUnable, ToldEnd, Push, Request, Response, Final, State, Step, Snap}
+use Rattle.zr_msg.specs.declared.msg.Target.{Target}
 use Rattle.zr_msg.specs.declared.peer.LinkPeer.{LinkPeer}
 use Rattle.zr_pend.specs.declared.branch.Asker.{Asker}
-use Rattle.zr_pend.specs.Pending.{asked, branch}
+use Rattle.zr_pend.specs.Pending.{asked, asker_of, branch}
 use Rattle.zr_pend.specs.Readings.{back}
 use Rattle.zr_routing.specs.Tables.{link_at}
 use Rattle.zr_table.specs.State.{NodeState}
@@ -142,11 +145,42 @@ is_own (Takes number) = false
 is_own (Replies number said) = true
 is_own (Ends number) = true
 
+-- a request that a router asks over a link, under a number that is free, is one that came, for who asked it there
+pub record IsPassedOn (node : NodeState) (event : Event) (tag : ℕ) (to : LinkNo) (number : ℕ) (request : Asked) (by : Option Place) : Type 0 where
+  pub link : LinkNo
+  pub tree : Option (List ℕ)
+  pub id : ℕ
+  pub target : Target
+  pub content : Parts
+  pub came : event ≡ From link (Request tree id target content)
+  pub line : request.line ≡ tag
+  pub asker : by ≡ place_in node (record { link = link; number = id })
+  pub free : back node.pending (branch to number) ≡ None
+
+-- a reply that it gives over a link is one that came, for whom its branch was asked over that link
+pub record IsPassedBack (node : NodeState) (event : Event) (tag : ℕ) (to : LinkNo) (number : ℕ) (said : Said) : Type 0 where
+  pub link : LinkNo
+  pub id : ℕ
+  pub content : Parts
+  pub came : event ≡ From link (Response id content)
+  pub reply : said ≡ record { line = tag; content = content }
+  pub asker : asker_of (branch link id) node.pending ≡ Some (record { link = to; number = number })
+
+abbrev pub IsMeant : NodeState → Event → ℕ → LinkPeer → Deed → Type 0
+IsMeant node event tag l (Asks number request by) = IsPassedOn node event tag l.link number request by
+IsMeant node event tag l (Hears number) = Unit {0}
+IsMeant node event tag l (Closes number) = Unit {0}
+IsMeant node event tag l (Leaves number) = Unit {0}
+IsMeant node event tag l (Takes number) = Unit {0}
+IsMeant node event tag l (Replies number said) = IsPassedBack node event tag l.link number said
+IsMeant node event tag l (Ends number) = Unit {0}
+
 -- an event does on a link what handles what came over it, and then what is its own
 pub record IsDone (node : NodeState) (event : Event) (tag : ℕ) (l : LinkPeer) : Type 0 where
   pub own : List Deed
   pub owns : list_all is_own own ≡ true
   pub does : Does node event tag l (handles event l ++ own)
+  pub meant : AllByRecursion (λ d. IsMeant node event tag l d) own
 
 -- nothing is asked and nothing kept on a link that has just come up, and nothing of queries is sent on it
 pub record IsNew (node : NodeState) (event : Event) (tag : ℕ) (l : LinkPeer) : Type 0 where

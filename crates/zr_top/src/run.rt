@@ -9,6 +9,7 @@ ghost use Rattle.zr_laws.specs.Runs.{RestIsQuiet};
 ghost use Rattle.zr_declared.specs.Logs.{SettledLogsAreKnown};
 ghost use Rattle.zr_declared.specs.Rows.{SettledRowsAreDeclared};
 ghost use Rattle.zr_declared.specs.Sets.{SettledSetsAreDeclared};
+ghost use Rattle.zr_answers.specs.Answers.{AnswersAlwaysHold};
 ghost use Rattle.zr_numbers.specs.Numbers.{NumbersAlwaysHold};
 ghost use Rattle.zr_settled.specs.Events.{NoEventIsRefused};
 ghost use Rattle.zr_settled.specs.Tables.{AgreeWhereSettled, SettledLogsAgree};
@@ -27,6 +28,7 @@ use crate::command_line::net_of;
 use std::alloc::Global;
 use std::sync::Wait;
 use std::thread::Threads;
+use zr_answers::answers_always_hold;
 use zr_crew::Crew;
 use zr_declared::{settled_logs_are_known, settled_rows_are_declared, settled_sets_are_declared};
 use zr_laws::keys::{
@@ -60,7 +62,8 @@ use zr_settled::{settled_logs_agree, settled_tables_agree};
 /// broke and went before. Beside it stand some that hold of all scripts. Where a network is settled each router knows the whole log of each router that
 /// it reaches (`logs`), so just what the clients attached there have declared (`sets`); its own rows are what its clients have declared, key and kind
 /// (`rows`); no router refuses an event that may come to it (`taken`); and at each moment both ends of a link agree on each number of a request (`numbers`):
-/// it is free, or asked, or kept with some replies on their way back, or ended with the final behind them.
+/// it is free, or asked, or kept with some replies on their way back, or ended with the final behind them; and each reply and each final that a client was sent
+/// is that of its query of that turn (`answers`).
 ///
 /// The clause `served` says what was called of the host, which jobs the crew started, and what was written, where a router was served. The clauses
 /// `made` and `helped` say which text was written, where a script was made or something was told: all of it at `Done`, and else a prefix.
@@ -97,6 +100,7 @@ where
     ensures sets { SettledSetsAreDeclared }
     ensures taken { NoEventIsRefused }
     ensures numbers { NumbersAlwaysHold }
+    ensures answers { AnswersAlwaysHold }
     ensures meeting { AskingIsMeeting }
     ensures answering { AnsweringIsMeeting }
     ensures covering { AnsweringIsCovering }
@@ -126,6 +130,7 @@ where
     settled_sets_are_declared();
     no_event_is_refused();
     numbers_always_hold();
+    answers_always_hold();
     let Some(summary) = net_of(words) else {
         return run_beside_net(rt, alloc, words, out, err, host, crew);
     };

@@ -1,0 +1,14 @@
+pub mod Turns
+pub mod Grown
+pub mod Books
+pub mod Links
+pub mod Keeps
+pub mod Lines
+pub mod Routers
+pub mod Standing
+pub mod RouterActs
+pub mod ClientActs
+pub mod QueryActs
+pub mod TakeActs
+pub mod Every
+pub mod Clauses
