@@ -9,6 +9,7 @@ pub mod Bounds
 pub mod Counting
 pub mod Accepting
 pub mod Feeding
+pub mod Refusing
 pub mod Reading
 pub mod Telling
 pub mod Summing

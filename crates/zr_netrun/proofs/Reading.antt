@@ -1,6 +1,6 @@
 -- The script that was read so far, what is kept of it, and what is told at its end.
 -- `IsAfter` holds whenever the loop reads: what is kept is the run of the lines that have ended, and all of its report was written.
-use Rattle.std.proofs.Common.{◌≡◌, ℕ, ◌+◌, ◌-◌, ◌≤◌, ◌||◌, min, Bool, true, List, [], ◌++◌, length, take, drop, Option, Some, None, is_some, Result, Ok, refl, sym, ap, ◌∙◌, append_assoc, append-nil, arith, subst, inl, inr}
+use Rattle.std.proofs.Common.{◌≡◌, ℕ, ◌+◌, ◌-◌, ◌≤◌, ◌||◌, min, Bool, true, List, [], ◌++◌, length, take, drop, Option, Some, None, is_some, Result, Ok, Err, refl, sym, ap, ◌∙◌, append_assoc, append-nil, arith, subst, inl, inr}
 use Rattle.std.specs.Prelude.{IfSome}
 use Rattle.std.specs.List.{fold}
 use Rattle.std.proofs.lemmas.List.Sums.{fold-append}
@@ -10,7 +10,7 @@ use Rattle.std.proofs.Math.Seq.{take-append-add}
 use Rattle.zr_outside.specs.Told.{Consumes}
 use Rattle.zr_outside.specs.Told.{IsAsBefore, Appends, AppendsPrefix}
 use Rattle.zr_language.specs.Lines.{most_bytes, most_kept, ended_lines, open_line}
-use Rattle.zr_language.specs.Report.{refused_text}
+use Rattle.zr_command.specs.declared.error.ScriptError.{ScriptError}
 use Rattle.zr_network.specs.Run.{Run, start, on_line, run_of_ended, within}
 use Rattle.zr_netrun.specs.declared.status.Status.{Status}
 use Rattle.zr_netrun.specs.declared.status.Status.TheVariants as s
@@ -20,10 +20,10 @@ use Rattle.zr_network.specs.Moments.{beginning}
 use Rattle.zr_network.specs.Accepted.{accepted_from}
 use Rattle.zr_netrun.specs.declared.counts.Counts.{Counts}
 use Rattle.zr_netrun.specs.Summary.{counts_of}
-use Rattle.zr_netrun.specs.Kept.{Kept, begun, fresh, seen, IsAt, Stopped, Turns, TellsRefusal, Tells}
+use Rattle.zr_netrun.specs.Kept.{Kept, begun, fresh, seen, IsAt, Stopped, KeepsRefused, Turns, TellsRefusal, Tells}
 use Rattle.zr_netrun.specs.Counted.{all_capped, CountsOn, CountsFromNone}
-use Rattle.zr_netrun.specs.Judged.{judged, is_too_long, is_refused, complaint, complaint_of}
-use Rattle.zr_netrun.specs.Clauses.{OfRead, Reports}
+use Rattle.zr_netrun.specs.Judged.{judged_lines, judged, refused_line, refusal_told, is_too_long, is_refused, complaint_by, complaint_of}
+use Rattle.zr_netrun.specs.Clauses.{OfRead, ReportsBy}
 use Rattle.zr_netrun.proofs.Lines.{ended_append, open_after, open_last}
 use Rattle.zr_netrun.proofs.Runs.{fold_kept, open_kept}
 use Rattle.zr_netrun.proofs.Writing.{turn_more, all_written, written_all, written_flushed, appends_all, prefix_flushed, seen_all, seen_prefix}
@@ -112,10 +112,10 @@ as_before None e' h = tt
 as_before (Some held) e' h = h
 
 -- what was told is told of what is looked at
-pub seen_tells : (shows : Bool) (stop : Stop) (status : Status) (n : ℕ) (p : List ℕ) (a b e e' : Option (List ℕ)) → Tells stop status n p a b e e' → Tells stop status n p (seen shows a) (seen shows b) e e'
+pub seen_tells : (shows : Bool) (stop : Stop) (status : Status) (n : ScriptError → List ℕ) (p : List ℕ) (a b e e' : Option (List ℕ)) → Tells stop status n p a b e e' → Tells stop status n p (seen shows a) (seen shows b) e e'
 seen_tells shows (Refused error) status n p a b e e' h = by status h
   where
-    by : (status : Status) → TellsRefusal status error n p a b e e' → TellsRefusal status error n p (seen shows a) (seen shows b) e e'
+    by : (status : Status) → TellsRefusal status (n error) p a b e e' → TellsRefusal status (n error) p (seen shows a) (seen shows b) e e'
     by s.Refused t = (seen_all shows p a b t.0, t.1)
     by s.WriteFault (inl t) = inl (seen_prefix shows p a b t.0, t.1)
     by s.WriteFault (inr t) = inr (seen_all shows p a b t.0, t.1)
@@ -128,12 +128,18 @@ seen_tells shows NoMemory status n p a b e e' h = (h.0, ap (seen shows) h.1, h.2
 seen_tells shows WriteFault status n p a b e e' h = (h.0, ap (seen shows) h.1, h.2)
 
 -- what was told of a run that stopped is what is to be told
-pub tells_judged : (to_end : Bool) (bytes : List ℕ) (m : Kept) (a b c e e' : Option (List ℕ)) (stop : Stop) (status : Status) →
-    Stopped stop (judged to_end bytes) [] m a b → Tells stop status m.number m.pending b c e e' → Reports status to_end a c e e' bytes
-tells_judged to_end bytes m a b c e e' (Refused error) status h told = by status told
+pub tells_judged : (x to_end : Bool) (bytes : List ℕ) (m : Kept) (a b c e e' : Option (List ℕ)) (stop : Stop) (status : Status) →
+    Stopped stop (judged to_end bytes) [] m a b → KeepsRefused (Err stop) (refused_line start (judged_lines to_end bytes)) m →
+    Tells stop status (refusal_told x m.number m.line) m.pending b c e e' → ReportsBy x status to_end a c e e' bytes
+tells_judged x to_end bytes m a b c e e' (Refused error) status h kept told = by status told
   where
-    why : complaint to_end bytes ≡ refused_text m.number error
-    why = ap (λ r. complaint_of r (judged to_end bytes).number (is_too_long bytes)) h.0 ∙ ap (λ n. refused_text n error) (sym h.1)
+    line : List ℕ
+    line = take most_kept (refused_line start (judged_lines to_end bytes))
+
+    why : complaint_by x to_end bytes ≡ refusal_told x m.number m.line error
+    why =
+        ap (λ r. complaint_of x r (judged to_end bytes).number line (is_too_long bytes)) h.0 ∙ ap (λ n. refusal_told x n line error) (sym h.1)
+        ∙ ap (λ l. refusal_told x m.number l error) (sym kept)
 
     refused : is_refused to_end bytes ≡ true
     refused = ap (λ r. is_some r || is_too_long bytes) h.0
@@ -141,7 +147,7 @@ tells_judged to_end bytes m a b c e e' (Refused error) status h told = by status
     whole : Appends m.pending b c → Appends (judged to_end bytes).text a c
     whole out = all_written (judged to_end bytes).text a c (written_flushed (judged to_end bytes).text m.pending a b c h.2 out)
 
-    by : (status : Status) → TellsRefusal status error m.number m.pending b c e e' → Reports status to_end a c e e' bytes
+    by : (status : Status) → TellsRefusal status (refusal_told x m.number m.line error) m.pending b c e e' → ReportsBy x status to_end a c e e' bytes
     by s.Refused t = (refused, whole t.0, subst (λ (z : List ℕ). Appends z e e') (sym why) t.1)
     by s.WriteFault (inl t) = inl (prefix_flushed (judged to_end bytes).text m.pending a b c h.2 t.0, as_before e e' t.1)
     by s.WriteFault (inr t) = inr (refused, whole t.0, subst (λ (z : List ℕ). AppendsPrefix z e e') (sym why) t.1)
@@ -150,9 +156,9 @@ tells_judged to_end bytes m a b c e e' (Refused error) status h told = by status
     by s.Words t = absurd t
     by s.ReadFault t = absurd t
     by s.HostFault t = absurd t
-tells_judged to_end bytes m a b c e e' NoMemory status h told =
+tells_judged x to_end bytes m a b c e e' NoMemory status h kept told =
     rw told.0 (subst (λ (z : Option (List ℕ)). AppendsPrefix (judged to_end bytes).text a z) (sym told.1) h, as_before e e' told.2)
-tells_judged to_end bytes m a b c e e' WriteFault status h told =
+tells_judged x to_end bytes m a b c e e' WriteFault status h kept told =
     rw told.0 (inl (subst (λ (z : Option (List ℕ)). AppendsPrefix (judged to_end bytes).text a z) (sym told.1) h, as_before e e' told.2))
 
 -- of a piece that passes the limit, the prefix within it

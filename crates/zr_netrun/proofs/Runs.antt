@@ -77,7 +77,7 @@ pub on_line_kept : (r : Run) (line more : List ℕ) → on_line r (take most_kep
 on_line_kept r line more = ap (λ c. cond (is_some r.refusal) r (commanded r c)) (same_command line more)
 
 -- a prefix of a prefix
-take_prefix : (line more : List ℕ) → take most_kept (take most_kept line ++ more) ≡ take most_kept (line ++ more)
+pub take_prefix : (line more : List ℕ) → take most_kept (take most_kept line ++ more) ≡ take most_kept (line ++ more)
 take_prefix line more =
     elim (cases_lt most_kept (length line)) [
       | inl long ↦

@@ -1,12 +1,12 @@
 -- What is told when the loop has ended: at each of its exits the report is that of the bytes that were read.
-use Rattle.std.proofs.Common.{◌≡◌, ℕ, ◌-◌, ◌<◌, ◌≤◌, ◌||◌, min, true, false, List, [], ◌++◌, length, take, Option, Some, None, is_some, Result, Ok, Err, refl, sym, ap, ◌∙◌, inr, arith, subst}
+use Rattle.std.proofs.Common.{◌≡◌, ℕ, ◌-◌, ◌<◌, ◌≤◌, ◌||◌, min, Bool, true, false, List, [], ◌++◌, length, take, Option, Some, None, is_some, Result, Ok, Err, refl, sym, ap, ◌∙◌, inr, arith, subst}
 use Rattle.std.specs.List.{fold}
 use Rattle.std.proofs.lemmas.List.Sums.{fold-append}
 use Rattle.std.proofs.lemmas.Bool.Decides.{nat_tests}
 use Rattle.std.proofs.lemmas.List.{length-append, length-take, take_all}
 use Rattle.std.proofs.lemmas.Bool.{false≢true}
 use Rattle.zr_outside.specs.Told.{IsAsBefore, Appends, AppendsPrefix, Consumes}
-use Rattle.zr_language.specs.Lines.{most_bytes, most_kept, ended_lines, open_line, unless_empty}
+use Rattle.zr_language.specs.Lines.{most_bytes, most_kept, ended_lines, open_line, unless_empty, lines}
 use Rattle.zr_language.specs.Report.{too_long_text}
 use Rattle.zr_network.specs.Run.{Run, start, on_line, run_of_ended, within}
 use Rattle.zr_netrun.specs.declared.status.Status.{Status}
@@ -14,12 +14,13 @@ use Rattle.zr_netrun.specs.declared.status.Status.TheVariants as s
 use Rattle.zr_netrun.specs.declared.runner.Stop.{Stop}
 use Rattle.zr_network.specs.Accepted.{accepted_from}
 use Rattle.zr_netrun.specs.Counted.{CountsOn, IsRun}
-use Rattle.zr_netrun.specs.Kept.{Kept, fresh, Written, IsAt, Stopped, Turns, Complains, Tells}
-use Rattle.zr_netrun.specs.Judged.{judged, is_too_long, is_refused, complaint, complaint_of}
-use Rattle.zr_netrun.specs.Clauses.{OfRead, Reports, IsReported}
+use Rattle.zr_netrun.specs.Kept.{Kept, fresh, Written, IsAt, KeepsRefused, Stopped, Turns, Complains, Tells}
+use Rattle.zr_netrun.specs.Judged.{judged_lines, judged, refused_line, refusal_told, is_too_long, is_refused, complaint_by, complaint_of}
+use Rattle.zr_netrun.specs.Clauses.{OfRead, ReportsBy, IsReportedBy}
 use Rattle.zr_netrun.proofs.Runs.{last_kept}
 use Rattle.zr_netrun.proofs.Writing.{turn_more, all_written, appends_all}
 use Rattle.zr_netrun.proofs.Accepting.{last_counted}
+use Rattle.zr_netrun.proofs.Refusing.{keeps_same, refused_piece, refused_last}
 use Rattle.zr_netrun.proofs.Reading.{IsAfter, piece_more, reads_more, as_before, tells_judged, within_piece}
 
 -- what is kept with nothing waiting has written its whole text
@@ -32,31 +33,38 @@ of_read P Q None now h f = tt
 of_read P Q (Some all) now h f = (h.0, h.1, h.2, h.3, f h.0 h.4)
 
 -- a line of a piece was refused, or memory or a write failed there
-pub stops_reading : (InputEnded : Type 0) (left now next : Option (List ℕ)) (n used total : ℕ) (buffer : List ℕ) (k m : Kept) (a b c d e e' : Option (List ℕ)) (stop : Stop) (status : Status) →
+pub stops_reading : (x : Bool) (InputEnded : Type 0) (left now next : Option (List ℕ)) (n used total : ℕ) (buffer : List ℕ) (k m : Kept) (a b c d e e' : Option (List ℕ)) (stop : Stop) (status : Status) →
     OfRead left now (IsAfter k total a b) → Consumes n buffer now next → n ≤ length buffer → total ≤ most_bytes → used ≡ min n (most_bytes - total) →
     Turns (Err stop) (fold on_line (fresh k) (ended_lines (k.line ++ take used buffer))) (take most_kept (open_line (k.line ++ take used buffer))) k.pending m b c →
-    Tells stop status m.number m.pending c d e e' → OfRead left next (IsReported InputEnded status a d e e')
-stops_reading InputEnded left now next n used total buffer k m a b c d e e' stop status h took fits most cut turn told =
-    reads_more (IsAfter k total a b) (IsReported InputEnded status a d e e') left now next n buffer h took (λ (read : List ℕ) (p : IsAfter k total a b read).
+    KeepsRefused (Err stop) (refused_line (fresh k) (ended_lines (k.line ++ take used buffer))) m → Tells stop status (refusal_told x m.number m.line) m.pending c d e e' →
+    OfRead left next (IsReportedBy x InputEnded status a d e e')
+stops_reading x InputEnded left now next n used total buffer k m a b c d e e' stop status h took fits most cut turn kept told =
+    reads_more (IsAfter k total a b) (IsReportedBy x InputEnded status a d e e') left now next n buffer h took (λ (read : List ℕ) (p : IsAfter k total a b read).
     let here = piece_more k m total a b c read (take used buffer) (Err stop) p turn in
     let room : length read ≤ most_bytes = omega (arith, p.total_is, most) in
     let same : used ≡ min n (most_bytes - length read) = cut ∙ ap (λ (t : ℕ). min n (most_bytes - t)) (sym p.total_is) in
     let bound : within (read ++ take n buffer) ≡ read ++ take used buffer = within_piece read buffer used n room same fits in
     let there : Stopped stop (judged false (read ++ take n buffer)) [] m a c = subst (λ (z : List ℕ). Stopped stop (run_of_ended z) [] m a c) (sym bound) here in
-    (false, λ t. absurd (false≢true t), tells_judged false (read ++ take n buffer) m a c d e e' stop status there told))
+    let line : take most_kept (refused_line (fresh k) (ended_lines (k.line ++ take used buffer))) ≡ take most_kept (refused_line start (judged_lines false (read ++ take n buffer))) =
+    refused_piece k (take most_kept (open_line read)) a b read (take used buffer) p.at p.at.line_is ∙ ap (λ z. take most_kept (refused_line start (ended_lines z))) (sym bound) in
+    let mine = keeps_same (Err stop) (refused_line (fresh k) (ended_lines (k.line ++ take used buffer))) (refused_line start (judged_lines false (read ++ take n buffer))) m kept line in
+    (false, λ t. absurd (false≢true t), tells_judged x false (read ++ take n buffer) m a c d e e' stop status there mine told))
 
 -- what is told of a script that is too long
-too_long_told : (bytes : List ℕ) (a b e e' : Option (List ℕ)) (status : Status) → (judged false bytes).refusal ≡ None → is_too_long bytes ≡ true →
-    Appends (judged false bytes).text a b → Complains status too_long_text e e' → Reports status false a b e e' bytes
-too_long_told bytes a b e e' status none long out told = by status told
+too_long_told : (x : Bool) (bytes : List ℕ) (a b e e' : Option (List ℕ)) (status : Status) → (judged false bytes).refusal ≡ None → is_too_long bytes ≡ true →
+    Appends (judged false bytes).text a b → Complains status too_long_text e e' → ReportsBy x status false a b e e' bytes
+too_long_told x bytes a b e e' status none long out told = by status told
   where
-    why : complaint false bytes ≡ too_long_text
-    why = ap (λ r. complaint_of r (judged false bytes).number (is_too_long bytes)) none ∙ ap (λ t. complaint_of None (judged false bytes).number t) long
+    line : List ℕ
+    line = take most_kept (refused_line start (judged_lines false bytes))
+
+    why : complaint_by x false bytes ≡ too_long_text
+    why = ap (λ r. complaint_of x r (judged false bytes).number line (is_too_long bytes)) none ∙ ap (λ t. complaint_of x None (judged false bytes).number line t) long
 
     refused : is_refused false bytes ≡ true
     refused = ap (λ r. is_some r || is_too_long bytes) none ∙ long
 
-    by : (status : Status) → Complains status too_long_text e e' → Reports status false a b e e' bytes
+    by : (status : Status) → Complains status too_long_text e e' → ReportsBy x status false a b e e' bytes
     by s.Refused t = (refused, out, subst (λ (z : List ℕ). Appends z e e') (sym why) t)
     by s.WriteFault t = inr (refused, out, subst (λ (z : List ℕ). AppendsPrefix z e e') (sym why) t)
     by s.NoMemory t = (appends_all (judged false bytes).text a b out, as_before e e' t)
@@ -66,12 +74,12 @@ too_long_told bytes a b e e' status none long out told = by status told
     by s.HostFault t = absurd t
 
 -- a piece passes the limit, and no line that ends within it is refused
-pub passes_limit : (InputEnded : Type 0) (left now next : Option (List ℕ)) (n used total : ℕ) (buffer : List ℕ) (k m : Kept) (a b c e e' : Option (List ℕ)) (u : Unit {0}) (status : Status) →
+pub passes_limit : (x : Bool) (InputEnded : Type 0) (left now next : Option (List ℕ)) (n used total : ℕ) (buffer : List ℕ) (k m : Kept) (a b c e e' : Option (List ℕ)) (u : Unit {0}) (status : Status) →
     OfRead left now (IsAfter k total a b) → Consumes n buffer now next → n ≤ length buffer → total ≤ most_bytes → used ≡ min n (most_bytes - total) → used < n →
     Turns (Ok u) (fold on_line (fresh k) (ended_lines (k.line ++ take used buffer))) (take most_kept (open_line (k.line ++ take used buffer))) k.pending m b c → m.pending ≡ [] →
-    Complains status too_long_text e e' → OfRead left next (IsReported InputEnded status a c e e')
-passes_limit InputEnded left now next n used total buffer k m a b c e e' u status h took fits most cut less turn flushed told =
-    reads_more (IsAfter k total a b) (IsReported InputEnded status a c e e') left now next n buffer h took (λ (read : List ℕ) (p : IsAfter k total a b read).
+    Complains status too_long_text e e' → OfRead left next (IsReportedBy x InputEnded status a c e e')
+passes_limit x InputEnded left now next n used total buffer k m a b c e e' u status h took fits most cut less turn flushed told =
+    reads_more (IsAfter k total a b) (IsReportedBy x InputEnded status a c e e') left now next n buffer h took (λ (read : List ℕ) (p : IsAfter k total a b read).
     let here = piece_more k m total a b c read (take used buffer) (Ok u) p turn in
     let room : length read ≤ most_bytes = omega (arith, p.total_is, most) in
     let same : used ≡ min n (most_bytes - length read) = cut ∙ ap (λ (t : ℕ). min n (most_bytes - t)) (sym p.total_is) in
@@ -82,7 +90,7 @@ passes_limit InputEnded left now next n used total buffer k m a b c e e' u statu
     let out = text_out (run_of_ended (read ++ take used buffer)) (take most_kept (open_line (read ++ take used buffer))) m a c here flushed in (
       false,
       λ t. absurd (false≢true t),
-      too_long_told (read ++ take n buffer) a c e e' status (ap (λ (r : Run). r.refusal) run ∙ here.refusal) long (subst (λ (r : Run). Appends r.text a c) (sym run) out) told,
+      too_long_told x (read ++ take n buffer) a c e e' status (ap (λ (r : Run). r.refusal) run ∙ here.refusal) long (subst (λ (r : Run). Appends r.text a c) (sym run) out) told,
     ))
 
 -- what is read stays what was read, where nothing came
@@ -96,10 +104,10 @@ pub still_after : (left now next : Option (List ℕ)) (total : ℕ) (k : Kept) (
 still_after left now next total k a b h same = same_left (IsAfter k total a b) (IsAfter k total a b) left now next h same (λ (read : List ℕ) (p : IsAfter k total a b read). p)
 
 -- a read has failed
-pub fails_reading : (InputEnded : Type 0) (left now next : Option (List ℕ)) (total : ℕ) (k : Kept) (a b e e' : Option (List ℕ)) → OfRead left now (IsAfter k total a b) → IsAsBefore now next →
-    total ≤ most_bytes → e' ≡ e → OfRead left next (IsReported InputEnded s.ReadFault a b e e')
-fails_reading InputEnded left now next total k a b e e' h same most err =
-    same_left (IsAfter k total a b) (IsReported InputEnded s.ReadFault a b e e') left now next h same (λ (read : List ℕ) (p : IsAfter k total a b read).
+pub fails_reading : (x : Bool) (InputEnded : Type 0) (left now next : Option (List ℕ)) (total : ℕ) (k : Kept) (a b e e' : Option (List ℕ)) → OfRead left now (IsAfter k total a b) → IsAsBefore now next →
+    total ≤ most_bytes → e' ≡ e → OfRead left next (IsReportedBy x InputEnded s.ReadFault a b e e')
+fails_reading x InputEnded left now next total k a b e e' h same most err =
+    same_left (IsAfter k total a b) (IsReportedBy x InputEnded s.ReadFault a b e e') left now next h same (λ (read : List ℕ) (p : IsAfter k total a b read).
     let short : length read ≤ most_bytes = omega (arith, p.total_is, most) in
     let whole : within read ≡ read = take_all most_bytes read short in
     let within_limit : is_too_long read ≡ false = grind (arith, nat_tests) in
@@ -120,11 +128,11 @@ last_line read k m total a b c result p turn =
     subst (λ (r : Run). Turns result r [] [] m a c) run here
 
 -- the script has ended, and no line is refused
-pub ends_reading : (InputEnded : Type 0) (left now : Option (List ℕ)) (total : ℕ) (k m : Kept) (a b c e e' : Option (List ℕ)) (u : Unit {0}) → InputEnded → OfRead left now (IsAfter k total a b) →
+pub ends_reading : (x : Bool) (InputEnded : Type 0) (left now : Option (List ℕ)) (total : ℕ) (k m : Kept) (a b c e e' : Option (List ℕ)) (u : Unit {0}) → InputEnded → OfRead left now (IsAfter k total a b) →
     total ≤ most_bytes → Turns (Ok u) (fold on_line (fresh k) (unless_empty k.line)) [] k.pending m b c →
-    CountsOn (accepted_from (fresh k) (unless_empty k.line)) k m → m.pending ≡ [] → e' ≡ e → OfRead left now (IsRun InputEnded s.Done a c e e' m)
-ends_reading InputEnded left now total k m a b c e e' u ended h most turn counts flushed err =
-    of_read (IsAfter k total a b) (IsRun InputEnded s.Done a c e e' m) left now h (λ (read : List ℕ) (p : IsAfter k total a b read).
+    CountsOn (accepted_from (fresh k) (unless_empty k.line)) k m → m.pending ≡ [] → e' ≡ e → OfRead left now (IsRun x InputEnded s.Done a c e e' m)
+ends_reading x InputEnded left now total k m a b c e e' u ended h most turn counts flushed err =
+    of_read (IsAfter k total a b) (IsRun x InputEnded s.Done a c e e' m) left now h (λ (read : List ℕ) (p : IsAfter k total a b read).
     let here = last_line read k m total a b c (Ok u) p turn in
     let short : length read ≤ most_bytes = omega (arith, p.total_is, most) in
     let within_limit : is_too_long read ≡ false = grind (arith, nat_tests) in (
@@ -140,16 +148,19 @@ pub fault_not_done : (s.ReadFault ≡ s.Done) → ⊥
 fault_not_done d = cc
 
 -- where the script has not ended, not all was counted
-pub not_done : (InputEnded : Type 0) (left next : Option (List ℕ)) (m : Kept) (a c e e' : Option (List ℕ)) (status : Status) → ((status ≡ s.Done) → ⊥) →
-    OfRead left next (IsReported InputEnded status a c e e') → OfRead left next (IsRun InputEnded status a c e e' m)
-not_done InputEnded left next m a c e e' status not h =
-    of_read (IsReported InputEnded status a c e e') (IsRun InputEnded status a c e e' m) left next h (λ (read : List ℕ) (p : IsReported InputEnded status a c e e' read). (p, λ d. absurd (not d)))
+pub not_done : (x : Bool) (InputEnded : Type 0) (left next : Option (List ℕ)) (m : Kept) (a c e e' : Option (List ℕ)) (status : Status) → ((status ≡ s.Done) → ⊥) →
+    OfRead left next (IsReportedBy x InputEnded status a c e e') → OfRead left next (IsRun x InputEnded status a c e e' m)
+not_done x InputEnded left next m a c e e' status not h =
+    of_read (IsReportedBy x InputEnded status a c e e') (IsRun x InputEnded status a c e e' m) left next h (λ (read : List ℕ) (p : IsReportedBy x InputEnded status a c e e' read). (p, λ d. absurd (not d)))
 
 -- the script has ended, and its last line is refused, or memory or a write failed there
-pub stops_at_end : (InputEnded : Type 0) (left now : Option (List ℕ)) (total : ℕ) (k m : Kept) (a b c d e e' : Option (List ℕ)) (stop : Stop) (status : Status) → InputEnded →
-    OfRead left now (IsAfter k total a b) → total ≤ most_bytes → Turns (Err stop) (fold on_line (fresh k) (unless_empty k.line)) [] k.pending m b c → Tells stop status m.number m.pending c d e e' →
-    OfRead left now (IsReported InputEnded status a d e e')
-stops_at_end InputEnded left now total k m a b c d e e' stop status ended h most turn told =
-    of_read (IsAfter k total a b) (IsReported InputEnded status a d e e') left now h (λ (read : List ℕ) (p : IsAfter k total a b read).
+pub stops_at_end : (x : Bool) (InputEnded : Type 0) (left now : Option (List ℕ)) (total : ℕ) (k m : Kept) (a b c d e e' : Option (List ℕ)) (stop : Stop) (status : Status) → InputEnded →
+    OfRead left now (IsAfter k total a b) → total ≤ most_bytes → Turns (Err stop) (fold on_line (fresh k) (unless_empty k.line)) [] k.pending m b c →
+    KeepsRefused (Err stop) (refused_line (fresh k) (unless_empty k.line)) m → Tells stop status (refusal_told x m.number m.line) m.pending c d e e' →
+    OfRead left now (IsReportedBy x InputEnded status a d e e')
+stops_at_end x InputEnded left now total k m a b c d e e' stop status ended h most turn kept told =
+    of_read (IsAfter k total a b) (IsReportedBy x InputEnded status a d e e') left now h (λ (read : List ℕ) (p : IsAfter k total a b read).
     let short : length read ≤ most_bytes = omega (arith, p.total_is, most) in
-    (true, λ t. (ended, short), tells_judged true read m a c d e e' stop status (last_line read k m total a b c (Err stop) p turn) told))
+    let line = refused_last k (take most_kept (open_line read)) a b read p.at p.at.line_is in
+    let mine = keeps_same (Err stop) (refused_line (fresh k) (unless_empty k.line)) (refused_line start (lines read)) m kept line in
+    (true, λ t. (ended, short), tells_judged x true read m a c d e e' stop status (last_line read k m total a b c (Err stop) p turn) mine told))

@@ -8,7 +8,7 @@ use Rattle.zr_network.specs.Accepted.{IsMoment}
 use Rattle.zr_netrun.specs.declared.status.Status.{Status}
 use Rattle.zr_netrun.specs.declared.status.Status.TheVariants.{Done, Refused, Words, NoMemory, ReadFault, WriteFault, HostFault}
 use Rattle.zr_netrun.specs.Summary.{counts_of, summary_text}
-use Rattle.zr_netrun.specs.Judged.{judged_lines, judged, is_refused, complaint}
+use Rattle.zr_netrun.specs.Judged.{judged_lines, judged, is_refused, complaint_by}
 
 -- where the source tells its bytes: P holds of those that were read, and the others are left
 abbrev pub OfRead : Option (List ℕ) → Option (List ℕ) → (List ℕ → Type 0) → Type 0
@@ -25,29 +25,42 @@ IsReadToEnd ends ends' quiets quiets' = Rose ends ends' ⊎ (min (quiets + 2 ^ 3
 
 -- What was written to out and to err, by the status, where these bytes were read, to the end of the script or not.
 -- Done: it was read to its end and is not refused, and out gained its whole report; err gained nothing.
--- Refused: it is refused by what was read, out gained the report of the lines before that, and err the one line that tells why.
+-- Refused: it is refused by what was read, out gained the report of the lines before that, and err the one line that tells why, with the
+-- explanation of the refused line where that is asked for.
 -- ReadFault: it was not read to its end and is not refused by what was read; out gained the report of its lines, err nothing.
 -- NoMemory: out gained a prefix of that report, and err nothing.
 -- WriteFault: out gained a prefix of that report, and err nothing; or out the whole, and err a prefix of the line that tells a refusal.
-abbrev pub Reports : Status → Bool → Option (List ℕ) → Option (List ℕ) → Option (List ℕ) → Option (List ℕ) → List ℕ → Type 0
-Reports Done to_end out out' err err' bytes =
+abbrev pub ReportsBy : Bool → Status → Bool → Option (List ℕ) → Option (List ℕ) → Option (List ℕ) → Option (List ℕ) → List ℕ → Type 0
+ReportsBy explains Done to_end out out' err err' bytes =
     (to_end ≡ true) × (is_refused to_end bytes ≡ false) × Appends (judged to_end bytes).text out out' × IsAsBefore err err'
-Reports Refused to_end out out' err err' bytes =
-    (is_refused to_end bytes ≡ true) × Appends (judged to_end bytes).text out out' × Appends (complaint to_end bytes) err err'
-Reports ReadFault to_end out out' err err' bytes =
+ReportsBy explains Refused to_end out out' err err' bytes =
+    (is_refused to_end bytes ≡ true) × Appends (judged to_end bytes).text out out' × Appends (complaint_by explains to_end bytes) err err'
+ReportsBy explains ReadFault to_end out out' err err' bytes =
     (to_end ≡ false) × (is_refused to_end bytes ≡ false) × Appends (judged to_end bytes).text out out' × IsAsBefore err err'
-Reports NoMemory to_end out out' err err' bytes = AppendsPrefix (judged to_end bytes).text out out' × IsAsBefore err err'
-Reports WriteFault to_end out out' err err' bytes =
+ReportsBy explains NoMemory to_end out out' err err' bytes = AppendsPrefix (judged to_end bytes).text out out' × IsAsBefore err err'
+ReportsBy explains WriteFault to_end out out' err err' bytes =
     (AppendsPrefix (judged to_end bytes).text out out' × IsAsBefore err err')
-    ⊎ ((is_refused to_end bytes ≡ true) × Appends (judged to_end bytes).text out out' × AppendsPrefix (complaint to_end bytes) err err')
-Reports Words to_end out out' err err' bytes = ⊥
-Reports HostFault to_end out out' err err' bytes = ⊥
+    ⊎ ((is_refused to_end bytes ≡ true) × Appends (judged to_end bytes).text out out' × AppendsPrefix (complaint_by explains to_end bytes) err err')
+ReportsBy explains Words to_end out out' err err' bytes = ⊥
+ReportsBy explains HostFault to_end out out' err err' bytes = ⊥
+
+-- the same where no explanation is asked for
+abbrev pub Reports : Status → Bool → Option (List ℕ) → Option (List ℕ) → Option (List ℕ) → Option (List ℕ) → List ℕ → Type 0
+Reports status to_end out out' err err' bytes = ReportsBy false status to_end out out' err err' bytes
 
 -- So much was reported of the bytes that were read. That they are the whole script is said only where the input told its end, and
 -- where they are not too many.
+abbrev pub IsReportedBy : Bool → Type 0 → Status → Option (List ℕ) → Option (List ℕ) → Option (List ℕ) → Option (List ℕ) → List ℕ → Type 0
+IsReportedBy explains InputEnded status out out' err err' bytes =
+    (to_end : Bool) × (to_end ≡ true → InputEnded × (length bytes ≤ most_bytes)) × ReportsBy explains status to_end out out' err err' bytes
+
+-- the same where no explanation is asked for
 abbrev pub IsReported : Type 0 → Status → Option (List ℕ) → Option (List ℕ) → Option (List ℕ) → Option (List ℕ) → List ℕ → Type 0
-IsReported InputEnded status out out' err err' bytes =
-    (to_end : Bool) × (to_end ≡ true → InputEnded × (length bytes ≤ most_bytes)) × Reports status to_end out out' err err' bytes
+IsReported InputEnded status out out' err err' bytes = IsReportedBy false InputEnded status out out' err err' bytes
+
+-- the same where explanations are asked for
+abbrev pub IsExplained : Type 0 → Status → Option (List ℕ) → Option (List ℕ) → Option (List ℕ) → Option (List ℕ) → List ℕ → Type 0
+IsExplained InputEnded status out out' err err' bytes = IsReportedBy true InputEnded status out out' err err' bytes
 
 -- P holds of the summary of some lines: of what is counted in the report of the moment that they lead to
 abbrev pub OfSummary : List (List ℕ) → (List ℕ → Type 0) → Type 0
@@ -60,19 +73,27 @@ OfSummary ls P = (m : Moment) × IsMoment ls m × P (summary_text (counts_of m))
 -- NoMemory: nothing was written.
 -- WriteFault: it was read to its end and is not refused, out gained a prefix of the summary, and err nothing; or out gained nothing, and
 -- err a prefix of the line that tells a refusal.
-abbrev pub SumsUp : Status → Bool → Option (List ℕ) → Option (List ℕ) → Option (List ℕ) → Option (List ℕ) → List ℕ → Type 0
-SumsUp Done to_end out out' err err' bytes =
+abbrev pub SumsUpBy : Bool → Status → Bool → Option (List ℕ) → Option (List ℕ) → Option (List ℕ) → Option (List ℕ) → List ℕ → Type 0
+SumsUpBy explains Done to_end out out' err err' bytes =
     (to_end ≡ true) × (is_refused to_end bytes ≡ false) × OfSummary (judged_lines to_end bytes) (λ text. Appends text out out') × IsAsBefore err err'
-SumsUp Refused to_end out out' err err' bytes = (is_refused to_end bytes ≡ true) × IsAsBefore out out' × Appends (complaint to_end bytes) err err'
-SumsUp ReadFault to_end out out' err err' bytes = (to_end ≡ false) × (is_refused to_end bytes ≡ false) × IsAsBefore out out' × IsAsBefore err err'
-SumsUp NoMemory to_end out out' err err' bytes = IsAsBefore out out' × IsAsBefore err err'
-SumsUp WriteFault to_end out out' err err' bytes =
+SumsUpBy explains Refused to_end out out' err err' bytes = (is_refused to_end bytes ≡ true) × IsAsBefore out out' × Appends (complaint_by explains to_end bytes) err err'
+SumsUpBy explains ReadFault to_end out out' err err' bytes = (to_end ≡ false) × (is_refused to_end bytes ≡ false) × IsAsBefore out out' × IsAsBefore err err'
+SumsUpBy explains NoMemory to_end out out' err err' bytes = IsAsBefore out out' × IsAsBefore err err'
+SumsUpBy explains WriteFault to_end out out' err err' bytes =
     ((to_end ≡ true) × (is_refused to_end bytes ≡ false) × OfSummary (judged_lines to_end bytes) (λ text. AppendsPrefix text out out') × IsAsBefore err err')
-    ⊎ (IsAsBefore out out' × AppendsPrefix (complaint to_end bytes) err err')
-SumsUp Words to_end out out' err err' bytes = ⊥
-SumsUp HostFault to_end out out' err err' bytes = ⊥
+    ⊎ (IsAsBefore out out' × AppendsPrefix (complaint_by explains to_end bytes) err err')
+SumsUpBy explains Words to_end out out' err err' bytes = ⊥
+SumsUpBy explains HostFault to_end out out' err err' bytes = ⊥
 
 -- So it was summed up what was read. That it is the whole script is said as above.
+abbrev pub IsSummedUpBy : Bool → Type 0 → Status → Option (List ℕ) → Option (List ℕ) → Option (List ℕ) → Option (List ℕ) → List ℕ → Type 0
+IsSummedUpBy explains InputEnded status out out' err err' bytes =
+    (to_end : Bool) × (to_end ≡ true → InputEnded × (length bytes ≤ most_bytes)) × SumsUpBy explains status to_end out out' err err' bytes
+
+-- the same where no explanation is asked for
 abbrev pub IsSummedUp : Type 0 → Status → Option (List ℕ) → Option (List ℕ) → Option (List ℕ) → Option (List ℕ) → List ℕ → Type 0
-IsSummedUp InputEnded status out out' err err' bytes =
-    (to_end : Bool) × (to_end ≡ true → InputEnded × (length bytes ≤ most_bytes)) × SumsUp status to_end out out' err err' bytes
+IsSummedUp InputEnded status out out' err err' bytes = IsSummedUpBy false InputEnded status out out' err err' bytes
+
+-- the same where explanations are asked for
+abbrev pub IsExplainedSum : Type 0 → Status → Option (List ℕ) → Option (List ℕ) → Option (List ℕ) → Option (List ℕ) → List ℕ → Type 0
+IsExplainedSum InputEnded status out out' err err' bytes = IsSummedUpBy true InputEnded status out out' err err' bytes

@@ -16,7 +16,7 @@ use Rattle.zr_netrun.specs.declared.status.Status.{Status}
 use Rattle.zr_netrun.specs.declared.status.Status.TheVariants as s
 use Rattle.zr_netrun.specs.Summary.{counts_of, summary_text}
 use Rattle.zr_netrun.specs.Kept.{Kept}
-use Rattle.zr_netrun.specs.Clauses.{IsReported}
+use Rattle.zr_netrun.specs.Clauses.{IsReportedBy}
 
 -- ---- counts as numbers of 64 bits
 
@@ -99,8 +99,8 @@ abbrev pub CountsWhole : Kept → List ℕ → Type 0
 CountsWhole k bytes = (m : Moment) × (reached (accepted (lines bytes)) ≡ Some m) × IsCounted k m
 
 -- so much was reported of the bytes that were read, and at the end all was counted
-abbrev pub IsRun : Type 0 → Status → Option (List ℕ) → Option (List ℕ) → Option (List ℕ) → Option (List ℕ) → Kept → List ℕ → Type 0
-IsRun InputEnded status out out' err err' new bytes = IsReported InputEnded status out out' err err' bytes × (status ≡ s.Done → CountsWhole new bytes)
+abbrev pub IsRun : Bool → Type 0 → Status → Option (List ℕ) → Option (List ℕ) → Option (List ℕ) → Option (List ℕ) → Kept → List ℕ → Type 0
+IsRun explains InputEnded status out out' err err' new bytes = IsReportedBy explains InputEnded status out out' err err' bytes × (status ≡ s.Done → CountsWhole new bytes)
 
 -- what was told of what was counted: the summary, or a prefix of it and a write failed, or nothing, and memory ran out
 abbrev pub TellsSummary : Status → Option Counts → Option (List ℕ) → Option (List ℕ) → Type 0

@@ -1,10 +1,11 @@
 -- What counts of a script where some bytes of it were read: the lines that have ended, as far as they end within the limit of a script's
 -- length; and the last line, which no line end has to end, only where the script was read to its end.
-use Rattle.std.specs.Prelude.{ℕ, ◌||◌, nat_lt, Bool, true, false, if◌then◌else◌, List, [], length, Option, Some, None, is_some}
+use Rattle.std.specs.Prelude.{ℕ, ◌||◌, nat_lt, Bool, true, false, if◌then◌else◌, List, [], ◌∷◌, ◌++◌, length, take, Option, Some, None, is_some}
 use Rattle.zr_command.specs.declared.error.ScriptError.{ScriptError}
-use Rattle.zr_language.specs.Lines.{most_bytes, lines, ended_lines}
+use Rattle.zr_language.specs.Lines.{most_bytes, most_kept, lines, ended_lines}
 use Rattle.zr_language.specs.Report.{refused_text, too_long_text}
-use Rattle.zr_network.specs.Run.{Run, run_lines, within}
+use Rattle.zr_network.specs.Run.{Run, start, on_line, run_lines, within}
+use Rattle.zr_explain.specs.Explained.{explanation}
 
 -- the lines that count
 abbrev pub judged_lines : Bool → List ℕ → List (List ℕ)
@@ -27,11 +28,28 @@ is_refused to_end bytes = is_some (judged to_end bytes).refusal || is_too_long b
 abbrev pub complaint_of_length : Bool → List ℕ
 complaint_of_length too_long = if too_long then too_long_text else []
 
+-- the line of some that is refused behind a run: the first behind which the run is. No bytes where none is
+abbrev pub refused_line : Run → List (List ℕ) → List ℕ
+refused_line run [] = []
+refused_line run (line ∷ more) = if is_some (on_line run line).refusal then line else refused_line (on_line run line) more
+
+-- what is said of a refused line: why it is refused and, where that is asked for, its explanation
+abbrev pub refusal_told : Bool → ℕ → List ℕ → ScriptError → List ℕ
+refusal_told true number line e = refused_text number e ++ explanation line e
+refusal_told false number line e = refused_text number e
+
 -- what is said of a refused line, or else of the length
-abbrev pub complaint_of : Option ScriptError → ℕ → Bool → List ℕ
-complaint_of (Some e) number too_long = refused_text number e
-complaint_of None number too_long = complaint_of_length too_long
+abbrev pub complaint_of : Bool → Option ScriptError → ℕ → List ℕ → Bool → List ℕ
+complaint_of explains (Some e) number line too_long = refusal_told explains number line e
+complaint_of explains None number line too_long = complaint_of_length too_long
+
+-- the line that tells why a script is refused, with an explanation where that is asked for; nothing where it isn't refused. Of a line that
+-- is too long only the first bytes are explained
+abbrev pub complaint_by : Bool → Bool → List ℕ → List ℕ
+complaint_by explains to_end bytes =
+    complaint_of explains (judged to_end bytes).refusal (judged to_end bytes).number (take most_kept (refused_line start (judged_lines to_end bytes)))
+    (is_too_long bytes)
 
 -- the line that tells why a script is refused; nothing where it isn't
 abbrev pub complaint : Bool → List ℕ → List ℕ
-complaint to_end bytes = complaint_of (judged to_end bytes).refusal (judged to_end bytes).number (is_too_long bytes)
+complaint to_end bytes = complaint_by false to_end bytes

@@ -1,10 +1,11 @@
 -- What the running code keeps of a script's run, and what a turn of it has done.
-use Rattle.std.specs.Prelude.{◌≡◌, ℕ, Bool, true, false, List, [], ◌++◌, Option, Some, None, is_none, Result, Ok, Err, ◌⊎◌}
+use Rattle.std.specs.Prelude.{◌≡◌, ℕ, Bool, true, false, List, [], ◌++◌, Option, Some, None, take, is_none, Result, Ok, Err, ◌⊎◌}
 use Rattle.std.specs.List.{flat_map}
 use Rattle.zr_command.specs.declared.command.Act.{Act}
 use Rattle.zr_command.specs.declared.error.ScriptError.{ScriptError}
 use Rattle.zr_command.specs.declared.error.ScriptError.TheVariants as e
-use Rattle.zr_language.specs.Report.{line_text, refused_text}
+use Rattle.zr_language.specs.Lines.{most_kept}
+use Rattle.zr_language.specs.Report.{line_text}
 use Rattle.zr_network.specs.Acts.{outcome}
 use Rattle.zr_network.specs.Next.{Done}
 use Rattle.zr_network.specs.Run.{Run}
@@ -74,6 +75,23 @@ abbrev pub Turns : Result (Unit {0}) Stop → Run → List ℕ → List ℕ → 
 Turns (Ok u) run line earlier new before after = IsAt run line earlier new before after
 Turns (Err stop) run line earlier new before after = Stopped stop run earlier new before after
 
+-- Where a turn was refused the line that was is kept, as far as it matters.
+abbrev pub KeepsRefused : Result (Unit {0}) Stop → List ℕ → Kept → Type 0
+KeepsRefused (Ok u) line new = Unit {0}
+KeepsRefused (Err (Refused e)) line new = new.line ≡ take most_kept line
+KeepsRefused (Err NoMemory) line new = Unit {0}
+KeepsRefused (Err WriteFault) line new = Unit {0}
+
+-- The run behind a refused line is that of what was kept, but for the line.
+abbrev pub IsKeptIf : Result (Unit {0}) Stop → Result (Unit {0}) Stop → List ℕ → Kept → Kept → Type 0
+IsKeptIf (Ok u) result line old new = (result ≡ Ok u) × (new ≡ old)
+IsKeptIf (Err (Refused e)) (Ok u) line old new = ⊥
+IsKeptIf (Err (Refused e)) (Err stop) line old new =
+    ((stop ≡ Refused e) × (new ≡ record { world = old.world; number = old.number; line = take most_kept line; pending = old.pending; counts = old.counts }))
+    ⊎ (stop ≡ NoMemory)
+IsKeptIf (Err NoMemory) result line old new = (result ≡ Err NoMemory) × (new ≡ old)
+IsKeptIf (Err WriteFault) result line old new = (result ≡ Err WriteFault) × (new ≡ old)
+
 -- the run behind what was done from what is kept, where the line that asked for it has been counted already
 abbrev pub run_behind : Kept → Done → Run
 run_behind k (Ok x) = record { world = x.1; number = k.number; text = flat_map line_text x.0; refusal = None }
@@ -118,18 +136,18 @@ Complains s.HostFault text err err' = ⊥
 
 -- What was told of a run that stopped where its last line is refused: what waited was written, and then why. Where a write of out
 -- failed err has nothing.
-abbrev pub TellsRefusal : Status → ScriptError → ℕ → List ℕ → Option (List ℕ) → Option (List ℕ) → Option (List ℕ) → Option (List ℕ) → Type 0
-TellsRefusal s.Refused error number pending out out' err err' = Appends pending out out' × Appends (refused_text number error) err err'
-TellsRefusal s.WriteFault error number pending out out' err err' =
-    (AppendsPrefix pending out out' × (err' ≡ err)) ⊎ (Appends pending out out' × AppendsPrefix (refused_text number error) err err')
-TellsRefusal s.NoMemory error number pending out out' err err' = Appends pending out out' × (err' ≡ err)
-TellsRefusal s.Done error number pending out out' err err' = ⊥
-TellsRefusal s.Words error number pending out out' err err' = ⊥
-TellsRefusal s.ReadFault error number pending out out' err err' = ⊥
-TellsRefusal s.HostFault error number pending out out' err err' = ⊥
+abbrev pub TellsRefusal : Status → List ℕ → List ℕ → Option (List ℕ) → Option (List ℕ) → Option (List ℕ) → Option (List ℕ) → Type 0
+TellsRefusal s.Refused text pending out out' err err' = Appends pending out out' × Appends text err err'
+TellsRefusal s.WriteFault text pending out out' err err' =
+    (AppendsPrefix pending out out' × (err' ≡ err)) ⊎ (Appends pending out out' × AppendsPrefix text err err')
+TellsRefusal s.NoMemory text pending out out' err err' = Appends pending out out' × (err' ≡ err)
+TellsRefusal s.Done text pending out out' err err' = ⊥
+TellsRefusal s.Words text pending out out' err err' = ⊥
+TellsRefusal s.ReadFault text pending out out' err err' = ⊥
+TellsRefusal s.HostFault text pending out out' err err' = ⊥
 
 -- otherwise nothing was written
-abbrev pub Tells : Stop → Status → ℕ → List ℕ → Option (List ℕ) → Option (List ℕ) → Option (List ℕ) → Option (List ℕ) → Type 0
-Tells (Refused error) status number pending out out' err err' = TellsRefusal status error number pending out out' err err'
-Tells NoMemory status number pending out out' err err' = (status ≡ s.NoMemory) × (out' ≡ out) × (err' ≡ err)
-Tells WriteFault status number pending out out' err err' = (status ≡ s.WriteFault) × (out' ≡ out) × (err' ≡ err)
+abbrev pub Tells : Stop → Status → (ScriptError → List ℕ) → List ℕ → Option (List ℕ) → Option (List ℕ) → Option (List ℕ) → Option (List ℕ) → Type 0
+Tells (Refused error) status text pending out out' err err' = TellsRefusal status (text error) pending out out' err err'
+Tells NoMemory status text pending out out' err err' = (status ≡ s.NoMemory) × (out' ≡ out) × (err' ≡ err)
+Tells WriteFault status text pending out out' err err' = (status ≡ s.WriteFault) × (out' ≡ out) × (err' ≡ err)

@@ -1,20 +1,22 @@
 //! `run_script`: a script from a source, its report or the summary of it to a sink, and why it is refused to another sink.
 
-ghost use Rattle.std.specs.Prelude.{◌≡◌, ◌≤◌, ◌⊎◌, true, false};
+ghost use Rattle.std.specs.Prelude.{◌≡◌, ◌≤◌, ◌⊎◌, true, false, IfOk};
 ghost use Rattle.zr_outside.specs.Counts.{Rose};
-ghost use Rattle.zr_language.specs.Report.{refused_text, too_long_text};
+ghost use Rattle.zr_language.specs.Report.{too_long_text};
 ghost use Rattle.zr_network.specs.Run.{start};
 ghost use Rattle.zr_netrun.specs.Possible.{StepsGo};
 ghost use Rattle.zr_netrun.specs.Kept.{begun, seen, writes, Tells, Complains};
-ghost use Rattle.zr_netrun.specs.Clauses.{OfRead, IsReported, IsReadToEnd, IsSummedUp};
+ghost use Rattle.zr_netrun.specs.Clauses.{OfRead, IsReported, IsReportedBy, IsExplained, IsReadToEnd, IsSummedUp, IsSummedUpBy, IsExplainedSum};
+ghost use Rattle.zr_netrun.specs.Judged.{refusal_told};
 ghost use Rattle.zr_netrun.specs.Counted.{CountsFromNone, IsRun, TellsSummary};
 
 use crate::counts::Counts;
 use crate::nowhere::Nowhere;
 use crate::runner::{Runner, Stop};
 use crate::status::Status;
-use std::alloc::Global;
+use std::alloc::{AllocError, Global};
 use zr_command::error::ScriptError;
+use zr_explain::explain;
 use zr_numbers::steps_are_possible;
 use zr_outside::sink::{Sink, write_all};
 use zr_outside::source::{Got, Source};
@@ -34,7 +36,6 @@ const PIECE: usize = 65_536;
 ///
 /// A refused line ends the run: `err` then has `line N: NUMBER NAME`. So does a script of more than 67,108,864 bytes, none of whose
 /// lines within them is refused: `err` has `script too long`. A status of fault comes only where that count rose in this call.
-#[tactic(auto, using(crate::proofs::Going::from_start))]
 pub fn run_script<S: Source, K: Sink, E: Sink>(
     alloc: Global,
     input: &mut S,
@@ -54,23 +55,23 @@ pub fn run_script<S: Source, K: Sink, E: Sink>(
     ensures out_later { K.faults out.old ≤ K.faults out.new }
     ensures err_later { E.faults err.old ≤ E.faults err.new }
 {
-    steps_are_possible();
     if summary {
-        return sum_up(alloc, input, out, err);
+        return sum_up(alloc, false, input, out, err);
     }
-    let mut runner = Runner::new(alloc, None);
-    run_lines(alloc, &mut runner, input, out, err)
+    report(alloc, false, input, out, err)
 }
 
-// The report is counted and goes nowhere; at the script's end the summary is written.
-fn sum_up<S: Source, K: Sink, E: Sink>(
+/// The same, but where a line is refused `err` has its explanation behind `line N: NUMBER NAME`.
+pub fn run_explained<S: Source, K: Sink, E: Sink>(
     alloc: Global,
     input: &mut S,
     out: &mut K,
     err: &mut E,
+    summary: bool,
 ) -> Status
-    requires { StepsGo start }
-    ensures summed_up { OfRead (S.left input.old) (S.left input.new) (IsSummedUp (IsReadToEnd (S.ends input.old) (S.ends input.new) (S.quiets input.old) (S.quiets input.new)) result (K.held out.old) (K.held out.new) (E.held err.old) (E.held err.new)) }
+    ensures left { OfRead (S.left input.old) (S.left input.new) (λ read. Unit {0}) }
+    ensures explained { summary ≡ false → OfRead (S.left input.old) (S.left input.new) (IsExplained (IsReadToEnd (S.ends input.old) (S.ends input.new) (S.quiets input.old) (S.quiets input.new)) result (K.held out.old) (K.held out.new) (E.held err.old) (E.held err.new)) }
+    ensures explained_sum { summary ≡ true → OfRead (S.left input.old) (S.left input.new) (IsExplainedSum (IsReadToEnd (S.ends input.old) (S.ends input.new) (S.quiets input.old) (S.quiets input.new)) result (K.held out.old) (K.held out.new) (E.held err.old) (E.held err.new)) }
     ensures whole { result ≡ Status.Done → IsReadToEnd (S.ends input.old) (S.ends input.new) (S.quiets input.old) (S.quiets input.new) }
     ensures read { result ≡ Status.ReadFault → Rose (S.faults input.old) (S.faults input.new) }
     ensures write { result ≡ Status.WriteFault → Rose (K.faults out.old) (K.faults out.new) ⊎ Rose (E.faults err.old) (E.faults err.new) }
@@ -80,8 +81,60 @@ fn sum_up<S: Source, K: Sink, E: Sink>(
     ensures out_later { K.faults out.old ≤ K.faults out.new }
     ensures err_later { E.faults err.old ≤ E.faults err.new }
 {
+    if summary {
+        return sum_up(alloc, true, input, out, err);
+    }
+    report(alloc, true, input, out, err)
+}
+
+// The report is written as it comes.
+#[tactic(auto, using(crate::proofs::Going::from_start))]
+fn report<S: Source, K: Sink, E: Sink>(
+    alloc: Global,
+    explains: bool,
+    input: &mut S,
+    out: &mut K,
+    err: &mut E,
+) -> Status
+    ensures left { OfRead (S.left input.old) (S.left input.new) (λ read. Unit {0}) }
+    ensures report { OfRead (S.left input.old) (S.left input.new) (IsReportedBy explains (IsReadToEnd (S.ends input.old) (S.ends input.new) (S.quiets input.old) (S.quiets input.new)) result (K.held out.old) (K.held out.new) (E.held err.old) (E.held err.new)) }
+    ensures whole { result ≡ Status.Done → IsReadToEnd (S.ends input.old) (S.ends input.new) (S.quiets input.old) (S.quiets input.new) }
+    ensures read { result ≡ Status.ReadFault → Rose (S.faults input.old) (S.faults input.new) }
+    ensures write { result ≡ Status.WriteFault → Rose (K.faults out.old) (K.faults out.new) ⊎ Rose (E.faults err.old) (E.faults err.new) }
+    ensures words { (result ≡ Status.Words) → ⊥ }
+    ensures host { (result ≡ Status.HostFault) → ⊥ }
+    ensures input_later { S.faults input.old ≤ S.faults input.new }
+    ensures out_later { K.faults out.old ≤ K.faults out.new }
+    ensures err_later { E.faults err.old ≤ E.faults err.new }
+{
+    steps_are_possible();
+    let mut runner = Runner::new(alloc, None);
+    run_lines(alloc, explains, &mut runner, input, out, err)
+}
+
+// The report is counted and goes nowhere; at the script's end the summary is written.
+#[tactic(auto, using(crate::proofs::Going::from_start))]
+fn sum_up<S: Source, K: Sink, E: Sink>(
+    alloc: Global,
+    explains: bool,
+    input: &mut S,
+    out: &mut K,
+    err: &mut E,
+) -> Status
+    ensures left { OfRead (S.left input.old) (S.left input.new) (λ read. Unit {0}) }
+    ensures summed_up { OfRead (S.left input.old) (S.left input.new) (IsSummedUpBy explains (IsReadToEnd (S.ends input.old) (S.ends input.new) (S.quiets input.old) (S.quiets input.new)) result (K.held out.old) (K.held out.new) (E.held err.old) (E.held err.new)) }
+    ensures whole { result ≡ Status.Done → IsReadToEnd (S.ends input.old) (S.ends input.new) (S.quiets input.old) (S.quiets input.new) }
+    ensures read { result ≡ Status.ReadFault → Rose (S.faults input.old) (S.faults input.new) }
+    ensures write { result ≡ Status.WriteFault → Rose (K.faults out.old) (K.faults out.new) ⊎ Rose (E.faults err.old) (E.faults err.new) }
+    ensures words { (result ≡ Status.Words) → ⊥ }
+    ensures host { (result ≡ Status.HostFault) → ⊥ }
+    ensures input_later { S.faults input.old ≤ S.faults input.new }
+    ensures out_later { K.faults out.old ≤ K.faults out.new }
+    ensures err_later { E.faults err.old ≤ E.faults err.new }
+{
+    steps_are_possible();
     let mut runner = Runner::new(alloc, Some(Counts::new()));
-    match run_lines(alloc, &mut runner, input, &mut Nowhere, err) {
+    match run_lines(alloc, explains, &mut runner, input, &mut Nowhere, err) {
         Status::Done => tell_summary(alloc, runner.counts(), out),
         status => status,
     }
@@ -108,6 +161,7 @@ fn tell_summary<K: Sink>(alloc: Global, counts: Option<Counts>, out: &mut K) -> 
 // Reads a script to its end, and applies its lines as they come, by a runner to which none has come yet.
 fn run_lines<S: Source, K: Sink, E: Sink>(
     alloc: Global,
+    explains: bool,
     runner: &mut Runner,
     input: &mut S,
     out: &mut K,
@@ -117,7 +171,7 @@ fn run_lines<S: Source, K: Sink, E: Sink>(
     requires begins { runner.old ≡ begun runner.old.counts }
     requires counts { CountsFromNone runner.old.counts }
     ensures mode { result ≡ Status.Done → writes runner.new ≡ writes runner.old }
-    ensures report { OfRead (S.left input.old) (S.left input.new) (IsRun (IsReadToEnd (S.ends input.old) (S.ends input.new) (S.quiets input.old) (S.quiets input.new)) result (seen (writes runner.old) (K.held out.old)) (seen (writes runner.old) (K.held out.new)) (E.held err.old) (E.held err.new) runner.new) }
+    ensures report { OfRead (S.left input.old) (S.left input.new) (IsRun explains (IsReadToEnd (S.ends input.old) (S.ends input.new) (S.quiets input.old) (S.quiets input.new)) result (seen (writes runner.old) (K.held out.old)) (seen (writes runner.old) (K.held out.new)) (E.held err.old) (E.held err.new) runner.new) }
     ensures whole { result ≡ Status.Done → IsReadToEnd (S.ends input.old) (S.ends input.new) (S.quiets input.old) (S.quiets input.new) }
     ensures read { result ≡ Status.ReadFault → Rose (S.faults input.old) (S.faults input.new) }
     ensures write { result ≡ Status.WriteFault → Rose (K.faults out.old) (K.faults out.new) ⊎ Rose (E.faults err.old) (E.faults err.new) }
@@ -139,7 +193,7 @@ fn run_lines<S: Source, K: Sink, E: Sink>(
                 total += used;
                 match runner.feed(&piece[..used], out) {
                     Ok(()) => {}
-                    Err(stop) => return tell(alloc, runner, stop, out, err),
+                    Err(stop) => return tell(alloc, explains, runner, stop, out, err),
                 }
                 if used < count {
                     return tell_too_long(err);
@@ -157,19 +211,20 @@ fn run_lines<S: Source, K: Sink, E: Sink>(
     }
     match runner.finish(out) {
         Ok(()) => Status::Done,
-        Err(stop) => tell(alloc, runner, stop, out, err),
+        Err(stop) => tell(alloc, explains, runner, stop, out, err),
     }
 }
 
 // A run has stopped: what waits is written, and then why its last line is refused, where it is.
 fn tell<K: Sink, E: Sink>(
     alloc: Global,
+    explains: bool,
     runner: &mut Runner,
     stop: Stop,
     out: &mut K,
     err: &mut E,
 ) -> Status
-    ensures tells { Tells stop result runner.old.number runner.old.pending (K.held out.old) (K.held out.new) (E.held err.old) (E.held err.new) }
+    ensures tells { Tells stop result (refusal_told explains runner.old.number runner.old.line) runner.old.pending (K.held out.old) (K.held out.new) (E.held err.old) (E.held err.new) }
     ensures stops { (result ≡ Status.Done) → ⊥ }
     ensures write { result ≡ Status.WriteFault → (stop ≡ Stop.WriteFault) ⊎ (Rose (K.faults out.old) (K.faults out.new) ⊎ Rose (E.faults err.old) (E.faults err.new)) }
     ensures out_later { K.faults out.old ≤ K.faults out.new }
@@ -182,21 +237,44 @@ fn tell<K: Sink, E: Sink>(
             if runner.flush(out).is_err() {
                 return Status::WriteFault;
             }
-            tell_refusal(alloc, runner.number(), error, err)
+            tell_refusal(alloc, explains, runner, error, err)
         }
     }
 }
 
-fn tell_refusal<E: Sink>(alloc: Global, number: u64, error: ScriptError, err: &mut E) -> Status
-    ensures tells { Complains result (refused_text number error) (E.held err.old) (E.held err.new) }
+// Why a line is refused, which is the last that has ended, and its explanation where that is asked for.
+fn refusal_told(
+    alloc: Global,
+    explains: bool,
+    runner: &Runner,
+    error: ScriptError,
+) -> Result<Vec<u8>, AllocError>
+    ensures { IfOk result (λ text. text.items ≡ refusal_told explains runner.now.number runner.now.line error) }
+{
+    let mut text = Vec::new(alloc);
+    refused_text(runner.number(), error, &mut text)?;
+    if explains {
+        let explanation = explain(alloc, runner.line(), error)?;
+        text.extend_from_slice(explanation.as_slice())?;
+    }
+    Ok(text)
+}
+
+fn tell_refusal<E: Sink>(
+    alloc: Global,
+    explains: bool,
+    runner: &Runner,
+    error: ScriptError,
+    err: &mut E,
+) -> Status
+    ensures tells { Complains result (refusal_told explains runner.now.number runner.now.line error) (E.held err.old) (E.held err.new) }
     ensures write { result ≡ Status.WriteFault → Rose (E.faults err.old) (E.faults err.new) }
     ensures later { E.faults err.old ≤ E.faults err.new }
 {
-    let mut text = Vec::new(alloc);
-    if refused_text(number, error, &mut text).is_err() {
-        return Status::NoMemory;
+    match refusal_told(alloc, explains, runner, error) {
+        Ok(text) => complain(&text, err),
+        Err(_) => Status::NoMemory,
     }
-    complain(&text, err)
 }
 
 fn tell_too_long<E: Sink>(err: &mut E) -> Status

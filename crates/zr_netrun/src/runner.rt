@@ -11,7 +11,8 @@ ghost use Rattle.zr_network.specs.Run.{on_line};
 ghost use Rattle.zr_outside.specs.Counts.{Rose};
 ghost use Rattle.zr_outside.specs.Told.{Appends, AppendsPrefix};
 ghost use Rattle.zr_world.specs.Living.{Books};
-ghost use Rattle.zr_netrun.specs.Kept.{begun, fresh, most_pending, run_behind, run_by, seen, writes, StepsOn, Turns, Written};
+ghost use Rattle.zr_netrun.specs.Kept.{begun, fresh, most_pending, run_behind, run_by, seen, writes, IsKeptIf, KeepsRefused, StepsOn, Turns, Written};
+ghost use Rattle.zr_netrun.specs.Judged.{refused_line};
 ghost use Rattle.zr_netrun.specs.Counted.{acts_by, step_by, with_lines, CountsOn};
 ghost use Rattle.zr_netrun.specs.Possible.{RunsGo, StepsGo};
 
@@ -94,6 +95,13 @@ impl Runner {
         self.number
     }
 
+    /// What is kept of the line that has not ended, and where a line was refused of that line: its first 4,097 bytes.
+    pub fn line(&self) -> &[u8]
+        ensures { result.now ≡ self.now.line }
+    {
+        self.line.as_slice()
+    }
+
     /// What was counted of the report, where it is counted.
     pub fn counts(&self) -> Option<Counts>
         ensures { result ≡ self.now.counts }
@@ -110,6 +118,7 @@ impl Runner {
         ensures turn { Turns result (fold on_line (fresh self.old) (ended_lines (self.old.line ++ piece.now))) (take most_kept (open_line (self.old.line ++ piece.now))) self.old.pending self.new (seen (writes self.old) (K.held out.old)) (seen (writes self.old) (K.held out.new)) }
         ensures counts { OnOk result (CountsOn (accepted_from (fresh self.old) (ended_lines (self.old.line ++ piece.now))) self.old self.new) }
         ensures flushed { OnOk result (self.new.pending ≡ []) }
+        ensures refused { KeepsRefused result (refused_line (fresh self.old) (ended_lines (self.old.line ++ piece.now))) self.new }
         ensures fault { result ≡ Err Stop.WriteFault → Rose (K.faults out.old) (K.faults out.new) }
         ensures count { self.new.number ≤ self.old.number + length piece.now }
         ensures later { K.faults out.old ≤ K.faults out.new }
@@ -126,6 +135,7 @@ impl Runner {
         ensures turn { Turns result (fold on_line (fresh self.old) (unless_empty self.old.line)) [] self.old.pending self.new (seen (writes self.old) (K.held out.old)) (seen (writes self.old) (K.held out.new)) }
         ensures counts { OnOk result (CountsOn (accepted_from (fresh self.old) (unless_empty self.old.line)) self.old self.new) }
         ensures flushed { OnOk result (self.new.pending ≡ []) }
+        ensures refused { KeepsRefused result (refused_line (fresh self.old) (unless_empty self.old.line)) self.new }
         ensures fault { result ≡ Err Stop.WriteFault → Rose (K.faults out.old) (K.faults out.new) }
         ensures later { K.faults out.old ≤ K.faults out.new }
     {
@@ -152,6 +162,7 @@ impl Runner {
         requires room { self.old.number + length piece.now ≤ most_bytes }
         ensures turn { Turns result (fold on_line (fresh self.old) (ended_lines (self.old.line ++ piece.now))) (take most_kept (open_line (self.old.line ++ piece.now))) self.old.pending self.new (seen (writes self.old) (K.held out.old)) (seen (writes self.old) (K.held out.new)) }
         ensures counts { OnOk result (CountsOn (accepted_from (fresh self.old) (ended_lines (self.old.line ++ piece.now))) self.old self.new) }
+        ensures refused { KeepsRefused result (refused_line (fresh self.old) (ended_lines (self.old.line ++ piece.now))) self.new }
         ensures fault { result ≡ Err Stop.WriteFault → Rose (K.faults out.old) (K.faults out.new) }
         ensures count { self.new.number ≤ self.old.number + length piece.now }
         ensures later { K.faults out.old ≤ K.faults out.new }
@@ -172,6 +183,7 @@ impl Runner {
         requires room { self.old.number ≤ most_bytes }
         ensures turn { Turns result (fold on_line (fresh self.old) (unless_empty self.old.line)) [] self.old.pending self.new (seen (writes self.old) (K.held out.old)) (seen (writes self.old) (K.held out.new)) }
         ensures counts { OnOk result (CountsOn (accepted_from (fresh self.old) (unless_empty self.old.line)) self.old self.new) }
+        ensures refused { KeepsRefused result (refused_line (fresh self.old) (unless_empty self.old.line)) self.new }
         ensures fault { result ≡ Err Stop.WriteFault → Rose (K.faults out.old) (K.faults out.new) }
         ensures later { K.faults out.old ≤ K.faults out.new }
     {
@@ -179,7 +191,7 @@ impl Runner {
             return Ok(());
         }
         let line = mem::replace(&mut self.line, Vec::new(self.alloc));
-        self.on_line(&line, out)
+        self.apply_line(&line, out)
     }
 
     // A line has ended, of which this is the last part.
@@ -191,16 +203,34 @@ impl Runner {
         requires open { parts part.now ≡ part.now ∷ [] }
         ensures turn { Turns result (on_line (fresh self.old) (self.old.line ++ part.now)) [] self.old.pending self.new (seen (writes self.old) (K.held out.old)) (seen (writes self.old) (K.held out.new)) }
         ensures counts { OnOk result (CountsOn (accepted_from (fresh self.old) ((self.old.line ++ part.now) ∷ [])) self.old self.new) }
+        ensures refused { KeepsRefused result (self.old.line ++ part.now) self.new }
         ensures fault { result ≡ Err Stop.WriteFault → Rose (K.faults out.old) (K.faults out.new) }
         ensures count { self.new.number ≤ self.old.number + 1 }
         ensures later { K.faults out.old ≤ K.faults out.new }
     {
         if self.line.is_empty() {
-            return self.on_line(part, out);
+            return self.apply_line(part, out);
         }
         self.keep_part(part)?;
         let line = mem::replace(&mut self.line, Vec::new(self.alloc));
-        self.on_line(&line, out)
+        self.apply_line(&line, out)
+    }
+
+    // A line has ended. What it asks is done; where it is refused it is kept, as far as it matters.
+    fn apply_line<K: Sink>(&mut self, line: &[u8], out: &mut K) -> Result<(), Stop>
+        requires alive { self.old.world.spent ≡ false }
+        requires goes { StepsGo (fresh self.old) }
+        requires room { self.old.number ≤ most_bytes }
+        requires open { parts line.now ≡ line.now ∷ [] }
+        ensures turn { Turns result (on_line (fresh self.old) line.now) self.old.line self.old.pending self.new (seen (writes self.old) (K.held out.old)) (seen (writes self.old) (K.held out.new)) }
+        ensures counts { OnOk result (CountsOn (accepted_from (fresh self.old) (line.now ∷ [])) self.old self.new) }
+        ensures refused { KeepsRefused result line.now self.new }
+        ensures fault { result ≡ Err Stop.WriteFault → Rose (K.faults out.old) (K.faults out.new) }
+        ensures count { self.new.number ≤ self.old.number + 1 }
+        ensures later { K.faults out.old ≤ K.faults out.new }
+    {
+        let done = self.on_line(line, out);
+        self.keep_refused(line, done)
     }
 
     // A line has ended: it is counted, and what it asks is done.
@@ -314,6 +344,22 @@ impl Runner {
         put_end(done, quiet, &mut self.text, &mut self.pending)?;
         write_if_enough(&mut self.pending, out)?;
         Ok(())
+    }
+
+    // Where a line was refused it is kept, as far as it matters.
+    fn keep_refused(&mut self, line: &[u8], done: Result<(), Stop>) -> Result<(), Stop>
+        requires { parts line.now ≡ line.now ∷ [] }
+        ensures kept { IsKeptIf done result line.now self.old self.new }
+        ensures count { self.new.number ≡ self.old.number }
+    {
+        match done {
+            Err(Stop::Refused(_)) => {
+                self.line.clear();
+                self.keep_part(line)?;
+                done
+            }
+            _ => done,
+        }
     }
 
     // What has come of a line is kept, as far as it matters.

@@ -7,4 +7,4 @@ pub mod line;
 mod message;
 mod part;
 pub mod text;
-mod word;
+pub mod word;

@@ -139,7 +139,8 @@ fn is_space(byte: Option<&u8>) -> bool
     }
 }
 
-fn is_number(word: &[u8]) -> bool
+/// Whether a word is decimal digits without leading zeros.
+pub fn is_number(word: &[u8]) -> bool
     ensures { result ≡ is_number word.now }
 {
     match word {
@@ -155,8 +156,8 @@ fn are_digits(word: &[u8]) -> bool
     word.iter().all(|b| b.is_ascii_digit())
 }
 
-// The value of some digits, where it fits.
-fn value(word: &[u8]) -> Option<u32>
+/// The value of some digits, where it fits.
+pub fn value(word: &[u8]) -> Option<u32>
     ensures { result ≡ (if nat_lt (value_of word.now) (2 ^ 32) then Some (value_of word.now) else None) }
 {
     let mut n: u64 = 0;

@@ -6,6 +6,7 @@ use Rattle.zr_language.specs.Lines.{ended_lines}
 use Rattle.zr_language.specs.Report.{too_long_text}
 use Rattle.zr_outside.specs.Told.{Consumes}
 use Rattle.zr_netrun.specs.Kept.{Kept, fresh, writes, Tells, Complains}
+use Rattle.zr_netrun.specs.Judged.{refusal_told}
 use Rattle.zr_netrun.specs.Possible.{StepsGo}
 use Rattle.zr_netrun.specs.Clauses.{IsReadToEnd}
 use Rattle.zr_netrun.proofs.Writing.{seen_at, seen_stopped}
@@ -41,20 +42,20 @@ pub returns-in-Err-clause-report : goal.returns-in-Err-clause-report
 returns-in-Err-clause-report g c =
     let fits : c.in-Bytes.count ≤ length c.read.new.into = grind (arith, c.in-Bytes.ensures.bytes.1, c.reading.invariant.sized) in
     let cut : c.min-used.result ≡ min c.in-Bytes.count (67108864 - c.reading.total) = search rules in
-    let told = subst (λ (z : Option (List ℕ)). Tells c.in-Err.stop c.tell.result c.feed.new.self.number c.feed.new.self.pending (g.K.Sink.held c.feed.new.out) (g.K.Sink.held c.tell.new.out) z (g.E.Sink.held c.tell.new.err))
+    let told = subst (λ (z : Option (List ℕ)). Tells c.in-Err.stop c.tell.result (refusal_told c.args.explains c.feed.new.self.number c.feed.new.self.line) c.feed.new.self.pending (g.K.Sink.held c.feed.new.out) (g.K.Sink.held c.tell.new.out) z (g.E.Sink.held c.tell.new.err))
     c.reading.invariant.err_same c.tell.ensures.tells in
-    not_done _ _ _ _ _ _ _ _ _ c.tell.ensures.stops
-    (stops_reading _ _ _ _ c.in-Bytes.count c.min-used.result c.reading.total c.read.new.into c.reading.runner c.feed.new.self _ _ _ _ _ _ c.in-Err.stop c.tell.result
+    not_done c.args.explains _ _ _ _ _ _ _ _ _ c.tell.ensures.stops
+    (stops_reading c.args.explains _ _ _ _ c.in-Bytes.count c.min-used.result c.reading.total c.read.new.into c.reading.runner c.feed.new.self _ _ _ _ _ _ c.in-Err.stop c.tell.result
     c.reading.invariant.read c.in-Bytes.ensures.bytes.2 fits c.reading.invariant.most cut
-    (seen_stopped (writes c.reading.runner) (writes c.args.runner.now) _ _ _ _ _ _ c.reading.invariant.mode c.in-Err.ensures.turn) (seen_tells (writes c.args.runner.now) _ _ _ _ _ _ _ _ told))
+    (seen_stopped (writes c.reading.runner) (writes c.args.runner.now) _ _ _ _ _ _ c.reading.invariant.mode c.in-Err.ensures.turn) c.in-Err.ensures.refused (seen_tells (writes c.args.runner.now) _ _ _ _ _ _ _ _ told))
 
 pub returns-then-used-count-clause-report : goal.returns-then-used-count-clause-report
 returns-then-used-count-clause-report g c =
     let fits : c.in-Bytes.count ≤ length c.read.new.into = grind (arith, c.in-Bytes.ensures.bytes.1, c.reading.invariant.sized) in
     let cut : c.min-used.result ≡ min c.in-Bytes.count (67108864 - c.reading.total) = search rules in
     let told = subst (λ (z : Option (List ℕ)). Complains c.tell_too_long.result too_long_text z (g.E.Sink.held c.tell_too_long.new.err)) c.reading.invariant.err_same c.tell_too_long.ensures.tells in
-    not_done _ _ _ _ _ _ _ _ _ c.tell_too_long.ensures.stops
-    (passes_limit _ _ _ _ c.in-Bytes.count c.min-used.result c.reading.total c.read.new.into c.reading.runner c.feed.new.self _ _ _ _ _ _ c.tell_too_long.result
+    not_done c.args.explains _ _ _ _ _ _ _ _ _ c.tell_too_long.ensures.stops
+    (passes_limit c.args.explains _ _ _ _ c.in-Bytes.count c.min-used.result c.reading.total c.read.new.into c.reading.runner c.feed.new.self _ _ _ _ _ _ c.tell_too_long.result
     c.reading.invariant.read c.in-Bytes.ensures.bytes.2 fits c.reading.invariant.most cut c.if-used-count.true
     (seen_at (writes c.reading.runner) (writes c.args.runner.now) _ _ _ _ _ _ c.reading.invariant.mode c.in-Ok.ensures.turn) c.in-Ok.ensures.flushed told)
 
@@ -88,20 +89,20 @@ reading-preserved-else-used-count g c =
 
 pub returns-in-Ok-finish-clause-report : goal.returns-in-Ok-finish-clause-report
 returns-in-Ok-finish-clause-report g c =
-    ends_reading _ _ _ c.reading.total c.reading.runner c.finish.new.self _ _ _ _ _ _ (c.reading.invariant.ended c.reading-test.false) c.reading.invariant.read c.reading.invariant.most
+    ends_reading c.args.explains _ _ _ c.reading.total c.reading.runner c.finish.new.self _ _ _ _ _ _ (c.reading.invariant.ended c.reading-test.false) c.reading.invariant.read c.reading.invariant.most
     (seen_at (writes c.reading.runner) (writes c.args.runner.now) _ _ _ _ _ _ c.reading.invariant.mode c.in-Ok-finish.ensures.turn) c.in-Ok-finish.ensures.counts c.in-Ok-finish.ensures.flushed c.reading.invariant.err_same
 
 pub returns-in-Err-finish-clause-report : goal.returns-in-Err-finish-clause-report
 returns-in-Err-finish-clause-report g c =
-    let told = subst (λ (z : Option (List ℕ)). Tells c.in-Err-finish.stop c.tell-in-Err-finish.result c.finish.new.self.number c.finish.new.self.pending (g.K.Sink.held c.finish.new.out) (g.K.Sink.held c.tell-in-Err-finish.new.out) z (g.E.Sink.held c.tell-in-Err-finish.new.err))
+    let told = subst (λ (z : Option (List ℕ)). Tells c.in-Err-finish.stop c.tell-in-Err-finish.result (refusal_told c.args.explains c.finish.new.self.number c.finish.new.self.line) c.finish.new.self.pending (g.K.Sink.held c.finish.new.out) (g.K.Sink.held c.tell-in-Err-finish.new.out) z (g.E.Sink.held c.tell-in-Err-finish.new.err))
     c.reading.invariant.err_same c.tell-in-Err-finish.ensures.tells in
-    not_done _ _ _ _ _ _ _ _ _ c.tell-in-Err-finish.ensures.stops
-    (stops_at_end (IsReadToEnd (g.S.Source.ends c.args.input.now) (g.S.Source.ends c.reading.input) (g.S.Source.quiets c.args.input.now) (g.S.Source.quiets c.reading.input))
+    not_done c.args.explains _ _ _ _ _ _ _ _ _ c.tell-in-Err-finish.ensures.stops
+    (stops_at_end c.args.explains (IsReadToEnd (g.S.Source.ends c.args.input.now) (g.S.Source.ends c.reading.input) (g.S.Source.quiets c.args.input.now) (g.S.Source.quiets c.reading.input))
     _ _ c.reading.total c.reading.runner c.finish.new.self _ _ _ _ _ _ c.in-Err-finish.stop c.tell-in-Err-finish.result
     (c.reading.invariant.ended c.reading-test.false) c.reading.invariant.read c.reading.invariant.most
-    (seen_stopped (writes c.reading.runner) (writes c.args.runner.now) _ _ _ _ _ _ c.reading.invariant.mode c.in-Err-finish.ensures.turn) (seen_tells (writes c.args.runner.now) _ _ _ _ _ _ _ _ told))
+    (seen_stopped (writes c.reading.runner) (writes c.args.runner.now) _ _ _ _ _ _ c.reading.invariant.mode c.in-Err-finish.ensures.turn) c.in-Err-finish.ensures.refused (seen_tells (writes c.args.runner.now) _ _ _ _ _ _ _ _ told))
 
 pub returns-in-Failed-clause-report : goal.returns-in-Failed-clause-report
 returns-in-Failed-clause-report g c =
-    not_done _ _ _ _ _ _ _ _ _ fault_not_done
-    (fails_reading _ _ _ _ c.reading.total c.reading.runner _ _ _ _ c.reading.invariant.read c.in-Failed.ensures.bytes c.reading.invariant.most c.reading.invariant.err_same)
+    not_done c.args.explains _ _ _ _ _ _ _ _ _ fault_not_done
+    (fails_reading c.args.explains _ _ _ _ c.reading.total c.reading.runner _ _ _ _ c.reading.invariant.read c.in-Failed.ensures.bytes c.reading.invariant.most c.reading.invariant.err_same)

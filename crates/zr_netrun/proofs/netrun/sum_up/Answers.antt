@@ -9,7 +9,7 @@ pub returns-in-Done-clause-summed_up : goal.returns-in-Done-clause-summed_up
 returns-in-Done-clause-summed_up g c =
     let counting : writes c.run_lines.new.runner ≡ false = c.in-Done.ensures.mode refl ∙ ap (λ (z : Kept). writes z) c.new-runner.ensures in
     let told = subst (λ (o : Option Counts). TellsSummary c.tell_summary.result o (g.K.Sink.held c.args.out.now) (g.K.Sink.held c.tell_summary.new.out)) c.counts.ensures c.tell_summary.ensures.tells in
-    summed _ _ _ c.run_lines.new.runner _ _ _ _ _ _ c.tell_summary.result counting c.in-Done.ensures.report told
+    summed c.args.explains _ _ _ c.run_lines.new.runner _ _ _ _ _ _ c.tell_summary.result counting c.in-Done.ensures.report told
 
 pub returns-clause-summed_up : goal.returns-clause-summed_up
-returns-clause-summed_up g c = not_summed _ _ _ c.run_lines.new.runner _ _ _ _ _ _ c.run_lines.result c.in_default.not-Done refl c.run_lines.ensures.report
+returns-clause-summed_up g c = not_summed c.args.explains _ _ _ c.run_lines.new.runner _ _ _ _ _ _ c.run_lines.result c.in_default.not-Done refl c.run_lines.ensures.report

@@ -1,6 +1,7 @@
 use Rattle.zr_netrun.specs.Kept.{writes}
 use Rattle.zr_netrun.proofs.Writing.{flush_after}
 use Rattle.zr_netrun.proofs.Counting.{flush_counts}
+use Rattle.zr_netrun.proofs.Refusing.{write_fault_keeps}
 use Rattle.zr_netrun.proofs.runner.Runner.feed.Goals as goal
 
 pub returns-clause-turn : goal.returns-clause-turn
@@ -8,3 +9,6 @@ returns-clause-turn g c = flush_after (writes c.args.self.now) _ _ _ c.feed_line
 
 pub returns-clause-counts : goal.returns-clause-counts
 returns-clause-counts g c = flush_counts _ c.feed_lines.new.self c.flush.new.self _ c.flush.result c.flush.ensures.written c.in_ok-feed_lines.ensures.counts
+
+pub returns-clause-refused : goal.returns-clause-refused
+returns-clause-refused g c = write_fault_keeps c.flush.result _ c.flush.new.self _ c.flush.ensures.err

@@ -10,6 +10,7 @@ use Rattle.zr_netrun.proofs.Counting.{ahead_start}
 use Rattle.zr_netrun.proofs.Accepting.{next_counts, keeps_counts}
 use Rattle.zr_netrun.proofs.Going.{goes_past}
 use Rattle.zr_netrun.proofs.Lines.{IsOpen}
+use Rattle.zr_netrun.proofs.Refusing.{refused_next, refused_stop, no_memory_keeps}
 use Rattle.zr_netrun.proofs.Feeding.{left_shorter, start_at, cut_rest, place_within, next_at, stops_at, keeps_at}
 use Rattle.zr_netrun.proofs.runner.Runner.feed_lines.Goals as goal
 
@@ -21,6 +22,7 @@ loop-place-init g c = record {
   count = omega arith;
   later = omega arith;
   counted = ahead_start c.args.self.now _;
+  refused = refl;
   at = (fresh c.args.self.now, start_at c.args.self.now _ c.requires.alive, refl, refl);
 }
 
@@ -48,9 +50,17 @@ loop-place-preserved g c =
           c.loop-place.invariant.count;
       later = omega (arith, c.in_ok-end_line.ensures.later);
       counted = next_counts _ c.loop-place.self c.end_line.new.self _ c.loop-place.rest.now _ _ _ _ _ c.loop-place.invariant.is_open cut turn c.loop-place.invariant.counted c.in_ok-end_line.ensures.counts;
+      refused = refused_next c.loop-place.self c.end_line.new.self c.loop-place.rest.now _ _ _ _ _ c.loop-place.invariant.refused c.loop-place.invariant.is_open cut turn;
       at = next_at _ _ _ _ c.loop-place.self c.end_line.new.self c.loop-place.rest.now _ _ _ _ c.loop-place.invariant.at c.loop-place.invariant.is_open
           cut turn;
     }
+
+pub returns-in_err-end_line-clause-refused : goal.returns-in_err-end_line-clause-refused
+returns-in_err-end_line-clause-refused g c =
+    let p = err_from_is_err_and c.from_residual.result c.from_residual.ensures.1 in
+    rw (p.1, p.2) (refused_stop c.loop-place.self c.end_line.new.self c.loop-place.rest.now (take c.in-Some.place c.loop-place.rest.now)
+    (take (length c.loop-place.rest.now - (c.in-Some.place + 1)) (drop (c.in-Some.place + 1) c.loop-place.rest.now)) _ _ _ _ c.loop-place.invariant.refused c.loop-place.invariant.is_open
+    (cut_rest c.loop-place.rest.now c.in-Some.place (sym c.in-Some.ensures)) c.in_err-end_line.ensures.turn c.in_err-end_line.ensures.refused)
 
 pub keep_part-requires : goal.keep_part-requires
 keep_part-requires g c =
@@ -68,3 +78,6 @@ returns-clause-counts g c =
     let none : position (λ b. b == 10) c.loop-place.rest.now ≡ None = search rules in
     keeps_counts _ c.loop-place.self c.keep_part.new.self _ c.loop-place.rest.now _ _ c.keep_part.result c.loop-place.invariant.is_open
     (none_cut (λ b. b == 10) c.loop-place.rest.now 0 none) c.keep_part.ensures.ok c.loop-place.invariant.counted
+
+pub returns-clause-refused : goal.returns-clause-refused
+returns-clause-refused g c = no_memory_keeps c.keep_part.result _ c.keep_part.new.self c.keep_part.ensures.err

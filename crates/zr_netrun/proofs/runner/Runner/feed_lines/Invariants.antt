@@ -5,6 +5,7 @@ use Rattle.zr_language.specs.Lines.{ended_lines, open_line}
 use Rattle.zr_network.specs.Run.{Run, on_line}
 use Rattle.zr_network.specs.Accepted.{accepted_from}
 use Rattle.zr_netrun.specs.Kept.{fresh, seen, writes, IsAt}
+use Rattle.zr_netrun.specs.Judged.{refused_line}
 use Rattle.zr_netrun.specs.Possible.{StepsGo}
 use Rattle.zr_netrun.specs.Counted.{CountsAhead}
 use Rattle.zr_netrun.proofs.Lines.{IsOpen}
@@ -18,6 +19,7 @@ invariant-loop-place g l = record {
   count : l.self.number + length l.rest ≤ l.fn.self.number + length l.fn.piece;
   later : g.K.Sink.faults l.fn.out ≤ g.K.Sink.faults l.out;
   counted : CountsAhead l.fn.self (accepted_from (fresh l.fn.self) (ended_lines (l.fn.self.line ++ l.fn.piece))) (accepted_from (fresh l.self) (ended_lines (l.self.line ++ l.rest))) l.self;
+  refused : refused_line (fresh l.self) (ended_lines (l.self.line ++ l.rest)) ≡ refused_line (fresh l.fn.self) (ended_lines (l.fn.self.line ++ l.fn.piece));
   at : (run : Run) × IsAt run l.self.line l.fn.self.pending l.self (seen (writes l.fn.self) (g.K.Sink.held l.fn.out)) (seen (writes l.fn.self) (g.K.Sink.held l.out))
       × (fold on_line run (ended_lines (l.self.line ++ l.rest)) ≡ fold on_line (fresh l.fn.self) (ended_lines (l.fn.self.line ++ l.fn.piece)))
       × (open_line (l.self.line ++ l.rest) ≡ open_line (l.fn.self.line ++ l.fn.piece));

@@ -1,0 +1,365 @@
+//! What is said of a refused line: a sentence with the cause.
+
+ghost use Rattle.std.specs.Prelude.{◌≡◌, ◌++◌, [], map, OnOk};
+ghost use Rattle.zr_key.specs.Key.{read_key};
+ghost use Rattle.zr_explain.specs.Places.{odd_byte};
+ghost use Rattle.zr_explain.specs.Causes.{already_cause, asked_cause, byte_cause, cause, command_cause, fault_cause, first_cause, form_cause, key_cause, later_cause, limit_cause, link_cause, name_cause, nothing_cause, number_cause, odd_cause, of_two, second_cause, space_cause, taken_cause, target_cause, told, unknown_cause, words_cause};
+
+use crate::forms::{declares, form, is_numbered, is_of_client, key_number, undeclares, word_at};
+use crate::places::{begins_with_space, has_all, is_first_good, is_name, is_target_bad, odd_byte};
+use crate::put::{put_shown, put_told, put_two};
+use std::alloc::{AllocError, Global};
+use zr_command::error::ScriptError;
+use zr_key::key::{KeyError, KeyExpr};
+use zr_script::line::MOST_LINE;
+use zr_script::word::is_clean;
+
+/// The cause why a line of these words is refused.
+pub(crate) fn put_cause(
+    alloc: Global,
+    line: &[u8],
+    words: &[&[u8]],
+    error: ScriptError,
+    text: &mut Vec<u8>,
+) -> Result<(), AllocError>
+    ensures { OnOk result (text.new.items ≡ text.old.items ++ cause line.now (map (λ w. w.now) words.now) error) }
+{
+    let name = word_at(0, words);
+    match error {
+        ScriptError::UnknownCommand => put_command_cause(words, text),
+        ScriptError::BadWords => put_bad_words(line, words, text),
+        ScriptError::BadKey => put_key_cause(alloc, word_at(key_number(name), words), text),
+        ScriptError::UnknownName => put_unknown_cause(words, text),
+        ScriptError::NameTaken => put_taken_cause(words, text),
+        ScriptError::NotLinked => put_link_cause(words, text),
+        ScriptError::AlreadyLinked => put_already_cause(words, text),
+        ScriptError::NothingThere => put_nothing_cause(words, text),
+        ScriptError::NotAsked => put_asked_cause(words, text),
+        ScriptError::NotSettled => text.extend_from_slice(b"the network is not settled"),
+        ScriptError::NotJoined => text.extend_from_slice(b"the routers are not joined"),
+        ScriptError::Limit => text.extend_from_slice(limit_cause(line.len() > MOST_LINE, name)),
+        ScriptError::NoMemory => Ok(()),
+    }
+}
+
+fn put_command_cause(words: &[&[u8]], text: &mut Vec<u8>) -> Result<(), AllocError>
+    ensures { OnOk result (text.new.items ≡ text.old.items ++ command_cause (map (λ w. w.now) words.now)) }
+{
+    match words {
+        [] => text.extend_from_slice(b"the line has spaces alone"),
+        [name, ..] => {
+            put_shown(name, text)?;
+            text.extend_from_slice(b" is no command")
+        }
+    }
+}
+
+fn put_bad_words(line: &[u8], words: &[&[u8]], text: &mut Vec<u8>) -> Result<(), AllocError>
+    ensures { OnOk result (text.new.items ≡ text.old.items ++ cause line.now (map (λ w. w.now) words.now) ScriptError.BadWords) }
+{
+    if is_clean(line) {
+        put_words_cause(words, text)
+    } else {
+        text.extend_from_slice(byte_cause(line))
+    }
+}
+
+fn byte_cause(line: &[u8]) -> &'static [u8]
+    ensures { result.now ≡ byte_cause (odd_byte line.now) line.now }
+{
+    match odd_byte(line) {
+        Some(place) => odd_cause(&line[place..]),
+        None => space_cause(line),
+    }
+}
+
+// By the rest of a line from its first byte on that is not printable.
+fn odd_cause(rest: &[u8]) -> &'static [u8]
+    ensures { result.now ≡ odd_cause rest.now }
+{
+    if rest == b"\r".as_slice() {
+        b"a carriage return at the end of the line"
+    } else {
+        b"a byte that is not printable ASCII"
+    }
+}
+
+fn space_cause(line: &[u8]) -> &'static [u8]
+    ensures { result.now ≡ space_cause line.now }
+{
+    if begins_with_space(line) {
+        b"a space at the start of the line"
+    } else {
+        b"a space at the end of the line"
+    }
+}
+
+fn put_words_cause(words: &[&[u8]], text: &mut Vec<u8>) -> Result<(), AllocError>
+    ensures { OnOk result (text.new.items ≡ text.old.items ++ words_cause (map (λ w. w.now) words.now)) }
+{
+    if !has_all(words) {
+        put_form(word_at(0, words), text)
+    } else if is_first_good(words) {
+        put_later_cause(words, text)
+    } else {
+        put_first_cause(words, text)
+    }
+}
+
+fn put_form(name: &[u8], text: &mut Vec<u8>) -> Result<(), AllocError>
+    ensures { OnOk result (text.new.items ≡ text.old.items ++ form_cause name.now) }
+{
+    put_both(b"the form is ", form(name), text)
+}
+
+// Two texts, one behind the other.
+fn put_both(before: &[u8], behind: &[u8], text: &mut Vec<u8>) -> Result<(), AllocError>
+    ensures { OnOk result (text.new.items ≡ text.old.items ++ (before.now ++ behind.now)) }
+{
+    text.extend_from_slice(before)?;
+    text.extend_from_slice(behind)
+}
+
+fn put_first_cause(words: &[&[u8]], text: &mut Vec<u8>) -> Result<(), AllocError>
+    ensures { OnOk result (text.new.items ≡ text.old.items ++ first_cause (map (λ w. w.now) words.now)) }
+{
+    if word_at(0, words) == b"run".as_slice() {
+        put_number_cause(1, words, text)
+    } else {
+        put_name_cause(1, words, text)
+    }
+}
+
+fn put_later_cause(words: &[&[u8]], text: &mut Vec<u8>) -> Result<(), AllocError>
+    ensures { OnOk result (text.new.items ≡ text.old.items ++ later_cause (map (λ w. w.now) words.now)) }
+{
+    if is_target_bad(words) {
+        put_target_cause(words, text)
+    } else {
+        put_second_cause(words, text)
+    }
+}
+
+fn put_target_cause(words: &[&[u8]], text: &mut Vec<u8>) -> Result<(), AllocError>
+    ensures { OnOk result (text.new.items ≡ text.old.items ++ target_cause (map (λ w. w.now) words.now)) }
+{
+    put_told(4, words, text)?;
+    text.extend_from_slice(b" is no target, which is best, all or complete")
+}
+
+fn put_second_cause(words: &[&[u8]], text: &mut Vec<u8>) -> Result<(), AllocError>
+    ensures { OnOk result (text.new.items ≡ text.old.items ++ second_cause (map (λ w. w.now) words.now)) }
+{
+    let name = word_at(0, words);
+    if is_numbered(name) {
+        put_number_cause(2, words, text)
+    } else if is_name(word_at(2, words)) {
+        text.extend_from_slice(b"no router is linked to itself")
+    } else {
+        put_name_cause(2, words, text)
+    }
+}
+
+fn put_name_cause(number: usize, words: &[&[u8]], text: &mut Vec<u8>) -> Result<(), AllocError>
+    ensures { OnOk result (text.new.items ≡ text.old.items ++ name_cause number (map (λ w. w.now) words.now)) }
+{
+    put_told(number, words, text)?;
+    text.extend_from_slice(
+        b" is no identifier, which is 2 to 32 lower-case hexadecimal digits, an even number of them, not all 0",
+    )
+}
+
+fn put_number_cause(number: usize, words: &[&[u8]], text: &mut Vec<u8>) -> Result<(), AllocError>
+    ensures { OnOk result (text.new.items ≡ text.old.items ++ number_cause number (map (λ w. w.now) words.now)) }
+{
+    put_told(number, words, text)?;
+    text.extend_from_slice(
+        b" is no number, which is decimal digits without leading zeros, at most 4294967295",
+    )
+}
+
+#[tactic(auto, using(crate::proofs::Keys::told_of))]
+fn put_key_cause(alloc: Global, word: &[u8], text: &mut Vec<u8>) -> Result<(), AllocError>
+    ensures { OnOk result (text.new.items ≡ text.old.items ++ key_cause (read_key word.now)) }
+{
+    match KeyExpr::read(alloc, word) {
+        Ok(_) => Ok(()),
+        Err(fault) => put_fault_cause(fault, text),
+    }
+}
+
+fn put_fault_cause(fault: KeyError, text: &mut Vec<u8>) -> Result<(), AllocError>
+    ensures told { OnOk result (text.new.items ≡ text.old.items ++ fault_cause fault) }
+    ensures memory { OnOk result ((fault ≡ KeyError.NoMemory) → ⊥) }
+{
+    match fault {
+        KeyError::Empty => text.extend_from_slice(b"a key without bytes"),
+        KeyError::EmptyChunk => text.extend_from_slice(b"empty chunk in a key"),
+        KeyError::BadChar => text.extend_from_slice(b"# or ? in a key"),
+        KeyError::BadStar => text.extend_from_slice(b"* or $ in a key where none may stand"),
+        KeyError::NotUtf8 => text.extend_from_slice(b"a key that is not UTF-8"),
+        KeyError::TooLong => text.extend_from_slice(b"a key of more than 2048 bytes"),
+        KeyError::NoMemory => Err(AllocError),
+    }
+}
+
+fn put_unknown_cause(words: &[&[u8]], text: &mut Vec<u8>) -> Result<(), AllocError>
+    ensures { OnOk result (text.new.items ≡ text.old.items ++ unknown_cause (map (λ w. w.now) words.now)) }
+{
+    let name = word_at(0, words);
+    if name == b"client".as_slice() {
+        put_one(b"no router is named ", 2, words, text)
+    } else if name == b"show".as_slice() {
+        put_one(b"no router is named ", 1, words, text)
+    } else if name == b"link".as_slice() {
+        put_either(b"no router is named ", b", or none is named ", words, text)
+    } else if undeclares(name) {
+        put_either(
+            b"no client is named ",
+            b", or it has not declared id ",
+            words,
+            text,
+        )
+    } else if is_of_client(name) {
+        put_one(b"no client is named ", 1, words, text)
+    } else {
+        put_either(
+            b"no router is named ",
+            b", or nobody is named ",
+            words,
+            text,
+        )
+    }
+}
+
+// A text, and a word behind it.
+fn put_one(
+    before: &[u8],
+    number: usize,
+    words: &[&[u8]],
+    text: &mut Vec<u8>,
+) -> Result<(), AllocError>
+    ensures { OnOk result (text.new.items ≡ text.old.items ++ (before.now ++ told number (map (λ w. w.now) words.now))) }
+{
+    text.extend_from_slice(before)?;
+    put_told(number, words, text)
+}
+
+// The two words behind the command's name, with a text behind each.
+fn put_pair(
+    between: &[u8],
+    behind: &[u8],
+    words: &[&[u8]],
+    text: &mut Vec<u8>,
+) -> Result<(), AllocError>
+    ensures { OnOk result (text.new.items ≡ text.old.items ++ of_two [] 1 between.now 2 behind.now (map (λ w. w.now) words.now)) }
+{
+    put_two(b"", 1, between, 2, behind, words, text)
+}
+
+// The two words behind the command's name, with a text before each.
+fn put_either(
+    before: &[u8],
+    between: &[u8],
+    words: &[&[u8]],
+    text: &mut Vec<u8>,
+) -> Result<(), AllocError>
+    ensures { OnOk result (text.new.items ≡ text.old.items ++ of_two before.now 1 between.now 2 [] (map (λ w. w.now) words.now)) }
+{
+    put_two(before, 1, between, 2, b"", words, text)
+}
+
+fn put_taken_cause(words: &[&[u8]], text: &mut Vec<u8>) -> Result<(), AllocError>
+    ensures { OnOk result (text.new.items ≡ text.old.items ++ taken_cause (map (λ w. w.now) words.now)) }
+{
+    let name = word_at(0, words);
+    if declares(name) {
+        put_two(b"id ", 2, b" is already declared by ", 1, b"", words, text)
+    } else if name == b"get".as_slice() {
+        put_two(
+            b"number ",
+            2,
+            b" is that of a query of ",
+            1,
+            b" whose final was not sent yet",
+            words,
+            text,
+        )
+    } else {
+        put_one(b"a router or a client is already named ", 1, words, text)
+    }
+}
+
+fn put_link_cause(words: &[&[u8]], text: &mut Vec<u8>) -> Result<(), AllocError>
+    ensures { OnOk result (text.new.items ≡ text.old.items ++ link_cause (map (λ w. w.now) words.now)) }
+{
+    let name = word_at(0, words);
+    if is_of_client(name) {
+        put_one(b"the link of ", 1, words, text)?;
+        text.extend_from_slice(b" is broken")
+    } else if name == b"up".as_slice() || name == b"break".as_slice() {
+        put_pair(b" has no link to ", b", or it is broken", words, text)
+    } else if name == b"down".as_slice() {
+        put_pair(
+            b" has no broken link to ",
+            b" that it holds for up",
+            words,
+            text,
+        )
+    } else if name == b"handle".as_slice() {
+        put_pair(b" has no link to ", b" that it holds for up", words, text)
+    } else {
+        put_pair(
+            b" has no link to ",
+            b" that it holds for up, or it is broken",
+            words,
+            text,
+        )
+    }
+}
+
+fn put_already_cause(words: &[&[u8]], text: &mut Vec<u8>) -> Result<(), AllocError>
+    ensures { OnOk result (text.new.items ≡ text.old.items ++ already_cause (map (λ w. w.now) words.now)) }
+{
+    if word_at(0, words) == b"link".as_slice() {
+        put_pair(b" and ", b" are already linked", words, text)
+    } else {
+        put_pair(b" holds its link to ", b" for up already", words, text)
+    }
+}
+
+fn put_nothing_cause(words: &[&[u8]], text: &mut Vec<u8>) -> Result<(), AllocError>
+    ensures { OnOk result (text.new.items ≡ text.old.items ++ nothing_cause (map (λ w. w.now) words.now)) }
+{
+    if word_at(0, words) == b"handle".as_slice() {
+        put_either(b"nothing waits at ", b" on the wire from ", words, text)
+    } else {
+        put_either(b"nothing waits at ", b" in the queue for ", words, text)
+    }
+}
+
+fn put_asked_cause(words: &[&[u8]], text: &mut Vec<u8>) -> Result<(), AllocError>
+    ensures { OnOk result (text.new.items ≡ text.old.items ++ asked_cause (map (λ w. w.now) words.now)) }
+{
+    put_pair(b" was not sent request ", b", or has ended it", words, text)
+}
+
+fn limit_cause(long: bool, name: &[u8]) -> &'static [u8]
+    ensures { result.now ≡ limit_cause long name.now }
+{
+    if long {
+        b"a line of more than 4096 bytes"
+    } else if name == b"router".as_slice() {
+        b"more than 64 routers"
+    } else if name == b"client".as_slice() {
+        b"more than 1024 clients"
+    } else if name == b"link".as_slice() {
+        b"more than 512 links between routers"
+    } else if name == b"run".as_slice() {
+        b"more than 10000000 steps of all runs together"
+    } else if name == b"get".as_slice() {
+        b"more than 4096 open queries of a client"
+    } else {
+        b"what the clients of a router declare weighs more than 4194304"
+    }
+}
