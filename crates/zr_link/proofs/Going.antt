@@ -204,7 +204,7 @@ pub record Followed (link : LinkNo) (s : SessionState) (waiting : List SessionEv
     (refuses : List Entry → LinkNo → Msg → DeliverError → Type 0) (seen : List Entry) (old new : List Entry) : Type 0 where
   pub msgs : List Msg
   pub does : Does (froms link msgs) old new
-  pub follows : Follows link msgs s waiting f e before after ⊥ Late refuses seen
+  pub follows : Follows link msgs s waiting f e before after Late refuses seen
 
 -- a read lost the link
 pub gone_lost : (link : LinkNo) (s t : SessionState) (before mid after : Option (List ℕ)) (a b : List Entry) (e : LinkEnd) (Late : Phase → Type 0)
@@ -335,7 +335,7 @@ up_started end.Turns c others Late R h = tt
 up_started end.NoMemory c others Late R h = tt
 
 pub follows_started : (link : LinkNo) (msgs : List Msg) (s : SessionState) (e : LinkEnd) (before after : Option (List ℕ)) (Late : Phase → Type 0) (refuses : List Entry → LinkNo → Msg → DeliverError → Type 0) (seen : List Entry)
-    → is_running s.state ≡ true → IsIn IsOpen s → Follows link msgs s [] fate.Going e before after ⊥ Late refuses seen → IsStarted e
+    → is_running s.state ≡ true → IsIn IsOpen s → Follows link msgs s [] fate.Going e before after Late refuses seen → IsStarted e
 follows_started link msgs s e before after Late refuses seen run i h =
     let come = comes_at i.0 s.opening s.state s.kept i.1 i.2 i.4 in
     let x = h i.0 i.1 come.0 i.2 i.3 come.1 i.5 (runs_at i.0 s.opening s.state s.kept i.1 i.2 i.4 run) (λ _. i.4) in

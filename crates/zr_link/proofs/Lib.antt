@@ -3,3 +3,5 @@ pub mod Hearing
 pub mod Going
 pub mod Unopened
 pub mod Running
+pub mod Logged
+pub mod Beginning

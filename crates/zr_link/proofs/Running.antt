@@ -101,12 +101,12 @@ leaves link e old new refuses (Err x) h k same = ([], inr (refl, (x, k)), subst 
 
 -- ---- a link that came up
 
-later_follows : (link : LinkNo) (msgs : List Msg) (s : SessionState) (waiting : List SessionEvent) (f : Fate) (e : LinkEnd) (before after : Option (List ℕ)) (A B : Type 0) (L : Phase → Type 0)
-    (refuses : List Entry → LinkNo → Msg → DeliverError → Type 0) (sees later : List Entry) → (A → B) → IsPrefix sees later
-    → Follows link msgs s waiting f e before after A L refuses sees → Follows link msgs s waiting f e before after B L refuses later
-later_follows link msgs s waiting f e before after A B L refuses sees later g p h first bytes rest c bs comes opened stands at =
+later_follows : (link : LinkNo) (msgs : List Msg) (s : SessionState) (waiting : List SessionEvent) (f : Fate) (e : LinkEnd) (before after : Option (List ℕ)) (L : Phase → Type 0)
+    (refuses : List Entry → LinkNo → Msg → DeliverError → Type 0) (sees later : List Entry) → IsPrefix sees later
+    → Follows link msgs s waiting f e before after L refuses sees → Follows link msgs s waiting f e before after L refuses later
+later_follows link msgs s waiting f e before after L refuses sees later p h first bytes rest c bs comes opened stands at =
     let x = h first bytes rest c bs comes opened stands at in
-    (x.0, x.1, x.2, x.3, ends_map e x.2.course x.1 A B L L _ _ g (λ q k. k) (λ reason k. refuses_later (λ z m y. refuses z link m y) sees later x.1 reason p k) x.4)
+    (x.0, x.1, x.2, x.3, ends_map e x.2.course x.1 ⊥ ⊥ L L _ _ (λ k. k) (λ q k. k) (λ reason k. refuses_later (λ z m y. refuses z link m y) sees later x.1 reason p k) x.4)
 
 -- it went on until it went down
 pub enters_followed : (peer : Peer) (outbox : OutboxState) (s : SessionState) (waiting : List SessionEvent) (f : Fate) (e : LinkEnd) (before after : Option (List ℕ)) (L : Phase → Type 0) (W : List ℕ → Type 0) (N : Type 0)
@@ -121,7 +121,7 @@ enters_followed peer outbox s waiting f e before after L W N refuses_up refuses 
       downs,
       does_then (up link peer outbox ∷ []) (froms link g.msgs ++ downs) (mine old) (mine mid) (mine new) first (does_then (froms link g.msgs) downs (mine mid) (mine last) (mine new) g.does does),
       goes,
-      later_follows link g.msgs s waiting f e before after ⊥ ⊥ L refuses (seen last) (seen new) (λ x. absurd x) prefix g.follows,
+      later_follows link g.msgs s waiting f e before after L refuses (seen last) (seen new) prefix g.follows,
       handed,
     ))
 

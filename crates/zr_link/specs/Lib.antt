@@ -3,3 +3,4 @@ pub mod Heard
 pub mod Written
 pub mod Acts
 pub mod Run
+pub mod Log

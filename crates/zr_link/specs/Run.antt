@@ -81,13 +81,13 @@ EndIs (fate.Peer reason) e = e ≡ end.Peer reason
 
 -- A reader whose link is up went on until an end, from where bytes have led the session and some events still wait: these messages of what waited and of
 -- what was heard since were delivered, in order
-abbrev pub Follows : LinkNo → List Msg → SessionState → List SessionEvent → Fate → LinkEnd → Option (List ℕ) → Option (List ℕ) → Type 0 → (Phase → Type 0)
+abbrev pub Follows : LinkNo → List Msg → SessionState → List SessionEvent → Fate → LinkEnd → Option (List ℕ) → Option (List ℕ) → (Phase → Type 0)
     → (List Entry → LinkNo → Msg → DeliverError → Type 0) → List Entry → Type 0
-Follows link msgs s waiting f end before after Early Late refuses seen =
+Follows link msgs s waiting f end before after Late refuses seen =
     (first : Expected) (bytes rest : List ℕ) (c : Course) → AreBytes bytes → Comes s.opening (Opening first) bytes c rest → IsOpen c.phase → FateIs f c (λ p. ⊥)
     → (f ≡ fate.Going → IsAt first s bytes c)
     → (later : List SessionEvent) × (others : List Msg) × (h : Heard first s.opening bytes c later before after) × (waiting ++ later ≡ messages (msgs ++ others))
-    × UpEnds end h.course others Early Late (λ reason. Refuses (λ h m e. refuses h link m e) seen others reason)
+    × UpEnds end h.course others ⊥ Late (λ reason. Refuses (λ h m e. refuses h link m e) seen others reason)
 
 -- ---- a whole run
 
@@ -159,7 +159,7 @@ abbrev pub EndsStarted : Peer → OutboxState → SessionState → List SessionE
     → (List Entry → LinkNo → Msg → DeliverError → Type 0) → (List Entry → LinkNo → DownError → Type 0) → Pass Entry → Pass Entry → Type 0
 EndsStarted peer outbox s waiting f end before after Late IsHandedOn refuses refuses_down old new =
     (link : LinkNo) × (msgs : List Msg) × (downs : List Act) × Does (up link peer outbox ∷ (froms link msgs ++ downs)) (mine old) (mine new)
-    × GoesDown link end (λ e. refuses_down (seen new) link e) downs × Follows link msgs s waiting f end before after ⊥ Late refuses (seen new) × IsHandedOn
+    × GoesDown link end (λ e. refuses_down (seen new) link e) downs × Follows link msgs s waiting f end before after Late refuses (seen new) × IsHandedOn
 
 -- The session has opened, and the port takes the peer or not. `Writes` is told of the answer to OPEN, where it is written
 abbrev pub Enters : Peer → OutboxState → SessionState → List SessionEvent → Fate → LinkEnd → Option (List ℕ) → Option (List ℕ) → (Phase → Type 0) → (List ℕ → Type 0) → Type 0

@@ -43,7 +43,7 @@ pub(crate) fn go_on<S: Source, P: Port, C: Clock>(
     requires opened { IsIn IsOpen intake.old.session }
     ensures same { IsSamePass pass.old pass.new }
     ensures prefix { IsPrefix (seen pass.old) (seen pass.new) }
-    ensures followed { (msgs : List Msg) × Does (froms link msgs) (mine pass.old) (mine pass.new) × Follows link msgs intake.old.session [] fates.Going result (S.left source.old) (S.left source.new) ⊥ (IsLate (S.quiets source.old) (S.quiets source.new) intake.old.session.heard (C.last clock.old) (C.last clock.new)) (P.refuses_message port.now) (seen pass.new) }
+    ensures followed { (msgs : List Msg) × Does (froms link msgs) (mine pass.old) (mine pass.new) × Follows link msgs intake.old.session [] fates.Going result (S.left source.old) (S.left source.new) (IsLate (S.quiets source.old) (S.quiets source.new) intake.old.session.heard (C.last clock.old) (C.last clock.new)) (P.refuses_message port.now) (seen pass.new) }
     ensures fault { Counted (S.faults source.old) (S.faults source.new) (result ≡ end.ReadFault) }
     ensures ended { Counted (S.ends source.old) (S.ends source.new) (result ≡ end.PeerEnded) }
     ensures turns { result ≡ end.Turns → RoseBy turns (S.reads source.old) (S.reads source.new) }

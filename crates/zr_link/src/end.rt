@@ -20,7 +20,7 @@ pub enum LinkEnd {
     Closed(Reason),
     /// The peer has closed the session, with this reason.
     Peer(u8),
-    /// The writer could not be started.
+    /// A thread of the link could not be started: its writer, or its reader itself.
     CrewRefused,
     /// It has read as often as it may.
     Turns,

@@ -18,12 +18,15 @@ ghost use Rattle.zr_link.specs.Heard.{IsBegun, IsLate, IsOpen, IsIn, AreMessages
 ghost use Rattle.zr_link.specs.Written.{IsWritten, Puts, Wrote, close_with};
 ghost use Rattle.zr_writer.specs.Parts.{close_bytes};
 ghost use Rattle.zr_link.specs.Run.{Follows, Enters, Runs, Starts, GoesDown};
+ghost use Rattle.zr_link.specs.declared.log.Stage.TheVariants as stages;
+ghost use Rattle.zr_link.specs.Log.{IsLogged, stage_of};
 ghost use Rattle.zr_link.specs.Ends.{IsEarly, IsStarted, IsCrewRefused};
 
 use crate::clock::PortClock;
 use crate::delivery::{go_on, settle};
 use crate::end::LinkEnd;
 use crate::intake::Intake;
+use crate::log::{LinkLog, Stage};
 use crate::opening::{Opened, open};
 use crate::writing::{Writing, write};
 use std::alloc::Global;
@@ -33,8 +36,10 @@ use std::vec;
 use zr_crew::Crew;
 use zr_hist::Pass;
 use zr_id::link::LinkNo;
+use zr_msg::peer::Peer;
 use zr_open::Reason;
 use zr_outside::clock::Clock;
+use zr_outside::log::Log;
 use zr_outside::sink::{Sink, write_all};
 use zr_outside::source::Source;
 use zr_port::{Entry, Port};
@@ -46,39 +51,43 @@ use zr_writer::close_batch;
 pub struct Reader;
 
 /// What a link's two threads share or hand on: the sink to which the reader writes until the writer is started, the port of both, the writer's clock,
-/// and how often at most the one may read and the other ask its ring.
+/// how often at most the one may read and the other ask its ring, and the writer's log, if it has one.
 #[derive(Drop)]
-pub struct Outward<K: Sink + Drop, P: Port + Drop, C: Clock + Drop> {
+pub struct Outward<K: Sink + Drop, P: Port + Drop, C: Clock + Drop, L: Log + Drop> {
     pub sink: K,
     pub port: Arc<P>,
     pub clock: C,
     pub turns: u64,
+    pub log: Option<L>,
 }
 
 impl Reader {
     /// Opens a session on a link, brings the link up by the port, starts its writer, and delivers each message that comes, in order, until the session
     /// ends or so many reads were made; then the link goes down. The sink comes back exactly where no writer was started. `first` is what the
-    /// session asks to be written before anything is read. The crew tells a started writer by its link.
+    /// session asks to be written before anything is read. The crew tells a started writer by its link, and `log` is told that the link has come up.
     pub fn run<
         S: Source,
         K: Sink + Send + Drop + 'static,
         P: Port + Send + Sync + Drop + 'static,
         C: Clock + Send + Drop + 'static,
+        L: Log + Send + Drop + 'static,
         R: Threads + Drop,
     >(
         alloc: Global,
         source: &mut S,
-        out: Outward<K, P, C>,
+        out: Outward<K, P, C, L>,
         first: &[u8],
         session: Session,
         clock: &mut C,
         crew: &mut Crew<R, LinkNo>,
         pass: &mut Pass<Entry>,
+        log: &mut LinkLog<L>,
     ) -> (LinkEnd, Option<K>)
     where
         P::Note: Send + 'static,
         requires begun { IsBegun session first.now }
         requires pass { pass_name pass.old ≡ P.history (arc_value out.port) }
+        requires unopened { stage_of log.old ≡ stages.Unopened }
         ensures same { IsSamePass pass.old pass.new }
         ensures prefix { IsPrefix (seen pass.old) (seen pass.new) }
         ensures run { Runs session result.0 (S.left source.old) (S.left source.new) (IsLate (S.quiets source.old) (S.quiets source.new) session.heard (C.last clock.old) (C.last clock.new)) (λ answers. Wrote (λ k. K.held k) (λ k. K.faults k) result.0 (first.now ++ answers) out.sink result.1) (P.refuses_up (arc_value out.port)) (P.refuses_message (arc_value out.port)) (P.refuses_down (arc_value out.port)) pass.old pass.new }
@@ -88,6 +97,7 @@ impl Reader {
         ensures unwritten { result.0 ≡ end.WriteFault → (sink : K) × (result.1 ≡ Some sink) × Rose (K.faults out.sink) (K.faults sink) }
         ensures refused { Counted (crew_faults crew.old) (crew_faults crew.new) (result.0 ≡ end.CrewRefused) }
         ensures writer { Starts result.1 (crew_told crew.old) (crew_told crew.new) (mine pass.old) (mine pass.new) }
+        ensures logged { IsLogged (λ l. L.held l) (mine pass.old) (mine pass.new) log.old log.new }
     {
         let mut out = out;
         let Ok(port) = Arc::try_clone(&out.port) else {
@@ -110,6 +120,7 @@ impl Reader {
                 clock,
                 crew,
                 pass,
+                log,
             ),
             Err(end) => (end, Some(out.sink)),
         }
@@ -122,17 +133,19 @@ fn enter<
     K: Sink + Send + Drop + 'static,
     P: Port + Send + Sync + Drop + 'static,
     C: Clock + Send + Drop + 'static,
+    L: Log + Send + Drop + 'static,
     R: Threads + Drop,
 >(
     alloc: Global,
     intake: &mut Intake,
     opened: Opened,
     source: &mut S,
-    out: Outward<K, P, C>,
+    out: Outward<K, P, C, L>,
     port: &P,
     clock: &mut C,
     crew: &mut Crew<R, LinkNo>,
     pass: &mut Pass<Entry>,
+    log: &mut LinkLog<L>,
 ) -> (LinkEnd, Option<K>)
 where
     P::Note: Send + 'static,
@@ -148,6 +161,7 @@ where
     ensures unwritten { result.0 ≡ end.WriteFault → (sink : K) × (result.1 ≡ Some sink) × Rose (K.faults out.sink) (K.faults sink) }
     ensures refused { Counted (crew_faults crew.old) (crew_faults crew.new) (result.0 ≡ end.CrewRefused) }
     ensures writer { Starts result.1 (crew_told crew.old) (crew_told crew.new) (mine pass.old) (mine pass.new) }
+    ensures logged { IsLogged (λ l. L.held l) (mine pass.old) (mine pass.new) log.old log.new }
     ensures later { (S.quiets source.old ≤ S.quiets source.new) × (C.last clock.old ≤ C.last clock.new) }
 {
     let mut out = out;
@@ -158,6 +172,8 @@ where
         fate,
         left,
     } = opened;
+    let known = same_peer(&peer);
+    log.opened(&known);
     intake.without_close(fate);
     let (link, taker) = match port.up(pass, peer, outbox) {
         Ok(up) => up,
@@ -167,7 +183,8 @@ where
             return (end, Some(out.sink));
         }
     };
-    match begin(alloc, intake, out, crew, link, taker) {
+    log.up(&known);
+    match begin(alloc, intake, out, crew, link, known, taker) {
         Ok(()) => {
             let end = follow(
                 alloc, intake, messages, fate, source, clock, port, pass, link, left,
@@ -180,6 +197,13 @@ where
             (end, Some(sink))
         }
     }
+}
+
+// The same peer again.
+fn same_peer(peer: &Peer) -> Peer
+    ensures { result ≡ peer.now }
+{
+    *peer
 }
 
 // The reader has ended so: its link goes down.
@@ -211,7 +235,7 @@ fn follow<S: Source, P: Port, C: Clock>(
     requires stands { fate ≡ fates.Going → (is_running intake.old.session.state ≡ true) × IsIn IsOpen intake.old.session }
     ensures same { IsSamePass pass.old pass.new }
     ensures prefix { IsPrefix (seen pass.old) (seen pass.new) }
-    ensures followed { (msgs : List Msg) × Does (froms link msgs) (mine pass.old) (mine pass.new) × Follows link msgs intake.old.session (into_iter_items waiting) fate result (S.left source.old) (S.left source.new) ⊥ (IsLate (S.quiets source.old) (S.quiets source.new) intake.old.session.heard (C.last clock.old) (C.last clock.new)) (P.refuses_message port.now) (seen pass.new) }
+    ensures followed { (msgs : List Msg) × Does (froms link msgs) (mine pass.old) (mine pass.new) × Follows link msgs intake.old.session (into_iter_items waiting) fate result (S.left source.old) (S.left source.new) (IsLate (S.quiets source.old) (S.quiets source.new) intake.old.session.heard (C.last clock.old) (C.last clock.new)) (P.refuses_message port.now) (seen pass.new) }
     ensures started { IsStarted result }
     ensures fault { Counted (S.faults source.old) (S.faults source.new) (result ≡ end.ReadFault) }
     ensures ended { Counted (S.ends source.old) (S.ends source.new) (result ≡ end.PeerEnded) }
@@ -229,13 +253,15 @@ fn begin<
     K: Sink + Send + Drop + 'static,
     P: Port + Send + Sync + Drop + 'static,
     C: Clock + Send + Drop + 'static,
+    L: Log + Send + Drop + 'static,
     R: Threads + Drop,
 >(
     alloc: Global,
     intake: &mut Intake,
-    out: Outward<K, P, C>,
+    out: Outward<K, P, C, L>,
     crew: &mut Crew<R, LinkNo>,
     link: LinkNo,
+    peer: Peer,
     taker: Taker<P::Note>,
 ) -> Result<(), (LinkEnd, K)>
 where
@@ -253,6 +279,7 @@ where
         port,
         clock,
         turns,
+        log,
     } = out;
     let Ok(()) = intake.confirm() else {
         return Err((LinkEnd::NoMemory, sink));
@@ -266,8 +293,9 @@ where
         taker,
         clock: PortClock::new(clock, port, link),
         turns,
+        log: LinkLog::new(alloc, log, Stage::Up(peer)),
     };
-    match crew.start(job, link, |job: Writing<K, P, C>| write(job)) {
+    match crew.start(job, link, |job: Writing<K, P, C, L>| write(job)) {
         Ok(()) => Ok(()),
         Err(job) => {
             let Writing { mut sink, .. } = job;

@@ -4,6 +4,7 @@ use Rattle.std.specs.List.{list_any}
 use Rattle.zr_outside.specs.declared.source.Got.{Got}
 use Rattle.zr_outside.specs.declared.source.Got.TheVariants.{Bytes, Quiet, End, Failed}
 use Rattle.zr_outside.specs.declared.mem_source.MemSource.{MemSource}
+use Rattle.zr_outside.specs.declared.mem_log.MemLog.{MemLog}
 use Rattle.zr_outside.specs.declared.mem_sink.MemSink.{MemSink}
 
 -- the bytes that a source in memory has left
@@ -13,6 +14,10 @@ source_left s = drop s.at s.bytes.items
 -- the bytes that a sink in memory holds
 abbrev pub sink_held : MemSink → List ℕ
 sink_held s = s.bytes.items
+
+-- the lines that a log in memory holds
+abbrev pub log_held : MemLog → List ℕ
+log_held l = l.bytes.items
 
 -- the most bytes that a read of a source in memory gives
 abbrev pub most_a_read : MemSource → ℕ

@@ -1,5 +1,5 @@
 -- What is told of the bytes that a source has left or that a sink holds. Where nothing is told before a call, nothing is owed after it.
-use Rattle.std.specs.Prelude.{◌≡◌, ℕ, List, ◌++◌, drop, take, Option, Some, None}
+use Rattle.std.specs.Prelude.{◌≡◌, ◌⊎◌, ℕ, List, ◌++◌, drop, take, Option, Some, None}
 
 -- what is told stays as it was
 abbrev pub IsAsBefore : Option (List ℕ) → Option (List ℕ) → Type 0
@@ -15,6 +15,10 @@ Appends bytes (Some held) after = after ≡ Some (held ++ bytes)
 abbrev pub AppendsPrefix : List ℕ → Option (List ℕ) → Option (List ℕ) → Type 0
 AppendsPrefix bytes None after = Unit {0}
 AppendsPrefix bytes (Some held) after = (prefix : List ℕ) × (rest : List ℕ) × (bytes ≡ prefix ++ rest) × (after ≡ Some (held ++ prefix))
+
+-- all of the bytes stand at the end now, or none of them
+abbrev pub AppendsOrNot : List ℕ → Option (List ℕ) → Option (List ℕ) → Type 0
+AppendsOrNot bytes before after = Appends bytes before after ⊎ IsAsBefore before after
 
 -- the next n bytes of what was left are the first of the buffer now
 abbrev pub Consumes : ℕ → List ℕ → Option (List ℕ) → Option (List ℕ) → Type 0

@@ -8,6 +8,7 @@ ghost use Rattle.zr_outside.specs.declared.host.Call.TheVariants as call;
 ghost use Rattle.zr_outside.specs.Host.{Records, IsLost, IsIdle, IsOver, answer_of};
 
 use crate::clock::Clock;
+use crate::log::Log;
 use crate::sink::Sink;
 use crate::source::Source;
 use rand_core::Rng;
@@ -93,6 +94,8 @@ pub trait Host {
 
     type Time: Clock + Send + Drop;
 
+    type Log: Log + Send + Drop;
+
     type Words: Rng + Drop;
 
     ghost faults: { Self → ℕ };
@@ -128,6 +131,11 @@ pub trait Host {
 
     /// A clock for one more thread.
     fn time(&mut self) -> Self::Time
+        ensures counts { (faults self.new ≡ faults self.old) × (quiets self.new ≡ quiets self.old) × (ends self.new ≡ ends self.old) × (lost_dials self.new ≡ lost_dials self.old) }
+        ensures told { calls self.new ≡ calls self.old };
+
+    /// A log for one more thread of a link, by the link's reading end.
+    fn log(&mut self, alloc: Global, link: &Self::In) -> Self::Log
         ensures counts { (faults self.new ≡ faults self.old) × (quiets self.new ≡ quiets self.old) × (ends self.new ≡ ends self.old) × (lost_dials self.new ≡ lost_dials self.old) }
         ensures told { calls self.new ≡ calls self.old };
 

@@ -5,9 +5,11 @@
 pub mod clock;
 pub mod gate;
 pub mod host;
+pub mod log;
 pub mod mem_calls;
 pub mod mem_clock;
 pub mod mem_host;
+pub mod mem_log;
 pub mod mem_sink;
 pub mod mem_source;
 pub mod sink;

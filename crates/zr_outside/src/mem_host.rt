@@ -5,6 +5,7 @@ ghost use Rattle.std.specs.Prelude.{◌≡◌};
 use crate::host::{Accepted, Answer, Call, Host};
 use crate::mem_calls::Calls;
 use crate::mem_clock::MemClock;
+use crate::mem_log::MemLog;
 use crate::sink::Sink;
 use crate::source::Source;
 use rand_core::Rng;
@@ -18,7 +19,7 @@ pub struct MemLink<S, K> {
     pub sink: K,
 }
 
-/// Gives the links that it holds, clocks that begin alike, and one generator. It tells its calls as long as it has memory for them.
+/// Gives the links that it holds, clocks that begin alike, logs of their own, and one generator. It tells its calls as long as it has memory for them.
 #[derive(Drop)]
 pub struct MemHost<S: Source + Drop, K: Sink + Drop, W: Rng + Drop> {
     alloc: Global,
@@ -96,6 +97,8 @@ impl<S: Source + Send + Drop, K: Sink + Send + Drop, W: Rng + Drop> Host for Mem
 
     type Time = MemClock;
 
+    type Log = MemLog;
+
     type Words = W;
 
     ghost faults = { λ h. h.faults };
@@ -151,6 +154,10 @@ impl<S: Source + Send + Drop, K: Sink + Send + Drop, W: Rng + Drop> Host for Mem
 
     fn time(&mut self) -> MemClock {
         self.clock
+    }
+
+    fn log(&mut self, alloc: Global, _link: &S) -> MemLog {
+        MemLog::new(alloc)
     }
 
     fn words(&mut self) -> Option<W> {

@@ -94,6 +94,21 @@ found_so P p (x ∷ xs) y all e = by (p x) refl e (found_so P p xs y all.1)
     by true t e ih = let same : x ≡ y = cc in (subst P same all.0, ap p (sym same) ∙ t)
     by false t e ih = ih e
 
+-- ---- what is found
+
+pub some_mapped : {X Y : Type 0} (f : X → Y) (o : Option X) → is_some (option_map f o) ≡ is_some o
+some_mapped f None = refl
+some_mapped f (Some x) = refl
+
+queue_found : (n : ℕ) (xs : List EndState) → find (λ q. q.link.0 == n) (map (λ y. y.queue) xs) ≡ option_map (λ y. y.queue) (find (λ y. y.queue.link.0 == n) xs)
+queue_found n [] = refl
+queue_found n (y ∷ ys) = by (y.queue.link.0 == n) (queue_found n ys)
+  where
+    by : (b : Bool) → find (λ q. q.link.0 == n) (map (λ y. y.queue) ys) ≡ option_map (λ y. y.queue) (find (λ y. y.queue.link.0 == n) ys) →
+        cond b (Some y.queue) (find (λ q. q.link.0 == n) (map (λ y. y.queue) ys)) ≡ option_map (λ y. y.queue) (cond b (Some y) (find (λ y. y.queue.link.0 == n) ys))
+    by true ih = refl
+    by false ih = ih
+
 -- ---- the queues of the links that are up
 
 module _ (me : List ℕ) (h : List Entry) (node : NodeState) (ends : List EndState) (r : IsReplay me h node ends) where
@@ -101,6 +116,15 @@ module _ (me : List ℕ) (h : List Entry) (node : NodeState) (ends : List EndSta
   distinct_ends =
       distinct_unmap number (λ x. x.queue) ends
       (subst (λ qs. AreDistinct number qs) (sym r.queues) (distinct_filter number (λ q. q.is_up) (replay me h).queues (distinct_queues me h)))
+
+  -- each link that the router has is among them
+  pub is_open : is_legal me h ≡ true → (link : LinkNo) → is_some (link_at node.links link.0) ≡ true → is_some (find (λ x. x.queue.link.0 == link.0) ends) ≡ true
+  is_open legal link up =
+      sym (some_mapped (λ x. x.queue) (find (λ x. x.queue.link.0 == link.0) ends))
+      ∙ ap is_some (sym (queue_found link.0 ends) ∙ ap (λ qs. find (λ q. q.link.0 == link.0) qs) r.queues)
+      ∙ in_step me h legal link.0
+      ∙ ap (λ n. is_some (link_at n.links link.0)) (sym r.node_is)
+      ∙ up
 
   pub queues_down : (link : LinkNo) (outbox : Option OutboxState) →
       map (λ x. x.queue) (filter (λ x. not (x.queue.link.0 == link.0)) ends) ≡ filter (λ q. q.is_up) (queues_at (replay me h).queues (Down link) outbox)
@@ -145,16 +169,7 @@ module _ (me : List ℕ) (h : List Entry) (node : NodeState) (ends : List EndSta
   was_number = (find_in (λ y. y.queue.link.0 == link.0) ends x gone).1
 
   found_open : find (λ q. q.link.0 == link.0) (open_queues (replay me h)) ≡ Some x.queue
-  found_open = ap (λ qs. find (λ q. q.link.0 == link.0) qs) (sym r.queues) ∙ find_of ends ∙ ap (λ o. option_map (λ y. y.queue) o) gone
-    where
-      find_of : (xs : List EndState) → find (λ q. q.link.0 == link.0) (map (λ y. y.queue) xs) ≡ option_map (λ y. y.queue) (find (λ y. y.queue.link.0 == link.0) xs)
-      find_of [] = refl
-      find_of (y ∷ ys) = by (y.queue.link.0 == link.0) (find_of ys)
-        where
-          by : (b : Bool) → find (λ q. q.link.0 == link.0) (map (λ y. y.queue) ys) ≡ option_map (λ y. y.queue) (find (λ y. y.queue.link.0 == link.0) ys) →
-              cond b (Some y.queue) (find (λ q. q.link.0 == link.0) (map (λ y. y.queue) ys)) ≡ option_map (λ y. y.queue) (cond b (Some y) (find (λ y. y.queue.link.0 == link.0) ys))
-          by true ih = refl
-          by false ih = ih
+  found_open = ap (λ qs. find (λ q. q.link.0 == link.0) qs) (sym r.queues) ∙ queue_found link.0 ends ∙ ap (λ o. option_map (λ y. y.queue) o) gone
 
   found_queue : find (λ q. q.link.0 == link.0) (replay me h).queues ≡ Some x.queue
   found_queue =
@@ -190,9 +205,3 @@ module _ (me : List ℕ) (h : List Entry) (node : NodeState) (ends : List EndSta
   -- the list that the entry ends vouches for the ring's end
   pub down_vouched : (more : List Entry) → more ≡ h ++ e ∷ [] → Vouches me link more (end reason) (length x.queue.batches)
   down_vouched more same = subst (λ l. Vouches me link l (end reason) (length x.queue.batches)) (sym same) (sym (ap length queued_still), ends_there)
-
--- ---- what is found
-
-pub some_mapped : {X Y : Type 0} (f : X → Y) (o : Option X) → is_some (option_map f o) ≡ is_some o
-some_mapped f None = refl
-some_mapped f (Some x) = refl

@@ -128,7 +128,10 @@ impl<B: Naming, R: Wait + Drop> Port for Router<B, R> {
         let due = tables.take_due();
         drop(tables);
         self.ring(due);
-        result
+        match result {
+            Ok(_) => Ok(()),
+            Err(e) => Err(e),
+        }
     }
 
     fn split(&self, pass: &mut Pass<Entry>) -> Pass<Entry> {

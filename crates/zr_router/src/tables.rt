@@ -17,6 +17,7 @@ ghost use Rattle.zr_queue.specs.History.{is_legal};
 ghost use Rattle.zr_queue.specs.Tables.{is_up, new_queue};
 ghost use Rattle.zr_router.specs.Failures.{HasFailed};
 ghost use Rattle.zr_router.specs.Handled.{IsHandled};
+ghost use Rattle.zr_router.specs.Ended.{HasEnded};
 ghost use Rattle.zr_router.specs.Replayed.{IsReplay-prop};
 ghost use Rattle.zr_router.specs.Refusals.{RefusesDown, RefusesMessage, RefusesUp, is_worn};
 
@@ -35,7 +36,7 @@ use zr_msg::peer::{Peer, Role};
 use zr_node::node::Node;
 use zr_port::{DeliverError, DownError, Entry, Naming, UpError};
 use zr_queue::{LinkEnd, Queued, enter, prepare};
-use zr_ring::Taker;
+use zr_ring::{Giver, Taker};
 
 /// How many entries a history has at most.
 const MOST_ENTRIES: u64 = u64::MAX;
@@ -190,7 +191,8 @@ impl<B: Naming> Tables<B> {
         }
     }
 
-    /// A link has ended, by this end for the reason where there is one. Its ring gets its end with that reason unless it has one.
+    /// A link has ended, by this end for the reason where there is one. Its ring, whose giver is the answer, gets its end with that reason unless it
+    /// has one.
     pub fn down(
         &mut self,
         alloc: Global,
@@ -198,7 +200,7 @@ impl<B: Naming> Tables<B> {
         pass: &mut Pass<Entry>,
         link: LinkNo,
         reason: Option<u8>,
-    ) -> Result<(), DownError>
+    ) -> Result<Giver<Queued>, DownError>
         requires history { name history.now ≡ B.history }
         requires pass { pass_name pass.old ≡ B.history }
         ensures same { IsSamePass pass.old pass.new }
@@ -207,6 +209,7 @@ impl<B: Naming> Tables<B> {
         ensures legal { is_legal B.me (entries self.new) ≡ true }
         ensures added { IfOk result (λ _. Adds pass.old pass.new (λ before e. (before ≡ entries self.old) × IsEntryOf (event.Down link) None reason e × IsAdmitted (λ e. RefusesDown B.me before link e))) }
         ensures rings { IfOk result (λ _. Adds pass.old pass.new (λ before e. (before ≡ entries self.old) × GoesByRings B.me before e (filter (λ x. not (x.queue.link.0 == link.0)) (open_links self.old)) (open_links self.new))) }
+        ensures ended { IfOk result (λ giver. HasEnded (open_links self.old) link reason giver) }
         ensures refused { IfErr result (λ e. e ≢ DownError.NoMemory → RefusesDown B.me (entries self.old) link e) }
         ensures unchanged { OnErr result ((entries self.new ≡ entries self.old) × (mine pass.new ≡ mine pass.old)) }
         ensures unasked { IfErr result (λ e. e ≢ DownError.NoMemory → open_links self.new ≡ open_links self.old) }
@@ -225,7 +228,9 @@ impl<B: Naming> Tables<B> {
             Err(Failure::NoMemory) => return Err(DownError::NoMemory),
             Err(Failure::Refused(_)) => return Err(DownError::Worn), // a number that the event needs
         };
-        let gone = taken_out(&mut self.ends, link);
+        let Some(end) = taken_out(&mut self.ends, link) else {
+            unreachable!()
+        };
         let arrival = Arrival {
             event,
             outbox: None,
@@ -234,16 +239,13 @@ impl<B: Naming> Tables<B> {
         let Ok(()) = self.enter(alloc, history, pass, arrival, sent.as_slice()) else {
             return Err(DownError::NoMemory);
         };
-        if let Some(end) = gone {
-            let note = Queued {
-                me: self.me,
-                link,
-                pass: history.split(pass),
-            };
-            end.end(reason, note);
-        }
         self.due |= bell_of(link);
-        Ok(())
+        let note = Queued {
+            me: self.me,
+            link,
+            pass: history.split(pass),
+        };
+        Ok(end.end(reason, note))
     }
 
     /// The links whose writers have something new since the last call, a bit for each.

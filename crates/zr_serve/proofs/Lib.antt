@@ -1,4 +1,3 @@
-pub mod Beginning
 pub mod Words
 pub mod Stepping
 pub mod Reaching

@@ -46,20 +46,20 @@ no_dials : (texts : List (List ℕ)) → dials texts [] ≡ []
 no_dials [] = refl
 no_dials (x ∷ texts) = refl
 
-module _ (id address : List ℕ) (texts : List (List ℕ)) (calls calls' : Option (List Call)) (told : Option (List LinkJob)) (faults : ℕ) (out : Option (List ℕ)) where
+module _ (id : List ℕ) (log : Bool) (address : List ℕ) (texts : List (List ℕ)) (calls calls' : Option (List Call)) (told : Option (List LinkJob)) (faults : ℕ) (out : Option (List ℕ)) where
   pub without_words : (err err' : Option (List ℕ)) (errs errs' : ℕ) → calls' ≡ calls → Says no_words_text err err' errs errs'
-      → IsServed e.HostFault id address texts calls calls' told told faults faults (record { out = out; err = err; faults = errs }) (record { out = out; err = err'; faults = errs' })
+      → IsServed e.HostFault id log address texts calls calls' told told faults faults (record { out = out; err = err; faults = errs }) (record { out = out; err = err'; faults = errs' })
   without_words err err' errs errs' same says = record {
     words = no_stream;
     held = err;
-    links = first_links id no_stream;
+    links = first_links id log no_stream;
     comes = record {
       made = [];
       text = [];
       line = no_words_text;
       fails = inl (refl, refl, refl);
-      serves = subst (λ z. Serves [] (moment calls told faults err (first_links id no_stream)) (moment z told faults err (first_links id no_stream))) (sym same)
-          (serves_none (moment calls told faults err (first_links id no_stream)));
+      serves = subst (λ z. Serves [] (moment calls told faults err (first_links id log no_stream)) (moment z told faults err (first_links id log no_stream))) (sym same)
+          (serves_none (moment calls told faults err (first_links id log no_stream)));
       said = appends_none out;
       told = says;
     };
@@ -67,47 +67,47 @@ module _ (id address : List ℕ) (texts : List (List ℕ)) (calls calls' : Optio
 
   pub deaf : (is : Bool) (mid : Option (List Call)) (s : Stream) (err err' : Option (List ℕ)) (errs errs' : ℕ) → mid ≡ calls → host.Records (Listen address is) mid calls' → is ≡ false
       → Says (listen_text address) err err' errs errs'
-      → IsServed e.HostFault id address texts calls calls' told told faults faults (record { out = out; err = err; faults = errs }) (record { out = out; err = err'; faults = errs' })
+      → IsServed e.HostFault id log address texts calls calls' told told faults faults (record { out = out; err = err; faults = errs }) (record { out = out; err = err'; faults = errs' })
   deaf true mid s err err' errs errs' same recorded no_link says = absurd (true≢false no_link)
   deaf false mid s err err' errs errs' same recorded no_link says = record {
     words = s;
     held = err;
-    links = first_links id s;
+    links = first_links id log s;
     comes = record {
       made = Listen address false ∷ [];
       text = [];
       line = listen_text address;
       fails = inr (inl (refl, refl, refl));
-      serves = listened address false calls calls' told faults err (first_links id s) (subst (λ z. host.Records (Listen address false) z calls') same recorded);
+      serves = listened address false calls calls' told faults err (first_links id log s) (subst (λ z. host.Records (Listen address false) z calls') same recorded);
       said = appends_none out;
       told = says;
     };
   }
 
 -- it listens
-hears : (id address : List ℕ) (s : Stream) (is : Bool) (calls mid calls' : Option (List Call)) (told : Option (List LinkJob)) (faults : ℕ) (err : Option (List ℕ)) (l : LinksState)
-    → mid ≡ calls → host.Records (Listen address is) mid calls' → is ≡ true → l ≡ first_links id s
-    → Serves (Listen address true ∷ []) (moment calls told faults err (first_links id s)) (moment calls' told faults err l)
-hears id address s false calls mid calls' told faults err l same recorded is links = absurd (false≢true is)
-hears id address s true calls mid calls' told faults err l same recorded is links =
-    subst (λ z. Serves (Listen address true ∷ []) (moment calls told faults err (first_links id s)) (moment calls' told faults err z)) (sym links)
-    (listened address true calls calls' told faults err (first_links id s) (subst (λ z. host.Records (Listen address true) z calls') same recorded))
+hears : (id : List ℕ) (log : Bool) (address : List ℕ) (s : Stream) (is : Bool) (calls mid calls' : Option (List Call)) (told : Option (List LinkJob)) (faults : ℕ) (err : Option (List ℕ)) (l : LinksState)
+    → mid ≡ calls → host.Records (Listen address is) mid calls' → is ≡ true → l ≡ first_links id log s
+    → Serves (Listen address true ∷ []) (moment calls told faults err (first_links id log s)) (moment calls' told faults err l)
+hears id log address s false calls mid calls' told faults err l same recorded is links = absurd (false≢true is)
+hears id log address s true calls mid calls' told faults err l same recorded is links =
+    subst (λ z. Serves (Listen address true ∷ []) (moment calls told faults err (first_links id log s)) (moment calls' told faults err z)) (sym links)
+    (listened address true calls calls' told faults err (first_links id log s) (subst (λ z. host.Records (Listen address true) z calls') same recorded))
 
-pub unsaid_serves : (u : Unsaid) (id address : List ℕ) (texts : List (List ℕ)) (s : Stream) (is : Bool) (calls mid calls' : Option (List Call)) (told : Option (List LinkJob)) (faults : ℕ)
+pub unsaid_serves : (u : Unsaid) (id : List ℕ) (log : Bool) (address : List ℕ) (texts : List (List ℕ)) (s : Stream) (is : Bool) (calls mid calls' : Option (List Call)) (told : Option (List LinkJob)) (faults : ℕ)
     (out out' err : Option (List ℕ)) (errs : ℕ) → mid ≡ calls → host.Records (Listen address is) mid calls' → is ≡ true → AppendsPrefix (serving_text id) out out'
-    → IsServed (end_of_unsaid u) id address texts calls calls' told told faults faults (record { out = out; err = err; faults = errs }) (record { out = out'; err = err; faults = errs })
-unsaid_serves u id address texts s is calls mid calls' told faults out out' err errs same recorded listens part = record {
+    → IsServed (end_of_unsaid u) id log address texts calls calls' told told faults faults (record { out = out; err = err; faults = errs }) (record { out = out'; err = err; faults = errs })
+unsaid_serves u id log address texts s is calls mid calls' told faults out out' err errs same recorded listens part = record {
   words = s;
   held = err;
-  links = first_links id s;
+  links = first_links id log s;
   comes = by u;
 }
   where
     a : Moment
-    a = moment calls told faults err (first_links id s)
+    a = moment calls told faults err (first_links id log s)
 
     b : Moment
-    b = moment calls' told faults err (first_links id s)
+    b = moment calls' told faults err (first_links id log s)
 
     cut : CutsOff id address texts a b (record { out = out; err = err; faults = errs }) (record { out = out'; err = err; faults = errs })
     cut = record {
@@ -119,7 +119,7 @@ unsaid_serves u id address texts s is calls mid calls' told faults out out' err 
         order = inl refl;
         calls_are = ap (λ z. Listen address true ∷ (z ++ [])) (sym (no_dials texts));
       });
-      breaks = whole_is_part (Listen address true ∷ []) a b (hears id address s is calls mid calls' told faults err (first_links id s) same recorded listens refl);
+      breaks = whole_is_part (Listen address true ∷ []) a b (hears id log address s is calls mid calls' told faults err (first_links id log s) same recorded listens refl);
       said = part;
     }
 
@@ -127,40 +127,40 @@ unsaid_serves u id address texts s is calls mid calls' told faults out out' err 
     by Fault = (cut, refl)
     by NoMemory = (cut, refl)
 
-pub cut_serves : (end : ServeEnd) (id address : List ℕ) (texts : List (List ℕ)) (s : Stream) (is : Bool) (calls mid heard calls' : Option (List Call)) (told told' : Option (List LinkJob)) (faults faults' : ℕ)
-    (l l' : LinksState) (o p : Outputs) → mid ≡ calls → host.Records (Listen address is) mid heard → is ≡ true → l ≡ first_links id s
+pub cut_serves : (end : ServeEnd) (id : List ℕ) (log : Bool) (address : List ℕ) (texts : List (List ℕ)) (s : Stream) (is : Bool) (calls mid heard calls' : Option (List Call)) (told told' : Option (List LinkJob)) (faults faults' : ℕ)
+    (l l' : LinksState) (o p : Outputs) → mid ≡ calls → host.Records (Listen address is) mid heard → is ≡ true → l ≡ first_links id log s
     → (gave : List Bool) × BreaksOff (dials texts gave) (moment heard told faults o.err l) (moment calls' told' faults' p.err l')
     → Appends (serving_text id) o.out p.out → (end ≡ e.Done → ⊥) → (end ≡ e.HostFault → ⊥)
-    → IsServed end id address texts calls calls' told told' faults faults' o p
-cut_serves end id address texts s is calls mid heard calls' told told' faults faults' l l' o p same recorded listens links broken said not_done not_host = record {
+    → IsServed end id log address texts calls calls' told told' faults faults' o p
+cut_serves end id log address texts s is calls mid heard calls' told told' faults faults' l l' o p same recorded listens links broken said not_done not_host = record {
   words = s;
   held = p.err;
   links = l';
   comes = by end not_done not_host;
 }
   where
-    cut : CutsOff id address texts (moment calls told faults o.err (first_links id s)) (moment calls' told' faults' p.err l') o p
-    cut = cut_off_dialling id address texts _ (moment heard told faults o.err l) _ o p (hears id address s is calls mid heard told faults o.err l same recorded listens links) broken
+    cut : CutsOff id address texts (moment calls told faults o.err (first_links id log s)) (moment calls' told' faults' p.err l') o p
+    cut = cut_off_dialling id address texts _ (moment heard told faults o.err l) _ o p (hears id log address s is calls mid heard told faults o.err l same recorded listens links) broken
         (prefix_whole _ o.out p.out said)
 
     by : (end : ServeEnd) → (end ≡ e.Done → ⊥) → (end ≡ e.HostFault → ⊥)
-        → Comes end id address texts (moment calls told faults o.err (first_links id s)) (moment calls' told' faults' p.err l') o p
+        → Comes end id address texts (moment calls told faults o.err (first_links id log s)) (moment calls' told' faults' p.err l') o p
     by e.Done d h = absurd (d refl)
     by e.HostFault d h = absurd (h refl)
     by e.NoMemory d h = (cut, refl)
     by e.WriteFault d h = (cut, refl)
 
-pub whole_serves : (end : ServeEnd) (id address : List ℕ) (texts : List (List ℕ)) (s : Stream) (is : Bool) (calls mid heard dialled calls' : Option (List Call)) (told told' told'' : Option (List LinkJob))
-    (faults faults' faults'' : ℕ) (held : Option (List ℕ)) (errs : ℕ) (l l' l'' : LinksState) (o p : Outputs) → mid ≡ calls → host.Records (Listen address is) mid heard → is ≡ true → l ≡ first_links id s
+pub whole_serves : (end : ServeEnd) (id : List ℕ) (log : Bool) (address : List ℕ) (texts : List (List ℕ)) (s : Stream) (is : Bool) (calls mid heard dialled calls' : Option (List Call)) (told told' told'' : Option (List LinkJob))
+    (faults faults' faults'' : ℕ) (held : Option (List ℕ)) (errs : ℕ) (l l' l'' : LinksState) (o p : Outputs) → mid ≡ calls → host.Records (Listen address is) mid heard → is ≡ true → l ≡ first_links id log s
     → (gave : List Bool) × (length gave ≡ length texts) × Serves (dials texts gave) (moment heard told faults o.err l) (moment dialled told' faults' held l')
     → Accepts end (moment dialled told' faults' held l') (moment calls' told'' faults'' held l'')
     → Appends (serving_text id) o.out p.out → o.faults ≤ errs → (end ≡ e.HostFault → Says accept_text held p.err errs p.faults) → ((end ≡ e.HostFault → ⊥) → p.err ≡ held)
-    → IsServed end id address texts calls calls' told told'' faults faults'' o p
-whole_serves end id address texts s is calls mid heard dialled calls' told told' told'' faults faults' faults'' held errs l l' l'' o p same recorded listens links gave accepted said later last quiet = record {
+    → IsServed end id log address texts calls calls' told told'' faults faults'' o p
+whole_serves end id log address texts s is calls mid heard dialled calls' told told' told'' faults faults' faults'' held errs l l' l'' o p same recorded listens links gave accepted said later last quiet = record {
   words = s;
   held = held;
   links = l'';
-  comes = comes id address texts _ (moment heard told faults o.err l) _ o p (hears id address s is calls mid heard told faults o.err l same recorded listens links) (moment calls' told'' faults'' held l'') gave end accepted said
+  comes = comes id address texts _ (moment heard told faults o.err l) _ o p (hears id log address s is calls mid heard told faults o.err l same recorded listens links) (moment calls' told'' faults'' held l'') gave end accepted said
       (λ it. says_later _ _ _ o.faults errs p.faults later (last it)) (λ not. sym (quiet not));
 }
 
@@ -171,12 +171,12 @@ no_write_fault e.HostFault a b h it = cc it
 no_write_fault e.NoMemory a b h it = cc it
 
 -- memory ran out before anything was called
-pub not_begun : (id address : List ℕ) (texts : List (List ℕ)) (calls : Option (List Call)) (told : Option (List LinkJob)) (faults : ℕ) (o : Outputs)
-    → IsServed e.NoMemory id address texts calls calls told told faults faults o o
-not_begun id address texts calls told faults o = record {
+pub not_begun : (id : List ℕ) (log : Bool) (address : List ℕ) (texts : List (List ℕ)) (calls : Option (List Call)) (told : Option (List LinkJob)) (faults : ℕ) (o : Outputs)
+    → IsServed e.NoMemory id log address texts calls calls told told faults faults o o
+not_begun id log address texts calls told faults o = record {
   words = no_stream;
   held = o.err;
-  links = first_links id no_stream;
+  links = first_links id log no_stream;
   comes = (
     record {
       made = [];
@@ -189,4 +189,4 @@ not_begun id address texts calls told faults o = record {
 }
   where
     a : Moment
-    a = moment calls told faults o.err (first_links id no_stream)
+    a = moment calls told faults o.err (first_links id log no_stream)

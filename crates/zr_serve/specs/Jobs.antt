@@ -1,13 +1,15 @@
 -- The jobs of the readers of links: what each begins with.
-use Rattle.std.specs.Prelude.{ℕ, ◌+◌, ◌-◌, ◌^◌, ◌%◌, List, [], ◌∷◌, ◌++◌}
+use Rattle.std.specs.Prelude.{ℕ, ◌+◌, ◌-◌, ◌^◌, ◌%◌, Bool, List, [], ◌∷◌, ◌++◌}
 use Rattle.std.specs.Int.{to_le_bytes, w64}
 use Rattle.rand_core.specs.Stream.{Stream, next_u64}
 use Rattle.zr_serve.specs.declared.job.LinkJob.{LinkJob}
 use Rattle.zr_serve.specs.declared.job.Side.{Side}
 
--- what the links of a router begin with: its identifier, the secret of its cookies, the random words that are left, and the next link's number
+-- what the links of a router begin with: its identifier, whether they have logs, the secret of its cookies, the random words that are left, and the next
+-- link's number
 pub record LinksState : Type 0 where
   pub me : List ℕ
+  pub log : Bool
   pub secret : List ℕ
   pub words : Stream
   pub count : ℕ
@@ -27,12 +29,12 @@ abbrev pub secret_of : Stream → List ℕ
 secret_of s = ((word_bytes s ++ word_bytes (rest s)) ++ word_bytes (rest (rest s))) ++ word_bytes (rest (rest (rest s)))
 
 -- before the first link
-abbrev pub first_links : List ℕ → Stream → LinksState
-first_links me s = record { me = me; secret = secret_of s; words = rest (rest (rest (rest s))); count = 0 }
+abbrev pub first_links : List ℕ → Bool → Stream → LinksState
+first_links me log s = record { me = me; log = log; secret = secret_of s; words = rest (rest (rest (rest s))); count = 0 }
 
 -- the job of the next link, which takes one random word
 abbrev pub next_job : LinksState → Side → LinkJob
-next_job l side = record { side = side; number = l.count; me = l.me; secret = l.secret; word = word l.words; turns = 2 ^ 64 - 1 }
+next_job l side = record { side = side; number = l.count; me = l.me; secret = l.secret; word = word l.words; turns = 2 ^ 64 - 1; log = l.log }
 
 abbrev pub with_next : LinksState → LinksState
 with_next l = record l { words = rest l.words; count = (l.count + 1) % 2 ^ 64 }

@@ -5,4 +5,4 @@ use Rattle.zr_serve.specs.declared.links.Links.{Links}
 
 -- by the stream of its generator
 abbrev pub links_of : {W : Type 0} → (W → Stream) → Links W → LinksState
-links_of stream l = record { me = l.me; secret = l.secret; words = stream l.words; count = l.count }
+links_of stream l = record { me = l.me; log = l.log; secret = l.secret; words = stream l.words; count = l.count }

@@ -109,14 +109,14 @@ Comes HostFault id address addresses a b o p = FailsAt id address addresses a b 
 Comes NoMemory id address addresses a b o p = CutsOff id address addresses a b o p × (b.held ≡ p.err)
 Comes WriteFault id address addresses a b o p = CutsOff id address addresses a b o p × (b.held ≡ p.err)
 
--- A router of this identifier was served at this address, and these were to be dialled: from the old calls of the host, jobs told and failed starts of
+-- A router of this identifier was served at this address, its links with logs or without, and these were to be dialled: from the old calls of the host, jobs told and failed starts of
 -- the crew to the new ones, for some random words of the host
-pub record IsServed (end : ServeEnd) (id address : List ℕ) (addresses : List (List ℕ)) (calls calls' : Option (List Call))
+pub record IsServed (end : ServeEnd) (id : List ℕ) (log : Bool) (address : List ℕ) (addresses : List (List ℕ)) (calls calls' : Option (List Call))
     (told told' : Option (List LinkJob)) (faults faults' : ℕ) (o p : Outputs) : Type 0 where
   pub words : Stream
   pub held : Option (List ℕ)
   pub links : LinksState
-  pub comes : Comes end id address addresses (moment calls told faults o.err (first_links id words)) (moment calls' told' faults' held links) o p
+  pub comes : Comes end id address addresses (moment calls told faults o.err (first_links id log words)) (moment calls' told' faults' held links) o p
 
 -- so many of the addresses were dialled
 pub record Dials (addresses : List (List ℕ)) (count : ℕ) (a b : Moment) : Type 0 where

@@ -14,7 +14,7 @@ pub enum Side {
 }
 
 /// What the reader of a link begins with: which end it is, the link's number, counted from 0 in the order in which the links came, the router's
-/// identifier, the secret of its cookies, the link's random word, and how often it reads at most.
+/// identifier, the secret of its cookies, the link's random word, how often it reads at most, and whether the link has a log.
 #[derive(Debug, Drop)]
 pub struct LinkJob {
     pub side: Side,
@@ -23,6 +23,7 @@ pub struct LinkJob {
     pub secret: [u8; 32],
     pub word: u64,
     pub turns: u64,
+    pub log: bool,
 }
 
 impl LinkJob {
@@ -37,6 +38,7 @@ impl LinkJob {
             secret: self.secret,
             word: self.word,
             turns: self.turns,
+            log: self.log,
         }
     }
 }

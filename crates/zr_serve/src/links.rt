@@ -11,10 +11,11 @@ use zr_id::zid::Zid;
 /// How often a reader reads at most.
 const TURNS: u64 = u64::MAX;
 
-/// The router's identifier, the secret of its cookies, the random words that are left, and the number of the next link.
+/// The router's identifier, whether its links have logs, the secret of its cookies, the random words that are left, and the number of the next link.
 #[derive(Drop)]
 pub(crate) struct Links<W: Rng + Drop> {
     me: Zid,
+    log: bool,
     secret: [u8; 32],
     words: W,
     count: u64,
@@ -22,8 +23,8 @@ pub(crate) struct Links<W: Rng + Drop> {
 
 impl<W: Rng + Drop> Links<W> {
     /// Before the first link. The secret takes the first four words.
-    pub(crate) fn new(me: Zid, mut words: W) -> Links<W>
-        ensures { links_of (λ w. W.stream w) result ≡ first_links me (W.stream words) }
+    pub(crate) fn new(me: Zid, log: bool, mut words: W) -> Links<W>
+        ensures { links_of (λ w. W.stream w) result ≡ first_links me log (W.stream words) }
     {
         let first = words.next_u64().to_le_bytes();
         let second = words.next_u64().to_le_bytes();
@@ -31,6 +32,7 @@ impl<W: Rng + Drop> Links<W> {
         let fourth = words.next_u64().to_le_bytes();
         Links {
             me,
+            log,
             secret: joined(&first, &second, &third, &fourth),
             words,
             count: 0,
@@ -51,6 +53,7 @@ impl<W: Rng + Drop> Links<W> {
             secret: self.secret,
             word: self.words.next_u64(),
             turns: TURNS,
+            log: self.log,
         }
     }
 }

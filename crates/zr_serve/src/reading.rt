@@ -1,6 +1,6 @@
 //! What the thread of a link's reader owns, and does.
 
-ghost use Rattle.std.specs.Prelude.{◌≡◌, IfOk};
+ghost use Rattle.std.specs.Prelude.{◌≡◌, IfOk, is_some};
 ghost use Rattle.std.specs.Arc.{arc_value};
 ghost use Rattle.zr_hist.specs.Words.{pass_name};
 ghost use Rattle.zr_link.specs.Heard.{IsBegun};
@@ -12,9 +12,10 @@ use std::thread::Threads;
 use zr_crew::Crew;
 use zr_hist::Pass;
 use zr_id::link::LinkNo;
-use zr_link::{Outward, Reader};
+use zr_link::{LinkEnd, LinkLog, Outward, Reader, Stage};
 use zr_open::Opening;
 use zr_outside::clock::Clock;
+use zr_outside::log::Log;
 use zr_outside::sink::{Sink, write_all};
 use zr_outside::source::Source;
 use zr_port::{Entry, Port};
@@ -30,6 +31,7 @@ pub(crate) struct Reading<
     S: Source + Drop,
     K: Sink + Drop,
     C: Clock + Drop,
+    L: Log + Drop,
     P: Port + Drop,
     R: Threads + Drop,
 > {
@@ -39,20 +41,24 @@ pub(crate) struct Reading<
     pub sink: K,
     pub clock: C,
     pub writer_clock: C,
+    pub log: Option<L>,
+    pub writer_log: Option<L>,
     pub port: Arc<P>,
     pub pass: Pass<Entry>,
     pub crew: Crew<R, LinkNo>,
     ghost ours: { pass_name pass ≡ P.history (arc_value port) },
+    ghost asked: { (is_some log ≡ job.log) × (is_some writer_log ≡ job.log) },
 }
 
-/// Runs the reader of a link.
+/// Runs the reader of a link. How it ended is seen by the peer and the log alone.
 pub(crate) fn read<
     S: Source + Drop,
     K: Sink + Send + Drop + 'static,
     C: Clock + Send + Drop + 'static,
+    L: Log + Send + Drop + 'static,
     P: Port + Send + Sync + Drop + 'static,
     R: Threads + Drop,
->(reading: Reading<S, K, C, P, R>)
+>(reading: Reading<S, K, C, L, P, R>)
 where
     P::Note: Send + 'static,
 {
@@ -63,11 +69,15 @@ where
         sink,
         mut clock,
         writer_clock,
+        log,
+        writer_log,
         port,
         mut pass,
         mut crew,
     } = reading;
+    let mut log = LinkLog::new(alloc, log, Stage::Unopened);
     let Ok((session, first)) = begin(alloc, &job, clock.now()) else {
+        log.read(LinkEnd::NoMemory);
         return;
     };
     let out = Outward {
@@ -75,9 +85,9 @@ where
         port,
         clock: writer_clock,
         turns: job.turns,
+        log: writer_log,
     };
-    // how it ended is seen by the peer alone
-    let _ = Reader::run(
+    let (end, _) = Reader::run(
         alloc,
         &mut source,
         out,
@@ -86,7 +96,9 @@ where
         &mut clock,
         &mut crew,
         &mut pass,
+        &mut log,
     );
+    log.read(end);
 }
 
 // The session of a job, and what it asks to be written first.
@@ -105,15 +117,22 @@ fn begin(alloc: Global, job: &LinkJob, now: u64) -> Result<(Session, Vec<u8>), A
     }
 }
 
-/// The link's reader could not be started: its peer is told so.
+/// The link's reader could not be started: its peer is told so, and its log.
 pub(crate) fn give_up<
     S: Source + Drop,
     K: Sink + Drop,
     C: Clock + Drop,
+    L: Log + Drop,
     P: Port + Drop,
     R: Threads + Drop,
->(reading: Reading<S, K, C, P, R>) {
-    let Reading { mut sink, .. } = reading;
+>(reading: Reading<S, K, C, L, P, R>) {
+    let Reading {
+        alloc,
+        mut sink,
+        log,
+        ..
+    } = reading;
     // where the peer has gone there is nobody to be told
     let _ = write_all(&mut sink, &close_batch(GENERIC));
+    LinkLog::new(alloc, log, Stage::Unopened).read(LinkEnd::CrewRefused);
 }

@@ -1,6 +1,6 @@
 //! `serve`: the loop that listens, dials and accepts.
 
-ghost use Rattle.std.specs.Prelude.{◌≡◌, ◌≤◌, ℕ, Option, ◌⊎◌, [], ◌∷◌, Bool, Err, IfErr, List, OnErr, OnOk, length, map, true};
+ghost use Rattle.std.specs.Prelude.{◌≡◌, ◌≤◌, ℕ, Option, ◌⊎◌, [], ◌∷◌, Bool, Err, IfErr, List, OnErr, OnOk, is_some, length, map, true};
 ghost use Rattle.std.specs.Arc.{arc_value};
 ghost use Rattle.std.specs.String.{string_bytes};
 ghost use Rattle.zr_crew.specs.Crew.{crew_faults, crew_told};
@@ -28,6 +28,7 @@ use zr_crew::Crew;
 use zr_hist::Pass;
 use zr_outside::clock::Clock;
 use zr_outside::host::{Accepted, Host};
+use zr_outside::log::Log;
 use zr_outside::sink::Sink;
 use zr_outside::source::Source;
 use zr_port::{Entry, Port};
@@ -44,8 +45,8 @@ pub struct Serving<P: Port + Drop, R: Threads + Wait + Copy + Drop> {
 
 /// Serves a router: listens, dials each address once, in order, and then accepts until no more links come. For each link that is given the crew starts
 /// its reader, which opens the session, brings the link up at the port, and starts its writer; a link whose reader can't be started is told so by a
-/// CLOSE. `out` has the line `serving ID` once the router listens, `err` a line `dial ADDRESS failed` for each dial that gave no link, and a line that
-/// says why where the host fails. It waits for no session as it ends.
+/// CLOSE. Where the plan says so each link has a log. `out` has the line `serving ID` once the router listens, `err` a line `dial ADDRESS failed` for
+/// each dial that gave no link, and a line that says why where the host fails. It waits for no session as it ends.
 pub fn serve<
     H: Host,
     K: Sink,
@@ -64,8 +65,9 @@ where
     H::In: 'static,
     H::Out: 'static,
     H::Time: 'static,
+    H::Log: 'static,
     P::Note: Send + 'static,
-    ensures served { IsServed result plan.now.id (string_bytes plan.now.listen) (map string_bytes plan.now.dials.items) (H.calls host.old) (H.calls host.new) (crew_told crew.old) (crew_told crew.new) (crew_faults crew.old) (crew_faults crew.new) (outputs (K.held out.old) (E.held err.old) (E.faults err.old)) (outputs (K.held out.new) (E.held err.new) (E.faults err.new)) }
+    ensures served { IsServed result plan.now.id plan.now.log (string_bytes plan.now.listen) (map string_bytes plan.now.dials.items) (H.calls host.old) (H.calls host.new) (crew_told crew.old) (crew_told crew.new) (crew_faults crew.old) (crew_faults crew.new) (outputs (K.held out.old) (E.held err.old) (E.faults err.old)) (outputs (K.held out.new) (E.held err.new) (E.faults err.new)) }
     ensures done { result ≡ ServeEnd.Done → Rose (H.ends host.old) (H.ends host.new) }
     ensures host { result ≡ ServeEnd.HostFault → Rose (H.faults host.old) (H.faults host.new) }
     ensures write { result ≡ ServeEnd.WriteFault → Rose (K.faults out.old) (K.faults out.new) ⊎ Rose (E.faults err.old) (E.faults err.new) }
@@ -75,7 +77,7 @@ where
         say_last("no random words\n", err);
         return ServeEnd::HostFault;
     };
-    let mut links = Links::new(plan.id, words);
+    let mut links = Links::new(plan.id, plan.log, words);
     if !host.listen(plan.listen.as_str()) {
         say_not_listening(plan.listen.as_str(), err);
         return ServeEnd::HostFault;
@@ -122,6 +124,7 @@ where
     H::In: 'static,
     H::Out: 'static,
     H::Time: 'static,
+    H::Log: 'static,
     P::Note: Send + 'static,
     ensures dialled { OnOk result ((gave : List Bool) × (length gave ≡ length addresses.now) × Serves (dials (map string_bytes addresses.now) gave) (moment (H.calls host.old) (crew_told crew.old) (crew_faults crew.old) (E.held err.old) (links_of (λ w. H.Words.stream w) links.old)) (moment (H.calls host.new) (crew_told crew.new) (crew_faults crew.new) (E.held err.new) (links_of (λ w. H.Words.stream w) links.new))) }
     ensures stopped { OnErr result ((gave : List Bool) × BreaksOff (dials (map string_bytes addresses.now) gave) (moment (H.calls host.old) (crew_told crew.old) (crew_faults crew.old) (E.held err.old) (links_of (λ w. H.Words.stream w) links.old)) (moment (H.calls host.new) (crew_told crew.new) (crew_faults crew.new) (E.held err.new) (links_of (λ w. H.Words.stream w) links.new))) }
@@ -155,6 +158,7 @@ where
     H::In: 'static,
     H::Out: 'static,
     H::Time: 'static,
+    H::Log: 'static,
     P::Note: Send + 'static,
     ensures dialled { OnOk result ((is_link : Bool) × Serves (call.Dial address.now is_link ∷ []) (moment (H.calls host.old) (crew_told crew.old) (crew_faults crew.old) (E.held err.old) (links_of (λ w. H.Words.stream w) links.old)) (moment (H.calls host.new) (crew_told crew.new) (crew_faults crew.new) (E.held err.new) (links_of (λ w. H.Words.stream w) links.new))) }
     ensures stopped { OnErr result ((is_link : Bool) × BreaksOff (call.Dial address.now is_link ∷ []) (moment (H.calls host.old) (crew_told crew.old) (crew_faults crew.old) (E.held err.old) (links_of (λ w. H.Words.stream w) links.old)) (moment (H.calls host.new) (crew_told crew.new) (crew_faults crew.new) (E.held err.new) (links_of (λ w. H.Words.stream w) links.new))) }
@@ -191,6 +195,7 @@ where
     H::In: 'static,
     H::Out: 'static,
     H::Time: 'static,
+    H::Log: 'static,
     P::Note: Send + 'static,
     ensures ended { (held : Option (List ℕ)) → Accepts result (moment (H.calls host.old) (crew_told crew.old) (crew_faults crew.old) held (links_of (λ w. H.Words.stream w) links.old)) (moment (H.calls host.new) (crew_told crew.new) (crew_faults crew.new) held (links_of (λ w. H.Words.stream w) links.new)) }
     ensures cause { (result ≡ ServeEnd.Done → Rose (H.ends host.old) (H.ends host.new)) × (result ≡ ServeEnd.HostFault → Rose (H.faults host.old) (H.faults host.new)) }
@@ -220,6 +225,7 @@ where
     H::In: 'static,
     H::Out: 'static,
     H::Time: 'static,
+    H::Log: 'static,
     P::Note: Send + 'static,
     ensures going { (held : Option (List ℕ)) → OnOk result ((a : Answer) × IsGoing a × Serves (accepts (a ∷ [])) (moment (H.calls host.old) (crew_told crew.old) (crew_faults crew.old) held (links_of (λ w. H.Words.stream w) links.old)) (moment (H.calls host.new) (crew_told crew.new) (crew_faults crew.new) held (links_of (λ w. H.Words.stream w) links.new))) }
     ensures stops { (held : Option (List ℕ)) → IfErr result (λ e. Stops e (moment (H.calls host.old) (crew_told crew.old) (crew_faults crew.old) held (links_of (λ w. H.Words.stream w) links.old)) (moment (H.calls host.new) (crew_told crew.new) (crew_faults crew.new) held (links_of (λ w. H.Words.stream w) links.new))) }
@@ -258,6 +264,7 @@ where
     H::In: 'static,
     H::Out: 'static,
     H::Time: 'static,
+    H::Log: 'static,
     P::Note: Send + 'static,
     ensures started { OnOk result (Starts (next_job (links_of (λ w. H.Words.stream w) links.old) side ∷ []) (crew_told crew.old) (crew_told crew.new) (crew_faults crew.old) (crew_faults crew.new)) }
     ensures unstarted { OnErr result ((crew_told crew.new ≡ crew_told crew.old) × (crew_faults crew.new ≡ crew_faults crew.old)) }
@@ -269,6 +276,8 @@ where
     let told = job.copy();
     let clock = host.time();
     let writer_clock = host.time();
+    let log = log_of(serving.alloc, host, &job, &source);
+    let writer_log = log_of(serving.alloc, host, &job, &source);
     let port = Arc::try_clone(&serving.port)?;
     let inner = Crew::new(serving.rt, serving.alloc)?;
     let reading = Reading {
@@ -278,6 +287,8 @@ where
         sink,
         clock,
         writer_clock,
+        log,
+        writer_log,
         port,
         pass: serving.port.split(&mut serving.pass),
         crew: inner,
@@ -286,20 +297,34 @@ where
     Ok(())
 }
 
+// A log for one more thread of a link, where its job has one.
+fn log_of<H: Host>(alloc: Global, host: &mut H, job: &LinkJob, source: &H::In) -> Option<H::Log>
+    ensures asked { is_some result ≡ job.now.log }
+    ensures told { H.calls host.new ≡ H.calls host.old }
+    ensures counts { (H.faults host.new ≡ H.faults host.old) × (H.ends host.new ≡ H.ends host.old) }
+{
+    if job.log {
+        Some(host.log(alloc, source))
+    } else {
+        None
+    }
+}
+
 // Gives the job to the crew. Where that hands it back, the peer is told.
 #[tactic(auto, using(crate::proofs::Stepping::starts_one))]
 fn hand_over<
     S: Source + Send + Drop + 'static,
     K: Sink + Send + Drop + 'static,
     C: Clock + Send + Drop + 'static,
+    L: Log + Send + Drop + 'static,
     P: Port + Send + Sync + Drop + 'static,
     R: Threads + Copy + Send + Sync + Drop + 'static,
->(crew: &mut Crew<R, LinkJob>, reading: Reading<S, K, C, P, R>, told: LinkJob)
+>(crew: &mut Crew<R, LinkJob>, reading: Reading<S, K, C, L, P, R>, told: LinkJob)
 where
     P::Note: Send + 'static,
     ensures { Starts (told ∷ []) (crew_told crew.old) (crew_told crew.new) (crew_faults crew.old) (crew_faults crew.new) }
 {
-    let run = |reading: Reading<S, K, C, P, R>| read(reading);
+    let run = |reading: Reading<S, K, C, L, P, R>| read(reading);
     if let Err(reading) = crew.start(reading, told, run) {
         give_up(reading);
     }

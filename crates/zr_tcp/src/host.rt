@@ -3,10 +3,12 @@
 ghost use Rattle.std.specs.Prelude.{◌≡◌, None};
 
 use crate::clock::SystemClock;
+use crate::log::ErrorLog;
 use crate::stream::{TcpSink, TcpSource, ends_of};
 use rand_chacha::ChaCha20Rng;
 use rand_core::SeedableRng;
-use std::io::ErrorKind;
+use std::alloc::Global;
+use std::io::{ErrorKind, Stderr};
 use std::net::{Net, TcpListener, TcpStream, ToSocketAddrs};
 use std::random::RandomSource;
 use std::time::{Clock, Duration};
@@ -29,6 +31,7 @@ pub struct TcpHost<
     R: Net<Listener = TcpListener, Stream = TcpStream> + RandomSource + Clock + Drop,
 > {
     rt: R,
+    err: Stderr,
     listener: Option<TcpListener>,
     faults: u64,
     quiets: u64,
@@ -43,10 +46,11 @@ enum Came {
 }
 
 impl<R: Net<Listener = TcpListener, Stream = TcpStream> + RandomSource + Clock + Drop> TcpHost<R> {
-    /// A host that doesn't listen yet.
-    pub fn new(rt: R) -> TcpHost<R> {
+    /// A host that doesn't listen yet. The logs of its links tell on the error output.
+    pub fn new(rt: R, err: Stderr) -> TcpHost<R> {
         TcpHost {
             rt,
+            err,
             listener: None,
             faults: 0,
             quiets: 0,
@@ -113,6 +117,8 @@ impl<
 
     type Time = SystemClock<R>;
 
+    type Log = ErrorLog;
+
     type Words = ChaCha20Rng;
 
     ghost faults = { λ h. h.faults };
@@ -164,6 +170,10 @@ impl<
 
     fn time(&mut self) -> SystemClock<R> {
         SystemClock::new(self.rt)
+    }
+
+    fn log(&mut self, alloc: Global, link: &TcpSource) -> ErrorLog {
+        ErrorLog::new(alloc, self.err, link.peer())
     }
 
     fn words(&mut self) -> Option<ChaCha20Rng> {

@@ -1,11 +1,13 @@
-//! The outside over TCP: links, a listener, a clock, and random words of the operating system. What sockets give and take isn't told; what fails is
+//! The outside over TCP: links and their log, a listener, a clock, and random words of the operating system. What sockets give and take isn't told; what fails is
 //! counted.
 #![tactic(auto)]
 
 mod clock;
 mod host;
+mod log;
 mod stream;
 
 pub use clock::SystemClock;
 pub use host::TcpHost;
+pub use log::ErrorLog;
 pub use stream::{TcpSink, TcpSource, ends_of};

@@ -4,7 +4,7 @@ ghost use Rattle.std.specs.Prelude.{◌≡◌, ◌≤◌, None, length};
 
 use std::io;
 use std::io::{ErrorKind, Read, Write};
-use std::net::{Shutdown, TcpStream};
+use std::net::{Shutdown, SocketAddr, TcpStream};
 use std::time::Duration;
 use zr_outside::sink::{Put, Sink};
 use zr_outside::source::{Got, Source};
@@ -52,6 +52,13 @@ pub fn ends_of(stream: TcpStream) -> io::Result<(TcpSource, TcpSink)> {
         faults: 0,
     };
     Ok((source, sink))
+}
+
+impl TcpSource {
+    /// The address of the peer, where the system tells it.
+    pub(crate) fn peer(&self) -> Option<SocketAddr> {
+        self.stream.peer_addr().ok()
+    }
 }
 
 impl Drop for TcpSink {

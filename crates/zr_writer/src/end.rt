@@ -6,8 +6,8 @@ ghost use Rattle.zr_writer.specs.Ends.{end_of_stop};
 /// How a writer ended.
 #[derive(Clone, Copy, Debug, PartialEq, Eq)]
 pub enum WriterEnd {
-    /// The ring's end was taken, and all was written.
-    Done,
+    /// The ring's end was taken, with this reason, and all was written.
+    Done(Option<u8>),
     /// A write failed.
     WriteFault,
     /// It has asked the taker as often as it may.

@@ -1,6 +1,6 @@
 //! `Writer`: the loop of a link's writer.
 
-ghost use Rattle.std.specs.Prelude.{◌≡◌, ◌≤◌, ◌+◌, [], true, is_some};
+ghost use Rattle.std.specs.Prelude.{◌≡◌, ◌≤◌, ◌+◌, ℕ, Option, Some, []};
 ghost use Rattle.zr_outside.specs.Counts.{Rose};
 ghost use Rattle.zr_outside.specs.Told.{Appends, AppendsPrefix};
 ghost use Rattle.zr_ring.specs.Items.{end_of};
@@ -31,8 +31,8 @@ impl Writer {
         turns: u64,
     ) -> WriterEnd
         ensures written { Writes (taken taker.old) (taken taker.new) (C.last clock.old) (C.last clock.new) (close_bytes (end_of (taken taker.new))) (λ text. AppendsPrefix text (K.held sink.old) (K.held sink.new)) }
-        ensures whole { result ≡ Done → Writes (taken taker.old) (taken taker.new) (C.last clock.old) (C.last clock.new) (close_bytes (end_of (taken taker.new))) (λ text. Appends text (K.held sink.old) (K.held sink.new)) }
-        ensures done { result ≡ Done → is_some (end_of (taken taker.new)) ≡ true }
+        ensures whole { (reason : Option ℕ) → result ≡ Done reason → Writes (taken taker.old) (taken taker.new) (C.last clock.old) (C.last clock.new) (close_bytes (end_of (taken taker.new))) (λ text. Appends text (K.held sink.old) (K.held sink.new)) }
+        ensures done { (reason : Option ℕ) → result ≡ Done reason → end_of (taken taker.new) ≡ Some reason }
         ensures turns { result ≡ Turns → take_calls taker.new ≡ take_calls taker.old + turns }
         ensures no_end { result ≡ Turns → end_of (taken taker.new) ≡ end_of (taken taker.old) }
         ensures so_far { result ≡ Turns → Writes (taken taker.old) (taken taker.new) (C.last clock.old) (C.last clock.new) [] (λ text. Appends text (K.held sink.old) (K.held sink.new)) }
@@ -55,7 +55,7 @@ impl Writer {
                 }
                 Took::Ended(reason) => {
                     return match joined.finish(sink, clock, reason) {
-                        Ok(()) => WriterEnd::Done,
+                        Ok(()) => WriterEnd::Done(reason),
                         Err(stop) => stop.end(),
                     };
                 }

@@ -11,6 +11,8 @@ use Rattle.zr_link.specs.Heard.{IsLate}
 use Rattle.zr_link.specs.Acts.{up, froms}
 use Rattle.zr_link.specs.Ends.{IsStarted}
 use Rattle.zr_link.proofs.Going.{Followed, does_entry, does_then}
+use Rattle.zr_link.specs.Log.{IsNotUp}
+use Rattle.zr_link.proofs.Logged.{logged_up}
 use Rattle.zr_link.proofs.Running.{enters_followed, enters_early, up_not_refused}
 use Rattle.zr_link.proofs.reader.enter.Goals as goal
 
@@ -82,3 +84,28 @@ returns-in-Err-begin-clause-entered g c =
     (g.P.Port.refuses_up c.args.port.now) (g.P.Port.refuses_message c.args.port.now) (g.P.Port.refuses_down c.args.port.now)
     c.args.pass.now c.up.new.pass c.leave-in-Err-begin.new.pass link c.args.intake.now.fed.bytes.items c.without_close.new.self.fed.bytes.items (g.K.Sink.held c.args.out.sink) _ _
     first c.in-Err-begin.ensures.early down.0 down.1 down.2 c.without_close.ensures.without wrote
+
+pub returns-in-Err-clause-logged : goal.returns-in-Err-clause-logged
+returns-in-Err-clause-logged g c = inl (c.in-Err.ensures.unchanged, subst IsNotUp (sym c.opened.ensures.stage) tt, c.opened.ensures.held)
+
+pub returns-in-Ok-begin-clause-logged : goal.returns-in-Ok-begin-clause-logged
+returns-in-Ok-begin-clause-logged g c =
+    let link = c.in-Ok.up.0 in
+    let added = c.in-Ok.ensures.added in
+    let first = does_entry (mine c.args.pass.now) (mine c.up.new.pass) added.entry (event.Up link c.args.opened.peer) (Some c.args.opened.outbox) None added.own added.says.0 in
+    let on = c.follow-end.ensures.followed in
+    let down = c.leave.ensures.left in
+    let rest = does_then (froms link on.0) down.0 (mine c.up.new.pass) (mine c.follow-end.new.pass) (mine c.leave.new.pass) on.1 down.2 in
+    logged_up (λ l. g.L.Log.held l) link c.args.opened.peer _ c.args.opened.outbox (froms link on.0 ++ down.0) _ _ c.args.log.now c.opened.new.self _ c.same_peer-known.ensures
+    (does_then (up link c.args.opened.peer c.args.opened.outbox ∷ []) (froms link on.0 ++ down.0) (mine c.args.pass.now) (mine c.up.new.pass) (mine c.leave.new.pass) first rest)
+    c.opened.ensures.held c.up-2.ensures.stage c.up-2.ensures.told
+
+pub returns-in-Err-begin-clause-logged : goal.returns-in-Err-begin-clause-logged
+returns-in-Err-begin-clause-logged g c =
+    let link = c.in-Ok.up.0 in
+    let added = c.in-Ok.ensures.added in
+    let first = does_entry (mine c.args.pass.now) (mine c.up.new.pass) added.entry (event.Up link c.args.opened.peer) (Some c.args.opened.outbox) None added.own added.says.0 in
+    let down = c.leave-in-Err-begin.ensures.left in
+    logged_up (λ l. g.L.Log.held l) link c.args.opened.peer _ c.args.opened.outbox down.0 _ _ c.args.log.now c.opened.new.self _ c.same_peer-known.ensures
+    (does_then (up link c.args.opened.peer c.args.opened.outbox ∷ []) down.0 (mine c.args.pass.now) (mine c.up.new.pass) (mine c.leave-in-Err-begin.new.pass) first down.2)
+    c.opened.ensures.held c.up-2.ensures.stage c.up-2.ensures.told

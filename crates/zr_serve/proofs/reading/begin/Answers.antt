@@ -1,4 +1,4 @@
-use Rattle.zr_serve.proofs.Beginning.{accepting_begun, dialling_begun}
+use Rattle.zr_link.proofs.Beginning.{accepting_begun, dialling_begun}
 use Rattle.zr_serve.proofs.reading.begin.Goals as goal
 
 pub returns-in-Accepting-clause-begun : goal.returns-in-Accepting-clause-begun

@@ -1,4 +1,6 @@
 use Rattle.std.proofs.Common.{◌≡◌, ◌<◌, true, false, List, [], ◌∷◌, ◌++◌, ◌==◌, not, filter, length, map, Option, Some, None, refl, sym, ap, subst, ◌∙◌}
+use Rattle.std.specs.Prelude.{is_some}
+use Rattle.std.specs.List.{find}
 use Rattle.zr_hist.specs.Words.{list_of, most_entries, seen}
 use Rattle.zr_msg.specs.declared.event.Event.TheVariants.{Down}
 use Rattle.zr_table.specs.Event.{on_link}
@@ -14,10 +16,25 @@ use Rattle.zr_router.specs.declared.failure.Failure.{Failure}
 use Rattle.zr_router.specs.declared.failure.Failure.TheVariants.{Refused}
 use Rattle.zr_router.specs.Refusals.{RefusesDown, down_refusal, is_worn}
 use Rattle.zr_router.proofs.Entered.{added, added_beside, handled}
-use Rattle.zr_router.proofs.OpenEnds.{distinct_ends, down_vouched, queues_down}
+use Rattle.zr_router.proofs.OpenEnds.{distinct_ends, down_vouched, is_open, queues_down}
 use Rattle.zr_router.proofs.Peers.{down_admitted, down_none, down_worn}
-use Rattle.zr_router.proofs.tables.Tables.down.Goals.{in-Some-gone, in_default-gone}
 use Rattle.zr_router.proofs.tables.Tables.down.Goals as goal
+
+pub unreachable-requires : goal.unreachable-requires
+unreachable-requires g c =
+    let me = g.B.Naming.me in
+    let l = c.look.new.self in
+    let h = list_of l.kept in
+    let open_now : l.is_spent ≡ false = c.look.ensures.same.2 ∙ sym c.in-Ok.ensures.spent in
+    let r : IsReplay me h l.node l.ends.items = l.replayed open_now in
+    let n = c.handle.new.self in
+    let q : IsReplay me (list_of n.kept) l.node n.ends.items =
+    subst (λ x. IsReplay me x l.node n.ends.items) (sym c.handle.ensures.kept) (subst (λ (xs : List EndState). IsReplay me h l.node xs) (sym (ap (λ v. v.items) c.handle.ensures.ends)) r) in
+    let none : down_refusal l.node c.args.link c.in-Ok.worn ≡ None = sym c.refuses_down.ensures ∙ c.in_default-refuses_down.is in
+    let found = is_open me (list_of n.kept) l.node n.ends.items q n.legal c.args.link (down_none l.node c.args.link c.in-Ok.worn none).0 in
+    let gone : find (λ x. x.queue.link.0 == c.args.link.0) n.ends.items ≡ None = sym c.taken_out.ensures.out ∙ c.in_default-taken_out.is in
+    let never : false ≡ true = ap is_some (sym gone) ∙ found in
+    cc
 
 pub enter-requires-clause-handled : goal.enter-requires-clause-handled
 enter-requires-clause-handled g c =
@@ -35,11 +52,11 @@ enter-requires-clause-handled g c =
     let handled_is = c.in-Ok-handle.ensures.handled in
     let none : down_refusal l.node c.args.link c.in-Ok.worn ≡ None = sym c.refuses_down.ensures ∙ c.in_default-refuses_down.is in
     let open_is = down_none l.node c.args.link c.in-Ok.worn none in
-    handled me (list_of n.kept) l.node n.node c.taken_out-gone.new.ends.items (Down c.args.link) None c.args.reason c.as_slice.result.now
+    handled me (list_of n.kept) l.node n.node c.taken_out.new.ends.items (Down c.args.link) None c.args.reason c.as_slice.result.now
     n.legal q.node_is open_is.0 handled_is.1 handled_is.0
     (λ to. ap (λ xs. on_link to xs) c.as_slice.ensures.value ∙ c.in-Ok-handle.ensures.sent to)
     tt refl
-    (ap (λ (xs : List EndState). map (λ x. x.queue) xs) (c.taken_out-gone.ensures.rest (distinct_ends me (list_of n.kept) l.node n.ends.items q))
+    (ap (λ (xs : List EndState). map (λ x. x.queue) xs) (c.taken_out.ensures.rest (distinct_ends me (list_of n.kept) l.node n.ends.items q))
     ∙ queues_down me (list_of n.kept) l.node n.ends.items q c.args.link None)
     (subst (λ x. length x < most_entries) (sym kept) (c.in-Ok.ensures.room open_is.1))
 
@@ -58,8 +75,8 @@ end-requires g c =
     subst (λ x. IsReplay me x l.node n.ends.items) (sym c.handle.ensures.kept) (subst (λ (xs : List EndState). IsReplay me h l.node xs) (sym (ap (λ v. v.items) c.handle.ensures.ends)) r) in
     let handled_is = c.in-Ok-handle.ensures.handled in
     let a = c.in-Ok-enter.ensures.added in
-    λ _. subst (λ m. Vouches m c.args.link (seen c.split.result) (end c.args.reason) (length c.in-Some-gone.end.queue.batches)) (sym c.enter.new.self.own)
-    (down_vouched me (list_of n.kept) l.node n.ends.items q c.args.link c.in-Some-gone.end (sym c.taken_out-gone.ensures.out ∙ c.in-Some-gone.is) c.args.reason a.0 a.1
+    λ _. subst (λ m. Vouches m c.args.link (seen c.split.result) (end c.args.reason) (length c.in-Some-taken_out.end.queue.batches)) (sym c.enter.new.self.own)
+    (down_vouched me (list_of n.kept) l.node n.ends.items q c.args.link c.in-Some-taken_out.end (sym c.taken_out.ensures.out ∙ c.in-Some-taken_out.is) c.args.reason a.0 a.1
     (seen c.split.result) (c.split.ensures.new.0 ∙ a.4 ∙ a.2))
 
 pub returns-in-Err-Refused-clause-refused : goal.returns-in-Err-Refused-clause-refused
@@ -90,15 +107,10 @@ returns-clause-added g c =
     let handled_is = c.in-Ok-handle.ensures.handled in
     let none : down_refusal l.node c.args.link (is_worn h) ≡ None = ap (λ b. down_refusal l.node c.args.link b) w ∙ sym c.refuses_down.ensures ∙ c.in_default-refuses_down.is in
     let a = c.in-Ok-enter.ensures.added in
-    let same : (seen c.match-gone-3.pass ≡ seen c.enter.new.pass) × (mine c.match-gone-3.pass ≡ mine c.enter.new.pass) =
-    elim c.match-gone-3.branch [
-      | in-Some-gone w ↦ (ap (λ p. seen p) w.pass-is ∙ w.split.ensures.unchanged.0, ap (λ p. mine p) w.pass-is ∙ w.split.ensures.unchanged.1)
-      | in_default-gone w ↦ (ap (λ p. seen p) w.pass-is, ap (λ p. mine p) w.pass-is)
-    ] in
-    added c.args.pass.now c.look.new.pass c.match-gone-3.pass (list_of t.kept) (list_of c.enter.new.self.kept) (Down c.args.link) None c.args.reason
+    added c.args.pass.now c.look.new.pass c.split.new.pass (list_of t.kept) (list_of c.enter.new.self.kept) (Down c.args.link) None c.args.reason
     (λ before. IsAdmitted (λ e. RefusesDown me before c.args.link e))
     c.look.ensures.pass.1 c.look.ensures.prefix
-    (a.0, a.1, a.2 ∙ ap (λ x. x ++ a.0 ∷ []) kept, same.1 ∙ a.3, same.0 ∙ a.4)
+    (a.0, a.1, a.2 ∙ ap (λ x. x ++ a.0 ∷ []) kept, c.split.ensures.unchanged.1 ∙ a.3, c.split.ensures.unchanged.0 ∙ a.4)
     (subst (λ x. IsAdmitted (λ e. RefusesDown me x c.args.link e)) c.look.ensures.kept (down_admitted me h l.node l.ends.items r c.args.link none handled_is.1))
 
 pub returns-clause-rings : goal.returns-clause-rings
@@ -114,18 +126,19 @@ returns-clause-rings g c =
     let q : IsReplay me (list_of n.kept) l.node n.ends.items =
     subst (λ x. IsReplay me x l.node n.ends.items) (sym c.handle.ensures.kept) (subst (λ (xs : List EndState). IsReplay me h l.node xs) (sym (ap (λ v. v.items) c.handle.ensures.ends)) r) in
     let others : List EndState → List EndState = λ xs. filter (λ x. not (x.queue.link.0 == c.args.link.0)) xs in
-    let ends : c.taken_out-gone.new.ends.items ≡ others t.ends.items =
-    c.taken_out-gone.ensures.rest (distinct_ends me (list_of n.kept) l.node n.ends.items q) ∙ ap others (ap (λ v. v.items) c.handle.ensures.ends ∙ ap (λ v. v.items) c.look.ensures.same.1) in
+    let ends : c.taken_out.new.ends.items ≡ others t.ends.items =
+    c.taken_out.ensures.rest (distinct_ends me (list_of n.kept) l.node n.ends.items q) ∙ ap others (ap (λ v. v.items) c.handle.ensures.ends ∙ ap (λ v. v.items) c.look.ensures.same.1) in
     let left : List EndState = c.enter.new.self.ends.items in
     let a = c.in-Ok-enter.ensures.added in
-    let own : mine c.match-gone-3.pass ≡ mine c.look.new.pass ++ a.0 ∷ [] = elim c.match-gone-3.branch [
-      | in-Some-gone w ↦ ap (λ p. mine p) w.pass-is ∙ w.split.ensures.unchanged.1 ∙ a.3
-      | in_default-gone w ↦ ap (λ p. mine p) w.pass-is ∙ a.3
-    ] in
-    let all : seen c.match-gone-3.pass ≡ list_of c.enter.new.self.kept = elim c.match-gone-3.branch [
-      | in-Some-gone w ↦ ap (λ p. seen p) w.pass-is ∙ w.split.ensures.unchanged.0 ∙ a.4
-      | in_default-gone w ↦ ap (λ p. seen p) w.pass-is ∙ a.4
-    ] in
-    added_beside c.args.pass.now c.look.new.pass c.match-gone-3.pass (list_of t.kept) (list_of c.enter.new.self.kept) (λ before e. GoesByRings me before e (others t.ends.items) left)
-    c.look.ensures.pass.1 c.look.ensures.prefix a.0 (a.2 ∙ ap (λ x. x ++ a.0 ∷ []) kept) own all
-    (subst (λ (xs : List EndState). GoesByRings me (list_of t.kept) a.0 xs left) ends (subst (λ h. GoesByRings me h a.0 c.taken_out-gone.new.ends.items left) kept a.5))
+    added_beside c.args.pass.now c.look.new.pass c.split.new.pass (list_of t.kept) (list_of c.enter.new.self.kept) (λ before e. GoesByRings me before e (others t.ends.items) left)
+    c.look.ensures.pass.1 c.look.ensures.prefix a.0 (a.2 ∙ ap (λ x. x ++ a.0 ∷ []) kept) (c.split.ensures.unchanged.1 ∙ a.3) (c.split.ensures.unchanged.0 ∙ a.4)
+    (subst (λ (xs : List EndState). GoesByRings me (list_of t.kept) a.0 xs left) ends (subst (λ h. GoesByRings me h a.0 c.taken_out.new.ends.items left) kept a.5))
+
+pub returns-clause-ended : goal.returns-clause-ended
+returns-clause-ended g c = record {
+  left = c.in-Some-taken_out.end;
+  was_up = ap (λ xs. find (λ x. x.queue.link.0 == c.args.link.0) xs) (sym (ap (λ v. v.items) c.handle.ensures.ends ∙ ap (λ v. v.items) c.look.ensures.same.1)) ∙ sym c.taken_out.ensures.out ∙ c.in-Some-taken_out.is;
+  ring = c.end-2.ensures.ring;
+  given = c.end-2.ensures.given;
+  ended = c.end-2.ensures.ended;
+}

@@ -45,7 +45,7 @@ returns-in-Ended-clause-written g c =
     ]
 
 pub returns-in-Ended-clause-whole : goal.returns-in-Ended-clause-whole
-returns-in-Ended-clause-whole g c done =
+returns-in-Ended-clause-whole g c reason done =
     let inv = c.loop.invariant in
     let tells = c.in-Ended.ensures.tells in
     let le : c.loop.joined.moment ≤ g.C.Clock.last c.finish.new.clock = omega (arith, inv.4, c.finish.ensures.clock) in
