@@ -1,6 +1,6 @@
 -- The one broker, on queries: what each client that is asked has replied and which have ended, so what replies each asker is to have and when its
 -- final. The lines of the script say it, and of the report those that say what clients were sent: no router or table is known here.
-use Rattle.std.specs.Prelude.{ℕ, ◌==◌, ◌&&◌, ◌||◌, not, nat_lt, nat_le, Bool, false, List, Option, Some, None, is_none, if◌then◌else◌}
+use Rattle.std.specs.Prelude.{ℕ, ◌==◌, ◌&&◌, ◌||◌, not, nat_lt, nat_le, Bool, false, List, Option, Some, None, is_none, is_some, if◌then◌else◌}
 use Rattle.std.specs.List.{list_any, list_all, filter_map, slice_get, count_by}
 use Rattle.std.specs.Option.{option_map_or}
 use Rattle.zr_id.specs.Zid.{is_named}
@@ -138,12 +138,12 @@ has_ended acts report q client = list_any (λ s. is_named client s.client && (is
 abbrev pub is_finished : List Numbered → List Numbered → List ReportLine → Asked → Bool
 is_finished before acts report q = list_all (λ c. not (asks before q c) || has_ended acts report q c) (clients before)
 
--- whether a reply may come to a client: its line is one before the mark, or it is said to a query from before the mark or to one of the
--- client's own in the phase
-abbrev pub is_own_query : List Numbered → ℕ → List ℕ → Option ℕ → Bool
-is_own_query phase mark client None = false
-is_own_query phase mark client (Some line) = nat_lt line mark || list_any (λ q. q.line == line && is_named client q.client) (queries phase)
+-- whether there is a query, and it is one that the client has asked under the number
+abbrev pub is_own_query : List Numbered → List ℕ → ℕ → Option ℕ → Bool
+is_own_query acts client number None = false
+is_own_query acts client number (Some line) = list_any (λ q. q.line == line && is_under client number q) (queries acts)
 
-abbrev pub may_come : List Numbered → List Numbered → List ReportLine → ℕ → List ℕ → Reply → Bool
-may_come acts phase report mark client reply =
-    nat_lt reply.line mark || list_any (λ s. s.line == reply.line && is_own_query phase mark client (query_of acts report s)) (sayings phase)
+-- whether a reply may come to a client: a client has replied so, and said it to a query that this one has asked under the reply's number
+abbrev pub may_come : List Numbered → List ReportLine → List ℕ → Reply → Bool
+may_come acts report client reply =
+    list_any (λ s. s.line == reply.line && (is_some s.reply && is_own_query acts client reply.number (query_of acts report s))) (sayings acts)

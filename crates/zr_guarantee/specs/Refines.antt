@@ -65,16 +65,15 @@ PhasesDeliver = (before phase : List Numbered) (mark : ℕ) (m : Moment) →
 
 -- ---- all of it
 
--- At a moment of a phase the network has done what one broker does. What is proved as yet is `PhasesDeliver`: that replies and finals come as
--- `answered` and the two clauses behind it say is the whole statement, which is still to be proved.
+-- At a moment of a phase the network has done what one broker does.
 pub record Refines (before : List Numbered) (mark : ℕ) (phase : List Numbered) (m : Moment) : Type 0 where
   -- samples and requests come as one broker sends them
   pub delivers : Delivers before mark phase m
   -- each query of the phase is answered: its replies come, and one final behind them
   pub answered : AllByRecursion (λ q. IsAnswered before (before ++ phase) m q) (queries phase)
-  -- each reply is one to a query of its receiver in the phase, or comes from before the mark, or is one to a query from before the mark
+  -- each reply was said by a client, to a query that its receiver has asked under that number
   pub no_other_reply : (receiver : List ℕ) → is_router before receiver ≡ false →
-      list_all (λ r. may_come (before ++ phase) phase m.report mark receiver r) (replies_in (told_to m.report receiver)) ≡ true
+      list_all (λ r. may_come (before ++ phase) m.report receiver r) (replies_in (told_to m.report receiver)) ≡ true
   -- and under each number there are no more finals than queries
   pub no_other_final : (receiver : List ℕ) (number : ℕ) → is_router before receiver ≡ false →
       finals_in number (told_to m.report receiver) ≤ times_asked (before ++ phase) receiver number

@@ -4,27 +4,14 @@ use Rattle.zr_command.specs.declared.command.Act.TheVariants.{Mark}
 use Rattle.zr_network.specs.Moments.{Numbered, Moment, reached}
 use Rattle.zr_network.specs.Accepted.{accepted}
 use Rattle.zr_guarantee.specs.Phase.{is_phase}
-use Rattle.zr_guarantee.specs.Refines.{Delivers, Refines}
+use Rattle.zr_guarantee.specs.Refines.{Refines}
 
--- however the accepted acts of some lines are cut at a mark and in its phase, also within a run, there is a moment, and at it samples and requests
--- come as one broker sends them
-abbrev pub IsDelivered : List (List ℕ) → Type 0
-IsDelivered ls = (before phase rest : List Numbered) (mark : ℕ) →
-    accepted ls ≡ before ++ (mark, Mark) ∷ (phase ++ rest) → is_phase phase ≡ true →
-    (m : Moment) × (reached (before ++ (mark, Mark) ∷ phase) ≡ Some m) × Delivers before mark phase m
-
--- so it is with every script's lines, a refused script's up to the refused one
-abbrev pub LinesDeliver : Type 0
-LinesDeliver = (ls : List (List ℕ)) → IsDelivered ls
-
--- ---- all of it
-
--- There is a moment, and it refines one broker. Of this only `LinesDeliver` is proved as yet.
+-- however the accepted acts of some lines are cut at a mark and in its phase, also within a run, there is a moment, and it refines one broker
 abbrev pub IsRefined : List (List ℕ) → Type 0
 IsRefined ls = (before phase rest : List Numbered) (mark : ℕ) →
     accepted ls ≡ before ++ (mark, Mark) ∷ (phase ++ rest) → is_phase phase ≡ true →
     (m : Moment) × (reached (before ++ (mark, Mark) ∷ phase) ≡ Some m) × Refines before mark phase m
 
--- every script's lines refine one broker, a refused script's up to the refused one
+-- so it is with every script's lines, a refused script's up to the refused one
 abbrev pub LinesRefine : Type 0
 LinesRefine = (ls : List (List ℕ)) → IsRefined ls

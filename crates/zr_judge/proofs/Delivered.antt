@@ -2,7 +2,7 @@
 -- anything, and for all other names there is nothing to have and nothing was sent.
 use Rattle.std.proofs.Common.{◌≡◌, ℕ, Bool, true, false, cond, List, [], ◌∷◌, ◌++◌, refl, sym, ap, ◌∙◌, subst, inl, inr}
 use Rattle.std.specs.Prelude.{◌==◌, ◌&&◌, ◌||◌, ◌⊎◌, ◌↔◌, not, nat_lt, filter, Option, Some, None}
-use Rattle.std.specs.List.{list_any, list_all, fold, flat_map, cons_option}
+use Rattle.std.specs.List.{list_any, list_all, fold, flat_map, cons_option, starts_with}
 use Rattle.std.specs.Option.{option_map_or}
 use Rattle.std.proofs.lemmas.Bool.{false≢true, and_parts, and_from, and_left, and_right, or_parts, or_from, or_right, or_cases}
 use Rattle.zr_id.specs.Zid.{is_named}
@@ -19,17 +19,18 @@ use Rattle.zr_guarantee.specs.Item.{Item, Carried}
 use Rattle.zr_guarantee.specs.Broker.{attached_by, is_attached, takes, is_for, Publication, publication, is_publisher, is_line_of, is_line, item_for, from}
 use Rattle.zr_guarantee.specs.Sent.{Told, carried_by, items_of, item_of, told_in, told_to, sent_to}
 use Rattle.zr_guarantee.specs.Refines.{Delivers}
-use Rattle.zr_judge.specs.Same.{is_same, is_prefix}
-use Rattle.zr_judge.specs.Judge.{Judged, is_right, sent_by, pair_holds, holds_for_client, holds_for_receiver, holds_for_all, holds_for, holds_for_publisher, is_allowed, may_be_sent, judgement}
-use Rattle.zr_judge.proofs.Equal.{same_item, item_itself, prefix_means, prefix_of, prefix_self, both_prefixes}
+use Rattle.zr_judge.specs.Same.{is_same}
+use Rattle.zr_judge.specs.Equal.{one_item}
+use Rattle.zr_judge.specs.Judge.{Judged, is_right, sent_by, pair_holds, holds_for_client, holds_for_receiver, holds_for_all, holds_for, holds_for_publisher, is_allowed, may_be_sent, is_delivered}
+use Rattle.zr_judge.proofs.Begins.{prefix_means, prefix_holds, same_holds, both_prefixes}
 
 -- ---- lists
 
-all_true : {X : Type 0} (f : X → Bool) → ((x : X) → f x ≡ true) → (xs : List X) → list_all f xs ≡ true
+pub all_true : {X : Type 0} (f : X → Bool) → ((x : X) → f x ≡ true) → (xs : List X) → list_all f xs ≡ true
 all_true f h [] = refl
 all_true f h (x ∷ xs) = and_from (f x) (list_all f xs) (h x) (all_true f h xs)
 
-none_pass : {X : Type 0} (p : X → Bool) → ((x : X) → p x ≡ false) → (xs : List X) → filter p xs ≡ []
+pub none_pass : {X : Type 0} (p : X → Bool) → ((x : X) → p x ≡ false) → (xs : List X) → filter p xs ≡ []
 none_pass p h [] = refl
 none_pass p h (x ∷ xs) = rw (h x) (none_pass p h xs)
 
@@ -76,7 +77,7 @@ tells_of d (r.Record links) = false
 tells_of d (r.Parent root parent) = false
 tells_of d (r.Source source number decls) = false
 
-none_told : (report : List ReportLine) (d : List ℕ) → list_any (tells_of d) report ≡ false → told_to report d ≡ []
+pub none_told : (report : List ReportLine) (d : List ℕ) → list_any (tells_of d) report ≡ false → told_to report d ≡ []
 none_told [] d h = refl
 none_told (x ∷ xs) d h =
     let parts = or_parts (tells_of d x) (list_any (tells_of d) xs) h in
@@ -154,7 +155,7 @@ module _ (j : Judged) where
       by line here ih (inr e) = ih e
 
   -- so every pair of names holds
-  every_pair : judgement j ≡ true → (a d : List ℕ) → pair_holds j a d ≡ true
+  every_pair : is_delivered j ≡ true → (a d : List ℕ) → pair_holds j a d ≡ true
   every_pair h a d = by_publisher (list_any (λ x. is_publisher a x.1) j.phase) refl
     where
       publishers : list_all (λ x. holds_for_publisher j x.1) j.phase ≡ true
@@ -245,26 +246,26 @@ module _ (j : Judged) where
   -- ---- both ways
 
   module _ (w : WorldState) (quiet_is : is_quiet w ≡ j.quiet) where
-    sound : judgement j ≡ true → Delivers j.before j.mark j.phase (record { world = w; report = j.report })
+    sound : is_delivered j ≡ true → Delivers j.before j.mark j.phase (record { world = w; report = j.report })
     sound h = record {
-      prefix = λ a d other. prefix_means is_same same_item (sent_by j a d) (from j.before j.phase a d) (pair a d other).0;
+      prefix = λ a d other. prefix_means is_same one_item (sent_by j a d) (from j.before j.phase a d) (pair a d other).0;
       nothing_else = λ d. all_may j.report d (and_parts (list_all (λ x. holds_for_publisher j x.1) j.phase) (list_all (λ x. may_be_sent j x) j.report) h).1;
-      whole = λ quiet a d other. both_prefixes is_same same_item (sent_by j a d) (from j.before j.phase a d) (pair a d other).0
-          (ap (λ b. not b || is_prefix is_same (from j.before j.phase a d) (sent_by j a d)) (sym (sym quiet_is ∙ quiet)) ∙ (pair a d other).1);
+      whole = λ quiet a d other. both_prefixes is_same one_item (sent_by j a d) (from j.before j.phase a d) (pair a d other).0
+          (ap (λ b. not b || starts_with is_same (sent_by j a d) (from j.before j.phase a d)) (sym (sym quiet_is ∙ quiet)) ∙ (pair a d other).1);
     }
       where
         pair : (a d : List ℕ) → is_router j.before d ≡ false →
-            (is_prefix is_same (sent_by j a d) (from j.before j.phase a d) ≡ true) × ((not j.quiet || is_prefix is_same (from j.before j.phase a d) (sent_by j a d)) ≡ true)
-        pair a d other = and_parts (is_prefix is_same (sent_by j a d) (from j.before j.phase a d)) (not j.quiet || is_prefix is_same (from j.before j.phase a d) (sent_by j a d))
+            (starts_with is_same (from j.before j.phase a d) (sent_by j a d) ≡ true) × ((not j.quiet || starts_with is_same (sent_by j a d) (from j.before j.phase a d)) ≡ true)
+        pair a d other = and_parts (starts_with is_same (from j.before j.phase a d) (sent_by j a d)) (not j.quiet || starts_with is_same (sent_by j a d) (from j.before j.phase a d))
             (sym (ap (λ b. b || is_right j a d) other) ∙ every_pair h a d)
 
-    complete : Delivers j.before j.mark j.phase (record { world = w; report = j.report }) → judgement j ≡ true
+    complete : Delivers j.before j.mark j.phase (record { world = w; report = j.report }) → is_delivered j ≡ true
     complete h = and_from (list_all (λ x. holds_for_publisher j x.1) j.phase) (list_all (λ x. may_be_sent j x) j.report)
         (all_true (λ x. holds_for_publisher j x.1) (λ x. publisher x.1) j.phase) (may_all j.report h.nothing_else)
       where
         right : (a d : List ℕ) → is_router j.before d ≡ false → is_right j a d ≡ true
-        right a d other = and_from (is_prefix is_same sent due) (not j.quiet || is_prefix is_same due sent)
-            (ap (is_prefix is_same sent) (h.prefix a d other).1 ∙ prefix_of is_same item_itself sent (h.prefix a d other).0) (by j.quiet refl)
+        right a d other = and_from (starts_with is_same due sent) (not j.quiet || starts_with is_same sent due)
+            (prefix_holds is_same one_item sent due (h.prefix a d other)) (by j.quiet refl)
           where
             sent : List Item
             sent = sent_by j a d
@@ -272,9 +273,9 @@ module _ (j : Judged) where
             due : List Item
             due = from j.before j.phase a d
 
-            by : (b : Bool) → j.quiet ≡ b → (not b || is_prefix is_same due sent) ≡ true
+            by : (b : Bool) → j.quiet ≡ b → (not b || starts_with is_same sent due) ≡ true
             by false e = refl
-            by true e = ap (is_prefix is_same due) (h.whole (quiet_is ∙ e) a d other) ∙ prefix_self is_same item_itself due
+            by true e = same_holds is_same one_item due sent (sym (h.whole (quiet_is ∙ e) a d other))
 
         pair : (a d : List ℕ) → pair_holds j a d ≡ true
         pair a d = at (is_router j.before d) refl
@@ -308,5 +309,5 @@ module _ (j : Judged) where
             by None = refl
             by (Some p) = all p.client
 
-    pub delivered : (judgement j ≡ true) ↔ Delivers j.before j.mark j.phase (record { world = w; report = j.report })
+    pub delivered : (is_delivered j ≡ true) ↔ Delivers j.before j.mark j.phase (record { world = w; report = j.report })
     delivered = (sound, complete)

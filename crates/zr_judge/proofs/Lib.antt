@@ -1,3 +1,7 @@
+mod Answered
+mod Begins
 pub mod Decides
 mod Delivered
-mod Equal
+pub mod Loops
+pub mod Parts
+pub mod Replied

@@ -1,3 +1,4 @@
+pub mod Equal
 pub mod Given
 pub mod Judge
 pub mod Same

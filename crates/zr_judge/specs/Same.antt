@@ -1,12 +1,12 @@
--- Whether two samples, queries or replies are one, and whether some of them begin others.
-use Rattle.std.specs.Prelude.{ℕ, ◌==◌, ◌&&◌, nat_eq, Bool, true, false, List, [], ◌∷◌}
+-- Whether two samples, queries or replies are one.
+use Rattle.std.specs.Prelude.{ℕ, ◌==◌, ◌&&◌, nat_eq, Bool, true, false, List}
 use Rattle.std.specs.Option.{option_eq}
 use Rattle.std.specs.Cmp.Lexicographic.{pointwise}
 use Rattle.zr_msg.specs.declared.content.Parts.{Parts}
 use Rattle.zr_msg.specs.declared.extras.Extras.{Extras}
 use Rattle.zr_msg.specs.declared.msg.Target.{Target}
 use Rattle.zr_msg.specs.declared.msg.Target.TheVariants.{Best, All, Complete}
-use Rattle.zr_guarantee.specs.Item.{Item, Carried, Sample, Query}
+use Rattle.zr_guarantee.specs.Item.{Item, Carried, Sample, Query, Reply}
 
 -- whether two lists of bytes are one
 abbrev pub is_same_bytes : List ℕ → List ℕ → Bool
@@ -47,8 +47,6 @@ is_same_carried (Query target x) (Query other y) = is_same_target target other &
 abbrev pub is_same : Item → Item → Bool
 is_same x y = x.line == y.line && is_same_carried x.carried y.carried
 
--- whether some values begin others
-abbrev pub is_prefix : {X : Type 0} → (X → X → Bool) → List X → List X → Bool
-is_prefix same [] ys = true
-is_prefix same (x ∷ xs) [] = false
-is_prefix same (x ∷ xs) (y ∷ ys) = same x y && is_prefix same xs ys
+-- whether two replies are one
+abbrev pub is_same_reply : Reply → Reply → Bool
+is_same_reply x y = x.line == y.line && (x.number == y.number && is_same_content x.content y.content)

@@ -6,6 +6,7 @@ ghost use Rattle.std.specs.Option.{option_copied, option_map};
 ghost use Rattle.zr_guarantee.specs.Broker.{able_by, asks_for, attached_by, can_answer, declarations, declared_by, from, is_attached, is_for, is_line, is_line_of, is_publisher, item_for, publication, publishes, queryables, takes};
 ghost use Rattle.zr_judge.specs.Given.{carried_of};
 
+use crate::same::is_same_carried;
 use std::alloc::{AllocError, Global};
 use std::marker::Model;
 use zr_command::command::Act;
@@ -38,6 +39,19 @@ impl Model for Item {
     ghost Value = { Item };
 
     ghost view = { λ i. record { line = i.line; carried = carried_of i.carried } };
+}
+
+impl PartialEq for Item {
+    ghost use Rattle.zr_judge.specs.Same.{is_same};
+    ghost use Rattle.zr_judge.specs.Equal.{item_laws};
+
+    ghost eq = { is_same };
+
+    ghost laws = { item_laws };
+
+    fn eq(&self, other: &Item) -> bool {
+        self.line == other.line && is_same_carried(&self.carried, &other.carried)
+    }
 }
 
 // What an act publishes: the client that does it, and the sample or the query.
@@ -190,8 +204,8 @@ fn add_due(
     Ok(())
 }
 
-// Whether a sample or a query of a publisher is for a receiver.
-fn is_for(
+/// Whether a sample or a query of a publisher is for a receiver: another client, attached, that takes it.
+pub fn is_for(
     alloc: Global,
     before: &[(u64, Act)],
     publisher: &Zid,

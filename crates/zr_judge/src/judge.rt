@@ -3,10 +3,11 @@
 ghost use Rattle.std.specs.Prelude.{◌≡◌, IfOk};
 ghost use Rattle.std.specs.List.{list_all};
 ghost use Rattle.zr_guarantee.specs.Names.{brings_router, is_router};
-ghost use Rattle.zr_judge.specs.Judge.{Judges, is_right, pair_holds, holds_for_client, holds_for_receiver, holds_for_all, holds_for_publisher, may_be_sent, judgement};
+ghost use Rattle.zr_judge.specs.Judge.{Judges, is_right, pair_holds, holds_for_client, holds_for_receiver, holds_for_all, holds_for_publisher, may_be_sent, is_delivered, judgement};
 
+use crate::answers::is_answered;
 use crate::broker::{due, is_line, publisher};
-use crate::same::is_prefix;
+use crate::queries::Talk;
 use crate::sent::{is_carried, sent};
 use std::alloc::{AllocError, Global};
 use std::marker::Model;
@@ -37,7 +38,7 @@ impl Model for Case {
     ghost view = { λ c. record { before = c.before.items; mark = c.mark; phase = c.phase.items; report = c.report.items; quiet = c.quiet } };
 }
 
-/// Whether samples and requests come as one broker sends them.
+/// Whether the network refines one broker.
 pub fn refines(alloc: Global, case: &Case) -> Result<bool, AllocError>
     ensures { IfOk result (λ answer. Judges answer case.now) }
 {
@@ -46,6 +47,16 @@ pub fn refines(alloc: Global, case: &Case) -> Result<bool, AllocError>
 
 fn judgement(alloc: Global, case: &Case) -> Result<bool, AllocError>
     ensures { IfOk result (λ answer. answer ≡ judgement case.now) }
+{
+    if !is_delivered(alloc, case)? {
+        return Ok(false);
+    }
+    is_answered(alloc, &Talk::new(alloc, case)?)
+}
+
+// Whether samples and requests come as one broker sends them.
+fn is_delivered(alloc: Global, case: &Case) -> Result<bool, AllocError>
+    ensures { IfOk result (λ answer. answer ≡ is_delivered case.now) }
 {
     Ok(holds_for_publishers(alloc, case, case.phase.as_slice())? && may_all_be_sent(case))
 }
@@ -159,12 +170,13 @@ fn is_right(alloc: Global, case: &Case, publisher: &Zid, receiver: &Zid) -> Resu
     let phase = case.phase.as_slice();
     let sent = sent(alloc, phase, case.report.as_slice(), publisher, receiver)?;
     let due = due(alloc, before, phase, publisher, receiver)?;
-    let begins = is_prefix(sent.as_slice(), due.as_slice());
-    let ends = is_prefix(due.as_slice(), sent.as_slice());
-    Ok(begins && (!case.quiet || ends))
+    let sent = sent.as_slice();
+    let due = due.as_slice();
+    Ok(due.starts_with(sent) && (!case.quiet || sent.starts_with(due)))
 }
 
-fn is_router(before: &[(u64, Act)], name: &Zid) -> bool
+/// Whether a router has this name.
+pub fn is_router(before: &[(u64, Act)], name: &Zid) -> bool
     ensures { result ≡ is_router before.now name.now }
 {
     before.iter().any(|x| brings_router(name, &x.1))

@@ -2,7 +2,9 @@
 //! It is no part of the product. It shows that the definition can be evaluated, and which reports it refuses.
 #![tactic(auto)]
 
+mod answers;
 mod broker;
 pub mod judge;
+mod queries;
 mod same;
 mod sent;

@@ -1,40 +1,18 @@
-//! Whether two samples or queries are one, and whether some begin others.
+//! Whether two samples, queries or replies are one.
 
 ghost use Rattle.std.specs.Prelude.{◌≡◌};
 ghost use Rattle.std.specs.Option.{option_eq};
 ghost use Rattle.zr_judge.specs.Given.{carried_of};
-ghost use Rattle.zr_judge.specs.Same.{is_same, is_same_bytes, is_same_carried, is_same_content, is_same_extras, is_same_target, is_prefix};
+ghost use Rattle.zr_judge.specs.Same.{is_same_bytes, is_same_carried, is_same_content, is_same_extras, is_same_target};
 
-use crate::broker::{Carried, Item};
+use crate::broker::Carried;
 use zr_bytes::ByteString;
 use zr_msg::content::Content;
 use zr_msg::extras::Extras;
 use zr_msg::msg::Target;
 
-/// Whether some items begin others.
-pub fn is_prefix(prefix: &[Item], all: &[Item]) -> bool
-    ensures { result ≡ is_prefix is_same prefix.now all.now }
-{
-    let mut rest = all;
-    for x in prefix {
-        let [y, more @ ..] = rest else {
-            return false;
-        };
-        if !is_same(x, y) {
-            return false;
-        }
-        rest = more;
-    }
-    true
-}
-
-fn is_same(a: &Item, b: &Item) -> bool
-    ensures { result ≡ is_same a.now b.now }
-{
-    a.line == b.line && is_same_carried(&a.carried, &b.carried)
-}
-
-fn is_same_carried(a: &Carried, b: &Carried) -> bool
+/// Whether two samples or queries are one.
+pub fn is_same_carried(a: &Carried, b: &Carried) -> bool
     ensures { result ≡ is_same_carried (carried_of a.now) (carried_of b.now) }
 {
     match (a, b) {
@@ -59,7 +37,8 @@ fn is_same_target(a: Target, b: Target) -> bool
     a == b
 }
 
-fn is_same_content(a: &Content, b: &Content) -> bool
+/// Whether two contents are one.
+pub fn is_same_content(a: &Content, b: &Content) -> bool
     ensures { result ≡ is_same_content a.now b.now }
 {
     a.key() == b.key()

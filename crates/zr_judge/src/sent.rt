@@ -3,15 +3,17 @@
 ghost use Rattle.std.specs.Prelude.{◌≡◌, ◌++◌, IfOk, OnOk, filter, is_some};
 ghost use Rattle.std.specs.Option.{option_map};
 ghost use Rattle.zr_guarantee.specs.Broker.{is_line_of};
-ghost use Rattle.zr_guarantee.specs.Sent.{carried_by, item_of, sent_to, told_to};
+ghost use Rattle.zr_guarantee.specs.Sent.{behind_finals, carried_by, finals_in, is_final, is_request, item_of, replies_in, requests_to, sent_to, told_to};
 ghost use Rattle.zr_judge.specs.Given.{carried_of};
 
 use crate::broker::{Carried, Item, is_line_of};
+use crate::same::is_same_content;
 use std::alloc::{AllocError, Global};
 use std::marker::Model;
 use zr_command::command::Act;
 use zr_command::report::ReportLine;
 use zr_id::zid::Zid;
+use zr_msg::content::Content;
 use zr_msg::msg::Msg;
 
 /// A message that a client was sent, with the number of the line that its tag names.
@@ -27,6 +29,37 @@ impl<'a> Model for Told<'a> {
     ghost Value = { Told };
 
     ghost view = { λ t. record { msg = t.msg.now; tag = t.tag } };
+}
+
+/// A reply: the number of the line that gives it, the number of the query under which its client is sent it, and what was replied.
+#[derive(Drop)]
+pub struct Reply<'a> {
+    pub line: u64,
+    pub number: u32,
+    pub content: &'a Content,
+}
+
+impl<'a> Model for Reply<'a> {
+    ghost use Rattle.zr_guarantee.specs.Item.{Reply};
+
+    ghost Value = { Reply };
+
+    ghost view = { λ r. record { line = r.line; number = r.number; content = r.content.now } };
+}
+
+impl<'a> PartialEq for Reply<'a> {
+    ghost use Rattle.zr_judge.specs.Same.{is_same_reply};
+    ghost use Rattle.zr_judge.specs.Equal.{reply_laws};
+
+    ghost eq = { is_same_reply };
+
+    ghost laws = { reply_laws };
+
+    fn eq(&self, other: &Reply<'a>) -> bool {
+        self.line == other.line
+            && self.number == other.number
+            && is_same_content(self.content, other.content)
+    }
 }
 
 /// All messages that the receiver was sent, in order.
@@ -112,4 +145,83 @@ fn add_sent(
         }
     }
     Ok(())
+}
+
+/// The lines of the queries whose requests the receiver was sent under a number, in order.
+pub fn requests_to(
+    alloc: Global,
+    report: &[ReportLine],
+    receiver: &Zid,
+    number: u32,
+) -> Result<Vec<u64>, AllocError>
+    ensures { IfOk result (λ v. v.items ≡ requests_to report.now receiver.now number) }
+{
+    let told = told_to(alloc, report, receiver)?;
+    let mut lines = Vec::new(alloc);
+    for x in &told {
+        if is_request(number, x.msg) {
+            lines.push(x.tag)?;
+        }
+    }
+    Ok(lines)
+}
+
+/// The replies among some messages, in order.
+pub fn replies_in<'a>(alloc: Global, told: &[Told<'a>]) -> Result<Vec<Reply<'a>>, AllocError>
+    ensures { IfOk result (λ v. v.items ≡ replies_in told.now) }
+{
+    let mut replies = Vec::new(alloc);
+    for x in told {
+        if let Msg::Response { id, content } = x.msg {
+            replies.push(Reply {
+                line: x.tag,
+                number: *id,
+                content,
+            })?;
+        }
+    }
+    Ok(replies)
+}
+
+/// How many finals of a number are among some messages.
+pub fn finals_in(number: u32, told: &[Told<'_>]) -> usize
+    ensures { result ≡ finals_in number told.now }
+{
+    told.iter().filter(|x| is_final(number, x.msg)).count()
+}
+
+/// The messages behind the first so many finals of a number.
+pub fn behind_finals<'b, 'a>(number: u32, count: usize, told: &'b [Told<'a>]) -> &'b [Told<'a>]
+    ensures { result.now ≡ behind_finals number count told.now }
+{
+    let mut left = count;
+    let mut rest = told;
+    while left > 0 {
+        let [x, more @ ..] = rest else {
+            return rest;
+        };
+        if is_final(number, x.msg) {
+            left -= 1;
+        }
+        rest = more;
+    }
+    rest
+}
+
+fn is_request(number: u32, msg: &Msg) -> bool
+    ensures { result ≡ is_request number msg.now }
+{
+    match msg {
+        Msg::Request { id, .. } => *id == number,
+        _ => false,
+    }
+}
+
+fn is_final(number: u32, msg: &Msg) -> bool
+    ensures { result ≡ is_final number msg.now }
+{
+    match msg {
+        Msg::Final { id, .. } => *id == number,
+        _ => false,
+    }
 }

@@ -1,16 +1,18 @@
--- What is found to be one is one, and each thing is found to be one with itself; so where some begin others, they do.
-use Rattle.std.proofs.Common.{◌≡◌, ℕ, true, List, [], ◌∷◌, ◌++◌, refl, sym, ap, ◌∙◌}
+-- Two things are found to be one exactly where they are: the laws of `==`.
+use Rattle.std.proofs.Common.{◌≡◌, ℕ, true, List, refl, subst, sym, ap, ◌∙◌}
 use Rattle.std.specs.Prelude.{◌==◌, ◌&&◌, nat_eq, Bool, Option, Some, None}
 use Rattle.std.specs.Option.{option_eq}
+use Rattle.std.specs.Bool.{Decides}
+use Rattle.std.specs.Cmp.{IsPartialEquivalence}
 use Rattle.std.specs.Cmp.Lexicographic.{bytes_decides, nat_list_eq_equiv}
 use Rattle.std.proofs.lemmas.Bool.{false≢true, and_parts, and_from, eqb-true, eq-eqb}
+use Rattle.std.proofs.lemmas.Bool.Decides.{same_from_decides}
 use Rattle.zr_msg.specs.declared.content.Parts.{Parts}
 use Rattle.zr_msg.specs.declared.extras.Extras.{Extras}
 use Rattle.zr_msg.specs.declared.msg.Target.{Target}
 use Rattle.zr_msg.specs.declared.msg.Target.TheVariants.{Best, All, Complete}
-use Rattle.zr_table.specs.Prefix.{IsPrefixOf}
-use Rattle.zr_guarantee.specs.Item.{Item, Carried, Sample, Query}
-use Rattle.zr_judge.specs.Same.{is_same_bytes, is_same_extras, is_same_content, is_same_target, is_same_carried, is_same, is_prefix}
+use Rattle.zr_guarantee.specs.Item.{Item, Carried, Sample, Query, Reply}
+use Rattle.zr_judge.specs.Same.{is_same_bytes, is_same_extras, is_same_content, is_same_target, is_same_carried, is_same, is_same_reply}
 
 -- ---- what is found to be one
 
@@ -66,13 +68,22 @@ same_carried (Query target x) (Query other y) h =
     let parts = and_parts (is_same_target target other) (is_same_content x y) h in
     ap (λ t. Query t x) (same_target target other parts.0) ∙ ap (Query other) (same_content x y parts.1)
 
-pub same_item : (x y : Item) → is_same x y ≡ true → x ≡ y
+same_item : (x y : Item) → is_same x y ≡ true → x ≡ y
 same_item x y h =
     let parts = and_parts (x.line == y.line) (is_same_carried x.carried y.carried) h in
     equal (eqb-true x.line y.line parts.0) (same_carried x.carried y.carried parts.1)
   where
     equal : x.line ≡ y.line → x.carried ≡ y.carried → x ≡ y
     equal el ec i = record { line = el i; carried = ec i }
+
+same_reply : (x y : Reply) → is_same_reply x y ≡ true → x ≡ y
+same_reply x y h =
+    let parts = and_parts (x.line == y.line) (x.number == y.number && is_same_content x.content y.content) h in
+    let more = and_parts (x.number == y.number) (is_same_content x.content y.content) parts.1 in
+    equal (eqb-true x.line y.line parts.0) (eqb-true x.number y.number more.0) (same_content x.content y.content more.1)
+  where
+    equal : x.line ≡ y.line → x.number ≡ y.number → x.content ≡ y.content → x ≡ y
+    equal el en ec i = record { line = el i; number = en i; content = ec i }
 
 -- ---- each with itself
 
@@ -105,32 +116,28 @@ carried_itself : (x : Carried) → is_same_carried x x ≡ true
 carried_itself (Sample content) = content_itself content
 carried_itself (Query target content) = both _ _ (target_itself target) (content_itself content)
 
-pub item_itself : (x : Item) → is_same x x ≡ true
+item_itself : (x : Item) → is_same x x ≡ true
 item_itself x = both _ _ (number_itself x.line) (carried_itself x.carried)
 
--- ---- prefixes
+reply_itself : (x : Reply) → is_same_reply x x ≡ true
+reply_itself x = both _ _ (number_itself x.line) (both _ _ (number_itself x.number) (content_itself x.content))
 
-module _ {X : Type 0} (same : X → X → Bool) where
-  pub prefix_means : ((x y : X) → same x y ≡ true → x ≡ y) → (xs ys : List X) → is_prefix same xs ys ≡ true → IsPrefixOf xs ys
-  prefix_means one [] ys h = (ys, refl)
-  prefix_means one (x ∷ xs) [] h = absurd (false≢true h)
-  prefix_means one (x ∷ xs) (y ∷ ys) h =
-      let parts = and_parts (same x y) (is_prefix same xs ys) h in
-      let rest = prefix_means one xs ys parts.1 in
-      (rest.0, ap (λ z. z ∷ ys) (sym (one x y parts.0)) ∙ ap (λ z. x ∷ z) rest.1)
+-- ---- both ways, and the laws
 
-  pub both_prefixes : ((x y : X) → same x y ≡ true → x ≡ y) → (xs ys : List X) → is_prefix same xs ys ≡ true → is_prefix same ys xs ≡ true → xs ≡ ys
-  both_prefixes one [] [] h k = refl
-  both_prefixes one [] (y ∷ ys) h k = absurd (false≢true k)
-  both_prefixes one (x ∷ xs) [] h k = absurd (false≢true h)
-  both_prefixes one (x ∷ xs) (y ∷ ys) h k =
-      let parts = and_parts (same x y) (is_prefix same xs ys) h in
-      ap (λ z. z ∷ xs) (one x y parts.0) ∙ ap (λ z. y ∷ z) (both_prefixes one xs ys parts.1 (and_parts (same y x) (is_prefix same ys xs) k).1)
+pub one_item : (x y : Item) → Decides (is_same x y) (x ≡ y)
+one_item x y = (same_item x y, λ e. subst (λ (z : Item). is_same x z ≡ true) e (item_itself x))
 
-  pub prefix_of : ((x : X) → same x x ≡ true) → (xs rest : List X) → is_prefix same xs (xs ++ rest) ≡ true
-  prefix_of itself [] rest = refl
-  prefix_of itself (x ∷ xs) rest = and_from (same x x) (is_prefix same xs (xs ++ rest)) (itself x) (prefix_of itself xs rest)
+pub one_reply : (x y : Reply) → Decides (is_same_reply x y) (x ≡ y)
+one_reply x y = (same_reply x y, λ e. subst (λ (z : Reply). is_same_reply x z ≡ true) e (reply_itself x))
 
-  pub prefix_self : ((x : X) → same x x ≡ true) → (xs : List X) → is_prefix same xs xs ≡ true
-  prefix_self itself [] = refl
-  prefix_self itself (x ∷ xs) = and_from (same x x) (is_prefix same xs xs) (itself x) (prefix_self itself xs)
+laws : {X : Type 0} (same : X → X → Bool) → ((x y : X) → Decides (same x y) (x ≡ y)) → IsPartialEquivalence same
+laws same one = record {
+  symm = λ x y. same_from_decides (same x y) (same y x) (one x y) ((λ h. sym ((one y x).0 h)), (λ e. (one y x).1 (sym e)));
+  trans = λ x y z h k. (one x z).1 ((one x y).0 h ∙ (one y z).0 k);
+}
+
+pub item_laws : IsPartialEquivalence is_same
+item_laws = laws is_same one_item
+
+pub reply_laws : IsPartialEquivalence is_same_reply
+reply_laws = laws is_same_reply one_reply
