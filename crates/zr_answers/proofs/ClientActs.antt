@@ -1,53 +1,39 @@
--- Acts of clients keep what stands: a client comes, declares or publishes something, asks, replies, or ends a request.
-use Rattle.std.proofs.Common.{◌≡◌, ℕ, ◌+◌, ◌==◌, Bool, true, false, cond, List, [], ◌∷◌, ◌++◌, length, map, filter, Option, Some, None, is_some, refl, sym, ap, ◌∙◌, subst, arith, append-nil}
-use Rattle.std.specs.Prelude.{◌&&◌, ◌||◌, IfSome}
-use Rattle.std.specs.List.{AllByRecursion, list_any, count_by}
-use Rattle.std.proofs.lemmas.Bool.{false≢true, true≢false, or_left, or_right, and_right, false_from_ne_true, eq-eqb, eqb-true}
-use Rattle.std.proofs.lemmas.List.Elements.{filter-append}
-use Rattle.std.proofs.lemmas.List.Folds.{list_any-append}
+-- Acts of clients keep what stands: a client comes, declares or publishes something, asks, replies, or ends a request (`client_kept`).
+use Rattle.std.proofs.Common.{◌≡◌, ℕ, ◌+◌, Bool, true, false, cond, List, [], ◌∷◌, ◌++◌, length, map, filter, Some, None, is_some, refl, sym, ap, ◌∙◌, subst}
+use Rattle.std.specs.Prelude.{◌||◌, IfSome}
+use Rattle.std.proofs.lemmas.Bool.{false≢true, true≢false, or_right, false_from_ne_true}
 use Rattle.std.proofs.lemmas.Option.{none-some}
-use Rattle.zr_table.proofs.Inserted.{All-back}
 use Rattle.zr_id.specs.Zid.{is_named}
-use Rattle.zr_graph.proofs.Names.{same_is, same_refl}
-use Rattle.zr_msg.specs.declared.content.Parts.{Parts}
+use Rattle.zr_graph.proofs.Names.{same_is}
 use Rattle.zr_msg.specs.declared.decl.Kind.{Kind}
 use Rattle.zr_msg.specs.declared.msg.Msg.{Msg}
-use Rattle.zr_msg.specs.declared.msg.Msg.TheVariants as msgs
-use Rattle.zr_msg.specs.declared.msg.Target.{Target}
-use Rattle.zr_msg.specs.Extras.{no_extras}
 use Rattle.zr_msg.specs.declared.peer.Role.TheVariants as role
-use Rattle.zr_command.specs.declared.command.Act.TheVariants as c
 use Rattle.zr_command.specs.declared.report.ReportLine.{ReportLine}
 use Rattle.zr_table.specs.Event.{MayCome}
-use Rattle.zr_network.specs.World.{RouterState, ClientState, EndState, WorldState, with_clients, with_client, new_client, router_of, client_of, end_of, is_taken, is_unbroken}
-use Rattle.zr_network.specs.Acts.{has_number, without_number, ids_of, declaring, undeclaring, weighing, asking, ending, hearing, up_event, client_step, declare_step, undeclare_step, publish_step, get_step, reply_step, end_step}
+use Rattle.zr_network.specs.World.{RouterState, ClientState, EndState, WorldState, new_client, router_of, client_of, end_of, is_taken}
+use Rattle.zr_network.specs.Acts.{without_number, ids_of, declaring, undeclaring, weighing, hearing, up_event, client_step}
 use Rattle.zr_network.specs.Moments.{Numbered, Moment, went}
 use Rattle.zr_network.proofs.Keyed.{not_there}
 use Rattle.zr_network.proofs.Names.{value_new, value_after, read_kept}
-use Rattle.zr_network.proofs.Cases.{w_client, w_sent, w_declare, w_undeclare, free_name, for_client, for_declare, for_undeclare, for_publish, for_get, for_reply, for_end}
+use Rattle.zr_network.proofs.Cases.{w_client, w_sent, w_declare, w_undeclare, free_name, for_client}
 use Rattle.zr_network.proofs.Sound.{client_may_come}
 use Rattle.zr_settled.proofs.Goes.{Goes}
-use Rattle.zr_settled.proofs.Moving.{unbroken_at}
-use Rattle.zr_asking.specs.Link.{Ask, ask, has_number as asks_number}
 use Rattle.zr_numbers.specs.Rows.{AreOfLinks}
-use Rattle.zr_numbers.specs.Waiting.{Asked, Said, Place, asks_in, answers_in, back_at, is_whole, link_of, waits}
-use Rattle.zr_numbers.specs.Deeds.{Deed}
-use Rattle.zr_numbers.proofs.Waits.{asks_among, asks_append, router_holds, router_awaits}
+use Rattle.zr_numbers.specs.Waiting.{asks_in, answers_in}
+use Rattle.zr_numbers.proofs.Waits.{router_holds, router_awaits}
 use Rattle.zr_numbers.proofs.Done.{events_are_done}
-use Rattle.zr_numbers.proofs.Whole.{LinksGo, whole_apart}
+use Rattle.zr_numbers.proofs.Whole.{LinksGo}
 use Rattle.zr_numbers.proofs.ActHears.{client_links}
-use Rattle.zr_numbers.proofs.ActClients.{number_more, number_less, for_itself, quiet_deeds, get_deeds, reply_deeds, end_deeds, said_links, says_waits}
+use Rattle.zr_numbers.proofs.ActClients.{quiet_deeds, said_links}
 use Rattle.zr_numbers.proofs.Going.{ids_apart}
-use Rattle.zr_guarantee.specs.Queries.{Asked as Query, queries, is_under, Saying, sayings, is_end}
-use Rattle.zr_guarantee.specs.Sent.{Told, told_to, is_request, requests_to, finals_in}
-use Rattle.zr_answers.specs.Answers.{IsAsked, IsSaidTo, times_ended, IsAnswer}
+use Rattle.zr_guarantee.specs.Sent.{Told, told_to, is_request, finals_in}
+use Rattle.zr_answers.specs.Answers.{IsAnswer}
 use Rattle.zr_answers.proofs.Turns.{Turned}
-use Rattle.zr_answers.proofs.Grown.{Earlier, times_ended_more, under_more, queries_more, new_reply}
-use Rattle.zr_answers.proofs.Books.{Requests, Asks, request_ended, query_asked}
-use Rattle.zr_answers.proofs.Links.{Lines, lines_on, AsksFine, FineAsk, FineSay}
+use Rattle.zr_answers.proofs.Grown.{Earlier}
+use Rattle.zr_answers.proofs.Links.{Lines, lines_on, FineAsk, FineSay}
 use Rattle.zr_answers.proofs.Lines.{AllShow}
 use Rattle.zr_answers.proofs.Routers.{quiet_fits}
-use Rattle.zr_answers.proofs.Standing.{Book, BookOf, NoBook, Stands, held_then, no_book_then, others_then, told_none, book_stays, steady, book_same}
+use Rattle.zr_answers.proofs.Standing.{BookOf, NoBook, Stands, held_then, no_book_then, others_then, told_none, book_stays, steady, book_same}
 
 module _ (acts : List Numbered) (m : Moment) (x : Numbered) (before : Earlier acts x) (lines : Lines) (g : Goes m.world) (shows : AllShow m.world) (h : Stands acts m lines) where
   abbrev w : WorldState

@@ -1,8 +1,7 @@
 -- What stands at every moment (`stands_at`), and so all that the definitions say of answers (`answers_always_hold`).
-use Rattle.std.proofs.Common.{◌≡◌, ℕ, ◌+◌, ◌==◌, Bool, true, false, cond, List, [], ◌∷◌, ◌++◌, map, filter, length, Option, Some, None, is_some, refl, sym, ap, ◌∙◌, subst, append-nil, append_assoc}
+use Rattle.std.proofs.Common.{◌≡◌, ℕ, Bool, true, cond, List, [], ◌∷◌, ◌++◌, Option, Some, None, refl, sym, ap, ◌∙◌, subst, append-nil, append_assoc}
 use Rattle.std.specs.Prelude.{IfSome}
-use Rattle.std.specs.List.{AllByRecursion, fold, count_by, slice_get}
-use Rattle.std.specs.Option.{option_map}
+use Rattle.std.specs.List.{AllByRecursion, fold}
 use Rattle.std.proofs.lemmas.Bool.{false≢true}
 use Rattle.std.proofs.lemmas.Option.{none-some}
 use Rattle.std.proofs.lemmas.List.Sums.{length-filter}
@@ -14,27 +13,26 @@ use Rattle.zr_msg.specs.declared.decl.Kind.TheVariants as sort
 use Rattle.zr_msg.specs.declared.msg.Msg.{Msg}
 use Rattle.zr_msg.specs.declared.msg.Msg.TheVariants as msgs
 use Rattle.zr_table.specs.Table.{able_kind}
-use Rattle.zr_network.specs.World.{RouterState, ClientState, router_of, client_of}
-use Rattle.zr_network.specs.Acts.{has_number, outcome, declare_step, undeclare_step}
+use Rattle.zr_network.specs.Acts.{outcome, declare_step, undeclare_step}
 use Rattle.zr_network.specs.Moments.{Numbered, Moment, beginning, went, onward, ascends, reached}
 use Rattle.zr_network.proofs.Lines.{at_some}
 use Rattle.zr_network.proofs.Cases.{for_declare, for_undeclare, for_publish}
 use Rattle.zr_settled.proofs.Goes.{goes_first}
-use Rattle.zr_asking.specs.Link.{Ask, Answer, Body, Link, Hop, Free, Asked as AskedHop, Open, reply, asks_of, answers_of, answers_with, is_kept, asked_by, Shows, ShowsAt, has_number as asks_number, answers_number}
-use Rattle.zr_numbers.specs.Rows.{AreOfLinks}
+use Rattle.zr_asking.specs.Link.{Ask, Answer, Free, Asked as AskedHop, Open, asks_of, answers_of, answers_with, is_kept, asked_by, Shows}
 use Rattle.zr_numbers.specs.Waiting.{Asked, Said, Place, asks_in, answers_in, back_at, is_kept_by, link_of, is_whole}
 use Rattle.zr_numbers.specs.Numbers.{NumbersHold}
 use Rattle.zr_numbers.proofs.Leading.{Wire}
 use Rattle.zr_numbers.proofs.Numbers.{Hops, AllGo, all_go, numbers_first}
 use Rattle.zr_numbers.proofs.ActClients.{for_itself}
-use Rattle.zr_guarantee.specs.Queries.{Asked as Query, queries, is_under}
-use Rattle.zr_guarantee.specs.Sent.{told_to, requests_to, finals_in}
-use Rattle.zr_answers.specs.Answers.{HopState, line_of, replies_of, IsAsked, IsSaidTo, times_ended, query_at, IsAnswer, AnswersHold, AnswersAlwaysHold}
+use Rattle.zr_guarantee.specs.Queries.{queries, is_under}
+use Rattle.zr_guarantee.specs.Sent.{told_to}
+use Rattle.zr_answers.specs.Answers.{HopState, line_of, replies_of, IsAsked, IsSaidTo, IsAnswer, AnswersHold, AnswersAlwaysHold}
 use Rattle.zr_answers.proofs.Turns.{turned_in_turn}
 use Rattle.zr_answers.proofs.Grown.{Earlier, earlier}
 use Rattle.zr_answers.proofs.Links.{Lines, IsOf, SaysTo, lines_on}
 use Rattle.zr_answers.proofs.Lines.{AllShow}
-use Rattle.zr_answers.proofs.Standing.{BookOf, NoBook, Stands, keeps_is, back_is}
+use Rattle.zr_answers.proofs.EachSaid.{AllHaveQueries, queries_kept}
+use Rattle.zr_answers.proofs.Standing.{NoBook, Stands, keeps_is, back_is}
 use Rattle.zr_answers.proofs.RouterActs as routers
 use Rattle.zr_answers.proofs.ClientActs as clients
 use Rattle.zr_answers.proofs.QueryActs as asking
@@ -46,8 +44,9 @@ pub record Holds (acts : List Numbered) (m : Moment) : Type 0 where
   pub go : AllGo m
   pub lines : Lines
   pub stands : Stands acts m lines
+  pub said : AllHaveQueries acts m.report
 
-shows_of : (m : Moment) → AllGo m → AllShow m.world
+pub shows_of : (m : Moment) → AllGo m → AllShow m.world
 shows_of m go x y whole = (go.1.0 x y, go.1.1.links x y whole)
 
 -- ---- each act keeps it
@@ -68,7 +67,7 @@ module _ (acts : List Numbered) (m : Moment) (h : Holds acts m) where
   undeclares n act before quiet client kind id msg no_ask no_answer = for_undeclare m (clients.IsKept acts m (n, act) before h.lines h.go.0 (shows_of m h.go) h.stands) n client kind id msg
       (λ s es known e ee unbroken g' shows'. clients.undeclared acts m (n, act) before h.lines h.go.0 (shows_of m h.go) h.stands client s es e ee n msg quiet kind id no_ask no_answer g' shows')
 
-  kept : (n : ℕ) (act : Act) (before : Earlier acts (n, act)) → IfSome (went m (outcome m.world n act)) (routers.IsKept acts m (n, act) before h.lines h.go.0 (shows_of m h.go) h.stands)
+  pub kept : (n : ℕ) (act : Act) (before : Earlier acts (n, act)) → IfSome (went m (outcome m.world n act)) (routers.IsKept acts m (n, act) before h.lines h.go.0 (shows_of m h.go) h.stands)
   unfolding outcome
   kept n (c.Router id) before = routers.router_kept acts m (n, c.Router id) before h.lines h.go.0 (shows_of m h.go) h.stands (λ d k. record { ended = refl; asked = refl }) id
   kept n (c.Client id router) before =
@@ -97,12 +96,16 @@ module _ (acts : List Numbered) (m : Moment) (h : Holds acts m) where
   kept n c.Mark before = routers.mark_kept acts m (n, c.Mark) before h.lines h.go.0 (shows_of m h.go) h.stands (λ d k. record { ended = refl; asked = refl }) n
   kept n (c.Show router) before = routers.show_kept acts m (n, c.Show router) before h.lines h.go.0 (shows_of m h.go) h.stands (λ d k. record { ended = refl; asked = refl }) router
 
+  -- each saying is to a query still
+  pub said_on : (x : Numbered) → Earlier acts x → IfSome (went m (outcome m.world x.0 x.1)) (λ next. AllHaveQueries (acts ++ x ∷ []) next.report)
+  said_on x before = queries_kept acts m h.lines h.stands h.said x.0 x.1 before
+
   holds_on : (x : Numbered) → Earlier acts x → IfSome (onward (Some m) x) (Kept x)
-  holds_on x before = by (went m (outcome m.world x.0 x.1)) (all_go m x.0 x.1 h.go) (kept x.0 x.1 before)
+  holds_on x before = by (went m (outcome m.world x.0 x.1)) (all_go m x.0 x.1 h.go) (kept x.0 x.1 before) (said_on x before)
     where
-      by : (o : Option Moment) → IfSome o AllGo → IfSome o (routers.IsKept acts m x before h.lines h.go.0 (shows_of m h.go) h.stands) → IfSome o (Kept x)
-      by None go k = tt
-      by (Some next) go k = record { go = go; lines = lines_on next.world h.lines; stands = k go.0 (shows_of next go) }
+      by : (o : Option Moment) → IfSome o AllGo → IfSome o (routers.IsKept acts m x before h.lines h.go.0 (shows_of m h.go) h.stands) → IfSome o (λ next. AllHaveQueries (acts ++ x ∷ []) next.report) → IfSome o (Kept x)
+      by None go k said = tt
+      by (Some next) go k said = record { go = go; lines = lines_on next.world h.lines; stands = k go.0 (shows_of next go); said = said }
 
 -- ---- all moments
 
@@ -116,6 +119,7 @@ holds_first = record {
     others = λ d n none. record { ended = refl; asked = refl };
     untold = λ d free. refl;
   };
+  said = tt;
 }
 
 holds_all : (done rest : List Numbered) (o : Option Moment) → ascends 0 (done ++ rest) ≡ true → IfSome o (Holds done) → IfSome (fold onward o rest) (Holds (done ++ rest))
@@ -216,10 +220,10 @@ module _ (acts : List Numbered) (m : Moment) (h : Holds acts m) where
   numbers : NumbersHold hops m.world
   numbers = h.go.1.1
 
-  abbrev hop : List ℕ → List ℕ → ℕ → HopState
+  abbrev pub hop : List ℕ → List ℕ → ℕ → HopState
   hop x y n = labelled (h.lines x y n) (hops x y n)
 
-  pending_line : (x y : List ℕ) (n : ℕ) → is_whole m.world x y ≡ true → (by : Option Place) → back_at m.world x y n ≡ Some by → line_of (hop x y n) ≡ Some (h.lines x y n)
+  pub pending_line : (x y : List ℕ) (n : ℕ) → is_whole m.world x y ≡ true → (by : Option Place) → back_at m.world x y n ≡ Some by → line_of (hop x y n) ≡ Some (h.lines x y n)
   pending_line x y n whole by pending = line_is acts m.report (link_of m.world x y) (hops x y) (numbers.links x y whole) n (h.lines x y n) (h.stands.held.is x y n whole) by pending
 
   kept_back : (x y : List ℕ) (n : ℕ) → is_whole m.world x y ≡ true → is_kept_by m.world x y n ≡ true → (by : Option Place) × (back_at m.world x y n ≡ Some by)

@@ -1,12 +1,14 @@
 -- What one act more makes of what is read from acts and report: what was asked stays asked, and what was said is said to the same query.
-use Rattle.std.proofs.Common.{◌≡◌, ◌≤◌, ◌<◌, ℕ, zero, suc, ◌+◌, ◌==◌, nat_lt, nat_le, ◌⊎◌, inl, inr, Bool, true, false, cond, List, [], ◌∷◌, ◌++◌, length, map, filter, Option, Some, None, refl, sym, ap, ◌∙◌, subst, arith}
-use Rattle.std.specs.Prelude.{◌&&◌, ◌||◌, IfSome}
+use Rattle.std.proofs.Common.{◌≡◌, ◌≤◌, ◌<◌, ℕ, ◌+◌, ◌-◌, ◌==◌, nat_lt, nat_le, ◌⊎◌, inl, inr, true, false, cond, List, [], ◌∷◌, ◌++◌, length, map, filter, Option, Some, None, refl, sym, ap, ◌∙◌, subst, arith, append-nil}
+use Rattle.std.specs.Prelude.{◌&&◌, IfSome}
 use Rattle.std.specs.List.{AllByRecursion, cons_option, count_by, list_any, slice_get}
-use Rattle.std.proofs.lemmas.Bool.{false≢true, and_parts, and_left, and_right, or_left, or_cases, lt-ltb, ltb-true, leb-true, false_from_ne_true}
+use Rattle.std.proofs.lemmas.Bool.{false≢true, and_parts, and_right, or_left, or_cases, lt-ltb, ltb-true, leb-true, false_from_ne_true}
 use Rattle.std.proofs.lemmas.List.{map-append}
 use Rattle.std.proofs.lemmas.List.Elements.{filter_map-append, filter-append}
 use Rattle.std.proofs.lemmas.List.Folds.{list_any-append}
-use Rattle.std.proofs.lemmas.List.Sums.{sum_by-cons, sum_by-append}
+use Rattle.std.proofs.lemmas.List.Sums.{sum_by-append}
+use Rattle.zr_table.proofs.Inserted.{All-each}
+use Rattle.zr_declared.proofs.Elements.{all_in, all_of}
 use Rattle.zr_tree.proofs.Finds.{slice_get_kept, slice_get_pushed}
 use Rattle.zr_msg.specs.declared.content.Parts.{Parts}
 use Rattle.zr_command.specs.declared.command.Act.{Act}
@@ -15,16 +17,11 @@ use Rattle.zr_command.specs.declared.report.ReportLine.{ReportLine}
 use Rattle.zr_network.specs.Moments.{Numbered, is_step, is_later, ascends}
 use Rattle.zr_numbers.specs.Waiting.{Said}
 use Rattle.zr_guarantee.specs.Item.{Reply}
-use Rattle.zr_guarantee.specs.Queries.{Asked, asked_in, queries, is_under, times_asked, Saying, saying_in, sayings, is_end, ended_before, query_of}
+use Rattle.zr_guarantee.specs.Queries.{Asked, asked_in, queries, is_under, turn, Saying, saying_in, sayings, is_end, ended_before, query_of}
 use Rattle.zr_guarantee.specs.Sent.{Told, told_in, told_to, is_request, requests_to}
-use Rattle.zr_answers.specs.Answers.{IsAsked, IsSaidTo, times_ended, query_at, IsAnswer}
-
--- ---- places in lists
-
-pub all_at : {X : Type 0} (P : X → Type 0) (xs : List X) (i : ℕ) (x : X) → AllByRecursion P xs → slice_get xs i ≡ Some x → P x
-all_at P [] i x h e = absurd (cc)
-all_at P (y ∷ xs) zero x h e = let one : y ≡ x = cc in subst P one h.0
-all_at P (y ∷ xs) (suc i) x h e = all_at P xs i x h.1 e
+use Rattle.zr_answers.specs.Answers.{IsAsked, IsSaidTo, times_ended, told_in_turn, query_at, IsAnswer}
+use Rattle.zr_answers.specs.Stands.{answers_told}
+use Rattle.zr_answers.proofs.Lists.{all_at, from_map, count_all}
 
 -- ---- lines that come before
 
@@ -60,7 +57,8 @@ earlier last (y ∷ acts) x rest h =
 
 -- ---- what an act asks and says
 
-asked_line : (line : ℕ) (act : Act) → IfSome (asked_in line act) (λ q. q.line ≡ line)
+-- a query is one of its line, and the act that asks is no step
+asked_line : (line : ℕ) (act : Act) → IfSome (asked_in line act) (λ q. (q.line ≡ line) × (is_step act ≡ false))
 asked_line line (a.Router id) = tt
 asked_line line (a.Client id router) = tt
 asked_line line (a.Link one other) = tt
@@ -72,7 +70,7 @@ asked_line line (a.Unsub client id) = tt
 asked_line line (a.Able client id key complete) = tt
 asked_line line (a.Unable client id) = tt
 asked_line line (a.Publish client content) = tt
-asked_line line (a.Get client number target content) = refl
+asked_line line (a.Get client number target content) = (refl, refl)
 asked_line line (a.Reply client number content) = tt
 asked_line line (a.End client number) = tt
 asked_line line (a.Handle router from) = tt
@@ -80,7 +78,8 @@ asked_line line (a.Take router to) = tt
 asked_line line a.Mark = tt
 asked_line line (a.Show router) = tt
 
-saying_line : (line : ℕ) (act : Act) → IfSome (saying_in line act) (λ s. s.line ≡ line)
+-- so with what a client says
+saying_line : (line : ℕ) (act : Act) → IfSome (saying_in line act) (λ s. (s.line ≡ line) × (is_step act ≡ false))
 saying_line line (a.Router id) = tt
 saying_line line (a.Client id router) = tt
 saying_line line (a.Link one other) = tt
@@ -93,45 +92,43 @@ saying_line line (a.Able client id key complete) = tt
 saying_line line (a.Unable client id) = tt
 saying_line line (a.Publish client content) = tt
 saying_line line (a.Get client number target content) = tt
-saying_line line (a.Reply client number content) = refl
-saying_line line (a.End client number) = refl
+saying_line line (a.Reply client number content) = (refl, refl)
+saying_line line (a.End client number) = (refl, refl)
 saying_line line (a.Handle router from) = tt
 saying_line line (a.Take router to) = tt
 saying_line line a.Mark = tt
 saying_line line (a.Show router) = tt
 
--- what holds of all lines holds of all sayings'
+module _ (line : ℕ) (act : Act) where
+  pub asked_of : (q : Asked) → asked_in line act ≡ Some q → q.line ≡ line
+  asked_of q e = (subst (λ o. IfSome o (λ (z : Asked). (z.line ≡ line) × (is_step act ≡ false))) e (asked_line line act)).0
+
+  pub asks_no_step : (q : Asked) → asked_in line act ≡ Some q → is_step act ≡ false
+  asks_no_step q e = (subst (λ o. IfSome o (λ (z : Asked). (z.line ≡ line) × (is_step act ≡ false))) e (asked_line line act)).1
+
+  pub saying_of : (s : Saying) → saying_in line act ≡ Some s → s.line ≡ line
+  saying_of s e = (subst (λ o. IfSome o (λ (z : Saying). (z.line ≡ line) × (is_step act ≡ false))) e (saying_line line act)).0
+
+  pub says_no_step : (s : Saying) → saying_in line act ≡ Some s → is_step act ≡ false
+  says_no_step s e = (subst (λ o. IfSome o (λ (z : Saying). (z.line ≡ line) × (is_step act ≡ false))) e (saying_line line act)).1
+
+-- what holds of all lines holds of those of sayings and of queries
 pub sayings_lines : (P : ℕ → Type 0) (acts : List Numbered) → AllByRecursion (λ y. P y.0) acts → AllByRecursion (λ (s : Saying). P s.line) (sayings acts)
-sayings_lines P [] h = tt
-sayings_lines P (x ∷ acts) h = by (saying_in x.0 x.1) (saying_line x.0 x.1) (sayings_lines P acts h.1)
-  where
-    by : (o : Option Saying) → IfSome o (λ s. s.line ≡ x.0) → AllByRecursion (λ (s : Saying). P s.line) (sayings acts) → AllByRecursion (λ (s : Saying). P s.line) (cons_option o (sayings acts))
-    by None e more = more
-    by (Some s) e more = (subst P (sym e) h.0, more)
+sayings_lines P acts h = all_of (λ (s : Saying). P s.line) (sayings acts) (λ s i.
+    let x = from_map (λ (y : Numbered). saying_in y.0 y.1) acts s i in
+    subst P (sym (saying_of x.0.0 x.0.1 s x.2)) (all_in (λ (y : Numbered). P y.0) acts x.0 h x.1))
 
 pub queries_lines : (P : ℕ → Type 0) (acts : List Numbered) → AllByRecursion (λ y. P y.0) acts → AllByRecursion (λ (q : Asked). P q.line) (queries acts)
-queries_lines P [] h = tt
-queries_lines P (x ∷ acts) h = by (asked_in x.0 x.1) (asked_line x.0 x.1) (queries_lines P acts h.1)
-  where
-    by : (o : Option Asked) → IfSome o (λ q. q.line ≡ x.0) → AllByRecursion (λ (q : Asked). P q.line) (queries acts) → AllByRecursion (λ (q : Asked). P q.line) (cons_option o (queries acts))
-    by None e more = more
-    by (Some q) e more = (subst P (sym e) h.0, more)
+queries_lines P acts h = all_of (λ (q : Asked). P q.line) (queries acts) (λ q i.
+    let x = from_map (λ (y : Numbered). asked_in y.0 y.1) acts q i in
+    subst P (sym (asked_of x.0.0 x.0.1 q x.2)) (all_in (λ (y : Numbered). P y.0) acts x.0 h x.1))
 
 -- ---- ends
 
 -- where all sayings' lines are below a number, all ends are
-ends_below : (c : List ℕ) (n l : ℕ) (ss : List Saying) → AllByRecursion (λ (s : Saying). s.line < l) ss →
+pub ends_below : (c : List ℕ) (n l : ℕ) (ss : List Saying) → AllByRecursion (λ (s : Saying). s.line < l) ss →
     count_by (λ s. is_end c n s && nat_lt s.line l) ss ≡ count_by (λ s. is_end c n s) ss
-ends_below c n l [] h = refl
-ends_below c n l (s ∷ ss) h =
-    sum_by-cons (λ (z : Saying). cond (is_end c n z && nat_lt z.line l) 1 0) s ss
-    ∙ (λ i. cond (is_end c n s && lt-ltb s.line l h.0 i) 1 0 + ends_below c n l ss h.1 i)
-    ∙ ap (λ b. cond b 1 0 + count_by (λ z. is_end c n z) ss) (by (is_end c n s))
-    ∙ sym (sum_by-cons (λ (z : Saying). cond (is_end c n z) 1 0) s ss)
-  where
-    by : (b : Bool) → (b && true) ≡ b
-    by true = refl
-    by false = refl
+ends_below c n l ss h = count_all (λ s. is_end c n s) (λ s. nat_lt s.line l) ss (All-each (λ (s : Saying). s.line < l) (λ s. nat_lt s.line l ≡ true) ss (λ s lt. lt-ltb s.line l lt) h)
 
 module _ (acts : List Numbered) (x : Numbered) where
   abbrev pub more : List Numbered
@@ -142,6 +139,13 @@ module _ (acts : List Numbered) (x : Numbered) where
 
   pub queries_more : queries more ≡ queries acts ++ queries (x ∷ [])
   queries_more = filter_map-append (λ (y : Numbered). asked_in y.0 y.1) acts (x ∷ [])
+
+  -- an act by which nobody asks, or says, anything
+  pub queries_same : queries (x ∷ []) ≡ [] → queries more ≡ queries acts
+  queries_same none = queries_more ∙ ap (λ z. queries acts ++ z) none ∙ append-nil (queries acts)
+
+  pub sayings_same : sayings (x ∷ []) ≡ [] → sayings more ≡ sayings acts
+  sayings_same none = sayings_more ∙ ap (λ z. sayings acts ++ z) none ∙ append-nil (sayings acts)
 
   pub times_ended_more : (c : List ℕ) (n : ℕ) → times_ended more c n ≡ times_ended acts c n + times_ended (x ∷ []) c n
   times_ended_more c n = ap (count_by (λ s. is_end c n s)) sayings_more ∙ sum_by-append (λ (s : Saying). cond (is_end c n s) 1 0) (sayings acts) (sayings (x ∷ []))
@@ -154,14 +158,14 @@ module _ (acts : List Numbered) (x : Numbered) where
   ended_before_more c n l le =
       ap (count_by (λ s. is_end c n s && nat_lt s.line l)) sayings_more
       ∙ sum_by-append (λ (s : Saying). cond (is_end c n s && nat_lt s.line l) 1 0) (sayings acts) (sayings (x ∷ []))
-      ∙ ap (λ k. ended_before acts c n l + k) (by (saying_in x.0 x.1) (saying_line x.0 x.1))
+      ∙ ap (λ k. ended_before acts c n l + k) (by (saying_in x.0 x.1) refl)
       ∙ (let e : ended_before acts c n l + 0 ≡ ended_before acts c n l = omega arith in e)
     where
-      by : (o : Option Saying) → IfSome o (λ s. s.line ≡ x.0) → count_by (λ s. is_end c n s && nat_lt s.line l) (cons_option o []) ≡ 0
+      by : (o : Option Saying) → saying_in x.0 x.1 ≡ o → count_by (λ s. is_end c n s && nat_lt s.line l) (cons_option o []) ≡ 0
       by None e = refl
       by (Some s) e = ap (λ b. 0 + cond b 1 0) (and_right (is_end c n s) (nat_lt s.line l) (false_from_ne_true (nat_lt s.line l) (λ t.
           let lt : s.line < l = ltb-true s.line l t in
-          let at : s.line ≡ x.0 = e in
+          let at : s.line ≡ x.0 = saying_of x.0 x.1 s e in
           absurd (omega arith))))
 
   pub asked_kept : (line : ℕ) → IsAsked acts line → IsAsked more line
@@ -185,7 +189,29 @@ requests_more xs ys c n =
     ∙ ap (map (λ (t : Told). t.tag)) (filter-append (λ (t : Told). is_request n t.msg) (told_to xs c) (told_to ys c))
     ∙ map-append (λ (t : Told). t.tag) (filter (λ t. is_request n t.msg) (told_to xs c)) (filter (λ t. is_request n t.msg) (told_to ys c))
 
+pub told_same : (xs ys : List ReportLine) (c : List ℕ) → told_to ys c ≡ [] → told_to (xs ++ ys) c ≡ told_to xs c
+told_same xs ys c none = told_more xs ys c ∙ ap (λ z. told_to xs c ++ z) none ∙ append-nil (told_to xs c)
+
+pub requests_same : (xs ys : List ReportLine) (c : List ℕ) (n : ℕ) → told_to ys c ≡ told_to xs c → requests_to ys c n ≡ requests_to xs c n
+requests_same xs ys c n same = ap (λ ts. map (λ (t : Told). t.tag) (filter (λ (t : Told). is_request n t.msg) ts)) same
+
+-- ---- the turn of a query, where the same queries were asked
+
+pub turn_same : (acts acts' : List Numbered) (q : Asked) → queries acts' ≡ queries acts → turn acts' q ≡ turn acts q
+turn_same acts acts' q same = ap (count_by (λ (p : Asked). is_under q.client q.number p && nat_le p.line q.line)) same
+
+pub turn_told_same : (acts acts' : List Numbered) (q : Asked) (told told' : List Told) → queries acts' ≡ queries acts → told' ≡ told →
+    answers_told q.number (told_in_turn q.number (turn acts' q - 1) told') ≡ answers_told q.number (told_in_turn q.number (turn acts q - 1) told)
+turn_told_same acts acts' q told told' asked same = λ i. answers_told q.number (told_in_turn q.number (turn_same acts acts' q asked i - 1) (same i))
+
 -- ---- what is said stays said
+
+module _ (acts : List Numbered) (x : Numbered) (report lines : List ReportLine) where
+  -- to the query that it was said to
+  pub query_kept : (s : Saying) (line : ℕ) → s.line ≤ x.0 → query_of acts report s ≡ Some line → query_of (acts ++ x ∷ []) (report ++ lines) s ≡ Some line
+  query_kept s line le e =
+      (λ i. slice_get (requests_more report lines s.client s.number i) (ended_before_more acts x s.client s.number s.line le i))
+      ∙ slice_get_kept (requests_to report s.client s.number) (requests_to lines s.client s.number) (ended_before acts s.client s.number s.line) line e
 
 module _ (acts : List Numbered) (x : Numbered) (before : Earlier acts x) (report lines : List ReportLine) where
   pub said_kept : (line : ℕ) (said : Said) → IsSaidTo acts report line said → IsSaidTo (acts ++ x ∷ []) (report ++ lines) line said
@@ -195,11 +221,7 @@ module _ (acts : List Numbered) (x : Numbered) (before : Earlier acts x) (report
     stands = ap (λ ss. slice_get ss h.place) (sayings_more acts x) ∙ slice_get_kept (sayings acts) (sayings (x ∷ [])) h.place h.saying h.stands;
     line_is = h.line_is;
     reply_is = h.reply_is;
-    query =
-        (λ i. slice_get (requests_more report lines h.saying.client h.saying.number i) (ended_before_more acts x h.saying.client h.saying.number h.saying.line
-        (all_at (λ (s : Saying). s.line ≤ x.0) (sayings acts) h.place h.saying (sayings_lines (λ k. k ≤ x.0) acts before.most) h.stands) i))
-        ∙ slice_get_kept (requests_to report h.saying.client h.saying.number) (requests_to lines h.saying.client h.saying.number)
-        (ended_before acts h.saying.client h.saying.number h.saying.line) line h.query;
+    query = query_kept acts x report lines h.saying line (all_at (λ (s : Saying). s.line ≤ x.0) (sayings acts) h.place h.saying (sayings_lines (λ k. k ≤ x.0) acts before.most) h.stands) h.query;
   }
 
   pub answer_kept : (c : List ℕ) (n turns : ℕ) (r : Reply) → IsAnswer acts report c n turns r → IsAnswer (acts ++ x ∷ []) (report ++ lines) c n turns r

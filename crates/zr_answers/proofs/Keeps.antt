@@ -19,10 +19,10 @@ use Rattle.zr_network.specs.World.{RouterState, ClientState, WorldState, router_
 use Rattle.zr_network.specs.Sound.{AreUnique, IsSound}
 use Rattle.zr_network.proofs.Keyed.{each_in}
 use Rattle.zr_settled.proofs.Orderly.{Orderly}
-use Rattle.zr_numbers.specs.Waiting.{Place, place_of, row_kept, is_kept_by, branch_back, query_back, back_at}
+use Rattle.zr_numbers.specs.Waiting.{Place, place_of, row_kept, is_kept_by, branch_back, back_at}
 use Rattle.zr_numbers.proofs.RowsKept.{found_asked}
 use Rattle.zr_numbers.proofs.Waits.{router_keeps, router_back, client_back, nobody_back}
-use Rattle.zr_numbers.proofs.Whole.{router_alone, client_alone}
+use Rattle.zr_numbers.proofs.Whole.{router_alone}
 
 -- ---- one router
 

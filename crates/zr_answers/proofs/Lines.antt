@@ -1,8 +1,7 @@
 -- The query of each number of each unbroken link (`LinesHold`): acts that do on links what is fine keep it (`lines_go`).
-use Rattle.std.proofs.Common.{◌≡◌, ℕ, ◌⊎◌, inl, inr, Bool, true, false, List, [], filter, Option, Some, None, refl, sym, ap, ◌∙◌, subst}
+use Rattle.std.proofs.Common.{◌≡◌, ℕ, ◌⊎◌, inl, inr, true, List, Option, Some, refl, sym, ap, ◌∙◌, subst}
 use Rattle.std.proofs.lemmas.Bool.{false≢true}
 use Rattle.std.proofs.lemmas.Option.{none-some}
-use Rattle.zr_id.specs.Zid.{is_named}
 use Rattle.zr_command.specs.declared.report.ReportLine.{ReportLine}
 use Rattle.zr_network.specs.World.{WorldState}
 use Rattle.zr_network.specs.Moments.{Numbered}

@@ -89,7 +89,7 @@ nothing_behind (x ∷ xs) ys e = cc
 some_any : {X : Type 0} (x : X) (xs : List X) → x ∷ xs ≡ [] → ⊥
 some_any x xs e = absurd (cc)
 
-abbrev behind_first : {X : Type 0} → List X → List X
+abbrev pub behind_first : {X : Type 0} → List X → List X
 behind_first [] = []
 behind_first (x ∷ xs) = xs
 

@@ -1,7 +1,8 @@
 -- A client asks, replies, or ends a request: that keeps what stands. A query is of its own line, and a reply is said to the query that its client keeps.
-use Rattle.std.proofs.Common.{◌≡◌, ℕ, ◌+◌, ◌==◌, Bool, true, false, cond, List, [], ◌∷◌, ◌++◌, filter, Option, Some, None, is_some, refl, sym, ap, ◌∙◌, subst, append-nil}
-use Rattle.std.specs.Prelude.{◌&&◌, ◌||◌, IfSome}
-use Rattle.std.specs.List.{AllByRecursion, list_any, slice_get}
+-- The results are `get_kept`, `reply_kept`, `end_kept`.
+use Rattle.std.proofs.Common.{◌≡◌, ℕ, ◌+◌, ◌==◌, Bool, true, false, cond, List, [], ◌∷◌, ◌++◌, filter, Some, None, is_some, refl, sym, ap, ◌∙◌, subst, append-nil}
+use Rattle.std.specs.Prelude.{◌&&◌, IfSome}
+use Rattle.std.specs.List.{AllByRecursion, list_any}
 use Rattle.std.proofs.lemmas.Bool.{false≢true, or_left, or_right, and_right, eq-eqb, eqb-true}
 use Rattle.std.proofs.lemmas.List.Elements.{filter-append}
 use Rattle.std.proofs.lemmas.List.Folds.{list_any-append}
@@ -9,14 +10,13 @@ use Rattle.zr_table.proofs.Inserted.{All-back}
 use Rattle.zr_id.specs.Zid.{is_named}
 use Rattle.zr_graph.proofs.Names.{same_refl}
 use Rattle.zr_msg.specs.declared.content.Parts.{Parts}
-use Rattle.zr_msg.specs.declared.msg.Msg.{Msg}
 use Rattle.zr_msg.specs.declared.msg.Msg.TheVariants.{Request, Response, Final}
 use Rattle.zr_msg.specs.declared.msg.Target.{Target}
 use Rattle.zr_msg.specs.Extras.{no_extras}
 use Rattle.zr_command.specs.declared.command.Act.TheVariants as c
 use Rattle.zr_command.specs.declared.report.ReportLine.{ReportLine}
-use Rattle.zr_network.specs.World.{Tagged, ClientState, EndState, WorldState, with_clients, with_client, client_of, end_of, is_unbroken}
-use Rattle.zr_network.specs.Acts.{has_number, without_number, asking, ending, get_step, reply_step, end_step}
+use Rattle.zr_network.specs.World.{ClientState, EndState, WorldState, with_clients, with_client, client_of, end_of, is_unbroken}
+use Rattle.zr_network.specs.Acts.{has_number, asking, ending, get_step, reply_step, end_step}
 use Rattle.zr_network.specs.Moments.{Numbered, Moment, went}
 use Rattle.zr_network.proofs.Names.{names, value_after}
 use Rattle.zr_network.proofs.Cases.{w_sent, for_get, for_reply, for_end}
@@ -34,7 +34,7 @@ use Rattle.zr_answers.proofs.Grown.{Earlier, times_ended_more, under_more, queri
 use Rattle.zr_answers.proofs.Books.{Requests, Asks, request_ended, query_asked}
 use Rattle.zr_answers.proofs.Links.{Lines, lines_on, AsksFine, FineAsk, FineSay}
 use Rattle.zr_answers.proofs.Lines.{AllShow}
-use Rattle.zr_answers.proofs.Standing.{BookOf, NoBook, Stands, held_then, back_is, requests_stay, asks_stay, told_stays, book_stays}
+use Rattle.zr_answers.proofs.Standing.{NoBook, Stands, held_then, back_is, requests_stay, asks_stay, told_stays, book_stays}
 use Rattle.zr_answers.proofs.ClientActs.{IsKept, said, same_client}
 
 module _ (acts : List Numbered) (m : Moment) (lines : Lines) (g : Goes m.world) (shows : AllShow m.world) (h : Stands acts m lines) (n : ℕ) (name : List ℕ) (number : ℕ) where

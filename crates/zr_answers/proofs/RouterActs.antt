@@ -1,37 +1,32 @@
 -- Acts of routers and links keep what stands (`router_kept` and so on): they change links by what is fine there, and nothing that clients were sent or asked.
 use Rattle.std.proofs.Common.{◌≡◌, ℕ, inl, Bool, true, false, cond, not, List, [], ◌∷◌, ◌++◌, map, filter, Option, Some, None, is_some, refl, sym, ap, ◌∙◌, subst}
-use Rattle.std.specs.Prelude.{◌&&◌, ◌||◌, IfSome}
+use Rattle.std.specs.Prelude.{◌||◌, IfSome}
 use Rattle.std.specs.List.{cons_option}
 use Rattle.std.specs.Ordering.{nat_cmp}
 use Rattle.std.specs.Cmp.Lexicographic.{slice_cmp}
 use Rattle.std.specs.BTreeMap.{insert_entry}
-use Rattle.std.proofs.lemmas.Bool.{false≢true, true≢false, or_right, false_from_ne_true}
+use Rattle.std.proofs.lemmas.Bool.{false≢true, true≢false, or_right}
 use Rattle.std.proofs.lemmas.List.Elements.{filter_map-append}
 use Rattle.zr_id.specs.Zid.{is_named}
-use Rattle.zr_id.specs.declared.link.LinkNo.{LinkNo}
-use Rattle.zr_graph.specs.Base.{BaseState}
-use Rattle.zr_graph.proofs.Names.{same_is}
 use Rattle.zr_graph.specs.Record.{ids}
 use Rattle.zr_msg.specs.declared.event.Event.{Event}
 use Rattle.zr_msg.specs.declared.event.Event.TheVariants.{Down, From}
 use Rattle.zr_msg.specs.declared.msg.Msg.{Msg}
-use Rattle.zr_msg.specs.declared.peer.Role.TheVariants as role
 use Rattle.zr_msg.specs.declared.peer.LinkPeer.{LinkPeer}
-use Rattle.zr_command.specs.declared.command.Act.TheVariants as c
 use Rattle.zr_command.specs.declared.report.ReportLine.{ReportLine}
 use Rattle.zr_command.specs.declared.report.ReportLine.TheVariants as line
 use Rattle.zr_routing.specs.Tables.{link_to}
 use Rattle.zr_table.specs.State.{NodeState}
 use Rattle.zr_table.specs.Event.{MayCome}
 use Rattle.zr_table.specs.Table.{refuses}
-use Rattle.zr_network.specs.World.{Tagged, RouterState, ClientState, EndState, End, Ends, WorldState, with_ends, with_router, new_router, new_client, router_of, client_of, end_of, is_taken, is_unbroken, is_empty, with_end, with_wire}
-use Rattle.zr_network.specs.Acts.{hearing, peer_of, up_event, parent_line, source_line, shown_base, shown, router_step, client_step, link_step, up_step, break_step, down_step, handle_step, mark_step, show_step}
+use Rattle.zr_network.specs.World.{Tagged, RouterState, EndState, End, WorldState, with_ends, new_router, router_of, client_of, end_of, is_taken, is_unbroken, is_empty, with_end, with_wire}
+use Rattle.zr_network.specs.Acts.{hearing, peer_of, up_event, parent_line, source_line, shown_base, shown, router_step, link_step, up_step, break_step, down_step, handle_step, mark_step, show_step}
 use Rattle.zr_network.specs.Moments.{Numbered, Moment, went}
 use Rattle.zr_network.proofs.Keyed.{not_there}
 use Rattle.zr_network.proofs.Names.{value_new, read_kept}
 use Rattle.zr_network.proofs.Ends.{keep_with_end}
-use Rattle.zr_network.proofs.Cases.{w_client, w_link, w_up, w_break, w_down, w_handle, free_name, number_found, for_router, for_client, for_link, for_up, for_break, for_down, for_handle, for_mark, for_show}
-use Rattle.zr_network.proofs.Sound.{up_may_come, client_may_come, down_may_come, from_may_come}
+use Rattle.zr_network.proofs.Cases.{w_link, w_up, w_break, w_down, w_handle, free_name, number_found, for_router, for_link, for_up, for_break, for_down, for_handle, for_mark, for_show}
+use Rattle.zr_network.proofs.Sound.{up_may_come, down_may_come, from_may_come}
 use Rattle.zr_settled.proofs.Goes.{Goes}
 use Rattle.zr_settled.proofs.Moving.{unbroken_at}
 use Rattle.zr_settled.proofs.Orderly.{has_wire}
@@ -42,15 +37,14 @@ use Rattle.zr_numbers.specs.Deeds.{Deed, EventIsDone}
 use Rattle.zr_numbers.proofs.Waits.{wire_of}
 use Rattle.zr_numbers.proofs.Done.{events_are_done}
 use Rattle.zr_numbers.proofs.Whole.{LinksGo, links_stay, whole_same}
-use Rattle.zr_numbers.proofs.HeardLinks.{Fits}
-use Rattle.zr_numbers.proofs.ActHears.{handle_links, up_links, client_links, down_links}
+use Rattle.zr_numbers.proofs.ActHears.{handle_links, up_links, down_links}
 use Rattle.zr_numbers.proofs.ActLinks.{w_router, router_links, link_links, break_links}
-use Rattle.zr_guarantee.specs.Sent.{Told, told_in, told_to, is_request, requests_to}
+use Rattle.zr_guarantee.specs.Sent.{Told, told_in, told_to}
 use Rattle.zr_answers.proofs.Grown.{Earlier}
 use Rattle.zr_answers.proofs.Links.{Lines, lines_on, FineAsk, FineSay}
 use Rattle.zr_answers.proofs.Lines.{AllShow}
 use Rattle.zr_answers.proofs.Routers.{quiet_fits, handle_fits}
-use Rattle.zr_answers.proofs.Standing.{NoBook, BookOf, Stands, grows, held_then, others_then, told_none, book_stays, steady}
+use Rattle.zr_answers.proofs.Standing.{NoBook, Stands, grows, held_then, others_then, told_none, book_stays, steady}
 
 -- ---- what a show reports, nobody was sent
 

@@ -1,9 +1,9 @@
 -- What a router does when it hears of an event is fine on its links: a request that it asks is of the query of the one that came, and a reply that it passes
 -- back is said to the query of who asked (`handle_fits`). Where a link comes up or goes down it does neither (`quiet_fits`).
-use Rattle.std.proofs.Common.{◌≡◌, ℕ, ◌==◌, Bool, true, false, cond, List, [], ◌∷◌, ◌++◌, filter, Option, Some, None, refl, sym, ap, ◌∙◌, subst}
+use Rattle.std.proofs.Common.{◌≡◌, ℕ, Bool, true, false, cond, List, ◌∷◌, filter, Option, Some, None, refl, sym, ap, ◌∙◌, subst}
 use Rattle.std.specs.List.{AllByRecursion, find}
 use Rattle.std.specs.Option.{option_map, option_and_then}
-use Rattle.std.proofs.lemmas.Bool.{false≢true, or_left, eq-eqb}
+use Rattle.std.proofs.lemmas.Bool.{false≢true, eq-eqb}
 use Rattle.std.proofs.lemmas.Option.{none-some}
 use Rattle.zr_msg.specs.declared.content.Parts.{Parts}
 use Rattle.zr_msg.specs.declared.event.Event.{Event}
@@ -16,25 +16,24 @@ use Rattle.zr_id.specs.declared.link.LinkNo.{LinkNo}
 use Rattle.zr_command.specs.declared.report.ReportLine.{ReportLine}
 use Rattle.zr_pend.specs.declared.branch.Asker.{Asker}
 use Rattle.zr_pend.specs.Row.{RowState, has}
-use Rattle.zr_pend.specs.Pending.{branch, asker_of}
+use Rattle.zr_pend.specs.Pending.{branch}
 use Rattle.zr_pend.specs.Readings.{back}
-use Rattle.zr_routing.specs.Tables.{link_at, link_to}
+use Rattle.zr_routing.specs.Tables.{link_to}
 use Rattle.zr_table.specs.State.{NodeState}
-use Rattle.zr_network.specs.World.{Tagged, RouterState, WorldState, router_of, client_of, is_unbroken}
+use Rattle.zr_network.specs.World.{Tagged, RouterState, WorldState, router_of}
 use Rattle.zr_network.specs.Moments.{Numbered}
 use Rattle.zr_network.specs.Sound.{AreUnique, IsSound}
 use Rattle.zr_network.proofs.Links.{numbered_link, named_link}
 use Rattle.zr_settled.proofs.Orderly.{Orderly}
-use Rattle.zr_asking.specs.Link.{Ask, Answer, Replied, ask, reply, has_number, answers_number, Hop, asked_by, Shows}
+use Rattle.zr_asking.specs.Link.{Ask, Answer, ask, reply, has_number, answers_number, asked_by}
 use Rattle.zr_asking.proofs.Hops.{front_ask}
-use Rattle.zr_numbers.specs.Waiting.{Asked, Said, Place, waits, branch_back, is_kept_by, back_at, link_of, is_whole}
-use Rattle.zr_numbers.specs.Deeds.{Deed, Asks, Hears, Closes, Leaves, Takes, Replies, Ends, place_in, IsPassedOn, IsPassedBack, IsMeant}
+use Rattle.zr_numbers.specs.Waiting.{Asked, Said, Place, waits, back_at, link_of, is_whole}
+use Rattle.zr_numbers.specs.Deeds.{Asks, Hears, Closes, Leaves, Takes, Replies, Ends, place_in, IsPassedOn, IsPassedBack}
 use Rattle.zr_numbers.proofs.Waits.{asks_among, answers_among, router_back}
-use Rattle.zr_numbers.proofs.Neighbours.{IsMeantTo}
 use Rattle.zr_numbers.proofs.HeardLinks.{Fits}
 use Rattle.zr_numbers.proofs.Whole.{router_alone, whole_turned}
 use Rattle.zr_answers.specs.Answers.{IsAsked, IsSaidTo}
-use Rattle.zr_answers.proofs.Links.{Lines, IsOf, SaysTo, AsksFine, FineAsk, FineSay, Grows}
+use Rattle.zr_answers.proofs.Links.{Lines, SaysTo, AsksFine, FineAsk, FineSay, Grows}
 use Rattle.zr_answers.proofs.Lines.{LinesHold, AllShow}
 
 -- ---- no message came

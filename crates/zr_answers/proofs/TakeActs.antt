@@ -1,15 +1,14 @@
 -- A message is taken from a router's queue: a router's waits as before, and a client is sent it. A request is of the query of its number, a reply was said to
--- the query that is open under its number, and a final closes that: so what stands is kept.
+-- the query that is open under its number, and a final closes that: so what stands is kept (`take_kept`).
 use Rattle.std.proofs.Common.{◌≡◌, ℕ, ◌+◌, ◌==◌, Bool, true, false, cond, List, [], ◌∷◌, ◌++◌, map, filter, Option, Some, None, is_some, refl, sym, ap, ◌∙◌, subst, arith, append-nil}
-use Rattle.std.specs.Prelude.{◌&&◌, ◌||◌, IfSome}
-use Rattle.std.specs.List.{AllByRecursion, cons_option, count_by, slice_get}
+use Rattle.std.specs.Prelude.{◌||◌, IfSome}
+use Rattle.std.specs.List.{AllByRecursion, cons_option}
 use Rattle.std.specs.Option.{option_map}
 use Rattle.std.proofs.lemmas.Bool.{false≢true, true≢false, or_left, false_from_ne_true, eq-eqb, eqb-true}
 use Rattle.std.proofs.lemmas.List.Sums.{sum_by-append}
 use Rattle.std.proofs.lemmas.Option.{none-some}
 use Rattle.zr_id.specs.Zid.{is_named}
 use Rattle.zr_graph.proofs.Names.{same_is, same_refl}
-use Rattle.zr_msg.specs.declared.content.Parts.{Parts}
 use Rattle.zr_msg.specs.declared.msg.Msg.{Msg}
 use Rattle.zr_msg.specs.declared.msg.Msg.TheVariants.{Sub, Unsub, Able, Unable, Interest, EndInterest, ToldSub, ToldAble, ToldUnsub, ToldUnable, ToldEnd, Push, Request, Response, Final, State, Step, Snap}
 use Rattle.zr_command.specs.declared.report.ReportLine.{ReportLine}
@@ -22,7 +21,7 @@ use Rattle.zr_network.proofs.Clients.{idle_receiving}
 use Rattle.zr_network.proofs.Cases.{w_take, for_take}
 use Rattle.zr_settled.proofs.Goes.{Goes}
 use Rattle.zr_settled.proofs.Moving.{unbroken_at}
-use Rattle.zr_asking.specs.Link.{Ask, Answer, Body, Replied, ask, reply, final, has_number as asks_number, answers_number, asked_by}
+use Rattle.zr_asking.specs.Link.{Ask, Answer, ask, reply, final, has_number as asks_number, answers_number, asked_by}
 use Rattle.zr_asking.proofs.Hops.{front_ask, front_reply, front_final}
 use Rattle.zr_numbers.specs.Waiting.{Asked, Said, Place, asks_in, answers_in, waits, back_at, is_whole, link_of}
 use Rattle.zr_numbers.proofs.Waits.{asks_among, answers_among}
@@ -35,7 +34,7 @@ use Rattle.zr_guarantee.specs.Sent.{Told, told_to, is_request, requests_to, repl
 use Rattle.zr_answers.specs.Answers.{IsSaidTo, times_ended, query_at, IsAnswer}
 use Rattle.zr_answers.proofs.Turns.{Says, Turned, turned_more}
 use Rattle.zr_answers.proofs.Grown.{Earlier, times_ended_more, under_more, told_more, requests_more, said_kept, query_at_kept}
-use Rattle.zr_answers.proofs.Books.{Requests, Asks, requests_same, asks_same, request_sent, final_sent}
+use Rattle.zr_answers.proofs.Books.{Requests, Asks, request_sent, final_sent}
 use Rattle.zr_answers.proofs.Links.{Lines, SaysTo, lines_on, FineAsk, FineSay}
 use Rattle.zr_answers.proofs.Lines.{AllShow, pending_same}
 use Rattle.zr_answers.proofs.Standing.{Book, BookOf, NoBook, Stands, grows, back_is, keeps_is, requests_stay, asks_stay, told_before, book_stays, steady}
@@ -62,7 +61,7 @@ receiving_requests s k (State links) = refl
 receiving_requests s k (Step source number added decl) = refl
 receiving_requests s k (Snap source number decls) = refl
 
-receiving_queries : (s : ClientState) (k : ℕ) (msg : Msg) → has_number (receiving s msg).queries k ≡ cond (is_final k msg) false (has_number s.queries k)
+pub receiving_queries : (s : ClientState) (k : ℕ) (msg : Msg) → has_number (receiving s msg).queries k ≡ cond (is_final k msg) false (has_number s.queries k)
 receiving_queries s k (Sub id key) = refl
 receiving_queries s k (Unsub id) = refl
 receiving_queries s k (Able id key complete) = refl
@@ -321,13 +320,17 @@ module _ (acts : List Numbered) (m : Moment) (x : Numbered) (before : Earlier ac
           ∙ ap (λ b. cond b (reply k said ∷ filter (answers_number k) (answers_among (waits v s.router to))) (filter (answers_number k) (answers_among (waits v s.router to)))) (eq-eqb k k refl) in
           let told : IsSaidTo acts m.report (lines to s.router k) said =
           (subst (λ zs. AllByRecursion (λ (a : Answer Said). SaysTo acts m.report (lines to s.router k) a.body) zs) here (h.held.is to s.router k above).said).0 in
-          let found = found_query (query_at acts to k (finals_in k (told_to m.report to))) refl ((h.books to s k es).open_.last above (open_query k front.by front.pending)) in
-          record {
+          answer (found_query (query_at acts to k (finals_in k (told_to m.report to))) refl ((h.books to s k es).open_.last above (open_query k front.by front.pending))) told
+        where
+          answer : (q : Query) × (query_at acts to k (finals_in k (told_to m.report to)) ≡ Some q) × (q.line ≡ lines to s.router k) → IsSaidTo acts m.report (lines to s.router k) (record { line = r.line; content = r.content }) →
+              IsAnswer acts' report' to k (finals_in k (told_to m.report to)) r
+          answer found told = record {
             query = found.0;
             asked = query_at_kept acts x to k (finals_in k (told_to m.report to)) found.0 found.1;
-            said = said_kept acts x before m.report rl found.0.line said (subst (λ j. IsSaidTo acts m.report j said) (sym found.2) told);
+            said = said_kept acts x before m.report rl found.0.line (record { line = r.line; content = r.content })
+                (subst (λ j. IsSaidTo acts m.report j (record { line = r.line; content = r.content })) (sym found.2) told);
           }
-        where
+
           found_query : (o : Option Query) → query_at acts to k (finals_in k (told_to m.report to)) ≡ o → option_map (λ q. q.line) o ≡ Some (lines to s.router k) →
               (q : Query) × (query_at acts to k (finals_in k (told_to m.report to)) ≡ Some q) × (q.line ≡ lines to s.router k)
           found_query None f l = absurd (none-some (lines to s.router k) l)

@@ -14,7 +14,7 @@ use Rattle.zr_answers.specs.Answers.{up_to_final, told_in_turn}
 -- ---- one message
 
 -- a final is no reply
-final_is_none : (n tag : ℕ) (msg : Msg) → is_final n msg ≡ true → reply_in tag msg ≡ None
+pub final_is_none : (n tag : ℕ) (msg : Msg) → is_final n msg ≡ true → reply_in tag msg ≡ None
 final_is_none n tag (Sub id key) e = refl
 final_is_none n tag (Unsub id) e = refl
 final_is_none n tag (Able id key complete) e = refl

@@ -40,7 +40,7 @@ use Rattle.zr_laws.proofs.Start.{AreSettled, Marked, detached, wants_nothing, wh
 
 -- ---- where nothing is under way
 
-none_under_way : (m : Moment) (e : End) → is_quiet m.world ≡ true → (queue_at (end_of m.world.ends e) ≡ []) × (wire_at (end_of m.world.ends e) ≡ [])
+pub none_under_way : (m : Moment) (e : End) → is_quiet m.world ≡ true → (queue_at (end_of m.world.ends e) ≡ []) × (wire_at (end_of m.world.ends e) ≡ [])
 none_under_way m e quiet = by (end_of m.world.ends e) refl
   where
     empty : (ws : List Tagged) → is_empty ws ≡ true → ws ≡ []
@@ -69,7 +69,7 @@ TablesAreSettled = (acts : List Numbered) (m : Moment) → reached acts ≡ Some
 
 module _ (agree : TablesAreSettled) where
   -- what is known right after a mark
-  marked : (before : List Numbered) (mark : ℕ) → list_all (λ y. nat_lt y.0 mark) before ≡ true → IfSome (onward (reached before) (mark, c.Mark)) (Marked before mark)
+  pub marked : (before : List Numbered) (mark : ℕ) → list_all (λ y. nat_lt y.0 mark) before ≡ true → IfSome (onward (reached before) (mark, c.Mark)) (Marked before mark)
   unfolding outcome
   marked before mark below =
       by (reached before) refl (always before) (tags_kept (λ i. nat_lt i mark) before (Some beginning) (record { waits = λ e. tt; sends_only = λ q. refl }) (tagging_before mark before below))

@@ -20,6 +20,5 @@ pub mod Silent
 pub mod Start
 pub mod Final
 pub mod Settled
-pub mod Lines
 pub mod KeyTexts
 pub mod AtRest

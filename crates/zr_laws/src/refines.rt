@@ -3,7 +3,6 @@
 
 ghost use Rattle.zr_network.specs.Accepted.{LinesAreMoments};
 ghost use Rattle.zr_guarantee.specs.Refines.{PhasesDeliver};
-ghost use Rattle.zr_guarantee.specs.Scripts.{LinesDeliver};
 
 /// From each accepted mark on, at every moment of its phase, in every order of steps, samples and requests come as one broker sends them.
 pub fn phases_deliver()
@@ -14,9 +13,4 @@ pub fn phases_deliver()
 /// that of the run of the lines, and so is its report, but for the lines at the ends of runs.
 pub fn lines_are_moments()
     ensures { LinesAreMoments }
-{}
-
-/// So it is with every script's lines, a refused script's up to the line that is refused.
-pub fn lines_deliver()
-    ensures { LinesDeliver }
 {}
