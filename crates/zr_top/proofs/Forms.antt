@@ -4,7 +4,7 @@ use Rattle.std.proofs.lemmas.Bool.{eqb-true}
 use Rattle.std.specs.Prelude.{IfSome, codes, cond, is_some}
 use Rattle.zr_make.specs.declared.plan.MakePlan.{MakePlan}
 use Rattle.zr_top.specs.declared.topic.Topic.{Topic}
-use Rattle.zr_top.specs.Words.{begins_serve, is_net, is_word, made_of, names_make, served_of, topic_of, Served}
+use Rattle.zr_top.specs.Words.{begins_serve, is_word, made_of, names_make, net_of, served_of, topic_of, Served}
 
 pub none_of : {A : Type 0} (r : Option A) (P : A → Type 0) → r ≡ None → IfSome r P
 none_of r P e = subst (λ z. IfSome z P) (sym e) tt
@@ -15,7 +15,7 @@ first_holds : (a b : Bool) → (a && b) ≡ true → a ≡ true
 first_holds true b h = refl
 first_holds false b h = h
 
-second_holds : (a b : Bool) → (a && b) ≡ true → b ≡ true
+pub second_holds : (a b : Bool) → (a && b) ≡ true → b ≡ true
 second_holds true b h = h
 second_holds false b h = absurd (cc)
 
@@ -28,7 +28,7 @@ chosen true r x h = refl
 chosen false r x h = absurd (cc)
 
 -- a choice whose test fails
-not_chosen : {A : Type 0} (test : Bool) (r s : Option A) → test ≡ false → cond test r s ≡ s
+pub not_chosen : {A : Type 0} (test : Bool) (r s : Option A) → test ≡ false → cond test r s ≡ s
 not_chosen test r s e = ap (λ z. cond z r s) e
 
 -- two words that begin otherwise are not one
@@ -41,12 +41,12 @@ not_word a b more others (c ∷ cs) d h =
 -- ---- `net`
 
 -- what an option gives is there where its test holds
-asked : {A : Type 0} (test : Bool) (x : A) → is_some (cond test (Some x) None) ≡ true → test ≡ true
+pub asked : {A : Type 0} (test : Bool) (x : A) → is_some (cond test (Some x) None) ≡ true → test ≡ true
 asked true x h = refl
 asked false x h = absurd (cc)
 
 -- a word that is a text
-word_is : (text word : List ℕ) → is_word text word ≡ true → word ≡ text
+pub word_is : (text word : List ℕ) → is_word text word ≡ true → word ≡ text
 word_is [] [] h = refl
 word_is [] (c ∷ cs) h = absurd (cc)
 word_is (a ∷ more) [] h = absurd (cc)
@@ -55,7 +55,7 @@ word_is (a ∷ more) (c ∷ cs) h =
     let rest : cs ≡ more = word_is more cs (second_holds (nat_eq c a) (is_word more cs) h) in
     λ i. one i ∷ rest i
 
-net_is : (words : List (List ℕ)) → is_net words ≡ true → (served_of words ≡ None) × (made_of words ≡ None) × (topic_of words ≡ None)
+net_is : (words : List (List ℕ)) → is_some (net_of words) ≡ true → (served_of words ≡ None) × (made_of words ≡ None) × (topic_of words ≡ None)
 net_is [] h = absurd (cc)
 net_is (word ∷ []) h =
     let net : is_word (codes "net") word ≡ true = asked (is_word (codes "net") word) false h in
@@ -69,13 +69,13 @@ net_is (word ∷ option ∷ []) h =
     (refl, refl, not_chosen (is_word (codes "--help") option) _ _ help)
 net_is (word ∷ option ∷ next ∷ more) h = absurd (cc)
 
-pub net_not_served : (words : List (List ℕ)) (P : Served → Type 0) → is_net words ≡ true → IfSome (served_of words) P
+pub net_not_served : (words : List (List ℕ)) (P : Served → Type 0) → is_some (net_of words) ≡ true → IfSome (served_of words) P
 net_not_served words P h = none_of (served_of words) P (net_is words h).0
 
-pub net_not_made : (words : List (List ℕ)) (P : MakePlan → Type 0) → is_net words ≡ true → IfSome (made_of words) P
+pub net_not_made : (words : List (List ℕ)) (P : MakePlan → Type 0) → is_some (net_of words) ≡ true → IfSome (made_of words) P
 net_not_made words P h = none_of (made_of words) P (net_is words h).1
 
-pub net_not_told : (words : List (List ℕ)) (P : Topic → Type 0) → is_net words ≡ true → IfSome (topic_of words) P
+pub net_not_told : (words : List (List ℕ)) (P : Topic → Type 0) → is_some (net_of words) ≡ true → IfSome (topic_of words) P
 net_not_told words P h = none_of (topic_of words) P (net_is words h).2
 
 -- ---- help

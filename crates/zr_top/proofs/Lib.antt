@@ -2,3 +2,4 @@ pub mod Cases
 pub mod Digits
 pub mod Forms
 pub mod Nine
+pub mod Explains

@@ -13,7 +13,7 @@ use Rattle.zr_top.specs.Words.{Served}
 
 abbrev pub served_by : Option ServePlan → Option Served
 served_by None = None
-served_by (Some plan) = Some (record { id = plan.id; listen = string_bytes plan.listen; dials = map string_bytes plan.dials.items })
+served_by (Some plan) = Some (record { id = plan.id; listen = string_bytes plan.listen; log = plan.log; dials = map string_bytes plan.dials.items })
 
 abbrev pub status_of : ServeEnd → Status
 status_of end.Done = status.Done
@@ -25,4 +25,4 @@ status_of end.HostFault = status.HostFault
 pub record IsServing (s : Served) (end : Status) (calls calls' : Option (List Call)) (told told' : Option (List LinkJob)) (faults faults' : ℕ) (o p : Outputs) : Type 0 where
   pub how : ServeEnd
   pub end_is : end ≡ status_of how
-  pub served : IsServed how s.id s.listen s.dials calls calls' told told' faults faults' o p
+  pub served : IsServed how s.id s.log s.listen s.dials calls calls' told told' faults faults' o p

@@ -23,29 +23,54 @@ net_of (word ∷ []) = if is_word (codes "net") word then Some false else None
 net_of (word ∷ option ∷ []) = if is_word (codes "net") word && is_word (codes "--summary") option then Some true else None
 net_of (word ∷ option ∷ next ∷ more) = None
 
--- whether the words are `net` or `net --summary`
-abbrev pub is_net : List (List ℕ) → Bool
-is_net words = is_some (net_of words)
+-- whether two words are `--summary` and `--explain`, in either order
+abbrev pub are_both : List ℕ → List ℕ → Bool
+are_both one other =
+    is_word (codes "--summary") one && is_word (codes "--explain") other || is_word (codes "--explain") one && is_word (codes "--summary") other
 
--- what `serve` asks for: an identifier, the address at which it listens, and the addresses that it dials
+-- what `net --explain` asks for, with `--summary` before or behind it or without it: whether the report is summed up; none where the words
+-- are none of these
+abbrev pub explained_of : List (List ℕ) → Option Bool
+explained_of [] = None
+explained_of (word ∷ []) = None
+explained_of (word ∷ option ∷ []) = if is_word (codes "net") word && is_word (codes "--explain") option then Some false else None
+explained_of (word ∷ one ∷ other ∷ []) = if is_word (codes "net") word && are_both one other then Some true else None
+explained_of (word ∷ one ∷ other ∷ next ∷ more) = None
+
+-- whether the words are `net`, with `--summary` and `--explain` or without, each once at most
+abbrev pub is_net : List (List ℕ) → Bool
+is_net words = is_some (net_of words) || is_some (explained_of words)
+
+-- what `serve` asks for: an identifier, the address at which it listens, whether its links have logs, and the addresses that it dials
 pub record Served : Type 0 where
   pub id : List ℕ
   pub listen : List ℕ
+  pub log : Bool
   pub dials : List (List ℕ)
 
 -- whether the first words are `serve --id ID --listen`, whatever ID is
 abbrev pub begins_serve : List ℕ → List ℕ → List ℕ → Bool
 begins_serve first second fourth = is_word (codes "serve") first && (is_word (codes "--id") second && is_word (codes "--listen") fourth)
 
--- what the words `serve --id ID --listen ADDRESS [DIAL]...` ask for, where they are these
+-- whether `--log` stands first among the words behind the address
+abbrev pub has_log : List (List ℕ) → Bool
+has_log [] = false
+has_log (word ∷ words) = is_word (codes "--log") word
+
+-- the addresses that stand behind it, or that are all the words
+abbrev pub dials_of : List (List ℕ) → List (List ℕ)
+dials_of [] = []
+dials_of (word ∷ words) = if is_word (codes "--log") word then words else word ∷ words
+
+-- what the words `serve --id ID --listen ADDRESS [--log] [DIAL]...` ask for, where they are these
 abbrev pub served_of : List (List ℕ) → Option Served
 served_of [] = None
 served_of (first ∷ []) = None
 served_of (first ∷ second ∷ []) = None
 served_of (first ∷ second ∷ id ∷ []) = None
 served_of (first ∷ second ∷ id ∷ fourth ∷ []) = None
-served_of (first ∷ second ∷ id ∷ fourth ∷ listen ∷ dials) =
-    if begins_serve first second fourth then option_map (λ i. record { id = i; listen = listen; dials = dials }) (zid_of_hex id) else None
+served_of (first ∷ second ∷ id ∷ fourth ∷ listen ∷ more) =
+    if begins_serve first second fourth then option_map (λ i. record { id = i; listen = listen; log = has_log more; dials = dials_of more }) (zid_of_hex id) else None
 
 -- ---- `make`
 

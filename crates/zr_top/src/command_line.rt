@@ -3,7 +3,7 @@
 ghost use Rattle.std.specs.Prelude.{◌≡◌, [], ◌∷◌, codes, is_some, map, true, IfOk, IfSome, OnErr};
 ghost use Rattle.std.specs.String.{string_bytes};
 ghost use Rattle.zr_make.specs.Plan.{is_in_range};
-ghost use Rattle.zr_top.specs.Words.{begins_serve, is_word, made_of, names_make, net_of, plan_by, served_of, topic_of, topic_of_command};
+ghost use Rattle.zr_top.specs.Words.{are_both, begins_serve, dials_of, explained_of, has_log, is_word, made_of, names_make, net_of, plan_by, served_of, topic_of, topic_of_command};
 ghost use Rattle.zr_top.specs.Asked.{served_by};
 
 use crate::number::{count, number};
@@ -24,6 +24,25 @@ pub fn net_of(words: &[String]) -> Option<bool>
     }
 }
 
+/// Whether a summary is asked for beside explanations, where the words are `net --explain`, with `--summary` before or behind it or without it.
+pub fn explained_of(words: &[String]) -> Option<bool>
+    ensures { result ≡ explained_of (map string_bytes words.now) }
+{
+    match words {
+        [word, option] if is_net(word) && is_word(option, b"--explain") => Some(false),
+        [word, one, other] if is_net(word) && are_both(one, other) => Some(true),
+        _ => None,
+    }
+}
+
+// Whether two words are the two options of `net`, in either order.
+fn are_both(one: &String, other: &String) -> bool
+    ensures { result ≡ are_both (string_bytes one.now) (string_bytes other.now) }
+{
+    is_summary(one) && is_word(other, b"--explain")
+        || is_word(one, b"--explain") && is_summary(other)
+}
+
 fn is_net(word: &String) -> bool
     ensures { result ≡ is_word (codes "net") (string_bytes word.now) }
 {
@@ -36,12 +55,12 @@ fn is_summary(word: &String) -> bool
     word.as_bytes() == b"--summary".as_slice()
 }
 
-/// The plan that the words `serve --id ID --listen ADDRESS [DIAL]...` ask for, if they are these. Other words take no memory.
+/// The plan that the words `serve --id ID --listen ADDRESS [--log] [DIAL]...` ask for, if they are these. Other words take no memory.
 pub fn plan_of(alloc: Global, words: &[String]) -> Result<Option<ServePlan>, AllocError>
     ensures plan { IfOk result (λ plan. served_by plan ≡ served_of (map string_bytes words.now)) }
     ensures memory { OnErr result (is_some (served_of (map string_bytes words.now)) ≡ true) }
 {
-    let [first, second, id, fourth, listen, dials @ ..] = words else {
+    let [first, second, id, fourth, listen, more @ ..] = words else {
         return Ok(None);
     };
     if !begins_serve(first, second, fourth) {
@@ -53,7 +72,8 @@ pub fn plan_of(alloc: Global, words: &[String]) -> Result<Option<ServePlan>, All
     Ok(Some(ServePlan {
         id,
         listen: listen.clone()?,
-        dials: all_of(alloc, dials)?,
+        dials: all_of(alloc, dials_of(more))?,
+        log: has_log(more),
     }))
 }
 
@@ -63,6 +83,24 @@ fn begins_serve(first: &String, second: &String, fourth: &String) -> bool
     first.as_bytes() == b"serve".as_slice()
         && second.as_bytes() == b"--id".as_slice()
         && fourth.as_bytes() == b"--listen".as_slice()
+}
+
+fn has_log(words: &[String]) -> bool
+    ensures { result ≡ has_log (map string_bytes words.now) }
+{
+    match words {
+        [] => false,
+        [word, ..] => is_word(word, b"--log"),
+    }
+}
+
+fn dials_of(words: &[String]) -> &[String]
+    ensures { map string_bytes result.now ≡ dials_of (map string_bytes words.now) }
+{
+    match words {
+        [word, dials @ ..] if is_word(word, b"--log") => dials,
+        _ => words,
+    }
 }
 
 fn all_of(alloc: Global, words: &[String]) -> Result<Vec<String>, AllocError>

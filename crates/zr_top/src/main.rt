@@ -31,7 +31,7 @@ fn main(rt: HostRuntime) -> ExitCode {
     };
     let mut input = ReadSource::new(rt.stdin());
     let mut out = WriteSink::new(rt.stdout());
-    let mut host = TcpHost::new(rt);
+    let mut host = TcpHost::new(rt, rt.stderr());
     let Ok(mut crew) = Crew::new(rt, alloc) else {
         return end(Status::NoMemory, &mut err);
     };

@@ -3,7 +3,7 @@
 ghost use Rattle.std.specs.Prelude.{◌≡◌, ◌≤◌, ◌⊎◌, ◌↔◌, true, false, is_some, map, Some, IfSome, IsTrue};
 ghost use Rattle.std.specs.String.{string_bytes};
 ghost use Rattle.zr_outside.specs.Counts.{Rose};
-ghost use Rattle.zr_guarantee.specs.Scripts.{IsDelivered};
+ghost use Rattle.zr_guarantee.specs.Scripts.{IsRefined};
 ghost use Rattle.zr_laws.specs.Keys.{AnsweringIsCovering, AnsweringIsMeeting, AskingIsMeeting};
 ghost use Rattle.zr_laws.specs.Runs.{RestIsQuiet};
 ghost use Rattle.zr_declared.specs.Logs.{SettledLogsAreKnown};
@@ -13,7 +13,7 @@ ghost use Rattle.zr_answers.specs.Answers.{AnswersAlwaysHold};
 ghost use Rattle.zr_numbers.specs.Numbers.{NumbersAlwaysHold};
 ghost use Rattle.zr_settled.specs.Events.{NoEventIsRefused};
 ghost use Rattle.zr_settled.specs.Tables.{AgreeWhereSettled, SettledLogsAgree};
-ghost use Rattle.zr_netrun.specs.Clauses.{OfRead, OfLines, IsReported, IsReadToEnd, IsSummedUp};
+ghost use Rattle.zr_netrun.specs.Clauses.{OfRead, OfLines, IsReported, IsExplained, IsReadToEnd, IsSummedUp, IsExplainedSum};
 ghost use Rattle.zr_top.specs.Means.{HaveKeyTexts, LeadToTheirReport};
 ghost use Rattle.zr_crew.specs.Crew.{crew_faults, crew_told};
 ghost use Rattle.zr_serve.specs.Serving.{outputs};
@@ -21,22 +21,22 @@ ghost use Rattle.zr_top.specs.Asked.{IsServing};
 ghost use Rattle.zr_make.specs.Script.{script, text_of};
 ghost use Rattle.zr_top.specs.Help.{help_text};
 ghost use Rattle.zr_top.specs.Told.{IsWritten};
-ghost use Rattle.zr_top.specs.Words.{is_net, net_of, is_taken, made_of, served_of, topic_of, TellsUsage};
+ghost use Rattle.zr_top.specs.Words.{explained_of, is_net, net_of, is_taken, made_of, served_of, topic_of, TellsUsage};
 
 use crate::beside::run_beside_net;
-use crate::command_line::net_of;
+use crate::command_line::{explained_of, net_of};
 use std::alloc::Global;
 use std::sync::Wait;
 use std::thread::Threads;
-use zr_answers::answers_always_hold;
+use zr_answers::{answers_always_hold, lines_refine};
 use zr_crew::Crew;
 use zr_declared::{settled_logs_are_known, settled_rows_are_declared, settled_sets_are_declared};
 use zr_laws::keys::{
     answering_is_covering, answering_is_meeting, asking_is_meeting, keys_are_texts,
 };
-use zr_laws::refines::{lines_are_moments, lines_deliver};
+use zr_laws::refines::lines_are_moments;
 use zr_laws::runs::rest_is_quiet;
-use zr_netrun::netrun::run_script;
+use zr_netrun::netrun::{run_explained, run_script};
 use zr_netrun::status::Status;
 use zr_numbers::{no_event_is_refused, numbers_always_hold};
 use zr_outside::host::Host;
@@ -46,11 +46,12 @@ use zr_serve::LinkJob;
 use zr_settled::{settled_logs_agree, settled_tables_agree};
 
 /// The whole program. Its words, without its name, ask for one of four things. `net` reads a script from `input`, and writes the report to `out`;
-/// `net --summary` writes, at the script's end, four counts of the report in its place.
-/// `serve --id ID --listen ADDRESS [DIAL]...` runs a router of that identifier, which listens at the address and dials each of the others once, until the
-/// host gives no more links: the crew starts the reader of each link. `make --number N --routers R --clients C --messages M` writes a script that is made
-/// from the number. `--help`, a command with `--help`, and `--version` are told to `out`. With other words, or a value out of range, the status is
-/// `Words`, and `err` has the usage line.
+/// `net --summary` writes, at the script's end, four counts of the report in its place. With `--explain` beside these words `err` has the explanation
+/// of a refused line behind the line that tells its refusal, and all else is the same.
+/// `serve --id ID --listen ADDRESS [--log] [DIAL]...` runs a router of that identifier, which listens at the address and dials each of the others once,
+/// until the host gives no more links: the crew starts the reader of each link, with a log where the words say so.
+/// `make --number N --routers R --clients C --messages M` writes a script that is made from the number. `--help`, a command with `--help`, and
+/// `--version` are told to `out`. With other words, or a value out of range, the status is `Words`, and `err` has the usage line.
 ///
 /// The clause `headline` says what clients were sent, and `told` that the report, of which `report` speaks, tells just this: the accepted
 /// acts of the lines that were read lead to the moment that the report tells. Beside them stands what the headline's words mean: the keys
@@ -67,7 +68,7 @@ use zr_settled::{settled_logs_agree, settled_tables_agree};
 ///
 /// The clause `served` says what was called of the host, which jobs the crew started, and what was written, where a router was served. The clauses
 /// `made` and `helped` say which text was written, where a script was made or something was told: all of it at `Done`, and else a prefix.
-#[tactic(auto, using(crate::proofs::Forms::net_not_served, crate::proofs::Forms::net_not_made, crate::proofs::Forms::net_not_told))]
+#[tactic(auto, using(crate::proofs::Forms::net_not_served, crate::proofs::Forms::net_not_made, crate::proofs::Forms::net_not_told, crate::proofs::Explains::explained_not_served, crate::proofs::Explains::explained_not_made, crate::proofs::Explains::explained_not_told, crate::proofs::Explains::explained_not_net, crate::proofs::Explains::explained_is_net, crate::proofs::Explains::plain_is_net, crate::proofs::Explains::net_is_taken, crate::proofs::Explains::neither_is_net, crate::proofs::Explains::others_are_taken))]
 pub fn run<
     S: Source,
     K: Sink,
@@ -88,9 +89,12 @@ where
     H::In: 'static,
     H::Out: 'static,
     H::Time: 'static,
+    H::Log: 'static,
     ensures report { net_of (map string_bytes words.now) ≡ Some false → OfRead (S.left input.old) (S.left input.new) (IsReported (IsReadToEnd (S.ends input.old) (S.ends input.new) (S.quiets input.old) (S.quiets input.new)) result (K.held out.old) (K.held out.new) (E.held err.old) (E.held err.new)) }
     ensures summed_up { net_of (map string_bytes words.now) ≡ Some true → OfRead (S.left input.old) (S.left input.new) (IsSummedUp (IsReadToEnd (S.ends input.old) (S.ends input.new) (S.quiets input.old) (S.quiets input.new)) result (K.held out.old) (K.held out.new) (E.held err.old) (E.held err.new)) }
-    ensures headline { is_net (map string_bytes words.now) ≡ true → OfLines (S.left input.old) (S.left input.new) IsDelivered }
+    ensures explained { explained_of (map string_bytes words.now) ≡ Some false → OfRead (S.left input.old) (S.left input.new) (IsExplained (IsReadToEnd (S.ends input.old) (S.ends input.new) (S.quiets input.old) (S.quiets input.new)) result (K.held out.old) (K.held out.new) (E.held err.old) (E.held err.new)) }
+    ensures explained_sum { explained_of (map string_bytes words.now) ≡ Some true → OfRead (S.left input.old) (S.left input.new) (IsExplainedSum (IsReadToEnd (S.ends input.old) (S.ends input.new) (S.quiets input.old) (S.quiets input.new)) result (K.held out.old) (K.held out.new) (E.held err.old) (E.held err.new)) }
+    ensures headline { is_net (map string_bytes words.now) ≡ true → OfLines (S.left input.old) (S.left input.new) IsRefined }
     ensures told { is_net (map string_bytes words.now) ≡ true → OfLines (S.left input.old) (S.left input.new) LeadToTheirReport }
     ensures keys { is_net (map string_bytes words.now) ≡ true → OfLines (S.left input.old) (S.left input.new) HaveKeyTexts }
     ensures tables { is_net (map string_bytes words.now) ≡ true → OfLines (S.left input.old) (S.left input.new) AgreeWhereSettled }
@@ -131,12 +135,15 @@ where
     no_event_is_refused();
     numbers_always_hold();
     answers_always_hold();
-    let Some(summary) = net_of(words) else {
-        return run_beside_net(rt, alloc, words, out, err, host, crew);
-    };
-    lines_deliver();
+    lines_refine();
     lines_are_moments();
     keys_are_texts();
     settled_tables_agree();
-    run_script(alloc, input, out, err, summary)
+    if let Some(summary) = explained_of(words) {
+        return run_explained(alloc, input, out, err, summary);
+    }
+    match net_of(words) {
+        Some(summary) => run_script(alloc, input, out, err, summary),
+        None => run_beside_net(rt, alloc, words, out, err, host, crew),
+    }
 }

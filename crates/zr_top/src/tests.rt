@@ -105,7 +105,8 @@ fn words_of(alloc: Global, text: &str) -> Result<Vec<String>, AllocError> {
     Ok(words)
 }
 
-// What serving in a host gave: its status, whether out and err hold these texts, and a letter for each job that the crew started.
+// What serving in a host gave: its status, whether out and err hold these texts, and a letter for each job that the crew started, a capital one where it
+// has a log.
 fn serves<R: Threads + Wait + Copy + Send + Sync + Drop + 'static>(
     rt: R,
     alloc: Global,
@@ -139,9 +140,11 @@ fn serves<R: Threads + Wait + Copy + Send + Sync + Drop + 'static>(
 fn letters(alloc: Global, jobs: &[LinkJob]) -> Result<Vec<u8>, AllocError> {
     let mut all = Vec::new(alloc);
     for job in jobs.iter() {
-        all.push(match job.side {
-            Side::Accepting => b'a',
-            Side::Dialling => b'd',
+        all.push(match (job.side, job.log) {
+            (Side::Accepting, false) => b'a',
+            (Side::Accepting, true) => b'A',
+            (Side::Dialling, false) => b'd',
+            (Side::Dialling, true) => b'D',
         })?;
     }
     Ok(all)
@@ -426,17 +429,21 @@ fn links(alloc: Global) -> Result<TestHost, AllocError> {
 
 #[test]
 fn each_link_is_a_job(rt: HostRuntime) -> Result<(), Fail> {
-    let words = "serve --id 01 --listen here there nowhere";
-    let given = serves(
-        rt,
-        rt.alloc(),
-        words,
-        links(rt.alloc())?,
-        "serving 01\n",
-        "dial nowhere failed\n",
-    )?;
-    assert!(&rt; given.0 == Status::Done && given.1 && given.2);
-    assert_eq!(&rt; given.3.as_slice(), b"daa".as_slice());
+    for (words, jobs) in [
+        ("serve --id 01 --listen here there nowhere", "daa"),
+        ("serve --id 01 --listen here --log there nowhere", "DAA"),
+    ] {
+        let given = serves(
+            rt,
+            rt.alloc(),
+            words,
+            links(rt.alloc())?,
+            "serving 01\n",
+            "dial nowhere failed\n",
+        )?;
+        assert!(&rt; given.0 == Status::Done && given.1 && given.2);
+        assert_eq!(&rt; given.3.as_slice(), jobs.as_bytes());
+    }
     Ok(())
 }
 

@@ -50,19 +50,21 @@ usage: zrd COMMAND [WORD]...
 const NET: &str = "\
 Reads a script of a network from standard input, and writes its report to standard output.
 
-usage: zrd net [--summary]
+usage: zrd net [--summary] [--explain]
 
   --summary  writes four counts of the report in its place
+  --explain  shows a refused line, where it is wrong and why
   --help     tells this
 ";
 
 const SERVE: &str = "\
 Runs a router over TCP.
 
-usage: zrd serve --id ID --listen ADDRESS [DIAL]...
+usage: zrd serve --id ID --listen ADDRESS [--log] [DIAL]...
 
   --id ID           the router's identifier: 2 to 32 lower-case hexadecimal digits, an even number, not all 0
   --listen ADDRESS  the address and port at which it listens
+  --log             tells each link that comes up or ends on standard error
   DIAL              the address and port of a router with which it links
   --help            tells this
 ";

@@ -3,5 +3,8 @@ use Rattle.zr_netrun.proofs.Telling.{of_read}
 use Rattle.zr_top.proofs.run.run.Goals as goal
 
 -- the lines that count lead to a moment, whichever they are
-pub returns-clause-told : goal.returns-clause-told
-returns-clause-told g c is_net = of_read _ _ _ _ (c.run_script.ensures.left) (λ read p to_end. (c.lines_are_moments.ensures (judged_lines to_end read)).1)
+pub returns-in-Some-clause-told : goal.returns-in-Some-clause-told
+returns-in-Some-clause-told g c is_net = of_read _ _ _ _ (c.run_explained.ensures.left) (λ read p to_end. (c.lines_are_moments.ensures (judged_lines to_end read)).1)
+
+pub returns-in-Some-net_of-clause-told : goal.returns-in-Some-net_of-clause-told
+returns-in-Some-net_of-clause-told g c is_net = of_read _ _ _ _ (c.run_script.ensures.left) (λ read p to_end. (c.lines_are_moments.ensures (judged_lines to_end read)).1)
