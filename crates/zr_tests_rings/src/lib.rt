@@ -1,4 +1,4 @@
-//! Tests of what runs in threads: the counted history, the ring, the shared router, writers, crews, hosts and gates; what only a run shows. There is no code here but theirs.
+//! Tests of what runs in threads: the counted history, the ring, the shared router, sessions, writers, crews, hosts and gates; what only a run shows. There is no code here but theirs.
 #![tactic(auto)]
 
 #[cfg(test)]
@@ -17,6 +17,8 @@ mod locked;
 mod note;
 #[cfg(test)]
 mod routers;
+#[cfg(test)]
+mod sessions;
 #[cfg(test)]
 mod sharing;
 #[cfg(test)]

@@ -50,7 +50,7 @@ fn parcels_go_in_order_and_the_close_last(rt: HostRuntime) -> Result<(), Fail> {
     let alloc = rt.alloc();
     let mut taker = two_and_end(alloc, Some(3))?;
     let (end, bytes) = written(alloc, &mut taker, 9, Vec::new(alloc))?;
-    assert_eq!(rt; end, WriterEnd::Done);
+    assert_eq!(rt; end, WriterEnd::Done(Some(3)));
     assert_eq!(rt;
         bytes.as_slice(),
         [2, 0, 7, 7, 1, 0, 8, 2, 0, 0x23, 3].as_slice()
@@ -59,7 +59,7 @@ fn parcels_go_in_order_and_the_close_last(rt: HostRuntime) -> Result<(), Fail> {
     let (end, bytes) = written(alloc, &mut taker, 9, Vec::new(alloc))?;
     assert_eq!(rt;
         (end, bytes.as_slice()),
-        (WriterEnd::Done, [2, 0, 7, 7, 1, 0, 8].as_slice())
+        (WriterEnd::Done(None), [2, 0, 7, 7, 1, 0, 8].as_slice())
     );
     Ok(())
 }
