@@ -133,14 +133,14 @@ def write_script(script, words):
     written = 0
     while written < words.samples:
         batch = min(words.batch, words.samples - written)
-        authors = [clients[numbers.below(len(clients))] for _ in range(batch)]
-        for author in authors:
-            script.put(author, numbers.below(words.keys), f"x{written}")
+        publishers = [clients[numbers.below(len(clients))] for _ in range(batch)]
+        for publisher in publishers:
+            script.put(publisher, numbers.below(words.keys), f"x{written}")
             written += 1
         if words.run:
             script.run()
             continue
-        receivers = [receiver for author in authors for receiver in script.handle(author)]
+        receivers = [receiver for publisher in publishers for receiver in script.handle(publisher)]
         for receiver in receivers:
             script.take(receiver)
 

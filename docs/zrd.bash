@@ -6,8 +6,8 @@ _zrd() {
         words='net serve make --help --version'
     else
         case ${COMP_WORDS[1]} in
-        net) words='--summary --help' ;;
-        serve) words='--id --listen --help' ;;
+        net) words='--summary --explain --help' ;;
+        serve) words='--id --listen --log --help' ;;
         make) words='--number --routers --clients --messages --help' ;;
         *) words= ;;
         esac
