@@ -12,9 +12,8 @@ use Rattle.zr_network.specs.Acts.{has_number, Outcome, outcome}
 use Rattle.zr_network.specs.Moments.{Numbered, Moment, went}
 use Rattle.zr_network.proofs.Cases.{for_reply, for_end}
 use Rattle.zr_table.proofs.Inserted.{All-append}
-use Rattle.zr_guarantee.specs.Queries.{Saying, sayings, ended_before, query_of}
+use Rattle.zr_guarantee.specs.Queries.{Saying, sayings, ended_before, query_of, times_ended}
 use Rattle.zr_guarantee.specs.Sent.{requests_to}
-use Rattle.zr_answers.specs.Answers.{times_ended}
 use Rattle.zr_answers.proofs.Grown.{Earlier, sayings_lines, sayings_more, ended_before_more, ends_below, query_kept}
 use Rattle.zr_answers.proofs.Links.{Lines}
 use Rattle.zr_answers.proofs.Standing.{Stands}

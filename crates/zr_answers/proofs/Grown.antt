@@ -17,9 +17,9 @@ use Rattle.zr_command.specs.declared.report.ReportLine.{ReportLine}
 use Rattle.zr_network.specs.Moments.{Numbered, is_step, is_later, ascends}
 use Rattle.zr_numbers.specs.Waiting.{Said}
 use Rattle.zr_guarantee.specs.Item.{Reply}
-use Rattle.zr_guarantee.specs.Queries.{Asked, asked_in, queries, is_under, turn, Saying, saying_in, sayings, is_end, ended_before, query_of}
+use Rattle.zr_guarantee.specs.Queries.{Asked, asked_in, queries, is_under, turn, Saying, saying_in, sayings, is_end, ended_before, query_of, times_ended}
 use Rattle.zr_guarantee.specs.Sent.{Told, told_in, told_to, is_request, requests_to}
-use Rattle.zr_answers.specs.Answers.{IsAsked, IsSaidTo, times_ended, told_in_turn, query_at, IsAnswer}
+use Rattle.zr_answers.specs.Answers.{IsAsked, IsSaidTo, told_in_turn, query_at, IsAnswer}
 use Rattle.zr_answers.specs.Stands.{answers_told}
 use Rattle.zr_answers.proofs.Lists.{all_at, from_map, count_all}
 

@@ -1,6 +1,6 @@
 -- What follows for the one broker, without any tree: each reply that a client was sent was said to a query of its own (`no_other_reply`), and under each number
--- it was sent no more finals than it asked queries (`no_other_final`).
-use Rattle.std.proofs.Common.{◌≡◌, ◌≤◌, ◌<◌, ℕ, ◌+◌, ◌==◌, nat_lt, Bool, true, false, cond, List, [], ◌∷◌, ◌++◌, filter, Option, Some, None, is_some, refl, sym, ap, ◌∙◌, subst, arith}
+-- it was sent one request at a time (`one_at_a_time`) and no more finals than it asked queries (`no_other_final`).
+use Rattle.std.proofs.Common.{◌≡◌, ◌≤◌, ◌<◌, ℕ, ◌+◌, ◌==◌, nat_lt, Bool, true, false, cond, List, [], ◌∷◌, ◌++◌, filter, map, length, suc, Option, Some, None, is_some, refl, sym, ap, ◌∙◌, subst, arith}
 use Rattle.std.specs.Prelude.{◌&&◌, ◌||◌}
 use Rattle.std.specs.List.{AllByRecursion, list_any, list_all, count_by, slice_get}
 use Rattle.std.proofs.lemmas.Bool.{false≢true, and_parts, and_from, eq-eqb}
@@ -17,8 +17,8 @@ use Rattle.zr_network.specs.Moments.{Numbered, Moment, ascends, reached}
 use Rattle.zr_guarantee.specs.Phase.{stays, is_phase}
 use Rattle.zr_guarantee.specs.Names.{brings_router, is_router}
 use Rattle.zr_guarantee.specs.Item.{Reply}
-use Rattle.zr_guarantee.specs.Queries.{Asked, asked_in, queries, is_under, times_asked, Saying, saying_in, sayings, query_of, is_own_query, may_come, is_end}
-use Rattle.zr_guarantee.specs.Sent.{told_to, requests_to, replies_in, finals_in}
+use Rattle.zr_guarantee.specs.Queries.{Asked, asked_in, queries, is_under, times_asked, Saying, saying_in, sayings, query_of, is_own_query, may_come, is_end, times_ended}
+use Rattle.zr_guarantee.specs.Sent.{Told, told_to, is_request, requests_to, replies_in, finals_in}
 use Rattle.zr_answers.specs.Answers.{IsAnswer}
 use Rattle.zr_answers.proofs.Turns.{turned_all}
 use Rattle.zr_answers.proofs.Lists.{get_in}
@@ -127,6 +127,23 @@ module _ (before phase : List Numbered) (mark : ℕ) (m : Moment) (later : ascen
         by (Some s) found = most (finals_in number (told_to m.report receiver)) (times_asked (before ++ phase) receiver number) (cond (has_number s.queries number) 1 0)
             ((holds.stands.books receiver s number found).open_.count ∙ length-filter (λ q. is_under receiver number q) (queries acts)
             ∙ ap (count_by (λ q. is_under receiver number q)) (sym queries_without))
+
+    -- who keeps a request under a number has ended all before it
+    pub one_at_a_time : (number : ℕ) → length (requests_to m.report receiver number) ≤ suc (times_ended (before ++ phase) receiver number)
+    one_at_a_time number = by (client_of m.world.clients receiver) refl
+      where
+        most : (a b : ℕ) (keeps : Bool) → a ≡ b + cond keeps 1 0 → a ≤ suc b
+        most a b true e = omega arith
+        most a b false e = omega arith
+
+        by : (o : Option ClientState) → client_of m.world.clients receiver ≡ o → length (requests_to m.report receiver number) ≤ suc (times_ended (before ++ phase) receiver number)
+        by None none = subst (λ ts. length (map (λ (t : Told). t.tag) (filter (λ (t : Told). is_request number t.msg) ts)) ≤ suc (times_ended (before ++ phase) receiver number)) (sym (untold none))
+            (least (suc (times_ended (before ++ phase) receiver number)))
+          where
+            least : (k : ℕ) → 0 ≤ k
+            least k = omega arith
+        by (Some s) found = most (length (requests_to m.report receiver number)) (times_ended (before ++ phase) receiver number) (has_number s.requests number)
+            ((holds.stands.books receiver s number found).kept.count ∙ ap (λ ss. count_by (λ z. is_end receiver number z) ss + cond (has_number s.requests number) 1 0) (sym sayings_without))
 
     -- a query under a number of the receiver is its own
     own_query : (number turns : ℕ) (q : Asked) → slice_get (filter (λ z. is_under receiver number z) (queries acts)) turns ≡ Some q → is_own_query acts receiver number (Some q.line) ≡ true

@@ -27,9 +27,9 @@ use Rattle.zr_numbers.specs.Waiting.{Asked, Place, is_whole, waits}
 use Rattle.zr_numbers.proofs.Waits.{asks_among, asks_append}
 use Rattle.zr_numbers.proofs.Whole.{LinksGo, whole_apart}
 use Rattle.zr_numbers.proofs.ActClients.{number_more, number_less, for_itself, get_deeds, reply_deeds, end_deeds, said_links, says_waits}
-use Rattle.zr_guarantee.specs.Queries.{Asked as Query, queries, is_under}
+use Rattle.zr_guarantee.specs.Queries.{Asked as Query, queries, is_under, times_ended}
 use Rattle.zr_guarantee.specs.Sent.{told_to, requests_to, finals_in}
-use Rattle.zr_answers.specs.Answers.{IsSaidTo, times_ended}
+use Rattle.zr_answers.specs.Answers.{IsSaidTo}
 use Rattle.zr_answers.proofs.Grown.{Earlier, times_ended_more, under_more, queries_more, new_reply}
 use Rattle.zr_answers.proofs.Books.{Requests, Asks, request_ended, query_asked}
 use Rattle.zr_answers.proofs.Links.{Lines, lines_on, AsksFine, FineAsk, FineSay}

@@ -23,7 +23,7 @@ use Rattle.zr_laws.proofs.Numbers.{around_mark}
 use Rattle.zr_laws.proofs.Start.{Marked}
 use Rattle.zr_laws.proofs.Final.{TablesAreSettled, marked, phases_deliver}
 use Rattle.zr_answers.proofs.Every.{Holds, stands_at}
-use Rattle.zr_answers.proofs.OwnReplies.{no_other_reply, no_other_final}
+use Rattle.zr_answers.proofs.OwnReplies.{no_other_reply, one_at_a_time, no_other_final}
 use Rattle.zr_answers.proofs.StandPhase.{begins, stands_at_end}
 use Rattle.zr_answers.proofs.Answered.{answered}
 use Rattle.zr_answers.proofs.SameActs.{answered_same}
@@ -77,6 +77,7 @@ module _ (agree : TablesAreSettled) where
       delivers = delivers;
       answered = all_answered (onward (reached before) (mark, c.Mark)) refl (marked agree before mark around.0);
       no_other_reply = no_other_reply before phase mark m later stay is named;
+      one_at_a_time = λ receiver number other. one_at_a_time before phase mark m later stay is named receiver other number;
       no_other_final = λ receiver number other. no_other_final before phase mark m later stay is named receiver other number;
     }
 

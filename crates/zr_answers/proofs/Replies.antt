@@ -16,9 +16,8 @@ use Rattle.zr_declared.proofs.Elements.{all_of}
 use Rattle.zr_network.specs.Moments.{Numbered, is_step}
 use Rattle.zr_network.proofs.Names.{same_name}
 use Rattle.zr_guarantee.specs.Item.{Reply}
-use Rattle.zr_guarantee.specs.Queries.{Asked, Saying, sayings, is_end, query_of, is_said_to, reply_of, replies, has_ended}
+use Rattle.zr_guarantee.specs.Queries.{Asked, Saying, sayings, is_end, query_of, is_said_to, reply_of, replies, has_ended, times_ended}
 use Rattle.zr_guarantee.specs.Sent.{requests_to}
-use Rattle.zr_answers.specs.Answers.{times_ended}
 use Rattle.zr_answers.proofs.Grown.{Earlier, sayings_lines, ends_below, sayings_more, ended_before_more}
 
 -- ---- by other acts and another report

@@ -16,14 +16,13 @@ use Rattle.zr_network.specs.Moments.{Numbered, Moment, went}
 use Rattle.zr_network.proofs.Names.{names, value_after}
 use Rattle.zr_network.proofs.Cases.{on_said, for_reply, for_end}
 use Rattle.zr_guarantee.specs.Item.{Reply}
-use Rattle.zr_guarantee.specs.Queries.{Asked, queries, replies, has_ended}
+use Rattle.zr_guarantee.specs.Queries.{Asked, queries, replies, has_ended, times_ended}
 use Rattle.zr_guarantee.specs.Sent.{requests_to}
 use Rattle.zr_asking.specs.Link.{hop_replied, hop_ended}
 use Rattle.zr_asking.specs.Query.{Tree, Here as At, Say, End, after}
 use Rattle.zr_numbers.specs.Waiting.{Said, is_whole}
 use Rattle.zr_numbers.proofs.Numbers.{AllGo}
 use Rattle.zr_numbers.proofs.ActClients.{reply_deeds, end_deeds}
-use Rattle.zr_answers.specs.Answers.{times_ended}
 use Rattle.zr_answers.specs.Trees.{has_router, tree_at}
 use Rattle.zr_answers.specs.Stands.{IsStill, request_to, is_said_by, said_in, Stands}
 use Rattle.zr_answers.proofs.Grown.{Earlier, queries_more}

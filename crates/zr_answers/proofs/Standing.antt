@@ -15,9 +15,9 @@ use Rattle.zr_numbers.specs.Waiting.{is_kept_by, back_at, is_whole}
 use Rattle.zr_numbers.proofs.Waits.{client_keeps, client_back}
 use Rattle.zr_numbers.proofs.Whole.{LinksGo, client_alone}
 use Rattle.zr_numbers.proofs.ActClients.{for_itself}
-use Rattle.zr_guarantee.specs.Queries.{queries, is_under}
+use Rattle.zr_guarantee.specs.Queries.{queries, is_under, times_ended}
 use Rattle.zr_guarantee.specs.Sent.{Told, told_to, is_request, requests_to, finals_in, is_final}
-use Rattle.zr_answers.specs.Answers.{times_ended, IsAnswer}
+use Rattle.zr_answers.specs.Answers.{IsAnswer}
 use Rattle.zr_answers.proofs.Turns.{Turned, turned_each}
 use Rattle.zr_answers.proofs.Grown.{Earlier, times_ended_more, under_more, asked_kept, told_more, requests_more, said_kept, answer_kept}
 use Rattle.zr_answers.proofs.Books.{Requests, Asks, requests_same, asks_same}

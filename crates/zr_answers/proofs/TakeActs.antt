@@ -29,9 +29,9 @@ use Rattle.zr_numbers.proofs.Whole.{LinksGo, links_stay, whole_turned}
 use Rattle.zr_numbers.proofs.ActTakes.{take_links}
 use Rattle.zr_numbers.proofs.ActClients.{number_more, number_less, for_itself, receives, taken_links, taken_first}
 use Rattle.zr_guarantee.specs.Item.{Reply}
-use Rattle.zr_guarantee.specs.Queries.{Asked as Query, queries, is_under}
+use Rattle.zr_guarantee.specs.Queries.{Asked as Query, queries, is_under, times_ended}
 use Rattle.zr_guarantee.specs.Sent.{Told, told_to, is_request, requests_to, reply_in, is_final, finals_in}
-use Rattle.zr_answers.specs.Answers.{IsSaidTo, times_ended, query_at, IsAnswer}
+use Rattle.zr_answers.specs.Answers.{IsSaidTo, query_at, IsAnswer}
 use Rattle.zr_answers.proofs.Turns.{Says, Turned, turned_more}
 use Rattle.zr_answers.proofs.Grown.{Earlier, times_ended_more, under_more, told_more, requests_more, said_kept, query_at_kept}
 use Rattle.zr_answers.proofs.Books.{Requests, Asks, request_sent, final_sent}

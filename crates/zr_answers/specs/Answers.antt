@@ -8,7 +8,7 @@ use Rattle.zr_network.specs.World.{ClientState, client_of}
 use Rattle.zr_network.specs.Acts.{has_number}
 use Rattle.zr_network.specs.Moments.{Numbered, Moment, ascends, reached}
 use Rattle.zr_guarantee.specs.Item.{Reply}
-use Rattle.zr_guarantee.specs.Queries.{Asked, queries, Saying, sayings, is_end, query_of, is_under, times_asked}
+use Rattle.zr_guarantee.specs.Queries.{Asked, queries, Saying, sayings, query_of, is_under, times_asked, times_ended}
 use Rattle.zr_guarantee.specs.Sent.{Told, told_to, requests_to, replies_in, finals_in, is_final, behind_finals}
 use Rattle.zr_asking.specs.Link.{Hop, Free, Asked as AskedHop, Open}
 use Rattle.zr_numbers.specs.Waiting as waiting
@@ -41,10 +41,6 @@ pub record IsSaidTo (acts : List Numbered) (report : List ReportLine) (line : �
   pub line_is : saying.line ≡ said.line
   pub reply_is : saying.reply ≡ Some said.content
   pub query : query_of acts report saying ≡ Some line
-
--- how often a client has ended a request under a number
-abbrev pub times_ended : List Numbered → List ℕ → ℕ → ℕ
-times_ended acts client number = count_by (λ s. is_end client number s) (sayings acts)
 
 -- the messages behind the first so many finals of a number, up to the next one; replies of other numbers stand among them
 abbrev pub up_to_final : ℕ → List Told → List Told

@@ -105,6 +105,10 @@ sayings acts = filter_map (λ x. saying_in x.0 x.1) acts
 abbrev pub is_end : List ℕ → ℕ → Saying → Bool
 is_end client number s = is_named client s.client && (s.number == number && is_none s.reply)
 
+-- how often a client has ended a request under a number
+abbrev pub times_ended : List Numbered → List ℕ → ℕ → ℕ
+times_ended acts client number = count_by (λ s. is_end client number s) (sayings acts)
+
 -- how many requests a client had ended under a number before a line
 abbrev pub ended_before : List Numbered → List ℕ → ℕ → ℕ → ℕ
 ended_before acts client number line = count_by (λ s. is_end client number s && nat_lt s.line line) (sayings acts)

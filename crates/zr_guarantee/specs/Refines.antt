@@ -1,5 +1,5 @@
 -- The network refines one broker: from each accepted mark on, at each moment of its phase.
-use Rattle.std.specs.Prelude.{◌≡◌, ℕ, ◌≤◌, ◌==◌, ◌||◌, nat_lt, nat_le, Bool, true, false, List, [], ◌∷◌, ◌++◌, filter, Some}
+use Rattle.std.specs.Prelude.{◌≡◌, ℕ, ◌≤◌, suc, length, ◌==◌, ◌||◌, nat_lt, nat_le, Bool, true, false, List, [], ◌∷◌, ◌++◌, filter, Some}
 use Rattle.std.specs.List.{list_any, list_all, AllByRecursion}
 use Rattle.zr_command.specs.declared.command.Act.TheVariants.{Mark}
 use Rattle.zr_command.specs.declared.report.ReportLine.{ReportLine}
@@ -10,8 +10,8 @@ use Rattle.zr_guarantee.specs.Phase.{is_phase}
 use Rattle.zr_guarantee.specs.Names.{is_router}
 use Rattle.zr_guarantee.specs.Item.{Item, Reply}
 use Rattle.zr_guarantee.specs.Broker.{is_line_of, is_line, from}
-use Rattle.zr_guarantee.specs.Queries.{Asked, queries, times_asked, turn, replies, is_finished, may_come}
-use Rattle.zr_guarantee.specs.Sent.{Told, told_to, sent_to, replies_in, finals_in, behind_finals}
+use Rattle.zr_guarantee.specs.Queries.{Asked, queries, times_asked, times_ended, turn, replies, is_finished, may_come}
+use Rattle.zr_guarantee.specs.Sent.{Told, told_to, requests_to, sent_to, replies_in, finals_in, behind_finals}
 
 -- ---- samples and requests
 
@@ -74,6 +74,9 @@ pub record Refines (before : List Numbered) (mark : ℕ) (phase : List Numbered)
   -- each reply was said by a client, to a query that its receiver has asked under that number
   pub no_other_reply : (receiver : List ℕ) → is_router before receiver ≡ false →
       list_all (λ r. may_come (before ++ phase) m.report receiver r) (replies_in (told_to m.report receiver)) ≡ true
+  -- under each number a client is sent the next request only once it has ended the one before
+  pub one_at_a_time : (receiver : List ℕ) (number : ℕ) → is_router before receiver ≡ false →
+      length (requests_to m.report receiver number) ≤ suc (times_ended (before ++ phase) receiver number)
   -- and under each number there are no more finals than queries
   pub no_other_final : (receiver : List ℕ) (number : ℕ) → is_router before receiver ≡ false →
       finals_in number (told_to m.report receiver) ≤ times_asked (before ++ phase) receiver number

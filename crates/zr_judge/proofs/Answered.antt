@@ -1,9 +1,10 @@
 -- The judgement of replies and finals is right: it looks at all that say anything and at all that were sent anything, and for all other names there is
 -- nothing to have and nothing was sent.
-use Rattle.std.proofs.Common.{◌≡◌, ℕ, Bool, true, false, cond, List, [], ◌∷◌, ◌++◌, refl, sym, ap, ◌∙◌, subst, inl, inr, arith}
-use Rattle.std.specs.Prelude.{◌==◌, ◌&&◌, ◌||◌, ◌⊎◌, ◌≤◌, ◌+◌, not, nat_le, filter, Option, Some, None}
-use Rattle.std.specs.List.{list_any, list_all, filter_map, cons_option, fold, starts_with, AllByRecursion}
+use Rattle.std.proofs.Common.{◌≡◌, ℕ, suc, Bool, true, false, cond, List, [], ◌∷◌, ◌++◌, length, map, refl, sym, ap, ◌∙◌, subst, inl, inr, arith}
+use Rattle.std.specs.Prelude.{◌==◌, ◌&&◌, ◌||◌, ◌⊎◌, ◌≤◌, not, nat_le, filter, Option, Some, None}
+use Rattle.std.specs.List.{list_any, list_all, filter_map, cons_option, starts_with, AllByRecursion}
 use Rattle.std.proofs.lemmas.Bool.{false≢true, and_parts, and_from, or_parts, or_left, or_right, or_cases, eqb-true, leb-true, le-leb}
+use Rattle.std.proofs.lemmas.List.Sums.{length-filter}
 use Rattle.zr_id.specs.Zid.{is_named}
 use Rattle.zr_msg.specs.declared.content.Parts.{Parts}
 use Rattle.zr_msg.specs.declared.msg.Msg.{Msg}
@@ -16,11 +17,11 @@ use Rattle.zr_network.specs.World.{WorldState, is_quiet}
 use Rattle.zr_network.specs.Moments.{Numbered, Moment}
 use Rattle.zr_guarantee.specs.Item.{Reply}
 use Rattle.zr_guarantee.specs.Names.{is_router}
-use Rattle.zr_guarantee.specs.Queries.{Asked, Saying, sayings, times_asked, turn, replies, reply_of, is_said_to, may_come}
-use Rattle.zr_guarantee.specs.Sent.{Told, told_in, told_to, replies_in, is_final, finals_in, behind_finals}
+use Rattle.zr_guarantee.specs.Queries.{Asked, Saying, sayings, times_asked, times_ended, turn, replies, reply_of, is_said_to, may_come}
+use Rattle.zr_guarantee.specs.Sent.{Told, told_in, told_to, is_request, requests_to, replies_in, is_final, finals_in, behind_finals}
 use Rattle.zr_guarantee.specs.Refines.{IsAnswered, sent_of_query}
 use Rattle.zr_judge.specs.Same.{is_same_reply}
-use Rattle.zr_judge.specs.Judge.{Judged, acts_of, replies_due, replies_sent, replies_behind, is_final_sent, have_ended, is_none_left, replier_holds, query_holds, replies_hold, finals_hold, answers_hold}
+use Rattle.zr_judge.specs.Judge.{Judged, acts_of, replies_due, replies_sent, replies_behind, is_final_sent, have_ended, is_none_left, replier_holds, query_holds, replies_hold, requests_hold, finals_hold, answers_hold}
 use Rattle.zr_judge.specs.Equal.{one_reply}
 use Rattle.zr_judge.proofs.Begins.{prefix_means, prefix_holds, same_holds, both_prefixes}
 use Rattle.zr_judge.proofs.Delivered.{all_true, none_pass, tells_of, none_told}
@@ -209,7 +210,11 @@ module _ (j : Judged) where
     queries_complete [] h = refl
     queries_complete (q ∷ qs) h = and_from (query_holds j q) (list_all (λ z. query_holds j z) qs) (query_complete q h.0) (queries_complete qs h.1)
 
-  -- ---- no other replies and finals
+  -- ---- no other replies and finals, and requests one at a time
+
+  -- of a message that its client was sent: requests and finals of its number are no more than they may be
+  abbrev in_number : List ℕ → Msg → Bool
+  in_number d msg = requests_hold j d msg && finals_hold j d msg
 
   -- who was sent something has a line that tells of it
   replies_found : (report : List ReportLine) (d : List ℕ) → is_router j.before d ≡ false → list_any (tells_of d) report ≡ true →
@@ -223,10 +228,10 @@ module _ (j : Judged) where
       by : (line : ReportLine) → answers_hold j line ≡ true → (list_any (tells_of d) xs ≡ true → replies_hold j d ≡ true) →
           (tells_of d line ≡ true) ⊎ (list_any (tells_of d) xs ≡ true) → replies_hold j d ≡ true
       by (r.Taken router to msg tag) here ih (inl e) =
-          subst (λ (name : List ℕ). replies_hold j name ≡ true) (sym (same_name d to e)) (and_parts (replies_hold j to) (finals_hold j to msg) (own here)).0
+          subst (λ (name : List ℕ). replies_hold j name ≡ true) (sym (same_name d to e)) (and_parts (replies_hold j to) (in_number to msg) (own here)).0
         where
-          own : (is_router j.before to || (replies_hold j to && finals_hold j to msg)) ≡ true → (replies_hold j to && finals_hold j to msg) ≡ true
-          own k = ap (λ b. b || (replies_hold j to && finals_hold j to msg)) (sym (ap (is_router j.before) (sym (same_name d to e)) ∙ other)) ∙ k
+          own : (is_router j.before to || (replies_hold j to && in_number to msg)) ≡ true → (replies_hold j to && in_number to msg) ≡ true
+          own k = ap (λ b. b || (replies_hold j to && in_number to msg)) (sym (ap (is_router j.before) (sym (same_name d to e)) ∙ other)) ∙ k
       by (r.Handled router name msg tag) here ih (inl e) = absurd (false≢true e)
       by (r.Ran steps quiet) here ih (inl e) = absurd (false≢true e)
       by (r.Mark n) here ih (inl e) = absurd (false≢true e)
@@ -236,11 +241,34 @@ module _ (j : Judged) where
       by (r.Source source number decls) here ih (inl e) = absurd (false≢true e)
       by line here ih (inr e) = ih e
 
-  -- no more finals of a number than queries came
+  -- no more requests of a number came than were ended and one, and no more finals than queries
+  abbrev few_requests : List ℕ → ℕ → Bool
+  few_requests d number = nat_le (length (requests_to j.report d number)) (suc (times_ended (acts_of j) d number))
+
   abbrev few_finals : List ℕ → ℕ → Bool
   few_finals d number = nat_le (finals_in number (told_to j.report d)) (times_asked (acts_of j) d number)
 
-  -- a final has a line that tells of it
+  -- a request and a final have a line that tells of it
+  request_here : (d : List ℕ) (number : ℕ) (msg : Msg) → is_request number msg ≡ true → requests_hold j d msg ≡ true → few_requests d number ≡ true
+  request_here d number (m.Request tree id target content) e h = subst (λ (n : ℕ). few_requests d n ≡ true) (eqb-true id number e) h
+  request_here d number (m.Sub id key) e h = absurd (false≢true e)
+  request_here d number (m.Unsub id) e h = absurd (false≢true e)
+  request_here d number (m.Able id key complete) e h = absurd (false≢true e)
+  request_here d number (m.Unable id) e h = absurd (false≢true e)
+  request_here d number (m.Interest id current future kinds key aggregate) e h = absurd (false≢true e)
+  request_here d number (m.EndInterest id) e h = absurd (false≢true e)
+  request_here d number (m.ToldSub id key interest) e h = absurd (false≢true e)
+  request_here d number (m.ToldAble id key complete interest) e h = absurd (false≢true e)
+  request_here d number (m.ToldUnsub id) e h = absurd (false≢true e)
+  request_here d number (m.ToldUnable id) e h = absurd (false≢true e)
+  request_here d number (m.ToldEnd interest) e h = absurd (false≢true e)
+  request_here d number (m.Push tree content) e h = absurd (false≢true e)
+  request_here d number (m.Response id content) e h = absurd (false≢true e)
+  request_here d number (m.Final id extras) e h = absurd (false≢true e)
+  request_here d number (m.State links) e h = absurd (false≢true e)
+  request_here d number (m.Step source n added decl) e h = absurd (false≢true e)
+  request_here d number (m.Snap source n decls) e h = absurd (false≢true e)
+
   final_here : (d : List ℕ) (number : ℕ) (msg : Msg) → is_final number msg ≡ true → finals_hold j d msg ≡ true → few_finals d number ≡ true
   final_here d number (m.Final id extras) e h = subst (λ (n : ℕ). few_finals d n ≡ true) (eqb-true id number e) h
   final_here d number (m.Sub id key) e h = absurd (false≢true e)
@@ -261,39 +289,43 @@ module _ (j : Judged) where
   final_here d number (m.Step source n added decl) e h = absurd (false≢true e)
   final_here d number (m.Snap source n decls) e h = absurd (false≢true e)
 
-  finals_found : (report : List ReportLine) (d : List ℕ) (number : ℕ) → is_router j.before d ≡ false → list_all (λ x. answers_hold j x) report ≡ true →
-      (finals_in number (told_to report d) ≡ 0) ⊎ (few_finals d number ≡ true)
-  finals_found [] d number other k = inl refl
-  finals_found (x ∷ xs) d number other k =
-      let parts = and_parts (answers_hold j x) (list_all (λ y. answers_hold j y) xs) k in
-      by x parts.0 (finals_found xs d number other parts.1)
-    where
-      by : (line : ReportLine) → answers_hold j line ≡ true → (finals_in number (told_to xs d) ≡ 0) ⊎ (few_finals d number ≡ true) →
-          (finals_in number (cons_option (told_in d line) (told_to xs d)) ≡ 0) ⊎ (few_finals d number ≡ true)
-      by line here (inr few) = inr few
-      by (r.Taken router to msg tag) here (inl none) = at (is_named d to) refl (is_final number msg) refl
-        where
-          at : (b : Bool) → is_named d to ≡ b → (f : Bool) → is_final number msg ≡ f →
-              (finals_in number (cons_option (cond b (Some (record { msg = msg; tag = tag })) None) (told_to xs d)) ≡ 0) ⊎ (few_finals d number ≡ true)
-          at false e f ef = inl none
-          at true e false ef = inl (ap (λ f. fold (λ a x. a + cond (is_final number x.msg) 1 0) (0 + cond f 1 0) (told_to xs d)) ef ∙ none)
-          at true e true ef = inr (final_here d number msg ef (and_parts (replies_hold j d) (finals_hold j d msg) own).1)
-            where
-              own : (replies_hold j d && finals_hold j d msg) ≡ true
-              own = ap (λ b. b || (replies_hold j d && finals_hold j d msg)) (sym other)
-                  ∙ subst (λ (name : List ℕ). (is_router j.before name || (replies_hold j name && finals_hold j name msg)) ≡ true) (sym (same_name d to e)) here
-      by (r.Handled router name msg tag) here (inl none) = inl none
-      by (r.Ran steps quiet) here (inl none) = inl none
-      by (r.Mark n) here (inl none) = inl none
-      by (r.Show router) here (inl none) = inl none
-      by (r.Record links) here (inl none) = inl none
-      by (r.Parent root parent) here (inl none) = inl none
-      by (r.Source source n decls) here (inl none) = inl none
+  -- of the messages of a kind that a client was sent there are none, or what the line of one of them shows is true
+  module _ (d : List ℕ) (other : is_router j.before d ≡ false) (of_kind : Msg → Bool) (shown : Bool) (shows : (msg : Msg) → of_kind msg ≡ true → in_number d msg ≡ true → shown ≡ true) where
+    kind_found : (report : List ReportLine) → list_all (λ x. answers_hold j x) report ≡ true → (filter (λ x. of_kind x.msg) (told_to report d) ≡ []) ⊎ (shown ≡ true)
+    kind_found [] k = inl refl
+    kind_found (x ∷ xs) k =
+        let parts = and_parts (answers_hold j x) (list_all (λ y. answers_hold j y) xs) k in
+        by x parts.0 (kind_found xs parts.1)
+      where
+        by : (line : ReportLine) → answers_hold j line ≡ true → (filter (λ x. of_kind x.msg) (told_to xs d) ≡ []) ⊎ (shown ≡ true) →
+            (filter (λ x. of_kind x.msg) (cons_option (told_in d line) (told_to xs d)) ≡ []) ⊎ (shown ≡ true)
+        by line here (inr so) = inr so
+        by (r.Taken router to msg tag) here (inl none) = at (is_named d to) refl (of_kind msg) refl
+          where
+            at : (b : Bool) → is_named d to ≡ b → (f : Bool) → of_kind msg ≡ f →
+                (filter (λ x. of_kind x.msg) (cons_option (cond b (Some (record { msg = msg; tag = tag })) None) (told_to xs d)) ≡ []) ⊎ (shown ≡ true)
+            at false e f ef = inl none
+            at true e false ef = inl (rw ef none)
+            at true e true ef = inr (shows msg ef (and_parts (replies_hold j d) (in_number d msg) own).1)
+              where
+                own : (replies_hold j d && in_number d msg) ≡ true
+                own = ap (λ b. b || (replies_hold j d && in_number d msg)) (sym other)
+                    ∙ subst (λ (name : List ℕ). (is_router j.before name || (replies_hold j name && in_number name msg)) ≡ true) (sym (same_name d to e)) here
+        by (r.Handled router name msg tag) here (inl none) = inl none
+        by (r.Ran steps quiet) here (inl none) = inl none
+        by (r.Mark n) here (inl none) = inl none
+        by (r.Show router) here (inl none) = inl none
+        by (r.Record links) here (inl none) = inl none
+        by (r.Parent root parent) here (inl none) = inl none
+        by (r.Source source n decls) here (inl none) = inl none
 
   -- ---- what is said of receivers
 
   abbrev MayCome : Type 0
   MayCome = (d : List ℕ) → is_router j.before d ≡ false → list_all (λ x. may_come (acts_of j) j.report d x) (replies_in (told_to j.report d)) ≡ true
+
+  abbrev FewRequests : Type 0
+  FewRequests = (d : List ℕ) (number : ℕ) → is_router j.before d ≡ false → length (requests_to j.report d number) ≤ suc (times_ended (acts_of j) d number)
 
   abbrev FewFinals : Type 0
   FewFinals = (d : List ℕ) (number : ℕ) → is_router j.before d ≡ false → finals_in number (told_to j.report d) ≤ times_asked (acts_of j) d number
@@ -305,16 +337,35 @@ module _ (j : Judged) where
       by true e = replies_found j.report d other e h
       by false e = ap (λ told. list_all (λ x. may_come (acts_of j) j.report d x) (replies_in told)) (none_told j.report d e)
 
-  pub finals_sound : list_all (λ x. answers_hold j x) j.report ≡ true → FewFinals
-  finals_sound h d number other = by (finals_found j.report d number other h)
+  pub requests_sound : list_all (λ x. answers_hold j x) j.report ≡ true → FewRequests
+  requests_sound h d number other = by (kind_found d other (is_request number) (few_requests d number) shows j.report h)
     where
-      by : (finals_in number (told_to j.report d) ≡ 0) ⊎ (few_finals d number ≡ true) → finals_in number (told_to j.report d) ≤ times_asked (acts_of j) d number
-      by (inl none) = omega (arith, none)
+      shows : (msg : Msg) → is_request number msg ≡ true → in_number d msg ≡ true → few_requests d number ≡ true
+      shows msg e k = request_here d number msg e (and_parts (requests_hold j d msg) (finals_hold j d msg) k).0
+
+      by : (filter (λ x. is_request number x.msg) (told_to j.report d) ≡ []) ⊎ (few_requests d number ≡ true) →
+          length (requests_to j.report d number) ≤ suc (times_ended (acts_of j) d number)
+      by (inl none) = let no : length (requests_to j.report d number) ≡ 0 = ap (λ xs. length (map (λ x. x.tag) xs)) none in omega (arith, no)
+      by (inr few) = leb-true (length (requests_to j.report d number)) (suc (times_ended (acts_of j) d number)) few
+
+  pub finals_sound : list_all (λ x. answers_hold j x) j.report ≡ true → FewFinals
+  finals_sound h d number other = by (kind_found d other (is_final number) (few_finals d number) shows j.report h)
+    where
+      shows : (msg : Msg) → is_final number msg ≡ true → in_number d msg ≡ true → few_finals d number ≡ true
+      shows msg e k = final_here d number msg e (and_parts (requests_hold j d msg) (finals_hold j d msg) k).1
+
+      by : (filter (λ x. is_final number x.msg) (told_to j.report d) ≡ []) ⊎ (few_finals d number ≡ true) → finals_in number (told_to j.report d) ≤ times_asked (acts_of j) d number
+      by (inl none) =
+          let no : finals_in number (told_to j.report d) ≡ 0 = sym (length-filter (λ x. is_final number x.msg) (told_to j.report d)) ∙ ap length none in omega (arith, no)
       by (inr few) = leb-true (finals_in number (told_to j.report d)) (times_asked (acts_of j) d number) few
 
-  pub answers_complete : MayCome → FewFinals → list_all (λ x. answers_hold j x) j.report ≡ true
-  answers_complete may few = all_true (λ x. answers_hold j x) line j.report
+  pub answers_complete : MayCome → FewRequests → FewFinals → list_all (λ x. answers_hold j x) j.report ≡ true
+  answers_complete may one_by_one few = all_true (λ x. answers_hold j x) line j.report
     where
+      request : (d : List ℕ) → is_router j.before d ≡ false → (msg : Msg) → requests_hold j d msg ≡ true
+      request d other (m.Request tree id target content) = le-leb (length (requests_to j.report d id)) (suc (times_ended (acts_of j) d id)) (one_by_one d id other)
+      request d other msg = refl
+
       final : (d : List ℕ) → is_router j.before d ≡ false → (msg : Msg) → finals_hold j d msg ≡ true
       final d other (m.Final id extras) = le-leb (finals_in id (told_to j.report d)) (times_asked (acts_of j) d id) (few d id other)
       final d other msg = refl
@@ -322,9 +373,9 @@ module _ (j : Judged) where
       line : (x : ReportLine) → answers_hold j x ≡ true
       line (r.Taken router to msg tag) = by (is_router j.before to) refl
         where
-          by : (b : Bool) → is_router j.before to ≡ b → (b || (replies_hold j to && finals_hold j to msg)) ≡ true
+          by : (b : Bool) → is_router j.before to ≡ b → (b || (replies_hold j to && in_number to msg)) ≡ true
           by true e = refl
-          by false e = and_from (replies_hold j to) (finals_hold j to msg) (may to e) (final to e msg)
+          by false e = and_from (replies_hold j to) (in_number to msg) (may to e) (and_from (requests_hold j to msg) (finals_hold j to msg) (request to e msg) (final to e msg))
       line (r.Handled router name msg tag) = refl
       line (r.Ran steps quiet) = refl
       line (r.Mark n) = refl

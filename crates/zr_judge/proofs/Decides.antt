@@ -8,7 +8,7 @@ use Rattle.zr_guarantee.specs.Queries.{queries}
 use Rattle.zr_guarantee.specs.Refines.{Refines}
 use Rattle.zr_judge.specs.Judge.{Judged, Judges, query_holds, answers_hold, is_delivered, is_answered, judgement}
 use Rattle.zr_judge.proofs.Delivered.{delivered}
-use Rattle.zr_judge.proofs.Answered.{queries_sound, queries_complete, replies_sound, finals_sound, answers_complete}
+use Rattle.zr_judge.proofs.Answered.{queries_sound, queries_complete, replies_sound, requests_sound, finals_sound, answers_complete}
 
 module _ (j : Judged) (w : WorldState) (quiet_is : is_quiet w ≡ j.quiet) where
   sound : judgement j ≡ true → Refines j.before j.mark j.phase (record { world = w; report = j.report })
@@ -19,6 +19,7 @@ module _ (j : Judged) (w : WorldState) (quiet_is : is_quiet w ≡ j.quiet) where
         delivers = (delivered j w quiet_is).0 parts.0;
         answered = queries_sound j w quiet_is (queries j.phase) answers.0;
         no_other_reply = replies_sound j answers.1;
+        one_at_a_time = requests_sound j answers.1;
         no_other_final = finals_sound j answers.1;
       }
 
@@ -26,7 +27,7 @@ module _ (j : Judged) (w : WorldState) (quiet_is : is_quiet w ≡ j.quiet) where
   complete h =
       and_from (is_delivered j) (is_answered j) ((delivered j w quiet_is).1 h.delivers)
       (and_from (list_all (λ q. query_holds j q) (queries j.phase)) (list_all (λ x. answers_hold j x) j.report)
-      (queries_complete j w quiet_is (queries j.phase) h.answered) (answers_complete j h.no_other_reply h.no_other_final))
+      (queries_complete j w quiet_is (queries j.phase) h.answered) (answers_complete j h.no_other_reply h.one_at_a_time h.no_other_final))
 
 judges : (j : Judged) → Judges (judgement j) j
 judges j w quiet_is = (sound j w quiet_is, complete j w quiet_is)

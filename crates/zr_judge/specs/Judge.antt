@@ -1,5 +1,5 @@
 -- What a judgement of a report says: whether the network has done what the one broker does.
-use Rattle.std.specs.Prelude.{◌≡◌, ℕ, ◌&&◌, ◌||◌, not, nat_lt, nat_le, Bool, true, false, List, [], ◌∷◌, ◌++◌, ◌↔◌, filter, Option, Some, None}
+use Rattle.std.specs.Prelude.{◌≡◌, ℕ, suc, ◌&&◌, ◌||◌, not, nat_lt, nat_le, Bool, true, false, List, [], ◌∷◌, ◌++◌, length, ◌↔◌, filter, Option, Some, None}
 use Rattle.std.specs.List.{list_all, starts_with}
 use Rattle.zr_msg.specs.declared.msg.Msg.{Msg}
 use Rattle.zr_msg.specs.declared.msg.Msg.TheVariants.{Sub, Unsub, Able, Unable, Interest, EndInterest, ToldSub, ToldAble, ToldUnsub, ToldUnable, ToldEnd, Push, Request, Response, Final, State, Step, Snap}
@@ -12,8 +12,8 @@ use Rattle.zr_network.specs.Moments.{Numbered}
 use Rattle.zr_guarantee.specs.Item.{Item, Carried, Reply}
 use Rattle.zr_guarantee.specs.Names.{is_router}
 use Rattle.zr_guarantee.specs.Broker.{Publication, publication, is_line_of, is_line, from}
-use Rattle.zr_guarantee.specs.Queries.{Asked, queries, sayings, times_asked, turn, replies, is_finished, may_come}
-use Rattle.zr_guarantee.specs.Sent.{carried_by, sent_to, told_to, replies_in, finals_in, behind_finals}
+use Rattle.zr_guarantee.specs.Queries.{Asked, queries, sayings, times_asked, times_ended, turn, replies, is_finished, may_come}
+use Rattle.zr_guarantee.specs.Sent.{carried_by, sent_to, told_to, requests_to, replies_in, finals_in, behind_finals}
 use Rattle.zr_guarantee.specs.Refines.{Refines, sent_of_query, has_final}
 use Rattle.zr_judge.specs.Same.{is_same, is_same_reply}
 
@@ -150,10 +150,32 @@ query_holds j q =
     list_all (λ s. replier_holds j q s.client) (sayings (acts_of j))
     && ((not (is_final_sent j q) || have_ended j q) && (not (j.quiet && have_ended j q) || is_final_sent j q))
 
--- no reply came to a client that is none of its own, and no more finals of a number than it asked queries under it
+-- no reply came to a client that is none of its own
 abbrev pub replies_hold : Judged → List ℕ → Bool
 replies_hold j receiver = list_all (λ r. may_come (acts_of j) j.report receiver r) (replies_in (told_to j.report receiver))
 
+-- if a message is a request, no more of them came under its number than its client has ended and one
+abbrev pub requests_hold : Judged → List ℕ → Msg → Bool
+requests_hold j receiver (Sub id key) = true
+requests_hold j receiver (Unsub id) = true
+requests_hold j receiver (Able id key complete) = true
+requests_hold j receiver (Unable id) = true
+requests_hold j receiver (Interest id current future kinds key aggregate) = true
+requests_hold j receiver (EndInterest id) = true
+requests_hold j receiver (ToldSub id key interest) = true
+requests_hold j receiver (ToldAble id key complete interest) = true
+requests_hold j receiver (ToldUnsub id) = true
+requests_hold j receiver (ToldUnable id) = true
+requests_hold j receiver (ToldEnd interest) = true
+requests_hold j receiver (Push tree content) = true
+requests_hold j receiver (Request tree id target content) = nat_le (length (requests_to j.report receiver id)) (suc (times_ended (acts_of j) receiver id))
+requests_hold j receiver (Response id content) = true
+requests_hold j receiver (Final id extras) = true
+requests_hold j receiver (State links) = true
+requests_hold j receiver (Step source number added decl) = true
+requests_hold j receiver (Snap source number decls) = true
+
+-- if it is a final, no more came under its number than its client asked queries
 abbrev pub finals_hold : Judged → List ℕ → Msg → Bool
 finals_hold j receiver (Sub id key) = true
 finals_hold j receiver (Unsub id) = true
@@ -177,7 +199,7 @@ finals_hold j receiver (Snap source number decls) = true
 -- so it is of who was sent something, but of what a router is sent nothing is said
 abbrev pub answers_hold : Judged → ReportLine → Bool
 answers_hold j (r.Handled router from msg tag) = true
-answers_hold j (r.Taken router to msg tag) = is_router j.before to || (replies_hold j to && finals_hold j to msg)
+answers_hold j (r.Taken router to msg tag) = is_router j.before to || (replies_hold j to && (requests_hold j to msg && finals_hold j to msg))
 answers_hold j (r.Ran steps quiet) = true
 answers_hold j (r.Mark line) = true
 answers_hold j (r.Show router) = true
@@ -189,7 +211,7 @@ answers_hold j (r.Source source number decls) = true
 abbrev pub is_delivered : Judged → Bool
 is_delivered j = list_all (λ x. holds_for_publisher j x.1) j.phase && list_all (λ x. may_be_sent j x) j.report
 
--- replies and finals do
+-- replies and finals do, and under each number requests come one at a time
 abbrev pub is_answered : Judged → Bool
 is_answered j = list_all (λ q. query_holds j q) (queries j.phase) && list_all (λ x. answers_hold j x) j.report
 

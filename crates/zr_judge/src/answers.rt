@@ -1,21 +1,23 @@
-//! The judgement of replies and finals.
+//! The judgement of replies and finals, and of requests under a number.
 
 ghost use Rattle.std.specs.Prelude.{◌≡◌, ◌==◌, ◌&&◌, ◌||◌, not, IfOk, filter};
 ghost use Rattle.std.specs.List.{list_all, list_any, starts_with};
 ghost use Rattle.zr_guarantee.specs.Queries.{sayings, turn};
 ghost use Rattle.zr_guarantee.specs.Sent.{behind_finals, replies_in, told_to};
 ghost use Rattle.zr_judge.specs.Same.{is_same_reply};
-ghost use Rattle.zr_judge.specs.Judge.{acts_of, answers_hold, finals_hold, is_answered, is_final_sent, is_none_left, query_holds, replier_holds, replies_hold};
+ghost use Rattle.zr_judge.specs.Judge.{acts_of, answers_hold, finals_hold, is_answered, is_final_sent, is_none_left, query_holds, replier_holds, replies_hold, requests_hold};
 
 use crate::judge::is_router;
-use crate::queries::{Asked, Talk, add_queries, is_finished, may_come, replies, times_asked, turn};
-use crate::sent::{Reply, Told, behind_finals, finals_in, replies_in, told_to};
+use crate::queries::{
+    Asked, Talk, add_queries, is_finished, may_come, replies, times_asked, times_ended, turn,
+};
+use crate::sent::{Reply, Told, behind_finals, finals_in, replies_in, requests_to, told_to};
 use std::alloc::{AllocError, Global};
 use zr_command::report::ReportLine;
 use zr_id::zid::Zid;
 use zr_msg::msg::Msg;
 
-/// Whether replies and finals come as one broker sends them.
+/// Whether replies and finals come as one broker sends them, and requests one at a time under each number.
 pub fn is_answered(alloc: Global, talk: &Talk<'_>) -> Result<bool, AllocError>
     ensures { IfOk result (λ answer. answer ≡ is_answered talk.now) }
 {
@@ -37,7 +39,7 @@ fn queries_hold(alloc: Global, talk: &Talk<'_>, asked: &[Asked<'_>]) -> Result<b
     Ok(true)
 }
 
-// Whether no reply and no final came to a client that is none of its own, by these lines of the report.
+// Whether no reply and no final came to a client that is none of its own, and no request before its turn, by these lines of the report.
 fn all_answers_hold(
     alloc: Global,
     talk: &Talk<'_>,
@@ -183,7 +185,11 @@ fn answers_hold(alloc: Global, talk: &Talk<'_>, line: &ReportLine) -> Result<boo
     if is_router(talk.before, to) {
         return Ok(true);
     }
-    Ok(replies_hold(alloc, talk, to)? && finals_hold(alloc, talk, to, msg)?)
+    Ok(
+        replies_hold(alloc, talk, to)?
+            && requests_hold(alloc, talk, to, msg)?
+            && finals_hold(alloc, talk, to, msg)?,
+    )
 }
 
 // No reply came to a client that is none of its own.
@@ -198,6 +204,22 @@ fn replies_hold(alloc: Global, talk: &Talk<'_>, receiver: &Zid) -> Result<bool, 
         }
     }
     Ok(true)
+}
+
+// If the message is a request, its client has ended all that came under its number but one at most.
+fn requests_hold(
+    alloc: Global,
+    talk: &Talk<'_>,
+    receiver: &Zid,
+    msg: &Msg,
+) -> Result<bool, AllocError>
+    ensures { IfOk result (λ answer. answer ≡ requests_hold talk.now receiver.now msg.now) }
+{
+    let Msg::Request { id, .. } = msg else {
+        return Ok(true);
+    };
+    let requests = requests_to(alloc, talk.report, receiver, *id)?;
+    Ok(requests.len().saturating_sub(1) <= times_ended(talk, receiver, *id))
 }
 
 // If the message is a final, no more came under its number than queries were asked.

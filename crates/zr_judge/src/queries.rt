@@ -5,7 +5,7 @@ ghost use Rattle.std.specs.List.{list_any};
 ghost use Rattle.std.specs.Option.{option_copied, option_map};
 ghost use Rattle.zr_id.specs.Zid.{is_named};
 ghost use Rattle.zr_guarantee.specs.Names.{client_in};
-ghost use Rattle.zr_guarantee.specs.Queries.{asked_in, asks, ended_before, has_ended, is_end, is_finished, is_own_query, is_said_to, is_under, may_come, queries, query_of, replies, reply_of, saying_in, sayings, times_asked, turn};
+ghost use Rattle.zr_guarantee.specs.Queries.{asked_in, asks, ended_before, has_ended, is_end, is_finished, is_own_query, is_said_to, is_under, may_come, queries, query_of, replies, reply_of, saying_in, sayings, times_asked, times_ended, turn};
 ghost use Rattle.zr_judge.specs.Judge.{acts_of};
 
 use crate::broker::{Carried, is_for};
@@ -226,6 +226,16 @@ fn is_end(client: &Zid, number: u32, s: &Saying<'_>) -> bool
     ensures { result ≡ is_end client.now number s.now }
 {
     client == s.client && s.number == number && s.reply.is_none()
+}
+
+/// How many requests a client has ended under a number.
+pub fn times_ended(talk: &Talk<'_>, client: &Zid, number: u32) -> usize
+    ensures { result ≡ times_ended (acts_of talk.now) client.now number }
+{
+    talk.said
+        .iter()
+        .filter(|s| is_end(client, number, s))
+        .count()
 }
 
 // How many requests a client had ended under a number before a line.

@@ -18,6 +18,9 @@ const ASKER: u8 = 0xc1;
 
 const REPLIER: u8 = 0xc2;
 
+/// A line before the mark.
+const EARLIER: u64 = 5;
+
 const MARK: u64 = 6;
 
 const QUERY: u64 = 7;
@@ -71,15 +74,15 @@ const PHASE: [Line; 9] = [
     Line::Take(ASKER),
 ];
 
-// A message that is sent to a client: a request, a reply under a number with a byte, or a final under a number.
+// A message that is sent to a client: a request of a line, a reply under a number with a byte, of a line, or a final under a number.
 #[derive(Clone, Copy)]
 enum Sent {
-    Request(u8),
+    Request(u8, u64),
     Reply(u8, u32, u8, u64),
     Final(u8, u32),
 }
 
-const ASKS: Sent = Sent::Request(REPLIER);
+const ASKS: Sent = Sent::Request(REPLIER, QUERY);
 
 const REPLIES: Sent = Sent::Reply(ASKER, NUMBER, REPLIED, REPLY);
 
@@ -102,10 +105,21 @@ const TRUE: [Row; 10] = [
     (9, &[ASKS, REPLIES, ENDS], true, "at the end"),
 ];
 
-const FORGED: [Row; 15] = [
+const FORGED: [Row; 16] = [
     (3, &[], true, "the request is never sent"),
     (3, &[ASKS, ASKS], false, "a request is sent twice"),
-    (3, &[Sent::Request(ASKER)], false, "the asker is asked"),
+    (
+        3,
+        &[Sent::Request(REPLIER, EARLIER), ASKS],
+        false,
+        "a request under a number of which one from before the mark has not ended",
+    ),
+    (
+        3,
+        &[Sent::Request(ASKER, QUERY)],
+        false,
+        "the asker is asked",
+    ),
     (6, &[ASKS], true, "the reply is never sent"),
     (6, &[ASKS, REPLIES, REPLIES], false, "a reply is sent twice"),
     (
@@ -287,7 +301,7 @@ fn taken(to: u8, msg: Msg, tag: u64) -> Result<ReportLine, Fail> {
 
 fn sent_line(alloc: Global, sent: Sent) -> Result<ReportLine, Fail> {
     match sent {
-        Sent::Request(to) => taken(to, request(alloc)?, QUERY),
+        Sent::Request(to, tag) => taken(to, request(alloc)?, tag),
         Sent::Reply(to, number, byte, tag) => taken(to, response(alloc, number, byte)?, tag),
         Sent::Final(to, number) => taken(to, last(alloc, number)?, END),
     }
