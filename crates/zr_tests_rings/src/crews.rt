@@ -8,11 +8,15 @@ use zr_outside::source::{Got, Source};
 
 /// A source of one byte, which comes once a byte went through the gate.
 pub fn source_of(alloc: Global, gate: &Gate) -> Result<GateSource, AllocError> {
-    let part = Part {
+    let part = part_of(alloc)?;
+    Ok(GateSource::new(gate.share()?, vec![in alloc; part]?))
+}
+
+fn part_of(alloc: Global) -> Result<Part, AllocError> {
+    Ok(Part {
         after: 1,
         bytes: vec![in alloc; 9]?,
-    };
-    Ok(GateSource::new(gate.share()?, vec![in alloc; part]?))
+    })
 }
 
 /// Reads from a source until it gives bytes, and then writes one.
@@ -24,8 +28,10 @@ struct Relay {
 
 impl Relay {
     fn new(alloc: Global, from: &Gate, to: &Gate) -> Result<Relay, AllocError> {
+        // while its gate opens, a source may pass by a part that it hasn't given, so there is a second one
+        let (part, spare) = (part_of(alloc)?, part_of(alloc)?);
         Ok(Relay {
-            source: source_of(alloc, from)?,
+            source: GateSource::new(from.share()?, vec![in alloc; part, spare]?),
             sink: GateSink::new(MemSink::new(alloc, Vec::new(alloc)), to.share()?),
         })
     }
