@@ -116,13 +116,15 @@ impl Source for GateSource {
             return Got::End;
         };
         let left = part.bytes.len().saturating_sub(self.at);
-        if self.gate.count() >= part.after && left > 0 {
+        // looked at once: a gate that opens between two looks must not pass by a part that wasn't given
+        let is_open = self.gate.count() >= part.after;
+        if is_open && left > 0 {
             let count = into.len().min(left);
             into[..count].copy_from_slice(&part.bytes[self.at..self.at + count]);
             self.at += count;
             return Got::Bytes(count);
         }
-        if self.gate.count() >= part.after {
+        if is_open {
             self.part += 1;
             self.at = 0;
         }
