@@ -70,6 +70,16 @@ impl Base {
         Ok(Base { me, records })
     }
 
+    /// A second base with the same records.
+    pub fn copy(&self, alloc: Global) -> Result<Base, AllocError>
+        ensures { IfOk result (λ b. b ≡ self.now) }
+    {
+        Ok(Base {
+            me: self.me,
+            records: copies_of(alloc, &self.records)?,
+        })
+    }
+
     /// The router whose base it is.
     pub fn me(&self) -> Zid
         ensures { result ≡ self.now.me }
@@ -196,4 +206,15 @@ fn is_older(a: &LinkRecord, b: &LinkRecord) -> bool
     ensures { result ≡ nat_lt a.now.seq b.now.seq }
 {
     a.seq() < b.seq()
+}
+
+/// Second records, equal to these.
+pub fn copies_of(alloc: Global, records: &[LinkRecord]) -> Result<Vec<LinkRecord>, AllocError>
+    ensures { IfOk result (λ v. v.items ≡ records.now) }
+{
+    let mut copies = Vec::with_capacity(alloc, records.len())?;
+    for record in records {
+        copies.push(record.copy(alloc)?)?;
+    }
+    Ok(copies)
 }

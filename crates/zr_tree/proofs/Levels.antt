@@ -206,3 +206,26 @@ module _ (e : EdgeTable) (right : AreEdges e) where
         let n : depth ≡ suc (length (ids e.records)) = omega (arith, last, length-map e.records (λ (r : RecordState). r.id)) in
         h.known x lt ∙ ap (λ (k : ℕ). within (graph_of e.records) (name e.records root) k (name e.records x)) n;
   }
+
+  -- where no router is at a distance, none is farther, and all distances are known
+  pub level_empty : (left root depth : ℕ) (distances : List (Option ℕ)) → 0 < depth → depth + left ≡ length e.records + 1 → length distances ≡ length e.records →
+      IsLevel e root depth (depth - 1) distances [] → AreDistances e root distances
+  level_empty zero root depth distances lt sum long h = level_last root depth distances [] (omega (arith, sum)) long h
+  level_empty (suc left) root depth distances lt sum long h =
+      level_empty left root (depth + 1) distances (omega arith) (omega (arith, sum)) long (round root depth distances distances [] [] lt h (record {
+        distances = λ x. by_distance (kept_at distances x);
+        found = λ x. by_test (is_none (kept_at distances x));
+      }))
+    where
+      by_distance : (o : Option ℕ) → o ≡ option_or o None
+      by_distance None = refl
+      by_distance (Some k) = refl
+
+      by_test : (t : Bool) → false ≡ (false || (t && false))
+      by_test true = refl
+      by_test false = refl
+
+  pub level_none : (left root depth : ℕ) (distances : List (Option ℕ)) (frontier : List ℕ) → 0 < depth → depth + left ≡ length e.records + 1 → length distances ≡ length e.records →
+      length frontier ≡ 0 → IsLevel e root depth (depth - 1) distances frontier → AreDistances e root distances
+  level_none left root depth distances [] lt sum long none h = level_empty left root depth distances lt sum long h
+  level_none left root depth distances (x ∷ xs) lt sum long none h = absurd (omega (arith, none))

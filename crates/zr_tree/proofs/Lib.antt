@@ -1,12 +1,16 @@
 pub mod Ancestors
 pub mod Branches
+pub mod Children
 pub mod Distances
 pub mod Finds
 pub mod Indexes
 pub mod Jumps
 pub mod Levels
+pub mod Linked
+pub mod Links
 pub mod Paths
 pub mod Rows
 pub mod SameEdges
+pub mod Stays
 pub mod Unknown
 pub mod Ways

@@ -163,7 +163,7 @@ module _ (g h : Graph) (a : IsGraph g) (b : IsGraph h) (edges : (x y : List ℕ)
   no_farther : (u v : Graph) → IsGraph v → ((n : ℕ) (root x : List ℕ) → leads u n root x ≡ leads v n root x) → (root x : List ℕ) (n : ℕ) → dist u root x ≡ Some n → (k : ℕ) × (k ≤ n) × (dist v root x ≡ Some k)
   no_farther u v j e root x n d = bounded v j n root x (sym (e n root x) ∙ (least_some (λ k. leads u k root x) (suc (length u.names)) n d).passes)
 
-  same_dist : (root x : List ℕ) → dist g root x ≡ dist h root x
+  pub same_dist : (root x : List ℕ) → dist g root x ≡ dist h root x
   same_dist root x = by_dist (dist g root x) refl (dist h root x) refl
     where
       by_dist : (o : Option ℕ) → dist g root x ≡ o → (p : Option ℕ) → dist h root x ≡ p → o ≡ p
@@ -180,12 +180,12 @@ module _ (g h : Graph) (a : IsGraph g) (b : IsGraph h) (edges : (x y : List ℕ)
           let q : n ≡ k = omega (arith, i, j, f.1, r.1) in
           ap Some q
 
-  same_parent : (root x : List ℕ) → parent g root x ≡ parent h root x
+  pub same_parent : (root x : List ℕ) → parent g root x ≡ parent h root x
   same_parent root x =
       ap (find (λ y. is_sum (dist g root y) (edge_length g y x) (dist g root x))) (same_near x)
       ∙ same_find _ _ (near h x) (λ y i. ap (λ o. is_sum o 1 (dist g root x)) (same_dist root y) ∙ ap (λ o. is_sum (dist h root y) 1 o) (same_dist root x))
 
-  same_child : (root x y : List ℕ) → is_child g root x y ≡ is_child h root x y
+  pub same_child : (root x y : List ℕ) → is_child g root x y ≡ is_child h root x y
   same_child root x y = ap (λ o. option_map_or (λ p. is_named p x) o false) (same_parent root y)
 
   child_goes : (u v : Graph) → IsGraph u → IsGraph v → ((x y : List ℕ) → u.joined x y ≡ v.joined x y) → (root x z : List ℕ) → is_child u root x z ≡ is_child v root x z → In z (children u root x) → In z (children v root x)
@@ -193,7 +193,7 @@ module _ (g h : Graph) (a : IsGraph g) (b : IsGraph h) (edges : (x y : List ℕ)
       let f = in_filter (is_child u root x) u.names z k in
       filter_in (is_child v root x) v.names z (child_in v j root x z (sym s ∙ f.1)) (sym s ∙ f.1)
 
-  same_children : (root x : List ℕ) → children g root x ≡ children h root x
+  pub same_children : (root x : List ℕ) → children g root x ≡ children h root x
   same_children root x =
       same_list (children g root x) (children h root x) (IsStrictlySortedBy-filter _ _ g.names a.ascending) (IsStrictlySortedBy-filter _ _ h.names b.ascending)
       (λ z. child_goes g h a b edges root x z (same_child root x z)) (λ z. child_goes h g b a back root x z (sym (same_child root x z)))
@@ -209,7 +209,7 @@ module _ (g h : Graph) (a : IsGraph g) (b : IsGraph h) (edges : (x y : List ℕ)
       by_parent : (o p : Option (List ℕ)) → o ≡ p → ((q : List ℕ) → climbs g n root y q ≡ climbs h n root y q) → option_map_or (λ q. climbs g n root y q) o false ≡ option_map_or (λ q. climbs h n root y q) p false
       by_parent o p e ih = ap (λ z. option_map_or (λ q. climbs g n root y q) z false) e ∙ at p ih
 
-  same_below : (root y x : List ℕ) → below g root y x ≡ below h root y x
+  pub same_below : (root y x : List ℕ) → below g root y x ≡ below h root y x
   same_below root y x = ap (λ o. climbs g (unwrap_or o 0) root y x) (same_dist root x) ∙ same_climbs (unwrap_or (dist h root x) 0) root y x
 
   find_children : (u : Graph) (root x dest : List ℕ) (xs : List (List ℕ)) → find (λ y. is_child u root x y && below u root y dest) xs ≡ find (λ y. below u root y dest) (filter (is_child u root x) xs)

@@ -1,6 +1,6 @@
 -- Ways up by index: from router to parent to its parent.
-use Rattle.std.specs.Prelude.{◌≡◌, ℕ, ◌<◌, ◌&&◌, ◌==◌, zero, suc, not, Bool, List, Option, length, slice_index_or, unwrap_or}
-use Rattle.std.specs.List.{find}
+use Rattle.std.specs.Prelude.{◌≡◌, ℕ, ◌<◌, ◌&&◌, ◌==◌, zero, suc, not, Bool, List, [], Option, length, map, slice_index_or, unwrap_or}
+use Rattle.std.specs.List.{find, filter}
 use Rattle.zr_tree.specs.Search.{kept_at}
 use Rattle.zr_tree.specs.Index.{row}
 use Rattle.zr_tree.specs.Tree.{is_sum}
@@ -31,3 +31,7 @@ pub record AreJumps (parents jumps : List ℕ) : Type 0 where
 -- the parent of y is x, and y is another
 abbrev pub is_child_index : List ℕ → ℕ → ℕ → Bool
 is_child_index parents x y = at parents y == x && not (y == x)
+
+-- the names of those of these neighbours whose parent is x
+abbrev pub children_by : List (List ℕ) → List ℕ → ℕ → List ℕ → List (List ℕ)
+children_by names parents x neighbours = map (λ y. slice_index_or names y []) (filter (is_child_index parents x) neighbours)

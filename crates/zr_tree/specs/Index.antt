@@ -1,7 +1,7 @@
 -- Routers by their index in ascending order.
-use Rattle.std.specs.Prelude.{◌≡◌, ℕ, ◌<◌, ◌-◌, ◌^◌, List, [], length, map, All, slice_index_or}
+use Rattle.std.specs.Prelude.{◌≡◌, ℕ, ◌<◌, ◌-◌, ◌^◌, true, List, [], length, map, All, slice_index_or}
 use Rattle.zr_id.specs.Record.{RecordState}
-use Rattle.zr_graph.specs.Record.{ids, IsAscending}
+use Rattle.zr_graph.specs.Record.{ids, lists, IsAscending}
 use Rattle.zr_tree.specs.Walk.{graph_of, near}
 
 -- the identifier at an index
@@ -24,3 +24,9 @@ pub record AreEdges (e : EdgeTable) : Type 0 where
   pub long : length e.rows ≡ length e.records
   pub neighbours : (i : ℕ) → i < length e.records → map (name e.records) (row e.rows i) ≡ near (graph_of e.records) (name e.records i)
   pub within : (i : ℕ) → i < length e.records → All (λ j. j < length e.records) (row e.rows i)
+
+-- the record at this index is that of one router, and lists the other one
+pub record LinksBack (records : List RecordState) (from to : List ℕ) (index : ℕ) : Type 0 where
+  pub within : index < length records
+  pub named : name records index ≡ to
+  pub listed : lists records to from ≡ true

@@ -3,6 +3,7 @@ pub mod Hop
 pub mod Index
 pub mod Laws
 pub mod Lists
+pub mod Same
 pub mod Search
 pub mod Tree
 pub mod Walk

@@ -5,6 +5,7 @@
 mod edges;
 pub mod laws;
 mod lists;
+pub mod same;
 mod search;
 mod tree;
 pub mod trees;

@@ -1,4 +1,4 @@
-//! Lists of routers by number. A router's list that is the same as its last one isn't kept a second time.
+//! Lists of routers by number, and which is the last one of each router.
 
 ghost use Rattle.std.specs.Prelude.{◌≡◌, ◌<◌, Some, IfOk, length, slice_get};
 ghost use Rattle.zr_tree.specs.Lists.{OnlyAdds};
@@ -38,17 +38,21 @@ impl Lists {
         })
     }
 
-    /// The number of a list of this router, which is kept if it isn't its last one.
-    pub fn put(&mut self, router: usize, list: Vec<Zid>) -> Result<u32, AllocError>
+    /// The number of the last list of this router.
+    pub fn last(&self, router: usize) -> u32
+        requires { router < self.now.routers }
+        ensures { result < length self.now.lists }
+    {
+        self.last[router]
+    }
+
+    /// Keeps a list of this router, which is its last one now, and tells its number.
+    pub fn add(&mut self, router: usize, list: Vec<Zid>) -> Result<u32, AllocError>
         requires { router < self.old.routers }
         ensures found { IfOk result (λ number. slice_get self.new.lists number ≡ Some list.items) }
         ensures kept { OnlyAdds self.old.lists self.new.lists }
         ensures routers { self.new.routers ≡ self.old.routers }
     {
-        let last = self.last[router];
-        if self.lists[last as usize].as_slice() == list.as_slice() {
-            return Ok(last);
-        }
         let number = self.lists.len();
         if number > u32::MAX as usize {
             return Err(AllocError);

@@ -6,6 +6,7 @@ ghost use Rattle.zr_tree.specs.Search.{Visits, AreDistances};
 
 use crate::edges::{Edges, Row};
 use std::alloc::{AllocError, Global};
+use std::mem::swap;
 
 /// What a search from a root found.
 #[derive(Drop)]
@@ -25,13 +26,18 @@ pub fn search_from(alloc: Global, edges: &Edges, root: usize) -> Result<Reach, A
     let rows = edges.rows();
     let mut distances = vec![in alloc; None; rows.len()]?;
     distances[root] = Some(0);
+    let mut order = Vec::with_capacity(alloc, rows.len())?;
+    order.push(root)?;
     let mut frontier = vec![in alloc; root]?;
-    let mut order = vec![in alloc; root]?;
+    let mut next = Vec::new(alloc);
     for depth in 1..rows.len() as u32 + 1 {
-        let mut next = Vec::new(alloc);
+        if frontier.is_empty() {
+            return Ok(Reach { distances, order }); // none is farther
+        }
+        next.clear();
         spread(rows, &frontier, depth, &mut distances, &mut next)?;
         order.extend_from_slice(&next)?;
-        frontier = next;
+        swap(&mut frontier, &mut next);
     }
     Ok(Reach { distances, order })
 }

@@ -1,9 +1,9 @@
 //! The tree of one root, by the routers' indexes.
 
-ghost use Rattle.std.specs.Prelude.{◌≡◌, ◌<◌, ◌^◌, ◌⊎◌, ℕ, IfOk, OnOk, length, unwrap_or, map, [], All, slice_index_or};
-ghost use Rattle.std.specs.List.{filter, find, range_with_len};
+ghost use Rattle.std.specs.Prelude.{◌≡◌, ◌<◌, ◌^◌, ◌⊎◌, ℕ, IfOk, OnOk, length, unwrap_or, map, true, Some, [], All, slice_get, slice_index_or};
+ghost use Rattle.std.specs.List.{find, range_with_len};
 ghost use Rattle.zr_graph.specs.Record.{ids};
-ghost use Rattle.zr_tree.specs.Climb.{at, nearer, AreIndexes, AreJumps, is_child_index};
+ghost use Rattle.zr_tree.specs.Climb.{at, nearer, AreIndexes, AreJumps, is_child_index, children_by};
 ghost use Rattle.zr_tree.specs.Hop.{AreWays};
 ghost use Rattle.zr_tree.specs.Index.{row};
 ghost use Rattle.zr_tree.specs.Lists.{OnlyAdds};
@@ -76,11 +76,10 @@ impl Tree {
     {
         let rows = edges.rows();
         let ways = ways_of(alloc, edges, root)?;
-        let mut hops = Vec::new(alloc);
+        let mut hops = Vec::with_capacity(alloc, rows.len())?;
         for x in 0..rows.len() {
             let neighbours = rows[x].indexes();
-            let children = children_of(alloc, names, neighbours, &ways.parents, x)?;
-            let number = lists.put(x, children)?;
+            let number = children_number(alloc, names, neighbours, &ways.parents, x, lists)?;
             hops.push(hop_of(&ways, x, number))?;
         }
         Ok(Tree { hops })
@@ -139,7 +138,7 @@ fn parents_of(
     requires within { (x : ℕ) → x < length rows.now → All (λ y. y < length rows.now) (row rows.now x) }
     ensures { IfOk result (λ v. v.items ≡ map (nearer rows.now distances.now) (range_with_len 0 (length rows.now))) }
 {
-    let mut parents = Vec::new(alloc);
+    let mut parents = Vec::with_capacity(alloc, rows.len())?;
     for x in 0..rows.len() {
         let neighbours = rows[x].indexes();
         parents.push(nearer_of(neighbours, distances, x).unwrap_or(x))?;
@@ -205,6 +204,65 @@ fn jump_over(distances: &[Option<u32>], jumps: &[usize], parent: usize) -> usize
     }
 }
 
+// The number of the list of router x's children. Most often they are those that it has in the last tree: then no list is made.
+fn children_number(
+    alloc: Global,
+    names: &[Zid],
+    neighbours: &[usize],
+    parents: &[usize],
+    x: usize,
+    lists: &mut Lists,
+) -> Result<u32, AllocError>
+    requires router { x < lists.old.routers }
+    requires long { length parents.now ≡ length names.now }
+    requires within { All (λ y. y < length names.now) neighbours.now }
+    ensures found { IfOk result (λ number. slice_get lists.new.lists number ≡ Some (children_by names.now parents.now x neighbours.now)) }
+    ensures kept { OnlyAdds lists.old.lists lists.new.lists }
+    ensures routers { lists.new.routers ≡ lists.old.routers }
+{
+    let last = lists.last(x);
+    if are_children(names, neighbours, parents, x, lists.get(last)) {
+        return Ok(last);
+    }
+    let children = children_of(alloc, names, neighbours, parents, x)?;
+    lists.add(x, children)
+}
+
+// Whether a list is that of router x's children.
+fn are_children(
+    names: &[Zid],
+    neighbours: &[usize],
+    parents: &[usize],
+    x: usize,
+    list: &[Zid],
+) -> bool
+    requires long { length parents.now ≡ length names.now }
+    requires within { All (λ y. y < length names.now) neighbours.now }
+    ensures { result ≡ true → list.now ≡ children_by names.now parents.now x neighbours.now }
+{
+    let mut count = 0;
+    for y in neighbours {
+        if is_child(parents, *y, x) {
+            if !stands_at(list, count, names, *y) {
+                return false;
+            }
+            count += 1;
+        }
+    }
+    count == list.len()
+}
+
+#[tactic(auto, using(zr_graph::proofs::Names::same_is))]
+fn stands_at(list: &[Zid], at: usize, names: &[Zid], y: usize) -> bool
+    requires { y < length names.now }
+    ensures { result ≡ true → (at < length list.now) × (slice_index_or list.now at [] ≡ slice_index_or names.now y []) }
+{
+    if at >= list.len() {
+        return false;
+    }
+    list[at] == names[y]
+}
+
 // The neighbours of router x whose parent it is.
 fn children_of(
     alloc: Global,
@@ -215,13 +273,20 @@ fn children_of(
 ) -> Result<Vec<Zid>, AllocError>
     requires long { length parents.now ≡ length names.now }
     requires within { All (λ y. y < length names.now) neighbours.now }
-    ensures { IfOk result (λ v. v.items ≡ map (λ y. slice_index_or names.now y []) (filter (is_child_index parents.now x) neighbours.now)) }
+    ensures { IfOk result (λ v. v.items ≡ children_by names.now parents.now x neighbours.now) }
 {
     let mut children = Vec::new(alloc);
     for y in neighbours {
-        if parents[*y] == x && *y != x {
+        if is_child(parents, *y, x) {
             children.push(names[*y])?;
         }
     }
     Ok(children)
+}
+
+fn is_child(parents: &[usize], y: usize, x: usize) -> bool
+    requires { y < length parents.now }
+    ensures { result ≡ is_child_index parents.now x y }
+{
+    parents[y] == x && y != x
 }

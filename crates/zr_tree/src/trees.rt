@@ -1,18 +1,20 @@
 //! The shortest-walk trees of all routers that a base knows: parents, children and next steps.
 
-ghost use Rattle.std.specs.Prelude.{◌≡◌, ◌<◌, ◌≤◌, true, false, Some, IfOk, IfSome, IsSome, MatchOption, length};
+ghost use Rattle.std.specs.Prelude.{◌≡◌, ◌<◌, ◌≤◌, true, false, Some, IfOk, OnOk, OnErr, IfSome, IsSome, MatchOption, length};
 ghost use Rattle.std.specs.Option.{option_map};
 ghost use Rattle.zr_graph.specs.Record.{has, ids, IsAscending};
 ghost use Rattle.zr_tree.specs.Index.{name};
+ghost use Rattle.zr_tree.specs.Same.{HaveSameEdges};
 ghost use Rattle.zr_tree.specs.Tree.{dist, parent, children, below, toward, reached};
 ghost use Rattle.zr_tree.specs.Walk.{graph_of};
 
-use crate::edges::Edges;
+use crate::edges::{Edges, index_in};
 use crate::lists::Lists;
+use crate::same::are_same_edges;
 use crate::tree::{Hop, Tree, UNREACHED};
 use std::alloc::{AllocError, Global};
 use std::marker::Model;
-use zr_graph::base::Base;
+use zr_graph::base::{Base, copies_of};
 use zr_id::record::LinkRecord;
 use zr_id::zid::Zid;
 
@@ -46,8 +48,8 @@ impl Trees {
     pub fn of(alloc: Global, base: &Base) -> Result<Trees, AllocError>
         ensures { IfOk result (λ t. t ≡ base.now.records) }
     {
-        let edges = Edges::of(alloc, base)?;
         let names = names_of(alloc, base.records())?;
+        let edges = Edges::of(alloc, base, &names)?;
         let copies = copies_of(alloc, base.records())?;
         let mut lists = Lists::new(alloc, names.len())?;
         let mut trees = Vec::new(alloc);
@@ -60,6 +62,24 @@ impl Trees {
             trees,
             lists,
         })
+    }
+
+    /// Whether a base has the same routers and the same edges. Then its trees are these.
+    pub fn have_edges_of(&self, base: &Base) -> bool
+        ensures { result ≡ true → HaveSameEdges self.now base.now.records }
+    {
+        are_same_edges(&self.records, base.records())
+    }
+
+    /// The trees become those of a base that has the same routers and the same edges.
+    pub fn follow(&mut self, alloc: Global, base: &Base) -> Result<(), AllocError>
+        requires { HaveSameEdges self.old base.now.records }
+        ensures ok { OnOk result (self.new ≡ base.now.records) }
+        ensures err { OnErr result (self.new ≡ self.old) }
+    {
+        let copies = copies_of(alloc, base.records())?;
+        self.records = copies;
+        Ok(())
     }
 
     /// The router from which a message of the root comes to this one; the root and what isn't reached have none.
@@ -112,7 +132,7 @@ impl Trees {
     fn index_of(&self, id: &Zid) -> Option<usize>
         ensures { MatchOption result (has (ids self.now) id.now ≡ false) (λ i. (i < length self.now) × (name self.now i ≡ id.now)) }
     {
-        self.names.binary_search(id).ok()
+        index_in(&self.names, id)
     }
 
     fn child_toward(&self, root: usize, at: usize, dest: usize) -> Option<usize>
@@ -182,14 +202,4 @@ fn names_of(alloc: Global, records: &[LinkRecord]) -> Result<Vec<Zid>, AllocErro
     ensures { IfOk result (λ v. v.items ≡ ids records.now) }
 {
     records.iter().map(|r| r.id()).collect(alloc)
-}
-
-fn copies_of(alloc: Global, records: &[LinkRecord]) -> Result<Vec<LinkRecord>, AllocError>
-    ensures { IfOk result (λ v. v.items ≡ records.now) }
-{
-    let mut copies = Vec::with_capacity(alloc, records.len())?;
-    for record in records {
-        copies.push(record.copy(alloc)?)?;
-    }
-    Ok(copies)
 }

@@ -1,7 +1,7 @@
-use Rattle.std.proofs.Common.{◌≡◌, ℕ, ◌+◌, ◌<◌, [], length, map, ap, ◌∙◌, arith}
+use Rattle.std.proofs.Common.{◌≡◌, ℕ, ◌+◌, ◌<◌, [], length, map, refl, ap, ◌∙◌, arith}
 use Rattle.std.specs.List.{filter}
 use Rattle.std.proofs.lemmas.List.{get_or_read, length_push}
-use Rattle.zr_tree.specs.Climb.{is_child_index}
+use Rattle.zr_tree.specs.Climb.{is_child_index, children_by}
 use Rattle.zr_tree.specs.Hop.{IsHop}
 use Rattle.zr_tree.specs.Index.{name, row}
 use Rattle.zr_tree.proofs.Ways.{hop_from, hops_more}
@@ -14,14 +14,14 @@ loop-x-preserved c =
     let lt : c.loop-x.x < length e.records = omega (arith, c.loop-x-test.true, ap length c.rows-rows.ensures.value, right.long) in
     let near : c.indexes-neighbours.result.now ≡ row e.rows c.loop-x.x =
     c.indexes-neighbours.ensures ∙ get_or_read c.rows-rows.result.now c.loop-x.x c.index-rows-x.result c.loop-x-test.true c.index-rows-x.is [] ∙ ap (λ rs. row rs c.loop-x.x) c.rows-rows.ensures.value in
-    let is : c.in_ok-children.children.items ≡ map (name e.records) (filter (is_child_index c.in_ok-ways.ways.parents.items c.loop-x.x) (row e.rows c.loop-x.x)) =
-    rw (c.requires.names, c.deref.ensures.value, near) at c.in_ok-children.ensures in
-    let here : IsHop e.records c.args.root c.put.new.self.lists c.loop-x.x c.hop_of.result =
-    hop_from e right c.args.root c.loop-x.x _ _ _ c.put.new.self.lists c.hop_of.result c.in_ok-children.children.items c.in_ok-ways.ensures lt
+    let is : children_by c.args.names.now c.deref.result.now c.loop-x.x c.indexes-neighbours.result.now ≡ map (name e.records) (filter (is_child_index c.in_ok-ways.ways.parents.items c.loop-x.x) (row e.rows c.loop-x.x)) =
+    rw (c.requires.names, c.deref.ensures.value, near) refl in
+    let here : IsHop e.records c.args.root c.children_number.new.lists.lists c.loop-x.x c.hop_of.result =
+    hop_from e right c.args.root c.loop-x.x _ _ _ c.children_number.new.lists.lists c.hop_of.result _ c.in_ok-ways.ensures lt
     c.hop_of.ensures.depth c.hop_of.ensures.parent c.hop_of.ensures.jump (rw c.hop_of.ensures.children c.in_ok-number.ensures.found) is in
     record {
       long = rw c.in_ok-push.ensures.items (length_push _ _ ∙ ap (λ (n : ℕ). n + 1) c.loop-x.invariant.long);
-      each = rw c.in_ok-push.ensures.items (hops_more e.records c.args.root c.loop-x.x c.loop-x.lists.lists c.put.new.self.lists c.loop-x.hops.items c.hop_of.result c.put.ensures.kept c.loop-x.invariant.long c.loop-x.invariant.each here);
-      kept = λ number list h. c.put.ensures.kept number list (c.loop-x.invariant.kept number list h);
-      routers = c.put.ensures.routers ∙ c.loop-x.invariant.routers;
+      each = rw c.in_ok-push.ensures.items (hops_more e.records c.args.root c.loop-x.x c.loop-x.lists.lists c.children_number.new.lists.lists c.loop-x.hops.items c.hop_of.result c.children_number.ensures.kept c.loop-x.invariant.long c.loop-x.invariant.each here);
+      kept = λ number list h. c.children_number.ensures.kept number list (c.loop-x.invariant.kept number list h);
+      routers = c.children_number.ensures.routers ∙ c.loop-x.invariant.routers;
     }
