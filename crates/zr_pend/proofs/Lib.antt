@@ -6,3 +6,5 @@ pub mod OneRow
 pub mod Dropped
 pub mod Readings
 pub mod ReadingsOfDrop
+pub mod Flags
+pub mod OneEnd

@@ -28,7 +28,7 @@ row_stays : (b : Branch) (r : RowState) → has b r ≡ false → without b r �
 row_stays b r h = ap (λ bs. record { asker = r.asker; branches = bs }) (others_stay b r.branches h)
 
 -- they stay as they are
-rows_stay : (b : Branch) (rows : List RowState) → is_pending b rows ≡ false → list_all (λ r. not (is_done r)) rows ≡ true → finished rows b ≡ rows
+pub rows_stay : (b : Branch) (rows : List RowState) → is_pending b rows ≡ false → list_all (λ r. not (is_done r)) rows ≡ true → finished rows b ≡ rows
 rows_stay b [] h k = refl
 rows_stay b (r ∷ rows) h k =
     let e : without b r ≡ r = row_stays b r (or_left _ _ h) in
@@ -53,7 +53,7 @@ pub record Alone (before : List RowState) (r : RowState) (after : List RowState)
   pub not_before : is_pending b before ≡ false
   pub not_after : is_pending b after ≡ false
 
-alone : (before : List RowState) (r : RowState) (after : List RowState) (b : Branch) → IsSound (before ++ r ∷ after) → has b r ≡ true → Alone before r after b
+pub alone : (before : List RowState) (r : RowState) (after : List RowState) (b : Branch) → IsSound (before ++ r ∷ after) → has b r ≡ true → Alone before r after b
 alone before r after b s h =
     let d : are_distinct (branches before ++ (r.branches ++ branches after)) ≡ true = ap are_distinct (sym (flat_map-append (λ (q : RowState). q.branches) before (r ∷ after))) ∙ s.distinct in
     let here : list_any (λ c. is_branch b c) (r.branches ++ branches after) ≡ true = list_any-append (λ c. is_branch b c) r.branches (branches after) ∙ or_first _ _ h in
@@ -62,7 +62,7 @@ alone before r after b s h =
       not_after = sym (any_branch b after) ∙ distinct_apart r.branches (branches after) b (distinct_behind (branches before) (r.branches ++ branches after) d) h;
     }
 
-found_behind : (p : RowState → Bool) (before : List RowState) (rows : List RowState) → find p before ≡ None → find p (before ++ rows) ≡ find p rows
+pub found_behind : (p : RowState → Bool) (before : List RowState) (rows : List RowState) → find p before ≡ None → find p (before ++ rows) ≡ find p rows
 found_behind p [] rows h = refl
 found_behind p (q ∷ qs) rows h = by (p q) (found_behind p qs rows) h
   where
@@ -120,7 +120,7 @@ first_apart before asker b bs after s =
 first_ends : (asker : Option Asker) (b : Branch) (bs : List Branch) → list_any (λ c. is_branch b c) bs ≡ false → without b (row asker (b ∷ bs)) ≡ row asker bs
 first_ends asker b bs h = let e : is_branch b b ≡ true = is_branch_itself b in ap (λ cs. row asker cs) (rw e (others_stay b bs h))
 
-not_done : (c : Branch) (cs : List Branch) → (length (c ∷ cs) == 0) ≡ false
+pub not_done : (c : Branch) (cs : List Branch) → (length (c ∷ cs) == 0) ≡ false
 not_done c cs = false_from_ne_true _ (λ t. let e : suc (length cs) ≡ 0 = eqb-true _ 0 t in absurd (omega arith))
 
 -- who gets a final when the first branch ends, where others are left

@@ -5,7 +5,7 @@ ghost use Rattle.std.specs.List.{list_any};
 ghost use Rattle.zr_pend.specs.Pending.{asked, count, asker_of, is_full, branch, opened, begun, differ, finished, final_to, dropped, finals_of_drop, IsSound};
 
 use crate::branch::{Asker, Branch};
-use crate::row::Row;
+use crate::row::{Row, copies_of};
 use crate::rows::{any_full, asker_of, drop_link, finish, numbers_of, numbers_on, open, put};
 use std::alloc::{AllocError, Global};
 use std::marker::Model;
@@ -50,6 +50,15 @@ impl Pending {
         Pending {
             rows: Vec::new(alloc),
         }
+    }
+
+    /// A second table with the same rows.
+    pub fn copy(&self, alloc: Global) -> Result<Pending, AllocError>
+        ensures { IfOk result (λ p. p ≡ self.now) }
+    {
+        Ok(Pending {
+            rows: copies_of(alloc, &self.rows)?,
+        })
     }
 
     /// Puts in a request that goes to each of these links, and gives the number that it has on each, in their order: the least one,

@@ -1,10 +1,11 @@
 //! One request that was passed on: a row of the pending requests, and what is asked of several rows.
 
-ghost use Rattle.std.specs.Prelude.{◌≡◌, not, length, filter};
+ghost use Rattle.std.specs.Prelude.{◌≡◌, not, length, filter, IfOk};
 ghost use Rattle.std.specs.List.{list_all};
 ghost use Rattle.zr_pend.specs.Row.{is_branch, has, is_done, is_last, is_of, is_asked_by, branches_of, without, orphaned};
 
 use crate::branch::{Asker, Branch};
+use std::alloc::{AllocError, Global};
 use std::marker::Model;
 use zr_id::link::LinkNo;
 
@@ -32,6 +33,16 @@ impl Row {
             asker: Some(asker),
             branches,
         }
+    }
+
+    /// A second row, equal to this one.
+    pub fn copy(&self, alloc: Global) -> Result<Row, AllocError>
+        ensures { IfOk result (λ r. r ≡ self.now) }
+    {
+        Ok(Row {
+            asker: self.asker,
+            branches: Vec::from_slice(alloc, &self.branches)?,
+        })
     }
 
     /// Who asked, where its link is still up.
@@ -129,4 +140,15 @@ fn end_branch(branches: &mut Vec<Branch>, branch: Branch)
     ensures { branches.new.items ≡ filter (λ b. not (is_branch branch b)) branches.old.items }
 {
     branches.retain(|b| !is_branch(branch, b));
+}
+
+/// Second rows, equal to these.
+pub fn copies_of(alloc: Global, rows: &[Row]) -> Result<Vec<Row>, AllocError>
+    ensures { IfOk result (λ v. v.items ≡ rows.now) }
+{
+    let mut copies = Vec::with_capacity(alloc, rows.len())?;
+    for row in rows {
+        copies.push(row.copy(alloc)?)?;
+    }
+    Ok(copies)
 }

@@ -1,11 +1,11 @@
 //! All rows of a router: what a call of the table asks of them, and what it makes of them.
 
-ghost use Rattle.std.specs.Prelude.{◌≡◌, ◌==◌, ◌≤◌, ◌+◌, ◌-◌, ◌^◌, ◌++◌, ◌∷◌, [], not, false, map, filter, take, drop, length, min, IfOk, OnOk, OnErr};
+ghost use Rattle.std.specs.Prelude.{◌≡◌, ◌==◌, ◌≤◌, ◌<◌, ◌+◌, ◌-◌, ◌^◌, ◌++◌, ◌∷◌, [], true, false, None, map, filter, take, drop, length, slice_index_or, replicate, min, IfOk, IfSome, OnOk, OnErr};
 ghost use Rattle.std.specs.List.{list_any, fold};
 ghost use Rattle.std.specs.Option.{option_to_list};
 ghost use Rattle.std.specs.Vec.{vec_len, vec_capacity};
-ghost use Rattle.zr_pend.specs.Row.{is_done, without};
-ghost use Rattle.zr_pend.specs.Pending.{asker_of, is_pending, numbers_on, is_full, branch, free_number, opened, finished, final_to, placed, ascending, all_finished, finals, all_orphaned};
+ghost use Rattle.zr_pend.specs.Row.{has};
+ghost use Rattle.zr_pend.specs.Pending.{IsSound, asker_of, is_pending, numbers_on, is_full, branch, free_number, marked, first_unset, opened, finished, final_to, placed, ascending, all_finished, finals, all_orphaned};
 
 use crate::branch::{Asker, Branch};
 use crate::row::Row;
@@ -26,7 +26,7 @@ pub fn open(alloc: Global, rows: &[Row], to: &[LinkNo]) -> Result<Vec<Branch>, A
 {
     let mut branches = Vec::with_capacity(alloc, to.len())?;
     for link in to {
-        let number = free_number(rows, *link);
+        let number = free_number(alloc, rows, *link)?;
         branches.push(Branch {
             link: *link,
             number,
@@ -63,24 +63,28 @@ pub fn asker_of(rows: &[Row], branch: Branch) -> Option<Asker>
 }
 
 /// Ends a branch: who gets the final, where there is one.
+#[tactic(auto, using(crate::proofs::OneEnd::none_ends, crate::proofs::OneEnd::none_final))]
 pub fn finish(rows: &mut Vec<Row>, branch: Branch) -> Option<Asker>
+    requires sound { IsSound rows.old.items }
     ensures asker { result ≡ final_to rows.old.items branch }
     ensures rows { rows.new.items ≡ finished rows.old.items branch }
+    ensures sound { IsSound rows.new.items }
 {
-    let asker = final_to(rows.as_slice(), branch);
-    end(rows, branch);
-    drop_done(rows);
-    asker
+    match row_of(rows.as_slice(), branch) {
+        Some(at) => end_at(rows, at, branch),
+        None => None,
+    }
 }
 
 /// Forgets what a link asked, and ends its branches, which have these numbers, one after another. Those who get a final are put
 /// behind the askers.
 pub fn drop_link(rows: &mut Vec<Row>, link: LinkNo, numbers: &[u32], askers: &mut Vec<Asker>)
+    requires sound { IsSound rows.old.items }
     requires room { vec_len askers.old + length numbers.now ≤ vec_capacity askers.old }
     ensures rows { rows.new.items ≡ all_finished (all_orphaned link rows.old.items) (map (λ n. branch link n) numbers.now) }
     ensures askers { askers.new.items ≡ askers.old.items ++ finals (all_orphaned link rows.old.items) (map (λ n. branch link n) numbers.now) }
 {
-    orphan(rows, link);
+    orphan_all(rows, link);
     finish_all(rows, link, numbers, askers);
 }
 
@@ -95,6 +99,12 @@ pub fn numbers_on(alloc: Global, rows: &[Row], link: LinkNo) -> Result<Vec<u32>,
     Ok(numbers)
 }
 
+fn orphan_all(rows: &mut Vec<Row>, link: LinkNo)
+    ensures { rows.new.items ≡ all_orphaned link rows.old.items }
+{
+    orphan(rows.as_mut_slice(), link);
+}
+
 // What a link asked has no asker any more.
 fn orphan(rows: &mut [Row], link: LinkNo)
     ensures { rows.new ≡ all_orphaned link rows.old }
@@ -106,6 +116,7 @@ fn orphan(rows: &mut [Row], link: LinkNo)
 
 // Ends the branches of a link that have these numbers, one after another, and puts those who get a final behind the askers.
 fn finish_all(rows: &mut Vec<Row>, link: LinkNo, numbers: &[u32], askers: &mut Vec<Asker>)
+    requires sound { IsSound rows.old.items }
     requires room { vec_len askers.old + length numbers.now ≤ vec_capacity askers.old }
     ensures rows { rows.new.items ≡ all_finished rows.old.items (map (λ n. branch link n) numbers.now) }
     ensures askers { askers.new.items ≡ askers.old.items ++ finals rows.old.items (map (λ n. branch link n) numbers.now) }
@@ -122,18 +133,60 @@ fn finish_all(rows: &mut Vec<Row>, link: LinkNo, numbers: &[u32], askers: &mut V
     }
 }
 
-// The least number that is free on a link.
-fn free_number(rows: &[Row], link: LinkNo) -> u32
+// The least number that is free on a link: one of the first numbers, as many as are pending, or the next.
+#[tactic(auto, using(crate::proofs::Flags::unset_is_least, crate::proofs::Flags::length_flags))]
+fn free_number(alloc: Global, rows: &[Row], link: LinkNo) -> Result<u32, AllocError>
     requires { is_full link rows.now ≡ false }
-    ensures { result ≡ free_number link rows.now }
+    ensures { IfOk result (λ n. n ≡ free_number link rows.now) }
 {
-    let count = count_on(rows, link) as u32;
-    for number in 1..count + 1 {
-        if !is_pending(rows, Branch { link, number }) {
-            return number;
+    let taken = taken_on(alloc, rows, link)?;
+    Ok(first_unset(taken.as_slice()))
+}
+
+// A flag for each of the first numbers, as many as are pending on a link: whether it is pending there.
+fn taken_on(alloc: Global, rows: &[Row], link: LinkNo) -> Result<Vec<bool>, AllocError>
+    requires { is_full link rows.now ≡ false }
+    ensures { IfOk result (λ fs. fs.items ≡ fold marked (replicate (length (numbers_on link rows.now)) false) (numbers_on link rows.now)) }
+{
+    let mut taken = vec![in alloc; false; count_on(rows, link) as usize]?;
+    for row in rows {
+        mark_all(taken.as_mut_slice(), row.branches(), link);
+    }
+    Ok(taken)
+}
+
+// Sets the flags of the numbers that branches have on a link.
+fn mark_all(flags: &mut [bool], branches: &[Branch], link: LinkNo)
+    ensures { flags.new ≡ fold marked flags.old (map (λ b. b.number) (filter (λ b. b.link.0 == link.0) branches.now)) }
+{
+    for branch in branches {
+        if branch.link.0 == link.0 {
+            mark(flags, branch.number);
         }
     }
-    count + 1
+}
+
+// Sets the flag of a number, where it has one: the first is that of 1.
+#[tactic(auto, using(std::proofs::lemmas::List::set_past))]
+fn mark(flags: &mut [bool], number: u32)
+    ensures { flags.new ≡ marked flags.old number }
+{
+    if number > 0 && number as usize <= flags.len() {
+        flags[number as usize - 1] = true;
+    }
+}
+
+// The number of the first flag that isn't set, or one more than there are flags.
+fn first_unset(flags: &[bool]) -> u32
+    requires { length flags.now < 2 ^ 32 - 1 }
+    ensures { result ≡ first_unset flags.now 1 }
+{
+    for (i, is_set) in flags.iter().enumerate() {
+        if !*is_set {
+            return i as u32 + 1;
+        }
+    }
+    flags.len() as u32 + 1
 }
 
 fn is_full(rows: &[Row], link: LinkNo) -> bool
@@ -153,35 +206,34 @@ fn count_on(rows: &[Row], link: LinkNo) -> u64
     count
 }
 
-fn is_pending(rows: &[Row], branch: Branch) -> bool
-    ensures { result ≡ is_pending branch rows.now }
+// The place of the row that has a branch.
+fn row_of(rows: &[Row], branch: Branch) -> Option<usize>
+    ensures none { result ≡ None → is_pending branch rows.now ≡ false }
+    ensures within { IfSome result (λ at. at < length rows.now) }
+    ensures has { (d : Row) → IfSome result (λ at. has branch (slice_index_or rows.now at d) ≡ true) }
 {
-    rows.iter().any(|r| r.has(branch))
-}
-
-fn final_to(rows: &[Row], branch: Branch) -> Option<Asker>
-    ensures { result ≡ final_to rows.now branch }
-{
-    for row in rows {
-        if row.is_last(branch) {
-            return row.asker();
+    for (i, row) in rows.iter().enumerate() {
+        if row.has(branch) {
+            return Some(i);
         }
     }
     None
 }
 
-fn end(rows: &mut [Row], branch: Branch)
-    ensures { rows.new ≡ map (λ r. without branch r) rows.old }
+// Ends a branch in the row that has it: who gets the final, where there is one.
+#[tactic(auto, using(crate::proofs::OneEnd::last_ends, crate::proofs::OneEnd::last_final, crate::proofs::OneEnd::other_ends, crate::proofs::OneEnd::other_final))]
+fn end_at(rows: &mut Vec<Row>, at: usize, branch: Branch) -> Option<Asker>
+    requires sound { IsSound rows.old.items }
+    requires within { at < length rows.old.items }
+    requires has { (d : Row) → has branch (slice_index_or rows.old.items at d) ≡ true }
+    ensures asker { result ≡ final_to rows.old.items branch }
+    ensures rows { rows.new.items ≡ finished rows.old.items branch }
 {
-    for row in rows.iter_mut() {
-        row.end(branch);
+    if rows[at].is_last(branch) {
+        return rows.remove(at).asker();
     }
-}
-
-fn drop_done(rows: &mut Vec<Row>)
-    ensures { rows.new.items ≡ filter (λ r. not (is_done r)) rows.old.items }
-{
-    rows.retain(|r| !r.is_done());
+    rows[at].end(branch);
+    None
 }
 
 // There is room for one more.
