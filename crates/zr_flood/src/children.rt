@@ -25,6 +25,7 @@ use zr_msg::msg::Msg;
 use zr_msg::peer::LinkPeer;
 use zr_msg::shared::Shared;
 use zr_routing::tables::Tables;
+use zr_set::decl_set::copies_of;
 use zr_tree::trees::Trees;
 
 /// After an event that changed the records: each neighbour that has become a child in a router's tree is sent what is known of that
@@ -173,18 +174,8 @@ fn snapshot(alloc: Global, log: &Log) -> Result<Msg, AllocError>
     Ok(Msg::Snap {
         source: log.source,
         number: log.position,
-        decls: Decls::new(copies(alloc, log.decls.as_slice())?)?,
+        decls: Decls::new(copies_of(alloc, log.decls.as_slice())?)?,
     })
-}
-
-fn copies(alloc: Global, decls: &[Decl]) -> Result<Vec<Decl>, AllocError>
-    ensures { IfOk result (λ v. v.items ≡ decls.now) }
-{
-    let mut copies = Vec::with_capacity(alloc, decls.len())?;
-    for decl in decls {
-        copies.push(decl.copy(alloc)?)?;
-    }
-    Ok(copies)
 }
 
 fn tell_both(

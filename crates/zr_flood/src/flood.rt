@@ -19,6 +19,7 @@ use zr_id::zid::Zid;
 use zr_msg::msg::Msg;
 use zr_msg::peer::{LinkPeer, Peer, Role};
 use zr_msg::shared::Shared;
+use zr_tree::same::find_record;
 
 /// A link to a router has come up: each record goes to it, in ascending order of the routers, and the own one to every other router.
 ///
@@ -71,12 +72,6 @@ pub fn own_record(base: &Base) -> Option<&LinkRecord>
     ensures { option_copied result ≡ record_of base.now.records base.now.me }
 {
     find_record(base.records(), &base.me())
-}
-
-fn find_record<'a>(records: &'a [LinkRecord], id: &Zid) -> Option<&'a LinkRecord>
-    ensures { option_copied result ≡ record_of records.now id.now }
-{
-    records.iter().find(|r| r.id() == *id)
 }
 
 // Each record goes to a new neighbour.

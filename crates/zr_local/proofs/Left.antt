@@ -1,4 +1,4 @@
--- What stays once the client of a link has left: rows, what is noted of them and what they weigh still belong together, and nothing came.
+-- What stays once the client of a link has left: rows and what is noted of them still belong together, and nothing came.
 use Rattle.std.proofs.Common.{◌≡◌, ℕ, ◌+◌, ◌-◌, ◌==◌, ◌&&◌, not, nat_lt, List, [], ◌∷◌, false, cond, filter, refl, sym, ◌∙◌, arith}
 use Rattle.std.specs.List.{fold}
 use Rattle.std.proofs.lemmas.Bool.Decides.{nat_tests}
@@ -31,12 +31,11 @@ counts-less os (r ∷ rows) e =
     counts-less (once_less os r.decl) rows e
     ∙ omega (arith, count-less os r.decl e, sum_by-cons (λ (x : Row). cond (is_decl x.decl e) 1 0) r rows)
 
-pub sound_left : (rows : List Row) (os : List Owned) (held link : ℕ) → IsSound rows os held →
-    IsSound (left rows link) (fold once_less os (decls_of (on_link rows link))) (weight_of (left rows link))
-sound_left rows os held link s = record {
+pub sound_left : (rows : List Row) (os : List Owned) (link : ℕ) → IsSound rows os →
+    IsSound (left rows link) (fold once_less os (decls_of (on_link rows link)))
+sound_left rows os link s = record {
   ascending = IsStrictlySortedBy-filter (λ (x y : Row). key_cmp (row_key x) (row_key y)) (λ (r : Row). not (r.link.0 == link)) rows s.ascending;
   counted = λ d. counts-less os (on_link rows link) d ∙ omega (arith, s.counted d, parts_have rows link d);
-  weighed = refl;
 }
 
 last_of : (a b c : ℕ) → a + b ≡ c → ((b == 0) && nat_lt 0 a) ≡ (not (nat_lt 0 b) && nat_lt 0 c)
@@ -45,9 +44,9 @@ last_of a b c e = grind (arith, nat_tests)
 first_of_none : (a b c : ℕ) → a + b ≡ c → false ≡ (not (nat_lt 0 c) && nat_lt 0 b)
 first_of_none a b c e = grind (arith, nat_tests)
 
-pub gone_left : (rows : List Row) (os : List Owned) (held link : ℕ) → IsSound rows os held →
+pub gone_left : (rows : List Row) (os : List Owned) (link : ℕ) → IsSound rows os →
     filter (λ d. count_of (fold once_less os (decls_of (on_link rows link))) d == 0) (declared_set (on_link rows link)) ≡ gone rows (left rows link)
-gone_left rows os held link s =
+gone_left rows os link s =
     let on = on_link rows link in
     let stay = left rows link in
     let noted = fold once_less os (decls_of on) in
@@ -55,7 +54,7 @@ gone_left rows os held link s =
     sets_same (filter last (declared_set on)) (gone rows stay) (set_filter last (declared_set on) (set_all (decls_of on))) (set_gone rows stay)
     (λ e.
     has_filter last (declared_set on) e
-    ∙ rw (has_all (decls_of on) e, has_rows on e, (sound_left rows os held link s).counted e)
+    ∙ rw (has_all (decls_of on) e, has_rows on e, (sound_left rows os link s).counted e)
     (last_of (rows_with on e) (rows_with stay e) (rows_with rows e) (parts_have rows link e))
     ∙ sym (has_gone rows stay e))
 

@@ -5,3 +5,4 @@ pub mod Changed
 pub mod Steps
 pub mod Leads
 pub mod Left
+pub mod Live

@@ -1,18 +1,18 @@
 -- What became new or last once a row is put, inserted or taken out at its place.
-use Rattle.std.proofs.Common.{◌≡◌, ℕ, ◌+◌, ◌-◌, ◌≤◌, List, Some, None, get_or, set, sym, ap, ◌∙◌, arith}
+use Rattle.std.proofs.Common.{◌≡◌, ℕ, ◌+◌, List, Some, None, get_or, sym, ap, ◌∙◌, arith}
 use Rattle.std.specs.List.{remove}
 use Rattle.zr_msg.specs.declared.decl.Decl.{Decl}
 use Rattle.zr_set.specs.Place.{IsAt, IsGap}
 use Rattle.zr_local.specs.declared.row.Row.{Row}
 use Rattle.zr_local.specs.declared.owners.Owned.{Owned}
 use Rattle.zr_local.specs.Rows.{Key, key_cmp, row_key, declared, undeclared, weight_of, gone, came}
-use Rattle.zr_local.specs.Owners.{once_more, once_less, one, rows_with, where_counted, IsSound}
+use Rattle.zr_local.specs.Owners.{one, rows_with, where_counted, IsSound}
 use Rattle.zr_local.proofs.Changed.{gone_is, came_is}
 use Rattle.zr_set.specs.Decls.{decl_weight}
 use Rattle.zr_local.proofs.Rows.{with-insert, with-set, with-remove, weight-set, weight-remove}
-use Rattle.zr_local.proofs.Sound.{set_is, insert_is, remove_is, sound_set, sound_remove}
+use Rattle.zr_local.proofs.Sound.{set_is, insert_is, remove_is}
 
-module _ (rows : List Row) (os : List Owned) (held : ℕ) (s : IsSound rows os held) where
+module _ (rows : List Row) (os : List Owned) (s : IsSound rows os) where
   inserted : (r : Row) (i : ℕ) → IsGap key_cmp row_key rows (row_key r) i → (d : Decl) → rows_with (declared rows r) d ≡ rows_with rows d + one r.decl d
   inserted r i h d = rw (← insert_is rows r i h) (with-insert rows i r d)
 
@@ -53,38 +53,19 @@ others_weigh rows k i x h e =
     let sum : weight_of (remove rows i) + decl_weight (get_or rows i x).decl ≡ weight_of rows = weight-remove rows i x h.within in
     ap (λ (y : Row). weight_of (undeclared rows k) + decl_weight y.decl) e ∙ rw (← remove_is rows k i h) sum
 
-pub others_enough : (rows : List Row) (k : Key) (i : ℕ) (x : Row) (held : ℕ) → IsAt key_cmp row_key rows k i → x ≡ get_or rows i x → held ≡ weight_of rows → decl_weight x.decl ≤ held
-others_enough rows k i x held h e w = omega (arith, others_weigh rows k i x h e, w)
-
-pub others_left : (rows : List Row) (k : Key) (i : ℕ) (x : Row) (held : ℕ) → IsAt key_cmp row_key rows k i → x ≡ get_or rows i x → held ≡ weight_of rows → held - decl_weight x.decl ≡ weight_of (undeclared rows k)
-others_left rows k i x held h e w = omega (arith, others_weigh rows k i x h e, w)
-
 pub declared_weigh : (rows : List Row) (r : Row) (i : ℕ) → IsAt key_cmp row_key rows (row_key r) i → weight_of (undeclared rows (row_key r)) + decl_weight r.decl ≡ weight_of (declared rows r)
 declared_weigh rows r i h =
     rw (← remove_is rows (row_key r) i h, ← set_is rows r i h) (omega (arith, weight-set rows i r r h.within, weight-remove rows i r h.within))
 
-module _ (rows : List Row) (os : List Owned) (held : ℕ) (s : IsSound rows os held) where
+module _ (rows : List Row) (os : List Owned) (s : IsSound rows os) where
   pub gone_exchanged : (r x : Row) (i : ℕ) → IsAt key_cmp row_key rows (row_key r) i → x ≡ get_or rows i x → where_counted os 1 (Some x.decl) (Some r.decl) ≡ gone rows (declared rows r)
-  gone_exchanged r x i h e = ap (λ (y : Row). where_counted os 1 (Some y.decl) (Some r.decl)) e ∙ gone_set rows os held s r x i h
+  gone_exchanged r x i h e = ap (λ (y : Row). where_counted os 1 (Some y.decl) (Some r.decl)) e ∙ gone_set rows os s r x i h
 
   pub came_exchanged : (r x : Row) (i : ℕ) → IsAt key_cmp row_key rows (row_key r) i → x ≡ get_or rows i x → where_counted os 0 (Some r.decl) (Some x.decl) ≡ came rows (declared rows r)
-  came_exchanged r x i h e = ap (λ (y : Row). where_counted os 0 (Some r.decl) (Some y.decl)) e ∙ came_set rows os held s r x i h
+  came_exchanged r x i h e = ap (λ (y : Row). where_counted os 0 (Some r.decl) (Some y.decl)) e ∙ came_set rows os s r x i h
 
   pub gone_removed : (k : Key) (x : Row) (i : ℕ) → IsAt key_cmp row_key rows k i → x ≡ get_or rows i x → where_counted os 1 (Some x.decl) None ≡ gone rows (undeclared rows k)
-  gone_removed k x i h e = ap (λ (y : Row). where_counted os 1 (Some y.decl) None) e ∙ gone_remove rows os held s k x i h
+  gone_removed k x i h e = ap (λ (y : Row). where_counted os 1 (Some y.decl) None) e ∙ gone_remove rows os s k x i h
 
   pub came_removed : (k : Key) (x : Row) (i : ℕ) → IsAt key_cmp row_key rows k i → x ≡ get_or rows i x → where_counted os 0 None (Some x.decl) ≡ came rows (undeclared rows k)
-  came_removed k x i h e = ap (λ (y : Row). where_counted os 0 None (Some y.decl)) e ∙ came_remove rows os held s k x i h
-
-  -- what is noted and what all weigh, with what was read at the place
-  pub sound_exchanged : (r x : Row) (i more : ℕ) → IsAt key_cmp row_key rows (row_key r) i → more ≡ weight_of (declared rows r) →
-      IsSound (set rows i r) (once_less (once_more os r.decl) (get_or rows i x).decl) more
-  sound_exchanged r x i more h e =
-      let t = sound_set rows os held r x i h s in
-      record { ascending = t.ascending; counted = t.counted; weighed = rw (set_is rows r i h) e }
-
-  pub sound_removed : (k : Key) (x : Row) (i weight : ℕ) → IsAt key_cmp row_key rows k i → x ≡ get_or rows i x → weight ≡ decl_weight x.decl →
-      IsSound (remove rows i) (once_less os (get_or rows i x).decl) (held - weight)
-  sound_removed k x i weight h e w =
-      let f : weight ≡ decl_weight (get_or rows i x).decl = w ∙ ap (λ (y : Row). decl_weight y.decl) e in
-      rw f (sound_remove rows os held k x i h s)
+  came_removed k x i h e = ap (λ (y : Row). where_counted os 0 None (Some y.decl)) e ∙ came_remove rows os s k x i h

@@ -1,3 +1,6 @@
 pub mod Rows
+pub mod Interests
+pub mod Clients
+pub mod State
 pub mod Owners
 pub mod Laws

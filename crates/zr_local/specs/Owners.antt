@@ -6,7 +6,7 @@ use Rattle.zr_msg.specs.Decl.{decl_cmp}
 use Rattle.zr_msg.specs.declared.decl.Decl.{Decl}
 use Rattle.zr_set.specs.Ascending.{at_key, put, without}
 use Rattle.zr_set.specs.Decls.{is_decl}
-use Rattle.zr_local.specs.Rows.{AreInOrder, weight_of}
+use Rattle.zr_local.specs.Rows.{AreInOrder}
 use Rattle.zr_local.specs.declared.owners.Owned.{Owned}
 use Rattle.zr_local.specs.declared.row.Row.{Row}
 
@@ -38,11 +38,10 @@ rows_with rows d = count_by (λ r. is_decl r.decl d) rows
 abbrev pub on_link : List Row → ℕ → List Row
 on_link rows link = filter (λ r. r.link.0 == link) rows
 
--- the rows, what is noted of them, and what they weigh, belong together
-pub record IsSound (rows : List Row) (os : List Owned) (held : ℕ) : Type 0 where
+-- the rows and what is noted of them belong together
+pub record IsSound (rows : List Row) (os : List Owned) : Type 0 where
   pub ascending : AreInOrder rows
   pub counted : (d : Decl) → count_of os d ≡ rows_with rows d
-  pub weighed : held ≡ weight_of rows
 
 -- whether a declaration isn't the other one
 abbrev pub is_other : Option Decl → Decl → Bool

@@ -6,7 +6,7 @@ use Rattle.zr_msg.specs.declared.decl.Decl.{Decl}
 use Rattle.zr_msg.specs.declared.decl.Kind.{Kind}
 use Rattle.zr_msg.specs.declared.decl.Kind.TheVariants.{Sub, Able, Full}
 use Rattle.zr_set.specs.Ascending.{IsAscending, at_key, put, without}
-use Rattle.zr_set.specs.Decls.{has, set_of, decl_weight, weight, most_weight}
+use Rattle.zr_set.specs.Decls.{has, set_of, weight, most_weight}
 use Rattle.zr_local.specs.declared.error.LocalError.{LocalError}
 use Rattle.zr_local.specs.declared.error.LocalError.TheVariants.{UnknownId, TextLimit, NoMemory}
 use Rattle.zr_local.specs.declared.row.Row.{Row}
@@ -75,10 +75,6 @@ weight_of rows = weight (decls_of rows)
 -- so much is held and so much comes, and that is more than all may weigh
 abbrev pub over_limit : ℕ → ℕ → Option LocalError
 over_limit held more = if nat_lt most_weight (held + more) then Some (TextLimit held more) else None
-
--- a declaration is refused where it and all but what it replaces would weigh more than they may
-abbrev pub refuses_declare : List Row → Row → Option LocalError
-refuses_declare rows r = over_limit (weight_of (undeclared rows (row_key r))) (decl_weight r.decl)
 
 -- what isn't there is not taken back
 abbrev pub refuses_undeclare : List Row → Key → Option LocalError

@@ -1,6 +1,6 @@
 //! What goes when the client of a link leaves: its rows, who has its declarations, and the declarations that no row has then.
 
-ghost use Rattle.std.specs.Prelude.{◌≡◌, ◌==◌, filter, IfOk};
+ghost use Rattle.std.specs.Prelude.{◌≡◌, ◌-◌, ◌≤◌, ◌==◌, filter, IfOk};
 ghost use Rattle.std.specs.List.{fold};
 ghost use Rattle.zr_local.specs.Owners.{count_of, on_link, once_less};
 ghost use Rattle.zr_local.specs.Rows.{left, decls_of, declared_set, weight_of};
@@ -26,10 +26,10 @@ pub fn set_on(alloc: Global, rows: &[Row], link: LinkNo) -> Result<DeclSet, Allo
     Ok(set)
 }
 
-/// What the clients of all other links have declared weighs so much, where all that is declared weighs `held`.
+/// What is left of a weight without the rows of a link.
 pub fn weight_without(rows: &[Row], link: LinkNo, mut held: u64) -> u64
-    requires { held ≡ weight_of rows.now }
-    ensures { result ≡ weight_of (left rows.now link.0) }
+    requires { weight_of rows.now ≤ held }
+    ensures { result ≡ held - weight_of (on_link rows.now link.0) }
 {
     for row in rows {
         if row.link.0 == link.0 {

@@ -1,14 +1,20 @@
-//! `Local`: what the clients of one router have declared.
+//! `Local`: what the clients of one router have declared, and their live interests.
 
-ghost use Rattle.std.specs.Prelude.{◌≡◌, [], IfOk, OnOk, OnErr};
-ghost use Rattle.zr_local.specs.Rows.{AreInOrder, id_kind, row_key, key_cmp, declared, undeclared, left, weight_of, gone, came, refuses_declare, refuses_undeclare, refusal, over_limit};
+ghost use Rattle.std.specs.Prelude.{◌≡◌, ◌+◌, ◌==◌, true, [], IfOk, OnOk, OnErr};
+ghost use Rattle.std.specs.Option.{option_map_or};
+ghost use Rattle.zr_local.specs.Clients.{AreByLink, kept, forgotten, noted, clients_left, clients_weight, weight_but};
+ghost use Rattle.zr_local.specs.Interests.{interest_weight};
+ghost use Rattle.zr_local.specs.Rows.{AreInOrder, id_kind, row_key, key_cmp, declared, undeclared, left, weight_of, gone, came, refuses_undeclare, refusal, over_limit};
+ghost use Rattle.zr_local.specs.State.{refuses_declare, refuses_interest};
 ghost use Rattle.zr_set.specs.Place.{IsGap, IsAt};
 
 use crate::changes::{Changes, difference};
+use crate::clients::Clients;
 use crate::error::LocalError;
+use crate::interest::{ClientInterests, Interest};
 use crate::leaving::{keep_unowned, release, set_on, take_out, weight_without};
 use crate::owners::Owners;
-use crate::row::{Key, Row, exchange, insert, place_of, remove};
+use crate::row::{Key, Row, copies_of, exchange, insert, place_of, remove};
 use std::alloc::{AllocError, Global};
 use std::marker::Model;
 use zr_id::link::LinkNo;
@@ -16,51 +22,75 @@ use zr_msg::decl::{Decl, Kind};
 use zr_set::decl_set::DeclSet;
 use zr_set::weight::{MOST_WEIGHT, decl_weight};
 
-/// What the clients of one router have declared, by link, subscribers first, then by id.
+/// What the clients of one router have declared, by link, subscribers first, then by id, and their live interests.
 #[derive(Debug, Drop)]
 pub struct Local {
     rows: Vec<Row>,
     owners: Owners,
+    clients: Clients,
     held: u64,
 }
 
 impl Model for Local {
-    ghost use Rattle.std.specs.Prelude.{List};
-    ghost use Rattle.zr_local.specs.declared.row.Row.{Row};
+    ghost use Rattle.std.specs.Prelude.{◌≡◌, ◌+◌};
+    ghost use Rattle.zr_local.specs.Clients.{clients_weight};
     ghost use Rattle.zr_local.specs.Owners.{IsSound};
+    ghost use Rattle.zr_local.specs.Rows.{weight_of};
+    ghost use Rattle.zr_local.specs.State.{LocalState};
 
-    ghost Value = { List Row };
+    ghost Value = { LocalState };
 
-    ghost view = { λ l. l.rows.items };
+    ghost view = { λ l. record { rows = l.rows.items; clients = l.clients } };
 
-    ghost invariant = { λ l. IsSound l.rows.items l.owners l.held };
+    ghost invariant = { λ l. IsSound l.rows.items l.owners × (l.held ≡ weight_of l.rows.items + clients_weight l.clients) };
 }
 
 impl Local {
-    /// Nothing is declared yet. It takes no memory.
+    /// Nothing is declared yet, and no interest is live. It takes no memory.
     pub fn new(alloc: Global) -> Local
-        ensures { result ≡ [] }
+        ensures { result ≡ record { rows = []; clients = [] } }
     {
         Local {
             rows: Vec::new(alloc),
             owners: Owners::new(alloc),
+            clients: Clients::new(alloc),
             held: 0,
         }
     }
 
+    /// The same declarations and interests once more.
+    pub fn copy(&self, alloc: Global) -> Result<Local, AllocError>
+        ensures { IfOk result (λ l. l ≡ self.now) }
+    {
+        Ok(Local {
+            rows: copies_of(alloc, &self.rows)?,
+            owners: self.owners.copy(alloc)?,
+            clients: self.clients.copy(alloc)?,
+            held: self.held,
+        })
+    }
+
     /// What is declared, by link, subscribers first, then by id.
     pub fn rows(&self) -> &[Row]
-        ensures value { result.now ≡ self.now }
-        ensures in_order { AreInOrder self.now }
+        ensures value { result.now ≡ self.now.rows }
+        ensures in_order { AreInOrder self.now.rows }
     {
         self.rows.as_slice()
     }
 
+    /// The live interests of each client, by link, and of one client by id.
+    pub fn clients(&self) -> &[ClientInterests]
+        ensures value { result.now ≡ self.now.clients }
+        ensures in_order { AreByLink self.now.clients }
+    {
+        self.clients.as_slice()
+    }
+
     /// What is declared under an id takes the place of what the client has declared under it in the same kind.
     pub fn declare(&mut self, link: LinkNo, id: u32, decl: Decl) -> Result<Changes, LocalError>
-        ensures gone { IfOk result (λ c. c.gone.items ≡ gone self.old (declared self.old (record { link = link; id = id; decl = decl }))) }
-        ensures came { IfOk result (λ c. c.came.items ≡ came self.old (declared self.old (record { link = link; id = id; decl = decl }))) }
-        ensures rows { OnOk result (self.new ≡ declared self.old (record { link = link; id = id; decl = decl })) }
+        ensures gone { IfOk result (λ c. c.gone.items ≡ gone self.old.rows (declared self.old.rows (record { link = link; id = id; decl = decl }))) }
+        ensures came { IfOk result (λ c. c.came.items ≡ came self.old.rows (declared self.old.rows (record { link = link; id = id; decl = decl }))) }
+        ensures value { OnOk result (self.new ≡ record { rows = declared self.old.rows (record { link = link; id = id; decl = decl }); clients = self.old.clients }) }
         ensures refused { refuses_declare self.old (record { link = link; id = id; decl = decl }) ≡ refusal result }
         ensures unchanged { OnErr result (self.new ≡ self.old) }
     {
@@ -73,10 +103,10 @@ impl Local {
 
     /// Takes back what the client has declared under the id in this kind.
     pub fn undeclare(&mut self, link: LinkNo, id: u32, kind: Kind) -> Result<Changes, LocalError>
-        ensures gone { IfOk result (λ c. c.gone.items ≡ gone self.old (undeclared self.old (record { link = link.0; kind = id_kind kind; id = id }))) }
-        ensures came { IfOk result (λ c. c.came.items ≡ came self.old (undeclared self.old (record { link = link.0; kind = id_kind kind; id = id }))) }
-        ensures rows { OnOk result (self.new ≡ undeclared self.old (record { link = link.0; kind = id_kind kind; id = id })) }
-        ensures refused { refuses_undeclare self.old (record { link = link.0; kind = id_kind kind; id = id }) ≡ refusal result }
+        ensures gone { IfOk result (λ c. c.gone.items ≡ gone self.old.rows (undeclared self.old.rows (record { link = link.0; kind = id_kind kind; id = id }))) }
+        ensures came { IfOk result (λ c. c.came.items ≡ came self.old.rows (undeclared self.old.rows (record { link = link.0; kind = id_kind kind; id = id }))) }
+        ensures value { OnOk result (self.new ≡ record { rows = undeclared self.old.rows (record { link = link.0; kind = id_kind kind; id = id }); clients = self.old.clients }) }
+        ensures refused { refuses_undeclare self.old.rows (record { link = link.0; kind = id_kind kind; id = id }) ≡ refusal result }
         ensures unchanged { OnErr result (self.new ≡ self.old) }
     {
         let key = Key::new(link, id, kind);
@@ -86,16 +116,39 @@ impl Local {
         }
     }
 
-    /// All that the client of a link has declared goes.
+    /// An interest of a client is live from now on, in place of the one of the same id. Where `None` comes, the one of the id is live no
+    /// more; if there is none, nothing changes.
+    pub fn interest(
+        &mut self,
+        link: LinkNo,
+        id: u32,
+        interest: Option<Interest>,
+    ) -> Result<(), LocalError>
+        requires { option_map_or (λ i. i.id == id) interest true ≡ true }
+        ensures value { OnOk result (self.new ≡ record { rows = self.old.rows; clients = noted self.old.clients link id interest }) }
+        ensures refused { refuses_interest self.old link id interest ≡ refusal result }
+        ensures unchanged { OnErr result (self.new ≡ self.old) }
+    {
+        match interest {
+            Some(interest) => self.keep(link, interest),
+            None => {
+                self.forget(link, id);
+                Ok(())
+            }
+        }
+    }
+
+    /// All that the client of a link has declared goes, and so do its interests.
     pub fn leave(&mut self, link: LinkNo) -> Result<Changes, AllocError>
-        ensures gone { IfOk result (λ c. c.gone.items ≡ gone self.old (left self.old link.0)) }
-        ensures came { IfOk result (λ c. c.came.items ≡ came self.old (left self.old link.0)) }
-        ensures rows { OnOk result (self.new ≡ left self.old link.0) }
+        ensures gone { IfOk result (λ c. c.gone.items ≡ gone self.old.rows (left self.old.rows link.0)) }
+        ensures came { IfOk result (λ c. c.came.items ≡ came self.old.rows (left self.old.rows link.0)) }
+        ensures value { OnOk result (self.new ≡ record { rows = left self.old.rows link.0; clients = clients_left self.old.clients link.0 }) }
         ensures unchanged { OnErr result (self.new ≡ self.old) }
     {
         let alloc = *self.rows.allocator();
         let set = set_on(alloc, &self.rows, link)?;
-        self.held = weight_without(&self.rows, link, self.held);
+        self.held = self.weight_without(link);
+        self.clients.leave(link);
         release(&mut self.owners, &self.rows, link);
         take_out(&mut self.rows, link);
         let mut gone = set.into_vec();
@@ -104,16 +157,60 @@ impl Local {
         Ok(Changes { gone, came })
     }
 
+    fn keep(&mut self, link: LinkNo, interest: Interest) -> Result<(), LocalError>
+        ensures value { OnOk result (self.new ≡ record { rows = self.old.rows; clients = kept self.old.clients link interest }) }
+        ensures refused { over_limit (weight_of self.old.rows + weight_but self.old.clients link interest.id) (interest_weight interest) ≡ refusal result }
+        ensures unchanged { OnErr result (self.new ≡ self.old) }
+    {
+        let held = self.weight_but(link, interest.id);
+        let more = interest.weight();
+        within(held, more)?;
+        self.clients.keep(link, interest)?;
+        self.held = held + more;
+        Ok(())
+    }
+
+    fn forget(&mut self, link: LinkNo, id: u32)
+        ensures { self.new ≡ record { rows = self.old.rows; clients = forgotten self.old.clients link id } }
+    {
+        self.held = self.weight_but(link, id);
+        self.clients.forget(link, id);
+    }
+
+    // what all but the interest of this id weigh
+    fn weight_but(&self, link: LinkNo, id: u32) -> u64
+        ensures { result ≡ weight_of self.now.rows + weight_but self.now.clients link id }
+    {
+        self.held - self.clients.weight_of(link, id)
+    }
+
+    // what all but the client of a link have declared, and their interests, weigh
+    fn weight_without(&self, link: LinkNo) -> u64
+        ensures { result ≡ weight_of (left self.now.rows link.0) + clients_weight (clients_left self.now.clients link.0) }
+    {
+        let held = weight_without(&self.rows, link, self.held);
+        self.clients.weight_without(link, held)
+    }
+
+    // what all but the row at the place weigh, whose key this row has
+    fn weight_of_others(&self, at: usize, row: &Row) -> u64
+        requires { IsAt key_cmp row_key self.now.rows (row_key row.now) at }
+        ensures { result ≡ weight_of (undeclared self.now.rows (row_key row.now)) + clients_weight self.now.clients }
+    {
+        let old = &self.rows[at];
+        self.held - decl_weight(&old.decl)
+    }
+
     // what stands at the place is replaced
     fn exchange(&mut self, at: usize, row: Row) -> Result<Changes, LocalError>
-        requires { IsAt key_cmp row_key self.old (row_key row) at }
-        ensures gone { IfOk result (λ c. c.gone.items ≡ gone self.old (declared self.old row)) }
-        ensures came { IfOk result (λ c. c.came.items ≡ came self.old (declared self.old row)) }
-        ensures rows { OnOk result (self.new ≡ declared self.old row) }
+        requires { IsAt key_cmp row_key self.old.rows (row_key row) at }
+        ensures gone { IfOk result (λ c. c.gone.items ≡ gone self.old.rows (declared self.old.rows row)) }
+        ensures came { IfOk result (λ c. c.came.items ≡ came self.old.rows (declared self.old.rows row)) }
+        ensures value { OnOk result (self.new ≡ record { rows = declared self.old.rows row; clients = self.old.clients }) }
         ensures refused { refuses_declare self.old row ≡ refusal result }
         ensures unchanged { OnErr result (self.new ≡ self.old) }
     {
-        let held = weight_of_others(&self.rows, at, &row, self.held);
+        let held = self.weight_of_others(at, &row);
         let more = decl_weight(&row.decl);
         within(held, more)?;
         Ok(self.exchange_within(at, row, held + more)?)
@@ -121,11 +218,11 @@ impl Local {
 
     // what stands at the place is replaced, and all then weigh so much
     fn exchange_within(&mut self, at: usize, row: Row, held: u64) -> Result<Changes, AllocError>
-        requires at { IsAt key_cmp row_key self.old (row_key row) at }
-        requires held { held ≡ weight_of (declared self.old row) }
-        ensures gone { IfOk result (λ c. c.gone.items ≡ gone self.old (declared self.old row)) }
-        ensures came { IfOk result (λ c. c.came.items ≡ came self.old (declared self.old row)) }
-        ensures rows { OnOk result (self.new ≡ declared self.old row) }
+        requires at { IsAt key_cmp row_key self.old.rows (row_key row) at }
+        requires held { held ≡ weight_of (declared self.old.rows row) + clients_weight self.old.clients }
+        ensures gone { IfOk result (λ c. c.gone.items ≡ gone self.old.rows (declared self.old.rows row)) }
+        ensures came { IfOk result (λ c. c.came.items ≡ came self.old.rows (declared self.old.rows row)) }
+        ensures value { OnOk result (self.new ≡ record { rows = declared self.old.rows row; clients = self.old.clients }) }
         ensures unchanged { OnErr result (self.new ≡ self.old) }
     {
         let alloc = *self.rows.allocator();
@@ -142,10 +239,10 @@ impl Local {
 
     // nothing stood at the place
     fn insert(&mut self, at: usize, row: Row) -> Result<Changes, LocalError>
-        requires { IsGap key_cmp row_key self.old (row_key row) at }
-        ensures gone { IfOk result (λ c. c.gone.items ≡ gone self.old (declared self.old row)) }
-        ensures came { IfOk result (λ c. c.came.items ≡ came self.old (declared self.old row)) }
-        ensures rows { OnOk result (self.new ≡ declared self.old row) }
+        requires { IsGap key_cmp row_key self.old.rows (row_key row) at }
+        ensures gone { IfOk result (λ c. c.gone.items ≡ gone self.old.rows (declared self.old.rows row)) }
+        ensures came { IfOk result (λ c. c.came.items ≡ came self.old.rows (declared self.old.rows row)) }
+        ensures value { OnOk result (self.new ≡ record { rows = declared self.old.rows row; clients = self.old.clients }) }
         ensures refused { refuses_declare self.old row ≡ refusal result }
         ensures unchanged { OnErr result (self.new ≡ self.old) }
     {
@@ -158,10 +255,10 @@ impl Local {
     }
 
     fn remove(&mut self, at: usize, key: Key) -> Result<Changes, AllocError>
-        requires { IsAt key_cmp row_key self.old (record { link = key.link; kind = key.kind; id = key.id }) at }
-        ensures gone { IfOk result (λ c. c.gone.items ≡ gone self.old (undeclared self.old (record { link = key.link; kind = key.kind; id = key.id }))) }
-        ensures came { IfOk result (λ c. c.came.items ≡ came self.old (undeclared self.old (record { link = key.link; kind = key.kind; id = key.id }))) }
-        ensures rows { OnOk result (self.new ≡ undeclared self.old (record { link = key.link; kind = key.kind; id = key.id })) }
+        requires { IsAt key_cmp row_key self.old.rows (record { link = key.link; kind = key.kind; id = key.id }) at }
+        ensures gone { IfOk result (λ c. c.gone.items ≡ gone self.old.rows (undeclared self.old.rows (record { link = key.link; kind = key.kind; id = key.id }))) }
+        ensures came { IfOk result (λ c. c.came.items ≡ came self.old.rows (undeclared self.old.rows (record { link = key.link; kind = key.kind; id = key.id }))) }
+        ensures value { OnOk result (self.new ≡ record { rows = undeclared self.old.rows (record { link = key.link; kind = key.kind; id = key.id }); clients = self.old.clients }) }
         ensures unchanged { OnErr result (self.new ≡ self.old) }
     {
         let alloc = *self.rows.allocator();
@@ -172,16 +269,6 @@ impl Local {
         remove(&mut self.rows, &mut self.owners, at);
         Ok(changes)
     }
-}
-
-// what all but the row at the place weigh, whose key this row has
-fn weight_of_others(rows: &[Row], at: usize, row: &Row, held: u64) -> u64
-    requires at { IsAt key_cmp row_key rows.now (row_key row.now) at }
-    requires held { held ≡ weight_of rows.now }
-    ensures { result ≡ weight_of (undeclared rows.now (row_key row.now)) }
-{
-    let old = &rows[at];
-    held - decl_weight(&old.decl)
 }
 
 // whether all may weigh so much

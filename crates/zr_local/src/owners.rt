@@ -1,6 +1,6 @@
 //! `Owners`: how many rows have each declaration.
 
-ghost use Rattle.std.specs.Prelude.{◌≡◌, ◌+◌, ◌-◌, ◌<◌, nat_lt, if◌then◌else◌, length, [], slice_set, slice_index_or, OnOk, OnErr};
+ghost use Rattle.std.specs.Prelude.{◌≡◌, ◌+◌, ◌-◌, ◌<◌, nat_lt, if◌then◌else◌, length, [], slice_set, slice_index_or, IfOk, OnOk, OnErr};
 ghost use Rattle.std.specs.List.{remove, insert};
 ghost use Rattle.zr_local.specs.Owners.{owned_decl, count_of, once_more, once_less};
 ghost use Rattle.zr_local.specs.declared.owners.Owned.{Owned};
@@ -46,6 +46,15 @@ impl Owners {
         Owners {
             items: Vec::new(alloc),
         }
+    }
+
+    /// The same counts once more.
+    pub fn copy(&self, alloc: Global) -> Result<Owners, AllocError>
+        ensures { IfOk result (λ o. o ≡ self.now) }
+    {
+        Ok(Owners {
+            items: copies_of(alloc, &self.items)?,
+        })
     }
 
     /// How many rows have the declaration.
@@ -113,4 +122,23 @@ fn lower(items: &mut Vec<Owned>, at: usize)
     } else {
         items.remove(at);
     }
+}
+
+fn copies_of(alloc: Global, counts: &[Owned]) -> Result<Vec<Owned>, AllocError>
+    ensures { IfOk result (λ v. v.items ≡ counts.now) }
+{
+    let mut copies = Vec::with_capacity(alloc, counts.len())?;
+    for owned in counts {
+        copies.push(copy_of(alloc, owned)?)?;
+    }
+    Ok(copies)
+}
+
+fn copy_of(alloc: Global, owned: &Owned) -> Result<Owned, AllocError>
+    ensures { IfOk result (λ o. o ≡ owned.now) }
+{
+    Ok(Owned {
+        decl: owned.decl.copy(alloc)?,
+        count: owned.count,
+    })
 }

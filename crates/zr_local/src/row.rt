@@ -1,6 +1,6 @@
 //! `Row`: what a client has declared under an id, and the order of rows.
 
-ghost use Rattle.std.specs.Prelude.{◌≡◌, ◌<◌, ◌≤◌, length, slice_set, slice_index_or, OnOk, OnErr};
+ghost use Rattle.std.specs.Prelude.{◌≡◌, ◌<◌, ◌≤◌, length, slice_set, slice_index_or, IfOk, OnOk, OnErr};
 ghost use Rattle.std.specs.List.{insert, remove};
 ghost use Rattle.zr_local.specs.Owners.{once_more, once_less};
 ghost use Rattle.zr_local.specs.Rows.{AreInOrder, id_kind, row_key, key_cmp, declared};
@@ -8,7 +8,7 @@ ghost use Rattle.zr_local.specs.declared.row.Row.{Row};
 ghost use Rattle.zr_set.specs.Place.{IsPlace};
 
 use crate::owners::Owners;
-use std::alloc::AllocError;
+use std::alloc::{AllocError, Global};
 use std::cmp::Ordering;
 use zr_id::link::LinkNo;
 use zr_msg::decl::{Decl, Kind};
@@ -115,4 +115,25 @@ pub fn remove(rows: &mut Vec<Row>, owners: &mut Owners, at: usize)
 {
     owners.take(&rows[at].decl);
     rows.remove(at);
+}
+
+/// Second rows, equal to these.
+pub fn copies_of(alloc: Global, rows: &[Row]) -> Result<Vec<Row>, AllocError>
+    ensures { IfOk result (λ v. v.items ≡ rows.now) }
+{
+    let mut copies = Vec::with_capacity(alloc, rows.len())?;
+    for row in rows {
+        copies.push(copy_of(alloc, row)?)?;
+    }
+    Ok(copies)
+}
+
+fn copy_of(alloc: Global, row: &Row) -> Result<Row, AllocError>
+    ensures { IfOk result (λ r. r ≡ row.now) }
+{
+    Ok(Row {
+        link: row.link,
+        id: row.id,
+        decl: row.decl.copy(alloc)?,
+    })
 }

@@ -56,6 +56,17 @@ impl Known {
         }
     }
 
+    /// The same logs once more.
+    pub fn copy(&self, alloc: Global) -> Result<Known, AllocError>
+        ensures { IfOk result (λ k. k ≡ self.now) }
+    {
+        Ok(Known {
+            me: self.me,
+            names: Vec::from_slice(alloc, &self.names)?,
+            logs: log::copies_of(alloc, &self.logs)?,
+        })
+    }
+
     /// The routers of whose logs a change is known, in ascending order.
     pub fn sources(&self) -> &[Zid]
         ensures { result.now ≡ sources self.now }

@@ -1,9 +1,9 @@
 //! `Log`: what is known of the change log of one router.
 
-ghost use Rattle.std.specs.Prelude.{◌≡◌, OnOk, OnErr};
+ghost use Rattle.std.specs.Prelude.{◌≡◌, IfOk, OnOk, OnErr};
 ghost use Rattle.zr_log.specs.Log.{changed, change_held, change_more};
 
-use std::alloc::AllocError;
+use std::alloc::{AllocError, Global};
 use zr_id::zid::Zid;
 use zr_msg::decl::Decl;
 use zr_set::decl_set::DeclSet;
@@ -44,4 +44,25 @@ pub fn more(added: bool, decl: &Decl) -> u64
     ensures { result ≡ change_more (record { added = added; decl = decl.now }) }
 {
     if added { decl_weight(decl) } else { 0 }
+}
+
+/// Second logs, equal to these.
+pub fn copies_of(alloc: Global, logs: &[Log]) -> Result<Vec<Log>, AllocError>
+    ensures { IfOk result (λ v. v.items ≡ logs.now) }
+{
+    let mut copies = Vec::with_capacity(alloc, logs.len())?;
+    for log in logs {
+        copies.push(copy_of(alloc, log)?)?;
+    }
+    Ok(copies)
+}
+
+fn copy_of(alloc: Global, log: &Log) -> Result<Log, AllocError>
+    ensures { IfOk result (λ l. l ≡ log.now) }
+{
+    Ok(Log {
+        source: log.source,
+        position: log.position,
+        decls: log.decls.copy(alloc)?,
+    })
 }

@@ -1,2 +1,3 @@
 pub mod Extras
 pub mod Decl
+pub mod Kinds

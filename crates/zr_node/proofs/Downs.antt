@@ -3,7 +3,9 @@ use Rattle.std.proofs.Common.{◌≡◌, ℕ, ◌^◌, ◌<◌, ◌++◌, not, f
 use Rattle.std.specs.Option.{option_or, option_map_or}
 use Rattle.std.proofs.lemmas.List.{append-nil}
 use Rattle.zr_id.specs.declared.link.LinkNo.{LinkNo}
+use Rattle.zr_local.specs.Clients.{clients_left}
 use Rattle.zr_local.specs.Rows.{left}
+use Rattle.zr_local.specs.declared.interest.ClientInterests.{ClientInterests}
 use Rattle.zr_local.specs.declared.row.Row.{Row}
 use Rattle.zr_log.specs.Known.{position}
 use Rattle.zr_msg.specs.declared.error.NodeError.{NodeError}
@@ -35,9 +37,12 @@ first_alone None y e = sym e
 first_alone (Some why) y e = refl
 
 module _ (n : NodeState) (link : LinkNo) where
-  -- the rows that are left where a peer of this role has gone, and the state
+  -- the rows and the live interests that are left where a peer of this role has gone, and the state
   abbrev rows_by : Role → List Row
   rows_by role = cond (not (is_router role)) (left n.rows link.0) n.rows
+
+  abbrev clients_by : Role → List ClientInterests
+  clients_by role = cond (not (is_router role)) (clients_left n.clients link.0) n.clients
 
   abbrev left_by : Peer → Role → NodeState
   left_by peer role =
@@ -45,6 +50,7 @@ module _ (n : NodeState) (link : LinkNo) where
         links = without_link n.links link.0;
         base = base_parted n.base peer role;
         rows = rows_by role;
+        clients = clients_by role;
         known = after_changes n.known (changes n.rows (rows_by role));
         pending = dropped (link_no link.0) n.pending;
         spent = n.spent;
@@ -63,12 +69,16 @@ module _ (n : NodeState) (link : LinkNo) where
   abbrev rows_of : Option LinkPeer → List Row
   rows_of o = cond (option_map_or (λ l. not (is_router l.peer.role)) o false) (left n.rows link.0) n.rows
 
+  abbrev clients_of : Option LinkPeer → List ClientInterests
+  clients_of o = cond (option_map_or (λ l. not (is_router l.peer.role)) o false) (clients_left n.clients link.0) n.clients
+
   abbrev left_of : Option LinkPeer → NodeState
   left_of o =
       record {
         links = without_link n.links link.0;
         base = base_down n.base o;
         rows = rows_of o;
+        clients = clients_of o;
         known = after_changes n.known (changes n.rows (rows_of o));
         pending = dropped (link_no link.0) n.pending;
         spent = n.spent;

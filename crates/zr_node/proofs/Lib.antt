@@ -1,6 +1,5 @@
 pub mod Accepted
 pub mod Answers
-pub mod Copied
 pub mod Done
 pub mod Downs
 pub mod Free

@@ -1,23 +1,31 @@
 -- The parts of an event, by who stands at a link.
-use Rattle.std.proofs.Common.{◌≡◌, ℕ, Bool, true, false, cond, List, [], None, Result, Ok, option_map, refl, sym, ap, subst, ◌∙◌}
-use Rattle.std.specs.Option.{option_or}
+use Rattle.std.proofs.Common.{◌≡◌, ℕ, ◌==◌, Bool, true, false, cond, List, [], Option, None, Result, Ok, Err, OnOk, OnErr, option_map, refl, sym, ap, subst, ◌∙◌}
+use Rattle.std.specs.Option.{option_map_or, option_or}
+use Rattle.std.proofs.lemmas.Bool.{eq-eqb}
 use Rattle.zr_graph.specs.Base.{BaseState}
 use Rattle.zr_id.specs.declared.link.LinkNo.{LinkNo}
-use Rattle.zr_local.specs.Rows.{Key, id_kind, declared, undeclared, left, refuses_declare, refuses_undeclare}
+use Rattle.zr_local.specs.Clients.{noted}
+use Rattle.zr_local.specs.Rows.{Key, id_kind, declared, undeclared, left, refuses_undeclare}
+use Rattle.zr_local.specs.State.{LocalState, refuses_declare, refuses_interest}
+use Rattle.zr_local.specs.declared.interest.ClientInterests.{ClientInterests}
+use Rattle.zr_local.specs.declared.interest.Interest.{Interest}
 use Rattle.zr_local.specs.declared.row.Row.{Row}
 use Rattle.zr_msg.specs.declared.decl.Kind.{Kind}
+use Rattle.zr_msg.specs.declared.error.NodeError.{NodeError}
 use Rattle.zr_msg.specs.declared.event.Event.{Event}
 use Rattle.zr_msg.specs.declared.msg.Msg.{Msg}
 use Rattle.zr_routing.specs.Tables.{leads_to_client}
-use Rattle.zr_table.specs.State.{NodeState, tables}
-use Rattle.zr_table.specs.Table.{after_from, with_rows, sends, sends_from, sends_rows, refuses_from, refuses_rows, local_error}
+use Rattle.zr_table.specs.State.{NodeState, tables, local_state}
+use Rattle.zr_table.specs.Table.{after_from, with_clients, with_rows, sends, sends_from, sends_rows, refuses_from, refuses_rows, refuses_noted, live, local_error}
+use Rattle.zr_node.specs.Answer.{IsJudged}
 use Rattle.zr_node.specs.Done.{Part, IsLeft, IsDone}
-use Rattle.zr_node.specs.Steps.{event_part, message_part, asked_part, declare_part, undeclare_part}
+use Rattle.zr_node.specs.Steps.{event_part, message_part, asked_part, declare_part, undeclare_part, interest_part}
 use Rattle.zr_node.specs.declared.asked.Asked.TheVariants.{Declare, Undeclare}
 use Rattle.zr_node.specs.declared.failure.Failure.{Failure}
+use Rattle.zr_node.specs.declared.failure.Failure.TheVariants.{Refused, NoMemory}
 use Rattle.zr_node.proofs.Done.{redone}
 use Rattle.zr_node.proofs.Quiet.{nothing_more, rows_stay, rows_silent}
-use Rattle.zr_node.proofs.Retold.{silent}
+use Rattle.zr_node.proofs.Retold.{nothing_told, silent}
 
 -- ---- a message
 
@@ -51,7 +59,7 @@ module _ (n : NodeState) (from : ℕ) (r : Row) where
         before = n;
         left = with_rows n (cond b (declared n.rows r) n.rows);
         sends = λ to. sends_rows n (cond b (declared n.rows r) n.rows) to;
-        refused = cond b (option_or (option_map (λ x. local_error r.id x) (refuses_declare n.rows r)) (refuses_rows n (cond b (declared n.rows r) n.rows))) None;
+        refused = cond b (option_or (option_map (λ x. local_error r.id x) (refuses_declare (local_state n) r)) (refuses_rows n (cond b (declared n.rows r) n.rows))) None;
       }
 
   -- where a client stands there, it is asked
@@ -87,6 +95,56 @@ module _ (n : NodeState) (link : LinkNo) (id : ℕ) (kind : Kind) where
   undeclare_nothing said lead =
       subst (λ b. IsLeft (undeclare_by b) n said said) (sym lead)
       (record { allowed = refl; state = rows_stay n; sends = silent (λ to. sends_rows n n.rows to) said (rows_silent n) })
+
+-- ---- an interest that is live from now on, or none
+
+pub live_id : (future : Bool) (i : Interest) (o : Option Interest) → o ≡ live future i → option_map_or (λ j. j.id == i.id) o true ≡ true
+live_id future i o e = ap (λ (x : Option Interest). option_map_or (λ j. j.id == i.id) x true) e ∙ by future
+  where
+    by : (b : Bool) → option_map_or (λ j. j.id == i.id) (live b i) true ≡ true
+    by true = eq-eqb i.id i.id refl
+    by false = refl
+
+-- one that ends isn't refused
+pub end_allowed : (n : NodeState) (from id : ℕ) → refuses_noted n from id None ≡ None
+end_allowed n from id = by (leads_to_client n.links from)
+  where
+    nothing : Option NodeError
+    nothing = None
+
+    by : (b : Bool) → cond b nothing None ≡ None
+    by true = refl
+    by false = refl
+
+-- no row is another one then
+pub rows_kept : {X E : Type 0} (r : Result X E) (before now : LocalState) (clients : List ClientInterests) → OnOk r (now ≡ record { rows = before.rows; clients = clients }) → OnErr r (now ≡ before) → now.rows ≡ before.rows
+rows_kept (Ok x) before now clients h k = ap (λ (l : LocalState). l.rows) h
+rows_kept (Err e) before now clients h k = ap (λ (l : LocalState). l.rows) k
+
+module _ (n : NodeState) (link : LinkNo) (id : ℕ) (i : Option Interest) where
+  abbrev interest_by : Bool → Part
+  interest_by b =
+      record {
+        before = n;
+        left = with_clients n (cond b (noted n.clients link id i) n.clients);
+        sends = λ to. [];
+        refused = cond b (option_map (λ x. local_error id x) (refuses_interest (local_state n) link id i)) None;
+      }
+
+  pub interest_nothing : (said : List (LinkNo × Msg)) → leads_to_client n.links link.0 ≡ false → IsLeft (interest_part n link.0 id i) n said said
+  interest_nothing said lead =
+      subst (λ b. IsLeft (interest_by b) n said said) (sym lead) (record { allowed = refl; state = refl; sends = silent (λ to. []) said (λ to. refl) })
+
+  pub interest_noted : (r : Result (Unit {0}) Failure) (now : NodeState) (said : List (LinkNo × Msg)) → leads_to_client n.links link.0 ≡ true
+      → OnOk r (now ≡ with_clients n (noted n.clients link id i)) → IsJudged (option_map (λ x. local_error id x) (refuses_interest (local_state n) link id i)) r → OnErr r (now ≡ n)
+      → IsDone (interest_part n link.0 id i) r now said said
+  interest_noted r now said lead state judged same = subst (λ b. IsDone (interest_by b) r now said said) (sym lead) (by r state judged same)
+    where
+      by : (r : Result (Unit {0}) Failure) → OnOk r (now ≡ with_clients n (noted n.clients link id i)) → IsJudged (option_map (λ x. local_error id x) (refuses_interest (local_state n) link id i)) r
+          → OnErr r (now ≡ n) → IsDone (interest_by true) r now said said
+      by (Ok x) s j u = record { allowed = j; state = s; sends = silent (λ to. []) said (λ to. refl) }
+      by (Err (Refused why)) s j u = record { refused = j; state = u; sends = refl }
+      by (Err NoMemory) s j u = nothing_told (λ to. []) said
 
 -- ---- the same event
 

@@ -1,10 +1,11 @@
--- Where the records stay there are no new children. Rows that stay change nothing.
-use Rattle.std.proofs.Common.{◌≡◌, ℕ, ◌+◌, ◌-◌, ◌^◌, ◌<◌, nat_lt, ◌&&◌, ◌||◌, ◌++◌, not, Bool, true, false, cond, List, [], ◌∷◌, Option, Some, None, map, refl, sym, ap, subst, ◌∙◌, arith}
+-- Where the edges stay there are no new children. Rows that stay change nothing.
+use Rattle.std.proofs.Common.{◌≡◌, ℕ, ◌+◌, ◌-◌, ◌^◌, ◌<◌, nat_lt, ◌&&◌, ◌||◌, ◌++◌, not, Bool, true, false, cond, List, [], ◌∷◌, Option, Some, None, Result, Ok, Err, OnOk, OnErr, map, refl, sym, ap, subst, ◌∙◌, arith}
 use Rattle.std.specs.List.{flat_map}
 use Rattle.std.specs.Option.{option_map_or}
 use Rattle.std.proofs.lemmas.Bool.{true≢false, false_from_ne_true, ltb-true}
 use Rattle.std.proofs.lemmas.List.{append-nil}
 use Rattle.zr_id.specs.Record.{RecordState}
+use Rattle.zr_id.specs.declared.link.LinkNo.{LinkNo}
 use Rattle.zr_local.proofs.Changed.{has_gone}
 use Rattle.zr_local.specs.Owners.{rows_with}
 use Rattle.zr_local.specs.Rows.{gone}
@@ -17,6 +18,7 @@ use Rattle.zr_routing.specs.Changes.{changes, after_changes, sends_changes, have
 use Rattle.zr_set.specs.Decls.{has}
 use Rattle.zr_set.proofs.Decls.{decl_order}
 use Rattle.zr_set.proofs.Order.{is_itself}
+use Rattle.zr_table.specs.Event.{Tells, TellsPrefix}
 use Rattle.zr_table.specs.State.{NodeState, tables}
 use Rattle.zr_table.specs.Table.{with_rows, sends_rows, refuses_rows}
 use Rattle.zr_log.specs.declared.log.Log.{Log}
@@ -24,32 +26,57 @@ use Rattle.zr_msg.specs.declared.msg.Msg.{Msg}
 use Rattle.zr_msg.specs.declared.peer.LinkPeer.{LinkPeer}
 use Rattle.zr_routing.specs.Snapshots.{is_new_child, snapshot, snapshots_on, sends_snapshots}
 use Rattle.zr_routing.specs.Tables.{TableState, is_router, is_to_child, link_at}
+use Rattle.zr_tree.specs.Same.{HaveSameEdges}
 use Rattle.zr_tree.specs.Tree.{is_child}
 use Rattle.zr_tree.specs.Walk.{graph_of}
+use Rattle.zr_tree.proofs.Stays.{child_stays}
+use Rattle.zr_node.proofs.Retold.{nothing_told, silent}
 
-none_new : (t : TableState) (name : List ℕ) (logs : List Log)
-    → flat_map (λ log. cond (is_new_child t.base.records t.base.records t.base.me log.source name) (snapshot log ∷ []) []) logs ≡ []
-none_new t name [] = refl
-none_new t name (log ∷ logs) = by (is_child (graph_of t.base.records) log.source t.base.me name) (none_new t name logs)
-  where
-    more : List Msg
-    more = flat_map (λ l. cond (is_new_child t.base.records t.base.records t.base.me l.source name) (snapshot l ∷ []) []) logs
+module _ (t : TableState) (before : List RecordState)
+    (same : (root name : List ℕ) → is_child (graph_of before) root t.base.me name ≡ is_child (graph_of t.base.records) root t.base.me name) where
+  none_new : (name : List ℕ) (logs : List Log) → flat_map (λ log. cond (is_new_child before t.base.records t.base.me log.source name) (snapshot log ∷ []) []) logs ≡ []
+  none_new name [] = refl
+  none_new name (log ∷ logs) = by (is_child (graph_of before) log.source t.base.me name) (is_child (graph_of t.base.records) log.source t.base.me name) (same log.source name) (none_new name logs)
+    where
+      more : List Msg
+      more = flat_map (λ l. cond (is_new_child before t.base.records t.base.me l.source name) (snapshot l ∷ []) []) logs
 
-    by : (b : Bool) → more ≡ [] → cond (b && not b) (snapshot log ∷ []) [] ++ more ≡ []
-    by true ih = ih
-    by false ih = ih
+      by : (a b : Bool) → a ≡ b → more ≡ [] → cond (b && not a) (snapshot log ∷ []) [] ++ more ≡ []
+      by true true e ih = ih
+      by true false e ih = ih
+      by false true e ih = absurd (true≢false (sym e))
+      by false false e ih = ih
+
+  -- where each child was one before
+  pub no_child_is_new : (to : ℕ) → sends_snapshots t before to ≡ []
+  no_child_is_new to = by (link_at t.links to)
+    where
+      role : (l : LinkPeer) (b : Bool) → cond b (flat_map (λ log. cond (is_new_child before t.base.records t.base.me log.source l.peer.id) (snapshot log ∷ []) []) t.known.logs) [] ≡ []
+      role l true = none_new l.peer.id t.known.logs
+      role l false = refl
+
+      by : (o : Option LinkPeer) → option_map_or (λ l. snapshots_on t before l) o [] ≡ []
+      by None = refl
+      by (Some l) = role l (is_router l.peer.role)
 
 -- the same records
 pub no_new_children : (t : TableState) (before : List RecordState) → t.base.records ≡ before → (to : ℕ) → sends_snapshots t before to ≡ []
-no_new_children t before e to = subst (λ rs. sends_snapshots t rs to ≡ []) e (by (link_at t.links to))
-  where
-    role : (l : LinkPeer) (b : Bool) → cond b (flat_map (λ log. cond (is_new_child t.base.records t.base.records t.base.me log.source l.peer.id) (snapshot log ∷ []) []) t.known.logs) [] ≡ []
-    role l true = none_new t l.peer.id t.known.logs
-    role l false = refl
+no_new_children t before e to = no_child_is_new t before (λ root name. ap (λ rs. is_child (graph_of rs) root t.base.me name) (sym e)) to
 
-    by : (o : Option LinkPeer) → option_map_or (λ l. snapshots_on t t.base.records l) o [] ≡ []
-    by None = refl
-    by (Some l) = role l (is_router l.peer.role)
+-- records of the same edges
+pub no_child_by_edges : (t : TableState) (before records : List RecordState) → before ≡ records → HaveSameEdges before t.base.records → (to : ℕ) → sends_snapshots t records to ≡ []
+no_child_by_edges t before records e same to =
+    subst (λ (rs : List RecordState). sends_snapshots t rs to ≡ []) e (no_child_is_new t before (λ root name. child_stays before t.base.records same root t.base.me name) to)
+
+-- so there is nothing to say of them
+pub quiet_ok : {X Y : Type 0} (n : NodeState) (before records : List RecordState) (r : Result X Y) (said : List (LinkNo × Msg)) → HaveSameEdges before n.base.records → before ≡ records →
+    OnOk r (Tells (sends_snapshots (tables n) records) said said)
+quiet_ok n before records (Ok x) said same e = silent (sends_snapshots (tables n) records) said (λ to. no_child_by_edges (tables n) before records e same to)
+quiet_ok n before records (Err x) said same e = tt
+
+pub quiet_err : {X Y : Type 0} (n : NodeState) (records : List RecordState) (r : Result X Y) (said : List (LinkNo × Msg)) → OnErr r (TellsPrefix (sends_snapshots (tables n) records) said said)
+quiet_err n records (Ok x) said = tt
+quiet_err n records (Err x) said = nothing_told (sends_snapshots (tables n) records) said
 
 -- what is said stays all that is said
 pub nothing_more : (t : TableState) (before : List RecordState) (said : List Msg) → t.base.records ≡ before → (to : ℕ) → said ≡ said ++ sends_snapshots t before to
@@ -73,7 +100,7 @@ no_changes rows = ap (λ ds. map (λ (d : Decl). record { added = false; decl = 
 
 -- the router stays, and tells nothing of them
 pub rows_stay : (n : NodeState) → n ≡ with_rows n n.rows
-rows_stay n = ap (λ cs. record { links = n.links; base = n.base; rows = n.rows; known = after_changes n.known cs; pending = n.pending; spent = n.spent }) (sym (no_changes n.rows))
+rows_stay n = ap (λ cs. record { links = n.links; base = n.base; rows = n.rows; clients = n.clients; known = after_changes n.known cs; pending = n.pending; spent = n.spent }) (sym (no_changes n.rows))
 
 pub rows_silent : (n : NodeState) (to : ℕ) → sends_rows n n.rows to ≡ []
 rows_silent n to = ap (λ cs. sends_changes (tables n) cs to) (no_changes n.rows) ∙ by (is_to_child (tables n) n.base.me to)

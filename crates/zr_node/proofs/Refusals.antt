@@ -3,8 +3,12 @@ use Rattle.std.proofs.Common.{◌≡◌, ℕ, Bool, true, false, cond, nat_lt, �
 use Rattle.std.specs.Option.{option_or}
 use Rattle.zr_graph.specs.Base.{BaseState}
 use Rattle.zr_id.specs.declared.link.LinkNo.{LinkNo}
+use Rattle.zr_local.specs.Clients.{clients_weight, weight_but}
+use Rattle.zr_local.specs.Interests.{interest_weight}
 use Rattle.zr_local.specs.Rows as rows
+use Rattle.zr_local.specs.State.{refuses_declare, refuses_interest}
 use Rattle.zr_local.specs.declared.error.LocalError.TheVariants as local
+use Rattle.zr_local.specs.declared.interest.Interest.{Interest}
 use Rattle.zr_local.specs.declared.row.Row.{Row}
 use Rattle.zr_log.specs.Known as known
 use Rattle.zr_log.specs.Log.{Change, change_held, change_more}
@@ -22,11 +26,11 @@ use Rattle.zr_msg.specs.declared.peer.Role.{Role}
 use Rattle.zr_msg.specs.declared.peer.Role.TheVariants.{Client, Router}
 use Rattle.zr_pend.specs.Pending.{asked}
 use Rattle.zr_routing.specs.Changes.{changes, have_no_room}
-use Rattle.zr_routing.specs.Queries.{asked_links, asker, asks_most, has_no_number, most_pending}
+use Rattle.zr_routing.specs.Queries.{link_no, asked_links, asker, asks_most, has_no_number, most_pending}
 use Rattle.zr_routing.specs.Tables.{link_at, leads_to_client, leads_to_router}
 use Rattle.zr_set.specs.Decls.{decl_weight, most_weight, set_of, weight}
-use Rattle.zr_table.specs.State.{NodeState, tables}
-use Rattle.zr_table.specs.Table.{refuses, refuses_up, refuses_parting, refuses_down, refuses_rows, refuses_declared, refuses_undeclared, refuses_step_from, refuses_snap_from, refuses_from, refuses_request, local_error, known_error, is_worn, is_full, able_kind, row, key_of, rows_declared, rows_undeclared, rows_left}
+use Rattle.zr_table.specs.State.{NodeState, tables, local_state}
+use Rattle.zr_table.specs.Table.{refuses, refuses_up, refuses_parting, refuses_down, refuses_rows, refuses_declared, refuses_undeclared, refuses_noted, refuses_step_from, refuses_snap_from, refuses_from, refuses_request, local_error, known_error, is_worn, is_full, able_kind, live, row, key_of, rows_declared, rows_undeclared, rows_left}
 
 abbrev pub IsOfTable : NodeError → Type 0
 IsOfTable (e.Gap router has came) = Unit {0}
@@ -94,9 +98,9 @@ of_rows n rs = worn (have_no_room n.known (changes n.rows rs))
 module _ (n : NodeState) (from : ℕ) where
   of_declared : (r : Row) → AreOfTable (refuses_declared n from r)
   of_declared r =
-      either (leads_to_client n.links from) (option_or (option_map (λ x. local_error r.id x) (rows.refuses_declare n.rows r)) (refuses_rows n (rows_declared n from r))) None
-      (first (option_map (λ x. local_error r.id x) (rows.refuses_declare n.rows r)) (refuses_rows n (rows_declared n from r))
-      (limit r.id (rows.weight_of (rows.undeclared n.rows (rows.row_key r))) (decl_weight r.decl)) (of_rows n (rows_declared n from r)))
+      either (leads_to_client n.links from) (option_or (option_map (λ x. local_error r.id x) (refuses_declare (local_state n) r)) (refuses_rows n (rows_declared n from r))) None
+      (first (option_map (λ x. local_error r.id x) (refuses_declare (local_state n) r)) (refuses_rows n (rows_declared n from r))
+      (limit r.id (rows.weight_of (rows.undeclared n.rows (rows.row_key r)) + clients_weight n.clients) (decl_weight r.decl)) (of_rows n (rows_declared n from r)))
       tt
 
   of_undeclared : (k : rows.Key) → AreOfTable (refuses_undeclared n from k)
@@ -105,6 +109,13 @@ module _ (n : NodeState) (from : ℕ) where
       (first (option_map (λ x. local_error k.id x) (rows.refuses_undeclare n.rows k)) (refuses_rows n (rows_undeclared n from k))
       (absent k.id (is_some (rows.row_at n.rows k))) (of_rows n (rows_undeclared n from k)))
       tt
+
+  of_noted : (id : ℕ) (i : Option Interest) → AreOfTable (refuses_noted n from id i)
+  of_noted id i = either (leads_to_client n.links from) (option_map (λ x. local_error id x) (refuses_interest (local_state n) (link_no from) id i)) None (by i) tt
+    where
+      by : (o : Option Interest) → AreOfTable (option_map (λ x. local_error id x) (refuses_interest (local_state n) (link_no from) id o))
+      by None = tt
+      by (Some x) = limit id (rows.weight_of n.rows + weight_but n.clients (link_no from) id) (interest_weight x)
 
   of_step : (source : List ℕ) (number : ℕ) (c : Change) → AreOfTable (refuses_step_from n from source number c)
   of_step source number c =
@@ -139,7 +150,7 @@ module _ (n : NodeState) (from : ℕ) where
   of_message (msg.Unsub id) = of_undeclared (key_of from id kind.Sub)
   of_message (msg.Able id key complete) = of_declared (row from id (able_kind complete) key)
   of_message (msg.Unable id) = of_undeclared (key_of from id kind.Able)
-  of_message (msg.Interest id current future kinds key aggregate) = tt
+  of_message (msg.Interest id current future kinds key aggregate) = of_noted id (live future (record { id = id; kinds = kinds; key = key; aggregate = aggregate }))
   of_message (msg.EndInterest id) = tt
   of_message (msg.ToldSub id key interest) = tt
   of_message (msg.ToldAble id key complete interest) = tt

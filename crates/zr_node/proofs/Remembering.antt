@@ -7,12 +7,16 @@ use Rattle.std.proofs.lemmas.Bool.{and_parts}
 use Rattle.std.proofs.lemmas.Slice.Eq.{bytes_eq-Decides}
 use Rattle.zr_id.specs.Zid.{is_named}
 use Rattle.zr_graph.proofs.Names.{same_is}
+use Rattle.zr_local.specs.State.{LocalState}
+use Rattle.zr_local.specs.declared.row.Row.{Row}
 use Rattle.zr_routing.specs.Tables.{TableState}
 use Rattle.zr_push.specs.Route.{route_of}
 use Rattle.zr_push.specs.declared.sought.Sought.{Sought}
 use Rattle.zr_push.specs.declared.sought.Sought.TheVariants.{Subscribers, Queryables, Complete}
+use Rattle.zr_node.specs.Routes.{AreRoutes}
 use Rattle.zr_node.specs.Sought.{sought_number}
 use Rattle.zr_node.specs.declared.routes.Remembered.{Remembered}
+use Rattle.zr_node.specs.declared.routes.Routes.{Routes}
 
 -- what is sought is told apart by its number
 same_sought : (a b : Sought) → (sought_number a == sought_number b) ≡ true → a ≡ b
@@ -48,3 +52,9 @@ module _ (t : TableState) where
       ∙ ap (λ (x : List ℕ). route_of t x found.sought found.key) (same_is found.tree tree first.0)
       ∙ ap (λ (s : Sought). route_of t tree s found.key) (same_sought found.sought sought both.0)
       ∙ ap (λ (k : List ℕ). route_of t tree sought k) ((bytes_eq-Decides found.key key).0 both.1)
+
+-- interests lead no message on
+pub routes_stay : (routes : Routes) (t : TableState) (local : LocalState) → local.rows ≡ t.rows → AreRoutes routes t
+    → AreRoutes routes (record { links = t.links; base = t.base; rows = local.rows; clients = local.clients; known = t.known })
+routes_stay routes t local e h =
+    subst (λ (rows : List Row). AreRoutes routes (record { links = t.links; base = t.base; rows = rows; clients = local.clients; known = t.known })) (sym e) h

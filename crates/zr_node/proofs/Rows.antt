@@ -14,12 +14,12 @@ use Rattle.zr_msg.specs.declared.error.NodeError.TheVariants.{Worn}
 use Rattle.zr_msg.specs.declared.msg.Msg.{Msg}
 use Rattle.zr_routing.specs.Changes.{changes_of, changes, after_changes, sends_changes, have_no_room}
 use Rattle.zr_table.specs.Event.{Tells, TellsPrefix}
-use Rattle.zr_table.specs.State.{NodeState, tables}
-use Rattle.zr_table.specs.Table.{with_known, with_rows, refuses_rows}
+use Rattle.zr_table.specs.State.{NodeState, tables, local_state}
+use Rattle.zr_table.specs.Table.{with_known, refuses_rows}
 use Rattle.zr_node.specs.Answer.{IsJudged}
-use Rattle.zr_node.specs.Asked.{rows_after, refuses_asked, refuses_change}
+use Rattle.zr_node.specs.Asked.{rows_after, local_after, refuses_asked, refuses_change}
 use Rattle.zr_node.specs.Done.{IsDone}
-use Rattle.zr_node.specs.Steps.{with_local, asked_part}
+use Rattle.zr_node.specs.Steps.{with_local, with_asked, asked_part}
 use Rattle.zr_node.specs.declared.asked.Asked.{Asked}
 use Rattle.zr_node.specs.declared.failure.Failure.{Failure}
 use Rattle.zr_node.specs.declared.failure.Failure.TheVariants.{Refused, NoMemory}
@@ -44,7 +44,7 @@ fits number lost won h =
 
 module _ (n : NodeState) (asked : Asked) where
   -- it is refused for itself, or memory ran out
-  pub asked_failed : (e : Failure) (r : Result (Unit {0}) Failure) (now : NodeState) (said : List (LinkNo × Msg)) → IsErrAnd r (λ f. f ≡ e) → IsJudged {X = Unit {0}} (refuses_asked n.rows asked) (Err e) → now ≡ n
+  pub asked_failed : (e : Failure) (r : Result (Unit {0}) Failure) (now : NodeState) (said : List (LinkNo × Msg)) → IsErrAnd r (λ f. f ≡ e) → IsJudged {X = Unit {0}} (refuses_asked (local_state n) asked) (Err e) → now ≡ n
       → IsDone (asked_part n asked) r now said said
   asked_failed (Refused why) r now said h j same =
       failed (asked_part n asked) (Refused why) r now said said h (record { refused = ap (λ (o : Option NodeError). option_or o (refuses_rows n (rows_after n.rows asked))) j; state = same; sends = refl })
@@ -60,26 +60,26 @@ module _ (n : NodeState) (asked : Asked) where
     same_changes = λ i. changes_of (is_lost i) (is_won i)
 
     -- what is told of them
-    pub rows_told : (now : NodeState) (said all : List (LinkNo × Msg)) → now ≡ with_local n (rows_after n.rows asked) → Tells (sends_changes (tables now) (changes_of lost won)) said all → Tells (asked_part n asked).sends said all
+    pub rows_told : (now : NodeState) (said all : List (LinkNo × Msg)) → now ≡ with_local n (local_after (local_state n) asked) → Tells (sends_changes (tables now) (changes_of lost won)) said all → Tells (asked_part n asked).sends said all
     rows_told now said all e h =
         subst (λ (cs : List Change). Tells (sends_changes (tables n) cs) said all) same_changes
         (subst (λ (m : NodeState). Tells (sends_changes (tables m) (changes_of lost won)) said all) e h)
 
-    pub rows_prefix : (now : NodeState) (said all : List (LinkNo × Msg)) → now ≡ with_local n (rows_after n.rows asked) → TellsPrefix (sends_changes (tables now) (changes_of lost won)) said all
+    pub rows_prefix : (now : NodeState) (said all : List (LinkNo × Msg)) → now ≡ with_local n (local_after (local_state n) asked) → TellsPrefix (sends_changes (tables now) (changes_of lost won)) said all
         → TellsPrefix (asked_part n asked).sends said all
     rows_prefix now said all e h =
         subst (λ (cs : List Change). TellsPrefix (sends_changes (tables n) cs) said all) same_changes
         (subst (λ (m : NodeState). TellsPrefix (sends_changes (tables m) (changes_of lost won)) said all) e h)
 
     -- what is left
-    pub rows_left : (now last : NodeState) → now ≡ with_local n (rows_after n.rows asked) → last ≡ with_known now (after_changes now.known (changes_of lost won)) → last ≡ with_rows n (rows_after n.rows asked)
+    pub rows_left : (now last : NodeState) → now ≡ with_local n (local_after (local_state n) asked) → last ≡ with_known now (after_changes now.known (changes_of lost won)) → last ≡ with_asked n asked
     rows_left now last e f =
         f ∙ ap (λ (m : NodeState). with_known m (after_changes m.known (changes_of lost won))) e
-        ∙ ap (λ (cs : List Change). with_known (with_local n (rows_after n.rows asked)) (after_changes n.known cs)) same_changes
+        ∙ ap (λ (cs : List Change). with_known (with_local n (local_after (local_state n) asked)) (after_changes n.known cs)) same_changes
 
     -- where there is room it isn't refused
     pub rows_allowed : (number : ℕ) → number ≡ position n.known n.base.me → n.known.me ≡ n.base.me → true ≡ not (nat_lt (2 ^ 64 - 1) (number + length (changes_of lost won)))
-        → refuses_asked n.rows asked ≡ None → refuses_change n asked ≡ None
+        → refuses_asked (local_state n) asked ≡ None → refuses_change n asked ≡ None
     rows_allowed number at own room for_itself =
         let same : number ≡ position n.known n.known.me = at ∙ ap (λ (me : List ℕ). position n.known me) (sym own) in
         let e : have_no_room n.known (changes_of lost won) ≡ false = ap (λ (k : ℕ). nat_lt (2 ^ 64 - 1) (k + length (changes_of lost won))) (sym same) ∙ not_so _ room in

@@ -1,8 +1,10 @@
 -- An event in its parts: what becomes of a router, what it sends, and what is refused.
-use Rattle.std.specs.Prelude.{ℕ, List, ◌++◌, Option, None}
+use Rattle.std.specs.Prelude.{ℕ, List, [], ◌++◌, Option, None}
 use Rattle.zr_id.specs.Record.{RecordState}
 use Rattle.zr_id.specs.declared.link.LinkNo.{LinkNo}
 use Rattle.zr_local.specs.Rows.{Key}
+use Rattle.zr_local.specs.State.{LocalState}
+use Rattle.zr_local.specs.declared.interest.Interest.{Interest as LiveInterest}
 use Rattle.zr_local.specs.declared.row.Row.{Row}
 use Rattle.zr_log.specs.Log.{Change}
 use Rattle.zr_msg.specs.declared.content.Parts.{Parts}
@@ -20,18 +22,22 @@ use Rattle.zr_routing.specs.Queries.{link_no, asked_links, sends_request, sends_
 use Rattle.zr_routing.specs.Samples.{sends_push}
 use Rattle.zr_routing.specs.Snapshots.{sends_step, sends_snap, sends_snapshots}
 use Rattle.zr_table.specs.State.{NodeState, new_link, tables}
-use Rattle.zr_table.specs.Table.{after, sends, refuses, base_up, base_told, joined, parted, with_base, with_pending, with_link, without_link, with_known, with_rows, known_step, known_snap, rows_declared, rows_undeclared, sends_up, sends_parted, sends_state, sends_from, sends_rows, after_from, refuses_up, refuses_parting, refuses_from, refuses_request, refuses_declared, refuses_undeclared, refuses_step_from, refuses_snap_from}
-use Rattle.zr_node.specs.Asked.{rows_after, refuses_change}
+use Rattle.zr_table.specs.Table.{after, sends, refuses, base_up, base_told, joined, parted, with_base, with_clients, with_pending, with_link, without_link, with_known, with_rows, clients_noted, refuses_noted, known_step, known_snap, rows_declared, rows_undeclared, sends_up, sends_parted, sends_state, sends_from, sends_rows, after_from, refuses_up, refuses_parting, refuses_from, refuses_request, refuses_declared, refuses_undeclared, refuses_step_from, refuses_snap_from}
+use Rattle.zr_node.specs.Asked.{rows_after, clients_after, refuses_change}
 use Rattle.zr_node.specs.Done.{Part}
 use Rattle.zr_node.specs.declared.asked.Asked.{Asked}
 use Rattle.zr_node.specs.declared.asked.Asked.TheVariants.{Leave}
 
--- a router with other links, and one whose clients have declared other rows, of which nothing stands in its log yet
+-- a router with other links, and one that keeps something else of its clients, of which nothing stands in its log yet
 abbrev pub with_links : NodeState → List LinkPeer → NodeState
-with_links node links = record { links = links; base = node.base; rows = node.rows; known = node.known; pending = node.pending; spent = node.spent }
+with_links node links = record { links = links; base = node.base; rows = node.rows; clients = node.clients; known = node.known; pending = node.pending; spent = node.spent }
 
-abbrev pub with_local : NodeState → List Row → NodeState
-with_local node rows = record { links = node.links; base = node.base; rows = rows; known = node.known; pending = node.pending; spent = node.spent }
+abbrev pub with_local : NodeState → LocalState → NodeState
+with_local node l = record { links = node.links; base = node.base; rows = l.rows; clients = l.clients; known = node.known; pending = node.pending; spent = node.spent }
+
+-- once it has done what a client asks of its declarations
+abbrev pub with_asked : NodeState → Asked → NodeState
+with_asked node asked = with_clients (with_rows node (rows_after node.rows asked)) (clients_after node.clients asked)
 
 -- the snapshots for the children that an event has made, by the state that it leaves and the one before it
 abbrev pub news_to : NodeState → NodeState → ℕ → List Msg
@@ -87,7 +93,7 @@ abbrev pub leave_part : NodeState → LinkNo → Part
 leave_part node link =
     record {
       before = node;
-      left = with_links (with_pending (with_rows node (rows_after node.rows (Leave link))) (dropped link node.pending)) (without_link node.links link.0);
+      left = with_links (with_pending (with_asked node (Leave link)) (dropped link node.pending)) (without_link node.links link.0);
       sends = λ to. sends_ends node.pending link.0 to ++ sends_rows node (rows_after node.rows (Leave link)) to;
       refused = refuses_change node (Leave link);
     }
@@ -107,7 +113,7 @@ abbrev pub asked_part : NodeState → Asked → Part
 asked_part node asked =
     record {
       before = node;
-      left = with_rows node (rows_after node.rows asked);
+      left = with_asked node asked;
       sends = λ to. sends_rows node (rows_after node.rows asked) to;
       refused = refuses_change node asked;
     }
@@ -130,6 +136,11 @@ undeclare_part node from k =
       sends = λ to. sends_rows node (rows_undeclared node from k) to;
       refused = refuses_undeclared node from k;
     }
+
+-- an interest that is live under an id from now on, or none
+abbrev pub interest_part : NodeState → ℕ → ℕ → Option LiveInterest → Part
+interest_part node from id i =
+    record { before = node; left = with_clients node (clients_noted node from id i); sends = λ to. []; refused = refuses_noted node from id i }
 
 -- a change and a snapshot of another router's log
 abbrev pub step_part : NodeState → ℕ → List ℕ → ℕ → Change → Part

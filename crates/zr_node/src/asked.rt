@@ -5,7 +5,7 @@ ghost use Rattle.zr_local.specs.Rows.{gone, came};
 ghost use Rattle.zr_routing.specs.Changes.{changes_of, after_changes};
 ghost use Rattle.zr_table.specs.Table.{able_kind};
 ghost use Rattle.zr_node.specs.Answer.{IsJudged, answered};
-ghost use Rattle.zr_node.specs.Asked.{rows_after, refuses_asked};
+ghost use Rattle.zr_node.specs.Asked.{rows_after, local_after, refuses_asked};
 
 use crate::failure::Failure;
 use std::alloc::{AllocError, Global};
@@ -58,9 +58,9 @@ pub fn able_kind(complete: bool) -> Kind
 
 /// Does what a client asks, and tells what became of the set of all declarations.
 pub fn apply(local: &mut Local, asked: Asked) -> Result<Changes, Failure>
-    ensures gone { IfOk result (λ c. c.gone.items ≡ gone local.old (rows_after local.old asked)) }
-    ensures came { IfOk result (λ c. c.came.items ≡ came local.old (rows_after local.old asked)) }
-    ensures rows { OnOk result (local.new ≡ rows_after local.old asked) }
+    ensures gone { IfOk result (λ c. c.gone.items ≡ gone local.old.rows (rows_after local.old.rows asked)) }
+    ensures came { IfOk result (λ c. c.came.items ≡ came local.old.rows (rows_after local.old.rows asked)) }
+    ensures value { OnOk result (local.new ≡ local_after local.old asked) }
     ensures refused { IsJudged (refuses_asked local.old asked) result }
     ensures unchanged { OnErr result (local.new ≡ local.old) }
 {
@@ -71,32 +71,18 @@ pub fn apply(local: &mut Local, asked: Asked) -> Result<Changes, Failure>
     }
 }
 
-// What became of it, as an answer of the router.
-fn answer(id: u32, changes: Result<Changes, LocalError>) -> Result<Changes, Failure>
-    ensures { result ≡ answered id changes }
+/// What became of what a client says of an id, as an answer of the router.
+pub fn answer<T>(id: u32, done: Result<T, LocalError>) -> Result<T, Failure>
+    ensures { result ≡ answered id done }
 {
-    match changes {
-        Ok(changes) => Ok(changes),
+    match done {
+        Ok(value) => Ok(value),
         Err(LocalError::UnknownId) => Err(Failure::Refused(NodeError::NotDeclared { id })),
         Err(LocalError::TextLimit { held, more }) => {
             Err(Failure::Refused(NodeError::TextLimit { held, more }))
         }
         Err(LocalError::NoMemory) => Err(Failure::NoMemory),
     }
-}
-
-/// The same declarations of the same clients.
-pub fn copy_of(alloc: Global, local: &Local) -> Result<Local, AllocError>
-    ensures { IfOk result (λ l. l ≡ local.now) }
-{
-    let mut copy = Local::new(alloc);
-    for row in local.rows() {
-        let decl = row.decl.copy(alloc)?;
-        if copy.declare(row.link, row.id, decl).is_err() {
-            return Err(AllocError);
-        }
-    }
-    Ok(copy)
 }
 
 /// Whether a log with so many changes has room for these.

@@ -44,7 +44,7 @@ pub fn lend<'a>(
     known: &'a Known,
 ) -> Tables<'a>
     requires { trees.now ≡ base.now.records }
-    ensures { result ≡ record { links = links.now; base = base.now; rows = local.now; known = known.now } }
+    ensures { result ≡ record { links = links.now; base = base.now; rows = local.now.rows; clients = local.now.clients; known = known.now } }
 {
     Tables::new(base.me(), links.as_slice(), trees, local, known)
 }

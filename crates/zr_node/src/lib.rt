@@ -5,6 +5,7 @@
 mod asked;
 mod asking;
 mod failure;
+mod interests;
 mod kept;
 mod links;
 pub mod node;

@@ -1,6 +1,6 @@
 //! The links of a router in ascending order of their numbers.
 
-ghost use Rattle.std.specs.Prelude.{◌≡◌, ◌<◌, ◌^◌, [], length, None, true, OnOk, IfSome, OnErr};
+ghost use Rattle.std.specs.Prelude.{◌≡◌, ◌<◌, ◌^◌, [], length, None, true, OnOk, IfOk, IfSome, OnErr};
 ghost use Rattle.std.specs.Option.{option_map};
 ghost use Rattle.zr_routing.specs.Tables.{link_at, link_to, free_link};
 ghost use Rattle.zr_table.specs.State.{new_link};
@@ -46,6 +46,16 @@ impl Links {
             all: Vec::new(alloc),
             numbers: BTreeMap::new(alloc),
         }
+    }
+
+    /// The same links once more.
+    pub fn copy(&self, alloc: Global) -> Result<Links, AllocError>
+        ensures { IfOk result (λ l. l ≡ self.now) }
+    {
+        Ok(Links {
+            all: Vec::from_slice(alloc, &self.all)?,
+            numbers: hints_of(alloc, &self.all)?,
+        })
     }
 
     /// The links in ascending order of their numbers.
@@ -156,6 +166,15 @@ fn gap_of(links: &[LinkPeer], number: LinkNo) -> usize
 fn hint(numbers: &mut BTreeMap<Zid, LinkNo>, name: &Zid, number: LinkNo) -> Result<(), AllocError> {
     numbers.insert(*name, number)?;
     Ok(())
+}
+
+// The numbers of all links.
+fn hints_of(alloc: Global, links: &[LinkPeer]) -> Result<BTreeMap<Zid, LinkNo>, AllocError> {
+    let mut numbers = BTreeMap::new(alloc);
+    for link in links {
+        hint(&mut numbers, &link.peer.id, link.link)?;
+    }
+    Ok(numbers)
 }
 
 // The link has gone down.

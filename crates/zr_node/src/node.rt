@@ -4,6 +4,7 @@ ghost use Rattle.std.specs.Prelude.{◌≡◌, ℕ, ◌<◌, ◌^◌, ◌+◌, �
 ghost use Rattle.std.specs.Option.{option_map};
 ghost use Rattle.zr_graph.specs.Base.{is_newer, after_record};
 ghost use Rattle.zr_id.specs.Record.{RecordState};
+ghost use Rattle.zr_local.specs.Clients.{AreByLink};
 ghost use Rattle.zr_local.specs.Rows.{AreInOrder, gone, came};
 ghost use Rattle.zr_log.specs.Known.{position, is_next};
 ghost use Rattle.zr_log.specs.Known.{is_newer as is_newer_log};
@@ -13,17 +14,20 @@ ghost use Rattle.zr_routing.specs.Changes.{changes_of, after_changes, sends_chan
 ghost use Rattle.zr_routing.specs.Snapshots.{sends_step, sends_snap, sends_snapshots};
 ghost use Rattle.zr_routing.specs.Tables.{TableState, HaveSameTrees, AreNumbered, link_at, link_to, leads_to_client, leads_to_router, free_link};
 ghost use Rattle.zr_table.specs.Event.{AreLinks, MayCome, Sends, SendsPrefix, Tells, TellsPrefix};
-ghost use Rattle.zr_table.specs.State.{new_node, tables};
+ghost use Rattle.zr_table.specs.State.{new_node, tables, local_state};
 ghost use Rattle.zr_table.specs.Table.{row, key_of, after, refuses, with_base, with_known};
+ghost use Rattle.zr_tree.specs.Same.{HaveSameEdges};
 ghost use Rattle.zr_node.specs.Answer.{IsAnswered, IsJudged, refusal_of};
-ghost use Rattle.zr_node.specs.Asked.{rows_after, refuses_asked, refuses_change};
+ghost use Rattle.zr_node.specs.Asked.{rows_after, local_after, refuses_asked, refuses_change};
 ghost use Rattle.zr_node.specs.Done.{IsDone};
 ghost use Rattle.zr_node.specs.Steps.{with_local, event_part, message_part, asked_part, declare_part, undeclare_part, step_part, snap_part, told_part};
 
+mod interests;
+mod lent;
 mod neighbours;
 mod traffic;
 
-use crate::asked::{self, Asked, able_kind, apply, copy_of, has_room};
+use crate::asked::{self, Asked, able_kind, apply, has_room};
 use crate::failure::Failure;
 use crate::kept::{lend, take_trees};
 use crate::links::Links;
@@ -38,6 +42,7 @@ use zr_id::record::LinkRecord;
 use zr_id::zid::Zid;
 use zr_key::key::KeyExpr;
 use zr_local::changes::Changes;
+use zr_local::interest::ClientInterests;
 use zr_local::local::Local;
 use zr_local::row::Row;
 use zr_log::known::{Known, Taken};
@@ -53,8 +58,8 @@ use zr_tree::trees::Trees;
 /// A log with at most so many changes has room for those of one event: lists are shorter than the rest.
 const SURE_OF_ROOM: u64 = 0x4000_0000_0000_0000;
 
-/// A router: its links, what it knows of the links of all routers, what its clients have declared, what it knows of all logs, and the requests
-/// that it has passed on and that have not ended.
+/// A router: its links, what it knows of the links of all routers, what its clients have declared and their live interests, what it knows of
+/// all logs, and the requests that it has passed on and that have not ended.
 #[derive(Drop)]
 pub struct Node {
     links: Links,
@@ -75,9 +80,9 @@ impl Model for Node {
 
     ghost Value = { NodeState };
 
-    ghost view = { λ n. record { links = n.links; base = n.base; rows = n.local; known = n.known; pending = n.pending; spent = n.spent } };
+    ghost view = { λ n. record { links = n.links; base = n.base; rows = n.local.rows; clients = n.local.clients; known = n.known; pending = n.pending; spent = n.spent } };
 
-    ghost invariant = { λ n. IsWhole (record { links = n.links; base = n.base; rows = n.local; known = n.known }) n.trees n.routes };
+    ghost invariant = { λ n. IsWhole (record { links = n.links; base = n.base; rows = n.local.rows; clients = n.local.clients; known = n.known }) n.trees n.routes };
 }
 
 impl Node {
@@ -94,6 +99,22 @@ impl Node {
             trees: None,
             routes: Routes::new(alloc),
             spent: false,
+        })
+    }
+
+    /// The same router once more: each event does there what it does here.
+    pub fn copy(&self, alloc: Global) -> Result<Node, AllocError>
+        ensures { IfOk result (λ n. n ≡ self.now) }
+    {
+        Ok(Node {
+            links: self.links.copy(alloc)?,
+            base: self.base.copy(alloc)?,
+            local: self.local.copy(alloc)?,
+            known: self.known.copy(alloc)?,
+            pending: self.pending.copy(alloc)?,
+            trees: None,
+            routes: Routes::new(alloc),
+            spent: self.spent,
         })
     }
 
@@ -128,9 +149,18 @@ impl Node {
         self.local.rows()
     }
 
-    /// What its own clients have declared, as the table of it.
+    /// The live interests of the clients of its links, by link, and of one client by id. A client whose interests have all ended may
+    /// stand there with none.
+    pub fn clients(&self) -> &[ClientInterests]
+        ensures value { result.now ≡ self.now.clients }
+        ensures in_order { AreByLink self.now.clients }
+    {
+        self.local.clients()
+    }
+
+    /// What its own clients have declared, and their live interests, as the table of them.
     pub fn local(&self) -> &Local
-        ensures { result.now ≡ self.now.rows }
+        ensures { result.now ≡ local_state self.now }
     {
         &self.local
     }
@@ -261,9 +291,16 @@ impl Node {
                 number,
                 decls,
             } => self.snap(alloc, link, msg, *source, *number, decls, out),
-            Msg::Interest { .. }
-            | Msg::EndInterest { .. }
-            | Msg::ToldSub { .. }
+            Msg::Interest {
+                id,
+                future,
+                kinds,
+                key,
+                aggregate,
+                ..
+            } => self.interest(alloc, link, *future, *id, *kinds, key, *aggregate),
+            Msg::EndInterest { id } => self.end_interest(link, *id),
+            Msg::ToldSub { .. }
             | Msg::ToldAble { .. }
             | Msg::ToldUnsub { .. }
             | Msg::ToldUnable { .. }
@@ -334,7 +371,7 @@ impl Node {
         requires { number ≡ position self.now.known self.now.base.me }
         ensures { IsJudged (refuses_change self.now asked.now) result }
     {
-        let mut local = copy_of(alloc, &self.local)?;
+        let mut local = self.local.copy(alloc)?;
         let changes = apply(&mut local, asked.copy(alloc)?)?;
         if !has_room(number, &changes) {
             return Err(Failure::Refused(NodeError::Worn));
@@ -346,8 +383,8 @@ impl Node {
     fn apply(&mut self, asked: Asked) -> Result<Changes, Failure>
         ensures gone { IfOk result (λ c. c.gone.items ≡ gone self.old.rows (rows_after self.old.rows asked)) }
         ensures came { IfOk result (λ c. c.came.items ≡ came self.old.rows (rows_after self.old.rows asked)) }
-        ensures state { OnOk result (self.new ≡ with_local self.old (rows_after self.old.rows asked)) }
-        ensures refused { IsJudged (refuses_asked self.old.rows asked) result }
+        ensures state { OnOk result (self.new ≡ with_local self.old (local_after (local_state self.old) asked)) }
+        ensures refused { IsJudged (refuses_asked (local_state self.old) asked) result }
         ensures unchanged { OnErr result (self.new ≡ self.old) }
     {
         self.routes.clear(); // the client may stand on any of them
@@ -538,6 +575,7 @@ impl Node {
 
     // Each neighbour that has become a child in a router's tree is sent what is known of that router's log. `before` are the trees
     // before that, if any log is known.
+    #[tactic(auto, using(crate::proofs::Quiet::quiet_ok, crate::proofs::Quiet::quiet_err))]
     fn tell_new_children(
         &mut self,
         alloc: Global,
@@ -551,11 +589,24 @@ impl Node {
         let Some(before) = before else {
             return Ok(());
         };
+        if before.have_edges_of(&self.base) {
+            return self.keep_trees(alloc, before); // no child is new
+        }
         let trees = take_trees(alloc, &mut self.trees, &self.base)?;
         let tables = lend(&self.links, &self.base, &trees, &self.local, &self.known);
         let told = fresh_children(alloc, &tables, &before, out);
         self.trees = Some(trees);
         told
+    }
+
+    // The trees of records with the same edges stay, and take over the records.
+    fn keep_trees(&mut self, alloc: Global, mut before: Trees) -> Result<(), AllocError>
+        requires { HaveSameEdges before self.old.base.records }
+        ensures { self.new ≡ self.old }
+    {
+        before.follow(alloc, &self.base)?;
+        self.trees = Some(before);
+        Ok(())
     }
 
     fn leads_to_client(&self, link: LinkNo) -> bool

@@ -19,7 +19,7 @@ use zr_msg::decl::{Decl, Kind};
 
 /// Whether the client of a link has declared it. The rows of a link stand together, and are found without a look at the others.
 pub fn has_declared(local: &Local, link: LinkNo, sought: Sought, key: &KeyExpr) -> bool
-    ensures { result ≡ has_declared local.now link.0 sought key.now }
+    ensures { result ≡ has_declared local.now.rows link.0 sought key.now }
 {
     any_is_sought(rows_on(local.rows(), link), sought, key)
 }

@@ -1,4 +1,5 @@
--- What a router goes by: its links, the records, what its own clients have declared, and what it knows of the change logs of all routers.
+-- What a router goes by: its links, the records, what its own clients have declared and want to be told of, and what it knows of the change
+-- logs of all routers.
 use Rattle.std.specs.Prelude.{◌≡◌, ℕ, ◌+◌, ◌==◌, ◌&&◌, not, Bool, true, false, List, length, map, Option, unwrap_or}
 use Rattle.std.specs.List.{find, list_any, range_with_len}
 use Rattle.std.specs.List.Sorted.{IsStrictlySortedBy}
@@ -11,15 +12,17 @@ use Rattle.zr_tree.specs.Tree.{is_child}
 use Rattle.zr_msg.specs.declared.peer.LinkPeer.{LinkPeer}
 use Rattle.zr_msg.specs.declared.peer.Role.{Role}
 use Rattle.zr_msg.specs.declared.peer.Role.TheVariants.{Client, Router}
+use Rattle.zr_local.specs.declared.interest.ClientInterests.{ClientInterests}
 use Rattle.zr_local.specs.declared.row.Row.{Row}
 use Rattle.zr_log.specs.Known.{KnownState}
 
 -- the tables of a router: its links in ascending order of their numbers, the newest record of each router, what the clients of the links have
--- declared, and of each router's log how much is known
+-- declared, their live interests, and of each router's log how much is known
 pub record TableState : Type 0 where
   pub links : List LinkPeer
   pub base : BaseState
   pub rows : List Row
+  pub clients : List ClientInterests
   pub known : KnownState
 
 -- two states of a router have the same links and records, and so the same children in each tree

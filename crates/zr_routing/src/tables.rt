@@ -27,14 +27,15 @@ impl<'a> Model for Tables<'a> {
     ghost view = { λ t. record {
       links = t.links.now;
       base = record { me = t.me; records = t.trees.now };
-      rows = t.local.now;
+      rows = t.local.now.rows;
+      clients = t.local.now.clients;
       known = t.known.now;
     } };
 }
 
 impl<'a> Tables<'a> {
     /// The tables of the router `me`: its links in ascending order of their numbers, the trees of its records, what its clients have
-    /// declared, and what it knows of all logs.
+    /// declared and their live interests, and what it knows of all logs.
     pub fn new(
         me: Zid,
         links: &'a [LinkPeer],
@@ -42,7 +43,7 @@ impl<'a> Tables<'a> {
         local: &'a Local,
         known: &'a Known,
     ) -> Tables<'a>
-        ensures { result ≡ record { links = links.now; base = record { me = me; records = trees.now }; rows = local.now; known = known.now } }
+        ensures { result ≡ record { links = links.now; base = record { me = me; records = trees.now }; rows = local.now.rows; clients = local.now.clients; known = known.now } }
     {
         Tables {
             me,
@@ -74,9 +75,9 @@ impl<'a> Tables<'a> {
         self.trees
     }
 
-    /// What its clients have declared.
+    /// What its clients have declared, and their live interests.
     pub fn local(&self) -> &'a Local
-        ensures { result.now ≡ self.now.rows }
+        ensures { result.now ≡ record { rows = self.now.rows; clients = self.now.clients } }
     {
         self.local
     }

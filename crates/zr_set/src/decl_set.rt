@@ -51,6 +51,16 @@ impl DeclSet {
         Ok(set)
     }
 
+    /// A second set with the same declarations.
+    pub fn copy(&self, alloc: Global) -> Result<DeclSet, AllocError>
+        ensures { IfOk result (λ s. s ≡ self.now) }
+    {
+        Ok(DeclSet {
+            items: copies_of(alloc, &self.items)?,
+            total: self.total,
+        })
+    }
+
     /// The declarations in ascending order.
     pub fn as_slice(&self) -> &[Decl]
         ensures value { result.now ≡ self.now }
@@ -137,4 +147,15 @@ pub fn place_of(items: &[Decl], decl: &Decl) -> Result<usize, usize>
     ensures { IsPlace decl_cmp (λ d. d) items.now decl.now result }
 {
     items.binary_search(decl)
+}
+
+/// Second declarations, equal to these.
+pub fn copies_of(alloc: Global, decls: &[Decl]) -> Result<Vec<Decl>, AllocError>
+    ensures { IfOk result (λ v. v.items ≡ decls.now) }
+{
+    let mut copies = Vec::with_capacity(alloc, decls.len())?;
+    for decl in decls {
+        copies.push(decl.copy(alloc)?)?;
+    }
+    Ok(copies)
 }

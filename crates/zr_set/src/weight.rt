@@ -8,8 +8,8 @@ use zr_msg::decl::Decl;
 /// How much the declarations of all clients of one router weigh together at most, and likewise the set of each router (this profile's limit).
 pub const MOST_WEIGHT: u64 = 4_194_304;
 
-// what one weighs beside its text
-const OVERHEAD: u64 = 16;
+/// What a declaration or an interest weighs beside its text.
+pub const OVERHEAD: u64 = 16;
 
 /// What a declaration weighs: the bytes of its text, and 16.
 pub fn decl_weight(decl: &Decl) -> u64

@@ -4,7 +4,9 @@ use Rattle.zr_id.specs.declared.link.LinkNo.{LinkNo}
 use Rattle.zr_graph.specs.Base.{BaseState, fresh}
 use Rattle.zr_msg.specs.declared.peer.Peer.{Peer}
 use Rattle.zr_msg.specs.declared.peer.LinkPeer.{LinkPeer}
+use Rattle.zr_local.specs.declared.interest.ClientInterests.{ClientInterests}
 use Rattle.zr_local.specs.declared.row.Row.{Row}
+use Rattle.zr_local.specs.State.{LocalState}
 use Rattle.zr_log.specs.Known.{KnownState, nothing_known}
 use Rattle.zr_pend.specs.Row.{RowState}
 use Rattle.zr_routing.specs.Tables.{TableState}
@@ -16,6 +18,7 @@ pub record NodeState : Type 0 where
   pub links : List LinkPeer
   pub base : BaseState
   pub rows : List Row
+  pub clients : List ClientInterests
   pub known : KnownState
   pub pending : List RowState
   -- memory ran out at an earlier event: nothing is said of the rest, and the router answers no more
@@ -23,7 +26,7 @@ pub record NodeState : Type 0 where
 
 -- a router without links
 abbrev pub new_node : List ℕ → NodeState
-new_node me = record { links = []; base = fresh me; rows = []; known = nothing_known me; pending = []; spent = false }
+new_node me = record { links = []; base = fresh me; rows = []; clients = []; known = nothing_known me; pending = []; spent = false }
 
 -- a link that has come up
 abbrev pub new_link : LinkNo → Peer → LinkPeer
@@ -31,4 +34,8 @@ new_link link peer = record { link = link; peer = peer }
 
 -- what a router goes by
 abbrev pub tables : NodeState → TableState
-tables node = record { links = node.links; base = node.base; rows = node.rows; known = node.known }
+tables node = record { links = node.links; base = node.base; rows = node.rows; clients = node.clients; known = node.known }
+
+-- what it keeps of its clients
+abbrev pub local_state : NodeState → LocalState
+local_state node = record { rows = node.rows; clients = node.clients }

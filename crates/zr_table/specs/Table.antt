@@ -20,7 +20,11 @@ use Rattle.zr_msg.specs.declared.peer.Peer.{Peer}
 use Rattle.zr_msg.specs.declared.peer.LinkPeer.{LinkPeer}
 use Rattle.zr_msg.specs.declared.peer.Role.{Role}
 use Rattle.zr_msg.specs.declared.peer.Role.TheVariants.{Client, Router}
-use Rattle.zr_local.specs.Rows.{Key, id_kind, declared, undeclared, left, refuses_declare, refuses_undeclare}
+use Rattle.zr_local.specs.Rows.{Key, id_kind, declared, undeclared, left, refuses_undeclare}
+use Rattle.zr_local.specs.Clients.{noted, clients_left}
+use Rattle.zr_local.specs.State.{refuses_declare, refuses_interest}
+use Rattle.zr_local.specs.declared.interest.ClientInterests.{ClientInterests}
+use Rattle.zr_local.specs.declared.interest.Interest.{Interest as LiveInterest}
 use Rattle.zr_local.specs.declared.row.Row.{Row}
 use Rattle.zr_local.specs.declared.error.LocalError.{LocalError}
 use Rattle.zr_local.specs.declared.error.LocalError.TheVariants as local
@@ -35,7 +39,7 @@ use Rattle.zr_routing.specs.Changes.{changes, after_changes, sends_changes, have
 use Rattle.zr_routing.specs.Samples.{sends_push}
 use Rattle.zr_routing.specs.Queries.{link_no, asker, asked_links, sends_request, sends_reply, sends_final, sends_ends, after_request, after_final, most_pending, asks_most, has_no_number}
 use Rattle.zr_routing.specs.Snapshots.{sends_step, sends_snap, sends_snapshots}
-use Rattle.zr_table.specs.State.{NodeState, new_link, tables}
+use Rattle.zr_table.specs.State.{NodeState, new_link, tables, local_state}
 
 -- ---- the own links
 
@@ -104,6 +108,24 @@ rows_undeclared node from k = if leads_to_client node.links from then undeclared
 abbrev pub rows_left : NodeState → ℕ → List Row
 rows_left node from = if leads_to_client node.links from then left node.rows from else node.rows
 
+-- ---- clients' interests
+
+-- an interest in what is declared later is live, and one in what is declared now alone is not
+abbrev pub live : Bool → LiveInterest → Option LiveInterest
+live future i = if future then Some i else None
+
+-- the live interests once a client has an interest under an id, or has none there any more, or has left; a router has none
+abbrev pub clients_noted : NodeState → ℕ → ℕ → Option LiveInterest → List ClientInterests
+clients_noted node from id i = if leads_to_client node.links from then noted node.clients (link_no from) id i else node.clients
+
+abbrev pub clients_down : NodeState → ℕ → List ClientInterests
+clients_down node from = if leads_to_client node.links from then clients_left node.clients from else node.clients
+
+-- a router whose clients have other live interests
+abbrev pub with_clients : NodeState → List ClientInterests → NodeState
+with_clients node clients =
+    record { links = node.links; base = node.base; rows = node.rows; clients = clients; known = node.known; pending = node.pending; spent = node.spent }
+
 -- a router whose clients have declared these rows: what has changed of their set stands in its log
 abbrev pub with_rows : NodeState → List Row → NodeState
 with_rows node rows =
@@ -111,6 +133,7 @@ with_rows node rows =
       links = node.links;
       base = node.base;
       rows = rows;
+      clients = node.clients;
       known = after_changes node.known (changes node.rows rows);
       pending = node.pending;
       spent = node.spent;
@@ -199,14 +222,14 @@ without_link links link = filter (λ l. not (is_link link l)) links
 
 -- a router with another base, or that knows other logs
 abbrev pub with_base : NodeState → BaseState → NodeState
-with_base node base = record { links = node.links; base = base; rows = node.rows; known = node.known; pending = node.pending; spent = node.spent }
+with_base node base = record { links = node.links; base = base; rows = node.rows; clients = node.clients; known = node.known; pending = node.pending; spent = node.spent }
 
 abbrev pub with_known : NodeState → KnownState → NodeState
-with_known node known = record { links = node.links; base = node.base; rows = node.rows; known = known; pending = node.pending; spent = node.spent }
+with_known node known = record { links = node.links; base = node.base; rows = node.rows; clients = node.clients; known = known; pending = node.pending; spent = node.spent }
 
 -- a router where other requests are pending
 abbrev pub with_pending : NodeState → List RowState → NodeState
-with_pending node pending = record { links = node.links; base = node.base; rows = node.rows; known = node.known; pending = pending; spent = node.spent }
+with_pending node pending = record { links = node.links; base = node.base; rows = node.rows; clients = node.clients; known = node.known; pending = pending; spent = node.spent }
 
 -- what is known once a router tells a change or a snapshot: clients tell none
 abbrev pub known_step : NodeState → ℕ → List ℕ → ℕ → Change → KnownState
@@ -221,8 +244,9 @@ after_from node from (Sub id key) = with_rows node (rows_declared node from (row
 after_from node from (Unsub id) = with_rows node (rows_undeclared node from (key_of from id kind.Sub))
 after_from node from (Able id key complete) = with_rows node (rows_declared node from (row from id (able_kind complete) key))
 after_from node from (Unable id) = with_rows node (rows_undeclared node from (key_of from id kind.Able))
-after_from node from (Interest id current future kinds key aggregate) = node
-after_from node from (EndInterest id) = node
+after_from node from (Interest id current future kinds key aggregate) =
+    with_clients node (clients_noted node from id (live future (record { id = id; kinds = kinds; key = key; aggregate = aggregate })))
+after_from node from (EndInterest id) = with_clients node (clients_noted node from id None)
 after_from node from (ToldSub id key interest) = node
 after_from node from (ToldAble id key complete interest) = node
 after_from node from (ToldUnsub id) = node
@@ -244,6 +268,7 @@ after_up node link peer =
       links = with_link node.links (new_link link peer);
       base = base_up node.base peer peer.role;
       rows = node.rows;
+      clients = node.clients;
       known = node.known;
       pending = node.pending;
       spent = node.spent;
@@ -257,6 +282,7 @@ after_down node link =
       links = without_link node.links link;
       base = base_down node.base (link_at node.links link);
       rows = node.rows;
+      clients = clients_down node link;
       known = node.known;
       pending = dropped (link_no link) node.pending;
       spent = node.spent;
@@ -318,11 +344,16 @@ known_error known.NoMemory = e.NoMemory
 -- what a client declares or takes back is refused for itself, or for what the own log has no room for
 abbrev pub refuses_declared : NodeState → ℕ → Row → Option NodeError
 refuses_declared node from r =
-    if leads_to_client node.links from then option_or (option_map (λ x. local_error r.id x) (refuses_declare node.rows r)) (refuses_rows node (rows_declared node from r)) else None
+    if leads_to_client node.links from then option_or (option_map (λ x. local_error r.id x) (refuses_declare (local_state node) r)) (refuses_rows node (rows_declared node from r)) else None
 
 abbrev pub refuses_undeclared : NodeState → ℕ → Key → Option NodeError
 refuses_undeclared node from k =
     if leads_to_client node.links from then option_or (option_map (λ x. local_error k.id x) (refuses_undeclare node.rows k)) (refuses_rows node (rows_undeclared node from k)) else None
+
+-- an interest is refused where it and all but what it replaces would weigh too much
+abbrev pub refuses_noted : NodeState → ℕ → ℕ → Option LiveInterest → Option NodeError
+refuses_noted node from id i =
+    if leads_to_client node.links from then option_map (λ x. local_error id x) (refuses_interest (local_state node) (link_no from) id i) else None
 
 -- what a router tells of a log is refused where it doesn't follow what is known, or weighs too much
 abbrev pub refuses_step_from : NodeState → ℕ → List ℕ → ℕ → Change → Option NodeError
@@ -348,7 +379,8 @@ refuses_from node from (Sub id key) = refuses_declared node from (row from id ki
 refuses_from node from (Unsub id) = refuses_undeclared node from (key_of from id kind.Sub)
 refuses_from node from (Able id key complete) = refuses_declared node from (row from id (able_kind complete) key)
 refuses_from node from (Unable id) = refuses_undeclared node from (key_of from id kind.Able)
-refuses_from node from (Interest id current future kinds key aggregate) = None
+refuses_from node from (Interest id current future kinds key aggregate) =
+    refuses_noted node from id (live future (record { id = id; kinds = kinds; key = key; aggregate = aggregate }))
 refuses_from node from (EndInterest id) = None
 refuses_from node from (ToldSub id key interest) = None
 refuses_from node from (ToldAble id key complete interest) = None

@@ -7,8 +7,8 @@ returns-in-Declare-clause-gone c = rw (c.answer.ensures, c.in-Declare.is) (if_an
 pub returns-in-Declare-clause-came : goal.returns-in-Declare-clause-came
 returns-in-Declare-clause-came c = rw (c.answer.ensures, c.in-Declare.is) (if_answered _ _ c.declare.result c.declare.ensures.came)
 
-pub returns-in-Declare-clause-rows : goal.returns-in-Declare-clause-rows
-returns-in-Declare-clause-rows c = rw (c.answer.ensures, c.in-Declare.is) (on_answered _ _ c.declare.result c.declare.ensures.rows)
+pub returns-in-Declare-clause-value : goal.returns-in-Declare-clause-value
+returns-in-Declare-clause-value c = rw (c.answer.ensures, c.in-Declare.is) (on_answered _ _ c.declare.result c.declare.ensures.value)
 
 pub returns-in-Declare-clause-refused : goal.returns-in-Declare-clause-refused
 returns-in-Declare-clause-refused c = rw (c.answer.ensures, c.in-Declare.is) (rw c.declare.ensures.refused (judged _ c.declare.result))
@@ -22,8 +22,8 @@ returns-in-Undeclare-clause-gone c = rw (c.answer-in-Undeclare.ensures, c.in-Und
 pub returns-in-Undeclare-clause-came : goal.returns-in-Undeclare-clause-came
 returns-in-Undeclare-clause-came c = rw (c.answer-in-Undeclare.ensures, c.in-Undeclare.is) (if_answered _ _ c.undeclare.result c.undeclare.ensures.came)
 
-pub returns-in-Undeclare-clause-rows : goal.returns-in-Undeclare-clause-rows
-returns-in-Undeclare-clause-rows c = rw (c.answer-in-Undeclare.ensures, c.in-Undeclare.is) (on_answered _ _ c.undeclare.result c.undeclare.ensures.rows)
+pub returns-in-Undeclare-clause-value : goal.returns-in-Undeclare-clause-value
+returns-in-Undeclare-clause-value c = rw (c.answer-in-Undeclare.ensures, c.in-Undeclare.is) (on_answered _ _ c.undeclare.result c.undeclare.ensures.value)
 
 pub returns-in-Undeclare-clause-refused : goal.returns-in-Undeclare-clause-refused
 returns-in-Undeclare-clause-refused c = rw (c.answer-in-Undeclare.ensures, c.in-Undeclare.is) (rw c.undeclare.ensures.refused (judged _ c.undeclare.result))

@@ -10,4 +10,4 @@ pub returns : goal.returns
 returns c =
     c.any_is_sought.ensures
     ∙ ap (λ (rs : List Row). list_any (λ r. is_sought c.args.sought c.args.key.now r.decl) rs) (c.rows_on.ensures ∙ ap (λ (rs : List Row). on_link rs c.args.link.0) c.rows.ensures.value)
-    ∙ any_kept (λ (r : Row). is_sought c.args.sought c.args.key.now r.decl) (λ r. r.link.0 == c.args.link.0) c.args.local.now
+    ∙ any_kept (λ (r : Row). is_sought c.args.sought c.args.key.now r.decl) (λ r. r.link.0 == c.args.link.0) c.args.local.now.rows

@@ -6,9 +6,9 @@ use Rattle.zr_node.proofs.node.Node.add.Goals as goal
 
 pub invariant_of-self : goal.invariant_of-self
 invariant_of-self c =
-    let node : NodeState = record { links = c.self.inside.links; base = c.self.inside.base; rows = c.self.inside.local; known = c.self.inside.known; pending = c.self.inside.pending; spent = c.self.inside.spent } in
+    let node : NodeState = record { links = c.self.inside.links; base = c.self.inside.base; rows = c.self.inside.local.rows; clients = c.self.inside.local.clients; known = c.self.inside.known; pending = c.self.inside.pending; spent = c.self.inside.spent } in
     let fresh : IsFresh node c.args.link c.args.peer.now = rw (← c.self.view_is) at c.requires in
-    let now : TableState = record { links = c.add.new.self; base = c.self.inside.base; rows = c.self.inside.local; known = c.self.inside.known } in
+    let now : TableState = record { links = c.add.new.self; base = c.self.inside.base; rows = c.self.inside.local.rows; clients = c.self.inside.local.clients; known = c.self.inside.known } in
     record {
       links = are_links_after c.add.result node c.args.link c.args.peer.now c.add.new.self fresh c.self.invariant.links c.add.ensures.ok c.add.ensures.err;
       own = c.self.invariant.own;

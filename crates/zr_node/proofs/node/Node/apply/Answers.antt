@@ -3,7 +3,7 @@ use Rattle.zr_node.proofs.node.Node.apply.Goals as goal
 
 pub invariant_of-self : goal.invariant_of-self
 invariant_of-self c =
-    let now : TableState = record { links = c.self.inside.links; base = c.self.inside.base; rows = c.apply.new.local; known = c.self.inside.known } in
+    let now : TableState = record { links = c.self.inside.links; base = c.self.inside.base; rows = c.apply.new.local.rows; clients = c.apply.new.local.clients; known = c.self.inside.known } in
     record {
       links = c.self.invariant.links;
       own = c.self.invariant.own;

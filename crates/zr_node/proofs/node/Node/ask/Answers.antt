@@ -10,7 +10,7 @@ use Rattle.zr_node.proofs.node.Node.ask.Goals as goal
 
 pub returns-in_err-asked : goal.returns-in_err-asked
 returns-in_err-asked c =
-    let node : NodeState = record { links = c.self.inside.links; base = c.self.inside.base; rows = c.self.inside.local; known = c.self.inside.known; pending = c.self.inside.pending; spent = c.self.inside.spent } in
+    let node : NodeState = record { links = c.self.inside.links; base = c.self.inside.base; rows = c.self.inside.local.rows; clients = c.self.inside.local.clients; known = c.self.inside.known; pending = c.self.inside.pending; spent = c.self.inside.spent } in
     let allowed : refuses_asker node.pending c.args.from (leads_to_client node.links c.args.from.link.0) ≡ None =
     subst (λ (m : NodeState). refuses_asker m.pending c.args.from (leads_to_client m.links c.args.from.link.0) ≡ None) (sym c.self.view_is) c.requires in
     subst (λ (m : NodeState). IsDone (request_part m c.args.from.link.0 c.args.named c.args.from.number c.args.target c.args.content.now) c.from_residual-in_err-asked.result (with_pending node c.ask-asked.new.pending) c.args.out.now.items c.ask-asked.new.out.items) c.self.view_is

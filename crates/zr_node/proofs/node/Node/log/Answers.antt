@@ -4,7 +4,7 @@ use Rattle.zr_node.proofs.node.Node.log.Goals as goal
 
 pub invariant_of-self : goal.invariant_of-self
 invariant_of-self c =
-    let now : TableState = record { links = c.self.inside.links; base = c.self.inside.base; rows = c.self.inside.local; known = c.log.new.known } in
+    let now : TableState = record { links = c.self.inside.links; base = c.self.inside.base; rows = c.self.inside.local.rows; clients = c.self.inside.local.clients; known = c.log.new.known } in
     record {
       links = c.self.invariant.links;
       own = c.log.ensures.me ∙ c.self.invariant.own;

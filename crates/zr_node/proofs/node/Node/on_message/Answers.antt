@@ -4,7 +4,7 @@ use Rattle.zr_msg.specs.declared.decl.Kind.{Kind}
 use Rattle.zr_table.specs.Table.{row}
 use Rattle.zr_node.specs.Done.{IsDone}
 use Rattle.zr_node.specs.Steps.{declare_part, step_part}
-use Rattle.zr_node.proofs.Parts.{message_done, at_message, ignored}
+use Rattle.zr_node.proofs.Parts.{message_done, at_message, ignored, end_allowed}
 use Rattle.zr_node.proofs.node.Node.on_message.Goals as goal
 
 pub returns-in-Sub : goal.returns-in-Sub
@@ -47,4 +47,13 @@ pub returns-in-State : goal.returns-in-State
 returns-in-State c = at_message c.args.self.now c.args.link.0 _ c.args.msg.now c.in-State.is c.accept.result c.accept.new.self c.args.out.now.items c.accept.new.out.items c.accept.ensures
 
 pub returns-in-Interest : goal.returns-in-Interest
-returns-in-Interest c = elim c.in-Interest.is [ inl v0 ↦ ignored c.args.self.now c.args.link.0 _ c.args.msg.now c.args.out.now.items v0.6 refl (λ to. refl) refl refl | inr w0 ↦ elim w0 [ inl v1 ↦ ignored c.args.self.now c.args.link.0 _ c.args.msg.now c.args.out.now.items v1.1 refl (λ to. refl) refl refl | inr w1 ↦ elim w1 [ inl v2 ↦ ignored c.args.self.now c.args.link.0 _ c.args.msg.now c.args.out.now.items v2.3 refl (λ to. refl) refl refl | inr w2 ↦ elim w2 [ inl v3 ↦ ignored c.args.self.now c.args.link.0 _ c.args.msg.now c.args.out.now.items v3.4 refl (λ to. refl) refl refl | inr w3 ↦ elim w3 [ inl v4 ↦ ignored c.args.self.now c.args.link.0 _ c.args.msg.now c.args.out.now.items v4.1 refl (λ to. refl) refl refl | inr w4 ↦ elim w4 [ inl v5 ↦ ignored c.args.self.now c.args.link.0 _ c.args.msg.now c.args.out.now.items v5.1 refl (λ to. refl) refl refl | inr w5 ↦ ignored c.args.self.now c.args.link.0 _ c.args.msg.now c.args.out.now.items w5.1 refl (λ to. refl) refl refl ] ] ] ] ] ]
+returns-in-Interest c =
+    message_done c.args.self.now c.args.link.0 _ c.args.msg.now c.in-Interest.is c.interest.result c.interest.new.self c.args.out.now.items c.args.out.now.items _ (c.interest.ensures c.args.out.now.items) refl refl (λ to. refl) refl refl
+
+pub returns-in-EndInterest : goal.returns-in-EndInterest
+returns-in-EndInterest c =
+    message_done c.args.self.now c.args.link.0 _ c.args.msg.now c.in-EndInterest.is c.end_interest.result c.end_interest.new.self c.args.out.now.items c.args.out.now.items _ (c.end_interest.ensures c.args.out.now.items) refl refl (λ to. refl)
+    (end_allowed c.args.self.now c.args.link.0 c.in-EndInterest.id) refl
+
+pub returns-in-ToldSub : goal.returns-in-ToldSub
+returns-in-ToldSub c = elim c.in-ToldSub.is [ inl v2 ↦ ignored c.args.self.now c.args.link.0 _ c.args.msg.now c.args.out.now.items v2.3 refl (λ to. refl) refl refl | inr w2 ↦ elim w2 [ inl v3 ↦ ignored c.args.self.now c.args.link.0 _ c.args.msg.now c.args.out.now.items v3.4 refl (λ to. refl) refl refl | inr w3 ↦ elim w3 [ inl v4 ↦ ignored c.args.self.now c.args.link.0 _ c.args.msg.now c.args.out.now.items v4.1 refl (λ to. refl) refl refl | inr w4 ↦ elim w4 [ inl v5 ↦ ignored c.args.self.now c.args.link.0 _ c.args.msg.now c.args.out.now.items v5.1 refl (λ to. refl) refl refl | inr w5 ↦ ignored c.args.self.now c.args.link.0 _ c.args.msg.now c.args.out.now.items w5.1 refl (λ to. refl) refl refl ] ] ] ]

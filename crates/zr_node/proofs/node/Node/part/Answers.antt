@@ -16,7 +16,7 @@ use Rattle.zr_node.proofs.node.Node.part.Goals as goal
 
 pub returns-in_err-part : goal.returns-in_err-part
 returns-in_err-part c =
-    let node : NodeState = record { links = c.self.inside.links; base = c.self.inside.base; rows = c.self.inside.local; known = c.self.inside.known; pending = c.self.inside.pending; spent = c.self.inside.spent } in
+    let node : NodeState = record { links = c.self.inside.links; base = c.self.inside.base; rows = c.self.inside.local.rows; clients = c.self.inside.local.clients; known = c.self.inside.known; pending = c.self.inside.pending; spent = c.self.inside.spent } in
     let now : NodeState = with_base node c.part.new.base in
     subst (λ (m : NodeState). IsDone (parting_part m c.args.link.0 c.args.peer.now) c.from_residual.result now c.args.out.now.items c.args.out.now.items) c.self.view_is
     (change_failed (parting_part node c.args.link.0 c.args.peer.now) c.in_err-part.field-0.0 c.from_residual.result now c.args.out.now.items c.from_residual.ensures.1 c.in_err-part.ensures.worn
@@ -24,7 +24,7 @@ returns-in_err-part c =
 
 pub returns-in_err-flood_down : goal.returns-in_err-flood_down
 returns-in_err-flood_down c =
-    let node : NodeState = record { links = c.self.inside.links; base = c.self.inside.base; rows = c.self.inside.local; known = c.self.inside.known; pending = c.self.inside.pending; spent = c.self.inside.spent } in
+    let node : NodeState = record { links = c.self.inside.links; base = c.self.inside.base; rows = c.self.inside.local.rows; clients = c.self.inside.local.clients; known = c.self.inside.known; pending = c.self.inside.pending; spent = c.self.inside.spent } in
     let now : NodeState = with_pending (with_base node c.part.new.base) c.ends_of.new.pending in
     let of : AreOf node c.as_slice.result.now = record { right = c.self.invariant.links; same = c.as_slice.ensures.value } in
     subst (λ (m : NodeState). IsDone (parting_part m c.args.link.0 c.args.peer.now) c.from_residual-in_err-flood_down.result now c.args.out.now.items c.flood_down.new.out.items) c.self.view_is
@@ -34,7 +34,7 @@ returns-in_err-flood_down c =
 
 pub returns-in_err-ends_of : goal.returns-in_err-ends_of
 returns-in_err-ends_of c =
-    let node : NodeState = record { links = c.self.inside.links; base = c.self.inside.base; rows = c.self.inside.local; known = c.self.inside.known; pending = c.self.inside.pending; spent = c.self.inside.spent } in
+    let node : NodeState = record { links = c.self.inside.links; base = c.self.inside.base; rows = c.self.inside.local.rows; clients = c.self.inside.local.clients; known = c.self.inside.known; pending = c.self.inside.pending; spent = c.self.inside.spent } in
     let now : NodeState = with_pending (with_base node c.part.new.base) c.ends_of.new.pending in
     subst (λ (m : NodeState). IsDone (parting_part m c.args.link.0 c.args.peer.now) c.from_residual-in_err-ends_of.result now c.args.out.now.items c.ends_of.new.out.items) c.self.view_is
     (failed (parting_part node c.args.link.0 c.args.peer.now) NoMemory c.from_residual-in_err-ends_of.result now c.args.out.now.items c.ends_of.new.out.items c.from_residual-in_err-ends_of.ensures.1
@@ -43,7 +43,7 @@ returns-in_err-ends_of c =
 
 pub returns : goal.returns
 returns c =
-    let node : NodeState = record { links = c.self.inside.links; base = c.self.inside.base; rows = c.self.inside.local; known = c.self.inside.known; pending = c.self.inside.pending; spent = c.self.inside.spent } in
+    let node : NodeState = record { links = c.self.inside.links; base = c.self.inside.base; rows = c.self.inside.local.rows; clients = c.self.inside.local.clients; known = c.self.inside.known; pending = c.self.inside.pending; spent = c.self.inside.spent } in
     let now : NodeState = with_pending (with_base node c.part.new.base) c.ends_of.new.pending in
     let of : AreOf node c.as_slice.result.now = record { right = c.self.invariant.links; same = c.as_slice.ensures.value } in
     subst (λ (m : NodeState). IsLeft (parting_part m c.args.link.0 c.args.peer.now) now c.args.out.now.items c.flood_down.new.out.items) c.self.view_is

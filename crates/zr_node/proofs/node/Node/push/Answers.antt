@@ -18,7 +18,7 @@ push_along-pushed-requires-clause-at c =
 
 pub returns-in_err-pushed : goal.returns-in_err-pushed
 returns-in_err-pushed c =
-    let node : NodeState = record { links = c.self.inside.links; base = c.self.inside.base; rows = c.self.inside.local; known = c.self.inside.known; pending = c.self.inside.pending; spent = c.self.inside.spent } in
+    let node : NodeState = record { links = c.self.inside.links; base = c.self.inside.base; rows = c.self.inside.local.rows; clients = c.self.inside.local.clients; known = c.self.inside.known; pending = c.self.inside.pending; spent = c.self.inside.spent } in
     subst (λ (m : NodeState). IsDone (push_part m c.args.link.0 c.args.tree c.args.content.now) c.from_residual-in_err-pushed.result node c.args.out.now.items c.push_along-pushed.new.out.items) c.self.view_is
     (failed (push_part node c.args.link.0 c.args.tree c.args.content.now) NoMemory c.from_residual-in_err-pushed.result node c.args.out.now.items c.push_along-pushed.new.out.items c.from_residual-in_err-pushed.ensures.1
     (subst (λ (k : ℕ). TellsPrefix (sends_push (tables node) k c.args.tree c.args.content.now) c.args.out.now.items c.push_along-pushed.new.out.items) (found_number node.links c.args.link.0 c.in-Some.from (sym c.in-Some.ensures))
@@ -27,7 +27,7 @@ returns-in_err-pushed c =
 
 pub returns : goal.returns
 returns c =
-    let node : NodeState = record { links = c.self.inside.links; base = c.self.inside.base; rows = c.self.inside.local; known = c.self.inside.known; pending = c.self.inside.pending; spent = c.self.inside.spent } in
+    let node : NodeState = record { links = c.self.inside.links; base = c.self.inside.base; rows = c.self.inside.local.rows; clients = c.self.inside.local.clients; known = c.self.inside.known; pending = c.self.inside.pending; spent = c.self.inside.spent } in
     subst (λ (m : NodeState). IsLeft (push_part m c.args.link.0 c.args.tree c.args.content.now) node c.args.out.now.items c.push_along-pushed.new.out.items) c.self.view_is
     (record {
       allowed = refl;

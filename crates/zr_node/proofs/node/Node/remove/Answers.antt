@@ -8,7 +8,7 @@ use Rattle.zr_node.proofs.node.Node.remove.Goals as goal
 pub invariant_of-self : goal.invariant_of-self
 invariant_of-self c =
     let me : List ℕ = c.self.inside.base.me in
-    let now : TableState = record { links = c.remove.new.self; base = c.self.inside.base; rows = c.self.inside.local; known = c.self.inside.known } in
+    let now : TableState = record { links = c.remove.new.self; base = c.self.inside.base; rows = c.self.inside.local.rows; clients = c.self.inside.local.clients; known = c.self.inside.known } in
     record {
       links = subst (λ (ls : List LinkPeer). AreLinks me ls) (sym c.remove.ensures) (are_links_down me c.self.inside.links c.args.link.0 c.self.invariant.links);
       own = c.self.invariant.own;

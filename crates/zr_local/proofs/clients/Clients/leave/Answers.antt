@@ -1,0 +1,17 @@
+use Rattle.std.proofs.Common.{◌≡◌, List, [], refl, sym, ap, ◌∙◌}
+use Rattle.std.specs.Ordering.{nat_cmp}
+use Rattle.zr_set.specs.Ascending.{put, without}
+use Rattle.zr_set.specs.Place.{IsAt, IsGap}
+use Rattle.zr_set.proofs.Puts.{ascending_without, removed_at}
+use Rattle.zr_local.specs.Interests.{interest_id}
+use Rattle.zr_local.specs.Clients.{AreByLink, client_link, interests_on, kept, forgotten, clients_weight, weight_but}
+use Rattle.zr_local.specs.declared.interest.ClientInterests.{ClientInterests}
+use Rattle.zr_local.specs.declared.interest.Interest.{Interest}
+use Rattle.zr_local.proofs.Live.{nat_order}
+use Rattle.zr_local.proofs.clients.Clients.leave.Goals as goal
+
+pub invariant_of-self : goal.invariant_of-self
+invariant_of-self c =
+    let at : IsAt nat_cmp client_link c.self.inside.items.items c.args.link.0 c.in-Ok.at = rw (← c.deref.ensures.value) c.in-Ok.ensures in
+    rw (c.remove.ensures.items, removed_at nat_cmp client_link nat_order c.self.inside.items.items c.args.link.0 c.in-Ok.at at)
+    (ascending_without nat_cmp client_link nat_order c.self.inside.items.items c.args.link.0 c.self.invariant)
