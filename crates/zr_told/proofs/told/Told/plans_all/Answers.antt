@@ -1,0 +1,35 @@
+use Rattle.std.proofs.Common.{◌+◌, ◌≤◌, drop, length, Err, arith, sym, ap, subst, ◌∙◌}
+use Rattle.std.proofs.Math.ListN.{drop_of_length-le}
+use Rattle.std.specs.Option.{option_map_or}
+use Rattle.std.proofs.lemmas.Result.{err_from_is_err_and}
+use Rattle.zr_told.specs.declared.error.ToldError.TheVariants.{Worn}
+use Rattle.zr_told.specs.Plan.{plan_on, told_plan}
+use Rattle.zr_told.proofs.Clients.{told_among, told_among_all}
+use Rattle.zr_told.proofs.Changed.{ArePlanned, err_or, next_left, none_planned, one_planned, worn_there}
+use Rattle.zr_told.proofs.told.Told.plans_all.Goals as goal
+
+pub returns-in_err-plan-clause-worn : goal.returns-in_err-plan-clause-worn
+returns-in_err-plan-clause-worn c = λ e.
+    let p = err_from_is_err_and c.from_residual.result c.from_residual.ensures.1 in
+    let q = next_left c.args.clients.now c.loop-client.client-index c.client-item.result c.loop-client-test.true c.client-item.is in
+    worn_there c.args.tables.now c.args.clients.now c.args.self.now c.loop-client.plans.items c.client-item.result (drop (c.loop-client.client-index + 1) c.args.clients.now) _ q c.loop-client.invariant
+    (c.in_err-plan.ensures.worn (ap (λ z. Err z) (sym p.2 ∙ ap (λ z. err_or Worn z) (sym p.1 ∙ e))))
+
+pub loop-client-init : goal.loop-client-init
+loop-client-init c = rw c.new-plans.ensures.items (none_planned c.args.tables.now c.args.clients.now c.args.self.now c.requires.by_link)
+
+pub returns-clause-told : goal.returns-clause-told
+returns-clause-told c =
+    let l : length c.args.clients.now ≤ c.loop-client.client-index = omega arith in
+    let n = drop_of_length-le c.args.clients.now l in
+    λ k.
+    ap (λ z. option_map_or (told_plan c.args.self.now) (plan_on c.loop-client.plans.items k) (told_among c.args.tables.now z c.args.self.now k)) (sym n)
+    ∙ c.loop-client.invariant.told k
+    ∙ told_among_all c.args.tables.now c.args.clients.now c.args.self.now c.requires.listed k
+
+pub loop-client-preserved : goal.loop-client-preserved
+loop-client-preserved c =
+    let q = next_left c.args.clients.now c.loop-client.client-index c.client-item.result c.loop-client-test.true c.client-item.is in
+    let a = subst (λ z. ArePlanned c.args.tables.now c.args.clients.now c.args.self.now c.loop-client.plans.items z) q c.loop-client.invariant in
+    rw c.in_ok-put_plan.ensures
+    (one_planned c.args.tables.now c.args.clients.now c.args.self.now c.loop-client.plans.items c.client-item.result (drop (c.loop-client.client-index + 1) c.args.clients.now) c.in_ok-plan.plan c.in_ok-plan.ensures.plan c.in_ok-plan.ensures.ids a)

@@ -1,0 +1,164 @@
+//! Marks on all places of which a client was told or is to be told.
+
+ghost use Rattle.std.specs.Prelude.{◌≡◌, [], ◌∷◌, IfOk, OnOk};
+ghost use Rattle.zr_told.specs.Wanted.{wanted};
+ghost use Rattle.std.specs.List.{fold};
+ghost use Rattle.std.specs.Option.{option_copied};
+ghost use Rattle.zr_routing.specs.Queries.{is_complete};
+ghost use Rattle.zr_told.specs.Plan.{updated, put_mark, unwanted, is_wanted, with_again, with_complete, mark_wanted, mark_again, mark_complete, mark_answered, marks_of};
+
+use crate::book::Book;
+use crate::interest::{fits, told_as};
+use crate::mark::Mark;
+use crate::place::{Place, class_of, place_of};
+use std::alloc::{AllocError, Global};
+use std::collections::BTreeMap;
+use zr_local::interest::Interest;
+use zr_msg::decl::{Decl, Kind};
+
+/// The marks on each place of which a client was told, or wants to be told of what others declare. Of one of its interests it may be told all.
+pub fn marks_of(
+    alloc: Global,
+    book: &Book,
+    others: &[Decl],
+    interests: &[Interest],
+    answered: Option<&Interest>,
+) -> Result<BTreeMap<Place, Mark>, AllocError>
+    ensures { IfOk result (λ ms. ms.entries ≡ marks_of book.now others.now interests.now (option_copied answered.entry)) }
+{
+    let mut marks = book.unwanted(alloc)?;
+    for interest in interests {
+        mark_wanted(alloc, others, interest, &mut marks)?;
+    }
+    mark_answered(alloc, others, answered, &mut marks)?;
+    mark_complete(alloc, others, &mut marks)?;
+    Ok(marks)
+}
+
+fn mark_wanted(
+    alloc: Global,
+    others: &[Decl],
+    interest: &Interest,
+    marks: &mut BTreeMap<Place, Mark>,
+) -> Result<(), AllocError>
+    ensures { OnOk result (marks.new.entries ≡ mark_wanted others.now marks.old.entries interest.now) }
+{
+    for decl in others {
+        let class = class_of(decl.kind);
+        if fits(interest, class, &decl.key) {
+            let place = told_as(alloc, interest, class, &decl.key)?;
+            put(place, WANTED, marks)?;
+        }
+    }
+    Ok(())
+}
+
+const WANTED: Mark = Mark {
+    wanted: true,
+    complete: false,
+    again: false,
+};
+
+fn put(place: Place, mark: Mark, marks: &mut BTreeMap<Place, Mark>) -> Result<(), AllocError>
+    ensures { OnOk result (marks.new.entries ≡ put_mark mark marks.old.entries place) }
+{
+    marks.insert(place, mark)?;
+    Ok(())
+}
+
+fn mark_answered(
+    alloc: Global,
+    others: &[Decl],
+    answered: Option<&Interest>,
+    marks: &mut BTreeMap<Place, Mark>,
+) -> Result<(), AllocError>
+    ensures { OnOk result (marks.new.entries ≡ mark_answered others.now marks.old.entries (option_copied answered.entry)) }
+{
+    match answered {
+        Some(interest) => mark_again(alloc, others, interest, marks),
+        None => Ok(()),
+    }
+}
+
+fn mark_again(
+    alloc: Global,
+    others: &[Decl],
+    interest: &Interest,
+    marks: &mut BTreeMap<Place, Mark>,
+) -> Result<(), AllocError>
+    ensures { OnOk result (marks.new.entries ≡ mark_again others.now marks.old.entries interest.now) }
+{
+    for decl in others {
+        let class = class_of(decl.kind);
+        if fits(interest, class, &decl.key) {
+            let place = told_as(alloc, interest, class, &decl.key)?;
+            put_again(place, marks)?;
+        }
+    }
+    Ok(())
+}
+
+fn put_again(place: Place, marks: &mut BTreeMap<Place, Mark>) -> Result<(), AllocError>
+    ensures { OnOk result (marks.new.entries ≡ updated with_again marks.old.entries place) }
+{
+    if let Some(mark) = marks.get(&place) {
+        let mark = Mark {
+            again: true,
+            ..*mark
+        };
+        marks.insert(place, mark)?;
+    }
+    Ok(())
+}
+
+fn mark_complete(
+    alloc: Global,
+    others: &[Decl],
+    marks: &mut BTreeMap<Place, Mark>,
+) -> Result<(), AllocError>
+    ensures { OnOk result (marks.new.entries ≡ mark_complete others.now marks.old.entries) }
+{
+    for decl in others {
+        if is_complete(decl.kind) {
+            put_complete(place_of(alloc, decl)?, marks)?;
+        }
+    }
+    Ok(())
+}
+
+fn put_complete(place: Place, marks: &mut BTreeMap<Place, Mark>) -> Result<(), AllocError>
+    ensures { OnOk result (marks.new.entries ≡ updated with_complete marks.old.entries place) }
+{
+    if let Some(mark) = marks.get(&place) {
+        let mark = Mark {
+            complete: true,
+            ..*mark
+        };
+        marks.insert(place, mark)?;
+    }
+    Ok(())
+}
+
+/// What one interest wants of what others declare, each place with its completeness.
+pub fn wanted_places(
+    alloc: Global,
+    others: &[Decl],
+    interest: &Interest,
+) -> Result<Vec<(Place, bool)>, AllocError>
+    ensures { IfOk result (λ ws. ws.items ≡ wanted others.now (interest.now ∷ [])) }
+{
+    let mut marks = BTreeMap::new(alloc);
+    mark_wanted(alloc, others, interest, &mut marks)?;
+    mark_complete(alloc, others, &mut marks)?;
+    Book::new(alloc).fresh(alloc, &marks)
+}
+
+/// Whether a declaration is of a complete queryable.
+pub fn is_complete(kind: Kind) -> bool
+    ensures { result ≡ is_complete kind }
+{
+    match kind {
+        Kind::Sub | Kind::Able => false,
+        Kind::Full => true,
+    }
+}

@@ -1,0 +1,71 @@
+//! What all others than the client of a link declare.
+
+ghost use Rattle.std.specs.Prelude.{◌≡◌, ◌++◌, filter, IfOk, OnOk};
+ghost use Rattle.std.specs.List.{flat_map};
+ghost use Rattle.zr_local.specs.Rows.{decls_of, left};
+ghost use Rattle.zr_told.specs.Rows.{is_source, others};
+
+use std::alloc::{AllocError, Global};
+use zr_id::link::LinkNo;
+use zr_local::row::Row;
+use zr_log::log::Log;
+use zr_msg::decl::Decl;
+use zr_routing::tables::Tables;
+
+/// A copy of what the other clients of this router declare, and those of the routers that it reaches.
+pub fn others(alloc: Global, tables: &Tables, link: LinkNo) -> Result<Vec<Decl>, AllocError>
+    ensures { IfOk result (λ ds. ds.items ≡ others tables.now link.0) }
+{
+    let mut decls = Vec::new(alloc);
+    put_rows(alloc, tables.local().rows(), link, &mut decls)?;
+    put_logs(alloc, tables, tables.known().logs(), &mut decls)?;
+    Ok(decls)
+}
+
+fn put_rows(
+    alloc: Global,
+    rows: &[Row],
+    link: LinkNo,
+    decls: &mut Vec<Decl>,
+) -> Result<(), AllocError>
+    ensures { OnOk result (decls.new.items ≡ decls.old.items ++ decls_of (left rows.now link.0)) }
+{
+    for row in rows {
+        if row.link.0 != link.0 {
+            decls.push(row.decl.copy(alloc)?)?;
+        }
+    }
+    Ok(())
+}
+
+fn put_logs(
+    alloc: Global,
+    tables: &Tables,
+    logs: &[Log],
+    decls: &mut Vec<Decl>,
+) -> Result<(), AllocError>
+    ensures { OnOk result (decls.new.items ≡ decls.old.items ++ flat_map (λ l. l.decls) (filter (λ l. is_source tables.now l) logs.now)) }
+{
+    for log in logs {
+        if is_source(tables, log) {
+            put_decls(alloc, log.decls.as_slice(), decls)?;
+        }
+    }
+    Ok(())
+}
+
+/// Whether a log is of another router that this one reaches.
+pub fn is_source(tables: &Tables, log: &Log) -> bool
+    ensures { result ≡ is_source tables.now log.now }
+{
+    log.source != tables.me() && tables.trees().reached(tables.me(), log.source)
+}
+
+fn put_decls(alloc: Global, more: &[Decl], decls: &mut Vec<Decl>) -> Result<(), AllocError>
+    ensures { OnOk result (decls.new.items ≡ decls.old.items ++ more.now) }
+{
+    for decl in more {
+        decls.push(decl.copy(alloc)?)?;
+    }
+    Ok(())
+}

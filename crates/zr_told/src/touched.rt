@@ -1,0 +1,115 @@
+//! Marks on the places that changed declarations may touch.
+
+ghost use Rattle.std.specs.Prelude.{◌≡◌, IfOk, OnOk};
+ghost use Rattle.std.specs.List.{fold, list_any};
+ghost use Rattle.zr_told.specs.Plan.{mark_at, mark_here, mark_fitting, marks_at};
+ghost use Rattle.zr_told.specs.Rows.{is_touched, others};
+ghost use Rattle.zr_told.specs.Wanted.{fits};
+
+use crate::interest::{fits, told_as};
+use crate::mark::Mark;
+use crate::place::Place;
+use crate::search::{is_complete_at, is_wanted};
+use std::alloc::{AllocError, Global};
+use std::collections::BTreeMap;
+use zr_local::interest::{ClientInterests, Interest};
+use zr_routing::tables::Tables;
+
+/// Whether a client has an interest that fits one of these places.
+pub fn is_touched(places: &[Place], interests: &[Interest]) -> bool
+    ensures { result ≡ is_touched places.now interests.now }
+{
+    for place in places {
+        if one_fits(place, interests) {
+            return true;
+        }
+    }
+    false
+}
+
+fn one_fits(place: &Place, interests: &[Interest]) -> bool
+    ensures { result ≡ list_any (λ i. fits i place.now) interests.now }
+{
+    for interest in interests {
+        if fits(interest, place.class, &place.key) {
+            return true;
+        }
+    }
+    false
+}
+
+/// The marks on the places that changed declarations touch: those places that an interest fits, and where it is told of them.
+pub fn marks_at(
+    alloc: Global,
+    tables: &Tables,
+    client: &ClientInterests,
+    places: &[Place],
+) -> Result<BTreeMap<Place, Mark>, AllocError>
+    ensures { IfOk result (λ ms. ms.entries ≡ marks_at (others tables.now client.now.link.0) client.now.interests places.now) }
+{
+    let mut marks = BTreeMap::new(alloc);
+    for place in places {
+        mark_touched(alloc, tables, client, place, &mut marks)?;
+    }
+    Ok(marks)
+}
+
+fn mark_touched(
+    alloc: Global,
+    tables: &Tables,
+    client: &ClientInterests,
+    place: &Place,
+    marks: &mut BTreeMap<Place, Mark>,
+) -> Result<(), AllocError>
+    ensures { OnOk result (marks.new.entries ≡ fold (mark_fitting (others tables.now client.now.link.0) client.now.interests place.now) marks.old.entries client.now.interests) }
+{
+    let interests = client.interests.as_slice();
+    for interest in interests {
+        mark_fitting(alloc, tables, client, place, interest, marks)?;
+    }
+    Ok(())
+}
+
+fn mark_fitting(
+    alloc: Global,
+    tables: &Tables,
+    client: &ClientInterests,
+    place: &Place,
+    interest: &Interest,
+    marks: &mut BTreeMap<Place, Mark>,
+) -> Result<(), AllocError>
+    ensures { OnOk result (marks.new.entries ≡ mark_fitting (others tables.now client.now.link.0) client.now.interests place.now marks.old.entries interest.now) }
+{
+    if fits(interest, place.class, &place.key) {
+        mark_here(tables, client, place.copy(alloc)?, marks)?;
+        let place = told_as(alloc, interest, place.class, &place.key)?;
+        mark_here(tables, client, place, marks)?;
+    }
+    Ok(())
+}
+
+fn mark_here(
+    tables: &Tables,
+    client: &ClientInterests,
+    place: Place,
+    marks: &mut BTreeMap<Place, Mark>,
+) -> Result<(), AllocError>
+    ensures { OnOk result (marks.new.entries ≡ mark_here (others tables.now client.now.link.0) client.now.interests marks.old.entries place) }
+{
+    if marks.contains_key(&place) {
+        return Ok(());
+    }
+    let mark = mark_at(tables, client, &place);
+    marks.insert(place, mark)?;
+    Ok(())
+}
+
+fn mark_at(tables: &Tables, client: &ClientInterests, place: &Place) -> Mark
+    ensures { result ≡ mark_at (others tables.now client.now.link.0) client.now.interests place.now }
+{
+    Mark {
+        wanted: is_wanted(tables, client, place),
+        complete: is_complete_at(tables, client.link, place),
+        again: false,
+    }
+}
