@@ -1,0 +1,9 @@
+pub mod Puts
+pub mod Others
+pub mod Changed
+pub mod Homes
+pub mod Ready
+pub mod Telling
+pub mod Few
+pub mod Bounds
+pub mod Joined

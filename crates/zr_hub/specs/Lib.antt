@@ -1,0 +1,5 @@
+pub mod Places
+pub mod Right
+pub mod Ready
+pub mod Room
+pub mod Done
