@@ -1,9 +1,23 @@
 //! The commands of a script, one variant a command, with its words as fields.
 
+ghost use Rattle.std.specs.Prelude.{◌≡◌};
+ghost use Rattle.zr_command.specs.Mode.{is_current, is_future};
+
 use zr_id::zid::Zid;
 use zr_key::key::KeyExpr;
 use zr_msg::content::Content;
-use zr_msg::msg::Target;
+use zr_msg::msg::{Kinds, Target};
+
+/// Of which declarations an interest is to be told.
+#[derive(Clone, Copy, Debug, PartialEq, Eq)]
+pub enum Mode {
+    /// Of those that stand now.
+    Now,
+    /// Of those that come or go later.
+    Later,
+    /// Of both.
+    Both,
+}
 
 /// What one line of a script asks.
 #[derive(Debug, Drop)]
@@ -69,6 +83,21 @@ pub enum Act {
         client: Zid,
         id: u32,
     },
+    /// A client wants to be told, under an id, what others declare of some kinds: of what meets the key, or of all where there is none.
+    /// An aggregated answer tells all of a kind that meets the key as one.
+    Interest {
+        client: Zid,
+        id: u32,
+        mode: Mode,
+        kinds: Kinds,
+        key: Option<KeyExpr>,
+        aggregate: bool,
+    },
+    /// A client no longer wants to be told what it asked for under an id.
+    Uninterest {
+        client: Zid,
+        id: u32,
+    },
     /// A client publishes a sample: a value or a deletion.
     Publish {
         client: Zid,
@@ -108,4 +137,28 @@ pub enum Act {
     Show {
         router: Zid,
     },
+}
+
+impl Mode {
+    /// Whether it is to be told of what is declared now.
+    pub fn is_current(self) -> bool
+        ensures { result ≡ is_current self }
+    {
+        match self {
+            Mode::Now => true,
+            Mode::Later => false,
+            Mode::Both => true,
+        }
+    }
+
+    /// Whether it is to be told of what is declared later.
+    pub fn is_future(self) -> bool
+        ensures { result ≡ is_future self }
+    {
+        match self {
+            Mode::Now => false,
+            Mode::Later => true,
+            Mode::Both => true,
+        }
+    }
 }

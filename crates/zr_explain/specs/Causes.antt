@@ -9,8 +9,8 @@ use Rattle.zr_command.specs.declared.error.ScriptError.{ScriptError}
 use Rattle.zr_command.specs.declared.error.ScriptError.TheVariants.{UnknownCommand, BadWords, BadKey, UnknownName, NameTaken, NotLinked, AlreadyLinked, NothingThere, NotAsked, NotSettled, NotJoined, Limit, NoMemory}
 use Rattle.zr_language.specs.Lines.{most_line}
 use Rattle.zr_language.specs.Words.{is_word, is_clean, is_printable, is_space}
-use Rattle.zr_explain.specs.Forms.{word_at, declares, undeclares, is_of_client, is_numbered, key_number, form}
-use Rattle.zr_explain.specs.Places.{has_all, is_first_good, is_name, is_target_bad, odd_byte}
+use Rattle.zr_explain.specs.Forms.{word_at, declares, undeclares, is_interest, ends_interest, is_of_client, is_numbered, key_number, form}
+use Rattle.zr_explain.specs.Places.{has_all, is_first_good, is_name, is_mode, is_kind, is_target_bad, is_interest_bad, odd_byte}
 
 -- ---- bytes as they are shown
 
@@ -71,9 +71,16 @@ second_cause ws =
 abbrev pub target_cause : List (List ℕ) → List ℕ
 target_cause ws = told 4 ws ++ codes " is no target, which is best, all or complete"
 
+-- a word of an interest behind its number is not as it must be
+abbrev pub interest_cause : List (List ℕ) → List ℕ
+interest_cause ws =
+    if not (is_mode (word_at 3 ws)) then told 3 ws ++ codes " is no mode, which is now, later or both"
+    else if not (is_kind (word_at 4 ws)) then told 4 ws ++ codes " is no kind, which is sub, able or all"
+    else told 6 ws ++ codes " is not aggregate, which alone may stand behind the key"
+
 -- a word behind the first one is wrong
 abbrev pub later_cause : List (List ℕ) → List ℕ
-later_cause ws = if is_target_bad ws then target_cause ws else second_cause ws
+later_cause ws = if is_target_bad ws then target_cause ws else if is_interest_bad ws then interest_cause ws else second_cause ws
 
 -- there are too few words, or too many
 abbrev pub form_cause : List ℕ → List ℕ
@@ -107,12 +114,14 @@ unknown_cause ws =
     else if is_word (word_at 0 ws) (codes "show") then codes "no router is named " ++ told 1 ws
     else if is_word (word_at 0 ws) (codes "link") then of_two (codes "no router is named ") 1 (codes ", or none is named ") 2 [] ws
     else if undeclares (word_at 0 ws) then of_two (codes "no client is named ") 1 (codes ", or it has not declared id ") 2 [] ws
+    else if ends_interest (word_at 0 ws) then of_two (codes "no client is named ") 1 (codes ", or it has no interest ") 2 [] ws
     else if is_of_client (word_at 0 ws) then codes "no client is named " ++ told 1 ws
     else of_two (codes "no router is named ") 1 (codes ", or nobody is named ") 2 [] ws
 
 abbrev pub taken_cause : List (List ℕ) → List ℕ
 taken_cause ws =
     if declares (word_at 0 ws) then of_two (codes "id ") 2 (codes " is already declared by ") 1 [] ws
+    else if is_interest (word_at 0 ws) then of_two (codes "id ") 2 (codes " is that of an interest of ") 1 [] ws
     else if is_word (word_at 0 ws) (codes "get") then of_two (codes "number ") 2 (codes " is that of a query of ") 1 (codes " whose final was not sent yet") ws
     else codes "a router or a client is already named " ++ told 1 ws
 
@@ -146,7 +155,7 @@ limit_cause long name =
     else if is_word name (codes "link") then codes "more than 512 links between routers"
     else if is_word name (codes "run") then codes "more than 10000000 steps of all runs together"
     else if is_word name (codes "get") then codes "more than 4096 open queries of a client"
-    else codes "what the clients of a router declare weighs more than 4194304"
+    else codes "declarations and interests of the clients of a router weigh more than 4194304"
 
 -- ---- all
 

@@ -23,34 +23,46 @@ publishes name = is_word name (codes "put") || is_word name (codes "del")
 abbrev pub is_of_query : List ℕ → Bool
 is_of_query name = is_word name (codes "get") || is_word name (codes "reply") || is_word name (codes "end")
 
--- a command whose first word behind the name is the client that acts
-abbrev pub is_of_client : List ℕ → Bool
-is_of_client name = declares name || undeclares name || publishes name || is_of_query name
+-- the command of an interest: `CLIENT N MODE KIND KEY` stands behind it, and maybe one word more; and the one that ends it: `CLIENT N`
+abbrev pub is_interest : List ℕ → Bool
+is_interest name = is_word name (codes "interest")
+
+abbrev pub ends_interest : List ℕ → Bool
+ends_interest name = is_word name (codes "uninterest")
 
 -- a command whose second word behind the name is a number
 abbrev pub is_numbered : List ℕ → Bool
-is_numbered name = declares name || undeclares name || is_of_query name
+is_numbered name = declares name || undeclares name || is_interest name || ends_interest name || is_of_query name
 
--- a command that gives something of a client a number that must be free: a declaration or a query
+-- a command whose first word behind the name is the client that acts
+abbrev pub is_of_client : List ℕ → Bool
+is_of_client name = publishes name || is_numbered name
+
+-- a command that gives something of a client a number that must be free: a declaration, an interest or a query
 abbrev pub gives_number : List ℕ → Bool
-gives_number name = declares name || is_word name (codes "get")
+gives_number name = declares name || is_interest name || is_word name (codes "get")
 
 -- the number of the word that is the key, where a command takes one
 abbrev pub key_number : List ℕ → ℕ
-key_number name = if declares name || is_of_query name then 3 else 2
+key_number name = if is_interest name then 5 else if declares name || is_of_query name then 3 else 2
 
 -- a command that takes one word
 abbrev pub is_single : List ℕ → Bool
 is_single name = is_word name (codes "router") || is_word name (codes "run") || is_word name (codes "show")
 
--- how many words a command takes behind its name
+-- how many words a command takes behind its name, at least
 abbrev pub words_behind : List ℕ → ℕ
 words_behind name =
     if is_word name (codes "mark") then 0
     else if is_single name then 1
     else if declares name || is_word name (codes "put") then 3
     else if is_word name (codes "get") || is_word name (codes "reply") then 4
+    else if is_interest name then 5
     else 2
+
+-- and at most
+abbrev pub most_behind : List ℕ → ℕ
+most_behind name = if is_interest name then 6 else words_behind name
 
 -- which words a command takes
 unfoldable pub form : List ℕ → List ℕ
@@ -66,6 +78,8 @@ form name =
     else if is_word name (codes "able") then codes "able CLIENT N KEY"
     else if is_word name (codes "full") then codes "full CLIENT N KEY"
     else if is_word name (codes "unable") then codes "unable CLIENT N"
+    else if is_word name (codes "interest") then codes "interest CLIENT N MODE KIND KEY [aggregate]"
+    else if is_word name (codes "uninterest") then codes "uninterest CLIENT N"
     else if is_word name (codes "put") then codes "put CLIENT KEY PAYLOAD"
     else if is_word name (codes "del") then codes "del CLIENT KEY"
     else if is_word name (codes "get") then codes "get CLIENT N KEY TARGET"

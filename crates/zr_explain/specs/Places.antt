@@ -1,12 +1,12 @@
 -- Where a refused line is wrong: at which word, or at which byte.
-use Rattle.std.specs.Prelude.{ℕ, ◌+◌, ◌-◌, ◌^◌, ◌==◌, ◌&&◌, not, nat_lt, Bool, true, false, if◌then◌else◌, List, [], ◌∷◌, length, codes, position, Option, Some, None, is_some}
+use Rattle.std.specs.Prelude.{ℕ, ◌+◌, ◌-◌, ◌^◌, ◌==◌, ◌&&◌, ◌||◌, not, nat_lt, nat_le, Bool, true, false, if◌then◌else◌, List, [], ◌∷◌, length, codes, position, Option, Some, None, is_some}
 use Rattle.std.specs.List.{slice_get}
 use Rattle.zr_id.specs.Zid.{zid_of_hex}
 use Rattle.zr_command.specs.declared.error.ScriptError.{ScriptError}
 use Rattle.zr_command.specs.declared.error.ScriptError.TheVariants.{UnknownCommand, BadWords, BadKey, UnknownName, NameTaken, NotLinked, AlreadyLinked, NothingThere, NotAsked, NotSettled, NotJoined, Limit, NoMemory}
 use Rattle.zr_language.specs.Lines.{most_line}
 use Rattle.zr_language.specs.Words.{words, is_word, is_clean, is_printable, is_space, is_number, value_of}
-use Rattle.zr_explain.specs.Forms.{word_at, gives_number, is_of_client, key_number, words_behind}
+use Rattle.zr_explain.specs.Forms.{word_at, gives_number, is_interest, is_of_client, key_number, words_behind, most_behind}
 
 -- ---- words that have not their form
 
@@ -18,9 +18,16 @@ is_name word = is_some (zid_of_hex word)
 abbrev pub is_count : List ℕ → Bool
 is_count word = is_number word && nat_lt (value_of word) (2 ^ 32)
 
+-- a word that tells of which declarations an interest is to be told, and one that tells of which kinds
+abbrev pub is_mode : List ℕ → Bool
+is_mode word = is_word word (codes "now") || is_word word (codes "later") || is_word word (codes "both")
+
+abbrev pub is_kind : List ℕ → Bool
+is_kind word = is_word word (codes "sub") || is_word word (codes "able") || is_word word (codes "all")
+
 -- a line has as many words as its command takes
 abbrev pub has_all : List (List ℕ) → Bool
-has_all ws = length ws == words_behind (word_at 0 ws) + 1
+has_all ws = nat_le (words_behind (word_at 0 ws) + 1) (length ws) && nat_le (length ws) (most_behind (word_at 0 ws) + 1)
 
 -- the first word behind the command's name is as it must be
 abbrev pub is_first_good : List (List ℕ) → Bool
@@ -30,13 +37,21 @@ is_first_good ws = if is_word (word_at 0 ws) (codes "run") then is_count (word_a
 abbrev pub is_target_bad : List (List ℕ) → Bool
 is_target_bad ws = is_word (word_at 0 ws) (codes "get") && is_count (word_at 2 ws)
 
+-- where client and number of `interest` are as they must be, a word behind them is not
+abbrev pub is_interest_bad : List (List ℕ) → Bool
+is_interest_bad ws = is_interest (word_at 0 ws) && is_count (word_at 2 ws)
+
+-- the mode, or the kinds, or what stands behind the key
+abbrev pub interest_word : List (List ℕ) → ℕ
+interest_word ws = if not (is_mode (word_at 3 ws)) then 3 else if not (is_kind (word_at 4 ws)) then 4 else 6
+
 -- the word that is wrong where the first one is good
 abbrev pub later_word : List (List ℕ) → ℕ
-later_word ws = if is_target_bad ws then 4 else 2
+later_word ws = if is_target_bad ws then 4 else if is_interest_bad ws then interest_word ws else 2
 
 -- the first word that is not what its command takes there: one that is missing or too much comes before one that has not its form
 abbrev pub bad_word : List (List ℕ) → ℕ
-bad_word ws = if not (has_all ws) then words_behind (word_at 0 ws) + 1 else if is_first_good ws then later_word ws else 1
+bad_word ws = if not (has_all ws) then most_behind (word_at 0 ws) + 1 else if is_first_good ws then later_word ws else 1
 
 -- ---- the number of the word that is wrong, by the command's name
 

@@ -3,10 +3,16 @@
 ghost use Rattle.std.specs.Prelude.{◌≡◌, ◌++◌, [], map, OnOk};
 ghost use Rattle.zr_key.specs.Key.{read_key};
 ghost use Rattle.zr_explain.specs.Places.{odd_byte};
-ghost use Rattle.zr_explain.specs.Causes.{already_cause, asked_cause, byte_cause, cause, command_cause, fault_cause, first_cause, form_cause, key_cause, later_cause, limit_cause, link_cause, name_cause, nothing_cause, number_cause, odd_cause, of_two, second_cause, space_cause, taken_cause, target_cause, told, unknown_cause, words_cause};
+ghost use Rattle.zr_explain.specs.Causes.{already_cause, asked_cause, byte_cause, cause, command_cause, fault_cause, first_cause, form_cause, interest_cause, key_cause, later_cause, limit_cause, link_cause, name_cause, nothing_cause, number_cause, odd_cause, of_two, second_cause, space_cause, taken_cause, target_cause, told, unknown_cause, words_cause};
 
-use crate::forms::{declares, form, is_numbered, is_of_client, key_number, undeclares, word_at};
-use crate::places::{begins_with_space, has_all, is_first_good, is_name, is_target_bad, odd_byte};
+use crate::forms::{
+    declares, ends_interest, form, is_interest, is_numbered, is_of_client, key_number, undeclares,
+    word_at,
+};
+use crate::places::{
+    begins_with_space, has_all, is_first_good, is_interest_bad, is_kind, is_mode, is_name,
+    is_target_bad, odd_byte,
+};
 use crate::put::{put_shown, put_told, put_two};
 use std::alloc::{AllocError, Global};
 use zr_command::error::ScriptError;
@@ -135,9 +141,41 @@ fn put_later_cause(words: &[&[u8]], text: &mut Vec<u8>) -> Result<(), AllocError
 {
     if is_target_bad(words) {
         put_target_cause(words, text)
+    } else if is_interest_bad(words) {
+        put_interest_cause(words, text)
     } else {
         put_second_cause(words, text)
     }
+}
+
+fn put_interest_cause(words: &[&[u8]], text: &mut Vec<u8>) -> Result<(), AllocError>
+    ensures { OnOk result (text.new.items ≡ text.old.items ++ interest_cause (map (λ w. w.now) words.now)) }
+{
+    if !is_mode(word_at(3, words)) {
+        put_word(3, b" is no mode, which is now, later or both", words, text)
+    } else if !is_kind(word_at(4, words)) {
+        put_word(4, b" is no kind, which is sub, able or all", words, text)
+    } else {
+        put_word(
+            6,
+            b" is not aggregate, which alone may stand behind the key",
+            words,
+            text,
+        )
+    }
+}
+
+// A word, and a text behind it.
+fn put_word(
+    number: usize,
+    behind: &[u8],
+    words: &[&[u8]],
+    text: &mut Vec<u8>,
+) -> Result<(), AllocError>
+    ensures { OnOk result (text.new.items ≡ text.old.items ++ (told number (map (λ w. w.now) words.now) ++ behind.now)) }
+{
+    put_told(number, words, text)?;
+    text.extend_from_slice(behind)
 }
 
 fn put_target_cause(words: &[&[u8]], text: &mut Vec<u8>) -> Result<(), AllocError>
@@ -220,6 +258,13 @@ fn put_unknown_cause(words: &[&[u8]], text: &mut Vec<u8>) -> Result<(), AllocErr
             words,
             text,
         )
+    } else if ends_interest(name) {
+        put_either(
+            b"no client is named ",
+            b", or it has no interest ",
+            words,
+            text,
+        )
     } else if is_of_client(name) {
         put_one(b"no client is named ", 1, words, text)
     } else {
@@ -275,6 +320,16 @@ fn put_taken_cause(words: &[&[u8]], text: &mut Vec<u8>) -> Result<(), AllocError
     let name = word_at(0, words);
     if declares(name) {
         put_two(b"id ", 2, b" is already declared by ", 1, b"", words, text)
+    } else if is_interest(name) {
+        put_two(
+            b"id ",
+            2,
+            b" is that of an interest of ",
+            1,
+            b"",
+            words,
+            text,
+        )
     } else if name == b"get".as_slice() {
         put_two(
             b"number ",
@@ -360,6 +415,6 @@ fn limit_cause(long: bool, name: &[u8]) -> &'static [u8]
     } else if name == b"get".as_slice() {
         b"more than 4096 open queries of a client"
     } else {
-        b"what the clients of a router declare weighs more than 4194304"
+        b"declarations and interests of the clients of a router weigh more than 4194304"
     }
 }

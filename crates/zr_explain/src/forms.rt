@@ -1,7 +1,7 @@
 //! What words a command takes.
 
 ghost use Rattle.std.specs.Prelude.{◌≡◌, ◌++◌, map, codes};
-ghost use Rattle.zr_explain.specs.Forms.{declares, form, gives_number, is_numbered, is_of_client, is_of_query, is_single, key_number, publishes, undeclares, word_at, words_behind};
+ghost use Rattle.zr_explain.specs.Forms.{declares, ends_interest, form, gives_number, is_interest, is_numbered, is_of_client, is_of_query, is_single, key_number, most_behind, publishes, undeclares, word_at, words_behind};
 
 /// The word of this number, the command's name being number 0; no bytes where there is none.
 pub(crate) fn word_at<'a>(number: usize, words: &[&'a [u8]]) -> &'a [u8]
@@ -46,32 +46,52 @@ fn is_of_query(name: &[u8]) -> bool
     name == b"get".as_slice() || name == b"reply".as_slice() || name == b"end".as_slice()
 }
 
-/// Whether the first word behind a command's name is the client that acts.
-pub(crate) fn is_of_client(name: &[u8]) -> bool
-    ensures { result ≡ is_of_client name.now }
+/// Whether a command is that of an interest.
+pub(crate) fn is_interest(name: &[u8]) -> bool
+    ensures { result ≡ is_interest name.now }
 {
-    declares(name) || undeclares(name) || publishes(name) || is_of_query(name)
+    name == b"interest".as_slice()
 }
 
-/// Whether a command gives something of a client a number that must be free.
-pub(crate) fn gives_number(name: &[u8]) -> bool
-    ensures { result ≡ gives_number name.now }
+/// Whether a command ends an interest.
+pub(crate) fn ends_interest(name: &[u8]) -> bool
+    ensures { result ≡ ends_interest name.now }
 {
-    declares(name) || name == b"get".as_slice()
+    name == b"uninterest".as_slice()
 }
 
 /// Whether the second word behind a command's name is a number.
 pub(crate) fn is_numbered(name: &[u8]) -> bool
     ensures { result ≡ is_numbered name.now }
 {
-    declares(name) || undeclares(name) || is_of_query(name)
+    declares(name)
+        || undeclares(name)
+        || is_interest(name)
+        || ends_interest(name)
+        || is_of_query(name)
+}
+
+/// Whether the first word behind a command's name is the client that acts.
+pub(crate) fn is_of_client(name: &[u8]) -> bool
+    ensures { result ≡ is_of_client name.now }
+{
+    publishes(name) || is_numbered(name)
+}
+
+/// Whether a command gives something of a client a number that must be free.
+pub(crate) fn gives_number(name: &[u8]) -> bool
+    ensures { result ≡ gives_number name.now }
+{
+    declares(name) || is_interest(name) || name == b"get".as_slice()
 }
 
 /// The number of the word that is the key, where a command takes one.
 pub(crate) fn key_number(name: &[u8]) -> usize
     ensures { result ≡ key_number name.now }
 {
-    if declares(name) || is_of_query(name) {
+    if is_interest(name) {
+        5
+    } else if declares(name) || is_of_query(name) {
         3
     } else {
         2
@@ -84,7 +104,7 @@ fn is_single(name: &[u8]) -> bool
     name == b"router".as_slice() || name == b"run".as_slice() || name == b"show".as_slice()
 }
 
-/// How many words a command takes behind its name.
+/// How many words a command takes behind its name, at least.
 pub(crate) fn words_behind(name: &[u8]) -> usize
     ensures { result ≡ words_behind name.now }
 {
@@ -96,8 +116,21 @@ pub(crate) fn words_behind(name: &[u8]) -> usize
         3
     } else if name == b"get".as_slice() || name == b"reply".as_slice() {
         4
+    } else if is_interest(name) {
+        5
     } else {
         2
+    }
+}
+
+/// How many words a command takes behind its name, at most.
+pub(crate) fn most_behind(name: &[u8]) -> usize
+    ensures { result ≡ most_behind name.now }
+{
+    if is_interest(name) {
+        6
+    } else {
+        words_behind(name)
     }
 }
 
@@ -128,6 +161,10 @@ pub(crate) fn form(name: &[u8]) -> &'static [u8]
         b"full CLIENT N KEY"
     } else if name == b"unable".as_slice() {
         b"unable CLIENT N"
+    } else if name == b"interest".as_slice() {
+        b"interest CLIENT N MODE KIND KEY [aggregate]"
+    } else if name == b"uninterest".as_slice() {
+        b"uninterest CLIENT N"
     } else if name == b"put".as_slice() {
         b"put CLIENT KEY PAYLOAD"
     } else if name == b"del".as_slice() {

@@ -2,9 +2,11 @@
 
 ghost use Rattle.std.specs.Prelude.{◌≡◌, map, slice_get};
 ghost use Rattle.zr_language.specs.Words.{is_space};
-ghost use Rattle.zr_explain.specs.Places.{bad_word, has_all, is_count, is_first_good, is_name, is_target_bad, later_word, linked_word, odd_byte, place, place_of_byte, place_of_limit, place_of_space, place_of_word, taken_word, unknown_word};
+ghost use Rattle.zr_explain.specs.Places.{bad_word, has_all, interest_word, is_count, is_first_good, is_interest_bad, is_kind, is_mode, is_name, is_target_bad, later_word, linked_word, odd_byte, place, place_of_byte, place_of_limit, place_of_space, place_of_word, taken_word, unknown_word};
 
-use crate::forms::{gives_number, is_of_client, key_number, word_at, words_behind};
+use crate::forms::{
+    gives_number, is_interest, is_of_client, key_number, most_behind, word_at, words_behind,
+};
 use zr_command::error::ScriptError;
 use zr_id::zid::Zid;
 use zr_script::line::MOST_LINE;
@@ -74,7 +76,7 @@ fn bad_word(words: &[&[u8]]) -> usize
     ensures { result ≡ bad_word (map (λ w. w.now) words.now) }
 {
     if !has_all(words) {
-        words_behind(word_at(0, words)) + 1
+        most_behind(word_at(0, words)) + 1
     } else if is_first_good(words) {
         later_word(words)
     } else {
@@ -86,7 +88,26 @@ fn bad_word(words: &[&[u8]]) -> usize
 fn later_word(words: &[&[u8]]) -> usize
     ensures { result ≡ later_word (map (λ w. w.now) words.now) }
 {
-    if is_target_bad(words) { 4 } else { 2 }
+    if is_target_bad(words) {
+        4
+    } else if is_interest_bad(words) {
+        interest_word(words)
+    } else {
+        2
+    }
+}
+
+// The word that is wrong where client and number of an `interest` are as they must be.
+fn interest_word(words: &[&[u8]]) -> usize
+    ensures { result ≡ interest_word (map (λ w. w.now) words.now) }
+{
+    if !is_mode(word_at(3, words)) {
+        3
+    } else if !is_kind(word_at(4, words)) {
+        4
+    } else {
+        6
+    }
 }
 
 /// Whether it is the target of a `get` that is wrong, where some word behind the first is.
@@ -96,11 +117,33 @@ pub(crate) fn is_target_bad(words: &[&[u8]]) -> bool
     word_at(0, words) == b"get".as_slice() && is_count(word_at(2, words))
 }
 
+/// Whether a word of an `interest` behind its number is wrong, where some word behind the first is.
+pub(crate) fn is_interest_bad(words: &[&[u8]]) -> bool
+    ensures { result ≡ is_interest_bad (map (λ w. w.now) words.now) }
+{
+    is_interest(word_at(0, words)) && is_count(word_at(2, words))
+}
+
+/// Whether a word tells of which declarations an interest is to be told.
+pub(crate) fn is_mode(word: &[u8]) -> bool
+    ensures { result ≡ is_mode word.now }
+{
+    word == b"now".as_slice() || word == b"later".as_slice() || word == b"both".as_slice()
+}
+
+/// Whether a word tells of which kinds of declarations an interest is to be told.
+pub(crate) fn is_kind(word: &[u8]) -> bool
+    ensures { result ≡ is_kind word.now }
+{
+    word == b"sub".as_slice() || word == b"able".as_slice() || word == b"all".as_slice()
+}
+
 /// Whether a line has as many words as its command takes.
 pub(crate) fn has_all(words: &[&[u8]]) -> bool
     ensures { result ≡ has_all (map (λ w. w.now) words.now) }
 {
-    words.len() == words_behind(word_at(0, words)) + 1
+    let name = word_at(0, words);
+    words_behind(name) + 1 <= words.len() && words.len() <= most_behind(name) + 1
 }
 
 /// Whether the first word behind the command's name is as it must be.

@@ -26,6 +26,8 @@ attached_by name so_far (a.Sub client id key) = so_far
 attached_by name so_far (a.Unsub client id) = so_far
 attached_by name so_far (a.Able client id key complete) = so_far
 attached_by name so_far (a.Unable client id) = so_far
+attached_by name so_far (a.Interest client id mode kinds key aggregate) = so_far
+attached_by name so_far (a.Uninterest client id) = so_far
 attached_by name so_far (a.Publish client content) = so_far
 attached_by name so_far (a.Get client number target content) = so_far
 attached_by name so_far (a.Reply client number content) = so_far
@@ -64,6 +66,8 @@ declared_by name so_far (a.Sub client id key) = if is_named name client then so_
 declared_by name so_far (a.Unsub client id) = if is_named name client then filter (λ d. not (d.id == id)) so_far else so_far
 declared_by name so_far (a.Able client id key complete) = so_far
 declared_by name so_far (a.Unable client id) = so_far
+declared_by name so_far (a.Interest client id mode kinds key aggregate) = so_far
+declared_by name so_far (a.Uninterest client id) = so_far
 declared_by name so_far (a.Publish client content) = so_far
 declared_by name so_far (a.Get client number target content) = so_far
 declared_by name so_far (a.Reply client number content) = so_far
@@ -89,6 +93,8 @@ able_by name so_far (a.Sub client id key) = so_far
 able_by name so_far (a.Unsub client id) = so_far
 able_by name so_far (a.Able client id key complete) = if is_named name client then so_far ++ record { id = id; key = key; complete = complete } ∷ [] else so_far
 able_by name so_far (a.Unable client id) = if is_named name client then filter (λ d. not (d.id == id)) so_far else so_far
+able_by name so_far (a.Interest client id mode kinds key aggregate) = so_far
+able_by name so_far (a.Uninterest client id) = so_far
 able_by name so_far (a.Publish client content) = so_far
 able_by name so_far (a.Get client number target content) = so_far
 able_by name so_far (a.Reply client number content) = so_far
@@ -140,6 +146,8 @@ publication (a.Sub client id key) = None
 publication (a.Unsub client id) = None
 publication (a.Able client id key complete) = None
 publication (a.Unable client id) = None
+publication (a.Interest client id mode kinds key aggregate) = None
+publication (a.Uninterest client id) = None
 publication (a.Publish client content) = Some (record { client = client; carried = Sample content })
 publication (a.Get client number target content) = Some (record { client = client; carried = Query target content })
 publication (a.Reply client number content) = None

@@ -5,4 +5,5 @@ pub mod Broker
 pub mod Sent
 pub mod Queries
 pub mod Refines
+pub mod Interests
 pub mod Scripts

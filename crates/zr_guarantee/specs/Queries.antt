@@ -37,6 +37,8 @@ asked_in line (a.Sub client id key) = None
 asked_in line (a.Unsub client id) = None
 asked_in line (a.Able client id key complete) = None
 asked_in line (a.Unable client id) = None
+asked_in line (a.Interest client id mode kinds key aggregate) = None
+asked_in line (a.Uninterest client id) = None
 asked_in line (a.Publish client content) = None
 asked_in line (a.Get client number target content) = Some (record { line = line; client = client; number = number; target = target; content = content })
 asked_in line (a.Reply client number content) = None
@@ -88,6 +90,8 @@ saying_in line (a.Sub client id key) = None
 saying_in line (a.Unsub client id) = None
 saying_in line (a.Able client id key complete) = None
 saying_in line (a.Unable client id) = None
+saying_in line (a.Interest client id mode kinds key aggregate) = None
+saying_in line (a.Uninterest client id) = None
 saying_in line (a.Publish client content) = None
 saying_in line (a.Get client number target content) = None
 saying_in line (a.Reply client number content) = Some (record { line = line; client = client; number = number; reply = Some content })

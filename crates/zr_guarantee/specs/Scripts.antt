@@ -5,6 +5,7 @@ use Rattle.zr_network.specs.Moments.{Numbered, Moment, reached}
 use Rattle.zr_network.specs.Accepted.{accepted}
 use Rattle.zr_guarantee.specs.Phase.{is_phase}
 use Rattle.zr_guarantee.specs.Refines.{Refines}
+use Rattle.zr_guarantee.specs.Interests.{AreTold, is_at_rest}
 
 -- however the accepted acts of some lines are cut at a mark and in its phase, also within a run, there is a moment, and it refines one broker
 abbrev pub IsRefined : List (List ℕ) → Type 0
@@ -15,3 +16,12 @@ IsRefined ls = (before phase rest : List Numbered) (mark : ℕ) →
 -- so it is with every script's lines, a refused script's up to the refused one
 abbrev pub LinesRefine : Type 0
 LinesRefine = (ls : List (List ℕ)) → IsRefined ls
+
+-- however the accepted acts of some lines are cut, also within a run, there is a moment, and where the network is at rest its clients were told
+-- what they want
+abbrev pub TellsClients : List (List ℕ) → Type 0
+TellsClients ls = (acts rest : List Numbered) → accepted ls ≡ acts ++ rest → (m : Moment) × (reached acts ≡ Some m) × (is_at_rest m.world ≡ true → AreTold acts m)
+
+-- so it is with every script's lines
+abbrev pub LinesTellClients : Type 0
+LinesTellClients = (ls : List (List ℕ)) → TellsClients ls

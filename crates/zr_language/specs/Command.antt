@@ -7,7 +7,7 @@
 --   UnknownCommand  the first word is no command
 --   BadWords        the words or the bytes don't fit the form of the command
 --   BadKey          a word that is to be a key expression is none
---   UnknownName     a router or a client isn't there; an id to undeclare isn't declared
+--   UnknownName     a router or a client isn't there; an id to undeclare isn't declared, or no interest under an id to end
 --   NameTaken       the name is taken; the id is declared; the number is that of a query whose final was not sent yet
 --   NotLinked       there is no such link, or it or its end isn't as the command needs it
 --   AlreadyLinked   the link is in place, or its end is up
@@ -25,12 +25,12 @@ use Rattle.zr_msg.specs.declared.content.Parts.{Parts}
 use Rattle.zr_msg.specs.Extras.{no_extras}
 use Rattle.zr_command.specs.declared.error.ScriptError.{ScriptError}
 use Rattle.zr_command.specs.declared.error.ScriptError.TheVariants.{UnknownCommand, BadWords, Limit}
-use Rattle.zr_command.specs.declared.command.Act.TheVariants.{Router, Client, Link, Up, Break, Down, Show, Sub, Unsub, Able, Unable, Publish, Get, Reply, End, Handle, Take, Mark}
+use Rattle.zr_command.specs.declared.command.Act.TheVariants.{Router, Client, Link, Up, Break, Down, Show, Sub, Unsub, Able, Unable, Interest, Uninterest, Publish, Get, Reply, End, Handle, Take, Mark}
 use Rattle.zr_command.specs.declared.command.Command.{Command}
 use Rattle.zr_command.specs.declared.command.Command.TheVariants.{Act, Run}
 use Rattle.zr_language.specs.Step.{◌>>=◌}
 use Rattle.zr_language.specs.Lines.{most_line}
-use Rattle.zr_language.specs.Words.{words, is_word, is_clean, one_of, two_of, three_of, four_of, zid_at, number_at, target_at, key_at, payload_at}
+use Rattle.zr_language.specs.Words.{words, is_word, is_clean, one_of, two_of, three_of, four_of, five_of, zid_at, number_at, target_at, mode_at, kinds_at, aggregate_at, key_at, optional_key_at, payload_at}
 
 -- ---- one command each, by the words behind its name
 
@@ -114,6 +114,26 @@ unable_line args = do
   client ← zid_at w.0
   id ← number_at w.1
   Ok (Act (Unable client id))
+
+-- interest CLIENT N MODE KIND KEY, or with `aggregate` behind the key
+unfoldable pub interest_line : List (List ℕ) → Result Command ScriptError
+interest_line args = do
+  w ← five_of args
+  client ← zid_at w.0
+  id ← number_at w.1
+  mode ← mode_at w.2
+  kinds ← kinds_at w.3
+  aggregate ← aggregate_at w.5
+  key ← optional_key_at w.4
+  Ok (Act (Interest client id mode kinds key aggregate))
+
+-- uninterest CLIENT N
+unfoldable pub uninterest_line : List (List ℕ) → Result Command ScriptError
+uninterest_line args = do
+  w ← two_of args
+  client ← zid_at w.0
+  id ← number_at w.1
+  Ok (Act (Uninterest client id))
 
 -- a sample, a query or a reply as a script makes it: its body has no flags, and nothing stands beside key and body
 abbrev pub plain : List ℕ → List ℕ → Parts
@@ -212,6 +232,7 @@ is_command name =
     is_word name (codes "router") || is_word name (codes "client") || is_word name (codes "link") || is_word name (codes "up")
     || is_word name (codes "break") || is_word name (codes "down") || is_word name (codes "sub") || is_word name (codes "unsub")
     || is_word name (codes "able") || is_word name (codes "full") || is_word name (codes "unable")
+    || is_word name (codes "interest") || is_word name (codes "uninterest")
     || is_word name (codes "put") || is_word name (codes "del") || is_word name (codes "get") || is_word name (codes "reply")
     || is_word name (codes "end") || is_word name (codes "handle") || is_word name (codes "take")
     || is_word name (codes "run") || is_word name (codes "mark") || is_word name (codes "show")
@@ -230,6 +251,8 @@ by_name name args =
     else if is_word name (codes "able") then able_line false args
     else if is_word name (codes "full") then able_line true args
     else if is_word name (codes "unable") then unable_line args
+    else if is_word name (codes "interest") then interest_line args
+    else if is_word name (codes "uninterest") then uninterest_line args
     else if is_word name (codes "put") then put_line args
     else if is_word name (codes "del") then del_line args
     else if is_word name (codes "get") then get_line args

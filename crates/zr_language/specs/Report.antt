@@ -1,15 +1,15 @@
 -- The texts that are written: the lines of a report, the line that tells a refusal, and the usage line.
-use Rattle.std.specs.Prelude.{ℕ, ◌==◌, not, Bool, true, false, if◌then◌else◌, List, [], ◌∷◌, ◌++◌, map, codes, Option, Some, None, bit_and}
+use Rattle.std.specs.Prelude.{ℕ, Bool, true, false, if◌then◌else◌, List, [], ◌∷◌, ◌++◌, map, codes, Option, Some, None}
 use Rattle.std.specs.Fmt.{decimal}
 use Rattle.std.specs.List.{flat_map, join_with_byte}
 use Rattle.hex.specs.Hex.{encode_lower}
 use Rattle.zr_id.specs.Record.{RecordState}
 use Rattle.zr_body.specs.Payload.{payload_of, is_del}
+use Rattle.zr_msg.specs.Kinds.{in_subs, in_ables}
 use Rattle.zr_msg.specs.declared.decl.Kind.{Kind}
 use Rattle.zr_msg.specs.declared.decl.Kind.TheVariants as k
 use Rattle.zr_msg.specs.declared.decl.Decl.{Decl}
 use Rattle.zr_msg.specs.declared.msg.Kinds.{Kinds}
-use Rattle.zr_msg.specs.declared.msg.TheConstants.{SUBSCRIBERS, QUERYABLES}
 use Rattle.zr_msg.specs.declared.msg.Target.{Target}
 use Rattle.zr_msg.specs.declared.msg.Target.TheVariants as t
 use Rattle.zr_msg.specs.declared.msg.Msg.{Msg}
@@ -59,13 +59,6 @@ mode_text true true = codes "both"
 mode_text true false = codes "now"
 mode_text false true = codes "later"
 mode_text false false = nothing_text
-
--- whether an interest is in subscribers, and in queryables
-abbrev pub in_subs : Kinds → Bool
-in_subs kinds = not (bit_and kinds.0 SUBSCRIBERS == 0)
-
-abbrev pub in_ables : Kinds → Bool
-in_ables kinds = not (bit_and kinds.0 QUERYABLES == 0)
 
 -- the kinds of declarations in which an interest is
 abbrev pub kinds_text : Kinds → List ℕ

@@ -1,14 +1,19 @@
--- The words of a line, and what a word may be: a name, a number, a target, a key expression or a payload.
-use Rattle.std.specs.Prelude.{ℕ, ◌+◌, ◌-◌, ◌*◌, ◌^◌, ◌==◌, ◌&&◌, not, nat_eq, nat_lt, nat_le, Bool, false, if◌then◌else◌, List, [], ◌∷◌, length, filter, codes, Option, Some, None, Result, Ok, Err}
+-- The words of a line, and what a word may be: a name, a number, a target, a mode, kinds, a key expression or a payload.
+use Rattle.std.specs.Prelude.{ℕ, ◌+◌, ◌-◌, ◌*◌, ◌^◌, ◌==◌, ◌&&◌, not, nat_eq, nat_lt, nat_le, Bool, false, if◌then◌else◌, true, List, [], ◌∷◌, length, filter, codes, Option, Some, None, Result, Ok, Err, bit_or}
 use Rattle.std.specs.List.{fold, list_all, slice_split, slice_get}
 use Rattle.std.specs.Cmp.Lexicographic.{pointwise}
 use Rattle.zr_id.specs.Zid.{zid_of_hex}
 use Rattle.zr_key.specs.Key.{read_key}
 use Rattle.zr_key.specs.declared.key.KeyError.{KeyError}
+use Rattle.zr_msg.specs.declared.msg.Kinds.{Kinds}
+use Rattle.zr_msg.specs.declared.msg.TheConstants.{SUBSCRIBERS, QUERYABLES}
 use Rattle.zr_msg.specs.declared.msg.Target.{Target}
 use Rattle.zr_msg.specs.declared.msg.Target.TheVariants.{Best, All, Complete}
+use Rattle.zr_command.specs.declared.command.Mode.{Mode}
+use Rattle.zr_command.specs.declared.command.Mode.TheVariants.{Now, Later, Both}
 use Rattle.zr_command.specs.declared.error.ScriptError.{ScriptError}
 use Rattle.zr_command.specs.declared.error.ScriptError.TheVariants.{BadWords, BadKey}
+use Rattle.zr_language.specs.Step.{◌>>=◌}
 
 -- ---- words
 
@@ -61,6 +66,15 @@ four_of (a ∷ b ∷ c ∷ []) = Err BadWords
 four_of (a ∷ b ∷ c ∷ d ∷ []) = Ok (a, b, c, d)
 four_of (a ∷ b ∷ c ∷ d ∷ e ∷ more) = Err BadWords
 
+-- five words, and those behind them
+abbrev pub five_of : List (List ℕ) → Result (List ℕ × List ℕ × List ℕ × List ℕ × List ℕ × List (List ℕ)) ScriptError
+five_of [] = Err BadWords
+five_of (a ∷ []) = Err BadWords
+five_of (a ∷ b ∷ []) = Err BadWords
+five_of (a ∷ b ∷ c ∷ []) = Err BadWords
+five_of (a ∷ b ∷ c ∷ d ∷ []) = Err BadWords
+five_of (a ∷ b ∷ c ∷ d ∷ e ∷ more) = Ok (a, b, c, d, e, more)
+
 -- ---- names
 
 -- the identifier that a word names
@@ -102,6 +116,30 @@ target_at word =
     else if is_word word (codes "complete") then Ok Complete
     else Err BadWords
 
+-- ---- interests
+
+-- of which declarations a word asks to be told
+abbrev pub mode_at : List ℕ → Result Mode ScriptError
+mode_at word =
+    if is_word word (codes "now") then Ok Now
+    else if is_word word (codes "later") then Ok Later
+    else if is_word word (codes "both") then Ok Both
+    else Err BadWords
+
+-- of which kinds: of subscribers, of queryables, or of all
+abbrev pub kinds_at : List ℕ → Result Kinds ScriptError
+kinds_at word =
+    if is_word word (codes "sub") then Ok (record { 0 = SUBSCRIBERS })
+    else if is_word word (codes "able") then Ok (record { 0 = QUERYABLES })
+    else if is_word word (codes "all") then Ok (record { 0 = bit_or SUBSCRIBERS QUERYABLES })
+    else Err BadWords
+
+-- whether the words behind the key ask that all is told as one: there is one, `aggregate`, or there is none
+abbrev pub aggregate_at : List (List ℕ) → Result Bool ScriptError
+aggregate_at [] = Ok false
+aggregate_at (word ∷ []) = if is_word word (codes "aggregate") then Ok true else Err BadWords
+aggregate_at (a ∷ b ∷ more) = Err BadWords
+
 -- ---- keys and payloads
 
 -- the key expression that a word was read as
@@ -112,6 +150,10 @@ key_of_word (Err e) = Err BadKey
 -- a key expression, in its canonical form
 abbrev pub key_at : List ℕ → Result (List ℕ) ScriptError
 key_at word = key_of_word (read_key word)
+
+-- the key expression of an interest, which may have none: `-` is none
+abbrev pub optional_key_at : List ℕ → Result (Option (List ℕ)) ScriptError
+optional_key_at word = if is_word word (codes "-") then Ok None else key_at word >>= (λ key. Ok (Some key))
 
 -- the payload that a word spells: `-` is the empty one
 abbrev pub payload_at : List ℕ → List ℕ

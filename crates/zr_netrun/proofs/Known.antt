@@ -1,7 +1,7 @@
 -- A name that is there stays there, and stays that of a router or of a client, whatever act follows (`act_keeps`): so it is all one
 -- in which later world a report's neighbours are told apart (`counts_stay`).
 use Rattle.std.proofs.Common.{◌≡◌, ℕ, ◌+◌, ◌≤◌, Bool, true, false, cond, not, List, [], ◌∷◌, ◌++◌, Some, None, refl, sym, ap, ◌∙◌, zero-add, arith}
-use Rattle.std.specs.Prelude.{◌||◌, is_some, IfSome, map, filter}
+use Rattle.std.specs.Prelude.{◌||◌, is_some, unwrap_or, IfSome, map, filter}
 use Rattle.std.specs.List.{list_all, count_by}
 use Rattle.std.specs.Ordering.{nat_cmp}
 use Rattle.std.specs.Cmp.Lexicographic.{slice_cmp}
@@ -16,21 +16,23 @@ use Rattle.zr_msg.specs.declared.decl.Kind.TheVariants as k
 use Rattle.zr_msg.specs.Extras.{no_extras}
 use Rattle.zr_msg.specs.declared.msg.Msg.{Msg}
 use Rattle.zr_msg.specs.declared.msg.Msg.TheVariants as message
+use Rattle.zr_msg.specs.declared.event.Event.{Event}
 use Rattle.zr_msg.specs.declared.event.Event.TheVariants.{Down, From}
 use Rattle.zr_msg.specs.declared.peer.Role.TheVariants as role
 use Rattle.zr_command.specs.declared.command.Act.{Act}
 use Rattle.zr_command.specs.declared.command.Act.TheVariants as c
+use Rattle.zr_command.specs.Mode.{is_current, is_future}
 use Rattle.zr_command.specs.declared.report.ReportLine.{ReportLine}
 use Rattle.zr_command.specs.declared.report.ReportLine.TheVariants as line
 use Rattle.zr_table.specs.State.{NodeState}
 use Rattle.zr_table.specs.Table.{able_kind}
 use Rattle.zr_network.specs.World.{RouterState, ClientState, WorldState, Routers, Clients, with_routers, with_clients, router_of, client_of, with_router, with_client, is_taken, new_router, new_client}
-use Rattle.zr_network.specs.Acts.{outcome, declare_step, undeclare_step, hearing, weighing, declaring, undeclaring, up_event, peer_of, parent_line, source_line, shown_base, shown, received}
+use Rattle.zr_network.specs.Acts.{outcome, declare_step, undeclare_step, hearing, having_told, weighing, declaring, undeclaring, up_event, peer_of, parent_line, source_line, shown_base, shown, received}
 use Rattle.zr_network.specs.Moments.{Moment, went}
-use Rattle.zr_network.proofs.Keyed.{not_there}
+use Rattle.zr_network.proofs.Keyed.{not_there, set_twice}
 use Rattle.zr_network.proofs.Names.{same_name, value_new, read_kept}
 use Rattle.zr_network.proofs.Clients.{there_same, same_received}
-use Rattle.zr_network.proofs.Cases.{free_name, w_client, w_link, w_up, w_break, w_down, w_sent, w_declare, w_undeclare, w_handle, w_take, for_router, for_client, for_link, for_up, for_break, for_down, for_declare, for_undeclare, Says, publish_says, get_says, reply_says, end_says, for_handle, for_take, for_mark, for_show}
+use Rattle.zr_network.proofs.Cases.{free_name, w_client, w_link, w_up, w_break, w_down, w_sent, w_declare, w_undeclare, w_weighed, w_handle, w_take, for_router, for_client, for_link, for_up, for_break, for_down, for_declare, for_undeclare, Says, Weighs, interest_says, uninterest_says, publish_says, get_says, reply_says, end_says, for_handle, for_take, for_mark, for_show}
 use Rattle.zr_network.proofs.Lists.{weaker, all_both, all_mapped}
 use Rattle.zr_netrun.specs.Summary.{tells_handled, tells_taken, tells_sent, tells_mark, counts_in}
 use Rattle.zr_netrun.specs.Counted.{is_known}
@@ -60,6 +62,12 @@ other_name w id q free taken = by (is_named q id) refl
 -- a router's state is another
 same_router : (routers : Routers) (x : List ℕ) (r r' : RouterState) → router_of routers x ≡ Some r → (q : List ℕ) → is_some (router_of (with_router routers x r') q) ≡ is_some (router_of routers q)
 same_router routers x r r' found q = read_kept is_some routers x q r r' found refl
+
+-- a router has heard of an event, and told its clients
+same_heard : (routers : Routers) (x : List ℕ) (r : RouterState) (event : Event) → router_of routers x ≡ Some r → (q : List ℕ) →
+    is_some (router_of (with_router (with_router routers x (hearing r event)) x (having_told r event)) q) ≡ is_some (router_of routers q)
+same_heard routers x r event found q =
+    ap (λ (rs : Routers). is_some (router_of rs q)) (set_twice (is_named x) routers (hearing r event) (having_told r event)) ∙ same_router routers x r (having_told r event) found q
 
 same_client : (clients : Clients) (x : List ℕ) (s s' : ClientState) → client_of clients x ≡ Some s → (q : List ℕ) → is_some (client_of (with_client clients x s') q) ≡ is_some (client_of clients q)
 same_client clients x s s' found q = read_kept is_some clients x q s s' found refl
@@ -167,34 +175,42 @@ act_keeps m n act = by act
     says : (client : List ℕ) (msg : Msg) → Says m (Goes m) n client msg
     says client msg s es e ee unbroken clients same = still (with_clients (w_sent w n client s e msg) clients) (λ q. refl) (there_same w.clients clients same)
 
+    weighs : (client key : List ℕ) (msg : Msg) → Weighs m (Goes m) n client key msg
+    weighs client key msg s es e ee unbroken r er room clients same =
+        still (w_weighed w n client key msg s e r clients) (same_router w.routers s.router r (weighing r key) er) (there_same w.clients clients same)
+
     by : (act : Act) → IfSome (went m (outcome m.world n act)) (Goes m)
     by (c.Router id) = for_router m (Goes m) id (λ free room. goes (with_routers w (insert_entry (slice_cmp nat_cmp) w.routers id (new_router id))) [] (record {
       routers = λ q there. router_comes w id q free there;
       taken = λ q there. ap (λ b. b || is_some (client_of w.clients q)) (router_comes w id q free there) ∙ there;
     }) refl (omega arith))
     by (c.Client id router) = for_client m (Goes m) n id router (λ r er free room taken.
-        let heard : RouterState = hearing r (up_event r (record { id = id; role = role.Client })) in
+        let event : Event = up_event r (record { id = id; role = role.Client }) in
         goes (w_client w n id router r) [] (record {
-          routers = λ q there. same_router w.routers router r heard er q;
-          taken = λ q there. (λ i. same_router w.routers router r heard er q i || client_comes w id router q free there i) ∙ there;
+          routers = λ q there. same_heard w.routers router r event er q;
+          taken = λ q there. (λ i. same_heard w.routers router r event er q i || client_comes w id router q free there i) ∙ there;
         }) refl (omega arith))
     by (c.Link one other) = for_link m (Goes m) one other (λ apart r er q eq new room. still (w_link w one other) (λ q. refl) (λ q. refl))
     by (c.Up router name) = for_up m (Goes m) n router name (λ r er there s es unbroken down taken.
-        still (w_up w n router name r s) (same_router w.routers router r (hearing r (up_event r (peer_of w name))) er) (λ q. refl))
+        still (w_up w n router name r s) (same_heard w.routers router r (up_event r (peer_of w name)) er) (λ q. refl))
     by (c.Break router name) = for_break m (Goes m) router name (λ r er there s es unbroken. still (w_break w router name) (λ q. refl) (λ q. refl))
     by (c.Down router name) = for_down m (Goes m) n router name (λ r er there s es up cut l el taken.
-        still (w_down w n router name r l) (same_router w.routers router r (hearing r (Down l)) er) (λ q. refl))
+        still (w_down w n router name r l) (same_heard w.routers router r (Down l) er) (λ q. refl))
     by (c.Sub client id key) = declares client k.Sub id key (message.Sub id key)
     by (c.Unsub client id) = undeclares client k.Sub id (message.Unsub id)
     by (c.Able client id key complete) = declares client (able_kind complete) id key (message.Able id key complete)
     by (c.Unable client id) = undeclares client k.Able id (message.Unable id)
+    by (c.Interest client id mode kinds key aggregate) =
+        let msg : Msg = message.Interest id (is_current mode) (is_future mode) kinds key aggregate in
+        interest_says m (Goes m) n client id mode kinds key aggregate (says client msg) (weighs client (unwrap_or key []) msg)
+    by (c.Uninterest client id) = uninterest_says m (Goes m) n client id (says client (message.EndInterest id))
     by (c.Publish client content) = publish_says m (Goes m) n client content (says client (message.Push None content))
     by (c.Get client number target content) = get_says m (Goes m) n client number target content (says client (message.Request None number target content))
     by (c.Reply client number content) = reply_says m (Goes m) n client number content (says client (message.Response number content))
     by (c.End client number) = end_says m (Goes m) n client number (says client (message.Final number no_extras))
     by (c.Handle router from) = for_handle m (Goes m) router from (λ r er there s es up msg tag xs front l el taken.
         goes (w_handle w router from r s l msg tag xs) (line.Handled router from msg tag ∷ [])
-        (same_names w (w_handle w router from r s l msg tag xs) (same_router w.routers router r (hearing r (From l msg)) er) (λ q. refl)) refl (omega arith))
+        (same_names w (w_handle w router from r s l msg tag xs) (same_heard w.routers router r (From l msg) er) (λ q. refl)) refl (omega arith))
     by (c.Take router to) = for_take m (Goes m) router to (λ r er there s es up unbroken msg tag xs front.
         goes (w_take w router to s msg tag xs) (line.Taken router to msg tag ∷ []) (same_names w (w_take w router to s msg tag xs) (λ q. refl) (there_same w.clients (received w.clients to msg (client_of w.clients to)) (same_received w.clients to msg))) (and_from (is_taken w to) true there refl) (omega arith))
     by c.Mark = for_mark m (Goes m) n (λ settled joined. goes w (line.Mark n ∷ []) (same_names w w (λ q. refl) (λ q. refl)) refl (omega arith))

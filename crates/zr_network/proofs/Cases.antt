@@ -1,7 +1,8 @@
 -- What each act of a world comes to where it is accepted. To show something of the moment after an act it is enough to
 -- show it there: a refused act leads to no moment. Each lemma hands on what the act looked up, with its equation.
 use Rattle.std.proofs.Common.{◌≡◌, ℕ, Bool, true, false, cond, not, List, [], ◌∷◌, ◌++◌, length, Option, Some, None, Result, Ok, Err, refl, sym, ap, subst}
-use Rattle.std.specs.Prelude.{◌+◌, nat_le, is_some, is_ok, IfSome}
+use Rattle.std.specs.Prelude.{◌+◌, nat_le, is_some, is_ok, unwrap_or, IfSome}
+use Rattle.std.specs.Option.{option_or}
 use Rattle.std.specs.Ordering.{nat_cmp}
 use Rattle.std.specs.Cmp.Lexicographic.{slice_cmp}
 use Rattle.std.specs.BTreeMap.{insert_entry}
@@ -13,6 +14,7 @@ use Rattle.zr_msg.specs.declared.decl.Kind.{Kind}
 use Rattle.zr_msg.specs.declared.error.NodeError.{NodeError}
 use Rattle.zr_msg.specs.declared.msg.Msg.{Msg}
 use Rattle.zr_msg.specs.declared.msg.Msg.TheVariants as m
+use Rattle.zr_msg.specs.declared.msg.Kinds.{Kinds}
 use Rattle.zr_msg.specs.declared.msg.Target.{Target}
 use Rattle.zr_msg.specs.Extras.{no_extras}
 use Rattle.zr_msg.specs.declared.event.Event.{Event}
@@ -21,13 +23,15 @@ use Rattle.zr_msg.specs.declared.peer.Role.TheVariants as role
 use Rattle.zr_command.specs.declared.error.ScriptError.{ScriptError}
 use Rattle.zr_command.specs.declared.error.ScriptError.TheVariants.{NotLinked, Limit}
 use Rattle.zr_command.specs.declared.report.ReportLine.TheVariants as line
+use Rattle.zr_command.specs.declared.command.Mode.{Mode}
+use Rattle.zr_command.specs.Mode.{is_current, is_future}
 use Rattle.zr_routing.specs.Tables.{link_to}
 use Rattle.zr_msg.specs.declared.peer.LinkPeer.{LinkPeer}
 use Rattle.zr_table.specs.Table.{refuses}
 use Rattle.zr_language.specs.Step.{◌>>=◌}
 use Rattle.zr_network.specs.World.{Tagged, ClientState, RouterState, EndState, Routers, Clients, WorldState, with_routers, with_clients, with_ends, new_router, new_client, new_end, router_of, client_of, with_router, with_client, is_taken, end_of, with_end, put_end, most_routers, most_clients, most_links, most_weight, most_queries, weight_of, is_in_place, links_in_place, sent, with_wire, with_queue, broken, lifted, lowered, changed, is_settled}
 use Rattle.zr_network.specs.Joined.{is_joined}
-use Rattle.zr_network.specs.Acts.{Outcome, unless, router_at, client_at, end_at, oldest, has_number, has_id, weighing, weighed, declaring, undeclaring, asking, ending, received, heard, heard_by, hears, peer_of, up_event, number_at, number_to, shown, client_sends, router_step, client_step, link_step, up_step, break_step, down_step, declare_step, undeclare_step, publish_step, get_step, reply_step, end_step, handle_step, take_step, mark_step, show_step}
+use Rattle.zr_network.specs.Acts.{Outcome, unless, router_at, client_at, end_at, oldest, has_number, has_id, weighing, weighed, declaring, undeclaring, wanting, unwanting, asking, ending, received, refuses_of, heard, heard_by, hears, peer_of, up_event, number_at, number_to, shown, client_sends, router_step, client_step, link_step, up_step, break_step, down_step, declare_step, undeclare_step, keeps_interest, interest_step, uninterest_step, publish_step, get_step, reply_step, end_step, handle_step, take_step, mark_step, show_step}
 use Rattle.zr_network.specs.Moments.{Moment, went}
 use Rattle.zr_network.proofs.Clients.{SameClients, same_clients, same_with_client}
 
@@ -63,6 +67,10 @@ w_declare w n name kind id key msg s e r =
 
 abbrev pub w_undeclare : WorldState → ℕ → List ℕ → Kind → ℕ → Msg → ClientState → EndState → WorldState
 w_undeclare w n name kind id msg s e = with_clients (w_sent w n name s e msg) (with_client w.clients name (undeclaring s kind id))
+
+-- it asks to be told what others declare, which weighs on its router from then on
+abbrev pub w_weighed : WorldState → ℕ → List ℕ → List ℕ → Msg → ClientState → EndState → RouterState → Clients → WorldState
+w_weighed w n name key msg s e r clients = with_clients (with_routers (w_sent w n name s e msg) (with_router w.routers s.router (weighing r key))) clients
 
 abbrev pub w_handle : WorldState → List ℕ → List ℕ → RouterState → EndState → LinkNo → Msg → ℕ → List Tagged → WorldState
 w_handle w router from r s l msg tag xs = heard (with_ends w (with_end w.ends (router, from) (with_wire s xs))) router r (From l msg) tag
@@ -100,9 +108,13 @@ on_undeclare now n name kind id msg s e = record { world = w_undeclare now.world
 abbrev pub on_publish : Moment → ℕ → List ℕ → Parts → ClientState → EndState → Moment
 on_publish now n name content s e = record { world = w_sent now.world n name s e (m.Push None content); report = now.report ++ [] }
 
--- a client says something, and its queries or requests may be others then
+-- a client says something, and its interests, queries or requests may be others then
 abbrev pub on_said : Moment → ℕ → List ℕ → Msg → ClientState → EndState → Clients → Moment
 on_said now n name msg s e clients = record { world = with_clients (w_sent now.world n name s e msg) clients; report = now.report ++ [] }
+
+-- and what it says may weigh on its router
+abbrev pub on_weighed : Moment → ℕ → List ℕ → List ℕ → Msg → ClientState → EndState → RouterState → Clients → Moment
+on_weighed now n name key msg s e r clients = record { world = w_weighed now.world n name key msg s e r clients; report = now.report ++ [] }
 
 abbrev pub on_handle : Moment → List ℕ → List ℕ → RouterState → EndState → LinkNo → Msg → ℕ → List Tagged → Moment
 on_handle now router from r s l msg tag xs = record { world = w_handle now.world router from r s l msg tag xs; report = now.report ++ line.Handled router from msg tag ∷ [] }
@@ -156,6 +168,11 @@ weighed_found routers name key (Some r) rs h = by (nat_le (r.weight + weight_of 
 pub free_name : (w : WorldState) (name : List ℕ) → is_taken w name ≡ false → (is_some (router_of w.routers name) ≡ false) × (is_some (client_of w.clients name) ≡ false)
 free_name w name h = or_parts (is_some (router_of w.routers name)) (is_some (client_of w.clients name)) h
 
+-- an event that a router with its clients doesn't refuse isn't refused by the router
+pub none_first : (a b : Option NodeError) → option_or a b ≡ None → a ≡ None
+none_first None b h = refl
+none_first (Some e) b h = h
+
 -- ---- the cases
 
 module _ (now : Moment) (Q : Moment → Type 0) where
@@ -180,10 +197,10 @@ module _ (now : Moment) (Q : Moment → Type 0) where
   -- a router that hears of an event
   for_hears : (v : WorldState) (x : List ℕ) (r : RouterState) (event : Event) (tag : ℕ) (f : WorldState → Outcome) →
       (refuses r.node event ≡ None → IfSome (went now (f (heard v x r event tag))) Q) → IfSome (went now (hears v x r event tag >>= f)) Q
-  for_hears v x r event tag f step = by (refuses r.node event) refl
+  for_hears v x r event tag f step = by (refuses_of r event) refl
     where
-      by : (o : Option NodeError) → refuses r.node event ≡ o → IfSome (went now (heard_by v x r event tag o >>= f)) Q
-      by None e = step e
+      by : (o : Option NodeError) → refuses_of r event ≡ o → IfSome (went now (heard_by v x r event tag o >>= f)) Q
+      by None e = step (none_first (refuses r.node event) _ e)
       by (Some k) e = tt
 
   -- a client that sends
@@ -286,6 +303,49 @@ module _ (now : Moment) (Q : Moment → Type 0) where
       for_bind (client_at (client_of w.clients name)) _ (λ s es. for_test (has_id s kind id) _ _ (λ known. for_client_sends n name s msg _ (λ e there unbroken.
       step s (client_found (client_of w.clients name) s es) known e there unbroken)))
 
+  -- an interest weighs where it is in what is declared later, and goes on then
+  pub for_interest : (n : ℕ) (name : List ℕ) (id : ℕ) (mode : Mode) (kinds : Kinds) (key : Option (List ℕ)) (aggregate : Bool) →
+      ((s : ClientState) → client_of w.clients name ≡ Some s → has_number s.interests id ≡ false → (e : EndState) → end_of w.ends (s.router, name) ≡ Some e → e.unbroken ≡ true →
+      is_future mode ≡ false → Q (on_said now n name (m.Interest id (is_current mode) (is_future mode) kinds key aggregate) s e w.clients)) →
+      ((s : ClientState) → client_of w.clients name ≡ Some s → has_number s.interests id ≡ false → (e : EndState) → end_of w.ends (s.router, name) ≡ Some e → e.unbroken ≡ true →
+      is_future mode ≡ true → (r : RouterState) → router_of w.routers s.router ≡ Some r → nat_le (r.weight + weight_of (unwrap_or key [])) most_weight ≡ true →
+      Q (on_weighed now n name (unwrap_or key []) (m.Interest id (is_current mode) (is_future mode) kinds key aggregate) s e r (with_client w.clients name (wanting s id)))) →
+      IfSome (went now (interest_step w n name id mode kinds key aggregate)) Q
+  unfolding interest_step
+  for_interest n name id mode kinds key aggregate once lasting =
+      for_bind (client_at (client_of w.clients name)) _ (λ s es. for_unless (has_number s.interests id) _ _ (λ fresh. for_client_sends n name s msg (goes s) (λ e there unbroken.
+      by (is_future mode) refl s (client_found (client_of w.clients name) s es) fresh e there unbroken)))
+    where
+      msg : Msg
+      msg = m.Interest id (is_current mode) (is_future mode) kinds key aggregate
+
+      goes : ClientState → WorldState → Outcome
+      goes s v = cond (is_future mode) (keeps_interest v name s id (unwrap_or key [])) (Ok ([], v))
+
+      wanted_moment : ClientState → EndState → Routers → Moment
+      wanted_moment s e z = record {
+        world = with_clients (with_routers (w_sent w n name s e msg) z) (with_client w.clients name (wanting s id));
+        report = now.report ++ [];
+      }
+
+      by : (b : Bool) → is_future mode ≡ b → (s : ClientState) → client_of w.clients name ≡ Some s → has_number s.interests id ≡ false → (e : EndState) →
+          end_of w.ends (s.router, name) ≡ Some e → e.unbroken ≡ true →
+          IfSome (went now (cond b (keeps_interest (w_sent w n name s e msg) name s id (unwrap_or key [])) (Ok ([], w_sent w n name s e msg)))) Q
+      by false passing s found fresh e there unbroken = once s found fresh e there unbroken passing
+      by true lasts s found fresh e there unbroken =
+          for_bind (weighed w.routers s.router (unwrap_or key []) (router_of w.routers s.router)) _ (λ rs er.
+          let room = weighed_found w.routers s.router (unwrap_or key []) (router_of w.routers s.router) rs er in
+          subst (λ (z : Routers). Q (wanted_moment s e z)) (sym room.2) (lasting s found fresh e there unbroken lasts room.0 room.1 room.3))
+
+  pub for_uninterest : (n : ℕ) (name : List ℕ) (id : ℕ) →
+      ((s : ClientState) → client_of w.clients name ≡ Some s → has_number s.interests id ≡ true → (e : EndState) → end_of w.ends (s.router, name) ≡ Some e → e.unbroken ≡ true →
+      Q (on_said now n name (m.EndInterest id) s e (with_client w.clients name (unwanting s id)))) →
+      IfSome (went now (uninterest_step w n name id)) Q
+  unfolding uninterest_step
+  for_uninterest n name id step =
+      for_bind (client_at (client_of w.clients name)) _ (λ s es. for_test (has_number s.interests id) _ _ (λ known. for_client_sends n name s (m.EndInterest id) _ (λ e there unbroken.
+      step s (client_found (client_of w.clients name) s es) known e there unbroken)))
+
   pub for_publish : (n : ℕ) (name : List ℕ) (content : Parts) →
       ((s : ClientState) → client_of w.clients name ≡ Some s → (e : EndState) → end_of w.ends (s.router, name) ≡ Some e → e.unbroken ≡ true → Q (on_publish now n name content s e)) →
       IfSome (went now (publish_step w n name content)) Q
@@ -322,10 +382,29 @@ module _ (now : Moment) (Q : Moment → Type 0) where
       for_bind (client_at (client_of w.clients name)) _ (λ s es. for_client_sends n name s (m.Final number no_extras) _ (λ e there unbroken.
       for_test (has_number s.requests number) _ _ (λ asked. step s (client_found (client_of w.clients name) s es) e there unbroken asked)))
 
-  -- a client says something and declares nothing: what is shown of this is shown of a sample, a query, a reply and an end
+  -- a client says something and declares nothing: what is shown of this is shown of a sample, a query, a reply and an end, and of the end of an interest
   abbrev pub Says : ℕ → List ℕ → Msg → Type 0
   Says n name msg = (s : ClientState) → client_of w.clients name ≡ Some s → (e : EndState) → end_of w.ends (s.router, name) ≡ Some e → e.unbroken ≡ true →
       (clients : Clients) → SameClients w.clients clients → Q (on_said now n name msg s e clients)
+
+  -- what it says weighs on its router: what is shown of this too is shown of an interest
+  abbrev pub Weighs : ℕ → List ℕ → List ℕ → Msg → Type 0
+  Weighs n name key msg = (s : ClientState) → client_of w.clients name ≡ Some s → (e : EndState) → end_of w.ends (s.router, name) ≡ Some e → e.unbroken ≡ true →
+      (r : RouterState) → router_of w.routers s.router ≡ Some r → nat_le (r.weight + weight_of key) most_weight ≡ true →
+      (clients : Clients) → SameClients w.clients clients → Q (on_weighed now n name key msg s e r clients)
+
+  pub interest_says : (n : ℕ) (name : List ℕ) (id : ℕ) (mode : Mode) (kinds : Kinds) (key : Option (List ℕ)) (aggregate : Bool) →
+      Says n name (m.Interest id (is_current mode) (is_future mode) kinds key aggregate) →
+      Weighs n name (unwrap_or key []) (m.Interest id (is_current mode) (is_future mode) kinds key aggregate) →
+      IfSome (went now (interest_step w n name id mode kinds key aggregate)) Q
+  interest_says n name id mode kinds key aggregate says weighs = for_interest n name id mode kinds key aggregate
+      (λ s found fresh e there unbroken passing. says s found e there unbroken w.clients (same_clients w.clients))
+      (λ s found fresh e there unbroken lasts r er room. weighs s found e there unbroken r er room
+      (with_client w.clients name (wanting s id)) (same_with_client w.clients name s (wanting s id) found refl))
+
+  pub uninterest_says : (n : ℕ) (name : List ℕ) (id : ℕ) → Says n name (m.EndInterest id) → IfSome (went now (uninterest_step w n name id)) Q
+  uninterest_says n name id says = for_uninterest n name id (λ s found known e there unbroken.
+      says s found e there unbroken (with_client w.clients name (unwanting s id)) (same_with_client w.clients name s (unwanting s id) found refl))
 
   pub publish_says : (n : ℕ) (name : List ℕ) (content : Parts) → Says n name (m.Push None content) → IfSome (went now (publish_step w n name content)) Q
   publish_says n name content says = for_publish n name content (λ s found e there unbroken. says s found e there unbroken w.clients (same_clients w.clients))

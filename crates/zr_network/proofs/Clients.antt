@@ -1,5 +1,5 @@
--- Clients of whom only open queries and requests are others (`SameClients`): so are they after each act by which a client says something
--- without declaring it, and after what a client is sent. Whatever reads but the routers and the declarations of clients reads the same.
+-- Clients of whom only interests, open queries and requests are others (`SameClients`): so are they after each act by which a client says
+-- something without declaring it, and after what a client is sent. Whatever reads but the routers and the declarations of clients reads the same.
 use Rattle.std.proofs.Common.{◌≡◌, ℕ, List, [], Option, Some, None, refl, sym, ap, ◌∙◌}
 use Rattle.std.specs.Map.{keys_of}
 use Rattle.std.specs.Option.{option_map}
@@ -14,11 +14,11 @@ use Rattle.zr_network.specs.Acts.{receiving, received}
 use Rattle.zr_network.proofs.Keyed.{there_changed}
 use Rattle.zr_network.proofs.Names.{read_kept}
 
--- a client without queries and requests: its router and what it has declared
+-- a client without interests, queries and requests: its router and what it has declared
 abbrev pub idle_client : ClientState → ClientState
-idle_client s = record { router = s.router; subs = s.subs; ables = s.ables; queries = []; requests = [] }
+idle_client s = record { router = s.router; subs = s.subs; ables = s.ables; interests = []; queries = []; requests = [] }
 
--- the same clients, but for queries and requests
+-- the same clients, but for interests, queries and requests
 pub record SameClients (clients more : Clients) : Type 0 where
   pub names : keys_of more ≡ keys_of clients
   pub each : (q : List ℕ) → option_map idle_client (client_of more q) ≡ option_map idle_client (client_of clients q)
@@ -26,7 +26,7 @@ pub record SameClients (clients more : Clients) : Type 0 where
 pub same_clients : (clients : Clients) → SameClients clients clients
 same_clients clients = record { names = refl; each = λ q. refl }
 
--- one client of them has other queries or requests
+-- one client of them has other interests, queries or requests
 pub same_with_client : (clients : Clients) (name : List ℕ) (s s' : ClientState) → client_of clients name ≡ Some s → idle_client s' ≡ idle_client s → SameClients clients (with_client clients name s')
 same_with_client clients name s s' found same = record {
   names = keys-set_value (is_named name) clients s';

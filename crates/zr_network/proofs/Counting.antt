@@ -1,7 +1,7 @@
 -- No act looks at how many steps runs asked for, and none changes it: in two worlds that differ in this count alone an act does the
 -- same (`outcome_recounted`), and so do the steps of a run (`steps_recounted`) and all acts of a line (`done_recounted`).
-use Rattle.std.proofs.Common.{◌≡◌, ℕ, zero, suc, Bool, true, false, not, List, [], ◌∷◌, ◌++◌, length, Option, Some, None, Result, Ok, Err, refl, ap, ◌∙◌}
-use Rattle.std.specs.Prelude.{nat_le}
+use Rattle.std.proofs.Common.{◌≡◌, ℕ, zero, suc, Bool, true, false, cond, not, List, [], ◌∷◌, ◌++◌, length, Option, Some, None, Result, Ok, Err, refl, ap, ◌∙◌}
+use Rattle.std.specs.Prelude.{nat_le, unwrap_or}
 use Rattle.std.specs.Ordering.{nat_cmp}
 use Rattle.std.specs.Cmp.Lexicographic.{slice_cmp}
 use Rattle.std.specs.BTreeMap.{insert_entry}
@@ -11,6 +11,7 @@ use Rattle.zr_msg.specs.declared.decl.Kind.TheVariants as k
 use Rattle.zr_msg.specs.declared.error.NodeError.{NodeError}
 use Rattle.zr_msg.specs.declared.event.Event.{Event}
 use Rattle.zr_msg.specs.declared.event.Event.TheVariants.{Down, From}
+use Rattle.zr_msg.specs.declared.msg.Kinds.{Kinds}
 use Rattle.zr_msg.specs.declared.msg.Msg.{Msg}
 use Rattle.zr_msg.specs.declared.msg.Msg.TheVariants as m
 use Rattle.zr_msg.specs.Extras.{no_extras}
@@ -19,14 +20,16 @@ use Rattle.zr_command.specs.declared.error.ScriptError.{ScriptError}
 use Rattle.zr_command.specs.declared.error.ScriptError.TheVariants.{BadWords, NameTaken, UnknownName, AlreadyLinked, NotLinked, NotAsked, Limit, NotSettled, NotJoined}
 use Rattle.zr_command.specs.declared.command.Act.{Act}
 use Rattle.zr_command.specs.declared.command.Act.TheVariants as c
+use Rattle.zr_command.specs.declared.command.Mode.{Mode}
+use Rattle.zr_command.specs.Mode.{is_current, is_future}
 use Rattle.zr_command.specs.declared.command.Command.{Command}
 use Rattle.zr_command.specs.declared.command.Command.TheVariants as command
 use Rattle.zr_command.specs.declared.report.ReportLine.TheVariants as line
 use Rattle.zr_language.specs.Step.{◌>>=◌}
-use Rattle.zr_table.specs.Table.{able_kind, refuses}
+use Rattle.zr_table.specs.Table.{able_kind}
 use Rattle.zr_network.specs.World.{Tagged, RouterState, ClientState, EndState, WorldState, with_booked, with_ends, with_clients, new_client, sent, router_of, client_of, is_taken, end_of, with_end, put_end, lifted, new_end, with_wire, is_in_place, links_in_place, most_routers, most_clients, most_links, most_queries, is_settled}
 use Rattle.zr_network.specs.Joined.{is_joined}
-use Rattle.zr_network.specs.Acts.{Outcome, unless, router_at, client_at, end_at, up_at, unbroken_at, oldest, has_number, has_id, weighed, heard, heard_by, hears, peer_of, up_event, number_to, client_sends, router_step, client_step, link_step, up_step, break_step, down_step, declare_step, undeclare_step, publish_step, get_step, reply_step, end_step, handle_step, take_step, mark_step, show_step, outcome}
+use Rattle.zr_network.specs.Acts.{Outcome, unless, router_at, client_at, end_at, up_at, unbroken_at, oldest, has_number, has_id, weighed, refuses_of, heard, heard_by, hears, peer_of, up_event, number_to, client_sends, router_step, client_step, link_step, up_step, break_step, down_step, declare_step, undeclare_step, keeps_interest, interest_step, uninterest_step, publish_step, get_step, reply_step, end_step, handle_step, take_step, mark_step, show_step, outcome}
 use Rattle.zr_network.specs.Next.{Done, next, world_after, with_more, run_steps, acts, all_done}
 
 -- the same with another count in the world
@@ -43,7 +46,7 @@ module _ (w : WorldState) (booked : ℕ) where
   -- one in which a router hears first
   hears_recounted : (u : WorldState) (x : List ℕ) (r : RouterState) (event : Event) (tag : ℕ) (f g : WorldState → Outcome) → ((v : WorldState) → f (with_booked v booked) ≡ recounted booked (g v)) →
       (hears (with_booked u booked) x r event tag >>= f) ≡ recounted booked (hears u x r event tag >>= g)
-  hears_recounted u x r event tag f g same = by (refuses r.node event)
+  hears_recounted u x r event tag f g same = by (refuses_of r event)
     where
       by : (o : Option NodeError) → (heard_by (with_booked u booked) x r event tag o >>= f) ≡ recounted booked (heard_by u x r event tag o >>= g)
       by None = same (heard u x r event tag)
@@ -88,6 +91,25 @@ module _ (w : WorldState) (booked : ℕ) where
   undeclare_recounted n client kind id msg =
       bind_recounted (client_at (client_of w.clients client)) _ _ (λ s. bind_recounted (unless (not (has_id s kind id)) UnknownName) _ _ (λ a. sends_recounted n client s msg _ _ (λ v. refl)))
 
+  interest_recounted : (n : ℕ) (client : List ℕ) (id : ℕ) (mode : Mode) (kinds : Kinds) (key : Option (List ℕ)) (aggregate : Bool) →
+      interest_step (with_booked w booked) n client id mode kinds key aggregate ≡ recounted booked (interest_step w n client id mode kinds key aggregate)
+  unfolding interest_step
+  interest_recounted n client id mode kinds key aggregate =
+      bind_recounted (client_at (client_of w.clients client)) _ _ (λ s. bind_recounted (unless (has_number s.interests id) NameTaken) _ _ (λ a.
+      sends_recounted n client s (m.Interest id (is_current mode) (is_future mode) kinds key aggregate) (goes s (is_future mode)) (goes s (is_future mode)) (λ v. by s v (is_future mode))))
+    where
+      goes : ClientState → Bool → WorldState → Outcome
+      goes s future v = cond future (keeps_interest v client s id (unwrap_or key [])) (Ok ([], v))
+
+      by : (s : ClientState) (v : WorldState) (future : Bool) → goes s future (with_booked v booked) ≡ recounted booked (goes s future v)
+      by s v true = bind_recounted (weighed v.routers s.router (unwrap_or key []) (router_of v.routers s.router)) _ _ (λ routers. refl)
+      by s v false = refl
+
+  uninterest_recounted : (n : ℕ) (client : List ℕ) (id : ℕ) → uninterest_step (with_booked w booked) n client id ≡ recounted booked (uninterest_step w n client id)
+  unfolding uninterest_step
+  uninterest_recounted n client id =
+      bind_recounted (client_at (client_of w.clients client)) _ _ (λ s. bind_recounted (unless (not (has_number s.interests id)) UnknownName) _ _ (λ a. sends_recounted n client s (m.EndInterest id) _ _ (λ v. refl)))
+
   pub outcome_recounted : (n : ℕ) (act : Act) → outcome (with_booked w booked) n act ≡ recounted booked (outcome w n act)
   unfolding outcome router_step client_step link_step up_step break_step down_step publish_step get_step reply_step end_step handle_step take_step mark_step show_step
   outcome_recounted n (c.Router id) =
@@ -112,6 +134,8 @@ module _ (w : WorldState) (booked : ℕ) where
   outcome_recounted n (c.Unsub client id) = undeclare_recounted n client k.Sub id (m.Unsub id)
   outcome_recounted n (c.Able client id key complete) = declare_recounted n client (able_kind complete) id key (m.Able id key complete)
   outcome_recounted n (c.Unable client id) = undeclare_recounted n client k.Able id (m.Unable id)
+  outcome_recounted n (c.Interest client id mode kinds key aggregate) = interest_recounted n client id mode kinds key aggregate
+  outcome_recounted n (c.Uninterest client id) = uninterest_recounted n client id
   outcome_recounted n (c.Publish client content) =
       bind_recounted (client_at (client_of w.clients client)) _ _ (λ s. sends_recounted n client s (m.Push None content) _ _ (λ v. refl))
   outcome_recounted n (c.Get client number target content) =

@@ -1,5 +1,5 @@
 -- Ends of links, and what a look-up of an end finds after each change of a world's ends: a replacement (`with_end`), a new end
--- (`put_end`), a change where the end is there (`changed`), and messages that a router has queued (`all_queued`). Each has its equation
+-- (`put_end`), a change where the end is there (`changed`), and messages that wait for a router's neighbours (`waiting`), as those that it has queued (`all_queued`). Each has its equation
 -- (`.._is`), what any reading of the end says then (`read_..`), and that a reading which the change does not touch says the same (`keep_..`).
 use Rattle.std.proofs.Common.{◌≡◌, ℕ, Bool, true, false, cond, List, Option, Some, None, refl, sym, ap, ◌∙◌, subst}
 use Rattle.std.specs.Prelude.{◌&&◌, is_some}
@@ -15,9 +15,10 @@ use Rattle.std.proofs.lemmas.Bool.{and_parts}
 use Rattle.std.proofs.lemmas.Map.{keys-set_value}
 use Rattle.zr_id.specs.Zid.{is_named}
 use Rattle.zr_msg.specs.declared.event.Event.{Event}
+use Rattle.zr_msg.specs.declared.msg.Msg.{Msg}
 use Rattle.zr_table.specs.State.{NodeState}
 use Rattle.zr_network.specs.World.{EndState, End, Ends, end_cmp, is_end, end_of, with_end, put_end, queued, changed}
-use Rattle.zr_network.specs.Acts.{sends_to, all_queued}
+use Rattle.zr_network.specs.Acts.{waiting, sends_to, all_queued}
 use Rattle.zr_network.proofs.Keyed.{read_cond, read_same, not_there, keys, lookup_set, lookup_insert, lookup_where, keys_where, sorted_insert, found_entry, entry_found, all_found}
 use Rattle.zr_tree.proofs.Finds.{In}
 use Rattle.zr_network.proofs.Names.{same_name}
@@ -128,27 +129,46 @@ module _ (es : Ends) (e : End) (change : EndState → EndState) where
   pub keys_changed : keys_of (changed es e change) ≡ keys_of es
   keys_changed = keys_where end_order (λ k. is_end e k) (λ k s. change s) es
 
--- ---- what a router has queued
+-- ---- what waits for a router's neighbours
 
+module _ (es : Ends) (x : List ℕ) (msgs : List ℕ → List Msg) (tag : ℕ) where
+  -- what the messages to a neighbour make of the router's end to it
+  abbrev pub with_waiting : List ℕ → EndState → EndState
+  with_waiting y s = queued s (msgs y) tag
+
+  pub waiting_is : (q : End) → end_of (waiting es x msgs tag) q ≡ cond (is_named x q.0) (option_map (with_waiting q.1) (end_of es q)) (end_of es q)
+  waiting_is q = lookup_where end_order same_end (λ k. is_named x k.0) (λ k s. with_waiting k.1 s) es q
+
+  pub read_waiting : {Y : Type 0} (f : Option EndState → Y) (q : End) →
+      f (end_of (waiting es x msgs tag) q) ≡ cond (is_named x q.0) (f (option_map (with_waiting q.1) (end_of es q))) (f (end_of es q))
+  read_waiting f q = ap f (waiting_is q) ∙ read_cond f (is_named x q.0) (option_map (with_waiting q.1) (end_of es q)) (end_of es q)
+
+  pub keep_waiting : {Y : Type 0} (f : Option EndState → Y) (q : End) → ((s : EndState) → f (Some (with_waiting q.1 s)) ≡ f (Some s)) →
+      f (end_of (waiting es x msgs tag) q) ≡ f (end_of es q)
+  keep_waiting f q same = read_waiting f q ∙ read_same (is_named x q.0) (f (option_map (with_waiting q.1) (end_of es q))) (f (end_of es q)) (λ n. by (end_of es q))
+    where
+      by : (o : Option EndState) → f (option_map (with_waiting q.1) o) ≡ f o
+      by None = refl
+      by (Some s) = same s
+
+  pub keys_waiting : keys_of (waiting es x msgs tag) ≡ keys_of es
+  keys_waiting = keys_where end_order (λ (k : End). is_named x k.0) (λ k s. with_waiting k.1 s) es
+
+-- what a router has queued
 module _ (es : Ends) (x : List ℕ) (node : NodeState) (event : Event) (tag : ℕ) where
-  -- what the router's new messages make of its end to a neighbour
   abbrev pub with_sent : List ℕ → EndState → EndState
   with_sent y s = queued s (sends_to node event y) tag
 
   pub all_queued_is : (q : End) → end_of (all_queued es x node event tag) q ≡ cond (is_named x q.0) (option_map (with_sent q.1) (end_of es q)) (end_of es q)
-  all_queued_is q = lookup_where end_order same_end (λ k. is_named x k.0) (λ k s. with_sent k.1 s) es q
+  all_queued_is q = waiting_is es x (sends_to node event) tag q
 
   pub read_all_queued : {Y : Type 0} (f : Option EndState → Y) (q : End) →
       f (end_of (all_queued es x node event tag) q) ≡ cond (is_named x q.0) (f (option_map (with_sent q.1) (end_of es q))) (f (end_of es q))
-  read_all_queued f q = ap f (all_queued_is q) ∙ read_cond f (is_named x q.0) (option_map (with_sent q.1) (end_of es q)) (end_of es q)
+  read_all_queued f q = read_waiting es x (sends_to node event) tag f q
 
   pub keep_all_queued : {Y : Type 0} (f : Option EndState → Y) (q : End) → ((s : EndState) → f (Some (with_sent q.1 s)) ≡ f (Some s)) →
       f (end_of (all_queued es x node event tag) q) ≡ f (end_of es q)
-  keep_all_queued f q same = read_all_queued f q ∙ read_same (is_named x q.0) (f (option_map (with_sent q.1) (end_of es q))) (f (end_of es q)) (λ n. by (end_of es q))
-    where
-      by : (o : Option EndState) → f (option_map (with_sent q.1) o) ≡ f o
-      by None = refl
-      by (Some s) = same s
+  keep_all_queued f q same = keep_waiting es x (sends_to node event) tag f q same
 
   pub keys_all_queued : keys_of (all_queued es x node event tag) ≡ keys_of es
-  keys_all_queued = keys_where end_order (λ (k : End). is_named x k.0) (λ k s. with_sent k.1 s) es
+  keys_all_queued = keys_waiting es x (sends_to node event) tag

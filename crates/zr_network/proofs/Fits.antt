@@ -18,10 +18,10 @@ use Rattle.zr_table.specs.State.{NodeState, new_link}
 use Rattle.zr_msg.specs.declared.peer.LinkPeer.{LinkPeer}
 use Rattle.zr_table.specs.Table.{with_link, without_link, after}
 use Rattle.zr_network.specs.World.{ClientState, RouterState, EndState, End, Routers, Clients, Ends, WorldState, end_cmp, is_end, router_of, client_of, end_of, is_up, with_router, with_end, put_end, changed, empty_world}
-use Rattle.zr_network.specs.Acts.{all_queued}
+use Rattle.zr_network.specs.Acts.{waiting, sends_to, all_queued, told_to, all_told}
 use Rattle.zr_network.specs.Sound.{AreUnique, IsSound}
 use Rattle.zr_network.proofs.Keyed.{there_changed, not_there, read_cond}
-use Rattle.zr_network.proofs.Ends.{same_end, end_parts, keys_with_end, keep_with_end, keys_changed, keep_changed, keys_all_queued, keep_all_queued, read_put_end, sorted_put_end}
+use Rattle.zr_network.proofs.Ends.{same_end, end_parts, keys_with_end, keep_with_end, keys_changed, keep_changed, keys_waiting, keep_waiting, read_put_end, sorted_put_end}
 use Rattle.zr_network.proofs.Names.{names, same_name, value_after, read_kept}
 use Rattle.zr_network.proofs.Links.{free_is_free, unique_with, unique_without}
 use Rattle.zr_network.proofs.Nodes.{me_after, peer, peer_to, peers_from, peers_up, peers_down}
@@ -221,12 +221,33 @@ same_changed ends e change up = record {
   as_up = λ q. keep_changed ends e change up_of q up;
 }
 
-pub same_queued : (ends : Ends) (x : List ℕ) (node : NodeState) (event : Event) (tag : ℕ) → SameEnds ends (all_queued ends x node event tag)
-same_queued ends x node event tag = record {
-  sorted = subst (IsStrictlySortedBy end_cmp) (sym (keys_all_queued ends x node event tag));
-  there_too = λ q. keep_all_queued ends x node event tag is_some q (λ s. refl);
-  as_up = λ q. keep_all_queued ends x node event tag up_of q (λ s. refl);
+pub same_waiting : (ends : Ends) (x : List ℕ) (msgs : List ℕ → List Msg) (tag : ℕ) → SameEnds ends (waiting ends x msgs tag)
+same_waiting ends x msgs tag = record {
+  sorted = subst (IsStrictlySortedBy end_cmp) (sym (keys_waiting ends x msgs tag));
+  there_too = λ q. keep_waiting ends x msgs tag is_some q (λ s. refl);
+  as_up = λ q. keep_waiting ends x msgs tag up_of q (λ s. refl);
 }
+
+pub same_unwaiting : (ends : Ends) (x : List ℕ) (msgs : List ℕ → List Msg) (tag : ℕ) → SameEnds (waiting ends x msgs tag) ends
+same_unwaiting ends x msgs tag =
+    let same : SameEnds ends (waiting ends x msgs tag) = same_waiting ends x msgs tag in
+    record {
+      sorted = subst (IsStrictlySortedBy end_cmp) (keys_waiting ends x msgs tag);
+      there_too = λ q. sym (same.there_too q);
+      as_up = λ q. sym (same.as_up q);
+    }
+
+pub same_queued : (ends : Ends) (x : List ℕ) (node : NodeState) (event : Event) (tag : ℕ) → SameEnds ends (all_queued ends x node event tag)
+same_queued ends x node event tag = same_waiting ends x (sends_to node event) tag
+
+pub same_told : (ends : Ends) (x : List ℕ) (r : RouterState) (event : Event) (tag : ℕ) → SameEnds ends (all_told ends x r event tag)
+same_told ends x r event tag = same_waiting ends x (told_to r event) tag
+
+-- what waits once a router has heard of an event, and its clients were told
+pub same_heard : (ends : Ends) (x : List ℕ) (r : RouterState) (event : Event) (tag : ℕ) → SameEnds ends (all_told (all_queued ends x r.node event tag) x r event tag)
+same_heard ends x r event tag =
+    let queued : Ends = all_queued ends x r.node event tag in
+    same_then ends queued (all_told queued x r event tag) (same_queued ends x r.node event tag) (same_told queued x r event tag)
 
 -- of two ends of one router
 pub own_end : (x y q : List ℕ) → is_end (x, y) (x, q) ≡ is_named y q
@@ -264,6 +285,27 @@ sound_of w p n = record {
   links = λ x y r found. sym (there_changed (λ l. l.peer) (link_to r.node.links y)) ∙ (n x r found).links y;
   roles = λ x y r l found k. (n x r found).roles y l.peer (ap peer k);
 }
+
+-- two networks alike: the same clients, routers with the same nodes, and the same ends, as many of them up
+pub record Alike (w v : WorldState) : Type 0 where
+  pub clients : v.clients ≡ w.clients
+  pub nodes : (q : List ℕ) → option_map (λ r. r.node) (router_of v.routers q) ≡ option_map (λ r. r.node) (router_of w.routers q)
+  pub ends : SameEnds w.ends v.ends
+
+-- where one is sound the other is
+pub alike_sound : (w v : WorldState) → Alike w v → IsSound w → IsSound v
+alike_sound w v a h = sound_of v
+    (places_same w.routers v.routers w.clients v.clients w.ends v.ends (places_of w h) (a.ends.sorted h.in_order) there_too (λ q. ap (λ cs. home (client_of cs q)) a.clients) a.ends.there_too)
+    (λ x r found. by x r (router_of w.routers x) refl (sym (a.nodes x) ∙ ap (option_map (λ z. z.node)) found))
+  where
+    there_too : (q : List ℕ) → is_some (router_of v.routers q) ≡ is_some (router_of w.routers q)
+    there_too q = sym (there_changed (λ r. r.node) (router_of v.routers q)) ∙ ap is_some (a.nodes q) ∙ there_changed (λ r. r.node) (router_of w.routers q)
+
+    by : (x : List ℕ) (r : RouterState) (o : Option RouterState) → router_of w.routers x ≡ o → option_map (λ z. z.node) o ≡ Some r.node → Fits v.routers v.ends x r.node
+    by x r None e k = absurd (false≢true (ap is_some k))
+    by x r (Some t) e k =
+        let same : t.node ≡ r.node = cc in
+        subst (λ z. Fits v.routers v.ends x z) same (fits_same w.routers v.routers w.ends v.ends x t.node (nodes_of w h x t e) (λ y u. there_too y) (λ y. a.ends.as_up (x, y)))
 
 -- before the first line
 pub empty_sound : IsSound empty_world

@@ -59,6 +59,16 @@ module _ {X : Type 0} where
   in_each P [] f = tt
   in_each P (x ∷ xs) f = (f x (inl refl), in_each P xs (λ y i. f y (inr i)))
 
+-- what was set last counts
+pub set_twice : {K X : Type 0} (t : K → Bool) (es : List (K × X)) (v w : X) → set_value t (set_value t es v) w ≡ set_value t es w
+set_twice t [] v w = refl
+set_twice t (e ∷ es) v w = by (t e.0) refl (set_twice t es v w)
+  where
+    by : (b : Bool) → t e.0 ≡ b → set_value t (set_value t es v) w ≡ set_value t es w →
+        set_value t (cond b ((e.0, v) ∷ es) (e ∷ set_value t es v)) w ≡ cond b ((e.0, w) ∷ es) (e ∷ set_value t es w)
+    by true k ih = ap (λ c. cond c ((e.0, w) ∷ es) ((e.0, v) ∷ set_value t es w)) k
+    by false k ih = ap (λ c. cond c ((e.0, w) ∷ set_value t es v) (e ∷ set_value t (set_value t es v) w)) k ∙ ap (λ z. e ∷ z) ih
+
 -- ---- keys
 
 module _ {K : Type 0} {R : K → K → Ordering} (order : IsTotalOrder R) where

@@ -7,6 +7,7 @@ pub mod Next
 pub mod Links
 pub mod Nodes
 pub mod Fits
+pub mod Telling
 pub mod Sound
 pub mod Lists
 pub mod Counting

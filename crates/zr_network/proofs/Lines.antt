@@ -33,7 +33,7 @@ use Rattle.zr_network.specs.Next.{step_at, can_handle, can_take, first_where, ne
 use Rattle.zr_network.specs.Run.{Run, start, stepped, commanded, on_line}
 use Rattle.zr_network.specs.Moments.{Numbered, is_step, is_later, ascends, Moment, beginning, went, onward, reached}
 use Rattle.zr_network.specs.Accepted.{entries, accepted_from, accepted, is_of_act, IsTold, LinesAreMoments}
-use Rattle.zr_network.proofs.Cases.{for_router, for_client, for_link, for_up, for_break, for_down, for_declare, for_undeclare, publish_says, get_says, reply_says, end_says, for_handle, for_take, for_mark, for_show}
+use Rattle.zr_network.proofs.Cases.{for_router, for_client, for_link, for_up, for_break, for_down, for_declare, for_undeclare, interest_says, uninterest_says, publish_says, get_says, reply_says, end_says, for_handle, for_take, for_mark, for_show}
 use Rattle.zr_network.proofs.Lists.{filter_all, all_of_filter, all_both, all_parts, all_mapped}
 use Rattle.zr_network.proofs.Counting.{recounted, outcome_recounted, steps_recounted, acts_recounted, done_recounted}
 
@@ -189,6 +189,9 @@ act_tells now h n act = by act
     by (c.Unsub client id) = for_undeclare now IsOfActs n client k.Sub id (m.Unsub id) (λ s es known e ee unbroken. more [] refl)
     by (c.Able client id key complete) = for_declare now IsOfActs n client (able_kind complete) id key (m.Able id key complete) (λ s es fresh e ee unbroken r er room. more [] refl)
     by (c.Unable client id) = for_undeclare now IsOfActs n client k.Able id (m.Unable id) (λ s es known e ee unbroken. more [] refl)
+    by (c.Interest client id mode kinds key aggregate) =
+        interest_says now IsOfActs n client id mode kinds key aggregate (λ s es e ee unbroken clients same. more [] refl) (λ s es e ee unbroken r er room clients same. more [] refl)
+    by (c.Uninterest client id) = uninterest_says now IsOfActs n client id (λ s es e ee unbroken clients same. more [] refl)
     by (c.Publish client content) = publish_says now IsOfActs n client content (λ s es e ee unbroken clients same. more [] refl)
     by (c.Get client number target content) = get_says now IsOfActs n client number target content (λ s es e ee unbroken clients same. more [] refl)
     by (c.Reply client number content) = reply_says now IsOfActs n client number content (λ s es e ee unbroken clients same. more [] refl)

@@ -4,7 +4,7 @@
 -- refused (`run_goes`). And each event that an act brings to a router may come to it (`up_may_come`, `client_may_come`, `down_may_come`,
 -- `from_may_come`).
 use Rattle.std.proofs.Common.{◌≡◌, ℕ, zero, suc, ◌+◌, Bool, true, false, cond, not, List, [], ◌∷◌, ◌++◌, Option, Some, None, Result, Ok, Err, Ordering, refl, sym, ap, ◌∙◌, subst, inl, inr}
-use Rattle.std.specs.Prelude.{◌&&◌, ◌||◌, is_some, is_none, is_ok, nat_le, ◌==◌, IfOk, IfSome, length, filter}
+use Rattle.std.specs.Prelude.{◌&&◌, ◌||◌, is_some, is_none, is_ok, nat_le, ◌==◌, unwrap_or, IfOk, IfSome, length, filter}
 use Rattle.std.specs.List.{fold, reduce}
 use Rattle.std.specs.List.Sorted.{IsStrictlySortedBy}
 use Rattle.std.specs.Map.{keys_of}
@@ -29,16 +29,17 @@ use Rattle.zr_command.specs.declared.error.ScriptError.{ScriptError}
 use Rattle.zr_command.specs.declared.error.ScriptError.TheVariants.{UnknownName, NotLinked, Limit}
 use Rattle.zr_command.specs.declared.command.Act.{Act}
 use Rattle.zr_command.specs.declared.command.Act.TheVariants as a
+use Rattle.zr_command.specs.Mode.{is_current, is_future}
 use Rattle.zr_command.specs.declared.command.Command.{Command}
 use Rattle.zr_command.specs.declared.command.Command.TheVariants as c
 use Rattle.zr_command.specs.declared.report.ReportLine.{ReportLine}
 use Rattle.zr_command.specs.declared.report.ReportLine.TheVariants.{Ran, Handled}
 use Rattle.zr_routing.specs.Tables.{is_router, link_at, link_to}
-use Rattle.zr_table.specs.Table.{able_kind, after, refuses}
+use Rattle.zr_table.specs.Table.{able_kind, after}
 use Rattle.zr_table.specs.Event.{MayCome}
 use Rattle.zr_language.specs.Step.{◌>>=◌}
 use Rattle.zr_network.specs.World.{Tagged, ClientState, RouterState, EndState, End, Routers, Clients, Ends, WorldState, end_cmp, is_end, router_of, client_of, is_taken, end_of, is_up, is_unbroken, is_in_place, with_routers, with_clients, with_ends, with_router, with_client, with_end, put_end, new_end, new_router, new_client, lifted, changed, broken, lowered, sent, with_wire, with_queue, is_empty, most_steps}
-use Rattle.zr_network.specs.Acts.{Outcome, unless, router_at, end_at, oldest, number_at, handle_step, take_step, heard, hearing, weighing, ids_of, with_ids, declaring, undeclaring, received, hears, heard_by, all_queued, up_event, peer_of, number_to, outcome}
+use Rattle.zr_network.specs.Acts.{Outcome, unless, router_at, end_at, oldest, number_at, handle_step, take_step, having_told, refuses_of, heard, weighing, ids_of, with_ids, declaring, undeclaring, received, hears, heard_by, all_queued, all_told, up_event, peer_of, number_to, outcome}
 use Rattle.zr_network.specs.Next.{Done, lesser, ends_where, first_where, can_handle, can_take, step_at, next, world_after, with_more, run_steps, all_done, booking, book_step, run_done, applied}
 use Rattle.zr_network.specs.Moments.{Moment, went}
 use Rattle.zr_network.specs.Sound.{IsSound, AllAreTaken}
@@ -48,8 +49,9 @@ use Rattle.zr_network.proofs.Clients.{SameClients, read_same_clients, same_recei
 use Rattle.zr_network.proofs.Names.{names, same_name, value_new, read_kept}
 use Rattle.zr_network.proofs.Ends.{end_found, end_parts, keys_with_end, keys_changed, read_with_end, keep_with_end, read_put_end, keep_put_end, sorted_put_end, read_changed, keep_changed}
 use Rattle.zr_network.proofs.Links.{numbered_link, free_is_free, unique_nothing}
-use Rattle.zr_network.proofs.Cases.{w_client, w_link, w_up, w_break, w_down, w_sent, w_declare, w_undeclare, w_handle, w_take, free_name, number_found, oldest_found, for_router, for_client, for_link, for_up, for_break, for_down, for_declare, for_undeclare, Says, publish_says, get_says, reply_says, end_says, for_handle, for_take, for_mark, for_show}
-use Rattle.zr_network.proofs.Fits.{up_of, home, up_is_there, Places, places_same, still_true, of_put, places_put, Fits, Nodes, fits_same, nodes_set, fits_up, fits_down, fits_from, SameEnds, same_then, same_with, same_changed, same_queued, own_end, other_end, places_of, nodes_of, sound_of}
+use Rattle.zr_network.proofs.Cases.{w_client, w_link, w_up, w_break, w_down, w_sent, w_declare, w_undeclare, w_weighed, w_handle, w_take, free_name, number_found, oldest_found, for_router, for_client, for_link, for_up, for_break, for_down, for_declare, for_undeclare, Says, Weighs, interest_says, uninterest_says, publish_says, get_says, reply_says, end_says, for_handle, for_take, for_mark, for_show}
+use Rattle.zr_network.proofs.Fits.{up_of, home, up_is_there, Places, places_same, still_true, of_put, places_put, Fits, Nodes, fits_same, nodes_set, fits_up, fits_down, fits_from, SameEnds, same_then, same_with, same_changed, same_heard, own_end, other_end, places_of, nodes_of, sound_of}
+use Rattle.zr_network.proofs.Telling.{heard_is}
 pub use Rattle.zr_network.proofs.Fits.{empty_sound}
 
 -- an act leads to a sound network, where it isn't refused
@@ -119,7 +121,7 @@ module _ (w : WorldState) (line : ℕ) (h : IsSound w) where
       (same_client name s (undeclaring s kind id) es (same_home s kind (filter (λ i. not (i == id)) (ids_of s kind)))) same.there_too)
       (nodes_same ends' same)
 
-  -- the clients may have other queries and requests
+  -- the clients may have other interests, queries and requests
   clients_keep : (ends' : Ends) → SameEnds w.ends ends' → (clients : Clients) → SameClients w.clients clients → Places w.routers clients ends'
   clients_keep ends' e clients same = places_same w.routers w.routers w.clients clients w.ends ends' p (e.sorted p.in_order) (λ q. refl)
       (read_same_clients w.clients clients same (λ s. s.router) (λ s. refl)) e.there_too
@@ -129,6 +131,16 @@ module _ (w : WorldState) (line : ℕ) (h : IsSound w) where
       let ends' : Ends = with_end w.ends (s.router, name) (sent e msg line) in
       let same : SameEnds w.ends ends' = on_wire name s e msg ee in
       sound_of (with_clients (w_sent w line name s e msg) clients) (clients_keep ends' same clients alike) (nodes_same ends' same)
+
+  weighs_sound : (name key : List ℕ) (msg : Msg) → Weighs now sound line name key msg
+  weighs_sound name key msg s es e ee unbroken r er room clients alike =
+      let ends' : Ends = with_end w.ends (s.router, name) (sent e msg line) in
+      let same : SameEnds w.ends ends' = on_wire name s e msg ee in
+      sound_of (w_weighed w line name key msg s e r clients)
+      (places_same w.routers (with_router w.routers s.router (weighing r key)) w.clients clients w.ends ends' p (same.sorted p.in_order)
+      (same_router s.router r (weighing r key) er) (read_same_clients w.clients clients alike (λ s. s.router) (λ s. refl)) same.there_too)
+      (nodes_set w.routers w.ends ends' s.router r (weighing r key) n er
+      (fits_same w.routers w.routers w.ends ends' s.router r.node (n s.router r er) (λ y u. refl) (λ y. same.as_up (s.router, y))) (λ z y apart. same.as_up (z, y)))
 
   take_sound : (router to : List ℕ) (s : EndState) → end_of w.ends (router, to) ≡ Some s → (msg : Msg) (tag : ℕ) (xs : List Tagged) → IsSound (w_take w router to s msg tag xs)
   take_sound router to s es msg tag xs =
@@ -149,14 +161,15 @@ module _ (w : WorldState) (line : ℕ) (h : IsSound w) where
       (msg : Msg) (tag : ℕ) (xs : List Tagged) (l : LinkNo) → IsSound (w_handle w router from r s l msg tag xs)
   handle_sound router from r er s es msg tag xs l =
       let rest : Ends = with_end w.ends (router, from) (with_wire s xs) in
-      let ends' : Ends = all_queued rest router r.node (From l msg) tag in
+      let ends' : Ends = all_told (all_queued rest router r.node (From l msg) tag) router r (From l msg) tag in
+      let more : Routers = with_router w.routers router (having_told r (From l msg)) in
       let same : SameEnds w.ends ends' =
-      same_then w.ends rest ends' (same_with w.ends (router, from) s (with_wire s xs) es refl) (same_queued rest router r.node (From l msg) tag) in
-      sound_of (w_handle w router from r s l msg tag xs)
-      (places_same w.routers (with_router w.routers router (hearing r (From l msg))) w.clients w.clients w.ends ends' p (same.sorted p.in_order)
-      (same_router router r (hearing r (From l msg)) er) (λ q. refl) same.there_too)
-      (nodes_set w.routers w.ends ends' router r (hearing r (From l msg)) n er
-      (fits_from w.routers w.ends ends' router r.node l msg (n router r er) (λ y. same.as_up (router, y))) (λ z y apart. same.as_up (z, y)))
+      same_then w.ends rest ends' (same_with w.ends (router, from) s (with_wire s xs) es refl) (same_heard rest router r (From l msg) tag) in
+      subst IsSound (sym (heard_is (with_ends w rest) router r (From l msg) tag)) (sound_of (with_ends (with_routers w more) ends')
+      (places_same w.routers more w.clients w.clients w.ends ends' p (same.sorted p.in_order)
+      (same_router router r (having_told r (From l msg)) er) (λ q. refl) same.there_too)
+      (nodes_set w.routers w.ends ends' router r (having_told r (From l msg)) n er
+      (fits_from w.routers w.ends ends' router r.node l msg (n router r er) (λ y. same.as_up (router, y))) (λ z y apart. same.as_up (z, y))))
 
   -- ---- a link comes up or goes down
 
@@ -164,10 +177,10 @@ module _ (w : WorldState) (line : ℕ) (h : IsSound w) where
   turns : (x y : List ℕ) (r : RouterState) (event : Event) (ends' : Ends) (b : Bool) → router_of w.routers x ≡ Some r → (IsStrictlySortedBy end_cmp (keys_of w.ends) → IsStrictlySortedBy end_cmp (keys_of ends')) →
       ((q : End) → is_some (end_of ends' q) ≡ is_some (end_of w.ends q)) → ((q : End) → up_of (end_of ends' q) ≡ cond (is_end (x, y) q) b (up_of (end_of w.ends q))) →
       (((q : List ℕ) → is_up ends' (x, q) ≡ cond (is_named y q) b (is_up w.ends (x, q))) → Fits w.routers ends' x (after r.node event)) →
-      Places (with_router w.routers x (hearing r event)) w.clients ends' × Nodes (with_router w.routers x (hearing r event)) ends'
+      Places (with_router w.routers x (having_told r event)) w.clients ends' × Nodes (with_router w.routers x (having_told r event)) ends'
   turns x y r event ends' b er sorted there_ ups fits = (
-    places_same w.routers (with_router w.routers x (hearing r event)) w.clients w.clients w.ends ends' p (sorted p.in_order) (same_router x r (hearing r event) er) (λ q. refl) there_,
-    nodes_set w.routers w.ends ends' x r (hearing r event) n er
+    places_same w.routers (with_router w.routers x (having_told r event)) w.clients w.clients w.ends ends' p (sorted p.in_order) (same_router x r (having_told r event) er) (λ q. refl) there_,
+    nodes_set w.routers w.ends ends' x r (having_told r event) n er
         (fits (λ q. ups (x, q) ∙ ap (λ t. cond t b (is_up w.ends (x, q))) (own_end x y q)))
         (λ z q apart. ups (z, q) ∙ ap (λ t. cond t b (is_up w.ends (z, q))) (other_end x y z q apart)),
   )
@@ -184,26 +197,28 @@ module _ (w : WorldState) (line : ℕ) (h : IsSound w) where
   up_sound router name r er s es down =
       let event : Event = up_event r (peer_of w name) in
       let up : Ends = with_end w.ends (router, name) (lifted s) in
-      let same : SameEnds up (all_queued up router r.node event line) = same_queued up router r.node event line in
-      let both = turns router name r event (all_queued up router r.node event line) true er
+      let ends' : Ends = all_told (all_queued up router r.node event line) router r event line in
+      let same : SameEnds up ends' = same_heard up router r event line in
+      let both = turns router name r event ends' true er
       (λ o. same.sorted (subst (IsStrictlySortedBy end_cmp) (sym (keys_with_end w.ends (router, name) (lifted s))) o))
       (λ q. same.there_too q ∙ keep_with_end w.ends (router, name) (lifted s) is_some q s es refl)
       (λ q. same.as_up q ∙ read_with_end w.ends (router, name) (lifted s) up_of q (ap is_some es))
-      (fits_up w.routers w.ends (all_queued up router r.node event line) router name r.node (peer_of w name) (n router r er) refl (role_is name) (ap up_of es ∙ down)) in
-      sound_of (w_up w line router name r s) both.0 both.1
+      (fits_up w.routers w.ends ends' router name r.node (peer_of w name) (n router r er) refl (role_is name) (ap up_of es ∙ down)) in
+      subst IsSound (sym (heard_is (with_ends w up) router r event line)) (sound_of (with_ends (with_routers w (with_router w.routers router (having_told r event))) ends') both.0 both.1)
 
   down_sound : (router name : List ℕ) (r : RouterState) → router_of w.routers router ≡ Some r → (l : LinkNo) → number_to r name ≡ Ok l → IsSound (w_down w line router name r l)
   down_sound router name r er l el =
       let k = number_found r name l el in
-      let heard_ : Ends = all_queued w.ends router r.node (Down l) line in
+      let heard_ : Ends = all_told (all_queued w.ends router r.node (Down l) line) router r (Down l) line in
       let ends' : Ends = changed heard_ (router, name) lowered in
-      let same : SameEnds w.ends heard_ = same_queued w.ends router r.node (Down l) line in
+      let same : SameEnds w.ends heard_ = same_heard w.ends router r (Down l) line in
       let both = turns router name r (Down l) ends' false er
       (λ o. subst (IsStrictlySortedBy end_cmp) (sym (keys_changed heard_ (router, name) lowered)) (same.sorted o))
       (λ q. keep_changed heard_ (router, name) lowered is_some q (λ s. refl) ∙ same.there_too q)
       (λ q. read_changed heard_ (router, name) lowered up_of q ∙ (λ i. cond (is_end (router, name) q) (none_up (end_of heard_ q) i) (same.as_up q i)))
       (λ lowers. subst (λ z. Fits w.routers ends' router (after r.node (Down z))) k.2 (fits_down w.routers w.ends ends' router name r.node k.0 (n router r er) k.1 lowers)) in
-      sound_of (w_down w line router name r l) both.0 both.1
+      subst (λ (v : WorldState). IsSound (with_ends v (changed v.ends (router, name) lowered))) (sym (heard_is w router r (Down l) line))
+      (sound_of (with_ends (with_routers w (with_router w.routers router (having_told r (Down l)))) ends') both.0 both.1)
     where
       none_up : (o : Option EndState) → up_of (option_map lowered o) ≡ false
       none_up None = refl
@@ -303,7 +318,8 @@ module _ (w : WorldState) (line : ℕ) (h : IsSound w) where
       as_up e = keep_put_end first (other, one) new_end up_of e (sym (first_up (other, one) ∙ downs.1)) ∙ first_up e
 
   client_sound : (id router : List ℕ) (r : RouterState) → router_of w.routers router ≡ Some r → is_taken w id ≡ false → IsSound (w_client w line id router r)
-  client_sound id router r er free = sound_of (w_client w line id router r)
+  client_sound id router r er free = subst (λ (v : WorldState). IsSound (with_clients v clients)) (sym (heard_is (with_ends w first) router r event line))
+      (sound_of (record { routers = more; clients = clients; ends = ends'; booked = w.booked })
       (record {
         in_order = queued_.sorted (sorted_put_end w.ends (router, id) (lifted new_end) p.in_order);
         owners = λ x y e. of_end (λ q. is_some (router_of more q.0) ≡ true) (kept_router router ∙ ap is_some er) (λ q k. kept_router q.0 ∙ p.owners q.0 q.1 k) (x, y) e;
@@ -313,10 +329,10 @@ module _ (w : WorldState) (line : ℕ) (h : IsSound w) where
             (λ q k. p.apart q.0 q.1 k) (x, y) e;
         homes = λ name s e. home_of name s (is_named name id) refl (sym (is name) ∙ e);
       })
-      (nodes_set w.routers w.ends ends' router r (hearing r event) n er
+      (nodes_set w.routers w.ends ends' router r (having_told r event) n er
       (fits_up w.routers w.ends ends' router id r.node (record { id = id; role = role.Client }) (n router r er) refl (sym (free_name w id free).0) (no_end_to router id free)
       (λ q. ups (router, q) ∙ ap (λ t. cond t true (is_up w.ends (router, q))) (own_end router id q)))
-      (λ z q apart. ups (z, q) ∙ ap (λ t. cond t true (is_up w.ends (z, q))) (other_end router id z q apart)))
+      (λ z q apart. ups (z, q) ∙ ap (λ t. cond t true (is_up w.ends (z, q))) (other_end router id z q apart))))
     where
       event : Event
       event = up_event r (record { id = id; role = role.Client })
@@ -325,19 +341,19 @@ module _ (w : WorldState) (line : ℕ) (h : IsSound w) where
       first = put_end w.ends (router, id) (lifted new_end)
 
       ends' : Ends
-      ends' = all_queued first router r.node event line
+      ends' = all_told (all_queued first router r.node event line) router r event line
 
       more : Routers
-      more = with_router w.routers router (hearing r event)
+      more = with_router w.routers router (having_told r event)
 
       clients : Clients
       clients = insert_entry (slice_cmp nat_cmp) w.clients id (new_client router)
 
       queued_ : SameEnds first ends'
-      queued_ = same_queued first router r.node event line
+      queued_ = same_heard first router r event line
 
       kept_router : (q : List ℕ) → is_some (router_of more q) ≡ is_some (router_of w.routers q)
-      kept_router q = same_router router r (hearing r event) er q
+      kept_router q = same_router router r (having_told r event) er q
 
       is : (q : List ℕ) → client_of clients q ≡ cond (is_named q id) (Some (new_client router)) (client_of w.clients q)
       is q = value_new w.clients id q (new_client router) (not_there (client_of w.clients id) (free_name w id free).1)
@@ -383,6 +399,11 @@ module _ (w : WorldState) (line : ℕ) (h : IsSound w) where
       kept (outcome w line (a.Able client id key complete)) (for_declare now sound line client (able_kind complete) id key (m.Able id key complete)
       (λ s es fresh e ee unbroken r er room. declare_sound client (able_kind complete) id key (m.Able id key complete) s es e ee r er))
   each_act (a.Unable client id) = kept (outcome w line (a.Unable client id)) (for_undeclare now sound line client k.Able id (m.Unable id) (λ s es known e ee unbroken. undeclare_sound client k.Able id (m.Unable id) s es e ee))
+  each_act (a.Interest client id mode kinds key aggregate) =
+      let msg : Msg = m.Interest id (is_current mode) (is_future mode) kinds key aggregate in
+      kept (outcome w line (a.Interest client id mode kinds key aggregate))
+      (interest_says now sound line client id mode kinds key aggregate (says_sound client msg) (weighs_sound client (unwrap_or key []) msg))
+  each_act (a.Uninterest client id) = kept (outcome w line (a.Uninterest client id)) (uninterest_says now sound line client id (says_sound client (m.EndInterest id)))
   each_act (a.Publish client content) = kept (outcome w line (a.Publish client content)) (publish_says now sound line client content (says_sound client (m.Push None content)))
   each_act (a.Get client number target content) = kept (outcome w line (a.Get client number target content)) (get_says now sound line client number target content (says_sound client (m.Request None number target content)))
   each_act (a.Reply client number content) = kept (outcome w line (a.Reply client number content)) (reply_says now sound line client number content (says_sound client (m.Response number content)))
@@ -496,7 +517,7 @@ number_is w x y r s h er es up =
     (l.0.link, ap number_at l.1)
 
 -- a router that takes the event hears of it
-ok_hears : (v : WorldState) (x : List ℕ) (r : RouterState) (event : Event) (tag : ℕ) (f : WorldState → Outcome) → refuses r.node event ≡ None →
+ok_hears : (v : WorldState) (x : List ℕ) (r : RouterState) (event : Event) (tag : ℕ) (f : WorldState → Outcome) → refuses_of r event ≡ None →
     ((u : WorldState) → is_ok (f u) ≡ true) → is_ok (hears v x r event tag >>= f) ≡ true
 ok_hears v x r event tag f taken goes = ap (λ (o : Option NodeError). is_ok (heard_by v x r event tag o >>= f)) taken ∙ goes (heard v x r event tag)
 

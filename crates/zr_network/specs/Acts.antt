@@ -1,6 +1,6 @@
 -- What each act does to the world: the report lines, and the world after it; or the refusal, and the world stays.
 -- The order of an act's lines is the order of its refusals, which is that of the language (`zr_language`, Command).
-use Rattle.std.specs.Prelude.{ℕ, ◌+◌, ◌==◌, not, nat_le, Bool, true, false, if◌then◌else◌, List, [], ◌∷◌, ◌++◌, length, map, filter, Option, Some, None, is_some, Result, Ok, Err}
+use Rattle.std.specs.Prelude.{ℕ, ◌+◌, ◌==◌, not, nat_le, Bool, true, false, if◌then◌else◌, List, [], ◌∷◌, ◌++◌, length, map, filter, Option, Some, None, is_some, unwrap_or, Result, Ok, Err}
 use Rattle.std.specs.List.{list_any}
 use Rattle.std.specs.Option.{option_map_or}
 use Rattle.std.specs.Ordering.{nat_cmp}
@@ -19,6 +19,7 @@ use Rattle.zr_msg.specs.Extras.{no_extras}
 use Rattle.zr_msg.specs.declared.error.NodeError.{NodeError}
 use Rattle.zr_msg.specs.declared.msg.Msg.{Msg}
 use Rattle.zr_msg.specs.declared.msg.Msg.TheVariants as m
+use Rattle.zr_msg.specs.declared.msg.Kinds.{Kinds}
 use Rattle.zr_msg.specs.declared.msg.Target.{Target}
 use Rattle.zr_msg.specs.declared.event.Event.{Event}
 use Rattle.zr_msg.specs.declared.event.Event.TheVariants.{Up, Down, From}
@@ -28,13 +29,17 @@ use Rattle.zr_command.specs.declared.error.ScriptError.{ScriptError}
 use Rattle.zr_command.specs.declared.error.ScriptError.TheVariants.{BadWords, UnknownName, NameTaken, NotLinked, AlreadyLinked, NothingThere, NotAsked, NotSettled, NotJoined, Limit}
 use Rattle.zr_command.specs.declared.command.Act.{Act}
 use Rattle.zr_command.specs.declared.command.Act.TheVariants as a
+use Rattle.zr_command.specs.declared.command.Mode.{Mode}
+use Rattle.zr_command.specs.Mode.{is_current, is_future}
 use Rattle.zr_command.specs.declared.report.ReportLine.{ReportLine}
 use Rattle.zr_command.specs.declared.report.ReportLine.TheVariants.{Handled, Taken, Mark, Show, Record, Parent, Source}
 use Rattle.zr_routing.specs.Tables.{link_to, free_link}
-use Rattle.zr_table.specs.State.{NodeState}
+use Rattle.zr_table.specs.State.{NodeState, tables}
 use Rattle.zr_msg.specs.declared.peer.LinkPeer.{LinkPeer}
 use Rattle.zr_log.specs.declared.log.Log.{Log}
-use Rattle.zr_table.specs.Table.{able_kind, sends, after, refuses}
+use Rattle.zr_table.specs.Table.{able_kind, sends, after}
+use Rattle.zr_told.specs.Hub.{HubState, sends_told, hub_after, hub_refuses}
+use Rattle.zr_told.specs.Rows.{map_on}
 use Rattle.zr_language.specs.Step.{◌>>=◌}
 use Rattle.zr_network.specs.World.{Tagged, ClientState, RouterState, EndState, Ends, Routers, Clients, WorldState, with_routers, with_clients, with_ends, new_router, new_client, new_end, router_of, client_of, with_router, with_client, is_taken, end_of, with_end, put_end, most_routers, most_clients, most_links, most_weight, most_queries, weight_of, is_in_place, links_in_place, sent, queued, with_wire, with_queue, broken, lifted, lowered, changed, is_settled}
 use Rattle.zr_network.specs.Joined.{is_joined}
@@ -95,7 +100,7 @@ has_id s kind id = has_number (ids_of s kind) id
 
 -- one more declaration weighs on the router
 abbrev pub weighing : RouterState → List ℕ → RouterState
-weighing r key = record { node = r.node; weight = r.weight + weight_of key }
+weighing r key = record { node = r.node; told = r.told; weight = r.weight + weight_of key }
 
 -- the declaration of a key weighs on its router, if there is room for it
 abbrev pub weighed : Routers → List ℕ → List ℕ → Option RouterState → Result Routers ScriptError
@@ -105,9 +110,9 @@ weighed routers name key (Some r) =
 
 -- the same client with other ids of a sort
 abbrev pub with_ids : ClientState → Kind → List ℕ → ClientState
-with_ids s k.Sub ids = record { router = s.router; subs = ids; ables = s.ables; queries = s.queries; requests = s.requests }
-with_ids s k.Able ids = record { router = s.router; subs = s.subs; ables = ids; queries = s.queries; requests = s.requests }
-with_ids s k.Full ids = record { router = s.router; subs = s.subs; ables = ids; queries = s.queries; requests = s.requests }
+with_ids s k.Sub ids = record { router = s.router; subs = ids; ables = s.ables; interests = s.interests; queries = s.queries; requests = s.requests }
+with_ids s k.Able ids = record { router = s.router; subs = s.subs; ables = ids; interests = s.interests; queries = s.queries; requests = s.requests }
+with_ids s k.Full ids = record { router = s.router; subs = s.subs; ables = ids; interests = s.interests; queries = s.queries; requests = s.requests }
 
 -- the client has declared the id
 abbrev pub declaring : ClientState → Kind → ℕ → ClientState
@@ -117,12 +122,23 @@ declaring s kind id = with_ids s kind (ids_of s kind ++ id ∷ [])
 abbrev pub undeclaring : ClientState → Kind → ℕ → ClientState
 undeclaring s kind id = with_ids s kind (without_number (ids_of s kind) id)
 
--- the same client with other open queries, and with other requests
+-- the same client with other interests, with other open queries, and with other requests
+abbrev pub with_interests : ClientState → List ℕ → ClientState
+with_interests s interests = record { router = s.router; subs = s.subs; ables = s.ables; interests = interests; queries = s.queries; requests = s.requests }
+
 abbrev pub with_queries : ClientState → List ℕ → ClientState
-with_queries s queries = record { router = s.router; subs = s.subs; ables = s.ables; queries = queries; requests = s.requests }
+with_queries s queries = record { router = s.router; subs = s.subs; ables = s.ables; interests = s.interests; queries = queries; requests = s.requests }
 
 abbrev pub with_requests : ClientState → List ℕ → ClientState
-with_requests s requests = record { router = s.router; subs = s.subs; ables = s.ables; queries = s.queries; requests = requests }
+with_requests s requests = record { router = s.router; subs = s.subs; ables = s.ables; interests = s.interests; queries = s.queries; requests = requests }
+
+-- the client has an interest of the id, which goes on until it ends it
+abbrev pub wanting : ClientState → ℕ → ClientState
+wanting s id = with_interests s (s.interests ++ id ∷ [])
+
+-- the client has ended its interest of the id
+abbrev pub unwanting : ClientState → ℕ → ClientState
+unwanting s id = with_interests s (without_number s.interests id)
 
 -- the client has asked a query under the number
 abbrev pub asking : ClientState → ℕ → ClientState
@@ -160,20 +176,50 @@ received clients name msg (Some s) = with_client clients name (receiving s msg)
 
 -- ---- what a router hears
 
--- what an event makes a router send to a neighbour: on the link to it, if there is one afterwards
+-- what an event makes a router itself send to a neighbour: on the link to it, if there is one afterwards
 abbrev pub sends_to : NodeState → Event → List ℕ → List Msg
 sends_to node event name = option_map_or (λ l. sends node event l.link) (link_to (after node event).links name) []
 
--- what the router x sends waits at its ends, with the tag
+-- messages of the router x to its neighbours wait at its ends, with the tag
+abbrev pub waiting : Ends → List ℕ → (List ℕ → List Msg) → ℕ → Ends
+waiting ends x msgs tag = map (λ e. if is_named x e.0.0 then (e.0, queued e.1 (msgs e.0.1) tag) else e) ends
+
+-- what the router x sends waits at its ends
 abbrev pub all_queued : Ends → List ℕ → NodeState → Event → ℕ → Ends
-all_queued ends x node event tag = map (λ e. if is_named x e.0.0 then (e.0, queued e.1 (sends_to node event e.0.1) tag) else e) ends
+all_queued ends x node event tag = waiting ends x (sends_to node event) tag
 
--- the router x has heard of an event
+-- the router x has heard of an event, and what it sends for it waits
 abbrev pub hearing : RouterState → Event → RouterState
-hearing r event = record { node = after r.node event; weight = r.weight }
+hearing r event = record { node = after r.node event; told = r.told; weight = r.weight }
 
+abbrev pub sending : WorldState → List ℕ → RouterState → Event → ℕ → WorldState
+sending w x r event tag = with_ends (with_routers w (with_router w.routers x (hearing r event))) (all_queued w.ends x r.node event tag)
+
+-- the router with what its clients were told
+abbrev pub hub_of : RouterState → HubState
+hub_of r = record { node = r.node; told = r.told }
+
+-- what a neighbour is told then of others' declarations, if it is a client: `r` is the router before the event
+abbrev pub told_to : RouterState → Event → List ℕ → List Msg
+told_to r event name = option_map_or (λ l. sends_told (tables (after r.node event)) (map_on r.told l.link.0) event l.link.0) (link_to (after r.node event).links name) []
+
+-- the clients of the router x are told that, behind all else
+abbrev pub having_told : RouterState → Event → RouterState
+having_told r event = record { node = after r.node event; told = (hub_after (hub_of r) event).told; weight = r.weight }
+
+abbrev pub all_told : Ends → List ℕ → RouterState → Event → ℕ → Ends
+all_told ends x r event tag = waiting ends x (told_to r event) tag
+
+abbrev pub telling : WorldState → List ℕ → RouterState → Event → ℕ → WorldState
+telling w x r event tag = with_ends (with_routers w (with_router w.routers x (having_told r event))) (all_told w.ends x r event tag)
+
+-- a router hears of an event: it sends what is to be sent, and then tells its clients
 abbrev pub heard : WorldState → List ℕ → RouterState → Event → ℕ → WorldState
-heard w x r event tag = with_ends (with_routers w (with_router w.routers x (hearing r event))) (all_queued w.ends x r.node event tag)
+heard w x r event tag = telling (sending w x r event tag) x r event tag
+
+-- whether it refuses an event
+abbrev pub refuses_of : RouterState → Event → Option NodeError
+refuses_of r event = hub_refuses (hub_of r) event
 
 -- unless the router refuses the event, which no script within its limits comes near
 abbrev pub heard_by : WorldState → List ℕ → RouterState → Event → ℕ → Option NodeError → Result WorldState ScriptError
@@ -181,7 +227,7 @@ heard_by w x r event tag None = Ok (heard w x r event tag)
 heard_by w x r event tag (Some e) = Err Limit
 
 abbrev pub hears : WorldState → List ℕ → RouterState → Event → ℕ → Result WorldState ScriptError
-hears w x r event tag = heard_by w x r event tag (refuses r.node event)
+hears w x r event tag = heard_by w x r event tag (refuses_of r event)
 
 -- a neighbour by its name: a router or a client
 abbrev pub peer_of : WorldState → List ℕ → Peer
@@ -283,6 +329,28 @@ undeclare_step w line name kind id msg = do
   v ← client_sends w line name s msg
   Ok ([], with_clients v (with_client v.clients name (undeclaring s kind id)))
 
+-- an interest that goes on is one of its client's until it ends it, and weighs
+abbrev pub keeps_interest : WorldState → List ℕ → ClientState → ℕ → List ℕ → Outcome
+keeps_interest v name s id key = do
+  routers ← weighed v.routers s.router key (router_of v.routers s.router)
+  Ok ([], with_clients (with_routers v routers) (with_client v.clients name (wanting s id)))
+
+-- a client asks to be told what others declare, under an id that none of its interests has; one in what is declared later goes on
+unfoldable pub interest_step : WorldState → ℕ → List ℕ → ℕ → Mode → Kinds → Option (List ℕ) → Bool → Outcome
+interest_step w line name id mode kinds key aggregate = do
+  s ← client_at (client_of w.clients name)
+  a ← unless (has_number s.interests id) NameTaken
+  v ← client_sends w line name s (m.Interest id (is_current mode) (is_future mode) kinds key aggregate)
+  if is_future mode then keeps_interest v name s id (unwrap_or key []) else Ok ([], v)
+
+-- a client ends its interest of an id
+unfoldable pub uninterest_step : WorldState → ℕ → List ℕ → ℕ → Outcome
+uninterest_step w line name id = do
+  s ← client_at (client_of w.clients name)
+  a ← unless (not (has_number s.interests id)) UnknownName
+  v ← client_sends w line name s (m.EndInterest id)
+  Ok ([], with_clients v (with_client v.clients name (unwanting s id)))
+
 -- a client publishes a sample; on its link no tree is named
 unfoldable pub publish_step : WorldState → ℕ → List ℕ → Parts → Outcome
 publish_step w line name content = do
@@ -380,6 +448,8 @@ outcome w line (a.Sub client id key) = declare_step w line client k.Sub id key (
 outcome w line (a.Unsub client id) = undeclare_step w line client k.Sub id (m.Unsub id)
 outcome w line (a.Able client id key complete) = declare_step w line client (able_kind complete) id key (m.Able id key complete)
 outcome w line (a.Unable client id) = undeclare_step w line client k.Able id (m.Unable id)
+outcome w line (a.Interest client id mode kinds key aggregate) = interest_step w line client id mode kinds key aggregate
+outcome w line (a.Uninterest client id) = uninterest_step w line client id
 outcome w line (a.Publish client content) = publish_step w line client content
 outcome w line (a.Get client number target content) = get_step w line client number target content
 outcome w line (a.Reply client number content) = reply_step w line client number content

@@ -8,8 +8,7 @@ use Rattle.zr_routing.specs.Tables.{is_router, link_at, link_to}
 use Rattle.zr_msg.specs.declared.peer.LinkPeer.{LinkPeer}
 use Rattle.zr_id.specs.declared.link.LinkNo.{LinkNo}
 use Rattle.zr_msg.specs.declared.event.Event.TheVariants.{From}
-use Rattle.zr_table.specs.Table.{refuses}
-use Rattle.zr_network.specs.Acts.{number_to}
+use Rattle.zr_network.specs.Acts.{number_to, refuses_of}
 use Rattle.zr_network.specs.World.{Tagged, RouterState, ClientState, EndState, WorldState, router_of, client_of, is_taken, end_cmp, end_of, is_up}
 
 -- of a router's links each is the one of its number, and the one to its neighbour
@@ -35,4 +34,4 @@ pub record IsSound (w : WorldState) : Type 0 where
 -- each router takes the oldest message on the wire to each of its ends that is up
 abbrev pub AllAreTaken : WorldState → Type 0
 AllAreTaken w = (x y : List ℕ) (r : RouterState) (s : EndState) (l : LinkNo) (m : Tagged) (more : List Tagged) → router_of w.routers x ≡ Some r → end_of w.ends (x, y) ≡ Some s →
-    s.up ≡ true → s.wire ≡ m ∷ more → number_to r y ≡ Ok l → refuses r.node (From l m.msg) ≡ None
+    s.up ≡ true → s.wire ≡ m ∷ more → number_to r y ≡ Ok l → refuses_of r (From l m.msg) ≡ None

@@ -13,6 +13,7 @@ use Rattle.zr_id.specs.Zid.{is_named}
 use Rattle.zr_msg.specs.declared.msg.Msg.{Msg}
 use Rattle.zr_msg.specs.declared.msg.Msg.TheVariants.{Sub, Unsub, Able, Unable, Interest, EndInterest, ToldSub, ToldAble, ToldUnsub, ToldUnable, ToldEnd, Push, Request, Response, Final, State, Step, Snap}
 use Rattle.zr_table.specs.State.{NodeState, new_node}
+use Rattle.zr_told.specs.Rows.{Maps}
 
 -- ---- the data
 
@@ -21,17 +22,19 @@ pub record Tagged : Type 0 where
   pub msg : Msg
   pub tag : ℕ
 
--- a router, and what all declarations of its clients so far weigh together
+-- a router, of what its clients were told, link by link, and what all declarations and interests of its clients so far weigh together
 pub record RouterState : Type 0 where
   pub node : NodeState
+  pub told : Maps
   pub weight : ℕ
 
--- a client: its router, the ids under which it has a subscriber and those under which it has a queryable declared, the numbers of its queries
--- whose final was not sent yet, and those of the requests that it was sent and has not ended
+-- a client: its router, the ids under which it has a subscriber, those under which it has a queryable declared and those of its interests that
+-- it has not ended, the numbers of its queries whose final was not sent yet, and those of the requests that it was sent and has not ended
 pub record ClientState : Type 0 where
   pub router : List ℕ
   pub subs : List ℕ
   pub ables : List ℕ
+  pub interests : List ℕ
   pub queries : List ℕ
   pub requests : List ℕ
 
@@ -81,11 +84,11 @@ with_booked w booked = record { routers = w.routers; clients = w.clients; ends =
 
 -- a router without links
 abbrev pub new_router : List ℕ → RouterState
-new_router id = record { node = new_node id; weight = 0 }
+new_router id = record { node = new_node id; told = []; weight = 0 }
 
 -- a client that has declared nothing and has asked nothing
 abbrev pub new_client : List ℕ → ClientState
-new_client router = record { router = router; subs = []; ables = []; queries = []; requests = [] }
+new_client router = record { router = router; subs = []; ables = []; interests = []; queries = []; requests = [] }
 
 -- the end of a new link: nothing waits there
 abbrev pub new_end : EndState
@@ -146,7 +149,7 @@ most_clients = 1024
 abbrev pub most_links : ℕ
 most_links = 512
 
--- what all declarations of one router's clients weigh together at most, also those that were taken back
+-- what all declarations and interests of one router's clients weigh together at most, also those that were taken back
 abbrev pub most_weight : ℕ
 most_weight = 4194304
 
@@ -158,7 +161,7 @@ most_queries = 4096
 abbrev pub most_steps : ℕ
 most_steps = 10000000
 
--- what the declaration of a key weighs
+-- what the declaration of a key weighs, or an interest in it; one without a key weighs as one with no text
 abbrev pub weight_of : List ℕ → ℕ
 weight_of key = length key + 16
 

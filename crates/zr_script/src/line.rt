@@ -3,11 +3,14 @@
 ghost use Rattle.std.specs.Prelude.{◌≡◌, ◌≤◌, length, true, map, Ok};
 ghost use Rattle.zr_language.specs.Lines.{most_line};
 ghost use Rattle.zr_language.specs.Step.{IsSaid};
-ghost use Rattle.zr_language.specs.Command.{command_of, by_words, by_name, is_command, is_silent, plain, router_line, client_line, link_line, up_line, break_line, down_line, sub_line, unsub_line, able_line, unable_line, put_line, del_line, get_line, reply_line, end_line, handle_line, take_line, run_line, mark_line, show_line};
+ghost use Rattle.zr_language.specs.Command.{command_of, by_words, by_name, is_command, is_silent, plain, router_line, client_line, link_line, up_line, break_line, down_line, sub_line, unsub_line, able_line, unable_line, interest_line, uninterest_line, put_line, del_line, get_line, reply_line, end_line, handle_line, take_line, run_line, mark_line, show_line};
 ghost use Rattle.zr_script.specs.Short.{are_short};
 
 use crate::body::{query_body, reply_body};
-use crate::word::{four, is_clean, key, number, one, payload, target, three, two, words_of, zid};
+use crate::word::{
+    aggregate, five, four, is_clean, key, kinds, mode, number, one, optional_key, payload, target,
+    three, two, words_of, zid,
+};
 use std::alloc::Global;
 use zr_body::Body;
 use zr_command::command::{Act, Command};
@@ -79,6 +82,8 @@ fn is_command(name: &[u8]) -> bool
         || name == b"able".as_slice()
         || name == b"full".as_slice()
         || name == b"unable".as_slice()
+        || name == b"interest".as_slice()
+        || name == b"uninterest".as_slice()
         || name == b"put".as_slice()
         || name == b"del".as_slice()
         || name == b"get".as_slice()
@@ -118,6 +123,10 @@ fn by_name(alloc: Global, name: &[u8], args: &[&[u8]]) -> Result<Command, Script
         able(alloc, true, args)
     } else if name == b"unable".as_slice() {
         unable(args)
+    } else if name == b"interest".as_slice() {
+        interest(alloc, args)
+    } else if name == b"uninterest".as_slice() {
+        uninterest(args)
     } else if name == b"put".as_slice() {
         put(alloc, args)
     } else if name == b"del".as_slice() {
@@ -259,6 +268,39 @@ fn unable(args: &[&[u8]]) -> Result<Command, ScriptError>
     let client = zid(client)?;
     let id = number(id)?;
     let act = Act::Unable { client, id };
+    Ok(Command::Act { act })
+}
+
+#[tactic(auto, unfolding(zr_language::specs::Command::interest_line))]
+fn interest(alloc: Global, args: &[&[u8]]) -> Result<Command, ScriptError>
+    ensures { IsSaid result (interest_line (map (λ w. w.now) args.now)) }
+{
+    let (client, id, mode_word, kinds_word, text, behind) = five(args)?;
+    let client = zid(client)?;
+    let id = number(id)?;
+    let mode = mode(mode_word)?;
+    let kinds = kinds(kinds_word)?;
+    let aggregate = aggregate(behind)?;
+    let key = optional_key(alloc, text)?;
+    let act = Act::Interest {
+        client,
+        id,
+        mode,
+        kinds,
+        key,
+        aggregate,
+    };
+    Ok(Command::Act { act })
+}
+
+#[tactic(auto, unfolding(zr_language::specs::Command::uninterest_line))]
+fn uninterest(args: &[&[u8]]) -> Result<Command, ScriptError>
+    ensures { IsSaid result (uninterest_line (map (λ w. w.now) args.now)) }
+{
+    let (client, id) = two(args)?;
+    let client = zid(client)?;
+    let id = number(id)?;
+    let act = Act::Uninterest { client, id };
     Ok(Command::Act { act })
 }
 

@@ -1,16 +1,17 @@
-//! The words of a line, and what one word spells: an identifier, a number, a key, a payload.
+//! The words of a line, and what one word spells: an identifier, a number, a target, a mode, kinds, a key, a payload.
 
 ghost use Rattle.std.specs.Prelude.{◌≡◌, ◌==◌, ◌&&◌, ◌+◌, ◌*◌, ◌-◌, ◌^◌, not, nat_lt, Some, None, map, IfOk, if◌then◌else◌};
 ghost use Rattle.std.specs.List.{list_all};
 ghost use Rattle.std.specs.Option.{option_copied};
 ghost use Rattle.zr_language.specs.Step.{IsSaid, IsSaidBy};
-ghost use Rattle.zr_language.specs.Words.{words, is_clean, is_space, is_printable, is_digit, is_number, value_of, number_at, zid_at, target_at, key_at, payload_at, one_of, two_of, three_of, four_of};
+ghost use Rattle.zr_language.specs.Words.{words, is_clean, is_space, is_printable, is_digit, is_number, value_of, number_at, zid_at, target_at, mode_at, kinds_at, aggregate_at, key_at, optional_key_at, payload_at, one_of, two_of, three_of, four_of, five_of};
 
 use std::alloc::{AllocError, Global};
+use zr_command::command::Mode;
 use zr_command::error::ScriptError;
 use zr_id::zid::Zid;
 use zr_key::key::{KeyError, KeyExpr};
-use zr_msg::msg::Target;
+use zr_msg::msg::{Kinds, QUERYABLES, SUBSCRIBERS, Target};
 
 /// The words of a line, parted by one or more spaces.
 pub fn words_of(alloc: Global, line: &[u8]) -> Result<Vec<&[u8]>, AllocError>
@@ -64,6 +65,58 @@ pub fn target(word: &[u8]) -> Result<Target, ScriptError>
     } else {
         Err(ScriptError::BadWords)
     }
+}
+
+/// Of which declarations a word asks to be told.
+pub fn mode(word: &[u8]) -> Result<Mode, ScriptError>
+    ensures { IsSaid result (mode_at word.now) }
+{
+    if word == b"now".as_slice() {
+        Ok(Mode::Now)
+    } else if word == b"later".as_slice() {
+        Ok(Mode::Later)
+    } else if word == b"both".as_slice() {
+        Ok(Mode::Both)
+    } else {
+        Err(ScriptError::BadWords)
+    }
+}
+
+/// Of which kinds of declarations.
+pub fn kinds(word: &[u8]) -> Result<Kinds, ScriptError>
+    ensures { IsSaid result (kinds_at word.now) }
+{
+    if word == b"sub".as_slice() {
+        Ok(Kinds(SUBSCRIBERS))
+    } else if word == b"able".as_slice() {
+        Ok(Kinds(QUERYABLES))
+    } else if word == b"all".as_slice() {
+        Ok(Kinds(SUBSCRIBERS | QUERYABLES))
+    } else {
+        Err(ScriptError::BadWords)
+    }
+}
+
+/// Whether the words behind an interest's key ask that all is told as one.
+pub fn aggregate(words: &[&[u8]]) -> Result<bool, ScriptError>
+    ensures { IsSaid result (aggregate_at (map (λ w. w.now) words.now)) }
+{
+    match words {
+        [] => Ok(false),
+        [word] if *word == b"aggregate".as_slice() => Ok(true),
+        _ => Err(ScriptError::BadWords),
+    }
+}
+
+/// The key expression of an interest, which may have none.
+pub fn optional_key(alloc: Global, word: &[u8]) -> Result<Option<KeyExpr>, ScriptError>
+    ensures { IsSaid result (optional_key_at word.now) }
+{
+    if word == b"-".as_slice() {
+        return Ok(None);
+    }
+    let key = key(alloc, word)?;
+    Ok(Some(key))
 }
 
 /// The key expression that a word spells.
@@ -120,6 +173,28 @@ pub fn four<'a>(words: &[&'a [u8]]) -> Result<(&'a [u8], &'a [u8], &'a [u8], &'a
 {
     match words {
         [a, b, c, d] => Ok((a, b, c, d)),
+        _ => Err(ScriptError::BadWords),
+    }
+}
+
+/// The first five words and those behind them, where there are five at least.
+pub fn five<'a, 'b>(
+    words: &'b [&'a [u8]],
+) -> Result<
+    (
+        &'a [u8],
+        &'a [u8],
+        &'a [u8],
+        &'a [u8],
+        &'a [u8],
+        &'b [&'a [u8]],
+    ),
+    ScriptError,
+>
+    ensures { IsSaidBy (λ x. (x.0.now, x.1.now, x.2.now, x.3.now, x.4.now, map (λ w. w.now) x.5.now)) result (five_of (map (λ w. w.now) words.now)) }
+{
+    match words {
+        [a, b, c, d, e, more @ ..] => Ok((a, b, c, d, e, more)),
         _ => Err(ScriptError::BadWords),
     }
 }

@@ -8,14 +8,11 @@ use Rattle.zr_msg.specs.declared.peer.Role.TheVariants as role
 use Rattle.std.specs.List.Sorted.{IsStrictlySortedBy}
 use Rattle.std.specs.Map.{keys_of}
 use Rattle.std.specs.Option.{option_map_or}
-use Rattle.std.proofs.lemmas.Bool.{false≢true, true≢false}
 use Rattle.std.proofs.lemmas.List.{append-nil}
 use Rattle.zr_id.specs.declared.link.LinkNo.{LinkNo}
-use Rattle.zr_msg.specs.declared.error.NodeError.{NodeError}
 use Rattle.zr_msg.specs.declared.event.Event.{Event}
-use Rattle.zr_msg.specs.declared.event.Event.TheVariants.{Up, Down, From}
+use Rattle.zr_msg.specs.declared.event.Event.TheVariants.{Down, From}
 use Rattle.zr_msg.specs.declared.msg.Msg.{Msg}
-use Rattle.zr_msg.specs.declared.peer.Peer.{Peer}
 use Rattle.zr_command.specs.declared.error.ScriptError.{ScriptError}
 use Rattle.zr_command.specs.declared.error.ScriptError.TheVariants as e
 use Rattle.zr_command.specs.declared.report.ReportLine.{ReportLine}
@@ -24,13 +21,13 @@ use Rattle.zr_table.specs.Event.{MayCome}
 use Rattle.zr_table.specs.Prefix.{IsPrefixBehind}
 use Rattle.zr_routing.specs.Tables.{link_to}
 use Rattle.zr_msg.specs.declared.peer.LinkPeer.{LinkPeer}
-use Rattle.zr_table.specs.Table.{refuses}
 use Rattle.zr_language.specs.Step.{◌>>=◌}
 use Rattle.zr_network.specs.World.{Tagged, EndState, End, Ends, RouterState, WorldState, end_cmp, with_ends, with_clients, with_router, router_of, client_of, is_taken, is_up, end_of, with_end, put_end, new_end, new_client, most_clients, lifted, lowered, with_wire, with_queue, changed, sent}
-use Rattle.zr_network.specs.Acts.{Outcome, unless, router_at, end_at, up_at, unbroken_at, oldest, hears, heard_by, number_to, peer_of, up_event, shown, received, client_step, up_step, down_step, handle_step, take_step, show_step}
-use Rattle.zr_network.specs.Sound.{AreUnique, IsSound}
+use Rattle.zr_network.specs.Acts.{Outcome, unless, router_at, end_at, up_at, unbroken_at, oldest, refuses_of, hears, heard_by, number_to, peer_of, up_event, shown, received, client_step, up_step, down_step, handle_step, take_step, show_step}
+use Rattle.zr_network.specs.Sound.{AreUnique}
 use Rattle.zr_network.proofs.Ends.{keys_with_end}
 use Rattle.zr_network.proofs.Keyed.{not_there, there}
+use Rattle.zr_network.proofs.Telling.{heard_is}
 use Rattle.zr_ends.specs.Steps.{Gives, from_wire, from_queue}
 use Rattle.zr_world.specs.Hearing.{IsHeard}
 use Rattle.zr_world.specs.Living.{lines_of}
@@ -47,8 +44,9 @@ pub hears_is : (w : WorldState) (es es' : Ends) (x : List ℕ) (r r' : RouterSta
     hears (with_ends w es) x r event tag ≡ Ok (record { routers = with_router w.routers x r'; clients = w.clients; ends = es'; booked = w.booked })
 hears_is w es es' x r r' event out tag heard ordered h may spread =
     let same = sym (spread ∙ ap (λ (z : RouterState). all_queued_on z.node.links es x out tag) heard.1
-    ∙ spread_is es x r.node event out tag ordered (unique_after r.node event h may) heard.2) in
+    ∙ spread_is es x r event out tag ordered (unique_after r.node event h may) heard.2) in
     ap (heard_by (with_ends w es) x r event tag) heard.0
+    ∙ ap (λ (v : WorldState). Ok v) (heard_is (with_ends w es) x r event tag)
     ∙ (λ i. Ok (record { routers = with_router w.routers x (sym heard.1 i); clients = w.clients; ends = same i; booked = w.booked }))
 
 -- an event that is refused
@@ -56,7 +54,7 @@ pub hears_refused : (w : WorldState) (x : List ℕ) (r r' : RouterState) (event 
     IsHeard (Err error) r r' event out → (error ≡ e.NoMemory → ⊥) → (hears w x r event tag ≡ Err error) × (r' ≡ r)
 hears_refused w x r r' event out tag e.NoMemory heard other = absurd (other refl)
 hears_refused w x r r' event out tag error heard other =
-    let o = there (refuses r.node event) heard.1 in
+    let o = there (refuses_of r event) heard.1 in
     (ap (heard_by w x r event tag) o.1 ∙ ap Err (sym heard.0), heard.2)
 
 -- ---- reports

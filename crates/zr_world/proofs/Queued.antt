@@ -1,27 +1,27 @@
--- What a router has sent, queued message by message, is at each of its ends what the event sends to that neighbour: both lists of ends have
--- the same keys, and a look-up finds the same (`look_up`), since a number and a name find the same link (`leads_is`).
+-- What a router has sent, queued message by message, is at each of its ends what the event sends to that neighbour, and behind it what the
+-- neighbour is told: both lists of ends have the same keys, and a look-up finds the same (`look_up`), since a number and a name find the same link (`leads_is`).
 use Rattle.std.proofs.Common.{◌≡◌, ℕ, Bool, true, false, cond, List, [], ◌∷◌, ◌++◌, map, filter, Option, Some, None, refl, sym, ap, ◌∙◌, subst, append_assoc}
 use Rattle.std.specs.Prelude.{◌==◌, ◌&&◌, is_some}
 use Rattle.std.specs.List.Sorted.{IsStrictlySortedBy}
 use Rattle.std.specs.Map.{keys_of}
 use Rattle.std.specs.Option.{option_map, option_map_or}
 use Rattle.std.proofs.lemmas.Bool.{false≢true, eqb-true, eq-eqb}
-use Rattle.std.proofs.lemmas.List.{append-nil}
+use Rattle.std.proofs.lemmas.List.{append-nil, map-append}
 use Rattle.zr_id.specs.Zid.{is_named}
 use Rattle.zr_id.specs.declared.link.LinkNo.{LinkNo}
 use Rattle.zr_msg.specs.declared.msg.Msg.{Msg}
 use Rattle.zr_msg.specs.declared.event.Event.{Event}
-use Rattle.zr_table.specs.Event.{Sends, on_link}
+use Rattle.zr_table.specs.Event.{on_link}
 use Rattle.zr_routing.specs.Tables.{is_link, link_at, link_to}
-use Rattle.zr_table.specs.State.{NodeState}
 use Rattle.zr_msg.specs.declared.peer.LinkPeer.{LinkPeer}
-use Rattle.zr_table.specs.Table.{sends, after}
-use Rattle.zr_tree.proofs.Finds.{In, find_in, in_find}
-use Rattle.zr_network.specs.World.{Tagged, EndState, End, Ends, end_cmp, is_end, end_of, changed, queued}
-use Rattle.zr_network.specs.Acts.{sends_to, all_queued}
+use Rattle.zr_table.specs.Table.{after}
+use Rattle.zr_told.specs.Hub.{hub_sends, HubSends}
+use Rattle.zr_tree.proofs.Finds.{find_in, in_find}
+use Rattle.zr_network.specs.World.{Tagged, RouterState, EndState, End, Ends, end_cmp, end_of, changed, queued}
+use Rattle.zr_network.specs.Acts.{sends_to, all_queued, told_to, all_told, hub_of}
 use Rattle.zr_network.specs.Sound.{AreUnique}
 use Rattle.zr_network.proofs.Names.{names, same_name}
-use Rattle.zr_network.proofs.Ends.{end_parts, changed_is, keys_changed, all_queued_is, keys_all_queued}
+use Rattle.zr_network.proofs.Ends.{end_parts, changed_is, keys_changed, waiting_is, keys_waiting, all_queued_is, keys_all_queued}
 use Rattle.zr_network.proofs.Keyed.{each_in}
 use Rattle.zr_network.proofs.Links.{numbered_link, named_link}
 use Rattle.zr_ends.proofs.Same.{same_ends}
@@ -86,18 +86,15 @@ none_of : (xs : List (LinkNo × Msg)) → filter (λ m. false) xs ≡ []
 none_of [] = refl
 none_of (x ∷ xs) = none_of xs
 
-told_is : (node : NodeState) (event : Event) (sent : List (LinkNo × Msg)) → AreUnique (after node event).links → ((to : LinkNo) → on_link to sent ≡ sends node event to) →
-    (y : List ℕ) → told (after node event).links y sent ≡ sends_to node event y
-told_is node event sent h each y = by (link_to (after node event).links y) refl
+told_is : (links : List LinkPeer) (rows : LinkNo → List Msg) (sent : List (LinkNo × Msg)) → AreUnique links → ((to : LinkNo) → on_link to sent ≡ rows to) →
+    (y : List ℕ) → told links y sent ≡ option_map_or (λ l. rows l.link) (link_to links y) []
+told_is links rows sent h each y = by (link_to links y) refl
   where
-    links : List LinkPeer
-    links = (after node event).links
-
-    by : (o : Option LinkPeer) → link_to (after node event).links y ≡ o → told (after node event).links y sent ≡ option_map_or (λ l. sends node event l.link) o []
+    by : (o : Option LinkPeer) → link_to links y ≡ o → told links y sent ≡ option_map_or (λ l. rows l.link) o []
     by None e = ap (λ (z : List (LinkNo × Msg)). map (λ m. m.1) z)
-        (alike (λ m. leads (after node event).links y m.0) (λ m. false) sent (λ m. leads_none (after node event).links y e m.0) ∙ none_of sent)
+        (alike (λ m. leads links y m.0) (λ m. false) sent (λ m. leads_none links y e m.0) ∙ none_of sent)
     by (Some l) e = ap (λ (z : List (LinkNo × Msg)). map (λ m. m.1) z)
-        (alike (λ m. leads (after node event).links y m.0) (λ m. m.0.0 == l.link.0) sent (λ m. leads_is (after node event).links y l h e m.0))
+        (alike (λ m. leads links y m.0) (λ m. m.0.0 == l.link.0) sent (λ m. leads_is links y l h e m.0))
         ∙ each l.link
 
 -- ---- what a look-up finds
@@ -160,15 +157,42 @@ module _ (links : List LinkPeer) (x : List ℕ) (tag : ℕ) where
 
 -- ---- all of it
 
-pub spread_is : (es : Ends) (x : List ℕ) (node : NodeState) (event : Event) (sent : List (LinkNo × Msg)) (tag : ℕ) → IsStrictlySortedBy end_cmp (keys_of es) →
-    AreUnique (after node event).links → Sends node event [] sent → all_queued_on (after node event).links es x sent tag ≡ all_queued es x node event tag
-spread_is es x node event sent tag ordered h s =
-    same_ends (all_queued_on (after node event).links es x sent tag) (all_queued es x node event tag)
-    (keys_all_queued_on (after node event).links x tag es sent ∙ sym (keys_all_queued es x node event tag))
-    (subst (IsStrictlySortedBy end_cmp) (sym (keys_all_queued_on (after node event).links x tag es sent)) ordered)
-    (λ q. look_up (after node event).links x tag es sent q
-    ∙ ap (λ (ms : List Msg). cond (is_named x q.0) (option_map (λ (z : EndState). queued z ms tag) (end_of es q)) (end_of es q)) (told_is node event sent h each q.1)
-    ∙ sym (all_queued_is es x node event tag q))
+-- what waits for a neighbour is what the router sends it, and then what it is told
+sent_and_told : (r : RouterState) (event : Event) (y : List ℕ) →
+    option_map_or (λ l. hub_sends (hub_of r) event l.link) (link_to (after r.node event).links y) [] ≡ sends_to r.node event y ++ told_to r event y
+sent_and_told r event y = by (link_to (after r.node event).links y) refl
   where
-    each : (to : LinkNo) → on_link to sent ≡ sends node event to
+    by : (o : Option LinkPeer) → link_to (after r.node event).links y ≡ o → option_map_or (λ l. hub_sends (hub_of r) event l.link) o [] ≡ sends_to r.node event y ++ told_to r event y
+    by None e = rw e refl
+    by (Some l) e = rw e refl
+
+-- messages of one tag are queued at once or one list after another
+queued_twice : (b : Bool) (ms ns : List Msg) (tag : ℕ) (o : Option EndState) →
+    cond b (option_map (λ (z : EndState). queued z (ms ++ ns) tag) o) o
+    ≡ cond b (option_map (λ (z : EndState). queued z ns tag) (cond b (option_map (λ (z : EndState). queued z ms tag) o) o)) (cond b (option_map (λ (z : EndState). queued z ms tag) o) o)
+queued_twice false ms ns tag o = refl
+queued_twice true ms ns tag None = refl
+queued_twice true ms ns tag (Some s) = ap (λ (ws : List Tagged). Some (record { up = s.up; unbroken = s.unbroken; queue = ws; wire = s.wire }))
+    (ap (λ z. s.queue ++ z) (map-append (λ m. record { msg = m; tag = tag }) ms ns) ∙ sym (append_assoc s.queue (map (λ m. record { msg = m; tag = tag }) ms) (map (λ m. record { msg = m; tag = tag }) ns)))
+
+pub spread_is : (es : Ends) (x : List ℕ) (r : RouterState) (event : Event) (sent : List (LinkNo × Msg)) (tag : ℕ) → IsStrictlySortedBy end_cmp (keys_of es) →
+    AreUnique (after r.node event).links → HubSends (hub_of r) event [] sent → all_queued_on (after r.node event).links es x sent tag ≡ all_told (all_queued es x r.node event tag) x r event tag
+spread_is es x r event sent tag ordered h s =
+    same_ends (all_queued_on links es x sent tag) (all_told queue x r event tag)
+    (keys_all_queued_on links x tag es sent ∙ sym (keys_waiting queue x (told_to r event) tag ∙ keys_all_queued es x r.node event tag))
+    (subst (IsStrictlySortedBy end_cmp) (sym (keys_all_queued_on links x tag es sent)) ordered)
+    (λ q. look_up links x tag es sent q
+    ∙ ap (λ (ms : List Msg). cond (is_named x q.0) (option_map (λ (z : EndState). queued z ms tag) (end_of es q)) (end_of es q))
+    (told_is links (λ to. hub_sends (hub_of r) event to) sent h each q.1 ∙ sent_and_told r event q.1)
+    ∙ queued_twice (is_named x q.0) (sends_to r.node event q.1) (told_to r event q.1) tag (end_of es q)
+    ∙ ap (λ (o : Option EndState). cond (is_named x q.0) (option_map (λ (z : EndState). queued z (told_to r event q.1) tag) o) o) (sym (all_queued_is es x r.node event tag q))
+    ∙ sym (waiting_is queue x (told_to r event) tag q))
+  where
+    links : List LinkPeer
+    links = (after r.node event).links
+
+    queue : Ends
+    queue = all_queued es x r.node event tag
+
+    each : (to : LinkNo) → on_link to sent ≡ hub_sends (hub_of r) event to
     each to = ap (λ (z : List (LinkNo × Msg)). on_link to z) s.appended ∙ s.each to

@@ -1,5 +1,5 @@
 -- A message that has left the wire and is back there: the ends are as they were.
-use Rattle.std.proofs.Common.{◌≡◌, Bool, true, false, cond, List, [], ◌∷◌, Option, Some, None, Result, Ok, Err, refl, sym, ap, ◌∙◌}
+use Rattle.std.proofs.Common.{◌≡◌, cond, List, [], ◌∷◌, Option, Some, None, Result, Ok, Err, refl, sym, ap, ◌∙◌}
 use Rattle.std.specs.Prelude.{is_some}
 use Rattle.std.proofs.lemmas.Map.Steps.{set_value_same}
 use Rattle.zr_command.specs.declared.error.ScriptError.{ScriptError}
@@ -7,17 +7,8 @@ use Rattle.zr_language.specs.Step.{◌>>=◌}
 use Rattle.zr_network.specs.World.{Tagged, EndState, End, Ends, is_end, end_of, with_end, with_wire}
 use Rattle.zr_network.specs.Acts.{end_at, up_at, oldest}
 use Rattle.zr_network.proofs.Ends.{ends, with_end_is}
+use Rattle.zr_network.proofs.Keyed.{set_twice}
 use Rattle.zr_ends.specs.Steps.{changed_at, returned, from_wire}
-
--- of two replacements of one end the second counts
-twice : (es : Ends) (q : End) (s t : EndState) → with_end (with_end es q s) q t ≡ with_end es q t
-twice [] q s t = refl
-twice (x ∷ es) q s t = by (is_end q x.0) refl (twice es q s t)
-  where
-    by : (b : Bool) → is_end q x.0 ≡ b → with_end (with_end es q s) q t ≡ with_end es q t →
-        with_end (cond b ((x.0, s) ∷ es) (x ∷ with_end es q s)) q t ≡ cond b ((x.0, t) ∷ es) (x ∷ with_end es q t)
-    by true n ih = ap (λ (c : Bool). cond c ((x.0, t) ∷ es) ((x.0, s) ∷ with_end es q t)) n
-    by false n ih = ap (λ (c : Bool). cond c ((x.0, t) ∷ with_end es q s) (x ∷ with_end (with_end es q s) q t)) n ∙ ap (λ (z : Ends). x ∷ z) ih
 
 -- an end that was changed and is changed back
 restored : (es : Ends) (q : End) (s t : EndState) (back : EndState → EndState) → end_of es q ≡ Some s → back t ≡ s →
@@ -25,7 +16,7 @@ restored : (es : Ends) (q : End) (s t : EndState) (back : EndState → EndState)
 restored es q s t back found same =
     let now : end_of (with_end es q t) q ≡ Some t =
     with_end_is es q t q (ap is_some found) ∙ ap (λ b. cond b (Some t) (end_of es q)) (ends.refl q) in
-    ap (λ o. changed_at (with_end es q t) q back o) now ∙ twice es q t (back t) ∙ ap (λ (z : EndState). with_end es q z) same ∙ set_value_same (is_end q) es s found
+    ap (λ o. changed_at (with_end es q t) q back o) now ∙ set_twice (is_end q) es t (back t) ∙ ap (λ (z : EndState). with_end es q z) same ∙ set_value_same (is_end q) es s found
 
 abbrev back : End → Tagged × Ends → Ends
 back q y = changed_at y.1 q (λ s. returned s y.0) (end_of y.1 q)

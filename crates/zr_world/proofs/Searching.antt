@@ -1,5 +1,5 @@
 -- A search from one router finds whoever is reached from it; and where it finds all, each is reached from each other, since links go both ways.
-use Rattle.std.proofs.Common.{◌≡◌, ℕ, ◌+◌, ◌<◌, ◌≤◌, suc, drop, get_or, drop-cons, add-one, append_assoc, Bool, true, false, cond, not, List, [], ◌∷◌, ◌++◌, length, Option, Some, None, refl, sym, ap, ◌∙◌, subst, arith}
+use Rattle.std.proofs.Common.{◌≡◌, ℕ, ◌+◌, ◌<◌, suc, drop, get_or, drop-cons, add-one, append_assoc, Bool, true, false, cond, not, List, [], ◌∷◌, ◌++◌, length, Option, Some, None, refl, sym, ap, ◌∙◌, subst, arith}
 use Rattle.std.specs.Prelude.{◌&&◌, ◌||◌, ◌==◌, is_some, min, slice_index_or}
 use Rattle.std.specs.List.{filter, list_any, list_all}
 use Rattle.std.specs.List.Sorted.{IsStrictlySortedBy}
@@ -15,7 +15,7 @@ use Rattle.zr_tree.specs.Tree.{dist, reached}
 use Rattle.zr_tree.specs.Laws.{IsGraph}
 use Rattle.zr_tree.proofs.Paths.{bounded, walk_leads, exact, walk_back}
 use Rattle.zr_tree.proofs.Finds.{any_in, in_any}
-use Rattle.zr_network.specs.World.{EndState, RouterState, WorldState, Ends, router_of, end_of, is_up, is_linked}
+use Rattle.zr_network.specs.World.{EndState, WorldState, Ends, end_of, is_up, is_linked}
 use Rattle.zr_network.specs.Joined.{graph, is_joined}
 use Rattle.zr_network.specs.Sound.{IsSound}
 use Rattle.zr_network.proofs.Names.{names, same_name}

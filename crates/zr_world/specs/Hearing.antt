@@ -8,10 +8,9 @@ use Rattle.zr_msg.specs.declared.event.Event.TheVariants.{Up, Down, From}
 use Rattle.zr_msg.specs.declared.msg.Msg.{Msg}
 use Rattle.zr_command.specs.declared.error.ScriptError.{ScriptError}
 use Rattle.zr_command.specs.declared.error.ScriptError.TheVariants.{Limit, NoMemory}
-use Rattle.zr_table.specs.Event.{Sends}
-use Rattle.zr_table.specs.Table.{refuses}
+use Rattle.zr_told.specs.Hub.{HubSends}
 use Rattle.zr_network.specs.World.{Tagged, RouterState, End, Ends, end_of}
-use Rattle.zr_network.specs.Acts.{hearing}
+use Rattle.zr_network.specs.Acts.{having_told, hub_of, refuses_of}
 use Rattle.zr_ends.specs.Steps.{changed_at, returned}
 
 -- what a router's refusal is in a script
@@ -25,12 +24,12 @@ refusal (n.TextLimit held more) = Limit
 refusal (n.NumberTaken id) = Limit
 refusal (n.TooMany pending) = Limit
 
--- The router is as the event leaves it, and what it sends was told link by link; where it refuses the event it has not changed; where
--- memory ran out nothing is said.
+-- The router and what it knows of its clients are as the event leaves them, and what it sends was told link by link; where it refuses the
+-- event it has not changed; where memory ran out nothing is said.
 abbrev pub IsHeard : Result (Unit {0}) ScriptError → RouterState → RouterState → Event → List (LinkNo × Msg) → Type 0
-IsHeard (Ok u) old new event out = (refuses old.node event ≡ None) × (new ≡ hearing old event) × Sends old.node event [] out
+IsHeard (Ok u) old new event out = (refuses_of old event ≡ None) × (new ≡ having_told old event) × HubSends (hub_of old) event [] out
 IsHeard (Err NoMemory) old new event out = Unit {0}
-IsHeard (Err e) old new event out = (e ≡ Limit) × (is_some (refuses old.node event) ≡ true) × (new ≡ old)
+IsHeard (Err e) old new event out = (e ≡ Limit) × (is_some (refuses_of old event) ≡ true) × (new ≡ old)
 
 -- The router has heard of a message from a link, which is given back, and no end has changed; a message that it refuses is back on the wire
 -- to the end, and the router has not changed; where memory ran out nothing is said.

@@ -1,8 +1,9 @@
-//! One client: its router, the ids under which it has something declared, its open queries, and the requests that it has not ended.
+//! One client: its router, the ids under which it has something declared, those of its interests, its open queries, and the requests that it
+//! has not ended.
 
 ghost use Rattle.std.specs.Prelude.{◌≡◌, ◌==◌, ◌∷◌, ◌++◌, [], not, nat_le, filter, length, OnOk};
 ghost use Rattle.zr_network.specs.World.{new_client, most_queries};
-ghost use Rattle.zr_network.specs.Acts.{ids_of, has_id, has_number, declaring, undeclaring, asking, ending, receiving};
+ghost use Rattle.zr_network.specs.Acts.{ids_of, has_id, has_number, declaring, undeclaring, wanting, unwanting, asking, ending, receiving};
 
 use std::alloc::{AllocError, Global};
 use std::marker::Model;
@@ -19,6 +20,7 @@ pub struct Client {
     router: Zid,
     subs: Vec<u32>,
     ables: Vec<u32>,
+    interests: Vec<u32>,
     queries: Vec<u32>,
     requests: Vec<u32>,
 }
@@ -28,7 +30,7 @@ impl Model for Client {
 
     ghost Value = { ClientState };
 
-    ghost view = { λ c. record { router = c.router; subs = c.subs.items; ables = c.ables.items; queries = c.queries.items; requests = c.requests.items } };
+    ghost view = { λ c. record { router = c.router; subs = c.subs.items; ables = c.ables.items; interests = c.interests.items; queries = c.queries.items; requests = c.requests.items } };
 }
 
 impl Client {
@@ -40,6 +42,7 @@ impl Client {
             router,
             subs: Vec::new(alloc),
             ables: Vec::new(alloc),
+            interests: Vec::new(alloc),
             queries: Vec::new(alloc),
             requests: Vec::new(alloc),
         }
@@ -86,6 +89,27 @@ impl Client {
             Kind::Sub => forget(&mut self.subs, id),
             Kind::Able | Kind::Full => forget(&mut self.ables, id),
         }
+    }
+
+    /// Whether one of its interests that go on has the id.
+    pub fn has_interest(&self, id: u32) -> bool
+        ensures { result ≡ has_number self.now.interests id }
+    {
+        is_among(self.interests.as_slice(), id)
+    }
+
+    /// It has an interest of the id, which goes on.
+    pub fn want(&mut self, id: u32) -> Result<(), AllocError>
+        ensures { OnOk result (self.new ≡ wanting self.old id) }
+    {
+        keep(&mut self.interests, id)
+    }
+
+    /// It has ended its interest of the id.
+    pub fn unwant(&mut self, id: u32)
+        ensures { self.new ≡ unwanting self.old id }
+    {
+        forget(&mut self.interests, id);
     }
 
     /// Whether a query of its own is open under the number.

@@ -46,7 +46,7 @@ impl Tables {
         if !end.is_unbroken() {
             return Err(ScriptError::NotLinked);
         }
-        weigh(&mut self.routers, &c.router(), &key)?;
+        weigh(&mut self.routers, &c.router(), key.text().as_bytes())?;
         let msg = declaration(kind, id, key);
         self.ends.send((c.router(), client), msg, line)?;
         c.declare(kind, id)?;
@@ -119,18 +119,22 @@ impl Tables {
     }
 }
 
-// The declaration of a key weighs on its router, if there is room for it.
+/// What has this text as its key weighs on its router, if there is room for it.
 #[tactic(auto, using(std::proofs::lemmas::Map::Steps::set_value_same))]
-fn weigh(routers: &mut BTreeMap<Zid, Router>, name: &Zid, key: &KeyExpr) -> Result<(), ScriptError>
-    ensures { Changes result (weighed routers.old.entries name.now key.now (router_of routers.old.entries name.now)) routers.old.entries routers.new.entries }
+pub(crate) fn weigh(
+    routers: &mut BTreeMap<Zid, Router>,
+    name: &Zid,
+    text: &[u8],
+) -> Result<(), ScriptError>
+    ensures { Changes result (weighed routers.old.entries name.now text.now (router_of routers.old.entries name.now)) routers.old.entries routers.new.entries }
 {
     let Some(router) = routers.get_mut(name) else {
         return Err(ScriptError::UnknownName);
     };
-    if !router.has_room(key) {
+    if !router.has_room(text) {
         return Err(ScriptError::Limit);
     }
-    router.weigh(key);
+    router.weigh(text);
     Ok(())
 }
 

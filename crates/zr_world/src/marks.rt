@@ -11,11 +11,11 @@ use std::alloc::{AllocError, Global};
 use zr_command::error::ScriptError;
 use zr_command::report::ReportLine;
 use zr_graph::base::Base;
+use zr_hub::hub::Hub;
 use zr_id::record::LinkRecord;
 use zr_id::zid::Zid;
 use zr_log::log::Log;
 use zr_msg::decl::{Decl, Decls};
-use zr_node::node::Node;
 use zr_tree::trees::Trees;
 
 impl Tables {
@@ -48,17 +48,17 @@ impl Tables {
             return Err(ScriptError::UnknownName);
         };
         report.push(ReportLine::Show { router })?;
-        tell_tables(self.alloc, r.node(), report)?;
+        tell_tables(self.alloc, r.hub(), report)?;
         Ok(())
     }
 }
 
-fn tell_tables(alloc: Global, node: &Node, report: &mut Vec<ReportLine>) -> Result<(), AllocError>
-    ensures told { OnOk result (report.new.items ≡ report.old.items ++ shown node.now) }
-    ensures err { OnErr result (IsPrefixBehind report.old.items (shown node.now) report.new.items) }
+fn tell_tables(alloc: Global, hub: &Hub, report: &mut Vec<ReportLine>) -> Result<(), AllocError>
+    ensures told { OnOk result (report.new.items ≡ report.old.items ++ shown hub.now.node) }
+    ensures err { OnErr result (IsPrefixBehind report.old.items (shown hub.now.node) report.new.items) }
 {
-    tell_base(alloc, node.base(), report)?;
-    tell_sources(alloc, node.known().logs(), report)
+    tell_base(alloc, hub.base(), report)?;
+    tell_sources(alloc, hub.known().logs(), report)
 }
 
 fn tell_base(alloc: Global, base: &Base, report: &mut Vec<ReportLine>) -> Result<(), AllocError>

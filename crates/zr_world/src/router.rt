@@ -1,34 +1,33 @@
-//! One router of the world: its tables, and what all declarations of its clients so far weigh.
+//! One router of the world: its tables, what its clients were told, and what all declarations and interests of its clients so far weigh.
 
 ghost use Rattle.std.specs.Prelude.{◌≡◌, ◌+◌, ◌≤◌, nat_le, option_map, IfOk};
 ghost use Rattle.zr_table.specs.Event.{MayCome};
 ghost use Rattle.zr_routing.specs.Tables.{link_at, link_to};
 ghost use Rattle.zr_network.specs.World.{new_router, weight_of, most_weight};
-ghost use Rattle.zr_network.specs.Acts.{weighing, up_event};
+ghost use Rattle.zr_network.specs.Acts.{hub_of, weighing, up_event};
 ghost use Rattle.zr_world.specs.Hearing.{IsHeard, refusal};
 
 use std::alloc::{AllocError, Global};
 use std::marker::Model;
 use zr_command::error::ScriptError;
+use zr_hub::hub::Hub;
 use zr_id::link::LinkNo;
 use zr_id::zid::Zid;
-use zr_key::key::KeyExpr;
 use zr_msg::error::NodeError;
 use zr_msg::event::Event;
 use zr_msg::msg::Msg;
 use zr_msg::peer::Peer;
-use zr_node::node::Node;
 
-/// What all declarations of one router's clients weigh together at most.
+/// What all declarations and interests of one router's clients weigh together at most.
 const MOST_WEIGHT: u64 = 4_194_304;
 
-/// What a declaration weighs beside its key's text.
+/// What a declaration or an interest weighs beside its key's text.
 const DECLARATION_WEIGHT: u64 = 16;
 
 /// A router of the world.
 #[derive(Drop)]
 pub struct Router {
-    node: Node,
+    hub: Hub,
     weight: u64,
 }
 
@@ -37,7 +36,7 @@ impl Model for Router {
 
     ghost Value = { RouterState };
 
-    ghost view = { λ r. record { node = r.node; weight = r.weight } };
+    ghost view = { λ r. record { node = r.hub.node; told = r.hub.told; weight = r.weight } };
 }
 
 impl Router {
@@ -46,30 +45,30 @@ impl Router {
         ensures { IfOk result (λ r. r ≡ new_router name) }
     {
         Ok(Router {
-            node: Node::new(alloc, name)?,
+            hub: Hub::new(alloc, name)?,
             weight: 0,
         })
     }
 
-    /// Its tables.
-    pub fn node(&self) -> &Node
-        ensures { result.now ≡ self.now.node }
+    /// Its tables, and what its clients were told.
+    pub fn hub(&self) -> &Hub
+        ensures { result.now ≡ hub_of self.now }
     {
-        &self.node
+        &self.hub
     }
 
     /// The number of the link to a neighbour, if it is up.
     pub fn link_to(&self, neighbour: &Zid) -> Option<LinkNo>
         ensures { result ≡ option_map (λ l. l.link) (link_to self.now.node.links neighbour.now) }
     {
-        self.node.link_to(neighbour)
+        self.hub.link_to(neighbour)
     }
 
     /// Who stands at the other end of the link of this number, if it is up.
     pub fn peer_at(&self, link: LinkNo) -> Option<Peer>
         ensures { result ≡ option_map (λ l. l.peer) (link_at self.now.node.links link.0) }
     {
-        self.node.peer_at(link)
+        self.hub.peer_at(link)
     }
 
     /// The event that the link to a neighbour has come up, under the least number that is free.
@@ -77,12 +76,12 @@ impl Router {
         ensures { result ≡ up_event self.now peer }
     {
         Event::Up {
-            link: self.node.free_link(),
+            link: self.hub.free_link(),
             peer,
         }
     }
 
-    /// The router hears of an event, and appends what it sends to what was there, which is nothing. `Limit` where it refuses the event;
+    /// The router hears of an event, and appends what it sends and tells its clients to what was there, which is nothing. `Limit` where it refuses the event;
     /// then nothing has changed.
     pub fn hear(
         &mut self,
@@ -94,26 +93,26 @@ impl Router {
         ensures { IsHeard result self.old self.new event.now out.new.items }
     {
         out.clear();
-        match self.node.handle(alloc, event, out) {
+        match self.hub.handle(alloc, event, out) {
             Ok(()) => Ok(()),
             Err(e) => Err(refusal(e)),
         }
     }
 
-    /// Whether there is room for what one more declaration weighs.
-    pub fn has_room(&self, key: &KeyExpr) -> bool
-        ensures { result ≡ nat_le (self.now.weight + weight_of key.now) most_weight }
+    /// Whether there is room for what one more declaration of this text weighs, or one more interest.
+    pub fn has_room(&self, text: &[u8]) -> bool
+        ensures { result ≡ nat_le (self.now.weight + weight_of text.now) most_weight }
     {
-        let more = DECLARATION_WEIGHT.saturating_add(key.text().len() as u64);
+        let more = DECLARATION_WEIGHT.saturating_add(text.len() as u64);
         self.weight.saturating_add(more) <= MOST_WEIGHT
     }
 
-    /// One more declaration weighs on the router.
-    pub fn weigh(&mut self, key: &KeyExpr)
-        requires { self.old.weight + weight_of key.now ≤ most_weight }
-        ensures { self.new ≡ weighing self.old key.now }
+    /// One more declaration of this text weighs on the router, or one more interest.
+    pub fn weigh(&mut self, text: &[u8])
+        requires { self.old.weight + weight_of text.now ≤ most_weight }
+        ensures { self.new ≡ weighing self.old text.now }
     {
-        self.weight += key.text().len() as u64 + DECLARATION_WEIGHT;
+        self.weight += text.len() as u64 + DECLARATION_WEIGHT;
     }
 }
 

@@ -80,6 +80,15 @@ impl Tables {
                 complete,
             } => self.able(line, client, id, key, complete),
             Act::Unable { client, id } => self.undeclare(line, client, Kind::Able, id),
+            Act::Interest {
+                client,
+                id,
+                mode,
+                kinds,
+                key,
+                aggregate,
+            } => self.interest(line, client, id, mode, kinds, key, aggregate),
+            Act::Uninterest { client, id } => self.uninterest(line, client, id),
             Act::Publish { client, content } => self.publish(line, client, content),
             Act::Get {
                 client,

@@ -1,9 +1,5 @@
-use Rattle.std.proofs.Common.{◌≡◌, List, subst, sym, ap}
-use Rattle.std.proofs.lemmas.Result.{err_from_is_err_and, on_ok_weaker, on_err_weaker}
-use Rattle.zr_id.specs.Record.{RecordState}
-use Rattle.zr_table.specs.Prefix.{IsPrefixBehind}
+use Rattle.std.proofs.lemmas.Result.{on_ok_weaker, on_err_weaker}
 use Rattle.zr_table.proofs.Prefixes.{first_prefix, second_prefix, both_said}
-use Rattle.zr_world.specs.Show.{record_lines, parent_lines}
 use Rattle.zr_world.proofs.Show.{err_by}
 use Rattle.zr_world.proofs.marks.tell_base.Goals as goal
 

@@ -4,7 +4,7 @@ use Rattle.std.specs.List.{list_any}
 use Rattle.std.specs.Vec.{vec_len}
 use Rattle.zr_network.specs.World.{is_linked}
 use Rattle.zr_world.specs.State.{state_of}
-use Rattle.zr_world.proofs.Searching.{near, gone_on, fewer, ended}
+use Rattle.zr_world.proofs.Searching.{gone_on, fewer, ended}
 use Rattle.zr_world.proofs.tables.Tables.are_found.Goals as goal
 
 pub search-smaller : goal.search-smaller

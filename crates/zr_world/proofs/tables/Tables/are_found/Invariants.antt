@@ -1,5 +1,5 @@
 -- Each round leaves fewer missing, or is the last but one.
-use Rattle.std.proofs.Common.{ℕ, ◌+◌, length}
+use Rattle.std.proofs.Common.{◌+◌, length}
 use Rattle.std.specs.Prelude.{min}
 use Rattle.zr_world.specs.Search.{IsSearched}
 use Rattle.zr_world.specs.State.{state_of}

@@ -1,4 +1,4 @@
-use Rattle.std.proofs.Common.{◌≡◌, ◌≤◌, true, false, [], Ok, Some, sym, ap, ◌∙◌, rules, arith, tests}
+use Rattle.std.proofs.Common.{◌≡◌, false, [], Ok, Some, sym, ap, ◌∙◌, subst, rules, arith}
 use Rattle.std.specs.Prelude.{nat_le, length}
 use Rattle.std.specs.Ordering.{nat_cmp}
 use Rattle.std.specs.Cmp.Lexicographic.{slice_cmp}
@@ -33,7 +33,8 @@ returns c =
     let new : is_taken (state_of c.args.self.now) c.args.id ≡ false = sym c.is_taken-is_taken.ensures ∙ c.if-is_taken.false in
     let few : nat_le most_clients (length (state_of c.args.self.now).clients) ≡ false = grind (arith, nat_tests, c.len-count.ensures.len) in
     let event : c.up_event-event.result ≡ up_event c.in-Some.r.now peer = c.up_event-event.ensures in
-    let heard : IsHeard (Ok tt) c.in-Some.r.now c.hear.new.self (up_event c.in-Some.r.now peer) c.hear.new.out.items = rw event at c.in_ok-hear.ensures in
+    let heard : IsHeard (Ok tt) c.in-Some.r.now c.hear.new.self (up_event c.in-Some.r.now peer) c.hear.new.out.items =
+    subst (λ (z : Event). IsHeard (Ok tt) c.in-Some.r.now c.hear.new.self z c.hear.new.out.items) event c.in_ok-hear.ensures in
     let end : c.lift.new.self ≡ lifted new_end = c.lift.ensures ∙ ap lifted c.new-end.ensures in
     let es : Ends = put_end w.ends (c.args.router, c.args.id) (lifted new_end) in
     let put : c.put.new.self ≡ put_end c.args.self.now.ends (c.args.router, c.args.id) (lifted new_end) =

@@ -1,12 +1,11 @@
-use Rattle.std.proofs.Common.{◌≡◌, true, false, [], Ok, Err, Some, sym, ap, ◌∙◌, rules}
-use Rattle.std.specs.Prelude.{is_some, option_map}
+use Rattle.std.proofs.Common.{◌≡◌, true, false, [], Ok, Err, Some, sym, ap, ◌∙◌, subst, rules}
 use Rattle.std.proofs.lemmas.Map.Steps.{set_value_same}
 use Rattle.std.proofs.lemmas.Result.{err_from_is_err_and}
 use Rattle.zr_id.specs.Zid.{is_named}
+use Rattle.zr_id.specs.declared.link.LinkNo.{LinkNo}
 use Rattle.zr_msg.specs.declared.event.Event.TheVariants.{Down}
-use Rattle.zr_routing.specs.Tables.{link_to, link_at}
-use Rattle.zr_msg.specs.declared.peer.LinkPeer.{LinkPeer}
-use Rattle.zr_network.specs.World.{Ends, router_of, is_taken, end_of, with_router, changed, lowered}
+use Rattle.zr_routing.specs.Tables.{link_to}
+use Rattle.zr_network.specs.World.{router_of, is_taken, end_of, with_router, changed, lowered}
 use Rattle.zr_world.specs.Hearing.{IsHeard}
 use Rattle.zr_world.specs.State.{state_of}
 use Rattle.zr_world.proofs.Events.{has_link, link_found}
@@ -33,7 +32,8 @@ returns c =
     let up : c.in-Some-get.end.now.up ≡ true = sym c.is_up.ensures ∙ c.if-not-is_up.false in
     let broken : c.in-Some-get.end.now.unbroken ≡ false = sym c.is_unbroken.ensures ∙ c.if-is_unbroken.false in
     let l = link_found (link_to c.in-Some.r.now.node.links c.args.neighbour) c.in-Some-link_to.link c.in-Some-link_to.ensures in
-    let heard : IsHeard (Ok tt) c.in-Some.r.now c.hear.new.self (Down l.0.link) c.hear.new.out.items = rw (← l.2) at c.in_ok-hear.ensures in
+    let heard : IsHeard (Ok tt) c.in-Some.r.now c.hear.new.self (Down l.0.link) c.hear.new.out.items =
+    subst (λ (z : LinkNo). IsHeard (Ok tt) c.in-Some.r.now c.hear.new.self (Down z) c.hear.new.out.items) (sym l.2) c.in_ok-hear.ensures in
     let lent : (c.get_mut.follows.lender c.hear.new.self).entries ≡ with_router c.args.self.now.routers.entries c.args.router c.hear.new.self = search rules in
     let lower : changed c.spread.new.ends (c.args.router, c.args.neighbour) lowered ≡ c.lower.new.self = sym c.lower.ensures in
     down_is w _ c.args.line c.args.router c.args.neighbour r s l.0 er et es up broken l.1
@@ -51,7 +51,8 @@ returns-in_err-hear c =
     let up : c.in-Some-get.end.now.up ≡ true = sym c.is_up.ensures ∙ c.if-not-is_up.false in
     let broken : c.in-Some-get.end.now.unbroken ≡ false = sym c.is_unbroken.ensures ∙ c.if-is_unbroken.false in
     let l = link_found (link_to c.in-Some.r.now.node.links c.args.neighbour) c.in-Some-link_to.link c.in-Some-link_to.ensures in
-    let heard : IsHeard (Err c.in_err-hear.field-0.0) c.in-Some.r.now c.hear.new.self (Down l.0.link) c.hear.new.out.items = rw (← l.2) at c.in_err-hear.ensures in
+    let heard : IsHeard (Err c.in_err-hear.field-0.0) c.in-Some.r.now c.hear.new.self (Down l.0.link) c.hear.new.out.items =
+    subst (λ (z : LinkNo). IsHeard (Err c.in_err-hear.field-0.0) c.in-Some.r.now c.hear.new.self (Down z) c.hear.new.out.items) (sym l.2) c.in_err-hear.ensures in
     let lent : (c.get_mut.follows.lender c.hear.new.self).entries ≡ with_router c.args.self.now.routers.entries c.args.router c.hear.new.self = search rules in
     rw (p.1, p.2)
     (down_refused w _ c.args.line c.args.router c.args.neighbour c.in-Some.r.now c.hear.new.self c.in-Some-get.end.now l.0 c.hear.new.out.items c.in_err-hear.field-0.0 er et es up broken l.1 heard

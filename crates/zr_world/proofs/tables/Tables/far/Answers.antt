@@ -1,4 +1,4 @@
-use Rattle.std.proofs.Common.{◌≡◌, ◌<◌, not, length, filter, sym, ap, arith}
+use Rattle.std.proofs.Common.{◌<◌, not, length, sym, ap, arith}
 use Rattle.std.specs.List.{list_any}
 use Rattle.zr_network.specs.World.{is_linked}
 use Rattle.zr_world.specs.State.{state_of}

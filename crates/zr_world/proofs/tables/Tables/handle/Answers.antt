@@ -1,21 +1,18 @@
-use Rattle.std.proofs.Common.{◌≡◌, true, false, List, [], ◌∷◌, ◌++◌, Some, None, Ok, Err, sym, ap, ◌∙◌, rules, arith, refl}
-use Rattle.std.specs.Prelude.{is_some, option_map, if◌then◌else◌}
+use Rattle.std.proofs.Common.{◌≡◌, [], ◌∷◌, Some, None, Ok, Err, sym, ap, ◌∙◌, subst, rules, arith}
+use Rattle.std.specs.Prelude.{if◌then◌else◌}
 use Rattle.std.proofs.lemmas.Grind.{common_steps}
 use Rattle.std.proofs.lemmas.Map.Steps.{set_value_same}
 use Rattle.std.proofs.lemmas.Result.{err_from_is_err_and}
 use Rattle.zr_id.specs.Zid.{is_named}
-use Rattle.zr_msg.specs.declared.msg.Msg.{Msg}
+use Rattle.zr_id.specs.declared.link.LinkNo.{LinkNo}
 use Rattle.zr_msg.specs.declared.event.Event.TheVariants.{From}
-use Rattle.zr_command.specs.declared.error.ScriptError.{ScriptError}
 use Rattle.zr_command.specs.declared.error.ScriptError.TheVariants as e
-use Rattle.zr_command.specs.declared.report.ReportLine.TheVariants.{Handled, Taken}
+use Rattle.zr_command.specs.declared.report.ReportLine.TheVariants.{Handled}
 use Rattle.zr_language.specs.Step.{◌>>=◌}
 use Rattle.zr_routing.specs.Tables.{link_to}
-use Rattle.zr_msg.specs.declared.peer.LinkPeer.{LinkPeer}
-use Rattle.zr_network.specs.World.{Tagged, Ends, WorldState, RouterState, router_of, is_taken, with_router, with_ends, is_up, changed, sent, end_of}
-use Rattle.zr_network.specs.Acts.{handle_step, take_step}
-use Rattle.zr_network.proofs.Keyed.{there}
-use Rattle.zr_ends.specs.Steps.{from_wire, from_queue}
+use Rattle.zr_network.specs.World.{Tagged, WorldState, router_of, is_taken, with_router}
+use Rattle.zr_network.specs.Acts.{handle_step}
+use Rattle.zr_ends.specs.Steps.{from_wire}
 use Rattle.zr_world.specs.Hearing.{IsHeard, IsHandled}
 use Rattle.zr_world.specs.Spread.{all_queued_on}
 use Rattle.zr_world.specs.Living.{lines_of}
@@ -66,7 +63,9 @@ returns-in_err-msg c =
     let er : router_of (state_of c.args.self.now).routers c.args.router ≡ Some c.in-Some.r.now = search rules in
     let l = link_found (link_to c.in-Some.r.now.node.links c.args.from) c.in-Some-link_to.link c.in-Some-link_to.ensures in
     let heard : IsHandled (Err c.in_err-msg.field-0.0) c.in-Some.r.now c.hear_message.new.router l.0.link c.in_ok-x.x (c.args.router, c.args.from) c.next_sent.new.self c.hear_message.new.ends
-    c.hear_message.new.out.items = rw (← l.2) at c.in_err-msg.ensures in
+    c.hear_message.new.out.items =
+    subst (λ (z : LinkNo). IsHandled (Err c.in_err-msg.field-0.0) c.in-Some.r.now c.hear_message.new.router z c.in_ok-x.x (c.args.router, c.args.from) c.next_sent.new.self c.hear_message.new.ends c.hear_message.new.out.items)
+    (sym l.2) c.in_err-msg.ensures in
     let lent : (c.get_mut.follows.lender c.hear_message.new.router).entries ≡ with_router c.args.self.now.routers.entries c.args.router c.hear_message.new.router = search rules in
     rw (p.1, p.2)
     (handle_limited w _ c.args.router c.args.from c.in-Some.r.now c.hear_message.new.router l.0 c.in_ok-x.x c.next_sent.new.self c.hear_message.new.ends c.hear_message.new.out.items c.args.report.now.items c.in_err-msg.field-0.0
@@ -104,7 +103,8 @@ returns c =
     let told : from_wire c.args.self.now.ends (c.args.router, c.args.from) ≡ Ok (c.in_ok-x.x, c.next_sent.new.self) = c.in_ok-x.ensures in
     let tag : c.x.inside.tag ≡ c.in_ok-x.x.tag = ap (λ (z : Tagged). z.tag) c.x.view_is in
     let back : c.in_ok-msg.msg ≡ c.in_ok-x.x.msg = c.in_ok-msg.ensures.0 in
-    let heard : IsHeard (Ok tt) c.in-Some.r.now c.hear_message.new.router (From l.0.link c.in_ok-x.x.msg) c.hear_message.new.out.items = rw (← l.2) at c.in_ok-msg.ensures.1 in
+    let heard : IsHeard (Ok tt) c.in-Some.r.now c.hear_message.new.router (From l.0.link c.in_ok-x.x.msg) c.hear_message.new.out.items =
+    subst (λ (z : LinkNo). IsHeard (Ok tt) c.in-Some.r.now c.hear_message.new.router (From z c.in_ok-x.x.msg) c.hear_message.new.out.items) (sym l.2) c.in_ok-msg.ensures.1 in
     let spread : c.spread.new.ends ≡ all_queued_on c.hear_message.new.router.node.links c.next_sent.new.self c.args.router c.hear_message.new.out.items c.in_ok-x.x.tag =
     c.in_ok-spread.ensures
     ∙ (λ i. all_queued_on c.hear_message.new.router.node.links (c.in_ok-msg.ensures.2 i) c.args.router c.hear_message.new.out.items (tag i)) in

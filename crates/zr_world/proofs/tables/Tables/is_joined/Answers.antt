@@ -1,5 +1,5 @@
-use Rattle.std.proofs.Common.{◌≡◌, true, false, length, sym, ap, ◌∙◌, rules}
-use Rattle.std.specs.Prelude.{◌==◌, slice_index_or, filter, not}
+use Rattle.std.proofs.Common.{◌≡◌, true, length, sym, ap, ◌∙◌, rules}
+use Rattle.std.specs.Prelude.{◌==◌, filter, not}
 use Rattle.std.specs.Map.{keys_of}
 use Rattle.std.specs.Vec.{vec_len}
 use Rattle.zr_id.specs.Zid.{is_named}

@@ -1,5 +1,5 @@
 -- What is still to be looked at gives the rest.
-use Rattle.std.proofs.Common.{◌≡◌, not, ◌++◌, drop, filter}
+use Rattle.std.proofs.Common.{◌≡◌, ◌++◌, drop, filter}
 use Rattle.std.specs.List.{list_any}
 use Rattle.zr_network.specs.World.{is_linked}
 use Rattle.zr_world.specs.State.{state_of}

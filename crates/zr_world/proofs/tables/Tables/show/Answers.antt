@@ -1,10 +1,9 @@
-use Rattle.std.proofs.Common.{◌≡◌, List, [], ◌∷◌, ◌++◌, Some, Ok, Err, sym, ap, ◌∙◌, subst, rules}
+use Rattle.std.proofs.Common.{◌≡◌, [], ◌∷◌, ◌++◌, Some, Err, sym, ap, ◌∙◌, subst, rules}
 use Rattle.std.proofs.lemmas.Result.{err_from_is_err_and}
-use Rattle.zr_command.specs.declared.report.ReportLine.{ReportLine}
 use Rattle.zr_command.specs.declared.report.ReportLine.TheVariants.{Show}
 use Rattle.zr_table.specs.Prefix.{IsPrefixBehind}
-use Rattle.zr_table.specs.State.{NodeState}
 use Rattle.zr_table.proofs.Prefixes.{second_prefix, both_said}
+use Rattle.zr_told.specs.Hub.{HubState}
 use Rattle.zr_network.specs.World.{router_of}
 use Rattle.zr_network.specs.Acts.{shown, show_step}
 use Rattle.zr_world.specs.Living.{lines_of}
@@ -25,7 +24,7 @@ returns-in_err-tell_tables c =
     let er : router_of (state_of c.args.self.now).routers c.args.router ≡ Some c.in-Some.r.now = search rules in
     let p = err_from_is_err_and c.from_residual-in_err-tell_tables.result c.from_residual-in_err-tell_tables.ensures.1 in
     let begin : IsPrefixBehind c.push.new.self.items (shown c.in-Some.r.now.node) c.tell_tables.new.report.items =
-    subst (λ (n : NodeState). IsPrefixBehind c.push.new.self.items (shown n) c.tell_tables.new.report.items) c.node.ensures c.in_err-tell_tables.ensures.err in
+    subst (λ (h : HubState). IsPrefixBehind c.push.new.self.items (shown h.node) c.tell_tables.new.report.items) c.hub.ensures c.in_err-tell_tables.ensures.err in
     ran_out c.from_residual-in_err-tell_tables.result (show_step w c.args.router) w _ c.args.report.now.items c.tell_tables.new.report.items (p.1 ∙ ap Err p.2)
     (subst (λ z. IsPrefixBehind c.args.report.now.items (lines_of z) c.tell_tables.new.report.items) (sym (show_is w c.args.router c.in-Some.r.now er))
     (second_prefix c.args.report.now.items (Show c.args.router ∷ []) (shown c.in-Some.r.now.node) c.push.new.self.items c.tell_tables.new.report.items c.in_ok-push.ensures.items begin))
@@ -35,7 +34,7 @@ returns c =
     let w = state_of c.args.self.now in
     let er : router_of (state_of c.args.self.now).routers c.args.router ≡ Some c.in-Some.r.now = search rules in
     let told : c.tell_tables.new.report.items ≡ c.push.new.self.items ++ shown c.in-Some.r.now.node =
-    subst (λ (n : NodeState). c.tell_tables.new.report.items ≡ c.push.new.self.items ++ shown n) c.node.ensures c.in_ok-tell_tables.ensures.told in
+    subst (λ (h : HubState). c.tell_tables.new.report.items ≡ c.push.new.self.items ++ shown h.node) c.hub.ensures c.in_ok-tell_tables.ensures.told in
     applied (show_step w c.args.router) (Show c.args.router ∷ shown c.in-Some.r.now.node) w w c.args.report.now.items c.tell_tables.new.report.items
     (show_is w c.args.router c.in-Some.r.now er)
     (both_said c.args.report.now.items (Show c.args.router ∷ []) (shown c.in-Some.r.now.node) c.push.new.self.items c.tell_tables.new.report.items c.in_ok-push.ensures.items told)

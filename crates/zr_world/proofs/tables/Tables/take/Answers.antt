@@ -1,21 +1,11 @@
-use Rattle.std.proofs.Common.{◌≡◌, true, false, List, [], ◌∷◌, ◌++◌, Some, None, Ok, Err, sym, ap, ◌∙◌, rules, arith, refl}
-use Rattle.std.specs.Prelude.{is_some, option_map, if◌then◌else◌}
-use Rattle.std.proofs.lemmas.Grind.{common_steps}
-use Rattle.std.proofs.lemmas.Map.Steps.{set_value_same}
+use Rattle.std.proofs.Common.{◌≡◌, [], ◌∷◌, Ok, Err, sym, ap, ◌∙◌}
 use Rattle.std.proofs.lemmas.Result.{err_from_is_err_and}
-use Rattle.zr_msg.specs.declared.msg.Msg.{Msg}
-use Rattle.zr_msg.specs.declared.event.Event.TheVariants.{From}
-use Rattle.zr_command.specs.declared.error.ScriptError.{ScriptError}
-use Rattle.zr_command.specs.declared.error.ScriptError.TheVariants as e
-use Rattle.zr_command.specs.declared.report.ReportLine.TheVariants.{Handled, Taken}
+use Rattle.zr_command.specs.declared.report.ReportLine.TheVariants.{Taken}
 use Rattle.zr_language.specs.Step.{◌>>=◌}
-use Rattle.zr_routing.specs.Tables.{link_to}
-use Rattle.zr_msg.specs.declared.peer.LinkPeer.{LinkPeer}
-use Rattle.zr_network.specs.World.{Tagged, Ends, WorldState, RouterState, router_of, is_taken, client_of, changed, sent}
+use Rattle.zr_network.specs.World.{Tagged, router_of, client_of, changed, sent}
 use Rattle.zr_network.specs.Acts.{received, take_step}
 use Rattle.zr_network.proofs.Keyed.{there}
-use Rattle.zr_ends.specs.Steps.{from_wire, from_queue}
-use Rattle.zr_world.specs.Hearing.{IsHeard}
+use Rattle.zr_ends.specs.Steps.{from_queue}
 use Rattle.zr_world.specs.Living.{lines_of}
 use Rattle.zr_world.specs.State.{state_of}
 use Rattle.zr_world.proofs.Moving.{take_by, taken_by, take_refused, queue_there, applied, ran_out, no_lines}

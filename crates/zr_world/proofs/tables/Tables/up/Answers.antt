@@ -1,8 +1,8 @@
-use Rattle.std.proofs.Common.{◌≡◌, true, false, [], Ok, Some, sym, ap, ◌∙◌, rules}
+use Rattle.std.proofs.Common.{◌≡◌, true, false, [], Ok, Some, sym, ap, ◌∙◌, subst, rules}
 use Rattle.std.specs.Prelude.{is_some}
 use Rattle.std.specs.Option.{option_map_or}
-use Rattle.zr_id.specs.Zid.{is_named}
-use Rattle.zr_network.specs.World.{EndState, Ends, router_of, is_taken, end_of, with_end, with_router, is_up, lifted}
+use Rattle.zr_msg.specs.declared.event.Event.{Event}
+use Rattle.zr_network.specs.World.{Ends, router_of, is_taken, end_of, with_end, with_router, is_up, lifted}
 use Rattle.zr_network.specs.Acts.{up_event, peer_of}
 use Rattle.zr_ends.specs.Steps.{changed_at}
 use Rattle.zr_world.specs.Hearing.{IsHeard}
@@ -34,7 +34,8 @@ returns c =
     let up : c.in-Some-get.end.now.up ≡ false = sym c.is_up.ensures ∙ c.if-is_up.false in
     let down : is_up (state_of c.args.self.now).ends (c.args.router, c.args.neighbour) ≡ false = ap (λ o. option_map_or (λ s. s.up) o false) es ∙ up in
     let event : c.up_event-event.result ≡ up_event c.in-Some.r.now (peer_of w c.args.neighbour) = c.up_event-event.ensures ∙ ap (up_event c.in-Some.r.now) c.peer_of-peer.ensures in
-    let heard : IsHeard (Ok tt) c.in-Some.r.now c.hear.new.self (up_event c.in-Some.r.now (peer_of w c.args.neighbour)) c.hear.new.out.items = rw event at c.in_ok-hear.ensures in
+    let heard : IsHeard (Ok tt) c.in-Some.r.now c.hear.new.self (up_event c.in-Some.r.now (peer_of w c.args.neighbour)) c.hear.new.out.items =
+    subst (λ (z : Event). IsHeard (Ok tt) c.in-Some.r.now c.hear.new.self z c.hear.new.out.items) event c.in_ok-hear.ensures in
     let ends : Ends = with_end w.ends (c.args.router, c.args.neighbour) (lifted s) in
     let lift : c.lift.new.self ≡ with_end c.args.self.now.ends (c.args.router, c.args.neighbour) (lifted c.in-Some-get.end.now) =
     c.in_ok-lift.ensures ∙ ap (λ o. changed_at c.args.self.now.ends (c.args.router, c.args.neighbour) lifted o) es in

@@ -1,0 +1,104 @@
+//! What clients ask to be told of others' declarations.
+
+ghost use Rattle.std.specs.Prelude.{◌≡◌, [], unwrap_or};
+ghost use Rattle.zr_command.specs.Mode.{is_current, is_future};
+ghost use Rattle.zr_world.specs.Steps.{Does};
+
+use crate::declared::weigh;
+use crate::tables::Tables;
+use zr_command::command::Mode;
+use zr_command::error::ScriptError;
+use zr_id::zid::Zid;
+use zr_key::key::KeyExpr;
+use zr_msg::msg::{Kinds, Msg};
+
+impl Tables {
+    ghost use Rattle.zr_network.specs.Acts.{interest_step, uninterest_step};
+    ghost use Rattle.zr_world.specs.State.{state_of};
+
+    /// A client asks to be told what others declare, under an id that none of its interests has. One in what is declared later goes on, and
+    /// weighs on its router.
+    #[tactic(auto, using(std::proofs::lemmas::Map::Steps::set_value_same), unfolding(zr_network::specs::Acts::interest_step, zr_network::specs::Acts::client_sends))]
+    pub fn interest(
+        &mut self,
+        line: u64,
+        client: Zid,
+        id: u32,
+        mode: Mode,
+        kinds: Kinds,
+        key: Option<KeyExpr>,
+        aggregate: bool,
+    ) -> Result<(), ScriptError>
+        ensures { Does result (interest_step (state_of self.old) line client id mode kinds key aggregate) (state_of self.old) (state_of self.new) }
+    {
+        let Some(c) = self.clients.get_mut(&client) else {
+            return Err(ScriptError::UnknownName);
+        };
+        if c.has_interest(id) {
+            return Err(ScriptError::NameTaken);
+        }
+        let Some(end) = self.ends.get((c.router(), client)) else {
+            return Err(ScriptError::NotLinked);
+        };
+        if !end.is_unbroken() {
+            return Err(ScriptError::NotLinked);
+        }
+        if mode.is_future() {
+            weigh(&mut self.routers, &c.router(), text_of(&key))?;
+            let msg = asks(id, mode, kinds, key, aggregate);
+            self.ends.send((c.router(), client), msg, line)?;
+            c.want(id)?;
+            return Ok(());
+        }
+        let msg = asks(id, mode, kinds, key, aggregate);
+        self.ends.send((c.router(), client), msg, line)?;
+        Ok(())
+    }
+
+    /// A client ends its interest of an id.
+    #[tactic(auto, using(std::proofs::lemmas::Map::Steps::set_value_same), unfolding(zr_network::specs::Acts::uninterest_step, zr_network::specs::Acts::client_sends))]
+    pub fn uninterest(&mut self, line: u64, client: Zid, id: u32) -> Result<(), ScriptError>
+        ensures { Does result (uninterest_step (state_of self.old) line client id) (state_of self.old) (state_of self.new) }
+    {
+        let Some(c) = self.clients.get_mut(&client) else {
+            return Err(ScriptError::UnknownName);
+        };
+        if !c.has_interest(id) {
+            return Err(ScriptError::UnknownName);
+        }
+        let Some(end) = self.ends.get((c.router(), client)) else {
+            return Err(ScriptError::NotLinked);
+        };
+        if !end.is_unbroken() {
+            return Err(ScriptError::NotLinked);
+        }
+        self.ends
+            .send((c.router(), client), Msg::EndInterest { id }, line)?;
+        c.unwant(id);
+        Ok(())
+    }
+}
+
+// The text of an interest's key. One without a key weighs as much as one without a text.
+fn text_of(key: &Option<KeyExpr>) -> &[u8]
+    ensures { result.now ≡ unwrap_or key.now [] }
+{
+    match key {
+        Some(key) => key.text().as_bytes(),
+        None => &[],
+    }
+}
+
+// The message by which a client asks.
+fn asks(id: u32, mode: Mode, kinds: Kinds, key: Option<KeyExpr>, aggregate: bool) -> Msg
+    ensures { result ≡ Msg.Interest id (is_current mode) (is_future mode) kinds key aggregate }
+{
+    Msg::Interest {
+        id,
+        current: mode.is_current(),
+        future: mode.is_future(),
+        kinds,
+        key,
+        aggregate,
+    }
+}
