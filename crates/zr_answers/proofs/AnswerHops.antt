@@ -11,7 +11,7 @@ use Rattle.zr_msg.specs.declared.msg.Msg.{Msg}
 use Rattle.zr_table.proofs.Inserted.{All-any}
 use Rattle.zr_network.specs.World.{RouterState, WorldState}
 use Rattle.zr_network.specs.Moments.{Moment}
-use Rattle.zr_network.specs.Acts.{sends_to, hearing}
+use Rattle.zr_network.specs.Acts.{sends_to, having_told}
 use Rattle.zr_network.specs.Sound.{IsSound}
 use Rattle.zr_network.proofs.Names.{names, same_name}
 use Rattle.zr_settled.proofs.Orderly.{Orderly}
@@ -47,7 +47,7 @@ pub record IsTold (r : RouterState) (link : LinkNo) (msg : Msg) (tag : ℕ) (y :
   pub may : MayDoAll half own
   pub answers : flat_map (λ m. answers_in tag m) (sends_to r.node (From link msg) y) ≡ flat_map answered_by_deed own
   pub before : (n : ℕ) → row_kept r y n ≡ half.keeps n
-  pub leaves : (n : ℕ) → row_kept (hearing r (From link msg)) y n ≡ (with_deeds half own).keeps n
+  pub leaves : (n : ℕ) → row_kept (having_told r (From link msg)) y n ≡ (with_deeds half own).keeps n
 
 -- what a router keeps of the link to a neighbour
 abbrev pub half_to : RouterState → List ℕ → Half
@@ -59,8 +59,8 @@ pub record IsAnswering (r : RouterState) (link : LinkNo) (msg : Msg) (tag : ℕ)
   pub silent : (y : List ℕ) → flat_map (λ m. asks_in tag m) (sends_to r.node (From link msg) y) ≡ []
   pub heard_is : (n : ℕ) (h : HopState) → above_hops n (handles_msg msg ++ []) h ≡ cond (id == n) (heard h) h
   pub told_is : (n i : ℕ) (h : HopState) → below_hops n (f i ∷ []) h ≡ cond (i == n) (told h) h
-  pub back_here : (n : ℕ) → branch_back (hearing r (From link msg)) from n ≡ (with_deeds (half_to r from) (handles_msg msg ++ [])).back n
-  pub back_apart : (y : List ℕ) (n : ℕ) → is_named from y ≡ false → branch_back (hearing r (From link msg)) y n ≡ branch_back r y n
+  pub back_here : (n : ℕ) → branch_back (having_told r (From link msg)) from n ≡ (with_deeds (half_to r from) (handles_msg msg ++ [])).back n
+  pub back_apart : (y : List ℕ) (n : ℕ) → is_named from y ≡ false → branch_back (having_told r (From link msg)) y n ≡ branch_back r y n
   pub tells : (y : List ℕ) → is_named a y ≡ false → IsTold r link msg tag y (deeds_to f y to)
 
 -- any deeds

@@ -6,24 +6,30 @@ use Rattle.std.proofs.lemmas.Option.{none-some}
 use Rattle.zr_id.specs.Zid.{is_named}
 use Rattle.zr_graph.proofs.Names.{same_is}
 use Rattle.zr_msg.specs.declared.decl.Kind.{Kind}
+use Rattle.zr_msg.specs.declared.event.Event.{Event}
 use Rattle.zr_msg.specs.declared.msg.Msg.{Msg}
 use Rattle.zr_msg.specs.declared.peer.Role.TheVariants as role
 use Rattle.zr_command.specs.declared.report.ReportLine.{ReportLine}
 use Rattle.zr_table.specs.Event.{MayCome}
-use Rattle.zr_network.specs.World.{RouterState, ClientState, EndState, WorldState, new_client, router_of, client_of, end_of, is_taken}
-use Rattle.zr_network.specs.Acts.{without_number, ids_of, declaring, undeclaring, weighing, hearing, up_event, client_step}
+use Rattle.zr_network.specs.World.{RouterState, ClientState, EndState, WorldState, with_clients, with_ends, with_client, new_client, new_end, put_end, lifted, router_of, client_of, end_of, is_taken}
+use Rattle.zr_network.specs.Acts.{without_number, ids_of, declaring, undeclaring, weighing, having_told, up_event, client_step}
 use Rattle.zr_network.specs.Moments.{Numbered, Moment, went}
 use Rattle.zr_network.proofs.Keyed.{not_there}
 use Rattle.zr_network.proofs.Names.{value_new, value_after, read_kept}
-use Rattle.zr_network.proofs.Cases.{w_client, w_sent, w_declare, w_undeclare, free_name, for_client}
+use Rattle.zr_network.proofs.Cases.{w_client, w_sent, w_declare, w_undeclare, w_weighed, free_name, for_client}
 use Rattle.zr_network.proofs.Sound.{client_may_come}
 use Rattle.zr_settled.proofs.Goes.{Goes}
+use Rattle.zr_settled.proofs.Worlds.{router_heard}
+use Rattle.zr_settled.proofs.Told.{IsTold, sound_back, telling_told}
+use Rattle.zr_settled.proofs.Told as told
+use Rattle.zr_declared.proofs.Hearing.{heard_router}
 use Rattle.zr_numbers.specs.Rows.{AreOfLinks}
 use Rattle.zr_numbers.specs.Waiting.{asks_in, answers_in}
 use Rattle.zr_numbers.proofs.Waits.{router_holds, router_awaits}
 use Rattle.zr_numbers.proofs.Done.{events_are_done}
 use Rattle.zr_numbers.proofs.Whole.{LinksGo}
 use Rattle.zr_numbers.proofs.ActHears.{client_links}
+use Rattle.zr_answers.proofs.ToldLinks.{links_then}
 use Rattle.zr_numbers.proofs.ActClients.{quiet_deeds, said_links}
 use Rattle.zr_numbers.proofs.Going.{ids_apart}
 use Rattle.zr_guarantee.specs.Sent.{Told, told_to, is_request, finals_in}
@@ -60,10 +66,14 @@ module _ (acts : List Numbered) (m : Moment) (x : Numbered) (before : Earlier ac
     pub client_kept : Quiet → (n : ℕ) (id router : List ℕ) → IfSome (went m (client_step w n id router)) IsKept
     client_kept quiet n id router = for_client m IsKept n id router (λ r er free room taken g' shows'.
         let v : WorldState = w_client w n id router r in
+        let u : WorldState = told.w_client w n id router r in
+        let event : Event = up_event r (record { id = id; role = role.Client }) in
+        let tells : IsTold u v = telling_told u router r event n (router_heard (with_ends w (put_end w.ends (router, id) (lifted new_end))) router r er event n) in
         let may : MayCome r.node (up_event r (record { id = id; role = role.Client })) = client_may_come w g.sound router id r er free in
-        let goes : Fine v = client_links w g.sound g.orderly router r er id free n may (events_are_done r.node (up_event r (record { id = id; role = role.Client })) may taken (rows router r er))
-        (FineAsk acts' w v lines) (FineSay acts' report' v lines) (quiet_fits acts' report' w v lines router r.node (up_event r (record { id = id; role = role.Client })) n refl) g'.sound in
-        came r er free v g' shows' goes (λ q. read_kept is_some w.routers router q r (hearing r (up_event r (record { id = id; role = role.Client }))) er refl)
+        let goes : Fine v = links_then u v tells (FineAsk acts' w v lines) (FineSay acts' report' v lines) w (client_links w g.sound g.orderly router r er id free n may (events_are_done r.node (up_event r (record { id = id; role = role.Client })) may taken (rows router r er))
+        (FineAsk acts' w v lines) (FineSay acts' report' v lines) (quiet_fits acts' report' w v lines router r.node (up_event r (record { id = id; role = role.Client })) n refl) (sound_back u v tells g'.sound)) in
+        came r er free v g' shows' goes (λ q. heard_router is_some w.routers router q r (up_event r (record { id = id; role = role.Client }))
+        ∙ read_kept is_some w.routers router q r (having_told r (up_event r (record { id = id; role = role.Client }))) er refl)
         (λ d. value_new w.clients id d (new_client router) (not_there (client_of w.clients id) (free_name w id free).1)))
       where
         came : (r : RouterState) → router_of w.routers router ≡ Some r → is_taken w id ≡ false → (v : WorldState) (g' : Goes v) (shows' : AllShow v) → Fine v →
@@ -131,46 +141,50 @@ module _ (acts : List Numbered) (m : Moment) (x : Numbered) (before : Earlier ac
         there d true same = sym (ap is_some (ap (client_of w.clients) (sym (same_is name d same)) ∙ es))
         there d false other = refl
 
-    -- a declaration
-    pub declared : Quiet → (kind : Kind) (id : ℕ) (key : List ℕ) (r : RouterState) → router_of w.routers s.router ≡ Some r → asks_in n msg ≡ [] → answers_in n msg ≡ [] →
-        (g' : Goes (w_declare w n name kind id key msg s e r)) (shows' : AllShow (w_declare w n name kind id key msg s e r)) →
-        Stands acts' (record { world = w_declare w n name kind id key msg s e r; report = report' }) (lines_on (w_declare w n name kind id key msg s e r) lines)
-    declared quiet kind id key r er no_ask no_answer g' shows' =
+    -- the numbers of its queries and requests stay
+    abbrev StaysAsking : ClientState → Type 0
+    StaysAsking s' = (s'.router ≡ s.router) × (s'.queries ≡ s.queries) × (s'.requests ≡ s.requests)
+
+    -- a declaration, or an interest
+    pub weighed : Quiet → (s' : ClientState) → StaysAsking s' → (key : List ℕ) (r : RouterState) → router_of w.routers s.router ≡ Some r → asks_in n msg ≡ [] → answers_in n msg ≡ [] →
+        (g' : Goes (w_weighed w n name key msg s e r (with_client w.clients name s'))) (shows' : AllShow (w_weighed w n name key msg s e r (with_client w.clients name s'))) →
+        Stands acts' (record { world = w_weighed w n name key msg s e r (with_client w.clients name s'); report = report' }) (lines_on (w_weighed w n name key msg s e r (with_client w.clients name s')) lines)
+    weighed quiet s' ids key r er no_ask no_answer g' shows' =
         said v g' shows' goes s' (λ q. read_kept is_some w.routers s.router q r (weighing r key) er refl) (λ q. value_after w.clients name q s' (ap is_some es))
         (λ k. book_same acts m x before lines g shows h [] v g' shows' goes name s s' k ids.0 ids.2 ids.1 (book_stays acts m x before lines g shows h [] v g' shows' goes name s es k (quiet name k) refl)) (λ d k other. quiet d k)
       where
-        s' : ClientState
-        s' = declaring s kind id
-
         v : WorldState
-        v = w_declare w n name kind id key msg s e r
-
-        ids : (s'.router ≡ s.router) × (s'.queries ≡ s.queries) × (s'.requests ≡ s.requests)
-        ids = ids_apart s kind (ids_of s kind ++ id ∷ [])
+        v = w_weighed w n name key msg s e r (with_client w.clients name s')
 
         goes : Fine v
         goes = said_links w g.sound g.orderly g.clients name s es v s' ids.0 (λ q. value_after w.clients name q s' (ap is_some es))
             (λ a b k. read_kept (router_holds a k) w.routers s.router b r (weighing r key) er refl) (λ a b k. read_kept (router_awaits b k) w.routers s.router a r (weighing r key) er refl)
             n msg e ee refl (quiet_deeds name s s' n msg no_ask no_answer ids.1 ids.2) (FineAsk acts' w v lines) (FineSay acts' report' v lines) tt tt
 
-    pub undeclared : Quiet → (kind : Kind) (id : ℕ) → asks_in n msg ≡ [] → answers_in n msg ≡ [] → (g' : Goes (w_undeclare w n name kind id msg s e)) (shows' : AllShow (w_undeclare w n name kind id msg s e)) →
-        Stands acts' (record { world = w_undeclare w n name kind id msg s e; report = report' }) (lines_on (w_undeclare w n name kind id msg s e) lines)
-    undeclared quiet kind id no_ask no_answer g' shows' =
+    pub declared : Quiet → (kind : Kind) (id : ℕ) (key : List ℕ) (r : RouterState) → router_of w.routers s.router ≡ Some r → asks_in n msg ≡ [] → answers_in n msg ≡ [] →
+        (g' : Goes (w_declare w n name kind id key msg s e r)) (shows' : AllShow (w_declare w n name kind id key msg s e r)) →
+        Stands acts' (record { world = w_declare w n name kind id key msg s e r; report = report' }) (lines_on (w_declare w n name kind id key msg s e r) lines)
+    declared quiet kind id key r er no_ask no_answer g' shows' =
+        weighed quiet (declaring s kind id) (ids_apart s kind (ids_of s kind ++ id ∷ [])) key r er no_ask no_answer g' shows'
+
+    -- the end of one
+    pub ended : Quiet → (s' : ClientState) → StaysAsking s' → asks_in n msg ≡ [] → answers_in n msg ≡ [] →
+        (g' : Goes (with_clients (w_sent w n name s e msg) (with_client w.clients name s'))) (shows' : AllShow (with_clients (w_sent w n name s e msg) (with_client w.clients name s'))) →
+        Stands acts' (record { world = with_clients (w_sent w n name s e msg) (with_client w.clients name s'); report = report' }) (lines_on (with_clients (w_sent w n name s e msg) (with_client w.clients name s')) lines)
+    ended quiet s' ids no_ask no_answer g' shows' =
         said v g' shows' goes s' (λ q. refl) (λ q. value_after w.clients name q s' (ap is_some es))
         (λ k. book_same acts m x before lines g shows h [] v g' shows' goes name s s' k ids.0 ids.2 ids.1 (book_stays acts m x before lines g shows h [] v g' shows' goes name s es k (quiet name k) refl)) (λ d k other. quiet d k)
       where
-        s' : ClientState
-        s' = undeclaring s kind id
-
         v : WorldState
-        v = w_undeclare w n name kind id msg s e
-
-        ids : (s'.router ≡ s.router) × (s'.queries ≡ s.queries) × (s'.requests ≡ s.requests)
-        ids = ids_apart s kind (without_number (ids_of s kind) id)
+        v = with_clients (w_sent w n name s e msg) (with_client w.clients name s')
 
         goes : Fine v
         goes = said_links w g.sound g.orderly g.clients name s es v s' ids.0 (λ q. value_after w.clients name q s' (ap is_some es)) (λ a b k. refl) (λ a b k. refl)
             n msg e ee refl (quiet_deeds name s s' n msg no_ask no_answer ids.1 ids.2) (FineAsk acts' w v lines) (FineSay acts' report' v lines) tt tt
+
+    pub undeclared : Quiet → (kind : Kind) (id : ℕ) → asks_in n msg ≡ [] → answers_in n msg ≡ [] → (g' : Goes (w_undeclare w n name kind id msg s e)) (shows' : AllShow (w_undeclare w n name kind id msg s e)) →
+        Stands acts' (record { world = w_undeclare w n name kind id msg s e; report = report' }) (lines_on (w_undeclare w n name kind id msg s e) lines)
+    undeclared quiet kind id no_ask no_answer g' shows' = ended quiet (undeclaring s kind id) (ids_apart s kind (without_number (ids_of s kind) id)) no_ask no_answer g' shows'
 
     -- a client whose numbers stay
     pub same_client : (q : List ℕ) (b : Bool) → is_named name q ≡ b → client_of w.clients q ≡ cond b (Some s) (client_of w.clients q)

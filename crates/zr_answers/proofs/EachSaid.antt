@@ -83,6 +83,9 @@ module _ (acts : List Numbered) (m : Moment) (lines : Lines) (h : Stands acts m 
   queries_kept n (c.Unsub client id) before = quiet acts m lines h n (c.Unsub client id) before all refl (outcome m.world n (c.Unsub client id))
   queries_kept n (c.Able client id key complete) before = quiet acts m lines h n (c.Able client id key complete) before all refl (outcome m.world n (c.Able client id key complete))
   queries_kept n (c.Unable client id) before = quiet acts m lines h n (c.Unable client id) before all refl (outcome m.world n (c.Unable client id))
+  queries_kept n (c.Interest client id mode kinds key aggregate) before =
+      quiet acts m lines h n (c.Interest client id mode kinds key aggregate) before all refl (outcome m.world n (c.Interest client id mode kinds key aggregate))
+  queries_kept n (c.Uninterest client id) before = quiet acts m lines h n (c.Uninterest client id) before all refl (outcome m.world n (c.Uninterest client id))
   queries_kept n (c.Publish client content) before = quiet acts m lines h n (c.Publish client content) before all refl (outcome m.world n (c.Publish client content))
   queries_kept n (c.Get client number target content) before = quiet acts m lines h n (c.Get client number target content) before all refl (outcome m.world n (c.Get client number target content))
   queries_kept n (c.Reply client number content) before = for_reply m (λ next. AllHaveQueries (acts ++ (n, c.Reply client number content) ∷ []) next.report) n client number content

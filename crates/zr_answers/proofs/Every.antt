@@ -1,22 +1,23 @@
 -- What stands at every moment (`stands_at`), and so all that the definitions say of answers (`answers_always_hold`).
 use Rattle.std.proofs.Common.{◌≡◌, ℕ, Bool, true, cond, List, [], ◌∷◌, ◌++◌, Option, Some, None, refl, sym, ap, ◌∙◌, subst, append-nil, append_assoc}
-use Rattle.std.specs.Prelude.{IfSome}
+use Rattle.std.specs.Prelude.{unwrap_or, IfSome}
 use Rattle.std.specs.List.{AllByRecursion, fold}
 use Rattle.std.proofs.lemmas.Bool.{false≢true}
 use Rattle.std.proofs.lemmas.Option.{none-some}
 use Rattle.std.proofs.lemmas.List.Sums.{length-filter}
 use Rattle.zr_command.specs.declared.command.Act.{Act}
 use Rattle.zr_command.specs.declared.command.Act.TheVariants as c
+use Rattle.zr_command.specs.Mode.{is_current, is_future}
 use Rattle.zr_command.specs.declared.report.ReportLine.{ReportLine}
 use Rattle.zr_msg.specs.declared.decl.Kind.{Kind}
 use Rattle.zr_msg.specs.declared.decl.Kind.TheVariants as sort
 use Rattle.zr_msg.specs.declared.msg.Msg.{Msg}
 use Rattle.zr_msg.specs.declared.msg.Msg.TheVariants as msgs
 use Rattle.zr_table.specs.Table.{able_kind}
-use Rattle.zr_network.specs.Acts.{outcome, declare_step, undeclare_step}
+use Rattle.zr_network.specs.Acts.{outcome, declare_step, undeclare_step, wanting, unwanting}
 use Rattle.zr_network.specs.Moments.{Numbered, Moment, beginning, went, onward, ascends, reached}
 use Rattle.zr_network.proofs.Lines.{at_some}
-use Rattle.zr_network.proofs.Cases.{for_declare, for_undeclare, for_publish}
+use Rattle.zr_network.proofs.Cases.{for_declare, for_undeclare, for_interest, for_uninterest, for_publish}
 use Rattle.zr_settled.proofs.Goes.{goes_first}
 use Rattle.zr_asking.specs.Link.{Ask, Answer, Free, Asked as AskedHop, Open, asks_of, answers_of, answers_with, is_kept, asked_by, Shows}
 use Rattle.zr_numbers.specs.Waiting.{Asked, Said, Place, asks_in, answers_in, back_at, is_kept_by, link_of, is_whole}
@@ -83,6 +84,18 @@ module _ (acts : List Numbered) (m : Moment) (h : Holds acts m) where
   kept n (c.Able client id key complete) before =
       declares n (c.Able client id key complete) before (λ d k. record { ended = refl; asked = refl }) client (able_kind complete) id key (msgs.Able id key complete) refl refl
   kept n (c.Unable client id) before = undeclares n (c.Unable client id) before (λ d k. record { ended = refl; asked = refl }) client sort.Able id (msgs.Unable id) refl refl
+  kept n (c.Interest client id mode kinds key aggregate) before =
+      let act : Act = c.Interest client id mode kinds key aggregate in
+      let msg : Msg = msgs.Interest id (is_current mode) (is_future mode) kinds key aggregate in
+      for_interest m (clients.IsKept acts m (n, act) before h.lines h.go.0 (shows_of m h.go) h.stands) n client id mode kinds key aggregate
+      (λ s es fresh e ee unbroken once g' shows'. clients.published acts m (n, act) before h.lines h.go.0 (shows_of m h.go) h.stands client s es e ee n msg
+      (λ d k. record { ended = refl; asked = refl }) refl refl g' shows')
+      (λ s es fresh e ee unbroken lasts r er room g' shows'. clients.weighed acts m (n, act) before h.lines h.go.0 (shows_of m h.go) h.stands client s es e ee n msg
+      (λ d k. record { ended = refl; asked = refl }) (wanting s id) (refl, refl, refl) (unwrap_or key []) r er refl refl g' shows')
+  kept n (c.Uninterest client id) before =
+      for_uninterest m (clients.IsKept acts m (n, c.Uninterest client id) before h.lines h.go.0 (shows_of m h.go) h.stands) n client id
+      (λ s es known e ee unbroken g' shows'. clients.ended acts m (n, c.Uninterest client id) before h.lines h.go.0 (shows_of m h.go) h.stands client s es e ee n (msgs.EndInterest id)
+      (λ d k. record { ended = refl; asked = refl }) (unwanting s id) (refl, refl, refl) refl refl g' shows')
   kept n (c.Publish client content) before =
       for_publish m (clients.IsKept acts m (n, c.Publish client content) before h.lines h.go.0 (shows_of m h.go) h.stands) n client content
       (λ s es e ee unbroken g' shows'. clients.published acts m (n, c.Publish client content) before h.lines h.go.0 (shows_of m h.go) h.stands client s es e ee n (msgs.Push None content)

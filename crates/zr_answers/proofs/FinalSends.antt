@@ -22,7 +22,7 @@ use Rattle.zr_routing.specs.Tables.{link_at, link_to}
 use Rattle.zr_routing.specs.Queries.{final_for}
 use Rattle.zr_table.specs.Table.{sends}
 use Rattle.zr_network.specs.World.{RouterState}
-use Rattle.zr_network.specs.Acts.{sends_to, hearing}
+use Rattle.zr_network.specs.Acts.{sends_to, having_told}
 use Rattle.zr_network.specs.Sound.{AreUnique}
 use Rattle.zr_network.proofs.Links.{named_link, numbered_link}
 use Rattle.zr_network.proofs.Names.{names}
@@ -48,7 +48,7 @@ module _ (r : RouterState) (unique : AreUnique r.node.links) (of : AreOfLinks r.
   b = branch k.link id
 
   abbrev then : RouterState
-  then = hearing r (From k.link msg)
+  then = having_told r (From k.link msg)
 
   -- who gets it, and what is done for that one
   abbrev last : Option Asker

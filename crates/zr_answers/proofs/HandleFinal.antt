@@ -15,7 +15,7 @@ use Rattle.zr_pend.specs.declared.branch.Asker.{Asker}
 use Rattle.zr_pend.specs.Pending.{branch, final_to}
 use Rattle.zr_pend.specs.Readings.{back, final_if_none}
 use Rattle.zr_network.specs.World.{RouterState, WorldState}
-use Rattle.zr_network.specs.Acts.{hearing}
+use Rattle.zr_network.specs.Acts.{having_told}
 use Rattle.zr_network.specs.Sound.{AreUnique}
 use Rattle.zr_network.specs.Moments.{Numbered, Moment}
 use Rattle.zr_network.proofs.Names.{names}
@@ -119,8 +119,8 @@ module _ (before : List Numbered) (mark : ℕ) (start : Moment) (q : Asked) (b :
   to = placed r (final_to r.node.pending (branch h.link.link id))
 
   -- the rows of the router, by name
-  ended : (p : Place) → row_places (hearing r (From h.link.link (Final id extras))) p ≡ without (place from id) (row_places r p)
-  ended p = ended_places r unique (hearing r (From h.link.link (Final id extras))) refl tables.sound.askers from h.link h.linked id refl p
+  ended : (p : Place) → row_places (having_told r (From h.link.link (Final id extras))) p ≡ without (place from id) (row_places r p)
+  ended p = ended_places r unique (having_told r (From h.link.link (Final id extras))) refl tables.sound.askers from h.link h.linked id refl p
 
   module _ (hop' : Hops) (still' : IsStill w next.world) (p' : PlainHops w q next.world (lines_on next.world here.holds.lines) hop') where
     goes : AnswerGoes w q here.hop hop' a from id to (λ z. Free) hop_ended

@@ -13,8 +13,8 @@ use Rattle.zr_command.specs.declared.command.Act.TheVariants as c
 use Rattle.zr_command.specs.declared.report.ReportLine.TheVariants as line
 use Rattle.zr_routing.specs.Tables.{link_to}
 use Rattle.zr_table.specs.Table.{refuses}
-use Rattle.zr_network.specs.World.{Tagged, EndState, RouterState, WorldState, router_of, end_of, is_unbroken, is_empty, with_end, with_wire, with_ends}
-use Rattle.zr_network.specs.Acts.{hearing, handle_step}
+use Rattle.zr_network.specs.World.{Tagged, EndState, RouterState, WorldState, router_of, end_of, is_unbroken, is_empty}
+use Rattle.zr_network.specs.Acts.{having_told, handle_step}
 use Rattle.zr_network.specs.Moments.{Numbered, Moment, went}
 use Rattle.zr_network.proofs.Cases.{on_handle, number_found, for_handle}
 use Rattle.zr_settled.proofs.Orderly.{Orderly, has_wire}
@@ -23,10 +23,10 @@ use Rattle.zr_guarantee.specs.Sent.{told_to, requests_to}
 use Rattle.zr_asking.specs.Query.{IsTree, Stage, is_not_yet, Move, after, said_after, Agrees}
 use Rattle.zr_asking.specs.Courses.{way_of}
 use Rattle.zr_numbers.specs.Waiting.{Said, is_whole}
-use Rattle.zr_numbers.proofs.Waits.{router_heard, router_elsewhere}
 use Rattle.zr_answers.specs.Answers.{told_in_turn}
 use Rattle.zr_answers.specs.Trees.{has_router, tree_at}
 use Rattle.zr_answers.specs.Stands.{IsStill, is_open, asked_at, Marks, request_to, row_places, open_below, answers_told, answers_at, said_in, is_said_by, Stands}
+use Rattle.zr_answers.proofs.ToldRouters.{router_then, router_apart}
 use Rattle.zr_answers.proofs.StandOwn.{RowsShow}
 use Rattle.zr_answers.proofs.StandSteps.{Hops, ended_after, Has, stands_same, stands_moved, has_same}
 use Rattle.zr_answers.proofs.StandHere.{still_router, row_at, rows_named, rows_read}
@@ -89,16 +89,13 @@ module _ (w : WorldState) (phase : List Numbered) (q : Asked) (apart : has_route
   acts' = acts ++ (n, c.Handle x from) ∷ []
 
   abbrev then : RouterState
-  then = hearing h.router (From h.link.link msg)
-
-  abbrev half : WorldState
-  half = with_ends m.world (with_end m.world.ends (x, from) (with_wire h.state h.behind))
+  then = having_told h.router (From h.link.link msg)
 
   pub heard_router : router_of next.world.routers x ≡ Some then
-  heard_router = router_heard half x h.router h.found (From h.link.link msg) tag
+  heard_router = router_then m.world.routers x h.router h.found (From h.link.link msg)
 
   pub heard_other : (z : List ℕ) → is_named x z ≡ false → router_of next.world.routers z ≡ router_of m.world.routers z
-  heard_other z other = router_elsewhere half x h.router h.found (From h.link.link msg) tag z other
+  heard_other z other = router_apart m.world.routers x h.router h.found (From h.link.link msg) z other
 
   same_queries : queries acts' ≡ queries acts
   same_queries = queries_same acts (n, c.Handle x from) refl

@@ -15,12 +15,13 @@ use Rattle.zr_routing.specs.Tables.{link_to}
 use Rattle.zr_table.specs.State.{NodeState}
 use Rattle.zr_table.specs.Table.{sends, after}
 use Rattle.zr_network.specs.World.{Tagged, RouterState, EndState, End, Ends, WorldState, with_ends, router_of, client_of, end_of, with_end, with_wire}
-use Rattle.zr_network.specs.Acts.{sends_to, hearing}
+use Rattle.zr_network.specs.Acts.{sends_to, having_told, sending}
 use Rattle.zr_network.specs.Sound.{IsSound}
 use Rattle.zr_network.proofs.Ends.{read_with_end, keep_with_end}
 use Rattle.zr_network.proofs.Fits.{own_end, other_end}
 use Rattle.zr_network.proofs.Cases.{w_handle}
 use Rattle.zr_settled.proofs.Heard.{links_from}
+use Rattle.zr_settled.proofs.Told.{IsTold, telling_told}
 use Rattle.zr_settled.proofs.Quiet.{passes_there}
 use Rattle.zr_settled.proofs.Orderly.{Orderly}
 use Rattle.zr_numbers.specs.Waiting as waiting
@@ -29,18 +30,20 @@ use Rattle.zr_numbers.specs.Deeds.{handles_msg}
 use Rattle.zr_numbers.proofs.Leading.{link_is}
 use Rattle.zr_numbers.proofs.DeedsDone.{asks_are, answers_are}
 use Rattle.zr_numbers.proofs.SentOfQueries.{IsOfQueries, first_tells, from_silent}
-use Rattle.zr_numbers.proofs.Waits.{wire_of, queue_of, tagged, asks_among, answers_among, asks_append, answers_append, asks_tagged, answers_tagged, router_keeps, router_back, keeps_same, back_same, waits_elsewhere, waits_heard, router_heard, router_elsewhere}
+use Rattle.zr_numbers.proofs.Waits.{wire_of, queue_of, tagged, asks_among, answers_among, asks_append, answers_append, asks_tagged, answers_tagged, router_keeps, router_back, keeps_same, back_same, waits_elsewhere, waits_heard, router_heard}
 use Rattle.zr_numbers.proofs.Whole.{router_alone}
 use Rattle.zr_asking.specs.Link.{Ask, Answer}
+use Rattle.zr_answers.proofs.ToldLinks.{asks_told, answers_told}
+use Rattle.zr_answers.proofs.ToldRouters.{router_then, router_apart}
 
 -- ---- rows
 
 -- what a router keeps of its links is the same where its links and its rows are
 pub kept_same : (r r' : RouterState) → r'.node.links ≡ r.node.links → r'.node.pending ≡ r.node.pending → (y : List ℕ) (n : ℕ) → row_kept r' y n ≡ row_kept r y n
-kept_same r r' links pending y n = λ i. row_kept (record { node = record { links = links i; base = r.node.base; rows = r.node.rows; known = r.node.known; pending = pending i; spent = r.node.spent }; weight = r.weight }) y n
+kept_same r r' links pending y n = λ i. row_kept (record { node = record { links = links i; base = r.node.base; rows = r.node.rows; clients = r.node.clients; known = r.node.known; pending = pending i; spent = r.node.spent }; told = r.told; weight = r.weight }) y n
 
 pub awaited_same : (r r' : RouterState) → r'.node.links ≡ r.node.links → r'.node.pending ≡ r.node.pending → (y : List ℕ) (n : ℕ) → branch_back r' y n ≡ branch_back r y n
-awaited_same r r' links pending y n = λ i. branch_back (record { node = record { links = links i; base = r.node.base; rows = r.node.rows; known = r.node.known; pending = pending i; spent = r.node.spent }; weight = r.weight }) y n
+awaited_same r r' links pending y n = λ i. branch_back (record { node = record { links = links i; base = r.node.base; rows = r.node.rows; clients = r.node.clients; known = r.node.known; pending = pending i; spent = r.node.spent }; told = r.told; weight = r.weight }) y n
 
 -- ---- what a message has of queries
 
@@ -93,10 +96,17 @@ module _ (w : WorldState) (sound : IsSound w) (orderly : Orderly w) (x : List �
   event = From k.link msg
 
   abbrev then : RouterState
-  then = hearing r event
+  then = having_told r event
+
+  -- what the router sends waits, and its clients were told nothing yet
+  abbrev u : WorldState
+  u = sending half x r event tag
 
   abbrev v : WorldState
   v = w_handle w x from r s k.link msg tag xs
+
+  told : IsTold u v
+  told = telling_told u x r event tag (router_heard half x r found event tag)
 
   none : client_of w.clients x ≡ None
   none = router_alone w orderly x r found
@@ -108,10 +118,10 @@ module _ (w : WorldState) (sound : IsSound w) (orderly : Orderly w) (x : List �
   links_stay = links_from r.node k.link msg
 
   pub router_now : router_of v.routers x ≡ Some then
-  router_now = router_heard half x r found event tag
+  router_now = router_then w.routers x r found event
 
   pub router_other : (y : List ℕ) → is_named x y ≡ false → router_of v.routers y ≡ router_of w.routers y
-  router_other y other = router_elsewhere half x r found event tag y other
+  router_other y other = router_apart w.routers x r found event y other
 
   -- ---- what waits
 
@@ -129,26 +139,26 @@ module _ (w : WorldState) (sound : IsSound w) (orderly : Orderly w) (x : List �
       ∙ passes_there (λ z. z.up) w.ends (x, y) (sym (sound.links x y r found) ∙ ap (λ ls. is_some (link_to ls y)) (sym links_stay) ∙ e)
 
   -- from the router to a neighbour
-  pub waits_to : (y : List ℕ) → is_named x y ≡ false → waits v x y ≡ waits w x y ++ tagged tag (sends_to r.node event y)
+  pub waits_to : (y : List ℕ) → is_named x y ≡ false → waits u x y ≡ waits w x y ++ tagged tag (sends_to r.node event y)
   waits_to y other = waits_heard half x r found event tag y (there y) ∙ ap (λ z. z ++ tagged tag (sends_to r.node event y)) (λ i. wires y x other i ++ queues (x, y) i)
 
   -- from a neighbour to the router
-  pub waits_front : waits w from x ≡ record { msg = msg; tag = tag } ∷ waits v from x
+  pub waits_front : waits w from x ≡ record { msg = msg; tag = tag } ∷ waits u from x
   waits_front =
       ap (λ z. z ++ queue_at w.ends (from, x)) (ap wire_of at ∙ first)
       ∙ ap (λ z. record { msg = msg; tag = tag } ∷ z) (sym (waits_elsewhere half x r found event tag from x from_apart
       ∙ (λ i. (wire_own from ∙ ap (λ c. cond c xs (wire_at w.ends (x, from))) (same_refl from)) i ++ queues (from, x) i)))
 
-  pub waits_behind : (y : List ℕ) → is_named x y ≡ false → is_named from y ≡ false → waits v y x ≡ waits w y x
+  pub waits_behind : (y : List ℕ) → is_named x y ≡ false → is_named from y ≡ false → waits u y x ≡ waits w y x
   waits_behind y other apart = waits_elsewhere half x r found event tag y x other ∙ (λ i. (wire_own y ∙ ap (λ c. cond c xs (wire_at w.ends (x, y))) apart) i ++ queues (y, x) i)
 
-  waits_apart : (a b : List ℕ) → is_named x a ≡ false → is_named x b ≡ false → waits v a b ≡ waits w a b
+  waits_apart : (a b : List ℕ) → is_named x a ≡ false → is_named x b ≡ false → waits u a b ≡ waits w a b
   waits_apart a b ax bx = waits_elsewhere half x r found event tag a b ax ∙ (λ i. wires b a bx i ++ queues (a, b) i)
 
   -- ---- the links of others
 
   pub others_link : (a b : List ℕ) → is_named x a ≡ false → is_named x b ≡ false → link_of w a b ≡ link_of v a b
-  others_link a b ax bx = link_is (link_of w a b) (link_of v a b) (ap asks_among (sym (waits_apart a b ax bx))) (ap answers_among (sym (waits_apart b a bx ax)))
+  others_link a b ax bx = link_is (link_of w a b) (link_of v a b) (sym (asks_told u v told a b ∙ ap asks_among (waits_apart a b ax bx))) (sym (answers_told u v told a b ∙ ap answers_among (waits_apart b a bx ax)))
       (λ n. sym (keeps_same w v a b (router_other b bx) refl n)) (λ n. sym (back_same w v a b (router_other a ax) refl n))
 
   -- ---- the router's own, to a neighbour y and from it
@@ -161,23 +171,23 @@ module _ (w : WorldState) (sound : IsSound w) (orderly : Orderly w) (x : List �
     answers_sent = flat_map (λ m. answers_in tag m) (sends_to r.node event y)
 
     pub asks_to : asks v x y ≡ asks w x y ++ asks_sent
-    asks_to = ap asks_among (waits_to y other) ∙ asks_append (waits w x y) (tagged tag (sends_to r.node event y)) ∙ ap (λ z. asks w x y ++ z) (asks_tagged tag (sends_to r.node event y))
+    asks_to = asks_told u v told x y ∙ ap asks_among (waits_to y other) ∙ asks_append (waits w x y) (tagged tag (sends_to r.node event y)) ∙ ap (λ z. asks w x y ++ z) (asks_tagged tag (sends_to r.node event y))
 
     pub answers_to : answers v y x ≡ answers w y x ++ answers_sent
-    answers_to = ap answers_among (waits_to y other) ∙ answers_append (waits w x y) (tagged tag (sends_to r.node event y)) ∙ ap (λ z. answers w y x ++ z) (answers_tagged tag (sends_to r.node event y))
+    answers_to = answers_told u v told y x ∙ ap answers_among (waits_to y other) ∙ answers_append (waits w x y) (tagged tag (sends_to r.node event y)) ∙ ap (λ z. answers w y x ++ z) (answers_tagged tag (sends_to r.node event y))
 
     -- what came is gone from the front
     pub asks_from : is_named from y ≡ true → asks w y x ≡ asks_in tag msg ++ asks v y x
-    asks_from e = ap (λ z. asks w z x) (sym (same_is from y e)) ∙ ap asks_among waits_front ∙ ap (λ z. asks_in tag msg ++ asks v z x) (same_is from y e)
+    asks_from e = ap (λ z. asks w z x) (sym (same_is from y e)) ∙ ap asks_among waits_front ∙ ap (λ z. asks_in tag msg ++ z) (sym (asks_told u v told from x)) ∙ ap (λ z. asks_in tag msg ++ asks v z x) (same_is from y e)
 
     pub answers_from : is_named from y ≡ true → answers w x y ≡ answers_in tag msg ++ answers v x y
-    answers_from e = ap (λ z. answers w x z) (sym (same_is from y e)) ∙ ap answers_among waits_front ∙ ap (λ z. answers_in tag msg ++ answers v x z) (same_is from y e)
+    answers_from e = ap (λ z. answers w x z) (sym (same_is from y e)) ∙ ap answers_among waits_front ∙ ap (λ z. answers_in tag msg ++ z) (sym (answers_told u v told x from)) ∙ ap (λ z. answers_in tag msg ++ answers v x z) (same_is from y e)
 
     pub asks_stay : is_named from y ≡ false → asks v y x ≡ asks w y x
-    asks_stay e = ap asks_among (waits_behind y other e)
+    asks_stay e = asks_told u v told y x ∙ ap asks_among (waits_behind y other e)
 
     pub answers_stay : is_named from y ≡ false → answers v x y ≡ answers w x y
-    answers_stay e = ap answers_among (waits_behind y other e)
+    answers_stay e = answers_told u v told x y ∙ ap answers_among (waits_behind y other e)
 
     -- what the router keeps, and what its neighbour does
     pub keeps_now : (n : ℕ) → is_kept_by v y x n ≡ row_kept then y n

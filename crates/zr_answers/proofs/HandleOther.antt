@@ -8,7 +8,7 @@ use Rattle.zr_msg.specs.declared.msg.Msg.{Msg}
 use Rattle.zr_msg.specs.declared.msg.Msg.TheVariants.{Sub, Unsub, Able, Unable, Interest, EndInterest, ToldSub, ToldAble, ToldUnsub, ToldUnable, ToldEnd, Push, Request, Response, Final, State, Step, Snap}
 use Rattle.zr_msg.specs.declared.event.Event.TheVariants.{From}
 use Rattle.zr_command.specs.declared.command.Act.TheVariants as c
-use Rattle.zr_network.specs.Acts.{hearing, handle_step}
+use Rattle.zr_network.specs.Acts.{having_told, handle_step}
 use Rattle.zr_network.specs.Moments.{Numbered, Moment, went}
 use Rattle.zr_guarantee.specs.Queries.{Asked}
 use Rattle.zr_asking.specs.Query.{IsTree}
@@ -45,7 +45,7 @@ module _ (before : List Numbered) (mark : ℕ) (start : Moment) (q : Asked) (b :
       heard_same start.world phase q apart acts m here.hop s n x from msg tag h hop' still
       (foreign_marks (tree_at start.world q) is (request_to start.world q) q.line (λ y. refl) (is_whole start.world) (λ a y kid. kids_whole before mark start b.marked q b.client b.found b.up a y kid)
       s.num s.stage here.hop hop' s.marks (λ a y k there o. same a y k there) (λ a y k there o. ap (is_of q.line) (same a y k there) ∙ o))
-      (λ o. row_same h.router (hearing h.router (From h.link.link msg))
+      (λ o. row_same h.router (having_told h.router (From h.link.link msg))
       (links_stay m.world here.holds.go.0.sound here.holds.go.0.orderly x h.router h.found from h.state h.at msg tag h.behind h.first h.link h.linked)
       (quiet_is h.router.node h.link.link tag msg quiet).pending (asked_at (tree_at start.world q) s.num x))
     where

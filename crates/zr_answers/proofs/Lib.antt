@@ -16,6 +16,9 @@ pub mod Keeps
 pub mod Routers
 pub mod Standing
 pub mod EachSaid
+pub mod ToldLinks
+pub mod ToldRouters
+pub mod InterestLinks
 pub mod RouterActs
 pub mod ClientActs
 pub mod QueryActs

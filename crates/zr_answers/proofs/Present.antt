@@ -1,7 +1,7 @@
 -- Each router that an act brings is there from then on (`present`), and who says anything to requests is a client that is there (`sayers_are_clients`): so no
 -- router says anything.
 use Rattle.std.proofs.Common.{◌≡◌, ℕ, ◌⊎◌, inl, inr, Bool, true, false, cond, List, [], ◌∷◌, ◌++◌, Option, Some, None, refl, sym, ap, ◌∙◌, subst}
-use Rattle.std.specs.Prelude.{◌||◌, is_some, IfSome}
+use Rattle.std.specs.Prelude.{◌||◌, is_some, unwrap_or, IfSome}
 use Rattle.std.specs.List.{AllByRecursion, cons_option}
 use Rattle.std.proofs.lemmas.Bool.{false≢true, or_cases}
 use Rattle.std.proofs.lemmas.List.Elements.{filter_map-append}
@@ -13,20 +13,23 @@ use Rattle.zr_msg.specs.declared.decl.Kind.TheVariants as sort
 use Rattle.zr_msg.specs.Extras.{no_extras}
 use Rattle.zr_msg.specs.declared.msg.Msg.{Msg}
 use Rattle.zr_msg.specs.declared.msg.Msg.TheVariants as m
+use Rattle.zr_msg.specs.declared.event.Event.{Event}
 use Rattle.zr_msg.specs.declared.event.Event.TheVariants.{Down, From}
 use Rattle.zr_msg.specs.declared.peer.Role.TheVariants as role
 use Rattle.zr_command.specs.declared.command.Act.{Act}
 use Rattle.zr_command.specs.declared.command.Act.TheVariants as c
+use Rattle.zr_command.specs.Mode.{is_current, is_future}
 use Rattle.zr_table.specs.Table.{able_kind}
 use Rattle.zr_table.proofs.Inserted.{All-append, All-each}
 use Rattle.zr_network.specs.World.{RouterState, ClientState, router_of, client_of, with_router, new_router}
-use Rattle.zr_network.specs.Acts.{weighing, hearing, peer_of, up_event, declare_step, undeclare_step, outcome}
+use Rattle.zr_network.specs.Acts.{weighing, hearing, having_told, peer_of, up_event, declare_step, undeclare_step, outcome}
 use Rattle.zr_network.specs.Moments.{Numbered, Moment, beginning, went, onward, reached}
 use Rattle.zr_network.proofs.Keyed.{not_there}
 use Rattle.zr_network.proofs.Names.{value_new, read_kept}
-use Rattle.zr_network.proofs.Cases.{free_name, on_router, on_client, on_link, on_up, on_break, on_down, on_declare, on_undeclare, on_said, on_handle, on_take, on_mark, on_show, for_router, for_client, for_link, for_up, for_break, for_down, for_declare, for_undeclare, Says, publish_says, get_says, reply_says, end_says, for_handle, for_take, for_mark, for_show}
+use Rattle.zr_network.proofs.Cases.{free_name, on_router, on_client, on_link, on_up, on_break, on_down, on_declare, on_undeclare, on_said, on_weighed, on_handle, on_take, on_mark, on_show, for_router, for_client, for_link, for_up, for_break, for_down, for_declare, for_undeclare, Says, Weighs, interest_says, uninterest_says, publish_says, get_says, reply_says, end_says, for_handle, for_take, for_mark, for_show}
 use Rattle.zr_guarantee.specs.Names.{is_router, brings_router}
 use Rattle.zr_guarantee.specs.Queries.{Saying, saying_in, sayings}
+use Rattle.zr_declared.proofs.Hearing.{heard_router}
 use Rattle.zr_declared.specs.Declared.{home_by, home}
 use Rattle.zr_declared.proofs.Folds.{after_all, at_some}
 use Rattle.zr_declared.proofs.FlowActs.{GoesDeclared, goes_declared}
@@ -47,9 +50,14 @@ module _ (acts : List Numbered) (now : Moment) (h : Present acts now) where
       by (inl e) = e
       by (inr e) = absurd (false≢true (sym (ap (λ b. b || false) (none x)) ∙ e))
 
-  heard : (router : List ℕ) (r r' : RouterState) → router_of now.world.routers router ≡ Some r → (x : List ℕ) →
+  -- a router that is another one then
+  changed : (router : List ℕ) (r r' : RouterState) → router_of now.world.routers router ≡ Some r → (x : List ℕ) →
       is_some (router_of (with_router now.world.routers router r') x) ≡ is_some (router_of now.world.routers x)
-  heard router r r' er x = read_kept is_some now.world.routers router x r r' er refl
+  changed router r r' er x = read_kept is_some now.world.routers router x r r' er refl
+
+  heard : (router : List ℕ) (r : RouterState) (event : Event) → router_of now.world.routers router ≡ Some r → (x : List ℕ) →
+      is_some (router_of (with_router (with_router now.world.routers router (hearing r event)) router (having_told r event)) x) ≡ is_some (router_of now.world.routers x)
+  heard router r event er x = heard_router is_some now.world.routers router x r event ∙ changed router r (having_told r event) er x
 
   abbrev Then : ℕ → Act → Moment → Type 0
   Then n act next = Present (acts ++ (n, act) ∷ []) next
@@ -57,7 +65,7 @@ module _ (acts : List Numbered) (now : Moment) (h : Present acts now) where
   declares : (n : ℕ) (act : Act) → ((x : List ℕ) → brings_router x act ≡ false) → (client : List ℕ) (kind : Kind) (id : ℕ) (key : List ℕ) (msg : Msg) →
       IfSome (went now (declare_step now.world n client kind id key msg)) (Then n act)
   declares n act none client kind id key msg = for_declare now (Then n act) n client kind id key msg
-      (λ s es fresh e ee unbroken r er room. same n act (on_declare now n client kind id key msg s e r) (heard s.router r (weighing r key) er) none)
+      (λ s es fresh e ee unbroken r er room. same n act (on_declare now n client kind id key msg s e r) (changed s.router r (weighing r key) er) none)
 
   undeclares : (n : ℕ) (act : Act) → ((x : List ℕ) → brings_router x act ≡ false) → (client : List ℕ) (kind : Kind) (id : ℕ) (msg : Msg) →
       IfSome (went now (undeclare_step now.world n client kind id msg)) (Then n act)
@@ -65,6 +73,9 @@ module _ (acts : List Numbered) (now : Moment) (h : Present acts now) where
 
   says : (n : ℕ) (act : Act) → ((x : List ℕ) → brings_router x act ≡ false) → (client : List ℕ) (msg : Msg) → Says now (Then n act) n client msg
   says n act none client msg s es e ee unbroken clients same_clients = same n act (on_said now n client msg s e clients) (λ x. refl) none
+
+  weighs : (n : ℕ) (act : Act) → ((x : List ℕ) → brings_router x act ≡ false) → (client key : List ℕ) (msg : Msg) → Weighs now (Then n act) n client key msg
+  weighs n act none client key msg s es e ee unbroken r er room clients same_clients = same n act (on_weighed now n client key msg s e r clients) (changed s.router r (weighing r key) er) none
 
   comes : (n : ℕ) (id : List ℕ) → is_some (router_of now.world.routers id) ≡ false → Present (acts ++ (n, c.Router id) ∷ []) (on_router now id)
   comes n id free x k = ap is_some (value_new now.world.routers id x (new_router id) (not_there (router_of now.world.routers id) free))
@@ -82,24 +93,29 @@ module _ (acts : List Numbered) (now : Moment) (h : Present acts now) where
   unfolding outcome
   act_present n (c.Router id) = for_router now (Then n (c.Router id)) id (λ free room. comes n id (free_name now.world id free).0)
   act_present n (c.Client id router) = for_client now (Then n (c.Client id router)) n id router
-      (λ r er free room taken. same n (c.Client id router) (on_client now n id router r) (heard router r (hearing r (up_event r (record { id = id; role = role.Client }))) er) (λ x. refl))
+      (λ r er free room taken. same n (c.Client id router) (on_client now n id router r) (heard router r (up_event r (record { id = id; role = role.Client })) er) (λ x. refl))
   act_present n (c.Link one other) = for_link now (Then n (c.Link one other)) one other (λ apart r er q eq free room. same n (c.Link one other) (on_link now one other) (λ x. refl) (λ x. refl))
   act_present n (c.Up router name) = for_up now (Then n (c.Up router name)) n router name
-      (λ r er there s es unbroken down taken. same n (c.Up router name) (on_up now n router name r s) (heard router r (hearing r (up_event r (peer_of now.world name))) er) (λ x. refl))
+      (λ r er there s es unbroken down taken. same n (c.Up router name) (on_up now n router name r s) (heard router r (up_event r (peer_of now.world name)) er) (λ x. refl))
   act_present n (c.Break router name) = for_break now (Then n (c.Break router name)) router name (λ r er there s es unbroken. same n (c.Break router name) (on_break now router name) (λ x. refl) (λ x. refl))
   act_present n (c.Down router name) = for_down now (Then n (c.Down router name)) n router name
-      (λ r er there s es up cut l el taken. same n (c.Down router name) (on_down now n router name r l) (heard router r (hearing r (Down l)) er) (λ x. refl))
+      (λ r er there s es up cut l el taken. same n (c.Down router name) (on_down now n router name r l) (heard router r (Down l) er) (λ x. refl))
   act_present n (c.Sub client id key) = declares n (c.Sub client id key) (λ x. refl) client sort.Sub id key (m.Sub id key)
   act_present n (c.Unsub client id) = undeclares n (c.Unsub client id) (λ x. refl) client sort.Sub id (m.Unsub id)
   act_present n (c.Able client id key complete) = declares n (c.Able client id key complete) (λ x. refl) client (able_kind complete) id key (m.Able id key complete)
   act_present n (c.Unable client id) = undeclares n (c.Unable client id) (λ x. refl) client sort.Able id (m.Unable id)
+  act_present n (c.Interest client id mode kinds key aggregate) =
+      let act : Act = c.Interest client id mode kinds key aggregate in
+      let msg : Msg = m.Interest id (is_current mode) (is_future mode) kinds key aggregate in
+      interest_says now (Then n act) n client id mode kinds key aggregate (says n act (λ x. refl) client msg) (weighs n act (λ x. refl) client (unwrap_or key []) msg)
+  act_present n (c.Uninterest client id) = uninterest_says now (Then n (c.Uninterest client id)) n client id (says n (c.Uninterest client id) (λ x. refl) client (m.EndInterest id))
   act_present n (c.Publish client content) = publish_says now (Then n (c.Publish client content)) n client content (says n (c.Publish client content) (λ x. refl) client (m.Push None content))
   act_present n (c.Get client number target content) =
       get_says now (Then n (c.Get client number target content)) n client number target content (says n (c.Get client number target content) (λ x. refl) client (m.Request None number target content))
   act_present n (c.Reply client number content) = reply_says now (Then n (c.Reply client number content)) n client number content (says n (c.Reply client number content) (λ x. refl) client (m.Response number content))
   act_present n (c.End client number) = end_says now (Then n (c.End client number)) n client number (says n (c.End client number) (λ x. refl) client (m.Final number no_extras))
   act_present n (c.Handle router name) = for_handle now (Then n (c.Handle router name)) router name
-      (λ r er there s es up msg tag xs front l el taken. same n (c.Handle router name) (on_handle now router name r s l msg tag xs) (heard router r (hearing r (From l msg)) er) (λ x. refl))
+      (λ r er there s es up msg tag xs front l el taken. same n (c.Handle router name) (on_handle now router name r s l msg tag xs) (heard router r (From l msg) er) (λ x. refl))
   act_present n (c.Take router to) = for_take now (Then n (c.Take router to)) router to
       (λ r er there s es up unbroken msg tag xs front. same n (c.Take router to) (on_take now router to s msg tag xs) (λ x. refl) (λ x. refl))
   act_present n c.Mark = for_mark now (Then n c.Mark) n (λ settled joined. same n c.Mark (on_mark now n) (λ x. refl) (λ x. refl))
@@ -138,6 +154,8 @@ home_stays acts x name h = ap is_some (fold-append (λ (so_far : Option (List �
     by (c.Unsub client id) = h
     by (c.Able client id key complete) = h
     by (c.Unable client id) = h
+    by (c.Interest client id mode kinds key aggregate) = h
+    by (c.Uninterest client id) = h
     by (c.Publish client content) = h
     by (c.Get client number target content) = h
     by (c.Reply client number content) = h
@@ -181,6 +199,9 @@ module _ (acts : List Numbered) (now : Moment) (g : GoesDeclared acts now) (h : 
   act_says n (c.Unsub client id) = none n (c.Unsub client id) refl (went now (outcome now.world n (c.Unsub client id)))
   act_says n (c.Able client id key complete) = none n (c.Able client id key complete) refl (went now (outcome now.world n (c.Able client id key complete)))
   act_says n (c.Unable client id) = none n (c.Unable client id) refl (went now (outcome now.world n (c.Unable client id)))
+  act_says n (c.Interest client id mode kinds key aggregate) =
+      none n (c.Interest client id mode kinds key aggregate) refl (went now (outcome now.world n (c.Interest client id mode kinds key aggregate)))
+  act_says n (c.Uninterest client id) = none n (c.Uninterest client id) refl (went now (outcome now.world n (c.Uninterest client id)))
   act_says n (c.Publish client content) = none n (c.Publish client content) refl (went now (outcome now.world n (c.Publish client content)))
   act_says n (c.Get client number target content) = none n (c.Get client number target content) refl (went now (outcome now.world n (c.Get client number target content)))
   act_says n (c.Handle router name) = none n (c.Handle router name) refl (went now (outcome now.world n (c.Handle router name)))

@@ -1,15 +1,19 @@
 -- Acts that do nothing to a query, with the hops that links show behind them: a sample is published, a mark, tables are shown, a message is taken to a router (`publish_stands` and so on).
 use Rattle.std.proofs.Common.{◌≡◌, ℕ, true, false, List, [], ◌∷◌, ◌++◌, Option, Some, None, is_some, refl, ap, ◌∙◌}
-use Rattle.std.specs.Prelude.{IfSome}
+use Rattle.std.specs.Prelude.{Bool, unwrap_or, IfSome}
 use Rattle.std.proofs.lemmas.Bool.{or_right}
 use Rattle.zr_msg.specs.declared.content.Parts.{Parts}
+use Rattle.zr_msg.specs.declared.msg.Kinds.{Kinds}
+use Rattle.zr_msg.specs.declared.msg.Msg.{Msg}
 use Rattle.zr_msg.specs.declared.msg.Msg.TheVariants as msgs
 use Rattle.zr_command.specs.declared.command.Act.TheVariants as c
-use Rattle.zr_network.specs.World.{router_of, client_of, is_unbroken}
-use Rattle.zr_network.specs.Acts.{publish_step, take_step, mark_step, show_step}
+use Rattle.zr_command.specs.declared.command.Mode.{Mode}
+use Rattle.zr_command.specs.Mode.{is_current, is_future}
+use Rattle.zr_network.specs.World.{with_router, with_client, router_of, client_of, is_unbroken}
+use Rattle.zr_network.specs.Acts.{weighing, wanting, unwanting, interest_step, uninterest_step, publish_step, take_step, mark_step, show_step}
 use Rattle.zr_network.specs.Moments.{Numbered, Moment, went}
 use Rattle.zr_network.proofs.Keyed.{there}
-use Rattle.zr_network.proofs.Cases.{on_take, on_mark, on_show, for_publish, for_take, for_mark, for_show}
+use Rattle.zr_network.proofs.Cases.{on_said, on_weighed, on_take, on_mark, on_show, for_interest, for_uninterest, for_publish, for_take, for_mark, for_show}
 use Rattle.zr_settled.proofs.Moving.{unbroken_at}
 use Rattle.zr_guarantee.specs.Queries.{Asked}
 use Rattle.zr_numbers.specs.Waiting.{link_of, is_whole}
@@ -25,6 +29,7 @@ use Rattle.zr_answers.proofs.StandStep.{PlainHops, Begins, Here, Then}
 use Rattle.zr_answers.proofs.StandSameHops.{stands_hop}
 use Rattle.zr_answers.proofs.ActHops.{Any, still_hop}
 use Rattle.zr_answers.proofs.StandHere.{still_whole, still_router, kids, whole_now, asker_apart}
+use Rattle.zr_answers.proofs.InterestLinks.{AreQuiet, none_quiet, interests_quiet, weighs_quiet, link_stays}
 use Rattle.zr_answers.proofs.SayHops.{same_client, says_same}
 use Rattle.zr_answers.proofs.QuietActs as quiet
 
@@ -56,6 +61,27 @@ module _ (before : List Numbered) (mark : ℕ) (start : Moment) (q : Asked) (b :
       says_same m.world here.holds.go.0 client s es e ee n (msgs.Push None content) s refl (quiet_deeds client s s n (msgs.Push None content) refl refl refl refl) m.world.clients (same_client m.world.clients client s es) go.0
       (or_right (is_unbroken m.world.ends (client, s.router)) (is_unbroken m.world.ends (s.router, client)) (ap unbroken_at ee ∙ unbroken))
       start.world q here.holds.lines here.hop hop' here.plain p' x y k (whole_now before mark start q b phase acts m here x y there) (λ ex ey. refl) (λ ex ey. refl)))
+
+  pub interest_stands : (n : ℕ) (client : List ℕ) (id : ℕ) (mode : Mode) (kinds : Kinds) (key : Option (List ℕ)) (aggregate : Bool) →
+      IfSome (went m (interest_step m.world n client id mode kinds key aggregate)) (Then start.world phase q acts m here (n, c.Interest client id mode kinds key aggregate))
+  interest_stands n client id mode kinds key aggregate =
+      let msg : Msg = msgs.Interest id (is_current mode) (is_future mode) kinds key aggregate in
+      with_hops (n, c.Interest client id mode kinds key aggregate) (went m (interest_step m.world n client id mode kinds key aggregate))
+      (quiet.interest_stands start.world phase q apart acts m here.hop here.stands n client id mode kinds key aggregate)
+      (for_interest m HopsStay n client id mode kinds key aggregate
+      (λ s es fresh e ee unbroken once. links_stay (on_said m n client msg s e m.world.clients) (λ x y whole. link_stays m.world client s e ee n msg refl refl m.world.routers m.world.clients (none_quiet m.world) x y))
+      (λ s es fresh e ee unbroken lasts r er room.
+      let wants : AreQuiet m.world m.world.routers (with_client m.world.clients client (wanting s id)) = interests_quiet m.world client s (wanting s id) es (λ a b k. refl) (λ a b k. refl) in
+      links_stay (on_weighed m n client (unwrap_or key []) msg s e r (with_client m.world.clients client (wanting s id)))
+      (λ x y whole. link_stays m.world client s e ee n msg refl refl (with_router m.world.routers s.router (weighing r (unwrap_or key []))) (with_client m.world.clients client (wanting s id))
+      (weighs_quiet m.world (with_client m.world.clients client (wanting s id)) wants s.router r er (unwrap_or key [])) x y)))
+
+  pub uninterest_stands : (n : ℕ) (client : List ℕ) (id : ℕ) → IfSome (went m (uninterest_step m.world n client id)) (Then start.world phase q acts m here (n, c.Uninterest client id))
+  uninterest_stands n client id =
+      with_hops (n, c.Uninterest client id) (went m (uninterest_step m.world n client id)) (quiet.uninterest_stands start.world phase q apart acts m here.hop here.stands n client id)
+      (for_uninterest m HopsStay n client id (λ s es known e ee unbroken. links_stay (on_said m n client (msgs.EndInterest id) s e (with_client m.world.clients client (unwanting s id)))
+      (λ x y whole. link_stays m.world client s e ee n (msgs.EndInterest id) refl refl m.world.routers (with_client m.world.clients client (unwanting s id))
+      (interests_quiet m.world client s (unwanting s id) es (λ a b k. refl) (λ a b k. refl)) x y)))
 
   pub mark_stands : (n : ℕ) → IfSome (went m (mark_step m.world n)) (Then start.world phase q acts m here (n, c.Mark))
   mark_stands n =

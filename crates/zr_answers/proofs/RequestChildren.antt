@@ -14,9 +14,9 @@ use Rattle.zr_msg.specs.declared.peer.LinkPeer.{LinkPeer}
 use Rattle.zr_msg.specs.declared.peer.Role.{Role}
 use Rattle.zr_msg.specs.declared.peer.Role.TheVariants.{Client, Router}
 use Rattle.zr_routing.specs.Tables.{TableState, is_router, link_at, link_to}
-use Rattle.zr_routing.specs.Samples.{tree_of}
+use Rattle.zr_routing.specs.Samples.{tree_by, tree_of}
 use Rattle.zr_routing.specs.Queries.{is_asked, links_along, asked_links}
-use Rattle.zr_table.specs.State.{tables}
+use Rattle.zr_table.specs.State.{NodeState, tables}
 use Rattle.zr_network.specs.World.{RouterState, ClientState, WorldState, router_of, client_of, is_up}
 use Rattle.zr_network.specs.Moments.{Numbered, Moment}
 use Rattle.zr_network.specs.Sound.{AreUnique, IsSound}
@@ -29,7 +29,7 @@ use Rattle.zr_laws.proofs.Routed.{AreReady}
 use Rattle.zr_laws.proofs.Start.{Marked, ready}
 use Rattle.zr_numbers.proofs.RowsBegun.{is_over}
 use Rattle.zr_answers.specs.Trees.{has_router, home_of, parent_of, named_at, neighbours_of, children_at, tree_at}
-use Rattle.zr_answers.specs.Stands.{IsStill, request_to}
+use Rattle.zr_answers.specs.Stands.{lasting, IsStill, request_to}
 use Rattle.zr_answers.proofs.TreeLinks.{neighbours_are, neighbour_link, link_neighbour}
 use Rattle.zr_answers.proofs.Trees.{client_apart, differ, asks_home, is_tree}
 use Rattle.zr_answers.proofs.TreeWays.{comes}
@@ -81,6 +81,31 @@ module _ (t : TableState) (unique : AreUnique t.links) (from : ℕ) (target : Ta
       test : LinkPeer → Bool
       test l = is_asked t from root target key l l.peer.role
 
+-- ---- live interests
+
+-- no request goes by them
+module _ (node : NodeState) where
+  lasting_tree : (o : Option LinkPeer) (named : Option (List ℕ)) → tree_of (lasting node) o named ≡ tree_of (tables node) o named
+  lasting_tree None named = refl
+  lasting_tree (Some l) named = by l.peer.role named
+    where
+      by : (role : Role) (named : Option (List ℕ)) → tree_by (lasting node) l role named ≡ tree_by (tables node) l role named
+      by Client named = refl
+      by Router None = refl
+      by Router (Some tree) = refl
+
+  lasting_links : (from : ℕ) (named : Option (List ℕ)) (target : Target) (key : List ℕ) → asked_links (lasting node) from named target key ≡ asked_links (tables node) from named target key
+  lasting_links from named target key =
+      ap (λ o. links_along (lasting node) from o target key) (lasting_tree (link_at node.links from) named) ∙ along (tree_of (tables node) (link_at node.links from) named)
+    where
+      over : (tree : List ℕ) (l : LinkPeer) (role : Role) → is_asked (lasting node) from tree target key l role ≡ is_asked (tables node) from tree target key l role
+      over tree l Client = refl
+      over tree l Router = refl
+
+      along : (o : Option (List ℕ)) → links_along (lasting node) from o target key ≡ links_along (tables node) from o target key
+      along None = refl
+      along (Some tree) = λ i. map (λ l. l.link) (filter (λ l. over tree l l.peer.role i) node.links)
+
 -- ---- the query's
 
 module _ (before : List Numbered) (mark : ℕ) (now : Moment) (marked : Marked before mark now) (q : Asked) (s : ClientState) (e : client_of now.world.clients q.client ≡ Some s)
@@ -102,11 +127,11 @@ module _ (before : List Numbered) (mark : ℕ) (now : Moment) (marked : Marked b
     pub not_client : is_named q.client x ≡ false
     not_client = differ before now.world (ready before mark now marked) q s e q.client x (client_apart before now.world (ready before mark now marked) q s e) routes
 
-    was : (r0 : RouterState) × (router_of now.world.routers x ≡ Some r0) × (tables r0.node ≡ tables r.node)
+    was : (r0 : RouterState) × (router_of now.world.routers x ≡ Some r0) × (lasting r0.node ≡ lasting r.node)
     was =
         let z = there (router_of now.world.routers x) routes in
-        let both : Some (tables z.0.node) ≡ Some (tables r.node) = ap (option_map (λ (y : RouterState). tables y.node)) (sym z.1) ∙ sym (still.tables x) ∙ ap (option_map (λ (y : RouterState). tables y.node)) found in
-        (z.0, z.1, some_same (tables z.0.node) (tables r.node) both)
+        let both : Some (lasting z.0.node) ≡ Some (lasting r.node) = ap (option_map (λ (y : RouterState). lasting y.node)) (sym z.1) ∙ sym (still.tables x) ∙ ap (option_map (λ (y : RouterState). lasting y.node)) found in
+        (z.0, z.1, some_same (lasting z.0.node) (lasting r.node) both)
 
     -- the request comes from the parent, and asks for what the query does: it goes on in the tree of the client's router
     module _ (from : List ℕ) (parent : parent_of now.world q.client x ≡ from) (k : LinkPeer) (linked : link_to r.node.links from ≡ Some k) (tree : Option (List ℕ)) (tree_is : tree ≡ named_at now.world q.client x)
@@ -121,11 +146,19 @@ module _ (before : List Numbered) (mark : ℕ) (now : Moment) (marked : Marked b
       abbrev by_tables : TableState → List (List ℕ)
       by_tables t = neighbours_of t.links (option_map_or (λ l. asked_links t l.link.0 (named_at now.world q.client x) q.target q.content.key) (link_to t.links (parent_of now.world q.client x)) [])
 
+      lasting_kids : (node : NodeState) → by_tables (lasting node) ≡ by_tables (tables node)
+      lasting_kids node = ap (neighbours_of node.links) (by (link_to node.links (parent_of now.world q.client x)))
+        where
+          by : (o : Option LinkPeer) → option_map_or (λ l. asked_links (lasting node) l.link.0 (named_at now.world q.client x) q.target q.content.key) o []
+              ≡ option_map_or (λ l. asked_links (tables node) l.link.0 (named_at now.world q.client x) q.target q.content.key) o []
+          by None = refl
+          by (Some l) = lasting_links node l.link.0 (named_at now.world q.client x) q.target q.content.key
+
       pub kids_are : children_at now.world q x ≡ neighbours_of r.node.links over
       kids_are =
           ap (λ b. cond b (home_of now.world q.client ∷ []) (option_map_or (λ (z : RouterState). by_tables (tables z.node)) (router_of now.world.routers x) [])) not_client
           ∙ ap (λ o. option_map_or (λ (z : RouterState). by_tables (tables z.node)) o []) was.1
-          ∙ ap by_tables was.2
+          ∙ sym (lasting_kids was.0.node) ∙ ap by_tables was.2 ∙ lasting_kids r.node
           ∙ ap (λ z. neighbours_of r.node.links (option_map_or (λ (l : LinkPeer). asked_links (tables r.node) l.link.0 (named_at now.world q.client x) q.target q.content.key) (link_to r.node.links z) [])) parent
           ∙ ap (λ o. neighbours_of r.node.links (option_map_or (λ (l : LinkPeer). asked_links (tables r.node) l.link.0 (named_at now.world q.client x) q.target q.content.key) o [])) linked
           ∙ (λ i. neighbours_of r.node.links (asked_links (tables r.node) k.link.0 (sym tree_is i) (sym target_is i) (sym content_is i).key))
@@ -144,7 +177,9 @@ module _ (before : List Numbered) (mark : ℕ) (now : Moment) (marked : Marked b
           let both : Some k ≡ Some c.source = sym linked ∙ source in
           let one : k ≡ c.source = cc in
           (λ i. tree_of (tables r.node) (link_at r.node.links (one i).link.0) (tree_is i))
-          ∙ ap (λ (t : TableState). tree_of t (link_at t.links c.source.link.0) (named_at now.world q.client x)) (sym was.2) ∙ c.tree
+          ∙ sym (lasting_tree r.node (link_at r.node.links c.source.link.0) (named_at now.world q.client x))
+          ∙ ap (λ (t : TableState). tree_of t (link_at t.links c.source.link.0) (named_at now.world q.client x)) (sym was.2)
+          ∙ lasting_tree was.0.node (link_at was.0.node.links c.source.link.0) (named_at now.world q.client x) ∙ c.tree
 
       -- what is asked of a child
       pub asked_is : (line : ℕ) → line ≡ q.line → (y : List ℕ) (l : LinkPeer) → link_to r.node.links y ≡ Some l → is_child (tree_at now.world q) x y ≡ true →

@@ -12,7 +12,7 @@ use Rattle.zr_msg.specs.declared.event.Event.TheVariants.{From}
 use Rattle.zr_command.specs.declared.command.Act.TheVariants as c
 use Rattle.zr_routing.specs.Queries.{asker}
 use Rattle.zr_network.specs.World.{RouterState, WorldState}
-use Rattle.zr_network.specs.Acts.{hearing}
+use Rattle.zr_network.specs.Acts.{having_told}
 use Rattle.zr_network.specs.Moments.{Numbered, Moment}
 use Rattle.zr_network.specs.Sound.{AreUnique}
 use Rattle.zr_network.proofs.Names.{same_name}
@@ -45,7 +45,7 @@ module _ (before : List Numbered) (mark : ℕ) (start : Moment) (q : Asked) (b :
   next = after_heard m x from (Request tree id target content) tag h
 
   abbrev then : RouterState
-  then = hearing h.router (From h.link.link (Request tree id target content))
+  then = having_told h.router (From h.link.link (Request tree id target content))
 
   abbrev t : Tree (List ℕ)
   t = tree_at start.world q

@@ -25,7 +25,7 @@ use Rattle.zr_routing.specs.Queries.{asker, final_at_once}
 use Rattle.zr_table.specs.State.{tables}
 use Rattle.zr_table.specs.Table.{sends}
 use Rattle.zr_network.specs.World.{Tagged, RouterState, EndState, WorldState, router_of, end_of}
-use Rattle.zr_network.specs.Acts.{sends_to, hearing}
+use Rattle.zr_network.specs.Acts.{sends_to, having_told}
 use Rattle.zr_network.specs.Sound.{AreUnique, IsSound}
 use Rattle.zr_network.proofs.Links.{numbered_link, named_link}
 use Rattle.zr_network.proofs.Cases.{w_handle}
@@ -58,7 +58,7 @@ module _ (w : WorldState) (sound : IsSound w) (orderly : Orderly w) (x : List â„
   event = From k.link (Request tree id target content)
 
   abbrev then : RouterState
-  then = hearing r (From k.link (Request tree id target content))
+  then = having_told r (From k.link (Request tree id target content))
 
   abbrev v : WorldState
   v = w_handle w x from r s k.link (Request tree id target content) tag xs

@@ -19,8 +19,8 @@ use Rattle.zr_routing.specs.Tables.{link_to}
 use Rattle.zr_table.specs.State.{NodeState}
 use Rattle.zr_table.specs.Event.{MayCome}
 use Rattle.zr_table.specs.Table.{refuses}
-use Rattle.zr_network.specs.World.{Tagged, RouterState, EndState, End, WorldState, with_ends, new_router, router_of, client_of, end_of, is_taken, is_unbroken, is_empty, with_end, with_wire}
-use Rattle.zr_network.specs.Acts.{hearing, peer_of, up_event, parent_line, source_line, shown_base, shown, router_step, link_step, up_step, break_step, down_step, handle_step, mark_step, show_step}
+use Rattle.zr_network.specs.World.{Tagged, RouterState, EndState, End, WorldState, with_ends, new_router, router_of, client_of, end_of, is_taken, is_unbroken, is_empty, with_end, with_wire, lifted}
+use Rattle.zr_network.specs.Acts.{having_told, sending, telling, peer_of, up_event, parent_line, source_line, shown_base, shown, router_step, link_step, up_step, break_step, down_step, handle_step, mark_step, show_step}
 use Rattle.zr_network.specs.Moments.{Numbered, Moment, went}
 use Rattle.zr_network.proofs.Keyed.{not_there}
 use Rattle.zr_network.proofs.Names.{value_new, read_kept}
@@ -30,7 +30,10 @@ use Rattle.zr_network.proofs.Sound.{up_may_come, down_may_come, from_may_come}
 use Rattle.zr_settled.proofs.Goes.{Goes}
 use Rattle.zr_settled.proofs.Moving.{unbroken_at}
 use Rattle.zr_settled.proofs.Orderly.{has_wire}
-use Rattle.zr_settled.proofs.Worlds.{unbroken_heard}
+use Rattle.zr_settled.proofs.Worlds.{router_heard}
+use Rattle.zr_settled.proofs.Told.{IsTold, sound_back, telling_told, lowered_told}
+use Rattle.zr_settled.proofs.Told as told
+use Rattle.zr_declared.proofs.Hearing.{keep_heard, heard_router}
 use Rattle.zr_numbers.specs.Rows.{AreOfLinks}
 use Rattle.zr_numbers.specs.Waiting.{queue_at, waits, is_whole}
 use Rattle.zr_numbers.specs.Deeds.{Deed, EventIsDone}
@@ -38,6 +41,7 @@ use Rattle.zr_numbers.proofs.Waits.{wire_of}
 use Rattle.zr_numbers.proofs.Done.{events_are_done}
 use Rattle.zr_numbers.proofs.Whole.{LinksGo, links_stay, whole_same}
 use Rattle.zr_numbers.proofs.ActHears.{handle_links, up_links, down_links}
+use Rattle.zr_answers.proofs.ToldLinks.{links_then}
 use Rattle.zr_numbers.proofs.ActLinks.{w_router, router_links, link_links, break_links}
 use Rattle.zr_guarantee.specs.Sent.{Told, told_in, told_to}
 use Rattle.zr_answers.proofs.Grown.{Earlier}
@@ -137,12 +141,16 @@ module _ (acts : List Numbered) (m : Moment) (x : Numbered) (before : Earlier ac
     pub up_kept : Quiet → (n : ℕ) (router name : List ℕ) → IfSome (went m (up_step w n router name)) IsKept
     up_kept quiet n router name = for_up m IsKept n router name (λ r er there s es unbroken down taken g' shows'.
         let v : WorldState = w_up w n router name r s in
+        let u : WorldState = told.w_up w n router name r s in
+        let event : Event = up_event r (peer_of w name) in
+        let tells : IsTold u v = telling_told u router r event n (router_heard (with_ends w (with_end w.ends (router, name) (lifted s))) router r er event n) in
         let may : MayCome r.node (up_event r (peer_of w name)) = up_may_come w g.sound router name r er s es down in
         unchanged quiet [] v g' shows'
+        (links_then u v tells (FineAsk (acts ++ x ∷ []) w v lines) (FineSay (acts ++ x ∷ []) (m.report ++ []) v lines) w
         (up_links w g.sound g.orderly router r er name s es n may (done router r er (up_event r (peer_of w name)) may taken)
         (FineAsk (acts ++ x ∷ []) w v lines) (FineSay (acts ++ x ∷ []) (m.report ++ []) v lines)
-        (quiet_fits (acts ++ x ∷ []) (m.report ++ []) w v lines router r.node (up_event r (peer_of w name)) n refl) g'.sound)
-        (λ z. read_kept is_some w.routers router z r (hearing r (up_event r (peer_of w name))) er refl) (λ z. refl) (λ z. refl))
+        (quiet_fits (acts ++ x ∷ []) (m.report ++ []) w v lines router r.node (up_event r (peer_of w name)) n refl) (sound_back u v tells g'.sound)))
+        (λ z. heard_router is_some w.routers router z r (up_event r (peer_of w name)) ∙ read_kept is_some w.routers router z r (having_told r (up_event r (peer_of w name))) er refl) (λ z. refl) (λ z. refl))
 
     pub down_kept : Quiet → (n : ℕ) (router name : List ℕ) → IfSome (went m (down_step w n router name)) IsKept
     down_kept quiet n router name = for_down m IsKept n router name (λ r er there s es up cut l el taken.
@@ -156,10 +164,14 @@ module _ (acts : List Numbered) (m : Moment) (x : Numbered) (before : Earlier ac
             Stands (acts ++ x ∷ []) (record { world = w_down w n router name r k.link; report = m.report ++ [] }) (lines_on (w_down w n router name r k.link) lines)
         downed r er s es cut k linked may taken g' shows' =
             let v : WorldState = w_down w n router name r k.link in
+            let u : WorldState = told.w_down w n router name r k.link in
+            let heard : WorldState = sending w router r (Down k.link) n in
+            let tells : IsTold u v = lowered_told heard (telling heard router r (Down k.link) n) (router, name) (telling_told heard router r (Down k.link) n (router_heard w router r er (Down k.link) n)) in
             unchanged quiet [] v g' shows'
+            (links_then u v tells (FineAsk (acts ++ x ∷ []) w v lines) (FineSay (acts ++ x ∷ []) (m.report ++ []) v lines) w
             (down_links w g.sound g.orderly router r er name s es cut n k linked (done router r er (Down k.link) may taken)
-            (FineAsk (acts ++ x ∷ []) w v lines) (FineSay (acts ++ x ∷ []) (m.report ++ []) v lines) (quiet_fits (acts ++ x ∷ []) (m.report ++ []) w v lines router r.node (Down k.link) n refl) g'.sound)
-            (λ z. read_kept is_some w.routers router z r (hearing r (Down k.link)) er refl) (λ z. refl) (λ z. refl)
+            (FineAsk (acts ++ x ∷ []) w v lines) (FineSay (acts ++ x ∷ []) (m.report ++ []) v lines) (quiet_fits (acts ++ x ∷ []) (m.report ++ []) w v lines router r.node (Down k.link) n refl) (sound_back u v tells g'.sound)))
+            (λ z. heard_router is_some w.routers router z r (Down k.link) ∙ read_kept is_some w.routers router z r (having_told r (Down k.link)) er refl) (λ z. refl) (λ z. refl)
 
     pub handle_kept : Quiet → (router from : List ℕ) → IfSome (went m (handle_step w router from)) IsKept
     handle_kept quiet router from = for_handle m IsKept router from (λ r er there s es up msg tag xs first l el taken.
@@ -175,14 +187,21 @@ module _ (acts : List Numbered) (m : Moment) (x : Numbered) (before : Earlier ac
             (lines_on (w_handle w router from r s k.link msg tag xs) lines)
         handled r er s es msg tag xs first k linked may taken g' shows' =
             unchanged quiet rl v g' shows'
+            (links_then u v tells (FineAsk (acts ++ x ∷ []) w v lines) (FineSay (acts ++ x ∷ []) (m.report ++ rl) v lines) w
             (handle_links w g.sound g.orderly router r er from s es msg tag xs first k linked (done router r er (From k.link msg) may taken)
             (FineAsk (acts ++ x ∷ []) w v lines) (FineSay (acts ++ x ∷ []) (m.report ++ rl) v lines)
             (handle_fits acts m.report (acts ++ x ∷ []) (m.report ++ rl) (grows acts m x before lines g shows h rl v g' shows') w v lines g.sound g.orderly shows h.held router r er from k linked
-            msg tag (xs ++ queue_at w.ends (from, router)) front unbroken (λ y whole. whole_same w v same y router whole)) g'.sound)
-            (λ z. read_kept is_some w.routers router z r (hearing r (From k.link msg)) er refl) (λ z. refl) (λ z. refl)
+            msg tag (xs ++ queue_at w.ends (from, router)) front unbroken (λ y whole. whole_same w v same y router whole)) (sound_back u v tells g'.sound)))
+            (λ z. heard_router is_some w.routers router z r (From k.link msg) ∙ read_kept is_some w.routers router z r (having_told r (From k.link msg)) er refl) (λ z. refl) (λ z. refl)
           where
             v : WorldState
             v = w_handle w router from r s k.link msg tag xs
+
+            u : WorldState
+            u = told.w_handle w router from r s k.link msg tag xs
+
+            tells : IsTold u v
+            tells = telling_told u router r (From k.link msg) tag (router_heard (with_ends w (with_end w.ends (router, from) (with_wire s xs))) router r er (From k.link msg) tag)
 
             rl : List ReportLine
             rl = line.Handled router from msg tag ∷ []
@@ -198,5 +217,5 @@ module _ (acts : List Numbered) (m : Moment) (x : Numbered) (before : Earlier ac
                 by false e = absurd (false≢true (sym (g.orderly.broken_links (router, from) e) ∙ ap has_wire es ∙ ap (λ z. not (is_empty z)) first))
 
             same : (q : End) → is_unbroken v.ends q ≡ is_unbroken w.ends q
-            same q = unbroken_heard (with_ends w (with_end w.ends (router, from) (with_wire s xs))) router r er (From k.link msg) tag q
+            same q = keep_heard (with_end w.ends (router, from) (with_wire s xs)) router r (From k.link msg) tag unbroken_at q (λ z ws. refl)
                 ∙ keep_with_end w.ends (router, from) (with_wire s xs) unbroken_at q s es refl

@@ -17,7 +17,7 @@ use Rattle.zr_answers.proofs.Grown.{Earlier}
 use Rattle.zr_answers.proofs.StandStep.{Begins, Here, Then}
 use Rattle.zr_answers.proofs.AskStands.{get_stands}
 use Rattle.zr_answers.proofs.SayStands.{reply_stands, end_stands}
-use Rattle.zr_answers.proofs.QuietStands.{publish_stands, mark_stands, show_stands, take_router_stands}
+use Rattle.zr_answers.proofs.QuietStands.{interest_stands, uninterest_stands, publish_stands, mark_stands, show_stands, take_router_stands}
 use Rattle.zr_answers.proofs.StandHere.{still_router}
 use Rattle.zr_answers.proofs.HandleAny.{handled_stands}
 use Rattle.zr_answers.proofs.SentStands.{take_stands}
@@ -53,6 +53,8 @@ module _ (before : List Numbered) (mark : ℕ) (start : Moment) (q : Asked) (b :
   stands_at n (c.Unsub client id) earlier st fits = absurd (false≢true st)
   stands_at n (c.Able client id key complete) earlier st fits = absurd (false≢true st)
   stands_at n (c.Unable client id) earlier st fits = absurd (false≢true st)
+  stands_at n (c.Interest client id mode kinds key aggregate) earlier st fits = interest_stands before mark start q b phase acts m here n client id mode kinds key aggregate
+  stands_at n (c.Uninterest client id) earlier st fits = uninterest_stands before mark start q b phase acts m here n client id
   stands_at n (c.Publish client content) earlier st fits = publish_stands before mark start q b phase acts m here n client content
   stands_at n (c.Get client number target content) earlier st fits = get_stands before mark start q b phase acts m here n client number target content earlier
       (fits.own (record { line = n; client = client; number = number; target = target; content = content }) refl)

@@ -45,7 +45,7 @@ unasked_row a (r ∷ rows) e = by (is_asked_by a r) e (unasked_row a rows)
 
 -- a router with the same links and rows has the same by name
 pub row_same : (r r' : RouterState) → r'.node.links ≡ r.node.links → r'.node.pending ≡ r.node.pending → (from : Place) → row_places r' from ≡ row_places r from
-row_same r r' links pending from = λ i. row_places (record { node = record { links = links i; base = r.node.base; rows = r.node.rows; known = r.node.known; pending = pending i; spent = r.node.spent }; weight = r.weight }) from
+row_same r r' links pending from = λ i. row_places (record { node = record { links = links i; base = r.node.base; rows = r.node.rows; clients = r.node.clients; known = r.node.known; pending = pending i; spent = r.node.spent }; told = r.told; weight = r.weight }) from
 
 -- the number that a request gets on the link to a neighbour
 abbrev pub number_for : RouterState → List ℕ → ℕ

@@ -2,7 +2,6 @@
 use Rattle.std.proofs.Common.{◌≡◌, ℕ, true, false, List, [], Option, Some, None, is_some, refl, sym, ap, ◌∙◌}
 use Rattle.std.specs.Prelude.{◌||◌}
 use Rattle.std.specs.Option.{option_map, option_map_or}
-use Rattle.zr_table.specs.State.{tables}
 use Rattle.zr_network.specs.World.{RouterState, ClientState, WorldState, router_of, client_of}
 use Rattle.zr_network.specs.Moments.{Numbered, Moment}
 use Rattle.zr_network.proofs.Keyed.{there, there_changed}
@@ -13,7 +12,7 @@ use Rattle.zr_numbers.specs.Waiting.{Place, Said, is_whole}
 use Rattle.zr_numbers.proofs.Whole.{client_alone}
 use Rattle.zr_answers.specs.Answers.{AnswersHold}
 use Rattle.zr_answers.specs.Trees.{has_router, home_of, tree_at}
-use Rattle.zr_answers.specs.Stands.{IsStill, is_open, asked_at, row_places, open_below}
+use Rattle.zr_answers.specs.Stands.{lasting, IsStill, is_open, asked_at, row_places, open_below}
 use Rattle.zr_answers.proofs.Every as every
 use Rattle.zr_answers.proofs.StandBegins.{kids_whole}
 use Rattle.zr_answers.proofs.StandOwn.{RowsShow}
@@ -28,7 +27,7 @@ module _ (w v : WorldState) (s : IsStill w v) where
 
   pub still_router : (x : List ℕ) → has_router v x ≡ has_router w x
   still_router x =
-      sym (there_changed (λ (r : RouterState). tables r.node) (router_of v.routers x)) ∙ ap is_some (s.tables x) ∙ there_changed (λ (r : RouterState). tables r.node) (router_of w.routers x)
+      sym (there_changed (λ (r : RouterState). lasting r.node) (router_of v.routers x)) ∙ ap is_some (s.tables x) ∙ there_changed (λ (r : RouterState). lasting r.node) (router_of w.routers x)
 
   -- a client stays with its router
   pub still_home : (c : List ℕ) (k : ClientState) → client_of v.clients c ≡ Some k → home_of w c ≡ k.router

@@ -1,6 +1,6 @@
--- What acts of a phase leave as it is: the tables of routers, whose client each client is, and which links are up and unbroken (`is_still`).
+-- What acts of a phase leave as it is: the tables of routers but for live interests, whose client each client is, and which links are up and unbroken (`is_still`).
 use Rattle.std.proofs.Common.{◌≡◌, ℕ, Bool, true, false, List, [], ◌∷◌, Option, Some, None, refl, sym, ap, ◌∙◌}
-use Rattle.std.specs.Prelude.{IfSome}
+use Rattle.std.specs.Prelude.{unwrap_or, IfSome}
 use Rattle.std.specs.List.{AllByRecursion, fold}
 use Rattle.std.specs.Option.{option_map, option_map_or}
 use Rattle.std.proofs.lemmas.Bool.{false≢true, and_parts}
@@ -10,17 +10,18 @@ use Rattle.zr_msg.specs.declared.event.Event.TheVariants.{From}
 use Rattle.zr_msg.specs.Extras.{no_extras}
 use Rattle.zr_command.specs.declared.command.Act.{Act}
 use Rattle.zr_command.specs.declared.command.Act.TheVariants as c
-use Rattle.zr_table.specs.State.{tables}
+use Rattle.zr_command.specs.Mode.{is_current, is_future}
 use Rattle.zr_network.specs.World.{EndState, End, Ends, RouterState, ClientState, router_of, client_of, end_of, sent, with_end, with_wire, with_queue}
 use Rattle.zr_network.specs.Acts.{outcome}
 use Rattle.zr_network.specs.Moments.{Numbered, Moment, went, onward}
 use Rattle.zr_network.proofs.Clients.{idle_client}
-use Rattle.zr_network.proofs.Ends.{keep_with_end, keep_changed, keep_all_queued}
-use Rattle.zr_network.proofs.Cases.{Says, publish_says, get_says, reply_says, end_says, for_handle, for_take, for_mark, for_show}
+use Rattle.zr_network.proofs.Ends.{keep_with_end, keep_changed}
+use Rattle.zr_network.proofs.Cases.{Says, Weighs, interest_says, uninterest_says, publish_says, get_says, reply_says, end_says, for_handle, for_take, for_mark, for_show}
 use Rattle.zr_guarantee.specs.Phase.{stays, is_phase}
 use Rattle.zr_declared.proofs.Folds.{after_all}
+use Rattle.zr_declared.proofs.Hearing.{keep_heard}
 use Rattle.zr_laws.proofs.Pair.{Pair, idle_router, Flows}
-use Rattle.zr_answers.specs.Stands.{IsStill}
+use Rattle.zr_answers.specs.Stands.{lasting, IsStill}
 
 -- ---- ends
 
@@ -39,6 +40,9 @@ module _ (es : Ends) where
     says : (n : ℕ) (client : List ℕ) (msg : Msg) → Says now Still n client msg
     says n client msg s found e at unbroken clients same q = keep_with_end now.world.ends (s.router, client) (sent e msg n) (option_map shape) q e at refl ∙ h q
 
+    weighs : (n : ℕ) (client key : List ℕ) (msg : Msg) → Weighs now Still n client key msg
+    weighs n client key msg s found e at unbroken r there room clients same q = keep_with_end now.world.ends (s.router, client) (sent e msg n) (option_map shape) q e at refl ∙ h q
+
     pub act_ends : (n : ℕ) (act : Act) → stays act ≡ true → IfSome (went now (outcome now.world n act)) Still
     unfolding outcome
     act_ends n (c.Router id) st = absurd (false≢true st)
@@ -51,12 +55,16 @@ module _ (es : Ends) where
     act_ends n (c.Unsub client id) st = absurd (false≢true st)
     act_ends n (c.Able client id key complete) st = absurd (false≢true st)
     act_ends n (c.Unable client id) st = absurd (false≢true st)
+    act_ends n (c.Interest client id mode kinds key aggregate) st =
+        let msg : Msg = m.Interest id (is_current mode) (is_future mode) kinds key aggregate in
+        interest_says now Still n client id mode kinds key aggregate (says n client msg) (weighs n client (unwrap_or key []) msg)
+    act_ends n (c.Uninterest client id) st = uninterest_says now Still n client id (says n client (m.EndInterest id))
     act_ends n (c.Publish client content) st = publish_says now Still n client content (says n client (m.Push None content))
     act_ends n (c.Get client number target content) st = get_says now Still n client number target content (says n client (m.Request None number target content))
     act_ends n (c.Reply client number content) st = reply_says now Still n client number content (says n client (m.Response number content))
     act_ends n (c.End client number) st = end_says now Still n client number (says n client (m.Final number no_extras))
     act_ends n (c.Handle router name) st = for_handle now Still router name (λ r er there s at up msg tag xs front l el taken q.
-        keep_all_queued (with_end now.world.ends (router, name) (with_wire s xs)) router r.node (From l msg) tag (option_map shape) q (λ z. refl)
+        keep_heard (with_end now.world.ends (router, name) (with_wire s xs)) router r (From l msg) tag (option_map shape) q (λ z ws. refl)
         ∙ keep_with_end now.world.ends (router, name) (with_wire s xs) (option_map shape) q s at refl ∙ h q)
     act_ends n (c.Take router to) st = for_take now Still router to (λ r er there s at up unbroken msg tag xs front q.
         keep_changed (with_end now.world.ends (router, to) (with_queue s xs)) (to, router) (λ z. sent z msg tag) (option_map shape) q (λ z. refl)
@@ -79,13 +87,13 @@ module _ (p : Pair) (done : List Numbered) (now : Moment) (flows : Flows p done 
 
   pub is_still : IsStill p.world now.world
   is_still = record {
-    tables = λ x. by_tables (router_of now.world.routers x) ∙ ap (option_map (λ (r : RouterState). tables r.node)) (flows.routers x) ∙ sym (by_tables (router_of p.world.routers x));
+    tables = λ x. by_tables (router_of now.world.routers x) ∙ ap (option_map (λ (r : RouterState). lasting r.node)) (flows.routers x) ∙ sym (by_tables (router_of p.world.routers x));
     homes = λ q. by_home (client_of now.world.clients q) ∙ ap (option_map (λ (s : ClientState). s.router)) (flows.clients.each q) ∙ sym (by_home (client_of p.world.clients q));
     ups = λ e. by_up (end_of now.world.ends e) ∙ reads_ends (λ o. option_map_or (λ (z : Bool × Bool). z.0) o false) e ∙ sym (by_up (end_of p.world.ends e));
     unbroken = λ e. by_unbroken (end_of now.world.ends e) ∙ reads_ends (λ o. option_map_or (λ (z : Bool × Bool). z.1) o false) e ∙ sym (by_unbroken (end_of p.world.ends e));
   }
     where
-      by_tables : (o : Option RouterState) → option_map (λ r. tables r.node) o ≡ option_map (λ r. tables r.node) (option_map idle_router o)
+      by_tables : (o : Option RouterState) → option_map (λ r. lasting r.node) o ≡ option_map (λ r. lasting r.node) (option_map idle_router o)
       by_tables None = refl
       by_tables (Some r) = refl
 

@@ -1,7 +1,7 @@
 -- What is known of answers at every moment: which query each number of each link belongs to, and that all that clients said and were sent agrees
 -- with it. From this alone, without any tree: no reply goes to another asker, no more finals than queries, and what a line answers stays what it is.
 use Rattle.std.specs.Prelude.{◌≡◌, ℕ, ◌+◌, ◌==◌, true, if◌then◌else◌, cond, List, [], ◌∷◌, length, filter, Some, None, Option, IfSome}
-use Rattle.std.specs.List.{AllByRecursion, list_any, count_by, slice_get}
+use Rattle.std.specs.List.{AllByRecursion, list_any, slice_get}
 use Rattle.std.specs.Option.{option_map}
 use Rattle.zr_command.specs.declared.report.ReportLine.{ReportLine}
 use Rattle.zr_network.specs.World.{ClientState, client_of}

@@ -6,8 +6,8 @@ use Rattle.std.specs.Option.{option_map, option_map_or}
 use Rattle.zr_id.specs.Zid.{is_named}
 use Rattle.zr_pend.specs.declared.branch.Branch.{Branch}
 use Rattle.zr_pend.specs.Readings.{row_of}
-use Rattle.zr_routing.specs.Tables.{link_at, link_to}
-use Rattle.zr_table.specs.State.{tables}
+use Rattle.zr_routing.specs.Tables.{TableState, link_at, link_to}
+use Rattle.zr_table.specs.State.{NodeState}
 use Rattle.zr_network.specs.World.{End, RouterState, ClientState, WorldState, router_of, client_of, is_up, is_unbroken}
 use Rattle.zr_network.specs.Acts.{has_number}
 use Rattle.zr_network.specs.Moments.{Numbered, Moment}
@@ -24,9 +24,13 @@ use Rattle.zr_answers.specs.Trees.{has_router, named_at, passes_at, tree_at}
 
 -- ---- what stays
 
--- what routers go by, whose client each client is, and which links are up and unbroken
+-- the tables of a router but for the live interests of its clients, by which no request goes
+abbrev pub lasting : NodeState → TableState
+lasting node = record { links = node.links; base = node.base; rows = node.rows; clients = []; known = node.known }
+
+-- what requests go by at routers, whose client each client is, and which links are up and unbroken
 pub record IsStill (w now : WorldState) : Type 0 where
-  pub tables : (x : List ℕ) → option_map (λ r. tables r.node) (router_of now.routers x) ≡ option_map (λ r. tables r.node) (router_of w.routers x)
+  pub tables : (x : List ℕ) → option_map (λ r. lasting r.node) (router_of now.routers x) ≡ option_map (λ r. lasting r.node) (router_of w.routers x)
   pub homes : (c : List ℕ) → option_map (λ s. s.router) (client_of now.clients c) ≡ option_map (λ s. s.router) (client_of w.clients c)
   pub ups : (e : End) → is_up now.ends e ≡ is_up w.ends e
   pub unbroken : (e : End) → is_unbroken now.ends e ≡ is_unbroken w.ends e

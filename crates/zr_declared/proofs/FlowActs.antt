@@ -1,6 +1,6 @@
 -- Each act that is not refused keeps what clients have declared and their routers will have (`Flows`), so it holds at each moment to which acts lead.
 use Rattle.std.proofs.Common.{◌≡◌, ℕ, Bool, true, false, cond, List, [], ◌∷◌, ◌++◌, Option, Some, None, is_some, refl, sym, ap, subst}
-use Rattle.std.specs.Prelude.{◌&&◌, IfSome}
+use Rattle.std.specs.Prelude.{◌&&◌, unwrap_or, IfSome}
 use Rattle.std.proofs.lemmas.Bool.{true≢false}
 use Rattle.zr_id.specs.Zid.{is_named}
 use Rattle.zr_msg.specs.Extras.{no_extras}
@@ -11,13 +11,14 @@ use Rattle.zr_msg.specs.declared.decl.Kind.TheVariants as k
 use Rattle.zr_msg.specs.declared.msg.Msg.TheVariants as m
 use Rattle.zr_command.specs.declared.command.Act.{Act}
 use Rattle.zr_command.specs.declared.command.Act.TheVariants as a
+use Rattle.zr_command.specs.Mode.{is_current, is_future}
 use Rattle.zr_table.specs.Table.{able_kind}
-use Rattle.zr_network.specs.World.{ClientState, WorldState, with_router, with_ends, with_end, with_queue, client_of, changed, sent}
+use Rattle.zr_network.specs.World.{ClientState, WorldState, with_routers, with_router, with_ends, with_end, with_queue, client_of, changed, sent}
 use Rattle.zr_network.specs.Acts.{outcome, weighing, declaring, undeclaring, received}
 use Rattle.zr_network.specs.Moments.{Numbered, Moment, beginning, went, reached}
 use Rattle.zr_network.specs.Sound.{IsSound}
 use Rattle.zr_network.proofs.Clients.{same_received}
-use Rattle.zr_network.proofs.Cases.{w_down, w_handle, w_sent, number_found, for_router, for_client, for_link, for_up, for_break, for_down, for_declare, for_undeclare, Says, publish_says, get_says, reply_says, end_says, for_handle, for_take, for_mark, for_show}
+use Rattle.zr_network.proofs.Cases.{w_down, w_handle, w_sent, number_found, for_router, for_client, for_link, for_up, for_break, for_down, for_declare, for_undeclare, Says, Weighs, interest_says, uninterest_says, publish_says, get_says, reply_says, end_says, for_handle, for_take, for_mark, for_show}
 use Rattle.zr_settled.proofs.Spreading.{Name}
 use Rattle.zr_settled.proofs.ClientRows.{ClientsHold, linked_stay, taken_stay, broken_stay, none_stay}
 use Rattle.zr_settled.proofs.Goes.{Goes, goes_first, act_goes}
@@ -28,7 +29,7 @@ use Rattle.zr_declared.proofs.Elements.{all_of}
 use Rattle.zr_declared.proofs.Homes.{Homed, homes_keep}
 use Rattle.zr_declared.proofs.Ordered.{RowsAscend, none_ascend, ascend_keep}
 use Rattle.zr_declared.proofs.Spoken.{Spoken, spoken_keep}
-use Rattle.zr_declared.proofs.Flows.{Flows, same_flows, by_ends, says_kept, router_flows, up_flows, down_flows, handled_flows, client_flows, published_flows, said_flows}
+use Rattle.zr_declared.proofs.Flows.{Flows, same_flows, by_ends, says_kept, router_flows, up_flows, down_flows, handled_flows, client_flows, published_flows, weighed_flows, said_flows}
 
 -- one test after the other
 both : {X : Type 0} (s t : Bool) (x y : X) → cond (s && t) x y ≡ cond s (cond t x y) y
@@ -52,6 +53,13 @@ module _ (acts : List Numbered) (now : Moment) (sound : IsSound now.world) (h : 
       ((kind : Kind) (i : ℕ) (so_far : Option Decl) → told kind i so_far msg ≡ so_far) → Says now (FlowsThen n act) n client msg
   says n act client msg quiet silent s found e at_end unbroken clients same =
       same_flows (acts ++ (n, act) ∷ []) (w_sent w n client s e msg) clients same (published_flows acts w sound h f n act client s found e at_end msg quiet silent)
+
+  -- and it may weigh on its router
+  weighs : (n : ℕ) (act : Act) (client : Name) (key : List ℕ) (msg : Msg) → ((c : Name) (kind : Kind) (i : ℕ) (so_far : Option Decl) → stands_by c kind i so_far act ≡ so_far) →
+      ((kind : Kind) (i : ℕ) (so_far : Option Decl) → told kind i so_far msg ≡ so_far) → Weighs now (FlowsThen n act) n client key msg
+  weighs n act client key msg quiet silent s found e at_end unbroken r there room clients same =
+      same_flows (acts ++ (n, act) ∷ []) (with_routers (w_sent w n client s e msg) (with_router w.routers s.router (weighing r key))) clients same
+      (weighed_flows acts w sound h f n act client s found e at_end msg quiet silent (with_router w.routers s.router (weighing r key)) (λ x c kind i. says_kept w s.router r (weighing r key) there c kind i refl x))
 
   pub flows_keep : (n : ℕ) (act : Act) → IfSome (went now (outcome w n act)) (FlowsThen n act)
   unfolding outcome
@@ -82,6 +90,13 @@ module _ (acts : List Numbered) (now : Moment) (sound : IsSound now.world) (h : 
   flows_keep n (a.Unable client id) = for_undeclare now (FlowsThen n (a.Unable client id)) n client k.Able id (m.Unable id) (λ s found known e at_end unbroken.
       said_flows acts w sound h f n (a.Unable client id) client s found e at_end (m.Unable id) (undeclaring s k.Able id) refl w.routers (λ x c kind i. refl)
       (λ c kind i so_far. both (is_named c client) (is_same_id kind i k.Able id) None so_far))
+  flows_keep n (a.Interest client id mode kinds key aggregate) =
+      let act : Act = a.Interest client id mode kinds key aggregate in
+      let msg : Msg = m.Interest id (is_current mode) (is_future mode) kinds key aggregate in
+      interest_says now (FlowsThen n act) n client id mode kinds key aggregate
+      (says n act client msg (λ c kind i so_far. refl) (λ kind i so_far. refl)) (weighs n act client (unwrap_or key []) msg (λ c kind i so_far. refl) (λ kind i so_far. refl))
+  flows_keep n (a.Uninterest client id) = uninterest_says now (FlowsThen n (a.Uninterest client id)) n client id
+      (says n (a.Uninterest client id) client (m.EndInterest id) (λ c kind i so_far. refl) (λ kind i so_far. refl))
   flows_keep n (a.Publish client content) = publish_says now (FlowsThen n (a.Publish client content)) n client content
       (says n (a.Publish client content) client (m.Push None content) (λ c kind i so_far. refl) (λ kind i so_far. refl))
   flows_keep n (a.Get client number target content) = get_says now (FlowsThen n (a.Get client number target content)) n client number target content

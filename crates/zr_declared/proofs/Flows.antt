@@ -23,12 +23,12 @@ use Rattle.zr_table.specs.State.{new_link}
 use Rattle.zr_table.specs.Table.{rows_left, after}
 use Rattle.zr_local.specs.Rows.{left}
 use Rattle.zr_network.specs.World.{Tagged, RouterState, EndState, ClientState, End, Ends, Routers, Clients, WorldState, with_routers, with_clients, with_ends, new_router, new_client, with_router, with_client, router_of, client_of, end_of, is_end, put_end, with_end, with_wire, lifted, lowered, new_end, is_up, is_unbroken, is_taken, sent}
-use Rattle.zr_network.specs.Acts.{hearing, peer_of, all_queued}
+use Rattle.zr_network.specs.Acts.{having_told, peer_of}
 use Rattle.zr_network.specs.Moments.{Numbered}
 use Rattle.zr_network.specs.Sound.{IsSound}
 use Rattle.zr_network.proofs.Keyed.{not_there}
 use Rattle.zr_network.proofs.Names.{names, value_new, read_kept, read_after}
-use Rattle.zr_network.proofs.Ends.{ends, read_with_end, keep_with_end, read_put_end, keep_changed, keep_all_queued}
+use Rattle.zr_network.proofs.Ends.{ends, read_with_end, keep_with_end, read_put_end, keep_changed}
 use Rattle.zr_network.proofs.Links.{free_is_free, link_to_with, link_to_apart}
 use Rattle.zr_network.proofs.Clients.{SameClients, there_same, client_was}
 use Rattle.zr_network.proofs.Cases.{w_client, w_up, w_down, w_handle, w_sent, free_name}
@@ -42,6 +42,7 @@ use Rattle.zr_settled.proofs.Heard.{links_from}
 use Rattle.zr_settled.proofs.Ends.{other_end}
 use Rattle.zr_settled.proofs.ClientRows.{ClientsHold, EndsStay}
 use Rattle.zr_declared.specs.Declared.{stands_by, stands}
+use Rattle.zr_declared.proofs.Hearing.{all_heard, keep_heard, heard_router}
 use Rattle.zr_declared.proofs.Told.{told, all_told, told_more, decl_at, heard_here, heard_there, left_there, none_at}
 
 -- ---- the invariant
@@ -151,23 +152,24 @@ module _ (acts : List Numbered) (w : WorldState) (sound : IsSound w) (h : Client
         no_link = not_there (link_to r.node.links name) (sound.links a name r found ∙ ap up_at at_end ∙ down)
 
         up_whole : (q : End) → is_unbroken up_world.ends q ≡ is_unbroken w.ends q
-        up_whole q = keep_all_queued (with_end w.ends (a, name) (lifted s)) a r.node (Up up_link.link up_link.peer) n unbroken_at q (λ e. refl) ∙ keep_with_end w.ends (a, name) (lifted s) unbroken_at q s at_end refl
+        up_whole q = keep_heard (with_end w.ends (a, name) (lifted s)) a r (Up up_link.link up_link.peer) n unbroken_at q (λ e ws. refl) ∙ keep_with_end w.ends (a, name) (lifted s) unbroken_at q s at_end refl
 
         up_wire : (q : End) → wire_at (end_of up_world.ends q) ≡ wire_at (end_of w.ends q)
-        up_wire q = keep_all_queued (with_end w.ends (a, name) (lifted s)) a r.node (Up up_link.link up_link.peer) n wire_at q (λ e. refl) ∙ keep_with_end w.ends (a, name) (lifted s) wire_at q s at_end refl
+        up_wire q = keep_heard (with_end w.ends (a, name) (lifted s)) a r (Up up_link.link up_link.peer) n wire_at q (λ e ws. refl) ∙ keep_with_end w.ends (a, name) (lifted s) wire_at q s at_end refl
 
         up_other : (c : Name) (t : ClientState) → client_of w.clients c ≡ Some t → is_unbroken w.ends (t.router, c) ≡ true → is_named name c ≡ false
         up_other c t client unbroken = false_from_ne_true (is_named name c) (λ same.
             true≢false (sym (h.ups t.router c t client unbroken) ∙ ap (λ (q : End). is_up w.ends q) (home_of name c t client same (ap is_some at_end)) ∙ ap up_at at_end ∙ down))
 
-        up_says : (c : Name) → is_named name c ≡ false → (kind : Kind) (id : ℕ) → says (Some (hearing r (Up up_link.link up_link.peer))) c kind id ≡ says (Some r) c kind id
+        up_says : (c : Name) → is_named name c ≡ false → (kind : Kind) (id : ℕ) → says (Some (having_told r (Up up_link.link up_link.peer))) c kind id ≡ says (Some r) c kind id
         up_says c other kind id = ap (λ o. option_map_or (λ (l : LinkPeer). decl_at r.node.rows l.link.0 kind id) o None)
             (link_to_with r.node.links up_link (sound.unique a r found) (free_is_free r.node.links) no_link c ∙ ap (λ b. cond b (Some up_link) (link_to r.node.links c)) other)
 
         pub up_flows : Flows (acts ++ (n, act) ∷ []) (w_up w n a name r s)
         up_flows = no_news n act quiet up_world (λ c. refl) (λ c t client unbroken. sym (up_whole (t.router, c)) ∙ unbroken)
             (λ c t client unbroken kind id. flow_same w up_world t.router c kind id
-            (says_kept w a r (hearing r (Up up_link.link up_link.peer)) found c kind id (up_says c (up_other c t client (sym (up_whole (t.router, c)) ∙ unbroken)) kind id) t.router)
+            (heard_router (λ o. says o c kind id) w.routers a t.router r (Up up_link.link up_link.peer)
+            ∙ says_kept w a r (having_told r (Up up_link.link up_link.peer)) found c kind id (up_says c (up_other c t client (sym (up_whole (t.router, c)) ∙ unbroken)) kind id) t.router)
             (up_wire (t.router, c)))
 
       -- an end goes down, of a link that is broken
@@ -176,19 +178,19 @@ module _ (acts : List Numbered) (w : WorldState) (sound : IsSound w) (h : Client
         down_world = w_down w n a name r j.link
 
         abbrev half : Ends
-        half = all_queued w.ends a r.node (Down j.link) n
+        half = all_heard w.ends a r (Down j.link) n
 
         down_whole : (q : End) → is_unbroken down_world.ends q ≡ is_unbroken w.ends q
-        down_whole q = keep_changed half (a, name) lowered unbroken_at q (λ e. refl) ∙ keep_all_queued w.ends a r.node (Down j.link) n unbroken_at q (λ e. refl)
+        down_whole q = keep_changed half (a, name) lowered unbroken_at q (λ e. refl) ∙ keep_heard w.ends a r (Down j.link) n unbroken_at q (λ e ws. refl)
 
         down_wire : (q : End) → wire_at (end_of down_world.ends q) ≡ wire_at (end_of w.ends q)
-        down_wire q = keep_changed half (a, name) lowered wire_at q (λ e. refl) ∙ keep_all_queued w.ends a r.node (Down j.link) n wire_at q (λ e. refl)
+        down_wire q = keep_changed half (a, name) lowered wire_at q (λ e. refl) ∙ keep_heard w.ends a r (Down j.link) n wire_at q (λ e ws. refl)
 
         down_other : (c : Name) (t : ClientState) → client_of w.clients c ≡ Some t → is_unbroken w.ends (t.router, c) ≡ true → is_named name c ≡ false
         down_other c t client unbroken = false_from_ne_true (is_named name c) (λ same.
             true≢false (sym unbroken ∙ ap (λ (q : End). is_unbroken w.ends q) (home_of name c t client same (ap is_some at_end)) ∙ ap unbroken_at at_end ∙ cut))
 
-        down_says : (c : Name) → is_named name c ≡ false → (kind : Kind) (id : ℕ) → says (Some (hearing r (Down j.link))) c kind id ≡ says (Some r) c kind id
+        down_says : (c : Name) → is_named name c ≡ false → (kind : Kind) (id : ℕ) → says (Some (having_told r (Down j.link))) c kind id ≡ says (Some r) c kind id
         down_says c other kind id =
             ap (λ o. option_map_or (λ (l : LinkPeer). decl_at (rows_left r.node j.link.0) l.link.0 kind id) o None)
             (link_to_apart r.node.links (sound.unique a r found) j.link.0 name j linked refl c ∙ ap (λ b. cond b None (link_to r.node.links c)) other)
@@ -205,7 +207,8 @@ module _ (acts : List Numbered) (w : WorldState) (sound : IsSound w) (h : Client
         pub down_flows : Flows (acts ++ (n, act) ∷ []) (w_down w n a name r j.link)
         down_flows = no_news n act quiet down_world (λ c. refl) (λ c t client unbroken. sym (down_whole (t.router, c)) ∙ unbroken)
             (λ c t client unbroken kind id. flow_same w down_world t.router c kind id
-            (says_kept w a r (hearing r (Down j.link)) found c kind id (down_says c (down_other c t client (sym (down_whole (t.router, c)) ∙ unbroken)) kind id) t.router)
+            (heard_router (λ o. says o c kind id) w.routers a t.router r (Down j.link)
+            ∙ says_kept w a r (having_told r (Down j.link)) found c kind id (down_says c (down_other c t client (sym (down_whole (t.router, c)) ∙ unbroken)) kind id) t.router)
             (down_wire (t.router, c)))
 
       -- a message is handled
@@ -217,15 +220,15 @@ module _ (acts : List Numbered) (w : WorldState) (sound : IsSound w) (h : Client
         es = with_end w.ends (a, name) (with_wire s xs)
 
         whole_then : (q : End) → is_unbroken then.ends q ≡ is_unbroken w.ends q
-        whole_then q = keep_all_queued es a r.node (From k.link msg) tag unbroken_at q (λ e. refl) ∙ keep_with_end w.ends (a, name) (with_wire s xs) unbroken_at q s at_end refl
+        whole_then q = keep_heard es a r (From k.link msg) tag unbroken_at q (λ e ws. refl) ∙ keep_with_end w.ends (a, name) (with_wire s xs) unbroken_at q s at_end refl
 
         wire_then : (q : End) → wire_at (end_of then.ends q) ≡ cond (is_end (a, name) q) xs (wire_at (end_of w.ends q))
-        wire_then q = keep_all_queued es a r.node (From k.link msg) tag wire_at q (λ e. refl) ∙ read_with_end w.ends (a, name) (with_wire s xs) wire_at q (ap is_some at_end)
+        wire_then q = keep_heard es a r (From k.link msg) tag wire_at q (λ e ws. refl) ∙ read_with_end w.ends (a, name) (with_wire s xs) wire_at q (ap is_some at_end)
 
-        says_then : (c : Name) (kind : Kind) (id : ℕ) → says (Some (hearing r (From k.link msg))) c kind id ≡ option_map_or (λ l. decl_at (after r.node (From k.link msg)).rows l.link.0 kind id) (link_to r.node.links c) None
+        says_then : (c : Name) (kind : Kind) (id : ℕ) → says (Some (having_told r (From k.link msg))) c kind id ≡ option_map_or (λ l. decl_at (after r.node (From k.link msg)).rows l.link.0 kind id) (link_to r.node.links c) None
         says_then c kind id = ap (λ (ls : List LinkPeer). option_map_or (λ (l : LinkPeer). decl_at (after r.node (From k.link msg)).rows l.link.0 kind id) (link_to ls c) None) (links_from r.node k.link msg)
 
-        others_say : (c : Name) → is_named name c ≡ false → (kind : Kind) (id : ℕ) → says (Some (hearing r (From k.link msg))) c kind id ≡ says (Some r) c kind id
+        others_say : (c : Name) → is_named name c ≡ false → (kind : Kind) (id : ℕ) → says (Some (having_told r (From k.link msg))) c kind id ≡ says (Some r) c kind id
         others_say c other kind id = says_then c kind id ∙ by (link_to r.node.links c) refl
           where
             by : (o : Option LinkPeer) → link_to r.node.links c ≡ o → option_map_or (λ l. decl_at (after r.node (From k.link msg)).rows l.link.0 kind id) o None ≡ option_map_or (λ l. decl_at r.node.rows l.link.0 kind id) o None
@@ -253,13 +256,15 @@ module _ (acts : List Numbered) (w : WorldState) (sound : IsSound w) (h : Client
             was = ap (λ o. says o name kind id) found ∙ ap (λ o. option_map_or (λ (l : LinkPeer). decl_at r.node.rows l.link.0 kind id) o None) linked
 
             now : says (router_of then.routers a) name kind id ≡ told kind id (decl_at r.node.rows k.link.0 kind id) msg
-            now = read_after (λ o. says o name kind id) w.routers a a r (hearing r (From k.link msg)) found
-                ∙ ap (λ b. cond b (says (Some (hearing r (From k.link msg))) name kind id) (says (router_of w.routers a) name kind id)) (same_refl a)
+            now = heard_router (λ o. says o name kind id) w.routers a a r (From k.link msg)
+                ∙ read_after (λ o. says o name kind id) w.routers a a r (having_told r (From k.link msg)) found
+                ∙ ap (λ b. cond b (says (Some (having_told r (From k.link msg))) name kind id) (says (router_of w.routers a) name kind id)) (same_refl a)
                 ∙ says_then name kind id ∙ ap (λ o. option_map_or (λ (l : LinkPeer). decl_at (after r.node (From k.link msg)).rows l.link.0 kind id) o None) linked
                 ∙ heard_here r.node k.link kind id leads msg
 
         same_then : (c : Name) (t : ClientState) → client_of w.clients c ≡ Some t → (kind : Kind) (id : ℕ) → (b : Bool) → is_named name c ≡ b → flow then t.router c kind id ≡ flow w t.router c kind id
-        same_then c t client kind id false e = flow_same w then t.router c kind id (says_kept w a r (hearing r (From k.link msg)) found c kind id (others_say c e kind id) t.router)
+        same_then c t client kind id false e = flow_same w then t.router c kind id
+            (heard_router (λ o. says o c kind id) w.routers a t.router r (From k.link msg) ∙ says_kept w a r (having_told r (From k.link msg)) found c kind id (others_say c e kind id) t.router)
             (wire_then (t.router, c) ∙ ap (λ b. cond b xs (wire_at (end_of w.ends (t.router, c)))) (other_end a t.router name c e))
         same_then c t client kind id true e =
             let same = home_of name c t client e (ap is_some at_end) in
@@ -291,10 +296,10 @@ module _ (acts : List Numbered) (w : WorldState) (sound : IsSound w) (h : Client
       links_then c = link_to_with r.node.links its_link (sound.unique a r found) (free_is_free r.node.links) none_before c
 
       whole_with : (q : End) → is_unbroken with_client_world.ends q ≡ cond (is_end (a, name) q) true (is_unbroken w.ends q)
-      whole_with q = keep_all_queued more a r.node (Up its_link.link its_link.peer) n unbroken_at q (λ e. refl) ∙ read_put_end w.ends (a, name) (lifted new_end) unbroken_at q
+      whole_with q = keep_heard more a r (Up its_link.link its_link.peer) n unbroken_at q (λ e ws. refl) ∙ read_put_end w.ends (a, name) (lifted new_end) unbroken_at q
 
       wire_with : (q : End) → wire_at (end_of with_client_world.ends q) ≡ cond (is_end (a, name) q) [] (wire_at (end_of w.ends q))
-      wire_with q = keep_all_queued more a r.node (Up its_link.link its_link.peer) n wire_at q (λ e. refl) ∙ read_put_end w.ends (a, name) (lifted new_end) wire_at q
+      wire_with q = keep_heard more a r (Up its_link.link its_link.peer) n wire_at q (λ e ws. refl) ∙ read_put_end w.ends (a, name) (lifted new_end) wire_at q
 
       clients_with : (c : Name) → client_of with_client_world.clients c ≡ cond (is_named c name) (Some (new_client a)) (client_of w.clients c)
       clients_with c = value_new w.clients name c (new_client a) is_new
@@ -309,8 +314,9 @@ module _ (acts : List Numbered) (w : WorldState) (sound : IsSound w) (h : Client
           ∙ ap (all_told kind id None) (wire_with (a, name) ∙ ap (λ b. cond b [] (wire_at (end_of w.ends (a, name)))) (ends.refl (a, name)))
         where
           nothing : says (router_of with_client_world.routers a) name kind id ≡ None
-          nothing = read_after (λ o. says o name kind id) w.routers a a r (hearing r (Up its_link.link its_link.peer)) found
-              ∙ ap (λ b. cond b (says (Some (hearing r (Up its_link.link its_link.peer))) name kind id) (says (router_of w.routers a) name kind id)) (same_refl a)
+          nothing = heard_router (λ o. says o name kind id) w.routers a a r (Up its_link.link its_link.peer)
+              ∙ read_after (λ o. says o name kind id) w.routers a a r (having_told r (Up its_link.link its_link.peer)) found
+              ∙ ap (λ b. cond b (says (Some (having_told r (Up its_link.link its_link.peer))) name kind id) (says (router_of w.routers a) name kind id)) (same_refl a)
               ∙ ap (λ o. option_map_or (λ (l : LinkPeer). decl_at r.node.rows l.link.0 kind id) o None) (links_then name ∙ ap (λ b. cond b (Some its_link) (link_to r.node.links name)) (same_refl name))
               ∙ none_at r.node.rows (leads_to_client r.node.links) (free_link r.node.links) (h.rows a r found)
               (ap (λ o. option_map_or (λ (l : LinkPeer). not (is_router l.peer.role)) o false) (free_is_free r.node.links)) kind id
@@ -319,7 +325,8 @@ module _ (acts : List Numbered) (w : WorldState) (sound : IsSound w) (h : Client
           flow with_client_world t.router c kind id ≡ stands acts c kind id
       others_flow c t client apart unbroken kind id =
           flow_same w with_client_world t.router c kind id
-          (says_kept w a r (hearing r (Up its_link.link its_link.peer)) found c kind id (ap (λ o. option_map_or (λ (l : LinkPeer). decl_at r.node.rows l.link.0 kind id) o None)
+          (heard_router (λ o. says o c kind id) w.routers a t.router r (Up its_link.link its_link.peer)
+          ∙ says_kept w a r (having_told r (Up its_link.link its_link.peer)) found c kind id (ap (λ o. option_map_or (λ (l : LinkPeer). decl_at r.node.rows l.link.0 kind id) o None)
           (links_then c ∙ ap (λ b. cond b (Some its_link) (link_to r.node.links c)) other)) t.router)
           (wire_with (t.router, c) ∙ ap (λ b. cond b [] (wire_at (end_of w.ends (t.router, c)))) away)
           ∙ f.flows c t client (sym (whole_with (t.router, c) ∙ ap (λ b. cond b true (is_unbroken w.ends (t.router, c))) away) ∙ unbroken) kind id
@@ -357,12 +364,18 @@ module _ (acts : List Numbered) (w : WorldState) (sound : IsSound w) (h : Client
     whole_written : (q : End) → is_unbroken written q ≡ is_unbroken w.ends q
     whole_written q = keep_with_end w.ends (s.router, name) (sent e msg n) unbroken_at q e at_end refl
 
-    -- nothing of ids
+    -- nothing of ids; what it says may weigh on its router
+    pub weighed_flows : ((c : Name) (kind : Kind) (id : ℕ) (so_far : Option Decl) → stands_by c kind id so_far act ≡ so_far) → ((kind : Kind) (id : ℕ) (so_far : Option Decl) → told kind id so_far msg ≡ so_far) →
+        (routers : Routers) → ((x c : Name) (kind : Kind) (id : ℕ) → says (router_of routers x) c kind id ≡ says (router_of w.routers x) c kind id) →
+        Flows (acts ++ (n, act) ∷ []) (with_routers (w_sent w n name s e msg) routers)
+    weighed_flows quiet silent routers rows = no_news n act quiet (with_routers (w_sent w n name s e msg) routers) (λ c. refl) (λ c t client unbroken. sym (whole_written (t.router, c)) ∙ unbroken)
+        (λ c t client unbroken kind id. ap (λ q. all_told kind id q (wire_at (end_of written (t.router, c)))) (rows t.router c kind id)
+        ∙ keep_with_end w.ends (s.router, name) (sent e msg n) (λ o. all_told kind id (says (router_of w.routers t.router) c kind id) (wire_at o)) (t.router, c) e at_end
+        (told_more kind id (says (router_of w.routers t.router) c kind id) e.wire (record { msg = msg; tag = n }) ∙ silent kind id (all_told kind id (says (router_of w.routers t.router) c kind id) e.wire)))
+
     pub published_flows : ((c : Name) (kind : Kind) (id : ℕ) (so_far : Option Decl) → stands_by c kind id so_far act ≡ so_far) → ((kind : Kind) (id : ℕ) (so_far : Option Decl) → told kind id so_far msg ≡ so_far) →
         Flows (acts ++ (n, act) ∷ []) (w_sent w n name s e msg)
-    published_flows quiet silent = no_news n act quiet (w_sent w n name s e msg) (λ c. refl) (λ c t client unbroken. sym (whole_written (t.router, c)) ∙ unbroken)
-        (λ c t client unbroken kind id. keep_with_end w.ends (s.router, name) (sent e msg n) (λ o. all_told kind id (says (router_of w.routers t.router) c kind id) (wire_at o)) (t.router, c) e at_end
-        (told_more kind id (says (router_of w.routers t.router) c kind id) e.wire (record { msg = msg; tag = n }) ∙ silent kind id (all_told kind id (says (router_of w.routers t.router) c kind id) e.wire)))
+    published_flows quiet silent = weighed_flows quiet silent w.routers (λ x c kind id. refl)
 
     -- a declaration, or the end of one
     module _ (s2 : ClientState) (home : s2.router ≡ s.router) (routers : Routers)

@@ -1,6 +1,6 @@
 -- Each client is that of the router of its line (`Homed`): each act that is not refused keeps it.
 use Rattle.std.proofs.Common.{◌≡◌, ℕ, Bool, true, false, cond, List, [], ◌∷◌, ◌++◌, Option, Some, None, refl, sym, ap, ◌∙◌}
-use Rattle.std.specs.Prelude.{IfSome}
+use Rattle.std.specs.Prelude.{unwrap_or, IfSome}
 use Rattle.std.specs.Option.{option_map}
 use Rattle.std.proofs.lemmas.List.Sums.{fold-append}
 use Rattle.zr_id.specs.Zid.{is_named}
@@ -11,6 +11,7 @@ use Rattle.zr_msg.specs.declared.msg.Msg.{Msg}
 use Rattle.zr_msg.specs.declared.msg.Msg.TheVariants as m
 use Rattle.zr_command.specs.declared.command.Act.{Act}
 use Rattle.zr_command.specs.declared.command.Act.TheVariants as a
+use Rattle.zr_command.specs.Mode.{is_current, is_future}
 use Rattle.zr_table.specs.Table.{able_kind}
 use Rattle.zr_network.specs.World.{ClientState, Clients, WorldState, client_of, with_client, new_client, is_taken}
 use Rattle.zr_network.specs.Acts.{outcome, declaring, undeclaring, received}
@@ -18,7 +19,7 @@ use Rattle.zr_network.specs.Moments.{Numbered, Moment, went}
 use Rattle.zr_network.proofs.Keyed.{not_there}
 use Rattle.zr_network.proofs.Names.{value_new, read_kept}
 use Rattle.zr_network.proofs.Clients.{SameClients, read_same_clients, same_received}
-use Rattle.zr_network.proofs.Cases.{free_name, for_router, for_client, for_link, for_up, for_break, for_down, for_declare, for_undeclare, Says, publish_says, get_says, reply_says, end_says, for_handle, for_take, for_mark, for_show}
+use Rattle.zr_network.proofs.Cases.{free_name, for_router, for_client, for_link, for_up, for_break, for_down, for_declare, for_undeclare, Says, Weighs, interest_says, uninterest_says, publish_says, get_says, reply_says, end_says, for_handle, for_take, for_mark, for_show}
 use Rattle.zr_settled.proofs.Spreading.{Name}
 use Rattle.zr_declared.specs.Declared.{home_by, home}
 
@@ -55,13 +56,16 @@ module _ (acts : List Numbered) (now : Moment) (h : Homed acts now.world) where
   home_of s k.Able id = refl
   home_of s k.Full id = refl
 
-  -- an act that brings no client, and changes queries and requests alone
+  -- an act that brings no client, and changes interests, queries and requests alone
   same_homes : (n : ℕ) (act : Act) → ((c : Name) (so_far : Option Name) → home_by c so_far act ≡ so_far) → (clients : Clients) → SameClients w.clients clients → (c : Name) →
       home (acts ++ (n, act) ∷ []) c ≡ router_at (client_of clients c)
   same_homes n act quiet clients same c = home_more acts n act c ∙ quiet c (home acts c) ∙ h c ∙ sym (read_same_clients w.clients clients same (λ s. s.router) (λ s. refl) c)
 
   says : (n : ℕ) (act : Act) (client : Name) (msg : Msg) → ((c : Name) (so_far : Option Name) → home_by c so_far act ≡ so_far) → Says now (HomedThen n act) n client msg
   says n act client msg quiet s found e at_end unbroken clients same = same_homes n act quiet clients same
+
+  weighs : (n : ℕ) (act : Act) (client : Name) (key : List ℕ) (msg : Msg) → ((c : Name) (so_far : Option Name) → home_by c so_far act ≡ so_far) → Weighs now (HomedThen n act) n client key msg
+  weighs n act client key msg quiet s found e at_end unbroken r there room clients same = same_homes n act quiet clients same
 
   pub homes_keep : (n : ℕ) (act : Act) → IfSome (went now (outcome w n act)) (HomedThen n act)
   unfolding outcome
@@ -80,6 +84,11 @@ module _ (acts : List Numbered) (now : Moment) (h : Homed acts now.world) where
       home_more acts n (a.Able client id key complete) c ∙ kept client s (declaring s (able_kind complete) id) found (home_of s (able_kind complete) id) c)
   homes_keep n (a.Unable client id) = for_undeclare now (HomedThen n (a.Unable client id)) n client k.Able id (m.Unable id) (λ s found known e at_end unbroken c.
       home_more acts n (a.Unable client id) c ∙ kept client s (undeclaring s k.Able id) found refl c)
+  homes_keep n (a.Interest client id mode kinds key aggregate) =
+      let act : Act = a.Interest client id mode kinds key aggregate in
+      let msg : Msg = m.Interest id (is_current mode) (is_future mode) kinds key aggregate in
+      interest_says now (HomedThen n act) n client id mode kinds key aggregate (says n act client msg (λ c so_far. refl)) (weighs n act client (unwrap_or key []) msg (λ c so_far. refl))
+  homes_keep n (a.Uninterest client id) = uninterest_says now (HomedThen n (a.Uninterest client id)) n client id (says n (a.Uninterest client id) client (m.EndInterest id) (λ c so_far. refl))
   homes_keep n (a.Publish client content) = publish_says now (HomedThen n (a.Publish client content)) n client content (says n (a.Publish client content) client (m.Push None content) (λ c so_far. refl))
   homes_keep n (a.Get client number target content) = get_says now (HomedThen n (a.Get client number target content)) n client number target content
       (says n (a.Get client number target content) client (m.Request None number target content) (λ c so_far. refl))

@@ -2,6 +2,7 @@ pub mod Folds
 pub mod Elements
 pub mod Told
 pub mod Flows
+pub mod Hearing
 pub mod Homes
 pub mod Said
 pub mod Ordered

@@ -1,7 +1,7 @@
 -- The log of a router by its acts (`LogHolds`): as many changes as the router counts, and they lead to the set of its rows. The set follows from the
 -- rows alone; that the router counts each change is shown act by act (`acts_count`).
 use Rattle.std.proofs.Common.{◌≡◌, ◌+◌, ◌≤◌, ℕ, Bool, true, false, cond, not, List, [], ◌∷◌, ◌++◌, length, map, Option, Some, None, is_some, refl, sym, ap, ◌∙◌, subst, arith}
-use Rattle.std.specs.Prelude.{◌==◌, nat_lt, IfSome, filter}
+use Rattle.std.specs.Prelude.{◌==◌, nat_lt, unwrap_or, IfSome, filter}
 use Rattle.std.specs.List.{fold}
 use Rattle.std.specs.Option.{option_map_or}
 use Rattle.std.specs.Ordering.{is_eq, nat_cmp}
@@ -37,13 +37,13 @@ use Rattle.zr_routing.specs.Changes.{changes}
 use Rattle.zr_table.specs.State.{NodeState}
 use Rattle.zr_table.specs.Table.{able_kind, rows_declared, rows_undeclared, rows_left, row, key_of, known_step, known_snap, after}
 use Rattle.zr_network.specs.World.{RouterState, WorldState, router_of, with_router, new_router, is_taken}
-use Rattle.zr_network.specs.Acts.{outcome, weighing, hearing, up_event, peer_of}
+use Rattle.zr_network.specs.Acts.{outcome, weighing, hearing, having_told, up_event, peer_of}
 use Rattle.zr_network.specs.Moments.{Numbered, Moment, beginning, went, onward, reached}
 use Rattle.zr_network.specs.Moments as moments
 use Rattle.zr_network.proofs.Lines.{at_some}
 use Rattle.zr_network.proofs.Keyed.{not_there}
 use Rattle.zr_network.proofs.Names.{value_after, value_new}
-use Rattle.zr_network.proofs.Cases.{free_name, for_router, for_client, for_link, for_up, for_break, for_down, for_declare, for_undeclare, publish_says, get_says, reply_says, end_says, for_handle, for_take, for_mark, for_show}
+use Rattle.zr_network.proofs.Cases.{free_name, for_router, for_client, for_link, for_up, for_break, for_down, for_declare, for_undeclare, interest_says, uninterest_says, publish_says, get_says, reply_says, end_says, for_handle, for_take, for_mark, for_show}
 use Rattle.zr_settled.proofs.Spreading.{Name}
 use Rattle.zr_settled.proofs.Positions.{position_with, position_changes}
 use Rattle.zr_settled.proofs.Values.{rows_lead}
@@ -51,6 +51,7 @@ use Rattle.zr_settled.proofs.Logs.{knows_logs, logs_of}
 use Rattle.zr_settled.proofs.Agreeing.{logs_agree}
 use Rattle.zr_settled.proofs.Goes.{Goes, goes_at}
 use Rattle.zr_declared.proofs.Folds.{after_all}
+use Rattle.zr_declared.proofs.Hearing.{heard_router}
 use Rattle.zr_declared.specs.Logs.{rows_at, Logged, logged_by, log_of, LogsAreMade, SettledLogsAreKnown}
 use Rattle.zr_declared.proofs.Elements.{all_of}
 
@@ -150,9 +151,11 @@ module _ (now : Moment) (own_name : (x : Name) (r : RouterState) → router_of n
       by false e = same_counted x (router_of w.routers x)
       by true e = subst (λ y. Counted y (router_of w.routers y) (Some q)) (same_is b x e) (subst (λ o. Counted b o (Some q)) (sym found) counted)
 
-  hears : (b : Name) (r : RouterState) → router_of w.routers b ≡ Some r → (event : Event) → (x : Name) → Counted x (router_of w.routers x) (router_of (with_router w.routers b (hearing r event)) x)
-  hears b r found event = one_counts b r (hearing r event) found
-      (subst (λ y. position (after r.node event).known y ≡ position r.node.known y + length (changes r.node.rows (after r.node event).rows)) (own_name b r found) (event_counts r.node event))
+  hears : (b : Name) (r : RouterState) → router_of w.routers b ≡ Some r → (event : Event) → (x : Name) →
+      Counted x (router_of w.routers x) (router_of (with_router (with_router w.routers b (hearing r event)) b (having_told r event)) x)
+  hears b r found event x = subst (λ o. Counted x (router_of w.routers x) o) (sym (heard_router (λ o. o) w.routers b x r event))
+      (one_counts b r (having_told r event) found
+      (subst (λ y. position (after r.node event).known y ≡ position r.node.known y + length (changes r.node.rows (after r.node event).rows)) (own_name b r found) (event_counts r.node event)) x)
 
   weighs : (b : Name) (r : RouterState) → router_of w.routers b ≡ Some r → (key : List ℕ) → (x : Name) → Counted x (router_of w.routers x) (router_of (with_router w.routers b (weighing r key)) x)
   weighs b r found key = one_counts b r (weighing r key) found (same_counted b (Some r))
@@ -183,6 +186,9 @@ module _ (now : Moment) (own_name : (x : Name) (r : RouterState) → router_of n
   acts_count n (a.Able client id key complete) =
       for_declare now CountsOn n client (able_kind complete) id key (m.Able id key complete) (λ s found fresh e at_end unbroken r there room. weighs s.router r there key)
   acts_count n (a.Unable client id) = for_undeclare now CountsOn n client k.Able id (m.Unable id) (λ s found known e at_end unbroken. stays)
+  acts_count n (a.Interest client id mode kinds key aggregate) = interest_says now CountsOn n client id mode kinds key aggregate
+      (λ s found e at_end unbroken clients same. stays) (λ s found e at_end unbroken r there room clients same. weighs s.router r there (unwrap_or key []))
+  acts_count n (a.Uninterest client id) = uninterest_says now CountsOn n client id (λ s found e at_end unbroken clients same. stays)
   acts_count n (a.Publish client content) = publish_says now CountsOn n client content (λ s found e at_end unbroken clients same. stays)
   acts_count n (a.Get client number target content) = get_says now CountsOn n client number target content (λ s found e at_end unbroken clients same. stays)
   acts_count n (a.Reply client number content) = reply_says now CountsOn n client number content (λ s found e at_end unbroken clients same. stays)

@@ -1,6 +1,6 @@
 -- The rows of each router ascend (`RowsAscend`): each event keeps it, and so does each act.
-use Rattle.std.proofs.Common.{◌≡◌, ℕ, Bool, true, false, cond, Some, None, is_some, sym, ap, ◌∙◌, subst}
-use Rattle.std.specs.Prelude.{IfSome}
+use Rattle.std.proofs.Common.{◌≡◌, ℕ, Bool, true, false, cond, Some, None, is_some, sym, ap, ◌∙◌, subst, List, []}
+use Rattle.std.specs.Prelude.{unwrap_or, IfSome}
 use Rattle.std.specs.List.Sorted.{IsStrictlySortedBy}
 use Rattle.std.proofs.lemmas.Bool.{false≢true}
 use Rattle.std.proofs.lemmas.List.Kept.{IsStrictlySortedBy-filter}
@@ -14,6 +14,7 @@ use Rattle.zr_msg.specs.declared.event.Event.TheVariants.{Up, Down, From}
 use Rattle.zr_msg.specs.declared.peer.Role.TheVariants.{Client}
 use Rattle.zr_command.specs.declared.command.Act.{Act}
 use Rattle.zr_command.specs.declared.command.Act.TheVariants as a
+use Rattle.zr_command.specs.Mode.{is_current, is_future}
 use Rattle.zr_set.proofs.Puts.{ascending_put, ascending_without}
 use Rattle.zr_local.specs.Rows.{Key, row_key, key_cmp, AreInOrder, declared, undeclared, left}
 use Rattle.zr_local.specs.declared.row.Row.{Row}
@@ -22,12 +23,13 @@ use Rattle.zr_routing.specs.Tables.{leads_to_client}
 use Rattle.zr_table.specs.State.{NodeState}
 use Rattle.zr_table.specs.Table.{able_kind, row, key_of, rows_declared, rows_undeclared, rows_left, after_from, after}
 use Rattle.zr_network.specs.World.{RouterState, WorldState, router_of, with_router, new_router, is_taken, empty_world}
-use Rattle.zr_network.specs.Acts.{outcome, hearing, weighing, up_event, peer_of}
+use Rattle.zr_network.specs.Acts.{outcome, hearing, having_told, weighing, up_event, peer_of}
 use Rattle.zr_network.specs.Moments.{Moment, went}
 use Rattle.zr_network.proofs.Keyed.{not_there}
 use Rattle.zr_network.proofs.Names.{value_new, read_after}
-use Rattle.zr_network.proofs.Cases.{free_name, on_router, for_router, for_client, for_link, for_up, for_break, for_down, for_declare, for_undeclare, Says, publish_says, get_says, reply_says, end_says, for_handle, for_take, for_mark, for_show}
+use Rattle.zr_network.proofs.Cases.{free_name, on_router, for_router, for_client, for_link, for_up, for_break, for_down, for_declare, for_undeclare, Says, Weighs, interest_says, uninterest_says, publish_says, get_says, reply_says, end_says, for_handle, for_take, for_mark, for_show}
 use Rattle.zr_settled.proofs.Spreading.{Name}
+use Rattle.zr_declared.proofs.Hearing.{heard_router}
 
 -- ---- events
 
@@ -105,8 +107,10 @@ module _ (now : Moment) (h : RowsAscend now.world) where
       by true e = let one : s ≡ q = cc in subst (λ (p : RouterState). AreInOrder p.node.rows) one new
       by false e = h y q e
 
-  heard_ordered : (x : Name) (r : RouterState) (event : Event) → router_of w.routers x ≡ Some r → (y : Name) (q : RouterState) → router_of (with_router w.routers x (hearing r event)) y ≡ Some q → AreInOrder q.node.rows
-  heard_ordered x r event found = with_ordered x r (hearing r event) found (event_ordered r.node (h x r found) event)
+  heard_ordered : (x : Name) (r : RouterState) (event : Event) → router_of w.routers x ≡ Some r → (y : Name) (q : RouterState) →
+      router_of (with_router (with_router w.routers x (hearing r event)) x (having_told r event)) y ≡ Some q → AreInOrder q.node.rows
+  heard_ordered x r event found y q there =
+      with_ordered x r (having_told r event) found (event_ordered r.node (h x r found) event) y q (sym (heard_router (λ o. o) w.routers x y r event) ∙ there)
 
   router_comes : (id : Name) → is_taken w id ≡ false → RowsAscend (on_router now id).world
   router_comes id free x q there = by (is_named x id) (sym (value_new w.routers id x (new_router id) (not_there (router_of w.routers id) (free_name w id free).0)) ∙ there)
@@ -117,6 +121,9 @@ module _ (now : Moment) (h : RowsAscend now.world) where
 
   says : (n : ℕ) (client : Name) (msg : Msg) → Says now AscendThen n client msg
   says n client msg s found e at_end unbroken clients same = h
+
+  weighs : (n : ℕ) (client : Name) (key : List ℕ) (msg : Msg) → Weighs now AscendThen n client key msg
+  weighs n client key msg s found e at_end unbroken r there room clients same = with_ordered s.router r (weighing r key) there (h s.router r there)
 
   pub ascend_keep : (n : ℕ) (act : Act) → IfSome (went now (outcome w n act)) AscendThen
   unfolding outcome
@@ -131,6 +138,10 @@ module _ (now : Moment) (h : RowsAscend now.world) where
   ascend_keep n (a.Able client id key complete) = for_declare now AscendThen n client (able_kind complete) id key (m.Able id key complete) (λ s found fresh e at_end unbroken r there room.
       with_ordered s.router r (weighing r key) there (h s.router r there))
   ascend_keep n (a.Unable client id) = for_undeclare now AscendThen n client k.Able id (m.Unable id) (λ s found known e at_end unbroken. h)
+  ascend_keep n (a.Interest client id mode kinds key aggregate) =
+      let msg : Msg = m.Interest id (is_current mode) (is_future mode) kinds key aggregate in
+      interest_says now AscendThen n client id mode kinds key aggregate (says n client msg) (weighs n client (unwrap_or key []) msg)
+  ascend_keep n (a.Uninterest client id) = uninterest_says now AscendThen n client id (says n client (m.EndInterest id))
   ascend_keep n (a.Publish client content) = publish_says now AscendThen n client content (says n client (m.Push None content))
   ascend_keep n (a.Get client number target content) = get_says now AscendThen n client number target content (says n client (m.Request None number target content))
   ascend_keep n (a.Reply client number content) = reply_says now AscendThen n client number content (says n client (m.Response number content))

@@ -1,7 +1,7 @@
 -- What the lines say of a client, and what the world has of it (`Spoken`): its link is unbroken as long as it is attached, and its ids are those of
 -- what it has declared, of each kind. Each act keeps it.
 use Rattle.std.proofs.Common.{◌≡◌, ℕ, Bool, true, false, cond, not, List, [], ◌∷◌, ◌++◌, Option, Some, None, is_some, refl, sym, ap, ◌∙◌, subst}
-use Rattle.std.specs.Prelude.{◌&&◌, ◌||◌, ◌==◌, filter, IfSome}
+use Rattle.std.specs.Prelude.{◌&&◌, ◌||◌, ◌==◌, filter, unwrap_or, IfSome}
 use Rattle.std.specs.List.{list_any}
 use Rattle.std.specs.Option.{option_map}
 use Rattle.std.proofs.Math.Bool.{or-false}
@@ -19,22 +19,24 @@ use Rattle.zr_msg.specs.declared.event.Event.TheVariants.{Down, From}
 use Rattle.zr_msg.specs.declared.peer.Role.TheVariants.{Client}
 use Rattle.zr_command.specs.declared.command.Act.{Act}
 use Rattle.zr_command.specs.declared.command.Act.TheVariants as a
+use Rattle.zr_command.specs.Mode.{is_current, is_future}
 use Rattle.zr_table.specs.Table.{able_kind}
 use Rattle.zr_network.specs.World.{RouterState, EndState, ClientState, End, Ends, WorldState, router_of, client_of, end_of, is_end, with_end, put_end, with_client, new_client, new_end, lifted, lowered, broken, sent, with_wire, with_queue, changed, is_taken, is_unbroken}
-use Rattle.zr_network.specs.Acts.{outcome, up_event, peer_of, all_queued, has_id, declaring, undeclaring}
+use Rattle.zr_network.specs.Acts.{outcome, up_event, peer_of, has_id, declaring, undeclaring}
 use Rattle.zr_network.specs.Moments.{Numbered, Moment, went}
 use Rattle.zr_guarantee.specs.Broker.{Declaration, Queryable, attached_by, is_attached, declared_by, declarations, able_by, queryables}
 use Rattle.zr_network.proofs.Keyed.{not_there}
 use Rattle.zr_network.proofs.Names.{names, value_new, read_after}
-use Rattle.zr_network.proofs.Ends.{ends, keep_with_end, read_put_end, read_changed, keep_changed, keep_all_queued}
+use Rattle.zr_network.proofs.Ends.{ends, keep_with_end, read_put_end, read_changed, keep_changed}
 use Rattle.zr_network.proofs.Clients.{SameClients, idle_client, same_clients, same_received, there_same, client_was}
-use Rattle.zr_network.proofs.Cases.{free_name, on_router, on_client, on_link, on_up, on_break, on_down, on_declare, on_undeclare, on_said, on_handle, on_take, for_router, for_client, for_link, for_up, for_break, for_down, for_declare, for_undeclare, Says, publish_says, get_says, reply_says, end_says, for_handle, for_take, for_mark, for_show}
+use Rattle.zr_network.proofs.Cases.{free_name, on_router, on_client, on_link, on_up, on_break, on_down, on_declare, on_undeclare, on_said, on_weighed, on_handle, on_take, for_router, for_client, for_link, for_up, for_break, for_down, for_declare, for_undeclare, Says, Weighs, interest_says, uninterest_says, publish_says, get_says, reply_says, end_says, for_handle, for_take, for_mark, for_show}
 use Rattle.zr_settled.proofs.Spreading.{Name}
 use Rattle.zr_settled.proofs.Moving.{unbroken_at}
 use Rattle.zr_settled.proofs.Ends.{other_end}
 use Rattle.zr_settled.proofs.ClientRows.{ClientsHold}
 use Rattle.zr_declared.specs.Declared.{is_same_id, stands_by, stands}
 use Rattle.zr_declared.proofs.Flows.{Flows, stands_more}
+use Rattle.zr_declared.proofs.Hearing.{all_heard, keep_heard}
 use Rattle.zr_declared.proofs.Said.{AreListed, none_listed, same_listed, listed_more, listed_less}
 
 -- ---- the invariant
@@ -135,6 +137,11 @@ module _ (acts : List Numbered) (now : Moment) (clients : ClientsHold now.world)
   says n act client msg quiet s found e at_end unbroken cs same =
       still n act (on_said now n client msg s e cs).world quiet same (λ c t client_is. keep_with_end w.ends (s.router, client) (sent e msg n) unbroken_at (t.router, c) e at_end refl)
 
+  -- and it may weigh on its router
+  weighs : (n : ℕ) (act : Act) (client : Name) (key : List ℕ) (msg : Msg) → ((c : Name) → IsNoNews act c) → Weighs now (SpokenThen n act) n client key msg
+  weighs n act client key msg quiet s found e at_end unbroken r there room cs same =
+      still n act (on_weighed now n client key msg s e r cs).world quiet same (λ c t client_is. keep_with_end w.ends (s.router, client) (sent e msg n) unbroken_at (t.router, c) e at_end refl)
+
   -- a router is no client
   no_client : (x : Name) → is_some (router_of w.routers x) ≡ true → (c : Name) (s : ClientState) → client_of w.clients c ≡ Some s → is_named x c ≡ false
   no_client x there c s found = false_from_ne_true (is_named x c) (λ e. true≢false (sym there ∙ ap (λ z. is_some (router_of w.routers z)) (same_is x c e) ∙ clients.apart c s found))
@@ -174,7 +181,7 @@ module _ (acts : List Numbered) (now : Moment) (clients : ClientsHold now.world)
       clients_are c = value_new w.clients id c (new_client router) is_new
 
       whole : (q : End) → is_unbroken v.ends q ≡ cond (is_end (router, id) q) true (is_unbroken w.ends q)
-      whole q = keep_all_queued (put_end w.ends (router, id) (lifted new_end)) router r.node (up_event r (record { id = id; role = Client })) n unbroken_at q (λ e. refl)
+      whole q = keep_heard (put_end w.ends (router, id) (lifted new_end)) router r (up_event r (record { id = id; role = Client })) n unbroken_at q (λ e ws. refl)
           ∙ read_put_end w.ends (router, id) (lifted new_end) unbroken_at q
 
       quiet : (c : Name) → is_named c id ≡ false → IsNoNews act c
@@ -422,18 +429,27 @@ module _ (acts : List Numbered) (now : Moment) (clients : ClientsHold now.world)
   spoken_keep n (a.Up router name) = for_up now (SpokenThen n (a.Up router name)) n router name (λ r found there s at_end unbroken down taken.
       still n (a.Up router name) (on_up now n router name r s).world
       (λ c. record { attached = λ so_far. refl; subs = λ so_far. refl; ables = λ so_far. refl; standing = λ kind i so_far. refl })
-      (same_clients w.clients) (λ c t client. keep_all_queued (with_end w.ends (router, name) (lifted s)) router r.node (up_event r (peer_of w name)) n unbroken_at (t.router, c) (λ e. refl)
+      (same_clients w.clients) (λ c t client. keep_heard (with_end w.ends (router, name) (lifted s)) router r (up_event r (peer_of w name)) n unbroken_at (t.router, c) (λ e ws. refl)
       ∙ keep_with_end w.ends (router, name) (lifted s) unbroken_at (t.router, c) s at_end refl))
   spoken_keep n (a.Break router name) = for_break now (SpokenThen n (a.Break router name)) router name (λ r found there s at_end unbroken. breaks n router name r found s at_end)
   spoken_keep n (a.Down router name) = for_down now (SpokenThen n (a.Down router name)) n router name (λ r found there s at_end up cut link number taken.
       still n (a.Down router name) (on_down now n router name r link).world
       (λ c. record { attached = λ so_far. refl; subs = λ so_far. refl; ables = λ so_far. refl; standing = λ kind i so_far. refl })
-      (same_clients w.clients) (λ c t client. keep_changed (all_queued w.ends router r.node (Down link) n) (router, name) lowered unbroken_at (t.router, c) (λ e. refl)
-      ∙ keep_all_queued w.ends router r.node (Down link) n unbroken_at (t.router, c) (λ e. refl)))
+      (same_clients w.clients) (λ c t client. keep_changed (all_heard w.ends router r (Down link) n) (router, name) lowered unbroken_at (t.router, c) (λ e. refl)
+      ∙ keep_heard w.ends router r (Down link) n unbroken_at (t.router, c) (λ e ws. refl)))
   spoken_keep n (a.Sub client id key) = subs_declared n client id key
   spoken_keep n (a.Unsub client id) = subs_ended n client id
   spoken_keep n (a.Able client id key complete) = ables_declared n client id key complete
   spoken_keep n (a.Unable client id) = ables_ended n client id
+  spoken_keep n (a.Interest client id mode kinds key aggregate) =
+      let act : Act = a.Interest client id mode kinds key aggregate in
+      let msg : Msg = m.Interest id (is_current mode) (is_future mode) kinds key aggregate in
+      interest_says now (SpokenThen n act) n client id mode kinds key aggregate
+      (says n act client msg (λ c. record { attached = λ so_far. refl; subs = λ so_far. refl; ables = λ so_far. refl; standing = λ kind i so_far. refl }))
+      (weighs n act client (unwrap_or key []) msg (λ c. record { attached = λ so_far. refl; subs = λ so_far. refl; ables = λ so_far. refl; standing = λ kind i so_far. refl }))
+  spoken_keep n (a.Uninterest client id) = uninterest_says now (SpokenThen n (a.Uninterest client id)) n client id
+      (says n (a.Uninterest client id) client (m.EndInterest id)
+      (λ c. record { attached = λ so_far. refl; subs = λ so_far. refl; ables = λ so_far. refl; standing = λ kind i so_far. refl }))
   spoken_keep n (a.Publish client content) = publish_says now (SpokenThen n (a.Publish client content)) n client content
       (says n (a.Publish client content) client (m.Push None content)
       (λ c. record { attached = λ so_far. refl; subs = λ so_far. refl; ables = λ so_far. refl; standing = λ kind i so_far. refl }))
@@ -449,7 +465,7 @@ module _ (acts : List Numbered) (now : Moment) (clients : ClientsHold now.world)
   spoken_keep n (a.Handle router from) = for_handle now (SpokenThen n (a.Handle router from)) router from (λ r found there s at_end up msg tag xs front link number taken.
       still n (a.Handle router from) (on_handle now router from r s link msg tag xs).world
       (λ c. record { attached = λ so_far. refl; subs = λ so_far. refl; ables = λ so_far. refl; standing = λ kind i so_far. refl })
-      (same_clients w.clients) (λ c t client. keep_all_queued (with_end w.ends (router, from) (with_wire s xs)) router r.node (From link msg) tag unbroken_at (t.router, c) (λ e. refl)
+      (same_clients w.clients) (λ c t client. keep_heard (with_end w.ends (router, from) (with_wire s xs)) router r (From link msg) tag unbroken_at (t.router, c) (λ e ws. refl)
       ∙ keep_with_end w.ends (router, from) (with_wire s xs) unbroken_at (t.router, c) s at_end refl))
   spoken_keep n (a.Take router to) = for_take now (SpokenThen n (a.Take router to)) router to (λ r found there s at_end up unbroken msg tag xs front.
       still n (a.Take router to) (on_take now router to s msg tag xs).world

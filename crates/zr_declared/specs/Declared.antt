@@ -31,6 +31,8 @@ stands_by name kind id so_far (a.Unsub client i) = if is_named name client && is
 stands_by name kind id so_far (a.Able client i key complete) =
     if is_named name client && is_same_id kind id k.Able i then Some (record { kind = able_kind complete; key = key }) else so_far
 stands_by name kind id so_far (a.Unable client i) = if is_named name client && is_same_id kind id k.Able i then None else so_far
+stands_by name kind id so_far (a.Interest client i mode kinds key aggregate) = so_far
+stands_by name kind id so_far (a.Uninterest client i) = so_far
 stands_by name kind id so_far (a.Publish client content) = so_far
 stands_by name kind id so_far (a.Get client number target content) = so_far
 stands_by name kind id so_far (a.Reply client number content) = so_far
@@ -58,6 +60,8 @@ home_by name so_far (a.Sub client i key) = so_far
 home_by name so_far (a.Unsub client i) = so_far
 home_by name so_far (a.Able client i key complete) = so_far
 home_by name so_far (a.Unable client i) = so_far
+home_by name so_far (a.Interest client id mode kinds key aggregate) = so_far
+home_by name so_far (a.Uninterest client id) = so_far
 home_by name so_far (a.Publish client content) = so_far
 home_by name so_far (a.Get client number target content) = so_far
 home_by name so_far (a.Reply client number content) = so_far

@@ -1,6 +1,6 @@
 -- What holds at every moment of a script: what is known of its world and of what clients have declared, and that each router came by an act.
 use Rattle.std.proofs.Common.{◌≡◌, ℕ, Bool, true, false, cond, List, [], ◌∷◌, ◌++◌, Option, Some, None, refl, sym, ap, ◌∙◌}
-use Rattle.std.specs.Prelude.{◌||◌, is_some, IfSome}
+use Rattle.std.specs.Prelude.{◌||◌, is_some, unwrap_or, IfSome}
 use Rattle.std.specs.List.{AllByRecursion}
 use Rattle.std.proofs.lemmas.Bool.{false≢true, or_left, or_right}
 use Rattle.std.proofs.lemmas.List.Folds.{list_any-append}
@@ -10,19 +10,22 @@ use Rattle.zr_msg.specs.declared.decl.Kind.TheVariants as sort
 use Rattle.zr_msg.specs.Extras.{no_extras}
 use Rattle.zr_msg.specs.declared.msg.Msg.{Msg}
 use Rattle.zr_msg.specs.declared.msg.Msg.TheVariants as m
+use Rattle.zr_msg.specs.declared.event.Event.{Event}
 use Rattle.zr_msg.specs.declared.event.Event.TheVariants.{Down, From}
 use Rattle.zr_msg.specs.declared.peer.Role.TheVariants as role
 use Rattle.zr_command.specs.declared.command.Act.{Act}
 use Rattle.zr_command.specs.declared.command.Act.TheVariants as c
+use Rattle.zr_command.specs.Mode.{is_current, is_future}
 use Rattle.zr_table.specs.Table.{able_kind}
 use Rattle.zr_network.specs.World.{RouterState, WorldState, router_of, with_router, new_router}
-use Rattle.zr_network.specs.Acts.{weighing, hearing, peer_of, up_event, declare_step, undeclare_step, outcome}
+use Rattle.zr_network.specs.Acts.{weighing, hearing, having_told, peer_of, up_event, declare_step, undeclare_step, outcome}
 use Rattle.zr_network.specs.Moments.{Numbered, Moment, beginning, went, reached}
 use Rattle.zr_guarantee.specs.Names.{is_router, brings_router}
 use Rattle.zr_network.proofs.Keyed.{not_there}
 use Rattle.zr_network.proofs.Names.{value_new, read_kept}
-use Rattle.zr_network.proofs.Cases.{free_name, on_router, on_client, on_link, on_up, on_break, on_down, on_declare, on_undeclare, on_said, on_handle, on_take, on_mark, on_show, for_router, for_client, for_link, for_up, for_break, for_down, for_declare, for_undeclare, Says, publish_says, get_says, reply_says, end_says, for_handle, for_take, for_mark, for_show}
+use Rattle.zr_network.proofs.Cases.{free_name, on_router, on_client, on_link, on_up, on_break, on_down, on_declare, on_undeclare, on_said, on_weighed, on_handle, on_take, on_mark, on_show, for_router, for_client, for_link, for_up, for_break, for_down, for_declare, for_undeclare, Says, Weighs, interest_says, uninterest_says, publish_says, get_says, reply_says, end_says, for_handle, for_take, for_mark, for_show}
 use Rattle.zr_declared.proofs.Folds.{after_all}
+use Rattle.zr_declared.proofs.Hearing.{heard_router}
 use Rattle.zr_declared.proofs.FlowActs.{GoesDeclared, same_declared, goes_declared}
 
 -- ---- the names of routers
@@ -36,16 +39,21 @@ module _ (acts : List Numbered) (now : Moment) (h : Named acts now) where
   same_names : (n : ℕ) (act : Act) (next : Moment) → ((x : List ℕ) → is_some (router_of next.world.routers x) ≡ is_some (router_of now.world.routers x)) → Named (acts ++ (n, act) ∷ []) next
   same_names n act next same x k = list_any-append (λ y. brings_router x y.1) acts ((n, act) ∷ []) ∙ or_left (is_router acts x) (is_router ((n, act) ∷ []) x) (h x (sym (same x) ∙ k))
 
-  heard_names : (n : ℕ) (act : Act) (router : List ℕ) (r r' : RouterState) → router_of now.world.routers router ≡ Some r → (x : List ℕ) →
+  -- a router that is another one then
+  changed_names : (router : List ℕ) (r r' : RouterState) → router_of now.world.routers router ≡ Some r → (x : List ℕ) →
       is_some (router_of (with_router now.world.routers router r') x) ≡ is_some (router_of now.world.routers x)
-  heard_names n act router r r' er x = read_kept is_some now.world.routers router x r r' er refl
+  changed_names router r r' er x = read_kept is_some now.world.routers router x r r' er refl
+
+  heard_names : (router : List ℕ) (r : RouterState) (event : Event) → router_of now.world.routers router ≡ Some r → (x : List ℕ) →
+      is_some (router_of (with_router (with_router now.world.routers router (hearing r event)) router (having_told r event)) x) ≡ is_some (router_of now.world.routers x)
+  heard_names router r event er x = heard_router is_some now.world.routers router x r event ∙ changed_names router r (having_told r event) er x
 
   abbrev NamedBy : ℕ → Act → Moment → Type 0
   NamedBy n act next = Named (acts ++ (n, act) ∷ []) next
 
   declares : (n : ℕ) (act : Act) (client : List ℕ) (kind : Kind) (id : ℕ) (key : List ℕ) (msg : Msg) → IfSome (went now (declare_step now.world n client kind id key msg)) (NamedBy n act)
   declares n act client kind id key msg = for_declare now (NamedBy n act) n client kind id key msg
-      (λ s es fresh e ee unbroken r er room. same_names n act (on_declare now n client kind id key msg s e r) (heard_names n act s.router r (weighing r key) er))
+      (λ s es fresh e ee unbroken r er room. same_names n act (on_declare now n client kind id key msg s e r) (changed_names s.router r (weighing r key) er))
 
   undeclares : (n : ℕ) (act : Act) (client : List ℕ) (kind : Kind) (id : ℕ) (msg : Msg) → IfSome (went now (undeclare_step now.world n client kind id msg)) (NamedBy n act)
   undeclares n act client kind id msg = for_undeclare now (NamedBy n act) n client kind id msg
@@ -53,6 +61,9 @@ module _ (acts : List Numbered) (now : Moment) (h : Named acts now) where
 
   says : (n : ℕ) (act : Act) (client : List ℕ) (msg : Msg) → Says now (NamedBy n act) n client msg
   says n act client msg s es e ee unbroken clients same = same_names n act (on_said now n client msg s e clients) (λ x. refl)
+
+  weighs : (n : ℕ) (act : Act) (client key : List ℕ) (msg : Msg) → Weighs now (NamedBy n act) n client key msg
+  weighs n act client key msg s es e ee unbroken r er room clients same = same_names n act (on_weighed now n client key msg s e r clients) (changed_names s.router r (weighing r key) er)
 
   router_named : (n : ℕ) (id : List ℕ) → is_some (router_of now.world.routers id) ≡ false → Named (acts ++ (n, c.Router id) ∷ []) (on_router now id)
   router_named n id free x k = list_any-append (λ y. brings_router x y.1) acts ((n, c.Router id) ∷ [])
@@ -66,24 +77,29 @@ module _ (acts : List Numbered) (now : Moment) (h : Named acts now) where
   unfolding outcome
   act_named n (c.Router id) = for_router now (NamedBy n (c.Router id)) id (λ free room. router_named n id (free_name now.world id free).0)
   act_named n (c.Client id router) = for_client now (NamedBy n (c.Client id router)) n id router
-      (λ r er free room taken. same_names n (c.Client id router) (on_client now n id router r) (heard_names n (c.Client id router) router r (hearing r (up_event r (record { id = id; role = role.Client }))) er))
+      (λ r er free room taken. same_names n (c.Client id router) (on_client now n id router r) (heard_names router r (up_event r (record { id = id; role = role.Client })) er))
   act_named n (c.Link one other) = for_link now (NamedBy n (c.Link one other)) one other (λ apart r er q eq free room. same_names n (c.Link one other) (on_link now one other) (λ x. refl))
   act_named n (c.Up router name) = for_up now (NamedBy n (c.Up router name)) n router name
-      (λ r er there s es unbroken down taken. same_names n (c.Up router name) (on_up now n router name r s) (heard_names n (c.Up router name) router r (hearing r (up_event r (peer_of now.world name))) er))
+      (λ r er there s es unbroken down taken. same_names n (c.Up router name) (on_up now n router name r s) (heard_names router r (up_event r (peer_of now.world name)) er))
   act_named n (c.Break router name) = for_break now (NamedBy n (c.Break router name)) router name (λ r er there s es unbroken. same_names n (c.Break router name) (on_break now router name) (λ x. refl))
   act_named n (c.Down router name) = for_down now (NamedBy n (c.Down router name)) n router name
-      (λ r er there s es up cut l el taken. same_names n (c.Down router name) (on_down now n router name r l) (heard_names n (c.Down router name) router r (hearing r (Down l)) er))
+      (λ r er there s es up cut l el taken. same_names n (c.Down router name) (on_down now n router name r l) (heard_names router r (Down l) er))
   act_named n (c.Sub client id key) = declares n (c.Sub client id key) client sort.Sub id key (m.Sub id key)
   act_named n (c.Unsub client id) = undeclares n (c.Unsub client id) client sort.Sub id (m.Unsub id)
   act_named n (c.Able client id key complete) = declares n (c.Able client id key complete) client (able_kind complete) id key (m.Able id key complete)
   act_named n (c.Unable client id) = undeclares n (c.Unable client id) client sort.Able id (m.Unable id)
+  act_named n (c.Interest client id mode kinds key aggregate) =
+      let act : Act = c.Interest client id mode kinds key aggregate in
+      let msg : Msg = m.Interest id (is_current mode) (is_future mode) kinds key aggregate in
+      interest_says now (NamedBy n act) n client id mode kinds key aggregate (says n act client msg) (weighs n act client (unwrap_or key []) msg)
+  act_named n (c.Uninterest client id) = uninterest_says now (NamedBy n (c.Uninterest client id)) n client id (says n (c.Uninterest client id) client (m.EndInterest id))
   act_named n (c.Publish client content) = publish_says now (NamedBy n (c.Publish client content)) n client content (says n (c.Publish client content) client (m.Push None content))
   act_named n (c.Get client number target content) =
       get_says now (NamedBy n (c.Get client number target content)) n client number target content (says n (c.Get client number target content) client (m.Request None number target content))
   act_named n (c.Reply client number content) = reply_says now (NamedBy n (c.Reply client number content)) n client number content (says n (c.Reply client number content) client (m.Response number content))
   act_named n (c.End client number) = end_says now (NamedBy n (c.End client number)) n client number (says n (c.End client number) client (m.Final number no_extras))
   act_named n (c.Handle router name) = for_handle now (NamedBy n (c.Handle router name)) router name
-      (λ r er there s es up msg tag xs front l el taken. same_names n (c.Handle router name) (on_handle now router name r s l msg tag xs) (heard_names n (c.Handle router name) router r (hearing r (From l msg)) er))
+      (λ r er there s es up msg tag xs front l el taken. same_names n (c.Handle router name) (on_handle now router name r s l msg tag xs) (heard_names router r (From l msg) er))
   act_named n (c.Take router to) = for_take now (NamedBy n (c.Take router to)) router to
       (λ r er there s es up unbroken msg tag xs front. same_names n (c.Take router to) (on_take now router to s msg tag xs) (λ x. refl))
   act_named n c.Mark = for_mark now (NamedBy n c.Mark) n (λ settled joined. same_names n c.Mark (on_mark now n) (λ x. refl))

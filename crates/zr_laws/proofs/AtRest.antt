@@ -2,7 +2,7 @@
 -- queued is up too and its link unbroken. It follows from what holds of every world (`Orderly`) and from what the mark found
 -- settled, which no act of the phase changes (`IsMet`).
 use Rattle.std.proofs.Common.{◌≡◌, ℕ, Bool, true, false, cond, List, [], ◌∷◌, ◌++◌, map, Option, Some, None, ◌⊎◌, inl, inr, refl, sym, ap, ◌∙◌, append_assoc}
-use Rattle.std.specs.Prelude.{◌&&◌, ◌||◌, not, is_some, is_none, filter, IfSome}
+use Rattle.std.specs.Prelude.{◌&&◌, ◌||◌, not, is_some, is_none, unwrap_or, filter, IfSome}
 use Rattle.std.specs.List.{AllByRecursion, fold, list_all, reduce}
 use Rattle.std.specs.Map.{values_of}
 use Rattle.std.proofs.lemmas.Bool.{false≢true, true≢false, and_parts, and_from, or_cases}
@@ -13,20 +13,22 @@ use Rattle.zr_msg.specs.declared.event.Event.TheVariants.{From}
 use Rattle.zr_msg.specs.Extras.{no_extras}
 use Rattle.zr_command.specs.declared.command.Act.{Act}
 use Rattle.zr_command.specs.declared.command.Act.TheVariants as c
+use Rattle.zr_command.specs.Mode.{is_current, is_future}
 use Rattle.zr_network.specs.World.{EndState, End, Ends, WorldState, turned, end_of, with_wire, with_queue, with_end, sent, is_empty, is_idle, is_quiet, is_met, is_calm_end, is_settled}
-use Rattle.zr_network.specs.Acts.{hearing, outcome}
+use Rattle.zr_network.specs.Acts.{weighing, having_told, outcome}
 use Rattle.zr_network.specs.Next.{lesser, ends_where, first_where, can_handle, can_take, step_at, next}
 use Rattle.zr_network.specs.Moments.{Numbered, Moment, beginning, went, onward, reached}
 use Rattle.zr_network.specs.Sound.{IsSound}
 use Rattle.zr_guarantee.specs.Phase.{stays, is_phase}
 use Rattle.zr_network.proofs.Keyed.{found_entry, all_found}
 use Rattle.zr_network.proofs.Names.{read_kept}
-use Rattle.zr_network.proofs.Ends.{end_order, same_end, keep_with_end, keep_changed, keep_all_queued}
+use Rattle.zr_network.proofs.Ends.{end_order, same_end, keep_with_end, keep_changed}
 use Rattle.zr_network.proofs.Fits.{up_of}
 use Rattle.zr_network.proofs.Lines.{prefix_reached}
-use Rattle.zr_network.proofs.Cases.{on_said, on_handle, on_take, Says, publish_says, get_says, reply_says, end_says, for_handle, for_take, for_mark, for_show}
+use Rattle.zr_network.proofs.Cases.{on_said, on_weighed, on_handle, on_take, Says, Weighs, interest_says, uninterest_says, publish_says, get_says, reply_says, end_says, for_handle, for_take, for_mark, for_show}
 use Rattle.zr_laws.specs.Runs.{RestIsQuiet}
 use Rattle.zr_declared.proofs.Folds.{at_some, after_all}
+use Rattle.zr_declared.proofs.Hearing.{keep_heard, heard_router}
 use Rattle.zr_settled.proofs.Worlds.{there_in}
 use Rattle.zr_settled.proofs.Moving.{unbroken_at}
 use Rattle.zr_settled.proofs.Orderly.{has_wire, has_queue, is_client_in, Orderly}
@@ -115,6 +117,11 @@ met_says : (now : Moment) → IsMet now.world → (n : ℕ) (client : List ℕ) 
 met_says now h n client msg s es en ee unbroken clients same = met_same now.world (on_said now n client msg s en clients).world
     (λ e. keep_with_end now.world.ends (s.router, client) (sent en msg n) up_of e en ee refl) (λ e. keep_with_end now.world.ends (s.router, client) (sent en msg n) unbroken_at e en ee refl) (λ x. refl) h
 
+met_weighs : (now : Moment) → IsMet now.world → (n : ℕ) (client key : List ℕ) (msg : Msg) → Weighs now (λ next. IsMet next.world) n client key msg
+met_weighs now h n client key msg s es en ee unbroken r er room clients same = met_same now.world (on_weighed now n client key msg s en r clients).world
+    (λ e. keep_with_end now.world.ends (s.router, client) (sent en msg n) up_of e en ee refl) (λ e. keep_with_end now.world.ends (s.router, client) (sent en msg n) unbroken_at e en ee refl)
+    (λ x. read_kept is_some now.world.routers s.router x r (weighing r key) er refl) h
+
 act_met : (now : Moment) → IsMet now.world → (n : ℕ) (act : Act) → stays act ≡ true → IfSome (went now (outcome now.world n act)) (λ next. IsMet next.world)
 unfolding outcome
 act_met now h n (c.Router id) st = absurd (false≢true st)
@@ -127,6 +134,10 @@ act_met now h n (c.Sub client id key) st = absurd (false≢true st)
 act_met now h n (c.Unsub client id) st = absurd (false≢true st)
 act_met now h n (c.Able client id key complete) st = absurd (false≢true st)
 act_met now h n (c.Unable client id) st = absurd (false≢true st)
+act_met now h n (c.Interest client id mode kinds key aggregate) st =
+    let msg : Msg = m.Interest id (is_current mode) (is_future mode) kinds key aggregate in
+    interest_says now (λ next. IsMet next.world) n client id mode kinds key aggregate (met_says now h n client msg) (met_weighs now h n client (unwrap_or key []) msg)
+act_met now h n (c.Uninterest client id) st = uninterest_says now (λ next. IsMet next.world) n client id (met_says now h n client (m.EndInterest id))
 act_met now h n (c.Publish client content) st = publish_says now (λ next. IsMet next.world) n client content (met_says now h n client (m.Push None content))
 act_met now h n (c.Get client number target content) st = get_says now (λ next. IsMet next.world) n client number target content (met_says now h n client (m.Request None number target content))
 act_met now h n (c.Reply client number content) st = reply_says now (λ next. IsMet next.world) n client number content (met_says now h n client (m.Response number content))
@@ -134,9 +145,9 @@ act_met now h n (c.End client number) st = end_says now (λ next. IsMet next.wor
 act_met now h n (c.Handle router from) st = for_handle now (λ next. IsMet next.world) router from
     (λ r er there s es up msg tag xs front l el taken.
     let half : Ends = with_end now.world.ends (router, from) (with_wire s xs) in
-    met_same now.world (on_handle now router from r s l msg tag xs).world (λ e. keep_all_queued half router r.node (From l msg) tag up_of e (λ z. refl) ∙ keep_with_end now.world.ends (router, from) (with_wire s xs) up_of e s es refl)
-    (λ e. keep_all_queued half router r.node (From l msg) tag unbroken_at e (λ z. refl) ∙ keep_with_end now.world.ends (router, from) (with_wire s xs) unbroken_at e s es refl)
-    (λ x. read_kept is_some now.world.routers router x r (hearing r (From l msg)) er refl) h)
+    met_same now.world (on_handle now router from r s l msg tag xs).world (λ e. keep_heard half router r (From l msg) tag up_of e (λ z ws. refl) ∙ keep_with_end now.world.ends (router, from) (with_wire s xs) up_of e s es refl)
+    (λ e. keep_heard half router r (From l msg) tag unbroken_at e (λ z ws. refl) ∙ keep_with_end now.world.ends (router, from) (with_wire s xs) unbroken_at e s es refl)
+    (λ x. heard_router is_some now.world.routers router x r (From l msg) ∙ read_kept is_some now.world.routers router x r (having_told r (From l msg)) er refl) h)
 act_met now h n (c.Take router to) st = for_take now (λ next. IsMet next.world) router to
     (λ r er there s es up unbroken msg tag xs front.
     let half : Ends = with_end now.world.ends (router, to) (with_queue s xs) in

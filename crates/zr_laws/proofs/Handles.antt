@@ -12,21 +12,23 @@ use Rattle.zr_msg.specs.declared.event.Event.TheVariants.{From}
 use Rattle.zr_command.specs.declared.command.Act.TheVariants as c
 use Rattle.zr_command.specs.declared.report.ReportLine.TheVariants as line
 use Rattle.zr_table.specs.State.{NodeState}
-use Rattle.zr_table.specs.Table.{after_from, with_pending}
-use Rattle.zr_network.specs.World.{Tagged, EndState, End, Ends, RouterState, is_end, router_of, end_of, with_end, queued, with_wire, is_calm, unsettles}
-use Rattle.zr_network.specs.Acts.{sends_to, number_to, hearing}
+use Rattle.zr_table.specs.Table.{after_from}
+use Rattle.zr_network.specs.World.{Tagged, EndState, End, Ends, RouterState, is_end, with_ends, router_of, end_of, with_end, queued, with_wire, is_calm, unsettles}
+use Rattle.zr_network.specs.Acts.{sends_to, number_to, hearing, sending}
 use Rattle.zr_network.specs.Moments.{Numbered, Moment}
 use Rattle.zr_guarantee.specs.Item.{Item, Carried}
 use Rattle.zr_guarantee.specs.Broker.{is_for}
 use Rattle.zr_guarantee.specs.Sent.{carried_by, items_of, item_of, sent_to}
-use Rattle.zr_network.proofs.Names.{names, same_name, read_kept}
+use Rattle.zr_network.proofs.Names.{names, same_name, read_kept, read_after}
 use Rattle.zr_network.proofs.Ends.{end_parts, same_end, read_with_end, keep_with_end, read_all_queued, keep_all_queued}
 use Rattle.zr_network.proofs.Cases.{on_handle}
 use Rattle.zr_network.proofs.Lists.{all_both, weaker}
 use Rattle.zr_laws.proofs.Places.{Sent, Queue, Wire, Hop, hops, along, keeps, handled}
 use Rattle.zr_settled.proofs.Worlds.{queue_at, wire_at}
 use Rattle.zr_laws.proofs.Carried.{carried_in}
+use Rattle.zr_laws.proofs.Idle.{idle, asked_as}
 use Rattle.zr_laws.proofs.Pushes.{names_tree, goes_on}
+use Rattle.zr_laws.proofs.Telling.{telling_keeps}
 use Rattle.zr_laws.proofs.Watch.{tagged_all}
 use Rattle.zr_laws.proofs.Messages.{IsQuiet}
 use Rattle.zr_laws.proofs.Held.{items_both, items_tag, items_are, each_none, router_was, each_passes, loses, queue_adds, wanted_both, kept_both, kept_none, foreign_wanted, foreign_kept, end_is}
@@ -36,18 +38,25 @@ module _ (p : Pair) (routed : IsRouted p) (done : List Numbered) (now : Moment) 
   abbrev es : Ends
   es = now.world.ends
 
-  -- A message has left the wire, and the router's tables stay, but for what is pending. Of what it is on the wire for the receiver, all has come to the queue on the way,
+  -- the router has sent what it sends, and its clients were told nothing yet
+  abbrev on_sending : (router name : List ℕ) → RouterState → EndState → LinkNo → Msg → ℕ → List Tagged → Moment
+  on_sending router name r s l msg tag xs = record {
+    world = sending (with_ends now.world (with_end es (router, name) (with_wire s xs))) router r (From l msg) tag;
+    report = now.report ++ line.Handled router name msg tag ∷ [];
+  }
+
+  -- A message has left the wire, and the router's tables stay. Of what it is on the wire for the receiver, all has come to the queue on the way,
   -- and nothing else has.
-  handle_keeps : (n : ℕ) (router name : List ℕ) (r : RouterState) → router_of now.world.routers router ≡ Some r →
+  sent_keeps : (n : ℕ) (router name : List ℕ) (r : RouterState) → router_of now.world.routers router ≡ Some r →
       (s : EndState) → end_of es (router, name) ≡ Some s → (l : LinkNo) (msg : Msg) (tag : ℕ) (xs : List Tagged) → s.wire ≡ record { msg = msg; tag = tag } ∷ xs →
-      with_pending (after_from r.node l.0 msg) [] ≡ with_pending r.node [] →
+      idle (after_from r.node l.0 msg) ≡ idle r.node →
       ((v : List ℕ) → list_all (λ z. not (unsettles z)) (sends_to r.node (From l msg) v) ≡ true) →
       ((v : List ℕ) → has_router p v ≡ true → list_all (fits p v router) (all_tagged tag (sends_to r.node (From l msg) v)) ≡ true) →
       ((to v : List ℕ) → OnWay p to router v → is_named name v ≡ true → kept_for p to (items (all_tagged tag (sends_to r.node (From l msg) to))) ≡ wanted_of p (item_of msg tag)) →
       ((to v : List ℕ) → OnWay p to router v → is_named name v ≡ false → kept_for p to (items (all_tagged tag (sends_to r.node (From l msg) to))) ≡ []) →
-      Flows p (done ++ (n, c.Handle router name) ∷ []) (on_handle now router name r s l msg tag xs)
-  handle_keeps n router name r found_r s found l msg tag xs front tables calm down own_is other_is = record {
-    routers = λ x. read_kept (option_map idle_router) now.world.routers router x r (hearing r (From l msg)) found_r (ap (λ z. Some (record { node = z; weight = r.weight })) tables) ∙ h.routers x;
+      Flows p (done ++ (n, c.Handle router name) ∷ []) (on_sending router name r s l msg tag xs)
+  sent_keeps n router name r found_r s found l msg tag xs front tables calm down own_is other_is = record {
+    routers = λ x. read_kept (option_map idle_router) now.world.routers router x r (hearing r (From l msg)) found_r (ap (λ z. Some (record { node = z; told = []; weight = 0 })) tables) ∙ h.routers x;
     clients = h.clients;
     ends_are = λ q. kept is_some (λ z sent_. refl) q ∙ left is_some refl q ∙ h.ends_are q;
     calm = λ q. ap (list_all is_calm) (wire_reads q) ∙ loses is_calm one xs (is_end (router, name) q) (wire_at (end_of es q)) (wire_was q) (h.calm q);
@@ -67,7 +76,7 @@ module _ (p : Pair) (routed : IsRouted p) (done : List Numbered) (now : Moment) 
   }
     where
       next : Moment
-      next = on_handle now router name r s l msg tag xs
+      next = on_sending router name r s l msg tag xs
 
       one : Tagged
       one = record { msg = msg; tag = tag }
@@ -149,6 +158,20 @@ module _ (p : Pair) (routed : IsRouted p) (done : List Numbered) (now : Moment) 
             wire_is u v false (end_b false e),
           )
 
+  -- and its clients were told
+  handle_keeps : (n : ℕ) (router name : List ℕ) (r : RouterState) → router_of now.world.routers router ≡ Some r →
+      (s : EndState) → end_of es (router, name) ≡ Some s → (l : LinkNo) (msg : Msg) (tag : ℕ) (xs : List Tagged) → s.wire ≡ record { msg = msg; tag = tag } ∷ xs →
+      idle (after_from r.node l.0 msg) ≡ idle r.node →
+      ((v : List ℕ) → list_all (λ z. not (unsettles z)) (sends_to r.node (From l msg) v) ≡ true) →
+      ((v : List ℕ) → has_router p v ≡ true → list_all (fits p v router) (all_tagged tag (sends_to r.node (From l msg) v)) ≡ true) →
+      ((to v : List ℕ) → OnWay p to router v → is_named name v ≡ true → kept_for p to (items (all_tagged tag (sends_to r.node (From l msg) to))) ≡ wanted_of p (item_of msg tag)) →
+      ((to v : List ℕ) → OnWay p to router v → is_named name v ≡ false → kept_for p to (items (all_tagged tag (sends_to r.node (From l msg) to))) ≡ []) →
+      Flows p (done ++ (n, c.Handle router name) ∷ []) (on_handle now router name r s l msg tag xs)
+  handle_keeps n router name r found_r s found l msg tag xs front tables calm down own_is other_is =
+      telling_keeps p (done ++ (n, c.Handle router name) ∷ []) (on_sending router name r s l msg tag xs)
+      (sent_keeps n router name r found_r s found l msg tag xs front tables calm down own_is other_is) router r (From l msg) tag
+      (read_after (λ o. o) now.world.routers router router r (hearing r (From l msg)) found_r ∙ ap (λ b. cond b (Some (hearing r (From l msg))) (router_of now.world.routers router)) (names.refl router))
+
   -- a message that the router takes quietly
   pub quiet_keeps : (n : ℕ) (router name : List ℕ) (r : RouterState) → router_of now.world.routers router ≡ Some r →
       (s : EndState) → end_of es (router, name) ≡ Some s → (l : LinkNo) (msg : Msg) (tag : ℕ) (xs : List Tagged) → s.wire ≡ record { msg = msg; tag = tag } ∷ xs → IsQuiet msg →
@@ -173,7 +196,7 @@ module _ (p : Pair) (routed : IsRouted p) (done : List Numbered) (now : Moment) 
   -- a sample or a request
   pub carried_keeps : (n : ℕ) (router name : List ℕ) (r : RouterState) → router_of now.world.routers router ≡ Some r →
       (s : EndState) → end_of es (router, name) ≡ Some s → (l : LinkNo) → number_to r name ≡ Ok l → (msg : Msg) (carried : Carried) → carried_by msg ≡ Some carried →
-      with_pending (after_from r.node l.0 msg) [] ≡ with_pending r.node [] → ((v : List ℕ) → list_all (λ z. not (unsettles z)) (sends_to r.node (From l msg) v) ≡ true) →
+      idle (after_from r.node l.0 msg) ≡ idle r.node → ((v : List ℕ) → list_all (λ z. not (unsettles z)) (sends_to r.node (From l msg) v) ≡ true) →
       (tag : ℕ) (xs : List Tagged) → s.wire ≡ record { msg = msg; tag = tag } ∷ xs → Flows p (done ++ (n, c.Handle router name) ∷ []) (on_handle now router name r s l msg tag xs)
   carried_keeps n router name r found_r s found l el msg carried carries tables calm tag xs front = by (p.by tag) refl
     where
@@ -196,9 +219,9 @@ module _ (p : Pair) (routed : IsRouted p) (done : List Numbered) (now : Moment) 
       number_was : (v : List ℕ) → number_to r v ≡ Ok l → number_to was.0 v ≡ Ok l
       number_was v e = ap (λ (q : RouterState). number_to q v) was.2 ∙ e
 
-      -- with what is pending now
-      node_is : with_pending was.0.node r.node.pending ≡ r.node
-      node_is = ap (λ (q : RouterState). with_pending q.node r.node.pending) was.2
+      -- with what is asked of it now
+      node_is : asked_as was.0.node r.node ≡ r.node
+      node_is = ap (λ (q : RouterState). asked_as q.node r.node) was.2
 
       fits_it : fits p router name (record { msg = msg; tag = tag }) ≡ true
       fits_it = (and_parts (fits p router name (record { msg = msg; tag = tag })) (list_all (fits p router name) xs)
@@ -223,7 +246,7 @@ module _ (p : Pair) (routed : IsRouted p) (done : List Numbered) (now : Moment) 
           handle_keeps n router name r found_r s found l msg tag xs front tables calm
           (λ v is. tagged_all (fits p v router) tag (ms v) (weaker (passes_down p v router) (λ z. fits p v router (record { msg = z; tag = tag })) (λ z k. or_right (not (p.by tag)) (passes_down p v router z) k) (ms v)
           (ap (λ (z : NodeState). list_all (passes_down p v router) (sends_to z (From l msg) v)) (sym node_is)
-          ∙ routed.goes_down router name v was.0 was.1 r.node.pending l (number_was name el) msg carried carries down is)))
+          ∙ routed.goes_down router name v was.0 was.1 r.node l (number_was name el) msg carried carries down is)))
           (λ to v k e. goes_on_way to v k e ∙ sym (ap (wanted_of p) its_item))
           (λ to v k e. absurd (true≢false (sym (ap (is_named name) (sym (k.only name leads_it)) ∙ names.refl name) ∙ e)))
         where
@@ -242,8 +265,8 @@ module _ (p : Pair) (routed : IsRouted p) (done : List Numbered) (now : Moment) 
               is : name ≡ v
               is = same_name name v e
 
-              sent : IsSentOn p to carried (sends_to (with_pending was.0.node r.node.pending) (From l msg) to)
-              sent = k.routes was.0 was.1 r.node.pending l (ap (number_to was.0) (sym is) ∙ number_was name el) msg carried carries (ap (λ z. comes_down p router z msg) (sym is) ∙ down)
+              sent : IsSentOn p to carried (sends_to (asked_as was.0.node r.node) (From l msg) to)
+              sent = k.routes was.0 was.1 r.node l (ap (number_to was.0) (sym is) ∙ number_was name el) msg carried carries (ap (λ z. comes_down p router z msg) (sym is) ∙ down)
 
               at : (b : Bool) → is_named p.receiver to ≡ b → (g : Bool) → sent.goes ≡ g → (v : Bool) → w ≡ v →
                   cond b (of_publisher p (map (λ x. record { line = tag; carried = x }) (cond g (carried ∷ []) []))) (wanted_of p (map (λ x. record { line = tag; carried = x }) (cond g (carried ∷ []) [])))

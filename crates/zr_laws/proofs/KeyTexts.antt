@@ -1,7 +1,7 @@
 -- The keys of accepted acts are texts of expressions: a line's command has what its KEY word was read as, by cases on the command's
 -- name, and a run's steps have no key.
 use Rattle.std.proofs.Common.{◌≡◌, ℕ, zero, suc, Bool, true, false, cond, List, [], ◌∷◌, ◌++◌, ◌+◌, map, Option, Some, None, Result, Ok, Err, refl, subst}
-use Rattle.std.specs.Prelude.{◌↔◌, IfOk, codes, not, nat_lt, length}
+use Rattle.std.specs.Prelude.{◌↔◌, IfSome, IfOk, codes, not, nat_lt, length}
 use Rattle.std.proofs.lemmas.Bool.{and_parts, and_from}
 use Rattle.zr_id.specs.Zid.{is_named}
 use Rattle.zr_key.specs.Key.{read_key, expression_of, IsKeyText}
@@ -17,8 +17,8 @@ use Rattle.zr_command.specs.declared.command.Act.TheVariants as c
 use Rattle.zr_command.specs.declared.command.Command.{Command}
 use Rattle.zr_command.specs.declared.command.Command.TheVariants as command
 use Rattle.zr_language.specs.Lines.{most_line}
-use Rattle.zr_language.specs.Words.{words, is_word, is_clean, one_of, two_of, three_of, four_of, zid_at, number_at, target_at, key_of_word, key_at}
-use Rattle.zr_language.specs.Command.{router_line, client_line, link_line, up_line, break_line, down_line, sub_line, unsub_line, able_line, unable_line, put_line, del_line, get_line, reply_line, end_line, handle_line, take_line, run_line, mark_line, show_line, is_command, by_name, by_words, is_silent, command_of}
+use Rattle.zr_language.specs.Words.{words, is_word, is_clean, one_of, two_of, three_of, four_of, five_of, zid_at, number_at, target_at, mode_at, kinds_at, aggregate_at, key_of_word, key_at, optional_key_at}
+use Rattle.zr_language.specs.Command.{router_line, client_line, link_line, up_line, break_line, down_line, sub_line, unsub_line, able_line, unable_line, interest_line, uninterest_line, put_line, del_line, get_line, reply_line, end_line, handle_line, take_line, run_line, mark_line, show_line, is_command, by_name, by_words, is_silent, command_of}
 use Rattle.zr_language.specs.Step.{◌>>=◌}
 use Rattle.zr_network.specs.World.{End, WorldState}
 use Rattle.zr_network.specs.Acts.{outcome}
@@ -42,6 +42,15 @@ key_is_text word key h = by (read_key word) refl h
     by : (r : Result (List ℕ) KeyError) → read_key word ≡ r → key_of_word r ≡ Ok key → IsKeyText key
     by (Ok t) e k = let same : t ≡ key = cc in subst IsKeyText same (Sound-from_read word t e).key
     by (Err f) e k = absurd (cc)
+
+-- and so is the KEY word of an interest, if it isn't none
+optional_text : (word : List ℕ) (o : Option (List ℕ)) → optional_key_at word ≡ Ok o → IfSome o IsKeyText
+optional_text word o h = by (is_word word (codes "-")) (key_at word) refl h
+  where
+    by : (b : Bool) (r : Result (List ℕ) ScriptError) → key_at word ≡ r → cond b (Ok None) (r >>= (λ key. Ok (Some key))) ≡ Ok o → IfSome o IsKeyText
+    by true r e k = let none : ◌≡◌ {A = Option (List ℕ)} None o = cc in subst (λ z. IfSome z IsKeyText) none tt
+    by false (Ok key) e k = let some : Some key ≡ o = cc in subst (λ z. IfSome z IsKeyText) some (key_is_text word key e)
+    by false (Err f) e k = absurd (cc)
 
 -- so with what a line asks
 abbrev pub AsksKeyText : Command → Type 0
@@ -144,6 +153,22 @@ unfolding unable_line
 unable_text args =
     for_bind AsksKeyText (two_of args) _ (λ w ew. for_bind AsksKeyText (zid_at w.0) _ (λ client e. for_bind AsksKeyText (number_at w.1) _ (λ id ei. tt)))
 
+interest_text : (args : List (List ℕ)) → IfOk (interest_line args) AsksKeyText
+unfolding interest_line
+interest_text args =
+    for_bind AsksKeyText (five_of args) _ (λ w ew.
+    for_bind AsksKeyText (zid_at w.0) _ (λ client ec.
+    for_bind AsksKeyText (number_at w.1) _ (λ id ei.
+    for_bind AsksKeyText (mode_at w.2) _ (λ mode em.
+    for_bind AsksKeyText (kinds_at w.3) _ (λ kinds ek.
+    for_bind AsksKeyText (aggregate_at w.5) _ (λ aggregate ea.
+    for_bind AsksKeyText (optional_key_at w.4) _ (λ key eo. optional_text w.4 key eo)))))))
+
+uninterest_text : (args : List (List ℕ)) → IfOk (uninterest_line args) AsksKeyText
+unfolding uninterest_line
+uninterest_text args =
+    for_bind AsksKeyText (two_of args) _ (λ w ew. for_bind AsksKeyText (zid_at w.0) _ (λ client e. for_bind AsksKeyText (number_at w.1) _ (λ id ei. tt)))
+
 handle_text : (args : List (List ℕ)) → IfOk (handle_line args) AsksKeyText
 unfolding handle_line
 handle_text args =
@@ -182,6 +207,8 @@ name_text name args =
     (one_line (is_word name (codes "able")) _ _ (able_text false args)
     (one_line (is_word name (codes "full")) _ _ (able_text true args)
     (one_line (is_word name (codes "unable")) _ _ (unable_text args)
+    (one_line (is_word name (codes "interest")) _ _ (interest_text args)
+    (one_line (is_word name (codes "uninterest")) _ _ (uninterest_text args)
     (one_line (is_word name (codes "put")) _ _ (put_text args)
     (one_line (is_word name (codes "del")) _ _ (del_text args)
     (one_line (is_word name (codes "get")) _ _ (get_text args)
@@ -191,7 +218,7 @@ name_text name args =
     (one_line (is_word name (codes "take")) _ _ (take_text args)
     (one_line (is_word name (codes "run")) _ _ (run_text args)
     (one_line (is_word name (codes "mark")) _ _ (mark_text args)
-    (one_line (is_word name (codes "show")) _ _ (show_text args) tt))))))))))))))))))))
+    (one_line (is_word name (codes "show")) _ _ (show_text args) tt))))))))))))))))))))))
 
 words_text : (clean : Bool) (ws : List (List ℕ)) → IfOk (by_words clean ws) AsksKeyText
 unfolding by_words

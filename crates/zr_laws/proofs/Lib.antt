@@ -3,6 +3,9 @@ pub mod Places
 pub mod Ways
 pub mod Carried
 pub mod Told
+pub mod ToldMessages
+pub mod Telling
+pub mod Idle
 pub mod Pushes
 pub mod Messages
 pub mod Watch

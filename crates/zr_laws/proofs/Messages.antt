@@ -1,5 +1,5 @@
 -- What a message is to a router: one that changes what its client has declared, a sample or a request, one that changes what the router knows of
--- others, or a message that it takes quietly: of it the router sends nothing that carries anything, and changes no more than what is pending. What
+-- others, or a message that it takes quietly: of it the router sends nothing that carries anything, and changes no more than what is asked of it. What
 -- is shown of the first ones, and of the last by what all such have in common (`IsQuiet`), is shown of each (`by_kind`); of those that a
 -- settled world may have under way, only samples and requests aren't quiet (`by_calm`).
 use Rattle.std.proofs.Common.{◌≡◌, ℕ, Bool, true, false, not, List, [], Option, None, refl}
@@ -13,18 +13,19 @@ use Rattle.zr_msg.specs.declared.msg.Msg.TheVariants as m
 use Rattle.zr_msg.specs.declared.msg.Target.{Target}
 use Rattle.zr_routing.specs.Queries.{sends_reply, sends_final}
 use Rattle.zr_table.specs.State.{NodeState}
-use Rattle.zr_table.specs.Table.{sends_from, after_from, with_pending}
+use Rattle.zr_table.specs.Table.{sends_from, after_from}
 use Rattle.zr_network.specs.World.{unsettles}
 use Rattle.zr_guarantee.specs.Sent.{carried_by}
 use Rattle.zr_settled.proofs.Answering.{reply_all, final_all}
 use Rattle.zr_laws.proofs.Carried.{carried_in, none_carried, all_pass}
+use Rattle.zr_laws.proofs.Idle.{idle}
 
 -- a message that carries nothing
 pub record IsQuiet (msg : Msg) : Type 0 where
   pub carries : carried_by msg ≡ None
   pub sends : (node : NodeState) (from to : ℕ) → carried_in (sends_from node from msg to) ≡ []
   pub calms : (node : NodeState) (from to : ℕ) → list_all (λ z. not (unsettles z)) (sends_from node from msg to) ≡ true
-  pub keeps : (node : NodeState) (from : ℕ) → with_pending (after_from node from msg) [] ≡ with_pending node []
+  pub keeps : (node : NodeState) (from : ℕ) → idle (after_from node from msg) ≡ idle node
 
 module _ (P : Msg → Type 0) where
   pub by_kind : ((id : ℕ) (key : List ℕ) → P (m.Sub id key)) → ((id : ℕ) → P (m.Unsub id)) → ((id : ℕ) (key : List ℕ) (complete : Bool) → P (m.Able id key complete)) → ((id : ℕ) → P (m.Unable id)) →

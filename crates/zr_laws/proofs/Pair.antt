@@ -2,7 +2,8 @@
 -- moments (`Flows`). Its heart is one equation: what stands in the places from the receiver back to the publisher, joined, is what is to be
 -- had. Beside it stands that the publisher's messages wait only on links that lead down the tree of its router, so what a router on the way
 -- takes from another side is none of them. What has to be known of the routers' tables at the mark is `IsRouted`, and nothing else of them
--- is used. A router may have any requests pending there: only the numbers under which it passes requests on are others then.
+-- is used. A router may have any requests pending there, and its clients any live interests: only the numbers under which it passes requests on
+-- are others then.
 use Rattle.std.proofs.Common.{◌≡◌, ℕ, Bool, true, false, cond, List, [], ◌∷◌, ◌++◌, map, Some, Ok, ◌∙◌, ap, append-nil}
 use Rattle.std.specs.Prelude.{◌&&◌, ◌||◌, not, filter, is_some, is_none, if◌then◌else◌}
 use Rattle.std.specs.List.{AllByRecursion, flat_map, list_all}
@@ -16,8 +17,7 @@ use Rattle.zr_msg.specs.declared.event.Event.TheVariants.{From}
 use Rattle.zr_command.specs.declared.command.Act.{Act}
 use Rattle.zr_command.specs.declared.command.Act.TheVariants as c
 use Rattle.zr_command.specs.declared.report.ReportLine.{ReportLine}
-use Rattle.zr_pend.specs.Row.{RowState}
-use Rattle.zr_table.specs.Table.{with_pending}
+use Rattle.zr_table.specs.State.{NodeState}
 use Rattle.zr_network.specs.World.{Tagged, End, RouterState, ClientState, WorldState, is_calm, router_of, client_of, end_of}
 use Rattle.zr_network.specs.Joined.{graph}
 use Rattle.zr_network.specs.Acts.{number_to, sends_to}
@@ -28,6 +28,7 @@ use Rattle.zr_guarantee.specs.Broker.{is_for, publication, item_for, from}
 use Rattle.zr_guarantee.specs.Sent.{carried_by, item_of, sent_to}
 use Rattle.zr_network.proofs.Clients.{SameClients}
 use Rattle.zr_laws.proofs.Carried.{carried_in}
+use Rattle.zr_laws.proofs.Idle.{idle, asked_as}
 use Rattle.zr_laws.proofs.Told.{sent_append}
 use Rattle.zr_laws.proofs.Places.{Spot, Sent, Queue, Wire, AtEach, path, along}
 use Rattle.zr_settled.proofs.Worlds.{queue_at, wire_at}
@@ -100,9 +101,9 @@ fits p x y t = not (p.by t.tag) || passes_down p x y t.msg
 
 -- ---- what stays
 
--- a router without what is pending: its tables
+-- a router's tables alone
 abbrev pub idle_router : RouterState → RouterState
-idle_router r = record { node = with_pending r.node []; weight = r.weight }
+idle_router r = record { node = idle r.node; told = []; weight = 0 }
 
 -- what holds at a moment, where `done` are the lines of the phase so far
 pub record Flows (p : Pair) (done : List Numbered) (m : Moment) : Type 0 where
@@ -133,8 +134,8 @@ pub record OnWay (p : Pair) (to r s : List ℕ) : Type 0 where
   pub end_is : is_some (end_of p.world.ends (r, to)) ≡ true
   pub only : (y : List ℕ) → leads p r y ≡ true → y ≡ s
   pub last : is_named p.publisher s ≡ true → is_named p.root r ≡ true
-  pub routes : (rr : RouterState) → router_of p.world.routers r ≡ Some rr → (pending : List RowState) (l : LinkNo) → number_to rr s ≡ Ok l → (msg : Msg) (carried : Carried) → carried_by msg ≡ Some carried →
-      comes_down p r s msg ≡ true → IsSentOn p to carried (sends_to (with_pending rr.node pending) (From l msg) to)
+  pub routes : (rr : RouterState) → router_of p.world.routers r ≡ Some rr → (now : NodeState) (l : LinkNo) → number_to rr s ≡ Ok l → (msg : Msg) (carried : Carried) → carried_by msg ≡ Some carried →
+      comes_down p r s msg ≡ true → IsSentOn p to carried (sends_to (asked_as rr.node now) (From l msg) to)
 
 -- and a router with the next one, which is a router too
 pub record Between (p : Pair) (r s : List ℕ) : Type 0 where
@@ -149,8 +150,8 @@ pub record IsRouted (p : Pair) : Type 0 where
   pub home : (s : ClientState) → client_of p.world.clients p.publisher ≡ Some s → s.router ≡ p.root
   pub receiver_home : (x : List ℕ) → is_some (end_of p.world.ends (x, p.receiver)) ≡ true → x ≡ p.first
   -- what comes down the tree goes on down the tree
-  pub goes_down : (x y z : List ℕ) (r : RouterState) → router_of p.world.routers x ≡ Some r → (pending : List RowState) (l : LinkNo) → number_to r y ≡ Ok l → (msg : Msg) (carried : Carried) → carried_by msg ≡ Some carried →
-      comes_down p x y msg ≡ true → has_router p z ≡ true → list_all (passes_down p z x) (sends_to (with_pending r.node pending) (From l msg) z) ≡ true
+  pub goes_down : (x y z : List ℕ) (r : RouterState) → router_of p.world.routers x ≡ Some r → (now : NodeState) (l : LinkNo) → number_to r y ≡ Ok l → (msg : Msg) (carried : Carried) → carried_by msg ≡ Some carried →
+      comes_down p x y msg ≡ true → has_router p z ≡ true → list_all (passes_down p z x) (sends_to (asked_as r.node now) (From l msg) z) ≡ true
   pub whole_way : AtEach (OnWay p) (Between p) p.receiver (p.first ∷ p.more) p.publisher
 
 -- ---- lines of a phase
@@ -167,6 +168,8 @@ Agrees p n (c.Sub client id key) = Unit {0}
 Agrees p n (c.Unsub client id) = Unit {0}
 Agrees p n (c.Able client id key complete) = Unit {0}
 Agrees p n (c.Unable client id) = Unit {0}
+Agrees p n (c.Interest client id mode kinds key aggregate) = Unit {0}
+Agrees p n (c.Uninterest client id) = Unit {0}
 Agrees p n (c.Publish client content) = p.by n ≡ is_named p.publisher client
 Agrees p n (c.Get client number target content) = p.by n ≡ is_named p.publisher client
 Agrees p n (c.Reply client number content) = Unit {0}

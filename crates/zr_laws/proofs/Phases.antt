@@ -1,7 +1,7 @@
 -- The flow is kept over a whole phase: by each act that may stand in it, and so by any number of them. A refused step
 -- leads to no moment, and owes nothing; a message that unsettles cannot be there to be handled.
 use Rattle.std.proofs.Common.{◌≡◌, ℕ, true, false, List, [], ◌∷◌, ◌++◌, Option, Some, None, Ok, refl, sym, ap, ◌∙◌}
-use Rattle.std.specs.Prelude.{IfSome}
+use Rattle.std.specs.Prelude.{unwrap_or, IfSome}
 use Rattle.std.specs.List.{AllByRecursion, list_all, fold}
 use Rattle.std.proofs.lemmas.Bool.{false≢true, and_parts, not-true}
 use Rattle.zr_id.specs.declared.link.LinkNo.{LinkNo}
@@ -10,17 +10,18 @@ use Rattle.zr_msg.specs.declared.msg.Msg.{Msg}
 use Rattle.zr_msg.specs.declared.msg.Msg.TheVariants as m
 use Rattle.zr_command.specs.declared.command.Act.{Act}
 use Rattle.zr_command.specs.declared.command.Act.TheVariants as c
+use Rattle.zr_command.specs.Mode.{is_current, is_future}
 use Rattle.zr_network.specs.World.{Tagged, EndState, RouterState, router_of, end_of, is_calm, unsettles}
 use Rattle.zr_network.specs.Acts.{number_to, outcome}
 use Rattle.zr_network.specs.Moments.{Numbered, Moment, went, onward}
 use Rattle.zr_guarantee.specs.Item.{Sample, Query}
 use Rattle.zr_guarantee.specs.Phase.{stays, is_phase}
-use Rattle.zr_network.proofs.Cases.{on_handle, publish_says, get_says, reply_says, end_says, for_handle, for_take, for_mark, for_show}
+use Rattle.zr_network.proofs.Cases.{on_handle, interest_says, uninterest_says, publish_says, get_says, reply_says, end_says, for_handle, for_take, for_mark, for_show}
 use Rattle.zr_settled.proofs.Worlds.{wire_at}
 use Rattle.zr_declared.proofs.Folds.{after_all}
 use Rattle.zr_laws.proofs.Pair.{Pair, Flows, IsRouted, Agrees, AllAgree}
 use Rattle.zr_laws.proofs.Messages.{by_calm}
-use Rattle.zr_laws.proofs.Steps.{says_keeps, publication_said, answer_said, take_keeps, mark_keeps, show_keeps}
+use Rattle.zr_laws.proofs.Steps.{says_keeps, weighs_keeps, publication_said, answer_said, take_keeps, mark_keeps, show_keeps}
 use Rattle.zr_laws.proofs.Pushes.{calm_sent, calm_asked}
 use Rattle.zr_laws.proofs.Handles.{quiet_keeps, carried_keeps}
 
@@ -38,6 +39,15 @@ module _ (p : Pair) (routed : IsRouted p) where
   act_flows done now h n (c.Unsub client id) st ag = absurd (false≢true st)
   act_flows done now h n (c.Able client id key complete) st ag = absurd (false≢true st)
   act_flows done now h n (c.Unable client id) st ag = absurd (false≢true st)
+  act_flows done now h n (c.Interest client id mode kinds key aggregate) st ag =
+      let act : Act = c.Interest client id mode kinds key aggregate in
+      let msg : Msg = m.Interest id (is_current mode) (is_future mode) kinds key aggregate in
+      interest_says now (Flows p (done ++ (n, act) ∷ [])) n client id mode kinds key aggregate
+      (says_keeps p routed done now h n act client msg (answer_said p routed done now h n act client msg refl refl refl))
+      (weighs_keeps p routed done now h n act client (unwrap_or key []) msg (answer_said p routed done now h n act client msg refl refl refl))
+  act_flows done now h n (c.Uninterest client id) st ag = uninterest_says now (Flows p (done ++ (n, c.Uninterest client id) ∷ [])) n client id
+      (says_keeps p routed done now h n (c.Uninterest client id) client (m.EndInterest id)
+      (answer_said p routed done now h n (c.Uninterest client id) client (m.EndInterest id) refl refl refl))
   act_flows done now h n (c.Publish client content) st ag = publish_says now (Flows p (done ++ (n, c.Publish client content) ∷ [])) n client content
       (says_keeps p routed done now h n (c.Publish client content) client (m.Push None content)
       (publication_said p routed done now h n (c.Publish client content) client (m.Push None content) (Sample content) refl refl refl ag))

@@ -33,13 +33,14 @@ use Rattle.zr_routing.specs.Samples.{is_for, subscribes, is_toward, leads_to_sou
 use Rattle.zr_routing.specs.Snapshots.{is_new_child, snapshot, snapshots_for, snapshots_on, sends_snapshots}
 use Rattle.zr_routing.specs.Queries.{can_answer, leads_to_queryable, is_asked, asked_links, tree_for, request_to, request_along, final_at_once, sends_request}
 use Rattle.zr_table.specs.State.{NodeState, tables}
-use Rattle.zr_table.specs.Table.{sends_from, sends, after_from, with_pending}
+use Rattle.zr_table.specs.Table.{sends_from, sends, after_from}
 use Rattle.zr_msg.specs.declared.msg.Target.{Target}
 use Rattle.zr_guarantee.specs.Item.{Carried, Sample, Query}
 use Rattle.zr_guarantee.specs.Sent.{carried_by}
 use Rattle.zr_network.proofs.Lists.{all_both}
 use Rattle.zr_settled.proofs.Answering.{at_once_all, request_all}
 use Rattle.zr_laws.proofs.Carried.{carried_in, none_carried, all_pass}
+use Rattle.zr_laws.proofs.Idle.{idle}
 use Rattle.zr_network.specs.World.{unsettles}
 use Rattle.zr_network.specs.Acts.{sends_to}
 
@@ -68,7 +69,7 @@ no_snapshots t to = by (link_at t.links to)
     by None = refl
     by (Some l) = on_link l l.peer.role
 
-module _ (node : NodeState) (l : LinkNo) (msg : Msg) (same : with_pending (after_from node l.0 msg) [] ≡ with_pending node []) where
+module _ (node : NodeState) (l : LinkNo) (msg : Msg) (same : idle (after_from node l.0 msg) ≡ idle node) where
   sends_only : (to : LinkNo) → sends node (From l msg) to ≡ sends_from node l.0 msg to.0
   sends_only to =
       ap (λ z. sends_from node l.0 msg to.0 ++ sends_snapshots (tables z) node.base.records to.0) same

@@ -19,10 +19,8 @@ use Rattle.zr_msg.specs.declared.peer.LinkPeer.{LinkPeer}
 use Rattle.zr_local.specs.Rows.{declared_set}
 use Rattle.zr_log.specs.Known.{decls}
 use Rattle.zr_routing.specs.Tables.{is_router, link_at, link_to}
-use Rattle.zr_pend.specs.Row.{RowState}
 use Rattle.zr_routing.specs.Samples.{leads_to_source, tree_of}
-use Rattle.zr_table.specs.State.{tables}
-use Rattle.zr_table.specs.Table.{with_pending}
+use Rattle.zr_table.specs.State.{NodeState, tables}
 use Rattle.zr_network.specs.World.{EndState, RouterState, ClientState, WorldState, router_of, client_of, end_of, is_up, is_linked}
 use Rattle.zr_network.specs.Joined.{graph}
 use Rattle.zr_network.specs.Acts.{number_to, sends_to}
@@ -35,6 +33,7 @@ use Rattle.zr_network.proofs.Keyed.{there}
 use Rattle.zr_network.proofs.Names.{names, same_name}
 use Rattle.zr_network.proofs.Links.{named_link, numbered_link}
 use Rattle.zr_network.proofs.Cases.{number_found}
+use Rattle.zr_laws.proofs.Idle.{asked_as}
 use Rattle.zr_laws.proofs.Ways.{root_no_child, one_parent, up_from, IsNext, on_whole_way}
 use Rattle.zr_laws.proofs.Pushes.{tree_from_client, tree_from_parent, takes_it, asks_it, has_taker, goes_over, leads_to_child, leads_there, names_tree, Goes, goes_of, over_client, over_router}
 use Rattle.zr_laws.proofs.Asking.{set_asks}
@@ -136,12 +135,12 @@ module _ (before phase : List Numbered) (w : WorldState) (h : AreReady before w)
 
   -- ---- the tree in which a router sends on
 
-  module _ (x : List ℕ) (r : RouterState) (er : router_of w.routers x ≡ Some r) (pending : List RowState) (y : List ℕ) (l : LinkNo) (el : number_to r y ≡ Ok l) (msg : Msg) (carried : Carried)
+  module _ (x : List ℕ) (r : RouterState) (er : router_of w.routers x ≡ Some r) (now : NodeState) (y : List ℕ) (l : LinkNo) (el : number_to r y ≡ Ok l) (msg : Msg) (carried : Carried)
       (carries : carried_by msg ≡ Some carried) (down : comes_down pair_of x y msg ≡ true) where
-    abbrev sends : Goes (with_pending r.node pending) l msg carried
-    sends = goes_of (with_pending r.node pending) l msg carried carries
+    abbrev sends : Goes (asked_as r.node now) l msg carried
+    sends = goes_of (asked_as r.node now) l msg carried carries
 
-    in_tree : tree_of (tables r.node) (link_at r.node.links l.0) sends.tree ≡ Some sa.router
+    in_tree : tree_of (tables (asked_as r.node now)) (link_at r.node.links l.0) sends.tree ≡ Some sa.router
     in_tree = by (is_named sa.router x) refl down
       where
         j : (k : LinkPeer) × (link_to r.node.links y ≡ Some k) × (k.link ≡ l)
@@ -154,27 +153,27 @@ module _ (before phase : List Numbered) (w : WorldState) (h : AreReady before w)
         role = h.sound.roles x y r j.0 er j.1
 
         by : (b : Bool) → is_named sa.router x ≡ b → (cond b (is_named publisher y) (is_child (graph w) sa.router y x) && (b || names_tree sa.router msg)) ≡ true →
-            tree_of (tables r.node) (link_at r.node.links l.0) sends.tree ≡ Some sa.router
+            tree_of (tables (asked_as r.node now)) (link_at r.node.links l.0) sends.tree ≡ Some sa.router
         by true same k =
-            tree_from_client (tables r.node) sends.tree j.0 (link_at r.node.links l.0) at
+            tree_from_client (tables (asked_as r.node now)) sends.tree j.0 (link_at r.node.links l.0) at
             (role ∙ ap is_there (sym (same_name publisher y (and_parts (is_named publisher y) true k).0)) ∙ publisher_apart)
             ∙ ap Some (h.sound.own x r er ∙ sym (same_name sa.router x same))
         by false other k =
             let parts = and_parts (is_child (graph w) sa.router y x) (names_tree sa.router msg) k in
-            tree_from_parent (tables r.node) sends.tree j.0 (link_at r.node.links l.0) at (role ∙ router_there y x (child_linked y x parts.0).0) sa.router (sends.tree_is sa.router parts.1)
+            tree_from_parent (tables (asked_as r.node now)) sends.tree j.0 (link_at r.node.links l.0) at (role ∙ router_there y x (child_linked y x parts.0).0) sa.router (sends.tree_is sa.router parts.1)
             (ap (λ (z : Graph). parent z sa.router r.node.base.me) (h.graphs x r er) ∙ ap (parent (graph w) sa.router) (h.sound.own x r er) ∙ child_is (graph w) sa.router y x parts.0
             ∙ ap Some (sym (named_link r.node.links y j.0 j.1)))
 
     -- everything that carries something goes on down the tree
-    goes_down : (z : List ℕ) → is_there z ≡ true → list_all (passes_down pair_of z x) (sends_to (with_pending r.node pending) (From l msg) z) ≡ true
+    goes_down : (z : List ℕ) → is_there z ≡ true → list_all (passes_down pair_of z x) (sends_to (asked_as r.node now) (From l msg) z) ≡ true
     goes_down z is_z = by (link_to r.node.links z) refl
       where
-        by : (o : Option LinkPeer) → link_to r.node.links z ≡ o → list_all (passes_down pair_of z x) (sends_to (with_pending r.node pending) (From l msg) z) ≡ true
+        by : (o : Option LinkPeer) → link_to r.node.links z ≡ o → list_all (passes_down pair_of z x) (sends_to (asked_as r.node now) (From l msg) z) ≡ true
         by None e = ap (list_all (passes_down pair_of z x)) (sends.nowhere z e)
         by (Some k) e = sends.passes sa.router in_tree z k e (numbered_link r.node.links (h.sound.unique x r er) z k e) (h.sound.roles x z r k er e ∙ is_z) (passes_down pair_of z x)
             (λ m none. or_left (is_none (carried_by m)) (comes_down pair_of z x m) (ap is_none none)) (λ over m named. or_right (is_none (carried_by m)) (comes_down pair_of z x m) (comes over m named))
           where
-            comes : leads_to_source (tables r.node) sa.router (has_taker carried) k.peer.id ≡ true → (m : Msg) → names_tree sa.router m ≡ true → comes_down pair_of z x m ≡ true
+            comes : leads_to_source (tables (asked_as r.node now)) sa.router (has_taker carried) k.peer.id ≡ true → (m : Msg) → names_tree sa.router m ≡ true → comes_down pair_of z x m ≡ true
             comes over m named =
                 and_from (leads pair_of z x) (is_named sa.router z || names_tree sa.router m)
                 (ap (λ b. cond b (is_named publisher x) (is_child (graph w) sa.router x z)) (root_apart x z child) ∙ child)
@@ -184,7 +183,7 @@ module _ (before phase : List Numbered) (w : WorldState) (h : AreReady before w)
                 child =
                     sym (ap (λ (v : Graph). is_child v sa.router r.node.base.me k.peer.id) (h.graphs x r er)
                     ∙ ap (λ v. is_child (graph w) sa.router v k.peer.id) (h.sound.own x r er) ∙ ap (is_child (graph w) sa.router x) (named_link r.node.links z k e))
-                    ∙ leads_to_child (tables r.node) sa.router (has_taker carried) k.peer.id over
+                    ∙ leads_to_child (tables (asked_as r.node now)) sa.router (has_taker carried) k.peer.id over
 
   -- ---- the receiver's own router
 
@@ -196,11 +195,11 @@ module _ (before phase : List Numbered) (w : WorldState) (h : AreReady before w)
   receiver_link r er = there (link_to r.node.links receiver) (h.sound.links sd.router receiver r er ∙ h.linked receiver sd ed attached)
 
   -- it sends to the receiver what is for it
-  at_dest : (s : List ℕ) → is_named s receiver ≡ is_named publisher receiver → (r : RouterState) → router_of w.routers sd.router ≡ Some r → (pending : List RowState) (l : LinkNo) → number_to r s ≡ Ok l →
-      (msg : Msg) (carried : Carried) → carried_by msg ≡ Some carried → comes_down pair_of sd.router s msg ≡ true → IsSentOn pair_of receiver carried (sends_to (with_pending r.node pending) (From l msg) receiver)
-  at_dest s same r er pending l el msg carried carries down = record {
-    goes = goes_over (tables r.node) l.0 sa.router carried k.0 k.0.peer.role;
-    sent_is = (goes_of (with_pending r.node pending) l msg carried carries).carries sa.router (in_tree sd.router r er pending s l el msg carried carries down) receiver k.0 k.1 k_at;
+  at_dest : (s : List ℕ) → is_named s receiver ≡ is_named publisher receiver → (r : RouterState) → router_of w.routers sd.router ≡ Some r → (now : NodeState) (l : LinkNo) → number_to r s ≡ Ok l →
+      (msg : Msg) (carried : Carried) → carried_by msg ≡ Some carried → comes_down pair_of sd.router s msg ≡ true → IsSentOn pair_of receiver carried (sends_to (asked_as r.node now) (From l msg) receiver)
+  at_dest s same r er now l el msg carried carries down = record {
+    goes = goes_over (tables (asked_as r.node now)) l.0 sa.router carried k.0 k.0.peer.role;
+    sent_is = (goes_of (asked_as r.node now) l msg carried carries).carries sa.router (in_tree sd.router r er now s l el msg carried carries down) receiver k.0 k.1 k_at;
     where_wanted = λ v. chosen ∙ v;
     to_receiver = λ v. chosen;
   }
@@ -233,9 +232,9 @@ module _ (before phase : List Numbered) (w : WorldState) (h : AreReady before w)
               let name_is : s ≡ receiver = sym (named_link r.node.links s j.0 j.1) ∙ ap (λ z. z.peer.id) (sym is) ∙ named_link r.node.links receiver k.0 k.1 in
               absurd (false≢true (sym other ∙ ap (is_named s) (sym name_is) ∙ names.refl s))
 
-      chosen : goes_over (tables r.node) l.0 sa.router carried k.0 k.0.peer.role ≡ is_for before publisher receiver carried
+      chosen : goes_over (tables (asked_as r.node now)) l.0 sa.router carried k.0 k.0.peer.role ≡ is_for before publisher receiver carried
       chosen =
-          over_client (tables r.node) l.0 sa.router carried k.0 k.0.peer.role (h.sound.roles sd.router receiver r k.0 er k.1 ∙ receiver_apart)
+          over_client (tables (asked_as r.node now)) l.0 sa.router carried k.0 k.0.peer.role (h.sound.roles sd.router receiver r k.0 er k.1 ∙ receiver_apart)
           ∙ ap (λ b. not b && asks_it r.node.rows k.0.link.0 carried) (same_link (is_named s receiver) refl ∙ same)
           ∙ ap (λ b. not (is_named publisher receiver) && b) (h.asked receiver sd r k.0 ed attached er k.1 carried)
           ∙ ap (λ b. not (is_named publisher receiver) && (b && takes before receiver carried)) (sym attached)
@@ -255,14 +254,14 @@ module _ (before phase : List Numbered) (w : WorldState) (h : AreReady before w)
 
   -- a router sends to its child toward the receiver what the receiver is to have
   at_child : (x to s : List ℕ) → toward (graph w) sa.router x sd.router ≡ Some to → is_child (graph w) sa.router x to ≡ true → (r : RouterState) → router_of w.routers x ≡ Some r →
-      (pending : List RowState) (l : LinkNo) → number_to r s ≡ Ok l → (msg : Msg) (carried : Carried) → carried_by msg ≡ Some carried → comes_down pair_of x s msg ≡ true →
-      IsSentOn pair_of to carried (sends_to (with_pending r.node pending) (From l msg) to)
-  at_child x to s next child r er pending l el msg carried carries down = record {
-    goes = goes_over (tables r.node) l.0 sa.router carried k.0 k.0.peer.role;
-    sent_is = (goes_of (with_pending r.node pending) l msg carried carries).carries sa.router (in_tree x r er pending s l el msg carried carries down) to k.0 k.1
+      (now : NodeState) (l : LinkNo) → number_to r s ≡ Ok l → (msg : Msg) (carried : Carried) → carried_by msg ≡ Some carried → comes_down pair_of x s msg ≡ true →
+      IsSentOn pair_of to carried (sends_to (asked_as r.node now) (From l msg) to)
+  at_child x to s next child r er now l el msg carried carries down = record {
+    goes = goes_over (tables (asked_as r.node now)) l.0 sa.router carried k.0 k.0.peer.role;
+    sent_is = (goes_of (asked_as r.node now) l msg carried carries).carries sa.router (in_tree x r er now s l el msg carried carries down) to k.0 k.1
         (numbered_link r.node.links (h.sound.unique x r er) to k.0 k.1);
-    where_wanted = λ v. over_router (tables r.node) l.0 sa.router carried k.0 k.0.peer.role (h.sound.roles x to r k.0 er k.1 ∙ to_there)
-        ∙ leads_there (tables r.node) sa.router carried sd.router k.0.peer.id (asked_there x r er carried v)
+    where_wanted = λ v. over_router (tables (asked_as r.node now)) l.0 sa.router carried k.0 k.0.peer.role (h.sound.roles x to r k.0 er k.1 ∙ to_there)
+        ∙ leads_there (tables (asked_as r.node now)) sa.router carried sd.router k.0.peer.id (asked_there x r er carried v)
         (ap (λ (z : Graph). reached z r.node.base.me sd.router) (h.graphs x r er) ∙ ap (λ z. reached (graph w) z sd.router) (h.sound.own x r er) ∙ h.reaches x sd.router (ap is_some er) dest_there)
         (ap (λ (z : Graph). toward z sa.router r.node.base.me sd.router) (h.graphs x r er) ∙ ap (λ z. toward (graph w) sa.router z sd.router) (h.sound.own x r er) ∙ next
         ∙ ap Some (sym (named_link r.node.links to k.0 k.1)));
@@ -315,12 +314,12 @@ module _ (before phase : List Numbered) (w : WorldState) (h : AreReady before w)
     end_is (inl n) = ap (λ z. is_some (end_of w.ends (z, to))) n.1 ∙ ap (λ z. is_some (end_of w.ends (sd.router, z))) n.0 ∙ h.sound.clients receiver sd ed
     end_is (inr n) = end_there x to (child_linked x to n.1).0
 
-    routes : Next → (r : RouterState) → router_of w.routers x ≡ Some r → (pending : List RowState) (l : LinkNo) → number_to r s ≡ Ok l → (msg : Msg) (carried : Carried) → carried_by msg ≡ Some carried →
-        comes_down pair_of x s msg ≡ true → IsSentOn pair_of to carried (sends_to (with_pending r.node pending) (From l msg) to)
-    routes (inl n) r er pending l el msg carried carries down =
-        subst (λ (z : List ℕ). IsSentOn pair_of z carried (sends_to (with_pending r.node pending) (From l msg) z)) (sym n.0)
-        (at_dest s (same_at_dest n.1) r (ap (router_of w.routers) (sym n.1) ∙ er) pending l el msg carried carries (ap (λ z. comes_down pair_of z s msg) (sym n.1) ∙ down))
-    routes (inr n) r er pending l el msg carried carries down = at_child x to s n.0 n.1 r er pending l el msg carried carries down
+    routes : Next → (r : RouterState) → router_of w.routers x ≡ Some r → (now : NodeState) (l : LinkNo) → number_to r s ≡ Ok l → (msg : Msg) (carried : Carried) → carried_by msg ≡ Some carried →
+        comes_down pair_of x s msg ≡ true → IsSentOn pair_of to carried (sends_to (asked_as r.node now) (From l msg) to)
+    routes (inl n) r er now l el msg carried carries down =
+        subst (λ (z : List ℕ). IsSentOn pair_of z carried (sends_to (asked_as r.node now) (From l msg) z)) (sym n.0)
+        (at_dest s (same_at_dest n.1) r (ap (router_of w.routers) (sym n.1) ∙ er) now l el msg carried carries (ap (λ z. comes_down pair_of z s msg) (sym n.1) ∙ down))
+    routes (inr n) r er now l el msg carried carries down = at_child x to s n.0 n.1 r er now l el msg carried carries down
 
     on : Next → OnWay pair_of to x s
     on n = record { end_is = end_is n; only = only; last = last; routes = routes n }
@@ -353,6 +352,6 @@ module _ (before phase : List Numbered) (w : WorldState) (h : AreReady before w)
     clients_apart = h.apart;
     home = λ s e. let one : Some s ≡ Some sa = sym e ∙ ea in let is : s ≡ sa = cc in ap (λ z. z.router) is;
     receiver_home = λ x k. h.homes receiver x sd ed k;
-    goes_down = λ x y z r er pending l el msg carried carries down is_z. goes_down x r er pending y l el msg carried carries down z is_z;
+    goes_down = λ x y z r er now l el msg carried carries down is_z. goes_down x r er now y l el msg carried carries down z is_z;
     whole_way = on_whole_way (graph w) h.is_graph sa.router sd.router far.0 far.1 publisher (OnWay pair_of) (Between pair_of) between receiver inner at_root;
   }

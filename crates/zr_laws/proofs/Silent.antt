@@ -1,6 +1,6 @@
 -- In a phase nobody publishes who is no client, and nothing is sent to a name to which no router's end is up.
 use Rattle.std.proofs.Common.{◌≡◌, ℕ, Bool, true, false, cond, List, [], ◌∷◌, ◌++◌, Option, Some, None, refl, sym, ap, ◌∙◌, append-nil}
-use Rattle.std.specs.Prelude.{◌==◌, ◌&&◌, ◌||◌, not, filter, is_some, IfSome}
+use Rattle.std.specs.Prelude.{◌==◌, ◌&&◌, ◌||◌, not, filter, is_some, unwrap_or, IfSome}
 use Rattle.std.specs.List.{AllByRecursion, fold, list_all}
 use Rattle.std.specs.Option.{option_map_or}
 use Rattle.std.proofs.lemmas.Bool.{false≢true, true≢false, and_parts, and_from, and_right, not_from_false}
@@ -11,6 +11,7 @@ use Rattle.zr_msg.specs.declared.msg.Msg.TheVariants as m
 use Rattle.zr_msg.specs.declared.event.Event.TheVariants.{From}
 use Rattle.zr_command.specs.declared.command.Act.{Act}
 use Rattle.zr_command.specs.declared.command.Act.TheVariants as c
+use Rattle.zr_command.specs.Mode.{is_current, is_future}
 use Rattle.zr_command.specs.declared.report.ReportLine.{ReportLine}
 use Rattle.zr_command.specs.declared.report.ReportLine.TheVariants as line
 use Rattle.zr_network.specs.World.{End, Clients, ClientState, client_of, end_of, sent, with_wire, with_queue, with_end}
@@ -22,11 +23,12 @@ use Rattle.zr_guarantee.specs.Broker.{Publication, publication, is_publisher, is
 use Rattle.zr_guarantee.specs.Sent.{item_of, sent_to}
 use Rattle.zr_network.proofs.Clients.{SameClients, same_clients, same_received, there_same}
 use Rattle.zr_network.proofs.Names.{same_name}
-use Rattle.zr_network.proofs.Ends.{keep_with_end, keep_changed, keep_all_queued}
+use Rattle.zr_network.proofs.Ends.{keep_with_end, keep_changed}
 use Rattle.zr_network.proofs.Fits.{up_of}
-use Rattle.zr_network.proofs.Cases.{Says, on_said, on_handle, on_take, on_mark, on_show, publish_says, get_says, reply_says, end_says, for_handle, for_take, for_mark, for_show}
+use Rattle.zr_network.proofs.Cases.{Says, Weighs, on_said, on_weighed, on_handle, on_take, on_mark, on_show, interest_says, uninterest_says, publish_says, get_says, reply_says, end_says, for_handle, for_take, for_mark, for_show}
 use Rattle.zr_network.proofs.Lists.{all_both}
 use Rattle.zr_declared.proofs.Folds.{after_all}
+use Rattle.zr_declared.proofs.Hearing.{keep_heard}
 use Rattle.zr_laws.proofs.Told.{sent_append, sent_taken}
 use Rattle.zr_laws.proofs.Watch.{shows_nothing}
 
@@ -69,6 +71,14 @@ module _ (publisher : List ℕ) (clients : Clients) (none : client_of clients pu
   act_mute done now h n (c.Unsub client id) st = absurd (false≢true st)
   act_mute done now h n (c.Able client id key complete) st = absurd (false≢true st)
   act_mute done now h n (c.Unable client id) st = absurd (false≢true st)
+  act_mute done now h n (c.Interest client id mode kinds key aggregate) st =
+      let act : Act = c.Interest client id mode kinds key aggregate in
+      let msg : Msg = m.Interest id (is_current mode) (is_future mode) kinds key aggregate in
+      interest_says now (IsMute (done ++ (n, act) ∷ [])) n client id mode kinds key aggregate
+      (λ s es e ee unbroken more same. mute done now h n act (on_said now n client msg s e more) same refl)
+      (λ s es e ee unbroken r er room more same. mute done now h n act (on_weighed now n client (unwrap_or key []) msg s e r more) same refl)
+  act_mute done now h n (c.Uninterest client id) st = uninterest_says now (IsMute (done ++ (n, c.Uninterest client id) ∷ [])) n client id
+      (λ s es e ee unbroken more same. mute done now h n (c.Uninterest client id) (on_said now n client (m.EndInterest id) s e more) same refl)
   act_mute done now h n (c.Publish client content) st = publish_says now (IsMute (done ++ (n, c.Publish client content) ∷ [])) n client content
       (λ s es e ee unbroken more same. mute done now h n (c.Publish client content) (on_said now n client (m.Push None content) s e more) same (nobody done now h client s es))
   act_mute done now h n (c.Get client number target content) st = get_says now (IsMute (done ++ (n, c.Get client number target content) ∷ [])) n client number target content
@@ -153,6 +163,10 @@ module _ (receiver : List ℕ) (by_line : ℕ → Bool) where
   says done now h n act client msg s es en ee unbroken clients same = unheard done (done ++ (n, act) ∷ []) now h (on_said now n client msg s en clients)
       (λ e. keep_with_end now.world.ends (s.router, client) (sent en msg n) up_of e en ee refl) [] refl refl
 
+  weighs : (done : List Numbered) (now : Moment) → IsUnheard done now → (n : ℕ) (act : Act) (client key : List ℕ) (msg : Msg) → Weighs now (IsUnheard (done ++ (n, act) ∷ [])) n client key msg
+  weighs done now h n act client key msg s es en ee unbroken r er room clients same = unheard done (done ++ (n, act) ∷ []) now h (on_weighed now n client key msg s en r clients)
+      (λ e. keep_with_end now.world.ends (s.router, client) (sent en msg n) up_of e en ee refl) [] refl refl
+
   act_unheard : (done : List Numbered) (now : Moment) → IsUnheard done now → (n : ℕ) (act : Act) → stays act ≡ true → IfSome (went now (outcome now.world n act)) (IsUnheard (done ++ (n, act) ∷ []))
   unfolding outcome
   act_unheard done now h n (c.Router id) st = absurd (false≢true st)
@@ -165,6 +179,12 @@ module _ (receiver : List ℕ) (by_line : ℕ → Bool) where
   act_unheard done now h n (c.Unsub client id) st = absurd (false≢true st)
   act_unheard done now h n (c.Able client id key complete) st = absurd (false≢true st)
   act_unheard done now h n (c.Unable client id) st = absurd (false≢true st)
+  act_unheard done now h n (c.Interest client id mode kinds key aggregate) st =
+      let act : Act = c.Interest client id mode kinds key aggregate in
+      let msg : Msg = m.Interest id (is_current mode) (is_future mode) kinds key aggregate in
+      interest_says now (IsUnheard (done ++ (n, act) ∷ [])) n client id mode kinds key aggregate (says done now h n act client msg) (weighs done now h n act client (unwrap_or key []) msg)
+  act_unheard done now h n (c.Uninterest client id) st =
+      uninterest_says now (IsUnheard (done ++ (n, c.Uninterest client id) ∷ [])) n client id (says done now h n (c.Uninterest client id) client (m.EndInterest id))
   act_unheard done now h n (c.Publish client content) st = publish_says now (IsUnheard (done ++ (n, c.Publish client content) ∷ [])) n client content (says done now h n (c.Publish client content) client (m.Push None content))
   act_unheard done now h n (c.Get client number target content) st =
       get_says now (IsUnheard (done ++ (n, c.Get client number target content) ∷ [])) n client number target content (says done now h n (c.Get client number target content) client (m.Request None number target content))
@@ -173,7 +193,7 @@ module _ (receiver : List ℕ) (by_line : ℕ → Bool) where
   act_unheard done now h n (c.End client number) st = end_says now (IsUnheard (done ++ (n, c.End client number) ∷ [])) n client number (says done now h n (c.End client number) client (m.Final number no_extras))
   act_unheard done now h n (c.Handle router name) st = for_handle now (IsUnheard (done ++ (n, c.Handle router name) ∷ [])) router name
       (λ r er there s es up msg tag xs front l el taken. unheard done (done ++ (n, c.Handle router name) ∷ []) now h (on_handle now router name r s l msg tag xs)
-      (λ e. keep_all_queued (with_end now.world.ends (router, name) (with_wire s xs)) router r.node (From l msg) tag up_of e (λ z. refl) ∙ keep_with_end now.world.ends (router, name) (with_wire s xs) up_of e s es refl)
+      (λ e. keep_heard (with_end now.world.ends (router, name) (with_wire s xs)) router r (From l msg) tag up_of e (λ z ws. refl) ∙ keep_with_end now.world.ends (router, name) (with_wire s xs) up_of e s es refl)
       (line.Handled router name msg tag ∷ []) refl refl)
   act_unheard done now h n (c.Take router to) st = for_take now (IsUnheard (done ++ (n, c.Take router to) ∷ [])) router to
       (λ r er there s es up unbroken msg tag xs front. unheard done (done ++ (n, c.Take router to) ∷ []) now h (on_take now router to s msg tag xs)

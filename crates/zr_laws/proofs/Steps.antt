@@ -4,6 +4,7 @@
 use Rattle.std.proofs.Common.{◌≡◌, ℕ, Bool, true, false, cond, List, [], ◌∷◌, ◌++◌, Option, Some, None, refl, sym, ap, ◌∙◌, append-nil, inl, inr}
 use Rattle.std.specs.Prelude.{◌&&◌, ◌||◌, not, is_some, is_none}
 use Rattle.std.specs.List.{list_all}
+use Rattle.std.specs.Option.{option_map}
 use Rattle.std.proofs.lemmas.Bool.{true≢false, and_parts, and_from}
 use Rattle.std.proofs.lemmas.List.Elements.{filter-append}
 use Rattle.zr_id.specs.Zid.{is_named}
@@ -13,18 +14,18 @@ use Rattle.zr_command.specs.declared.command.Act.{Act}
 use Rattle.zr_command.specs.declared.command.Act.TheVariants as c
 use Rattle.zr_command.specs.declared.report.ReportLine.{ReportLine}
 use Rattle.zr_command.specs.declared.report.ReportLine.TheVariants as line
-use Rattle.zr_network.specs.World.{Tagged, EndState, End, Ends, ClientState, RouterState, is_end, client_of, end_of, with_end, sent, with_queue, unsettles, is_calm}
+use Rattle.zr_network.specs.World.{Tagged, EndState, End, Ends, ClientState, RouterState, Routers, Clients, with_routers, with_clients, is_end, router_of, client_of, with_router, end_of, with_end, sent, with_queue, unsettles, is_calm}
 use Rattle.zr_network.specs.Joined.{graph}
-use Rattle.zr_network.specs.Acts.{received, shown}
+use Rattle.zr_network.specs.Acts.{weighing, received, shown}
 use Rattle.zr_network.specs.Moments.{Numbered, Moment}
 use Rattle.zr_guarantee.specs.Item.{Item, Carried}
 use Rattle.zr_guarantee.specs.Broker.{is_for, publication, item_for}
 use Rattle.zr_guarantee.specs.Sent.{carried_by, items_of, item_of, sent_to}
-use Rattle.zr_network.proofs.Clients.{client_was, there_same, same_received}
+use Rattle.zr_network.proofs.Clients.{SameClients, client_was, there_same, same_received}
 use Rattle.zr_laws.proofs.Told.{sent_append, sent_taken}
-use Rattle.zr_network.proofs.Names.{names, same_name}
+use Rattle.zr_network.proofs.Names.{names, same_name, read_kept}
 use Rattle.zr_network.proofs.Ends.{end_parts, same_end, read_with_end, keep_with_end, test_with_end, read_changed, keep_changed}
-use Rattle.zr_network.proofs.Cases.{Says, on_said, on_take, on_mark, on_show}
+use Rattle.zr_network.proofs.Cases.{w_sent, Says, Weighs, on_take, on_mark, on_show}
 use Rattle.zr_network.proofs.Lists.{all_both}
 use Rattle.zr_laws.proofs.Places.{Sent, Queue, Wire, Hop, hops, along, keeps, gains, handled, taken, written}
 use Rattle.zr_settled.proofs.Worlds.{queue_at, wire_at}
@@ -33,7 +34,7 @@ use Rattle.zr_laws.proofs.Pushes.{names_tree}
 use Rattle.zr_laws.proofs.Watch.{shows_nothing}
 use Rattle.zr_settled.proofs.Orderly.{turned_end}
 use Rattle.zr_laws.proofs.Held.{items_both, loses, wire_adds, wanted_both, kept_both, there, apart, clients_still, end_is}
-use Rattle.zr_laws.proofs.Pair.{Pair, items, of_publisher, wanted_of, kept_for, held, way, has_router, comes_down, fits, Flows, OnWay, Between, IsRouted, for_receiver, sent_more, from_more, from_same}
+use Rattle.zr_laws.proofs.Pair.{Pair, items, of_publisher, wanted_of, kept_for, held, way, has_router, comes_down, fits, idle_router, Flows, OnWay, Between, IsRouted, for_receiver, sent_more, from_more, from_same}
 
 module _ (p : Pair) (routed : IsRouted p) (done : List Numbered) (now : Moment) (h : Flows p done now) where
   abbrev es : Ends
@@ -63,9 +64,15 @@ module _ (p : Pair) (routed : IsRouted p) (done : List Numbered) (now : Moment) 
           ∙ ap (λ z. wanted_of p (items ws) ++ z) (said.own e)
       by false e = sym (append-nil (wanted_of p (items ws))) ∙ ap (λ z. wanted_of p (items ws) ++ z) (sym (said.other e))
 
-  pub says_keeps : (n : ℕ) (act : Act) (client : List ℕ) (msg : Msg) → IsSaid n act client msg → Says now (Flows p (done ++ (n, act) ∷ [])) n client msg
-  says_keeps n act client msg said s is_client e found unbroken clients same = record {
-    routers = h.routers;
+  -- the message is on the wire; what it says may weigh on its router
+  abbrev on_saying : ℕ → List ℕ → Msg → ClientState → EndState → Clients → Routers → Moment
+  on_saying n client msg s e clients routers = record { world = with_clients (with_routers (w_sent now.world n client s e msg) routers) clients; report = now.report ++ [] }
+
+  saying_keeps : (n : ℕ) (act : Act) (client : List ℕ) (msg : Msg) → IsSaid n act client msg → (s : ClientState) → client_of now.world.clients client ≡ Some s → (e : EndState) → end_of es (s.router, client) ≡ Some e →
+      (clients : Clients) → SameClients now.world.clients clients → (routers : Routers) → ((x : List ℕ) → option_map idle_router (router_of routers x) ≡ option_map idle_router (router_of now.world.routers x)) →
+      Flows p (done ++ (n, act) ∷ []) (on_saying n client msg s e clients routers)
+  saying_keeps n act client msg said s is_client e found clients same routers weights = record {
+    routers = λ x. weights x ∙ h.routers x;
     clients = clients_still p routed done now h clients same;
     ends_are = λ q. kept is_some refl q ∙ h.ends_are q;
     calm = λ q. test_with_end es (s.router, client) e' (λ o. list_all is_calm (wire_at o)) q e found (h.calm q)
@@ -87,7 +94,7 @@ module _ (p : Pair) (routed : IsRouted p) (done : List Numbered) (now : Moment) 
       e' = sent e msg n
 
       next : Moment
-      next = on_said now n client msg s e clients
+      next = on_saying n client msg s e clients routers
 
       kept : {Y : Type 0} (f : Option EndState → Y) → f (Some e') ≡ f (Some e) → (q : End) → f (end_of next.world.ends q) ≡ f (end_of es q)
       kept f alike q = keep_with_end es (s.router, client) e' f q e found alike
@@ -148,6 +155,14 @@ module _ (p : Pair) (routed : IsRouted p) (done : List Numbered) (now : Moment) 
           by false own = refl
           by true own = ap (λ z. z ++ x ∷ []) (sym (ap (λ z. wire_at (end_of es z)) (sym (same_end (s.router, client) (r, p.publisher) (own_end true own ∙ own))) ∙ ap wire_at found))
 
+  pub says_keeps : (n : ℕ) (act : Act) (client : List ℕ) (msg : Msg) → IsSaid n act client msg → Says now (Flows p (done ++ (n, act) ∷ [])) n client msg
+  says_keeps n act client msg said s is_client e found unbroken clients same = saying_keeps n act client msg said s is_client e found clients same now.world.routers (λ x. refl)
+
+  pub weighs_keeps : (n : ℕ) (act : Act) (client key : List ℕ) (msg : Msg) → IsSaid n act client msg → Weighs now (Flows p (done ++ (n, act) ∷ [])) n client key msg
+  weighs_keeps n act client key msg said s is_client e found unbroken r there room clients same =
+      saying_keeps n act client msg said s is_client e found clients same (with_router now.world.routers s.router (weighing r key))
+      (λ x. read_kept (option_map idle_router) now.world.routers s.router x r (weighing r key) there refl)
+
   -- a sample or a query
   pub publication_said : (n : ℕ) (act : Act) (client : List ℕ) (msg : Msg) (carried : Carried) → publication act ≡ Some (record { client = client; carried = carried }) → carried_by msg ≡ Some carried →
       unsettles msg ≡ false → p.by n ≡ is_named p.publisher client → IsSaid n act client msg
@@ -164,7 +179,7 @@ module _ (p : Pair) (routed : IsRouted p) (done : List Numbered) (now : Moment) 
       for_it : for_receiver p.before p.publisher p.receiver (n, act) ≡ cond (is_named p.publisher client && is_for p.before p.publisher p.receiver carried) (item ∷ []) []
       for_it = ap (item_for p.before p.publisher p.receiver n) published
 
-  -- a reply or an end
+  -- a reply or an end, or what concerns an interest
   pub answer_said : (n : ℕ) (act : Act) (client : List ℕ) (msg : Msg) → publication act ≡ None → carried_by msg ≡ None → unsettles msg ≡ false → IsSaid n act client msg
   answer_said n act client msg silent carries calm = record {
     calm = calm;

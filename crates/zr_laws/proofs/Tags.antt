@@ -22,6 +22,7 @@ use Rattle.zr_guarantee.specs.Sent.{carried_by, items_of, item_of}
 use Rattle.zr_declared.proofs.Folds.{after_all}
 use Rattle.zr_laws.proofs.Carried.{all_pass, none_goes_on}
 use Rattle.zr_laws.proofs.Numbers.{writes, Tagging, Publishing}
+use Rattle.zr_laws.proofs.ToldMessages.{told_idle}
 use Rattle.zr_laws.proofs.Watch.{Watched, AllPass, Allows, act_watched}
 
 -- every tag of what waits and of what was sent passes the test
@@ -34,7 +35,7 @@ one_tag t tag h [] = refl
 one_tag t tag h (x ∷ xs) = and_from (t tag) (list_all (λ y. t tag) xs) h (one_tag t tag h xs)
 
 any_event : (t : ℕ → Bool) (tag : ℕ) → t tag ≡ true → (node : NodeState) (event : Event) → AllPass (λ x. t x.tag) tag node event
-any_event t tag h node event to = one_tag t tag h (sends node event to)
+any_event t tag h node event = ((λ to. one_tag t tag h (sends node event to)), λ msg told. h)
 
 -- a message that carries nothing, or whose tag passes
 pub carried_tag : (t : ℕ → Bool) (msg : Msg) (tag : ℕ) → (is_none (carried_by msg) || t tag) ≡ true → list_all (λ i. t i.line) (item_of msg tag) ≡ true
@@ -60,6 +61,8 @@ allowed t n (c.Sub client id key) k = k
 allowed t n (c.Unsub client id) k = k
 allowed t n (c.Able client id key complete) k = k
 allowed t n (c.Unable client id) k = k
+allowed t n (c.Interest client id mode kinds key aggregate) k = k
+allowed t n (c.Uninterest client id) k = k
 allowed t n (c.Publish client content) k = k
 allowed t n (c.Get client number target content) k = k
 allowed t n (c.Reply client number content) k = k
@@ -89,12 +92,12 @@ CarriedTags t now = Watched (λ x. is_none (carried_by x.msg) || t x.tag) (λ i.
 -- what a router sends of a message that carries nothing carries nothing, and the rest has the message's tag
 goes_tagged : (t : ℕ → Bool) (node : NodeState) (link : LinkNo) (msg : Msg) (tag : ℕ) → (is_none (carried_by msg) || t tag) ≡ true →
     AllPass (λ x. is_none (carried_by x.msg) || t x.tag) tag node (From link msg)
-goes_tagged t node link msg tag h to = by (carried_by msg) refl h
+goes_tagged t node link msg tag h = ((λ to. by to (carried_by msg) refl h), λ z told. or_left (is_none (carried_by z)) (t tag) (ap is_none (told_idle z told).1))
   where
-    by : (o : Option Carried) → carried_by msg ≡ o → (is_none o || t tag) ≡ true → list_all (λ z. is_none (carried_by z) || t tag) (sends node (From link msg) to) ≡ true
-    by None e k = all_pass (λ z. is_none (carried_by z) || t tag) (sends node (From link msg) to)
+    by : (to : LinkNo) (o : Option Carried) → carried_by msg ≡ o → (is_none o || t tag) ≡ true → list_all (λ z. is_none (carried_by z) || t tag) (sends node (From link msg) to) ≡ true
+    by to None e k = all_pass (λ z. is_none (carried_by z) || t tag) (sends node (From link msg) to)
         (All-each (λ z. carried_by z ≡ None) (λ z. (is_none (carried_by z) || t tag) ≡ true) (sends node (From link msg) to) (λ z none. or_left (is_none (carried_by z)) (t tag) (ap is_none none)) (none_goes_on node link msg to e))
-    by (Some x) e k = each (sends node (From link msg) to)
+    by to (Some x) e k = each (sends node (From link msg) to)
       where
         each : (ms : List Msg) → list_all (λ z. is_none (carried_by z) || t tag) ms ≡ true
         each [] = refl
@@ -111,6 +114,8 @@ carried_allowed t n (c.Sub client id key) st k = refl
 carried_allowed t n (c.Unsub client id) st k = refl
 carried_allowed t n (c.Able client id key complete) st k = refl
 carried_allowed t n (c.Unable client id) st k = refl
+carried_allowed t n (c.Interest client id mode kinds key aggregate) st k = refl
+carried_allowed t n (c.Uninterest client id) st k = refl
 carried_allowed t n (c.Publish client content) st k = k
 carried_allowed t n (c.Get client number target content) st k = k
 carried_allowed t n (c.Reply client number content) st k = refl

@@ -1,7 +1,7 @@
 -- A test that all messages pass which are under way, and one that all samples pass which were sent: acts that put no other
 -- messages on their way keep it so. It serves tags, and worlds in which no client has sent anything.
 use Rattle.std.proofs.Common.{◌≡◌, ℕ, Bool, true, false, cond, List, [], ◌∷◌, ◌++◌, map, Option, Some, None, refl, sym, ap, ◌∙◌}
-use Rattle.std.specs.Prelude.{not, is_some, filter, IfSome}
+use Rattle.std.specs.Prelude.{not, is_some, filter, unwrap_or, IfSome}
 use Rattle.std.specs.List.{list_all}
 use Rattle.std.specs.Option.{option_map_or}
 use Rattle.std.proofs.lemmas.Bool.{and_parts, and_from}
@@ -22,6 +22,7 @@ use Rattle.zr_msg.specs.declared.peer.Peer.{Peer}
 use Rattle.zr_msg.specs.declared.peer.Role.TheVariants as role
 use Rattle.zr_command.specs.declared.command.Act.{Act}
 use Rattle.zr_command.specs.declared.command.Act.TheVariants as c
+use Rattle.zr_command.specs.Mode.{is_current, is_future}
 use Rattle.zr_command.specs.declared.report.ReportLine.{ReportLine}
 use Rattle.zr_command.specs.declared.report.ReportLine.TheVariants as line
 use Rattle.zr_routing.specs.Tables.{link_to}
@@ -29,14 +30,17 @@ use Rattle.zr_table.specs.State.{NodeState}
 use Rattle.zr_msg.specs.declared.peer.LinkPeer.{LinkPeer}
 use Rattle.zr_table.specs.Table.{able_kind, sends, after}
 use Rattle.zr_network.specs.World.{Tagged, ClientState, RouterState, EndState, Ends, end_of, broken, lifted, lowered, sent, with_wire, with_queue, new_end, with_end, put_end, changed}
-use Rattle.zr_network.specs.Acts.{peer_of, up_event, sends_to, all_queued, parent_line, source_line, shown_base, shown, declare_step, undeclare_step, outcome}
+use Rattle.zr_network.specs.Acts.{peer_of, up_event, sends_to, told_to, all_queued, parent_line, source_line, shown_base, shown, declare_step, undeclare_step, outcome}
 use Rattle.zr_network.specs.Moments.{Moment, went}
 use Rattle.zr_guarantee.specs.Item.{Item}
 use Rattle.zr_guarantee.specs.Sent.{item_of, sent_to}
 use Rattle.zr_laws.proofs.Told.{sent_append, sent_taken}
-use Rattle.zr_network.proofs.Cases.{for_router, for_client, for_link, for_up, for_break, for_down, for_declare, for_undeclare, Says, publish_says, get_says, reply_says, end_says, for_handle, for_take, for_mark, for_show}
-use Rattle.zr_network.proofs.Lists.{all_both}
+use Rattle.zr_network.proofs.Cases.{for_router, for_client, for_link, for_up, for_break, for_down, for_declare, for_undeclare, Says, Weighs, interest_says, uninterest_says, publish_says, get_says, reply_says, end_says, for_handle, for_take, for_mark, for_show}
+use Rattle.zr_network.proofs.Lists.{all_both, weaker}
+use Rattle.zr_network.proofs.Telling.{is_told, told_alone}
 use Rattle.zr_settled.proofs.Ends.{AtEnds, of_found, with_end_all, put_end_all, changed_all, all_queued_all}
+use Rattle.zr_declared.proofs.Hearing.{all_heard}
+use Rattle.zr_laws.proofs.ToldMessages.{told_all}
 
 -- all that waits at an end passes
 abbrev pub Passes : (Tagged → Bool) → EndState → Type 0
@@ -46,9 +50,10 @@ pub record Watched (t : Tagged → Bool) (i : Item → Bool) (now : Moment) : Ty
   pub waits : AtEnds (Passes t) now.world.ends
   pub sends_only : (q : List ℕ) → list_all i (sent_to now.report q) ≡ true
 
--- what a router sends passes, with a tag
+-- what a router sends passes, with a tag, and so does all that it may tell its clients
 abbrev pub AllPass : (Tagged → Bool) → ℕ → NodeState → Event → Type 0
-AllPass t tag node event = (to : LinkNo) → list_all (λ z. t (record { msg = z; tag = tag })) (sends node event to) ≡ true
+AllPass t tag node event =
+    ((to : LinkNo) → list_all (λ z. t (record { msg = z; tag = tag })) (sends node event to) ≡ true) × ((msg : Msg) → is_told msg ≡ true → t (record { msg = msg; tag = tag }) ≡ true)
 
 -- what an act puts on its way passes
 abbrev pub Allows : (Tagged → Bool) → ℕ → Act → Type 0
@@ -62,6 +67,8 @@ Allows t n (c.Sub client id key) = t (record { msg = m.Sub id key; tag = n }) �
 Allows t n (c.Unsub client id) = t (record { msg = m.Unsub id; tag = n }) ≡ true
 Allows t n (c.Able client id key complete) = t (record { msg = m.Able id key complete; tag = n }) ≡ true
 Allows t n (c.Unable client id) = t (record { msg = m.Unable id; tag = n }) ≡ true
+Allows t n (c.Interest client id mode kinds key aggregate) = t (record { msg = m.Interest id (is_current mode) (is_future mode) kinds key aggregate; tag = n }) ≡ true
+Allows t n (c.Uninterest client id) = t (record { msg = m.EndInterest id; tag = n }) ≡ true
 Allows t n (c.Publish client content) = t (record { msg = m.Push None content; tag = n }) ≡ true
 Allows t n (c.Get client number target content) = t (record { msg = m.Request None number target content; tag = n }) ≡ true
 Allows t n (c.Reply client number content) = t (record { msg = m.Response number content; tag = n }) ≡ true
@@ -111,14 +118,21 @@ to_pass t tag node event h y = by (link_to (after node event).links y)
   where
     by : (o : Option LinkPeer) → list_all (λ z. t (record { msg = z; tag = tag })) (option_map_or (λ l. sends node event l.link) o []) ≡ true
     by None = refl
-    by (Some l) = h l.link
+    by (Some l) = h.0 l.link
 
--- what a router has heard of
-hearing_passes : (t : Tagged → Bool) (es : Ends) (x : List ℕ) (node : NodeState) (event : Event) (tag : ℕ) → AllPass t tag node event → AtEnds (Passes t) es →
-    AtEnds (Passes t) (all_queued es x node event tag)
-hearing_passes t es x node event tag says h =
-    all_queued_all (Passes t) es h x node event tag
-    (λ y s k. (k.0, all_both t s.queue (map (λ z. record { msg = z; tag = tag }) (sends_to node event y)) k.1 (tagged_all t tag (sends_to node event y) (to_pass t tag node event says y))))
+-- what a router has heard of, and what its clients were told
+hearing_passes : (t : Tagged → Bool) (es : Ends) (x : List ℕ) (r : RouterState) (event : Event) (tag : ℕ) → AllPass t tag r.node event → AtEnds (Passes t) es →
+    AtEnds (Passes t) (all_heard es x r event tag)
+hearing_passes t es x r event tag says h =
+    told_all (Passes t) (all_queued es x r.node event tag)
+    (all_queued_all (Passes t) es h x r.node event tag
+    (λ y s k. (k.0, all_both t s.queue (map (λ z. record { msg = z; tag = tag }) (sends_to r.node event y)) k.1 (tagged_all t tag (sends_to r.node event y) (to_pass t tag r.node event says y)))))
+    x r event tag
+    (λ y s k. (
+      k.0,
+      all_both t s.queue (map (λ z. record { msg = z; tag = tag }) (told_to r event y)) k.1
+          (tagged_all t tag (told_to r event y) (weaker is_told (λ z. t (record { msg = z; tag = tag })) says.1 (told_to r event y) (told_alone r event y))),
+    ))
 
 -- one message more on a wire
 sent_passes : (t : Tagged → Bool) (s : EndState) (msg : Msg) (tag : ℕ) → t (record { msg = msg; tag = tag }) ≡ true → Passes t s → Passes t (sent s msg tag)
@@ -155,12 +169,15 @@ module _ (t : Tagged → Bool) (i : Item → Bool) (carried : (msg : Msg) (tag :
     says : (n : ℕ) (client : List ℕ) (msg : Msg) → t (record { msg = msg; tag = n }) ≡ true → Says now (Watched t i) n client msg
     says n client msg k s e en ee unbroken clients same = record { waits = wrote n client s msg en ee k; sends_only = more [] (λ q. refl) }
 
+    weighs : (n : ℕ) (client key : List ℕ) (msg : Msg) → t (record { msg = msg; tag = n }) ≡ true → Weighs now (Watched t i) n client key msg
+    weighs n client key msg k s e en ee unbroken r er room clients same = record { waits = wrote n client s msg en ee k; sends_only = more [] (λ q. refl) }
+
     pub act_watched : (n : ℕ) (act : Act) → Allows t n act → IfSome (went now (outcome now.world n act)) (Watched t i)
     unfolding outcome
     act_watched n (c.Router id) k = for_router now (Watched t i) id (λ free room. record { waits = h.waits; sends_only = more [] (λ q. refl) })
     act_watched n (c.Client id router) k = for_client now (Watched t i) n id router
         (λ r er free room taken. record {
-          waits = hearing_passes t (put_end es (router, id) (lifted new_end)) router r.node (up_event r (record { id = id; role = role.Client })) n (k r (record { id = id; role = role.Client })) (put_end_all (Passes t) es h.waits (router, id) (lifted new_end) (refl, refl));
+          waits = hearing_passes t (put_end es (router, id) (lifted new_end)) router r (up_event r (record { id = id; role = role.Client })) n (k r (record { id = id; role = role.Client })) (put_end_all (Passes t) es h.waits (router, id) (lifted new_end) (refl, refl));
           sends_only = more [] (λ q. refl);
         })
     act_watched n (c.Link one other) k = for_link now (Watched t i) one other
@@ -170,7 +187,7 @@ module _ (t : Tagged → Bool) (i : Item → Bool) (carried : (msg : Msg) (tag :
         })
     act_watched n (c.Up router name) k = for_up now (Watched t i) n router name
         (λ r er there s es_ unbroken down taken. record {
-          waits = hearing_passes t (with_end es (router, name) (lifted s)) router r.node (up_event r (peer_of now.world name)) n (k r (peer_of now.world name))
+          waits = hearing_passes t (with_end es (router, name) (lifted s)) router r (up_event r (peer_of now.world name)) n (k r (peer_of now.world name))
               (with_end_all (Passes t) es h.waits (router, name) (lifted s) (ap is_some es_) (of_found (Passes t) (end_of es (router, name)) s es_ (h.waits (router, name))));
           sends_only = more [] (λ q. refl);
         })
@@ -181,13 +198,17 @@ module _ (t : Tagged → Bool) (i : Item → Bool) (carried : (msg : Msg) (tag :
         })
     act_watched n (c.Down router name) k = for_down now (Watched t i) n router name
         (λ r er there s es_ up cut l el taken. record {
-          waits = changed_all (Passes t) (all_queued es router r.node (Down l) n) (hearing_passes t es router r.node (Down l) n (k r.node l) h.waits) (router, name) lowered (λ s p. (p.0, refl));
+          waits = changed_all (Passes t) (all_heard es router r (Down l) n) (hearing_passes t es router r (Down l) n (k r.node l) h.waits) (router, name) lowered (λ s p. (p.0, refl));
           sends_only = more [] (λ q. refl);
         })
     act_watched n (c.Sub client id key) k = declares n client sort.Sub id key (m.Sub id key) k
     act_watched n (c.Unsub client id) k = undeclares n client sort.Sub id (m.Unsub id) k
     act_watched n (c.Able client id key complete) k = declares n client (able_kind complete) id key (m.Able id key complete) k
     act_watched n (c.Unable client id) k = undeclares n client sort.Able id (m.Unable id) k
+    act_watched n (c.Interest client id mode kinds key aggregate) k =
+        let msg : Msg = m.Interest id (is_current mode) (is_future mode) kinds key aggregate in
+        interest_says now (Watched t i) n client id mode kinds key aggregate (says n client msg k) (weighs n client (unwrap_or key []) msg k)
+    act_watched n (c.Uninterest client id) k = uninterest_says now (Watched t i) n client id (says n client (m.EndInterest id) k)
     act_watched n (c.Publish client content) k = publish_says now (Watched t i) n client content (says n client (m.Push None content) k)
     act_watched n (c.Get client number target content) k = get_says now (Watched t i) n client number target content (says n client (m.Request None number target content) k)
     act_watched n (c.Reply client number content) k = reply_says now (Watched t i) n client number content (says n client (m.Response number content) k)
@@ -197,7 +218,7 @@ module _ (t : Tagged → Bool) (i : Item → Bool) (carried : (msg : Msg) (tag :
         let old = of_found (Passes t) (end_of es (router, from)) s es_ (h.waits (router, from)) in
         let parts = and_parts (t (record { msg = msg; tag = tag })) (list_all t xs) (ap (list_all t) (sym front) ∙ old.0) in
         record {
-          waits = hearing_passes t (with_end es (router, from) (with_wire s xs)) router r.node (From l msg) tag (goes_on r.node l msg tag parts.0)
+          waits = hearing_passes t (with_end es (router, from) (with_wire s xs)) router r (From l msg) tag (goes_on r.node l msg tag parts.0)
               (with_end_all (Passes t) es h.waits (router, from) (with_wire s xs) (ap is_some es_) (parts.1, old.1));
           sends_only = more (line.Handled router from msg tag ∷ []) (λ q. refl);
         })

@@ -1,6 +1,6 @@
 -- The keys of a script's acts: each is the canonical text of an expression. So whether a subscription asks for a sample or a queryable can answer
 -- a query, which the definitions test on texts, is whether some key is matched by both expressions, or the one covers the other.
-use Rattle.std.specs.Prelude.{◌≡◌, ◌↔◌, ℕ, true, List, ◌∷◌, ◌++◌}
+use Rattle.std.specs.Prelude.{◌≡◌, ◌↔◌, ℕ, true, List, ◌∷◌, ◌++◌, IfSome}
 use Rattle.zr_key.specs.Key.{expression_of, IsKeyText}
 use Rattle.zr_match.specs.Match.{Meets, Covers}
 use Rattle.zr_msg.specs.declared.msg.Target.TheVariants.{All, Complete}
@@ -22,6 +22,8 @@ HasKeyText (a.Sub client id key) = IsKeyText key
 HasKeyText (a.Unsub client id) = Unit {0}
 HasKeyText (a.Able client id key complete) = IsKeyText key
 HasKeyText (a.Unable client id) = Unit {0}
+HasKeyText (a.Interest client id mode kinds key aggregate) = IfSome key IsKeyText
+HasKeyText (a.Uninterest client id) = Unit {0}
 HasKeyText (a.Publish client content) = IsKeyText content.key
 HasKeyText (a.Get client number target content) = IsKeyText content.key
 HasKeyText (a.Reply client number content) = IsKeyText content.key

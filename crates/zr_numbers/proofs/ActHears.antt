@@ -16,13 +16,14 @@ use Rattle.zr_routing.specs.Tables.{link_to, free_link}
 use Rattle.zr_table.specs.Table.{after}
 use Rattle.zr_table.specs.Event.{MayCome}
 use Rattle.zr_network.specs.World.{Tagged, RouterState, EndState, End, Ends, WorldState, with_ends, router_of, client_of, end_of, is_end, is_up, is_unbroken, is_taken, with_end, put_end, with_wire, lifted, lowered, new_end, new_client}
-use Rattle.zr_network.specs.Acts.{peer_of, up_event, hearing, heard}
+use Rattle.zr_network.specs.Acts.{peer_of, up_event, hearing, sending}
 use Rattle.zr_network.specs.Sound.{AreUnique, IsSound}
 use Rattle.zr_network.proofs.Keyed.{not_there}
 use Rattle.zr_network.proofs.Names.{value_new}
 use Rattle.zr_network.proofs.Ends.{same_end, read_with_end, keep_with_end, read_put_end, keep_put_end, read_changed, keep_changed}
 use Rattle.zr_network.proofs.Fits.{own_end, other_end}
-use Rattle.zr_network.proofs.Cases.{w_client, w_up, w_down, w_handle, free_name}
+use Rattle.zr_network.proofs.Cases.{free_name}
+use Rattle.zr_settled.proofs.Told.{w_client, w_up, w_down, w_handle}
 use Rattle.zr_settled.proofs.Worlds.{router_heard, unbroken_heard, some_heard}
 use Rattle.zr_settled.proofs.Quiet.{passes_there}
 use Rattle.zr_settled.proofs.Orderly.{Orderly}
@@ -111,7 +112,7 @@ module _ (w : WorldState) (sound : IsSound w) (orderly : Orderly w) (a : List �
   module _ (link : LinkNo) (peer : Peer) (may : MayCome r.node (Up link peer)) (done : EventIsDone r.node (Up link peer)) (tag : ℕ) (es : Ends) (queues : (e : End) → queue_at es e ≡ queue_at w.ends e)
       (wires : (e : End) → wire_at es e ≡ wire_at w.ends e) where
     abbrev w_lifted : WorldState
-    w_lifted = heard (with_ends w es) a r (Up link peer) tag
+    w_lifted = sending (with_ends w es) a r (Up link peer) tag
 
     pub up_moves : (above below : List ℕ → List ℕ → Deed → Type 0) → Fits above below a r.node (Up link peer) tag → ((y : List ℕ) → is_some (link_to (after r.node (Up link peer)).links y) ≡ is_up w_lifted.ends (a, y)) → AreUnique (after r.node (Up link peer)).links → (x y : List ℕ) →
         is_named x y ≡ false → Moves (above x y) (below x y) (link_of w x y) (link_of w_lifted x y)
@@ -160,7 +161,7 @@ module _ (w : WorldState) (sound : IsSound w) (orderly : Orderly w) (a : List �
     es_came = put_end w.ends (a, id) (lifted new_end)
 
     abbrev w_met : WorldState
-    w_met = heard (with_ends w es_came) a r event_came n
+    w_met = sending (with_ends w es_came) a r event_came n
 
     abbrev w_came : WorldState
     w_came = w_client w n id a r
@@ -237,7 +238,7 @@ module _ (w : WorldState) (sound : IsSound w) (orderly : Orderly w) (a : List �
   module _ (name : List ℕ) (s : EndState) (at : end_of w.ends (a, name) ≡ Some s) (cut : s.unbroken ≡ false) (n : ℕ) (k : LinkPeer) (linked : link_to r.node.links name ≡ Some k)
       (done : EventIsDone r.node (Down k.link)) where
     abbrev w_heard : WorldState
-    w_heard = heard w a r (Down k.link) n
+    w_heard = sending w a r (Down k.link) n
 
     abbrev w_less : WorldState
     w_less = w_down w n a name r k.link

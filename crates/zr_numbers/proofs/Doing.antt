@@ -1,6 +1,6 @@
 -- What one end of a link does there by one act (`Moves`): it handles what came, if something did, and then it does what is its own. As the upper end it
 -- sends requests and handles replies and finals, as the lower end it sends these and takes requests. Events on the link lead there (`moves_lead`).
-use Rattle.std.proofs.Common.{◌≡◌, ℕ, true, List, [], ◌∷◌, ◌++◌, Option, refl, sym, subst}
+use Rattle.std.proofs.Common.{◌≡◌, ℕ, true, List, [], ◌++◌, Option, refl, sym, subst}
 use Rattle.std.specs.List.{AllByRecursion, flat_map, list_all}
 use Rattle.zr_msg.specs.declared.msg.Msg.{Msg}
 use Rattle.zr_msg.specs.declared.msg.Msg.TheVariants.{Sub, Unsub, Able, Unable, Interest, EndInterest, ToldSub, ToldAble, ToldUnsub, ToldUnable, ToldEnd, Push, Request, Response, Final, State, Step, Snap}

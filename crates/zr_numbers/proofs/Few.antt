@@ -1,7 +1,7 @@
 -- How many numbers are pending: an event adds at most one on each link of a router (`few_after`), and so does an act in each router of a world
 -- (`act_few`).
 use Rattle.std.proofs.Common.{◌≡◌, ◌≤◌, ◌+◌, ℕ, ◌==◌, Bool, true, false, cond, not, List, [], ◌∷◌, length, Some, None, refl, sym, ap, ◌∙◌, subst, arith}
-use Rattle.std.specs.Prelude.{filter, IfSome}
+use Rattle.std.specs.Prelude.{filter, IfSome, unwrap_or}
 use Rattle.std.specs.List.{list_any}
 use Rattle.std.specs.BTreeMap.{insert_entry}
 use Rattle.std.specs.Ordering.{nat_cmp}
@@ -33,7 +33,8 @@ use Rattle.zr_network.specs.Acts.{outcome, hearing, weighing, up_event, peer_of}
 use Rattle.zr_network.specs.Moments.{Moment, went}
 use Rattle.zr_network.proofs.Keyed.{not_there}
 use Rattle.zr_network.proofs.Names.{value_new, read_after}
-use Rattle.zr_network.proofs.Cases.{free_name, for_router, for_client, for_link, for_up, for_break, for_down, for_declare, for_undeclare, publish_says, get_says, reply_says, end_says, for_handle, for_take, for_mark, for_show}
+use Rattle.zr_network.proofs.Cases.{free_name, for_router, for_link, for_break, for_declare, for_undeclare, publish_says, get_says, reply_says, end_says, for_take, for_mark, for_show, interest_says, uninterest_says}
+use Rattle.zr_settled.proofs.Told.{of_each, for_client, for_up, for_down, for_handle}
 use Rattle.zr_settled.proofs.Spreading.{Name}
 use Rattle.zr_numbers.specs.Rows.{AreFew, AreOfLinks}
 use Rattle.zr_numbers.proofs.Apart.{asked_differ}
@@ -181,20 +182,23 @@ module _ (n : ℕ) (now : Moment) (tables : (x : Name) (r : RouterState) → rou
   pub act_few : (line : ℕ) (act : Act) → IfSome (went now (outcome w line act)) Few
   unfolding outcome
   act_few line (a.Router id) = for_router now Few id (λ free room. comes id (not_there (router_of w.routers id) (free_name w id free).0))
-  act_few line (a.Client id router) = for_client now Few line id router (λ r found free room taken. hears router r found (up_event r (record { id = id; role = Client })))
+  act_few line (a.Client id router) = for_client now Few (λ u v report t k. of_each u v t (λ x b. AreFew (n + 1) b) k) line id router (λ r found free room taken. hears router r found (up_event r (record { id = id; role = Client })))
   act_few line (a.Link one other) = for_link now Few one other (λ apart r found q found' new room. stays)
-  act_few line (a.Up router name) = for_up now Few line router name (λ r found there s at_end unbroken down taken. hears router r found (up_event r (peer_of w name)))
+  act_few line (a.Up router name) = for_up now Few (λ u v report t k. of_each u v t (λ x b. AreFew (n + 1) b) k) line router name (λ r found there s at_end unbroken down taken. hears router r found (up_event r (peer_of w name)))
   act_few line (a.Break router name) = for_break now Few router name (λ r found there s at_end unbroken. stays)
-  act_few line (a.Down router name) = for_down now Few line router name (λ r found there s at_end up cut l number taken. hears router r found (Down l))
+  act_few line (a.Down router name) = for_down now Few (λ u v report t k. of_each u v t (λ x b. AreFew (n + 1) b) k) line router name (λ r found there s at_end up cut l number taken. hears router r found (Down l))
   act_few line (a.Sub client id key) = for_declare now Few line client k.Sub id key (Sub id key) (λ s found fresh e at_end unbroken r there weighs. heavier s.router key r there)
   act_few line (a.Unsub client id) = for_undeclare now Few line client k.Sub id (Unsub id) (λ s found known e at_end unbroken. stays)
   act_few line (a.Able client id key complete) = for_declare now Few line client (able_kind complete) id key (Able id key complete) (λ s found fresh e at_end unbroken r there weighs. heavier s.router key r there)
   act_few line (a.Unable client id) = for_undeclare now Few line client k.Able id (Unable id) (λ s found known e at_end unbroken. stays)
+  act_few line (a.Interest client id mode kinds key aggregate) = interest_says now Few line client id mode kinds key aggregate (λ s found e at_end unbroken clients same. stays)
+      (λ s found e at_end unbroken r there room clients same. heavier s.router (unwrap_or key []) r there)
+  act_few line (a.Uninterest client id) = uninterest_says now Few line client id (λ s found e at_end unbroken clients same. stays)
   act_few line (a.Publish client content) = publish_says now Few line client content (λ s found e at_end unbroken clients same. stays)
   act_few line (a.Get client number target content) = get_says now Few line client number target content (λ s found e at_end unbroken clients same. stays)
   act_few line (a.Reply client number content) = reply_says now Few line client number content (λ s found e at_end unbroken clients same. stays)
   act_few line (a.End client number) = end_says now Few line client number (λ s found e at_end unbroken clients same. stays)
-  act_few line (a.Handle router from) = for_handle now Few router from (λ r found there s at_end up msg tag xs front l number taken. hears router r found (From l msg))
+  act_few line (a.Handle router from) = for_handle now Few (λ u v report t k. of_each u v t (λ x b. AreFew (n + 1) b) k) router from (λ r found there s at_end up msg tag xs front l number taken. hears router r found (From l msg))
   act_few line (a.Take router to) = for_take now Few router to (λ r found there s at_end up unbroken msg tag xs front. stays)
   act_few line a.Mark = for_mark now Few line (λ settled joined. stays)
   act_few line (a.Show router) = for_show now Few router (λ r found. stays)

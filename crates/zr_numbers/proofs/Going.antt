@@ -1,6 +1,6 @@
 -- What numbers say at every moment (`NumbersGo`): each act that is not refused keeps it (`act_numbers`).
 use Rattle.std.proofs.Common.{◌≡◌, ℕ, ◌==◌, ◌⊎◌, inl, inr, Bool, true, false, cond, not, List, [], ◌∷◌, ◌++◌, Option, Some, None, is_some, refl, sym, ap, ◌∙◌, subst}
-use Rattle.std.specs.Prelude.{◌||◌, IfSome}
+use Rattle.std.specs.Prelude.{◌||◌, IfSome, unwrap_or}
 use Rattle.std.proofs.lemmas.Bool.{false≢true, true≢false, and_parts, and_from, or_left, or_parts, not-true, false_from_ne_true, eqb-true, eq-eqb}
 use Rattle.zr_id.specs.Zid.{is_named}
 use Rattle.zr_graph.proofs.Names.{same_is}
@@ -16,6 +16,7 @@ use Rattle.zr_msg.specs.declared.event.Event.TheVariants.{Down, From}
 use Rattle.zr_msg.specs.declared.peer.Role.TheVariants as role
 use Rattle.zr_msg.specs.declared.peer.LinkPeer.{LinkPeer}
 use Rattle.zr_command.specs.declared.command.Act.{Act}
+use Rattle.zr_command.specs.Mode.{is_current, is_future}
 use Rattle.zr_command.specs.declared.command.Act.TheVariants as c
 use Rattle.zr_routing.specs.Tables.{link_to}
 use Rattle.zr_table.specs.State.{NodeState, new_node}
@@ -23,14 +24,16 @@ use Rattle.zr_table.specs.Table.{able_kind, refuses}
 use Rattle.zr_table.specs.Event.{MayCome}
 use Rattle.zr_table.proofs.AreLinks.{no_links}
 use Rattle.zr_table.proofs.Inserted.{All-any}
+use Rattle.zr_network.specs.Sound.{IsSound}
 use Rattle.zr_network.specs.World.{Tagged, RouterState, ClientState, EndState, WorldState, with_clients, router_of, client_of, end_of, is_taken, is_unbroken, with_router, with_client, with_end, with_queue, sent, changed, new_router, new_client}
-use Rattle.zr_network.specs.Acts.{has_number, without_number, weighing, ids_of, with_ids, declaring, undeclaring, asking, ending, receiving, received, hearing, peer_of, up_event, declare_step, undeclare_step, outcome}
+use Rattle.zr_network.specs.Acts.{has_number, without_number, weighing, ids_of, with_ids, declaring, undeclaring, asking, ending, receiving, received, hearing, peer_of, up_event, declare_step, undeclare_step, outcome, wanting, unwanting}
 use Rattle.zr_network.specs.Moments.{Moment, went}
 use Rattle.zr_network.proofs.Keyed.{not_there}
 use Rattle.zr_network.proofs.Names.{value_new, value_after, read_kept}
 use Rattle.zr_network.proofs.Clients.{idle_receiving}
-use Rattle.zr_network.proofs.Cases.{w_client, w_link, w_up, w_break, w_down, w_sent, w_declare, w_undeclare, w_handle, w_take, free_name, number_found, for_router, for_client, for_link, for_up, for_break, for_down, for_declare, for_undeclare, for_publish, for_get, for_reply, for_end, for_handle, for_take, for_mark, for_show}
+use Rattle.zr_network.proofs.Cases.{w_link, w_break, w_sent, w_declare, w_undeclare, w_take, free_name, number_found, for_router, for_link, for_break, for_declare, for_undeclare, for_publish, for_get, for_reply, for_end, for_take, for_mark, for_show, w_weighed, for_interest, for_uninterest}
 use Rattle.zr_network.proofs.Sound.{up_may_come, client_may_come, down_may_come, from_may_come}
+use Rattle.zr_settled.proofs.Told.{IsTold, if_sound, told_unbroken, of_each, w_client, w_up, w_down, w_handle, for_client, for_up, for_down, for_handle}
 use Rattle.zr_settled.proofs.Moving.{unbroken_at}
 use Rattle.zr_settled.proofs.Goes.{Goes}
 use Rattle.zr_asking.specs.Link.{Hop, Free, Shows, fresh}
@@ -42,7 +45,8 @@ use Rattle.zr_numbers.specs.Numbers.{are_apart}
 use Rattle.zr_numbers.proofs.Leading.{shows_on}
 use Rattle.zr_numbers.proofs.Waits.{asks_among, router_holds, router_awaits}
 use Rattle.zr_numbers.proofs.Done.{events_are_done}
-use Rattle.zr_numbers.proofs.Whole.{LinksGo, links_stay}
+use Rattle.zr_numbers.proofs.Whole.{LinksGo, links_stay, whole_same}
+use Rattle.zr_numbers.proofs.ToldLinks.{link_told}
 use Rattle.zr_numbers.proofs.Doing.{moves_lead}
 use Rattle.zr_numbers.proofs.HeardLinks.{Fits}
 use Rattle.zr_numbers.proofs.ActHears.{handle_links, up_links, client_links, down_links}
@@ -151,12 +155,27 @@ each_then P false new o x h each e = each x e
 new_rows : (id : List ℕ) → AreOfLinks (new_node id)
 new_rows id = record { numbered = (no_links id).ascending; sound = record { pending = refl; distinct = refl; askers = refl }; askers = tt; branches = tt }
 
+-- clients are told
+pub numbers_told : (w v : WorldState) → IsTold w v → NumbersGo w → NumbersGo v
+numbers_told w v t h = record {
+  shown = λ x y whole. let was = h.shown x y (whole_same w v (told_unbroken w v t) x y whole) in (was.0, subst (λ l. Shows l was.0) (link_told w v t x y) was.1);
+  nodes = of_each w v t (λ x n. AreOfLinks n) h.nodes;
+  clients = λ c s found. h.clients c s (ap (λ cs. client_of cs c) (sym t.clients) ∙ found);
+}
+
 module _ (now : Moment) (g : Goes now.world) (h : NumbersGo now.world) where
   abbrev w : WorldState
   w = now.world
 
   abbrev IsKept : Moment → Type 0
   IsKept next = Goes next.world → NumbersGo next.world
+
+  abbrev Kept : Moment → Type 0
+  Kept next = IsSound next.world → NumbersGo next.world
+
+  and_goes : (o : Option Moment) → IfSome o Kept → IfSome o IsKept
+  and_goes None k = tt
+  and_goes (Some next) k = λ g'. k g'.sound
 
   -- ---- a router hears of an event
 
@@ -169,17 +188,17 @@ module _ (now : Moment) (g : Goes now.world) (h : NumbersGo now.world) where
         (done event may taken).keeps (h.nodes x) (sym (value_after w.routers a x (hearing r event) (ap is_some er)) ∙ found)
 
     handled_at : (from : List ℕ) (s : EndState) → end_of w.ends (a, from) ≡ Some s → (msg : Msg) (tag : ℕ) (xs : List Tagged) → s.wire ≡ record { msg = msg; tag = tag } ∷ xs →
-        (k : LinkPeer) → link_to r.node.links from ≡ Some k → MayCome r.node (From k.link msg) → refuses r.node (From k.link msg) ≡ None → Goes (w_handle w a from r s k.link msg tag xs) →
+        (k : LinkPeer) → link_to r.node.links from ≡ Some k → MayCome r.node (From k.link msg) → refuses r.node (From k.link msg) ≡ None → IsSound (w_handle w a from r s k.link msg tag xs) →
         NumbersGo (w_handle w a from r s k.link msg tag xs)
-    handled_at from s es msg tag xs first k linked may taken g' = record {
-      shown = shown_then w (w_handle w a from r s k.link msg tag xs) h.shown (handle_links w g.sound g.orderly a r er from s es msg tag xs first k linked (done (From k.link msg) may taken) AnyDeed AnyDeed (any_fits a r.node (From k.link msg) tag) g'.sound);
+    handled_at from s es msg tag xs first k linked may taken sound' = record {
+      shown = shown_then w (w_handle w a from r s k.link msg tag xs) h.shown (handle_links w g.sound g.orderly a r er from s es msg tag xs first k linked (done (From k.link msg) may taken) AnyDeed AnyDeed (any_fits a r.node (From k.link msg) tag) sound');
       nodes = rows_then (From k.link msg) may taken;
       clients = h.clients;
     }
 
-    upped : (n : ℕ) (name : List ℕ) (s : EndState) → end_of w.ends (a, name) ≡ Some s → s.up ≡ false → refuses r.node (up_event r (peer_of w name)) ≡ None → Goes (w_up w n a name r s) → NumbersGo (w_up w n a name r s)
-    upped n name s es down taken g' = record {
-      shown = shown_then w (w_up w n a name r s) h.shown (up_links w g.sound g.orderly a r er name s es n may (done (up_event r (peer_of w name)) may taken) AnyDeed AnyDeed (any_fits a r.node (up_event r (peer_of w name)) n) g'.sound);
+    upped : (n : ℕ) (name : List ℕ) (s : EndState) → end_of w.ends (a, name) ≡ Some s → s.up ≡ false → refuses r.node (up_event r (peer_of w name)) ≡ None → IsSound (w_up w n a name r s) → NumbersGo (w_up w n a name r s)
+    upped n name s es down taken sound' = record {
+      shown = shown_then w (w_up w n a name r s) h.shown (up_links w g.sound g.orderly a r er name s es n may (done (up_event r (peer_of w name)) may taken) AnyDeed AnyDeed (any_fits a r.node (up_event r (peer_of w name)) n) sound');
       nodes = rows_then (up_event r (peer_of w name)) may taken;
       clients = h.clients;
     }
@@ -187,10 +206,10 @@ module _ (now : Moment) (g : Goes now.world) (h : NumbersGo now.world) where
         may : MayCome r.node (up_event r (peer_of w name))
         may = up_may_come w g.sound a name r er s es down
 
-    client_came : (n : ℕ) (id : List ℕ) → is_taken w id ≡ false → refuses r.node (up_event r (record { id = id; role = role.Client })) ≡ None → Goes (w_client w n id a r) → NumbersGo (w_client w n id a r)
-    client_came n id free taken g' = record {
+    client_came : (n : ℕ) (id : List ℕ) → is_taken w id ≡ false → refuses r.node (up_event r (record { id = id; role = role.Client })) ≡ None → IsSound (w_client w n id a r) → NumbersGo (w_client w n id a r)
+    client_came n id free taken sound' = record {
       shown = shown_then w (w_client w n id a r) h.shown (client_links w g.sound g.orderly a r er id free n may (done (up_event r (record { id = id; role = role.Client })) may taken) AnyDeed AnyDeed
-          (any_fits a r.node (up_event r (record { id = id; role = role.Client })) n) g'.sound);
+          (any_fits a r.node (up_event r (record { id = id; role = role.Client })) n) sound');
       nodes = rows_then (up_event r (record { id = id; role = role.Client })) may taken;
       clients = λ q s found. each_then IsApart (is_named q id) (new_client a) (client_of w.clients q) s (new_is_apart a) (h.clients q)
           (sym (value_new w.clients id q (new_client a) (not_there (client_of w.clients id) (free_name w id free).1)) ∙ found);
@@ -200,9 +219,9 @@ module _ (now : Moment) (g : Goes now.world) (h : NumbersGo now.world) where
         may = client_may_come w g.sound a id r er free
 
     downed : (n : ℕ) (name : List ℕ) (s : EndState) → end_of w.ends (a, name) ≡ Some s → s.unbroken ≡ false → (k : LinkPeer) → link_to r.node.links name ≡ Some k → MayCome r.node (Down k.link) →
-        refuses r.node (Down k.link) ≡ None → Goes (w_down w n a name r k.link) → NumbersGo (w_down w n a name r k.link)
-    downed n name s es cut k linked may taken g' = record {
-      shown = shown_then w (w_down w n a name r k.link) h.shown (down_links w g.sound g.orderly a r er name s es cut n k linked (done (Down k.link) may taken) AnyDeed AnyDeed (any_fits a r.node (Down k.link) n) g'.sound);
+        refuses r.node (Down k.link) ≡ None → IsSound (w_down w n a name r k.link) → NumbersGo (w_down w n a name r k.link)
+    downed n name s es cut k linked may taken sound' = record {
+      shown = shown_then w (w_down w n a name r k.link) h.shown (down_links w g.sound g.orderly a r er name s es cut n k linked (done (Down k.link) may taken) AnyDeed AnyDeed (any_fits a r.node (Down k.link) n) sound');
       nodes = rows_then (Down k.link) may taken;
       clients = h.clients;
     }
@@ -237,27 +256,27 @@ module _ (now : Moment) (g : Goes now.world) (h : NumbersGo now.world) where
         same q false k = refl
         same q true k = ap (client_of w.clients) (sym (same_is name q k)) ∙ es
 
-    -- or declares something, which weighs on its router
-    declared : (kind : Kind) (id : ℕ) (key : List ℕ) (r : RouterState) → router_of w.routers s.router ≡ Some r → asks_in n msg ≡ [] → answers_in n msg ≡ [] →
-        NumbersGo (w_declare w n name kind id key msg s e r)
-    declared kind id key r er no_ask no_answer = record {
+    -- or what it says weighs on its router
+    weighs : (s' : ClientState) → s'.router ≡ s.router → s'.queries ≡ s.queries → s'.requests ≡ s.requests → (key : List ℕ) (r : RouterState) → router_of w.routers s.router ≡ Some r → asks_in n msg ≡ [] → answers_in n msg ≡ [] →
+        NumbersGo (w_weighed w n name key msg s e r (with_client w.clients name s'))
+    weighs s' home queries requests key r er no_ask no_answer = record {
       shown = shown_then w v h.shown
-          (said_links w g.sound g.orderly g.clients name s es v s' ids.0 (λ q. value_after w.clients name q s' (ap is_some es))
+          (said_links w g.sound g.orderly g.clients name s es v s' home (λ q. value_after w.clients name q s' (ap is_some es))
           (λ x y k. read_kept (router_holds x k) w.routers s.router y r (weighing r key) er refl) (λ x y k. read_kept (router_awaits y k) w.routers s.router x r (weighing r key) er refl)
-          n msg e ee refl (quiet_deeds name s s' n msg no_ask no_answer ids.1 ids.2) AnyDeed AnyDeed tt tt);
+          n msg e ee refl (quiet_deeds name s s' n msg no_ask no_answer queries requests) AnyDeed AnyDeed tt tt);
       nodes = λ x q found. each_then (λ (z : RouterState). AreOfLinks z.node) (is_named s.router x) (weighing r key) (router_of w.routers x) q (h.nodes s.router r er) (h.nodes x)
           (sym (value_after w.routers s.router x (weighing r key) (ap is_some er)) ∙ found);
-      clients = apart_then s' (same_apart s s' ids.1 ids.2 (h.clients name s es));
+      clients = apart_then s' (same_apart s s' queries requests (h.clients name s es));
     }
       where
-        s' : ClientState
-        s' = declaring s kind id
-
         v : WorldState
-        v = w_declare w n name kind id key msg s e r
+        v = w_weighed w n name key msg s e r (with_client w.clients name s')
 
-        ids : (s'.router ≡ s.router) × (s'.queries ≡ s.queries) × (s'.requests ≡ s.requests)
-        ids = ids_apart s kind (ids_of s kind ++ id ∷ [])
+    declared : (kind : Kind) (id : ℕ) (key : List ℕ) (r : RouterState) → router_of w.routers s.router ≡ Some r → asks_in n msg ≡ [] → answers_in n msg ≡ [] →
+        NumbersGo (w_declare w n name kind id key msg s e r)
+    declared kind id key r er no_ask no_answer =
+        let ids = ids_apart s kind (ids_of s kind ++ id ∷ []) in
+        weighs (declaring s kind id) ids.0 ids.1 ids.2 key r er no_ask no_answer
 
     undeclared : (kind : Kind) (id : ℕ) → asks_in n msg ≡ [] → answers_in n msg ≡ [] → NumbersGo (w_undeclare w n name kind id msg s e)
     undeclared kind id no_ask no_answer =
@@ -342,26 +361,34 @@ module _ (now : Moment) (g : Goes now.world) (h : NumbersGo now.world) where
         (sym (value_new w.routers id x (new_router id) (not_there (router_of w.routers id) (free_name w id free).0)) ∙ found);
     clients = h.clients;
   })
-  act_numbers n (c.Client id router) = for_client now IsKept n id router (λ r er free room taken. client_came router r er n id free taken)
+  act_numbers n (c.Client id router) = and_goes _ (for_client now Kept (if_sound NumbersGo (λ u v t s. numbers_told u v t)) n id router (λ r er free room taken. client_came router r er n id free taken))
   act_numbers n (c.Link one other) = for_link now IsKept one other (λ apart r er q eq new room g'. record {
     shown = shown_then w (w_link w one other) h.shown (links_stay AnyDeed AnyDeed w (w_link w one other) (link_links w g.sound g.orderly one other r q er eq new));
     nodes = h.nodes;
     clients = h.clients;
   })
-  act_numbers n (c.Up router name) = for_up now IsKept n router name (λ r er there s es unbroken down taken. upped router r er n name s es down taken)
+  act_numbers n (c.Up router name) = and_goes _ (for_up now Kept (if_sound NumbersGo (λ u v t s. numbers_told u v t)) n router name (λ r er there s es unbroken down taken. upped router r er n name s es down taken))
   act_numbers n (c.Break router name) = for_break now IsKept router name (λ r er there s es unbroken g'. record {
     shown = shown_then w (w_break w router name) h.shown (links_stay AnyDeed AnyDeed w (w_break w router name) (break_links w router name));
     nodes = h.nodes;
     clients = h.clients;
   })
-  act_numbers n (c.Down router name) = for_down now IsKept n router name (λ r er there s es up cut l el taken.
+  act_numbers n (c.Down router name) = and_goes _ (for_down now Kept (if_sound NumbersGo (λ u v t s. numbers_told u v t)) n router name (λ r er there s es up cut l el taken.
       let k = number_found r name l el in
-      subst (λ z. MayCome r.node (Down z) → refuses r.node (Down z) ≡ None → Goes (w_down w n router name r z) → NumbersGo (w_down w n router name r z)) k.2
-      (downed router r er n name s es cut k.0 k.1) (down_may_come w g.sound router name r er l el) taken)
+      subst (λ z. MayCome r.node (Down z) → refuses r.node (Down z) ≡ None → IsSound (w_down w n router name r z) → NumbersGo (w_down w n router name r z)) k.2
+      (downed router r er n name s es cut k.0 k.1) (down_may_come w g.sound router name r er l el) taken))
   act_numbers n (c.Sub client id key) = declares n client sort.Sub id key (m.Sub id key) refl refl
   act_numbers n (c.Unsub client id) = undeclares n client sort.Sub id (m.Unsub id) refl refl
   act_numbers n (c.Able client id key complete) = declares n client (able_kind complete) id key (m.Able id key complete) refl refl
   act_numbers n (c.Unable client id) = undeclares n client sort.Able id (m.Unable id) refl refl
+  act_numbers n (c.Interest client id mode kinds key aggregate) = for_interest now IsKept n client id mode kinds key aggregate
+      (λ s es fresh e ee unbroken passing g'. said_alone client s es e ee n (m.Interest id (is_current mode) (is_future mode) kinds key aggregate)
+      (quiet_deeds client s s n (m.Interest id (is_current mode) (is_future mode) kinds key aggregate) refl refl refl refl))
+      (λ s es fresh e ee unbroken lasting r er room g'.
+      weighs client s es e ee n (m.Interest id (is_current mode) (is_future mode) kinds key aggregate) (wanting s id) refl refl refl (unwrap_or key []) r er refl refl)
+  act_numbers n (c.Uninterest client id) = for_uninterest now IsKept n client id (λ s es known e ee unbroken g'.
+      said client s es e ee n (m.EndInterest id) (unwanting s id) refl (quiet_deeds client s (unwanting s id) n (m.EndInterest id) refl refl refl refl)
+      (record { queries = (h.clients client s es).queries; requests = (h.clients client s es).requests }))
   act_numbers n (c.Publish client content) = for_publish now IsKept n client content (λ s es e ee unbroken g'.
       said_alone client s es e ee n (m.Push None content) (quiet_deeds client s s n (m.Push None content) refl refl refl refl))
   act_numbers n (c.Get client number target content) = for_get now IsKept n client number target content (λ s es free e ee unbroken room g'.
@@ -372,10 +399,10 @@ module _ (now : Moment) (g : Goes now.world) (h : NumbersGo now.world) where
   act_numbers n (c.End client number) = for_end now IsKept n client number (λ s es e ee unbroken kept g'.
       said client s es e ee n (m.Final number no_extras) (ending s number) refl (end_deeds client s n number kept)
       (record { queries = (h.clients client s es).queries; requests = apart_less s.requests number (h.clients client s es).requests }))
-  act_numbers n (c.Handle router from) = for_handle now IsKept router from (λ r er there s es up msg tag xs first l el taken.
+  act_numbers n (c.Handle router from) = and_goes _ (for_handle now Kept (if_sound NumbersGo (λ u v t s. numbers_told u v t)) router from (λ r er there s es up msg tag xs first l el taken.
       let k = number_found r from l el in
-      subst (λ z. MayCome r.node (From z msg) → refuses r.node (From z msg) ≡ None → Goes (w_handle w router from r s z msg tag xs) → NumbersGo (w_handle w router from r s z msg tag xs)) k.2
-      (handled_at router r er from s es msg tag xs first k.0 k.1) (from_may_come w g.sound router from r er l msg el) taken)
+      subst (λ z. MayCome r.node (From z msg) → refuses r.node (From z msg) ≡ None → IsSound (w_handle w router from r s z msg tag xs) → NumbersGo (w_handle w router from r s z msg tag xs)) k.2
+      (handled_at router r er from s es msg tag xs first k.0 k.1) (from_may_come w g.sound router from r er l msg el) taken))
   act_numbers n (c.Take router to) = for_take now IsKept router to (λ r er there e ee up unbroken msg tag xs first g'. taken router to r er e ee unbroken msg tag xs first)
   act_numbers n c.Mark = for_mark now IsKept n (λ settled joined g'. h)
   act_numbers n (c.Show router) = for_show now IsKept router (λ r er g'. h)

@@ -1,6 +1,6 @@
 -- What a router's event leads to on all links, where those of the router itself stay: the oldest message on a wire may have been handled by it.
 use Rattle.std.proofs.Common.{◌≡◌, ℕ, Bool, true, false, List, [], ◌∷◌, ◌++◌, Option, Some, None, is_some, refl, sym, ap, ◌∙◌, subst, append_assoc, append-nil}
-use Rattle.std.specs.List.{AllByRecursion, flat_map}
+use Rattle.std.specs.List.{AllByRecursion}
 use Rattle.std.specs.Option.{option_map_or}
 use Rattle.zr_id.specs.Zid.{is_named}
 use Rattle.zr_graph.proofs.Names.{same_is}
@@ -10,9 +10,9 @@ use Rattle.zr_table.specs.State.{NodeState}
 use Rattle.zr_table.specs.Table.{after}
 use Rattle.zr_table.proofs.Inserted.{All-each}
 use Rattle.zr_network.specs.World.{Tagged, RouterState, End, Ends, WorldState, router_of, client_of, end_of, with_ends}
-use Rattle.zr_network.specs.Acts.{sends_to, hearing, heard}
-use Rattle.zr_numbers.specs.Waiting.{wire_at, queue_at, waits, asks_in, answers_in, is_kept_by, back_at, link_of}
-use Rattle.zr_numbers.specs.Deeds.{Half, Deed, MayDoAll, asked_by_deed, answered_by_deed, with_deeds}
+use Rattle.zr_network.specs.Acts.{sends_to, hearing, sending}
+use Rattle.zr_numbers.specs.Waiting.{wire_at, queue_at, waits, asks_in, answers_in, link_of}
+use Rattle.zr_numbers.specs.Deeds.{Half, Deed, MayDoAll, with_deeds}
 use Rattle.zr_numbers.proofs.Leading.{handled, answered, requested}
 use Rattle.zr_numbers.proofs.Doing.{Above, Below, Moves, Same, Upper, Lower}
 use Rattle.zr_numbers.proofs.Neighbours.{half_at, handles_at, StaysTo, IsMeantTo, DoesAt}
@@ -49,7 +49,7 @@ module _ (w : WorldState) (es : Ends) (a : List ℕ) (r : RouterState) (found : 
   half = with_ends w es
 
   abbrev v : WorldState
-  v = heard half a r event tag
+  v = sending half a r event tag
 
   half_waits : (x y : List ℕ) → is_named a y ≡ false → waits half x y ≡ waits w x y
   half_waits x y other = (λ i. f.wires y x other i ++ f.queues (x, y) i)

@@ -26,6 +26,7 @@ pub mod ActHears
 pub mod ActLinks
 pub mod ActClients
 pub mod ActTakes
+pub mod ToldLinks
 pub mod Going
 pub mod Numbers
 pub mod EveryWorld

@@ -42,8 +42,8 @@ quiet_keeps node from (Sub id key) e h = record { numbered = h.numbered; sound =
 quiet_keeps node from (Unsub id) e h = record { numbered = h.numbered; sound = h.sound; askers = h.askers; branches = h.branches }
 quiet_keeps node from (Able id key complete) e h = record { numbered = h.numbered; sound = h.sound; askers = h.askers; branches = h.branches }
 quiet_keeps node from (Unable id) e h = record { numbered = h.numbered; sound = h.sound; askers = h.askers; branches = h.branches }
-quiet_keeps node from (Interest id current future kinds key aggregate) e h = h
-quiet_keeps node from (EndInterest id) e h = h
+quiet_keeps node from (Interest id current future kinds key aggregate) e h = record { numbered = h.numbered; sound = h.sound; askers = h.askers; branches = h.branches }
+quiet_keeps node from (EndInterest id) e h = record { numbered = h.numbered; sound = h.sound; askers = h.askers; branches = h.branches }
 quiet_keeps node from (ToldSub id key interest) e h = h
 quiet_keeps node from (ToldAble id key complete interest) e h = h
 quiet_keeps node from (ToldUnsub id) e h = h

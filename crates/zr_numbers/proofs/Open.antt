@@ -15,11 +15,11 @@ use Rattle.zr_command.specs.declared.command.Act.{Act}
 use Rattle.zr_command.specs.declared.command.Act.TheVariants as a
 use Rattle.zr_table.specs.Table.{able_kind}
 use Rattle.zr_network.specs.World.{ClientState, Clients, WorldState, client_of, with_client, new_client, most_queries}
-use Rattle.zr_network.specs.Acts.{outcome, with_ids, ids_of, asking, ending, without_number, receiving, received}
+use Rattle.zr_network.specs.Acts.{outcome, with_ids, ids_of, wanting, unwanting, asking, ending, without_number, receiving, received}
 use Rattle.zr_network.specs.Moments.{Moment, went}
 use Rattle.zr_network.proofs.Keyed.{not_there}
 use Rattle.zr_network.proofs.Names.{value_new, read_after}
-use Rattle.zr_network.proofs.Cases.{free_name, for_router, for_client, for_link, for_up, for_break, for_down, for_declare, for_undeclare, for_publish, for_get, for_reply, for_end, for_handle, for_take, for_mark, for_show}
+use Rattle.zr_network.proofs.Cases.{free_name, for_router, for_client, for_link, for_up, for_break, for_down, for_declare, for_undeclare, for_interest, for_uninterest, for_publish, for_get, for_reply, for_end, for_handle, for_take, for_mark, for_show}
 use Rattle.zr_settled.proofs.Spreading.{Name}
 
 -- each client has room for its queries
@@ -90,6 +90,13 @@ module _ (now : Moment) (h : AreOpen now.world.clients) where
   changes : (c : Name) (s : ClientState) → client_of w.clients c ≡ Some s → (kind : Kind) (ids : List ℕ) → AreOpen (with_client w.clients c (with_ids s kind ids))
   changes c s found kind ids = open_set w.clients c s (with_ids s kind ids) found h (subst (λ ns. length ns ≤ most_queries) (sym (queries_with s kind ids)) (h c s found))
 
+  -- or other interests
+  wants : (c : Name) (s : ClientState) (id : ℕ) → client_of w.clients c ≡ Some s → AreOpen (with_client w.clients c (wanting s id))
+  wants c s id found = open_set w.clients c s (wanting s id) found h (h c s found)
+
+  unwants : (c : Name) (s : ClientState) (id : ℕ) → client_of w.clients c ≡ Some s → AreOpen (with_client w.clients c (unwanting s id))
+  unwants c s id found = open_set w.clients c s (unwanting s id) found h (h c s found)
+
   asks : (c : Name) (s : ClientState) (number : ℕ) → client_of w.clients c ≡ Some s → length s.queries < most_queries → AreOpen (with_client w.clients c (asking s number))
   asks c s number found room = open_set w.clients c s (asking s number) found h (let e = length-append s.queries (number ∷ []) in omega (arith, e, room))
 
@@ -117,6 +124,9 @@ module _ (now : Moment) (h : AreOpen now.world.clients) where
       for_declare now Open line client (able_kind complete) id key (Able id key complete) (λ s found fresh e at_end unbroken r there weighs.
       changes client s found (able_kind complete) (ids_of s (able_kind complete) ++ id ∷ []))
   act_open line (a.Unable client id) = for_undeclare now Open line client k.Able id (Unable id) (λ s found known e at_end unbroken. changes client s found k.Able (without_number (ids_of s k.Able) id))
+  act_open line (a.Interest client id mode kinds key aggregate) =
+      for_interest now Open line client id mode kinds key aggregate (λ s found fresh e at_end unbroken passing. h) (λ s found fresh e at_end unbroken lasting r there room. wants client s id found)
+  act_open line (a.Uninterest client id) = for_uninterest now Open line client id (λ s found known e at_end unbroken. unwants client s id found)
   act_open line (a.Publish client content) = for_publish now Open line client content (λ s found e at_end unbroken. h)
   act_open line (a.Get client number target content) =
       for_get now Open line client number target content (λ s found fresh e at_end unbroken room. asks client s number found (leb-false most_queries (length s.queries) room))

@@ -14,7 +14,7 @@ use Rattle.zr_msg.specs.declared.peer.LinkPeer.{LinkPeer}
 use Rattle.zr_routing.specs.Tables.{link_to}
 use Rattle.zr_table.specs.Table.{sends, after}
 use Rattle.zr_network.specs.World.{Tagged, RouterState, ClientState, EndState, WorldState, router_of, client_of, end_of, queued}
-use Rattle.zr_network.specs.Acts.{has_number, sends_to, hearing, heard}
+use Rattle.zr_network.specs.Acts.{has_number, sends_to, hearing, sending}
 use Rattle.zr_network.proofs.Names.{value_after}
 use Rattle.zr_network.proofs.Ends.{all_queued_is, keep_all_queued}
 use Rattle.zr_asking.specs.Link.{Ask, Answer}
@@ -130,7 +130,7 @@ module _ (w v : WorldState) where
 
 module _ (w : WorldState) (a : List ℕ) (r : RouterState) (found : router_of w.routers a ≡ Some r) (event : Event) (tag : ℕ) where
   abbrev v : WorldState
-  v = heard w a r event tag
+  v = sending w a r event tag
 
   wire_heard : (x y : List ℕ) → wire_at v.ends (x, y) ≡ wire_at w.ends (x, y)
   wire_heard x y = keep_all_queued w.ends a r.node event tag wire_of (x, y) (λ s. refl)

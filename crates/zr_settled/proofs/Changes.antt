@@ -17,7 +17,7 @@ use Rattle.zr_routing.specs.Tables.{link_at, link_to, is_router}
 use Rattle.zr_msg.specs.declared.peer.LinkPeer.{LinkPeer}
 use Rattle.zr_table.specs.Table.{with_name, without_name, own_links, base_up, base_down, base_parted, own_record, all_records, after}
 use Rattle.zr_network.specs.World.{RouterState, EndState, End, Ends, WorldState, with_ends, router_of, end_of, is_end, is_up, is_unbroken, with_end, changed, lifted, lowered}
-use Rattle.zr_network.specs.Acts.{sends_to, hearing, heard}
+use Rattle.zr_network.specs.Acts.{sends_to, hearing, sending}
 use Rattle.zr_network.specs.Sound.{IsSound}
 use Rattle.zr_network.proofs.Keyed.{each_in}
 use Rattle.zr_network.proofs.Ends.{end_parts, read_with_end, keep_with_end}
@@ -41,7 +41,7 @@ module _ (w : WorldState) (h : Holds w) (sound : IsSound w) (a : Name) (r : Rout
   u = with_ends w es
 
   abbrev v : WorldState
-  v = heard u a r event tag
+  v = sending u a r event tag
 
   anew_table : (z : Name) → table_of v a z ≡ cond (is_named a z) (record { number = own (lane_of w) a + 1; value = links }) (table_of w a z)
   anew_table z =
@@ -121,7 +121,7 @@ module _ (w : WorldState) (h : Holds w) (sound : IsSound w) (a : Name) (r : Rout
     up_ends = with_end w.ends (a, peer.id) (lifted s)
 
     abbrev up_world : WorldState
-    up_world = heard (with_ends w up_ends) a r (Up link peer) n
+    up_world = sending (with_ends w up_ends) a r (Up link peer) n
 
     pub up_kept : IsSound up_world → Holds up_world
     up_kept sound' = record {
@@ -217,7 +217,7 @@ module _ (w : WorldState) (h : Holds w) (sound : IsSound w) (a : Name) (r : Rout
 
   module _ (b : Name) (router : there_in w b ≡ true) (k : LinkPeer) (linked : link_to r.node.links b ≡ Some k) (n : ℕ) where
     abbrev part_world : WorldState
-    part_world = heard w a r (Down k.link) n
+    part_world = sending w a r (Down k.link) n
 
     abbrev down_world : WorldState
     down_world = with_ends part_world (changed part_world.ends (a, b) lowered)

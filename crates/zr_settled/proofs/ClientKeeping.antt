@@ -1,7 +1,7 @@
 -- Each act that is not refused keeps what holds of clients and rows (`clients_keep`); and where a world is settled, rows are those of its clients.
 use Rattle.std.proofs.Common.{◌≡◌, ℕ, Bool, true, false, cond, not, List, [], ◌∷◌, Option, Some, None, is_some, refl, sym, ap, ◌∙◌, subst}
-use Rattle.std.specs.Prelude.{◌&&◌, IfSome}
-use Rattle.std.specs.List.{list_all}
+use Rattle.std.specs.Prelude.{◌&&◌, IfSome, unwrap_or}
+use Rattle.std.specs.List.{list_all, AllByRecursion}
 use Rattle.std.specs.Option.{option_map, option_map_or}
 use Rattle.std.proofs.lemmas.Bool.{true≢false, false≢true, false_from_ne_true, and_parts}
 use Rattle.std.proofs.lemmas.Map.Steps.{set_value_same}
@@ -18,13 +18,14 @@ use Rattle.zr_msg.specs.declared.peer.LinkPeer.{LinkPeer}
 use Rattle.zr_msg.specs.declared.peer.Peer.{Peer}
 use Rattle.zr_msg.specs.declared.peer.Role.TheVariants.{Client}
 use Rattle.zr_command.specs.declared.command.Act.{Act}
+use Rattle.zr_command.specs.Mode.{is_current, is_future}
 use Rattle.zr_command.specs.declared.command.Act.TheVariants as a
 use Rattle.zr_local.specs.Rows.{row_at}
 use Rattle.zr_routing.specs.Tables.{is_router, link_to, leads_to_client, free_link}
-use Rattle.zr_table.specs.State.{new_link}
+use Rattle.zr_table.specs.State.{new_link, NodeState}
 use Rattle.zr_table.specs.Table.{key_of, able_kind, with_link}
-use Rattle.zr_network.specs.World.{Tagged, RouterState, EndState, ClientState, End, Ends, WorldState, with_clients, with_ends, new_client, with_client, router_of, client_of, end_of, is_end, put_end, with_end, with_queue, new_end, is_up, is_unbroken, is_taken, empty_world, lifted, lowered, sent, changed, unsettles, is_calm, is_calm_end, is_met}
-use Rattle.zr_network.specs.Acts.{outcome, peer_of, hearing, heard, has_id, declaring, undeclaring, received}
+use Rattle.zr_network.specs.World.{Tagged, RouterState, EndState, ClientState, End, Ends, WorldState, with_clients, with_ends, new_client, with_client, router_of, client_of, end_of, is_end, put_end, with_end, with_queue, new_end, is_up, is_unbroken, is_taken, empty_world, lifted, lowered, sent, changed, unsettles, is_calm, is_calm_end, is_met, with_routers, with_router}
+use Rattle.zr_network.specs.Acts.{outcome, peer_of, hearing, sending, has_id, declaring, undeclaring, received, weighing}
 use Rattle.zr_network.specs.Moments.{Numbered, Moment, beginning, went, onward, reached}
 use Rattle.zr_network.specs.Moments as moments
 use Rattle.zr_network.specs.Sound.{IsSound}
@@ -34,9 +35,10 @@ use Rattle.zr_network.proofs.Ends.{end_parts, same_end, read_with_end, keep_with
 use Rattle.zr_network.proofs.Links.{free_is_free, link_to_with}
 use Rattle.zr_network.proofs.Lines.{at_some}
 use Rattle.zr_network.proofs.Clients.{same_received}
-use Rattle.zr_network.proofs.Cases.{w_client, w_down, w_sent, w_declare, w_undeclare, w_handle, free_name, number_found, for_router, for_client, for_link, for_up, for_break, for_down, for_declare, for_undeclare, Says, publish_says, get_says, reply_says, end_says, for_handle, for_take, for_mark, for_show}
+use Rattle.zr_network.proofs.Cases.{w_sent, w_declare, w_undeclare, free_name, number_found, for_router, for_link, for_break, for_declare, for_undeclare, Says, publish_says, get_says, reply_says, end_says, for_take, for_mark, for_show, Weighs, interest_says, uninterest_says}
 use Rattle.zr_network.proofs.Sound.{empty_sound}
 use Rattle.zr_settled.specs.Rows.{SettledRowsAreOfClients}
+use Rattle.zr_settled.proofs.Told.{IsTold, told_there, told_some, told_up, told_unbroken, told_wire, router_was, of_each, w_client, w_down, w_handle, for_client, for_up, for_down, for_handle}
 use Rattle.zr_settled.proofs.Spreading.{Name}
 use Rattle.zr_settled.proofs.Moments.{at_moments}
 use Rattle.zr_settled.proofs.Worlds.{wire_at, there_heard, router_heard, up_heard, unbroken_heard, some_heard}
@@ -84,6 +86,25 @@ calm_all (x ∷ ws) p h =
     let parts = and_parts (is_calm x) (list_all is_calm ws) h in
     ap (λ q. all_said q ws) (calm_said p x.msg parts.0) ∙ calm_all ws p parts.1
 
+-- ---- clients are told
+
+pub clients_told : (w v : WorldState) → IsTold w v → ClientsHold w → ClientsHold v
+clients_told w v t h = record {
+  apart = λ c s client. told_there w v t c ∙ h.apart c s (was c s client);
+  homes = λ x c s client some. h.homes x c s (was c s client) (sym (told_some w v t (x, c)) ∙ some);
+  ups = λ x c s client whole. told_up w v t (x, c) ∙ h.ups x c s (was c s client) (sym (told_unbroken w v t (x, c)) ∙ whole);
+  emptied = λ x c s client cut. told_wire w v t (x, c) ∙ h.emptied x c s (was c s client) (sym (told_unbroken w v t (x, c)) ∙ cut);
+  hears = λ x c r s l found client linked whole.
+      let q = router_was w v t x r found in
+      let same : q.0.node ≡ r.node = ap (λ (z : RouterState). z.node) q.2 in
+      subst (λ ws. Hears r.node l.link.0 s ws) (sym (told_wire w v t (x, c))) (subst (λ (n : NodeState). Hears n l.link.0 s (wire_at (end_of w.ends (x, c)))) same
+      (h.hears x c q.0 s l q.1 (was c s client) (ap (λ (n : NodeState). link_to n.links c) same ∙ linked) (sym (told_unbroken w v t (x, c)) ∙ whole)));
+  rows = of_each w v t (λ x n. AllByRecursion (λ q. leads_to_client n.links q.link.0 ≡ true) n.rows) h.rows;
+}
+  where
+    was : (c : Name) (s : ClientState) → client_of v.clients c ≡ Some s → client_of w.clients c ≡ Some s
+    was c s client = ap (λ cs. client_of cs c) (sym t.clients) ∙ client
+
 -- ---- acts
 
 module _ (now : Moment) (sound : IsSound now.world) (h : ClientsHold now.world) where
@@ -115,6 +136,12 @@ module _ (now : Moment) (sound : IsSound now.world) (h : ClientsHold now.world) 
   says n name msg asked leads s found e at_end on clients same =
       same_hold (w_sent w n name s e msg) clients same (publishes n name msg s found e at_end on (asked (has_ids s)) (leads (has_ids s)))
 
+  -- and it may weigh on its router
+  weighs : (n : ℕ) (name key : List ℕ) (msg : Msg) → ((p : Ids) → IsAsked p msg) → ((p : Ids) → said p msg ≡ p) → Weighs now KeptClients n name key msg
+  weighs n name key msg asked leads s found e at_end on r there room clients same =
+      same_hold (with_routers (w_sent w n name s e msg) (with_router w.routers s.router (weighing r key))) clients same
+      (weighed_clients (w_sent w n name s e msg) (publishes n name msg s found e at_end on (asked (has_ids s)) (leads (has_ids s))) s.router r key there)
+
   -- a client comes
   client_comes : (n : ℕ) (id router : List ℕ) (r : RouterState) → router_of w.routers router ≡ Some r → is_taken w id ≡ false → ClientsHold (w_client w n id router r)
   client_comes n id router r found free =
@@ -131,7 +158,7 @@ module _ (now : Moment) (sound : IsSound now.world) (h : ClientsHold now.world) 
       es = put_end w.ends (router, id) (lifted new_end)
 
       v : WorldState
-      v = heard (with_ends w es) router r (Up link peer) n
+      v = sending (with_ends w es) router r (Up link peer) n
 
       none : (is_some (router_of w.routers id) ≡ false) × (client_of w.clients id ≡ None)
       none = let parts = free_name w id free in (parts.0, not_there (client_of w.clients id) parts.1)
@@ -209,7 +236,7 @@ module _ (now : Moment) (sound : IsSound now.world) (h : ClientsHold now.world) 
 
   -- an end comes up
   end_comes_up : (n : ℕ) (router name : List ℕ) (r : RouterState) → router_of w.routers router ≡ Some r → (s : EndState) → end_of w.ends (router, name) ≡ Some s → s.up ≡ false →
-      ClientsHold (heard (with_ends w (with_end w.ends (router, name) (lifted s))) router r (Up (record { 0 = free_link r.node.links }) (peer_of w name)) n)
+      ClientsHold (sending (with_ends w (with_end w.ends (router, name) (lifted s))) router r (Up (record { 0 = free_link r.node.links }) (peer_of w name)) n)
   end_comes_up n router name r found s at_end down =
       up_clients w sound h router r found (record { 0 = free_link r.node.links }) (peer_of w name) (free_is_free r.node.links) no_link n (with_end w.ends (router, name) (lifted s)) stay other
     where
@@ -252,7 +279,7 @@ module _ (now : Moment) (sound : IsSound now.world) (h : ClientsHold now.world) 
       ends_kept v _ hv (cut_stay v hv v.ends router name lowered (none_stay v hv) (λ x c whole. false_from_ne_true (is_end (router, name) (x, c)) (λ e. false≢true (sym (broken x c e) ∙ whole))) clears)
     where
       v : WorldState
-      v = heard w router r (Down j.link) n
+      v = sending w router r (Down j.link) n
 
       hv : ClientsHold v
       hv = down_clients w sound h router r found j n
@@ -278,11 +305,11 @@ module _ (now : Moment) (sound : IsSound now.world) (h : ClientsHold now.world) 
   pub clients_keep : (n : ℕ) (act : Act) → IfSome (went now (outcome w n act)) KeptClients
   unfolding outcome
   clients_keep n (a.Router id) = for_router now KeptClients id (λ free room. router_clients w h id free)
-  clients_keep n (a.Client id router) = for_client now KeptClients n id router (λ r found free room taken. client_comes n id router r found free)
+  clients_keep n (a.Client id router) = for_client now KeptClients (λ w v report t. clients_told w v t) n id router (λ r found free room taken. client_comes n id router r found free)
   clients_keep n (a.Link one other) = for_link now KeptClients one other (λ apart r found q found' new room. ends_kept w _ h (linked_stay w h one other (ap is_some found) (ap is_some found')))
-  clients_keep n (a.Up router name) = for_up now KeptClients n router name (λ r found there s at_end unbroken down taken. end_comes_up n router name r found s at_end down)
+  clients_keep n (a.Up router name) = for_up now KeptClients (λ w v report t. clients_told w v t) n router name (λ r found there s at_end unbroken down taken. end_comes_up n router name r found s at_end down)
   clients_keep n (a.Break router name) = for_break now KeptClients router name (λ r found there s at_end unbroken. ends_kept w _ h (broken_stay w h router name))
-  clients_keep n (a.Down router name) = for_down now KeptClients n router name (λ r found there s at_end up cut link number taken.
+  clients_keep n (a.Down router name) = for_down now KeptClients (λ w v report t. clients_told w v t) n router name (λ r found there s at_end up cut link number taken.
       let j = number_found r name link number in
       subst (λ q. ClientsHold (w_down w n router name r q)) j.2 (end_goes_down n router name r found s at_end cut j.0))
   clients_keep n (a.Sub client id key) = for_declare now KeptClients n client k.Sub id key (m.Sub id key) (λ s found fresh e at_end unbroken r there room.
@@ -293,11 +320,14 @@ module _ (now : Moment) (sound : IsSound now.world) (h : ClientsHold now.world) 
       declares n client (able_kind complete) id key (m.Able id key complete) s found e at_end unbroken r there (home_of s (able_kind complete) id) tt (able_said s id key complete))
   clients_keep n (a.Unable client id) = for_undeclare now KeptClients n client k.Able id (m.Unable id) (λ s found known e at_end unbroken.
       undeclares n client k.Able id (m.Unable id) s found e at_end unbroken refl (sym (has_is s k.Able id) ∙ known) (sym (has_undeclaring s k.Able id)))
+  clients_keep n (a.Interest client id mode kinds key aggregate) = interest_says now KeptClients n client id mode kinds key aggregate
+      (says n client (m.Interest id (is_current mode) (is_future mode) kinds key aggregate) (λ p. tt) (λ p. refl)) (weighs n client (unwrap_or key []) (m.Interest id (is_current mode) (is_future mode) kinds key aggregate) (λ p. tt) (λ p. refl))
+  clients_keep n (a.Uninterest client id) = uninterest_says now KeptClients n client id (says n client (m.EndInterest id) (λ p. tt) (λ p. refl))
   clients_keep n (a.Publish client content) = publish_says now KeptClients n client content (says n client (m.Push None content) (λ p. tt) (λ p. refl))
   clients_keep n (a.Get client number target content) = get_says now KeptClients n client number target content (says n client (m.Request None number target content) (λ p. tt) (λ p. refl))
   clients_keep n (a.Reply client number content) = reply_says now KeptClients n client number content (says n client (m.Response number content) (λ p. tt) (λ p. refl))
   clients_keep n (a.End client number) = end_says now KeptClients n client number (says n client (m.Final number no_extras) (λ p. tt) (λ p. refl))
-  clients_keep n (a.Handle router from) = for_handle now KeptClients router from (λ r found there s at_end up msg tag xs front link number taken.
+  clients_keep n (a.Handle router from) = for_handle now KeptClients (λ w v report t. clients_told w v t) router from (λ r found there s at_end up msg tag xs front link number taken.
       let j = number_found r from link number in
       subst (λ q. ClientsHold (w_handle w router from r s q msg tag xs)) j.2 (handled_clients w sound h router r found from j.0 j.1 s at_end msg tag xs front))
   clients_keep n (a.Take router to) = for_take now KeptClients router to (λ r found there s at_end up unbroken msg tag xs front.

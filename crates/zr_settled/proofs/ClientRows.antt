@@ -23,7 +23,7 @@ use Rattle.zr_routing.specs.Tables.{is_link, link_at, link_to, is_router, leads_
 use Rattle.zr_table.specs.State.{NodeState, new_link}
 use Rattle.zr_table.specs.Table.{with_link, without_link, after}
 use Rattle.zr_network.specs.World.{Tagged, RouterState, EndState, ClientState, End, Ends, Clients, WorldState, with_routers, with_clients, with_ends, new_router, new_client, with_router, with_client, router_of, client_of, end_of, is_end, put_end, with_end, with_wire, with_queue, new_end, is_up, is_unbroken, is_taken, broken, sent, queued, changed}
-use Rattle.zr_network.specs.Acts.{weighing, hearing, heard, sends_to}
+use Rattle.zr_network.specs.Acts.{weighing, hearing, sending, sends_to}
 use Rattle.zr_network.specs.Sound.{IsSound}
 use Rattle.zr_network.proofs.Keyed.{not_there}
 use Rattle.zr_network.proofs.Names.{value_new, read_kept, read_after}
@@ -305,7 +305,7 @@ module _ (w : WorldState) (h : ClientsHold w) (a : Name) (r : RouterState) (foun
     (hears_then : (c : Name) (s : ClientState) (l : LinkPeer) → client_of w.clients c ≡ Some s → link_to (after r.node event).links c ≡ Some l → is_unbroken es (a, c) ≡ true →
     Hears (after r.node event) l.link.0 s (wire_at (end_of es (a, c))))
     (rows_then : AllByRecursion (λ q. leads_to_client (after r.node event).links q.link.0 ≡ true) (after r.node event).rows) where
-  pub heard_clients : ClientsHold (heard (with_ends w es) a r event tag)
+  pub heard_clients : ClientsHold (sending (with_ends w es) a r event tag)
   heard_clients = record {
     apart = λ c s client. read_kept is_some w.routers a c r (hearing r event) found refl ∙ h.apart c s client;
     homes = λ x c s client there. h.homes x c s client (some x c s client (sym (read is_some (λ q msgs. refl) (x, c)) ∙ there));
@@ -319,7 +319,7 @@ module _ (w : WorldState) (h : ClientsHold w) (a : Name) (r : RouterState) (foun
   }
     where
       read : {Y : Type 0} (f : Option EndState → Y) → ((s : EndState) (msgs : List Msg) → f (Some (queued s msgs tag)) ≡ f (Some s)) → (q : End) →
-          f (end_of (heard (with_ends w es) a r event tag).ends q) ≡ f (end_of es q)
+          f (end_of (sending (with_ends w es) a r event tag).ends q) ≡ f (end_of es q)
       read f same q = keep_all_queued es a r.node event tag f q (λ s. same s (sends_to r.node event q.1))
 
       hears : (x c : Name) (q : RouterState) (s : ClientState) (l : LinkPeer) → client_of w.clients c ≡ Some s → link_to q.node.links c ≡ Some l → is_unbroken es (x, c) ≡ true → (t : Bool) → is_named a x ≡ t →
@@ -361,7 +361,7 @@ module _ (w : WorldState) (sound : IsSound w) (h : ClientsHold w) (a : Name) (r 
         old = false_from_ne_true (is_link number (new_link link peer)) (λ t. false≢true (
             sym (ap (λ o. option_map_or (λ l. not (is_router l.peer.role)) o false) (ap (link_at r.node.links) (sym (eqb-true link.0 number t)) ∙ free)) ∙ leads))
 
-    pub up_clients : ClientsHold (heard (with_ends w es) a r (Up link peer) tag)
+    pub up_clients : ClientsHold (sending (with_ends w es) a r (Up link peer) tag)
     up_clients = heard_clients w h a r found (Up link peer) tag es e.some e.whole e.up (λ x c s n client unbroken. e.wire x c s client unbroken) e.empty hears
         (all_of (λ number. leads_to_client r.node.links number ≡ true) (λ number. leads_to_client (with_link r.node.links (new_link link peer)) number ≡ true) r.node.rows up_links (h.rows a r found))
       where
@@ -393,7 +393,7 @@ module _ (w : WorldState) (sound : IsSound w) (h : ClientsHold w) (a : Name) (r 
       by (Some l) e k = ap (λ t. option_map_or (λ l. not (is_router l.peer.role)) (cond (not t) (Some l) None) false) (false_from_ne_true (is_link n l) (λ t.
           apart (sym (eqb-true l.link.0 number (find_in (λ i. is_link number i) r.node.links l e).1) ∙ eqb-true l.link.0 n t))) ∙ k
 
-  pub down_clients : (k : LinkPeer) (tag : ℕ) → ClientsHold (heard w a r (Down k.link) tag)
+  pub down_clients : (k : LinkPeer) (tag : ℕ) → ClientsHold (sending w a r (Down k.link) tag)
   down_clients k tag = heard_clients w h a r found (Down k.link) tag w.ends (λ x c s client e. e) (λ x c s client e. e) (λ x c s client e. refl) (λ x c s n client e. refl) (λ x c s client cut was. was cut) hears
       (rows (leads_to_client r.node.links k.link.0) refl)
     where
@@ -425,7 +425,7 @@ module _ (w : WorldState) (sound : IsSound w) (h : ClientsHold w) (a : Name) (r 
   -- ---- a message is handled
 
   pub handled_clients : (b : Name) (k : LinkPeer) → link_to r.node.links b ≡ Some k → (s : EndState) → end_of w.ends (a, b) ≡ Some s → (msg : Msg) (tag : ℕ) (xs : List Tagged) →
-      s.wire ≡ record { msg = msg; tag = tag } ∷ xs → ClientsHold (heard (with_ends w (with_end w.ends (a, b) (with_wire s xs))) a r (From k.link msg) tag)
+      s.wire ≡ record { msg = msg; tag = tag } ∷ xs → ClientsHold (sending (with_ends w (with_end w.ends (a, b) (with_wire s xs))) a r (From k.link msg) tag)
   handled_clients b k linked s at_end msg tag xs front =
       heard_clients w h a r found (From k.link msg) tag es (λ x c t client e. sym (keep is_some refl (x, c)) ∙ e) (λ x c t client e. sym (keep unbroken_at refl (x, c)) ∙ e) (λ x c t client e. keep up_at refl (x, c)) wire empty hears
       (subst (λ ls. AllByRecursion (λ q. leads_to_client ls q.link.0 ≡ true) (after r.node (From k.link msg)).rows) (sym (links_from r.node k.link msg))

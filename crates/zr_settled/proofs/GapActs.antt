@@ -1,6 +1,6 @@
 -- Each act that is not refused keeps what is on the way between routers gapless (`gaps_keep`), and before the first line nothing is on the way.
 use Rattle.std.proofs.Common.{◌≡◌, ◌≤◌, ℕ, Bool, true, false, cond, List, [], ◌∷◌, ◌++◌, Option, Some, None, is_some, ◌⊎◌, inl, inr, refl, sym, ap, ◌∙◌, subst, append-nil, arith}
-use Rattle.std.specs.Prelude.{not, IfSome}
+use Rattle.std.specs.Prelude.{not, IfSome, unwrap_or}
 use Rattle.std.specs.Option.{option_map}
 use Rattle.std.specs.Ordering.{nat_cmp}
 use Rattle.std.specs.Cmp.Lexicographic.{slice_cmp}
@@ -18,13 +18,14 @@ use Rattle.zr_msg.specs.declared.peer.LinkPeer.{LinkPeer}
 use Rattle.zr_msg.specs.declared.peer.Peer.{Peer}
 use Rattle.zr_msg.specs.declared.peer.Role.TheVariants.{Client}
 use Rattle.zr_command.specs.declared.command.Act.{Act}
+use Rattle.zr_command.specs.Mode.{is_current, is_future}
 use Rattle.zr_command.specs.declared.command.Act.TheVariants as a
 use Rattle.zr_log.specs.Known.{position}
 use Rattle.zr_routing.specs.Tables.{is_link, link_at, link_to, free_link}
 use Rattle.zr_table.specs.State.{new_link}
 use Rattle.zr_table.specs.Table.{able_kind, rows_left, with_link, without_link, after, refuses}
 use Rattle.zr_network.specs.World.{Tagged, RouterState, EndState, End, Ends, WorldState, with_routers, with_ends, new_router, with_router, router_of, end_of, is_end, put_end, with_end, with_queue, new_end, is_up, is_unbroken, is_taken, empty_world, lifted, lowered, broken, sent, changed}
-use Rattle.zr_network.specs.Acts.{outcome, weighing, peer_of, heard}
+use Rattle.zr_network.specs.Acts.{outcome, weighing, peer_of, sending}
 use Rattle.zr_network.specs.Moments.{Moment, went}
 use Rattle.zr_network.specs.Sound.{IsSound, AreUnique}
 use Rattle.zr_network.proofs.Keyed.{not_there}
@@ -32,14 +33,16 @@ use Rattle.zr_network.proofs.Names.{value_new, read_kept}
 use Rattle.zr_network.proofs.Ends.{same_end, keep_with_end, read_put_end, keep_put_end, read_changed}
 use Rattle.zr_network.proofs.Links.{named_link, numbered_link, free_is_free, link_at_with, link_at_without, unique_with, unique_without}
 use Rattle.zr_network.proofs.Links as links
-use Rattle.zr_network.proofs.Cases.{w_client, w_down, w_sent, w_handle, free_name, number_found, for_router, for_client, for_link, for_up, for_break, for_down, for_declare, for_undeclare, Says, publish_says, get_says, reply_says, end_says, for_handle, for_take, for_mark, for_show}
-use Rattle.zr_settled.proofs.Spreading.{Name, best}
+use Rattle.zr_network.proofs.Telling.{is_told}
+use Rattle.zr_network.proofs.Cases.{w_sent, free_name, number_found, for_router, for_link, for_break, for_declare, for_undeclare, Says, publish_says, get_says, reply_says, end_says, for_take, for_mark, for_show, Weighs, interest_says, uninterest_says}
+use Rattle.zr_settled.proofs.Told.{IsTold, by_told, reads, told_there, told_unbroken, told_way, w_client, w_down, w_handle, for_client, for_up, for_down, for_handle}
+use Rattle.zr_settled.proofs.Spreading.{Name, best, Known}
 use Rattle.zr_settled.proofs.Records.{notes_in}
 use Rattle.zr_settled.proofs.Worlds.{there_in, table_of, queue_at, wire_at, notes, way_of, notes-append, Holds, unbroken_heard}
 use Rattle.zr_settled.proofs.Quiet.{no_end, passes_there, turned_is}
 use Rattle.zr_settled.proofs.Moving.{up_at, unbroken_at, both_ways, lifted_way, moves_kept, joined_moves}
 use Rattle.zr_settled.proofs.Passing.{says, keep_taken, taken_same, emptied_same, keep_emptied}
-use Rattle.zr_settled.proofs.Positions.{places_in}
+use Rattle.zr_settled.proofs.Positions.{places_in, Place}
 use Rattle.zr_settled.proofs.Children.{rows_grow}
 use Rattle.zr_settled.proofs.Logs.{knows_logs, logs_of, LogsHold, logs_moved}
 use Rattle.zr_settled.proofs.Values.{brings}
@@ -177,10 +180,10 @@ weighed_gaps w g a r key found = record {
 module _ (w : WorldState) (h : Holds w) (l : LogsHold w) (g : GapsHold w) (sound_links : (x : Name) (r : RouterState) → router_of w.routers x ≡ Some r → AreUnique r.node.links) (a : Name) (r : RouterState)
     (found : router_of w.routers a ≡ Some r) (me : r.node.base.me ≡ a) where
   up_gaps : (link : LinkNo) (peer : Peer) → link_at r.node.links link.0 ≡ None → link_to r.node.links peer.id ≡ None → (tag : ℕ) (es : Ends) → ((q : End) → is_unbroken es q ≡ is_unbroken w.ends q) →
-      ((x y : Name) → way_of brings es x y ≡ way_of brings w.ends x y) → GapsHold (heard (with_ends w es) a r (Up link peer) tag)
+      ((x y : Name) → way_of brings es x y ≡ way_of brings w.ends x y) → GapsHold (sending (with_ends w es) a r (Up link peer) tag)
   up_gaps link peer free new tag es whole ways = gaps_heard w h l a r found me (Up link peer) tag es whole grows
-      (λ x y z here router unbroken. subst (λ ms. Gapless z (logs_of (heard (with_ends w es) a r (Up link peer) tag) y z).number ms) (sym (ways x y))
-      (gapless_later z (way_of brings w.ends x y) (logs_of w y z).number (logs_of (heard (with_ends w es) a r (Up link peer) tag) y z).number (grown w a r found (Up link peer) tag es grows y z) (g.gapless x y z here router unbroken)))
+      (λ x y z here router unbroken. subst (λ ms. Gapless z (logs_of (sending (with_ends w es) a r (Up link peer) tag) y z).number ms) (sym (ways x y))
+      (gapless_later z (way_of brings w.ends x y) (logs_of w y z).number (logs_of (sending (with_ends w es) a r (Up link peer) tag) y z).number (grown w a r found (Up link peer) tag es grows y z) (g.gapless x y z here router unbroken)))
       (λ y z. ap (best z) (ways a y)) was
     where
       grows : (z : Name) → position r.node.known z ≤ position (after r.node (Up link peer)).known z
@@ -200,11 +203,11 @@ module _ (w : WorldState) (h : Holds w) (l : LogsHold w) (g : GapsHold w) (sound
           by false t = inl (sym (is ∙ ap (λ u. cond u (Some (new_link link peer)) (link_at r.node.links j.link.0)) t) ∙ at)
 
   down_gaps : (b : Name) (s : EndState) → end_of w.ends (a, b) ≡ Some s → s.unbroken ≡ false → (j : LinkPeer) (tag : ℕ) →
-      GapsHold (with_ends (heard w a r (Down j.link) tag) (changed (heard w a r (Down j.link) tag).ends (a, b) lowered))
+      GapsHold (with_ends (sending w a r (Down j.link) tag) (changed (sending w a r (Down j.link) tag).ends (a, b) lowered))
   down_gaps b s at_end cut j tag = ends_gaps part _ part_gaps (λ x y here router whole. by x y whole (is_end (a, b) (x, y)) refl)
     where
       part : WorldState
-      part = heard w a r (Down j.link) tag
+      part = sending w a r (Down j.link) tag
 
       grows : (z : Name) → position r.node.known z ≤ position (after r.node (Down j.link)).known z
       grows = rows_grow r.node (l.own_name a r found ∙ sym me) (rows_left r.node j.link.0)
@@ -233,6 +236,18 @@ module _ (w : WorldState) (h : Holds w) (l : LogsHold w) (g : GapsHold w) (sound
       by x y whole true t = absurd (false≢true (
           sym (keep_emptied part.ends a b unbroken_at (λ q. refl) (x, y) ∙ unbroken_heard w a r found (Down j.link) tag (x, y) ∙ ap (λ (q : End). is_unbroken w.ends q) (sym (same_end (a, b) (x, y) t)) ∙ ap unbroken_at at_end ∙ cut) ∙ whole))
 
+-- ---- clients are told
+
+told_brings : (msg : Msg) → is_told msg ≡ true → brings msg ≡ []
+told_brings = by_told (λ msg. brings msg ≡ []) (λ id key interest. refl) (λ id key complete interest. refl) (λ id. refl) (λ id. refl) (λ interest. refl)
+
+pub gaps_told : (w v : WorldState) → IsTold w v → GapsHold w → GapsHold v
+gaps_told w v t g = record {
+  gapless = λ x y z here router whole. subst (λ ms. Gapless z (logs_of v y z).number ms) (sym (told_way w v t brings told_brings x y))
+      (subst (λ (k : Known Place). Gapless z k.number (way_of brings w.ends x y)) (sym (reads w v t (λ o. knows_logs o z) (λ r. refl) y))
+      (g.gapless x y z (sym (told_there w v t x) ∙ here) (sym (told_there w v t y) ∙ router) (sym (told_unbroken w v t (x, y)) ∙ whole)));
+}
+
 -- ---- acts
 
 module _ (now : Moment) (sound : IsSound now.world) (h : Holds now.world) (l : LogsHold now.world) (g : GapsHold now.world) where
@@ -249,7 +264,7 @@ module _ (now : Moment) (sound : IsSound now.world) (h : Holds now.world) (l : L
   client_comes n id router r found free =
       let no_router = (free_name w id free).0 in
       let none = not_there (end_of w.ends (router, id)) (false_from_ne_true _ (no_end w sound id free router)) in
-      let came : GapsHold (heard (with_ends w (put_end w.ends (router, id) (lifted new_end))) router r (Up (record { 0 = free_link r.node.links }) (record { id = id; role = Client })) n) =
+      let came : GapsHold (sending (with_ends w (put_end w.ends (router, id) (lifted new_end))) router r (Up (record { 0 = free_link r.node.links }) (record { id = id; role = Client })) n) =
       up_gaps (with_ends w (put_end w.ends (router, id) (lifted new_end))) (moves_kept w _ h (joined_moves notes_in (table_of w) w h.twins router id none no_router))
       (logs_moved w _ l (joined_moves places_in (logs_of w) w h.twins router id none no_router)) (joined_gaps w g router id none no_router) sound.unique router r found (sound.own router r found)
       (record { 0 = free_link r.node.links }) (record { id = id; role = Client }) (free_is_free r.node.links)
@@ -261,16 +276,21 @@ module _ (now : Moment) (sound : IsSound now.world) (h : Holds now.world) (l : L
   said_gaps : (n : ℕ) (name : List ℕ) (msg : Msg) → brings msg ≡ [] → Says now KeptGaps n name msg
   said_gaps n name msg silent s found e at_end unbroken clients same = let on = sent_gaps w g s.router name e at_end msg n silent in record { gapless = on.gapless }
 
+  -- and it may weigh on its router
+  weighs : (n : ℕ) (name key : List ℕ) (msg : Msg) → brings msg ≡ [] → Weighs now KeptGaps n name key msg
+  weighs n name key msg silent s found e at_end unbroken r there room clients same =
+      let weighed = weighed_gaps (w_sent w n name s e msg) (sent_gaps w g s.router name e at_end msg n silent) s.router r key there in record { gapless = weighed.gapless }
+
   pub gaps_keep : (n : ℕ) (act : Act) → IfSome (went now (outcome w n act)) KeptGaps
   unfolding outcome
   gaps_keep n (a.Router id) = for_router now KeptGaps id (λ free room. router_gaps w sound g id free)
-  gaps_keep n (a.Client id router) = for_client now KeptGaps n id router (λ r found free room taken. client_comes n id router r found free)
+  gaps_keep n (a.Client id router) = for_client now KeptGaps (λ w v report t. gaps_told w v t) n id router (λ r found free room taken. client_comes n id router r found free)
   gaps_keep n (a.Link one other) = for_link now KeptGaps one other (λ apart r found q found' new room. linked_gaps w g one other)
-  gaps_keep n (a.Up router name) = for_up now KeptGaps n router name (λ r found there s at_end unbroken down taken.
+  gaps_keep n (a.Up router name) = for_up now KeptGaps (λ w v report t. gaps_told w v t) n router name (λ r found there s at_end unbroken down taken.
       up_gaps w h l g sound.unique router r found (sound.own router r found) (record { 0 = free_link r.node.links }) (peer_of w name) (free_is_free r.node.links) (no_link router name r found (ap up_at at_end ∙ down)) n _
       (λ q. keep_with_end w.ends (router, name) (lifted s) unbroken_at q s at_end refl) (lifted_way brings w.ends router name s at_end))
   gaps_keep n (a.Break router name) = for_break now KeptGaps router name (λ r found there s at_end unbroken. broken_gaps w g router name)
-  gaps_keep n (a.Down router name) = for_down now KeptGaps n router name (λ r found there s at_end up cut link number taken.
+  gaps_keep n (a.Down router name) = for_down now KeptGaps (λ w v report t. gaps_told w v t) n router name (λ r found there s at_end up cut link number taken.
       let j = number_found r name link number in
       subst (λ q. GapsHold (w_down w n router name r q)) j.2 (down_gaps w h l g sound.unique router r found (sound.own router r found) name s at_end cut j.0 n))
   gaps_keep n (a.Sub client id key) = for_declare now KeptGaps n client k.Sub id key (m.Sub id key) (λ s found fresh e at_end unbroken r there room.
@@ -281,11 +301,14 @@ module _ (now : Moment) (sound : IsSound now.world) (h : Holds now.world) (l : L
       let weighed = weighed_gaps (w_sent w n client s e (m.Able id key complete)) (sent_gaps w g s.router client e at_end (m.Able id key complete) n refl) s.router r key there in record { gapless = weighed.gapless })
   gaps_keep n (a.Unable client id) = for_undeclare now KeptGaps n client k.Able id (m.Unable id) (λ s found known e at_end unbroken.
       let on = sent_gaps w g s.router client e at_end (m.Unable id) n refl in record { gapless = on.gapless })
+  gaps_keep n (a.Interest client id mode kinds key aggregate) = interest_says now KeptGaps n client id mode kinds key aggregate
+      (said_gaps n client (m.Interest id (is_current mode) (is_future mode) kinds key aggregate) refl) (weighs n client (unwrap_or key []) (m.Interest id (is_current mode) (is_future mode) kinds key aggregate) refl)
+  gaps_keep n (a.Uninterest client id) = uninterest_says now KeptGaps n client id (said_gaps n client (m.EndInterest id) refl)
   gaps_keep n (a.Publish client content) = publish_says now KeptGaps n client content (said_gaps n client (m.Push None content) refl)
   gaps_keep n (a.Get client number target content) = get_says now KeptGaps n client number target content (said_gaps n client (m.Request None number target content) refl)
   gaps_keep n (a.Reply client number content) = reply_says now KeptGaps n client number content (said_gaps n client (m.Response number content) refl)
   gaps_keep n (a.End client number) = end_says now KeptGaps n client number (said_gaps n client (m.Final number no_extras) refl)
-  gaps_keep n (a.Handle router from) = for_handle now KeptGaps router from (λ r found there s at_end up msg tag xs front link number taken.
+  gaps_keep n (a.Handle router from) = for_handle now KeptGaps (λ w v report t. gaps_told w v t) router from (λ r found there s at_end up msg tag xs front link number taken.
       let j = number_found r from link number in
       subst (λ q. refuses r.node (From q msg) ≡ None → GapsHold (w_handle w router from r s q msg tag xs)) j.2
       (λ taken'. gaps_handled w h l g sound router r found (sound.own router r found) from j.0 j.1 s at_end msg tag xs front taken') taken)

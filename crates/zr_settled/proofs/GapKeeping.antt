@@ -16,7 +16,7 @@ use Rattle.zr_routing.specs.Tables.{link_at, link_to, is_router, is_to_child, le
 use Rattle.zr_table.specs.State.{tables}
 use Rattle.zr_table.specs.Table.{sends, after, refuses}
 use Rattle.zr_network.specs.World.{Tagged, RouterState, EndState, End, Ends, WorldState, with_ends, router_of, end_of, is_end, is_up, is_unbroken, with_end, with_wire}
-use Rattle.zr_network.specs.Acts.{hearing, heard}
+use Rattle.zr_network.specs.Acts.{hearing, sending}
 use Rattle.zr_network.specs.Sound.{IsSound}
 use Rattle.zr_network.proofs.Names.{names, read_after}
 use Rattle.zr_network.proofs.Ends.{end_parts, same_end}
@@ -112,26 +112,26 @@ gapless_taken z (Snap source number decls) p rest h = gapless_later z rest (cond
 -- ---- a router hears of an event
 
 module _ (w : WorldState) (a : Name) (r : RouterState) (found : router_of w.routers a ≡ Some r) (event : Event) (tag : ℕ) (es : Ends) (grows : (z : Name) → position r.node.known z ≤ position (after r.node event).known z) where
-  pub logs_is : (x z : Name) → logs_of (heard (with_ends w es) a r event tag) x z ≡ cond (is_named a x) (placed (position (after r.node event).known z)) (logs_of w x z)
+  pub logs_is : (x z : Name) → logs_of (sending (with_ends w es) a r event tag) x z ≡ cond (is_named a x) (placed (position (after r.node event).known z)) (logs_of w x z)
   logs_is x z = read_after (λ o. knows_logs o z) w.routers a x r (hearing r event) found
 
-  pub grown : (x z : Name) → (logs_of w x z).number ≤ (logs_of (heard (with_ends w es) a r event tag) x z).number
-  grown x z = at_name a (λ q. (logs_of w q z).number ≤ (logs_of (heard (with_ends w es) a r event tag) q z).number)
-      (let n : (logs_of (heard (with_ends w es) a r event tag) a z).number ≡ position (after r.node event).known z =
+  pub grown : (x z : Name) → (logs_of w x z).number ≤ (logs_of (sending (with_ends w es) a r event tag) x z).number
+  grown x z = at_name a (λ q. (logs_of w q z).number ≤ (logs_of (sending (with_ends w es) a r event tag) q z).number)
+      (let n : (logs_of (sending (with_ends w es) a r event tag) a z).number ≡ position (after r.node event).known z =
       ap (λ (k : Known Place). k.number) (logs_is a z ∙ ap (λ t. cond t (placed (position (after r.node event).known z)) (logs_of w a z)) (same_refl a)) in
       let o : (logs_of w a z).number ≡ position r.node.known z = ap (λ o. (knows_logs o z).number) found in
       omega (arith, n, o, grows z))
-      (λ q e. let n : (logs_of (heard (with_ends w es) a r event tag) q z).number ≡ (logs_of w q z).number =
+      (λ q e. let n : (logs_of (sending (with_ends w es) a r event tag) q z).number ≡ (logs_of w q z).number =
       ap (λ (k : Known Place). k.number) (logs_is q z ∙ ap (λ t. cond t (placed (position (after r.node event).known z)) (logs_of w q z)) e) in omega (arith, n)) x
 
 -- It hears with other ends: what is on the way to each router over an unbroken link is gapless there too, for what is known then.
 module _ (w : WorldState) (h : Holds w) (l : LogsHold w) (a : Name) (r : RouterState) (found : router_of w.routers a ≡ Some r) (me : r.node.base.me ≡ a) (event : Event) (tag : ℕ) (es : Ends)
     (whole : (q : End) → is_unbroken es q ≡ is_unbroken w.ends q) (grows : (z : Name) → position r.node.known z ≤ position (after r.node event).known z)
-    (gaps : (x y z : Name) → there_in w x ≡ true → there_in w y ≡ true → is_unbroken w.ends (x, y) ≡ true → Gapless z (logs_of (heard (with_ends w es) a r event tag) y z).number (way_of brings es x y))
+    (gaps : (x y z : Name) → there_in w x ≡ true → there_in w y ≡ true → is_unbroken w.ends (x, y) ≡ true → Gapless z (logs_of (sending (with_ends w es) a r event tag) y z).number (way_of brings es x y))
     (same_out : (y z : Name) → best z (way_of brings es a y) ≡ best z (way_of brings w.ends a y))
     (was : (y : Name) (k : LinkPeer) → link_to (after r.node event).links y ≡ Some k → (k.peer.id ≡ y) × ((link_at r.node.links k.link.0 ≡ Some k) ⊎ (link_at r.node.links k.link.0 ≡ None))) where
   abbrev left : WorldState
-  left = heard (with_ends w es) a r event tag
+  left = sending (with_ends w es) a r event tag
 
   -- a child before knows all, or is being told
   told : (y z : Name) → there_in w y ≡ true → is_unbroken w.ends (a, y) ≡ true → (k : LinkPeer) → (k.peer.id ≡ y) × ((link_at r.node.links k.link.0 ≡ Some k) ⊎ (link_at r.node.links k.link.0 ≡ None)) →
@@ -190,7 +190,7 @@ ends_gaps w es g stays = record { gapless = λ x y z here router whole. by x y z
 module _ (w : WorldState) (h : Holds w) (l : LogsHold w) (g : GapsHold w) (sound : IsSound w) (a : Name) (r : RouterState) (found : router_of w.routers a ≡ Some r) (me : r.node.base.me ≡ a)
     (b : Name) (k : LinkPeer) (linked : link_to r.node.links b ≡ Some k) (s : EndState) (at_end : end_of w.ends (a, b) ≡ Some s) (msg : Msg) (tag : ℕ) (xs : List Tagged)
     (front : s.wire ≡ record { msg = msg; tag = tag } ∷ xs) (taken : refuses r.node (From k.link msg) ≡ None) where
-  pub gaps_handled : GapsHold (heard (with_ends w (with_end w.ends (a, b) (with_wire s xs))) a r (From k.link msg) tag)
+  pub gaps_handled : GapsHold (sending (with_ends w (with_end w.ends (a, b) (with_wire s xs))) a r (From k.link msg) tag)
   gaps_handled = gaps_heard w h l a r found me (From k.link msg) tag es (λ q. keep_popped w.ends a b s at_end msg tag xs unbroken_at refl q) grows gaps same_out was
     where
       es : Ends
@@ -202,26 +202,26 @@ module _ (w : WorldState) (h : Holds w) (l : LogsHold w) (g : GapsHold w) (sound
       grows : (z : Name) → position r.node.known z ≤ position (after r.node (From k.link msg)).known z
       grows z = (from_follows r.node known_me k.link msg).grows z
 
-      more : (x z : Name) → (logs_of w x z).number ≤ (logs_of (heard (with_ends w es) a r (From k.link msg) tag) x z).number
+      more : (x z : Name) → (logs_of w x z).number ≤ (logs_of (sending (with_ends w es) a r (From k.link msg) tag) x z).number
       more x z = grown w a r found (From k.link msg) tag es grows x z
 
       it : In k r.node.links × (k.peer.id ≡ b)
       it = linked_to r.node.links b k linked
 
       -- its receiver knows what a router told
-      known_then : (z : Name) → there_in w b ≡ true → best z (places_in msg) ≤ (logs_of (heard (with_ends w es) a r (From k.link msg) tag) a z).number
+      known_then : (z : Name) → there_in w b ≡ true → best z (places_in msg) ≤ (logs_of (sending (with_ends w es) a r (From k.link msg) tag) a z).number
       known_then z router = by (is_named a z) refl
         where
           leads : leads_to_router r.node.links k.link.0 ≡ true
           leads = leads_is (there_in w) r.node.links (links_known w sound a r found) k it.0 ∙ ap (there_in w) it.1 ∙ router
 
-          now : (logs_of (heard (with_ends w es) a r (From k.link msg) tag) a z).number ≡ position (after r.node (From k.link msg)).known z
+          now : (logs_of (sending (with_ends w es) a r (From k.link msg) tag) a z).number ≡ position (after r.node (From k.link msg)).known z
           now = ap (λ (m : Known Place). m.number) (logs_is w a r found (From k.link msg) tag es grows a z ∙ ap (λ t. cond t (placed (position (after r.node (From k.link msg)).known z)) (logs_of w a z)) (same_refl a))
 
           alone : best z (places (msg ∷ [])) ≡ best z (places_in msg)
           alone = ap (best z) (append-nil (places_in msg))
 
-          by : (t : Bool) → is_named a z ≡ t → best z (places_in msg) ≤ (logs_of (heard (with_ends w es) a r (From k.link msg) tag) a z).number
+          by : (t : Bool) → is_named a z ≡ t → best z (places_in msg) ≤ (logs_of (sending (with_ends w es) a r (From k.link msg) tag) a z).number
           by false e = omega (arith, now, alone, heard_known r.node k.link leads msg taken z (ap (λ q. is_named q z) (l.own_name a r found) ∙ e))
           by true e =
               let mine : own (log_lane w) z ≡ position r.node.known z = ap (λ q. (logs_of w q z).number) (sym (same_is a z e)) ∙ ap (λ o. (knows_logs o z).number) found in
@@ -231,22 +231,22 @@ module _ (w : WorldState) (h : Holds w) (l : LogsHold w) (g : GapsHold w) (sound
       way x y = popped_way brings w.ends a b s at_end msg tag xs front x y
 
       gaps : (x y z : Name) → there_in w x ≡ true → there_in w y ≡ true → is_unbroken w.ends (x, y) ≡ true →
-          Gapless z (logs_of (heard (with_ends w es) a r (From k.link msg) tag) y z).number (way_of brings es x y)
+          Gapless z (logs_of (sending (with_ends w es) a r (From k.link msg) tag) y z).number (way_of brings es x y)
       gaps x y z here router whole = by (is_end (a, b) (y, x)) refl
         where
           before : Gapless z (logs_of w y z).number (way_of brings w.ends x y)
           before = g.gapless x y z here router whole
 
-          by : (t : Bool) → is_end (a, b) (y, x) ≡ t → Gapless z (logs_of (heard (with_ends w es) a r (From k.link msg) tag) y z).number (way_of brings es x y)
-          by false e = gapless_later z (way_of brings es x y) (logs_of w y z).number (logs_of (heard (with_ends w es) a r (From k.link msg) tag) y z).number (more y z)
+          by : (t : Bool) → is_end (a, b) (y, x) ≡ t → Gapless z (logs_of (sending (with_ends w es) a r (From k.link msg) tag) y z).number (way_of brings es x y)
+          by false e = gapless_later z (way_of brings es x y) (logs_of w y z).number (logs_of (sending (with_ends w es) a r (From k.link msg) tag) y z).number (more y z)
               (subst (λ ms. Gapless z (logs_of w y z).number ms) (way x y ∙ ap (λ t. cond t (brings msg) [] ++ way_of brings es x y) e) before)
           by true e =
               let one = best_one z msg in
               let y_is : a ≡ y = ap (λ (q : End). q.0) (same_end (a, b) (y, x) e) in
               let x_is : b ≡ x = ap (λ (q : End). q.1) (same_end (a, b) (y, x) e) in
-              let known : best z (places_in msg) ≤ (logs_of (heard (with_ends w es) a r (From k.link msg) tag) y z).number =
-              subst (λ q. best z (places_in msg) ≤ (logs_of (heard (with_ends w es) a r (From k.link msg) tag) q z).number) y_is (known_then z (ap (there_in w) x_is ∙ here)) in
-              gapless_later z (way_of brings es x y) (max (logs_of w y z).number (best z (brings msg))) (logs_of (heard (with_ends w es) a r (From k.link msg) tag) y z).number
+              let known : best z (places_in msg) ≤ (logs_of (sending (with_ends w es) a r (From k.link msg) tag) y z).number =
+              subst (λ q. best z (places_in msg) ≤ (logs_of (sending (with_ends w es) a r (From k.link msg) tag) q z).number) y_is (known_then z (ap (there_in w) x_is ∙ here)) in
+              gapless_later z (way_of brings es x y) (max (logs_of w y z).number (best z (brings msg))) (logs_of (sending (with_ends w es) a r (From k.link msg) tag) y z).number
               (omega (arith, one, known, more y z))
               (gapless_taken z msg (logs_of w y z).number (way_of brings es x y) (subst (λ ms. Gapless z (logs_of w y z).number ms) (way x y ∙ ap (λ t. cond t (brings msg) [] ++ way_of brings es x y) e) before))
 

@@ -22,7 +22,7 @@ use Rattle.zr_msg.specs.declared.peer.LinkPeer.{LinkPeer}
 use Rattle.zr_table.specs.Table.{sends_first, sends, after, is_other_router}
 use Rattle.zr_table.proofs.Inserted.{All-front}
 use Rattle.zr_network.specs.World.{Tagged, RouterState, EndState, End, Ends, WorldState, with_ends, router_of, end_of, is_end, is_up, is_unbroken, with_end, with_wire}
-use Rattle.zr_network.specs.Acts.{sends_to, heard}
+use Rattle.zr_network.specs.Acts.{sends_to, sending}
 use Rattle.zr_network.specs.Sound.{IsSound}
 use Rattle.zr_network.proofs.Ends.{ends, same_end}
 use Rattle.zr_settled.proofs.Spreading.{at_name, Name, Known, Note, own, best, AllFit, Fits, Spreads, drops_kept, best_append, best_head}
@@ -143,7 +143,7 @@ module _ (w : WorldState) (h : Holds w) (sound : IsSound w) (a : Name) (r : Rout
       by false e ih = omega (arith, ih)
 
   pub silent_handled : (msg : Msg) → s.wire ≡ record { msg = msg; tag = tag } ∷ xs → IsSilent r.node k.link msg → (leads_to_router r.node.links k.link.0 ≡ true → AreOld r.node.base (notes_in msg)) →
-      Holds (heard (with_ends w after_pop) a r (From k.link msg) tag)
+      Holds (sending (with_ends w after_pop) a r (From k.link msg) tag)
   silent_handled msg front quiet old =
       silent_kept (with_ends w after_pop) a r found (From k.link msg) tag
       (moves_kept w _ h (popped_moves notes_in (table_of w) w h.twins a b s at_end msg tag xs front
@@ -161,10 +161,10 @@ module _ (w : WorldState) (h : Holds w) (sound : IsSound w) (a : Name) (r : Rout
 
     -- the world where the message is still on the wire
     abbrev kept_world : WorldState
-    kept_world = heard w a r (From k.link (State m)) tag
+    kept_world = sending w a r (From k.link (State m)) tag
 
     abbrev handled_world : WorldState
-    handled_world = heard (with_ends w after_pop) a r (From k.link (State m)) tag
+    handled_world = sending (with_ends w after_pop) a r (From k.link (State m)) tag
 
     foreign : is_named m.id a ≡ false
     foreign = ap (λ q. is_named m.id q) (sym (sound.own a r found)) ∙ (newer_is r.node.base m newer).0

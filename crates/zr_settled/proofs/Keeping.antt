@@ -1,10 +1,11 @@
 -- Each act that is not refused keeps what holds of a world (`acts_keep`), and nothing has been told before the first line; so it holds at
 -- each moment that acts lead to (`moments_hold`).
-use Rattle.std.proofs.Common.{◌≡◌, ℕ, Bool, true, false, cond, List, [], ◌∷◌, Option, Some, None, is_some, Ok, Err, refl, ap, ◌∙◌, subst, arith}
-use Rattle.std.specs.Prelude.{IfSome, IfOk}
+use Rattle.std.proofs.Common.{◌≡◌, ℕ, Bool, true, false, cond, List, [], ◌∷◌, Option, Some, None, is_some, Ok, Err, refl, sym, ap, ◌∙◌, subst, arith}
+use Rattle.std.specs.Prelude.{IfSome, IfOk, ◌&&◌, unwrap_or}
 use Rattle.std.specs.Option.{option_map_or}
 use Rattle.std.proofs.lemmas.Bool.{false_from_ne_true, true≢false, false≢true}
 use Rattle.zr_id.specs.declared.link.LinkNo.{LinkNo}
+use Rattle.zr_graph.specs.Base.{IsInOrder}
 use Rattle.zr_tree.proofs.Finds.{In}
 use Rattle.zr_msg.specs.declared.msg.Msg.{Msg}
 use Rattle.zr_msg.specs.declared.decl.Kind.{Kind}
@@ -16,25 +17,28 @@ use Rattle.zr_msg.specs.declared.peer.Peer.{Peer}
 use Rattle.zr_msg.specs.declared.peer.Role.{Role}
 use Rattle.zr_msg.specs.declared.peer.Role.TheVariants.{Client, Router}
 use Rattle.zr_command.specs.declared.command.Act.{Act}
+use Rattle.zr_command.specs.Mode.{is_current, is_future}
 use Rattle.zr_command.specs.declared.command.Act.TheVariants as a
 use Rattle.zr_routing.specs.Tables.{link_at, link_to, is_router, free_link}
 use Rattle.zr_table.specs.State.{NodeState}
 use Rattle.zr_msg.specs.declared.peer.LinkPeer.{LinkPeer}
 use Rattle.zr_table.specs.Table.{able_kind, sends, sends_up, sends_down, sends_parted, base_up, base_down, base_parted, after}
 use Rattle.zr_network.specs.World.{Tagged, RouterState, EndState, ClientState, Clients, WorldState, with_ends, with_clients, with_end, router_of, end_of, is_taken, empty_world, lifted}
-use Rattle.zr_network.specs.Acts.{Outcome, outcome, sends_to, heard, peer_of, up_event}
+use Rattle.zr_network.specs.Acts.{Outcome, outcome, sends_to, sending, peer_of, up_event}
 use Rattle.zr_network.specs.Moments.{Numbered, Moment, went, reached}
 use Rattle.zr_network.specs.Sound.{IsSound}
 use Rattle.zr_network.proofs.Keyed.{not_there}
-use Rattle.zr_network.proofs.Cases.{w_client, w_up, w_down, w_sent, w_declare, w_handle, free_name, number_found, for_router, for_client, for_link, for_up, for_break, for_down, for_declare, for_undeclare, Says, publish_says, get_says, reply_says, end_says, for_handle, for_take, for_mark, for_show}
+use Rattle.zr_network.proofs.Cases.{w_sent, w_declare, free_name, number_found, for_router, for_link, for_break, for_declare, for_undeclare, Says, publish_says, get_says, reply_says, end_says, for_take, for_mark, for_show, Weighs, interest_says, uninterest_says}
+use Rattle.zr_network.proofs.Telling.{is_told}
 use Rattle.zr_network.proofs.Sound.{act_keeps, empty_sound}
-use Rattle.zr_settled.proofs.Spreading.{Name}
+use Rattle.zr_settled.proofs.Told.{IsTold, by_told, if_sound, reads, told_there, told_some, told_up, told_feeds, of_each, told_way, w_client, w_up, w_down, w_handle, for_client, for_up, for_down, for_handle}
+use Rattle.zr_settled.proofs.Spreading.{Name, is_all}
 use Rattle.zr_settled.proofs.Moments.{at_moments}
 use Rattle.zr_settled.proofs.Links.{AreKnown, linked_to, is_at}
 use Rattle.zr_settled.proofs.Records.{notes_in, told}
 use Rattle.zr_settled.proofs.Silent.{first_tells, down_tells_first}
-use Rattle.zr_settled.proofs.Worlds.{there_in, table_of, Holds, there_heard}
-use Rattle.zr_settled.proofs.Quiet.{silent_kept, router_kept, no_end}
+use Rattle.zr_settled.proofs.Worlds.{there_in, knows, table_of, way_of, Holds, there_heard}
+use Rattle.zr_settled.proofs.Quiet.{quiet_kept, same_way, silent_kept, router_kept, no_end}
 use Rattle.zr_settled.proofs.Moving.{moves_kept, sent_moves, lifted_moves, joined_moves, linked_moves, broken_moves}
 use Rattle.zr_settled.proofs.Passing.{taken_moves, lowered_moves, weighed_kept}
 use Rattle.zr_settled.proofs.Changes.{links_known, up_kept, down_kept}
@@ -71,6 +75,24 @@ client_is Router e = absurd (true≢false e)
 clients_kept : (w : WorldState) (clients : Clients) → Holds w → Holds (with_clients w clients)
 clients_kept w clients h = record { made = h.made; spreads = h.spreads; lists = h.lists; in_order = h.in_order; twins = h.twins }
 
+-- ---- clients are told
+
+told_notes : (msg : Msg) → is_told msg ≡ true → notes_in msg ≡ []
+told_notes = by_told (λ msg. notes_in msg ≡ []) (λ id key interest. refl) (λ id key complete interest. refl) (λ id. refl) (λ id. refl) (λ interest. refl)
+
+pub holds_told : (w v : WorldState) → IsTold w v → Holds w → Holds v
+holds_told w v t h = quiet_kept w v h (record {
+  tables = λ x z. reads w v t (λ o. knows o z) (λ r. refl) x;
+  part = λ x y. is_all (way_of notes_in v.ends x y) (way_of notes_in w.ends x y) (sym (ways x y));
+  dropped = λ x y z f. (sym (told_feeds w v t x y z) ∙ f, same_way z (table_of w y z).number (way_of notes_in v.ends x y) (way_of notes_in w.ends x y) (ways x y));
+  lists = λ z y. (λ i. told_there w v t y i && told_up w v t (z, y) i);
+  in_order = of_each w v t (λ x n. IsInOrder n.base) h.in_order;
+  twins = λ x y some router. told_some w v t (y, x) ∙ h.twins x y (sym (told_some w v t (x, y)) ∙ some) (sym (told_there w v t y) ∙ router);
+})
+  where
+    ways : (x y : Name) → way_of notes_in v.ends x y ≡ way_of notes_in w.ends x y
+    ways = told_way w v t notes_in told_notes
+
 -- ---- acts
 
 module _ (now : Moment) (sound : IsSound now.world) (h : Holds now.world) where
@@ -88,6 +110,11 @@ module _ (now : Moment) (sound : IsSound now.world) (h : Holds now.world) where
   -- it says something that tells nothing of links
   says : (n : ℕ) (name : List ℕ) (msg : Msg) → notes_in msg ≡ [] → Says now Kept n name msg
   says n name msg silent s found e at_end unbroken clients same sound' = clients_kept _ clients (on_wire n name s e at_end msg silent)
+
+  -- what it says may weigh on its router
+  weighs : (n : ℕ) (name key : List ℕ) (msg : Msg) → notes_in msg ≡ [] → Weighs now Kept n name key msg
+  weighs n name key msg silent s found e at_end unbroken r there room clients same sound' =
+      clients_kept _ clients (weighed_kept (w_sent w n name s e msg) (on_wire n name s e at_end msg silent) s.router r key there)
 
   client_declares : (n : ℕ) (name : List ℕ) (kind : Kind) (id : ℕ) (key : List ℕ) (msg : Msg) → notes_in msg ≡ [] → (s : ClientState) (e : EndState) → end_of w.ends (s.router, name) ≡ Some e →
       (r : RouterState) → router_of w.routers s.router ≡ Some r → Holds (w_declare w n name kind id key msg s e r)
@@ -129,9 +156,9 @@ module _ (now : Moment) (sound : IsSound now.world) (h : Holds now.world) where
       by false e =
           let role : k.peer.role ≡ Client = client_is k.peer.role (known_links.roles k it.0 ∙ ap (there_in w) it.1 ∙ e) in
           let at = is_at (there_in w) r.node.links known_links k it.0 in
-          let heard_of : Holds (heard w router r (Down k.link) n) = silent_kept w router r found (Down k.link) n h (client_down_base r.node k at role) (client_down_silent r.node k at role) in
-          moves_kept (heard w router r (Down k.link) n) _ heard_of
-          (lowered_moves notes_in (table_of (heard w router r (Down k.link) n)) (heard w router r (Down k.link) n) heard_of.twins router name (there_heard w router r found (Down k.link) n name ∙ e))
+          let heard_of : Holds (sending w router r (Down k.link) n) = silent_kept w router r found (Down k.link) n h (client_down_base r.node k at role) (client_down_silent r.node k at role) in
+          moves_kept (sending w router r (Down k.link) n) _ heard_of
+          (lowered_moves notes_in (table_of (sending w router r (Down k.link) n)) (sending w router r (Down k.link) n) heard_of.twins router name (there_heard w router r found (Down k.link) n name ∙ e))
 
   message_handled : (router from : List ℕ) (r : RouterState) → router_of w.routers router ≡ Some r → (s : EndState) → end_of w.ends (router, from) ≡ Some s → (msg : Msg) (tag : ℕ) (xs : List Tagged) →
       s.wire ≡ record { msg = msg; tag = tag } ∷ xs → (k : LinkPeer) → link_to r.node.links from ≡ Some k → Holds (w_handle w router from r s k.link msg tag xs)
@@ -144,11 +171,11 @@ module _ (now : Moment) (sound : IsSound now.world) (h : Holds now.world) where
   pub acts_keep : (n : ℕ) (act : Act) → IfSome (went now (outcome w n act)) Kept
   unfolding outcome
   acts_keep n (a.Router id) = for_router now Kept id (λ free room sound'. router_kept w sound h id free)
-  acts_keep n (a.Client id router) = for_client now Kept n id router (λ r found free room taken sound'. client_comes n id router r found free)
+  acts_keep n (a.Client id router) = for_client now Kept (if_sound Holds (λ w v t s. holds_told w v t)) n id router (λ r found free room taken sound'. client_comes n id router r found free)
   acts_keep n (a.Link one other) = for_link now Kept one other (λ apart r found q found' new room sound'. moves_kept w _ h (linked_moves notes_in (table_of w) w h.twins one other (ap is_some found) (ap is_some found') new))
-  acts_keep n (a.Up router name) = for_up now Kept n router name (λ r found there s at_end unbroken down taken sound'. end_comes_up n router name r found s at_end sound')
+  acts_keep n (a.Up router name) = for_up now Kept (if_sound Holds (λ w v t s. holds_told w v t)) n router name (λ r found there s at_end unbroken down taken sound'. end_comes_up n router name r found s at_end sound')
   acts_keep n (a.Break router name) = for_break now Kept router name (λ r found there s at_end unbroken sound'. moves_kept w _ h (broken_moves notes_in (table_of w) w h.twins router name))
-  acts_keep n (a.Down router name) = for_down now Kept n router name (λ r found there s at_end up cut l number taken.
+  acts_keep n (a.Down router name) = for_down now Kept (if_sound Holds (λ w v t s. holds_told w v t)) n router name (λ r found there s at_end up cut l number taken.
       let k = number_found r name l number in
       subst (λ l. IsSound (w_down w n router name r l) → Holds (w_down w n router name r l)) k.2 (λ sound'. end_goes_down n router name r found k.0 k.1 sound'))
   acts_keep n (a.Sub client id key) = for_declare now Kept n client k.Sub id key (m.Sub id key) (λ s found fresh e at_end unbroken r there room sound'.
@@ -157,11 +184,14 @@ module _ (now : Moment) (sound : IsSound now.world) (h : Holds now.world) where
   acts_keep n (a.Able client id key complete) = for_declare now Kept n client (able_kind complete) id key (m.Able id key complete) (λ s found fresh e at_end unbroken r there room sound'.
       client_declares n client (able_kind complete) id key (m.Able id key complete) refl s e at_end r there)
   acts_keep n (a.Unable client id) = for_undeclare now Kept n client k.Able id (m.Unable id) (λ s found known e at_end unbroken sound'. clients_kept _ _ (on_wire n client s e at_end (m.Unable id) refl))
+  acts_keep n (a.Interest client id mode kinds key aggregate) = interest_says now Kept n client id mode kinds key aggregate
+      (says n client (m.Interest id (is_current mode) (is_future mode) kinds key aggregate) refl) (weighs n client (unwrap_or key []) (m.Interest id (is_current mode) (is_future mode) kinds key aggregate) refl)
+  acts_keep n (a.Uninterest client id) = uninterest_says now Kept n client id (says n client (m.EndInterest id) refl)
   acts_keep n (a.Publish client content) = publish_says now Kept n client content (says n client (m.Push None content) refl)
   acts_keep n (a.Get client number target content) = get_says now Kept n client number target content (says n client (m.Request None number target content) refl)
   acts_keep n (a.Reply client number content) = reply_says now Kept n client number content (says n client (m.Response number content) refl)
   acts_keep n (a.End client number) = end_says now Kept n client number (says n client (m.Final number no_extras) refl)
-  acts_keep n (a.Handle router from) = for_handle now Kept router from (λ r found there s at_end up msg tag xs front l number taken sound'.
+  acts_keep n (a.Handle router from) = for_handle now Kept (if_sound Holds (λ w v t s. holds_told w v t)) router from (λ r found there s at_end up msg tag xs front l number taken sound'.
       let k = number_found r from l number in
       subst (λ l. Holds (w_handle w router from r s l msg tag xs)) k.2 (message_handled router from r found s at_end msg tag xs front k.0 k.1))
   acts_keep n (a.Take router to) = for_take now Kept router to (λ r found there s at_end up unbroken msg tag xs front sound'. clients_kept _ _ (moves_kept w _ h (taken_moves notes_in (table_of w) w h.twins router to s at_end msg tag xs front)))

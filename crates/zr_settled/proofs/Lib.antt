@@ -10,6 +10,7 @@ pub mod Worlds
 pub mod Ends
 pub mod Quiet
 pub mod Moving
+pub mod Told
 pub mod Passing
 pub mod Orderly
 pub mod OwnLinks
@@ -45,12 +46,14 @@ pub mod GapActs
 pub mod WeightsSums
 pub mod WeightsRows
 pub mod Weights
+pub mod WeightsClients
 pub mod WeightsKnown
 pub mod WeightsSent
 pub mod WeightsNodes
 pub mod WeightsWaiting
 pub mod WeightsKeeping
 pub mod WeightsActs
+pub mod Wanting
 pub mod InTurn
 pub mod Goes
 pub mod Refused

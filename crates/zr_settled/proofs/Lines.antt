@@ -1,11 +1,12 @@
 -- What is bounded by how many lines were read: each router's own number (`lines_bounded`); and how many routers there are is bounded at all.
 use Rattle.std.proofs.Common.{◌≡◌, ◌≤◌, ◌<◌, ◌+◌, ℕ, suc, Bool, true, false, cond, List, [], ◌∷◌, ◌++◌, length, Option, Some, None, is_some, Result, Ok, Err, Ordering, Less, Equal, Greater, sym, ap, ◌∙◌, subst, arith}
-use Rattle.std.specs.Prelude.{nat_le, IfSome, IfOk, is_none}
+use Rattle.std.specs.Prelude.{nat_le, IfSome, IfOk, is_none, unwrap_or}
 use Rattle.std.specs.List.{fold, list_all}
 use Rattle.std.specs.BTreeMap.{insert_entry}
 use Rattle.std.specs.Ordering.{nat_cmp, match_ordering}
 use Rattle.std.specs.Cmp.Lexicographic.{slice_cmp}
 use Rattle.std.proofs.lemmas.Bool.{and_parts, leb-false}
+use Rattle.std.proofs.lemmas.List.{length-map}
 use Rattle.std.proofs.lemmas.Map.{length-set_value}
 use Rattle.zr_id.specs.Zid.{is_named}
 use Rattle.zr_msg.specs.declared.decl.Kind.TheVariants as k
@@ -31,8 +32,9 @@ use Rattle.zr_network.specs.Moments.{Moment, is_step, went}
 use Rattle.zr_network.specs.Run.{Run, start, stepped, commanded, on_line, run_lines}
 use Rattle.zr_network.proofs.Keyed.{not_there}
 use Rattle.zr_network.proofs.Names.{value_new, read_after}
-use Rattle.zr_network.proofs.Cases.{free_name, for_router, for_client, for_link, for_up, for_break, for_down, for_declare, for_undeclare, publish_says, get_says, reply_says, end_says, for_handle, for_take, for_mark, for_show}
+use Rattle.zr_network.proofs.Cases.{free_name, for_router, for_link, for_break, for_declare, for_undeclare, publish_says, get_says, reply_says, end_says, for_take, for_mark, for_show, interest_says, uninterest_says}
 use Rattle.zr_network.proofs.Lines.{all_steps}
+use Rattle.zr_settled.proofs.Told.{IsTold, of_each, for_client, for_up, for_down, for_handle}
 use Rattle.zr_settled.proofs.Spreading.{Name}
 use Rattle.zr_settled.proofs.Bounds.{IsBounded, cost, bounded_after, bounded_fresh, bounded_later}
 
@@ -77,6 +79,13 @@ bounded_new n routers id free room h = record {
     by y q true k = let one : new_router id ≡ q = cc in subst (λ (s : RouterState). IsBounded n s.node.base) one (bounded_fresh n id)
     by y q false k = h.each y q k
 
+-- clients are told
+told_bounded : (n : ℕ) (w v : WorldState) → IsTold w v → AreBounded n w.routers → AreBounded n v.routers
+told_bounded n w v t h = record {
+  few = let e : length v.routers ≡ length w.routers = sym (length-map v.routers (λ e. e.0)) ∙ ap length t.names ∙ length-map w.routers (λ e. e.0) in omega (arith, e, h.few);
+  each = of_each w v t (λ x b. IsBounded n b.base) h.each;
+}
+
 -- ---- acts
 
 -- what an act may add
@@ -94,6 +103,9 @@ module _ (n : ℕ) (now : Moment) (h : AreBounded n now.world.routers) where
   abbrev Bound : ℕ → Moment → Type 0
   Bound m next = AreBounded m next.world.routers
 
+  bounded_told : (m : ℕ) (u v : WorldState) (report : List ReportLine) → IsTold u v → AreBounded m u.routers → AreBounded m v.routers
+  bounded_told m u v report t k = told_bounded m u v t k
+
   stays : AreBounded (n + 1) w.routers
   stays = later n (n + 1) w.routers (omega arith) h
 
@@ -108,20 +120,23 @@ module _ (n : ℕ) (now : Moment) (h : AreBounded n now.world.routers) where
   act_bounded line (a.Router id) = for_router now (Bound (n + 1)) id (λ free room.
       let lt : length w.routers < most_routers = leb-false most_routers (length w.routers) room in
       later n (n + 1) _ (omega arith) (bounded_new n w.routers id (not_there (router_of w.routers id) (free_name w id free).0) lt h))
-  act_bounded line (a.Client id router) = for_client now (Bound (n + 1)) line id router (λ r found free room taken. hears (n + 1) router r found (up_event r (record { id = id; role = Client })) (omega arith))
+  act_bounded line (a.Client id router) = for_client now (Bound (n + 1)) (bounded_told (n + 1)) line id router (λ r found free room taken. hears (n + 1) router r found (up_event r (record { id = id; role = Client })) (omega arith))
   act_bounded line (a.Link one other) = for_link now (Bound (n + 1)) one other (λ apart r found q found' new room. stays)
-  act_bounded line (a.Up router name) = for_up now (Bound (n + 1)) line router name (λ r found there s at_end unbroken down taken. hears (n + 1) router r found (up_event r (peer_of w name)) (omega arith))
+  act_bounded line (a.Up router name) = for_up now (Bound (n + 1)) (bounded_told (n + 1)) line router name (λ r found there s at_end unbroken down taken. hears (n + 1) router r found (up_event r (peer_of w name)) (omega arith))
   act_bounded line (a.Break router name) = for_break now (Bound (n + 1)) router name (λ r found there s at_end unbroken. stays)
-  act_bounded line (a.Down router name) = for_down now (Bound (n + 1)) line router name (λ r found there s at_end up cut l number taken. hears (n + 1) router r found (Down l) (omega arith))
+  act_bounded line (a.Down router name) = for_down now (Bound (n + 1)) (bounded_told (n + 1)) line router name (λ r found there s at_end up cut l number taken. hears (n + 1) router r found (Down l) (omega arith))
   act_bounded line (a.Sub client id key) = for_declare now (Bound (n + 1)) line client k.Sub id key (m.Sub id key) (λ s found fresh e at_end unbroken r there weighs. heavier s.router key r there)
   act_bounded line (a.Unsub client id) = for_undeclare now (Bound (n + 1)) line client k.Sub id (m.Unsub id) (λ s found known e at_end unbroken. stays)
   act_bounded line (a.Able client id key complete) = for_declare now (Bound (n + 1)) line client (able_kind complete) id key (m.Able id key complete) (λ s found fresh e at_end unbroken r there weighs. heavier s.router key r there)
   act_bounded line (a.Unable client id) = for_undeclare now (Bound (n + 1)) line client k.Able id (m.Unable id) (λ s found known e at_end unbroken. stays)
+  act_bounded line (a.Interest client id mode kinds key aggregate) = interest_says now (Bound (n + 1)) line client id mode kinds key aggregate (λ s found e at_end unbroken clients same. stays)
+      (λ s found e at_end unbroken r there room clients same. heavier s.router (unwrap_or key []) r there)
+  act_bounded line (a.Uninterest client id) = uninterest_says now (Bound (n + 1)) line client id (λ s found e at_end unbroken clients same. stays)
   act_bounded line (a.Publish client content) = publish_says now (Bound (n + 1)) line client content (λ s found e at_end unbroken clients same. stays)
   act_bounded line (a.Get client number target content) = get_says now (Bound (n + 1)) line client number target content (λ s found e at_end unbroken clients same. stays)
   act_bounded line (a.Reply client number content) = reply_says now (Bound (n + 1)) line client number content (λ s found e at_end unbroken clients same. stays)
   act_bounded line (a.End client number) = end_says now (Bound (n + 1)) line client number (λ s found e at_end unbroken clients same. stays)
-  act_bounded line (a.Handle router from) = for_handle now (Bound (n + 0)) router from (λ r found there s at_end up msg tag xs front l number taken. hears (n + 0) router r found (From l msg) (omega arith))
+  act_bounded line (a.Handle router from) = for_handle now (Bound (n + 0)) (bounded_told (n + 0)) router from (λ r found there s at_end up msg tag xs front l number taken. hears (n + 0) router r found (From l msg) (omega arith))
   act_bounded line (a.Take router to) = for_take now (Bound (n + 0)) router to (λ r found there s at_end up unbroken msg tag xs front. rests)
   act_bounded line a.Mark = for_mark now (Bound (n + 1)) line (λ settled joined. stays)
   act_bounded line (a.Show router) = for_show now (Bound (n + 1)) router (λ r found. stays)

@@ -17,7 +17,7 @@ use Rattle.zr_log.specs.Known.{AreInOrder, position}
 use Rattle.zr_routing.specs.Tables.{is_link, link_at, link_to, is_router, leads_to_router, leads_to_client}
 use Rattle.zr_table.specs.Table.{after, refuses}
 use Rattle.zr_network.specs.World.{Tagged, RouterState, EndState, End, Ends, WorldState, with_ends, router_of, end_of, is_end, is_up, is_unbroken, with_end, with_wire, changed, lifted, lowered}
-use Rattle.zr_network.specs.Acts.{hearing, heard}
+use Rattle.zr_network.specs.Acts.{hearing, sending}
 use Rattle.zr_network.specs.Sound.{IsSound}
 use Rattle.zr_network.proofs.Keyed.{there}
 use Rattle.zr_network.proofs.Names.{read_after}
@@ -104,7 +104,7 @@ module _ (w : WorldState) (h : Holds w) (l : LogsHold w) (a : Name) (r : RouterS
     foreign : (z : Name) → is_named a z ≡ false → position (after r.node event).known z ≤ own (log_lane w) z
     foreign z other = omega (arith, follows.others z (ap (λ q. is_named q z) (l.own_name a r found) ∙ other), known_before z, heard_le z)
 
-    pub spreads_then : Spreads none_made (feeds_logs final) (log_lane (heard (with_ends w es) a r event tag))
+    pub spreads_then : Spreads none_made (feeds_logs final) (log_lane (sending (with_ends w es) a r event tag))
     spreads_then = heard_spreads w h l a r found event tag es ways follows ((event_stays r.node event).order (l.in_order a r found)) me_then foreign (feeds_logs final) fed less
 
     pub logs_then : Spreads none_made (feeds_logs final) (log_lane final) → LogsHold final
@@ -123,13 +123,13 @@ module _ (w : WorldState) (h : Holds w) (l : LogsHold w) (a : Name) (r : RouterS
 
   -- ---- the routers once one has heard
 
-  routers_then : (event : Event) (es : Ends) (tag : ℕ) (x : Name) → is_named a x ≡ false → router_of (heard (with_ends w es) a r event tag).routers x ≡ router_of w.routers x
+  routers_then : (event : Event) (es : Ends) (tag : ℕ) (x : Name) → is_named a x ≡ false → router_of (sending (with_ends w es) a r event tag).routers x ≡ router_of w.routers x
   routers_then event es tag x other = read_after (λ o. o) w.routers a x r (hearing r event) found ∙ ap (λ b. cond b (Some (hearing r event)) (router_of w.routers x)) other
 
   -- ---- an end comes up
 
-  pub logs_up : (b : Name) (s : EndState) → end_of w.ends (a, b) ≡ Some s → (link : LinkNo) (peer : Peer) (tag : ℕ) → IsSound (heard (with_ends w (with_end w.ends (a, b) (lifted s))) a r (Up link peer) tag) →
-      LogsHold (heard (with_ends w (with_end w.ends (a, b) (lifted s))) a r (Up link peer) tag)
+  pub logs_up : (b : Name) (s : EndState) → end_of w.ends (a, b) ≡ Some s → (link : LinkNo) (peer : Peer) (tag : ℕ) → IsSound (sending (with_ends w (with_end w.ends (a, b) (lifted s))) a r (Up link peer) tag) →
+      LogsHold (sending (with_ends w (with_end w.ends (a, b) (lifted s))) a r (Up link peer) tag)
   logs_up b s at_end link peer tag sound' =
       logs_then (Up link peer) tag es (lifted_way places_in w.ends a b s at_end) final becomes (up_follows r.node link peer) (λ z. omega arith) (λ k at. inr refl)
       (spreads_then (Up link peer) tag es (lifted_way places_in w.ends a b s at_end) final becomes (up_follows r.node link peer) (λ z. omega arith) (λ k at. inr refl))
@@ -138,7 +138,7 @@ module _ (w : WorldState) (h : Holds w) (l : LogsHold w) (a : Name) (r : RouterS
       es = with_end w.ends (a, b) (lifted s)
 
       final : WorldState
-      final = heard (with_ends w es) a r (Up link peer) tag
+      final = sending (with_ends w es) a r (Up link peer) tag
 
       becomes : Becomes w es a r (Up link peer) final
       becomes = record {
@@ -154,11 +154,11 @@ module _ (w : WorldState) (h : Holds w) (l : LogsHold w) (a : Name) (r : RouterS
 
   -- ---- a client's end is up, and its router hears of it
 
-  pub logs_joined : (link : LinkNo) (peer : Peer) (tag : ℕ) (final : WorldState) → final.routers ≡ (heard w a r (Up link peer) tag).routers → final.ends ≡ (heard w a r (Up link peer) tag).ends → IsSound final → LogsHold final
+  pub logs_joined : (link : LinkNo) (peer : Peer) (tag : ℕ) (final : WorldState) → final.routers ≡ (sending w a r (Up link peer) tag).routers → final.ends ≡ (sending w a r (Up link peer) tag).ends → IsSound final → LogsHold final
   logs_joined link peer tag final same_routers same_ends sound' =
       logs_then (Up link peer) tag w.ends (λ x y. refl) final becomes (up_follows r.node link peer) (λ z. omega arith) (λ k at. inr refl)
       (subst (λ (e : Ends). Spreads none_made (feeds_logs final) (record { table = λ x z. knows_logs (router_of final.routers x) z; way = way_of places_in e })) (sym same_ends)
-      (subst (λ (rs : List (Name × RouterState)). Spreads none_made (feeds_logs final) (record { table = λ x z. knows_logs (router_of rs x) z; way = way_of places_in (heard w a r (Up link peer) tag).ends })) (sym same_routers)
+      (subst (λ (rs : List (Name × RouterState)). Spreads none_made (feeds_logs final) (record { table = λ x z. knows_logs (router_of rs x) z; way = way_of places_in (sending w a r (Up link peer) tag).ends })) (sym same_routers)
       (spreads_then (Up link peer) tag w.ends (λ x y. refl) final becomes (up_follows r.node link peer) (λ z. omega arith) (λ k at. inr refl))))
     where
       becomes : Becomes w w.ends a r (Up link peer) final
@@ -175,8 +175,8 @@ module _ (w : WorldState) (h : Holds w) (l : LogsHold w) (a : Name) (r : RouterS
   -- ---- an end goes down
 
   pub logs_down : IsSound w → (b : Name) (k : LinkPeer) → link_to r.node.links b ≡ Some k → (tag : ℕ) →
-      IsSound (with_ends (heard w a r (Down k.link) tag) (changed (heard w a r (Down k.link) tag).ends (a, b) lowered)) →
-      LogsHold (with_ends (heard w a r (Down k.link) tag) (changed (heard w a r (Down k.link) tag).ends (a, b) lowered))
+      IsSound (with_ends (sending w a r (Down k.link) tag) (changed (sending w a r (Down k.link) tag).ends (a, b) lowered)) →
+      LogsHold (with_ends (sending w a r (Down k.link) tag) (changed (sending w a r (Down k.link) tag).ends (a, b) lowered))
   logs_down sound b k linked tag sound' =
       logs_then (Down k.link) tag w.ends (λ x y. refl) final becomes follows (λ z. omega arith) was
       (drops_kept none_made (feeds_logs final) (feeds_logs final) (log_lane part) (log_lane final)
@@ -184,7 +184,7 @@ module _ (w : WorldState) (h : Holds w) (l : LogsHold w) (a : Name) (r : RouterS
       (record { tables = λ x z. refl; part = emptied_part places_in part.ends a b; dropped = λ x y z f. (f, kept x y z f (is_end (a, b) (x, y)) refl) }))
     where
       part : WorldState
-      part = heard w a r (Down k.link) tag
+      part = sending w a r (Down k.link) tag
 
       final : WorldState
       final = with_ends part (changed part.ends (a, b) lowered)
@@ -244,8 +244,8 @@ module _ (w : WorldState) (h : Holds w) (l : LogsHold w) (a : Name) (r : RouterS
   -- ---- a message is handled
 
   pub logs_handled : IsSound w → (b : Name) (k : LinkPeer) → link_to r.node.links b ≡ Some k → (s : EndState) → end_of w.ends (a, b) ≡ Some s → (msg : Msg) (tag : ℕ) (xs : List Tagged) →
-      s.wire ≡ record { msg = msg; tag = tag } ∷ xs → refuses r.node (From k.link msg) ≡ None → IsSound (heard (with_ends w (with_end w.ends (a, b) (with_wire s xs))) a r (From k.link msg) tag) →
-      LogsHold (heard (with_ends w (with_end w.ends (a, b) (with_wire s xs))) a r (From k.link msg) tag)
+      s.wire ≡ record { msg = msg; tag = tag } ∷ xs → refuses r.node (From k.link msg) ≡ None → IsSound (sending (with_ends w (with_end w.ends (a, b) (with_wire s xs))) a r (From k.link msg) tag) →
+      LogsHold (sending (with_ends w (with_end w.ends (a, b) (with_wire s xs))) a r (From k.link msg) tag)
   logs_handled sound b k linked s at_end msg tag xs front taken sound' =
       logs_then (From k.link msg) tag w.ends (λ x y. refl) final becomes follows heard_le was
       (drops_kept none_made (feeds_logs final) (feeds_logs final) (log_lane still) (log_lane final)
@@ -261,10 +261,10 @@ module _ (w : WorldState) (h : Holds w) (l : LogsHold w) (a : Name) (r : RouterS
 
       -- the world where the message is still on the wire
       still : WorldState
-      still = heard w a r (From k.link msg) tag
+      still = sending w a r (From k.link msg) tag
 
       final : WorldState
-      final = heard (with_ends w es) a r (From k.link msg) tag
+      final = sending (with_ends w es) a r (From k.link msg) tag
 
       it : In k r.node.links × (k.peer.id ≡ b)
       it = linked_to r.node.links b k linked

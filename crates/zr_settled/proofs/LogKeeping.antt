@@ -1,7 +1,7 @@
 -- Each act that is not refused keeps what holds of logs (`logs_keep`), and nothing was told of logs before the first line; so it holds at each
 -- moment that acts lead to (`logs_stand`).
 use Rattle.std.proofs.Common.{◌≡◌, ℕ, Bool, true, false, cond, List, [], Option, Some, None, is_some, refl, sym, ap, ◌∙◌, subst, arith}
-use Rattle.std.specs.Prelude.{◌&&◌, IfSome}
+use Rattle.std.specs.Prelude.{◌&&◌, IfSome, unwrap_or}
 use Rattle.std.specs.Ordering.{nat_cmp}
 use Rattle.std.specs.Cmp.Lexicographic.{slice_cmp}
 use Rattle.std.specs.BTreeMap.{insert_entry}
@@ -16,6 +16,7 @@ use Rattle.zr_msg.specs.Extras.{no_extras}
 use Rattle.zr_msg.specs.declared.event.Event.TheVariants.{From}
 use Rattle.zr_msg.specs.declared.peer.Role.TheVariants.{Client}
 use Rattle.zr_command.specs.declared.command.Act.{Act}
+use Rattle.zr_command.specs.Mode.{is_current, is_future}
 use Rattle.zr_command.specs.declared.command.Act.TheVariants as a
 use Rattle.zr_log.specs.Known.{AreInOrder}
 use Rattle.zr_log.proofs.Logs.{in_order_none}
@@ -27,8 +28,10 @@ use Rattle.zr_network.specs.Moments.{Numbered, Moment, went, reached}
 use Rattle.zr_network.specs.Sound.{IsSound}
 use Rattle.zr_network.proofs.Keyed.{not_there}
 use Rattle.zr_network.proofs.Names.{value_new, read_kept, read_after}
-use Rattle.zr_network.proofs.Cases.{w_client, w_down, w_sent, w_declare, w_handle, free_name, number_found, for_router, for_client, for_link, for_up, for_break, for_down, for_declare, for_undeclare, Says, publish_says, get_says, reply_says, end_says, for_handle, for_take, for_mark, for_show}
+use Rattle.zr_network.proofs.Cases.{w_sent, w_declare, free_name, number_found, for_router, for_link, for_break, for_declare, for_undeclare, Says, publish_says, get_says, reply_says, end_says, for_take, for_mark, for_show, Weighs, interest_says, uninterest_says}
+use Rattle.zr_network.proofs.Telling.{is_told}
 use Rattle.zr_network.proofs.Sound.{empty_sound}
+use Rattle.zr_settled.proofs.Told.{IsTold, by_told, if_sound, reads, told_feeds, of_each, told_way, w_client, w_down, w_handle, for_client, for_up, for_down, for_handle}
 use Rattle.zr_settled.proofs.Spreading.{Name, is_all, drops_kept}
 use Rattle.zr_settled.proofs.Moments.{at_moments}
 use Rattle.zr_settled.proofs.Records.{notes_in}
@@ -122,6 +125,28 @@ weighed_logs w l a r key found = record {
 clients_logs : (w : WorldState) (clients : Clients) → LogsHold w → LogsHold (with_clients w clients)
 clients_logs w clients l = record { spreads = l.spreads; in_order = l.in_order; own_name = l.own_name }
 
+-- ---- clients are told
+
+told_places : (msg : Msg) → is_told msg ≡ true → places_in msg ≡ []
+told_places = by_told (λ msg. places_in msg ≡ []) (λ id key interest. refl) (λ id key complete interest. refl) (λ id. refl) (λ id. refl) (λ interest. refl)
+
+pub logs_told : (w v : WorldState) → IsTold w v → LogsHold w → LogsHold v
+logs_told w v t l = record {
+  spreads = drops_kept none_made (feeds_logs w) (feeds_logs v) (log_lane w) (log_lane v) l.spreads (record {
+    tables = λ x z. reads w v t (λ o. knows_logs o z) (λ r. refl) x;
+    part = λ x y. is_all (way_of places_in v.ends x y) (way_of places_in w.ends x y) (sym (ways x y));
+    dropped = λ x y z f. (sym (feeds x y z) ∙ f, same_way z (logs_of w y z).number (way_of places_in v.ends x y) (way_of places_in w.ends x y) (ways x y));
+  });
+  in_order = of_each w v t (λ x n. AreInOrder n.known) l.in_order;
+  own_name = of_each w v t (λ x n. n.known.me ≡ x) l.own_name;
+}
+  where
+    ways : (x y : Name) → way_of places_in v.ends x y ≡ way_of places_in w.ends x y
+    ways = told_way w v t places_in told_places
+
+    feeds : (x y z : Name) → feeds_logs v z x y ≡ feeds_logs w z x y
+    feeds x y z = λ i. told_feeds w v t x y z i && reads w v t (λ o. child_at o z x y) (λ r. refl) x i
+
 -- ---- acts
 
 module _ (now : Moment) (sound : IsSound now.world) (h : Holds now.world) (l : LogsHold now.world) where
@@ -137,6 +162,11 @@ module _ (now : Moment) (sound : IsSound now.world) (h : Holds now.world) (l : L
   -- it says something that tells nothing of logs
   says : (n : ℕ) (name : List ℕ) (msg : Msg) → places_in msg ≡ [] → Says now KeptLogs n name msg
   says n name msg silent s found e at_end unbroken clients same sound' = clients_logs _ clients (on_wire n name s e at_end msg silent)
+
+  -- what it says may weigh on its router
+  weighs : (n : ℕ) (name key : List ℕ) (msg : Msg) → places_in msg ≡ [] → Weighs now KeptLogs n name key msg
+  weighs n name key msg silent s found e at_end unbroken r there room clients same sound' =
+      clients_logs _ clients (weighed_logs (w_sent w n name s e msg) (on_wire n name s e at_end msg silent) s.router r key there)
 
   client_declares : (n : ℕ) (name : List ℕ) (kind : Kind) (id : ℕ) (key : List ℕ) (msg : Msg) → places_in msg ≡ [] → (s : ClientState) (e : EndState) → end_of w.ends (s.router, name) ≡ Some e →
       (r : RouterState) → router_of w.routers s.router ≡ Some r → LogsHold (w_declare w n name kind id key msg s e r)
@@ -154,12 +184,12 @@ module _ (now : Moment) (sound : IsSound now.world) (h : Holds now.world) (l : L
   pub logs_keep : (n : ℕ) (act : Act) → IfSome (went now (outcome w n act)) KeptLogs
   unfolding outcome
   logs_keep n (a.Router id) = for_router now KeptLogs id (λ free room sound'. router_logs w sound l id free)
-  logs_keep n (a.Client id router) = for_client now KeptLogs n id router (λ r found free room taken sound'. client_comes n id router r found free sound')
+  logs_keep n (a.Client id router) = for_client now KeptLogs (if_sound LogsHold (λ w v t s. logs_told w v t)) n id router (λ r found free room taken sound'. client_comes n id router r found free sound')
   logs_keep n (a.Link one other) = for_link now KeptLogs one other (λ apart r found q found' new room sound'. logs_moved w _ l (linked_moves places_in (logs_of w) w h.twins one other (ap is_some found) (ap is_some found') new))
-  logs_keep n (a.Up router name) = for_up now KeptLogs n router name (λ r found there s at_end unbroken down taken sound'.
+  logs_keep n (a.Up router name) = for_up now KeptLogs (if_sound LogsHold (λ w v t s. logs_told w v t)) n router name (λ r found there s at_end unbroken down taken sound'.
       logs_up w h l router r found (sound.own router r found) name s at_end (record { 0 = free_link r.node.links }) (peer_of w name) n sound')
   logs_keep n (a.Break router name) = for_break now KeptLogs router name (λ r found there s at_end unbroken sound'. logs_moved w _ l (broken_moves places_in (logs_of w) w h.twins router name))
-  logs_keep n (a.Down router name) = for_down now KeptLogs n router name (λ r found there s at_end up cut link number taken.
+  logs_keep n (a.Down router name) = for_down now KeptLogs (if_sound LogsHold (λ w v t s. logs_told w v t)) n router name (λ r found there s at_end up cut link number taken.
       let k = number_found r name link number in
       subst (λ q. IsSound (w_down w n router name r q) → LogsHold (w_down w n router name r q)) k.2 (λ sound'. logs_down w h l router r found (sound.own router r found) sound name k.0 k.1 n sound'))
   logs_keep n (a.Sub client id key) = for_declare now KeptLogs n client k.Sub id key (m.Sub id key) (λ s found fresh e at_end unbroken r there room sound'.
@@ -168,11 +198,14 @@ module _ (now : Moment) (sound : IsSound now.world) (h : Holds now.world) (l : L
   logs_keep n (a.Able client id key complete) = for_declare now KeptLogs n client (able_kind complete) id key (m.Able id key complete) (λ s found fresh e at_end unbroken r there room sound'.
       client_declares n client (able_kind complete) id key (m.Able id key complete) refl s e at_end r there)
   logs_keep n (a.Unable client id) = for_undeclare now KeptLogs n client k.Able id (m.Unable id) (λ s found known e at_end unbroken sound'. clients_logs _ _ (on_wire n client s e at_end (m.Unable id) refl))
+  logs_keep n (a.Interest client id mode kinds key aggregate) = interest_says now KeptLogs n client id mode kinds key aggregate
+      (says n client (m.Interest id (is_current mode) (is_future mode) kinds key aggregate) refl) (weighs n client (unwrap_or key []) (m.Interest id (is_current mode) (is_future mode) kinds key aggregate) refl)
+  logs_keep n (a.Uninterest client id) = uninterest_says now KeptLogs n client id (says n client (m.EndInterest id) refl)
   logs_keep n (a.Publish client content) = publish_says now KeptLogs n client content (says n client (m.Push None content) refl)
   logs_keep n (a.Get client number target content) = get_says now KeptLogs n client number target content (says n client (m.Request None number target content) refl)
   logs_keep n (a.Reply client number content) = reply_says now KeptLogs n client number content (says n client (m.Response number content) refl)
   logs_keep n (a.End client number) = end_says now KeptLogs n client number (says n client (m.Final number no_extras) refl)
-  logs_keep n (a.Handle router from) = for_handle now KeptLogs router from (λ r found there s at_end up msg tag xs front link number taken sound'.
+  logs_keep n (a.Handle router from) = for_handle now KeptLogs (if_sound LogsHold (λ w v t s. logs_told w v t)) router from (λ r found there s at_end up msg tag xs front link number taken sound'.
       let k = number_found r from link number in
       subst (λ q. refuses r.node (From q msg) ≡ None → IsSound (w_handle w router from r s q msg tag xs) → LogsHold (w_handle w router from r s q msg tag xs)) k.2
       (λ taken' sound''. logs_handled w h l router r found (sound.own router r found) sound from k.0 k.1 s at_end msg tag xs front taken' sound'') taken sound')

@@ -18,7 +18,7 @@ use Rattle.zr_log.specs.Known.{AreInOrder, position}
 use Rattle.zr_routing.specs.Tables.{link_at, link_to, is_router}
 use Rattle.zr_table.specs.Table.{sends, after}
 use Rattle.zr_network.specs.World.{RouterState, Ends, WorldState, with_ends, router_of, end_of, is_up, is_unbroken}
-use Rattle.zr_network.specs.Acts.{hearing, heard}
+use Rattle.zr_network.specs.Acts.{hearing, sending}
 use Rattle.zr_network.proofs.Names.{read_after}
 use Rattle.zr_settled.proofs.Spreading.{at_name, Name, Known, Note, Made, Lane, Feeds, own, best, AllFit, Spreads, goes_on_kept, drops_kept, best_append, best_head}
 use Rattle.zr_settled.proofs.Worlds.{there_in, knows, table_of, way_of, feeds_of, Holds, sent_at, way_sent, way_other, sent_there}
@@ -122,7 +122,7 @@ module _ (w : WorldState) (h : Holds w) (l : LogsHold w) (a : Name) (r : RouterS
   u = with_ends w es
 
   abbrev v : WorldState
-  v = heard u a r event tag
+  v = sending u a r event tag
 
   pub logs_heard : (x z : Name) → logs_of v x z ≡ cond (is_named a x) (placed (position (after r.node event).known z)) (logs_of w x z)
   logs_heard x z = read_after (λ o. knows_logs o z) w.routers a x r (hearing r event) found

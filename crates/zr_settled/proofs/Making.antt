@@ -1,7 +1,7 @@
 -- What was made of logs, in worlds (`SetsHold`): each act that is not refused goes on with the history (`sets_keep`), so there is one at each moment
 -- that acts lead to (`sets_stand`).
 use Rattle.std.proofs.Common.{◌≡◌, ◌≤◌, ℕ, Bool, true, false, cond, List, [], ◌∷◌, ◌++◌, Option, Some, None, is_some, inr, refl, sym, ap, ◌∙◌, subst, arith}
-use Rattle.std.specs.Prelude.{IfSome, flat_map}
+use Rattle.std.specs.Prelude.{IfSome, flat_map, unwrap_or}
 use Rattle.std.specs.Option.{option_map_or}
 use Rattle.std.specs.Ordering.{nat_cmp}
 use Rattle.std.specs.Cmp.Lexicographic.{slice_cmp}
@@ -22,6 +22,7 @@ use Rattle.zr_msg.specs.declared.peer.LinkPeer.{LinkPeer}
 use Rattle.zr_msg.specs.declared.peer.Peer.{Peer}
 use Rattle.zr_msg.specs.declared.peer.Role.TheVariants.{Client}
 use Rattle.zr_command.specs.declared.command.Act.{Act}
+use Rattle.zr_command.specs.Mode.{is_current, is_future}
 use Rattle.zr_command.specs.declared.command.Act.TheVariants as a
 use Rattle.zr_set.specs.Decls.{IsSet}
 use Rattle.zr_set.proofs.Decls.{set_none}
@@ -32,13 +33,15 @@ use Rattle.zr_routing.specs.Changes.{changes}
 use Rattle.zr_table.specs.Table.{able_kind, rows_left, sends, after}
 use Rattle.zr_table.proofs.Inserted.{All-append, All-front, All-back}
 use Rattle.zr_network.specs.World.{Tagged, RouterState, EndState, ClientState, Clients, Ends, WorldState, with_routers, with_clients, with_ends, new_router, with_router, router_of, end_of, is_end, put_end, with_end, with_wire, new_end, is_taken, empty_world, lifted}
-use Rattle.zr_network.specs.Acts.{outcome, weighing, peer_of, hearing, heard}
+use Rattle.zr_network.specs.Acts.{outcome, weighing, peer_of, hearing, sending}
 use Rattle.zr_network.specs.Moments.{Numbered, Moment, went, reached}
 use Rattle.zr_network.specs.Sound.{IsSound}
 use Rattle.zr_network.proofs.Keyed.{not_there}
 use Rattle.zr_network.proofs.Names.{value_new, read_kept, read_after}
 use Rattle.zr_network.proofs.Ends.{ends}
-use Rattle.zr_network.proofs.Cases.{w_sent, w_declare, w_handle, free_name, for_router, for_client, for_link, for_up, for_break, for_down, for_declare, for_undeclare, Says, publish_says, get_says, reply_says, end_says, for_handle, for_take, for_mark, for_show}
+use Rattle.zr_network.proofs.Telling.{is_told}
+use Rattle.zr_network.proofs.Cases.{w_sent, w_declare, free_name, for_router, for_link, for_break, for_declare, for_undeclare, Says, publish_says, get_says, reply_says, end_says, for_take, for_mark, for_show, Weighs, interest_says, uninterest_says}
+use Rattle.zr_settled.proofs.Told.{IsTold, by_told, reads, of_each, told_way, w_handle, for_client, for_up, for_down, for_handle}
 use Rattle.zr_settled.proofs.Spreading.{at_name, Name, Known, Note, IsPart, own}
 use Rattle.zr_settled.proofs.Moments.{at_moments}
 use Rattle.zr_settled.proofs.Worlds.{way_of, Holds, sent_at, way_sent, way_other}
@@ -100,7 +103,7 @@ module _ (w : WorldState) (l : LogsHold w) (s : SetsHold w) (a : Name) (r : Rout
     (es_way : (x y : Name) → AllMade s.made (own (log_lane w)) (way_of brings es x y)) (grows : (z : Name) → position r.node.known z ≤ position (after r.node event).known z)
     (foreign : (z : Name) → is_named a z ≡ false → position (after r.node event).known z ≤ own (log_lane w) z) (b : Brings r.node event s.made (own (log_lane w))) where
   abbrev left : WorldState
-  left = heard (with_ends w es) a r event tag
+  left = sending (with_ends w es) a r event tag
 
   name : r.node.known.me ≡ a
   name = l.own_name a r found
@@ -225,6 +228,25 @@ weighed_sets w s a r key found = record {
 clients_sets : (w : WorldState) (clients : Clients) → SetsHold w → SetsHold (with_clients w clients)
 clients_sets w clients s = record { made = s.made; sets = s.sets; none = s.none; known = s.known; way = s.way; rows = s.rows }
 
+-- ---- clients are told
+
+told_brings : (msg : Msg) → is_told msg ≡ true → brings msg ≡ []
+told_brings = by_told (λ msg. brings msg ≡ []) (λ id key interest. refl) (λ id key complete interest. refl) (λ id. refl) (λ id. refl) (λ interest. refl)
+
+pub sets_told : (w v : WorldState) → IsTold w v → SetsHold w → SetsHold v
+sets_told w v t s = record {
+  made = s.made;
+  sets = s.sets;
+  none = s.none;
+  known = λ x z. reads w v t (λ o. sets_at o z) (λ r. refl) x ∙ s.known x z ∙ ap (s.made z) (sym (number x z));
+  way = λ x y. made_later s.made s.made (own (log_lane w)) (own (log_lane v)) (record { later = λ z. let e = number z z in omega (arith, e); stays = λ z n le. refl }) (way_of brings v.ends x y)
+      (subst (λ ms. AllMade s.made (own (log_lane w)) ms) (sym (told_way w v t brings told_brings x y)) (s.way x y));
+  rows = of_each w v t (λ x n. decls n.known n.known.me ≡ declared_set n.rows) s.rows;
+}
+  where
+    number : (x z : Name) → (logs_of v x z).number ≡ (logs_of w x z).number
+    number x z = reads w v t (λ o. (knows_logs o z).number) (λ r. refl) x
+
 -- ---- acts
 
 module _ (now : Moment) (sound : IsSound now.world) (h : Holds now.world) (l : LogsHold now.world) (s : SetsHold now.world) where
@@ -240,6 +262,11 @@ module _ (now : Moment) (sound : IsSound now.world) (h : Holds now.world) (l : L
   -- it says something that brings nothing of logs
   says : (n : ℕ) (name : List ℕ) (msg : Msg) → brings msg ≡ [] → Says now KeptSets n name msg
   says n name msg silent c found e at_end unbroken clients same = clients_sets _ clients (on_wire n name c e at_end msg silent)
+
+  -- what it says may weigh on its router
+  weighs : (n : ℕ) (name key : List ℕ) (msg : Msg) → brings msg ≡ [] → Weighs now KeptSets n name key msg
+  weighs n name key msg silent c found e at_end unbroken r there room clients same =
+      clients_sets _ clients (weighed_sets (w_sent w n name c e msg) (on_wire n name c e at_end msg silent) c.router r key there)
 
   client_declares : (n : ℕ) (name : List ℕ) (kind : Kind) (id : ℕ) (key : List ℕ) (msg : Msg) → brings msg ≡ [] → (c : ClientState) (e : EndState) → end_of w.ends (c.router, name) ≡ Some e →
       (r : RouterState) → router_of w.routers c.router ≡ Some r → SetsHold (w_declare w n name kind id key msg c e r)
@@ -260,7 +287,7 @@ module _ (now : Moment) (sound : IsSound now.world) (h : Holds now.world) (l : L
   known_before a r found z = let e : (logs_of w a z).number ≡ position r.node.known z = ap (λ o. (knows_logs o z).number) found in omega (arith, e, (l.spreads.fits a z).0)
 
   hears_up : (a : Name) (r : RouterState) → router_of w.routers a ≡ Some r → (link : LinkNo) (peer : Peer) (tag : ℕ) (es : Ends) → ((x y : Name) → AllMade s.made (own (log_lane w)) (way_of brings es x y)) →
-      SetsHold (heard (with_ends w es) a r (Up link peer) tag)
+      SetsHold (sending (with_ends w es) a r (Up link peer) tag)
   hears_up a r found link peer tag es ways =
       sets_heard w l s a r found (Up link peer) tag es ways (λ z. let e : position (after r.node (Up link peer)).known z ≡ position r.node.known z = refl in omega (arith, e)) (λ z e. known_before a r found z) (up_brings r.node s.made (own (log_lane w)) (knows a r found) (me_is a r found) link peer)
 
@@ -293,30 +320,33 @@ module _ (now : Moment) (sound : IsSound now.world) (h : Holds now.world) (l : L
   pub sets_keep : (n : ℕ) (act : Act) → IfSome (went now (outcome w n act)) KeptSets
   unfolding outcome sets_moved
   sets_keep n (a.Router id) = for_router now KeptSets id (λ free room. router_sets w s id free)
-  sets_keep n (a.Client id router) = for_client now KeptSets n id router (λ r found free room taken.
+  sets_keep n (a.Client id router) = for_client now KeptSets (λ w v report t. sets_told w v t) n id router (λ r found free room taken.
       let no_router = (free_name w id free).0 in
       let none = not_there (end_of w.ends (router, id)) (false_from_ne_true _ (no_end w sound id free router)) in
       clients_sets _ _ (hears_up router r found (record { 0 = free_link r.node.links }) (record { id = id; role = Client }) n (put_end w.ends (router, id) (lifted new_end))
       (sets_moved w _ s ((joined_moves brings no_table w h.twins router id none no_router).part)).way))
   sets_keep n (a.Link one other) = for_link now KeptSets one other (λ apart r found q found' new room. sets_moved w _ s ((linked_moves brings no_table w h.twins one other (ap is_some found) (ap is_some found') new).part))
-  sets_keep n (a.Up router name) = for_up now KeptSets n router name (λ r found there at at_end unbroken down taken.
+  sets_keep n (a.Up router name) = for_up now KeptSets (λ w v report t. sets_told w v t) n router name (λ r found there at at_end unbroken down taken.
       hears_up router r found (record { 0 = free_link r.node.links }) (peer_of w name) n _ (λ x y. subst (λ ms. AllMade s.made (own (log_lane w)) ms) (sym (lifted_way brings w.ends router name at at_end x y)) (s.way x y)))
   sets_keep n (a.Break router name) = for_break now KeptSets router name (λ r found there at at_end unbroken. sets_moved w _ s ((broken_moves brings no_table w h.twins router name).part))
-  sets_keep n (a.Down router name) = for_down now KeptSets n router name (λ r found there at at_end up cut link number taken.
-      let part : SetsHold (heard w router r (Down link) n) = sets_heard w l s router r found (Down link) n w.ends s.way (rows_grow r.node (me_is router r found) (rows_left r.node link.0))
+  sets_keep n (a.Down router name) = for_down now KeptSets (λ w v report t. sets_told w v t) n router name (λ r found there at at_end up cut link number taken.
+      let part : SetsHold (sending w router r (Down link) n) = sets_heard w l s router r found (Down link) n w.ends s.way (rows_grow r.node (me_is router r found) (rows_left r.node link.0))
       (λ z e. let o : position (after r.node (Down link)).known z ≡ position r.node.known z = position_others r.node.known (changes r.node.rows (rows_left r.node link.0)) z (ap (λ q. is_named q z) (l.own_name router r found) ∙ e) in omega (arith, o, known_before router r found z))
       (down_brings r.node s.made (own (log_lane w)) (knows router r found) (me_is router r found) link) in
-      sets_moved (heard w router r (Down link) n) _ part (emptied_part brings (heard w router r (Down link) n).ends router name))
+      sets_moved (sending w router r (Down link) n) _ part (emptied_part brings (sending w router r (Down link) n).ends router name))
   sets_keep n (a.Sub client id key) = for_declare now KeptSets n client k.Sub id key (m.Sub id key) (λ c found fresh e at_end unbroken r there room. client_declares n client k.Sub id key (m.Sub id key) refl c e at_end r there)
   sets_keep n (a.Unsub client id) = for_undeclare now KeptSets n client k.Sub id (m.Unsub id) (λ c found known e at_end unbroken. clients_sets _ _ (on_wire n client c e at_end (m.Unsub id) refl))
   sets_keep n (a.Able client id key complete) =
       for_declare now KeptSets n client (able_kind complete) id key (m.Able id key complete) (λ c found fresh e at_end unbroken r there room. client_declares n client (able_kind complete) id key (m.Able id key complete) refl c e at_end r there)
   sets_keep n (a.Unable client id) = for_undeclare now KeptSets n client k.Able id (m.Unable id) (λ c found known e at_end unbroken. clients_sets _ _ (on_wire n client c e at_end (m.Unable id) refl))
+  sets_keep n (a.Interest client id mode kinds key aggregate) = interest_says now KeptSets n client id mode kinds key aggregate
+      (says n client (m.Interest id (is_current mode) (is_future mode) kinds key aggregate) refl) (weighs n client (unwrap_or key []) (m.Interest id (is_current mode) (is_future mode) kinds key aggregate) refl)
+  sets_keep n (a.Uninterest client id) = uninterest_says now KeptSets n client id (says n client (m.EndInterest id) refl)
   sets_keep n (a.Publish client content) = publish_says now KeptSets n client content (says n client (m.Push None content) refl)
   sets_keep n (a.Get client number target content) = get_says now KeptSets n client number target content (says n client (m.Request None number target content) refl)
   sets_keep n (a.Reply client number content) = reply_says now KeptSets n client number content (says n client (m.Response number content) refl)
   sets_keep n (a.End client number) = end_says now KeptSets n client number (says n client (m.Final number no_extras) refl)
-  sets_keep n (a.Handle router from) = for_handle now KeptSets router from (λ r found there at at_end up msg tag xs front link number taken. handled router from r found at at_end msg tag xs front link)
+  sets_keep n (a.Handle router from) = for_handle now KeptSets (λ w v report t. sets_told w v t) router from (λ r found there at at_end up msg tag xs front link number taken. handled router from r found at at_end msg tag xs front link)
   sets_keep n (a.Take router to) = for_take now KeptSets router to (λ r found there at at_end up unbroken msg tag xs front. clients_sets _ _ (sets_moved w _ s ((taken_moves brings no_table w h.twins router to at at_end msg tag xs front).part)))
   sets_keep n a.Mark = for_mark now KeptSets n (λ settled joined. s)
   sets_keep n (a.Show router) = for_show now KeptSets router (λ r found. s)

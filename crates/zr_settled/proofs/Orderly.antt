@@ -2,7 +2,7 @@
 -- wire between routers was sent from an end that is up, a client's end is up until its link is broken, the two ends of a link
 -- between routers are broken at once, and no client has a router's name.
 use Rattle.std.proofs.Common.{◌≡◌, ℕ, Bool, true, false, cond, List, [], ◌∷◌, Option, Some, None, ◌⊎◌, inl, inr, refl, sym, ap, ◌∙◌, subst, append-nil}
-use Rattle.std.specs.Prelude.{not, is_some, IfSome}
+use Rattle.std.specs.Prelude.{not, is_some, IfSome, unwrap_or, ◌++◌}
 use Rattle.std.specs.Option.{option_map, option_map_or}
 use Rattle.std.proofs.lemmas.Bool.{false≢true, true≢false}
 use Rattle.zr_id.specs.Zid.{is_named}
@@ -16,6 +16,7 @@ use Rattle.zr_msg.specs.declared.event.Event.{Event}
 use Rattle.zr_msg.specs.declared.event.Event.TheVariants.{Down, From}
 use Rattle.zr_msg.specs.declared.peer.Role.TheVariants as role
 use Rattle.zr_command.specs.declared.command.Act.{Act}
+use Rattle.zr_command.specs.Mode.{is_current, is_future}
 use Rattle.zr_command.specs.declared.command.Act.TheVariants as c
 use Rattle.zr_routing.specs.Tables.{link_to}
 use Rattle.zr_table.specs.State.{NodeState}
@@ -30,7 +31,8 @@ use Rattle.zr_network.proofs.Names.{same_name, value_new, value_after, read_kept
 use Rattle.zr_network.proofs.Ends.{same_end, read_with_end, keep_with_end, read_put_end, read_changed, keep_changed, read_all_queued, keep_all_queued}
 use Rattle.zr_network.proofs.Fits.{up_of}
 use Rattle.zr_network.proofs.Clients.{there_same, same_received}
-use Rattle.zr_network.proofs.Cases.{free_name, on_router, on_client, on_link, on_up, on_break, on_down, on_handle, on_take, for_router, for_client, for_link, for_up, for_break, for_down, for_declare, for_undeclare, Says, publish_says, get_says, reply_says, end_says, for_handle, for_take, for_mark, for_show}
+use Rattle.zr_network.proofs.Cases.{free_name, on_router, on_link, on_break, on_take, for_router, for_link, for_break, for_declare, for_undeclare, Says, publish_says, get_says, reply_says, end_says, for_take, for_mark, for_show, Weighs, interest_says, uninterest_says}
+use Rattle.zr_settled.proofs.Told.{IsTold, is_near, if_sound, end_reads, told_there, on_client, on_up, on_down, on_handle, for_client, for_up, for_down, for_handle}
 use Rattle.zr_settled.proofs.Worlds.{there_in, queue_at, wire_at}
 use Rattle.zr_settled.proofs.Quiet.{turned_is}
 use Rattle.zr_settled.proofs.Moving.{unbroken_at}
@@ -80,6 +82,41 @@ queue_after es router node event tag e none = read_all_queued es router node eve
     by : (b : Bool) → is_named router e.0 ≡ b → cond b (has_queue (option_map (λ s. queued s (sends_to node event e.1) tag) (end_of es e))) (has_queue (end_of es e)) ≡ has_queue (end_of es e)
     by false k = refl
     by true k = ap (λ ms. has_queue (option_map (λ s. queued s ms tag) (end_of es e))) (nothing (link_to (after node event).links e.1) (none k)) ∙ same (end_of es e)
+
+-- ---- clients are told
+
+-- a router has no link over an end that is down
+near_down : (w : WorldState) → IsSound w → (e : End) → up_of (end_of w.ends e) ≡ false → is_near w e ≡ false
+near_down w sound e down = by (router_of w.routers e.0) refl
+  where
+    by : (o : Option RouterState) → router_of w.routers e.0 ≡ o → option_map_or (λ r. is_some (link_to r.node.links e.1)) o false ≡ false
+    by None k = refl
+    by (Some r) k = sound.links e.0 e.1 r k ∙ down
+
+pub orderly_told : (w v : WorldState) → IsTold w v → IsSound w → Orderly w → Orderly v
+orderly_told w v t sound h = record {
+  down_ends = λ e k. let down = sym (up e) ∙ k in queue e down ∙ h.down_ends e down;
+  broken_links = λ e k. wire e ∙ h.broken_links e (sym (unbroken e) ∙ k);
+  senders = λ e r k. up (turned e) ∙ h.senders e (sym (told_there w v t e.1) ∙ r) (sym (wire e) ∙ k);
+  clients = λ e c k. up e ∙ h.clients e (sym (client e.1) ∙ c) (sym (unbroken e) ∙ k);
+  both_ends = λ e r q. unbroken e ∙ h.both_ends e (sym (told_there w v t e.0) ∙ r) (sym (told_there w v t e.1) ∙ q) ∙ sym (unbroken (turned e));
+  apart = λ y k. told_there w v t y ∙ h.apart y (sym (client y) ∙ k);
+}
+  where
+    up : (e : End) → up_of (end_of v.ends e) ≡ up_of (end_of w.ends e)
+    up e = end_reads w v t up_of (λ s. refl) e
+
+    unbroken : (e : End) → unbroken_at (end_of v.ends e) ≡ unbroken_at (end_of w.ends e)
+    unbroken e = end_reads w v t unbroken_at (λ s. refl) e
+
+    wire : (e : End) → has_wire (end_of v.ends e) ≡ has_wire (end_of w.ends e)
+    wire e = end_reads w v t has_wire (λ s. refl) e
+
+    client : (y : List ℕ) → is_client_in v y ≡ is_client_in w y
+    client y = ap (λ cs. is_some (client_of cs y)) t.clients
+
+    queue : (e : End) → up_of (end_of w.ends e) ≡ false → has_queue (end_of v.ends e) ≡ has_queue (end_of w.ends e)
+    queue e down = ap (λ ws. not (is_empty ws)) ((t.ends e).queue ∙ ap (λ z. queue_at (end_of w.ends e) ++ z) ((t.ends e).none (near_down w sound e down)) ∙ append-nil (queue_at (end_of w.ends e)))
 
 module _ (now : Moment) (sound : IsSound now.world) (h : Orderly now.world) where
   abbrev w : WorldState
@@ -548,23 +585,30 @@ module _ (now : Moment) (sound : IsSound now.world) (h : Orderly now.world) wher
   says : (n : ℕ) (client : List ℕ) (msg : Msg) → Says now IsKept n client msg
   says n client msg s es en ee unbroken clients same sound' = written n client s es en ee unbroken msg _ refl (λ x. refl) (there_same w.clients clients same)
 
+  weighs : (n : ℕ) (client key : List ℕ) (msg : Msg) → Weighs now IsKept n client key msg
+  weighs n client key msg s es en ee unbroken r er room clients same sound' = written n client s es en ee unbroken msg _ refl
+      (λ x. read_kept is_some w.routers s.router x r _ er refl) (there_same w.clients clients same)
+
   pub act_orderly : (n : ℕ) (act : Act) → IfSome (went now (outcome now.world n act)) IsKept
   unfolding outcome
   act_orderly n (c.Router id) = for_router now IsKept id (λ free room sound'. router_came id free)
-  act_orderly n (c.Client id router) = for_client now IsKept n id router (λ r er free room taken. client_came n id router r er free)
+  act_orderly n (c.Client id router) = for_client now IsKept (if_sound Orderly orderly_told) n id router (λ r er free room taken. client_came n id router r er free)
   act_orderly n (c.Link one other) = for_link now IsKept one other (λ apart r er q eq free room sound'. linked one other r q er eq)
-  act_orderly n (c.Up router name) = for_up now IsKept n router name (λ r er there s es unbroken down taken. came_up n router name r er s es)
+  act_orderly n (c.Up router name) = for_up now IsKept (if_sound Orderly orderly_told) n router name (λ r er there s es unbroken down taken. came_up n router name r er s es)
   act_orderly n (c.Break router name) = for_break now IsKept router name (λ r er there s es unbroken sound'. broke router name)
-  act_orderly n (c.Down router name) = for_down now IsKept n router name (λ r er there s es up cut l el taken. went_down n router name r er s es cut l)
+  act_orderly n (c.Down router name) = for_down now IsKept (if_sound Orderly orderly_told) n router name (λ r er there s es up cut l el taken. went_down n router name r er s es cut l)
   act_orderly n (c.Sub client id key) = declares n client sort.Sub id key (m.Sub id key)
   act_orderly n (c.Unsub client id) = undeclares n client sort.Sub id (m.Unsub id)
   act_orderly n (c.Able client id key complete) = declares n client (able_kind complete) id key (m.Able id key complete)
   act_orderly n (c.Unable client id) = undeclares n client sort.Able id (m.Unable id)
+  act_orderly n (c.Interest client id mode kinds key aggregate) = interest_says now IsKept n client id mode kinds key aggregate
+      (says n client (m.Interest id (is_current mode) (is_future mode) kinds key aggregate)) (weighs n client (unwrap_or key []) (m.Interest id (is_current mode) (is_future mode) kinds key aggregate))
+  act_orderly n (c.Uninterest client id) = uninterest_says now IsKept n client id (says n client (m.EndInterest id))
   act_orderly n (c.Publish client content) = publish_says now IsKept n client content (says n client (m.Push None content))
   act_orderly n (c.Get client number target content) = get_says now IsKept n client number target content (says n client (m.Request None number target content))
   act_orderly n (c.Reply client number content) = reply_says now IsKept n client number content (says n client (m.Response number content))
   act_orderly n (c.End client number) = end_says now IsKept n client number (says n client (m.Final number no_extras))
-  act_orderly n (c.Handle router from) = for_handle now IsKept router from (λ r er there s es up msg tag xs front l el taken. handled router from r er s es msg tag xs front l)
+  act_orderly n (c.Handle router from) = for_handle now IsKept (if_sound Orderly orderly_told) router from (λ r er there s es up msg tag xs front l el taken. handled router from r er s es msg tag xs front l)
   act_orderly n (c.Take router to) = for_take now IsKept router to (λ r er there s es up unbroken msg tag xs front sound'. took router to r er s es up unbroken msg tag xs)
   act_orderly n c.Mark = for_mark now IsKept n (λ settled joined sound'. h)
   act_orderly n (c.Show router) = for_show now IsKept router (λ r er sound'. h)

@@ -8,7 +8,7 @@ use Rattle.zr_graph.specs.Base.{IsInOrder}
 use Rattle.zr_msg.specs.declared.msg.Msg.{Msg}
 use Rattle.zr_network.specs.World.{Tagged, RouterState, EndState, End, Ends, WorldState, with_routers, with_ends, router_of, with_router, end_of, is_end, is_up, is_unbroken, with_end, with_queue, with_wire, changed, lowered, sent}
 use Rattle.zr_msg.specs.declared.event.Event.{Event}
-use Rattle.zr_network.specs.Acts.{weighing, sends_to, heard}
+use Rattle.zr_network.specs.Acts.{weighing, sends_to, sending}
 use Rattle.zr_network.proofs.Keyed.{not_there}
 use Rattle.zr_network.proofs.Names.{read_kept, read_after}
 use Rattle.zr_network.proofs.Ends.{same_end, read_with_end, keep_with_end, read_changed, keep_changed}
@@ -160,8 +160,8 @@ module _ {V : Type 0} (tells : Msg → List (Note V)) (ends : Ends) (a b : Name)
 -- A router that has heard of a message with the message still on the wire, and one where it has left it: the way from the neighbour has it first.
 module _ {V : Type 0} (tells : Msg → List (Note V)) (w : WorldState) (a : Name) (r : RouterState) (event : Event) (b : Name) (s : EndState) (found : end_of w.ends (a, b) ≡ Some s) (msg : Msg) (tag : ℕ) (xs : List Tagged)
     (front : s.wire ≡ record { msg = msg; tag = tag } ∷ xs) where
-  pub handled_way : (x y : Name) → way_of tells (heard w a r event tag).ends x y ≡ cond (is_end (a, b) (y, x)) (tells msg) [] ++ way_of tells (heard (with_ends w (with_end w.ends (a, b) (with_wire s xs))) a r event tag).ends x y
-  handled_way x y = at_name a (λ q. way_of tells (heard w a r event tag).ends q y ≡ before q ++ way_of tells (heard (with_ends w left) a r event tag).ends q y) here other x
+  pub handled_way : (x y : Name) → way_of tells (sending w a r event tag).ends x y ≡ cond (is_end (a, b) (y, x)) (tells msg) [] ++ way_of tells (sending (with_ends w (with_end w.ends (a, b) (with_wire s xs))) a r event tag).ends x y
+  handled_way x y = at_name a (λ q. way_of tells (sending w a r event tag).ends q y ≡ before q ++ way_of tells (sending (with_ends w left) a r event tag).ends q y) here other x
     where
       left : Ends
       left = with_end w.ends (a, b) (with_wire s xs)
@@ -175,7 +175,7 @@ module _ {V : Type 0} (tells : Msg → List (Note V)) (w : WorldState) (a : Name
       sent_same : sent_at tells w a r event tag y ≡ sent_at tells (with_ends w left) a r event tag y
       sent_same = ap (λ t. flat_map tells (cond t (sends_to r.node event y) [])) (sym (keep_popped w.ends a b s found msg tag xs is_some refl (a, y)))
 
-      here : way_of tells (heard w a r event tag).ends a y ≡ before a ++ way_of tells (heard (with_ends w left) a r event tag).ends a y
+      here : way_of tells (sending w a r event tag).ends a y ≡ before a ++ way_of tells (sending (with_ends w left) a r event tag).ends a y
       here =
           way_sent tells w a r event tag y
           ∙ ap (λ z. z ++ sent_at tells w a r event tag y) (first a)
@@ -183,7 +183,7 @@ module _ {V : Type 0} (tells : Msg → List (Note V)) (w : WorldState) (a : Name
           ∙ ap (λ z. before a ++ (way_of tells left a y ++ z)) sent_same
           ∙ ap (λ z. before a ++ z) (sym (way_sent tells (with_ends w left) a r event tag y))
 
-      other : (q : Name) → is_named a q ≡ false → way_of tells (heard w a r event tag).ends q y ≡ before q ++ way_of tells (heard (with_ends w left) a r event tag).ends q y
+      other : (q : Name) → is_named a q ≡ false → way_of tells (sending w a r event tag).ends q y ≡ before q ++ way_of tells (sending (with_ends w left) a r event tag).ends q y
       other q apart = way_other tells w a r event tag q y apart ∙ first q
           ∙ ap (λ z. before q ++ z) (sym (way_other tells (with_ends w left) a r event tag q y apart))
 

@@ -16,7 +16,7 @@ use Rattle.zr_graph.proofs.Ascending.{in_order_alone}
 use Rattle.zr_msg.specs.declared.event.Event.{Event}
 use Rattle.zr_table.specs.Table.{after}
 use Rattle.zr_network.specs.World.{RouterState, EndState, End, Ends, WorldState, with_routers, router_of, end_of, is_end, is_taken, passes, is_up, is_unbroken, new_router}
-use Rattle.zr_network.specs.Acts.{sends_to, heard}
+use Rattle.zr_network.specs.Acts.{sends_to, sending}
 use Rattle.zr_network.specs.Sound.{IsSound}
 use Rattle.zr_network.proofs.Keyed.{not_there}
 use Rattle.zr_network.proofs.Names.{names, value_new}
@@ -77,7 +77,7 @@ no_end w s id free x h = true≢false (sym (s.neighbours x id h) ∙ free)
 -- ---- a router that hears of what tells nothing
 
 pub silent_kept : (w : WorldState) (a : Name) (r : RouterState) → router_of w.routers a ≡ Some r → (event : Event) (tag : ℕ) → Holds w → (after r.node event).base ≡ r.node.base →
-    ((y : Name) → told (sends_to r.node event y) ≡ []) → Holds (heard w a r event tag)
+    ((y : Name) → told (sends_to r.node event y) ≡ []) → Holds (sending w a r event tag)
 silent_kept w a r found event tag h same silent = quiet_kept w v h (record {
   tables = tables;
   part = λ x y. is_all (way_of notes_in v.ends x y) (way_of notes_in w.ends x y) (sym (ways x y));
@@ -88,7 +88,7 @@ silent_kept w a r found event tag h same silent = quiet_kept w v h (record {
 })
   where
     v : WorldState
-    v = heard w a r event tag
+    v = sending w a r event tag
 
     tables : (x z : Name) → table_of v x z ≡ table_of w x z
     tables x z = table_heard w a r found event tag x z ∙ by (is_named a x) refl

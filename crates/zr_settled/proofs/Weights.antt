@@ -1,21 +1,26 @@
 -- What a world weighs (`WeightsHold`). What a router's clients have ever declared weighs no more than its `weight`, which is bounded. So do its
--- rows, and so much its own log's number, both with what still waits on its wires; and all that any router knows of its log, or is told of it,
--- was once declared there. All is said of one world alone: nothing here stands on an order of messages, or on gaps.
+-- rows and the live interests of its clients together, and so much its own log's number, both with what still waits on its wires; and all that
+-- any router knows of its log, or is told of it, was once declared there. All is said of one world alone: nothing here stands on an order of
+-- messages, or on gaps.
 use Rattle.std.proofs.Common.{◌≡◌, ◌≤◌, ◌+◌, ℕ, true, false, cond, List, [], ◌∷◌, ◌++◌, length, Option, Some, None}
 use Rattle.std.specs.List.{AllByRecursion, sum_by}
+use Rattle.std.specs.Option.{option_map_or}
 use Rattle.zr_id.specs.Zid.{is_named}
 use Rattle.zr_msg.specs.declared.decl.Decl.{Decl}
 use Rattle.zr_msg.specs.declared.decl.Kind.TheVariants as kind
 use Rattle.zr_msg.specs.declared.msg.Msg.{Msg}
 use Rattle.zr_msg.specs.declared.msg.Msg.TheVariants.{Sub, Unsub, Able, Unable, Interest, EndInterest, ToldSub, ToldAble, ToldUnsub, ToldUnable, ToldEnd, Push, Request, Response, Final, State, Step, Snap}
 use Rattle.zr_set.specs.Decls.{IsSet, has, weight}
-use Rattle.zr_local.specs.Rows.{weight_of, refuses_undeclare}
+use Rattle.zr_local.specs.Interests.{interest_weight}
+use Rattle.zr_local.specs.Rows.{refuses_undeclare}
+use Rattle.zr_local.specs.State.{held_weight}
+use Rattle.zr_local.specs.declared.interest.Interest.{Interest as LiveInterest}
 use Rattle.zr_log.specs.declared.log.Log.{Log}
 use Rattle.zr_log.specs.Known.{position, is_gap}
 use Rattle.zr_routing.specs.Tables.{leads_to_router, leads_to_client}
-use Rattle.zr_table.specs.State.{NodeState, tables}
+use Rattle.zr_table.specs.State.{NodeState, tables, local_state}
 use Rattle.zr_routing.specs.Queries.{asked_links}
-use Rattle.zr_table.specs.Table.{able_kind, key_of, refuses_request}
+use Rattle.zr_table.specs.Table.{able_kind, key_of, live, refuses_request}
 use Rattle.zr_network.specs.World.{Tagged, RouterState, EndState, End, Ends, WorldState, router_of, end_of, most_weight}
 use Rattle.zr_network.specs.World as world
 use Rattle.zr_settled.proofs.Spreading.{Name}
@@ -24,13 +29,17 @@ use Rattle.zr_settled.proofs.WeightsSums.{AreOf}
 
 -- ---- what waits
 
+-- what an interest weighs, if one is live
+abbrev pub live_weight : Option LiveInterest → ℕ
+live_weight o = option_map_or (λ i. interest_weight i) o 0
+
 -- what a message makes a router hold more
 abbrev pub weighs : Msg → ℕ
 weighs (Sub id key) = world.weight_of key
 weighs (Unsub id) = 0
 weighs (Able id key complete) = world.weight_of key
 weighs (Unable id) = 0
-weighs (Interest id current future kinds key aggregate) = 0
+weighs (Interest id current future kinds key aggregate) = live_weight (live future (record { id = id; kinds = kinds; key = key; aggregate = aggregate }))
 weighs (EndInterest id) = 0
 weighs (ToldSub id key interest) = 0
 weighs (ToldAble id key complete interest) = 0
@@ -129,14 +138,15 @@ pub record IsUnderWay (ever : Ever) (s : EndState) : Type 0 where
 
 -- ---- worlds
 
--- what was declared at a router by its count, what its rows weigh, and its own log's number with a change more for each row
+-- what was declared at a router by its count, what its rows and its clients' live interests weigh, and its own log's number with a change more
+-- for each row
 abbrev pub weight_at : Option RouterState → ℕ
 weight_at None = 0
 weight_at (Some r) = r.weight
 
 abbrev pub held_at : Option RouterState → ℕ
 held_at None = 0
-held_at (Some r) = weight_of r.node.rows
+held_at (Some r) = held_weight (local_state r.node)
 
 abbrev pub number_at : Option RouterState → ℕ
 number_at None = 0

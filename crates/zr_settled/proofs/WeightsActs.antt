@@ -2,7 +2,7 @@
 -- (`weights_leave`). What holds of weights (`WeightsHold`) holds of the first world (`weights_first`), and each act that is not refused
 -- keeps it (`weights_keep`), and so does the counting of a run's steps (`weights_counted`). Each lemma is of any world, and needs nothing else.
 use Rattle.std.proofs.Common.{◌≡◌, ◌≤◌, ◌+◌, ℕ, Bool, true, false, cond, List, [], ◌∷◌, Option, Some, None, Ok, Err, is_some, refl, ap, ◌∙◌, subst, arith}
-use Rattle.std.specs.Prelude.{IfOk, IfSome, nat_le}
+use Rattle.std.specs.Prelude.{IfOk, IfSome, nat_le, unwrap_or}
 use Rattle.std.specs.List.{AllByRecursion}
 use Rattle.std.specs.Ordering.{nat_cmp}
 use Rattle.std.specs.Cmp.Lexicographic.{slice_cmp}
@@ -13,6 +13,7 @@ use Rattle.zr_id.specs.declared.link.LinkNo.{LinkNo}
 use Rattle.zr_graph.proofs.Names.{same_refl}
 use Rattle.zr_msg.specs.declared.decl.Kind.{Kind}
 use Rattle.zr_msg.specs.declared.decl.Kind.TheVariants as k
+use Rattle.zr_msg.specs.declared.msg.Kinds.{Kinds}
 use Rattle.zr_msg.specs.declared.msg.Msg.{Msg}
 use Rattle.zr_msg.specs.declared.msg.Msg.TheVariants as m
 use Rattle.zr_msg.specs.Extras.{no_extras}
@@ -20,24 +21,27 @@ use Rattle.zr_msg.specs.declared.event.Event.TheVariants.{Up, Down, From}
 use Rattle.zr_msg.specs.declared.peer.Peer.{Peer}
 use Rattle.zr_msg.specs.declared.peer.Role.TheVariants.{Client}
 use Rattle.zr_command.specs.declared.command.Act.{Act}
+use Rattle.zr_command.specs.Mode.{is_current, is_future}
 use Rattle.zr_command.specs.declared.command.Act.TheVariants as a
 use Rattle.zr_set.specs.Decls.{weight}
-use Rattle.zr_local.specs.Rows as rows
+use Rattle.zr_local.specs.State.{held_weight}
 use Rattle.zr_routing.specs.Tables.{free_link}
-use Rattle.zr_table.specs.Table.{able_kind, rows_left, refuses_rows, refuses}
+use Rattle.zr_table.specs.State.{local_state}
+use Rattle.zr_table.specs.Table.{able_kind, rows_left, refuses_rows, refuses, live}
 use Rattle.zr_table.proofs.Inserted.{All-append}
-use Rattle.zr_network.specs.World.{Tagged, RouterState, EndState, ClientState, End, Ends, WorldState, with_booked, with_ends, with_client, with_end, with_wire, with_queue, put_end, new_end, new_client, router_of, client_of, end_of, empty_world, lifted, lowered, broken, sent, changed, most_weight, weight_of}
-use Rattle.zr_network.specs.Acts.{Outcome, outcome, heard, peer_of, declaring, undeclaring, received}
+use Rattle.zr_network.specs.World.{Tagged, RouterState, EndState, ClientState, End, Ends, WorldState, with_booked, with_ends, with_client, with_end, with_wire, with_queue, put_end, new_end, new_client, router_of, client_of, end_of, empty_world, lifted, lowered, broken, sent, changed, most_weight, weight_of, Clients}
+use Rattle.zr_network.specs.Acts.{Outcome, outcome, sending, peer_of, declaring, undeclaring, received, wanting}
 use Rattle.zr_network.specs.Moments.{Moment, went}
 use Rattle.zr_network.proofs.Names.{names}
-use Rattle.zr_network.proofs.Cases.{w_client, w_link, w_up, w_break, w_sent, w_declare, w_handle, w_take, for_router, for_client, for_link, for_up, for_break, for_down, for_declare, for_undeclare, Says, publish_says, get_says, reply_says, end_says, for_handle, for_take, for_mark, for_show}
+use Rattle.zr_network.proofs.Cases.{w_link, w_break, w_sent, w_declare, w_take, for_router, for_link, for_break, for_declare, for_undeclare, Says, publish_says, get_says, reply_says, end_says, for_take, for_mark, for_show, w_weighed, for_interest, uninterest_says}
+use Rattle.zr_settled.proofs.Told.{w_client, w_up, w_handle, for_client, for_up, for_down, for_handle}
 use Rattle.zr_settled.proofs.Spreading.{Name}
 use Rattle.zr_settled.proofs.Ends.{AtEnds, of_found, with_end_all, put_end_all, changed_all}
-use Rattle.zr_settled.proofs.Weights.{Ever, ever_more, weighs, gained, wire_weight, waiting, IsTold, IsSent, IsUnderWay, weight_at, held_at, number_at, WeightsHold, IsInTurn}
+use Rattle.zr_settled.proofs.Weights.{Ever, ever_more, weighs, gained, wire_weight, waiting, IsTold, IsSent, IsUnderWay, weight_at, held_at, number_at, WeightsHold, IsInTurn, live_weight}
 use Rattle.zr_settled.proofs.WeightsKnown.{GoesOn, more_goes_on, more_weighs, more_other}
 use Rattle.zr_settled.proofs.WeightsNodes.{HasRoom, up_weighs, down_weighs, from_weighs, within_later, gained_weigh, gained_there, takes, lets_leave}
 use Rattle.zr_settled.proofs.WeightsWaiting.{waiting_changed, waiting_put, waiting_same, waiting_sent, waiting_popped, wire_push, one_waits}
-use Rattle.zr_settled.proofs.WeightsKeeping.{ends_hold, clients_hold, under_later, router_holds, weighed_hold, heard_hold}
+use Rattle.zr_settled.proofs.WeightsKeeping.{ends_hold, clients_hold, under_later, router_holds, weighed_hold, heard_hold, weights_told}
 
 -- ---- the first world
 
@@ -119,10 +123,11 @@ module _ (w : WorldState) (h : WeightsHold w) where
       none true = light
       none false = refl
 
-  declare_holds : (n : ℕ) (name : Name) (kind : Kind) (id : ℕ) (key : List ℕ) (msg : Msg) (s : ClientState) (e : EndState) → end_of w.ends (s.router, name) ≡ Some e →
-      (r : RouterState) → router_of w.routers s.router ≡ Some r → nat_le (r.weight + weight_of key) most_weight ≡ true → IsTold h.ever msg → weighs msg ≡ weight_of key → WeightsHold (w_declare w n name kind id key msg s e r)
-  declare_holds n name kind id key msg s e found r there room told heavy =
-      clients_hold _ (with_client w.clients name (declaring s kind id))
+  -- and one that weighs
+  heavy_holds : (n : ℕ) (name : Name) (key : List ℕ) (msg : Msg) (s : ClientState) (e : EndState) → end_of w.ends (s.router, name) ≡ Some e → (r : RouterState) → router_of w.routers s.router ≡ Some r →
+      nat_le (r.weight + weight_of key) most_weight ≡ true → IsTold h.ever msg → weighs msg ≡ weight_of key → (clients : Clients) → WeightsHold (w_weighed w n name key msg s e r clients)
+  heavy_holds n name key msg s e found r there room told heavy clients =
+      clients_hold _ clients
       (weighed_hold w h s.router r there key (leb-true (r.weight + weight_of key) most_weight room) (with_end w.ends (s.router, name) (sent e msg n)) here other
       (with_end_all (IsUnderWay h.ever) w.ends h.way (s.router, name) (sent e msg n) (ap is_some found) (wire_more e msg n told (at_end (s.router, name) e found))))
     where
@@ -136,14 +141,18 @@ module _ (w : WorldState) (h : WeightsHold w) where
           let none : cond (is_named z s.router) (weighs msg) 0 ≡ 0 = ap (λ t. cond t (weighs msg) 0) (names.symm z s.router ∙ apart) in
           omega (arith, waiting_sent w.ends (s.router, name) e found msg n z, none)
 
+  declare_holds : (n : ℕ) (name : Name) (kind : Kind) (id : ℕ) (key : List ℕ) (msg : Msg) (s : ClientState) (e : EndState) → end_of w.ends (s.router, name) ≡ Some e →
+      (r : RouterState) → router_of w.routers s.router ≡ Some r → nat_le (r.weight + weight_of key) most_weight ≡ true → IsTold h.ever msg → weighs msg ≡ weight_of key → WeightsHold (w_declare w n name kind id key msg s e r)
+  declare_holds n name kind id key msg s e found r there room told heavy = heavy_holds n name key msg s e found r there room told heavy (with_client w.clients name (declaring s kind id))
+
   -- ---- what a router hears
 
   -- nothing more is declared
   same_ever : GoesOn h.ever h.ever
   same_ever = record { stays = λ z d there. there }
 
-  up_holds : (router : Name) (r : RouterState) → router_of w.routers router ≡ Some r → (link : LinkNo) (peer : Peer) (tag : ℕ) (es : Ends) → ((x : Name) → waiting es x ≤ waiting w.ends x) → AtEnds (IsUnderWay h.ever) es →
-      WeightsHold (heard (with_ends w es) router r (Up link peer) tag)
+  pub up_holds : (router : Name) (r : RouterState) → router_of w.routers router ≡ Some r → (link : LinkNo) (peer : Peer) (tag : ℕ) (es : Ends) → ((x : Name) → waiting es x ≤ waiting w.ends x) → AtEnds (IsUnderWay h.ever) es →
+      WeightsHold (sending (with_ends w es) router r (Up link peer) tag)
   up_holds router r found link peer tag es less way =
       heard_hold w h router r found (Up link peer) tag es h.ever 0 same_ever (λ z e. refl) (omega arith) (omega (arith, less router)) (λ z e. less z) way (up_weighs h.ever router r.node (h.within router r found) link peer)
 
@@ -159,12 +168,12 @@ module _ (w : WorldState) (h : WeightsHold w) where
       (λ x. let same = waiting_same w.ends (router, name) s there (m.EndInterest 0) n x (lifted s) refl in omega (arith, same))
       (with_end_all (IsUnderWay h.ever) w.ends h.way (router, name) (lifted s) (ap is_some there) (record { wire = (at_end (router, name) s there).wire; queue = (at_end (router, name) s there).queue }))
 
-  hears_down : (n : ℕ) (router : Name) (r : RouterState) → router_of w.routers router ≡ Some r → (link : LinkNo) → WeightsHold (heard w router r (Down link) n)
+  pub hears_down : (n : ℕ) (router : Name) (r : RouterState) → router_of w.routers router ≡ Some r → (link : LinkNo) → WeightsHold (sending w router r (Down link) n)
   hears_down n router r found link =
       heard_hold w h router r found (Down link) n w.ends h.ever 0 same_ever (λ z e. refl) (omega arith) (omega arith) (λ z e. omega arith) h.way (down_weighs h.ever router r.node (h.within router r found) link)
 
   -- a message is handled: what it declares was declared then
-  handle_holds : (router from : Name) (r : RouterState) → router_of w.routers router ≡ Some r → (s : EndState) → end_of w.ends (router, from) ≡ Some s → (msg : Msg) (tag : ℕ) (xs : List Tagged) →
+  pub handle_holds : (router from : Name) (r : RouterState) → router_of w.routers router ≡ Some r → (s : EndState) → end_of w.ends (router, from) ≡ Some s → (msg : Msg) (tag : ℕ) (xs : List Tagged) →
       s.wire ≡ record { msg = msg; tag = tag } ∷ xs → (link : LinkNo) → WeightsHold (w_handle w router from r s link msg tag xs)
   handle_holds router from r found s there msg tag xs front link =
       heard_hold w h router r found (From link msg) tag popped ever (weighs msg) on (λ z e. more_other h.ever router (gained msg) z e) (omega (arith, more_weighs h.ever router (gained msg), gained_weigh msg))
@@ -215,14 +224,25 @@ module _ (now : Moment) (h : WeightsHold now.world) where
   says : (n : ℕ) (name : Name) (msg : Msg) → IsTold h.ever msg → weighs msg ≡ 0 → Says now KeptWeights n name msg
   says n name msg told light s found e at unbroken clients same = clients_hold _ clients (says_holds w h n name s e at msg told light)
 
+  -- an interest weighs as much as a declaration of its key where it is in what is declared later, and else nothing
+  light : (id : ℕ) (current future : Bool) (kinds : Kinds) (key : Option (List ℕ)) (aggregate : Bool) → future ≡ false → weighs (m.Interest id current future kinds key aggregate) ≡ 0
+  light id current future kinds key aggregate passing = ap (λ t. live_weight (live t (record { id = id; kinds = kinds; key = key; aggregate = aggregate }))) passing
+
+  heavy : (id : ℕ) (current future : Bool) (kinds : Kinds) (key : Option (List ℕ)) (aggregate : Bool) → future ≡ true → weighs (m.Interest id current future kinds key aggregate) ≡ weight_of (unwrap_or key [])
+  heavy id current future kinds key aggregate lasting = ap (λ t. live_weight (live t (record { id = id; kinds = kinds; key = key; aggregate = aggregate }))) lasting ∙ by key
+    where
+      by : (key : Option (List ℕ)) → live_weight (Some (record { id = id; kinds = kinds; key = key; aggregate = aggregate })) ≡ weight_of (unwrap_or key [])
+      by None = refl
+      by (Some k) = refl
+
   pub weights_kept : (n : ℕ) (act : Act) → IfSome (went now (outcome w n act)) KeptWeights
   unfolding outcome
   weights_kept n (a.Router id) = for_router now KeptWeights id (λ free room. router_holds w h id free)
-  weights_kept n (a.Client id router) = for_client now KeptWeights n id router (λ r found free room taken. client_holds w h n id router r found)
+  weights_kept n (a.Client id router) = for_client now KeptWeights (λ w v report t. weights_told w v t) n id router (λ r found free room taken. client_holds w h n id router r found)
   weights_kept n (a.Link one other) = for_link now KeptWeights one other (λ apart r found q found' new room. link_holds w h one other)
-  weights_kept n (a.Up router name) = for_up now KeptWeights n router name (λ r found there s at unbroken down taken. comes_up_holds w h n router name r found s at)
+  weights_kept n (a.Up router name) = for_up now KeptWeights (λ w v report t. weights_told w v t) n router name (λ r found there s at unbroken down taken. comes_up_holds w h n router name r found s at)
   weights_kept n (a.Break router name) = for_break now KeptWeights router name (λ r found there s at unbroken. break_holds w h router name)
-  weights_kept n (a.Down router name) = for_down now KeptWeights n router name (λ r found there s at up cut link number taken. lowered_holds _ (hears_down w h n router r found link) router name)
+  weights_kept n (a.Down router name) = for_down now KeptWeights (λ w v report t. weights_told w v t) n router name (λ r found there s at up cut link number taken. lowered_holds _ (hears_down w h n router r found link) router name)
   weights_kept n (a.Sub client id key) = for_declare now KeptWeights n client k.Sub id key (m.Sub id key) (λ s found fresh e at unbroken r there room. declare_holds w h n client k.Sub id key (m.Sub id key) s e at r there room tt refl)
   weights_kept n (a.Unsub client id) = for_undeclare now KeptWeights n client k.Sub id (m.Unsub id) (λ s found known e at unbroken.
       clients_hold _ (with_client w.clients client (undeclaring s k.Sub id)) (says_holds w h n client s e at (m.Unsub id) tt refl))
@@ -230,11 +250,16 @@ module _ (now : Moment) (h : WeightsHold now.world) where
       declare_holds w h n client (able_kind complete) id key (m.Able id key complete) s e at r there room tt refl)
   weights_kept n (a.Unable client id) = for_undeclare now KeptWeights n client k.Able id (m.Unable id) (λ s found known e at unbroken.
       clients_hold _ (with_client w.clients client (undeclaring s k.Able id)) (says_holds w h n client s e at (m.Unable id) tt refl))
+  weights_kept n (a.Interest client id mode kinds key aggregate) = for_interest now KeptWeights n client id mode kinds key aggregate
+      (λ s found fresh e at unbroken passing. says_holds w h n client s e at (m.Interest id (is_current mode) (is_future mode) kinds key aggregate) tt (light id (is_current mode) (is_future mode) kinds key aggregate passing))
+      (λ s found fresh e at unbroken lasting r there room. heavy_holds w h n client (unwrap_or key []) (m.Interest id (is_current mode) (is_future mode) kinds key aggregate) s e at r there room tt
+      (heavy id (is_current mode) (is_future mode) kinds key aggregate lasting) (with_client w.clients client (wanting s id)))
+  weights_kept n (a.Uninterest client id) = uninterest_says now KeptWeights n client id (says n client (m.EndInterest id) tt refl)
   weights_kept n (a.Publish client content) = publish_says now KeptWeights n client content (says n client (m.Push None content) tt refl)
   weights_kept n (a.Get client number target content) = get_says now KeptWeights n client number target content (says n client (m.Request None number target content) tt refl)
   weights_kept n (a.Reply client number content) = reply_says now KeptWeights n client number content (says n client (m.Response number content) tt refl)
   weights_kept n (a.End client number) = end_says now KeptWeights n client number (says n client (m.Final number no_extras) tt refl)
-  weights_kept n (a.Handle router from) = for_handle now KeptWeights router from (λ r found there s at up msg tag xs front link number taken. handle_holds w h router from r found s at msg tag xs front link)
+  weights_kept n (a.Handle router from) = for_handle now KeptWeights (λ w v report t. weights_told w v t) router from (λ r found there s at up msg tag xs front link number taken. handle_holds w h router from r found s at msg tag xs front link)
   weights_kept n (a.Take router to) = for_take now KeptWeights router to (λ r found there s at up unbroken msg tag xs front. take_holds w h router to s at msg tag xs front)
   weights_kept n a.Mark = for_mark now KeptWeights n (λ settled joined. h)
   weights_kept n (a.Show router) = for_show now KeptWeights router (λ r found. h)
@@ -257,7 +282,7 @@ module _ (w : WorldState) (h : WeightsHold w) (x : Name) (r : RouterState) (foun
   room_for : (more : ℕ) → more ≤ waiting w.ends x → HasRoom r.node more
   room_for more le =
       let weight_is : weight_at (router_of w.routers x) ≡ r.weight = ap weight_at found in
-      let held_is : held_at (router_of w.routers x) ≡ rows.weight_of r.node.rows = ap held_at found in
+      let held_is : held_at (router_of w.routers x) ≡ held_weight (local_state r.node) = ap held_at found in
       let number_is : number_at (router_of w.routers x) ≡ number_at (Some r) = ap number_at found in
       record { held = omega (arith, h.held x, h.most x, weight_is, held_is, le); number = omega (arith, h.number x, h.most x, weight_is, number_is, le) }
 

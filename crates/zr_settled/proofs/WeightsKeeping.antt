@@ -1,11 +1,14 @@
 -- What holds of a world's weights (`WeightsHold`) stays where ends change (`ends_hold`), a router comes (`router_holds`), more is declared at one
 -- (`weighed_hold`), or one hears of an event (`heard_hold`).
-use Rattle.std.proofs.Common.{◌≡◌, ◌≤◌, ◌+◌, ℕ, Bool, true, false, cond, List, [], ◌∷◌, map, Option, Some, None, refl, sym, ap, ◌∙◌, subst, arith}
+use Rattle.std.proofs.Common.{◌≡◌, ◌≤◌, ◌+◌, ℕ, Bool, true, false, cond, List, [], ◌∷◌, map, Option, Some, None, is_some, refl, sym, ap, ◌∙◌, subst, arith}
+use Rattle.std.specs.Prelude.{IfSome}
 use Rattle.std.specs.List.{AllByRecursion}
 use Rattle.std.specs.Option.{option_map_or}
 use Rattle.std.specs.Ordering.{nat_cmp}
 use Rattle.std.specs.Cmp.Lexicographic.{slice_cmp}
 use Rattle.std.specs.BTreeMap.{insert_entry}
+use Rattle.std.proofs.lemmas.Bool.{false≢true}
+use Rattle.std.proofs.lemmas.List.Folds.{fold-map}
 use Rattle.zr_id.specs.Zid.{is_named}
 use Rattle.zr_graph.proofs.Names.{same_is, same_refl}
 use Rattle.zr_msg.specs.declared.msg.Msg.{Msg}
@@ -15,14 +18,16 @@ use Rattle.zr_set.specs.Decls.{weight}
 use Rattle.zr_routing.specs.Tables.{link_to}
 use Rattle.zr_table.specs.Table.{sends, after}
 use Rattle.zr_table.proofs.Inserted.{All-append, All-each}
-use Rattle.zr_network.specs.World.{Tagged, RouterState, EndState, Clients, Ends, WorldState, with_routers, with_clients, with_ends, with_router, new_router, router_of, is_taken, most_weight, weight_of}
-use Rattle.zr_network.specs.Acts.{sends_to, hearing, heard, weighing}
+use Rattle.zr_network.specs.World.{Tagged, RouterState, EndState, Clients, End, Ends, WorldState, end_of, with_routers, with_clients, with_ends, with_router, new_router, router_of, is_taken, most_weight, weight_of}
+use Rattle.zr_network.specs.Acts.{sends_to, hearing, sending, weighing}
 use Rattle.zr_network.proofs.Keyed.{not_there}
 use Rattle.zr_network.proofs.Names.{value_new, read_after, read_kept}
+use Rattle.zr_network.proofs.Telling.{is_told}
 use Rattle.zr_network.proofs.Cases.{free_name}
+use Rattle.zr_settled.proofs.Told as told
 use Rattle.zr_settled.proofs.Spreading.{at_name, Name}
 use Rattle.zr_settled.proofs.Ends.{AtEnds, all_queued_all}
-use Rattle.zr_settled.proofs.Weights.{Ever, IsTold, IsSent, IsWithin, IsUnderWay, weight_at, held_at, number_at, waiting, WeightsHold}
+use Rattle.zr_settled.proofs.Weights.{Ever, IsTold, IsSent, IsWithin, IsUnderWay, weight_at, held_at, number_at, weighs_on, waiting, WeightsHold}
 use Rattle.zr_settled.proofs.WeightsKnown.{GoesOn, told_later}
 use Rattle.zr_settled.proofs.WeightsSent.{AreSent}
 use Rattle.zr_settled.proofs.WeightsNodes.{Weighs, within_later}
@@ -84,6 +89,45 @@ router_holds w h id free = record {
         subst (λ (q : RouterState). IsWithin h.ever x q.node) one (record { own = sym (same_is x id e); mine = sym (same_is x id e); rows = tt; logs = tt })
     within x r false e found = h.within x r found
 
+-- ---- clients are told
+
+told_sent : (ever : Ever) (msg : Msg) → is_told msg ≡ true → IsSent ever msg
+told_sent ever = told.by_told (λ msg. IsSent ever msg) (λ id key interest. (tt, refl)) (λ id key complete interest. (tt, refl)) (λ id. (tt, refl)) (λ id. (tt, refl)) (λ interest. (tt, refl))
+
+pub weights_told : (w v : WorldState) → told.IsTold w v → WeightsHold w → WeightsHold v
+weights_told w v t h = record {
+  ever = h.ever;
+  most = λ x. let e = weight x in omega (arith, e, h.most x);
+  held = λ x. let e = weight x in let f = told.reads w v t held_at (λ r. refl) x in let u = same x in omega (arith, e, f, u, h.held x);
+  number = λ x. let e = weight x in let f = told.reads w v t number_at (λ r. refl) x in let u = same x in omega (arith, e, f, u, h.number x);
+  declared = λ x. let e = weight x in let u = same x in omega (arith, e, u, h.declared x);
+  within = told.of_each w v t (λ x n. IsWithin h.ever x n) h.within;
+  way = λ e. by (told.is_near w e) (end_of w.ends e) (end_of v.ends e) (t.ends e) (h.way e);
+}
+  where
+    weight : (x : Name) → weight_at (router_of v.routers x) ≡ weight_at (router_of w.routers x)
+    weight x = told.reads w v t weight_at (λ r. refl) x
+
+    -- wires are the same
+    bare : (es : Ends) (x : Name) → waiting (told.unqueued_ends es) x ≡ waiting es x
+    bare es x = fold-map (λ (n : ℕ) (q : End × EndState). n + weighs_on x q) (λ (q : End × EndState). (q.0, told.unqueued q.1)) 0 es
+
+    same : (x : Name) → waiting v.ends x ≡ waiting w.ends x
+    same x = sym (bare v.ends x) ∙ ap (λ es. waiting es x) t.wires ∙ bare w.ends x
+
+    all_sent : (ms : List Tagged) → told.AreTold ms → AllByRecursion (λ m. IsSent h.ever m.msg) ms
+    all_sent ms k = All-each (λ m. is_told m.msg ≡ true) (λ m. IsSent h.ever m.msg) ms (λ m e. told_sent h.ever m.msg e) k
+
+    by : (near : Bool) (o o' : Option EndState) → told.IsMore near o o' → IfSome o (IsUnderWay h.ever) → IfSome o' (IsUnderWay h.ever)
+    by near o None m k = tt
+    by near None (Some s) m k = absurd (false≢true (sym (ap is_some m.same)))
+    by near (Some s) (Some z) m k =
+        let bare : told.unqueued z ≡ told.unqueued s = cc in
+        record {
+          wire = subst (λ ws. AllByRecursion (λ q. IsTold h.ever q.msg) ws) (sym (ap (λ (q : EndState). q.wire) bare)) k.wire;
+          queue = subst (λ ws. AllByRecursion (λ q. IsSent h.ever q.msg) ws) (sym m.queue) (All-append (λ q. IsSent h.ever q.msg) s.queue m.more k.queue (all_sent m.more m.told));
+        }
+
 -- ---- more is declared at a router
 
 module _ (w : WorldState) (h : WeightsHold w) (a : Name) (r : RouterState) (found : router_of w.routers a ≡ Some r) (key : List ℕ) (room : r.weight + weight_of key ≤ most_weight) (es : Ends)
@@ -129,7 +173,7 @@ module _ (w : WorldState) (h : WeightsHold w) (a : Name) (r : RouterState) (foun
     (here : waiting es a + more ≤ waiting w.ends a) (other : (z : Name) → is_named a z ≡ false → waiting es z ≤ waiting w.ends z)
     (way : AtEnds (IsUnderWay ever) es) (goes : Weighs ever a r.node event more) where
   abbrev left : WorldState
-  left = heard (with_ends w es) a r event tag
+  left = sending (with_ends w es) a r event tag
 
   weight_is : (x : Name) → weight_at (router_of left.routers x) ≡ weight_at (router_of w.routers x)
   weight_is x = read_kept weight_at w.routers a x r (hearing r event) found refl

@@ -13,7 +13,7 @@ use Rattle.zr_msg.specs.declared.msg.Msg.{Msg}
 use Rattle.zr_msg.specs.declared.event.Event.{Event}
 use Rattle.zr_table.specs.Table.{after}
 use Rattle.zr_network.specs.World.{Tagged, RouterState, EndState, End, Ends, WorldState, router_of, end_of, is_up, is_unbroken, queued}
-use Rattle.zr_network.specs.Acts.{sends_to, all_queued, hearing, heard}
+use Rattle.zr_network.specs.Acts.{sends_to, all_queued, hearing, sending}
 use Rattle.zr_network.proofs.Names.{read_after}
 use Rattle.zr_network.proofs.Ends.{read_all_queued, keep_all_queued}
 use Rattle.zr_settled.proofs.Spreading.{Name, Known, Note, Made, Lane, Feeds, Spreads, AllOf}
@@ -124,7 +124,7 @@ module _ {V : Type 0} (tells : Msg → List (Note V)) (w : WorldState) (a : Name
 
 module _ (w : WorldState) (a : Name) (r : RouterState) (found : router_of w.routers a ≡ Some r) (event : Event) (tag : ℕ) where
   abbrev v : WorldState
-  v = heard w a r event tag
+  v = sending w a r event tag
 
   pub there_heard : (x : Name) → there_in v x ≡ there_in w x
   there_heard x = read_after is_some w.routers a x r (hearing r event) found ∙ by (is_named a x) refl

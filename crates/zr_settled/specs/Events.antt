@@ -12,9 +12,10 @@ use Rattle.zr_routing.specs.Tables.{link_at, link_to}
 use Rattle.zr_routing.specs.Queries.{asked_links}
 use Rattle.zr_table.specs.Event.{IsFresh}
 use Rattle.zr_table.specs.State.{tables}
-use Rattle.zr_table.specs.Table.{refuses, refuses_request}
+use Rattle.zr_table.specs.Table.{refuses_request}
 use Rattle.zr_language.specs.Lines.{most_bytes}
 use Rattle.zr_network.specs.World.{Tagged, RouterState, EndState, WorldState, router_of, end_of}
+use Rattle.zr_network.specs.Acts.{refuses_of}
 use Rattle.zr_network.specs.Run.{run_lines}
 
 -- a message is the oldest one that waits on the wire from the neighbour of a link that is up
@@ -40,7 +41,8 @@ RequestsAreTaken w = (x y : List ℕ) (r : RouterState) (l : LinkPeer) (at : End
     (tree : Option (List ℕ)) (id : ℕ) (target : Target) (content : Parts) (tag : ℕ) (rest : List Tagged) → at.wire ≡ record { msg = Request tree id target content; tag = tag } ∷ rest →
     refuses_request r.node l.link.0 id (asked_links (tables r.node) l.link.0 tree target content.key) ≡ None
 
--- behind any lines of a script, as many as a script may have, each router takes each event that may come to it
+-- behind any lines of a script, as many as a script may have, each router takes each event that may come to it, and has ids enough for what its
+-- clients want to be told
 abbrev pub NoEventIsRefused : Type 0
 NoEventIsRefused = (ls : List (List ℕ)) (x : List ℕ) (r : RouterState) (event : Event) → length ls ≤ most_bytes →
-    router_of (run_lines ls).world.routers x ≡ Some r → IsHeard (run_lines ls).world x r event → refuses r.node event ≡ None
+    router_of (run_lines ls).world.routers x ≡ Some r → IsHeard (run_lines ls).world x r event → refuses_of r event ≡ None

@@ -1,0 +1,12 @@
+pub mod Readings
+pub mod Events
+pub mod Told
+pub mod TellActs
+pub mod Interests
+pub mod Kept
+pub mod Wanting
+pub mod WantActs
+pub mod Informed
+pub mod Lists
+pub mod Standing
+pub mod AtRest

@@ -1,0 +1,17 @@
+//! Laws on what clients are told of each other: each the `ensures` of a function without parameters and with an empty body. Who needs a law calls
+//! its function.
+#![tactic(auto)]
+
+ghost use Rattle.zr_guarantee.specs.Interests.{ClientsAreTold};
+ghost use Rattle.zr_guarantee.specs.Scripts.{LinesTellClients};
+
+/// At each moment to which acts lead: where the network is at rest, each attached client was told, by the messages that it was sent, just what its
+/// interests want of what all other attached clients have declared.
+pub fn clients_are_told()
+    ensures { ClientsAreTold }
+{}
+
+/// So it is at each moment of each script, also within a run.
+pub fn lines_tell_clients()
+    ensures { LinesTellClients }
+{}
