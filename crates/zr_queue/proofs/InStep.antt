@@ -16,12 +16,12 @@ use Rattle.zr_msg.specs.declared.event.Event.TheVariants.{Up, Down, From}
 use Rattle.zr_routing.specs.Tables.{link_at, is_link}
 use Rattle.zr_table.specs.State.{NodeState, new_link}
 use Rattle.zr_msg.specs.declared.peer.LinkPeer.{LinkPeer}
-use Rattle.zr_table.specs.Table.{after, after_from, with_link, without_link}
+use Rattle.zr_table.specs.Table.{after_from, with_link, without_link}
 use Rattle.zr_frame.specs.Outbox.{OutboxState}
 use Rattle.zr_port.specs.declared.entry.Entry.{Entry}
 use Rattle.zr_queue.specs.Tables.{LinkQueue, Tables, new_tables, new_queue, with_down, other_queues, queues_at, queued_by, advanced, replay_from, replay, open_queues}
 use Rattle.zr_queue.specs.History.{may_come, has_parts, may_follow, is_legal_from, is_legal}
-use Rattle.zr_table.specs.Table as table
+use Rattle.zr_told.specs.Hub.{hub_after, hub_refuses}
 use Rattle.zr_queue.specs.Grows.{down_number, find_changed, find_kept, keeps_link}
 use Rattle.zr_queue.proofs.Lookups.{AreDistinct, find_gone, filter_filter, distinct_filter, distinct_more, distinct_map}
 use Rattle.zr_queue.proofs.Replays.{open_after}
@@ -47,7 +47,7 @@ distinct_at queues (From link msg) outbox h = h
 distinct_replay : (t : Tables) (h : List Entry) → AreDistinct number t.queues → AreDistinct number (replay_from t h).queues
 distinct_replay t [] d = d
 distinct_replay t (e ∷ es) d =
-    distinct_replay (advanced t e) es (distinct_map number number (queued_by t.node e) (λ q. ap (λ l. l.0) (keeps_link t.node e q)) (queues_at t.queues e.event e.outbox) (distinct_at t.queues e.event e.outbox d))
+    distinct_replay (advanced t e) es (distinct_map number number (queued_by t.hub e) (λ q. ap (λ l. l.0) (keeps_link t.hub e q)) (queues_at t.queues e.event e.outbox) (distinct_at t.queues e.event e.outbox d))
 
 pub distinct_queues : (me : List ℕ) (h : List Entry) → AreDistinct number (replay me h).queues
 distinct_queues me h = distinct_replay (new_tables me) h tt
@@ -165,22 +165,22 @@ from_links node from (Snap source number decls) n = refl
 -- ---- in step
 
 abbrev pub AreInStep : Tables → Type 0
-AreInStep t = (n : ℕ) → is_some (find (λ q. q.link.0 == n) (open_queues t)) ≡ is_some (link_at t.node.links n)
+AreInStep t = (n : ℕ) → is_some (find (λ q. q.link.0 == n) (open_queues t)) ≡ is_some (link_at t.hub.node.links n)
 
 in_step_at : (t : Tables) (event : Event) (outbox : Option OutboxState) (reason : Bool) → has_parts event (is_some outbox) reason ≡ true → AreInStep t → (n : ℕ) →
-    is_some (find (λ q. q.link.0 == n) (filter (λ q. q.is_up) (queues_at t.queues event outbox))) ≡ is_some (link_at (after t.node event).links n)
+    is_some (find (λ q. q.link.0 == n) (filter (λ q. q.is_up) (queues_at t.queues event outbox))) ≡ is_some (link_at (hub_after t.hub event).node.links n)
 in_step_at t (Up link peer) None reason parts h n = cc
 in_step_at t (Up link peer) (Some outbox) reason parts h n =
     ap (λ qs. is_some (find (λ q. q.link.0 == n) qs)) (open_up link t.queues (new_queue link peer.role outbox) refl)
     ∙ ap is_some (find-append (λ q. q.link.0 == n) others (new_queue link peer.role outbox ∷ []))
     ∙ some_or (find (λ q. q.link.0 == n) others) (find (λ q. q.link.0 == n) (new_queue link peer.role outbox ∷ []))
     ∙ by (link.0 == n) refl
-    ∙ sym (linked t.node.links (new_link link peer) n)
+    ∙ sym (linked t.hub.node.links (new_link link peer) n)
   where
     others : List LinkQueue
     others = filter (λ q. not (q.link.0 == link.0)) (open_queues t)
 
-    by : (a : Bool) → (link.0 == n) ≡ a → is_some (find (λ q. q.link.0 == n) others) || is_some (cond a (Some (new_queue link peer.role outbox)) None) ≡ a || is_some (link_at t.node.links n)
+    by : (a : Bool) → (link.0 == n) ≡ a → is_some (find (λ q. q.link.0 == n) others) || is_some (cond a (Some (new_queue link peer.role outbox)) None) ≡ a || is_some (link_at t.hub.node.links n)
     by true e = or_true (is_some (find (λ q. q.link.0 == n) others))
     by false e =
         or_false (is_some (find (λ q. q.link.0 == n) others))
@@ -192,15 +192,15 @@ in_step_at t (Down link) outbox reason parts h n =
     gone : (a : ℕ) → (link.0 == n) ≡ true → (a == n) ≡ true → not (a == link.0) ≡ false
     gone a e p = grind (arith, nat_tests, e, p)
 
-    by : (a : Bool) → (link.0 == n) ≡ a → is_some (find (λ q. q.link.0 == n) (filter (λ q. not (q.link.0 == link.0)) (open_queues t))) ≡ is_some (link_at (without_link t.node.links link.0) n)
+    by : (a : Bool) → (link.0 == n) ≡ a → is_some (find (λ q. q.link.0 == n) (filter (λ q. not (q.link.0 == link.0)) (open_queues t))) ≡ is_some (link_at (without_link t.hub.node.links link.0) n)
     by true e =
         ap is_some (find_gone (λ q. q.link.0 == n) (λ q. not (q.link.0 == link.0)) (λ q p. gone q.link.0 e p) (open_queues t))
-        ∙ ap is_some (sym (find_gone (λ l. is_link n l) (λ l. not (is_link link.0 l)) (λ l p. gone l.link.0 e p) t.node.links))
+        ∙ ap is_some (sym (find_gone (λ l. is_link n l) (λ l. not (is_link link.0 l)) (λ l p. gone l.link.0 e p) t.hub.node.links))
     by false e =
         ap is_some (find_kept (λ q. q.link.0 == n) (λ q. not (q.link.0 == link.0)) (λ q p. differs q.link.0 link.0 n p e) (open_queues t))
         ∙ h n
-        ∙ ap is_some (sym (find_kept (λ l. is_link n l) (λ l. not (is_link link.0 l)) (λ l p. differs l.link.0 link.0 n p e) t.node.links))
-in_step_at t (From link msg) outbox reason parts h n = h n ∙ sym (from_links t.node link.0 msg n)
+        ∙ ap is_some (sym (find_kept (λ l. is_link n l) (λ l. not (is_link link.0 l)) (λ l p. differs l.link.0 link.0 n p e) t.hub.node.links))
+in_step_at t (From link msg) outbox reason parts h n = h n ∙ sym (from_links t.hub.node link.0 msg n)
 
 pub and_both : (a b : Bool) → a && b ≡ true → (a ≡ true) × (b ≡ true)
 and_both true b e = (refl, e)
@@ -209,14 +209,14 @@ and_both false b e = cc
 -- an entry that may follow has its parts
 pub follows_parts : (t : Tables) (e : Entry) → may_follow t e ≡ true → has_parts e.event (is_some e.outbox) (is_some e.reason) ≡ true
 follows_parts t e may =
-    let a = and_both (may_come t.node e.event) _ may in
-    let b = and_both (is_none (table.refuses t.node e.event)) _ a.1 in
+    let a = and_both (may_come t.hub.node e.event) _ may in
+    let b = and_both (is_none (hub_refuses t.hub e.event)) _ a.1 in
     (and_both (has_parts e.event (is_some e.outbox) (is_some e.reason)) _ b.1).0
 
 in_step_after : (t : Tables) (e : Entry) → may_follow t e ≡ true → AreInStep t → AreInStep (advanced t e)
 in_step_after t e may h n =
     ap (λ qs. is_some (find (λ q. q.link.0 == n) qs)) (open_after t e)
-    ∙ find_mapped (λ q. q.link.0 == n) (queued_by t.node e) (λ q. ap (λ l. l.0 == n) (keeps_link t.node e q)) (filter (λ q. q.is_up) (queues_at t.queues e.event e.outbox))
+    ∙ find_mapped (λ q. q.link.0 == n) (queued_by t.hub e) (λ q. ap (λ l. l.0 == n) (keeps_link t.hub e q)) (filter (λ q. q.is_up) (queues_at t.queues e.event e.outbox))
     ∙ in_step_at t e.event e.outbox (is_some e.reason) (follows_parts t e may) h n
 
 in_step_replay : (t : Tables) (h : List Entry) → is_legal_from t h ≡ true → AreInStep t → AreInStep (replay_from t h)

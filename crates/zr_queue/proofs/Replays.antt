@@ -41,5 +41,5 @@ filter_changed test f same (x ∷ xs) = ap (λ b. cond b (f x ∷ filter test (m
     by false ih = ih
 
 -- the queues of the links that are up, after an entry
-pub open_after : (t : Tables) (e : Entry) → open_queues (advanced t e) ≡ map (queued_by t.node e) (filter (λ q. q.is_up) (queues_at t.queues e.event e.outbox))
-open_after t e = filter_changed (λ q. q.is_up) (queued_by t.node e) (stays_up t.node e) (queues_at t.queues e.event e.outbox)
+pub open_after : (t : Tables) (e : Entry) → open_queues (advanced t e) ≡ map (queued_by t.hub e) (filter (λ q. q.is_up) (queues_at t.queues e.event e.outbox))
+open_after t e = filter_changed (λ q. q.is_up) (queued_by t.hub e) (stays_up t.hub e) (queues_at t.queues e.event e.outbox)

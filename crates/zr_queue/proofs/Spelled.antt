@@ -11,8 +11,11 @@ use Rattle.zr_graph.specs.Record.{record_of}
 use Rattle.zr_log.specs.declared.log.Log.{Log}
 use Rattle.zr_log.specs.Log.{Change}
 use Rattle.zr_log.specs.Known.{position, is_newer, is_next}
+use Rattle.zr_local.specs.Clients.{interests_on}
+use Rattle.zr_local.specs.declared.interest.Interest.{Interest as LiveInterest}
 use Rattle.zr_local.specs.declared.row.Row.{Row}
 use Rattle.zr_msg.specs.declared.content.Parts.{Parts}
+use Rattle.zr_msg.specs.declared.decl.Decl.{Decl}
 use Rattle.zr_msg.specs.declared.decl.Kind.TheVariants as kind
 use Rattle.zr_msg.specs.declared.msg.Msg.{Msg}
 use Rattle.zr_msg.specs.declared.msg.Msg.TheVariants.{Sub, Unsub, Able, Unable, Interest, EndInterest, ToldSub, ToldAble, ToldUnsub, ToldUnable, ToldEnd, Push, Request, Response, Final, State, Step, Snap}
@@ -32,14 +35,21 @@ use Rattle.zr_routing.specs.Queries.{asked_links, final_at_once, final_for, is_a
 use Rattle.zr_routing.specs.Changes.{changes, steps}
 use Rattle.zr_routing.specs.Samples.{leads_to_subscriber, push_along, push_on, push_to, tree_of}
 use Rattle.zr_routing.specs.Snapshots.{is_new_child, sends_snapshots, snapshot, snapshots_for, snapshots_on}
-use Rattle.zr_routing.specs.Tables.{TableState, is_router, is_to_child, leads_to_router, link_at}
+use Rattle.zr_routing.specs.Tables.{TableState, is_router, is_to_child, leads_to_client, leads_to_router, link_at}
 use Rattle.zr_table.proofs.Inserted.{All-append}
 use Rattle.zr_table.specs.State.{NodeState, tables}
 use Rattle.zr_table.specs.Table.{able_kind, after, all_records, is_other_router, joined, key_of, own_record, parted, refuses, row, rows_declared, rows_left, rows_undeclared, sends, sends_down, sends_first, sends_from, sends_own, sends_parted, sends_rows, sends_up}
 use Rattle.zr_table.specs.Event.{on_link}
+use Rattle.zr_told.specs.Hub.{Asking, HubState, asking_on, hub_refuses, hub_sends, sends_told, tells_with}
+use Rattle.zr_told.specs.Rows.{answered, closing, is_again, map_on, once, others}
+use Rattle.zr_told.specs.Told.{ToldMap, declared, declares, entered, fresh, gone, id_at, id_for, kept, retell, undeclared, undeclares}
+use Rattle.zr_told.specs.Wanted.{Wanted, wanted}
+use Rattle.zr_told.specs.declared.place.Class.{Class}
+use Rattle.zr_told.specs.declared.place.Class.TheVariants.{Queryable, Subscriber}
+use Rattle.zr_told.specs.declared.place.Place.{Place}
 use Rattle.zr_wire.specs.Writing.{IsSpelled}
 use Rattle.zr_queue.specs.Writable.{IsWritable}
-use Rattle.zr_queue.proofs.Kept.{IsKept, kept_after}
+use Rattle.zr_queue.proofs.Kept.{IsKept, kept_after, neither}
 use Rattle.zr_queue.proofs.Logs.{IsLight, logs_light}
 use Rattle.zr_queue.proofs.Lookups.{same_number}
 
@@ -219,7 +229,57 @@ sends_written : (node : NodeState) (event : Event) (to : LinkNo) → IsKept node
 sends_written node event to kept taken h =
     let k = kept_after node event kept taken in
     All-append (λ m. IsWritable m) (sends_first node event to) (sends_snapshots (tables (after node event)) node.base.records to.0)
-    (first_written node event to h) (snapshots_written (tables (after node event)) node.base.records to.0 (logs_light (after node event).known (after node event).rows k.logs k.light))
+    (first_written node event to h) (snapshots_written (tables (after node event)) node.base.records to.0 (logs_light (after node event).known (after node event).rows k.logs (omega (arith, k.light))))
+
+-- ---- what clients are told: each told message has a spelling
+
+declares_written : (id : ℕ) (class : Class) (key : List ℕ) (complete : Bool) (interest : Option ℕ) → IsWritable (declares id class key complete interest)
+declares_written id Subscriber key complete interest = inl tt
+declares_written id Queryable key complete interest = inl tt
+
+undeclares_written : (id : ℕ) (class : Class) → IsWritable (undeclares id class)
+undeclares_written id Subscriber = inl tt
+undeclares_written id Queryable = inl tt
+
+undeclared_written : (m : ToldMap) (ps : List Place) → AreWritable (undeclared m ps)
+undeclared_written m [] = tt
+undeclared_written m (p ∷ ps) = (undeclares_written (id_at m p) p.class, undeclared_written m ps)
+
+declared_written : (interest : Option ℕ) (m : ToldMap) (ws : Wanted) → AreWritable (declared interest m ws)
+declared_written interest m [] = tt
+declared_written interest m (w ∷ ws) = (declares_written (id_for m w.0) w.0.class w.0.key w.1 interest, declared_written interest (entered m w) ws)
+
+retell_written : (again : Place → Bool) (interest : Option ℕ) (ws : Wanted) (m : ToldMap) → AreWritable (retell again interest ws m)
+retell_written again interest ws m =
+    All-append (λ x. IsWritable x) (undeclared m (gone ws m)) (declared interest (kept ws m) (fresh again ws (kept ws m)))
+    (undeclared_written m (gone ws m)) (declared_written interest (kept ws m) (fresh again ws (kept ws m)))
+
+once_written : (interest : Option ℕ) (ws : Wanted) → AreWritable (map (λ w. declares 0 w.0.class w.0.key w.1 interest) ws)
+once_written interest [] = tt
+once_written interest (w ∷ ws) = (declares_written 0 w.0.class w.0.key w.1 interest, once_written interest ws)
+
+closing_written : (current future : Bool) (ds : List Decl) (i : LiveInterest) → AreWritable (closing current future ds i)
+closing_written false future ds i = tt
+closing_written true true ds i = (inl tt, tt)
+closing_written true false ds i = All-append (λ x. IsWritable x) (once ds i) (ToldEnd i.id ∷ []) (once_written (Some i.id) (wanted ds (i ∷ []))) (inl tt, tt)
+
+tells_written : (t : TableState) (m : ToldMap) (to : ℕ) (asking : Option Asking) → AreWritable (tells_with t m to asking)
+tells_written t m to None = retell_written (λ p. false) None (wanted (others t to) (interests_on t.clients to)) m
+tells_written t m to (Some a) =
+    let ds : List Decl = others t to in
+    let named : Option ℕ = cond a.future (answered a.current a.interest) None in
+    All-append (λ x. IsWritable x) (retell (is_again a.future ds a.interest) named (wanted ds (interests_on t.clients to)) m) (closing a.current a.future ds a.interest)
+    (retell_written (is_again a.future ds a.interest) named (wanted ds (interests_on t.clients to)) m) (closing_written a.current a.future ds a.interest)
+
+-- ---- the router with its clients
+
+hub_written : (hub : HubState) (event : Event) (to : LinkNo) → IsKept hub.node → hub_refuses hub event ≡ None → ComesSpelled event → AreWritable (hub_sends hub event to)
+hub_written hub event to light taken h =
+    let t : TableState = tables (after hub.node event) in
+    let m : ToldMap = map_on hub.told to.0 in
+    All-append (λ x. IsWritable x) (sends hub.node event to) (sends_told t m event to.0)
+    (sends_written hub.node event to light (neither (refuses hub.node event) _ taken) h)
+    (either (leads_to_client t.links to.0) (tells_with t m to.0 (asking_on event to.0)) [] (tells_written t m to.0 (asking_on event to.0)) tt)
 
 -- what can be written link by link can be written
 by_links : (sent : List (LinkNo × Msg)) → ((to : LinkNo) → AllByRecursion (λ m. IsWritable m) (on_link to sent)) → AllByRecursion (λ x. IsWritable x.1) sent
@@ -235,7 +295,7 @@ by_links (x ∷ xs) h = (head (x.0.0 == x.0.0) (same_number x.0.0) (h x.0), by_l
     tail true to k = k.1
     tail false to k = k
 
-pub sent_written : (node : NodeState) (event : Event) (sent : List (LinkNo × Msg)) → IsKept node → refuses node event ≡ None → ComesSpelled event →
-    ((to : LinkNo) → on_link to sent ≡ sends node event to) → All (λ x. IsWritable x.1) sent
-sent_written node event sent kept taken h e =
-    All-from_recursion (λ x. IsWritable x.1) sent (by_links sent (λ to. rw (e to) (sends_written node event to kept taken h)))
+pub sent_written : (hub : HubState) (event : Event) (sent : List (LinkNo × Msg)) → IsKept hub.node → hub_refuses hub event ≡ None → ComesSpelled event →
+    ((to : LinkNo) → on_link to sent ≡ hub_sends hub event to) → All (λ x. IsWritable x.1) sent
+sent_written hub event sent light taken h e =
+    All-from_recursion (λ x. IsWritable x.1) sent (by_links sent (λ to. rw (e to) (hub_written hub event to light taken h)))

@@ -1,18 +1,26 @@
--- What rows weigh once a client has declared something or taken it back, and a set once it has one declaration more or less.
+-- What rows weigh once a client has declared something or taken it back, live interests once one has come or gone, and a set once it has one declaration
+-- more or less.
 use Rattle.std.proofs.Common.{◌≡◌, ℕ, ◌+◌, ◌≤◌, ◌||◌, ◌&&◌, nat_lt, not, Bool, true, false, cond, List, [], ◌∷◌, Some, None, refl, sym, ap, subst, ◌∙◌, arith}
 use Rattle.std.specs.List.{filter, sum_by}
-use Rattle.std.specs.Ordering.{is_eq, is_lt}
+use Rattle.std.specs.Option.{option_map_or}
+use Rattle.std.specs.Ordering.{is_eq, is_lt, nat_cmp}
 use Rattle.std.proofs.lemmas.Bool.{false≢true, ltb-false}
 use Rattle.std.proofs.lemmas.List.Filters.{sum_by-filter_both}
 use Rattle.std.proofs.lemmas.List.Sums.{sum_by-append, sum_by-cons}
+use Rattle.zr_id.specs.declared.link.LinkNo.{LinkNo}
 use Rattle.zr_msg.specs.declared.decl.Decl.{Decl}
-use Rattle.zr_set.specs.Ascending.{before_key, behind_key}
+use Rattle.zr_set.specs.Ascending.{at_key, before_key, behind_key, has_key, without}
 use Rattle.zr_set.specs.Decls.{IsSet, is_decl, has, with_decl, without_decl, decl_weight, weight, most_weight}
 use Rattle.zr_set.proofs.Decls.{has_less, has_more, set_with, set_without, sets_same, with_weighs}
 use Rattle.zr_set.proofs.Order.{comes, is_less}
+use Rattle.zr_local.specs.Clients.{client_link, client_weight, clients_left, clients_weight, forgotten, interests_on, with_interests}
+use Rattle.zr_local.specs.Interests.{interest_id, interest_weight, interests_weight}
 use Rattle.zr_local.specs.Rows.{Key, declared, key_cmp, left, row_key, undeclared, weight_of}
+use Rattle.zr_local.specs.declared.interest.ClientInterests.{ClientInterests}
+use Rattle.zr_local.specs.declared.interest.Interest.{Interest}
 use Rattle.zr_local.specs.declared.row.Row.{Row}
 use Rattle.zr_local.proofs.Left.{parts_weigh}
+use Rattle.zr_local.proofs.Live.{nat_order, put_weighs}
 use Rattle.zr_local.proofs.Rows.{key_order, weigh_rows}
 use Rattle.zr_log.specs.Log.{Change, change_held, change_more, changed}
 
@@ -60,6 +68,42 @@ undeclared_light rows k =
 
 pub left_light : (rows : List Row) (link : ℕ) → weight_of (left rows link) ≤ weight_of rows
 left_light rows link = omega (arith, parts_weigh rows link)
+
+-- ---- live interests
+
+-- what is left of a list weighs no more
+rest_light : {X : Type 0} (f : X → ℕ) (p : X → Bool) (xs : List X) → sum_by f (filter (λ x. not (p x)) xs) ≤ sum_by f xs
+rest_light f p xs = omega (arith, sum_by-filter_both p (λ x. not (p x)) (λ x. refl) f xs)
+
+pub clients_left_light : (cs : List ClientInterests) (link : ℕ) → clients_weight (clients_left cs link) ≤ clients_weight cs
+clients_left_light cs link = rest_light client_weight (λ c. is_eq (nat_cmp c.link.0 link)) cs
+
+-- the interests of a client weigh what they weigh beside those of the others
+beside_others : (cs : List ClientInterests) (link : ℕ) → interests_weight (interests_on cs link) + clients_weight (clients_left cs link) ≤ clients_weight cs
+beside_others [] link = omega arith
+beside_others (c ∷ cs) link = by (is_eq (nat_cmp c.link.0 link)) (beside_others cs link)
+  where
+    by : (t : Bool) → interests_weight (interests_on cs link) + clients_weight (clients_left cs link) ≤ clients_weight cs →
+        interests_weight (option_map_or (λ x. x.interests) (cond t (Some c) (at_key nat_cmp client_link cs link)) []) + clients_weight (cond (not t) (c ∷ clients_left cs link) (clients_left cs link))
+        ≤ clients_weight (c ∷ cs)
+    by true ih = omega (arith, clients_left_light cs link, sum_by-cons client_weight c cs)
+    by false ih = omega (arith, ih, sum_by-cons client_weight c (clients_left cs link), sum_by-cons client_weight c cs)
+
+pub forgotten_light : (cs : List ClientInterests) (link : LinkNo) (id : ℕ) → clients_weight (forgotten cs link id) ≤ clients_weight cs
+forgotten_light cs link id = by (has_key nat_cmp client_link cs link.0)
+  where
+    rest : List Interest
+    rest = without nat_cmp interest_id (interests_on cs link.0) id
+
+    by : (t : Bool) → clients_weight (cond t (with_interests cs link rest) cs) ≤ clients_weight cs
+    by true =
+        omega (
+          arith,
+          put_weighs nat_cmp client_link nat_order client_weight cs (record { link = link; interests = rest }),
+          rest_light interest_weight (λ i. is_eq (nat_cmp i.id id)) (interests_on cs link.0),
+          beside_others cs link.0,
+        )
+    by false = omega arith
 
 -- ---- sets
 

@@ -8,8 +8,7 @@ use Rattle.zr_msg.specs.declared.msg.Msg.{Msg}
 use Rattle.zr_ring.specs.declared.parcel.Note.{Ghosts}
 use Rattle.zr_ring.specs.declared.giver.Giver.{Giver}
 use Rattle.zr_ring.specs.declared.taker.Taker.{Taker}
-use Rattle.zr_table.specs.State.{NodeState}
-use Rattle.zr_table.specs.Table.{sends, refuses}
+use Rattle.zr_told.specs.Hub.{HubState, hub_refuses, hub_sends}
 use Rattle.zr_frame.specs.Packing.{Parcels, parcels}
 use Rattle.zr_port.specs.declared.entry.Entry.{Entry}
 use Rattle.zr_wire.specs.Writing.{writes_message}
@@ -90,8 +89,8 @@ abbrev pub IsPlannedFor : List Msg → EndState → Type 0
 IsPlannedFor messages e = IsPlan messages e e.plan
 
 -- the plan of an event for a link is that of what the event sends it
-abbrev pub IsPlanned : NodeState → Event → EndState → Type 0
-IsPlanned node event e = IsPlannedFor (sends node event e.queue.link) e
+abbrev pub IsPlanned : HubState → Event → EndState → Type 0
+IsPlanned hub event e = IsPlannedFor (hub_sends hub event e.queue.link) e
 
 -- the end was planned anew for these messages
 abbrev pub IsPlannedAnew : List Msg → EndState → EndState → Type 0
@@ -99,54 +98,54 @@ IsPlannedAnew messages old new = (new.queue ≡ old.queue) × IsPlannedFor messa
 
 -- what an entry makes of the end that it was planned for
 abbrev pub IsSettled : Entry → EndState → EndState → Type 0
-IsSettled entry old new = ((node : NodeState) → IsPlanned node entry.event old → new.queue ≡ queued_by node entry old.queue) × IsSameRing old new
+IsSettled entry old new = ((hub : HubState) → IsPlanned hub entry.event old → new.queue ≡ queued_by hub entry old.queue) × IsSameRing old new
 
 -- An entry stands last in a list, which queues for the link what the entry makes of its queue. The entry goes by the plan: it names the link
 -- exactly where its ring lacks room
-pub record IsEntered (me : List ℕ) (h : List Entry) (node : NodeState) (entry : Entry) (e : EndState) : Type 0 where
-  pub planned : IsPlanned node entry.event e
+pub record IsEntered (me : List ℕ) (h : List Entry) (hub : HubState) (entry : Entry) (e : EndState) : Type 0 where
+  pub planned : IsPlanned hub entry.event e
   pub last : (before : List Entry) × (h ≡ before ++ entry ∷ [])
-  pub queue : queued me h e.queue.link ≡ (queued_by node entry e.queue).batches
+  pub queue : queued me h e.queue.link ≡ (queued_by hub entry e.queue).batches
   pub closed : is_among entry.closed e.queue.link ≡ is_closing e
   pub dropped : is_among entry.dropped e.queue.link ≡ is_dropped e
 
 -- how many parcels an event has for a link
-abbrev pub parcels_for : NodeState → Event → LinkQueue → ℕ
-parcels_for node event q = length (batches_for node event q.outbox q.link).batches
+abbrev pub parcels_for : HubState → Event → LinkQueue → ℕ
+parcels_for hub event q = length (batches_for hub event q.outbox q.link).batches
 
 -- no event has closed the link before, and this one has more parcels for it than its ring has free slots
-abbrev pub is_too_full : ℕ → NodeState → Event → LinkQueue → Bool
-is_too_full free node event q = is_none q.closed && nat_lt free (parcels_for node event q)
+abbrev pub is_too_full : ℕ → HubState → Event → LinkQueue → Bool
+is_too_full free hub event q = is_none q.closed && nat_lt free (parcels_for hub event q)
 
 -- An entry goes by the ring of a link that is up. Where the event has parcels for the link, which no event has closed before, the ring was asked once
 -- more for its free slots. The entry names the link exactly where the parcels are more than the answer: as one to which one sample isn't sent, or
 -- else as one that is closed. The ring, which stays the same one, is given what the entry queues, and has so many free slots fewer
-pub record GoesByRing (node : NodeState) (entry : Entry) (old new : EndState) : Type 0 where
+pub record GoesByRing (hub : HubState) (entry : Entry) (old new : EndState) : Type 0 where
   pub answer : ℕ
-  pub asked : old.queue.closed ≡ None → 0 < parcels_for node entry.event old.queue → new.calls ≡ old.calls + 1
-  pub dropped : is_among entry.dropped old.queue.link ≡ (is_too_full answer node entry.event old.queue && is_droppable (sends node entry.event old.queue.link))
-  pub closed : is_among entry.closed old.queue.link ≡ (is_too_full answer node entry.event old.queue && not (is_droppable (sends node entry.event old.queue.link)))
+  pub asked : old.queue.closed ≡ None → 0 < parcels_for hub entry.event old.queue → new.calls ≡ old.calls + 1
+  pub dropped : is_among entry.dropped old.queue.link ≡ (is_too_full answer hub entry.event old.queue && is_droppable (hub_sends hub entry.event old.queue.link))
+  pub closed : is_among entry.closed old.queue.link ≡ (is_too_full answer hub entry.event old.queue && not (is_droppable (hub_sends hub entry.event old.queue.link)))
   pub ring : new.ring ≡ old.ring
-  pub queue : new.queue ≡ queued_by node entry old.queue
+  pub queue : new.queue ≡ queued_by hub entry old.queue
   pub free : new.free + length new.queue.batches ≡ answer + length old.queue.batches
 
 -- an entry that comes after a list goes by the rings of all links that are up as its event comes
 abbrev pub GoesByRings : List ℕ → List Entry → Entry → List EndState → List EndState → Type 0
-GoesByRings me h entry old new = AllZip (λ o n. GoesByRing (replay me h).node entry o n) old new
+GoesByRings me h entry old new = AllZip (λ o n. GoesByRing (replay me h).hub entry o n) old new
 
 -- the tables are the replay of a list: the router itself, and the queues of the links that are up, in the order in which they came up
-pub record IsReplay (me : List ℕ) (h : List Entry) (node : NodeState) (ends : List EndState) : Type 0 where
-  pub node_is : node ≡ (replay me h).node
+pub record IsReplay (me : List ℕ) (h : List Entry) (hub : HubState) (ends : List EndState) : Type 0 where
+  pub hub_is : hub ≡ (replay me h).hub
   pub queues : map (λ e. e.queue) ends ≡ open_queues (replay me h)
 
 -- An event has come after a legal list, and was planned for each link that is up then. Its entry may follow: it names the links whose rings
 -- lack room for their plans
 pub record MayEnter (me : List ℕ) (h : List Entry) (entry : Entry) (ends : List EndState) : Type 0 where
   pub legal : is_legal me h ≡ true
-  pub comes : may_come (replay me h).node entry.event ≡ true
-  pub taken : refuses (replay me h).node entry.event ≡ None
+  pub comes : may_come (replay me h).hub.node entry.event ≡ true
+  pub taken : hub_refuses (replay me h).hub entry.event ≡ None
   pub parts : has_parts entry.event (is_some entry.outbox) (is_some entry.reason) ≡ true
   pub queues : map (λ e. e.queue) ends ≡ filter (λ q. q.is_up) (queues_at (replay me h).queues entry.event entry.outbox)
-  pub planned : AllByRecursion (λ e. IsPlanned (replay me h).node entry.event e) ends
+  pub planned : AllByRecursion (λ e. IsPlanned (replay me h).hub entry.event e) ends
   pub dropped : entry.dropped ≡ map (λ e. e.queue.link) (filter (λ e. is_dropped e) ends)
   pub closed : entry.closed ≡ map (λ e. e.queue.link) (filter (λ e. is_closing e) ends)

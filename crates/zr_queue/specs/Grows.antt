@@ -11,7 +11,7 @@ use Rattle.std.proofs.lemmas.List.Folds.{find-append}
 use Rattle.zr_id.specs.declared.link.LinkNo.{LinkNo}
 use Rattle.zr_msg.specs.declared.event.Event.{Event}
 use Rattle.zr_msg.specs.declared.event.Event.TheVariants.{Up, Down, From}
-use Rattle.zr_table.specs.State.{NodeState}
+use Rattle.zr_told.specs.Hub.{HubState}
 use Rattle.zr_frame.specs.Outbox.{OutboxState}
 use Rattle.zr_frame.specs.Packing.{Parcels}
 use Rattle.zr_port.specs.declared.entry.Entry.{Entry}
@@ -49,26 +49,26 @@ others_differ a b n e p = ap (λ m. not (m == b)) (eqb-true a n p) ∙ ap not (b
 -- ---- what an entry leaves of a queue
 
 -- what neither more parcels nor a closing changes of a queue, no entry changes
-stays : {Y : Type 0} (f : LinkQueue → Y) (node : NodeState) (e : Entry) (q : LinkQueue) → ((p : Parcels) → f (with_parcels q p) ≡ f q) → ((n : ℕ) → f (with_closed q n) ≡ f q) →
-    f (queued_by node e q) ≡ f q
-stays f node e q more shut = by (not q.is_up || is_some q.closed) (is_among e.closed q.link) (is_among e.dropped q.link)
+stays : {Y : Type 0} (f : LinkQueue → Y) (hub : HubState) (e : Entry) (q : LinkQueue) → ((p : Parcels) → f (with_parcels q p) ≡ f q) → ((n : ℕ) → f (with_closed q n) ≡ f q) →
+    f (queued_by hub e q) ≡ f q
+stays f hub e q more shut = by (not q.is_up || is_some q.closed) (is_among e.closed q.link) (is_among e.dropped q.link)
   where
-    by : (a b d : Bool) → f (cond a q (cond b (with_closed q (length (batches_for node e.event q.outbox q.link).batches)) (cond d q (with_parcels q (batches_for node e.event q.outbox q.link))))) ≡ f q
+    by : (a b d : Bool) → f (cond a q (cond b (with_closed q (length (batches_for hub e.event q.outbox q.link).batches)) (cond d q (with_parcels q (batches_for hub e.event q.outbox q.link))))) ≡ f q
     by true b d = refl
-    by false true d = shut (length (batches_for node e.event q.outbox q.link).batches)
+    by false true d = shut (length (batches_for hub e.event q.outbox q.link).batches)
     by false false true = refl
-    by false false false = more (batches_for node e.event q.outbox q.link)
+    by false false false = more (batches_for hub e.event q.outbox q.link)
 
-pub stays_up : (node : NodeState) (e : Entry) (q : LinkQueue) → (queued_by node e q).is_up ≡ q.is_up
-stays_up node e q = stays (λ q. q.is_up) node e q (λ p. refl) (λ n. refl)
+pub stays_up : (hub : HubState) (e : Entry) (q : LinkQueue) → (queued_by hub e q).is_up ≡ q.is_up
+stays_up hub e q = stays (λ q. q.is_up) hub e q (λ p. refl) (λ n. refl)
 
-pub keeps_link : (node : NodeState) (e : Entry) (q : LinkQueue) → (queued_by node e q).link ≡ q.link
-keeps_link node e q = stays (λ q. q.link) node e q (λ p. refl) (λ n. refl)
+pub keeps_link : (hub : HubState) (e : Entry) (q : LinkQueue) → (queued_by hub e q).link ≡ q.link
+keeps_link hub e q = stays (λ q. q.link) hub e q (λ p. refl) (λ n. refl)
 
 -- the queue of a link, after an entry
 pub queue_after : (t : Tables) (e : Entry) (link : LinkNo) →
-    queue_of (advanced t e) link ≡ option_map (queued_by t.node e) (find (λ q. q.link.0 == link.0) (queues_at t.queues e.event e.outbox))
-queue_after t e link = find_changed (λ q. q.link.0 == link.0) (queued_by t.node e) (λ q. ap (λ l. l.0 == link.0) (keeps_link t.node e q)) (queues_at t.queues e.event e.outbox)
+    queue_of (advanced t e) link ≡ option_map (queued_by t.hub e) (find (λ q. q.link.0 == link.0) (queues_at t.queues e.event e.outbox))
+queue_after t e link = find_changed (λ q. q.link.0 == link.0) (queued_by t.hub e) (λ q. ap (λ l. l.0 == link.0) (keeps_link t.hub e q)) (queues_at t.queues e.event e.outbox)
 
 pub down_number : (link : LinkNo) (q : LinkQueue) → (with_down link q).link.0 ≡ q.link.0
 down_number link q = by (q.link.0 == link.0)
@@ -86,14 +86,14 @@ prefix_trans : {X : Type 0} (xs ys zs : List X) → IsPrefix xs ys → IsPrefix 
 prefix_trans xs ys zs a b = (a.0 ++ b.0, sym (append_assoc xs a.0 b.0) ∙ ap (λ l. l ++ b.0) a.1 ∙ b.1)
 
 -- what one entry makes of a queue
-grown : (node : NodeState) (e : Entry) (q : LinkQueue) → IsPrefix q.batches (queued_by node e q).batches
-grown node e q = by (not q.is_up || is_some q.closed) (is_among e.closed q.link) (is_among e.dropped q.link)
+grown : (hub : HubState) (e : Entry) (q : LinkQueue) → IsPrefix q.batches (queued_by hub e q).batches
+grown hub e q = by (not q.is_up || is_some q.closed) (is_among e.closed q.link) (is_among e.dropped q.link)
   where
-    by : (a b d : Bool) → IsPrefix q.batches (cond a q (cond b (with_closed q (length (batches_for node e.event q.outbox q.link).batches)) (cond d q (with_parcels q (batches_for node e.event q.outbox q.link))))).batches
+    by : (a b d : Bool) → IsPrefix q.batches (cond a q (cond b (with_closed q (length (batches_for hub e.event q.outbox q.link).batches)) (cond d q (with_parcels q (batches_for hub e.event q.outbox q.link))))).batches
     by true b d = prefix_self q.batches
     by false true d = prefix_self q.batches
     by false false true = prefix_self q.batches
-    by false false false = ((batches_for node e.event q.outbox q.link).batches, refl)
+    by false false false = ((batches_for hub e.event q.outbox q.link).batches, refl)
 
 down_batches : (link : LinkNo) (q : LinkQueue) → (with_down link q).batches ≡ q.batches
 down_batches link q = by (q.link.0 == link.0)
@@ -133,13 +133,13 @@ step_grows : (t : Tables) (e : Entry) (link : LinkNo) → renews link e ≡ fals
     IsPrefix (option_map_or (λ q. q.batches) (queue_of t link) []) (option_map_or (λ q. q.batches) (queue_of (advanced t e) link) [])
 step_grows t e link old =
     let s = stays_at t.queues e.event e.outbox link old in
-    let is : queue_of (advanced t e) link ≡ option_map (queued_by t.node e) (option_map s.0 (queue_of t link)) = queue_after t e link ∙ ap (λ o. option_map (queued_by t.node e) o) s.1 in
+    let is : queue_of (advanced t e) link ≡ option_map (queued_by t.hub e) (option_map s.0 (queue_of t link)) = queue_after t e link ∙ ap (λ o. option_map (queued_by t.hub e) o) s.1 in
     subst (λ o. IsPrefix (option_map_or (λ q. q.batches) (queue_of t link) []) (option_map_or (λ q. q.batches) o [])) (sym is) (by s.0 s.2 (queue_of t link))
   where
     by : (f : LinkQueue → LinkQueue) → ((q : LinkQueue) → (f q).batches ≡ q.batches) → (o : Option LinkQueue) →
-        IsPrefix (option_map_or (λ q. q.batches) o []) (option_map_or (λ q. q.batches) (option_map (queued_by t.node e) (option_map f o)) [])
+        IsPrefix (option_map_or (λ q. q.batches) o []) (option_map_or (λ q. q.batches) (option_map (queued_by t.hub e) (option_map f o)) [])
     by f same None = prefix_self []
-    by f same (Some q) = subst (λ bs. IsPrefix bs (queued_by t.node e (f q)).batches) (same q) (grown t.node e (f q))
+    by f same (Some q) = subst (λ bs. IsPrefix bs (queued_by t.hub e (f q)).batches) (same q) (grown t.hub e (f q))
 
 more_grows : (t : Tables) (more : List Entry) (link : LinkNo) → list_any (λ e. renews link e) more ≡ false →
     IsPrefix (option_map_or (λ q. q.batches) (queue_of t link) []) (option_map_or (λ q. q.batches) (queue_of (replay_from t more) link) [])

@@ -9,7 +9,7 @@ use Rattle.zr_msg.specs.declared.event.Event.{Event}
 use Rattle.zr_msg.specs.declared.event.Event.TheVariants.{Up, Down, From}
 use Rattle.zr_routing.specs.Tables.{link_at, link_to}
 use Rattle.zr_table.specs.State.{NodeState}
-use Rattle.zr_table.specs.Table.{sends, refuses}
+use Rattle.zr_told.specs.Hub.{HubState, hub_refuses, hub_sends}
 use Rattle.zr_port.specs.declared.entry.Entry.{Entry}
 use Rattle.zr_queue.specs.Tables.{LinkQueue, Tables, new_tables, batches_for, queues_at, advanced, slots_of, is_droppable, is_other}
 use Rattle.std.specs.List.{find}
@@ -32,12 +32,12 @@ has_parts (Down link) outbox reason = not outbox
 has_parts (From link msg) outbox reason = not outbox && not reason
 
 -- more parcels were queued for a link since it came up, with those of this event, than its ring has slots
-abbrev pub is_over : NodeState → Event → LinkQueue → Bool
-is_over node event q = nat_lt (slots_of q.role) (length q.batches + length (batches_for node event q.outbox q.link).batches)
+abbrev pub is_over : HubState → Event → LinkQueue → Bool
+is_over hub event q = nat_lt (slots_of q.role) (length q.batches + length (batches_for hub event q.outbox q.link).batches)
 
 -- a link that is up and wasn't closed before, whose ring may be too full for what the event sends it
-abbrev pub may_lack : NodeState → Event → LinkQueue → Bool
-may_lack node event q = q.is_up && (is_none q.closed && is_over node event q)
+abbrev pub may_lack : HubState → Event → LinkQueue → Bool
+may_lack hub event q = q.is_up && (is_none q.closed && is_over hub event q)
 
 -- a test of a link's queue, which there is
 abbrev pub queue_passes : List LinkQueue → (LinkQueue → Bool) → LinkNo → Bool
@@ -46,16 +46,16 @@ queue_passes queues test link = option_map_or test (find (λ q. q.link.0 == link
 -- only one sample that may be dropped is left out, and only anything else closes a link
 abbrev pub may_be_dropped : Tables → Entry → LinkNo → Bool
 may_be_dropped t e link =
-    is_droppable (sends t.node e.event link) && queue_passes (queues_at t.queues e.event e.outbox) (may_lack t.node e.event) link
+    is_droppable (hub_sends t.hub e.event link) && queue_passes (queues_at t.queues e.event e.outbox) (may_lack t.hub e.event) link
 
 abbrev pub may_be_closed : Tables → Entry → LinkNo → Bool
 may_be_closed t e link =
-    is_other (sends t.node e.event link) && queue_passes (queues_at t.queues e.event e.outbox) (may_lack t.node e.event) link
+    is_other (hub_sends t.hub e.event link) && queue_passes (queues_at t.queues e.event e.outbox) (may_lack t.hub e.event) link
 
 -- whether an entry may follow on these tables
 abbrev pub may_follow : Tables → Entry → Bool
 may_follow t e =
-    may_come t.node e.event && (is_none (refuses t.node e.event) && (has_parts e.event (is_some e.outbox) (is_some e.reason)
+    may_come t.hub.node e.event && (is_none (hub_refuses t.hub e.event) && (has_parts e.event (is_some e.outbox) (is_some e.reason)
     && (list_all (may_be_dropped t e) e.dropped && list_all (may_be_closed t e) e.closed)))
 
 abbrev pub is_legal_from : Tables → List Entry → Bool

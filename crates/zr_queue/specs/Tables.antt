@@ -11,8 +11,7 @@ use Rattle.zr_msg.specs.declared.peer.Role.TheVariants as role
 use Rattle.zr_msg.specs.declared.event.Event.{Event}
 use Rattle.zr_msg.specs.declared.event.Event.TheVariants.{Up, Down, From}
 use Rattle.zr_routing.specs.Tables.{link_at}
-use Rattle.zr_table.specs.State.{NodeState, new_node}
-use Rattle.zr_table.specs.Table.{sends, after}
+use Rattle.zr_told.specs.Hub.{HubState, hub_after, hub_sends, new_hub}
 use Rattle.zr_frame.specs.Outbox.{OutboxState}
 use Rattle.zr_frame.specs.Packing.{Parcels, parcels}
 use Rattle.zr_port.specs.declared.entry.Entry.{Entry}
@@ -31,18 +30,18 @@ pub record LinkQueue : Type 0 where
   pub closed : Option ℕ
 
 pub record Tables : Type 0 where
-  pub node : NodeState
+  pub hub : HubState
   pub queues : List LinkQueue
 
 -- a router without links
 abbrev pub new_tables : List ℕ → Tables
-new_tables me = record { node = new_node me; queues = [] }
+new_tables me = record { hub = new_hub me; queues = [] }
 
 -- ---- one entry
 
 -- what an event sends on a link, in parcels
-abbrev pub batches_for : NodeState → Event → OutboxState → LinkNo → Parcels
-batches_for node event outbox link = parcels outbox (map writes_message (sends node event link))
+abbrev pub batches_for : HubState → Event → OutboxState → LinkNo → Parcels
+batches_for hub event outbox link = parcels outbox (map writes_message (hub_sends hub event link))
 
 -- a link is among these
 abbrev pub is_among : List LinkNo → LinkNo → Bool
@@ -57,12 +56,12 @@ abbrev pub with_closed : LinkQueue → ℕ → LinkQueue
 with_closed q asked = record { link = q.link; role = q.role; is_up = q.is_up; outbox = q.outbox; batches = q.batches; closed = Some asked }
 
 -- what an entry makes of the queue of a link: parcels are queued unless the link is closed, they are left out, or the entry closes it
-abbrev pub queued_by : NodeState → Entry → LinkQueue → LinkQueue
-queued_by node e q =
+abbrev pub queued_by : HubState → Entry → LinkQueue → LinkQueue
+queued_by hub e q =
     if not q.is_up || is_some q.closed then q
-    else if is_among e.closed q.link then with_closed q (length (batches_for node e.event q.outbox q.link).batches)
+    else if is_among e.closed q.link then with_closed q (length (batches_for hub e.event q.outbox q.link).batches)
     else if is_among e.dropped q.link then q
-    else with_parcels q (batches_for node e.event q.outbox q.link)
+    else with_parcels q (batches_for hub e.event q.outbox q.link)
 
 -- the queue of a link that has come up
 abbrev pub new_queue : LinkNo → Role → OutboxState → LinkQueue
@@ -89,7 +88,7 @@ queues_at queues (From link msg) outbox = queues
 
 -- the tables that an entry leaves
 abbrev pub advanced : Tables → Entry → Tables
-advanced t e = record { node = after t.node e.event; queues = map (queued_by t.node e) (queues_at t.queues e.event e.outbox) }
+advanced t e = record { hub = hub_after t.hub e.event; queues = map (queued_by t.hub e) (queues_at t.queues e.event e.outbox) }
 
 -- the tables that a list of entries leaves
 abbrev pub replay_from : Tables → List Entry → Tables
@@ -111,7 +110,7 @@ queued me h link = option_map_or (λ q. q.batches) (queue_of (replay me h) link)
 
 -- the link is up
 abbrev pub is_up : List ℕ → List Entry → LinkNo → Bool
-is_up me h link = is_some (link_at (replay me h).node.links link.0)
+is_up me h link = is_some (link_at (replay me h).hub.node.links link.0)
 
 -- ---- limits
 

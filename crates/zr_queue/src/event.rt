@@ -6,7 +6,7 @@ ghost use mathlib.Core.List.{IsPrefix};
 ghost use Rattle.zr_hist.specs.Words.{IsKeptOf, IsPassOf, IsSameKept, IsSamePass, list_of, most_entries, mine, seen};
 ghost use Rattle.zr_port.specs.Adding.{IsEntryOf};
 ghost use Rattle.zr_table.specs.Event.{on_link};
-ghost use Rattle.zr_table.specs.State.{NodeState};
+ghost use Rattle.zr_told.specs.Hub.{HubState};
 ghost use Rattle.zr_queue.specs.Writable.{IsWritable};
 ghost use Rattle.zr_queue.specs.Tables.{open_queues, queued_by, replay};
 ghost use Rattle.zr_queue.specs.History.{is_legal};
@@ -105,7 +105,7 @@ pub fn enter(
     ensures seen { seen pass.new ≡ list_of kept.new }
     ensures legal { is_legal me (list_of kept.new) ≡ true }
     ensures rings { AllZip (λ old new. IsSameRing old new) ends.old ends.new }
-    ensures given { AllZip (λ old new. new.queue ≡ queued_by (replay me (list_of kept.old)).node entry.now old.queue) ends.old ends.new }
+    ensures given { AllZip (λ old new. new.queue ≡ queued_by (replay me (list_of kept.old)).hub entry.now old.queue) ends.old ends.new }
     ensures queues { map (λ x. x.queue) ends.new ≡ open_queues (replay me (list_of kept.new)) }
 {
     match history.append(kept, pass, entry) {
@@ -123,7 +123,7 @@ fn settle_all(
     entry: &Entry,
 )
     requires pass { IsPassOf history.now pass.old }
-    requires entered { All (λ x. (node : NodeState) × IsEntered me (seen pass.old) node entry.now x) ends.old }
+    requires entered { All (λ x. (hub : HubState) × IsEntered me (seen pass.old) hub entry.now x) ends.old }
     ensures pass { IsSamePass pass.old pass.new × (seen pass.new ≡ seen pass.old) × (mine pass.new ≡ mine pass.old) }
     ensures each { AllZip (λ old new. IsSettled entry.now old new) ends.old ends.new }
 {

@@ -8,7 +8,7 @@ ghost use Rattle.zr_ring.specs.Giver.{sent, is_going, number, slots_of, free_slo
 ghost use Rattle.zr_ring.specs.Items.{GoOnFrom, end_of, most_parcels, ones};
 ghost use Rattle.zr_ring.specs.Taker.{taken, take_calls};
 ghost use Rattle.zr_table.specs.Event.{on_link};
-ghost use Rattle.zr_table.specs.State.{NodeState};
+ghost use Rattle.zr_told.specs.Hub.{HubState};
 ghost use Rattle.zr_queue.specs.Writable.{IsWritable};
 ghost use Rattle.zr_queue.specs.Tables as tables;
 ghost use Rattle.zr_queue.specs.Tables.{is_among, queued, queued_by, new_queue, with_parcels, with_closed};
@@ -187,9 +187,9 @@ impl LinkEnd {
         entry: &Entry,
     )
         requires pass { IsPassOf history.now pass.old }
-        requires entered { (node : NodeState) × IsEntered me (seen pass.old) node entry.now self.old }
+        requires entered { (hub : HubState) × IsEntered me (seen pass.old) hub entry.now self.old }
         ensures pass { IsSamePass pass.old pass.new × (seen pass.new ≡ seen pass.old) × (mine pass.new ≡ mine pass.old) }
-        ensures queue { (node : NodeState) → IsPlanned node entry.now.event self.old → self.new.queue ≡ queued_by node entry.now self.old.queue }
+        ensures queue { (hub : HubState) → IsPlanned hub entry.now.event self.old → self.new.queue ≡ queued_by hub entry.now self.old.queue }
         ensures ring { IsSameRing self.old self.new }
     {
         let Some(plan) = self.plan.take() else {

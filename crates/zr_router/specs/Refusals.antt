@@ -13,7 +13,7 @@ use Rattle.zr_msg.specs.declared.event.Event.TheVariants.{Up, Down, From}
 use Rattle.zr_routing.specs.Tables.{link_at, link_to, is_router, free_link}
 use Rattle.zr_table.specs.State.{NodeState}
 use Rattle.zr_msg.specs.declared.peer.LinkPeer.{LinkPeer}
-use Rattle.zr_table.specs.Table.{refuses}
+use Rattle.zr_told.specs.Hub.{HubState, hub_refuses}
 use Rattle.zr_port.specs.declared.entry.Entry.{Entry}
 use Rattle.zr_port.specs.declared.error.UpError.{UpError}
 use Rattle.zr_port.specs.declared.error.UpError.TheVariants as up
@@ -66,11 +66,11 @@ peer_refusal node peer worn =
     else if worn then Some up.Worn
     else None
 
-abbrev pub refuses_peer : NodeState → List Entry → Peer → Option UpError
-refuses_peer node h peer = peer_refusal node peer (is_worn h || is_some (refuses node (up_event node peer)))
+abbrev pub refuses_peer : HubState → List Entry → Peer → Option UpError
+refuses_peer hub h peer = peer_refusal hub.node peer (is_worn h || is_some (hub_refuses hub (up_event hub.node peer)))
 
 abbrev pub RefusesUp : List ℕ → List Entry → Peer → UpError → Type 0
-RefusesUp me h peer e = refuses_peer (replay me h).node h peer ≡ Some e
+RefusesUp me h peer e = refuses_peer (replay me h).hub h peer ≡ Some e
 
 -- ---- a message
 
@@ -81,10 +81,10 @@ refused_by false (Some e) = Some (deliver.Node e)
 refused_by false None = None
 
 -- the refusal of a message over a link that is up and was not closed: a peer of that role may not send it, or the tables refuse it
-abbrev pub refuses_on : NodeState → List Entry → LinkNo → Role → Msg → Option DeliverError
-refuses_on node h link role msg =
+abbrev pub refuses_on : HubState → List Entry → LinkNo → Role → Msg → Option DeliverError
+refuses_on hub h link role msg =
     if not (admits role msg) then Some (deliver.Misplaced role)
-    else refused_by (is_worn h) (refuses node (From link msg))
+    else refused_by (is_worn h) (hub_refuses hub (From link msg))
 
 -- an earlier event closed the link, which had so many parcels for it and had fewer free slots
 abbrev pub IsClosed : Option ℕ → DeliverError → Type 0
@@ -103,7 +103,7 @@ closing_of t link = option_and_then (λ (q : LinkQueue). q.closed) (find (λ q. 
 -- what an open or a closed link to a peer of that role refuses
 abbrev pub RefusesOn : Tables → List Entry → LinkNo → Role → Msg → Option ℕ → DeliverError → Type 0
 RefusesOn t h link role msg (Some n) e = IsClosed (Some n) e
-RefusesOn t h link role msg None e = refuses_on t.node h link role msg ≡ Some e
+RefusesOn t h link role msg None e = refuses_on t.hub h link role msg ≡ Some e
 
 -- the link isn't up, or it refuses the message
 abbrev pub RefusesAt : Tables → List Entry → LinkNo → Msg → Option LinkPeer → DeliverError → Type 0
@@ -111,7 +111,7 @@ RefusesAt t h link msg None e = e ≡ deliver.NotUp link
 RefusesAt t h link msg (Some l) e = RefusesOn t h link l.peer.role msg (closing_of t link) e
 
 abbrev pub RefusesMessage : List ℕ → List Entry → LinkNo → Msg → DeliverError → Type 0
-RefusesMessage me h link msg e = RefusesAt (replay me h) h link msg (link_at (replay me h).node.links link.0) e
+RefusesMessage me h link msg e = RefusesAt (replay me h) h link msg (link_at (replay me h).hub.node.links link.0) e
 
 -- ---- a link that is to go down
 
@@ -122,8 +122,8 @@ down_refusal node link worn =
     else if worn then Some down.Worn
     else None
 
-abbrev pub refuses_down : NodeState → List Entry → LinkNo → Option DownError
-refuses_down node h link = down_refusal node link (is_worn h || is_some (refuses node (Down link)))
+abbrev pub refuses_down : HubState → List Entry → LinkNo → Option DownError
+refuses_down hub h link = down_refusal hub.node link (is_worn h || is_some (hub_refuses hub (Down link)))
 
 abbrev pub RefusesDown : List ℕ → List Entry → LinkNo → DownError → Type 0
-RefusesDown me h link e = refuses_down (replay me h).node h link ≡ Some e
+RefusesDown me h link e = refuses_down (replay me h).hub h link ≡ Some e

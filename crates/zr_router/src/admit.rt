@@ -6,10 +6,10 @@ ghost use Rattle.zr_router.specs.Before.{message_refusal};
 ghost use Rattle.zr_router.specs.Refusals as refusals;
 ghost use Rattle.zr_router.specs.Refusals.{down_refusal, most_routers, most_sessions, peer_refusal};
 
+use zr_hub::hub::Hub;
 use zr_id::link::LinkNo;
 use zr_msg::msg::Msg;
 use zr_msg::peer::{LinkPeer, Peer, Role};
-use zr_node::node::Node;
 use zr_port::{DeliverError, DownError, UpError};
 use zr_queue::Closing;
 use zr_wire::admits;
@@ -21,15 +21,15 @@ const MOST_SESSIONS: u32 = 128;
 const MOST_ROUTERS: u32 = 16;
 
 /// Why a peer is refused before the router is asked, if it is. `worn` says that the history is at its end.
-pub(crate) fn refuses_peer(node: &Node, worn: bool, peer: &Peer) -> Option<UpError>
-    ensures { result ≡ peer_refusal node.now peer.now worn }
+pub(crate) fn refuses_peer(hub: &Hub, worn: bool, peer: &Peer) -> Option<UpError>
+    ensures { result ≡ peer_refusal hub.now.node peer.now worn }
 {
-    let sessions = sessions(node);
-    let routers = routers(node);
+    let sessions = sessions(hub);
+    let routers = routers(hub);
     if is_full(sessions, routers, peer.role) {
         return Some(UpError::Full { sessions, routers });
     }
-    if is_twice(node, peer) {
+    if is_twice(hub, peer) {
         return Some(UpError::Twice);
     }
     if worn {
@@ -39,17 +39,17 @@ pub(crate) fn refuses_peer(node: &Node, worn: bool, peer: &Peer) -> Option<UpErr
 }
 
 // How many links are up.
-fn sessions(node: &Node) -> u32
-    ensures { result ≡ refusals.sessions node.now }
+fn sessions(hub: &Hub) -> u32
+    ensures { result ≡ refusals.sessions hub.now.node }
 {
-    node.links().len() as u32
+    hub.links().len() as u32
 }
 
 // How many of them lead to routers.
-fn routers(node: &Node) -> u32
-    ensures { result ≡ refusals.routers node.now }
+fn routers(hub: &Hub) -> u32
+    ensures { result ≡ refusals.routers hub.now.node }
 {
-    routers_among(node.links()) as u32
+    routers_among(hub.links()) as u32
 }
 
 // Whether there is no room for one more session with a peer of that role.
@@ -61,10 +61,10 @@ fn is_full(sessions: u32, routers: u32, role: Role) -> bool
 
 // Whether a link of that identifier is up, or it is the router's own.
 #[tactic(auto, using(crate::proofs::OpenEnds::some_mapped))]
-fn is_twice(node: &Node, peer: &Peer) -> bool
-    ensures { result ≡ refusals.is_twice node.now peer.now }
+fn is_twice(hub: &Hub, peer: &Peer) -> bool
+    ensures { result ≡ refusals.is_twice hub.now.node peer.now }
 {
-    node.link_to(&peer.id).is_some() || peer.id == node.me()
+    hub.link_to(&peer.id).is_some() || peer.id == hub.me()
 }
 
 fn is_router(role: Role) -> bool
@@ -85,10 +85,10 @@ fn routers_among(links: &[LinkPeer]) -> usize
 }
 
 /// Why a link doesn't go down, if it is refused before the router is asked. `worn` says that the history is at its end.
-pub(crate) fn refuses_down(node: &Node, worn: bool, link: LinkNo) -> Option<DownError>
-    ensures { result ≡ down_refusal node.now link worn }
+pub(crate) fn refuses_down(hub: &Hub, worn: bool, link: LinkNo) -> Option<DownError>
+    ensures { result ≡ down_refusal hub.now.node link worn }
 {
-    if node.peer_at(link).is_none() {
+    if hub.peer_at(link).is_none() {
         return Some(DownError::NotUp { link });
     }
     if worn {

@@ -10,7 +10,7 @@ ghost use Rattle.zr_port.specs.Adding.{Adds, IsAdmitted, IsEntryOf, IsLeastFree}
 ghost use Rattle.zr_port.specs.declared.entry.Entry.{Entry};
 ghost use Rattle.zr_ring.specs.Taker.{taken, take_calls};
 ghost use Rattle.zr_table.specs.Event.{MayCome, on_link};
-ghost use Rattle.zr_table.specs.Table.{after, refuses, sends};
+ghost use Rattle.zr_told.specs.Hub.{hub_after, hub_refuses, hub_sends};
 ghost use Rattle.zr_wire.specs.Writing.{IsSpelled};
 ghost use Rattle.zr_queue.specs.Ends.{GoesByRings, IsReplay, new_end, taker_ring};
 ghost use Rattle.zr_queue.specs.History.{is_legal};
@@ -28,12 +28,12 @@ use std::alloc::{AllocError, Global};
 use std::marker::PhantomData;
 use zr_frame::Outbox;
 use zr_hist::{History, Kept, Pass};
+use zr_hub::hub::Hub;
 use zr_id::link::LinkNo;
 use zr_id::zid::Zid;
 use zr_msg::event::Event;
 use zr_msg::msg::Msg;
 use zr_msg::peer::{Peer, Role};
-use zr_node::node::Node;
 use zr_port::{DeliverError, DownError, Entry, Naming, UpError};
 use zr_queue::{LinkEnd, Queued, enter, prepare};
 use zr_ring::{Giver, Taker};
@@ -44,12 +44,12 @@ const MOST_ENTRIES: u64 = u64::MAX;
 /// How many links have a bell: each has, since the least number that isn't up is below it.
 pub(crate) const BELLS: u32 = 128;
 
-/// The tables of a running router: the router itself, the links that are up in the order in which they came up, and what stands for the history.
-/// Unless memory ran out they are the replay of its list.
+/// The tables of a running router: the router itself with what its clients were told, the links that are up in the order in which they came up, and
+/// what stands for the history. Unless memory ran out they are the replay of its list.
 #[derive(Drop)]
 pub struct Tables<B: Naming> {
     me: Zid,
-    node: Node,
+    hub: Hub,
     ends: Vec<LinkEnd>,
     kept: Kept<Entry>,
     // the links whose writers have something new, a bit for each
@@ -59,7 +59,7 @@ pub struct Tables<B: Naming> {
     ghost named: { kept_name kept ≡ B.history },
     ghost own: { me ≡ B.me },
     ghost legal: { is_legal B.me (list_of kept) ≡ true },
-    ghost replayed: { is_spent ≡ false → IsReplay B.me (list_of kept) node ends.items } by { IsReplay-prop is_spent B.me (list_of kept) node ends.items },
+    ghost replayed: { is_spent ≡ false → IsReplay B.me (list_of kept) hub ends.items } by { IsReplay-prop is_spent B.me (list_of kept) hub ends.items },
 }
 
 // What has come to the router, with what the call said beside it.
@@ -81,7 +81,7 @@ impl<B: Naming> Tables<B> {
     {
         Ok(Tables {
             me,
-            node: Node::new(alloc, me)?,
+            hub: Hub::new(alloc, me)?,
             ends: Vec::new(alloc),
             kept,
             due: 0,
@@ -117,7 +117,7 @@ impl<B: Naming> Tables<B> {
         let Ok(worn) = self.look(history, pass) else {
             return Err(DeliverError::NoMemory);
         };
-        let peer = self.node.peer_at(link);
+        let peer = self.hub.peer_at(link);
         let closing = closing_of(self.ends.as_slice(), link);
         if let Some(refused) = refuses_message(peer, closing, link, &msg, worn) {
             return Err(refused);
@@ -167,10 +167,10 @@ impl<B: Naming> Tables<B> {
         let Ok(worn) = self.look(history, pass) else {
             return Err(UpError::NoMemory);
         };
-        if let Some(refused) = refuses_peer(&self.node, worn, &peer) {
+        if let Some(refused) = refuses_peer(&self.hub, worn, &peer) {
             return Err(refused);
         }
-        let link = self.node.free_link();
+        let link = self.hub.free_link();
         let event = Event::Up { link, peer };
         let sent = match self.handle(alloc, &event) {
             Ok(sent) => sent,
@@ -219,7 +219,7 @@ impl<B: Naming> Tables<B> {
         let Ok(worn) = self.look(history, pass) else {
             return Err(DownError::NoMemory);
         };
-        if let Some(refused) = refuses_down(&self.node, worn, link) {
+        if let Some(refused) = refuses_down(&self.hub, worn, link) {
             return Err(refused);
         }
         let event = Event::Down { link };
@@ -266,7 +266,7 @@ impl<B: Naming> Tables<B> {
         outbox: Outbox,
     ) -> Result<Taker<Queued>, AllocError>
         requires { self.old.is_spent ≡ true }
-        ensures same { (self.new.node ≡ self.old.node) × (list_of self.new.kept ≡ list_of self.old.kept) × (self.new.is_spent ≡ true) }
+        ensures same { (self.new.hub ≡ self.old.hub) × (list_of self.new.kept ≡ list_of self.old.kept) × (self.new.is_spent ≡ true) }
         ensures ends { IfOk result (λ taker. self.new.ends.items ≡ self.old.ends.items ++ new_end (new_queue link role outbox) (taker_ring taker) ∷ []) }
         ensures taker { IfOk result (λ taker. (taken taker ≡ []) × (take_calls taker ≡ 0)) }
     {
@@ -284,7 +284,7 @@ impl<B: Naming> Tables<B> {
         ensures pass { IsSamePass pass.old pass.new × (mine pass.new ≡ mine pass.old) × (seen pass.new ≡ list_of self.old.kept) }
         ensures prefix { IsPrefix (seen pass.old) (list_of self.old.kept) }
         ensures kept { list_of self.new.kept ≡ list_of self.old.kept }
-        ensures same { (self.new.node ≡ self.old.node) × (self.new.ends ≡ self.old.ends) × (self.new.is_spent ≡ self.old.is_spent) }
+        ensures same { (self.new.hub ≡ self.old.hub) × (self.new.ends ≡ self.old.ends) × (self.new.is_spent ≡ self.old.is_spent) }
         ensures worn { IfOk result (λ worn. worn ≡ is_worn (list_of self.old.kept)) }
         ensures room { IfOk result (λ worn. worn ≡ false → length (list_of self.old.kept) < most_entries) }
         ensures spent { is_err result ≡ self.old.is_spent }
@@ -299,16 +299,16 @@ impl<B: Naming> Tables<B> {
     // Lets the router handle an event that may come. What it sends is the answer; until the event is entered the tables count as spent. Where the
     // event is refused nothing has changed.
     fn handle(&mut self, alloc: Global, event: &Event) -> Result<Vec<(LinkNo, Msg)>, Failure>
-        requires { MayCome self.old.node event.now }
+        requires { MayCome self.old.hub.node event.now }
         ensures kept { list_of self.new.kept ≡ list_of self.old.kept }
         ensures ends { self.new.ends ≡ self.old.ends }
-        ensures handled { OnOk result ((self.new.node ≡ after self.old.node event.now) × (refuses self.old.node event.now ≡ None)) }
-        ensures sent { IfOk result (λ sent. (to : LinkNo) → on_link to sent.items ≡ sends self.old.node event.now to) }
+        ensures handled { OnOk result ((self.new.hub ≡ hub_after self.old.hub event.now) × (hub_refuses self.old.hub event.now ≡ None)) }
+        ensures sent { IfOk result (λ sent. (to : LinkNo) → on_link to sent.items ≡ hub_sends self.old.hub event.now to) }
         ensures spent { OnOk result (self.new.is_spent ≡ true) }
-        ensures failed { IfErr result (λ f. HasFailed (refuses self.old.node event.now) self.old.is_spent self.new.is_spent f) }
+        ensures failed { IfErr result (λ f. HasFailed (hub_refuses self.old.hub event.now) self.old.is_spent self.new.is_spent f) }
     {
         let mut sent = Vec::new(alloc);
-        match self.node.handle(alloc, event, &mut sent) {
+        match self.hub.handle(alloc, event, &mut sent) {
             Ok(()) => {
                 self.is_spent = true;
                 Ok(sent)
@@ -335,7 +335,7 @@ impl<B: Naming> Tables<B> {
         requires history { name history.now ≡ B.history }
         requires pass { pass_name pass.old ≡ B.history }
         requires spent { self.old.is_spent ≡ true }
-        requires handled { IsHandled B.me (list_of self.old.kept) self.old.node self.old.ends.items arrival.event arrival.outbox arrival.reason sent.now }
+        requires handled { IsHandled B.me (list_of self.old.kept) self.old.hub self.old.ends.items arrival.event arrival.outbox arrival.reason sent.now }
         ensures same { IsSamePass pass.old pass.new }
         ensures added { OnOk result ((e : Entry) × IsEntryOf arrival.event arrival.outbox arrival.reason e × (list_of self.new.kept ≡ list_of self.old.kept ++ e ∷ []) × (mine pass.new ≡ mine pass.old ++ e ∷ []) × (seen pass.new ≡ list_of self.new.kept) × GoesByRings B.me (list_of self.old.kept) e self.old.ends.items self.new.ends.items) }
         ensures unchanged { OnErr result ((list_of self.new.kept ≡ list_of self.old.kept) × (mine pass.new ≡ mine pass.old) × (seen pass.new ≡ seen pass.old)) }

@@ -10,9 +10,9 @@ use Rattle.zr_queue.proofs.event.enter.Goals as goal
 
 pub settle_all-requires-clause-entered : goal.settle_all-requires-clause-entered
 settle_all-requires-clause-entered c k d lt =
-    let node = (replay c.args.me (list_of c.args.kept.now)).node in (
-      node,
-      subst (λ l. IsEntered c.args.me l node c.args.entry.now (get_or c.args.ends.now k d)) (sym (c.append.ensures.seen ∙ c.in-Ok.ensures.list))
+    let hub = (replay c.args.me (list_of c.args.kept.now)).hub in (
+      hub,
+      subst (λ l. IsEntered c.args.me l hub c.args.entry.now (get_or c.args.ends.now k d)) (sym (c.append.ensures.seen ∙ c.in-Ok.ensures.list))
           (All-from_recursion _ c.args.ends.now (each_entered c.args.me (list_of c.args.kept.now) c.args.entry.now c.args.ends.now c.requires.may) k d lt),
     )
 
@@ -29,4 +29,4 @@ pub returns-clause-rings : goal.returns-clause-rings
 returns-clause-rings c = zip_so (λ old new. IsSettled c.args.entry.now old new) (λ old new. IsSameRing old new) (λ old new s. s.1) c.args.ends.now c.settle_all.new.ends c.settle_all.ensures.each
 
 pub returns-clause-given : goal.returns-clause-given
-returns-clause-given c = each_given (replay c.args.me (list_of c.args.kept.now)).node c.args.entry.now c.args.ends.now c.settle_all.new.ends c.requires.may.planned c.settle_all.ensures.each
+returns-clause-given c = each_given (replay c.args.me (list_of c.args.kept.now)).hub c.args.entry.now c.args.ends.now c.settle_all.new.ends c.requires.may.planned c.settle_all.ensures.each

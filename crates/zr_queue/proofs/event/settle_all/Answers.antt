@@ -1,6 +1,6 @@
 use Rattle.std.proofs.Common.{◌≡◌, ◌<◌, length, get_or, sym, subst, ◌∙◌, arith}
 use Rattle.zr_hist.specs.Words.{seen}
-use Rattle.zr_table.specs.State.{NodeState}
+use Rattle.zr_told.specs.Hub.{HubState}
 use Rattle.zr_queue.specs.Ends.{IsEntered, IsSettled}
 use Rattle.zr_queue.proofs.Stepped.{IsStepped, stepped_all, stepped_more, stepped_next}
 use Rattle.zr_queue.proofs.event.settle_all.Goals as goal
@@ -9,8 +9,8 @@ pub settle-requires-clause-entered : goal.settle-requires-clause-entered
 settle-requires-clause-entered c =
     let inv = c.loop-end.invariant in
     let same = stepped_next (λ old new. IsSettled c.args.entry.now old new) c.loop-end.end-index c.args.ends.now c.loop-end.ends c.end-item.result inv.3 in
-    subst (λ l. (node : NodeState) × IsEntered c.args.me l node c.args.entry.now (get_or c.loop-end.ends c.loop-end.end-index c.end-item.result)) (sym inv.1)
-    (subst (λ x. (node : NodeState) × IsEntered c.args.me (seen c.args.pass.now) node c.args.entry.now x) (sym same)
+    subst (λ l. (hub : HubState) × IsEntered c.args.me l hub c.args.entry.now (get_or c.loop-end.ends c.loop-end.end-index c.end-item.result)) (sym inv.1)
+    (subst (λ x. (hub : HubState) × IsEntered c.args.me (seen c.args.pass.now) hub c.args.entry.now x) (sym same)
     (c.requires.entered c.loop-end.end-index c.end-item.result c.loop-end-test.true))
 
 pub loop-end-preserved : goal.loop-end-preserved

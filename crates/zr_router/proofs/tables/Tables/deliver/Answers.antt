@@ -6,7 +6,7 @@ use Rattle.zr_table.specs.Event.{on_link}
 use Rattle.zr_queue.specs.Ends.{EndState, GoesByRings, IsReplay}
 use Rattle.zr_router.specs.Before.{message_refusal}
 use Rattle.zr_port.specs.declared.error.DeliverError.TheVariants as deliver
-use Rattle.zr_table.specs.Table.{refuses}
+use Rattle.zr_told.specs.Hub.{hub_refuses}
 use Rattle.zr_router.specs.Failures.{HasFailed}
 use Rattle.zr_router.specs.declared.failure.Failure.{Failure}
 use Rattle.zr_router.specs.declared.failure.Failure.TheVariants.{Refused}
@@ -22,7 +22,7 @@ returns-in-Some-clause-refused g c =
     let l = c.look.new.self in
     let h = list_of l.kept in
     let open_now : l.is_spent ≡ false = c.look.ensures.same.2 ∙ sym c.in-Ok.ensures.spent in
-    let r : IsReplay me h l.node l.ends.items = l.replayed open_now in
+    let r : IsReplay me h l.hub l.ends.items = l.replayed open_now in
     let w : is_worn h ≡ c.in-Ok.worn = ap (λ x. is_worn x) c.look.ensures.kept ∙ sym c.in-Ok.ensures.worn in
     let p = c.peer_at-peer.result in
     let k = c.closing_of-closing.result in
@@ -31,7 +31,7 @@ returns-in-Some-clause-refused g c =
     let is : message_refusal p k c.args.link c.args.msg (is_worn h) ≡ Some c.in-Some.refused =
     ap (λ b. message_refusal p k c.args.link c.args.msg b) w ∙ sym c.refuses_message.ensures ∙ c.in-Some.is in
     λ _. subst (λ x. RefusesMessage me x c.args.link c.args.msg c.in-Some.refused) c.look.ensures.kept
-    (message_refused me h l.node l.ends.items r c.args.link c.args.msg p k c.in-Some.refused at shut is)
+    (message_refused me h l.hub l.ends.items r c.args.link c.args.msg p k c.in-Some.refused at shut is)
 
 pub returns-in-Some-clause-spent : goal.returns-in-Some-clause-spent
 returns-in-Some-clause-spent g c =
@@ -47,7 +47,7 @@ enter-requires-clause-handled g c =
     let l = c.look.new.self in
     let h = list_of l.kept in
     let open_now : l.is_spent ≡ false = c.look.ensures.same.2 ∙ sym c.in-Ok.ensures.spent in
-    let r : IsReplay me h l.node l.ends.items = l.replayed open_now in
+    let r : IsReplay me h l.hub l.ends.items = l.replayed open_now in
     let w : is_worn h ≡ c.in-Ok.worn = ap (λ x. is_worn x) c.look.ensures.kept ∙ sym c.in-Ok.ensures.worn in
     let p = c.peer_at-peer.result in
     let k = c.closing_of-closing.result in
@@ -55,19 +55,19 @@ enter-requires-clause-handled g c =
     let shut = c.closing_of-closing.ensures ∙ ap (λ xs. closed_at xs c.args.link) c.as_slice.ensures.value in
     let n = c.handle.new.self in
     let kept : list_of n.kept ≡ list_of t.kept = c.handle.ensures.kept ∙ c.look.ensures.kept in
-    let q : IsReplay me (list_of n.kept) l.node n.ends.items =
-    subst (λ x. IsReplay me x l.node n.ends.items) (sym c.handle.ensures.kept) (subst (λ (xs : List EndState). IsReplay me h l.node xs) (sym (ap (λ v. v.items) c.handle.ensures.ends)) r) in
+    let q : IsReplay me (list_of n.kept) l.hub n.ends.items =
+    subst (λ x. IsReplay me x l.hub n.ends.items) (sym c.handle.ensures.kept) (subst (λ (xs : List EndState). IsReplay me h l.hub xs) (sym (ap (λ v. v.items) c.handle.ensures.ends)) r) in
     let handled_is = c.in-Ok-handle.ensures.handled in
     let none : message_refusal p k c.args.link c.args.msg (is_worn h) ≡ None =
     ap (λ b. message_refusal p k c.args.link c.args.msg b) w ∙ sym c.refuses_message.ensures ∙ c.in_default-refuses_message.is in
-    handled me (list_of n.kept) l.node n.node n.ends.items (From c.args.link c.args.msg) None None c.as_slice-2.result.now
-    n.legal q.node_is
-    (message_comes me h l.node l.ends.items r c.args.link c.args.msg p k at shut none)
+    handled me (list_of n.kept) l.hub n.hub n.ends.items (From c.args.link c.args.msg) None None c.as_slice-2.result.now
+    n.legal q.hub_is
+    (message_comes me h l.hub l.ends.items r c.args.link c.args.msg p k at shut none)
     handled_is.1 handled_is.0
     (λ to. ap (λ xs. on_link to xs) c.as_slice-2.ensures.value ∙ c.in-Ok-handle.ensures.sent to)
     c.requires.spelled refl q.queues
     (subst (λ x. length x < most_entries) (sym kept)
-    (c.in-Ok.ensures.room (sym w ∙ message_room me h l.node l.ends.items r c.args.link c.args.msg p k at shut none)))
+    (c.in-Ok.ensures.room (sym w ∙ message_room me h l.hub l.ends.items r c.args.link c.args.msg p k at shut none)))
 
 pub returns-in-Ok-enter-clause-added : goal.returns-in-Ok-enter-clause-added
 returns-in-Ok-enter-clause-added g c =
@@ -76,7 +76,7 @@ returns-in-Ok-enter-clause-added g c =
     let l = c.look.new.self in
     let h = list_of l.kept in
     let open_now : l.is_spent ≡ false = c.look.ensures.same.2 ∙ sym c.in-Ok.ensures.spent in
-    let r : IsReplay me h l.node l.ends.items = l.replayed open_now in
+    let r : IsReplay me h l.hub l.ends.items = l.replayed open_now in
     let w : is_worn h ≡ c.in-Ok.worn = ap (λ x. is_worn x) c.look.ensures.kept ∙ sym c.in-Ok.ensures.worn in
     let p = c.peer_at-peer.result in
     let k = c.closing_of-closing.result in
@@ -84,8 +84,8 @@ returns-in-Ok-enter-clause-added g c =
     let shut = c.closing_of-closing.ensures ∙ ap (λ xs. closed_at xs c.args.link) c.as_slice.ensures.value in
     let n = c.handle.new.self in
     let kept : list_of n.kept ≡ list_of t.kept = c.handle.ensures.kept ∙ c.look.ensures.kept in
-    let q : IsReplay me (list_of n.kept) l.node n.ends.items =
-    subst (λ x. IsReplay me x l.node n.ends.items) (sym c.handle.ensures.kept) (subst (λ (xs : List EndState). IsReplay me h l.node xs) (sym (ap (λ v. v.items) c.handle.ensures.ends)) r) in
+    let q : IsReplay me (list_of n.kept) l.hub n.ends.items =
+    subst (λ x. IsReplay me x l.hub n.ends.items) (sym c.handle.ensures.kept) (subst (λ (xs : List EndState). IsReplay me h l.hub xs) (sym (ap (λ v. v.items) c.handle.ensures.ends)) r) in
     let handled_is = c.in-Ok-handle.ensures.handled in
     let none : message_refusal p k c.args.link c.args.msg (is_worn h) ≡ None =
     ap (λ b. message_refusal p k c.args.link c.args.msg b) w ∙ sym c.refuses_message.ensures ∙ c.in_default-refuses_message.is in
@@ -95,7 +95,7 @@ returns-in-Ok-enter-clause-added g c =
     c.look.ensures.pass.1 c.look.ensures.prefix
     (a.0, a.1, a.2 ∙ ap (λ x. x ++ a.0 ∷ []) kept, a.3, a.4)
     (subst (λ x. IsAdmitted (λ e. RefusesMessage me x c.args.link c.args.msg e)) c.look.ensures.kept
-    (message_admitted me h l.node l.ends.items r c.args.link c.args.msg p k at shut none handled_is.1))
+    (message_admitted me h l.hub l.ends.items r c.args.link c.args.msg p k at shut none handled_is.1))
 
 pub returns-in-Err-Refused-clause-refused : goal.returns-in-Err-Refused-clause-refused
 returns-in-Err-Refused-clause-refused g c =
@@ -104,7 +104,7 @@ returns-in-Err-Refused-clause-refused g c =
     let l = c.look.new.self in
     let h = list_of l.kept in
     let open_now : l.is_spent ≡ false = c.look.ensures.same.2 ∙ sym c.in-Ok.ensures.spent in
-    let r : IsReplay me h l.node l.ends.items = l.replayed open_now in
+    let r : IsReplay me h l.hub l.ends.items = l.replayed open_now in
     let w : is_worn h ≡ c.in-Ok.worn = ap (λ x. is_worn x) c.look.ensures.kept ∙ sym c.in-Ok.ensures.worn in
     let p = c.peer_at-peer.result in
     let k = c.closing_of-closing.result in
@@ -113,10 +113,10 @@ returns-in-Err-Refused-clause-refused g c =
     let none : message_refusal p k c.args.link c.args.msg (is_worn h) ≡ None =
     ap (λ b. message_refusal p k c.args.link c.args.msg b) w ∙ sym c.refuses_message.ensures ∙ c.in_default-refuses_message.is in
     let refused = c.in-Err-Refused.error in
-    let failed : HasFailed (refuses l.node (From c.args.link c.args.msg)) l.is_spent c.handle.new.self.is_spent (Refused refused) =
-    subst (λ (x : Failure). HasFailed (refuses l.node (From c.args.link c.args.msg)) l.is_spent c.handle.new.self.is_spent x) c.in-Err-Refused.field-0-is c.in-Err-Refused.ensures.failed in
+    let failed : HasFailed (hub_refuses l.hub (From c.args.link c.args.msg)) l.is_spent c.handle.new.self.is_spent (Refused refused) =
+    subst (λ (x : Failure). HasFailed (hub_refuses l.hub (From c.args.link c.args.msg)) l.is_spent c.handle.new.self.is_spent x) c.in-Err-Refused.field-0-is c.in-Err-Refused.ensures.failed in
     λ _. rw c.in-Err-Refused.field-0-is (subst (λ x. RefusesMessage me x c.args.link c.args.msg (deliver.Node refused)) c.look.ensures.kept
-    (message_node me h l.node l.ends.items r c.args.link c.args.msg p k at shut none refused failed.0))
+    (message_node me h l.hub l.ends.items r c.args.link c.args.msg p k at shut none refused failed.0))
 
 pub returns-in-Ok-enter-clause-rings : goal.returns-in-Ok-enter-clause-rings
 returns-in-Ok-enter-clause-rings g c =

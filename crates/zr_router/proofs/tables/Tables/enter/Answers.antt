@@ -15,7 +15,7 @@ enter-requires-clause-may g c =
     let t = c.args.self.now in
     let e = c.in_ok-entry.ensures in
     subst (λ m. MayEnter m (list_of t.kept) c.in_ok-entry.entry c.prepare.new.ends) (sym t.own)
-    (may_enter g.B.Naming.me (list_of t.kept) t.node t.ends.items c.prepare.new.ends c.args.arrival.event c.args.arrival.outbox c.args.arrival.reason c.args.sent.now c.in_ok-entry.entry
+    (may_enter g.B.Naming.me (list_of t.kept) t.hub t.ends.items c.prepare.new.ends c.args.arrival.event c.args.arrival.outbox c.args.arrival.reason c.args.sent.now c.in_ok-entry.entry
     t.legal c.requires.handled
     (subst (λ (xs : List EndState). AllZip (λ (old new : EndState). (new.queue ≡ old.queue) × IsPlannedFor (on_link old.queue.link c.args.sent.now) new) xs c.prepare.new.ends) c.as_mut_slice-ends.ensures.value e.each)
     e.entry e.dropped e.closed)
@@ -27,9 +27,9 @@ invariant_of-self-2 g c =
       named = c.enter.ensures.same.0 ∙ t.named;
       own = t.own;
       legal = subst (λ m. is_legal m (list_of c.enter.new.kept) ≡ true) t.own c.enter.ensures.legal;
-      replayed = λ _. subst (λ (xs : List EndState). IsReplay g.B.Naming.me (list_of c.enter.new.kept) t.node xs)
+      replayed = λ _. subst (λ (xs : List EndState). IsReplay g.B.Naming.me (list_of c.enter.new.kept) t.hub xs)
           (sym (written_over t.ends.len c.enter.new.ends _ (omega (arith, c.enter.auto.ends, c.prepare.auto.ends, c.as_mut_slice-ends.ensures.len))))
-          (entered g.B.Naming.me (list_of t.kept) t.node t.ends.items c.enter.new.ends c.args.arrival.event c.args.arrival.outbox c.args.arrival.reason c.args.sent.now c.in_ok-entry.entry
+          (entered g.B.Naming.me (list_of t.kept) t.hub t.ends.items c.enter.new.ends c.args.arrival.event c.args.arrival.outbox c.args.arrival.reason c.args.sent.now c.in_ok-entry.entry
           (list_of c.enter.new.kept) c.requires.handled c.in_ok-entry.ensures.entry c.enter.ensures.list
           (subst (λ m. map (λ (x : EndState). x.queue) c.enter.new.ends ≡ open_queues (replay m (list_of c.enter.new.kept))) t.own c.enter.ensures.queues));
     }
@@ -44,8 +44,8 @@ returns-clause-added g c =
     let each = subst (λ (xs : List EndState). AllZip (λ (old new : EndState). (new.queue ≡ old.queue) × IsPlannedFor (on_link old.queue.link c.args.sent.now) new) xs c.prepare.new.ends)
     c.as_mut_slice-ends.ensures.value e.each in
     let asked = subst (λ (xs : List EndState). AllZip (λ (old new : EndState). IsAsked old new) xs c.prepare.new.ends) c.as_mut_slice-ends.ensures.value e.asked in
-    let given = subst (λ m. AllZip (λ (old new : EndState). new.queue ≡ queued_by (replay m h).node entry old.queue) c.prepare.new.ends c.enter.new.ends) t.own c.enter.ensures.given in
-    let may = may_enter me h t.node t.ends.items c.prepare.new.ends c.args.arrival.event c.args.arrival.outbox c.args.arrival.reason c.args.sent.now entry t.legal c.requires.handled each
+    let given = subst (λ m. AllZip (λ (old new : EndState). new.queue ≡ queued_by (replay m h).hub entry old.queue) c.prepare.new.ends c.enter.new.ends) t.own c.enter.ensures.given in
+    let may = may_enter me h t.hub t.ends.items c.prepare.new.ends c.args.arrival.event c.args.arrival.outbox c.args.arrival.reason c.args.sent.now entry t.legal c.requires.handled each
     e.entry e.dropped e.closed in
     let rings = goes_by_rings me h entry t.ends.items c.prepare.new.ends c.enter.new.ends may
     (zip_so (λ (old new : EndState). (new.queue ≡ old.queue) × IsPlannedFor (on_link old.queue.link c.args.sent.now) new) (λ (old new : EndState). new.queue ≡ old.queue)
