@@ -1,7 +1,7 @@
 #!/usr/bin/env python3
 """Writes a script with one router, and on demand the report that it is to have.
 
-Clients subscribe to one key each, or with `--wildcards` to all keys of one robot; all is handled, and a mark follows. Then
+Clients subscribe to one key each, or to several with `--subscriptions`, or with `--wildcards` to all keys of a robot; all is handled, and a mark follows. Then
 samples come in batches: the `put` lines of a batch, a `handle` for each, and a `take` for each copy that was queued, or with
 `--run` one `run` line for all these steps. The same arguments give the same script.
 """
@@ -48,9 +48,9 @@ class Script:
         if self.report:
             self.report.write(text + "\n")
 
-    def sub(self, client, robot, key):
-        self.write(f"sub {client} 1 {key}")
-        self.wires[client].append(("sub", robot, f"sub 1 {key} #{self.line}"))
+    def sub(self, client, number, robot, key):
+        self.write(f"sub {client} {number} {key}")
+        self.wires[client].append(("sub", robot, f"sub {number} {key} #{self.line}"))
 
     def put(self, client, robot, payload):
         key = f"fleet/{robot}/pose"
@@ -103,6 +103,7 @@ def arguments():
     parser = argparse.ArgumentParser(description=__doc__, formatter_class=argparse.RawDescriptionHelpFormatter)
     parser.add_argument("--clients", type=int, default=1000, help="clients, 1 to 1,024 (1,000)")
     parser.add_argument("--keys", type=int, default=100, help="keys that are subscribed to (100)")
+    parser.add_argument("--subscriptions", type=int, default=1, help="subscriptions of each client, on different keys (1)")
     parser.add_argument("--samples", type=int, default=100_000, help="samples (100,000)")
     parser.add_argument("--batch", type=int, default=100, help="samples that are published before they are handled (100)")
     parser.add_argument("--wildcards", action="store_true", help="subscriptions are to fleet/ROBOT/*, and not to fleet/ROBOT/pose")
@@ -114,7 +115,19 @@ def arguments():
         parser.error(f"a script has 1 to {MOST_CLIENTS} clients")
     if words.keys < 1 or words.batch < 1 or words.samples < 0:
         parser.error("keys and batch are at least 1, samples at least 0")
+    if not 1 <= words.subscriptions <= words.keys:
+        parser.error("a client has at least one subscription, and at most one on each key")
     return words
+
+
+def robots(numbers, words):
+    """The robots to which a client subscribes, each once."""
+    chosen = []
+    while len(chosen) < words.subscriptions:
+        robot = numbers.below(words.keys)
+        if robot not in chosen:
+            chosen.append(robot)
+    return chosen
 
 
 def write_script(script, words):
@@ -125,10 +138,11 @@ def write_script(script, words):
     for client in clients:
         script.write(f"client {client} {ROUTER}")
     for client in clients:
-        robot = numbers.below(words.keys)
-        script.sub(client, robot, f"fleet/{robot}/{chunk}")
+        for number, robot in enumerate(robots(numbers, words), 1):
+            script.sub(client, number, robot, f"fleet/{robot}/{chunk}")
     for client in clients:
-        script.handle(client)
+        for _ in range(words.subscriptions):
+            script.handle(client)
     script.mark()
     written = 0
     while written < words.samples:

@@ -1,9 +1,11 @@
 #!/usr/bin/env python3
-"""Writes a script of queries: bench/queries.py [--routers R] [--clients C] [--queries Q]
+"""Writes a script of queries: bench/queries.py [--routers R] [--clients C] [--queries Q] [--pending P]
 
 R routers in a tree, each linked with the one at half its number, and C clients, one router after another. Every fifth client declares a queryable on a key
 of its own. Then, in one phase, Q queries one after another, each by another client: a query is asked of one queryable, which replies once and ends, and
 the network moves until nothing is under way.
+
+With `--pending P` one client asks all of them and one answers, the oldest first, once P are pending: so from then on P are pending at each query.
 """
 import argparse
 
@@ -42,15 +44,32 @@ def queries(clients, count):
         yield "run 200"
 
 
+def queries_pending(count, pending):
+    asker, asked = name(1, "c"), name(0, "c")
+    yield f"able {asked} 1 q"
+    yield "run 1000000"
+    yield "mark"
+    for query in range(count):
+        if query >= pending:
+            number = query % pending + 1  # the least that is free, which the oldest query had
+            yield f"reply {asked} {number} q {query}"
+            yield f"end {asked} {number}"
+            yield "run 200"
+        yield f"get {asker} {query + 1} q all"
+        yield "run 200"
+
+
 def main():
     words = argparse.ArgumentParser(description=__doc__, formatter_class=argparse.RawDescriptionHelpFormatter)
     words.add_argument("--routers", type=int, default=64)
     words.add_argument("--clients", type=int, default=1024)
     words.add_argument("--queries", type=int, default=2000)
+    words.add_argument("--pending", type=int, default=0)
     plan = words.parse_args()
     for line in network(plan.routers, plan.clients):
         print(line)
-    for line in queries(plan.clients, plan.queries):
+    asked = queries_pending(plan.queries, plan.pending) if plan.pending else queries(plan.clients, plan.queries)
+    for line in asked:
         print(line)
 
 

@@ -316,15 +316,31 @@ fn report(alloc: Global, sent: &[Sent]) -> Result<Vec<ReportLine>, Fail> {
     Ok(report)
 }
 
-fn holds_at(alloc: Global, row: Row) -> Result<bool, Fail> {
-    let (count, sent, quiet, _) = row;
-    let case = Case {
-        before: numbered(alloc, 1, &BEFORE)?,
+fn case_of(
+    before: Vec<(u64, Act)>,
+    phase: Vec<(u64, Act)>,
+    report: Vec<ReportLine>,
+    quiet: bool,
+) -> Case {
+    Case {
+        before,
         mark: MARK,
-        phase: phase(alloc, count)?,
-        report: report(alloc, sent)?,
+        phase,
+        report,
         quiet,
-    };
+    }
+}
+
+fn case_at(alloc: Global, row: Row) -> Result<Case, Fail> {
+    let (count, sent, quiet, _) = row;
+    let before = numbered(alloc, 1, &BEFORE)?;
+    let phase = phase(alloc, count)?;
+    let report = report(alloc, sent)?;
+    Ok(case_of(before, phase, report, quiet))
+}
+
+fn holds_at(alloc: Global, row: Row) -> Result<bool, Fail> {
+    let case = case_at(alloc, row)?;
     is_right(alloc, &case)
 }
 

@@ -273,10 +273,16 @@ fn refuses_changed_contents(rt: HostRuntime) -> Result<(), Fail> {
     Ok(())
 }
 
-// Whether the definition holds where the sample was sent, though the subscriber has undeclared an id.
-fn holds_without(alloc: Global, id: u32) -> Result<bool, Fail> {
+// The lines before the mark, with the end of a subscription behind them.
+fn undeclared(alloc: Global, id: u32) -> Result<Vec<(u64, Act)>, Fail> {
     let mut before = numbered(alloc, 1, &BEFORE)?;
     before.push((MARK - 1, unsub(id)?))?;
+    Ok(before)
+}
+
+// Whether the definition holds where the sample was sent, though the subscriber has undeclared an id.
+fn holds_without(alloc: Global, id: u32) -> Result<bool, Fail> {
+    let before = undeclared(alloc, id)?;
     let phase = phase(alloc, PHASE.len())?;
     let report = report(alloc, &[(SUBSCRIBER, BYTE, SAMPLE)])?;
     holds_after(alloc, before, phase, report, true)

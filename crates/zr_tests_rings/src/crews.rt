@@ -8,15 +8,11 @@ use zr_outside::source::{Got, Source};
 
 /// A source of one byte, which comes once a byte went through the gate.
 pub fn source_of(alloc: Global, gate: &Gate) -> Result<GateSource, AllocError> {
-    let part = part_of(alloc)?;
-    Ok(GateSource::new(gate.share()?, vec![in alloc; part]?))
-}
-
-fn part_of(alloc: Global) -> Result<Part, AllocError> {
-    Ok(Part {
+    let part = Part {
         after: 1,
         bytes: vec![in alloc; 9]?,
-    })
+    };
+    Ok(GateSource::new(gate.share()?, vec![in alloc; part]?))
 }
 
 /// Reads from a source until it gives bytes, and then writes one.
@@ -28,10 +24,8 @@ struct Relay {
 
 impl Relay {
     fn new(alloc: Global, from: &Gate, to: &Gate) -> Result<Relay, AllocError> {
-        // while its gate opens, a source may pass by a part that it hasn't given, so there is a second one
-        let (part, spare) = (part_of(alloc)?, part_of(alloc)?);
         Ok(Relay {
-            source: GateSource::new(from.share()?, vec![in alloc; part, spare]?),
+            source: source_of(alloc, from)?,
             sink: GateSink::new(MemSink::new(alloc, Vec::new(alloc)), to.share()?),
         })
     }
@@ -68,12 +62,9 @@ fn a_crew_runs_its_jobs_at_once(rt: HostRuntime) -> Result<(), Fail> {
     let relayed = crew.start(Relay::new(alloc, &first, &second)?, 1, |job| pass_on(job));
     let begun = crew.start(last, 2, |sink| begin(sink));
     let refused = crew.start(Relay::new(alloc, &first, &second)?, 3, |job| pass_on(job));
-    assert_eq!(rt;
-        (relayed.is_ok(), begun.is_ok(), refused.is_err()),
-        (true, true, true)
-    );
+    assert!(rt; (relayed.is_ok(), begun.is_ok(), refused.is_err()) == (true, true, true));
     crew.wait();
-    assert_eq!(rt; (first.count(), second.count()), (1, 1));
-    assert_eq!(rt; crew.told().unwrap_or(&[]), [1, 2].as_slice());
+    assert!(rt; (first.count(), second.count()) == (1, 1));
+    assert!(rt; crew.told().unwrap_or(&[]) == [1, 2].as_slice());
     Ok(())
 }

@@ -50,13 +50,13 @@ fn a_host_in_memory_tells_its_calls(rt: HostRuntime) -> Result<(), Fail> {
     let mut host = host(alloc)?.troubled(vec![in alloc; 2]?, vec![in alloc; 1]?);
     let is_listening = host.listen("here");
     let is_link = host.dial("there").is_some();
-    assert_eq!(rt; (is_listening, is_link), (true, false));
+    assert!(rt; (is_listening, is_link) == (true, false));
     for _ in 0..4u32 {
         let _ = host.accept();
     }
     let calls = letters(alloc, host.calls().unwrap_or(&[]))?;
-    assert_eq!(rt; calls.as_slice(), b"LdAqfe".as_slice());
+    assert!(rt; calls.as_slice() == b"LdAqfe".as_slice());
     let words = (host.words().is_some(), host.words().is_some());
-    assert_eq!(rt; words, (true, false));
+    assert!(rt; words == (true, false));
     Ok(())
 }

@@ -41,20 +41,23 @@ const OPENING: [u8; 12] = [
     0x04, 0x00, 0x01, 0x09, 0x02, 0x0A, 0x24, 0x00, 0x42, 0x0A, 0x05, 0x20,
 ];
 
-/// What it sends once it is open: interest 1 in later subscribers of `a/**`, key 1 for `a/b`, subscriber 1 on `a/b/*`; `hi` on key 1; query 1 on key 1; CLOSE.
+/// What it sends once it is open: interest 1 in subscribers of `a/**`, now and later, key 1 for `a/b`, subscriber 1 on `a/b/*`; `hi` on key 1; query 1 on key 1; CLOSE.
 const FRAMES: [u8; 50] = [
-    0x1A, 0x00, 0x25, 0x05, 0x59, 0x01, 0x32, 0x00, 0x04, 0x61, 0x2F, 0x2A, 0x2A, 0x1E, 0x20, 0x01,
+    0x1A, 0x00, 0x25, 0x05, 0x79, 0x01, 0x32, 0x00, 0x04, 0x61, 0x2F, 0x2A, 0x2A, 0x1E, 0x20, 0x01,
     0x00, 0x03, 0x61, 0x2F, 0x62, 0x1E, 0x62, 0x01, 0x01, 0x02, 0x2F, 0x2A, 0x08, 0x00, 0x25, 0x06,
     0x5D, 0x01, 0x01, 0x02, 0x68, 0x69, 0x06, 0x00, 0x25, 0x07, 0x5C, 0x01, 0x01, 0x03, 0x02, 0x00,
     0x23, 0x00,
 ];
 
-/// What it is answered: to INIT, up to the cookie, to OPEN, and to the query, which nobody else can answer, its final. Nothing is answered to its CLOSE.
+/// What it is answered: to INIT, up to the cookie, to OPEN, to the interest, since nobody else subscribes, that all was told, and to the query, which nobody
+/// else can answer, its final. Nothing is answered to its CLOSE.
 const INIT_ANSWER: [u8; 7] = [0x25, 0x00, 0x21, 0x09, 0x00, 0x01, 0x20];
 
 const OPEN_ANSWER: [u8; 5] = [0x03, 0x00, 0x62, 0x0A, 0x00];
 
-const FINAL: [u8; 6] = [0x04, 0x00, 0x25, 0x00, 0x1A, 0x01];
+const TOLD_END: [u8; 7] = [0x05, 0x00, 0x25, 0x00, 0x3E, 0x01, 0x1A];
+
+const FINAL: [u8; 6] = [0x04, 0x00, 0x25, 0x01, 0x1A, 0x01];
 
 /// Appends to bytes that threads share.
 #[derive(Drop)]
@@ -166,16 +169,13 @@ fn ran<R: Threads + Wait + Copy + Send + Sync + Drop + 'static>(
 #[test]
 fn a_usual_client_is_answered(rt: HostRuntime) -> Result<(), Fail> {
     let alloc = rt.alloc();
-    let answers = joined(alloc, &[&INIT_ANSWER, &COOKIE, &OPEN_ANSWER, &FINAL])?;
+    let answers = joined(
+        alloc,
+        &[&INIT_ANSWER, &COOKIE, &OPEN_ANSWER, &TOLD_END, &FINAL],
+    )?;
     let (end, written) = ran(rt, alloc, 65_536)?;
-    assert_eq!(rt;
-        (end, written.as_slice()),
-        (LinkEnd::Peer(0), answers.as_slice())
-    );
+    assert!(rt; (end, written.as_slice()) == (LinkEnd::Peer(0), answers.as_slice()));
     let (end, written) = ran(rt, alloc, 1)?;
-    assert_eq!(rt;
-        (end, written.as_slice()),
-        (LinkEnd::Peer(0), answers.as_slice())
-    );
+    assert!(rt; (end, written.as_slice()) == (LinkEnd::Peer(0), answers.as_slice()));
     Ok(())
 }

@@ -10,8 +10,8 @@ use zr_ring::{Took, parcels_keep_their_places, ring};
 fn places_come_out_as_from_rtrb(rt: HostRuntime) -> Result<(), Fail> {
     let ours = through_ring(rt.alloc())?;
     let theirs = through_rtrb(rt.alloc())?;
-    assert_eq!(rt; ours.len() as u64, PLACES);
-    assert_eq!(rt; ours.as_slice(), theirs.as_slice());
+    assert!(rt; ours.len() as u64 == PLACES);
+    assert!(rt; ours.as_slice() == theirs.as_slice());
     Ok(())
 }
 
@@ -21,7 +21,7 @@ fn parcels_go_from_thread_to_thread(rt: HostRuntime) -> Result<(), Fail> {
     let (history, kept, pass) = History::<u64>::new(alloc)?;
     let (giver, taker) = ring::<Queued>(alloc, 256)?;
     let taken = relay::<Brand, _>(&rt, alloc, history, kept, pass, giver, taker);
-    assert_eq!(rt; taken, (PARCELS, PARCELS));
+    assert!(rt; taken == (PARCELS, PARCELS));
     parcels_keep_their_places(&Link(1));
     Ok(())
 }
@@ -34,14 +34,14 @@ fn a_history_counts_its_entries(rt: HostRuntime) -> Result<(), Fail> {
         history.append(&mut kept, &mut first, &7),
         history.append(&mut kept, &mut second, &8),
     );
-    assert_eq!(rt; places, (Ok(0), Ok(1)));
+    assert!(rt; places == (Ok(0), Ok(1)));
     let lengths = (
         history.look(&mut first),
         history.look_beside(&mut kept, &mut second),
     );
-    assert_eq!(rt; lengths, (2, 2));
+    assert!(rt; lengths == (2, 2));
     history.join(&mut first, second);
-    assert_eq!(rt; history.close(kept, first), 2);
+    assert!(rt; history.close(kept, first) == 2);
     Ok(())
 }
 
@@ -61,19 +61,18 @@ fn a_ring_gives_its_parcels_and_its_end(rt: HostRuntime) -> Result<(), Fail> {
     let before = parts(&taker.take());
     let too_many = giver.give(parcels(alloc, 0, 3)?).is_err();
     let enough = giver.give(parcels(alloc, 0, 2)?).is_ok();
-    assert_eq!(rt; (before, too_many, enough), ((None, None), true, true));
+    assert!(rt; (before, too_many, enough) == ((None, None), true, true));
     let first = parts(&giver.take_beside(&mut taker));
     let free = (giver.free(), giver.free_beside(&mut taker));
-    assert_eq!(rt; (first, free), ((Some(0), None), (1, 1)));
+    assert!(rt; (first, free) == ((Some(0), None), (1, 1)));
     giver.end(Some(3), Anything);
     let last = [
         parts(&taker.take()),
         parts(&taker.take()),
         parts(&taker.take()),
     ];
-    assert_eq!(rt;
-        last,
-        [
+    assert!(rt;
+        last == [
             (Some(1), None),
             (None, Some(Some(3))),
             (None, Some(Some(3)))

@@ -34,14 +34,11 @@ fn an_idle_writer_writes_keep_alives(rt: HostRuntime) -> Result<(), Fail> {
     let alloc = rt.alloc();
     let (_giving, mut taker) = Giving::ring(alloc, 4)?;
     let (end, bytes) = written(alloc, &mut taker, 61, Vec::new(alloc))?;
-    assert_eq!(rt;
-        (end, bytes.as_slice()),
-        (WriterEnd::Turns, [1, 0, 4, 1, 0, 4].as_slice())
-    );
+    assert!(rt; (end, bytes.as_slice()) == (WriterEnd::Turns, [1, 0, 4, 1, 0, 4].as_slice()));
     let (_, bytes) = written(alloc, &mut taker, 25, Vec::new(alloc))?;
-    assert_eq!(rt; bytes.len(), 0);
+    assert!(rt; bytes.len() == 0);
     let (_, bytes) = written(alloc, &mut taker, 26, Vec::new(alloc))?;
-    assert_eq!(rt; bytes.as_slice(), [1, 0, 4].as_slice());
+    assert!(rt; bytes.as_slice() == [1, 0, 4].as_slice());
     Ok(())
 }
 
@@ -50,16 +47,12 @@ fn parcels_go_in_order_and_the_close_last(rt: HostRuntime) -> Result<(), Fail> {
     let alloc = rt.alloc();
     let mut taker = two_and_end(alloc, Some(3))?;
     let (end, bytes) = written(alloc, &mut taker, 9, Vec::new(alloc))?;
-    assert_eq!(rt; end, WriterEnd::Done(Some(3)));
-    assert_eq!(rt;
-        bytes.as_slice(),
-        [2, 0, 7, 7, 1, 0, 8, 2, 0, 0x23, 3].as_slice()
-    );
+    assert!(rt; end == WriterEnd::Done(Some(3)));
+    assert!(rt; bytes.as_slice() == [2, 0, 7, 7, 1, 0, 8, 2, 0, 0x23, 3].as_slice());
     let mut taker = two_and_end(alloc, None)?;
     let (end, bytes) = written(alloc, &mut taker, 9, Vec::new(alloc))?;
-    assert_eq!(rt;
-        (end, bytes.as_slice()),
-        (WriterEnd::Done(None), [2, 0, 7, 7, 1, 0, 8].as_slice())
+    assert!(rt;
+        (end, bytes.as_slice()) == (WriterEnd::Done(None), [2, 0, 7, 7, 1, 0, 8].as_slice())
     );
     Ok(())
 }
@@ -69,12 +62,11 @@ fn parcels_are_joined_into_one_write(rt: HostRuntime) -> Result<(), Fail> {
     let alloc = rt.alloc();
     let mut taker = two_and_end(alloc, Some(3))?;
     let (end, bytes) = written(alloc, &mut taker, 9, vec![in alloc; 1]?)?;
-    assert_eq!(rt;
-        (end, bytes.as_slice()),
-        (WriterEnd::WriteFault, [2, 0, 7, 7, 1, 0, 8].as_slice())
+    assert!(rt;
+        (end, bytes.as_slice()) == (WriterEnd::WriteFault, [2, 0, 7, 7, 1, 0, 8].as_slice())
     );
     let mut taker = two_and_end(alloc, Some(3))?;
     let (end, bytes) = written(alloc, &mut taker, 9, vec![in alloc; 0]?)?;
-    assert_eq!(rt; (end, bytes.len()), (WriterEnd::WriteFault, 0));
+    assert!(rt; (end, bytes.len()) == (WriterEnd::WriteFault, 0));
     Ok(())
 }

@@ -64,13 +64,24 @@ fn written(alloc: Global, body: &Body) -> Result<Vec<u8>, Fail> {
     Ok(out)
 }
 
+// Whether a body is kept as it stands, with what is behind it left, and is written so.
+fn is_kept(alloc: Global, bytes: &[u8], place: Place) -> Result<bool, Fail> {
+    let (body, left) = body_of(alloc, bytes, place)?;
+    let is_same = body.as_slice() == bytes;
+    Ok(is_same && left == 1 && written(alloc, &body)?.as_slice() == bytes)
+}
+
+// Whether it is refused so, with the cursor where it stood.
+fn is_refused(alloc: Global, bytes: &[u8], place: Place, fault: ReadError) -> bool {
+    let mut c = Cursor::new(bytes);
+    let found = read_body(alloc, &mut c, place).err();
+    found == Some(fault) && c.left() == bytes.len()
+}
+
 #[test]
 fn bodies_are_kept_byte_for_byte(rt: HostRuntime) -> Result<(), Fail> {
     for (place, bytes) in BODIES {
-        let (body, left) = body_of(rt.alloc(), bytes, place)?;
-        assert_eq!(rt; body.as_slice(), bytes);
-        assert_eq!(rt; left, 1, "behind {bytes:?}");
-        assert_eq!(rt; written(rt.alloc(), &body)?.as_slice(), bytes);
+        assert!(rt; is_kept(rt.alloc(), bytes, place)?, "{bytes:?}");
     }
     Ok(())
 }
@@ -78,10 +89,7 @@ fn bodies_are_kept_byte_for_byte(rt: HostRuntime) -> Result<(), Fail> {
 #[test]
 fn faults_leave_the_cursor(rt: HostRuntime) {
     for (place, bytes, fault) in REFUSED {
-        let mut c = Cursor::new(bytes);
-        let read = read_body(rt.alloc(), &mut c, place);
-        assert!(rt; matches!(read, Err(e) if e == fault), "at {bytes:?}");
-        assert_eq!(rt; c.left(), bytes.len(), "at {bytes:?}");
+        assert!(rt; is_refused(rt.alloc(), bytes, place, fault), "at {bytes:?}");
     }
 }
 
@@ -100,31 +108,44 @@ const PAYLOADS: [(Place, &[u8], &[u8], bool); 6] = [
     (Place::Response, &[0x05, 0x02, 0x6e, 0x6f], b"no", false),
 ];
 
-// The payload of a body, and whether it is a deletion.
-fn shown(body: &Body) -> (&[u8], bool) {
-    (body.payload(), body.is_del())
+// Whether a body has this payload, and whether it is a deletion as told.
+fn shows(
+    alloc: Global,
+    bytes: &[u8],
+    place: Place,
+    payload: &[u8],
+    is_del: bool,
+) -> Result<bool, Fail> {
+    let (body, _) = body_of(alloc, bytes, place)?;
+    Ok(body.payload() == payload && body.is_del() == is_del)
 }
 
 #[test]
 fn payloads_are_shown(rt: HostRuntime) -> Result<(), Fail> {
-    for (place, bytes, payload, del) in PAYLOADS {
-        let (body, _) = body_of(rt.alloc(), bytes, place)?;
-        let (found, is_del) = shown(&body);
-        assert_eq!(rt; found, payload, "of {bytes:?}");
-        assert_eq!(rt; is_del, del, "of {bytes:?}");
+    for (place, bytes, payload, is_del) in PAYLOADS {
+        assert!(rt;
+            shows(rt.alloc(), bytes, place, payload, is_del)?,
+            "of {bytes:?}"
+        );
     }
     Ok(())
 }
 
-// The bytes of the bodies that a script makes: a value, and a deletion.
-fn made(alloc: Global) -> Result<(Body, Body), Fail> {
-    Ok((Body::put(alloc, b"hi")?, Body::del(alloc)?))
+// Whether the body that a script makes of the value `hi` has these bytes.
+fn is_put(alloc: Global, want: &[u8]) -> Result<bool, Fail> {
+    let body = Body::put(alloc, b"hi")?;
+    Ok(body.as_slice() == want)
+}
+
+// The same of a deletion.
+fn is_deletion(alloc: Global, want: &[u8]) -> Result<bool, Fail> {
+    let body = Body::del(alloc)?;
+    Ok(body.as_slice() == want)
 }
 
 #[test]
 fn scripts_make_plain_bodies(rt: HostRuntime) -> Result<(), Fail> {
-    let (put, del) = made(rt.alloc())?;
-    assert_eq!(rt; put.as_slice(), [0x01, 0x02, 0x68, 0x69].as_slice());
-    assert_eq!(rt; del.as_slice(), [0x02].as_slice());
+    assert!(rt; is_put(rt.alloc(), &[0x01, 0x02, 0x68, 0x69])?);
+    assert!(rt; is_deletion(rt.alloc(), &[0x02])?);
     Ok(())
 }

@@ -122,12 +122,25 @@ fn text(alloc: Global, text: &[u8]) -> Result<Vec<u8>, AllocError> {
     Ok(out)
 }
 
+fn is_number(bytes: &[u8], value: u64, left: usize) -> Result<bool, ReadError> {
+    let (read, behind) = number(bytes)?;
+    Ok(read == value && behind == left)
+}
+
+fn is_told(bytes: &[u8], what: Read, want: Result<u64, ReadError>, left: usize) -> bool {
+    let (given, behind) = told(bytes, what);
+    given == want && behind == left
+}
+
+fn is_text(bytes: &[u8], limit: u64, want: Result<&[u8], ReadError>, left: &[u8]) -> bool {
+    let (given, behind, rest) = text_at(bytes, limit);
+    given == want && behind == left && rest == left
+}
+
 #[test]
 fn numbers_are_read_with_the_rest_left(rt: HostRuntime) -> Result<(), Fail> {
     for (value, bytes, left) in NUMBERS {
-        let (read, behind) = number(bytes)?;
-        assert_eq!(rt; read, value, "at {bytes:?}");
-        assert_eq!(rt; behind, left, "behind {bytes:?}");
+        assert!(rt; is_number(bytes, value, left)?, "at {bytes:?}");
     }
     Ok(())
 }
@@ -135,58 +148,65 @@ fn numbers_are_read_with_the_rest_left(rt: HostRuntime) -> Result<(), Fail> {
 #[test]
 fn a_number_has_the_range_of_its_kind(rt: HostRuntime) {
     for (what, bytes, want, left) in KINDS {
-        let (given, behind) = told(bytes, what);
-        assert!(rt; given == want, "at {bytes:?}");
-        assert_eq!(rt; behind, left, "behind {bytes:?}");
+        assert!(rt; is_told(bytes, what, want, left), "at {bytes:?}");
     }
 }
 
 #[test]
 fn a_length_is_judged_first(rt: HostRuntime) {
     for (bytes, limit, want, left) in TEXTS {
-        let (given, behind, rest) = text_at(bytes, limit);
-        assert!(rt; given == want, "at {bytes:?}");
-        assert_eq!(rt; behind, left, "behind {bytes:?}");
-        assert_eq!(rt; rest, left, "behind {bytes:?}");
+        assert!(rt; is_text(bytes, limit, want, left), "at {bytes:?}");
     }
+}
+
+// The rest, and how many bytes are left behind it.
+fn rest(bytes: &[u8]) -> (&[u8], usize) {
+    let mut cursor = Cursor::new(bytes);
+    let rest = cursor.rest();
+    (rest, cursor.left())
 }
 
 #[test]
 fn the_rest_leaves_nothing(rt: HostRuntime) {
-    let mut cursor = Cursor::new(b"hi");
-    assert_eq!(rt; cursor.rest(), b"hi".as_slice());
-    assert_eq!(rt; cursor.left(), 0);
+    assert!(rt; rest(b"hi") == (b"hi".as_slice(), 0));
+}
+
+fn is_zint(alloc: Global, value: u64, bytes: &[u8]) -> Result<bool, AllocError> {
+    Ok(zint(alloc, value)?.as_slice() == bytes)
 }
 
 #[test]
 fn the_shortest_spelling_is_written(rt: HostRuntime) -> Result<(), Fail> {
     for (value, bytes) in WRITTEN {
-        assert_eq!(rt; zint(rt.alloc(), value)?.as_slice(), bytes, "at {value}");
+        assert!(rt; is_zint(rt.alloc(), value, bytes)?, "at {value}");
     }
-    assert_eq!(rt; zint(rt.alloc(), (1 << 63) - 1)?.len(), 9);
-    assert_eq!(rt;
-        text(rt.alloc(), b"hi")?.as_slice(),
-        [2, 104, 105].as_slice()
-    );
+    assert!(rt; zint(rt.alloc(), (1 << 63) - 1)?.len() == 9);
+    assert!(rt; text(rt.alloc(), b"hi")?.as_slice() == [2, 104, 105].as_slice());
     Ok(())
+}
+
+// Whether a copy has the bytes, and what is made again of its list.
+fn is_copied(alloc: Global, bytes: &[u8]) -> Result<bool, AllocError> {
+    let copy = copied(alloc, bytes)?;
+    let is_same = copy.as_slice() == bytes;
+    let again = ByteString::new(copy.into_vec());
+    Ok(is_same && again.as_slice() == bytes)
 }
 
 #[test]
 fn bytes_are_kept_and_given_back(rt: HostRuntime) -> Result<(), Fail> {
-    for bytes in [b"".as_slice(), b"hi!".as_slice()] {
-        let copy = copied(rt.alloc(), bytes)?;
-        assert_eq!(rt; copy.as_slice(), bytes);
-        let again = ByteString::new(copy.into_vec());
-        assert_eq!(rt; again.as_slice(), bytes);
-    }
+    assert!(rt; is_copied(rt.alloc(), b"")?);
+    assert!(rt; is_copied(rt.alloc(), b"hi!")?);
     Ok(())
+}
+
+fn is_forked(bytes: &[u8], first: u8, ahead: &[u8]) -> Result<bool, ReadError> {
+    let (found, rest, behind) = forked(bytes)?;
+    Ok(found == first && rest == ahead && behind == bytes)
 }
 
 #[test]
 fn a_fork_leaves_its_cursor(rt: HostRuntime) -> Result<(), Fail> {
-    let (first, ahead, behind) = forked(b"hi")?;
-    assert_eq!(rt; first, b'h');
-    assert_eq!(rt; ahead, b"i".as_slice());
-    assert_eq!(rt; behind, b"hi".as_slice());
+    assert!(rt; is_forked(b"hi", b'h', b"i")?);
     Ok(())
 }

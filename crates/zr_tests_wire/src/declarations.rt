@@ -212,12 +212,39 @@ fn asked_written(alloc: Global) -> Result<Vec<u8>, Fail> {
     Ok(out)
 }
 
+// Whether the bytes are read as this, to their end.
+fn is_read(alloc: Global, bytes: &[u8], want: &[u64]) -> Result<bool, Fail> {
+    let (seen, left) = shown(alloc, bytes)?;
+    Ok(seen.as_slice() == want && left == 0)
+}
+
+// Whether they are refused so, with the cursor where it stood.
+fn is_refused(alloc: Global, bytes: &[u8], want: ReadError) -> Result<bool, Fail> {
+    let (seen, left) = fault(alloc, bytes)?;
+    Ok(seen == Some(want) && left == bytes.len())
+}
+
+// Whether each part of the bytes from their beginning is short.
+fn is_short(alloc: Global, bytes: &[u8]) -> Result<bool, Fail> {
+    for end in 0..bytes.len() {
+        let (seen, _) = fault(alloc, &bytes[..end])?;
+        if seen != Some(ReadError::Short) {
+            return Ok(false);
+        }
+    }
+    Ok(true)
+}
+
+// Whether the bytes are read as this interest, to their end.
+fn is_interest(alloc: Global, bytes: &[u8], want: &[u64]) -> Result<bool, Fail> {
+    let (seen, left) = interest_shown(alloc, bytes)?;
+    Ok(seen.as_slice() == want && left == 0)
+}
+
 #[test]
 fn declarations_are_read(rt: HostRuntime) -> Result<(), Fail> {
     for (bytes, want) in READ {
-        let (seen, left) = shown(rt.alloc(), bytes)?;
-        assert_eq!(rt; seen.as_slice(), want, "at {bytes:?}");
-        assert_eq!(rt; left, 0, "behind {bytes:?}");
+        assert!(rt; is_read(rt.alloc(), bytes, want)?, "at {bytes:?}");
     }
     Ok(())
 }
@@ -225,9 +252,7 @@ fn declarations_are_read(rt: HostRuntime) -> Result<(), Fail> {
 #[test]
 fn faults_leave_the_cursor(rt: HostRuntime) -> Result<(), Fail> {
     for (bytes, want) in REFUSED {
-        let (seen, left) = fault(rt.alloc(), bytes)?;
-        assert_eq!(rt; seen, Some(want), "at {bytes:?}");
-        assert_eq!(rt; left, bytes.len(), "at {bytes:?}");
+        assert!(rt; is_refused(rt.alloc(), bytes, want)?, "at {bytes:?}");
     }
     Ok(())
 }
@@ -235,10 +260,7 @@ fn faults_leave_the_cursor(rt: HostRuntime) -> Result<(), Fail> {
 #[test]
 fn a_declaration_that_is_cut_is_short(rt: HostRuntime) -> Result<(), Fail> {
     for (bytes, _) in READ {
-        for end in 0..bytes.len() {
-            let (seen, _) = fault(rt.alloc(), &bytes[..end])?;
-            assert_eq!(rt; seen, Some(ReadError::Short), "at {end} of {bytes:?}");
-        }
+        assert!(rt; is_short(rt.alloc(), bytes)?, "at {bytes:?}");
     }
     Ok(())
 }
@@ -246,9 +268,7 @@ fn a_declaration_that_is_cut_is_short(rt: HostRuntime) -> Result<(), Fail> {
 #[test]
 fn interests_are_read(rt: HostRuntime) -> Result<(), Fail> {
     for (bytes, want) in INTERESTS {
-        let (seen, left) = interest_shown(rt.alloc(), bytes)?;
-        assert_eq!(rt; seen.as_slice(), want, "at {bytes:?}");
-        assert_eq!(rt; left, 0, "behind {bytes:?}");
+        assert!(rt; is_interest(rt.alloc(), bytes, want)?, "at {bytes:?}");
     }
     Ok(())
 }
@@ -258,8 +278,8 @@ fn messages_are_written(rt: HostRuntime) -> Result<(), Fail> {
     let told = [
         0x3E, 0x01, 0x22, 0x01, 0x00, 0x03, 0x61, 0x2F, 0x62, 0x3E, 0x01, 0x1A,
     ];
-    assert_eq!(rt; told_written(rt.alloc())?.as_slice(), told.as_slice());
+    assert!(rt; told_written(rt.alloc())?.as_slice() == told.as_slice());
     let asked = [0x79, 0x01, 0x32, 0x00, 0x04, 0x61, 0x2F, 0x2A, 0x2A];
-    assert_eq!(rt; asked_written(rt.alloc())?.as_slice(), asked.as_slice());
+    assert!(rt; asked_written(rt.alloc())?.as_slice() == asked.as_slice());
     Ok(())
 }

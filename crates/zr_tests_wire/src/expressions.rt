@@ -60,6 +60,13 @@ fn is_plain(alloc: Global, text: &str) -> Result<bool, KeyError> {
     Ok(key.is_plain())
 }
 
+/// How many letters, the bytes behind them, and why they are refused.
+const LONG: [(usize, &[u8], Option<KeyError>); 3] = [
+    (MOST_BYTES, b"", None),
+    (MOST_BYTES, b"\xff", Some(KeyError::TooLong)),
+    (0, b"#\xff", Some(KeyError::NotUtf8)),
+];
+
 #[test]
 fn reads_into_canonical_form(rt: HostRuntime) -> Result<(), Fail> {
     for (text, want) in READ {
@@ -68,31 +75,48 @@ fn reads_into_canonical_form(rt: HostRuntime) -> Result<(), Fail> {
     Ok(())
 }
 
+fn is_refused(alloc: Global, bytes: &[u8], want: KeyError) -> bool {
+    fault(alloc, bytes) == Some(want)
+}
+
 #[test]
 fn refuses_with_the_first_rule_broken(rt: HostRuntime) {
     for (text, want) in REFUSED {
-        let found = fault(rt.alloc(), text.as_bytes());
-        assert_eq!(rt; found, Some(want), "at {text}");
+        assert!(rt; is_refused(rt.alloc(), text.as_bytes(), want), "at {text}");
     }
+}
+
+// What so many letters and then these bytes are refused with.
+fn long_fault(alloc: Global, count: usize, behind: &[u8]) -> Result<Option<KeyError>, Fail> {
+    let mut long = vec![in alloc; b'a'; count]?;
+    long.extend_from_slice(behind)?;
+    Ok(fault(alloc, long.as_slice()))
+}
+
+fn is_long_refused(
+    alloc: Global,
+    count: usize,
+    behind: &[u8],
+    want: Option<KeyError>,
+) -> Result<bool, Fail> {
+    Ok(long_fault(alloc, count, behind)? == want)
 }
 
 #[test]
 fn refuses_bytes_and_lengths(rt: HostRuntime) -> Result<(), Fail> {
-    let mut long = vec![in rt.alloc(); b'a'; MOST_BYTES]?;
-    assert_eq!(rt; fault(rt.alloc(), long.as_slice()), None);
-    long.push(b'\xff')?;
-    assert_eq!(rt; fault(rt.alloc(), long.as_slice()), Some(KeyError::TooLong));
-    assert_eq!(rt;
-        fault(rt.alloc(), b"#\xff".as_slice()),
-        Some(KeyError::NotUtf8)
-    );
+    for (count, behind, want) in LONG {
+        assert!(rt;
+            is_long_refused(rt.alloc(), count, behind, want)?,
+            "{count} letters"
+        );
+    }
     Ok(())
 }
 
 #[test]
 fn tells_keys_from_other_expressions(rt: HostRuntime) -> Result<(), Fail> {
     for (text, want) in PLAIN {
-        assert_eq!(rt; is_plain(rt.alloc(), text)?, want, "at {text}");
+        assert!(rt; is_plain(rt.alloc(), text)? == want, "at {text}");
     }
     Ok(())
 }

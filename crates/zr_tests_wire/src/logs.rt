@@ -244,10 +244,7 @@ fn order(alloc: Global, known: &Known) -> Result<Vec<u8>, AllocError> {
 #[test]
 fn logs_stand_in_the_order_of_their_routers(rt: HostRuntime) -> Result<(), Fail> {
     let told = sources(rt.alloc(), &[THIRD, OTHER, 0x01])?;
-    assert_eq!(rt;
-        told.as_slice(),
-        [0x01, OWN, OTHER, THIRD, 0x01, OWN, OTHER, THIRD].as_slice()
-    );
+    assert!(rt; told.as_slice() == [0x01, OWN, OTHER, THIRD, 0x01, OWN, OTHER, THIRD].as_slice());
     Ok(())
 }
 

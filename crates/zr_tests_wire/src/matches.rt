@@ -57,8 +57,8 @@ fn compare(alloc: Global, a: &str, b: &str) -> Result<Compared, KeyError> {
 fn meets_by_the_rows(rt: HostRuntime) -> Result<(), Fail> {
     for (a, b, want) in MEETS {
         let found = compare(rt.alloc(), a, b)?;
-        assert_eq!(rt; found.meets, want, "{a} and {b}");
-        assert_eq!(rt; found.meets_back, want, "{b} and {a}");
+        let is_so = found.meets == want && found.meets_back == want;
+        assert!(rt; is_so, "{a} and {b}");
     }
     Ok(())
 }
@@ -67,45 +67,110 @@ fn meets_by_the_rows(rt: HostRuntime) -> Result<(), Fail> {
 fn covers_by_the_rows(rt: HostRuntime) -> Result<(), Fail> {
     for (a, b, want) in COVERS {
         let found = compare(rt.alloc(), a, b)?;
-        assert_eq!(rt; found.covers, want, "{a} and {b}");
+        assert!(rt; found.covers == want, "{a} and {b}");
     }
     Ok(())
 }
 
 #[test]
 fn compares_every_short_pair_by_the_rules(rt: HostRuntime) -> Result<(), Fail> {
-    let keys = joined(rt.alloc(), ["a", "b", "ab", "@a"].as_slice(), 3)?;
-    let wild = joined(
-        rt.alloc(),
-        ["*", "**", "a", "@a", "a$*", "$*b", "$*"].as_slice(),
-        2,
-    )?;
-    assert!(rt; agrees(rt.alloc(), &wild, &keys)?);
-    let keys = joined(rt.alloc(), ["a", "b", "@a"].as_slice(), 4)?;
-    let long = joined(rt.alloc(), ["*", "**", "a", "@a", "$*a"].as_slice(), 3)?;
-    assert!(rt; agrees(rt.alloc(), &long, &keys)?);
+    for (wild, most, plain, longest) in PAIRS {
+        assert!(rt;
+            agree(rt.alloc(), wild, most, plain, longest)?,
+            "{most} chunks"
+        );
+    }
     Ok(())
 }
 
-// Whether meeting and covering answer by the rules for each pair of the texts.
+/// Chunks, of which the expressions have so many at most, and chunks of the keys, which have so many at most.
+const PAIRS: [(&[&str], usize, &[&str], usize); 2] = [
+    (
+        &["*", "**", "a", "@a", "a$*", "$*b", "$*"],
+        2,
+        &["a", "b", "ab", "@a"],
+        3,
+    ),
+    (&["*", "**", "a", "@a", "$*a"], 3, &["a", "b", "@a"], 4),
+];
+
+// Whether meeting and covering answer by the rules for each pair of the expressions, where these are the keys.
+fn agree(
+    alloc: Global,
+    wild: &[&str],
+    most: usize,
+    plain: &[&str],
+    longest: usize,
+) -> Result<bool, Fail> {
+    let keys = joined(alloc, plain, longest)?;
+    let texts = joined(alloc, wild, most)?;
+    agrees(alloc, &texts, &keys)
+}
+
 fn agrees(alloc: Global, texts: &Vec<String>, keys: &Vec<String>) -> Result<bool, Fail> {
-    let mut expressions = Vec::new(alloc);
-    let mut matched = Vec::new(alloc);
+    let expressions = read_all(alloc, texts)?;
+    let matched = all_matched(alloc, texts, keys)?;
+    Ok(all_agree(alloc, &expressions, &matched)?)
+}
+
+fn read_all(alloc: Global, texts: &Vec<String>) -> Result<Vec<KeyExpr>, Fail> {
+    let mut all = Vec::new(alloc);
     for text in texts {
-        expressions.push(KeyExpr::read(alloc, text.as_bytes())?)?;
-        matched.push(matched_keys(alloc, text, keys)?)?;
+        all.push(KeyExpr::read(alloc, text.as_bytes())?)?;
     }
-    for (a, first) in expressions.iter().zip(&matched) {
-        let whole = chunks(alloc, a.text())?;
-        for (b, second) in expressions.iter().zip(&matched) {
-            let some_key = first.iter().zip(second).any(|(x, y)| *x && *y);
-            let takes = takes_all(whole.as_slice(), chunks(alloc, b.text())?.as_slice());
-            if meets(a, b) != some_key || covers(a, b) != takes {
-                return Ok(false);
-            }
+    Ok(all)
+}
+
+// For each text, which of the keys it matches.
+fn all_matched(
+    alloc: Global,
+    texts: &Vec<String>,
+    keys: &Vec<String>,
+) -> Result<Vec<Vec<bool>>, AllocError> {
+    let mut all = Vec::new(alloc);
+    for text in texts {
+        all.push(matched_keys(alloc, text, keys)?)?;
+    }
+    Ok(all)
+}
+
+fn all_agree(
+    alloc: Global,
+    expressions: &Vec<KeyExpr>,
+    matched: &Vec<Vec<bool>>,
+) -> Result<bool, AllocError> {
+    for (a, first) in expressions.iter().zip(matched) {
+        if !agrees_with_all(alloc, a, first, expressions, matched)? {
+            return Ok(false);
         }
     }
     Ok(true)
+}
+
+// The same for one of them with each.
+fn agrees_with_all(
+    alloc: Global,
+    a: &KeyExpr,
+    first: &Vec<bool>,
+    expressions: &Vec<KeyExpr>,
+    matched: &Vec<Vec<bool>>,
+) -> Result<bool, AllocError> {
+    for (b, second) in expressions.iter().zip(matched) {
+        if meets(a, b) != have_common(first, second) || covers(a, b) != takes(alloc, a, b)? {
+            return Ok(false);
+        }
+    }
+    Ok(true)
+}
+
+fn have_common(first: &Vec<bool>, second: &Vec<bool>) -> bool {
+    first.iter().zip(second).any(|(x, y)| *x && *y)
+}
+
+// Whether one covers the other by the rule.
+fn takes(alloc: Global, a: &KeyExpr, b: &KeyExpr) -> Result<bool, AllocError> {
+    let whole = chunks(alloc, a.text())?;
+    Ok(takes_all(whole.as_slice(), chunks(alloc, b.text())?.as_slice()))
 }
 
 // All texts of one chunk to so many.

@@ -195,16 +195,32 @@ fn passed_on(alloc: Global, bytes: &[u8]) -> Result<Vec<u8>, Fail> {
     }
 }
 
+fn is_passed_on(alloc: Global, bytes: &[u8], want: &[u8]) -> Result<bool, Fail> {
+    Ok(passed_on(alloc, bytes)?.as_slice() == want)
+}
+
 #[test]
 fn messages_are_passed_on(rt: HostRuntime) -> Result<(), Fail> {
     for (bytes, want) in PASSED_ON {
-        assert_eq!(rt;
-            passed_on(rt.alloc(), bytes)?.as_slice(),
-            want,
-            "of {bytes:?}"
-        );
+        assert!(rt; is_passed_on(rt.alloc(), bytes, want)?, "of {bytes:?}");
     }
     Ok(())
+}
+
+// The first of its changes that isn't sound.
+fn first_unsound(
+    alloc: Global,
+    bytes: &[u8],
+    random: &mut Pcg32,
+    theirs: &Scopes,
+) -> Result<Option<Vec<u8>>, AllocError> {
+    for _ in 0..CHANGES {
+        let other = changed(alloc, bytes, random)?;
+        if !is_sound(alloc, &other, theirs) {
+            return Ok(Some(other));
+        }
+    }
+    Ok(None)
 }
 
 #[test]
@@ -212,10 +228,8 @@ fn changed_messages_are_refused_or_read_again(rt: HostRuntime) -> Result<(), Fai
     let theirs = declared(rt.alloc())?;
     let mut random = Pcg32::new(42, 54);
     for bytes in VECTORS {
-        for _ in 0..CHANGES {
-            let other = changed(rt.alloc(), bytes, &mut random)?;
-            assert!(rt; is_sound(rt.alloc(), &other, &theirs), "at {other:?}");
-        }
+        let unsound = first_unsound(rt.alloc(), bytes, &mut random, &theirs)?;
+        assert!(rt; unsound.is_none(), "at {unsound:?}");
     }
     Ok(())
 }

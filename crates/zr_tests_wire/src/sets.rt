@@ -75,8 +75,8 @@ const TAKEN: [((Kind, &str), [(u64, u64, bool); 2]); 2] = [
 fn a_set_weighs_what_it_has(rt: HostRuntime) -> Result<(), Fail> {
     let mut set = set_of(rt.alloc(), [5, 2, 0, 3, 1, 2, 4])?;
     for (row, want) in TAKEN {
-        assert_eq!(rt; weighed(rt.alloc(), &mut set, row)?, want);
+        assert!(rt; weighed(rt.alloc(), &mut set, row)? == want);
     }
-    assert_eq!(rt; set.into_vec().len(), 5);
+    assert!(rt; set.into_vec().len() == 5);
     Ok(())
 }

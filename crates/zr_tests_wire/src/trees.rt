@@ -143,10 +143,22 @@ fn base_of(alloc: Global, edges: &Table, me: usize) -> Result<Base, Fail> {
     let mut base = Base::new(alloc, name(me)?)?;
     let own = links_of(alloc, edges, me)?;
     relink(&mut base, &own)?;
-    for i in 0..ROUTERS {
-        base.accept(&record(name(i)?, 1, links_of(alloc, edges, i)?)?)?;
-    }
+    accept_all(alloc, &mut base, edges)?;
     Ok(base)
+}
+
+fn accept_all(alloc: Global, base: &mut Base, edges: &Table) -> Result<(), Fail> {
+    for i in 0..ROUTERS {
+        accept(base, name(i)?, 1, links_of(alloc, edges, i)?)?;
+    }
+    Ok(())
+}
+
+// A router's record comes.
+fn accept(base: &mut Base, id: Zid, seq: u64, links: Vec<Zid>) -> Result<(), Fail> {
+    let record = record(id, seq, links)?;
+    base.accept(&record)?;
+    Ok(())
 }
 
 fn name_of(index: Option<usize>) -> Result<Option<Zid>, BadId> {
@@ -298,29 +310,85 @@ fn a_tie_leaves_the_other_without_the_child(rt: HostRuntime) -> Result<(), Fail>
         (2, &[], None),
     ];
     for (at, children, toward) in rows {
-        let is_well = has_children(rt.alloc(), &trees, 0, at, children)?;
-        assert!(rt; is_well, "children of {at}");
-        assert!(rt; has_toward(&trees, 0, at, 3, toward)?, "from {at} toward 3");
+        let is_well = has_children(rt.alloc(), &trees, 0, at, children)?
+            && has_toward(&trees, 0, at, 3, toward)?;
+        assert!(rt; is_well, "at {at}");
     }
     Ok(())
+}
+
+// Whether a router is reached in a tree as told, and has nobody beside it there.
+fn is_alone(
+    alloc: Global,
+    trees: &Trees,
+    root: usize,
+    at: usize,
+    want: bool,
+) -> Result<bool, Fail> {
+    let is_so = is_reached(trees, root, at)? == want && has_parent(trees, root, at, None)?;
+    let leads = has_toward(trees, root, root, at, None)?;
+    Ok(is_so && leads && has_children(alloc, trees, root, at, &[])?)
 }
 
 #[test]
 fn a_router_without_a_record_is_alone(rt: HostRuntime) -> Result<(), Fail> {
     let trees = lone(rt.alloc())?;
     for (root, at, want) in [(0, 0, true), (1, 1, true), (0, 1, false), (1, 0, false)] {
-        assert_eq!(rt;
-            is_reached(&trees, root, at)?,
-            want,
-            "{at} in the tree of {root}"
-        );
-        assert!(rt; has_parent(&trees, root, at, None)?, "the parent of {at}");
-        assert!(rt; has_toward(&trees, root, root, at, None)?, "toward {at}");
-        assert!(rt;
-            has_children(rt.alloc(), &trees, root, at, &[])?,
-            "children of {at}"
-        );
+        let is_well = is_alone(rt.alloc(), &trees, root, at, want)?;
+        assert!(rt; is_well, "{at} in the tree of {root}");
     }
+    Ok(())
+}
+
+// Whether a graph's trees say of that graph that its edges are theirs, and of none with an edge more or less.
+fn know_their_edges(alloc: Global, graph: u32) -> Result<bool, Fail> {
+    let trees = trees_of(alloc, graph, 0)?;
+    for change in [0, 1, 2, 4, 8, 16, 32, 64, 128, 256, 512] {
+        let base = base_of(alloc, &edges_of(graph ^ change), 1)?;
+        if trees.have_edges_of(&base) != (change == 0) {
+            return Ok(false);
+        }
+    }
+    Ok(true)
+}
+
+#[test]
+fn trees_know_whether_edges_are_theirs(rt: HostRuntime) -> Result<(), Fail> {
+    for graph in [0, RING, 1023] {
+        assert!(rt; know_their_edges(rt.alloc(), graph)?, "graph {graph}");
+    }
+    Ok(())
+}
+
+// The base of the ring, where router 0 lists router 3 as well, which doesn't list it.
+fn one_more(alloc: Global) -> Result<Base, Fail> {
+    let mut base = base_of(alloc, &edges_of(RING), 3)?;
+    let links = names(alloc, &[1, 2, 3])?;
+    accept(&mut base, name(0)?, 2, links)?;
+    Ok(base)
+}
+
+fn follow(alloc: Global, trees: &mut Trees, base: &Base) -> Result<(), Fail> {
+    if !trees.have_edges_of(base) {
+        return Err("no edge came")?;
+    }
+    trees.follow(alloc, base)?;
+    Ok(())
+}
+
+// The trees of the ring, which have followed that base.
+fn followed(alloc: Global) -> Result<Trees, Fail> {
+    let mut trees = trees_of(alloc, RING, 3)?;
+    let base = one_more(alloc)?;
+    follow(alloc, &mut trees, &base)?;
+    Ok(trees)
+}
+
+#[test]
+fn a_link_of_one_record_alone_changes_no_tree(rt: HostRuntime) -> Result<(), Fail> {
+    let trees = followed(rt.alloc())?;
+    let is_well = has_parent(&trees, 0, 3, Some(1))?;
+    assert!(rt; is_well);
     Ok(())
 }
 
@@ -346,11 +414,15 @@ fn line(alloc: Global, routers: u32) -> Result<Trees, Fail> {
     let mut base = Base::new(alloc, far_name(0)?)?;
     let own = [far_name(1)?];
     relink(&mut base, &own)?;
-    for i in 1..routers {
-        let links = neighbours(alloc, i, routers)?;
-        base.accept(&record(far_name(i)?, 1, links)?)?;
-    }
+    accept_line(alloc, &mut base, routers)?;
     Ok(Trees::of(alloc, &base)?)
+}
+
+fn accept_line(alloc: Global, base: &mut Base, routers: u32) -> Result<(), Fail> {
+    for i in 1..routers {
+        accept(base, far_name(i)?, 1, neighbours(alloc, i, routers)?)?;
+    }
+    Ok(())
 }
 
 // The way from the first router of the line to the last: whether there is one, and the first step on it.
@@ -363,8 +435,7 @@ fn way_to_the_end(alloc: Global, routers: u32) -> Result<(bool, Option<Zid>), Fa
 #[test]
 fn a_line_of_300_routers_has_its_trees(rt: HostRuntime) -> Result<(), Fail> {
     let (is_reached, next) = way_to_the_end(rt.alloc(), 300)?;
-    assert!(rt; is_reached);
     let second = far_name(1)?;
-    assert_eq!(rt; next, Some(second));
+    assert!(rt; is_reached && next == Some(second));
     Ok(())
 }

@@ -3,7 +3,7 @@
 ghost use Rattle.std.specs.Prelude.{◌≡◌, ◌≤◌, ◌⊎◌, ◌↔◌, true, false, is_some, map, Some, IfSome, IsTrue};
 ghost use Rattle.std.specs.String.{string_bytes};
 ghost use Rattle.zr_outside.specs.Counts.{Rose};
-ghost use Rattle.zr_guarantee.specs.Scripts.{IsRefined};
+ghost use Rattle.zr_guarantee.specs.Scripts.{IsRefined, TellsClients};
 ghost use Rattle.zr_laws.specs.Keys.{AnsweringIsCovering, AnsweringIsMeeting, AskingIsMeeting};
 ghost use Rattle.zr_laws.specs.Runs.{RestIsQuiet};
 ghost use Rattle.zr_declared.specs.Logs.{SettledLogsAreKnown};
@@ -31,6 +31,7 @@ use std::thread::Threads;
 use zr_answers::{answers_always_hold, lines_refine};
 use zr_crew::Crew;
 use zr_declared::{settled_logs_are_known, settled_rows_are_declared, settled_sets_are_declared};
+use zr_informed::lines_tell_clients;
 use zr_laws::keys::{
     answering_is_covering, answering_is_meeting, asking_is_meeting, keys_are_texts,
 };
@@ -57,6 +58,10 @@ use zr_settled::{settled_logs_agree, settled_tables_agree};
 /// acts of the lines that were read lead to the moment that the report tells. Beside them stands what the headline's words mean: the keys
 /// of a script are texts of expressions (`keys`), the one broker sends to a subscription exactly where some key is matched by both
 /// expressions (`meeting`), and asks a queryable exactly there (`answering`) or where a complete one covers the key (`covering`), and in a phase nothing is under way exactly where no step is possible, which a run tells by `quiet` (`rest`).
+///
+/// The clause `interests` says what clients were told of each other: at each moment of the lines that were read, also between two steps of a run, at which
+/// the network is settled and joined and nothing is under way, each attached client was told just what its interests want of what all other attached
+/// clients have declared.
 ///
 /// The clause `tables` says what routers know of links: at each moment of the lines that were read, also between two steps of a run, at
 /// which the network is settled, each router sees exactly the links that are up at both ends, as far as it reaches, whatever links came,
@@ -95,6 +100,7 @@ where
     ensures explained { explained_of (map string_bytes words.now) ≡ Some false → OfRead (S.left input.old) (S.left input.new) (IsExplained (IsReadToEnd (S.ends input.old) (S.ends input.new) (S.quiets input.old) (S.quiets input.new)) result (K.held out.old) (K.held out.new) (E.held err.old) (E.held err.new)) }
     ensures explained_sum { explained_of (map string_bytes words.now) ≡ Some true → OfRead (S.left input.old) (S.left input.new) (IsExplainedSum (IsReadToEnd (S.ends input.old) (S.ends input.new) (S.quiets input.old) (S.quiets input.new)) result (K.held out.old) (K.held out.new) (E.held err.old) (E.held err.new)) }
     ensures headline { is_net (map string_bytes words.now) ≡ true → OfLines (S.left input.old) (S.left input.new) IsRefined }
+    ensures interests { is_net (map string_bytes words.now) ≡ true → OfLines (S.left input.old) (S.left input.new) TellsClients }
     ensures told { is_net (map string_bytes words.now) ≡ true → OfLines (S.left input.old) (S.left input.new) LeadToTheirReport }
     ensures keys { is_net (map string_bytes words.now) ≡ true → OfLines (S.left input.old) (S.left input.new) HaveKeyTexts }
     ensures tables { is_net (map string_bytes words.now) ≡ true → OfLines (S.left input.old) (S.left input.new) AgreeWhereSettled }
@@ -136,6 +142,7 @@ where
     numbers_always_hold();
     answers_always_hold();
     lines_refine();
+    lines_tell_clients();
     lines_are_moments();
     keys_are_texts();
     settled_tables_agree();
