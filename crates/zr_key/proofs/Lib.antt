@@ -5,3 +5,4 @@ pub mod Text
 pub mod Settled
 pub mod Written
 pub mod Reading
+pub mod Plain

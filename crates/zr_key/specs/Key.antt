@@ -1,6 +1,6 @@
 -- How a text is read: the expression that it spells, its canonical form, and what is wrong with a text that spells none.
 use Rattle.std.specs.Prelude.{◌≡◌, ℕ, ◌==◌, ◌||◌, ◌&&◌, ◌≤◌, not, nat_eq, nat_lt, Bool, true, false, if◌then◌else◌, List, [], ◌∷◌, ◌++◌, length, map, Option, Some, None, Result, Ok, Err}
-use Rattle.std.specs.List.{list_any, slice_split, flat_map}
+use Rattle.std.specs.List.{list_any, slice_split, flat_map, position_or_len}
 use Rattle.std.specs.Cmp.Lexicographic.{pointwise}
 use Rattle.std.specs.Str.{is_utf8}
 use Rattle.zr_key.specs.Expression.{Piece, Char, AnyChars, Chunk, Any, AnyChunks, Pieces, chunk_text, spelled, is_expression, is_canonical}
@@ -129,3 +129,7 @@ pub record IsKeyText (text : List ℕ) : Type 0 where
 -- whether a text has neither `*` nor `$`
 abbrev pub is_plain_text : List ℕ → Bool
 is_plain_text text = not (list_any (λ b. b == 42 || b == 36) text)
+
+-- how many bytes of a text stand before its first `*` or `$`
+abbrev pub plain_prefix_len : List ℕ → ℕ
+plain_prefix_len text = position_or_len (λ b. b == 42 || b == 36) text

@@ -1,10 +1,10 @@
 //! `KeyExpr`: a key expression that was read, and why a text is none.
 
 ghost use Rattle.std.specs.Prelude.{◌≡◌, ◌==◌, ◌||◌, not, true, false, IfOk, MatchOption};
-ghost use Rattle.std.specs.List.{list_any};
+ghost use Rattle.std.specs.List.{position};
 ghost use Rattle.std.specs.Str.{IsUtf8, is_utf8};
 ghost use Rattle.std.specs.String.{string_bytes};
-ghost use Rattle.zr_key.specs.Key.{Answers, read_key, IsKeyText, is_plain_text};
+ghost use Rattle.zr_key.specs.Key.{Answers, read_key, IsKeyText, is_plain_text, plain_prefix_len};
 
 use crate::canonical::canonical_text;
 use crate::faults::fault;
@@ -21,8 +21,8 @@ pub const MOST_BYTES: usize = 2048;
 #[derive(Debug, Drop)]
 pub struct KeyExpr {
     text: String,
-    // whether it has no wildcard, which is asked at each comparison
-    plain: bool,
+    // how many bytes stand before the first wildcard, which is asked at each comparison
+    plain_prefix: usize,
 }
 
 /// Why a text is no key expression. The first that applies is answered: `Empty`, `TooLong`, `NotUtf8`, and then, for the first
@@ -65,9 +65,9 @@ impl Model for KeyExpr {
     ghost view = { λ k. string_bytes k.text };
 
     ghost use Rattle.std.specs.Prelude.{◌≡◌};
-    ghost use Rattle.zr_key.specs.Key.{IsKeyText, is_plain_text};
+    ghost use Rattle.zr_key.specs.Key.{IsKeyText, plain_prefix_len};
 
-    ghost invariant = { λ k. IsKeyText (string_bytes k.text) × (k.plain ≡ is_plain_text (string_bytes k.text)) };
+    ghost invariant = { λ k. IsKeyText (string_bytes k.text) × (k.plain_prefix ≡ plain_prefix_len (string_bytes k.text)) };
 }
 
 impl KeyExpr {
@@ -88,8 +88,8 @@ impl KeyExpr {
             Some(e) => Err(e),
             None => {
                 let text = text_of(canonical_text(alloc, bytes)?);
-                let plain = !has_star(text.as_bytes());
-                Ok(KeyExpr { text, plain })
+                let plain_prefix = plain_prefix_len(text.as_bytes());
+                Ok(KeyExpr { text, plain_prefix })
             }
         }
     }
@@ -106,7 +106,14 @@ impl KeyExpr {
     pub fn is_plain(&self) -> bool
         ensures { result ≡ is_plain_text self.now }
     {
-        self.plain
+        self.plain_prefix == self.text().len()
+    }
+
+    /// How many bytes of the text stand before its first wildcard: all of them, where it has none.
+    pub fn plain_prefix_len(&self) -> usize
+        ensures { result ≡ plain_prefix_len self.now }
+    {
+        self.plain_prefix
     }
 
     /// The same expression again.
@@ -115,7 +122,7 @@ impl KeyExpr {
     {
         Ok(KeyExpr {
             text: String::from_str(alloc, self.text.as_str())?,
-            plain: self.plain,
+            plain_prefix: self.plain_prefix,
         })
     }
 }
@@ -157,8 +164,14 @@ fn text_of(bytes: Vec<u8>) -> String
     }
 }
 
-fn has_star(text: &[u8]) -> bool
-    ensures { result ≡ list_any (λ b. b == 42 || b == 36) text.now }
+fn plain_prefix_len(text: &[u8]) -> usize
+    ensures { result ≡ plain_prefix_len text.now }
 {
-    text.iter().any(|b| *b == b'*' || *b == b'$')
+    first_star(text).unwrap_or(text.len())
+}
+
+fn first_star(text: &[u8]) -> Option<usize>
+    ensures { result ≡ position (λ b. b == 42 || b == 36) text.now }
+{
+    text.iter().position(|b| *b == b'*' || *b == b'$')
 }

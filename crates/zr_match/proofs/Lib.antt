@@ -14,3 +14,4 @@ pub mod Fresh
 pub mod Characters
 pub mod TextKeys
 pub mod TextInclusion
+pub mod Start

@@ -32,7 +32,7 @@ bare_parts (b ∷ bs) h =
     by false e ih = bare_first b (chunks bs) e ih
 
 -- they are their characters
-bare_chunk : (c : List ℕ) → list_any (λ b. b == 42 || b == 36) c ≡ false → chunk_of c ≡ Pieces (chars c)
+pub bare_chunk : (c : List ℕ) → list_any (λ b. b == 42 || b == 36) c ≡ false → chunk_of c ≡ Pieces (chars c)
 bare_chunk c h = by (pointwise nat_eq c (42 ∷ [])) (pointwise nat_eq c (42 ∷ 42 ∷ [])) refl refl
   where
     by : (t u : Bool) → pointwise nat_eq c (42 ∷ []) ≡ t → pointwise nat_eq c (42 ∷ 42 ∷ []) ≡ u → cond t Any (cond u AnyChunks (Pieces (pieces_of c))) ≡ Pieces (chars c)

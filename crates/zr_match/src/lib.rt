@@ -2,8 +2,8 @@
 //! How expressions are read stands below, in zr_key.
 #![tactic(auto)]
 
-ghost use Rattle.std.specs.Prelude.{◌≡◌, ◌↔◌, ◌&&◌, IsTrue};
-ghost use Rattle.zr_key.specs.Key.{expression_of, is_plain_text, IsKeyText};
+ghost use Rattle.std.specs.Prelude.{◌≡◌, ◌↔◌, ◌&&◌, ◌≤◌, IsTrue};
+ghost use Rattle.zr_key.specs.Key.{expression_of, is_plain_text, plain_prefix_len, IsKeyText};
 ghost use Rattle.zr_match.specs.Match.{Meets, Covers};
 ghost use Rattle.zr_match.specs.Table.{compare_chunks, texts_meet, texts_cover};
 
@@ -48,7 +48,20 @@ fn compare_texts(expands: bool, a: &KeyExpr, b: &KeyExpr) -> bool
     if are_plain(a, b) {
         return first == second;
     }
-    compare(expands, first.as_bytes(), second.as_bytes())
+    compare(
+        expands,
+        shared_plain_len(a, b),
+        first.as_bytes(),
+        second.as_bytes(),
+    )
+}
+
+// How many bytes stand before the first wildcard of both, at least.
+fn shared_plain_len(a: &KeyExpr, b: &KeyExpr) -> usize
+    ensures first { result ≤ plain_prefix_len a.now }
+    ensures second { result ≤ plain_prefix_len b.now }
+{
+    a.plain_prefix_len().min(b.plain_prefix_len())
 }
 
 fn are_plain(a: &KeyExpr, b: &KeyExpr) -> bool

@@ -1,7 +1,7 @@
-use Rattle.std.proofs.Common.{ap, sym, ◌∙◌, subst, arith, not}
+use Rattle.std.proofs.Common.{ap, sym, ◌∙◌, subst, arith}
 use Rattle.std.specs.Str.{IsUtf8}
 use Rattle.std.proofs.lemmas.Str.{IsUtf8-from_is_utf8}
-use Rattle.zr_key.specs.Key.{IsKeyText, is_plain_text}
+use Rattle.zr_key.specs.Key.{IsKeyText, plain_prefix_len}
 use Rattle.zr_key.proofs.Reading.{Passed, canonical_text}
 use Rattle.zr_key.proofs.key.KeyExpr.read.Goals as goal
 
@@ -15,5 +15,5 @@ pub invariant_of-result : goal.invariant_of-result
 invariant_of-result c =
     let passed : Passed c.args.bytes.now = record { short = omega arith; utf8 = sym c.if-not-is_utf8.ensures; fault_free = sym c.in-None.ensures } in (
       subst IsKeyText (sym (c.text_of-text.ensures ∙ c.in_ok-canonical_text-in-None.ensures)) (canonical_text c.args.bytes.now passed),
-      ap not c.has_star-plain.ensures ∙ ap is_plain_text c.as_bytes.ensures.value,
+      c.plain_prefix_len-plain_prefix.ensures ∙ ap plain_prefix_len c.as_bytes.ensures.value,
     )

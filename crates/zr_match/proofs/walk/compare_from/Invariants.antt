@@ -4,7 +4,7 @@ use Rattle.std.specs.List.{list_all}
 use Rattle.zr_key.specs.Expression.{is_chunk}
 use Rattle.zr_key.specs.Key.{expression_of}
 use Rattle.zr_match.specs.Table.{compare_chunks}
-use Rattle.zr_match.proofs.walk.compare.Given as goal
+use Rattle.zr_match.proofs.walk.compare_from.Given as goal
 
 abbrev pub invariant-chunks : goal.invariant-chunks
 invariant-chunks l = record {

@@ -1,0 +1,9 @@
+-- The place is before what it was.
+use Rattle.std.proofs.Common.{◌≤◌}
+use Rattle.zr_match.proofs.walk.chunk_start.Given as goal
+
+abbrev pub invariant-loop-start : goal.invariant-loop-start
+invariant-loop-start l = l.start ≤ l.place
+
+abbrev pub decreases-loop-start : goal.decreases-loop-start
+decreases-loop-start l = l.start
