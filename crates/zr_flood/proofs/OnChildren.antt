@@ -15,20 +15,17 @@ use Rattle.zr_msg.specs.declared.msg.Msg.TheVariants.{Step, Snap}
 use Rattle.zr_msg.specs.declared.peer.LinkPeer.{LinkPeer}
 use Rattle.zr_routing.specs.Changes.{changes_of, steps, sends_changes}
 use Rattle.zr_routing.specs.Snapshots.{is_new_child, snapshot, sends_step, sends_snap, sends_snapshots}
-use Rattle.zr_routing.specs.Tables.{TableState, HaveSameTrees, AreNumbered, is_router, link_at, leads_to_router, leads_to_child, is_to_child}
+use Rattle.zr_routing.specs.Tables.{TableState, AreNumbered, is_router, link_at, leads_to_router, leads_to_child, is_to_child}
 use Rattle.zr_table.specs.Event.{on_link}
 use Rattle.zr_table.proofs.Told.{on_link-append}
 use Rattle.zr_tree.specs.Tree.{is_child}
 use Rattle.zr_tree.specs.Walk.{graph_of}
-use Rattle.zr_flood.specs.Tell.{picked, to_each, all_to_each, child_links, leads_to_new_child, to_new_children}
+use Rattle.zr_flood.specs.Tell.{picked, to_each, all_to_each, children_among, child_links, GoesBy, leads_to_new_child, to_new_children}
 use Rattle.zr_flood.proofs.Picked.{on_picked, on_all_picked, all_to_each-append}
 
-abbrev children_among : List ℕ → List LinkPeer → BaseState → List LinkNo
-children_among root links b = picked (λ l. is_router l.peer.role && is_child (graph_of b.records) root b.me l.peer.id) links
-
 -- where links and records are the same the children are
-pub same_children : (t u : TableState) → HaveSameTrees t u → (root : List ℕ) → child_links u root ≡ child_links t root
-same_children t u h root = ap (λ ls. children_among root ls u.base) (sym h.links) ∙ ap (λ b. children_among root t.links b) (sym h.base)
+same_children : (t : TableState) (links : List LinkPeer) (b : BaseState) → GoesBy t links b → (root : List ℕ) → children_among links b root ≡ child_links t root
+same_children t links b h root = ap (λ ls. children_among ls b root) (sym h.links_are) ∙ ap (λ c. children_among t.links c root) (sym h.base_is)
 
 -- a change or a snapshot that is passed on
 pub on_step : (t : TableState) (from : ℕ) (source : List ℕ) (number : ℕ) (c : Change) → AreNumbered t.links → leads_to_router t.links from ≡ true → is_next t.known source number ≡ true
@@ -62,6 +59,10 @@ steps-append source n (c ∷ a) b =
 
 -- the snapshots for new children
 module _ (t : TableState) (before : List RecordState) where
+  -- the records before, of the same router
+  abbrev then_base : BaseState
+  then_base = record { me = t.base.me; records = before }
+
   abbrev snapshots_of : List Log → LinkPeer → List Msg
   snapshots_of logs l = flat_map (λ log. cond (is_new_child before t.base.records t.base.me log.source l.peer.id) (snapshot log ∷ []) []) logs
 
@@ -77,7 +78,7 @@ module _ (t : TableState) (before : List RecordState) where
       by false = refl
 
   one_more : (log : Log) (logs : List Log) (o : Option LinkPeer)
-      → cond (option_map_or (λ l. leads_to_new_child t before log.source l) o false) (snapshot log ∷ []) [] ++ told_of logs o ≡ told_of (log ∷ logs) o
+      → cond (option_map_or (λ l. leads_to_new_child t.base then_base log.source l) o false) (snapshot log ∷ []) [] ++ told_of logs o ≡ told_of (log ∷ logs) o
   one_more log logs None = refl
   one_more log logs (Some l) = by (is_router l.peer.role)
     where
@@ -85,26 +86,39 @@ module _ (t : TableState) (before : List RecordState) where
       by true = refl
       by false = refl
 
-  on_logs : (logs : List Log) → AreNumbered t.links → (to : LinkNo) → on_link to (flat_map (to_new_children t before) logs) ≡ told_of logs (link_at t.links to.0)
+  on_logs : (logs : List Log) → AreNumbered t.links → (to : LinkNo) → on_link to (flat_map (to_new_children t.links t.base then_base) logs) ≡ told_of logs (link_at t.links to.0)
   on_logs [] up to = nothing_told (link_at t.links to.0)
   on_logs (log ∷ logs) up to =
-      on_link-append to (to_new_children t before log) (flat_map (to_new_children t before) logs)
-      ∙ ap (λ ms. ms ++ on_link to (flat_map (to_new_children t before) logs)) (on_picked (λ l. leads_to_new_child t before log.source l) (snapshot log) t.links up to)
-      ∙ ap (λ ms. cond (option_map_or (λ l. leads_to_new_child t before log.source l) (link_at t.links to.0) false) (snapshot log ∷ []) [] ++ ms) (on_logs logs up to)
+      on_link-append to (to_new_children t.links t.base then_base log) (flat_map (to_new_children t.links t.base then_base) logs)
+      ∙ ap (λ ms. ms ++ on_link to (flat_map (to_new_children t.links t.base then_base) logs)) (on_picked (λ l. leads_to_new_child t.base then_base log.source l) (snapshot log) t.links up to)
+      ∙ ap (λ ms. cond (option_map_or (λ l. leads_to_new_child t.base then_base log.source l) (link_at t.links to.0) false) (snapshot log ∷ []) [] ++ ms) (on_logs logs up to)
       ∙ one_more log logs (link_at t.links to.0)
 
-  pub on_snapshots : AreNumbered t.links → (to : LinkNo) → on_link to (flat_map (to_new_children t before) t.known.logs) ≡ sends_snapshots t before to.0
+  pub on_snapshots : AreNumbered t.links → (to : LinkNo) → on_link to (flat_map (to_new_children t.links t.base then_base) t.known.logs) ≡ sends_snapshots t before to.0
   on_snapshots up to = on_logs t.known.logs up to
 
--- what goes to the children by the tables that are lent goes to those by a state with the same links and records
-pub passed : (t u : TableState) → HaveSameTrees t u → (root : List ℕ) (slice to : List LinkNo) (msg told : Msg) → slice ≡ to → to ≡ child_links u root → msg ≡ told → to_each slice msg ≡ to_each (child_links t root) told
-passed t u h root slice to msg told s e m = ap (λ ls. to_each ls msg) (s ∙ e ∙ same_children t u h root) ∙ ap (λ x. to_each (child_links t root) x) m
+-- the same where links, records and logs are given apart
+pub snapshots_by : (t : TableState) (links : List LinkPeer) (b before : BaseState) (logs : List Log) → GoesBy t links b → t.known.logs ≡ logs → before.me ≡ b.me → AreNumbered t.links
+    → (to : LinkNo) → on_link to (flat_map (to_new_children links b before) logs) ≡ sends_snapshots t before.records to.0
+snapshots_by t links b before logs h same own up to =
+    let me : before.me ≡ t.base.me = own ∙ ap (λ (c : BaseState). c.me) (sym h.base_is) in
+    let e : before ≡ record { me = t.base.me; records = before.records } = ap (λ (m : List ℕ). record { me = m; records = before.records }) me in
+    ap (λ ls. on_link to (flat_map (to_new_children ls b before) logs)) (sym h.links_are)
+    ∙ ap (λ c. on_link to (flat_map (to_new_children t.links c before) logs)) (sym h.base_is)
+    ∙ ap (λ c. on_link to (flat_map (to_new_children t.links t.base c) logs)) e
+    ∙ ap (λ ls. on_link to (flat_map (to_new_children t.links t.base (record { me = t.base.me; records = before.records })) ls)) (sym same)
+    ∙ on_snapshots t before.records up to
 
-pub own_passed : (t u : TableState) → HaveSameTrees t u → (me : List ℕ) (number : ℕ) (slice to : List LinkNo) (cs : List Change) → slice ≡ to → to ≡ child_links u me → me ≡ u.base.me → number ≡ position t.known t.base.me
-    → all_to_each slice (steps me number cs) ≡ all_to_each (child_links t t.base.me) (steps t.base.me (position t.known t.base.me) cs)
-own_passed t u h me number slice to cs s e m n =
-    let own : me ≡ t.base.me = m ∙ ap (λ (b : BaseState). b.me) (sym h.base) in
-    ap (λ ls. all_to_each ls (steps me number cs)) (s ∙ e ∙ same_children t u h me)
+-- what goes to the children by links and records goes to those by a state that has them
+pub passed : (t : TableState) (links : List LinkPeer) (b : BaseState) → GoesBy t links b → (root : List ℕ) (slice to : List LinkNo) (msg told : Msg) → slice ≡ to → to ≡ children_among links b root → msg ≡ told
+    → to_each slice msg ≡ to_each (child_links t root) told
+passed t links b h root slice to msg told s e m = ap (λ ls. to_each ls msg) (s ∙ e ∙ same_children t links b h root) ∙ ap (λ x. to_each (child_links t root) x) m
+
+pub own_passed : (t : TableState) (links : List LinkPeer) (b : BaseState) → GoesBy t links b → (me : List ℕ) (number : ℕ) (slice to : List LinkNo) (cs : List Change) → slice ≡ to → to ≡ children_among links b me
+    → me ≡ b.me → number ≡ position t.known t.base.me → all_to_each slice (steps me number cs) ≡ all_to_each (child_links t t.base.me) (steps t.base.me (position t.known t.base.me) cs)
+own_passed t links b h me number slice to cs s e m n =
+    let own : me ≡ t.base.me = m ∙ ap (λ (c : BaseState). c.me) (sym h.base_is) in
+    ap (λ ls. all_to_each ls (steps me number cs)) (s ∙ e ∙ same_children t links b h me)
     ∙ ap (λ x. all_to_each (child_links t x) (steps x number cs)) own
     ∙ ap (λ k. all_to_each (child_links t t.base.me) (steps t.base.me k cs)) n
 

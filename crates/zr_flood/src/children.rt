@@ -4,14 +4,12 @@ ghost use Rattle.std.specs.Prelude.{◌≡◌, ◌++◌, ◌+◌, ◌<◌, ◌^�
 ghost use Rattle.std.specs.List.{flat_map};
 ghost use Rattle.zr_log.specs.Known.{position, is_next, is_newer};
 ghost use Rattle.zr_log.specs.Log.{Change};
-ghost use Rattle.zr_tree.specs.Tree.{is_child};
-ghost use Rattle.zr_tree.specs.Walk.{graph_of};
 ghost use Rattle.zr_routing.specs.Changes.{changes_of, steps, sends_changes};
 ghost use Rattle.zr_routing.specs.Snapshots.{snapshot, sends_step, sends_snap, sends_snapshots};
-ghost use Rattle.zr_routing.specs.Tables.{TableState, HaveSameTrees, AreNumbered, is_router, leads_to_router, leads_to_child};
+ghost use Rattle.zr_routing.specs.Tables.{TableState, AreNumbered, leads_to_router};
 ghost use Rattle.zr_table.specs.Event.{Tells, TellsPrefix};
 ghost use Rattle.zr_table.specs.Prefix.{IsPrefixBehind};
-ghost use Rattle.zr_flood.specs.Tell.{picked, to_each, all_to_each, child_links, leads_to_new_child, to_new_children};
+ghost use Rattle.zr_flood.specs.Tell.{picked, to_each, all_to_each, children_among, leads_to_own_child, leads_to_new_child, to_new_children, GoesBy};
 
 use crate::flood::is_router;
 use crate::tell::tell_each;
@@ -24,40 +22,42 @@ use zr_msg::decl::{Decl, Decls};
 use zr_msg::msg::Msg;
 use zr_msg::peer::LinkPeer;
 use zr_msg::shared::Shared;
-use zr_routing::tables::Tables;
 use zr_set::decl_set::copies_of;
-use zr_tree::trees::Trees;
+use zr_tree::family::Family;
 
 /// After an event that changed the records: each neighbour that has become a child in a router's tree is sent what is known of that
-/// router's log, in ascending order of these routers. `before` are the trees before the event. Each list of declarations is made once.
+/// router's log, in ascending order of these routers. `before` are the children before the event. Each list of declarations is made once.
 pub fn fresh_children(
     alloc: Global,
-    tables: &Tables,
-    before: &Trees,
+    links: &[LinkPeer],
+    family: &Family,
+    before: &Family,
+    logs: &[Log],
     out: &mut Vec<(LinkNo, Msg)>,
 ) -> Result<(), AllocError>
-    ensures ok { AreNumbered tables.now.links → OnOk result (Tells (sends_snapshots tables.now before.now) out.old.items out.new.items) }
-    ensures err { AreNumbered tables.now.links → OnErr result (TellsPrefix (sends_snapshots tables.now before.now) out.old.items out.new.items) }
+    ensures ok { (t : TableState) → GoesBy t links.now family.now → before.now.me ≡ family.now.me → t.known.logs ≡ logs.now → AreNumbered t.links → OnOk result (Tells (sends_snapshots t before.now.records) out.old.items out.new.items) }
+    ensures err { (t : TableState) → GoesBy t links.now family.now → before.now.me ≡ family.now.me → t.known.logs ≡ logs.now → AreNumbered t.links → OnErr result (TellsPrefix (sends_snapshots t before.now.records) out.old.items out.new.items) }
 {
-    tell_logs(alloc, tables, before, tables.known().logs(), out)
+    tell_logs(alloc, links, family, before, logs, out)
 }
 
 /// A change or a snapshot of another router's log that is new here goes on to each child in that router's tree. It is not copied.
 pub fn pass_on(
     alloc: Global,
-    tables: &Tables,
+    links: &[LinkPeer],
+    family: &Family,
     source: Zid,
     msg: &Msg,
     out: &mut Vec<(LinkNo, Msg)>,
 ) -> Result<(), AllocError>
-    ensures each { OnOk result (out.new.items ≡ out.old.items ++ to_each (child_links tables.now source) msg.now) }
-    ensures some { OnErr result (IsPrefixBehind out.old.items (to_each (child_links tables.now source) msg.now) out.new.items) }
-    ensures step { (t : TableState) (from number : ℕ) (c : Change) → HaveSameTrees t tables.now → AreNumbered t.links → leads_to_router t.links from ≡ true → is_next t.known source number ≡ true → msg.now ≡ Msg.Step source number c.added c.decl → OnOk result (Tells (sends_step t from source number c) out.old.items out.new.items) }
-    ensures step_prefix { (t : TableState) (from number : ℕ) (c : Change) → HaveSameTrees t tables.now → AreNumbered t.links → leads_to_router t.links from ≡ true → is_next t.known source number ≡ true → msg.now ≡ Msg.Step source number c.added c.decl → OnErr result (TellsPrefix (sends_step t from source number c) out.old.items out.new.items) }
-    ensures snap { (t : TableState) (from number : ℕ) (decls : List Decl) → HaveSameTrees t tables.now → AreNumbered t.links → leads_to_router t.links from ≡ true → is_newer t.known source number ≡ true → msg.now ≡ Msg.Snap source number decls → OnOk result (Tells (sends_snap t from source number decls) out.old.items out.new.items) }
-    ensures snap_prefix { (t : TableState) (from number : ℕ) (decls : List Decl) → HaveSameTrees t tables.now → AreNumbered t.links → leads_to_router t.links from ≡ true → is_newer t.known source number ≡ true → msg.now ≡ Msg.Snap source number decls → OnErr result (TellsPrefix (sends_snap t from source number decls) out.old.items out.new.items) }
+    ensures each { OnOk result (out.new.items ≡ out.old.items ++ to_each (children_among links.now family.now source) msg.now) }
+    ensures some { OnErr result (IsPrefixBehind out.old.items (to_each (children_among links.now family.now source) msg.now) out.new.items) }
+    ensures step { (t : TableState) (from number : ℕ) (c : Change) → GoesBy t links.now family.now → AreNumbered t.links → leads_to_router t.links from ≡ true → is_next t.known source number ≡ true → msg.now ≡ Msg.Step source number c.added c.decl → OnOk result (Tells (sends_step t from source number c) out.old.items out.new.items) }
+    ensures step_prefix { (t : TableState) (from number : ℕ) (c : Change) → GoesBy t links.now family.now → AreNumbered t.links → leads_to_router t.links from ≡ true → is_next t.known source number ≡ true → msg.now ≡ Msg.Step source number c.added c.decl → OnErr result (TellsPrefix (sends_step t from source number c) out.old.items out.new.items) }
+    ensures snap { (t : TableState) (from number : ℕ) (decls : List Decl) → GoesBy t links.now family.now → AreNumbered t.links → leads_to_router t.links from ≡ true → is_newer t.known source number ≡ true → msg.now ≡ Msg.Snap source number decls → OnOk result (Tells (sends_snap t from source number decls) out.old.items out.new.items) }
+    ensures snap_prefix { (t : TableState) (from number : ℕ) (decls : List Decl) → GoesBy t links.now family.now → AreNumbered t.links → leads_to_router t.links from ≡ true → is_newer t.known source number ≡ true → msg.now ≡ Msg.Snap source number decls → OnErr result (TellsPrefix (sends_snap t from source number decls) out.old.items out.new.items) }
 {
-    let to = child_links(alloc, tables, source)?;
+    let to = child_links(alloc, links, family, source)?;
     tell_each(alloc, &to, msg, out)
 }
 
@@ -65,28 +65,33 @@ pub fn pass_on(
 /// what came. Before them the log has `number` changes. Each declaration is copied once.
 pub fn tell_changes(
     alloc: Global,
-    tables: &Tables,
+    links: &[LinkPeer],
+    family: &Family,
     number: u64,
     changes: &Changes,
     out: &mut Vec<(LinkNo, Msg)>,
 ) -> Result<(), AllocError>
     requires { number + (length changes.now.gone.items + length changes.now.came.items) < 2 ^ 64 }
-    ensures ok { (t : TableState) → HaveSameTrees t tables.now → AreNumbered t.links → number ≡ position t.known t.base.me → OnOk result (Tells (sends_changes t (changes_of changes.now.gone.items changes.now.came.items)) out.old.items out.new.items) }
-    ensures err { (t : TableState) → HaveSameTrees t tables.now → AreNumbered t.links → number ≡ position t.known t.base.me → OnErr result (TellsPrefix (sends_changes t (changes_of changes.now.gone.items changes.now.came.items)) out.old.items out.new.items) }
+    ensures ok { (t : TableState) → GoesBy t links.now family.now → AreNumbered t.links → number ≡ position t.known t.base.me → OnOk result (Tells (sends_changes t (changes_of changes.now.gone.items changes.now.came.items)) out.old.items out.new.items) }
+    ensures err { (t : TableState) → GoesBy t links.now family.now → AreNumbered t.links → number ≡ position t.known t.base.me → OnErr result (TellsPrefix (sends_changes t (changes_of changes.now.gone.items changes.now.came.items)) out.old.items out.new.items) }
 {
-    let me = tables.me();
-    let to = child_links(alloc, tables, me)?;
+    let me = family.me();
+    let to = child_links(alloc, links, family, me)?;
     tell_both(alloc, &to, me, number, changes, out)
 }
 
 // The links that lead to a child in the tree of a root.
-fn child_links(alloc: Global, tables: &Tables, root: Zid) -> Result<Vec<LinkNo>, AllocError>
-    ensures { IfOk result (λ v. v.items ≡ child_links tables.now root) }
+fn child_links(
+    alloc: Global,
+    links: &[LinkPeer],
+    family: &Family,
+    root: Zid,
+) -> Result<Vec<LinkNo>, AllocError>
+    ensures { IfOk result (λ v. v.items ≡ children_among links.now family.now root) }
 {
-    let links = tables.links();
     links
         .iter()
-        .filter(|link| leads_to_child(tables, root, link))
+        .filter(|link| leads_to_child(family, root, link))
         .map(|link| link.link)
         .collect(alloc)
 }
@@ -94,72 +99,64 @@ fn child_links(alloc: Global, tables: &Tables, root: Zid) -> Result<Vec<LinkNo>,
 // The links that lead to a child in the tree of a root that wasn't one before.
 fn new_child_links(
     alloc: Global,
-    tables: &Tables,
-    before: &Trees,
+    links: &[LinkPeer],
+    family: &Family,
+    before: &Family,
     root: Zid,
 ) -> Result<Vec<LinkNo>, AllocError>
-    ensures { IfOk result (λ v. v.items ≡ picked (λ l. leads_to_new_child tables.now before.now root l) tables.now.links) }
+    ensures { IfOk result (λ v. v.items ≡ picked (λ l. leads_to_new_child family.now before.now root l) links.now) }
 {
-    let links = tables.links();
     links
         .iter()
-        .filter(|link| leads_to_new_child(tables, before, root, link))
+        .filter(|link| leads_to_new_child(family, before, root, link))
         .map(|link| link.link)
         .collect(alloc)
 }
 
-fn leads_to_child(tables: &Tables, root: Zid, link: &LinkPeer) -> bool
-    ensures { result ≡ leads_to_child tables.now root link.now }
+fn leads_to_child(family: &Family, root: Zid, link: &LinkPeer) -> bool
+    ensures { result ≡ leads_to_own_child family.now root link.now }
 {
-    is_router(link.peer.role) && is_child(tables.trees(), root, tables.me(), link.peer.id)
+    is_router(link.peer.role) && family.is_child(root, link.peer.id)
 }
 
-fn leads_to_new_child(tables: &Tables, before: &Trees, root: Zid, link: &LinkPeer) -> bool
-    ensures { result ≡ leads_to_new_child tables.now before.now root link.now }
+fn leads_to_new_child(family: &Family, before: &Family, root: Zid, link: &LinkPeer) -> bool
+    ensures { result ≡ leads_to_new_child family.now before.now root link.now }
 {
     is_router(link.peer.role)
-        && is_child(tables.trees(), root, tables.me(), link.peer.id)
-        && !is_child(before, root, tables.me(), link.peer.id)
-}
-
-// Whether the parent of a router in the tree of a root is this one.
-fn is_child(trees: &Trees, root: Zid, me: Zid, name: Zid) -> bool
-    ensures { result ≡ is_child (graph_of trees.now) root me name }
-{
-    match trees.parent(root, name) {
-        Some(parent) => parent == me,
-        None => false,
-    }
+        && family.is_child(root, link.peer.id)
+        && !before.is_child(root, link.peer.id)
 }
 
 // What is known of each of these logs goes to each new child in its router's tree.
 fn tell_logs(
     alloc: Global,
-    tables: &Tables,
-    before: &Trees,
+    links: &[LinkPeer],
+    family: &Family,
+    before: &Family,
     logs: &[Log],
     out: &mut Vec<(LinkNo, Msg)>,
 ) -> Result<(), AllocError>
-    ensures ok { OnOk result (out.new.items ≡ out.old.items ++ flat_map (to_new_children tables.now before.now) logs.now) }
-    ensures err { OnErr result (IsPrefixBehind out.old.items (flat_map (to_new_children tables.now before.now) logs.now) out.new.items) }
+    ensures ok { OnOk result (out.new.items ≡ out.old.items ++ flat_map (to_new_children links.now family.now before.now) logs.now) }
+    ensures err { OnErr result (IsPrefixBehind out.old.items (flat_map (to_new_children links.now family.now before.now) logs.now) out.new.items) }
 {
     for log in logs {
-        tell_log(alloc, tables, before, log, out)?;
+        tell_log(alloc, links, family, before, log, out)?;
     }
     Ok(())
 }
 
 fn tell_log(
     alloc: Global,
-    tables: &Tables,
-    before: &Trees,
+    links: &[LinkPeer],
+    family: &Family,
+    before: &Family,
     log: &Log,
     out: &mut Vec<(LinkNo, Msg)>,
 ) -> Result<(), AllocError>
-    ensures ok { OnOk result (out.new.items ≡ out.old.items ++ to_new_children tables.now before.now log.now) }
-    ensures err { OnErr result (IsPrefixBehind out.old.items (to_new_children tables.now before.now log.now) out.new.items) }
+    ensures ok { OnOk result (out.new.items ≡ out.old.items ++ to_new_children links.now family.now before.now log.now) }
+    ensures err { OnErr result (IsPrefixBehind out.old.items (to_new_children links.now family.now before.now log.now) out.new.items) }
 {
-    let to = new_child_links(alloc, tables, before, log.source)?;
+    let to = new_child_links(alloc, links, family, before, log.source)?;
     if to.is_empty() {
         return Ok(());
     }

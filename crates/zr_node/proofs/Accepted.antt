@@ -62,18 +62,26 @@ module _ (n : NodeState) (from : ℕ) (told : RecordState) where
       e ∙ ap (λ (m : NodeState). with_base m (after_record m.base told)) same
       ∙ sym (ap (λ (b : Bool). with_base n (cond b (after_record n.base told) n.base)) router)
 
+  -- the router is the same
+  kept_me : (newer : Bool) → (cond newer (kept n.base told) n.base).me ≡ n.base.me
+  kept_me true = refl
+  kept_me false = refl
+
+  pub told_me : (base_told n from told).me ≡ n.base.me
+  told_me = by (leads_to_router n.links from)
+    where
+      by : (router : Bool) → (cond router (after_record n.base told) n.base).me ≡ n.base.me
+      by true = kept_me (is_newer n.base told)
+      by false = refl
+
   -- the links are still those of the router
   pub still_of : (first now : NodeState) (links : List LinkPeer) → first ≡ n → now ≡ with_base first (after_record first.base told) → AreLinks now.base.me now.links → links ≡ now.links → AreOf n links
   still_of first now links same e right is =
       let f : now ≡ with_base n (after_record n.base told) = e ∙ ap (λ (m : NodeState). with_base m (after_record m.base told)) same in
       record {
-        right = subst (λ (me : List ℕ). AreLinks me n.links) (me_stays (is_newer n.base told)) (subst (λ (m : NodeState). AreLinks m.base.me m.links) f right);
+        right = subst (λ (me : List ℕ). AreLinks me n.links) (kept_me (is_newer n.base told)) (subst (λ (m : NodeState). AreLinks m.base.me m.links) f right);
         same = is ∙ ap (λ (m : NodeState). m.links) f;
       }
-    where
-      me_stays : (b : Bool) → (cond b (kept n.base told) n.base).me ≡ n.base.me
-      me_stays true = refl
-      me_stays false = refl
 
   -- the record goes first, and then the snapshots for new children
   abbrev pub record_part : Part

@@ -2,6 +2,7 @@
 use Rattle.std.proofs.Common.{◌≡◌, ℕ, ◌==◌, Bool, true, false, cond, List, [], Option, None, Result, Ok, Err, OnOk, OnErr, option_map, refl, sym, ap, subst, ◌∙◌}
 use Rattle.std.specs.Option.{option_map_or, option_or}
 use Rattle.std.proofs.lemmas.Bool.{eq-eqb}
+use Rattle.zr_flood.specs.Tell.{GoesBy}
 use Rattle.zr_graph.specs.Base.{BaseState}
 use Rattle.zr_id.specs.declared.link.LinkNo.{LinkNo}
 use Rattle.zr_local.specs.Clients.{noted}
@@ -14,7 +15,8 @@ use Rattle.zr_msg.specs.declared.decl.Kind.{Kind}
 use Rattle.zr_msg.specs.declared.error.NodeError.{NodeError}
 use Rattle.zr_msg.specs.declared.event.Event.{Event}
 use Rattle.zr_msg.specs.declared.msg.Msg.{Msg}
-use Rattle.zr_routing.specs.Tables.{leads_to_client}
+use Rattle.zr_msg.specs.declared.peer.LinkPeer.{LinkPeer}
+use Rattle.zr_routing.specs.Tables.{TableState, HaveSameTrees, leads_to_client}
 use Rattle.zr_table.specs.State.{NodeState, tables, local_state}
 use Rattle.zr_table.specs.Table.{after_from, with_clients, with_rows, sends, sends_from, sends_rows, refuses_from, refuses_rows, refuses_noted, live, local_error}
 use Rattle.zr_node.specs.Answer.{IsJudged}
@@ -26,6 +28,10 @@ use Rattle.zr_node.specs.declared.failure.Failure.TheVariants.{Refused, NoMemory
 use Rattle.zr_node.proofs.Done.{redone}
 use Rattle.zr_node.proofs.Quiet.{nothing_more, rows_stay, rows_silent}
 use Rattle.zr_node.proofs.Retold.{nothing_told, silent}
+
+-- tables with the same links and records go by the same
+pub goes_by : (t u : TableState) (links : List LinkPeer) (b : BaseState) → HaveSameTrees t u → u.links ≡ links → u.base ≡ b → GoesBy t links b
+goes_by t u links b same e f = record { links_are = same.links ∙ e; base_is = same.base ∙ f }
 
 -- ---- a message
 

@@ -4,6 +4,7 @@ use Rattle.std.specs.List.{flat_map}
 use Rattle.std.specs.Option.{option_map_or}
 use Rattle.std.proofs.lemmas.Bool.{true≢false, false_from_ne_true, ltb-true}
 use Rattle.std.proofs.lemmas.List.{append-nil}
+use Rattle.zr_graph.specs.Base.{BaseState}
 use Rattle.zr_id.specs.Record.{RecordState}
 use Rattle.zr_id.specs.declared.link.LinkNo.{LinkNo}
 use Rattle.zr_local.proofs.Changed.{has_gone}
@@ -69,10 +70,10 @@ no_child_by_edges t before records e same to =
     subst (λ (rs : List RecordState). sends_snapshots t rs to ≡ []) e (no_child_is_new t before (λ root name. child_stays before t.base.records same root t.base.me name) to)
 
 -- so there is nothing to say of them
-pub quiet_ok : {X Y : Type 0} (n : NodeState) (before records : List RecordState) (r : Result X Y) (said : List (LinkNo × Msg)) → HaveSameEdges before n.base.records → before ≡ records →
-    OnOk r (Tells (sends_snapshots (tables n) records) said said)
-quiet_ok n before records (Ok x) said same e = silent (sends_snapshots (tables n) records) said (λ to. no_child_by_edges (tables n) before records e same to)
-quiet_ok n before records (Err x) said same e = tt
+pub quiet_ok : {X Y : Type 0} (n : NodeState) (before base : BaseState) (r : Result X Y) (said : List (LinkNo × Msg)) → HaveSameEdges before.records n.base.records → before ≡ base →
+    OnOk r (Tells (sends_snapshots (tables n) base.records) said said)
+quiet_ok n before base (Ok x) said same e = silent (sends_snapshots (tables n) base.records) said (λ to. no_child_by_edges (tables n) before.records base.records (ap (λ (b : BaseState). b.records) e) same to)
+quiet_ok n before base (Err x) said same e = tt
 
 pub quiet_err : {X Y : Type 0} (n : NodeState) (records : List RecordState) (r : Result X Y) (said : List (LinkNo × Msg)) → OnErr r (TellsPrefix (sends_snapshots (tables n) records) said said)
 quiet_err n records (Ok x) said = tt

@@ -1,6 +1,7 @@
 -- The Up of a link, and what is sent behind the records where a router comes or goes.
 use Rattle.std.proofs.Common.{◌≡◌, ℕ, List, [], Option, Some, None, IfSome, refl, sym, ap, subst, ◌∙◌}
 use Rattle.std.specs.Option.{IfNone}
+use Rattle.zr_graph.specs.Base.{BaseState}
 use Rattle.zr_id.specs.Record.{RecordState}
 use Rattle.zr_id.specs.declared.link.LinkNo.{LinkNo}
 use Rattle.zr_log.specs.Known.{KnownState}
@@ -36,13 +37,13 @@ if_none : {X : Type 0} (o : Option X) (P Q : Type 0) → (P → Q) → IfNone o 
 if_none None P Q f h = f h
 if_none (Some x) P Q f h = h
 
--- they are those by the records before the event, where the logs are as they were
-pub news_told : (P : NodeState → List RecordState → Type 0) (n now left : NodeState) (before : Option (List RecordState)) → now ≡ left → left.known ≡ n.known
-    → IfSome before (λ t. t ≡ n.base.records) → IfNone before (n.known.logs ≡ [])
-    → ((records : List RecordState) → IfSome before (λ t. t ≡ records) → IfNone before (now.known.logs ≡ []) → P now records) → P left n.base.records
-news_told P n now left before e same some none h =
+-- they are those by the records before the event, where the logs and the router are as they were
+pub news_told : (P : NodeState → List RecordState → Type 0) (n now left : NodeState) (before : Option BaseState) → now ≡ left → left.known ≡ n.known
+    → IfSome before (λ b. b ≡ n.base) → IfNone before (n.known.logs ≡ []) → left.base.me ≡ n.base.me
+    → ((base : BaseState) → base.me ≡ now.base.me → IfSome before (λ b. b ≡ base) → IfNone before (now.known.logs ≡ []) → P now base.records) → P left n.base.records
+news_told P n now left before e same some none me h =
     subst (λ (m : NodeState). P m n.base.records) e
-    (h n.base.records some
+    (h n.base (sym (ap (λ (m : NodeState). m.base.me) e ∙ me)) some
     (if_none before (n.known.logs ≡ []) (now.known.logs ≡ []) (λ k. ap (λ (m : NodeState). m.known.logs) e ∙ ap (λ (l : KnownState). l.logs) same ∙ k) none))
 
 -- what is left of a router by the two steps of the Up of a router, and of its Down

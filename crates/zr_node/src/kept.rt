@@ -1,4 +1,4 @@
-//! What a router works out of its tables and keeps: trees, and where samples go.
+//! What a router works out of its tables and keeps: its children in all trees, these trees, and where samples go.
 
 ghost use Rattle.std.specs.Prelude.{◌≡◌, Some, None, OnOk, OnErr, IfOk, IfSome};
 ghost use Rattle.zr_routing.specs.Samples.{sends_push};
@@ -21,7 +21,33 @@ use zr_push::push::tree_of;
 use zr_push::route::Route;
 use zr_push::sought::Sought;
 use zr_routing::tables::Tables;
+use zr_tree::family::Family;
 use zr_tree::trees::Trees;
+
+/// What a router had worked out of its records before an event that may change them.
+#[derive(Drop)]
+pub struct Before {
+    /// Its children in all trees.
+    pub family: Option<Family>,
+    /// The trees, if they were kept.
+    pub trees: Option<Trees>,
+}
+
+/// The router's children by the records: those that are kept, or worked out anew.
+pub fn take_family(
+    alloc: Global,
+    kept: &mut Option<Family>,
+    base: &Base,
+) -> Result<Family, AllocError>
+    requires { IfSome kept.old (λ f. f ≡ base.now) }
+    ensures family { IfOk result (λ f. f ≡ base.now) }
+    ensures left { kept.new ≡ None }
+{
+    match kept.take() {
+        Some(family) => Ok(family),
+        None => Family::of(alloc, base),
+    }
+}
 
 /// The trees of the records: those that are kept, or worked out anew.
 pub fn take_trees(alloc: Global, kept: &mut Option<Trees>, base: &Base) -> Result<Trees, AllocError>

@@ -2,8 +2,7 @@
 
 ghost use Rattle.std.specs.Prelude.{◌≡◌, ℕ, ◌<◌, ◌^◌, ◌+◌, ◌↔◌, true, Some, None, List, OnOk, OnErr, IfOk, IfSome, IfNone, [], length, if◌then◌else◌};
 ghost use Rattle.std.specs.Option.{option_map};
-ghost use Rattle.zr_graph.specs.Base.{is_newer, after_record};
-ghost use Rattle.zr_id.specs.Record.{RecordState};
+ghost use Rattle.zr_graph.specs.Base.{BaseState, is_newer, after_record};
 ghost use Rattle.zr_local.specs.Clients.{AreByLink};
 ghost use Rattle.zr_local.specs.Rows.{AreInOrder, gone, came};
 ghost use Rattle.zr_log.specs.Known.{position, is_next};
@@ -29,7 +28,7 @@ mod traffic;
 
 use crate::asked::{self, Asked, able_kind, apply, has_room};
 use crate::failure::Failure;
-use crate::kept::{lend, take_trees};
+use crate::kept::{Before, take_family};
 use crate::links::Links;
 use crate::routes::Routes;
 use std::alloc::{AllocError, Global};
@@ -53,6 +52,7 @@ use zr_msg::msg::Msg;
 use zr_msg::peer::{LinkPeer, Peer};
 use zr_msg::shared::Shared;
 use zr_pend::pending::Pending;
+use zr_tree::family::Family;
 use zr_tree::trees::Trees;
 
 /// A log with at most so many changes has room for those of one event: lists are shorter than the rest.
@@ -67,7 +67,8 @@ pub struct Node {
     local: Local,
     known: Known,
     pending: Pending,
-    // the trees of the base, if they were worked out since it last changed; no contract sees them
+    // its children in all trees, and these trees, each if they were worked out since the edges last changed; no contract sees them
+    family: Option<Family>,
     trees: Option<Trees>,
     // where earlier samples and requests went by what the node is now; no contract sees them
     routes: Routes,
@@ -82,7 +83,7 @@ impl Model for Node {
 
     ghost view = { λ n. record { links = n.links; base = n.base; rows = n.local.rows; clients = n.local.clients; known = n.known; pending = n.pending; spent = n.spent } };
 
-    ghost invariant = { λ n. IsWhole (record { links = n.links; base = n.base; rows = n.local.rows; clients = n.local.clients; known = n.known }) n.trees n.routes };
+    ghost invariant = { λ n. IsWhole (record { links = n.links; base = n.base; rows = n.local.rows; clients = n.local.clients; known = n.known }) n.family n.trees n.routes };
 }
 
 impl Node {
@@ -96,6 +97,7 @@ impl Node {
             local: Local::new(alloc),
             known: Known::new(alloc, me),
             pending: Pending::new(alloc),
+            family: None,
             trees: None,
             routes: Routes::new(alloc),
             spent: false,
@@ -112,6 +114,7 @@ impl Node {
             local: self.local.copy(alloc)?,
             known: self.known.copy(alloc)?,
             pending: self.pending.copy(alloc)?,
+            family: None,
             trees: None,
             routes: Routes::new(alloc),
             spent: self.spent,
@@ -422,10 +425,10 @@ impl Node {
         ensures sends { OnOk result (Tells (sends_changes (tables self.old) (changes_of changes.now.gone.items changes.now.came.items)) out.old.items out.new.items) }
         ensures prefix { OnErr result (TellsPrefix (sends_changes (tables self.old) (changes_of changes.now.gone.items changes.now.came.items)) out.old.items out.new.items) }
     {
-        let trees = take_trees(alloc, &mut self.trees, &self.base)?;
-        let tables = lend(&self.links, &self.base, &trees, &self.local, &self.known);
-        let told = tell_changes(alloc, &tables, number, changes, out);
-        self.trees = Some(trees);
+        let family = take_family(alloc, &mut self.family, &self.base)?;
+        let links = self.links.as_slice();
+        let told = tell_changes(alloc, links, &family, number, changes, out);
+        self.family = Some(family);
         told
     }
 
@@ -449,7 +452,7 @@ impl Node {
         if !self.leads_to_router(link) {
             return Ok(());
         }
-        let before = self.trees_before(alloc)?;
+        let before = self.take_before(alloc)?;
         match self.keep(told.get())? {
             Accepted::Old => {
                 self.put_back(before);
@@ -471,6 +474,7 @@ impl Node {
         match self.base.accept(told)? {
             Accepted::Old => Ok(Accepted::Old),
             Accepted::Newer => {
+                self.family = None;
                 self.trees = None;
                 self.routes.clear();
                 Ok(Accepted::Newer)
@@ -541,72 +545,140 @@ impl Node {
         ensures snap { (t : TableState) (from number : ℕ) (decls : List Decl) → HaveSameTrees t (tables self.old) → AreNumbered t.links → leads_to_router t.links from ≡ true → is_newer_log t.known source number ≡ true → msg.now ≡ Msg.Snap source number decls → OnOk result (Tells (sends_snap t from source number decls) out.old.items out.new.items) }
         ensures snap_prefix { (t : TableState) (from number : ℕ) (decls : List Decl) → HaveSameTrees t (tables self.old) → AreNumbered t.links → leads_to_router t.links from ≡ true → is_newer_log t.known source number ≡ true → msg.now ≡ Msg.Snap source number decls → OnErr result (TellsPrefix (sends_snap t from source number decls) out.old.items out.new.items) }
     {
-        let trees = take_trees(alloc, &mut self.trees, &self.base)?;
-        let tables = lend(&self.links, &self.base, &trees, &self.local, &self.known);
-        let told = pass_on(alloc, &tables, source, msg, out);
-        self.trees = Some(trees);
+        let family = take_family(alloc, &mut self.family, &self.base)?;
+        let told = pass_on(alloc, self.links.as_slice(), &family, source, msg, out);
+        self.family = Some(family);
         told
     }
 
-    // The trees of the records before an event that may change them, taken out. Where no log is known a new child is told nothing, so
-    // they aren't worked out for it.
-    fn trees_before(&mut self, alloc: Global) -> Result<Option<Trees>, AllocError>
+    // What was worked out of the records before an event that may change them, taken out.
+    fn take_before(&mut self, alloc: Global) -> Result<Before, AllocError>
         ensures same { self.new ≡ self.old }
-        ensures trees { IfOk result (λ o. IfSome o (λ t. t ≡ self.old.base.records)) }
+        ensures children { IfOk result (λ b. IfSome b.family (λ f. f ≡ self.old.base)) }
+        ensures none { IfOk result (λ b. IfNone b.family (self.old.known.logs ≡ [])) }
+        ensures trees { IfOk result (λ b. IfSome b.trees (λ t. t ≡ self.old.base.records)) }
+    {
+        let family = self.family_before(alloc)?;
+        let trees = self.trees.take();
+        Ok(Before { family, trees })
+    }
+
+    // The children before the event. Where no log is known a new child is told nothing, so they aren't worked out for it.
+    fn family_before(&mut self, alloc: Global) -> Result<Option<Family>, AllocError>
+        ensures same { self.new ≡ self.old }
+        ensures children { IfOk result (λ o. IfSome o (λ f. f ≡ self.old.base)) }
         ensures none { IfOk result (λ o. IfNone o (self.old.known.logs ≡ [])) }
     {
-        match self.trees.take() {
-            Some(trees) => Ok(Some(trees)),
+        match self.family.take() {
+            Some(family) => Ok(Some(family)),
             None => {
                 if self.known.logs().is_empty() {
                     return Ok(None);
                 }
-                Ok(Some(Trees::of(alloc, &self.base)?))
+                Ok(Some(Family::of(alloc, &self.base)?))
             }
         }
     }
 
-    fn put_back(&mut self, trees: Option<Trees>)
-        requires { IfSome trees (λ t. t ≡ self.old.base.records) }
+    // The records have stayed.
+    fn put_back(&mut self, before: Before)
+        requires family { IfSome before.family (λ f. f ≡ self.old.base) }
+        requires trees { IfSome before.trees (λ t. t ≡ self.old.base.records) }
         ensures { self.new ≡ self.old }
     {
-        self.trees = trees;
+        self.family = before.family;
+        self.trees = before.trees;
     }
 
-    // Each neighbour that has become a child in a router's tree is sent what is known of that router's log. `before` are the trees
-    // before that, if any log is known.
-    #[tactic(auto, using(crate::proofs::Quiet::quiet_ok, crate::proofs::Quiet::quiet_err))]
+    // Each neighbour that has become a child in a router's tree is sent what is known of that router's log. `before` is what was worked
+    // out before that: the children, if any log is known.
     fn tell_new_children(
         &mut self,
         alloc: Global,
-        before: Option<Trees>,
+        before: Before,
         out: &mut Vec<(LinkNo, Msg)>,
     ) -> Result<(), AllocError>
         ensures same { self.new ≡ self.old }
-        ensures sends { (records : List RecordState) → IfSome before (λ t. t ≡ records) → IfNone before (self.old.known.logs ≡ []) → OnOk result (Tells (sends_snapshots (tables self.old) records) out.old.items out.new.items) }
-        ensures prefix { (records : List RecordState) → IfSome before (λ t. t ≡ records) → IfNone before (self.old.known.logs ≡ []) → OnErr result (TellsPrefix (sends_snapshots (tables self.old) records) out.old.items out.new.items) }
+        ensures sends { (base : BaseState) → base.me ≡ self.old.base.me → IfSome before.family (λ f. f ≡ base) → IfNone before.family (self.old.known.logs ≡ []) → OnOk result (Tells (sends_snapshots (tables self.old) base.records) out.old.items out.new.items) }
+        ensures prefix { (base : BaseState) → base.me ≡ self.old.base.me → IfSome before.family (λ f. f ≡ base) → IfNone before.family (self.old.known.logs ≡ []) → OnErr result (TellsPrefix (sends_snapshots (tables self.old) base.records) out.old.items out.new.items) }
+    {
+        let Before { family, trees } = before;
+        let told = self.tell_fresh_children(alloc, family, out);
+        self.keep_trees(alloc, trees);
+        told
+    }
+
+    // `before` are the children before.
+    #[tactic(auto, using(crate::proofs::Quiet::quiet_ok, crate::proofs::Quiet::quiet_err))]
+    fn tell_fresh_children(
+        &mut self,
+        alloc: Global,
+        before: Option<Family>,
+        out: &mut Vec<(LinkNo, Msg)>,
+    ) -> Result<(), AllocError>
+        ensures same { self.new ≡ self.old }
+        ensures sends { (base : BaseState) → base.me ≡ self.old.base.me → IfSome before (λ f. f ≡ base) → IfNone before (self.old.known.logs ≡ []) → OnOk result (Tells (sends_snapshots (tables self.old) base.records) out.old.items out.new.items) }
+        ensures prefix { (base : BaseState) → base.me ≡ self.old.base.me → IfSome before (λ f. f ≡ base) → IfNone before (self.old.known.logs ≡ []) → OnErr result (TellsPrefix (sends_snapshots (tables self.old) base.records) out.old.items out.new.items) }
     {
         let Some(before) = before else {
             return Ok(());
         };
         if before.have_edges_of(&self.base) {
-            return self.keep_trees(alloc, before); // no child is new
+            return self.keep_family(alloc, before); // no child is new
         }
-        let trees = take_trees(alloc, &mut self.trees, &self.base)?;
-        let tables = lend(&self.links, &self.base, &trees, &self.local, &self.known);
-        let told = fresh_children(alloc, &tables, &before, out);
-        self.trees = Some(trees);
+        self.tell_fresh_of(alloc, before, out)
+    }
+
+    // The edges have changed.
+    fn tell_fresh_of(
+        &mut self,
+        alloc: Global,
+        before: Family,
+        out: &mut Vec<(LinkNo, Msg)>,
+    ) -> Result<(), AllocError>
+        ensures same { self.new ≡ self.old }
+        ensures sends { (base : BaseState) → base.me ≡ self.old.base.me → before ≡ base → OnOk result (Tells (sends_snapshots (tables self.old) base.records) out.old.items out.new.items) }
+        ensures prefix { (base : BaseState) → base.me ≡ self.old.base.me → before ≡ base → OnErr result (TellsPrefix (sends_snapshots (tables self.old) base.records) out.old.items out.new.items) }
+    {
+        let family = take_family(alloc, &mut self.family, &self.base)?;
+        let links = self.links.as_slice();
+        let told = fresh_children(alloc, links, &family, &before, self.known.logs(), out);
+        self.family = Some(family);
         told
     }
 
-    // The trees of records with the same edges stay, and take over the records.
-    fn keep_trees(&mut self, alloc: Global, mut before: Trees) -> Result<(), AllocError>
-        requires { HaveSameEdges before self.old.base.records }
+    // The children by records with the same edges stay, and take over the records.
+    fn keep_family(&mut self, alloc: Global, mut before: Family) -> Result<(), AllocError>
+        requires me { before.me ≡ self.old.base.me }
+        requires edges { HaveSameEdges before.records self.old.base.records }
         ensures { self.new ≡ self.old }
     {
         before.follow(alloc, &self.base)?;
-        self.trees = Some(before);
+        self.family = Some(before);
         Ok(())
+    }
+
+    // And so do the trees. Where there is no memory for it they are worked out anew when they are asked for.
+    fn keep_trees(&mut self, alloc: Global, before: Option<Trees>)
+        ensures { self.new ≡ self.old }
+    {
+        if let Some(trees) = before {
+            self.follow_trees(alloc, trees);
+        }
+    }
+
+    fn follow_trees(&mut self, alloc: Global, mut before: Trees)
+        ensures { self.new ≡ self.old }
+    {
+        if !before.have_edges_of(&self.base) {
+            return;
+        }
+        match before.follow(alloc, &self.base) {
+            Ok(()) => {
+                self.trees = Some(before);
+            }
+            Err(_) => {}
+        }
     }
 
     fn leads_to_client(&self, link: LinkNo) -> bool

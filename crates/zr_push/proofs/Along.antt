@@ -13,8 +13,8 @@ use Rattle.zr_routing.specs.Samples.{push_to, push_on, push_along, tree_by, tree
 use Rattle.zr_routing.specs.Tables.{TableState, AreNumbered, link_at}
 use Rattle.zr_table.specs.Event.{on_link, Tells, TellsPrefix}
 use Rattle.zr_push.specs.declared.sought.Sought.TheVariants.{Subscribers}
-use Rattle.zr_push.specs.Route.{stop_at, push_for, route_of, sent_along}
-use Rattle.zr_push.proofs.Stops.{is_told, told_stops, each_kept, kept_at, on_kept, told_each}
+use Rattle.zr_push.specs.Route.{push_for, route_of, sent_along}
+use Rattle.zr_push.proofs.Stops.{is_told, told_stops, kept_at, on_kept, told_each}
 
 module _ (t : TableState) (from : ℕ) (tree : List ℕ) (content : Parts) where
   abbrev goes : LinkPeer → Bool

@@ -1,3 +1,4 @@
+pub mod ByKind
 pub mod Rows
 pub mod Ways
 pub mod Stops

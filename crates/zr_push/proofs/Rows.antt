@@ -1,11 +1,11 @@
 -- The rows of a link stand together: those between two places of a search.
-use Rattle.std.proofs.Common.{◌≡◌, ℕ, ◌-◌, ◌<◌, ◌≤◌, ◌==◌, ◌&&◌, ◌||◌, nat_lt, nat_le, zero, suc, Bool, true, false, cond, List, [], ◌∷◌, Ordering, Less, Equal, Greater, length, take, drop, get_or, filter, inl, inr, refl, sym, ap, ◌∙◌, arith}
+use Rattle.std.proofs.Common.{◌≡◌, ℕ, ◌+◌, ◌-◌, ◌<◌, ◌≤◌, ◌==◌, ◌&&◌, ◌||◌, nat_lt, nat_le, zero, suc, Bool, true, false, cond, List, [], ◌∷◌, Ordering, Less, Equal, Greater, length, take, drop, get_or, filter, inl, inr, refl, sym, ap, ◌∙◌, arith}
 use Rattle.std.specs.Cmp.{ranked}
 use Rattle.std.specs.List.{AllWithin, list_any}
 use Rattle.std.specs.List.Sorted.{IsNonDecreasingBy, IsPartitionPoint}
 use Rattle.std.specs.Ordering.{nat_cmp, ordering_then}
 use Rattle.std.proofs.Math.Seq.{take-length}
-use Rattle.std.proofs.lemmas.Bool.{cases_lt, eqb-true, eq-eqb, ltb-true, ltb-false, leb-true, leb-false, false_from_ne_true}
+use Rattle.std.proofs.lemmas.Bool.{cases_lt, eqb-true, eq-eqb, ltb-true, ltb-false, leb-true, leb-false, lt-ltb, le-ltb, le-leb, lt-leb, false_from_ne_true}
 use Rattle.std.proofs.lemmas.List.{length-drop}
 use Rattle.std.proofs.lemmas.Map.Keys.{Less-from_sorted}
 use Rattle.std.proofs.lemmas.Map.Lookups.{exact_unsigned}
@@ -69,6 +69,44 @@ module _ (link : ℕ) where
   pub between : (rows : List Row) (i j : ℕ) → i ≤ length rows → IsPartitionPoint (λ r. nat_lt r.link.0 link ≡ true) (λ r. nat_lt r.link.0 link ≡ false) rows i
       → IsPartitionPoint (λ r. nat_le r.link.0 link ≡ true) (λ r. nat_le r.link.0 link ≡ false) (drop i rows) j → on_link rows link ≡ take j (drop i rows)
   between rows i j le p q = none_before rows i le p.0 ∙ first_ones (drop i rows) j (shifted (λ r. nat_lt r.link.0 link ≡ false) rows i p.1) q.0 q.1
+
+-- a place at which the rows of the link and of later ones begin
+pub first_place : (rows : List Row) (link i : ℕ) → AreInOrder rows → ((d : Row) → i < length rows → link ≤ (get_or rows i d).link.0)
+    → (0 < i → (i - 1 < length rows) × ((d : Row) → (get_or rows (i - 1) d).link.0 < link))
+    → IsPartitionPoint (λ r. nat_lt r.link.0 link ≡ true) (λ r. nat_lt r.link.0 link ≡ false) rows i
+first_place rows link i up here lower = (before, behind)
+  where
+    before : AllWithin (λ r. nat_lt r.link.0 link ≡ true) rows 0 i
+    before k d a b =
+        let low = lower (omega arith) in
+        let le = links_rise rows up k (i - 1) d (omega arith) low.0 in
+        let lt = low.1 d in
+        lt-ltb _ _ (omega (arith, le, lt))
+
+    behind : AllWithin (λ r. nat_lt r.link.0 link ≡ false) rows i (length rows)
+    behind k d a b =
+        let le = links_rise rows up i k d a b in
+        let at = here d (omega arith) in
+        le-ltb _ _ (omega (arith, le, at))
+
+-- a place behind rows of no later link, at which those of later ones begin
+pub last_place : (rows : List Row) (link i : ℕ) → IsNonDecreasingBy (λ r. r.link.0) rows → AllWithin (λ r. nat_le r.link.0 link ≡ true) rows 0 i
+    → ((d : Row) → i < length rows → link < (get_or rows i d).link.0) → IsPartitionPoint (λ r. nat_le r.link.0 link ≡ true) (λ r. nat_le r.link.0 link ≡ false) rows i
+last_place rows link i up before higher = (before, behind)
+  where
+    behind : AllWithin (λ r. nat_le r.link.0 link ≡ false) rows i (length rows)
+    behind k d a b =
+        let le = up i k d a b in
+        let at = higher d (omega arith) in
+        lt-leb _ _ (omega (arith, le, at))
+
+-- one row more is of no later link
+pub front_more : (rows : List Row) (link i : ℕ) → AllWithin (λ r. nat_le r.link.0 link ≡ true) rows 0 i → ((d : Row) → (get_or rows i d).link.0 ≤ link)
+    → AllWithin (λ r. nat_le r.link.0 link ≡ true) rows 0 (i + 1)
+front_more rows link i before here k d a b = elim (cases_lt k i) [
+  | inl l ↦ before k d a l
+  | inr g ↦ let e : k ≡ i = omega arith in rw e (le-leb _ _ (here d))
+]
 
 -- the whole of what is left
 pub rest_of : {X : Type 0} (i : ℕ) (xs : List X) → take (length xs - i) (drop i xs) ≡ drop i xs

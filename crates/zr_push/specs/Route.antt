@@ -16,6 +16,11 @@ use Rattle.zr_routing.specs.Queries.{tree_for}
 use Rattle.zr_routing.specs.Samples.{is_toward}
 use Rattle.zr_routing.specs.Tables.{TableState, graph}
 use Rattle.zr_tree.specs.Tree.{reached}
+use Rattle.zr_tree.specs.Way.{WayState}
+
+-- this router in the tree of a root
+abbrev pub way_of : TableState → List ℕ → WayState
+way_of t tree = record { records = t.base.records; root = tree; at = t.base.me }
 
 -- the neighbour is on the way in the tree to the router of a log, which is reached and whose clients have declared what is sought
 abbrev pub is_way_to : TableState → List ℕ → Sought → List ℕ → List ℕ → Log → Bool

@@ -7,8 +7,9 @@ ghost use Rattle.std.specs.Option.{option_map_or};
 ghost use Rattle.std.specs.Ordering.{nat_cmp};
 ghost use Rattle.zr_graph.specs.Record.{has, IsAscending};
 ghost use Rattle.zr_id.specs.Zid.{is_named};
-ghost use Rattle.zr_push.specs.Route.{is_way_to};
+ghost use Rattle.zr_push.specs.Route.{is_way_to, way_of};
 ghost use Rattle.zr_push.specs.Sought.{leads_to};
+ghost use Rattle.zr_routing.specs.Tables.{TableState};
 ghost use Rattle.zr_set.specs.Ascending.{put};
 ghost use Rattle.zr_set.specs.Place.{IsGap, IsPlace};
 
@@ -20,6 +21,7 @@ use zr_id::zid::Zid;
 use zr_key::key::KeyExpr;
 use zr_log::log::Log;
 use zr_routing::tables::Tables;
+use zr_tree::way::Way;
 
 /// Some neighbours, in ascending order.
 #[derive(Drop)]
@@ -104,9 +106,10 @@ fn hops_to(
 ) -> Result<Hops, AllocError>
     ensures { IfOk result (λ h. (name : List ℕ) → has h name ≡ list_any (is_way_to tables.now tree sought key.now name) logs.now) }
 {
+    let mut way = Way::of(tables.trees(), tree, tables.me());
     let mut hops = Hops::new(alloc);
     for log in logs {
-        hops.extend(hop_to(tables, tree, sought, key, log))?;
+        hops.extend(hop_to(&mut way, sought, key, log))?;
     }
     Ok(hops)
 }
@@ -119,13 +122,12 @@ fn place_of(names: &[Zid], name: &Zid) -> Result<usize, usize>
 }
 
 // The neighbour on the way to the router of a log, if it is reached and its clients have declared what is sought.
-fn hop_to(tables: &Tables, tree: Zid, sought: Sought, key: &KeyExpr, log: &Log) -> Option<Zid>
-    ensures { (name : List ℕ) → option_map_or (λ y. is_named y name) result false ≡ is_way_to tables.now tree sought key.now name log.now }
+fn hop_to(way: &mut Way, sought: Sought, key: &KeyExpr, log: &Log) -> Option<Zid>
+    ensures kept { way.new ≡ way.old }
+    ensures hop { (t : TableState) (tree name : List ℕ) → way.old ≡ way_of t tree → option_map_or (λ y. is_named y name) result false ≡ is_way_to t tree sought key.now name log.now }
 {
-    let me = tables.me();
-    let trees = tables.trees();
-    if is_in_log(log, sought, key) && trees.reached(me, log.source) {
-        trees.toward(tree, me, log.source)
+    if is_in_log(log, sought, key) {
+        way.to(log.source)
     } else {
         None
     }

@@ -9,6 +9,7 @@ ghost use Rattle.zr_table.specs.Prefix.{IsPrefixBehind};
 ghost use Rattle.zr_push.specs.declared.sought.Sought.TheVariants.{Subscribers};
 ghost use Rattle.zr_push.specs.Route.{goes_on, is_stop, route_of, sent_along, stop_at, stops_from};
 
+use crate::client_rows::ClientRows;
 use crate::hops::Hops;
 use crate::search::has_declared;
 use crate::sought::Sought;
@@ -150,18 +151,28 @@ fn stops_on(
     ensures { IfOk result (λ v. v.items ≡ map (λ l. stop_at l) (filter (λ l. is_stop tables.now hops.now sought key.now l l.peer.role) tables.now.links)) }
 {
     let links = tables.links();
-    links
-        .iter()
-        .filter(|link| is_stop(tables, hops, sought, key, link))
-        .map(|link| stop_at(link))
-        .collect(alloc)
+    let mut rows = ClientRows::of(tables.local());
+    let mut stops = Vec::new(alloc);
+    for link in links {
+        if is_stop(&mut rows, hops, sought, key, link) {
+            stops.push(stop_at(link))?;
+        }
+    }
+    Ok(stops)
 }
 
-fn is_stop(tables: &Tables, hops: &Hops, sought: Sought, key: &KeyExpr, link: &LinkPeer) -> bool
-    ensures { result ≡ is_stop tables.now hops.now sought key.now link.now link.now.peer.role }
+fn is_stop(
+    rows: &mut ClientRows,
+    hops: &Hops,
+    sought: Sought,
+    key: &KeyExpr,
+    link: &LinkPeer,
+) -> bool
+    ensures kept { rows.new ≡ rows.old }
+    ensures stop { (t : TableState) → rows.old ≡ t.rows → result ≡ is_stop t hops.now sought key.now link.now link.now.peer.role }
 {
     match link.peer.role {
-        Role::Client => has_declared(tables.local(), link.link, sought, key),
+        Role::Client => has_declared(rows, link.link, sought, key),
         Role::Router => hops.has(&link.peer.id),
     }
 }

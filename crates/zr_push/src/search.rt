@@ -1,52 +1,77 @@
 //! Whether what is sought was declared.
 
-ghost use Rattle.std.specs.Prelude.{◌≡◌};
+ghost use Rattle.std.specs.Prelude.{◌≡◌, ◌≤◌, ℕ, List, true, false, length};
 ghost use Rattle.std.specs.List.{list_any};
-ghost use Rattle.zr_local.specs.Owners.{on_link};
-ghost use Rattle.zr_local.specs.Rows.{AreInOrder};
+ghost use Rattle.std.specs.List.Sorted.{IsPartitionPoint};
 ghost use Rattle.zr_routing.specs.Queries.{is_queryable, is_complete};
 ghost use Rattle.zr_routing.specs.Samples.{is_subscriber};
 ghost use Rattle.zr_push.specs.Sought.{is_sought, has_declared, is_in_log};
+ghost use Rattle.zr_set.specs.Decls.{IsSet};
 
+use crate::client_rows::ClientRows;
 use crate::sought::Sought;
 use zr_id::link::LinkNo;
 use zr_key::key::KeyExpr;
-use zr_local::local::Local;
 use zr_local::row::Row;
 use zr_log::log::Log;
 use zr_match::{covers, meets};
 use zr_msg::decl::{Decl, Kind};
 
-/// Whether the client of a link has declared it. The rows of a link stand together, and are found without a look at the others.
-pub fn has_declared(local: &Local, link: LinkNo, sought: Sought, key: &KeyExpr) -> bool
-    ensures { result ≡ has_declared local.now.rows link.0 sought key.now }
+/// Whether the client of a link has declared it.
+pub fn has_declared(rows: &mut ClientRows, link: LinkNo, sought: Sought, key: &KeyExpr) -> bool
+    ensures kept { rows.new ≡ rows.old }
+    ensures has { result ≡ has_declared rows.old link.0 sought key.now }
 {
-    any_is_sought(rows_on(local.rows(), link), sought, key)
+    any_is_sought(rows.on(link), sought, key)
 }
 
-/// Whether the clients of a log's router have. Where the log has none of the kind no key is compared.
+/// Whether the clients of a log's router have. Declarations of another kind are not looked at.
 pub fn is_in_log(log: &Log, sought: Sought, key: &KeyExpr) -> bool
     ensures { result ≡ is_in_log sought key.now log.now }
 {
-    let decls = log.decls.as_slice();
+    has_sought(of_kind(log.decls.as_slice(), sought), sought, key)
+}
+
+fn has_sought(decls: &[Decl], sought: Sought, key: &KeyExpr) -> bool
+    ensures { result ≡ list_any (λ d. is_sought sought key.now d) decls.now }
+{
     decls.iter().any(|decl| is_sought(sought, key, decl))
+}
+
+// The declarations of a log that may be sought: subscribers stand first, and complete queryables last.
+fn of_kind(decls: &[Decl], sought: Sought) -> &[Decl]
+    requires { IsSet decls.now }
+    ensures { (key : List ℕ) → list_any (λ d. is_sought sought key d) result.now ≡ list_any (λ d. is_sought sought key d) decls.now }
+{
+    match sought {
+        Sought::Subscribers => &decls[..subscribers(decls)],
+        Sought::Queryables => &decls[subscribers(decls)..],
+        Sought::Complete => &decls[incomplete(decls)..],
+    }
+}
+
+// How many declarations are of subscribers: they stand before the others.
+fn subscribers(decls: &[Decl]) -> usize
+    requires { IsSet decls.now }
+    ensures within { result ≤ length decls.now }
+    ensures parted { IsPartitionPoint (λ d. is_subscriber d.kind ≡ true) (λ d. is_subscriber d.kind ≡ false) decls.now result }
+{
+    decls.partition_point(|decl| is_subscriber(decl.kind))
+}
+
+// How many declarations are of no complete queryable: they stand before those.
+fn incomplete(decls: &[Decl]) -> usize
+    requires { IsSet decls.now }
+    ensures within { result ≤ length decls.now }
+    ensures parted { IsPartitionPoint (λ d. is_complete d.kind ≡ false) (λ d. is_complete d.kind ≡ true) decls.now result }
+{
+    decls.partition_point(|decl| !is_complete(decl.kind))
 }
 
 fn any_is_sought(rows: &[Row], sought: Sought, key: &KeyExpr) -> bool
     ensures { result ≡ list_any (λ r. is_sought sought key.now r.decl) rows.now }
 {
     rows.iter().any(|row| is_sought(sought, key, &row.decl))
-}
-
-// The rows of a link.
-fn rows_on(rows: &[Row], link: LinkNo) -> &[Row]
-    requires { AreInOrder rows.now }
-    ensures { result.now ≡ on_link rows.now link.0 }
-{
-    let first = rows.partition_point(|row| row.link.0 < link.0);
-    let rest = &rows[first..];
-    let count = rest.partition_point(|row| row.link.0 <= link.0);
-    &rest[..count]
 }
 
 fn is_sought(sought: Sought, key: &KeyExpr, decl: &Decl) -> bool

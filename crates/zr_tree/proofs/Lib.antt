@@ -8,7 +8,9 @@ pub mod Jumps
 pub mod Levels
 pub mod Linked
 pub mod Links
+pub mod OwnChildren
 pub mod Paths
+pub mod Reaches
 pub mod Rows
 pub mod SameEdges
 pub mod Stays

@@ -121,13 +121,13 @@ module _ (old new : List RecordState) (up : IsAscending (ids old)) (above : IsAs
 -- ---- trees
 
 module _ (old new : List RecordState) (same : HaveSameEdges old new) where
-  ascending_still : IsAscending (ids new)
+  pub ascending_still : IsAscending (ids new)
   ascending_still = subst (λ (ns : List (List ℕ)). IsAscending ns) same.names same.ascending
 
-  as_long : length old ≡ length new
+  pub as_long : length old ≡ length new
   as_long = sym (length-map old (λ (r : RecordState). r.id)) ∙ ap length same.names ∙ length-map new (λ (r : RecordState). r.id)
 
-  name_stays : (i : ℕ) → name old i ≡ name new i
+  pub name_stays : (i : ℕ) → name old i ≡ name new i
   name_stays i = ap (λ ns. get_or ns i []) same.names
 
   is_graph : IsGraph (graph_of old)

@@ -3,7 +3,9 @@ pub mod Hop
 pub mod Index
 pub mod Laws
 pub mod Lists
+pub mod OwnChildren
 pub mod Same
 pub mod Search
 pub mod Tree
 pub mod Walk
+pub mod Way

@@ -3,9 +3,12 @@
 #![tactic(auto)]
 
 mod edges;
+pub mod family;
+mod flags;
 pub mod laws;
 mod lists;
 pub mod same;
 mod search;
 mod tree;
 pub mod trees;
+pub mod way;

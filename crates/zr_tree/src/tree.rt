@@ -160,7 +160,8 @@ fn nearer_of(neighbours: &[usize], distances: &[Option<u32>], x: usize) -> Optio
     None
 }
 
-fn is_next(near: Option<u32>, far: Option<u32>) -> bool
+/// Whether one distance is one less than another one.
+pub fn is_next(near: Option<u32>, far: Option<u32>) -> bool
     ensures { result ≡ is_sum near 1 far }
 {
     match (near, far) {

@@ -12,6 +12,7 @@ use crate::edges::{Edges, index_in};
 use crate::lists::Lists;
 use crate::same::are_same_edges;
 use crate::tree::{Hop, Tree, UNREACHED};
+use crate::way::Way;
 use std::alloc::{AllocError, Global};
 use std::marker::Model;
 use zr_graph::base::{Base, copies_of};
@@ -109,11 +110,7 @@ impl Trees {
     pub fn toward(&self, root: Zid, at: Zid, dest: Zid) -> Option<Zid>
         ensures { result ≡ toward (graph_of self.now) root at dest }
     {
-        let root = self.index_of(&root)?;
-        let at = self.index_of(&at)?;
-        let dest = self.index_of(&dest)?;
-        let child = self.child_toward(root, at, dest)?;
-        Some(self.names[child])
+        Way::of(self, root, at).to(dest)
     }
 
     /// Whether a walk leads from one router to the other.
@@ -129,18 +126,45 @@ impl Trees {
         }
     }
 
-    fn index_of(&self, id: &Zid) -> Option<usize>
+    /// The index of an identifier, if it is among the records'.
+    pub(crate) fn index_of(&self, id: &Zid) -> Option<usize>
         ensures { MatchOption result (has (ids self.now) id.now ≡ false) (λ i. (i < length self.now) × (name self.now i ≡ id.now)) }
     {
         index_in(&self.names, id)
     }
 
-    fn child_toward(&self, root: usize, at: usize, dest: usize) -> Option<usize>
+    /// The index of an identifier, which is looked for at this index first.
+    pub(crate) fn index_near(&self, index: usize, id: &Zid) -> Option<usize>
+        ensures { MatchOption result (has (ids self.now) id.now ≡ false) (λ i. (i < length self.now) × (name self.now i ≡ id.now)) }
+    {
+        if self.is_at(index, id) {
+            return Some(index);
+        }
+        self.index_of(id)
+    }
+
+    fn is_at(&self, index: usize, id: &Zid) -> bool
+        ensures { result ≡ true → (index < length self.now) × (name self.now index ≡ id.now) }
+    {
+        index < self.names.len() && self.names[index] == *id
+    }
+
+    /// The identifier at an index.
+    pub(crate) fn name_at(&self, index: usize) -> Zid
+        requires { index < length self.now }
+        ensures { result ≡ name self.now index }
+    {
+        self.names[index]
+    }
+
+    /// By index, the child of a router at or above the destination in the tree of a root.
+    pub(crate) fn child_toward(&self, root: usize, at: usize, dest: usize) -> Option<usize>
         requires root { root < length self.now }
         requires at { at < length self.now }
         requires dest { dest < length self.now }
         ensures within { IfSome result (λ x. x < length self.now) }
         ensures child { option_map (name self.now) result ≡ toward (graph_of self.now) (name self.now root) (name self.now at) (name self.now dest) }
+        ensures reached { IsSome result → reached (graph_of self.now) (name self.now at) (name self.now dest) ≡ true }
     {
         let depth = self.hop(root, at).depth;
         let far = self.hop(root, dest).depth;
@@ -198,7 +222,8 @@ impl Trees {
     }
 }
 
-fn names_of(alloc: Global, records: &[LinkRecord]) -> Result<Vec<Zid>, AllocError>
+// The names of the records' routers.
+pub(crate) fn names_of(alloc: Global, records: &[LinkRecord]) -> Result<Vec<Zid>, AllocError>
     ensures { IfOk result (λ v. v.items ≡ ids records.now) }
 {
     records.iter().map(|r| r.id()).collect(alloc)

@@ -51,7 +51,7 @@ impl Node {
         requires { IsFresh self.old link peer.now }
         ensures { IsDone (up_part self.old link peer.now Role.Router) result self.new out.old.items out.new.items }
     {
-        let before = self.trees_before(alloc)?;
+        let before = self.take_before(alloc)?;
         match self.join(alloc, link, peer, out) {
             Ok(()) => {
                 self.add(link, peer)?;
@@ -73,6 +73,7 @@ impl Node {
         ensures { IsDone (join_part self.old link peer.now) result self.new out.old.items out.new.items }
     {
         own::join(alloc, &mut self.base, &peer.id)?;
+        self.family = None;
         self.trees = None;
         self.routes.clear();
         Ok(flood_up(alloc, &self.base, self.links.as_slice(), link, out)?)
@@ -154,7 +155,7 @@ impl Node {
     ) -> Result<(), Failure>
         ensures { IsDone (down_part self.old link.0 peer.now) result self.new out.old.items out.new.items }
     {
-        let before = self.trees_before(alloc)?;
+        let before = self.take_before(alloc)?;
         match self.part(alloc, link, peer, out) {
             Ok(()) => {
                 self.remove(link);
@@ -175,6 +176,7 @@ impl Node {
         ensures { IsDone (parting_part self.old link.0 peer.now) result self.new out.old.items out.new.items }
     {
         own::part(alloc, &mut self.base, &peer.id)?;
+        self.family = None;
         self.trees = None;
         self.routes.clear();
         ends_of(alloc, &mut self.pending, link, out)?;

@@ -15,7 +15,7 @@ pub returns-clause-step : goal.returns-clause-step
 returns-clause-step c = λ t from number k same up leads next is.
     on_ok_weaker _
     (tells_list _ _ _ _ (λ to.
-    ap (λ xs. on_link to xs) (passed t c.args.tables.now same c.args.source c.deref.result.now c.in_ok-to.to.items c.args.msg.now _ c.deref.ensures.value c.in_ok-to.ensures is)
+    ap (λ xs. on_link to xs) (passed t c.args.links.now c.args.family.now same c.args.source c.deref.result.now c.in_ok-to.to.items c.args.msg.now _ c.deref.ensures.value c.in_ok-to.ensures is)
     ∙ on_step t from c.args.source number k up leads next to))
     c.tell_each.ensures.ok
 
@@ -23,7 +23,7 @@ pub returns-clause-step_prefix : goal.returns-clause-step_prefix
 returns-clause-step_prefix c = λ t from number k same up leads next is.
     on_err_weaker _
     (tells_prefix _ _ _ _ (λ to.
-    ap (λ xs. on_link to xs) (passed t c.args.tables.now same c.args.source c.deref.result.now c.in_ok-to.to.items c.args.msg.now _ c.deref.ensures.value c.in_ok-to.ensures is)
+    ap (λ xs. on_link to xs) (passed t c.args.links.now c.args.family.now same c.args.source c.deref.result.now c.in_ok-to.to.items c.args.msg.now _ c.deref.ensures.value c.in_ok-to.ensures is)
     ∙ on_step t from c.args.source number k up leads next to))
     c.tell_each.ensures.err
 
@@ -36,7 +36,7 @@ pub returns-clause-snap : goal.returns-clause-snap
 returns-clause-snap c = λ t from number ds same up leads newer is.
     on_ok_weaker _
     (tells_list _ _ _ _ (λ to.
-    ap (λ xs. on_link to xs) (passed t c.args.tables.now same c.args.source c.deref.result.now c.in_ok-to.to.items c.args.msg.now _ c.deref.ensures.value c.in_ok-to.ensures is)
+    ap (λ xs. on_link to xs) (passed t c.args.links.now c.args.family.now same c.args.source c.deref.result.now c.in_ok-to.to.items c.args.msg.now _ c.deref.ensures.value c.in_ok-to.ensures is)
     ∙ on_snap t from c.args.source number ds up leads newer to))
     c.tell_each.ensures.ok
 
@@ -44,6 +44,6 @@ pub returns-clause-snap_prefix : goal.returns-clause-snap_prefix
 returns-clause-snap_prefix c = λ t from number ds same up leads newer is.
     on_err_weaker _
     (tells_prefix _ _ _ _ (λ to.
-    ap (λ xs. on_link to xs) (passed t c.args.tables.now same c.args.source c.deref.result.now c.in_ok-to.to.items c.args.msg.now _ c.deref.ensures.value c.in_ok-to.ensures is)
+    ap (λ xs. on_link to xs) (passed t c.args.links.now c.args.family.now same c.args.source c.deref.result.now c.in_ok-to.to.items c.args.msg.now _ c.deref.ensures.value c.in_ok-to.ensures is)
     ∙ on_snap t from c.args.source number ds up leads newer to))
     c.tell_each.ensures.err

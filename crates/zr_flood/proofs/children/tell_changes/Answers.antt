@@ -17,7 +17,7 @@ returns-clause-ok c = λ t same up e.
     on_ok_weaker _
     (tells_list _ _ _ _ (λ to.
     ap (λ xs. on_link to xs)
-    (own_passed t c.args.tables.now same c.me-me.result c.args.number c.deref.result.now c.in_ok-to.to.items (changes_of c.args.changes.now.gone.items c.args.changes.now.came.items) c.deref.ensures.value c.in_ok-to.ensures c.me-me.ensures e)
+    (own_passed t c.args.links.now c.args.family.now same c.me-me.result c.args.number c.deref.result.now c.in_ok-to.to.items (changes_of c.args.changes.now.gone.items c.args.changes.now.came.items) c.deref.ensures.value c.in_ok-to.ensures c.me-me.ensures e)
     ∙ on_changes t (changes_of c.args.changes.now.gone.items c.args.changes.now.came.items) up to))
     c.tell_both.ensures.ok
 
@@ -26,6 +26,6 @@ returns-clause-err c = λ t same up e.
     on_err_weaker _
     (tells_prefix _ _ _ _ (λ to.
     ap (λ xs. on_link to xs)
-    (own_passed t c.args.tables.now same c.me-me.result c.args.number c.deref.result.now c.in_ok-to.to.items (changes_of c.args.changes.now.gone.items c.args.changes.now.came.items) c.deref.ensures.value c.in_ok-to.ensures c.me-me.ensures e)
+    (own_passed t c.args.links.now c.args.family.now same c.me-me.result c.args.number c.deref.result.now c.in_ok-to.to.items (changes_of c.args.changes.now.gone.items c.args.changes.now.came.items) c.deref.ensures.value c.in_ok-to.ensures c.me-me.ensures e)
     ∙ on_changes t (changes_of c.args.changes.now.gone.items c.args.changes.now.came.items) up to))
     c.tell_both.ensures.err

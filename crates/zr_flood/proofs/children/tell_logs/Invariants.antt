@@ -7,4 +7,4 @@ use Rattle.zr_flood.proofs.children.tell_logs.Given as goal
 
 abbrev pub invariant-loop-log : goal.invariant-loop-log
 invariant-loop-log l =
-    IsSoFar l.fn.out.items (flat_map (to_new_children l.tables l.before) l.logs) l.out.items (flat_map (to_new_children l.tables l.before) (drop l.log-index l.logs))
+    IsSoFar l.fn.out.items (flat_map (to_new_children l.links l.family l.before) l.logs) l.out.items (flat_map (to_new_children l.links l.family l.before) (drop l.log-index l.logs))

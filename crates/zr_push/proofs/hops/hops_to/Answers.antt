@@ -16,6 +16,9 @@ asked_more way logs i log hop old new less is e f h =
     ∙ regroup hop old (way log) (list_any way (drop (i + 1) logs)) (list_any way logs) e (ap (λ b. old || b) (sym one) ∙ h)
 
 pub loop-log-preserved : goal.loop-log-preserved
-loop-log-preserved c = λ name.
-    asked_more (is_way_to c.args.tables.now c.args.tree c.args.sought c.args.key.now name) c.args.logs.now c.loop-log.log-index c.log-item.result _ _ _ (omega arith) c.log-item.is
-    (c.hop_to.ensures name) (c.in_ok-extend.ensures name) (c.loop-log.invariant name)
+loop-log-preserved c = record {
+  way = c.hop_to.ensures.kept ∙ c.loop-log.invariant.way;
+  hops = λ name.
+      asked_more (is_way_to c.args.tables.now c.args.tree c.args.sought c.args.key.now name) c.args.logs.now c.loop-log.log-index c.log-item.result _ _ _ (omega arith) c.log-item.is
+      (c.hop_to.ensures.hop c.args.tables.now c.args.tree name c.loop-log.invariant.way) (c.in_ok-extend.ensures name) (c.loop-log.invariant.hops name);
+}

@@ -12,6 +12,7 @@ invariant_of-self c =
     record {
       links = are_links_after c.add.result node c.args.link c.args.peer.now c.add.new.self fresh c.self.invariant.links c.add.ensures.ok c.add.ensures.err;
       own = c.self.invariant.own;
+      family = c.self.invariant.family;
       trees = c.self.invariant.trees;
       routes = c.clear.ensures now;
     }

@@ -7,6 +7,7 @@ invariant_of-self c =
     record {
       links = c.self.invariant.links;
       own = c.self.invariant.own;
+      family = c.self.invariant.family;
       trees = c.self.invariant.trees;
       routes = c.clear.ensures now;
     }

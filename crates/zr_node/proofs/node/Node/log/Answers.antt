@@ -8,6 +8,7 @@ invariant_of-self c =
     record {
       links = c.self.invariant.links;
       own = c.log.ensures.me ∙ c.self.invariant.own;
+      family = c.self.invariant.family;
       trees = c.self.invariant.trees;
       routes = c.clear.ensures now;
     }

@@ -9,6 +9,7 @@ invariant_of-self c =
     record {
       links = c.self.invariant.links;
       own = c.self.invariant.own;
+      family = c.self.invariant.family;
       trees = c.self.invariant.trees;
       routes = routes_stay c.self.inside.routes before c.interest.new.self (rows_kept c.interest.result c.self.inside.local c.interest.new.self _ c.interest.ensures.value c.interest.ensures.unchanged) c.self.invariant.routes;
     }

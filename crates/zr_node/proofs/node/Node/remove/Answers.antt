@@ -12,6 +12,7 @@ invariant_of-self c =
     record {
       links = subst (λ (ls : List LinkPeer). AreLinks me ls) (sym c.remove.ensures) (are_links_down me c.self.inside.links c.args.link.0 c.self.invariant.links);
       own = c.self.invariant.own;
+      family = c.self.invariant.family;
       trees = c.self.invariant.trees;
       routes = c.clear.ensures now;
     }

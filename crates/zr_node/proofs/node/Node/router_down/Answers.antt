@@ -19,12 +19,12 @@ pub returns-in_err-tell_new_children-in-Ok : goal.returns-in_err-tell_new_childr
 returns-in_err-tell_new_children-in-Ok c =
     failed (down_part c.args.self.now c.args.link.0 c.args.peer.now) NoMemory c.from_residual-in_err-tell_new_children-in-Ok.result c.tell_new_children.new.self c.args.out.now.items c.tell_new_children.new.out.items c.from_residual-in_err-tell_new_children-in-Ok.ensures.1
     (then_prefix (parting_part c.args.self.now c.args.link.0 c.args.peer.now) (down_part c.args.self.now c.args.link.0 c.args.peer.now) (λ to. news_to c.args.self.now (parted_from c.args.self.now c.args.link.0 c.args.peer.now) to) (part_first c.args.self.now c.args.link c.args.peer.now) c.part.new.self c.args.out.now.items c.part.new.out.items c.tell_new_children.new.out.items (subst (λ (m : NodeState). IsLeft (parting_part m c.args.link.0 c.args.peer.now) c.part.new.self c.args.out.now.items c.part.new.out.items) c.in_ok-before.ensures.same c.in-Ok.ensures)
-    (news_told (λ (m : NodeState) (records : List RecordState). TellsPrefix (sends_snapshots (tables m) records) c.part.new.out.items c.tell_new_children.new.out.items) c.args.self.now c.remove.new.self (parted_from c.args.self.now c.args.link.0 c.args.peer.now) c.in_ok-before.before (down_state c.args.self.now c.trees_before.new.self c.part.new.self c.remove.new.self c.args.link.0 c.args.peer.now c.in_ok-before.ensures.same c.in-Ok.ensures.state c.remove.ensures) refl
-    c.in_ok-before.ensures.trees c.in_ok-before.ensures.none c.in_err-tell_new_children-in-Ok.ensures.prefix))
+    (news_told (λ (m : NodeState) (records : List RecordState). TellsPrefix (sends_snapshots (tables m) records) c.part.new.out.items c.tell_new_children.new.out.items) c.args.self.now c.remove.new.self (parted_from c.args.self.now c.args.link.0 c.args.peer.now) c.in_ok-before.before.family (down_state c.args.self.now c.take_before.new.self c.part.new.self c.remove.new.self c.args.link.0 c.args.peer.now c.in_ok-before.ensures.same c.in-Ok.ensures.state c.remove.ensures) refl
+    c.in_ok-before.ensures.children c.in_ok-before.ensures.none refl c.in_err-tell_new_children-in-Ok.ensures.prefix))
 
 pub returns-in_ok-tell_new_children-in-Ok : goal.returns-in_ok-tell_new_children-in-Ok
 returns-in_ok-tell_new_children-in-Ok c =
     then_told (parting_part c.args.self.now c.args.link.0 c.args.peer.now) (down_part c.args.self.now c.args.link.0 c.args.peer.now) (λ to. news_to c.args.self.now (parted_from c.args.self.now c.args.link.0 c.args.peer.now) to) (part_first c.args.self.now c.args.link c.args.peer.now) c.part.new.self c.tell_new_children.new.self c.args.out.now.items c.part.new.out.items c.tell_new_children.new.out.items (subst (λ (m : NodeState). IsLeft (parting_part m c.args.link.0 c.args.peer.now) c.part.new.self c.args.out.now.items c.part.new.out.items) c.in_ok-before.ensures.same c.in-Ok.ensures)
-    (news_told (λ (m : NodeState) (records : List RecordState). Tells (sends_snapshots (tables m) records) c.part.new.out.items c.tell_new_children.new.out.items) c.args.self.now c.remove.new.self (parted_from c.args.self.now c.args.link.0 c.args.peer.now) c.in_ok-before.before (down_state c.args.self.now c.trees_before.new.self c.part.new.self c.remove.new.self c.args.link.0 c.args.peer.now c.in_ok-before.ensures.same c.in-Ok.ensures.state c.remove.ensures) refl
-    c.in_ok-before.ensures.trees c.in_ok-before.ensures.none c.in_ok-tell_new_children-in-Ok.ensures.sends)
-    (c.in_ok-tell_new_children-in-Ok.ensures.same ∙ (down_state c.args.self.now c.trees_before.new.self c.part.new.self c.remove.new.self c.args.link.0 c.args.peer.now c.in_ok-before.ensures.same c.in-Ok.ensures.state c.remove.ensures))
+    (news_told (λ (m : NodeState) (records : List RecordState). Tells (sends_snapshots (tables m) records) c.part.new.out.items c.tell_new_children.new.out.items) c.args.self.now c.remove.new.self (parted_from c.args.self.now c.args.link.0 c.args.peer.now) c.in_ok-before.before.family (down_state c.args.self.now c.take_before.new.self c.part.new.self c.remove.new.self c.args.link.0 c.args.peer.now c.in_ok-before.ensures.same c.in-Ok.ensures.state c.remove.ensures) refl
+    c.in_ok-before.ensures.children c.in_ok-before.ensures.none refl c.in_ok-tell_new_children-in-Ok.ensures.sends)
+    (c.in_ok-tell_new_children-in-Ok.ensures.same ∙ (down_state c.args.self.now c.take_before.new.self c.part.new.self c.remove.new.self c.args.link.0 c.args.peer.now c.in_ok-before.ensures.same c.in-Ok.ensures.state c.remove.ensures))

@@ -25,12 +25,12 @@ pub returns-in_err-tell_new_children-in-Ok : goal.returns-in_err-tell_new_childr
 returns-in_err-tell_new_children-in-Ok c =
     failed (up_part c.args.self.now c.args.link c.args.peer.now Router) NoMemory c.from_residual-in_err-tell_new_children-in-Ok.result c.tell_new_children.new.self c.args.out.now.items c.tell_new_children.new.out.items c.from_residual-in_err-tell_new_children-in-Ok.ensures.1
     (then_prefix (join_part c.args.self.now c.args.link c.args.peer.now) (up_part c.args.self.now c.args.link c.args.peer.now Router) (λ to. news_to c.args.self.now (up_as c.args.self.now c.args.link c.args.peer.now Router) to) (join_first c.args.self.now c.args.link c.args.peer.now) c.join.new.self c.args.out.now.items c.join.new.out.items c.tell_new_children.new.out.items (subst (λ (m : NodeState). IsLeft (join_part m c.args.link c.args.peer.now) c.join.new.self c.args.out.now.items c.join.new.out.items) c.in_ok-before.ensures.same c.in-Ok.ensures)
-    (news_told (λ (m : NodeState) (records : List RecordState). TellsPrefix (sends_snapshots (tables m) records) c.join.new.out.items c.tell_new_children.new.out.items) c.args.self.now c.add.new.self (up_as c.args.self.now c.args.link c.args.peer.now Router) c.in_ok-before.before (up_state c.args.self.now c.trees_before.new.self c.join.new.self c.add.new.self c.args.link c.args.peer.now c.in_ok-before.ensures.same c.in-Ok.ensures.state c.in_ok-add-in-Ok.ensures) refl
-    c.in_ok-before.ensures.trees c.in_ok-before.ensures.none c.in_err-tell_new_children-in-Ok.ensures.prefix))
+    (news_told (λ (m : NodeState) (records : List RecordState). TellsPrefix (sends_snapshots (tables m) records) c.join.new.out.items c.tell_new_children.new.out.items) c.args.self.now c.add.new.self (up_as c.args.self.now c.args.link c.args.peer.now Router) c.in_ok-before.before.family (up_state c.args.self.now c.take_before.new.self c.join.new.self c.add.new.self c.args.link c.args.peer.now c.in_ok-before.ensures.same c.in-Ok.ensures.state c.in_ok-add-in-Ok.ensures) refl
+    c.in_ok-before.ensures.children c.in_ok-before.ensures.none refl c.in_err-tell_new_children-in-Ok.ensures.prefix))
 
 pub returns-in_ok-tell_new_children-in-Ok : goal.returns-in_ok-tell_new_children-in-Ok
 returns-in_ok-tell_new_children-in-Ok c =
     then_told (join_part c.args.self.now c.args.link c.args.peer.now) (up_part c.args.self.now c.args.link c.args.peer.now Router) (λ to. news_to c.args.self.now (up_as c.args.self.now c.args.link c.args.peer.now Router) to) (join_first c.args.self.now c.args.link c.args.peer.now) c.join.new.self c.tell_new_children.new.self c.args.out.now.items c.join.new.out.items c.tell_new_children.new.out.items (subst (λ (m : NodeState). IsLeft (join_part m c.args.link c.args.peer.now) c.join.new.self c.args.out.now.items c.join.new.out.items) c.in_ok-before.ensures.same c.in-Ok.ensures)
-    (news_told (λ (m : NodeState) (records : List RecordState). Tells (sends_snapshots (tables m) records) c.join.new.out.items c.tell_new_children.new.out.items) c.args.self.now c.add.new.self (up_as c.args.self.now c.args.link c.args.peer.now Router) c.in_ok-before.before (up_state c.args.self.now c.trees_before.new.self c.join.new.self c.add.new.self c.args.link c.args.peer.now c.in_ok-before.ensures.same c.in-Ok.ensures.state c.in_ok-add-in-Ok.ensures) refl
-    c.in_ok-before.ensures.trees c.in_ok-before.ensures.none c.in_ok-tell_new_children-in-Ok.ensures.sends)
-    (c.in_ok-tell_new_children-in-Ok.ensures.same ∙ (up_state c.args.self.now c.trees_before.new.self c.join.new.self c.add.new.self c.args.link c.args.peer.now c.in_ok-before.ensures.same c.in-Ok.ensures.state c.in_ok-add-in-Ok.ensures))
+    (news_told (λ (m : NodeState) (records : List RecordState). Tells (sends_snapshots (tables m) records) c.join.new.out.items c.tell_new_children.new.out.items) c.args.self.now c.add.new.self (up_as c.args.self.now c.args.link c.args.peer.now Router) c.in_ok-before.before.family (up_state c.args.self.now c.take_before.new.self c.join.new.self c.add.new.self c.args.link c.args.peer.now c.in_ok-before.ensures.same c.in-Ok.ensures.state c.in_ok-add-in-Ok.ensures) refl
+    c.in_ok-before.ensures.children c.in_ok-before.ensures.none refl c.in_ok-tell_new_children-in-Ok.ensures.sends)
+    (c.in_ok-tell_new_children-in-Ok.ensures.same ∙ (up_state c.args.self.now c.take_before.new.self c.join.new.self c.add.new.self c.args.link c.args.peer.now c.in_ok-before.ensures.same c.in-Ok.ensures.state c.in_ok-add-in-Ok.ensures))

@@ -4,6 +4,7 @@ use Rattle.zr_tree.specs.Tree.{dist}
 use Rattle.zr_tree.specs.Walk.{graph_of}
 use Rattle.zr_tree.proofs.Ancestors.{depth_reached, depth_unreached, step_of, toward_unreached_dest, toward_no_farther, toward_found, toward_other}
 use Rattle.zr_tree.proofs.Levels.{name_in, one_index}
+use Rattle.zr_tree.proofs.Reaches.{toward_reached}
 use Rattle.zr_tree.proofs.trees.Trees.child_toward.Goals as goal
 use Rattle.zr_tree.proofs.trees.Trees.child_toward.Goals.{then-far-via-then-far, then-far-via-else-far+then-far-depth}
 
@@ -29,6 +30,12 @@ returns-then-hop-at-clause-child c =
     sym (toward_found rs (name rs c.args.root) (name rs c.args.at) (name rs c.args.dest) c.hop-far.result.depth (name rs c.ancestor-child.result)
     (sym c.hop-far.ensures.kept.1.depth ∙ depth_reached c.hop-far.result.depth c.if-far.false)
     c.ancestor-child.ensures.above (step.parent_to ∙ ap (λ (x : ℕ). Some (name rs x)) c.if-hop-at.true) (name_in rs c.ancestor-child.result c.ancestor-child.ensures.within))
+
+pub returns-then-hop-at-clause-reached : goal.returns-then-hop-at-clause-reached
+returns-then-hop-at-clause-reached c =
+    let rs = c.args.self.now in
+    let found = returns-then-hop-at-clause-child c in
+    λ h. toward_reached rs c.hop.ensures.ascending (name rs c.args.root) (name rs c.args.at) (name rs c.args.dest) _ (sym found)
 
 pub returns-else-hop-at-clause-child : goal.returns-else-hop-at-clause-child
 returns-else-hop-at-clause-child c =

@@ -1,0 +1,243 @@
+-- Distances are the same both ways, so the children of one router are told by the distances from it, from the child, and from the neighbours
+-- of the child that come before it.
+use Rattle.std.proofs.Common.{◌≡◌, ℕ, ◌+◌, ◌<◌, ◌≤◌, zero, suc, Bool, true, false, cond, not, ◌&&◌, ◌||◌, ◌==◌, List, [], ◌∷◌, ◌++◌, Option, Some, None, All, ◌⊎◌, inl, inr, length, get_or, map, take, drop, refl, sym, ap, ◌∙◌, subst, arith}
+use Rattle.std.specs.List.{find, list_any, position, position_or_len, range_with_len}
+use Rattle.std.specs.Option.{option_map_or}
+use Rattle.std.proofs.lemmas.Bool.{false≢true, cases_Bool, cases_lt, false_from_ne_true, eq-eqb, eqb-true}
+use Rattle.std.proofs.Math.Seq.{drop-cons}
+use Rattle.std.proofs.lemmas.Bool.Decides.{nat_tests}
+use Rattle.std.proofs.lemmas.List.{length_push, length-take-le, get_or_push, get_or_append_left, get_or-take, map-append, take-append-drop}
+use Rattle.std.proofs.lemmas.List.FromFn.{get_or-map-range_with_len}
+use Rattle.std.proofs.lemmas.List.Quantifiers.{position-Some}
+use Rattle.std.proofs.lemmas.List.Sums.{fails_before_first}
+use Rattle.zr_id.specs.Record.{RecordState}
+use Rattle.zr_id.specs.Zid.{is_named}
+use Rattle.zr_graph.specs.Base.{BaseState}
+use Rattle.zr_graph.specs.Record.{ids, has}
+use Rattle.zr_graph.proofs.Names.{same_is, same_refl}
+use Rattle.zr_tree.specs.OwnChildren.{is_nearer, is_first, AreAllDistances, ArePassed, AreFlags, AreAllFlags, IsFamily}
+use Rattle.zr_tree.specs.Index.{EdgeTable, AreEdges, name, row}
+use Rattle.zr_tree.specs.Laws.{IsGraph}
+use Rattle.zr_tree.specs.Same.{HaveSameEdges}
+use Rattle.zr_tree.specs.Search.{AreDistances, kept_at}
+use Rattle.zr_tree.specs.Tree.{dist, is_child, is_sum}
+use Rattle.zr_tree.specs.Walk.{Graph, graph_of, IsDistance, near}
+use Rattle.zr_tree.proofs.Branches.{parent_is, child_is}
+use Rattle.zr_tree.proofs.Finds.{In, find_in, in_map, in_place, same_find}
+use Rattle.zr_tree.proofs.Levels.{all_in, one_index}
+use Rattle.zr_tree.proofs.Paths.{exact, graph_is, walk_back}
+use Rattle.zr_tree.proofs.Stays.{as_long, ascending_still, child_stays, name_stays}
+use Rattle.zr_tree.proofs.Unknown.{parent_unknown_at, parent_unknown_root}
+
+-- ---- distances are the same both ways
+
+module _ (g : Graph) (is : IsGraph g) where
+  distance_back : (x z : List ℕ) (n : ℕ) → IsDistance g x z n → IsDistance g z x n
+  distance_back x z n d =
+      let w = walk_back g is x z d.walk.0 d.walk.1 in
+      record {
+        walk = (w.0, w.1, w.2 ∙ d.walk.2);
+        shortest = λ path h. let v = walk_back g is z x path h in omega (arith, d.shortest v.0 v.1, v.2);
+      }
+
+  some_back : (x z : List ℕ) (n : ℕ) → dist g x z ≡ Some n → dist g z x ≡ Some n
+  some_back x z n e = (exact g is z x n).is_found (distance_back x z n ((exact g is x z n).is_shortest e))
+
+  pub dist_back : (x z : List ℕ) → dist g x z ≡ dist g z x
+  dist_back x z = by (dist g x z) refl (dist g z x) refl
+    where
+      by : (o : Option ℕ) → dist g x z ≡ o → (p : Option ℕ) → dist g z x ≡ p → o ≡ p
+      by None e None f = refl
+      by None e (Some m) f = let s : None ≡ Some m = sym e ∙ some_back z x m f in absurd (cc)
+      by (Some n) e p f = sym (some_back x z n e) ∙ f
+
+-- ---- whether the first that passes is this one
+
+module _ (p : List ℕ → Bool) (me : List ℕ) (after : List (List ℕ)) where
+  none_behind : p me ≡ false → option_map_or (λ q. is_named q me) (find p after) false ≡ false
+  none_behind fails = by (find p after) refl
+    where
+      by : (o : Option (List ℕ)) → find p after ≡ o → option_map_or (λ q. is_named q me) o false ≡ false
+      by None e = refl
+      by (Some z) e = false_from_ne_true _ (λ t. false≢true (sym fails ∙ ap p (sym (same_is z me t)) ∙ (find_in p after z e).1))
+
+  named_first : (before : List (List ℕ)) → ((z : List ℕ) → In z before → is_named z me ≡ false) →
+      option_map_or (λ q. is_named q me) (find p (before ++ me ∷ after)) false ≡ (p me && not (list_any p before))
+  named_first [] apart = by (p me) refl
+    where
+      by : (t : Bool) → p me ≡ t → option_map_or (λ q. is_named q me) (cond t (Some me) (find p after)) false ≡ (t && true)
+      by true e = same_refl me
+      by false e = none_behind e
+  named_first (z ∷ zs) apart = by (p z) (p me) (named_first zs (λ w i. apart w (inr i)))
+    where
+      by : (t u : Bool) → option_map_or (λ q. is_named q me) (find p (zs ++ me ∷ after)) false ≡ (u && not (list_any p zs)) →
+          option_map_or (λ q. is_named q me) (cond t (Some z) (find p (zs ++ me ∷ after))) false ≡ (u && not (t || list_any p zs))
+      by true true ih = apart z (inl refl)
+      by true false ih = apart z (inl refl)
+      by false u ih = ih
+
+-- a router is one nearer to a root than y
+abbrev farther : Graph → List ℕ → List ℕ → List ℕ → Bool
+farther g root y z = is_sum (dist g z root) 1 (dist g y root)
+
+module _ (g : Graph) (is : IsGraph g) (root me y : List ℕ) (before after : List (List ℕ)) (split : near g y ≡ before ++ me ∷ after)
+    (apart : (z : List ℕ) → In z before → is_named z me ≡ false) where
+  child_by : is_child g root me y ≡ (farther g root y me && not (list_any (farther g root y) before))
+  child_by =
+      ap (λ o. option_map_or (λ q. is_named q me) o false)
+      (same_find (λ z. is_sum (dist g root z) 1 (dist g root y)) (farther g root y) (near g y)
+      (λ z i. ap (λ o. is_sum o 1 (dist g root y)) (dist_back g is root z) ∙ ap (λ o. is_sum (dist g z root) 1 o) (dist_back g is root y)))
+      ∙ ap (λ zs. option_map_or (λ q. is_named q me) (find (farther g root y) zs) false) split
+      ∙ named_first (farther g root y) me after before apart
+
+-- ---- by index
+
+module _ {X : Type 0} where
+  taken_in : (k : ℕ) (xs : List X) (x : X) → In x (take k xs) → In x xs
+  taken_in k [] x i = by k i
+    where
+      by : (k : ℕ) → In x (take k []) → ⊥
+      by zero i = i
+      by (suc k) i = i
+  taken_in zero (y ∷ xs) x i = absurd i
+  taken_in (suc k) (y ∷ xs) x (inl i) = inl i
+  taken_in (suc k) (y ∷ xs) x (inr i) = inr (taken_in k xs x i)
+
+module _ {X : Type 0} (p : X → Bool) (xs : List X) where
+  -- where there is no place no element passes
+  none_place : position p xs ≡ None → (x : X) → In x xs → p x ≡ false
+  none_place none x i =
+      let f = in_place xs x x i in
+      let le : length xs ≤ position_or_len p xs = grind (arith, nat_tests) in
+      ap p (sym f.2) ∙ fails_before_first p xs f.0 x (omega (arith, f.1, le))
+
+  -- none of those passes that stand before the place
+  fails_before : (k : ℕ) → position p xs ≡ Some k → (x : X) → In x (take k xs) → p x ≡ false
+  fails_before k found x i =
+      let at = position-Some p xs k x found in
+      let f = in_place (take k xs) x x i in
+      let n : length (take k xs) ≡ k = length-take-le k xs (omega (arith, at.0)) in
+      let lt : f.0 < k = omega (arith, f.1, n) in
+      ap p (sym f.2 ∙ get_or-take k xs f.0 x lt) ∙ at.2 f.0 lt
+
+module _ (e : EdgeTable) (right : AreEdges e) (me y : ℕ) (known : me < length e.records) (here : y < length e.records) where
+  -- who is no neighbour is no parent
+  pub none_flagged : position (λ z. z == me) (row e.rows y) ≡ None → AreFlags e.records (name e.records me) y []
+  none_flagged none root lt = sym (false_from_ne_true _ (λ t. no (in_map (name e.records) (row e.rows y) (name e.records me) (beside t))))
+    where
+      beside : is_child (graph_of e.records) (name e.records root) (name e.records me) (name e.records y) ≡ true → In (name e.records me) (map (name e.records) (row e.rows y))
+      beside t =
+          let p = parent_is (graph_of e.records) (name e.records root) (name e.records y) (name e.records me) (child_is (graph_of e.records) (name e.records root) (name e.records me) (name e.records y) t) in
+          let P : List (List ℕ) → Type 0 = λ zs. In (name e.records me) zs in
+          subst P (sym (right.neighbours y here)) p.1.neighbour
+
+      no : (z : ℕ) × In z (row e.rows y) × (name e.records z ≡ name e.records me) → ⊥
+      no f =
+          let same : f.0 ≡ me = one_index e.records f.0 me right.ascending (all_in (row e.rows y) (length e.records) f.0 (right.within y here) f.1) known f.2 in
+          false≢true (sym (none_place (λ z. z == me) (row e.rows y) none f.0 f.1) ∙ eq-eqb f.0 me same)
+
+  module _ (k : ℕ) (found : position (λ z. z == me) (row e.rows y) ≡ Some k) where
+    split : near (graph_of e.records) (name e.records y) ≡ map (name e.records) (take k (row e.rows y)) ++ name e.records me ∷ map (name e.records) (drop (suc k) (row e.rows y))
+    split =
+        let at = position-Some (λ z. z == me) (row e.rows y) k 0 found in
+        let mine : get_or (row e.rows y) k 0 ≡ me = eqb-true _ me at.1 in
+        sym (right.neighbours y here)
+        ∙ ap (map (name e.records)) (sym (take-append-drop k (row e.rows y)) ∙ ap (λ zs. take k (row e.rows y) ++ zs) (drop-cons (row e.rows y) k 0 at.0 ∙ ap (λ z. z ∷ drop (suc k) (row e.rows y)) mine))
+        ∙ map-append (name e.records) (take k (row e.rows y)) (me ∷ drop (suc k) (row e.rows y))
+
+    apart : (z : List ℕ) → In z (map (name e.records) (take k (row e.rows y))) → is_named z (name e.records me) ≡ false
+    apart z i = false_from_ne_true _ (λ t. no (in_map (name e.records) (take k (row e.rows y)) z i) (same_is z (name e.records me) t))
+      where
+        no : (j : ℕ) × In j (take k (row e.rows y)) × (name e.records j ≡ z) → z ≡ name e.records me → ⊥
+        no f same =
+            let lt : f.0 < length e.records = all_in (row e.rows y) (length e.records) f.0 (right.within y here) (taken_in k (row e.rows y) f.0 f.1) in
+            let e' : f.0 ≡ me = one_index e.records f.0 me right.ascending lt known (f.2 ∙ same) in
+            false≢true (sym (fails_before (λ z. z == me) (row e.rows y) k found f.0 f.1) ∙ eq-eqb f.0 me e')
+
+    -- the others are as near as their distances say
+    module _ (far : List (Option ℕ)) (from : AreDistances e y far) (root : ℕ) (lt : root < length e.records) where
+      nearer_by : (z : ℕ) (d : List (Option ℕ)) → AreDistances e z d → is_nearer d far root ≡ farther (graph_of e.records) (name e.records root) (name e.records y) (name e.records z)
+      nearer_by z d h = ap (λ o. is_sum o 1 (kept_at far root)) (h.exact root lt) ∙ ap (λ o. is_sum (dist (graph_of e.records) (name e.records z) (name e.records root)) 1 o) (from.exact root lt)
+
+      any_nearer : (zs : List ℕ) (ds : List (List (Option ℕ))) → AreAllDistances e zs ds →
+          list_any (λ d. is_nearer d far root) ds ≡ list_any (farther (graph_of e.records) (name e.records root) (name e.records y)) (map (name e.records) zs)
+      any_nearer [] [] h = refl
+      any_nearer [] (d ∷ ds) h = absurd (omega (arith, h.long))
+      any_nearer (z ∷ zs) [] h = absurd (omega (arith, h.long))
+      any_nearer (z ∷ zs) (d ∷ ds) h =
+          ap (λ t. t || list_any (λ d. is_nearer d far root) ds) (nearer_by z d (h.each 0 (omega arith)))
+          ∙ ap (λ t. farther (graph_of e.records) (name e.records root) (name e.records y) (name e.records z) || t)
+          (any_nearer zs ds (record { long = omega (arith, h.long); each = λ i l. h.each (suc i) (omega arith) }))
+
+    pub passed_flags : (mine : List (Option ℕ)) (flags : List Bool) → AreDistances e me mine → ArePassed e mine y (take k (row e.rows y)) flags → AreFlags e.records (name e.records me) y flags
+    passed_flags mine flags own h root lt =
+        h.4 root lt
+        ∙ ap (λ t. t && not (list_any (λ d. is_nearer d h.0 root) h.1)) (nearer_by h.0 h.2 root lt me mine own)
+        ∙ ap (λ t. farther (graph_of e.records) (name e.records root) (name e.records y) (name e.records me) && not t) (any_nearer h.0 h.2 root lt (take k (row e.rows y)) h.1 h.3)
+        ∙ sym (child_by (graph_of e.records) (graph_is e.records right.ascending) (name e.records root) (name e.records me) (name e.records y)
+        (map (name e.records) (take k (row e.rows y))) (map (name e.records) (drop (suc k) (row e.rows y))) split apart)
+
+-- ---- the loops
+
+-- one router more
+pub distances_more : (e : EdgeTable) (froms : List ℕ) (k : ℕ) (all : List (List (Option ℕ))) (d : List (Option ℕ)) → k < length froms →
+    AreAllDistances e (take k froms) all → AreDistances e (get_or froms k 0) d → AreAllDistances e (take (k + 1) froms) (all ++ d ∷ [])
+distances_more e froms k all d lt h one =
+    let short : length (take k froms) ≡ k = length-take-le k froms (omega arith) in
+    let long : length (take (k + 1) froms) ≡ k + 1 = length-take-le (k + 1) froms (omega arith) in
+    let count : length all ≡ k = h.long ∙ short in
+    record {
+      long = length_push all d ∙ ap (λ (n : ℕ). n + 1) count ∙ sym long;
+      each = λ i l. elim (cases_lt i k) [
+        | inl less ↦ (let same : get_or (take k froms) i 0 ≡ get_or (take (k + 1) froms) i 0 = get_or-take k froms i 0 less ∙ sym (get_or-take (k + 1) froms i 0 (omega arith)) in
+            let before = h.each i (omega (arith, short)) in
+            let P : ℕ → Type 0 = λ z. AreDistances e z (get_or all i []) in
+            rw (get_or_append_left all (d ∷ []) [] i (omega (arith, count))) (subst P same before))
+        | inr last ↦ (let i_is : k ≡ i = omega (arith, long) in
+            let same : get_or froms k 0 ≡ get_or (take (k + 1) froms) i 0 = ap (λ (n : ℕ). get_or froms n 0) i_is ∙ sym (get_or-take (k + 1) froms i 0 (omega arith)) in
+            let P : ℕ → Type 0 = λ z. AreDistances e z d in
+            rw (get_or_push all d [] i (count ∙ i_is)) (subst P same one))
+      ];
+    }
+
+pub flags_more : (rs : List RecordState) (me : List ℕ) (y : ℕ) (all : List (List Bool)) (flags : List Bool) → length all ≡ y →
+    ((z : ℕ) → z < y → AreFlags rs me z (get_or all z [])) → AreFlags rs me y flags → (z : ℕ) → z < y + 1 → AreFlags rs me z (get_or (all ++ flags ∷ []) z [])
+flags_more rs me y all flags long each here z lt = elim (cases_lt z y) [
+  | inl less ↦ (let n : z < length all = omega (arith, long) in rw (get_or_append_left all (flags ∷ []) [] z n) (each z less))
+  | inr last ↦ (let i : y ≡ z = omega arith in
+      let P : ℕ → Type 0 = λ w. AreFlags rs me w flags in
+      rw (get_or_push all flags [] z (long ∙ i)) (subst P i here))
+]
+
+-- by the flags of all roots
+pub flags_by : (e : EdgeTable) (mine : List (Option ℕ)) (y : ℕ) (others : List ℕ) (far : List (Option ℕ)) (all : List (List (Option ℕ))) (flags : List Bool) (count : ℕ) → count ≡ length e.records →
+    AreDistances e y far → AreAllDistances e others all → flags ≡ map (is_first mine all far) (range_with_len 0 count) → ArePassed e mine y others flags
+flags_by e mine y others far all flags count long from each is =
+    (far, all, from, each, λ root lt. ap (λ fs. get_or fs root false) is ∙ get_or-map-range_with_len (is_first mine all far) 0 count root root false (omega (arith, long, lt)) (omega arith))
+
+-- a router that the records don't know is no child, and is in no tree
+module _ (rs : List RecordState) (root me y : List ℕ) where
+  pub unknown_child : has (ids rs) y ≡ false → is_child (graph_of rs) root me y ≡ false
+  unknown_child h = ap (λ o. option_map_or (λ p. is_named p me) o false) (parent_unknown_at rs root y h)
+
+  pub unknown_root : has (ids rs) root ≡ false → is_child (graph_of rs) root me y ≡ false
+  unknown_root h = ap (λ o. option_map_or (λ p. is_named p me) o false) (parent_unknown_root rs root y h)
+
+-- ---- where no edge comes or goes
+
+pub family_stays : (b c : BaseState) (names : List (List ℕ)) (all : List (List Bool)) → b.me ≡ c.me → HaveSameEdges b.records c.records → IsFamily b names all → IsFamily c names all
+family_stays b c names all own same h =
+    let long : length b.records ≡ length c.records = as_long b.records c.records same in
+    record {
+      names_are = h.names_are ∙ same.names;
+      ascending = ascending_still b.records c.records same;
+      flags = record {
+        long = h.flags.long ∙ long;
+        each = λ y l root lt.
+            h.flags.each y (omega (arith, long, l)) root (omega (arith, long, lt))
+            ∙ child_stays b.records c.records same (name b.records root) b.me (name b.records y)
+            ∙ ap (λ z. is_child (graph_of c.records) z b.me (name b.records y)) (name_stays b.records c.records same root)
+            ∙ ap (λ z. is_child (graph_of c.records) (name c.records root) b.me z) (name_stays b.records c.records same y)
+            ∙ ap (λ z. is_child (graph_of c.records) (name c.records root) z (name c.records y)) own;
+      };
+    }
