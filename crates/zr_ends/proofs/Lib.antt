@@ -1,4 +1,3 @@
 pub mod Same
 pub mod Index
-pub mod Names
 pub mod First

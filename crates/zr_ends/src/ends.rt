@@ -8,7 +8,6 @@ ghost use Rattle.zr_ends.specs.Steps.{Gives, changed_at, returned, from_wire, fr
 
 use crate::end::{LinkEnd, Tagged};
 use crate::end_set::first;
-use crate::name::{EndName, name_of};
 use crate::waiting;
 use std::alloc::{AllocError, Global};
 use std::collections::{BTreeMap, BTreeSet};
@@ -21,9 +20,9 @@ use zr_msg::msg::Msg;
 /// handled, and those at which one can be taken: so the first is found without a search through all ends.
 #[derive(Debug, Drop)]
 pub struct Ends {
-    map: BTreeMap<EndName, LinkEnd>,
-    to_handle: BTreeSet<EndName>,
-    to_take: BTreeSet<EndName>,
+    map: BTreeMap<(Zid, Zid), LinkEnd>,
+    to_handle: BTreeSet<(Zid, Zid)>,
+    to_take: BTreeSet<(Zid, Zid)>,
 }
 
 impl Model for Ends {
@@ -50,7 +49,7 @@ impl Ends {
     }
 
     /// The ends as a map, for reading.
-    pub fn map(&self) -> &BTreeMap<EndName, LinkEnd>
+    pub fn map(&self) -> &BTreeMap<(Zid, Zid), LinkEnd>
         ensures { result.now.entries ≡ self.now }
     {
         &self.map
@@ -60,7 +59,7 @@ impl Ends {
     pub fn get(&self, at: (Zid, Zid)) -> Option<&LinkEnd>
         ensures { option_copied result ≡ end_of self.now at }
     {
-        self.map.get(&name_of(at))
+        self.map.get(&at)
     }
 
     /// An end at which nothing waits comes, or takes the place of one.
@@ -72,7 +71,7 @@ impl Ends {
             &mut self.map,
             &mut self.to_handle,
             &mut self.to_take,
-            name_of(at),
+            at,
             new,
         )
     }
@@ -81,43 +80,28 @@ impl Ends {
     pub fn lift(&mut self, at: (Zid, Zid)) -> Result<(), AllocError>
         ensures { OnOk result (self.new ≡ changed_at self.old at lifted (end_of self.old at)) }
     {
-        waiting::lift(
-            &mut self.map,
-            &mut self.to_handle,
-            &mut self.to_take,
-            name_of(at),
-        )
+        waiting::lift(&mut self.map, &mut self.to_handle, &mut self.to_take, at)
     }
 
     /// An end goes down, where it is there, and what was queued is lost.
     pub fn lower(&mut self, at: (Zid, Zid))
         ensures { self.new ≡ changed self.old at lowered }
     {
-        waiting::lower(
-            &mut self.map,
-            &mut self.to_handle,
-            &mut self.to_take,
-            name_of(at),
-        );
+        waiting::lower(&mut self.map, &mut self.to_handle, &mut self.to_take, at);
     }
 
     /// The link of an end breaks, where the end is there, and what was on the wire is lost.
     pub fn break_off(&mut self, at: (Zid, Zid))
         ensures { self.new ≡ changed self.old at broken }
     {
-        waiting::break_off(
-            &mut self.map,
-            &mut self.to_handle,
-            &mut self.to_take,
-            name_of(at),
-        );
+        waiting::break_off(&mut self.map, &mut self.to_handle, &mut self.to_take, at);
     }
 
     /// A message comes onto the wire to an end, where that is there.
     pub fn send(&mut self, at: (Zid, Zid), msg: Msg, tag: u64) -> Result<(), AllocError>
         ensures { OnOk result (self.new ≡ changed_at self.old at (λ s. sent s msg tag) (end_of self.old at)) }
     {
-        waiting::send(&mut self.map, &mut self.to_handle, name_of(at), msg, tag)
+        waiting::send(&mut self.map, &mut self.to_handle, at, msg, tag)
     }
 
     /// A copy of a message comes onto the wire to an end, where that is there.
@@ -131,35 +115,35 @@ impl Ends {
         ensures { OnOk result (self.new ≡ changed self.old at (λ s. sent s msg.now tag)) }
     {
         let copy = msg.copy(alloc)?;
-        waiting::send(&mut self.map, &mut self.to_handle, name_of(at), copy, tag)
+        waiting::send(&mut self.map, &mut self.to_handle, at, copy, tag)
     }
 
     /// A message is queued at an end, where that is there.
     pub fn enqueue(&mut self, at: (Zid, Zid), msg: Msg, tag: u64) -> Result<(), AllocError>
         ensures { OnOk result (self.new ≡ changed self.old at (λ s. queued s (msg ∷ []) tag)) }
     {
-        waiting::enqueue(&mut self.map, &mut self.to_take, name_of(at), msg, tag)
+        waiting::enqueue(&mut self.map, &mut self.to_take, at, msg, tag)
     }
 
     /// The oldest message on the wire to an end that is up, which leaves it.
     pub fn next_sent(&mut self, at: (Zid, Zid)) -> Result<Tagged, ScriptError>
         ensures { Gives result (from_wire self.old at) self.old self.new }
     {
-        waiting::next_sent(&mut self.map, &mut self.to_handle, name_of(at))
+        waiting::next_sent(&mut self.map, &mut self.to_handle, at)
     }
 
     /// A message that was taken off the wire to an end is back on it, before all others, where the end is there.
     pub fn put_back(&mut self, at: (Zid, Zid), x: Tagged) -> Result<(), AllocError>
         ensures { OnOk result (self.new ≡ changed_at self.old at (λ s. returned s x) (end_of self.old at)) }
     {
-        waiting::put_back(&mut self.map, &mut self.to_handle, name_of(at), x)
+        waiting::put_back(&mut self.map, &mut self.to_handle, at, x)
     }
 
     /// The oldest message that is queued at an end that is up, where the link is unbroken. It leaves the queue.
     pub fn next_queued(&mut self, at: (Zid, Zid)) -> Result<Tagged, ScriptError>
         ensures { Gives result (from_queue self.old at) self.old self.new }
     {
-        waiting::next_queued(&mut self.map, &mut self.to_take, name_of(at))
+        waiting::next_queued(&mut self.map, &mut self.to_take, at)
     }
 
     /// The first end, by router and then by neighbour, at which a message can be handled.

@@ -5,5 +5,4 @@
 pub mod end;
 mod end_set;
 pub mod ends;
-pub mod name;
 mod waiting;

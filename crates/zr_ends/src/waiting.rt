@@ -9,18 +9,18 @@ ghost use Rattle.zr_ends.specs.Steps.{Gives, changed_at, returned, from_wire, fr
 
 use crate::end::{LinkEnd, Tagged};
 use crate::end_set::{drop_unless, note};
-use crate::name::EndName;
 use std::alloc::AllocError;
 use std::collections::{BTreeMap, BTreeSet};
 use zr_command::error::ScriptError;
+use zr_id::zid::Zid;
 use zr_msg::msg::Msg;
 
 /// A message comes onto the wire of an end.
 #[tactic(auto, using(std::proofs::lemmas::Map::Steps::set_value_same))]
 pub fn send(
-    map: &mut BTreeMap<EndName, LinkEnd>,
-    to_handle: &mut BTreeSet<EndName>,
-    at: EndName,
+    map: &mut BTreeMap<(Zid, Zid), LinkEnd>,
+    to_handle: &mut BTreeSet<(Zid, Zid)>,
+    at: (Zid, Zid),
     msg: Msg,
     tag: u64,
 ) -> Result<(), AllocError>
@@ -39,9 +39,9 @@ pub fn send(
 /// A message comes into the queue of an end.
 #[tactic(auto, using(std::proofs::lemmas::Map::Steps::set_value_same))]
 pub fn enqueue(
-    map: &mut BTreeMap<EndName, LinkEnd>,
-    to_take: &mut BTreeSet<EndName>,
-    at: EndName,
+    map: &mut BTreeMap<(Zid, Zid), LinkEnd>,
+    to_take: &mut BTreeSet<(Zid, Zid)>,
+    at: (Zid, Zid),
     msg: Msg,
     tag: u64,
 ) -> Result<(), AllocError>
@@ -60,9 +60,9 @@ pub fn enqueue(
 /// The oldest message on the wire of an end that is up, which leaves it.
 #[tactic(auto, using(std::proofs::lemmas::Map::Steps::set_value_same), unfolding(crate::specs::Steps::from_wire))]
 pub fn next_sent(
-    map: &mut BTreeMap<EndName, LinkEnd>,
-    to_handle: &mut BTreeSet<EndName>,
-    at: EndName,
+    map: &mut BTreeMap<(Zid, Zid), LinkEnd>,
+    to_handle: &mut BTreeSet<(Zid, Zid)>,
+    at: (Zid, Zid),
 ) -> Result<Tagged, ScriptError>
     ensures steps { Gives result (from_wire map.old.entries at) map.old.entries map.new.entries }
     ensures index { (to_take : List End) → IsIndexed map.old.entries to_handle.old.keys to_take → IsIndexed map.new.entries to_handle.new.keys to_take }
@@ -83,9 +83,9 @@ pub fn next_sent(
 /// A message that was taken off the wire of an end is back on it, before all others.
 #[tactic(auto, using(std::proofs::lemmas::Map::Steps::set_value_same))]
 pub fn put_back(
-    map: &mut BTreeMap<EndName, LinkEnd>,
-    to_handle: &mut BTreeSet<EndName>,
-    at: EndName,
+    map: &mut BTreeMap<(Zid, Zid), LinkEnd>,
+    to_handle: &mut BTreeSet<(Zid, Zid)>,
+    at: (Zid, Zid),
     x: Tagged,
 ) -> Result<(), AllocError>
     ensures back { OnOk result (map.new.entries ≡ changed_at map.old.entries at (λ s. returned s x) (end_of map.old.entries at)) }
@@ -103,9 +103,9 @@ pub fn put_back(
 /// The oldest message in the queue of an end that is up, where the link is unbroken. It leaves the queue.
 #[tactic(auto, using(std::proofs::lemmas::Map::Steps::set_value_same), unfolding(crate::specs::Steps::from_queue))]
 pub fn next_queued(
-    map: &mut BTreeMap<EndName, LinkEnd>,
-    to_take: &mut BTreeSet<EndName>,
-    at: EndName,
+    map: &mut BTreeMap<(Zid, Zid), LinkEnd>,
+    to_take: &mut BTreeSet<(Zid, Zid)>,
+    at: (Zid, Zid),
 ) -> Result<Tagged, ScriptError>
     ensures steps { Gives result (from_queue map.old.entries at) map.old.entries map.new.entries }
     ensures index { (to_handle : List End) → IsIndexed map.old.entries to_handle to_take.old.keys → IsIndexed map.new.entries to_handle to_take.new.keys }
@@ -129,10 +129,10 @@ pub fn next_queued(
 /// An end comes up.
 #[tactic(auto, using(std::proofs::lemmas::Map::Steps::set_value_same))]
 pub fn lift(
-    map: &mut BTreeMap<EndName, LinkEnd>,
-    to_handle: &mut BTreeSet<EndName>,
-    to_take: &mut BTreeSet<EndName>,
-    at: EndName,
+    map: &mut BTreeMap<(Zid, Zid), LinkEnd>,
+    to_handle: &mut BTreeSet<(Zid, Zid)>,
+    to_take: &mut BTreeSet<(Zid, Zid)>,
+    at: (Zid, Zid),
 ) -> Result<(), AllocError>
     ensures lifted { OnOk result (map.new.entries ≡ changed_at map.old.entries at lifted (end_of map.old.entries at)) }
     ensures index { IsIndexed map.old.entries to_handle.old.keys to_take.old.keys → IsIndexed map.new.entries to_handle.new.keys to_take.new.keys }
@@ -154,10 +154,10 @@ pub fn lift(
 /// An end goes down, and what was queued there is lost.
 #[tactic(auto, using(std::proofs::lemmas::Map::Steps::set_value_same))]
 pub fn lower(
-    map: &mut BTreeMap<EndName, LinkEnd>,
-    to_handle: &mut BTreeSet<EndName>,
-    to_take: &mut BTreeSet<EndName>,
-    at: EndName,
+    map: &mut BTreeMap<(Zid, Zid), LinkEnd>,
+    to_handle: &mut BTreeSet<(Zid, Zid)>,
+    to_take: &mut BTreeSet<(Zid, Zid)>,
+    at: (Zid, Zid),
 )
     ensures lowered { map.new.entries ≡ changed_at map.old.entries at lowered (end_of map.old.entries at) }
     ensures index { IsIndexed map.old.entries to_handle.old.keys to_take.old.keys → IsIndexed map.new.entries to_handle.new.keys to_take.new.keys }
@@ -173,10 +173,10 @@ pub fn lower(
 /// The link of an end breaks, and what was on the wire is lost.
 #[tactic(auto, using(std::proofs::lemmas::Map::Steps::set_value_same))]
 pub fn break_off(
-    map: &mut BTreeMap<EndName, LinkEnd>,
-    to_handle: &mut BTreeSet<EndName>,
-    to_take: &mut BTreeSet<EndName>,
-    at: EndName,
+    map: &mut BTreeMap<(Zid, Zid), LinkEnd>,
+    to_handle: &mut BTreeSet<(Zid, Zid)>,
+    to_take: &mut BTreeSet<(Zid, Zid)>,
+    at: (Zid, Zid),
 )
     ensures broken { map.new.entries ≡ changed_at map.old.entries at broken (end_of map.old.entries at) }
     ensures index { IsIndexed map.old.entries to_handle.old.keys to_take.old.keys → IsIndexed map.new.entries to_handle.new.keys to_take.new.keys }
@@ -191,10 +191,10 @@ pub fn break_off(
 
 /// An end comes, or another one takes its place. Nothing waits there.
 pub fn put(
-    map: &mut BTreeMap<EndName, LinkEnd>,
-    to_handle: &mut BTreeSet<EndName>,
-    to_take: &mut BTreeSet<EndName>,
-    at: EndName,
+    map: &mut BTreeMap<(Zid, Zid), LinkEnd>,
+    to_handle: &mut BTreeSet<(Zid, Zid)>,
+    to_take: &mut BTreeSet<(Zid, Zid)>,
+    at: (Zid, Zid),
     new: LinkEnd,
 ) -> Result<(), AllocError>
     requires { is_idle new ≡ true }
@@ -212,10 +212,10 @@ pub fn put(
 // Another end, at which nothing waits, takes the place of one.
 #[tactic(auto, using(std::proofs::lemmas::Map::Steps::set_value_same))]
 fn replace(
-    map: &mut BTreeMap<EndName, LinkEnd>,
-    to_handle: &mut BTreeSet<EndName>,
-    to_take: &mut BTreeSet<EndName>,
-    at: EndName,
+    map: &mut BTreeMap<(Zid, Zid), LinkEnd>,
+    to_handle: &mut BTreeSet<(Zid, Zid)>,
+    to_take: &mut BTreeSet<(Zid, Zid)>,
+    at: (Zid, Zid),
     new: LinkEnd,
 )
     requires { is_idle new ≡ true }

@@ -4,7 +4,6 @@ ghost use Rattle.std.specs.Prelude.{◌≡◌, length};
 
 use crate::tables::Tables;
 use zr_ends::end::LinkEnd;
-use zr_ends::name::end_of_name;
 use zr_id::zid::Zid;
 
 impl Tables {
@@ -51,7 +50,7 @@ impl Tables {
     {
         let mut count = 0;
         for at in self.ends.map().keys() {
-            if self.is_counted(&end_of_name(at)) {
+            if self.is_counted(at) {
                 count += 1;
             }
         }
@@ -68,7 +67,10 @@ impl Tables {
     pub fn is_settled(&self) -> bool
         ensures { result ≡ is_settled (state_of self.now) }
     {
-        self.ends.map().iter().all(|(at, end)| self.is_met(&end_of_name(at), end) && end.is_calm())
+        self.ends
+            .map()
+            .iter()
+            .all(|(at, end)| self.is_met(at, end) && end.is_calm())
     }
 
     fn is_met(&self, at: &(Zid, Zid), end: &LinkEnd) -> bool

@@ -4,4 +4,4 @@ use Rattle.zr_ends.proofs.Same.{changed_by_look_up}
 use Rattle.zr_ends.proofs.ends.Ends.break_off.Goals as goal
 
 pub returns : goal.returns
-returns c = rw (← c.self.view_is, ← changed_by_look_up c.self.inside.map.entries c.args.at broken c.self.invariant.ordered) (rw c.name_of.ensures at c.break_off.ensures.broken)
+returns c = rw (← c.self.view_is, ← changed_by_look_up c.self.inside.map.entries c.args.at broken c.self.invariant.ordered) c.break_off.ensures.broken

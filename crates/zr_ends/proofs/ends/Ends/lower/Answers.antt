@@ -4,4 +4,4 @@ use Rattle.zr_ends.proofs.Same.{changed_by_look_up}
 use Rattle.zr_ends.proofs.ends.Ends.lower.Goals as goal
 
 pub returns : goal.returns
-returns c = rw (← c.self.view_is, ← changed_by_look_up c.self.inside.map.entries c.args.at lowered c.self.invariant.ordered) (rw c.name_of.ensures at c.lower.ensures.lowered)
+returns c = rw (← c.self.view_is, ← changed_by_look_up c.self.inside.map.entries c.args.at lowered c.self.invariant.ordered) c.lower.ensures.lowered

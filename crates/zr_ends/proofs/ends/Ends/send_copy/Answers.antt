@@ -9,4 +9,4 @@ invariant_of-self c = c.send.ensures.index c.self.inside.to_take.keys c.self.inv
 pub returns : goal.returns
 returns c =
     rw (← c.self.view_is, ← changed_by_look_up c.self.inside.map.entries c.args.at (λ s. sent s c.args.msg.now c.args.tag) c.self.invariant.ordered, ← c.in_ok-copy.ensures)
-    (rw c.name_of.ensures at c.send.ensures.sent)
+    c.send.ensures.sent
