@@ -2,6 +2,7 @@
 //! What a command does stands in the world's crate.
 #![tactic(auto)]
 
+mod args;
 mod body;
 pub mod line;
 mod message;

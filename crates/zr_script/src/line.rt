@@ -1,16 +1,15 @@
 //! `read_line`: what a line of a script asks, or why it is refused.
 
-ghost use Rattle.std.specs.Prelude.{◌≡◌, ◌≤◌, length, true, map, Ok};
+ghost use Rattle.std.specs.Prelude.{◌≡◌, ◌≤◌, length, true, Ok};
 ghost use Rattle.zr_language.specs.Lines.{most_line};
 ghost use Rattle.zr_language.specs.Step.{IsSaid};
 ghost use Rattle.zr_language.specs.Command.{command_of, by_words, by_name, is_command, is_silent, plain, router_line, client_line, link_line, up_line, break_line, down_line, sub_line, unsub_line, able_line, unable_line, interest_line, uninterest_line, put_line, del_line, get_line, reply_line, end_line, handle_line, take_line, run_line, mark_line, show_line};
+ghost use Rattle.zr_language.specs.Words.{words, is_clean};
 ghost use Rattle.zr_script.specs.Short.{are_short};
 
+use crate::args::{aggregate, first, five, four, is, one, three, two};
 use crate::body::{query_body, reply_body};
-use crate::word::{
-    aggregate, five, four, is_clean, key, kinds, mode, number, one, optional_key, payload, target,
-    three, two, words_of, zid,
-};
+use crate::word::{is_clean, key, kinds, mode, number, optional_key, payload, target, zid};
 use std::alloc::Global;
 use zr_body::Body;
 use zr_command::command::{Act, Command};
@@ -25,7 +24,7 @@ pub const MOST_LINE: usize = 4096;
 
 /// The command of a line; none where the line is empty or a comment. A refusal is the first that applies: `Limit` for a line that
 /// is too long, `UnknownCommand`, `BadWords`, `BadKey`.
-#[tactic(auto, using(crate::proofs::Words::words_short), unfolding(zr_language::specs::Command::command_of))]
+#[tactic(auto, unfolding(zr_language::specs::Command::command_of))]
 pub fn read_line(alloc: Global, line: &[u8]) -> Result<Option<Command>, ScriptError>
     ensures { IsSaid result (command_of line.now) }
 {
@@ -35,8 +34,7 @@ pub fn read_line(alloc: Global, line: &[u8]) -> Result<Option<Command>, ScriptEr
     if is_silent(line) {
         return Ok(None);
     }
-    let words = words_of(alloc, line)?;
-    let command = command(alloc, is_clean(line), words.as_slice())?;
+    let command = command(alloc, line)?;
     Ok(Some(command))
 }
 
@@ -50,102 +48,100 @@ fn is_silent(line: &[u8]) -> bool
 }
 
 #[tactic(auto, unfolding(zr_language::specs::Command::by_words))]
-fn command(alloc: Global, clean: bool, words: &[&[u8]]) -> Result<Command, ScriptError>
-    requires { are_short (map (λ w. w.now) words.now) ≡ true }
-    ensures { IsSaid result (by_words clean (map (λ w. w.now) words.now)) }
+fn command(alloc: Global, line: &[u8]) -> Result<Command, ScriptError>
+    requires { length line.now ≤ most_line }
+    ensures { IsSaid result (by_words (is_clean line.now) (words line.now)) }
 {
-    match words {
-        [] => Err(ScriptError::UnknownCommand),
-        [name, args @ ..] => {
-            if !is_command(name) {
-                return Err(ScriptError::UnknownCommand);
-            }
-            if !clean {
-                return Err(ScriptError::BadWords);
-            }
-            by_name(alloc, name, args)
-        }
+    let Some((name, args)) = first(line) else {
+        return Err(ScriptError::UnknownCommand);
+    };
+    if !is_command(name) {
+        return Err(ScriptError::UnknownCommand);
     }
+    if !is_clean(line) {
+        return Err(ScriptError::BadWords);
+    }
+    by_name(alloc, name, args)
 }
 
 fn is_command(name: &[u8]) -> bool
     ensures { result ≡ is_command name.now }
 {
-    name == b"router".as_slice()
-        || name == b"client".as_slice()
-        || name == b"link".as_slice()
-        || name == b"up".as_slice()
-        || name == b"break".as_slice()
-        || name == b"down".as_slice()
-        || name == b"sub".as_slice()
-        || name == b"unsub".as_slice()
-        || name == b"able".as_slice()
-        || name == b"full".as_slice()
-        || name == b"unable".as_slice()
-        || name == b"interest".as_slice()
-        || name == b"uninterest".as_slice()
-        || name == b"put".as_slice()
-        || name == b"del".as_slice()
-        || name == b"get".as_slice()
-        || name == b"reply".as_slice()
-        || name == b"end".as_slice()
-        || name == b"handle".as_slice()
-        || name == b"take".as_slice()
-        || name == b"run".as_slice()
-        || name == b"mark".as_slice()
-        || name == b"show".as_slice()
+    is(name, b"router")
+        || is(name, b"client")
+        || is(name, b"link")
+        || is(name, b"up")
+        || is(name, b"break")
+        || is(name, b"down")
+        || is(name, b"sub")
+        || is(name, b"unsub")
+        || is(name, b"able")
+        || is(name, b"full")
+        || is(name, b"unable")
+        || is(name, b"interest")
+        || is(name, b"uninterest")
+        || is(name, b"put")
+        || is(name, b"del")
+        || is(name, b"get")
+        || is(name, b"reply")
+        || is(name, b"end")
+        || is(name, b"handle")
+        || is(name, b"take")
+        || is(name, b"run")
+        || is(name, b"mark")
+        || is(name, b"show")
 }
 
 #[tactic(auto, unfolding(zr_language::specs::Command::by_name))]
-fn by_name(alloc: Global, name: &[u8], args: &[&[u8]]) -> Result<Command, ScriptError>
-    requires { are_short (map (λ w. w.now) args.now) ≡ true }
-    ensures { IsSaid result (by_name name.now (map (λ w. w.now) args.now)) }
+fn by_name(alloc: Global, name: &[u8], args: &[u8]) -> Result<Command, ScriptError>
+    requires { are_short (words args.now) ≡ true }
+    ensures { IsSaid result (by_name name.now (words args.now)) }
 {
-    if name == b"router".as_slice() {
+    if is(name, b"router") {
         router(args)
-    } else if name == b"client".as_slice() {
+    } else if is(name, b"client") {
         client(args)
-    } else if name == b"link".as_slice() {
+    } else if is(name, b"link") {
         link(args)
-    } else if name == b"up".as_slice() {
+    } else if is(name, b"up") {
         up(args)
-    } else if name == b"break".as_slice() {
+    } else if is(name, b"break") {
         break_link(args)
-    } else if name == b"down".as_slice() {
+    } else if is(name, b"down") {
         down(args)
-    } else if name == b"sub".as_slice() {
+    } else if is(name, b"sub") {
         sub(alloc, args)
-    } else if name == b"unsub".as_slice() {
+    } else if is(name, b"unsub") {
         unsub(args)
-    } else if name == b"able".as_slice() {
+    } else if is(name, b"able") {
         able(alloc, false, args)
-    } else if name == b"full".as_slice() {
+    } else if is(name, b"full") {
         able(alloc, true, args)
-    } else if name == b"unable".as_slice() {
+    } else if is(name, b"unable") {
         unable(args)
-    } else if name == b"interest".as_slice() {
+    } else if is(name, b"interest") {
         interest(alloc, args)
-    } else if name == b"uninterest".as_slice() {
+    } else if is(name, b"uninterest") {
         uninterest(args)
-    } else if name == b"put".as_slice() {
+    } else if is(name, b"put") {
         put(alloc, args)
-    } else if name == b"del".as_slice() {
+    } else if is(name, b"del") {
         del(alloc, args)
-    } else if name == b"get".as_slice() {
+    } else if is(name, b"get") {
         get(alloc, args)
-    } else if name == b"reply".as_slice() {
+    } else if is(name, b"reply") {
         reply(alloc, args)
-    } else if name == b"end".as_slice() {
+    } else if is(name, b"end") {
         end(args)
-    } else if name == b"handle".as_slice() {
+    } else if is(name, b"handle") {
         handle(args)
-    } else if name == b"take".as_slice() {
+    } else if is(name, b"take") {
         take(args)
-    } else if name == b"run".as_slice() {
+    } else if is(name, b"run") {
         run(args)
-    } else if name == b"mark".as_slice() {
+    } else if is(name, b"mark") {
         mark(args)
-    } else if name == b"show".as_slice() {
+    } else if is(name, b"show") {
         show(args)
     } else {
         Err(ScriptError::UnknownCommand)
@@ -153,8 +149,8 @@ fn by_name(alloc: Global, name: &[u8], args: &[&[u8]]) -> Result<Command, Script
 }
 
 #[tactic(auto, unfolding(zr_language::specs::Command::router_line))]
-fn router(args: &[&[u8]]) -> Result<Command, ScriptError>
-    ensures { IsSaid result (router_line (map (λ w. w.now) args.now)) }
+fn router(args: &[u8]) -> Result<Command, ScriptError>
+    ensures { IsSaid result (router_line (words args.now)) }
 {
     let id = zid(one(args)?)?;
     let act = Act::Router { id };
@@ -162,8 +158,8 @@ fn router(args: &[&[u8]]) -> Result<Command, ScriptError>
 }
 
 #[tactic(auto, unfolding(zr_language::specs::Command::client_line))]
-fn client(args: &[&[u8]]) -> Result<Command, ScriptError>
-    ensures { IsSaid result (client_line (map (λ w. w.now) args.now)) }
+fn client(args: &[u8]) -> Result<Command, ScriptError>
+    ensures { IsSaid result (client_line (words args.now)) }
 {
     let (id, router) = two(args)?;
     let id = zid(id)?;
@@ -174,8 +170,8 @@ fn client(args: &[&[u8]]) -> Result<Command, ScriptError>
 
 // A router is never linked to itself.
 #[tactic(auto, unfolding(zr_language::specs::Command::link_line))]
-fn link(args: &[&[u8]]) -> Result<Command, ScriptError>
-    ensures { IsSaid result (link_line (map (λ w. w.now) args.now)) }
+fn link(args: &[u8]) -> Result<Command, ScriptError>
+    ensures { IsSaid result (link_line (words args.now)) }
 {
     let (one, other) = two(args)?;
     let one = zid(one)?;
@@ -188,8 +184,8 @@ fn link(args: &[&[u8]]) -> Result<Command, ScriptError>
 }
 
 #[tactic(auto, unfolding(zr_language::specs::Command::up_line))]
-fn up(args: &[&[u8]]) -> Result<Command, ScriptError>
-    ensures { IsSaid result (up_line (map (λ w. w.now) args.now)) }
+fn up(args: &[u8]) -> Result<Command, ScriptError>
+    ensures { IsSaid result (up_line (words args.now)) }
 {
     let (router, neighbour) = two(args)?;
     let router = zid(router)?;
@@ -199,8 +195,8 @@ fn up(args: &[&[u8]]) -> Result<Command, ScriptError>
 }
 
 #[tactic(auto, unfolding(zr_language::specs::Command::break_line))]
-fn break_link(args: &[&[u8]]) -> Result<Command, ScriptError>
-    ensures { IsSaid result (break_line (map (λ w. w.now) args.now)) }
+fn break_link(args: &[u8]) -> Result<Command, ScriptError>
+    ensures { IsSaid result (break_line (words args.now)) }
 {
     let (router, neighbour) = two(args)?;
     let router = zid(router)?;
@@ -210,8 +206,8 @@ fn break_link(args: &[&[u8]]) -> Result<Command, ScriptError>
 }
 
 #[tactic(auto, unfolding(zr_language::specs::Command::down_line))]
-fn down(args: &[&[u8]]) -> Result<Command, ScriptError>
-    ensures { IsSaid result (down_line (map (λ w. w.now) args.now)) }
+fn down(args: &[u8]) -> Result<Command, ScriptError>
+    ensures { IsSaid result (down_line (words args.now)) }
 {
     let (router, neighbour) = two(args)?;
     let router = zid(router)?;
@@ -221,8 +217,8 @@ fn down(args: &[&[u8]]) -> Result<Command, ScriptError>
 }
 
 #[tactic(auto, unfolding(zr_language::specs::Command::sub_line))]
-fn sub(alloc: Global, args: &[&[u8]]) -> Result<Command, ScriptError>
-    ensures { IsSaid result (sub_line (map (λ w. w.now) args.now)) }
+fn sub(alloc: Global, args: &[u8]) -> Result<Command, ScriptError>
+    ensures { IsSaid result (sub_line (words args.now)) }
 {
     let (client, id, text) = three(args)?;
     let client = zid(client)?;
@@ -233,8 +229,8 @@ fn sub(alloc: Global, args: &[&[u8]]) -> Result<Command, ScriptError>
 }
 
 #[tactic(auto, unfolding(zr_language::specs::Command::unsub_line))]
-fn unsub(args: &[&[u8]]) -> Result<Command, ScriptError>
-    ensures { IsSaid result (unsub_line (map (λ w. w.now) args.now)) }
+fn unsub(args: &[u8]) -> Result<Command, ScriptError>
+    ensures { IsSaid result (unsub_line (words args.now)) }
 {
     let (client, id) = two(args)?;
     let client = zid(client)?;
@@ -244,8 +240,8 @@ fn unsub(args: &[&[u8]]) -> Result<Command, ScriptError>
 }
 
 #[tactic(auto, unfolding(zr_language::specs::Command::able_line))]
-fn able(alloc: Global, complete: bool, args: &[&[u8]]) -> Result<Command, ScriptError>
-    ensures { IsSaid result (able_line complete (map (λ w. w.now) args.now)) }
+fn able(alloc: Global, complete: bool, args: &[u8]) -> Result<Command, ScriptError>
+    ensures { IsSaid result (able_line complete (words args.now)) }
 {
     let (client, id, word) = three(args)?;
     let client = zid(client)?;
@@ -261,8 +257,8 @@ fn able(alloc: Global, complete: bool, args: &[&[u8]]) -> Result<Command, Script
 }
 
 #[tactic(auto, unfolding(zr_language::specs::Command::unable_line))]
-fn unable(args: &[&[u8]]) -> Result<Command, ScriptError>
-    ensures { IsSaid result (unable_line (map (λ w. w.now) args.now)) }
+fn unable(args: &[u8]) -> Result<Command, ScriptError>
+    ensures { IsSaid result (unable_line (words args.now)) }
 {
     let (client, id) = two(args)?;
     let client = zid(client)?;
@@ -272,8 +268,8 @@ fn unable(args: &[&[u8]]) -> Result<Command, ScriptError>
 }
 
 #[tactic(auto, unfolding(zr_language::specs::Command::interest_line))]
-fn interest(alloc: Global, args: &[&[u8]]) -> Result<Command, ScriptError>
-    ensures { IsSaid result (interest_line (map (λ w. w.now) args.now)) }
+fn interest(alloc: Global, args: &[u8]) -> Result<Command, ScriptError>
+    ensures { IsSaid result (interest_line (words args.now)) }
 {
     let (client, id, mode_word, kinds_word, text, behind) = five(args)?;
     let client = zid(client)?;
@@ -294,8 +290,8 @@ fn interest(alloc: Global, args: &[&[u8]]) -> Result<Command, ScriptError>
 }
 
 #[tactic(auto, unfolding(zr_language::specs::Command::uninterest_line))]
-fn uninterest(args: &[&[u8]]) -> Result<Command, ScriptError>
-    ensures { IsSaid result (uninterest_line (map (λ w. w.now) args.now)) }
+fn uninterest(args: &[u8]) -> Result<Command, ScriptError>
+    ensures { IsSaid result (uninterest_line (words args.now)) }
 {
     let (client, id) = two(args)?;
     let client = zid(client)?;
@@ -305,9 +301,9 @@ fn uninterest(args: &[&[u8]]) -> Result<Command, ScriptError>
 }
 
 #[tactic(auto, unfolding(zr_language::specs::Command::put_line))]
-fn put(alloc: Global, args: &[&[u8]]) -> Result<Command, ScriptError>
-    requires { are_short (map (λ w. w.now) args.now) ≡ true }
-    ensures { IsSaid result (put_line (map (λ w. w.now) args.now)) }
+fn put(alloc: Global, args: &[u8]) -> Result<Command, ScriptError>
+    requires { are_short (words args.now) ≡ true }
+    ensures { IsSaid result (put_line (words args.now)) }
 {
     let (client, text, word) = three(args)?;
     let client = zid(client)?;
@@ -317,8 +313,8 @@ fn put(alloc: Global, args: &[&[u8]]) -> Result<Command, ScriptError>
 }
 
 #[tactic(auto, unfolding(zr_language::specs::Command::del_line))]
-fn del(alloc: Global, args: &[&[u8]]) -> Result<Command, ScriptError>
-    ensures { IsSaid result (del_line (map (λ w. w.now) args.now)) }
+fn del(alloc: Global, args: &[u8]) -> Result<Command, ScriptError>
+    ensures { IsSaid result (del_line (words args.now)) }
 {
     let (client, text) = two(args)?;
     let client = zid(client)?;
@@ -337,8 +333,8 @@ fn publish(alloc: Global, client: Zid, key: KeyExpr, body: Body) -> Result<Comma
 }
 
 #[tactic(auto, unfolding(zr_language::specs::Command::get_line))]
-fn get(alloc: Global, args: &[&[u8]]) -> Result<Command, ScriptError>
-    ensures { IsSaid result (get_line (map (λ w. w.now) args.now)) }
+fn get(alloc: Global, args: &[u8]) -> Result<Command, ScriptError>
+    ensures { IsSaid result (get_line (words args.now)) }
 {
     let (client, id, text, word) = four(args)?;
     let client = zid(client)?;
@@ -357,9 +353,9 @@ fn get(alloc: Global, args: &[&[u8]]) -> Result<Command, ScriptError>
 }
 
 #[tactic(auto, unfolding(zr_language::specs::Command::reply_line))]
-fn reply(alloc: Global, args: &[&[u8]]) -> Result<Command, ScriptError>
-    requires { are_short (map (λ w. w.now) args.now) ≡ true }
-    ensures { IsSaid result (reply_line (map (λ w. w.now) args.now)) }
+fn reply(alloc: Global, args: &[u8]) -> Result<Command, ScriptError>
+    requires { are_short (words args.now) ≡ true }
+    ensures { IsSaid result (reply_line (words args.now)) }
 {
     let (client, id, text, word) = four(args)?;
     let client = zid(client)?;
@@ -376,8 +372,8 @@ fn reply(alloc: Global, args: &[&[u8]]) -> Result<Command, ScriptError>
 }
 
 #[tactic(auto, unfolding(zr_language::specs::Command::end_line))]
-fn end(args: &[&[u8]]) -> Result<Command, ScriptError>
-    ensures { IsSaid result (end_line (map (λ w. w.now) args.now)) }
+fn end(args: &[u8]) -> Result<Command, ScriptError>
+    ensures { IsSaid result (end_line (words args.now)) }
 {
     let (client, id) = two(args)?;
     let client = zid(client)?;
@@ -387,8 +383,8 @@ fn end(args: &[&[u8]]) -> Result<Command, ScriptError>
 }
 
 #[tactic(auto, unfolding(zr_language::specs::Command::handle_line))]
-fn handle(args: &[&[u8]]) -> Result<Command, ScriptError>
-    ensures { IsSaid result (handle_line (map (λ w. w.now) args.now)) }
+fn handle(args: &[u8]) -> Result<Command, ScriptError>
+    ensures { IsSaid result (handle_line (words args.now)) }
 {
     let (router, from) = two(args)?;
     let router = zid(router)?;
@@ -398,8 +394,8 @@ fn handle(args: &[&[u8]]) -> Result<Command, ScriptError>
 }
 
 #[tactic(auto, unfolding(zr_language::specs::Command::take_line))]
-fn take(args: &[&[u8]]) -> Result<Command, ScriptError>
-    ensures { IsSaid result (take_line (map (λ w. w.now) args.now)) }
+fn take(args: &[u8]) -> Result<Command, ScriptError>
+    ensures { IsSaid result (take_line (words args.now)) }
 {
     let (router, to) = two(args)?;
     let router = zid(router)?;
@@ -409,26 +405,26 @@ fn take(args: &[&[u8]]) -> Result<Command, ScriptError>
 }
 
 #[tactic(auto, unfolding(zr_language::specs::Command::run_line))]
-fn run(args: &[&[u8]]) -> Result<Command, ScriptError>
-    ensures { IsSaid result (run_line (map (λ w. w.now) args.now)) }
+fn run(args: &[u8]) -> Result<Command, ScriptError>
+    ensures { IsSaid result (run_line (words args.now)) }
 {
     let steps = number(one(args)?)?;
     Ok(Command::Run { steps })
 }
 
 #[tactic(auto, unfolding(zr_language::specs::Command::mark_line))]
-fn mark(args: &[&[u8]]) -> Result<Command, ScriptError>
-    ensures { IsSaid result (mark_line (map (λ w. w.now) args.now)) }
+fn mark(args: &[u8]) -> Result<Command, ScriptError>
+    ensures { IsSaid result (mark_line (words args.now)) }
 {
-    match args {
-        [] => Ok(Command::Act { act: Act::Mark }),
-        _ => Err(ScriptError::BadWords),
+    match first(args) {
+        None => Ok(Command::Act { act: Act::Mark }),
+        Some(_) => Err(ScriptError::BadWords),
     }
 }
 
 #[tactic(auto, unfolding(zr_language::specs::Command::show_line))]
-fn show(args: &[&[u8]]) -> Result<Command, ScriptError>
-    ensures { IsSaid result (show_line (map (λ w. w.now) args.now)) }
+fn show(args: &[u8]) -> Result<Command, ScriptError>
+    ensures { IsSaid result (show_line (words args.now)) }
 {
     let router = zid(one(args)?)?;
     let act = Act::Show { router };

@@ -122,15 +122,31 @@ fn put_sample(tree: &Option<Zid>, content: &Content, out: &mut Vec<u8>) -> Resul
     ensures { OnOk result (out.new.items ≡ out.old.items ++ msg_text (Msg.Push tree.now content.now)) }
 {
     if content.body().is_del() {
-        out.extend_from_slice(b"del ")?;
-        put_optional_id(tree, out)?;
-        out.extend_from_slice(b" ")?;
+        put_kind(b"del ", b"del - ", tree, out)?;
         out.extend_from_slice(content.key().text().as_bytes())
     } else {
-        out.extend_from_slice(b"put ")?;
-        put_optional_id(tree, out)?;
-        out.extend_from_slice(b" ")?;
+        put_kind(b"put ", b"put - ", tree, out)?;
         put_content(content, out)
+    }
+}
+
+// The word of a sample and its tree, or both at once where it has no tree, with the space behind each.
+fn put_kind(
+    word: &[u8],
+    alone: &[u8],
+    tree: &Option<Zid>,
+    out: &mut Vec<u8>,
+) -> Result<(), AllocError>
+    requires { alone.now ≡ word.now ++ codes "- " }
+    ensures { OnOk result (out.new.items ≡ out.old.items ++ (word.now ++ optional_id_text tree.now ++ codes " ")) }
+{
+    match tree {
+        None => out.extend_from_slice(alone),
+        Some(root) => {
+            out.extend_from_slice(word)?;
+            put_id(root, out)?;
+            out.extend_from_slice(b" ")
+        }
     }
 }
 

@@ -3,9 +3,9 @@
 ghost use Rattle.std.specs.Prelude.{◌≡◌, ◌++◌, codes, OnOk};
 ghost use Rattle.std.specs.Fmt.{decimal};
 ghost use Rattle.zr_msg.specs.Kinds.{in_subs, in_ables};
-ghost use Rattle.zr_language.specs.Report.{id_text, optional_id_text, payload_text, key_text, interest_text, mode_text, kinds_text, if_so, able_text, target_text, kind_text, sign_text};
+ghost use Rattle.zr_language.specs.Report.{line_end, id_text, optional_id_text, payload_text, key_text, interest_text, mode_text, kinds_text, if_so, able_text, target_text, kind_text, sign_text};
 
-use itoa::Buffer;
+use itoa::{Buffer, write_digits};
 use std::alloc::AllocError;
 use zr_id::zid::{MOST_BYTES, Zid};
 use zr_key::key::KeyExpr;
@@ -14,6 +14,9 @@ use zr_msg::msg::{Kinds, QUERYABLES, SUBSCRIBERS, Target};
 
 /// How many digits the text of an identifier has at most.
 const MOST_DIGITS: usize = 2 * MOST_BYTES;
+
+/// Where the digits of a tag end, of which there are at most 20, in the text that a space and a sign before them begin and a line's end ends.
+const TAG_END: usize = 22;
 
 /// Appends an identifier. Its digits are put together on the stack: a report line takes no memory but its own.
 pub fn put_id(id: &Zid, out: &mut Vec<u8>) -> Result<(), AllocError>
@@ -34,6 +37,18 @@ pub fn put_number(number: u64, out: &mut Vec<u8>) -> Result<(), AllocError>
 {
     let mut buffer = Buffer::new();
     out.extend_from_slice(buffer.format(number).as_bytes())
+}
+
+/// Appends the tag of a message, with a space and a sign before it, and the end of its line. They are put together on the stack, and so
+/// appended at once.
+pub fn put_tag(tag: u64, out: &mut Vec<u8>) -> Result<(), AllocError>
+    ensures { OnOk result (out.new.items ≡ out.old.items ++ (codes " #" ++ decimal tag ++ line_end)) }
+{
+    let mut text = [b'\n'; TAG_END + 1];
+    let start = write_digits(tag, &mut text, TAG_END) - 2;
+    text[start + 1] = b'#';
+    text[start] = b' ';
+    out.extend_from_slice(&text[start..])
 }
 
 /// Appends an identifier; `-` where there is none.

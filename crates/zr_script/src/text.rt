@@ -6,7 +6,7 @@ ghost use Rattle.std.specs.List.{flat_map};
 ghost use Rattle.zr_language.specs.Report.{decl_text, line_end, line_text, msg_text, rest_text, id_text, optional_id_text, record_text, refusal_text, refused_text};
 
 use crate::message::{put_decls, put_msg, put_record};
-use crate::part::{put_id, put_number, put_optional_id};
+use crate::part::{put_id, put_number, put_optional_id, put_tag};
 use std::alloc::AllocError;
 use zr_command::error::ScriptError;
 use zr_command::report::ReportLine;
@@ -89,9 +89,7 @@ fn put_step(
     put_id(other, out)?;
     out.extend_from_slice(b": ")?;
     put_msg(msg, out)?;
-    out.extend_from_slice(b" #")?;
-    put_number(tag, out)?;
-    out.extend_from_slice(b"\n")
+    put_tag(tag, out)
 }
 
 fn put_ran(steps: u32, quiet: bool, out: &mut Vec<u8>) -> Result<(), AllocError>

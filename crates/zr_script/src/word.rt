@@ -3,8 +3,8 @@
 ghost use Rattle.std.specs.Prelude.{◌≡◌, ◌==◌, ◌&&◌, ◌+◌, ◌*◌, ◌-◌, ◌^◌, not, nat_lt, Some, None, map, IfOk, if◌then◌else◌};
 ghost use Rattle.std.specs.List.{list_all};
 ghost use Rattle.std.specs.Option.{option_copied};
-ghost use Rattle.zr_language.specs.Step.{IsSaid, IsSaidBy};
-ghost use Rattle.zr_language.specs.Words.{words, is_clean, is_space, is_printable, is_digit, is_number, value_of, number_at, zid_at, target_at, mode_at, kinds_at, aggregate_at, key_at, optional_key_at, payload_at, one_of, two_of, three_of, four_of, five_of};
+ghost use Rattle.zr_language.specs.Step.{IsSaid};
+ghost use Rattle.zr_language.specs.Words.{words, is_clean, is_space, is_printable, is_digit, is_number, value_of, number_at, zid_at, target_at, mode_at, kinds_at, key_at, optional_key_at, payload_at};
 
 use std::alloc::{AllocError, Global};
 use zr_command::command::Mode;
@@ -97,17 +97,6 @@ pub fn kinds(word: &[u8]) -> Result<Kinds, ScriptError>
     }
 }
 
-/// Whether the words behind an interest's key ask that all is told as one.
-pub fn aggregate(words: &[&[u8]]) -> Result<bool, ScriptError>
-    ensures { IsSaid result (aggregate_at (map (λ w. w.now) words.now)) }
-{
-    match words {
-        [] => Ok(false),
-        [word] if *word == b"aggregate".as_slice() => Ok(true),
-        _ => Err(ScriptError::BadWords),
-    }
-}
-
 /// The key expression of an interest, which may have none.
 pub fn optional_key(alloc: Global, word: &[u8]) -> Result<Option<KeyExpr>, ScriptError>
     ensures { IsSaid result (optional_key_at word.now) }
@@ -135,68 +124,6 @@ pub fn payload(word: &[u8]) -> &[u8]
     ensures { result.now ≡ payload_at word.now }
 {
     if word == b"-".as_slice() { &[] } else { word }
-}
-
-/// The one word that there is.
-pub fn one<'a>(words: &[&'a [u8]]) -> Result<&'a [u8], ScriptError>
-    ensures { IsSaidBy (λ w. w.now) result (one_of (map (λ w. w.now) words.now)) }
-{
-    match words {
-        [a] => Ok(a),
-        _ => Err(ScriptError::BadWords),
-    }
-}
-
-/// The two words that there are.
-pub fn two<'a>(words: &[&'a [u8]]) -> Result<(&'a [u8], &'a [u8]), ScriptError>
-    ensures { IsSaidBy (λ x. (x.0.now, x.1.now)) result (two_of (map (λ w. w.now) words.now)) }
-{
-    match words {
-        [a, b] => Ok((a, b)),
-        _ => Err(ScriptError::BadWords),
-    }
-}
-
-/// The three words that there are.
-pub fn three<'a>(words: &[&'a [u8]]) -> Result<(&'a [u8], &'a [u8], &'a [u8]), ScriptError>
-    ensures { IsSaidBy (λ x. (x.0.now, x.1.now, x.2.now)) result (three_of (map (λ w. w.now) words.now)) }
-{
-    match words {
-        [a, b, c] => Ok((a, b, c)),
-        _ => Err(ScriptError::BadWords),
-    }
-}
-
-/// The four words that there are.
-pub fn four<'a>(words: &[&'a [u8]]) -> Result<(&'a [u8], &'a [u8], &'a [u8], &'a [u8]), ScriptError>
-    ensures { IsSaidBy (λ x. (x.0.now, x.1.now, x.2.now, x.3.now)) result (four_of (map (λ w. w.now) words.now)) }
-{
-    match words {
-        [a, b, c, d] => Ok((a, b, c, d)),
-        _ => Err(ScriptError::BadWords),
-    }
-}
-
-/// The first five words and those behind them, where there are five at least.
-pub fn five<'a, 'b>(
-    words: &'b [&'a [u8]],
-) -> Result<
-    (
-        &'a [u8],
-        &'a [u8],
-        &'a [u8],
-        &'a [u8],
-        &'a [u8],
-        &'b [&'a [u8]],
-    ),
-    ScriptError,
->
-    ensures { IsSaidBy (λ x. (x.0.now, x.1.now, x.2.now, x.3.now, x.4.now, map (λ w. w.now) x.5.now)) result (five_of (map (λ w. w.now) words.now)) }
-{
-    match words {
-        [a, b, c, d, e, more @ ..] => Ok((a, b, c, d, e, more)),
-        _ => Err(ScriptError::BadWords),
-    }
 }
 
 fn are_printable(line: &[u8]) -> bool

@@ -1,6 +1,6 @@
-use Rattle.std.proofs.Common.{map}
+use Rattle.zr_language.specs.Words.{words}
 use Rattle.zr_script.proofs.Words.{third_short}
 use Rattle.zr_script.proofs.line.put.Goals as goal
 
 pub put-requires : goal.put-requires
-put-requires c = rw c.payload.ensures (third_short (map (λ w. w.now) c.args.args.now) _ _ _ c.requires c.in_ok-client.ensures)
+put-requires c = rw c.payload.ensures (third_short (words c.args.args.now) _ _ _ c.requires c.in_ok-client.ensures)
