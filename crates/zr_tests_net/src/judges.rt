@@ -1,298 +1,712 @@
-//! A script with a subscriber and one sample for it: the definition at each moment of its phase, and at forged reports.
+//! Scripts with samples and with a query: the judge at each moment of their phase, and at forged reports.
+//!
+//! The lines are those of the language of scripts, and what is sent is written as the line that brings such a message. What else routers do,
+//! and who takes a step, is nothing to the judge: so a `run` stands for the steps before the mark, and the steps of a phase are lines of their own.
 
-use crate::parts::{key, name, value};
-use crate::scripts::{client, is_right, publish, router, sub, taken};
-use std::alloc::Global;
+use std::alloc::{AllocError, Global};
 use std::test::Fail;
 use zr_body::Body;
-use zr_command::command::Act;
+use zr_command::command::{Act, Command};
 use zr_command::report::ReportLine;
-use zr_judge::judge::Case;
+use zr_id::zid::Zid;
+use zr_judge::judge::{Case, refines};
+use zr_key::key::KeyExpr;
 use zr_msg::content::Content;
 use zr_msg::extras::Extras;
+use zr_msg::msg::Msg;
+use zr_msg::shared::Shared;
+use zr_script::line::read_line;
 
-const ROUTER: u8 = 0x0a;
-
-const PUBLISHER: u8 = 0xc1;
-
-const SUBSCRIBER: u8 = 0xc2;
-
-/// No line brings this one.
-const NOBODY: u8 = 0xee;
-
-const MARK: u64 = 6;
-
-const SAMPLE: u64 = 7;
-
-const BYTE: u8 = b'h';
-
-const OTHER_BYTE: u8 = b'o';
-
-// A line of the script.
-#[derive(Clone, Copy)]
-enum Line {
-    Router,
-    Client(u8),
-    Sub,
-    Put,
-    Handle(u8),
-    Take(u8),
+/// A script: its lines before the mark, and those behind it.
+struct Script {
+    before: &'static [&'static str],
+    phase: &'static [&'static str],
 }
 
-// The lines before the mark.
-const BEFORE: [Line; 5] = [
-    Line::Router,
-    Line::Client(PUBLISHER),
-    Line::Client(SUBSCRIBER),
-    Line::Sub,
-    Line::Handle(SUBSCRIBER),
-];
-
-// The lines behind it.
-const PHASE: [Line; 3] = [Line::Put, Line::Handle(PUBLISHER), Line::Take(SUBSCRIBER)];
-
-/// A sample that is sent: to whom, its byte, and its line.
-type Sent = (u8, u8, u64);
+/// A message that is sent: the router that sends it, to whom, the number of the line that it comes from, and a line that brings one like it.
+type Sent = (u8, u8, u64, &'static str);
 
 /// How many lines of the phase are done, what was sent, whether nothing is under way, and what there is to see.
 type Row = (usize, &'static [Sent], bool, &'static str);
 
+/// In place of a line: the sample `put c1 a/b h` with another priority.
+const URGENT: &str = "urgent";
+
+const SAMPLE_PHASE: &[&str] = &["put c1 a/b h", "handle 0a c1", "take 0a c2"];
+
+// A subscriber, and one sample for it.
+static SAMPLE: Script = Script {
+    before: &[
+        "router 0a",
+        "client c1 0a",
+        "client c2 0a",
+        "sub c2 1 a/*",
+        "handle 0a c2",
+    ],
+    phase: SAMPLE_PHASE,
+};
+
 // What the script leads to, and reports that tell of nothing else.
-const TRUE: [Row; 6] = [
+static TRUE_SAMPLES: [Row; 6] = [
     (0, &[], true, "at the mark"),
     (1, &[], false, "published"),
     (2, &[], false, "handled"),
-    (3, &[(SUBSCRIBER, BYTE, SAMPLE)], true, "at the end"),
+    (3, &[(0x0a, 0xc2, 7, "put c1 a/b h")], true, "at the end"),
     (
         2,
-        &[(SUBSCRIBER, OTHER_BYTE, 5)],
+        &[(0x0a, 0xc2, 5, "put c1 a/b o")],
         false,
         "from before the mark",
     ),
     (
         2,
-        &[(ROUTER, BYTE, SAMPLE)],
+        &[(0x0a, 0x0a, 7, "put c1 a/b h")],
         false,
         "what a router is sent goes on",
     ),
 ];
 
-const FORGED: [Row; 6] = [
+static FORGED_SAMPLES: [Row; 9] = [
     (
         3,
-        &[(SUBSCRIBER, OTHER_BYTE, SAMPLE)],
+        &[(0x0a, 0xc2, 7, "put c1 a/b o")],
         false,
         "another payload",
     ),
     (
         3,
-        &[(PUBLISHER, BYTE, SAMPLE)],
+        &[(0x0a, 0xc1, 7, "put c1 a/b h")],
         false,
         "the publisher hears itself",
     ),
-    (3, &[(NOBODY, BYTE, SAMPLE)], false, "sent to no client"),
-    (3, &[(SUBSCRIBER, BYTE, 8)], false, "a sample of no line"),
     (
         3,
-        &[(SUBSCRIBER, BYTE, SAMPLE), (SUBSCRIBER, BYTE, SAMPLE)],
+        &[(0x0a, 0xee, 7, "put c1 a/b h")],
+        false,
+        "sent to no client",
+    ),
+    (
+        3,
+        &[(0x0a, 0xc2, 8, "put c1 a/b h")],
+        false,
+        "a sample of no line",
+    ),
+    (
+        3,
+        &[
+            (0x0a, 0xc2, 7, "put c1 a/b h"),
+            (0x0a, 0xc2, 7, "put c1 a/b h"),
+        ],
         false,
         "sent twice",
     ),
     (3, &[], true, "never sent"),
+    (3, &[(0x0a, 0xc2, 7, URGENT)], true, "another priority"),
+    (3, &[(0x0a, 0xc2, 7, "put c1 a/c h")], true, "another key"),
+    (3, &[(0x0a, 0xc2, 7, "del c1 a/b")], true, "a deletion"),
 ];
 
-// What is sent in place of the sample.
-#[derive(Clone, Copy)]
-enum Change {
-    Priority,
-    Key,
-    Deletion,
-}
+// The same script, but that the subscriber takes something back: what it had declared, or what it had not.
+static TAKEN_BACK: Script = Script {
+    before: &[
+        "router 0a",
+        "client c1 0a",
+        "client c2 0a",
+        "sub c2 1 a/*",
+        "handle 0a c2",
+        "unsub c2 1",
+    ],
+    phase: SAMPLE_PHASE,
+};
 
-const CHANGES: [(Change, &str); 3] = [
-    (Change::Priority, "another priority"),
-    (Change::Key, "another key"),
-    (Change::Deletion, "a deletion"),
+static NOT_TAKEN_BACK: Script = Script {
+    before: &[
+        "router 0a",
+        "client c1 0a",
+        "client c2 0a",
+        "sub c2 1 a/*",
+        "handle 0a c2",
+        "unsub c2 2",
+    ],
+    phase: SAMPLE_PHASE,
+};
+
+static SENT_ALL_THE_SAME: [Row; 1] = [(
+    3,
+    &[(0x0a, 0xc2, 8, "put c1 a/b h")],
+    true,
+    "the sample is sent",
+)];
+
+// A queryable, and one query for it.
+static QUERY: Script = Script {
+    before: &[
+        "router 0a",
+        "client c1 0a",
+        "client c2 0a",
+        "able c2 1 a/*",
+        "handle 0a c2",
+    ],
+    phase: &[
+        "get c1 5 a/b all",
+        "handle 0a c1",
+        "take 0a c2",
+        "reply c2 1 a/b r",
+        "handle 0a c2",
+        "take 0a c1",
+        "end c2 1",
+        "handle 0a c2",
+        "take 0a c1",
+    ],
+};
+
+const ASKS: Sent = (0x0a, 0xc2, 7, "get c1 1 a/b all");
+
+const REPLIES: Sent = (0x0a, 0xc1, 10, "reply c2 5 a/b r");
+
+const ENDS: Sent = (0x0a, 0xc1, 13, "end c2 5");
+
+/// The end, told as a reply.
+const REPLIES_ON_END: Sent = (0x0a, 0xc1, 13, "reply c2 5 a/b r");
+
+static TRUE_ANSWERS: [Row; 10] = [
+    (0, &[], true, "at the mark"),
+    (1, &[], false, "asked"),
+    (2, &[], false, "handled"),
+    (3, &[ASKS], true, "the request is sent"),
+    (4, &[ASKS], false, "replied"),
+    (5, &[ASKS], false, "the reply is handled"),
+    (6, &[ASKS, REPLIES], true, "the reply is sent"),
+    (7, &[ASKS, REPLIES], false, "ended"),
+    (8, &[ASKS, REPLIES], false, "the end is handled"),
+    (9, &[ASKS, REPLIES, ENDS], true, "at the end"),
 ];
 
-// The sample of the phase, but for its byte.
-fn sample(alloc: Global, byte: u8) -> Result<Content, Fail> {
-    value(alloc, b"a/b".as_slice(), byte, Extras::none())
-}
+static FORGED_ANSWERS: [Row; 16] = [
+    (3, &[], true, "the request is never sent"),
+    (3, &[ASKS, ASKS], false, "a request is sent twice"),
+    (
+        3,
+        &[(0x0a, 0xc2, 5, "get c1 1 a/b all"), ASKS],
+        false,
+        "a request under a number of which one from before the mark has not ended",
+    ),
+    (
+        3,
+        &[(0x0a, 0xc1, 7, "get c1 1 a/b all")],
+        false,
+        "the asker is asked",
+    ),
+    (6, &[ASKS], true, "the reply is never sent"),
+    (6, &[ASKS, REPLIES, REPLIES], false, "a reply is sent twice"),
+    (
+        6,
+        &[ASKS, (0x0a, 0xc1, 10, "reply c2 5 a/b q")],
+        false,
+        "another reply",
+    ),
+    (
+        6,
+        &[ASKS, (0x0a, 0xc1, 10, "reply c2 1 a/b r")],
+        false,
+        "under another number",
+    ),
+    (
+        6,
+        &[ASKS, (0x0a, 0xc2, 10, "reply c2 5 a/b r")],
+        false,
+        "to another client",
+    ),
+    (
+        6,
+        &[ASKS, REPLIES_ON_END],
+        false,
+        "of a line that is no reply",
+    ),
+    (
+        6,
+        &[ASKS, REPLIES, ENDS],
+        false,
+        "a final before all have ended",
+    ),
+    (9, &[ASKS, REPLIES], true, "the final is never sent"),
+    (9, &[ASKS, ENDS, REPLIES], false, "a reply behind the final"),
+    (9, &[ASKS, REPLIES, ENDS, ENDS], false, "two finals"),
+    (
+        9,
+        &[ASKS, REPLIES, REPLIES_ON_END, ENDS],
+        false,
+        "an end told as a reply",
+    ),
+    (
+        9,
+        &[ASKS, REPLIES, ENDS, REPLIES_ON_END],
+        true,
+        "an end told as a reply behind the final",
+    ),
+];
 
-fn handle(byte: u8) -> Result<Act, Fail> {
-    let router = name(ROUTER)?;
-    let from = name(byte)?;
-    Ok(Act::Handle { router, from })
-}
+// The publisher and a client that subscribes to nothing are at the first of two routers, and the subscriber at the second.
+static TWO_ROUTERS: Script = Script {
+    before: &[
+        "router 01",
+        "router 02",
+        "client c1 01",
+        "client c3 01",
+        "client c2 02",
+        "link 01 02",
+        "up 01 02",
+        "up 02 01",
+        "sub c2 1 a/*",
+        "run 1000",
+    ],
+    phase: &[
+        "put c1 a/b x",
+        "handle 01 c1",
+        "take 01 02",
+        "handle 02 01",
+        "take 02 c2",
+    ],
+};
 
-fn take(byte: u8) -> Result<Act, Fail> {
-    let router = name(ROUTER)?;
-    let to = name(byte)?;
-    Ok(Act::Take { router, to })
-}
+const TO_SECOND: Sent = (0x01, 0x02, 12, "put c1 a/b x");
 
-fn unsub(id: u32) -> Result<Act, Fail> {
-    let client = name(SUBSCRIBER)?;
-    Ok(Act::Unsub { client, id })
-}
+const TO_SUBSCRIBER: Sent = (0x02, 0xc2, 12, "put c1 a/b x");
 
-fn put(alloc: Global) -> Result<Act, Fail> {
-    let content = sample(alloc, BYTE)?;
-    publish(PUBLISHER, content)
-}
+// The report that the network gives of these lines stands in `tests/program`.
+static TRUE_OF_TWO: [Row; 5] = [
+    (1, &[], false, "published"),
+    (2, &[], false, "handled by the first router"),
+    (3, &[TO_SECOND], false, "on the link"),
+    (4, &[TO_SECOND], false, "handled by the second router"),
+    (5, &[TO_SECOND, TO_SUBSCRIBER], true, "at the end"),
+];
 
-fn act(alloc: Global, line: Line) -> Result<Act, Fail> {
-    match line {
-        Line::Router => router(ROUTER),
-        Line::Client(id) => client(id, ROUTER),
-        Line::Sub => sub(alloc, SUBSCRIBER, b"a/*".as_slice()),
-        Line::Put => put(alloc),
-        Line::Handle(from) => handle(from),
-        Line::Take(to) => take(to),
+// None of these may be added to its report.
+static ADDED: [Row; 5] = [
+    (
+        5,
+        &[TO_SECOND, TO_SUBSCRIBER, TO_SUBSCRIBER],
+        true,
+        "the sample once more",
+    ),
+    (
+        5,
+        &[TO_SECOND, TO_SUBSCRIBER, (0x02, 0xc2, 12, "put c1 a/b y")],
+        true,
+        "another value",
+    ),
+    (
+        5,
+        &[TO_SECOND, TO_SUBSCRIBER, (0x01, 0xc1, 12, "put c1 a/b x")],
+        true,
+        "to the publisher",
+    ),
+    (
+        5,
+        &[TO_SECOND, TO_SUBSCRIBER, (0x01, 0xc3, 12, "put c1 a/b x")],
+        true,
+        "to who has not subscribed",
+    ),
+    (
+        5,
+        &[TO_SECOND, TO_SUBSCRIBER, (0x02, 0xc2, 13, "put c1 a/b x")],
+        true,
+        "of a line that is no sample",
+    ),
+];
+
+// The publisher is at the first of three routers in a line, the client that subscribes to nothing at the second, and the subscriber at the
+// third. Of two samples the first is under way when the second is published.
+static THREE_ROUTERS: Script = Script {
+    before: &[
+        "router 01",
+        "router 02",
+        "router 03",
+        "client c1 01",
+        "client c3 02",
+        "client c2 03",
+        "link 01 02",
+        "link 02 03",
+        "up 01 02",
+        "up 02 01",
+        "up 02 03",
+        "up 03 02",
+        "sub c2 1 a/*",
+        "run 1000",
+    ],
+    phase: &[
+        "put c1 a/b x",
+        "put c1 a/b y",
+        "handle 01 c1",
+        "handle 01 c1",
+        "take 01 02",
+        "handle 02 01",
+        "take 01 02",
+        "handle 02 01",
+        "take 02 03",
+        "handle 03 02",
+        "take 02 03",
+        "handle 03 02",
+        "take 03 c2",
+        "take 03 c2",
+    ],
+};
+
+const X_TO_SECOND: Sent = (0x01, 0x02, 16, "put c1 a/b x");
+
+const Y_TO_SECOND: Sent = (0x01, 0x02, 17, "put c1 a/b y");
+
+const X_TO_THIRD: Sent = (0x02, 0x03, 16, "put c1 a/b x");
+
+const Y_TO_THIRD: Sent = (0x02, 0x03, 17, "put c1 a/b y");
+
+const X_TO_SUBSCRIBER: Sent = (0x03, 0xc2, 16, "put c1 a/b x");
+
+const Y_TO_SUBSCRIBER: Sent = (0x03, 0xc2, 17, "put c1 a/b y");
+
+// As above its report stands in `tests/program`. The last rows are reports that end too early, while something is under way.
+static TRUE_OF_THREE: [Row; 16] = [
+    (1, &[], false, "the first is published"),
+    (2, &[], false, "the second is published"),
+    (3, &[], false, "the first router handles the first"),
+    (4, &[], false, "and the second"),
+    (5, &[X_TO_SECOND], false, "the first is on a link"),
+    (6, &[X_TO_SECOND], false, "the second router handles it"),
+    (
+        7,
+        &[X_TO_SECOND, Y_TO_SECOND],
+        false,
+        "the second is on a link",
+    ),
+    (
+        8,
+        &[X_TO_SECOND, Y_TO_SECOND],
+        false,
+        "the second router handles it",
+    ),
+    (
+        9,
+        &[X_TO_SECOND, Y_TO_SECOND, X_TO_THIRD],
+        false,
+        "the first is on the second link",
+    ),
+    (
+        10,
+        &[X_TO_SECOND, Y_TO_SECOND, X_TO_THIRD],
+        false,
+        "the third router handles it",
+    ),
+    (
+        11,
+        &[X_TO_SECOND, Y_TO_SECOND, X_TO_THIRD, Y_TO_THIRD],
+        false,
+        "the second is on the second link",
+    ),
+    (
+        12,
+        &[X_TO_SECOND, Y_TO_SECOND, X_TO_THIRD, Y_TO_THIRD],
+        false,
+        "the third router handles it",
+    ),
+    (
+        13,
+        &[
+            X_TO_SECOND,
+            Y_TO_SECOND,
+            X_TO_THIRD,
+            Y_TO_THIRD,
+            X_TO_SUBSCRIBER,
+        ],
+        false,
+        "the first is sent",
+    ),
+    (
+        14,
+        &[
+            X_TO_SECOND,
+            Y_TO_SECOND,
+            X_TO_THIRD,
+            Y_TO_THIRD,
+            X_TO_SUBSCRIBER,
+            Y_TO_SUBSCRIBER,
+        ],
+        true,
+        "at the end",
+    ),
+    (
+        14,
+        &[
+            X_TO_SECOND,
+            Y_TO_SECOND,
+            X_TO_THIRD,
+            Y_TO_THIRD,
+            X_TO_SUBSCRIBER,
+        ],
+        false,
+        "the second is not sent yet",
+    ),
+    (2, &[X_TO_SUBSCRIBER], false, "the first, before its turn"),
+];
+
+static FORGED_OF_THREE: [Row; 2] = [
+    (2, &[Y_TO_SUBSCRIBER], false, "the second without the first"),
+    (
+        14,
+        &[
+            X_TO_SECOND,
+            Y_TO_SECOND,
+            X_TO_THIRD,
+            Y_TO_THIRD,
+            X_TO_SUBSCRIBER,
+        ],
+        true,
+        "the second is never sent",
+    ),
+];
+
+// The act of a line, if it is one.
+fn act_of(alloc: Global, line: &str) -> Result<Option<Act>, AllocError> {
+    match read_line(alloc, line.as_bytes()) {
+        Ok(Some(Command::Act { act })) => Ok(Some(act)),
+        Ok(Some(Command::Run { .. })) | Ok(None) => Ok(None),
+        Err(_) => Err(AllocError),
     }
 }
 
-// The acts of these lines, of which the first has this number.
-fn numbered(alloc: Global, first: u64, lines: &[Line]) -> Result<Vec<(u64, Act)>, Fail> {
-    let mut acts = Vec::new(alloc);
+fn put_act(
+    alloc: Global,
+    number: u64,
+    line: &str,
+    acts: &mut Vec<(u64, Act)>,
+) -> Result<(), AllocError> {
+    match act_of(alloc, line) {
+        Ok(Some(act)) => Ok(acts.push((number, act))?),
+        Ok(None) => Ok(()),
+        Err(error) => Err(error),
+    }
+}
+
+// Appends the acts of the first lines, so many at most, of which the first has this number.
+fn put_acts(
+    alloc: Global,
+    first: u64,
+    lines: &[&str],
+    most: usize,
+    acts: &mut Vec<(u64, Act)>,
+) -> Result<(), AllocError> {
     let mut number = first;
-    for line in lines {
-        acts.push((number, act(alloc, *line)?))?;
+    for line in lines.iter().take(most) {
+        put_act(alloc, number, line, acts)?;
         number = number.saturating_add(1);
     }
-    Ok(acts)
+    Ok(())
 }
 
-// The first lines of the phase.
-fn phase(alloc: Global, count: usize) -> Result<Vec<(u64, Act)>, Fail> {
-    match PHASE.get(..count) {
-        Some(lines) => numbered(alloc, SAMPLE, lines),
-        None => numbered(alloc, SAMPLE, &PHASE),
+// The sample of the first script with another priority.
+fn urgent(alloc: Global) -> Result<Option<Msg>, AllocError> {
+    let Ok(key) = KeyExpr::read(alloc, b"a/b".as_slice()) else {
+        return Err(AllocError);
+    };
+    let mut extras = Extras::none();
+    extras.qos = Some(1);
+    let content = Content::new(alloc, key, extras, Body::put(alloc, b"h".as_slice())?)?;
+    Ok(Some(Msg::Push {
+        tree: None,
+        content,
+    }))
+}
+
+fn last(alloc: Global, id: u32) -> Result<Option<Msg>, AllocError> {
+    let extras = Shared::new(alloc, Extras::none())?;
+    Ok(Some(Msg::Final { id, extras }))
+}
+
+// The message that a client is sent where it is one like that of this act.
+fn message_of(alloc: Global, act: Act) -> Result<Option<Msg>, AllocError> {
+    match act {
+        Act::Publish { client: _, content } => Ok(Some(Msg::Push {
+            tree: None,
+            content,
+        })),
+        Act::Get {
+            client: _,
+            number,
+            target,
+            content,
+        } => Ok(Some(Msg::Request {
+            tree: None,
+            id: number,
+            target,
+            content,
+        })),
+        Act::Reply {
+            client: _,
+            number,
+            content,
+        } => Ok(Some(Msg::Response {
+            id: number,
+            content,
+        })),
+        Act::End { client: _, number } => last(alloc, number),
+        _ => Ok(None),
     }
 }
 
-fn sent_line(alloc: Global, sent: Sent) -> Result<ReportLine, Fail> {
-    let (to, byte, tag) = sent;
-    taken(ROUTER, to, sample(alloc, byte)?, tag)
-}
-
-fn report(alloc: Global, sent: &[Sent]) -> Result<Vec<ReportLine>, Fail> {
-    let mut report = Vec::new(alloc);
-    report.push(ReportLine::Mark { line: MARK })?;
-    for one in sent {
-        report.push(sent_line(alloc, *one)?)?;
+fn message(alloc: Global, line: &str) -> Result<Option<Msg>, AllocError> {
+    if line == URGENT {
+        return urgent(alloc);
     }
-    Ok(report)
+    match act_of(alloc, line) {
+        Ok(Some(act)) => message_of(alloc, act),
+        Ok(None) => Ok(None),
+        Err(error) => Err(error),
+    }
 }
 
-// Whether the definition holds after these lines, where the report tells what was sent.
-fn holds_after(
+// The name of one byte.
+fn name(byte: u8) -> Result<Zid, AllocError> {
+    match Zid::from_bytes(&[byte]) {
+        Ok(name) => Ok(name),
+        Err(_) => Err(AllocError),
+    }
+}
+
+fn put_line(alloc: Global, sent: &Sent, report: &mut Vec<ReportLine>) -> Result<(), AllocError> {
+    let (router, to, tag, line) = *sent;
+    let router = name(router)?;
+    let to = name(to)?;
+    match message(alloc, line) {
+        Ok(Some(msg)) => Ok(report.push(ReportLine::Taken {
+            router,
+            to,
+            msg,
+            tag,
+        })?),
+        Ok(None) => Ok(()),
+        Err(error) => Err(error),
+    }
+}
+
+// Appends the mark and the lines of what was sent.
+fn put_report(
     alloc: Global,
-    before: Vec<(u64, Act)>,
-    phase: Vec<(u64, Act)>,
-    report: Vec<ReportLine>,
-    quiet: bool,
-) -> Result<bool, Fail> {
+    mark: u64,
+    sent: &[Sent],
+    report: &mut Vec<ReportLine>,
+) -> Result<(), AllocError> {
+    report.push(ReportLine::Mark { line: mark })?;
+    for one in sent {
+        put_line(alloc, one, report)?;
+    }
+    Ok(())
+}
+
+// The number of the mark's line.
+fn mark_of(script: &Script) -> u64 {
+    (script.before.len() as u64).saturating_add(1)
+}
+
+// Brings what is judged at a row.
+fn fill(
+    alloc: Global,
+    script: &Script,
+    row: &Row,
+    before: &mut Vec<(u64, Act)>,
+    phase: &mut Vec<(u64, Act)>,
+    report: &mut Vec<ReportLine>,
+) -> Result<(), AllocError> {
+    let mark = mark_of(script);
+    put_acts(alloc, 1, script.before, usize::MAX, before)?;
+    put_acts(alloc, mark.saturating_add(1), script.phase, row.0, phase)?;
+    put_report(alloc, mark, row.1, report)
+}
+
+// Whether the judge takes a row for true.
+fn holds_at(alloc: Global, script: &Script, row: &Row) -> Result<bool, AllocError> {
+    let mut before = Vec::new(alloc);
+    let mut phase = Vec::new(alloc);
+    let mut report = Vec::new(alloc);
+    let filled = fill(alloc, script, row, &mut before, &mut phase, &mut report);
     let case = Case {
         before,
-        mark: MARK,
+        mark: mark_of(script),
         phase,
         report,
-        quiet,
+        quiet: row.2,
     };
-    is_right(alloc, &case)
+    match filled {
+        Ok(()) => refines(alloc, &case),
+        Err(error) => Err(error),
+    }
 }
 
-// The same after the script's lines before the mark and so many behind it.
-fn holds(alloc: Global, count: usize, report: Vec<ReportLine>, quiet: bool) -> Result<bool, Fail> {
-    let before = numbered(alloc, 1, &BEFORE)?;
-    let phase = phase(alloc, count)?;
-    holds_after(alloc, before, phase, report, quiet)
-}
-
-fn holds_at(alloc: Global, row: Row) -> Result<bool, Fail> {
-    let (count, sent, quiet, _) = row;
-    let report = report(alloc, sent)?;
-    holds(alloc, count, report, quiet)
+// What there is to see at the first row of which the judge says otherwise; nothing where there is none.
+fn first_wrong(
+    alloc: Global,
+    script: &Script,
+    rows: &'static [Row],
+    want: bool,
+) -> Result<&'static str, AllocError> {
+    for row in rows {
+        if holds_at(alloc, script, row)? != want {
+            return Ok(row.3);
+        }
+    }
+    Ok("")
 }
 
 #[test]
 fn holds_at_each_moment(rt: HostRuntime) -> Result<(), Fail> {
-    for row in TRUE {
-        let holds = holds_at(rt.alloc(), row)?;
-        assert!(rt; holds, "{}", row.3);
-    }
+    let wrong = first_wrong(rt.alloc(), &SAMPLE, &TRUE_SAMPLES, true)?;
+    assert!(rt; wrong.is_empty(), "{wrong}");
     Ok(())
 }
 
 #[test]
 fn refuses_forged_reports(rt: HostRuntime) -> Result<(), Fail> {
-    for row in FORGED {
-        let holds = holds_at(rt.alloc(), row)?;
-        assert!(rt; !holds, "{}", row.3);
-    }
+    let wrong = first_wrong(rt.alloc(), &SAMPLE, &FORGED_SAMPLES, false)?;
+    assert!(rt; wrong.is_empty(), "{wrong}");
     Ok(())
-}
-
-fn urgent(alloc: Global) -> Result<Content, Fail> {
-    let mut extras = Extras::none();
-    extras.qos = Some(1);
-    value(alloc, b"a/b".as_slice(), BYTE, extras)
-}
-
-fn deletion(alloc: Global) -> Result<Content, Fail> {
-    let key = key(alloc, b"a/b".as_slice())?;
-    let body = Body::del(alloc)?;
-    Ok(Content::new(alloc, key, Extras::none(), body)?)
-}
-
-fn changed(alloc: Global, change: Change) -> Result<Content, Fail> {
-    match change {
-        Change::Priority => urgent(alloc),
-        Change::Key => value(alloc, b"a/c".as_slice(), BYTE, Extras::none()),
-        Change::Deletion => deletion(alloc),
-    }
-}
-
-// Whether the definition holds where this content was sent.
-fn holds_for(alloc: Global, content: Content) -> Result<bool, Fail> {
-    let mut report = report(alloc, &[])?;
-    let line = taken(ROUTER, SUBSCRIBER, content, SAMPLE)?;
-    report.push(line)?;
-    holds(alloc, PHASE.len(), report, true)
-}
-
-#[test]
-fn refuses_changed_contents(rt: HostRuntime) -> Result<(), Fail> {
-    for (change, what) in CHANGES {
-        let content = changed(rt.alloc(), change)?;
-        let holds = holds_for(rt.alloc(), content)?;
-        assert!(rt; !holds, "{what}");
-    }
-    Ok(())
-}
-
-// The lines before the mark, with the end of a subscription behind them.
-fn undeclared(alloc: Global, id: u32) -> Result<Vec<(u64, Act)>, Fail> {
-    let mut before = numbered(alloc, 1, &BEFORE)?;
-    before.push((MARK - 1, unsub(id)?))?;
-    Ok(before)
-}
-
-// Whether the definition holds where the sample was sent, though the subscriber has undeclared an id.
-fn holds_without(alloc: Global, id: u32) -> Result<bool, Fail> {
-    let before = undeclared(alloc, id)?;
-    let phase = phase(alloc, PHASE.len())?;
-    let report = report(alloc, &[(SUBSCRIBER, BYTE, SAMPLE)])?;
-    holds_after(alloc, before, phase, report, true)
 }
 
 #[test]
 fn undeclared_asks_for_nothing(rt: HostRuntime) -> Result<(), Fail> {
-    for (id, is_due) in [(1, false), (2, true)] {
-        let holds = holds_without(rt.alloc(), id)?;
-        assert!(rt; holds == is_due, "id {id} undeclared");
-    }
+    let taken_back = first_wrong(rt.alloc(), &TAKEN_BACK, &SENT_ALL_THE_SAME, false)?;
+    assert!(rt; taken_back.is_empty(), "{taken_back}");
+    let kept = first_wrong(rt.alloc(), &NOT_TAKEN_BACK, &SENT_ALL_THE_SAME, true)?;
+    assert!(rt; kept.is_empty(), "{kept}");
+    Ok(())
+}
+
+#[test]
+fn holds_at_each_moment_of_a_query(rt: HostRuntime) -> Result<(), Fail> {
+    let wrong = first_wrong(rt.alloc(), &QUERY, &TRUE_ANSWERS, true)?;
+    assert!(rt; wrong.is_empty(), "{wrong}");
+    Ok(())
+}
+
+#[test]
+fn refuses_forged_replies_and_finals(rt: HostRuntime) -> Result<(), Fail> {
+    let wrong = first_wrong(rt.alloc(), &QUERY, &FORGED_ANSWERS, false)?;
+    assert!(rt; wrong.is_empty(), "{wrong}");
+    Ok(())
+}
+
+#[test]
+fn routers_in_a_line_refine_one_broker(rt: HostRuntime) -> Result<(), Fail> {
+    let two = first_wrong(rt.alloc(), &TWO_ROUTERS, &TRUE_OF_TWO, true)?;
+    assert!(rt; two.is_empty(), "{two}");
+    let three = first_wrong(rt.alloc(), &THREE_ROUTERS, &TRUE_OF_THREE, true)?;
+    assert!(rt; three.is_empty(), "{three}");
+    Ok(())
+}
+
+#[test]
+fn refuses_forged_reports_of_routers(rt: HostRuntime) -> Result<(), Fail> {
+    let two = first_wrong(rt.alloc(), &TWO_ROUTERS, &ADDED, false)?;
+    assert!(rt; two.is_empty(), "{two}");
+    let three = first_wrong(rt.alloc(), &THREE_ROUTERS, &FORGED_OF_THREE, false)?;
+    assert!(rt; three.is_empty(), "{three}");
     Ok(())
 }

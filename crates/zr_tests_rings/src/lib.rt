@@ -18,6 +18,8 @@ mod note;
 #[cfg(test)]
 mod routers;
 #[cfg(test)]
+mod serving;
+#[cfg(test)]
 mod sessions;
 #[cfg(test)]
 mod sharing;

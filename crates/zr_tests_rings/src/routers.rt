@@ -8,7 +8,7 @@ use zr_msg::peer::Role;
 /// A call and its answer.
 type Row = (Call, Told);
 
-const FULL_OF_CLIENTS: [Row; 9] = [
+static FULL_OF_CLIENTS: [Row; 9] = [
     (Call::Clients(128), Told::Ok),
     (Call::Client(9), Told::Sessions(128, 0)),
     (Call::Router(9), Told::Sessions(128, 0)),
@@ -20,7 +20,7 @@ const FULL_OF_CLIENTS: [Row; 9] = [
     (Call::Client(9), Told::Sessions(128, 0)),
 ];
 
-const FULL_OF_ROUTERS: [Row; 8] = [
+static FULL_OF_ROUTERS: [Row; 8] = [
     (Call::Routers(16), Told::Ok),
     (Call::Router(9), Told::Sessions(16, 16)),
     (Call::Router(MANY), Told::Sessions(16, 16)),
@@ -32,7 +32,7 @@ const FULL_OF_ROUTERS: [Row; 8] = [
 ];
 
 /// A ring of 256 slots that nobody empties: a sample is dropped, and one that asks not to be closes the link.
-const NOBODY_TAKES: [Row; 13] = [
+static NOBODY_TAKES: [Row; 13] = [
     (Call::Client(10), Told::Link(0)),
     (Call::Client(11), Told::Link(1)),
     (Call::Say(1, Say::Sub), Told::Ok),
@@ -49,7 +49,7 @@ const NOBODY_TAKES: [Row; 13] = [
 ];
 
 /// A router's ring of 1,024 slots, which gets this router's record as its link comes up, and at each change of the other link.
-const RECORDS: [Row; 8] = [
+static RECORDS: [Row; 8] = [
     (Call::Router(11), Told::Link(0)),
     (Call::Blinks(12, 511), Told::Ok),
     (Call::Router(12), Told::Link(1)),
@@ -61,7 +61,7 @@ const RECORDS: [Row; 8] = [
 ];
 
 /// All parcels of a sample are given, or none.
-const ALL_OR_NONE: [Row; 9] = [
+static ALL_OR_NONE: [Row; 9] = [
     (Call::Client(10), Told::Link(0)),
     (Call::ClientAt(11, Start::Small), Told::Link(1)),
     (Call::Say(1, Say::Sub), Told::Ok),
@@ -74,7 +74,7 @@ const ALL_OR_NONE: [Row; 9] = [
 ];
 
 /// A sample that is dropped takes no frame number.
-const DROPPED: [Row; 8] = [
+static DROPPED: [Row; 8] = [
     (Call::Client(10), Told::Link(0)),
     (Call::Client(11), Told::Link(1)),
     (Call::Say(1, Say::Sub), Told::Ok),
@@ -94,7 +94,7 @@ const DROPPED: [Row; 8] = [
 ];
 
 /// What comes to two subscribers whose frames begin at 5 and at the last number. The second sample has its quality of service.
-const BYTES: [Row; 13] = [
+static BYTES: [Row; 13] = [
     (Call::Client(10), Told::Link(0)),
     (Call::ClientAt(11, Start::Five), Told::Link(1)),
     (Call::ClientAt(12, Start::Last), Told::Link(2)),
@@ -144,7 +144,7 @@ const BYTES: [Row; 13] = [
 ];
 
 /// Links that go down, and the numbers of those that come up.
-const NUMBERS: [Row; 17] = [
+static NUMBERS: [Row; 17] = [
     (Call::Say(0, Say::Sample), Told::NotUp(0)),
     (Call::Down(0, None), Told::NotUp(0)),
     (Call::Client(10), Told::Link(0)),
@@ -165,7 +165,7 @@ const NUMBERS: [Row; 17] = [
 ];
 
 /// What each role may send.
-const ROLES: [Row; 9] = [
+static ROLES: [Row; 9] = [
     (Call::Client(10), Told::Link(0)),
     (Call::Router(11), Told::Link(1)),
     (Call::Say(0, Say::Told), Told::Misplaced(Role::Client)),
@@ -194,7 +194,7 @@ const SECOND: &[u8] = &[
 
 /// A router that becomes a child is told what this router's clients declare, and then each change. What it tells itself decides where samples go.
 /// What is taken back and isn't declared is refused, and so is a change that comes too early.
-const CHILD: [Row; 17] = [
+static CHILD: [Row; 17] = [
     (Call::Router(11), Told::Link(0)),
     (Call::Client(10), Told::Link(1)),
     (Call::Say(1, Say::Sub), Told::Ok),
@@ -234,60 +234,70 @@ const CHILD: [Row; 17] = [
 
 #[test]
 fn a_router_has_128_sessions_at_most(rt: HostRuntime) -> Result<(), Fail> {
-    assert_eq!(rt; first_wrong(rt, rt.alloc(), &FULL_OF_CLIENTS)?, None);
+    let wrong = first_wrong(rt, rt.alloc(), &FULL_OF_CLIENTS)?;
+    assert!(rt; wrong == FULL_OF_CLIENTS.len(), "row {wrong}");
     Ok(())
 }
 
 #[test]
 fn sixteen_of_them_lead_to_routers_at_most(rt: HostRuntime) -> Result<(), Fail> {
-    assert_eq!(rt; first_wrong(rt, rt.alloc(), &FULL_OF_ROUTERS)?, None);
+    let wrong = first_wrong(rt, rt.alloc(), &FULL_OF_ROUTERS)?;
+    assert!(rt; wrong == FULL_OF_ROUTERS.len(), "row {wrong}");
     Ok(())
 }
 
 #[test]
 fn a_ring_that_nobody_empties(rt: HostRuntime) -> Result<(), Fail> {
-    assert_eq!(rt; first_wrong(rt, rt.alloc(), &NOBODY_TAKES)?, None);
+    let wrong = first_wrong(rt, rt.alloc(), &NOBODY_TAKES)?;
+    assert!(rt; wrong == NOBODY_TAKES.len(), "row {wrong}");
     Ok(())
 }
 
 #[test]
 fn a_router_that_takes_no_records(rt: HostRuntime) -> Result<(), Fail> {
-    assert_eq!(rt; first_wrong(rt, rt.alloc(), &RECORDS)?, None);
+    let wrong = first_wrong(rt, rt.alloc(), &RECORDS)?;
+    assert!(rt; wrong == RECORDS.len(), "row {wrong}");
     Ok(())
 }
 
 #[test]
 fn all_parcels_of_a_sample_are_given_or_none(rt: HostRuntime) -> Result<(), Fail> {
-    assert_eq!(rt; first_wrong(rt, rt.alloc(), &ALL_OR_NONE)?, None);
+    let wrong = first_wrong(rt, rt.alloc(), &ALL_OR_NONE)?;
+    assert!(rt; wrong == ALL_OR_NONE.len(), "row {wrong}");
     Ok(())
 }
 
 #[test]
 fn a_dropped_sample_takes_no_frame_number(rt: HostRuntime) -> Result<(), Fail> {
-    assert_eq!(rt; first_wrong(rt, rt.alloc(), &DROPPED)?, None);
+    let wrong = first_wrong(rt, rt.alloc(), &DROPPED)?;
+    assert!(rt; wrong == DROPPED.len(), "row {wrong}");
     Ok(())
 }
 
 #[test]
 fn parcels_are_frames_with_the_next_number(rt: HostRuntime) -> Result<(), Fail> {
-    assert_eq!(rt; first_wrong(rt, rt.alloc(), &BYTES)?, None);
+    let wrong = first_wrong(rt, rt.alloc(), &BYTES)?;
+    assert!(rt; wrong == BYTES.len(), "row {wrong}");
     Ok(())
 }
 
 #[test]
 fn a_link_has_the_least_free_number(rt: HostRuntime) -> Result<(), Fail> {
-    assert_eq!(rt; first_wrong(rt, rt.alloc(), &NUMBERS)?, None);
+    let wrong = first_wrong(rt, rt.alloc(), &NUMBERS)?;
+    assert!(rt; wrong == NUMBERS.len(), "row {wrong}");
     Ok(())
 }
 
 #[test]
 fn each_role_has_its_messages(rt: HostRuntime) -> Result<(), Fail> {
-    assert_eq!(rt; first_wrong(rt, rt.alloc(), &ROLES)?, None);
+    let wrong = first_wrong(rt, rt.alloc(), &ROLES)?;
+    assert!(rt; wrong == ROLES.len(), "row {wrong}");
     Ok(())
 }
 
 #[test]
 fn a_child_is_told_what_clients_declare(rt: HostRuntime) -> Result<(), Fail> {
-    assert_eq!(rt; first_wrong(rt, rt.alloc(), &CHILD)?, None);
+    let wrong = first_wrong(rt, rt.alloc(), &CHILD)?;
+    assert!(rt; wrong == CHILD.len(), "row {wrong}");
     Ok(())
 }

@@ -8,9 +8,6 @@ mod edge;
 mod number;
 mod other;
 mod run;
-mod serving;
-#[cfg(test)]
-mod tests;
 mod topic;
 
 use crate::edge::{collect_words, end, without_name};

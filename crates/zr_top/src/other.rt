@@ -9,7 +9,6 @@ ghost use Rattle.zr_top.specs.Asked.{IsServing, status_of};
 ghost use Rattle.zr_top.specs.Words.{served_of, TellsUsage};
 
 use crate::command_line::plan_of;
-use crate::serving::serve_router;
 use std::alloc::Global;
 use std::sync::Wait;
 use std::thread::Threads;
@@ -18,6 +17,7 @@ use zr_netrun::status::Status;
 use zr_outside::host::Host;
 use zr_outside::sink::{Sink, write_all};
 use zr_serve::{LinkJob, ServeEnd};
+use zr_service::serving::serve_router;
 
 /// The forms of the program's words.
 const USAGE: &str =

@@ -1,0 +1,157 @@
+//! Messages that are read and written again: as a router passes them on, and with bytes changed at random. They come from a router that
+//! declared `a/b` as 1.
+
+ghost use Rattle.zr_net.specs.Writing.{AnyFits};
+ghost use Rattle.zr_oam.specs.Writing.{Fits};
+
+use crate::keys::declared;
+use crate::row::{self, Fault};
+use rand_core::utils::NextWord;
+use rand_pcg::Pcg32;
+use std::alloc::{AllocError, Global};
+use zr_bytes::{Cursor, ReadError};
+use zr_decl::{Declared, write_decl};
+use zr_msg::msg::Msg;
+use zr_msg::peer::Role;
+use zr_net::{read_net, write_net};
+use zr_oam::{read_oam, write_oam};
+use zr_wirekey::Scopes;
+
+/// How often a message is changed.
+const CHANGES: u32 = 300;
+
+/// What a message between routers begins with, in the bits of the id.
+const OAM: u8 = 0x1F;
+
+/// A message that was read: its fields, and what is written of it.
+#[derive(Drop)]
+struct Found {
+    fields: String,
+    written: Vec<u8>,
+}
+
+pub fn answer(alloc: Global, words: &[&str]) -> Result<String, Fault> {
+    let theirs = declared(alloc)?;
+    let bytes = row::bytes(alloc, words, 1)?;
+    match row::word(words, 0) {
+        "passed" => passed(alloc, &bytes, &theirs),
+        "changed" => changed(alloc, &bytes, &theirs),
+        _ => Err(Fault::Row),
+    }
+}
+
+// What is written of a message, with whole keys.
+fn passed(alloc: Global, bytes: &[u8], theirs: &Scopes) -> Result<String, Fault> {
+    match look(alloc, &mut Cursor::new(bytes), theirs) {
+        Ok(Some(seen)) => row::digits(alloc, &seen.written),
+        _ => Err(Fault::Row),
+    }
+}
+
+// The first of its changes that is neither refused with the cursor where it stood, nor read and, written again, read as the same message.
+fn changed(alloc: Global, bytes: &[u8], theirs: &Scopes) -> Result<String, Fault> {
+    let mut random = Pcg32::new(42, 54);
+    for _ in 0..CHANGES {
+        let other = other(alloc, bytes, &mut random)?;
+        if !is_sound(alloc, &other, theirs) {
+            return row::digits(alloc, &other);
+        }
+    }
+    Ok(String::from_str(alloc, "none")?)
+}
+
+// One or two of the bytes are others.
+fn other(alloc: Global, bytes: &[u8], random: &mut Pcg32) -> Result<Vec<u8>, AllocError> {
+    let mut out = bytes.to_vec(alloc)?;
+    for _ in 0..1 + random.next_word() % 2 {
+        let at = random.next_word() as usize % out.len().max(1);
+        let byte = (random.next_word() % 256) as u8;
+        if let Some(place) = out.get_mut(at) {
+            *place = byte;
+        }
+    }
+    Ok(out)
+}
+
+fn is_sound(alloc: Global, bytes: &[u8], theirs: &Scopes) -> bool {
+    let mut c = Cursor::new(bytes);
+    match look(alloc, &mut c, theirs) {
+        Err(_) => c.left() == bytes.len(),
+        Ok(None) => c.left() < bytes.len(),
+        Ok(Some(first)) => c.left() < bytes.len() && is_read_again(alloc, &first, theirs),
+    }
+}
+
+fn is_read_again(alloc: Global, first: &Found, theirs: &Scopes) -> bool {
+    let mut c = Cursor::new(&first.written);
+    match look(alloc, &mut c, theirs) {
+        Ok(Some(again)) => {
+            c.left() == 0 && again.fields == first.fields && again.written == first.written
+        }
+        _ => false,
+    }
+}
+
+fn look(alloc: Global, c: &mut Cursor<'_>, theirs: &Scopes) -> Result<Option<Found>, ReadError> {
+    match c.as_slice() {
+        [header, ..] if header & OAM == OAM => between_routers(alloc, c),
+        _ => network(alloc, c, theirs),
+    }
+}
+
+// What a network message is read as; none where it is nothing that is written.
+fn network(alloc: Global, c: &mut Cursor<'_>, theirs: &Scopes) -> Result<Option<Found>, ReadError> {
+    let ours = Scopes::new(alloc);
+    match read_net(alloc, c, theirs, &ours, Role::Router)? {
+        Declared::Told(msg) => seen(alloc, &msg),
+        _ => Ok(None),
+    }
+}
+
+fn seen(alloc: Global, msg: &Msg) -> Result<Option<Found>, ReadError>
+    requires { AnyFits msg.now }
+{
+    let written = written(alloc, msg)?;
+    let fields = fields(alloc, msg)?;
+    Ok(Some(Found { fields, written }))
+}
+
+fn written(alloc: Global, msg: &Msg) -> Result<Vec<u8>, AllocError>
+    requires { AnyFits msg.now }
+{
+    let mut out = Vec::new(alloc);
+    match msg {
+        Msg::Push { .. } | Msg::Request { .. } | Msg::Response { .. } | Msg::Final { .. } => {
+            write_net(&mut out, msg, 0)?;
+        }
+        Msg::Sub { .. }
+        | Msg::Unsub { .. }
+        | Msg::Able { .. }
+        | Msg::Unable { .. }
+        | Msg::Interest { .. }
+        | Msg::EndInterest { .. } => write_decl(&mut out, msg)?,
+        _ => {}
+    }
+    Ok(out)
+}
+
+fn fields(alloc: Global, msg: &Msg) -> Result<String, AllocError> {
+    Ok(format!(in alloc; "{msg:?}")?)
+}
+
+// The same of a message between routers.
+fn between_routers(alloc: Global, c: &mut Cursor<'_>) -> Result<Option<Found>, ReadError> {
+    match read_oam(alloc, c)? {
+        Some(msg) => seen_between_routers(alloc, &msg),
+        None => Ok(None),
+    }
+}
+
+fn seen_between_routers(alloc: Global, msg: &Msg) -> Result<Option<Found>, ReadError>
+    requires { Fits msg.now }
+{
+    let mut written = Vec::new(alloc);
+    write_oam(&mut written, msg)?;
+    let fields = fields(alloc, msg)?;
+    Ok(Some(Found { fields, written }))
+}

@@ -1,0 +1,100 @@
+//! Long messages in fragments: how they are cut, joined and limited.
+
+use crate::row::{self, Fault};
+use std::alloc::{AllocError, Global};
+use zr_bytes::{ByteString, Cursor};
+use zr_frame::{Channel, ChannelError, MOST_OF_CLIENT, Outbox};
+use zr_trans::{Trans, read_trans};
+
+/// 32 bits.
+const BITS: u8 = 2;
+
+const BATCH: u16 = 65_535;
+
+const LONG: usize = 200_000;
+
+/// How many bytes a fragment has of the longest message of a client, and how many fragments that is.
+const PIECE: usize = 65_536;
+
+const PIECES: u64 = 128;
+
+/// How many bytes a message has that a fragment ends, or none where it is kept.
+type Heard = Result<Option<usize>, ChannelError>;
+
+pub fn answer(alloc: Global, words: &[&str]) -> Result<String, Fault> {
+    match row::word(words, 0) {
+        "shapes" => shapes(alloc),
+        "joined" => joined(alloc, row::behind(words, 1)),
+        "limit" => limit(alloc),
+        _ => Err(Fault::Row),
+    }
+}
+
+// A message of 200,000 bytes, packed as the first one of a session.
+fn long_message(alloc: Global) -> Result<Vec<ByteString>, AllocError> {
+    let message = ByteString::new(vec![in alloc; 7; LONG]?);
+    let mut parcels = Vec::new(alloc);
+    let mut outbox = Outbox::new(BATCH, BITS, 0);
+    outbox.pieces(alloc, &[message], &mut parcels)?;
+    Ok(parcels)
+}
+
+// The header, the number and the length of the piece of each fragment.
+fn shapes(alloc: Global) -> Result<String, Fault> {
+    let mut all = Vec::new(alloc);
+    for parcel in &long_message(alloc)? {
+        if let [header, number, piece @ ..] = parcel.as_slice() {
+            all.push((*header, *number, piece.len()))?;
+        }
+    }
+    row::text(alloc, &all)
+}
+
+fn heard(alloc: Global, channel: &mut Channel, more: bool, number: u64, piece: &[u8]) -> Heard {
+    match channel.fragment(alloc, MOST_OF_CLIENT, more, number, piece) {
+        Ok(None) => Ok(None),
+        Ok(Some(message)) => Ok(Some(message.as_slice().len())),
+        Err(e) => Err(e),
+    }
+}
+
+// What a channel that is handed one more parcel makes of it.
+fn received(alloc: Global, channel: &mut Channel, parcel: &[u8]) -> Result<Heard, Fault> {
+    match read_trans(alloc, &mut Cursor::new(parcel)) {
+        Ok(
+            Trans::Fragment {
+                more,
+                number,
+                piece,
+                ..
+            },
+        ) => Ok(heard(alloc, channel, more, number, piece.as_slice())),
+        _ => Err(Fault::Row),
+    }
+}
+
+// What each of these fragments of the long message leads to, by their places.
+fn joined(alloc: Global, places: &[&str]) -> Result<String, Fault> {
+    let parcels = long_message(alloc)?;
+    let mut channel = Channel::new(BITS, 0);
+    let mut all = Vec::new(alloc);
+    for at in 0..places.len() {
+        let place: usize = row::parsed(places, at)?;
+        if let Some(parcel) = parcels.get(place) {
+            all.push(received(alloc, &mut channel, parcel.as_slice())?)?;
+        }
+    }
+    row::text(alloc, &all)
+}
+
+// What is made of one byte more than a client's message may have, and of the end of as much as it may have.
+fn limit(alloc: Global) -> Result<String, Fault> {
+    let piece = vec![in alloc; 7; PIECE]?;
+    let mut channel = Channel::new(BITS, 0);
+    for number in 0..PIECES {
+        let _ = heard(alloc, &mut channel, true, number, &piece);
+    }
+    let above = heard(alloc, &mut channel, true, PIECES, &[7]);
+    let whole = heard(alloc, &mut channel, false, PIECES, &[]);
+    row::text(alloc, &(above, whole))
+}

@@ -1,0 +1,74 @@
+//! What a base keeps of the records that come in, and which edges they make.
+
+use crate::row::{self, Fault, Steps};
+use std::alloc::{AllocError, Global};
+use zr_graph::base::Base;
+use zr_id::record::{LinkRecord, are_links};
+use zr_id::zid::Zid;
+
+/// The base of the router `02` takes the steps.
+pub fn answer(alloc: Global, words: &[&str]) -> Result<String, Fault> {
+    let mut base = Base::new(alloc, Zid::from_bytes(&[2])?)?;
+    row::walk(alloc, &mut base, words)
+}
+
+// The identifiers that a word lists.
+fn ids(alloc: Global, word: &str) -> Result<Vec<Zid>, Fault> {
+    let texts = row::parts(alloc, word, ',')?;
+    let mut ids = Vec::new(alloc);
+    for text in &texts {
+        if !text.is_empty() {
+            ids.push(Zid::from_text(text)?)?;
+        }
+    }
+    Ok(ids)
+}
+
+/// The router whose base it is has these links from now on.
+pub fn relink(base: &mut Base, links: &[Zid]) -> Result<(), Fault> {
+    let me = base.me();
+    if !are_links(&me, links) {
+        return Err(Fault::Row);
+    }
+    match base.change(links) {
+        Ok(()) => Ok(()),
+        Err(_) => Err(Fault::Memory),
+    }
+}
+
+/// A router's record.
+pub fn record(id: Zid, number: u64, links: Vec<Zid>) -> Result<LinkRecord, Fault> {
+    if !are_links(&id, &links) {
+        return Err(Fault::Row);
+    }
+    Ok(LinkRecord::new(id, number, links))
+}
+
+fn accept(alloc: Global, base: &mut Base, parts: &[&str]) -> Result<String, Fault> {
+    let (id, number) = (row::id(parts, 1)?, row::parsed(parts, 2)?);
+    let record = record(id, number, ids(alloc, row::word(parts, 3))?)?;
+    row::text(alloc, &base.accept(&record)?)
+}
+
+// Of each record its router, its number, and how many links it lists.
+fn records(alloc: Global, base: &Base) -> Result<Vec<(Zid, u64, usize)>, AllocError> {
+    base.records()
+        .iter()
+        .map(|record| (record.id(), record.seq(), record.links().len()))
+        .collect(alloc)
+}
+
+impl Steps for Base {
+    // Other links, a record that comes, or a question.
+    fn step(&mut self, alloc: Global, parts: &[&str]) -> Result<String, Fault> {
+        match row::word(parts, 0) {
+            "links" => {
+                relink(self, &ids(alloc, row::word(parts, 1))?)?;
+                Ok(String::new(alloc))
+            }
+            "record" => accept(alloc, self, parts),
+            "records" => row::text(alloc, &records(alloc, self)?),
+            _ => row::text(alloc, &self.edge(row::id(parts, 1)?, row::id(parts, 2)?)),
+        }
+    }
+}

@@ -1,0 +1,75 @@
+//! Openings, byte for byte.
+
+ghost use Rattle.zr_trans.specs.Writing.{Fits};
+
+use crate::row::{self, Fault, Steps};
+use std::alloc::Global;
+use zr_bytes::Cursor;
+use zr_id::zid::Zid;
+use zr_open::{Expected, Opened, Opening, Progress};
+use zr_trans::{Trans, read_trans, write_trans};
+
+/// What an end knows that nobody else does.
+pub const SECRET: [u8; 32] = [7; 32];
+
+/// One end: what it starts from, and the message that it expects.
+#[derive(Drop)]
+struct End {
+    opening: Opening,
+    expected: Expected,
+}
+
+/// The end that a word names, of a router, a link and a word of these numbers, takes the steps.
+pub fn answer(alloc: Global, words: &[&str]) -> Result<String, Fault> {
+    let expected = match row::word(words, 0) {
+        "accepting" => Expected::Init,
+        _ => Expected::InitAnswer,
+    };
+    let me = Zid::from_bytes(&[row::parsed(words, 1)?])?;
+    let opening = Opening::new(me, &SECRET, row::parsed(words, 2)?, row::parsed(words, 3)?);
+    let mut end = End { opening, expected };
+    row::walk(alloc, &mut end, row::behind(words, 4))
+}
+
+fn digits(alloc: Global, message: &Trans) -> Result<String, Fault>
+    requires { Fits message.now }
+{
+    let mut out = Vec::new(alloc);
+    write_trans(&mut out, message)?;
+    row::digits(alloc, &out)
+}
+
+// What the end of an open session knows: the peer, its lease, the most bytes of a batch, the numbers of the first frames of the peer and of
+// this end, and the answer to OPEN that it has to send.
+fn shown(alloc: Global, o: &Opened) -> Result<String, Fault> {
+    let numbers = (o.lease, o.outbox.batch(), o.first, o.outbox.next());
+    row::text(alloc, &(o.peer.role, o.peer.id, numbers, &o.answer))
+}
+
+// What an end makes of a message that can be spelled: its answer, what it knows then, or why it ends.
+fn receive(alloc: Global, end: &mut End, message: &Trans) -> Result<String, Fault>
+    requires { Fits message.now }
+{
+    match end.opening.receive(alloc, end.expected, message) {
+        Ok(Progress::Answers { expected, answer }) => {
+            end.expected = expected;
+            digits(alloc, &answer)
+        }
+        Ok(Progress::Opened(o)) => shown(alloc, &o),
+        Err(e) => row::text(alloc, &e),
+    }
+}
+
+impl Steps for End {
+    // The INIT of an end that dials, or a message that it hears.
+    fn step(&mut self, alloc: Global, parts: &[&str]) -> Result<String, Fault> {
+        if row::word(parts, 0) == "greets" {
+            return digits(alloc, &self.opening.greeting());
+        }
+        let bytes = row::bytes(alloc, parts, 1)?;
+        match read_trans(alloc, &mut Cursor::new(&bytes)) {
+            Ok(message) => receive(alloc, self, &message),
+            Err(_) => Err(Fault::Row),
+        }
+    }
+}

@@ -1,0 +1,127 @@
+//! A row's words, what they stand for, and values as text.
+
+use hex::FromHexError;
+use std::alloc::{AllocError, AllocFailed, Global};
+use std::fmt::Debug;
+use std::str::FromStr;
+use zr_id::zid::{BadId, Zid};
+use zr_key::key::KeyError;
+
+/// Why a row has no answer.
+#[derive(Clone, Copy, Debug, Drop)]
+pub enum Fault {
+    /// Memory ran out.
+    Memory,
+    /// The row names no call, or a word of it is not what the call takes.
+    Row,
+    /// The row could not be read, or its answer not be written.
+    Stream,
+}
+
+impl From<AllocError> for Fault {
+    fn from(_e: AllocError) -> Fault {
+        Fault::Memory
+    }
+}
+
+impl<T: Drop> From<AllocFailed<T>> for Fault {
+    fn from(_e: AllocFailed<T>) -> Fault {
+        Fault::Memory
+    }
+}
+
+impl From<BadId> for Fault {
+    fn from(_e: BadId) -> Fault {
+        Fault::Row
+    }
+}
+
+impl From<KeyError> for Fault {
+    fn from(_e: KeyError) -> Fault {
+        Fault::Row
+    }
+}
+
+/// What takes steps, one after the other.
+pub trait Steps {
+    /// Takes the step of these parts, and tells what came of it.
+    fn step(&mut self, alloc: Global, parts: &[&str]) -> Result<String, Fault>;
+}
+
+/// Takes the steps that the words are, each with parts between colons, and tells what came of those of which something came.
+pub fn walk<W: Steps>(alloc: Global, state: &mut W, words: &[&str]) -> Result<String, Fault> {
+    let mut out = String::new(alloc);
+    for word in words {
+        let parts = parts(alloc, word, ':')?;
+        let told = state.step(alloc, &parts)?;
+        if !told.is_empty() {
+            out.push_str(&told)?;
+            out.push_str("; ")?;
+        }
+    }
+    Ok(out)
+}
+
+/// The parts of a text between these characters.
+pub fn parts(alloc: Global, text: &str, between: char) -> Result<Vec<&str>, AllocError> {
+    text.split(between).collect(alloc)
+}
+
+/// The word at a place, empty where there is none.
+pub fn word<'a>(words: &[&'a str], at: usize) -> &'a str {
+    match words.get(at) {
+        Some(word) => *word,
+        None => "",
+    }
+}
+
+/// The words from a place on.
+pub fn behind<'a, 'b>(words: &'b [&'a str], at: usize) -> &'b [&'a str] {
+    let (_, behind) = words.split_at(at.min(words.len()));
+    behind
+}
+
+/// The bytes that a word of hex digits stands for.
+pub fn bytes(alloc: Global, words: &[&str], at: usize) -> Result<Vec<u8>, Fault> {
+    match hex::decode(alloc, word(words, at)) {
+        Ok(bytes) => Ok(bytes),
+        Err(FromHexError::OutOfMemory) => Err(Fault::Memory),
+        Err(_) => Err(Fault::Row),
+    }
+}
+
+/// The number or the truth value that a word is.
+pub fn parsed<T: FromStr>(words: &[&str], at: usize) -> Result<T, Fault>
+where
+    T::Err: Drop,
+{
+    match word(words, at).parse::<T>() {
+        Ok(value) => Ok(value),
+        Err(_) => Err(Fault::Row),
+    }
+}
+
+/// The identifier that a word spells.
+pub fn id(words: &[&str], at: usize) -> Result<Zid, Fault> {
+    Ok(Zid::from_text(word(words, at))?)
+}
+
+/// A value as text.
+pub fn text<T: Debug>(alloc: Global, value: &T) -> Result<String, Fault> {
+    Ok(format!(in alloc; "{value:?}")?)
+}
+
+/// What was read as text, and how many bytes are left.
+pub fn read<T: Debug>(alloc: Global, value: &T, left: usize) -> Result<String, Fault> {
+    Ok(format!(in alloc; "{value:?}, left {left}")?)
+}
+
+/// Bytes as hex digits.
+pub fn digits(alloc: Global, bytes: &[u8]) -> Result<String, Fault> {
+    Ok(hex::encode(alloc, bytes)?)
+}
+
+/// So many bytes that are the letter `a`.
+pub fn letters(alloc: Global, count: usize) -> Result<Vec<u8>, AllocError> {
+    vec![in alloc; b'a'; count]
+}

@@ -1,0 +1,32 @@
+//! Transport messages: which bytes are read as which, which are refused, and how messages are written.
+
+use crate::row::{self, Fault};
+use std::alloc::Global;
+use zr_bytes::Cursor;
+use zr_trans::{read_trans, write_trans};
+
+pub fn answer(alloc: Global, words: &[&str]) -> Result<String, Fault> {
+    match row::word(words, 0) {
+        "read" => read(alloc, words),
+        "again" => again(alloc, words),
+        _ => Err(Fault::Row),
+    }
+}
+
+fn read(alloc: Global, words: &[&str]) -> Result<String, Fault> {
+    let bytes = row::bytes(alloc, words, 1)?;
+    let mut c = Cursor::new(&bytes);
+    let message = read_trans(alloc, &mut c);
+    row::read(alloc, &message, c.left())
+}
+
+// What is written of the message that was read.
+fn again(alloc: Global, words: &[&str]) -> Result<String, Fault> {
+    let bytes = row::bytes(alloc, words, 1)?;
+    let Ok(message) = read_trans(alloc, &mut Cursor::new(&bytes)) else {
+        return Err(Fault::Row);
+    };
+    let mut out = Vec::new(alloc);
+    write_trans(&mut out, &message)?;
+    row::digits(alloc, &out)
+}
