@@ -13,6 +13,7 @@ pub mod Paths
 pub mod Reaches
 pub mod Rows
 pub mod SameEdges
+pub mod Searched
 pub mod Stays
 pub mod Unknown
 pub mod Ways

@@ -1,12 +1,12 @@
 -- Distances are the same both ways, so the children of one router are told by the distances from it, from the child, and from the neighbours
 -- of the child that come before it.
-use Rattle.std.proofs.Common.{◌≡◌, ℕ, ◌+◌, ◌<◌, ◌≤◌, zero, suc, Bool, true, false, cond, not, ◌&&◌, ◌||◌, ◌==◌, List, [], ◌∷◌, ◌++◌, Option, Some, None, All, ◌⊎◌, inl, inr, length, get_or, map, take, drop, refl, sym, ap, ◌∙◌, subst, arith}
+use Rattle.std.proofs.Common.{◌≡◌, ℕ, ◌<◌, ◌≤◌, zero, suc, Bool, true, false, cond, not, ◌&&◌, ◌||◌, ◌==◌, List, [], ◌∷◌, ◌++◌, Option, Some, None, Result, Ok, Err, IfOk, OnOk, All, inl, inr, length, get_or, map, take, drop, refl, sym, ap, ◌∙◌, subst, arith}
 use Rattle.std.specs.List.{find, list_any, position, position_or_len, range_with_len}
 use Rattle.std.specs.Option.{option_map_or}
-use Rattle.std.proofs.lemmas.Bool.{false≢true, cases_Bool, cases_lt, false_from_ne_true, eq-eqb, eqb-true}
+use Rattle.std.proofs.lemmas.Bool.{false≢true, false_from_ne_true, eq-eqb, eqb-true}
 use Rattle.std.proofs.Math.Seq.{drop-cons}
 use Rattle.std.proofs.lemmas.Bool.Decides.{nat_tests}
-use Rattle.std.proofs.lemmas.List.{length_push, length-take-le, get_or_push, get_or_append_left, get_or-take, map-append, take-append-drop}
+use Rattle.std.proofs.lemmas.List.{length-append, length_push, length-take-le, get_or_push, get_or_append_left, get_or-take, map-append, take-append-drop}
 use Rattle.std.proofs.lemmas.List.FromFn.{get_or-map-range_with_len}
 use Rattle.std.proofs.lemmas.List.Quantifiers.{position-Some}
 use Rattle.std.proofs.lemmas.List.Sums.{fails_before_first}
@@ -15,17 +15,18 @@ use Rattle.zr_id.specs.Zid.{is_named}
 use Rattle.zr_graph.specs.Base.{BaseState}
 use Rattle.zr_graph.specs.Record.{ids, has}
 use Rattle.zr_graph.proofs.Names.{same_is, same_refl}
-use Rattle.zr_tree.specs.OwnChildren.{is_nearer, is_first, AreAllDistances, ArePassed, AreFlags, AreAllFlags, IsFamily}
+use Rattle.zr_tree.specs.OwnChildren.{is_first, AreFlags, IsFamily}
 use Rattle.zr_tree.specs.Index.{EdgeTable, AreEdges, name, row}
 use Rattle.zr_tree.specs.Laws.{IsGraph}
 use Rattle.zr_tree.specs.Same.{HaveSameEdges}
-use Rattle.zr_tree.specs.Search.{AreDistances, kept_at}
+use Rattle.zr_tree.specs.Searches.{is_searched, distance_kept, is_nearer, AreSearches, Searched}
 use Rattle.zr_tree.specs.Tree.{dist, is_child, is_sum}
 use Rattle.zr_tree.specs.Walk.{Graph, graph_of, IsDistance, near}
 use Rattle.zr_tree.proofs.Branches.{parent_is, child_is}
 use Rattle.zr_tree.proofs.Finds.{In, find_in, in_map, in_place, same_find}
 use Rattle.zr_tree.proofs.Levels.{all_in, one_index}
 use Rattle.zr_tree.proofs.Paths.{exact, graph_is, walk_back}
+use Rattle.zr_tree.proofs.Searched.{kept_is}
 use Rattle.zr_tree.proofs.Stays.{as_long, ascending_still, child_stays, name_stays}
 use Rattle.zr_tree.proofs.Unknown.{parent_unknown_at, parent_unknown_root}
 
@@ -103,6 +104,13 @@ module _ {X : Type 0} where
   taken_in (suc k) (y ∷ xs) x (inl i) = inl i
   taken_in (suc k) (y ∷ xs) x (inr i) = inr (taken_in k xs x i)
 
+module _ {X : Type 0} (P : X → Type 0) (xs : List X) where
+  left_of : (ys : List X) → All P (xs ++ ys) → All P xs
+  left_of ys all i d l = subst P (get_or_append_left xs ys d i l) (all i d (omega (arith, length-append xs ys, l)))
+
+  last_of : (x : X) → All P (xs ++ x ∷ []) → P x
+  last_of x all = subst P (get_or_push xs x x (length xs) refl) (all (length xs) x (omega (arith, length_push xs x)))
+
 module _ {X : Type 0} (p : X → Bool) (xs : List X) where
   -- where there is no place no element passes
   none_place : position p xs ≡ None → (x : X) → In x xs → p x ≡ false
@@ -154,66 +162,41 @@ module _ (e : EdgeTable) (right : AreEdges e) (me y : ℕ) (known : me < length 
             let e' : f.0 ≡ me = one_index e.records f.0 me right.ascending lt known (f.2 ∙ same) in
             false≢true (sym (fails_before (λ z. z == me) (row e.rows y) k found f.0 f.1) ∙ eq-eqb f.0 me e')
 
-    -- the others are as near as their distances say
-    module _ (far : List (Option ℕ)) (from : AreDistances e y far) (root : ℕ) (lt : root < length e.records) where
-      nearer_by : (z : ℕ) (d : List (Option ℕ)) → AreDistances e z d → is_nearer d far root ≡ farther (graph_of e.records) (name e.records root) (name e.records y) (name e.records z)
-      nearer_by z d h = ap (λ o. is_sum o 1 (kept_at far root)) (h.exact root lt) ∙ ap (λ o. is_sum (dist (graph_of e.records) (name e.records z) (name e.records root)) 1 o) (from.exact root lt)
+    -- whoever was searched from is as near as the distances say
+    module _ (searches : List (Option (List (Option ℕ)))) (are : AreSearches e searches) (from : is_searched searches y ≡ true) (root : ℕ) (lt : root < length e.records) where
+      nearer_by : (z : ℕ) → is_searched searches z ≡ true → is_nearer searches z y root ≡ farther (graph_of e.records) (name e.records root) (name e.records y) (name e.records z)
+      nearer_by z h =
+          ap (λ o. is_sum o 1 (distance_kept searches y root)) (kept_is e searches are z root h lt)
+          ∙ ap (λ o. is_sum (dist (graph_of e.records) (name e.records z) (name e.records root)) 1 o) (kept_is e searches are y root from lt)
 
-      any_nearer : (zs : List ℕ) (ds : List (List (Option ℕ))) → AreAllDistances e zs ds →
-          list_any (λ d. is_nearer d far root) ds ≡ list_any (farther (graph_of e.records) (name e.records root) (name e.records y)) (map (name e.records) zs)
-      any_nearer [] [] h = refl
-      any_nearer [] (d ∷ ds) h = absurd (omega (arith, h.long))
-      any_nearer (z ∷ zs) [] h = absurd (omega (arith, h.long))
-      any_nearer (z ∷ zs) (d ∷ ds) h =
-          ap (λ t. t || list_any (λ d. is_nearer d far root) ds) (nearer_by z d (h.each 0 (omega arith)))
-          ∙ ap (λ t. farther (graph_of e.records) (name e.records root) (name e.records y) (name e.records z) || t)
-          (any_nearer zs ds (record { long = omega (arith, h.long); each = λ i l. h.each (suc i) (omega arith) }))
+      any_nearer : (zs : List ℕ) → All (λ z. is_searched searches z ≡ true) zs →
+          list_any (λ z. is_nearer searches z y root) zs ≡ list_any (farther (graph_of e.records) (name e.records root) (name e.records y)) (map (name e.records) zs)
+      any_nearer [] all = refl
+      any_nearer (z ∷ zs) all =
+          ap (λ t. t || list_any (λ z. is_nearer searches z y root) zs) (nearer_by z (all 0 0 (omega arith)))
+          ∙ ap (λ t. farther (graph_of e.records) (name e.records root) (name e.records y) (name e.records z) || t) (any_nearer zs (λ i d l. all (suc i) d (omega (arith, l))))
 
-    pub passed_flags : (mine : List (Option ℕ)) (flags : List Bool) → AreDistances e me mine → ArePassed e mine y (take k (row e.rows y)) flags → AreFlags e.records (name e.records me) y flags
-    passed_flags mine flags own h root lt =
-        h.4 root lt
-        ∙ ap (λ t. t && not (list_any (λ d. is_nearer d h.0 root) h.1)) (nearer_by h.0 h.2 root lt me mine own)
-        ∙ ap (λ t. farther (graph_of e.records) (name e.records root) (name e.records y) (name e.records me) && not t) (any_nearer h.0 h.2 root lt (take k (row e.rows y)) h.1 h.3)
+    pub passed_flags : (before searches : List (Option (List (Option ℕ)))) (flags : List Bool) → Searched e before searches ((take k (row e.rows y) ++ me ∷ []) ++ y ∷ []) →
+        flags ≡ map (is_first searches me (take k (row e.rows y)) y) (range_with_len 0 (length e.records)) → AreFlags e.records (name e.records me) y flags
+    passed_flags before searches flags h is root lt =
+        let others : List ℕ = take k (row e.rows y) in
+        let P : ℕ → Type 0 = λ z. is_searched searches z ≡ true in
+        let last : is_searched searches y ≡ true = last_of P (others ++ me ∷ []) y h.these in
+        let rest : All P (others ++ me ∷ []) = left_of P (others ++ me ∷ []) (y ∷ []) h.these in
+        ap (λ fs. get_or fs root false) is
+        ∙ get_or-map-range_with_len (is_first searches me others y) 0 (length e.records) root root false (omega (arith, lt)) (omega arith)
+        ∙ ap (λ t. t && not (list_any (λ z. is_nearer searches z y root) others)) (nearer_by searches h.are last root lt me (last_of P others me rest))
+        ∙ ap (λ t. farther (graph_of e.records) (name e.records root) (name e.records y) (name e.records me) && not t) (any_nearer searches h.are last root lt others (left_of P others (me ∷ []) rest))
         ∙ sym (child_by (graph_of e.records) (graph_is e.records right.ascending) (name e.records root) (name e.records me) (name e.records y)
-        (map (name e.records) (take k (row e.rows y))) (map (name e.records) (drop (suc k) (row e.rows y))) split apart)
+        (map (name e.records) others) (map (name e.records) (drop (suc k) (row e.rows y))) split apart)
 
--- ---- the loops
+    -- if they were worked out
+    pub passed_all : {E : Type 0} (r : Result (List Bool) E) (before searches : List (Option (List (Option ℕ)))) → OnOk r (Searched e before searches ((take k (row e.rows y) ++ me ∷ []) ++ y ∷ [])) →
+        IfOk r (λ flags. flags ≡ map (is_first searches me (take k (row e.rows y)) y) (range_with_len 0 (length e.records))) → IfOk r (λ flags. AreFlags e.records (name e.records me) y flags)
+    passed_all (Ok flags) before searches h is = passed_flags before searches flags h is
+    passed_all (Err error) before searches h is = h
 
--- one router more
-pub distances_more : (e : EdgeTable) (froms : List ℕ) (k : ℕ) (all : List (List (Option ℕ))) (d : List (Option ℕ)) → k < length froms →
-    AreAllDistances e (take k froms) all → AreDistances e (get_or froms k 0) d → AreAllDistances e (take (k + 1) froms) (all ++ d ∷ [])
-distances_more e froms k all d lt h one =
-    let short : length (take k froms) ≡ k = length-take-le k froms (omega arith) in
-    let long : length (take (k + 1) froms) ≡ k + 1 = length-take-le (k + 1) froms (omega arith) in
-    let count : length all ≡ k = h.long ∙ short in
-    record {
-      long = length_push all d ∙ ap (λ (n : ℕ). n + 1) count ∙ sym long;
-      each = λ i l. elim (cases_lt i k) [
-        | inl less ↦ (let same : get_or (take k froms) i 0 ≡ get_or (take (k + 1) froms) i 0 = get_or-take k froms i 0 less ∙ sym (get_or-take (k + 1) froms i 0 (omega arith)) in
-            let before = h.each i (omega (arith, short)) in
-            let P : ℕ → Type 0 = λ z. AreDistances e z (get_or all i []) in
-            rw (get_or_append_left all (d ∷ []) [] i (omega (arith, count))) (subst P same before))
-        | inr last ↦ (let i_is : k ≡ i = omega (arith, long) in
-            let same : get_or froms k 0 ≡ get_or (take (k + 1) froms) i 0 = ap (λ (n : ℕ). get_or froms n 0) i_is ∙ sym (get_or-take (k + 1) froms i 0 (omega arith)) in
-            let P : ℕ → Type 0 = λ z. AreDistances e z d in
-            rw (get_or_push all d [] i (count ∙ i_is)) (subst P same one))
-      ];
-    }
-
-pub flags_more : (rs : List RecordState) (me : List ℕ) (y : ℕ) (all : List (List Bool)) (flags : List Bool) → length all ≡ y →
-    ((z : ℕ) → z < y → AreFlags rs me z (get_or all z [])) → AreFlags rs me y flags → (z : ℕ) → z < y + 1 → AreFlags rs me z (get_or (all ++ flags ∷ []) z [])
-flags_more rs me y all flags long each here z lt = elim (cases_lt z y) [
-  | inl less ↦ (let n : z < length all = omega (arith, long) in rw (get_or_append_left all (flags ∷ []) [] z n) (each z less))
-  | inr last ↦ (let i : y ≡ z = omega arith in
-      let P : ℕ → Type 0 = λ w. AreFlags rs me w flags in
-      rw (get_or_push all flags [] z (long ∙ i)) (subst P i here))
-]
-
--- by the flags of all roots
-pub flags_by : (e : EdgeTable) (mine : List (Option ℕ)) (y : ℕ) (others : List ℕ) (far : List (Option ℕ)) (all : List (List (Option ℕ))) (flags : List Bool) (count : ℕ) → count ≡ length e.records →
-    AreDistances e y far → AreAllDistances e others all → flags ≡ map (is_first mine all far) (range_with_len 0 count) → ArePassed e mine y others flags
-flags_by e mine y others far all flags count long from each is =
-    (far, all, from, each, λ root lt. ap (λ fs. get_or fs root false) is ∙ get_or-map-range_with_len (is_first mine all far) 0 count root root false (omega (arith, long, lt)) (omega arith))
+-- ---- routers that the records don't know
 
 -- a router that the records don't know is no child, and is in no tree
 module _ (rs : List RecordState) (root me y : List ℕ) where

@@ -6,6 +6,7 @@ pub mod Lists
 pub mod OwnChildren
 pub mod Same
 pub mod Search
+pub mod Searches
 pub mod Tree
 pub mod Walk
 pub mod Way

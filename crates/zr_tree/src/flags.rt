@@ -1,31 +1,16 @@
 //! In which trees one router is the parent of each of its neighbours, by the routers' indexes. No search starts at a root: distances are the
 //! same both ways, so those from the router, from its neighbours and from some of theirs tell it for all roots.
 
-ghost use Rattle.std.specs.Prelude.{◌≡◌, ◌==◌, ◌<◌, false, IfOk, length, map, All, slice_index_or};
+ghost use Rattle.std.specs.Prelude.{◌≡◌, ◌==◌, ◌<◌, ◌++◌, ◌∷◌, [], false, IfOk, OnOk, length, map, All, slice_index_or};
 ghost use Rattle.std.specs.List.{list_any, position, range_with_len};
-ghost use Rattle.zr_tree.specs.OwnChildren.{is_first, is_nearer, AreAllDistances, AreAllFlags, AreFlags, ArePassed};
+ghost use Rattle.zr_tree.specs.OwnChildren.{is_first, AreAllFlags, AreFlags};
 ghost use Rattle.zr_tree.specs.Index.{name};
-ghost use Rattle.zr_tree.specs.Search.{kept_at, AreDistances};
+ghost use Rattle.zr_tree.specs.Searches.{is_nearer, AreSearches, Searched};
 
 use crate::edges::Edges;
-use crate::search::search_from;
-use crate::tree::is_next;
+use crate::searches::Searches;
 use std::alloc::{AllocError, Global};
 use std::marker::Model;
-
-// How far each router is from one, by index.
-#[derive(Drop)]
-struct Distances {
-    distances: Vec<Option<u32>>,
-}
-
-impl Model for Distances {
-    ghost use Rattle.std.specs.Prelude.{List, Option, ℕ};
-
-    ghost Value = { List (Option ℕ) };
-
-    ghost view = { λ d. d.distances.items };
-}
 
 /// Whether one router is the parent of another one, by the index of the tree's root. No flags stand for `false` in all trees.
 #[derive(Drop)]
@@ -39,28 +24,6 @@ impl Model for Flags {
     ghost Value = { List Bool };
 
     ghost view = { λ f. f.flags.items };
-}
-
-impl Distances {
-    // The distances from this router.
-    fn of(alloc: Global, edges: &Edges, from: usize) -> Result<Distances, AllocError>
-        requires { from < length edges.now.records }
-        ensures { IfOk result (λ d. AreDistances edges.now from d) }
-    {
-        let reach = search_from(alloc, edges, from)?;
-        Ok(Distances {
-            distances: reach.distances,
-        })
-    }
-
-    fn to(&self, root: usize) -> Option<u32>
-        ensures { result ≡ kept_at self.now root }
-    {
-        match self.distances.get(root) {
-            Some(distance) => *distance,
-            None => None,
-        }
-    }
 }
 
 impl Flags {
@@ -80,32 +43,32 @@ pub fn all_flags(alloc: Global, edges: &Edges, me: usize) -> Result<Vec<Flags>, 
     requires { me < length edges.now.records }
     ensures { IfOk result (λ v. AreAllFlags edges.now.records (name edges.now.records me) v.items) }
 {
-    let mine = Distances::of(alloc, edges, me)?;
     let rows = edges.rows();
+    let mut searches = Searches::new(alloc, rows.len())?;
     let mut all = Vec::with_capacity(alloc, rows.len())?;
-    for y in 0..rows.len() {
-        all.push(flags_of(alloc, edges, &mine, me, y)?)?;
+    for child in 0..rows.len() {
+        all.push(flags_of(alloc, edges, &mut searches, me, child)?)?;
     }
     Ok(all)
 }
 
-// The flags of router `me`, from which these are the distances, and router y. A router is its parent that is one nearer to the root, if
-// none of the neighbours before it is.
+// The flags of router `me` and one other. A router's parent is the first of its neighbours that is one nearer to the root.
 fn flags_of(
     alloc: Global,
     edges: &Edges,
-    mine: &Distances,
+    searches: &mut Searches,
     me: usize,
-    y: usize,
+    child: usize,
 ) -> Result<Flags, AllocError>
     requires me { me < length edges.now.records }
-    requires y { y < length edges.now.records }
-    requires mine { AreDistances edges.now me mine.now }
-    ensures { IfOk result (λ f. AreFlags edges.now.records (name edges.now.records me) y f) }
+    requires child { child < length edges.now.records }
+    requires searches { AreSearches edges.now searches.old }
+    ensures flags { IfOk result (λ f. AreFlags edges.now.records (name edges.now.records me) child f) }
+    ensures searches { OnOk result (AreSearches edges.now searches.new) }
 {
-    let neighbours = edges.rows()[y].indexes();
+    let neighbours = edges.rows()[child].indexes();
     match place_of(neighbours, me) {
-        Some(place) => passed(alloc, edges, mine, y, &neighbours[..place]),
+        Some(place) => passed(alloc, edges, searches, me, &neighbours[..place], child),
         None => Ok(Flags {
             flags: Vec::new(alloc),
         }),
@@ -118,71 +81,55 @@ fn place_of(indexes: &[usize], index: usize) -> Option<usize>
     indexes.iter().position(|z| *z == index)
 }
 
-// For each root, whether a router, from which these are the distances, is one nearer to it than router y, and none of these others is.
+// For each root, whether router `me` is one nearer to it than the child, and none of these others is.
 fn passed(
     alloc: Global,
     edges: &Edges,
-    mine: &Distances,
-    y: usize,
+    searches: &mut Searches,
+    me: usize,
     others: &[usize],
+    child: usize,
 ) -> Result<Flags, AllocError>
-    requires y { y < length edges.now.records }
+    requires me { me < length edges.now.records }
     requires others { All (λ z. z < length edges.now.records) others.now }
-    ensures { IfOk result (λ f. ArePassed edges.now mine.now y others.now f) }
+    requires child { child < length edges.now.records }
+    requires searches { AreSearches edges.now searches.old }
+    ensures flags { IfOk result (λ f. f ≡ map (is_first searches.new me others.now child) (range_with_len 0 (length edges.now.records))) }
+    ensures searched { OnOk result (Searched edges.now searches.old searches.new ((others.now ++ me ∷ []) ++ child ∷ [])) }
 {
-    let far = Distances::of(alloc, edges, y)?;
-    let all = all_distances(alloc, edges, others)?;
-    let flags = first_flags(alloc, mine, &all, &far, edges.rows().len())?;
+    searches.search_all(alloc, edges, others)?;
+    searches.search(alloc, edges, me)?;
+    searches.search(alloc, edges, child)?;
+    let flags = first_flags(alloc, searches, me, others, child, edges.rows().len())?;
     Ok(Flags { flags })
 }
 
-// The same by the distances from all of them, for so many roots.
+// The same for so many roots, where all of these were searched from.
 fn first_flags(
     alloc: Global,
-    near: &Distances,
-    others: &[Distances],
-    far: &Distances,
+    searches: &Searches,
+    me: usize,
+    others: &[usize],
+    child: usize,
     count: usize,
 ) -> Result<Vec<bool>, AllocError>
-    ensures { IfOk result (λ v. v.items ≡ map (is_first near.now others.now far.now) (range_with_len 0 count)) }
+    ensures { IfOk result (λ v. v.items ≡ map (is_first searches.now me others.now child) (range_with_len 0 count)) }
 {
     let mut flags = Vec::with_capacity(alloc, count)?;
     for root in 0..count {
-        flags.push(is_first(near, others, far, root))?;
+        flags.push(is_first(searches, me, others, child, root))?;
     }
     Ok(flags)
 }
 
-// The distances from each of these routers.
-fn all_distances(
-    alloc: Global,
-    edges: &Edges,
-    froms: &[usize],
-) -> Result<Vec<Distances>, AllocError>
-    requires { All (λ z. z < length edges.now.records) froms.now }
-    ensures { IfOk result (λ v. AreAllDistances edges.now froms.now v.items) }
+fn is_first(searches: &Searches, me: usize, others: &[usize], child: usize, root: usize) -> bool
+    ensures { result ≡ is_first searches.now me others.now child root }
 {
-    let mut all = Vec::with_capacity(alloc, froms.len())?;
-    for from in froms {
-        all.push(Distances::of(alloc, edges, *from)?)?;
-    }
-    Ok(all)
+    searches.is_nearer(me, child, root) && !is_any_nearer(searches, others, child, root)
 }
 
-fn is_first(near: &Distances, others: &[Distances], far: &Distances, root: usize) -> bool
-    ensures { result ≡ is_first near.now others.now far.now root }
+fn is_any_nearer(searches: &Searches, others: &[usize], child: usize, root: usize) -> bool
+    ensures { result ≡ list_any (λ z. is_nearer searches.now z child root) others.now }
 {
-    is_nearer(near, far, root) && !is_any_nearer(others, far, root)
-}
-
-fn is_any_nearer(others: &[Distances], far: &Distances, root: usize) -> bool
-    ensures { result ≡ list_any (λ d. is_nearer d far.now root) others.now }
-{
-    others.iter().any(|near| is_nearer(near, far, root))
-}
-
-fn is_nearer(near: &Distances, far: &Distances, root: usize) -> bool
-    ensures { result ≡ is_nearer near.now far.now root }
-{
-    is_next(near.to(root), far.to(root))
+    others.iter().any(|z| searches.is_nearer(*z, child, root))
 }

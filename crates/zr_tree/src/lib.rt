@@ -9,6 +9,7 @@ pub mod laws;
 mod lists;
 pub mod same;
 mod search;
+mod searches;
 mod tree;
 pub mod trees;
 pub mod way;
