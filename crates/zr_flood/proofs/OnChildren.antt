@@ -1,5 +1,5 @@
 -- The lists that are told to children are, on the link of each number, what the definitions of routing say.
-use Rattle.std.proofs.Common.{◌≡◌, ℕ, ◌+◌, ◌&&◌, Bool, true, false, cond, List, [], ◌∷◌, ◌++◌, Option, Some, None, length, map, refl, sym, ap, ◌∙◌, arith}
+use Rattle.std.proofs.Common.{◌≡◌, ℕ, ◌+◌, ◌&&◌, not, Bool, true, false, cond, List, [], ◌∷◌, ◌++◌, Option, Some, None, length, map, refl, sym, ap, ◌∙◌, arith}
 use Rattle.std.specs.List.{flat_map}
 use Rattle.std.specs.Option.{option_map_or}
 use Rattle.std.proofs.lemmas.List.{length-map}
@@ -15,21 +15,19 @@ use Rattle.zr_msg.specs.declared.msg.Msg.TheVariants.{Step, Snap}
 use Rattle.zr_msg.specs.declared.peer.LinkPeer.{LinkPeer}
 use Rattle.zr_routing.specs.Changes.{changes_of, steps, sends_changes}
 use Rattle.zr_routing.specs.Snapshots.{is_new_child, snapshot, sends_step, sends_snap, sends_snapshots}
-use Rattle.zr_routing.specs.Tables.{TableState, AreNumbered, is_router, link_at, leads_to_router, leads_to_child, is_to_child}
+use Rattle.zr_routing.specs.Tables.{TableState, AreNumbered, is_router, link_at, leads_to_router, is_own_child, leads_to_child, is_to_child}
 use Rattle.zr_table.specs.Event.{on_link}
 use Rattle.zr_table.proofs.Told.{on_link-append}
-use Rattle.zr_tree.specs.Tree.{is_child}
-use Rattle.zr_tree.specs.Walk.{graph_of}
-use Rattle.zr_flood.specs.Tell.{picked, to_each, all_to_each, children_among, child_links, GoesBy, leads_to_new_child, to_new_children}
+use Rattle.zr_flood.specs.Tell.{to_each, all_to_each, bare_tables, children_among, GoesBy, leads_to_new_child, to_new_children}
 use Rattle.zr_flood.proofs.Picked.{on_picked, on_all_picked, all_to_each-append}
 
 -- where links and records are the same the children are
-same_children : (t : TableState) (links : List LinkPeer) (b : BaseState) → GoesBy t links b → (root : List ℕ) → children_among links b root ≡ child_links t root
+same_children : (t : TableState) (links : List LinkPeer) (b : BaseState) → GoesBy t links b → (root : List ℕ) → children_among links b root ≡ children_among t.links t.base root
 same_children t links b h root = ap (λ ls. children_among ls b root) (sym h.links_are) ∙ ap (λ c. children_among t.links c root) (sym h.base_is)
 
 -- a change or a snapshot that is passed on
 pub on_step : (t : TableState) (from : ℕ) (source : List ℕ) (number : ℕ) (c : Change) → AreNumbered t.links → leads_to_router t.links from ≡ true → is_next t.known source number ≡ true
-    → (to : LinkNo) → on_link to (to_each (child_links t source) (Step source number c.added c.decl)) ≡ sends_step t from source number c to.0
+    → (to : LinkNo) → on_link to (to_each (children_among t.links t.base source) (Step source number c.added c.decl)) ≡ sends_step t from source number c to.0
 on_step t from source number c up leads next to =
     on_picked (λ l. leads_to_child t source l) (Step source number c.added c.decl) t.links up to
     ∙ ap (λ b. cond b (Step source number c.added c.decl ∷ []) []) (by (leads_to_router t.links from) (is_next t.known source number) leads next)
@@ -38,7 +36,7 @@ on_step t from source number c up leads next to =
     by a b h k = rw (h, k) refl
 
 pub on_snap : (t : TableState) (from : ℕ) (source : List ℕ) (number : ℕ) (decls : List Decl) → AreNumbered t.links → leads_to_router t.links from ≡ true → is_newer t.known source number ≡ true
-    → (to : LinkNo) → on_link to (to_each (child_links t source) (Snap source number decls)) ≡ sends_snap t from source number decls to.0
+    → (to : LinkNo) → on_link to (to_each (children_among t.links t.base source) (Snap source number decls)) ≡ sends_snap t from source number decls to.0
 on_snap t from source number decls up leads newer to =
     on_picked (λ l. leads_to_child t source l) (Snap source number decls) t.links up to
     ∙ ap (λ b. cond b (Snap source number decls ∷ []) []) (by (leads_to_router t.links from) (is_newer t.known source number) leads newer)
@@ -48,7 +46,7 @@ on_snap t from source number decls up leads newer to =
 
 -- changes of the own log
 pub on_changes : (t : TableState) (cs : List Change) → AreNumbered t.links → (to : LinkNo)
-    → on_link to (all_to_each (child_links t t.base.me) (steps t.base.me (position t.known t.base.me) cs)) ≡ sends_changes t cs to.0
+    → on_link to (all_to_each (children_among t.links t.base t.base.me) (steps t.base.me (position t.known t.base.me) cs)) ≡ sends_changes t cs to.0
 on_changes t cs up to = on_all_picked (λ l. leads_to_child t t.base.me l) (steps t.base.me (position t.known t.base.me) cs) t.links up to
 
 pub steps-append : (source : List ℕ) (n : ℕ) (a b : List Change) → steps source n (a ++ b) ≡ steps source n a ++ steps source (n + length a) b
@@ -82,7 +80,8 @@ module _ (t : TableState) (before : List RecordState) where
   one_more log logs None = refl
   one_more log logs (Some l) = by (is_router l.peer.role)
     where
-      by : (r : Bool) → cond (r && is_new_child before t.base.records t.base.me log.source l.peer.id) (snapshot log ∷ []) [] ++ cond r (snapshots_of logs l) [] ≡ cond r (snapshots_of (log ∷ logs) l) []
+      by : (r : Bool) → cond ((r && is_own_child t log.source l.peer.id) && not (is_own_child (bare_tables then_base) log.source l.peer.id)) (snapshot log ∷ []) [] ++ cond r (snapshots_of logs l) []
+          ≡ cond r (snapshots_of (log ∷ logs) l) []
       by true = refl
       by false = refl
 
@@ -111,16 +110,16 @@ snapshots_by t links b before logs h same own up to =
 
 -- what goes to the children by links and records goes to those by a state that has them
 pub passed : (t : TableState) (links : List LinkPeer) (b : BaseState) → GoesBy t links b → (root : List ℕ) (slice to : List LinkNo) (msg told : Msg) → slice ≡ to → to ≡ children_among links b root → msg ≡ told
-    → to_each slice msg ≡ to_each (child_links t root) told
-passed t links b h root slice to msg told s e m = ap (λ ls. to_each ls msg) (s ∙ e ∙ same_children t links b h root) ∙ ap (λ x. to_each (child_links t root) x) m
+    → to_each slice msg ≡ to_each (children_among t.links t.base root) told
+passed t links b h root slice to msg told s e m = ap (λ ls. to_each ls msg) (s ∙ e ∙ same_children t links b h root) ∙ ap (λ x. to_each (children_among t.links t.base root) x) m
 
 pub own_passed : (t : TableState) (links : List LinkPeer) (b : BaseState) → GoesBy t links b → (me : List ℕ) (number : ℕ) (slice to : List LinkNo) (cs : List Change) → slice ≡ to → to ≡ children_among links b me
-    → me ≡ b.me → number ≡ position t.known t.base.me → all_to_each slice (steps me number cs) ≡ all_to_each (child_links t t.base.me) (steps t.base.me (position t.known t.base.me) cs)
+    → me ≡ b.me → number ≡ position t.known t.base.me → all_to_each slice (steps me number cs) ≡ all_to_each (children_among t.links t.base t.base.me) (steps t.base.me (position t.known t.base.me) cs)
 own_passed t links b h me number slice to cs s e m n =
     let own : me ≡ t.base.me = m ∙ ap (λ (c : BaseState). c.me) (sym h.base_is) in
     ap (λ ls. all_to_each ls (steps me number cs)) (s ∙ e ∙ same_children t links b h me)
-    ∙ ap (λ x. all_to_each (child_links t x) (steps x number cs)) own
-    ∙ ap (λ k. all_to_each (child_links t t.base.me) (steps t.base.me k cs)) n
+    ∙ ap (λ x. all_to_each (children_among t.links t.base x) (steps x number cs)) own
+    ∙ ap (λ k. all_to_each (children_among t.links t.base t.base.me) (steps t.base.me k cs)) n
 
 -- gone first, then come
 pub both_steps : (links : List LinkNo) (source : List ℕ) (n m : ℕ) (a b : List Decl) → m ≡ n + length a

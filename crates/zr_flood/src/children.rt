@@ -9,7 +9,7 @@ ghost use Rattle.zr_routing.specs.Snapshots.{snapshot, sends_step, sends_snap, s
 ghost use Rattle.zr_routing.specs.Tables.{TableState, AreNumbered, leads_to_router};
 ghost use Rattle.zr_table.specs.Event.{Tells, TellsPrefix};
 ghost use Rattle.zr_table.specs.Prefix.{IsPrefixBehind};
-ghost use Rattle.zr_flood.specs.Tell.{picked, to_each, all_to_each, children_among, leads_to_own_child, leads_to_new_child, to_new_children, GoesBy};
+ghost use Rattle.zr_flood.specs.Tell.{picked, to_each, all_to_each, children_among, leads_to_own_child, leads_to_new_child, to_new_children, GoesBy, HoldsAfter};
 
 use crate::flood::is_router;
 use crate::tell::tell_each;
@@ -35,8 +35,8 @@ pub fn fresh_children(
     logs: &[Log],
     out: &mut Vec<(LinkNo, Msg)>,
 ) -> Result<(), AllocError>
-    ensures ok { (t : TableState) → GoesBy t links.now family.now → before.now.me ≡ family.now.me → t.known.logs ≡ logs.now → AreNumbered t.links → OnOk result (Tells (sends_snapshots t before.now.records) out.old.items out.new.items) }
-    ensures err { (t : TableState) → GoesBy t links.now family.now → before.now.me ≡ family.now.me → t.known.logs ≡ logs.now → AreNumbered t.links → OnErr result (TellsPrefix (sends_snapshots t before.now.records) out.old.items out.new.items) }
+    ensures ok { HoldsAfter before.now links.now family.now logs.now (λ t. OnOk result (Tells (sends_snapshots t before.now.records) out.old.items out.new.items)) }
+    ensures err { HoldsAfter before.now links.now family.now logs.now (λ t. OnErr result (TellsPrefix (sends_snapshots t before.now.records) out.old.items out.new.items)) }
 {
     tell_logs(alloc, links, family, before, logs, out)
 }
