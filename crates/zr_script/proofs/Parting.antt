@@ -1,5 +1,5 @@
 -- The first word of a text, and what is behind it.
-use Rattle.std.proofs.Common.{◌≡◌, ℕ, ◌+◌, ◌-◌, ◌<◌, ◌==◌, ◌&&◌, Bool, true, false, nat_lt, nat_le, List, [], ◌∷◌, length, take, drop, Some, None, Result, Ok, Err, ap, ◌∙◌, subst, arith}
+use Rattle.std.proofs.Common.{◌≡◌, ℕ, ◌+◌, ◌-◌, ◌<◌, ◌==◌, true, nat_lt, nat_le, List, [], ◌∷◌, length, take, drop, Some, None, Result, Ok, Err, ap, subst, arith}
 use Rattle.std.specs.Prelude.{position, filter, if◌then◌else◌}
 use Rattle.std.proofs.lemmas.Bool.{and_parts}
 use Rattle.std.proofs.lemmas.List.{take_all, length-drop, length-take}
@@ -8,7 +8,7 @@ use Rattle.zr_text.proofs.Cutting.{cut_some, none_cut}
 use Rattle.zr_language.specs.Lines.{most_line}
 use Rattle.zr_command.specs.declared.error.ScriptError.{ScriptError}
 use Rattle.zr_language.specs.Words.{words, five_of}
-use Rattle.zr_script.specs.Args.{before, first_of}
+use Rattle.zr_script.specs.Args.{first_of}
 use Rattle.zr_script.specs.Short.{are_short}
 
 -- the words behind the first are as short
@@ -17,13 +17,14 @@ more_short ws w more e h = (and_parts (nat_le (length w) most_line) (are_short m
 
 -- a text with a space: the bytes before it, and the words behind it
 pub part_at : (text : List ℕ) (place : ℕ) → position (λ b. b == 32) text ≡ Some place →
-    words text ≡ before (take place text) (words (take (length text - (place + 1)) (drop (place + 1) text)))
+    words text ≡ (if nat_lt 0 (length (take place text)) then take place text ∷ words (take (length text - (place + 1)) (drop (place + 1) text))
+    else words (take (length text - (place + 1)) (drop (place + 1) text)))
 part_at text place found =
     let whole : take (length text - (place + 1)) (drop (place + 1) text) ≡ drop (place + 1) text = take_all _ _ (omega (arith, length-drop (place + 1) text)) in
     rw whole (ap (filter (λ word. nat_lt 0 (length word))) (cut_some (λ b. b == 32) text place 0 found))
 
 -- a text with none
-pub part_whole : (text : List ℕ) → position (λ b. b == 32) text ≡ None → words text ≡ before text []
+pub part_whole : (text : List ℕ) → position (λ b. b == 32) text ≡ None → words text ≡ (if nat_lt 0 (length text) then text ∷ [] else [])
 part_whole text none = ap (filter (λ word. nat_lt 0 (length word))) (none_cut (λ b. b == 32) text 0 none)
 
 pub behind_shorter : (text : List ℕ) (place k : ℕ) → position (λ b. b == 32) text ≡ Some place → length (take k (drop (place + 1) text)) < length text

@@ -1,9 +1,9 @@
 //! The words of a text, taken from it one after another: no list of them is made.
 
-ghost use Rattle.std.specs.Prelude.{◌≡◌, ◌==◌, ◌<◌, ◌∷◌, [], length, position, MatchOption};
+ghost use Rattle.std.specs.Prelude.{◌≡◌, ◌==◌, ◌<◌, ◌∷◌, [], length, nat_lt, position, MatchOption, if◌then◌else◌};
 ghost use Rattle.zr_language.specs.Step.{IsSaid, IsSaidBy};
 ghost use Rattle.zr_language.specs.Words.{words, is_word, aggregate_at, one_of, two_of, three_of, four_of, five_of};
-ghost use Rattle.zr_script.specs.Args.{before, first_of, none_of};
+ghost use Rattle.zr_script.specs.Args.{first_of, none_of};
 
 use zr_command::error::ScriptError;
 
@@ -26,7 +26,7 @@ pub fn first(text: &[u8]) -> Option<(&[u8], &[u8])>
 #[tactic(auto, using(crate::proofs::Parting::part_at, crate::proofs::Parting::part_whole, crate::proofs::Parting::behind_shorter))]
 fn part(text: &[u8]) -> (&[u8], &[u8])
     requires { 0 < length text.now }
-    ensures words { words text.now ≡ before result.0.now (words result.1.now) }
+    ensures words { words text.now ≡ (if nat_lt 0 (length result.0.now) then result.0.now ∷ words result.1.now else words result.1.now) }
     ensures shorter { length result.1.now < length text.now }
 {
     match space(text) {
@@ -42,7 +42,7 @@ fn space(text: &[u8]) -> Option<usize>
 }
 
 /// Whether a name is this word.
-pub fn is(name: &[u8], word: &[u8]) -> bool
+pub fn is_word(name: &[u8], word: &[u8]) -> bool
     ensures { result ≡ is_word name.now word.now }
 {
     // most words differ in length, which is told without a call
@@ -54,7 +54,7 @@ pub fn one(text: &[u8]) -> Result<&[u8], ScriptError>
     ensures { IsSaidBy (λ w. w.now) result (one_of (words text.now)) }
 {
     let (a, rest) = next(text)?;
-    end(rest)?;
+    none(rest)?;
     Ok(a)
 }
 
@@ -64,7 +64,7 @@ pub fn two(text: &[u8]) -> Result<(&[u8], &[u8]), ScriptError>
 {
     let (a, rest) = next(text)?;
     let (b, rest) = next(rest)?;
-    end(rest)?;
+    none(rest)?;
     Ok((a, b))
 }
 
@@ -75,7 +75,7 @@ pub fn three(text: &[u8]) -> Result<(&[u8], &[u8], &[u8]), ScriptError>
     let (a, rest) = next(text)?;
     let (b, rest) = next(rest)?;
     let (c, rest) = next(rest)?;
-    end(rest)?;
+    none(rest)?;
     Ok((a, b, c))
 }
 
@@ -87,7 +87,7 @@ pub fn four(text: &[u8]) -> Result<(&[u8], &[u8], &[u8], &[u8]), ScriptError>
     let (b, rest) = next(rest)?;
     let (c, rest) = next(rest)?;
     let (d, rest) = next(rest)?;
-    end(rest)?;
+    none(rest)?;
     Ok((a, b, c, d))
 }
 
@@ -110,8 +110,8 @@ pub fn aggregate(text: &[u8]) -> Result<bool, ScriptError>
     let Some((word, rest)) = first(text) else {
         return Ok(false);
     };
-    end(rest)?;
-    if is(word, b"aggregate") {
+    none(rest)?;
+    if is_word(word, b"aggregate") {
         Ok(true)
     } else {
         Err(ScriptError::BadWords)
@@ -119,7 +119,7 @@ pub fn aggregate(text: &[u8]) -> Result<bool, ScriptError>
 }
 
 /// That there is no word.
-pub fn end(text: &[u8]) -> Result<(), ScriptError>
+pub fn none(text: &[u8]) -> Result<(), ScriptError>
     ensures { IsSaid result (none_of (words text.now)) }
 {
     match first(text) {

@@ -7,7 +7,7 @@ ghost use Rattle.zr_language.specs.Command.{command_of, by_words, by_name, is_co
 ghost use Rattle.zr_language.specs.Words.{words, is_clean};
 ghost use Rattle.zr_script.specs.Short.{are_short};
 
-use crate::args::{aggregate, first, five, four, is, one, three, two};
+use crate::args::{aggregate, first, five, four, is_word, none, one, three, two};
 use crate::body::{query_body, reply_body};
 use crate::word::{is_clean, key, kinds, mode, number, optional_key, payload, target, zid};
 use std::alloc::Global;
@@ -67,29 +67,29 @@ fn command(alloc: Global, line: &[u8]) -> Result<Command, ScriptError>
 fn is_command(name: &[u8]) -> bool
     ensures { result ≡ is_command name.now }
 {
-    is(name, b"router")
-        || is(name, b"client")
-        || is(name, b"link")
-        || is(name, b"up")
-        || is(name, b"break")
-        || is(name, b"down")
-        || is(name, b"sub")
-        || is(name, b"unsub")
-        || is(name, b"able")
-        || is(name, b"full")
-        || is(name, b"unable")
-        || is(name, b"interest")
-        || is(name, b"uninterest")
-        || is(name, b"put")
-        || is(name, b"del")
-        || is(name, b"get")
-        || is(name, b"reply")
-        || is(name, b"end")
-        || is(name, b"handle")
-        || is(name, b"take")
-        || is(name, b"run")
-        || is(name, b"mark")
-        || is(name, b"show")
+    is_word(name, b"router")
+        || is_word(name, b"client")
+        || is_word(name, b"link")
+        || is_word(name, b"up")
+        || is_word(name, b"break")
+        || is_word(name, b"down")
+        || is_word(name, b"sub")
+        || is_word(name, b"unsub")
+        || is_word(name, b"able")
+        || is_word(name, b"full")
+        || is_word(name, b"unable")
+        || is_word(name, b"interest")
+        || is_word(name, b"uninterest")
+        || is_word(name, b"put")
+        || is_word(name, b"del")
+        || is_word(name, b"get")
+        || is_word(name, b"reply")
+        || is_word(name, b"end")
+        || is_word(name, b"handle")
+        || is_word(name, b"take")
+        || is_word(name, b"run")
+        || is_word(name, b"mark")
+        || is_word(name, b"show")
 }
 
 #[tactic(auto, unfolding(zr_language::specs::Command::by_name))]
@@ -97,51 +97,51 @@ fn by_name(alloc: Global, name: &[u8], args: &[u8]) -> Result<Command, ScriptErr
     requires { are_short (words args.now) ≡ true }
     ensures { IsSaid result (by_name name.now (words args.now)) }
 {
-    if is(name, b"router") {
+    if is_word(name, b"router") {
         router(args)
-    } else if is(name, b"client") {
+    } else if is_word(name, b"client") {
         client(args)
-    } else if is(name, b"link") {
+    } else if is_word(name, b"link") {
         link(args)
-    } else if is(name, b"up") {
+    } else if is_word(name, b"up") {
         up(args)
-    } else if is(name, b"break") {
+    } else if is_word(name, b"break") {
         break_link(args)
-    } else if is(name, b"down") {
+    } else if is_word(name, b"down") {
         down(args)
-    } else if is(name, b"sub") {
+    } else if is_word(name, b"sub") {
         sub(alloc, args)
-    } else if is(name, b"unsub") {
+    } else if is_word(name, b"unsub") {
         unsub(args)
-    } else if is(name, b"able") {
+    } else if is_word(name, b"able") {
         able(alloc, false, args)
-    } else if is(name, b"full") {
+    } else if is_word(name, b"full") {
         able(alloc, true, args)
-    } else if is(name, b"unable") {
+    } else if is_word(name, b"unable") {
         unable(args)
-    } else if is(name, b"interest") {
+    } else if is_word(name, b"interest") {
         interest(alloc, args)
-    } else if is(name, b"uninterest") {
+    } else if is_word(name, b"uninterest") {
         uninterest(args)
-    } else if is(name, b"put") {
+    } else if is_word(name, b"put") {
         put(alloc, args)
-    } else if is(name, b"del") {
+    } else if is_word(name, b"del") {
         del(alloc, args)
-    } else if is(name, b"get") {
+    } else if is_word(name, b"get") {
         get(alloc, args)
-    } else if is(name, b"reply") {
+    } else if is_word(name, b"reply") {
         reply(alloc, args)
-    } else if is(name, b"end") {
+    } else if is_word(name, b"end") {
         end(args)
-    } else if is(name, b"handle") {
+    } else if is_word(name, b"handle") {
         handle(args)
-    } else if is(name, b"take") {
+    } else if is_word(name, b"take") {
         take(args)
-    } else if is(name, b"run") {
+    } else if is_word(name, b"run") {
         run(args)
-    } else if is(name, b"mark") {
+    } else if is_word(name, b"mark") {
         mark(args)
-    } else if is(name, b"show") {
+    } else if is_word(name, b"show") {
         show(args)
     } else {
         Err(ScriptError::UnknownCommand)
@@ -416,10 +416,8 @@ fn run(args: &[u8]) -> Result<Command, ScriptError>
 fn mark(args: &[u8]) -> Result<Command, ScriptError>
     ensures { IsSaid result (mark_line (words args.now)) }
 {
-    match first(args) {
-        None => Ok(Command::Act { act: Act::Mark }),
-        Some(_) => Err(ScriptError::BadWords),
-    }
+    none(args)?;
+    Ok(Command::Act { act: Act::Mark })
 }
 
 #[tactic(auto, unfolding(zr_language::specs::Command::show_line))]

@@ -8,7 +8,7 @@ ghost use Rattle.zr_language.specs.Report.{id_text, optional_id_text, payload_te
 
 use crate::part::{
     able_text, aggregate_text, kind_text, kinds_text, mode_text, put_id, put_interest, put_key,
-    put_number, put_optional_id, put_payload, sign_text, target_text,
+    put_number, put_payload, sign_text, target_text, told_able_text,
 };
 use std::alloc::AllocError;
 use zr_id::record::LinkRecord;
@@ -40,13 +40,13 @@ pub fn put_msg(msg: &Msg, out: &mut Vec<u8>) -> Result<(), AllocError>
             out.extend_from_slice(aggregate_text(*aggregate))
         }
         Msg::EndInterest { id } => put_numbered(b"uninterest ", *id, out),
-        Msg::ToldSub { id, key, interest } => put_told(b"sub", *id, key, *interest, out),
+        Msg::ToldSub { id, key, interest } => put_told(b"told sub", *id, key, *interest, out),
         Msg::ToldAble {
             id,
             key,
             complete,
             interest,
-        } => put_told(able_text(*complete), *id, key, *interest, out),
+        } => put_told(told_able_text(*complete), *id, key, *interest, out),
         Msg::ToldUnsub { id } => put_numbered(b"told unsub ", *id, out),
         Msg::ToldUnable { id } => put_numbered(b"told unable ", *id, out),
         Msg::ToldEnd { interest } => put_numbered(b"told end ", *interest, out),
@@ -110,9 +110,8 @@ fn put_told(
     interest: Option<u32>,
     out: &mut Vec<u8>,
 ) -> Result<(), AllocError>
-    ensures { OnOk result (out.new.items ≡ out.old.items ++ (codes "told " ++ word.now ++ codes " " ++ decimal id ++ codes " " ++ key.now ++ codes " " ++ interest_text interest)) }
+    ensures { OnOk result (out.new.items ≡ out.old.items ++ (word.now ++ codes " " ++ decimal id ++ codes " " ++ key.now ++ codes " " ++ interest_text interest)) }
 {
-    out.extend_from_slice(b"told ")?;
     put_declared(word, id, key, out)?;
     out.extend_from_slice(b" ")?;
     put_interest(interest, out)
@@ -130,7 +129,7 @@ fn put_sample(tree: &Option<Zid>, content: &Content, out: &mut Vec<u8>) -> Resul
     }
 }
 
-// The word of a sample and its tree, or both at once where it has no tree, with the space behind each.
+// The word of a sample or a request and its tree, or both at once where it has no tree, with the space behind each.
 fn put_kind(
     word: &[u8],
     alone: &[u8],
@@ -167,13 +166,10 @@ fn put_request(
 ) -> Result<(), AllocError>
     ensures { OnOk result (out.new.items ≡ out.old.items ++ (codes "get " ++ optional_id_text tree.now ++ codes " " ++ decimal id ++ codes " " ++ content.now.key ++ codes " " ++ target_text target)) }
 {
-    out.extend_from_slice(b"get ")?;
-    put_optional_id(tree, out)?;
-    out.extend_from_slice(b" ")?;
+    put_kind(b"get ", b"get - ", tree, out)?;
     put_number(u64::from(id), out)?;
     out.extend_from_slice(b" ")?;
     out.extend_from_slice(content.key().text().as_bytes())?;
-    out.extend_from_slice(b" ")?;
     out.extend_from_slice(target_text(target))
 }
 
@@ -232,7 +228,6 @@ fn put_entry(
     put_id(source, out)?;
     out.extend_from_slice(b" ")?;
     put_number(number, out)?;
-    out.extend_from_slice(b" ")?;
     out.extend_from_slice(sign_text(added))?;
     put_decl(decl, out)
 }
@@ -265,8 +260,6 @@ pub fn put_decls(decls: &[Decl], out: &mut Vec<u8>) -> Result<(), AllocError>
 fn put_decl(decl: &Decl, out: &mut Vec<u8>) -> Result<(), AllocError>
     ensures { OnOk result (out.new.items ≡ out.old.items ++ decl_text decl.now) }
 {
-    out.extend_from_slice(b" ")?;
     out.extend_from_slice(kind_text(decl.kind))?;
-    out.extend_from_slice(b" ")?;
     out.extend_from_slice(decl.key.text().as_bytes())
 }

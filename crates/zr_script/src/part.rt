@@ -15,8 +15,14 @@ use zr_msg::msg::{Kinds, QUERYABLES, SUBSCRIBERS, Target};
 /// How many digits the text of an identifier has at most.
 const MOST_DIGITS: usize = 2 * MOST_BYTES;
 
-/// Where the digits of a tag end, of which there are at most 20, in the text that a space and a sign before them begin and a line's end ends.
-const TAG_END: usize = 22;
+/// How many bytes stand before the digits of a tag: a space and a sign.
+const TAG_SIGN_LENGTH: usize = 2;
+
+/// How many digits a tag has at most, as a number of 64 bits.
+const MOST_TAG_DIGITS: usize = 20;
+
+/// Where the digits of a tag end, behind its sign.
+const TAG_END: usize = TAG_SIGN_LENGTH + MOST_TAG_DIGITS;
 
 /// Appends an identifier. Its digits are put together on the stack: a report line takes no memory but its own.
 pub fn put_id(id: &Zid, out: &mut Vec<u8>) -> Result<(), AllocError>
@@ -45,7 +51,7 @@ pub fn put_tag(tag: u64, out: &mut Vec<u8>) -> Result<(), AllocError>
     ensures { OnOk result (out.new.items ≡ out.old.items ++ (codes " #" ++ decimal tag ++ line_end)) }
 {
     let mut text = [b'\n'; TAG_END + 1];
-    let start = write_digits(tag, &mut text, TAG_END) - 2;
+    let start = write_digits(tag, &mut text, TAG_END) - TAG_SIGN_LENGTH;
     text[start + 1] = b'#';
     text[start] = b' ';
     out.extend_from_slice(&text[start..])
@@ -145,31 +151,38 @@ pub fn able_text(complete: bool) -> &'static [u8]
     if complete { b"full" } else { b"able" }
 }
 
-/// Which queryables a request asks.
+/// The word of a queryable that is told, complete or not, behind the word for all that is told.
+pub fn told_able_text(complete: bool) -> &'static [u8]
+    ensures { result.now ≡ codes "told " ++ able_text complete }
+{
+    if complete { b"told full" } else { b"told able" }
+}
+
+/// Which queryables a request asks, with the space before it.
 pub fn target_text(target: Target) -> &'static [u8]
-    ensures { result.now ≡ target_text target }
+    ensures { result.now ≡ codes " " ++ target_text target }
 {
     match target {
-        Target::Best => b"best",
-        Target::All => b"all",
-        Target::Complete => b"complete",
+        Target::Best => b" best",
+        Target::All => b" all",
+        Target::Complete => b" complete",
     }
 }
 
-/// The word of a declaration's kind.
+/// The word of a declaration's kind, with the spaces before and behind it.
 pub fn kind_text(kind: Kind) -> &'static [u8]
-    ensures { result.now ≡ kind_text kind }
+    ensures { result.now ≡ codes " " ++ kind_text kind ++ codes " " }
 {
     match kind {
-        Kind::Sub => b"sub",
-        Kind::Able => b"able",
-        Kind::Full => b"full",
+        Kind::Sub => b" sub ",
+        Kind::Able => b" able ",
+        Kind::Full => b" full ",
     }
 }
 
-/// Whether a declaration was added or removed.
+/// Whether a declaration was added or removed, with the space before it.
 pub fn sign_text(added: bool) -> &'static [u8]
-    ensures { result.now ≡ sign_text added }
+    ensures { result.now ≡ codes " " ++ sign_text added }
 {
-    if added { b"+" } else { b"-" }
+    if added { b" +" } else { b" -" }
 }
