@@ -1,4 +1,4 @@
-//! Key expressions: what is read, and what is refused with which error.
+//! Key expressions: what is read, what is refused with which error, and how much stands before the first wildcard.
 
 use crate::row::{self, Fault};
 use std::alloc::Global;
@@ -7,6 +7,7 @@ use zr_key::key::KeyExpr;
 pub fn answer(alloc: Global, words: &[&str]) -> Result<String, Fault> {
     match row::word(words, 0) {
         "read" => read(alloc, row::word(words, 1)),
+        "prefix" => prefix(alloc, row::word(words, 1)),
         "long" => long(alloc, words),
         _ => Err(Fault::Row),
     }
@@ -22,6 +23,12 @@ fn read(alloc: Global, text: &str) -> Result<String, Fault> {
 // The text of an expression and of its copy, and whether it is a key.
 fn shown(alloc: Global, key: &KeyExpr, copy: &KeyExpr) -> Result<String, Fault> {
     row::text(alloc, &(key.text(), copy.text(), key.is_plain()))
+}
+
+// How many bytes stand before the first wildcard.
+fn prefix(alloc: Global, text: &str) -> Result<String, Fault> {
+    let key = KeyExpr::read(alloc, text.as_bytes())?;
+    row::text(alloc, &key.plain_prefix_len())
 }
 
 // What so many letters and then these bytes are refused with.

@@ -6,7 +6,7 @@ use zr_bytes::{ByteString, Cursor};
 use zr_frame::{Channel, ChannelError, MOST_OF_CLIENT, Outbox};
 use zr_trans::{Trans, read_trans};
 
-/// 32 bits.
+/// The size code of numbers of 32 bits.
 const BITS: u8 = 2;
 
 const BATCH: u16 = 65_535;

@@ -68,7 +68,8 @@ impl Steps for Base {
             }
             "record" => accept(alloc, self, parts),
             "records" => row::text(alloc, &records(alloc, self)?),
-            _ => row::text(alloc, &self.edge(row::id(parts, 1)?, row::id(parts, 2)?)),
+            "edge" => row::text(alloc, &self.edge(row::id(parts, 1)?, row::id(parts, 2)?)),
+            _ => Err(Fault::Row),
         }
     }
 }

@@ -27,18 +27,23 @@ pub fn declared(alloc: Global) -> Result<Scopes, Fault> {
 // By whom `a/b` was declared as 1, whose number the key has, and whether it is named.
 fn read(alloc: Global, words: &[&str]) -> Result<String, Fault> {
     let (full, empty) = (declared(alloc)?, Scopes::new(alloc));
-    let by_sender = row::word(words, 1) == "sender";
+    let by_sender = is_sender(words, 1)?;
     let (theirs, ours) = if by_sender {
         (&full, &empty)
     } else {
         (&empty, &full)
     };
-    let of_sender = row::word(words, 2) == "sender";
-    let named = row::word(words, 3) == "named";
+    let of_sender = is_sender(words, 2)?;
+    let named = row::is_first(words, 3, "named", "bare")?;
     let bytes = row::bytes(alloc, words, 4)?;
     let mut c = Cursor::new(&bytes);
     let key = read_key(alloc, &mut c, named, of_sender, theirs, ours);
     shown(alloc, &key, c.left())
+}
+
+// Whether the word at a place is the sender, and not the receiver.
+fn is_sender(words: &[&str], at: usize) -> Result<bool, Fault> {
+    row::is_first(words, at, "sender", "receiver")
 }
 
 fn shown(alloc: Global, key: &Result<KeyExpr, ReadError>, left: usize) -> Result<String, Fault> {
@@ -77,7 +82,8 @@ impl Steps for Scopes {
                 Ok(String::new(alloc))
             }
             "length" => row::text(alloc, &self.text(number).map(|text| text.len())),
-            _ => row::text(alloc, &self.text(number)),
+            "text" => row::text(alloc, &self.text(number)),
+            _ => Err(Fault::Row),
         }
     }
 }

@@ -53,16 +53,21 @@ fn subscribers(alloc: Global, long_ones: u32, word: &str) -> Result<Vec<Decl>, F
     Ok(all)
 }
 
+// Whether the word at a place adds, and does not remove.
+fn is_added(parts: &[&str], at: usize) -> Result<bool, Fault> {
+    row::is_first(parts, at, "add", "remove")
+}
+
 fn own(alloc: Global, known: &mut Known, parts: &[&str]) -> Result<String, Fault> {
     let decl = subscriber(alloc, parts, 2)?;
-    let answer = known.own(row::word(parts, 1) == "add", &decl);
+    let answer = known.own(is_added(parts, 1)?, &decl);
     row::text(alloc, &answer)
 }
 
 fn one(alloc: Global, known: &mut Known, parts: &[&str]) -> Result<String, Fault> {
     let (source, number) = (row::id(parts, 1)?, row::parsed(parts, 2)?);
     let decl = subscriber(alloc, parts, 4)?;
-    let answer = known.step(source, number, row::word(parts, 3) == "add", &decl);
+    let answer = known.step(source, number, is_added(parts, 3)?, &decl);
     row::text(alloc, &answer)
 }
 
@@ -105,7 +110,8 @@ impl Steps for Known {
             "snap" => snapshot(alloc, self, parts, 0),
             "snap-long" => snapshot(alloc, self, parts, MOST_LONG),
             "sources" => sources(alloc, self),
-            _ => Ok(keys(alloc, self, row::id(parts, 1)?)?),
+            "keys" => Ok(keys(alloc, self, row::id(parts, 1)?)?),
+            _ => Err(Fault::Row),
         }
     }
 }

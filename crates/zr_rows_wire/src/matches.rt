@@ -5,9 +5,8 @@ use std::alloc::{AllocError, Global};
 use zr_key::key::KeyExpr;
 use zr_match::{covers, meets};
 
-/// Whether two expressions meet, either way, or whether the first covers the second; or of two lists of chunks, of which the expressions and the keys
-/// have so many at most, the first of the expressions
-/// that meets or covers another one against the rules, where these are the keys.
+/// Of two expressions, whether they meet (either way) or whether the first covers the second. Of two lists of chunks, for expressions and for
+/// keys: the first expression that meets or covers another against the rules.
 pub fn answer(alloc: Global, words: &[&str]) -> Result<String, Fault> {
     if row::word(words, 0) == "pairs" {
         return pairs(alloc, words);
@@ -16,7 +15,8 @@ pub fn answer(alloc: Global, words: &[&str]) -> Result<String, Fault> {
     let second = KeyExpr::read(alloc, row::word(words, 2).as_bytes())?;
     match row::word(words, 0) {
         "meets" => row::text(alloc, &(meets(&first, &second), meets(&second, &first))),
-        _ => row::text(alloc, &covers(&first, &second)),
+        "covers" => row::text(alloc, &covers(&first, &second)),
+        _ => Err(Fault::Row),
     }
 }
 
@@ -45,13 +45,13 @@ struct Expression {
     matched: u128,
 }
 
-fn expression_of(alloc: Global, text: &str, keys: &Vec<String>) -> Result<Expression, Fault> {
+fn expression_of(alloc: Global, text: &str, keys: &[String]) -> Result<Expression, Fault> {
     let key = KeyExpr::read(alloc, text.as_bytes())?;
     let matched = matched_keys(alloc, text, keys)?;
     Ok(Expression { key, matched })
 }
 
-fn matched_keys(alloc: Global, text: &str, keys: &Vec<String>) -> Result<u128, AllocError> {
+fn matched_keys(alloc: Global, text: &str, keys: &[String]) -> Result<u128, AllocError> {
     let expression = row::parts(alloc, text, '/')?;
     let mut matched: u128 = 0;
     for key in keys {
@@ -62,7 +62,7 @@ fn matched_keys(alloc: Global, text: &str, keys: &Vec<String>) -> Result<u128, A
 }
 
 // The first expression that meets or covers another one against the rules.
-fn first_other(alloc: Global, all: &Vec<Expression>) -> Result<Option<usize>, AllocError> {
+fn first_other(alloc: Global, all: &[Expression]) -> Result<Option<usize>, AllocError> {
     for (place, one) in all.iter().enumerate() {
         if !agrees(alloc, one, all)? {
             return Ok(Some(place));
@@ -72,7 +72,7 @@ fn first_other(alloc: Global, all: &Vec<Expression>) -> Result<Option<usize>, Al
 }
 
 // Whether an expression meets and covers each of them by the rules.
-fn agrees(alloc: Global, one: &Expression, all: &Vec<Expression>) -> Result<bool, AllocError> {
+fn agrees(alloc: Global, one: &Expression, all: &[Expression]) -> Result<bool, AllocError> {
     for other in all {
         let have_common = one.matched & other.matched != 0;
         let takes = takes(alloc, one.key.text(), other.key.text())?;

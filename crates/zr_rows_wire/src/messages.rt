@@ -26,58 +26,76 @@ pub fn answer(alloc: Global, words: &[&str]) -> Result<String, Fault> {
         "told" => row::digits(alloc, &told(alloc)?),
         "push" => row::digits(alloc, &push(alloc, row::parsed(words, 1)?)?),
         "entry" => row::digits(alloc, &entry(alloc)?),
-        kind => shown(alloc, kind, &row::bytes(alloc, words, 1)?),
+        word => shown(alloc, sort_of(word)?, &row::bytes(alloc, words, 1)?),
+    }
+}
+
+/// As what bytes are read.
+#[derive(Clone, Copy)]
+enum Sort {
+    Declaration,
+    Interest,
+    BetweenRouters,
+    /// What a peer of this role may send.
+    Network(Role),
+}
+
+fn sort_of(word: &str) -> Result<Sort, Fault> {
+    match word {
+        "declaration" => Ok(Sort::Declaration),
+        "interest" => Ok(Sort::Interest),
+        "between-routers" => Ok(Sort::BetweenRouters),
+        "of-router" => Ok(Sort::Network(Role::Router)),
+        "of-client" => Ok(Sort::Network(Role::Client)),
+        _ => Err(Fault::Row),
     }
 }
 
 fn read(
     alloc: Global,
-    kind: &str,
+    sort: Sort,
     c: &mut Cursor<'_>,
     theirs: &Scopes,
 ) -> Result<Declared, ReadError> {
     let ours = Scopes::new(alloc);
-    match kind {
-        "declaration" => read_decl(alloc, c, theirs, &ours),
-        "interest" => Ok(Declared::Told(read_interest(alloc, c, theirs, &ours)?)),
-        "between-routers" => match read_oam(alloc, c)? {
+    match sort {
+        Sort::Declaration => read_decl(alloc, c, theirs, &ours),
+        Sort::Interest => Ok(Declared::Told(read_interest(alloc, c, theirs, &ours)?)),
+        Sort::BetweenRouters => match read_oam(alloc, c)? {
             Some(msg) => Ok(Declared::Told(msg)),
             None => Ok(Declared::Ignored),
         },
-        "of-router" => read_net(alloc, c, theirs, &ours, Role::Router),
-        _ => read_net(alloc, c, theirs, &ours, Role::Client),
+        Sort::Network(role) => read_net(alloc, c, theirs, &ours, role),
     }
 }
 
 // What the bytes are read as, and how many are left.
-fn shown(alloc: Global, kind: &str, bytes: &[u8]) -> Result<String, Fault> {
+fn shown(alloc: Global, sort: Sort, bytes: &[u8]) -> Result<String, Fault> {
     let theirs = declared(alloc)?;
     let mut c = Cursor::new(bytes);
-    let text = texts::read(alloc, &read(alloc, kind, &mut c, &theirs))?;
+    let text = texts::read(alloc, &read(alloc, sort, &mut c, &theirs))?;
     Ok(format!(in alloc; "{text}, left {}", c.left())?)
 }
 
 // How many bytes the first beginning has that is not refused as short.
 fn cut(alloc: Global, words: &[&str]) -> Result<String, Fault> {
+    let sort = sort_of(row::word(words, 1))?;
     let theirs = declared(alloc)?;
     let bytes = row::bytes(alloc, words, 2)?;
-    row::text(
-        alloc,
-        &first_whole(alloc, row::word(words, 1), &bytes, &theirs),
-    )
+    row::text(alloc, &first_whole(alloc, sort, &bytes, &theirs))
 }
 
-fn first_whole(alloc: Global, kind: &str, bytes: &[u8], theirs: &Scopes) -> Option<usize> {
+fn first_whole(alloc: Global, sort: Sort, bytes: &[u8], theirs: &Scopes) -> Option<usize> {
     for end in 0..bytes.len() {
-        if !is_short(alloc, kind, &bytes[..end], theirs) {
+        if !is_short(alloc, sort, &bytes[..end], theirs) {
             return Some(end);
         }
     }
     None
 }
 
-fn is_short(alloc: Global, kind: &str, bytes: &[u8], theirs: &Scopes) -> bool {
-    let read = read(alloc, kind, &mut Cursor::new(bytes), theirs);
+fn is_short(alloc: Global, sort: Sort, bytes: &[u8], theirs: &Scopes) -> bool {
+    let read = read(alloc, sort, &mut Cursor::new(bytes), theirs);
     read.err() == Some(ReadError::Short)
 }
 

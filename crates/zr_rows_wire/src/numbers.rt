@@ -12,24 +12,39 @@ pub fn answer(alloc: Global, words: &[&str]) -> Result<String, Fault> {
         "put" => put(alloc, words),
         "put-text" => put_text(alloc, words),
         "kept" => kept(alloc, words),
-        _ => number(alloc, words),
+        "u8" => number(alloc, words, Kind::Byte),
+        "z8" => number(alloc, words, Kind::Bits8),
+        "z16" => number(alloc, words, Kind::Bits16),
+        "z32" => number(alloc, words, Kind::Bits32),
+        "zint" => number(alloc, words, Kind::Bits64),
+        _ => Err(Fault::Row),
     }
 }
 
-fn value_at(c: &mut Cursor, kind: &str) -> Result<u64, ReadError> {
+/// A byte that is a number, or a spelling of groups of seven bits whose number has so many bits at most.
+#[derive(Clone, Copy)]
+enum Kind {
+    Byte,
+    Bits8,
+    Bits16,
+    Bits32,
+    Bits64,
+}
+
+fn value_at(c: &mut Cursor, kind: Kind) -> Result<u64, ReadError> {
     match kind {
-        "u8" => Ok(u64::from(c.u8()?)),
-        "z8" => Ok(u64::from(c.z8()?)),
-        "z16" => Ok(u64::from(c.z16()?)),
-        "z32" => Ok(u64::from(c.z32()?)),
-        _ => c.zint(),
+        Kind::Byte => Ok(u64::from(c.u8()?)),
+        Kind::Bits8 => Ok(u64::from(c.z8()?)),
+        Kind::Bits16 => Ok(u64::from(c.z16()?)),
+        Kind::Bits32 => Ok(u64::from(c.z32()?)),
+        Kind::Bits64 => c.zint(),
     }
 }
 
-fn number(alloc: Global, words: &[&str]) -> Result<String, Fault> {
+fn number(alloc: Global, words: &[&str], kind: Kind) -> Result<String, Fault> {
     let bytes = row::bytes(alloc, words, 1)?;
     let mut c = Cursor::new(&bytes);
-    let given = value_at(&mut c, row::word(words, 0));
+    let given = value_at(&mut c, kind);
     row::read(alloc, &given, c.left())
 }
 

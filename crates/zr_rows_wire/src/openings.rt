@@ -23,7 +23,8 @@ struct End {
 pub fn answer(alloc: Global, words: &[&str]) -> Result<String, Fault> {
     let expected = match row::word(words, 0) {
         "accepting" => Expected::Init,
-        _ => Expected::InitAnswer,
+        "dialling" => Expected::InitAnswer,
+        _ => return Err(Fault::Row),
     };
     let me = Zid::from_bytes(&[row::parsed(words, 1)?])?;
     let opening = Opening::new(me, &SECRET, row::parsed(words, 2)?, row::parsed(words, 3)?);
@@ -60,16 +61,20 @@ fn receive(alloc: Global, end: &mut End, message: &Trans) -> Result<String, Faul
     }
 }
 
+fn hear(alloc: Global, end: &mut End, bytes: &[u8]) -> Result<String, Fault> {
+    match read_trans(alloc, &mut Cursor::new(bytes)) {
+        Ok(message) => receive(alloc, end, &message),
+        Err(_) => Err(Fault::Row),
+    }
+}
+
 impl Steps for End {
     // The INIT of an end that dials, or a message that it hears.
     fn step(&mut self, alloc: Global, parts: &[&str]) -> Result<String, Fault> {
-        if row::word(parts, 0) == "greets" {
-            return digits(alloc, &self.opening.greeting());
-        }
-        let bytes = row::bytes(alloc, parts, 1)?;
-        match read_trans(alloc, &mut Cursor::new(&bytes)) {
-            Ok(message) => receive(alloc, self, &message),
-            Err(_) => Err(Fault::Row),
+        match row::word(parts, 0) {
+            "greets" => digits(alloc, &self.opening.greeting()),
+            "hears" => hear(alloc, self, &row::bytes(alloc, parts, 1)?),
+            _ => Err(Fault::Row),
         }
     }
 }

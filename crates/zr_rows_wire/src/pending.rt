@@ -3,7 +3,7 @@
 use crate::row::{self, Fault, Steps};
 use std::alloc::Global;
 use zr_id::link::LinkNo;
-use zr_pend::pending::{PendError, Pending};
+use zr_pend::pending::Pending;
 
 const TWO: LinkNo = LinkNo(2);
 
@@ -14,14 +14,21 @@ pub fn answer(alloc: Global, words: &[&str]) -> Result<String, Fault> {
 }
 
 // A request that comes from a link with a number, and the links that it goes to.
-fn begin(pending: &mut Pending, from: LinkNo, parts: &[&str]) -> Result<Vec<u32>, PendError> {
-    let number = row::parsed(parts, 2).unwrap_or(0);
-    match row::word(parts, 3) {
+fn begin(
+    alloc: Global,
+    pending: &mut Pending,
+    from: LinkNo,
+    parts: &[&str],
+) -> Result<String, Fault> {
+    let number = row::parsed(parts, 2)?;
+    let answer = match row::word(parts, 3) {
         "2" => pending.begin(from, number, &[TWO]),
         "3" => pending.begin(from, number, &[THREE]),
         "2,3" => pending.begin(from, number, &[TWO, THREE]),
-        _ => pending.begin(from, number, &[THREE, TWO]),
-    }
+        "3,2" => pending.begin(from, number, &[THREE, TWO]),
+        _ => return Err(Fault::Row),
+    };
+    row::text(alloc, &answer)
 }
 
 impl Steps for Pending {
@@ -29,12 +36,13 @@ impl Steps for Pending {
     fn step(&mut self, alloc: Global, parts: &[&str]) -> Result<String, Fault> {
         let link = LinkNo(row::parsed(parts, 1)?);
         match row::word(parts, 0) {
-            "begin" => row::text(alloc, &begin(self, link, parts)),
+            "begin" => begin(alloc, self, link, parts),
             "finish" => row::text(alloc, &self.finish(link, row::parsed(parts, 2)?)),
             "find" => row::text(alloc, &self.find(link, row::parsed(parts, 2)?)),
             "drop" => row::text(alloc, &self.drop_link(link)),
             "count" => row::text(alloc, &self.count(link)),
-            _ => row::text(alloc, &self.asked(link, row::parsed(parts, 2)?)),
+            "asked" => row::text(alloc, &self.asked(link, row::parsed(parts, 2)?)),
+            _ => Err(Fault::Row),
         }
     }
 }

@@ -134,7 +134,7 @@ impl Link {
         Ok(())
     }
 
-    // A batch of these bytes and so many more, which are 61.
+    // A batch of these bytes and so many more, which are the letter `a`.
     fn feed_batch(&mut self, alloc: Global, head: &[u8], more: usize) -> Result<(), Fault> {
         let mut batch = head.to_vec(alloc)?;
         batch.append(&mut row::letters(alloc, more)?)?;
@@ -179,14 +179,12 @@ impl Link {
         Ok(())
     }
 
-    fn forget(&mut self) -> Result<(), Fault> {
+    fn forget(&mut self) {
         self.fed.bytes.clear();
-        Ok(())
     }
 
-    fn begin(&mut self, alloc: Global) -> Result<(), Fault> {
+    fn begin(&mut self, alloc: Global) {
         self.fed = Fed::new(alloc);
-        Ok(())
     }
 
     // Its events, how its session stands, with the byte of a CLOSE where it has ended, and what it has to write.
@@ -229,8 +227,14 @@ impl Link {
         match row::word(parts, 0) {
             "tick" => self.tick(row::parsed(parts, 1)?),
             "confirm" => self.confirm(),
-            "forget" => self.forget(),
-            "begin" => self.begin(alloc),
+            "forget" => {
+                self.forget();
+                Ok(())
+            }
+            "begin" => {
+                self.begin(alloc);
+                Ok(())
+            }
             "fragments" => self.feed_fragments(alloc, row::parsed(parts, 1)?),
             "numberings" => self.feed_numberings(alloc, row::parsed(parts, 1)?),
             "numbering" => {

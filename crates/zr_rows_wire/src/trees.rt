@@ -5,12 +5,14 @@ use crate::row::{self, Fault, Steps};
 use std::alloc::{AllocError, Global};
 use zr_graph::base::Base;
 use zr_id::zid::{BadId, Zid};
+use zr_tree::family::Family;
 use zr_tree::trees::Trees;
 
 /// How many routers the small graphs have.
 const ROUTERS: usize = 5;
 
-const COUNT: u8 = 5;
+/// How many triples of them there are.
+const TRIPLES: usize = ROUTERS * ROUTERS * ROUTERS;
 
 const NAMES: [u8; ROUTERS] = [1, 2, 3, 4, 5];
 /// The pairs of them that may have an edge.
@@ -45,6 +47,12 @@ fn set(table: &mut Table, i: usize, j: usize, value: u8) {
     }
 }
 
+// The routers of the triple of this number.
+fn triple(number: usize) -> (usize, usize, usize) {
+    let (first, second) = (number / ROUTERS / ROUTERS, number / ROUTERS);
+    (first % ROUTERS, second % ROUTERS, number % ROUTERS)
+}
+
 // 1 where the graph of this number has an edge.
 fn edges_of(graph: u32) -> Table {
     let mut edges = [[0; ROUTERS]; ROUTERS];
@@ -59,14 +67,14 @@ fn edges_of(graph: u32) -> Table {
     edges
 }
 
-// The distances by walks that grow until none is shorter.
+// The distances by walks that grow until none is shorter: no shortest walk has as many edges as there are routers.
 fn distances_of(edges: &Table) -> Table {
     let mut far = [[NONE; ROUTERS]; ROUTERS];
     for i in 0..ROUTERS {
         set(&mut far, i, i, 0);
     }
-    for step in 0..625 {
-        let (root, x, y) = (step / 25 % ROUTERS, step / 5 % ROUTERS, step % ROUTERS);
+    for step in 0..ROUTERS * TRIPLES {
+        let (root, x, y) = triple(step);
         let by = cell(&far, root, y).saturating_add(1);
         if cell(edges, x, y) == 1 && by < cell(&far, root, x) {
             set(&mut far, root, x, by);
@@ -78,11 +86,10 @@ fn distances_of(edges: &Table) -> Table {
 // The least neighbour that is one nearer to a root.
 fn parent_of(edges: &Table, far: &Table, root: usize, x: usize) -> u8 {
     let by = cell(far, root, x);
-    for y in 0..COUNT {
-        let at = usize::from(y);
-        let is_next = by < NONE && cell(far, root, at).saturating_add(1) == by;
-        if is_next && cell(edges, x, at) == 1 {
-            return y;
+    for y in 0..ROUTERS {
+        let is_next = by < NONE && cell(far, root, y).saturating_add(1) == by;
+        if is_next && cell(edges, x, y) == 1 {
+            return y as u8;
         }
     }
     NONE
@@ -123,8 +130,8 @@ fn name(i: usize) -> Result<Zid, BadId> {
     Zid::from_bytes(&[NAMES[i % ROUTERS]])
 }
 
-/// The first graph below a number whose trees are not those of the slow program; or what trees tell, of the graph of a number at a router, of a
-/// router that knows no record of its neighbour, or of a line of so many routers.
+/// The first graph below a number whose trees, or whose children of one router, are not those of the slow program; or what trees tell, of the
+/// graph of a number at a router, of a router that knows no record of its neighbour, or of a line of so many routers.
 pub fn answer(alloc: Global, words: &[&str]) -> Result<String, Fault> {
     let mut trees = match row::word(words, 0) {
         "all" => return row::text(alloc, &first_other(alloc, row::parsed(words, 1)?)?),
@@ -167,7 +174,7 @@ fn accept(base: &mut Base, id: Zid, seq: u64, links: Vec<Zid>) -> Result<(), Fau
     Ok(())
 }
 
-// The first graph below this number whose trees are others than those of the tables.
+// The first graph below this number whose trees or children are others than those of the tables.
 fn first_other(alloc: Global, graphs: u32) -> Result<Option<u32>, Fault> {
     for graph in 0..graphs {
         if !is_like_the_slow_program(alloc, graph)? {
@@ -181,24 +188,53 @@ fn is_like_the_slow_program(alloc: Global, graph: u32) -> Result<bool, Fault> {
     let edges = edges_of(graph);
     let far = distances_of(&edges);
     let parents = parents_of(&edges, &far);
-    let trees = trees_of(alloc, graph, graph as usize % ROUTERS)?;
-    for step in 0..125 {
-        if !are_same(alloc, &trees, &far, &parents, step)? {
+    let me = graph as usize % ROUTERS;
+    let base = base_of(alloc, &edges, me)?;
+    Ok(has_trees(alloc, &base, &far, &parents)? && has_children(alloc, &base, &parents, me)?)
+}
+
+// Whether the trees of a base are those of the tables.
+fn has_trees(alloc: Global, base: &Base, far: &Table, parents: &Table) -> Result<bool, Fault> {
+    let trees = Trees::of(alloc, base)?;
+    for number in 0..TRIPLES {
+        if !are_same(alloc, &trees, far, parents, number)? {
             return Ok(false);
         }
     }
     Ok(true)
 }
 
-// Whether the answers at a router in the tree of a root are those of the tables.
+// Whether the children of a base's own router, in the trees of all routers, are those of the table.
+fn has_children(alloc: Global, base: &Base, parents: &Table, me: usize) -> Result<bool, Fault> {
+    let family = Family::of(alloc, base)?;
+    for root in 0..ROUTERS {
+        if !are_children(&family, parents, root, me)? {
+            return Ok(false);
+        }
+    }
+    Ok(true)
+}
+
+// The same in the tree of one root.
+fn are_children(family: &Family, parents: &Table, root: usize, me: usize) -> Result<bool, BadId> {
+    for child in 0..ROUTERS {
+        let is_child = cell(parents, root, child) as usize == me;
+        if family.is_child(name(root)?, name(child)?) != is_child {
+            return Ok(false);
+        }
+    }
+    Ok(true)
+}
+
+// Whether the answers of a root, a router and a destination, of the triple of this number, are those of the tables.
 fn are_same(
     alloc: Global,
     trees: &Trees,
     far: &Table,
     parents: &Table,
-    step: usize,
+    number: usize,
 ) -> Result<bool, Fault> {
-    let (root, at, dest) = (step / 25, step / 5 % ROUTERS, step % ROUTERS);
+    let (root, at, dest) = triple(number);
     let (from, to) = (name(root)?, name(at)?);
     let children = children_of(alloc, parents, root, at)?;
     let has_way = trees.parent(from, to) == known(cell(parents, root, at) as usize)?
@@ -314,6 +350,7 @@ fn asked(alloc: Global, trees: &Trees, question: &str, parts: &[&str]) -> Result
         "parent" => row::text(alloc, &trees.parent(root, at)),
         "children" => row::text(alloc, &trees.children(root, at)),
         "reached" => row::text(alloc, &trees.reached(root, at)),
-        _ => row::text(alloc, &trees.toward(root, at, row::id(parts, 3)?)),
+        "toward" => row::text(alloc, &trees.toward(root, at, row::id(parts, 3)?)),
+        _ => Err(Fault::Row),
     }
 }

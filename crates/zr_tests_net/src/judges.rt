@@ -3,14 +3,13 @@
 //! The lines are those of the language of scripts, and what is sent is written as the line that brings such a message. What else routers do,
 //! and who takes a step, is nothing to the judge: so a `run` stands for the steps before the mark, and the steps of a phase are lines of their own.
 
-use std::alloc::{AllocError, Global};
+use crate::row::{Fault, key, name};
+use std::alloc::Global;
 use std::test::Fail;
 use zr_body::Body;
 use zr_command::command::{Act, Command};
 use zr_command::report::ReportLine;
-use zr_id::zid::Zid;
 use zr_judge::judge::{Case, refines};
-use zr_key::key::KeyExpr;
 use zr_msg::content::Content;
 use zr_msg::extras::Extras;
 use zr_msg::msg::Msg;
@@ -466,11 +465,11 @@ static FORGED_OF_THREE: [Row; 2] = [
 ];
 
 // The act of a line, if it is one.
-fn act_of(alloc: Global, line: &str) -> Result<Option<Act>, AllocError> {
+fn act_of(alloc: Global, line: &str) -> Result<Option<Act>, Fault> {
     match read_line(alloc, line.as_bytes()) {
         Ok(Some(Command::Act { act })) => Ok(Some(act)),
         Ok(Some(Command::Run { .. })) | Ok(None) => Ok(None),
-        Err(_) => Err(AllocError),
+        Err(error) => Err(Fault::from(error)),
     }
 }
 
@@ -479,11 +478,11 @@ fn put_act(
     number: u64,
     line: &str,
     acts: &mut Vec<(u64, Act)>,
-) -> Result<(), AllocError> {
+) -> Result<(), Fault> {
     match act_of(alloc, line) {
         Ok(Some(act)) => Ok(acts.push((number, act))?),
         Ok(None) => Ok(()),
-        Err(error) => Err(error),
+        Err(fault) => Err(fault),
     }
 }
 
@@ -494,7 +493,7 @@ fn put_acts(
     lines: &[&str],
     most: usize,
     acts: &mut Vec<(u64, Act)>,
-) -> Result<(), AllocError> {
+) -> Result<(), Fault> {
     let mut number = first;
     for line in lines.iter().take(most) {
         put_act(alloc, number, line, acts)?;
@@ -504,87 +503,76 @@ fn put_acts(
 }
 
 // The sample of the first script with another priority.
-fn urgent(alloc: Global) -> Result<Option<Msg>, AllocError> {
-    let Ok(key) = KeyExpr::read(alloc, b"a/b".as_slice()) else {
-        return Err(AllocError);
-    };
+fn urgent(alloc: Global) -> Result<Msg, Fault> {
+    let key = key(alloc, b"a/b".as_slice())?;
     let mut extras = Extras::none();
     extras.qos = Some(1);
     let content = Content::new(alloc, key, extras, Body::put(alloc, b"h".as_slice())?)?;
-    Ok(Some(Msg::Push {
+    Ok(Msg::Push {
         tree: None,
         content,
-    }))
+    })
 }
 
-fn last(alloc: Global, id: u32) -> Result<Option<Msg>, AllocError> {
+fn last(alloc: Global, id: u32) -> Result<Msg, Fault> {
     let extras = Shared::new(alloc, Extras::none())?;
-    Ok(Some(Msg::Final { id, extras }))
+    Ok(Msg::Final { id, extras })
 }
 
 // The message that a client is sent where it is one like that of this act.
-fn message_of(alloc: Global, act: Act) -> Result<Option<Msg>, AllocError> {
+fn message_of(alloc: Global, act: Act) -> Result<Msg, Fault> {
     match act {
-        Act::Publish { client: _, content } => Ok(Some(Msg::Push {
+        Act::Publish { client: _, content } => Ok(Msg::Push {
             tree: None,
             content,
-        })),
+        }),
         Act::Get {
             client: _,
             number,
             target,
             content,
-        } => Ok(Some(Msg::Request {
+        } => Ok(Msg::Request {
             tree: None,
             id: number,
             target,
             content,
-        })),
+        }),
         Act::Reply {
             client: _,
             number,
             content,
-        } => Ok(Some(Msg::Response {
+        } => Ok(Msg::Response {
             id: number,
             content,
-        })),
+        }),
         Act::End { client: _, number } => last(alloc, number),
-        _ => Ok(None),
+        _ => Err(Fault::Row),
     }
 }
 
-fn message(alloc: Global, line: &str) -> Result<Option<Msg>, AllocError> {
+fn message(alloc: Global, line: &str) -> Result<Msg, Fault> {
     if line == URGENT {
         return urgent(alloc);
     }
     match act_of(alloc, line) {
         Ok(Some(act)) => message_of(alloc, act),
-        Ok(None) => Ok(None),
-        Err(error) => Err(error),
+        Ok(None) => Err(Fault::Row),
+        Err(fault) => Err(fault),
     }
 }
 
-// The name of one byte.
-fn name(byte: u8) -> Result<Zid, AllocError> {
-    match Zid::from_bytes(&[byte]) {
-        Ok(name) => Ok(name),
-        Err(_) => Err(AllocError),
-    }
-}
-
-fn put_line(alloc: Global, sent: &Sent, report: &mut Vec<ReportLine>) -> Result<(), AllocError> {
+fn put_line(alloc: Global, sent: &Sent, report: &mut Vec<ReportLine>) -> Result<(), Fault> {
     let (router, to, tag, line) = *sent;
     let router = name(router)?;
     let to = name(to)?;
     match message(alloc, line) {
-        Ok(Some(msg)) => Ok(report.push(ReportLine::Taken {
+        Ok(msg) => Ok(report.push(ReportLine::Taken {
             router,
             to,
             msg,
             tag,
         })?),
-        Ok(None) => Ok(()),
-        Err(error) => Err(error),
+        Err(fault) => Err(fault),
     }
 }
 
@@ -594,7 +582,7 @@ fn put_report(
     mark: u64,
     sent: &[Sent],
     report: &mut Vec<ReportLine>,
-) -> Result<(), AllocError> {
+) -> Result<(), Fault> {
     report.push(ReportLine::Mark { line: mark })?;
     for one in sent {
         put_line(alloc, one, report)?;
@@ -615,7 +603,7 @@ fn fill(
     before: &mut Vec<(u64, Act)>,
     phase: &mut Vec<(u64, Act)>,
     report: &mut Vec<ReportLine>,
-) -> Result<(), AllocError> {
+) -> Result<(), Fault> {
     let mark = mark_of(script);
     put_acts(alloc, 1, script.before, usize::MAX, before)?;
     put_acts(alloc, mark.saturating_add(1), script.phase, row.0, phase)?;
@@ -623,7 +611,7 @@ fn fill(
 }
 
 // Whether the judge takes a row for true.
-fn holds_at(alloc: Global, script: &Script, row: &Row) -> Result<bool, AllocError> {
+fn holds_at(alloc: Global, script: &Script, row: &Row) -> Result<bool, Fault> {
     let mut before = Vec::new(alloc);
     let mut phase = Vec::new(alloc);
     let mut report = Vec::new(alloc);
@@ -636,8 +624,8 @@ fn holds_at(alloc: Global, script: &Script, row: &Row) -> Result<bool, AllocErro
         quiet: row.2,
     };
     match filled {
-        Ok(()) => refines(alloc, &case),
-        Err(error) => Err(error),
+        Ok(()) => Ok(refines(alloc, &case)?),
+        Err(fault) => Err(fault),
     }
 }
 
@@ -647,7 +635,7 @@ fn first_wrong(
     script: &Script,
     rows: &'static [Row],
     want: bool,
-) -> Result<&'static str, AllocError> {
+) -> Result<&'static str, Fault> {
     for row in rows {
         if holds_at(alloc, script, row)? != want {
             return Ok(row.3);

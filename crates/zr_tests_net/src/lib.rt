@@ -1,5 +1,5 @@
 //! Tests of a router, of the judge of reports, and of scripts that come in pieces.
-//! Each file tests one crate, as rows of a table. What the contracts say for all inputs is not tested.
+//! Each file tests one crate, as rows of a table, but for `row`, which has what rows are made of. What the contracts say for all inputs is not tested.
 #![tactic(auto)]
 
 #[cfg(test)]
@@ -8,3 +8,5 @@ mod judges;
 mod nodes;
 #[cfg(test)]
 mod pieces;
+#[cfg(test)]
+mod row;

@@ -3,11 +3,11 @@
 ghost use Rattle.std.specs.Prelude.{◌≡◌, true};
 ghost use Rattle.zr_table.specs.Event.{IsFresh, MayCome};
 
+use crate::row::{Fault, key, name};
 use std::alloc::{AllocError, Global};
 use std::test::Fail;
 use zr_body::Body;
 use zr_id::link::LinkNo;
-use zr_id::zid::Zid;
 use zr_key::key::KeyExpr;
 use zr_msg::content::Content;
 use zr_msg::decl::{Decl, Kind};
@@ -57,6 +57,15 @@ enum Step {
     Change(u64),
 }
 
+/// What comes many times, one after the other, at the link of the client that asks and subscribes.
+#[derive(Clone, Copy)]
+enum Many {
+    /// Queries on `a`, with a client that answers them.
+    Queries,
+    /// Subscribers on long keys.
+    LongSubs,
+}
+
 /// A message that a router sends: its link, and its number there.
 #[derive(Clone, Copy, PartialEq, Eq)]
 enum Sent {
@@ -85,26 +94,11 @@ static ONE_FINAL: [Row; 8] = [
     (2, Step::End(1), &[Sent::Final(ASKER, 9)]),
 ];
 
-// The name of one byte.
-fn name(byte: u8) -> Result<Zid, AllocError> {
-    match Zid::from_bytes(&[byte]) {
-        Ok(name) => Ok(name),
-        Err(_) => Err(AllocError),
-    }
-}
-
-fn key(alloc: Global, text: &[u8]) -> Result<KeyExpr, AllocError> {
-    match KeyExpr::read(alloc, text) {
-        Ok(key) => Ok(key),
-        Err(_) => Err(AllocError),
-    }
-}
-
 // A value on `a`.
-fn value(alloc: Global) -> Result<Content, AllocError> {
+fn value(alloc: Global) -> Result<Content, Fault> {
     let key = key(alloc, b"a".as_slice())?;
     let body = Body::put(alloc, b"x".as_slice())?;
-    Content::new(alloc, key, Extras::none(), body)
+    Ok(Content::new(alloc, key, Extras::none(), body)?)
 }
 
 fn letter(number: u32) -> u8 {
@@ -122,12 +116,12 @@ fn long_text(alloc: Global, number: u32) -> Result<Vec<u8>, AllocError> {
     Ok(text)
 }
 
-fn long_key(alloc: Global, number: u32) -> Result<KeyExpr, AllocError> {
+fn long_key(alloc: Global, number: u32) -> Result<KeyExpr, Fault> {
     let text = long_text(alloc, number)?;
     key(alloc, &text)
 }
 
-fn change(alloc: Global, number: u64) -> Result<Msg, AllocError> {
+fn change(alloc: Global, number: u64) -> Result<Msg, Fault> {
     let key = key(alloc, b"a".as_slice())?;
     let kind = Kind::Sub;
     let decl = Shared::new(alloc, Decl { kind, key })?;
@@ -139,7 +133,7 @@ fn change(alloc: Global, number: u64) -> Result<Msg, AllocError> {
     })
 }
 
-fn message(alloc: Global, step: Step) -> Result<Msg, AllocError> {
+fn message(alloc: Global, step: Step) -> Result<Msg, Fault> {
     match step {
         Step::Able => Ok(Msg::Able {
             id: 1,
@@ -209,18 +203,18 @@ fn refused(
     link: u32,
     step: Step,
     out: &mut Vec<(LinkNo, Msg)>,
-) -> Result<Option<NodeError>, AllocError> {
+) -> Result<Option<NodeError>, Fault> {
     match message(alloc, step) {
         Ok(msg) => {
             let link = LinkNo(link);
             Ok(refusal(alloc, node, &Event::From { link, msg }, out))
         }
-        Err(error) => Err(error),
+        Err(fault) => Err(fault),
     }
 }
 
 // Who stands at a link.
-fn peer(link: u32) -> Result<Peer, AllocError> {
+fn peer(link: u32) -> Result<Peer, Fault> {
     let id = name(FIRST_PEER.wrapping_add((link % 256) as u8))?;
     let role = if link == ROUTER {
         Role::Router
@@ -230,14 +224,14 @@ fn peer(link: u32) -> Result<Peer, AllocError> {
     Ok(Peer { id, role })
 }
 
-fn bring_up(alloc: Global, node: &mut Node, link: u32) -> Result<Option<NodeError>, AllocError> {
+fn bring_up(alloc: Global, node: &mut Node, link: u32) -> Result<Option<NodeError>, Fault> {
     let peer = peer(link)?;
     let link = LinkNo(link);
     let mut out = Vec::new(alloc);
     Ok(refusal(alloc, node, &Event::Up { link, peer }, &mut out))
 }
 
-fn bring_all_up(alloc: Global, node: &mut Node) -> Result<(), AllocError> {
+fn bring_all_up(alloc: Global, node: &mut Node) -> Result<(), Fault> {
     for link in 0..=ROUTER {
         bring_up(alloc, node, link)?;
     }
@@ -267,16 +261,16 @@ fn are_sent(out: &[(LinkNo, Msg)], want: &[Sent]) -> bool {
 }
 
 // Whether a row is so.
-fn is_so(alloc: Global, node: &mut Node, row: &Row) -> Result<bool, AllocError> {
+fn is_so(alloc: Global, node: &mut Node, row: &Row) -> Result<bool, Fault> {
     let mut out = Vec::new(alloc);
     let refused = refused(alloc, node, row.0, row.1, &mut out);
     match refused {
         Ok(refused) => Ok(refused.is_none() && are_sent(&out, row.2)),
-        Err(error) => Err(error),
+        Err(fault) => Err(fault),
     }
 }
 
-fn first_wrong_at(alloc: Global, node: &mut Node, rows: &[Row]) -> Result<usize, AllocError> {
+fn first_wrong_at(alloc: Global, node: &mut Node, rows: &[Row]) -> Result<usize, Fault> {
     bring_all_up(alloc, node)?;
     for (i, row) in rows.iter().enumerate() {
         if !is_so(alloc, node, row)? {
@@ -286,45 +280,47 @@ fn first_wrong_at(alloc: Global, node: &mut Node, rows: &[Row]) -> Result<usize,
     Ok(rows.len())
 }
 
-fn router(alloc: Global) -> Result<Node, AllocError> {
-    Node::new(alloc, name(0xff)?)
+fn router(alloc: Global) -> Result<Node, Fault> {
+    let name = name(0xff)?;
+    Ok(Node::new(alloc, name)?)
 }
 
 // The number of the first row that isn't so, where they come one after the other to a router with all links up; that of all where there is none.
-fn first_wrong(alloc: Global, rows: &[Row]) -> Result<usize, AllocError> {
+fn first_wrong(alloc: Global, rows: &[Row]) -> Result<usize, Fault> {
     match router(alloc) {
         Ok(mut node) => first_wrong_at(alloc, &mut node, rows),
-        Err(error) => Err(error),
+        Err(fault) => Err(fault),
     }
 }
 
-// The step of a number, of those that many come of.
-fn one_of(is_query: bool, number: u32) -> Step {
-    if is_query {
-        Step::Get(number)
-    } else {
-        Step::LongSub(number)
+fn one_of(many: Many, number: u32) -> Step {
+    match many {
+        Many::Queries => Step::Get(number),
+        Many::LongSubs => Step::LongSub(number),
     }
 }
 
-fn bring(alloc: Global, node: &mut Node, link: u32, step: Step) -> Result<bool, AllocError> {
+fn bring(alloc: Global, node: &mut Node, link: u32, step: Step) -> Result<bool, Fault> {
     let mut out = Vec::new(alloc);
     match refused(alloc, node, link, step, &mut out) {
         Ok(refused) => Ok(refused.is_none()),
-        Err(error) => Err(error),
+        Err(fault) => Err(fault),
+    }
+}
+
+// Where these are queries a client comes to answer them; whether it was not refused.
+fn prepare(alloc: Global, node: &mut Node, many: Many) -> Result<bool, Fault> {
+    match many {
+        Many::Queries => bring(alloc, node, 1, Step::Able),
+        Many::LongSubs => Ok(true),
     }
 }
 
 // Brings so many steps, one after the other, where they are queries with a client that answers them, and says whether none was refused.
-fn bring_many(
-    alloc: Global,
-    node: &mut Node,
-    is_query: bool,
-    count: u32,
-) -> Result<bool, AllocError> {
-    let mut is_well = !is_query || bring(alloc, node, 1, Step::Able)?;
+fn bring_many(alloc: Global, node: &mut Node, many: Many, count: u32) -> Result<bool, Fault> {
+    let mut is_well = prepare(alloc, node, many)?;
     for number in 0..count {
-        is_well = bring(alloc, node, ASKER, one_of(is_query, number))? && is_well;
+        is_well = bring(alloc, node, ASKER, one_of(many, number))? && is_well;
     }
     Ok(is_well)
 }
@@ -333,12 +329,12 @@ fn bring_many(
 fn refused_at(
     alloc: Global,
     node: &mut Node,
-    is_query: bool,
+    many: Many,
     count: u32,
     step: Step,
-) -> Result<Option<NodeError>, AllocError> {
+) -> Result<Option<NodeError>, Fault> {
     bring_all_up(alloc, node)?;
-    if !bring_many(alloc, node, is_query, count)? {
+    if !bring_many(alloc, node, many, count)? {
         return Ok(None);
     }
     let mut out = Vec::new(alloc);
@@ -348,18 +344,18 @@ fn refused_at(
 // The same at a new router.
 fn refused_behind(
     alloc: Global,
-    is_query: bool,
+    many: Many,
     count: u32,
     step: Step,
-) -> Result<Option<NodeError>, AllocError> {
+) -> Result<Option<NodeError>, Fault> {
     match router(alloc) {
-        Ok(mut node) => refused_at(alloc, &mut node, is_query, count, step),
-        Err(error) => Err(error),
+        Ok(mut node) => refused_at(alloc, &mut node, many, count, step),
+        Err(fault) => Err(fault),
     }
 }
 
 // Changes of another router's log: what comes is answered so one after the other.
-fn changes_at(alloc: Global, node: &mut Node) -> Result<bool, AllocError> {
+fn changes_at(alloc: Global, node: &mut Node) -> Result<bool, Fault> {
     bring_all_up(alloc, node)?;
     let mut out = Vec::new(alloc);
     let early = refused(alloc, node, ROUTER, Step::Change(2), &mut out)?;
@@ -373,10 +369,10 @@ fn changes_at(alloc: Global, node: &mut Node) -> Result<bool, AllocError> {
     Ok(early == Some(gap) && first && second)
 }
 
-fn changes_come_in_turn(alloc: Global) -> Result<bool, AllocError> {
+fn changes_come_in_turn(alloc: Global) -> Result<bool, Fault> {
     match router(alloc) {
         Ok(mut node) => changes_at(alloc, &mut node),
-        Err(error) => Err(error),
+        Err(fault) => Err(fault),
     }
 }
 
@@ -389,14 +385,15 @@ fn one_final_behind_all_replies(rt: HostRuntime) -> Result<(), Fail> {
 
 #[test]
 fn a_number_that_is_pending_is_taken(rt: HostRuntime) -> Result<(), Fail> {
-    let error = refused_behind(rt.alloc(), true, 8, Step::Get(7))?;
+    let error = refused_behind(rt.alloc(), Many::Queries, 8, Step::Get(7))?;
     assert!(rt; error == Some(NodeError::NumberTaken { id: 7 }));
     Ok(())
 }
 
 #[test]
 fn a_client_has_so_many_pending_at_most(rt: HostRuntime) -> Result<(), Fail> {
-    let error = refused_behind(rt.alloc(), true, MOST_PENDING, Step::Get(MOST_PENDING))?;
+    let next = Step::Get(MOST_PENDING);
+    let error = refused_behind(rt.alloc(), Many::Queries, MOST_PENDING, next)?;
     let wanted = NodeError::TooMany {
         pending: MOST_PENDING,
     };
@@ -406,7 +403,8 @@ fn a_client_has_so_many_pending_at_most(rt: HostRuntime) -> Result<(), Fail> {
 
 #[test]
 fn declarations_weigh_so_much_at_most(rt: HostRuntime) -> Result<(), Fail> {
-    let error = refused_behind(rt.alloc(), false, MOST_LONG, Step::Sub(MOST_LONG + 1))?;
+    let next = Step::Sub(MOST_LONG + 1);
+    let error = refused_behind(rt.alloc(), Many::LongSubs, MOST_LONG, next)?;
     let wanted = NodeError::TextLimit {
         held: 4_194_304,
         more: 17,
