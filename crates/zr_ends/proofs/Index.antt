@@ -1,135 +1,152 @@
--- The two sets of ends keep their meaning where the state of an end changes, and where an end is new.
-use Rattle.std.proofs.Common.{◌≡◌, Bool, true, false, cond, not, ◌&&◌, List, Option, Some, None, is_some, refl, sym, ap, ◌∙◌, subst}
+-- The marks keep their meaning where the state of an end changes, and where an end is new.
+use Rattle.std.proofs.Common.{◌≡◌, ◌≢◌, ℕ, ◌+◌, ◌*◌, ◌<◌, ◌≤◌, ◌==◌, Bool, true, false, cond, nat_lt, List, [], Option, Some, length, get_or, set, refl, sym, ap, ◌∙◌, subst, arith}
+use Rattle.std.specs.Prelude.{slice_get}
 use Rattle.std.specs.List.Sorted.{IsStrictlySortedBy}
-use Rattle.std.specs.Map.{keys_of, set_value}
+use Rattle.std.specs.Map.{keys_of}
 use Rattle.std.specs.Option.{option_map_or}
-use Rattle.std.specs.BTreeMap.{insert_entry}
-use Rattle.std.proofs.lemmas.Bool.{false≢true, true≢false, and_parts}
-use Rattle.std.proofs.lemmas.Map.Steps.{set_value_same}
-use Rattle.zr_network.specs.World.{Tagged, EndState, End, Ends, end_cmp, is_end, end_of, with_end, put_end, passes, is_empty, is_idle, broken, lowered}
+use Rattle.std.proofs.Math.Seq.{map-set_same}
+use Rattle.std.proofs.lemmas.Bool.{eqb-true, eqb-false}
+use Rattle.std.proofs.lemmas.List.{get_or-set_same, get_or-set_other, length-set}
+use Rattle.std.proofs.lemmas.Option.{slice_get-get_or, slice_get_past}
+use Rattle.zr_network.specs.World.{EndState, End, Ends, end_cmp}
 use Rattle.zr_network.specs.Next.{can_handle, can_take}
-use Rattle.zr_network.proofs.Ends.{same_end, read_with_end, keep_with_end, keys_with_end, keep_put_end}
-use Rattle.zr_ends.specs.Index.{has_end, HasJust, IsIndexed}
+use Rattle.zr_ends.proofs.Bits.{unmarked}
+use Rattle.zr_ends.specs.Index.{has_mark, passes_at, HasJust, IsIndexed}
 
--- ---- a set, and the end e that changes from s to s'
+-- ---- a list of which one element was replaced
 
--- the set has the end where the new state passes the test
-pub just_changed : (test : EndState → Bool) (some some' : List End) (es : Ends) (e : End) (s s' : EndState) → end_of es e ≡ Some s →
-    ((q : End) → has_end some' q ≡ cond (is_end e q) (test s') (has_end some q)) → HasJust test some es → HasJust test some' (with_end es e s')
-just_changed test some some' es e s s' there now just q =
-    now q ∙ ap (λ z. cond (is_end e q) (test s') z) (just q) ∙ sym (read_with_end es e s' (λ o. option_map_or test o false) q (ap is_some there))
+module _ {X : Type 0} (xs : List X) (i : ℕ) (x : X) where
+  get_same : i < length xs → slice_get (set xs i x) i ≡ Some x
+  get_same lt =
+      let within : i < length (set xs i x) = rw (length-set xs i x) lt in
+      slice_get-get_or (set xs i x) i x within ∙ ap (λ y. Some y) (get_or-set_same xs i x x lt)
 
--- the test can't tell the states apart
-pub just_kept : (test : EndState → Bool) (some : List End) (es : Ends) (e : End) (s s' : EndState) → end_of es e ≡ Some s → test s' ≡ test s →
-    HasJust test some es → HasJust test some (with_end es e s')
-just_kept test some es e s s' there same just q = just q ∙ sym (keep_with_end es e s' (λ o. option_map_or test o false) q s there same)
+  get_other : (q : ℕ) → q ≢ i → slice_get (set xs i x) q ≡ slice_get xs q
+  get_other q ne = by (nat_lt q (length xs)) refl
+    where
+      by : (b : Bool) → nat_lt q (length xs) ≡ b → slice_get (set xs i x) q ≡ slice_get xs q
+      by true e =
+          let lt : q < length xs = grind (arith, e) in
+          let within : q < length (set xs i x) = rw (length-set xs i x) lt in
+          slice_get-get_or (set xs i x) q x within ∙ ap (λ y. Some y) (get_or-set_other xs i q x x ne) ∙ sym (slice_get-get_or xs q x lt)
+      by false e =
+          let le : length xs ≤ q = grind (arith, e) in
+          let past : length (set xs i x) ≤ q = rw (length-set xs i x) le in
+          slice_get_past (set xs i x) q past ∙ sym (slice_get_past xs q le)
 
--- whether the end is in the set
-member : (test : EndState → Bool) (some : List End) (es : Ends) (e : End) (s : EndState) → end_of es e ≡ Some s → HasJust test some es →
-    (q : End) → is_end e q ≡ true → has_end some q ≡ test s
-member test some es e s there just q n = ap (has_end some) (sym (same_end e q n)) ∙ just e ∙ ap (λ o. option_map_or test o false) there
+  pub get_set : i < length xs → (q : ℕ) → slice_get (set xs i x) q ≡ cond (q == i) (Some x) (slice_get xs q)
+  get_set lt q = by (q == i) refl
+    where
+      by : (b : Bool) → (q == i) ≡ b → slice_get (set xs i x) q ≡ cond b (Some x) (slice_get xs q)
+      by true e = ap (slice_get (set xs i x)) (eqb-true q i e) ∙ get_same lt
+      by false e = get_other q (eqb-false q i e)
 
--- the end was put in unless it was there, and taken out again unless a step is possible
-pub moved : (test : EndState → Bool) (some mid some' : List End) (es : Ends) (e : End) (s : EndState) (can : Bool) → end_of es e ≡ Some s → HasJust test some es →
-    ((q : End) → has_end mid q ≡ cond (is_end e q && not (test s)) true (has_end some q)) →
-    ((q : End) → has_end some' q ≡ cond (is_end e q && not can) false (has_end mid q)) →
-    (q : End) → has_end some' q ≡ cond (is_end e q) can (has_end some q)
-moved test some mid some' es e s can there just first then q =
-    then q ∙ ap (λ z. cond (is_end e q && not can) false z) (first q) ∙ by (is_end e q) can (test s) refl refl
-  where
-    by : (a b c : Bool) → is_end e q ≡ a → test s ≡ c → cond (a && not b) false (cond (a && not c) true (has_end some q)) ≡ cond a b (has_end some q)
-    by false b c n t = refl
-    by true false c n t = refl
-    by true true false n t = refl
-    by true true true n t = member test some es e s there just q n ∙ t
+read_cond : {X Y : Type 0} (f : X → Y) (b : Bool) (x y : X) → f (cond b x y) ≡ cond b (f x) (f y)
+read_cond f true x y = refl
+read_cond f false x y = refl
 
--- a step is possible only where it was
-pub dropped : (test : EndState → Bool) (some some' : List End) (es : Ends) (e : End) (s : EndState) (can : Bool) → end_of es e ≡ Some s → HasJust test some es →
-    (can ≡ true → test s ≡ true) → ((q : End) → has_end some' q ≡ cond (is_end e q && not can) false (has_end some q)) →
-    (q : End) → has_end some' q ≡ cond (is_end e q) can (has_end some q)
-dropped test some some' es e s can there just only then q = then q ∙ by (is_end e q) can refl refl
-  where
-    by : (a b : Bool) → is_end e q ≡ a → can ≡ b → cond (a && not b) false (has_end some q) ≡ cond a b (has_end some q)
-    by false b n t = refl
-    by true false n t = refl
-    by true true n t = member test some es e s there just q n ∙ only t
+-- no end passes behind the last place
+passes_past : (test : EndState → Bool) (es : Ends) (q : ℕ) → length es ≤ q → passes_at test es q ≡ false
+passes_past test es q le = ap (λ (o : Option (End × EndState)). option_map_or (λ e. test e.1) o false) (slice_get_past es q le)
 
--- ---- both sets
+-- ---- the end at a place changes
 
--- the keys stay as they are
-still_ordered : (es : Ends) (e : End) (s : EndState) → IsStrictlySortedBy end_cmp (keys_of es) → IsStrictlySortedBy end_cmp (keys_of (with_end es e s))
-still_ordered es e s h = subst (IsStrictlySortedBy end_cmp) (sym (keys_with_end es e s)) h
+module _ (test : EndState → Bool) (es : Ends) (i : ℕ) (k : End) (s : EndState) (lt : i < length es) where
+  passes_set : (q : ℕ) → passes_at test (set es i (k, s)) q ≡ cond (q == i) (test s) (passes_at test es q)
+  passes_set q =
+      ap (λ (o : Option (End × EndState)). option_map_or (λ e. test e.1) o false) (get_set es i (k, s) lt q)
+      ∙ read_cond (λ (o : Option (End × EndState)). option_map_or (λ e. test e.1) o false) (q == i) (Some (k, s)) (slice_get es q)
 
--- the end has changed, and each set has it where the new state passes
-pub both_changed : (es : Ends) (h h' t t' : List End) (e : End) (s s' : EndState) → end_of es e ≡ Some s →
-    ((q : End) → has_end h' q ≡ cond (is_end e q) (can_handle s') (has_end h q)) → ((q : End) → has_end t' q ≡ cond (is_end e q) (can_take s') (has_end t q)) →
-    IsIndexed es h t → IsIndexed (with_end es e s') h' t'
-both_changed es h h' t t' e s s' there one other i = record {
-  ordered = still_ordered es e s' i.ordered;
-  handles = just_changed can_handle h h' es e s s' there one i.handles;
-  takes = just_changed can_take t t' es e s s' there other i.takes;
-}
+  -- the place is marked where the new state passes the test
+  just_changed : (words words' : List ℕ) → ((q : ℕ) → has_mark words' q ≡ cond (q == i) (test s) (has_mark words q)) → HasJust test words es → HasJust test words' (set es i (k, s))
+  just_changed words words' now just q = now q ∙ ap (λ z. cond (q == i) (test s) z) (just q) ∙ sym (passes_set q)
 
-pub handles_changed : (es : Ends) (h h' t : List End) (e : End) (s s' : EndState) → end_of es e ≡ Some s →
-    ((q : End) → has_end h' q ≡ cond (is_end e q) (can_handle s') (has_end h q)) → can_take s' ≡ can_take s → IsIndexed es h t → IsIndexed (with_end es e s') h' t
-handles_changed es h h' t e s s' there one same i = record {
-  ordered = still_ordered es e s' i.ordered;
-  handles = just_changed can_handle h h' es e s s' there one i.handles;
-  takes = just_kept can_take t es e s s' there same i.takes;
-}
+  -- the test can't tell the states apart
+  just_kept : (words : List ℕ) (d : End × EndState) → test s ≡ test (get_or es i d).1 → HasJust test words es → HasJust test words (set es i (k, s))
+  just_kept words d same just q = just q ∙ by (q == i) refl ∙ sym (passes_set q)
+    where
+      by : (b : Bool) → (q == i) ≡ b → passes_at test es q ≡ cond b (test s) (passes_at test es q)
+      by true e = ap (passes_at test es) (eqb-true q i e) ∙ ap (λ (o : Option (End × EndState)). option_map_or (λ x. test x.1) o false) (slice_get-get_or es i d lt) ∙ sym same
+      by false e = refl
 
-pub takes_changed : (es : Ends) (h t t' : List End) (e : End) (s s' : EndState) → end_of es e ≡ Some s →
-    ((q : End) → has_end t' q ≡ cond (is_end e q) (can_take s') (has_end t q)) → can_handle s' ≡ can_handle s → IsIndexed es h t → IsIndexed (with_end es e s') h t'
-takes_changed es h t t' e s s' there one same i = record {
-  ordered = still_ordered es e s' i.ordered;
-  handles = just_kept can_handle h es e s s' there same i.handles;
-  takes = just_changed can_take t t' es e s s' there one i.takes;
-}
+module _ (es : Ends) (h h' t : List ℕ) (i : ℕ) (d : End × EndState) (s : EndState) (lt : i < length es) where
+  still_ordered : IsStrictlySortedBy end_cmp (keys_of es) → IsStrictlySortedBy end_cmp (keys_of (set es i ((get_or es i d).0, s)))
+  still_ordered o = subst (IsStrictlySortedBy end_cmp) (sym (map-set_same (λ (x : End × EndState). x.0) es i ((get_or es i d).0, s) d refl)) o
 
--- nothing has changed but the sets, and they mean the same
-pub handles_alike : (es : Ends) (h h' t : List End) (e : End) (s : EndState) → end_of es e ≡ Some s →
-    ((q : End) → has_end h' q ≡ cond (is_end e q) (can_handle s) (has_end h q)) → IsIndexed es h t → IsIndexed es h' t
-handles_alike es h h' t e s there one i =
-    subst (λ (z : Ends). IsIndexed z h' t) (set_value_same (is_end e) es s there) (handles_changed es h h' t e s s there one refl i)
+  room_kept : (words words' : List ℕ) → length words' ≡ length words → length es ≤ 64 * length words → length (set es i ((get_or es i d).0, s)) ≤ 64 * length words'
+  room_kept words words' same room = rw (length-set es i ((get_or es i d).0, s), same) room
 
--- ---- a new end
+  pub both_changed : (t' : List ℕ) →
+      ((q : ℕ) → has_mark h' q ≡ cond (q == i) (can_handle s) (has_mark h q)) → length h' ≡ length h →
+      ((q : ℕ) → has_mark t' q ≡ cond (q == i) (can_take s) (has_mark t q)) → length t' ≡ length t →
+      IsIndexed es h t → IsIndexed (set es i ((get_or es i d).0, s)) h' t'
+  both_changed t' one hl other tl x = record {
+    ordered = still_ordered x.ordered;
+    handles = just_changed can_handle es i (get_or es i d).0 s lt h h' one x.handles;
+    takes = just_changed can_take es i (get_or es i d).0 s lt t t' other x.takes;
+    handle_room = room_kept h h' hl x.handle_room;
+    take_room = room_kept t t' tl x.take_room;
+  }
 
-no_more : (b : Bool) → (b && false) ≡ false
-no_more true = refl
-no_more false = refl
+  pub handles_changed : ((q : ℕ) → has_mark h' q ≡ cond (q == i) (can_handle s) (has_mark h q)) → length h' ≡ length h → can_take s ≡ can_take (get_or es i d).1 →
+      IsIndexed es h t → IsIndexed (set es i ((get_or es i d).0, s)) h' t
+  handles_changed one hl same x = record {
+    ordered = still_ordered x.ordered;
+    handles = just_changed can_handle es i (get_or es i d).0 s lt h h' one x.handles;
+    takes = just_kept can_take es i (get_or es i d).0 s lt t d same x.takes;
+    handle_room = room_kept h h' hl x.handle_room;
+    take_room = room_kept t t refl x.take_room;
+  }
 
-cannot_handle : (s : EndState) → is_idle s ≡ true → can_handle s ≡ false
-cannot_handle s h = ap (λ b. s.up && not b) (and_parts (is_empty s.wire) (is_empty s.queue) h).0 ∙ no_more s.up
+  pub takes_changed : ((q : ℕ) → has_mark h' q ≡ cond (q == i) (can_take s) (has_mark h q)) → length h' ≡ length h → can_handle s ≡ can_handle (get_or es i d).1 →
+      IsIndexed es t h → IsIndexed (set es i ((get_or es i d).0, s)) t h'
+  takes_changed one hl same x = record {
+    ordered = still_ordered x.ordered;
+    handles = just_kept can_handle es i (get_or es i d).0 s lt t d same x.handles;
+    takes = just_changed can_take es i (get_or es i d).0 s lt h h' one x.takes;
+    handle_room = room_kept t t refl x.handle_room;
+    take_room = room_kept h h' hl x.take_room;
+  }
 
-cannot_take : (s : EndState) → is_idle s ≡ true → can_take s ≡ false
-cannot_take s h = ap (λ b. s.up && s.unbroken && not b) (and_parts (is_empty s.wire) (is_empty s.queue) h).1 ∙ no_more (s.up && s.unbroken)
+-- ---- all ends are marked anew
 
--- where nothing waits no step is possible
-pub idle_steps : (s : EndState) (c : EndState) → is_idle s ≡ true → (can_handle s ≡ true → can_handle c ≡ true) × (can_take s ≡ true → can_take c ≡ true)
-idle_steps s c h = ((λ k. absurd (true≢false (sym k ∙ cannot_handle s h))), (λ k. absurd (true≢false (sym k ∙ cannot_take s h))))
+pub indexed_none : IsIndexed [] [] []
+unfolding IsStrictlySortedBy
+indexed_none = record { ordered = tt; handles = λ q. unmarked [] q refl; takes = λ q. unmarked [] q refl; handle_room = omega arith; take_room = omega arith }
 
--- the end comes, under a key that none has
-pub indexed_new : (es : Ends) (h t : List End) (e : End) (s : EndState) → is_some (end_of es e) ≡ false → is_idle s ≡ true →
-    IsStrictlySortedBy end_cmp (keys_of (put_end es e s)) → IsIndexed es h t → IsIndexed (put_end es e s) h t
-indexed_new es h t e s none idle ordered i = record {
-  ordered = ordered;
-  handles = λ q. i.handles q ∙ sym (keep_put_end es e s (λ o. option_map_or can_handle o false) q (cannot_handle s idle ∙ sym (nothing can_handle (end_of es e) none)));
-  takes = λ q. i.takes q ∙ sym (keep_put_end es e s (λ o. option_map_or can_take o false) q (cannot_take s idle ∙ sym (nothing can_take (end_of es e) none)));
-}
-  where
-    nothing : (test : EndState → Bool) (o : Option EndState) → is_some o ≡ false → option_map_or test o false ≡ false
-    nothing test None n = refl
-    nothing test (Some x) n = absurd (true≢false n)
+module _ (test : EndState → Bool) (es : Ends) where
+  -- one place more is marked anew
+  pub marked_more : (n : ℕ) (d : End × EndState) (first words words' : List ℕ) → n < length es →
+      ((q : ℕ) → has_mark words q ≡ cond (nat_lt q n) (passes_at test es q) (has_mark first q)) → ((q : ℕ) → has_mark words' q ≡ cond (q == n) (test (get_or es n d).1) (has_mark words q)) →
+      (q : ℕ) → has_mark words' q ≡ cond (nat_lt q (n + 1)) (passes_at test es q) (has_mark first q)
+  marked_more n d first words words' lt before now q = now q ∙ by (q == n) refl
+    where
+      by : (b : Bool) → (q == n) ≡ b → cond b (test (get_or es n d).1) (has_mark words q) ≡ cond (nat_lt q (n + 1)) (passes_at test es q) (has_mark first q)
+      by true e =
+          let same : q ≡ n = eqb-true q n e in
+          let inside : nat_lt q (n + 1) ≡ true = grind (arith, same) in
+          rw inside
+          (sym (ap (passes_at test es) same ∙ ap (λ (o : Option (End × EndState)). option_map_or (λ x. test x.1) o false) (slice_get-get_or es n d lt)))
+      by false e =
+          let apart : q ≢ n = eqb-false q n e in
+          before q ∙ ap (λ c. cond c (passes_at test es q) (has_mark first q)) (below (nat_lt q n) refl apart)
+        where
+          below : (c : Bool) → nat_lt q n ≡ c → q ≢ n → c ≡ nat_lt q (n + 1)
+          below true k ne = grind (arith, k)
+          below false k ne = grind (arith, k, ne)
 
--- ---- ends at which no step is possible any more
+  -- nothing was marked behind the last place
+  pub just_anew : (n : ℕ) (words words' : List ℕ) → length es ≤ n → ((q : ℕ) → length es ≤ q → has_mark words q ≡ false) →
+      ((q : ℕ) → has_mark words' q ≡ cond (nat_lt q n) (passes_at test es q) (has_mark words q)) → HasJust test words' es
+  just_anew n words words' le none now q = now q ∙ by (nat_lt q n) refl
+    where
+      by : (b : Bool) → nat_lt q n ≡ b → cond b (passes_at test es q) (has_mark words q) ≡ passes_at test es q
+      by true e = refl
+      by false e = let past : length es ≤ q = grind (arith, e, le) in none q past ∙ sym (passes_past test es q past)
 
--- on a broken link
-pub broken_steps : (s c : EndState) → (can_handle (broken s) ≡ true → can_handle c ≡ true) × (can_take (broken s) ≡ true → can_take c ≡ true)
-broken_steps s c = (
-  (λ k. absurd (true≢false (sym k ∙ no_more s.up))),
-  (λ k. absurd (true≢false (sym k ∙ ap (λ b. b && not (is_empty s.queue)) (no_more s.up)))),
-)
-
--- at an end that is down
-pub lowered_steps : (s c : EndState) → (can_handle (lowered s) ≡ true → can_handle c ≡ true) × (can_take (lowered s) ≡ true → can_take c ≡ true)
-lowered_steps s c = ((λ k. absurd (false≢true k)), (λ k. absurd (false≢true k)))
+  -- so it is where there was room made for one place more
+  pub none_behind : (fewer : Ends) (first words : List ℕ) → length fewer ≤ length es → HasJust test first fewer → ((q : ℕ) → has_mark words q ≡ has_mark first q) →
+      (q : ℕ) → length es ≤ q → has_mark words q ≡ false
+  none_behind fewer first words le just same q past =
+      let past' : length fewer ≤ q = omega (arith, past, le) in
+      same q ∙ just q ∙ passes_past test fewer q past'

@@ -1,3 +1,5 @@
+mod First
+mod Index
+mod Bits
+mod Standing
 pub mod Same
-pub mod Index
-pub mod First

@@ -1,5 +1,5 @@
 -- What a call has done at an end.
-use Rattle.std.specs.Prelude.{◌≡◌, List, ◌∷◌, Option, Some, None, Result, Ok, Err}
+use Rattle.std.specs.Prelude.{◌≡◌, ◌∷◌, Option, Some, None, Result, Ok, Err}
 use Rattle.zr_command.specs.declared.error.ScriptError.{ScriptError}
 use Rattle.zr_language.specs.Step.{◌>>=◌}
 use Rattle.zr_network.specs.World.{Tagged, EndState, End, Ends, end_of, with_end, with_wire, with_queue}

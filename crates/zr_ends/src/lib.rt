@@ -3,6 +3,7 @@
 #![tactic(auto)]
 
 pub mod end;
-mod end_set;
 pub mod ends;
+mod marks;
+mod places;
 mod waiting;

@@ -1,118 +1,129 @@
-//! What each change of an end does to the ends, and to the sets of ends at which a step is possible.
-//!
-//! Where a change may make a step possible, the end comes into the set first: so nothing is left half done where memory runs out there.
+//! What each change of an end does to the ends, and to the marks of the ends at which a step is possible.
 
-ghost use Rattle.std.specs.Prelude.{◌≡◌, ◌∷◌, [], true, List, OnOk};
-ghost use Rattle.zr_network.specs.World.{End, end_of, is_idle, sent, queued, broken, lifted, lowered, put_end};
-ghost use Rattle.zr_ends.specs.Index.{IsIndexed};
+ghost use Rattle.std.specs.Prelude.{◌≡◌, ◌∷◌, [], ◌*◌, ◌≤◌, false, ℕ, List, length, OnOk};
+ghost use Rattle.std.specs.List.{insert};
+ghost use Rattle.std.specs.List.Sorted.{IsStrictlySortedBy};
+ghost use Rattle.std.specs.Map.{keys_of};
+ghost use Rattle.zr_network.specs.World.{end_cmp, end_of, changed, sent, queued, broken, lifted, lowered, put_end};
+ghost use Rattle.zr_ends.specs.Index.{IsIndexed, IsThere, has_mark};
 ghost use Rattle.zr_ends.specs.Steps.{Gives, changed_at, returned, from_wire, from_queue};
 
 use crate::end::{LinkEnd, Tagged};
-use crate::end_set::{drop_unless, note};
+use crate::marks::{make_room, set};
+use crate::places::{NamedEnd, find, place_of};
 use std::alloc::AllocError;
-use std::collections::{BTreeMap, BTreeSet};
 use zr_command::error::ScriptError;
 use zr_id::zid::Zid;
 use zr_msg::msg::Msg;
 
 /// A message comes onto the wire of an end.
-#[tactic(auto, using(std::proofs::lemmas::Map::Steps::set_value_same))]
 pub fn send(
-    map: &mut BTreeMap<(Zid, Zid), LinkEnd>,
-    to_handle: &mut BTreeSet<(Zid, Zid)>,
+    ends: &mut [NamedEnd],
+    to_handle: &mut [u64],
     at: (Zid, Zid),
     msg: Msg,
     tag: u64,
 ) -> Result<(), AllocError>
-    ensures sent { OnOk result (map.new.entries ≡ changed_at map.old.entries at (λ s. sent s msg tag) (end_of map.old.entries at)) }
-    ensures index { (to_take : List End) → IsIndexed map.old.entries to_handle.old.keys to_take → IsIndexed map.new.entries to_handle.new.keys to_take }
+    requires ordered { IsStrictlySortedBy end_cmp (keys_of ends.old) }
+    requires room { length ends.old ≤ 64 * length to_handle.old }
+    ensures sent { OnOk result (ends.new ≡ changed_at ends.old at (λ s. sent s msg tag) (end_of ends.old at)) }
+    ensures changed { OnOk result (ends.new ≡ changed ends.old at (λ s. sent s msg tag)) }
+    ensures index { (to_take : List ℕ) → IsIndexed ends.old to_handle.old to_take → IsIndexed ends.new to_handle.new to_take }
 {
-    let Some(end) = map.get_mut(&at) else {
+    let Some(place) = find(ends, &at) else {
         return Ok(());
     };
-    note(to_handle, at, end.can_handle())?;
+    let end = &mut ends[place].1;
     let done = end.send(msg, tag);
-    drop_unless(to_handle, at, end.can_handle());
+    set(to_handle, place, end.can_handle());
     done
 }
 
 /// A message comes into the queue of an end.
-#[tactic(auto, using(std::proofs::lemmas::Map::Steps::set_value_same))]
 pub fn enqueue(
-    map: &mut BTreeMap<(Zid, Zid), LinkEnd>,
-    to_take: &mut BTreeSet<(Zid, Zid)>,
+    ends: &mut [NamedEnd],
+    to_take: &mut [u64],
     at: (Zid, Zid),
     msg: Msg,
     tag: u64,
 ) -> Result<(), AllocError>
-    ensures queued { OnOk result (map.new.entries ≡ changed_at map.old.entries at (λ s. queued s (msg ∷ []) tag) (end_of map.old.entries at)) }
-    ensures index { (to_handle : List End) → IsIndexed map.old.entries to_handle to_take.old.keys → IsIndexed map.new.entries to_handle to_take.new.keys }
+    requires ordered { IsStrictlySortedBy end_cmp (keys_of ends.old) }
+    requires room { length ends.old ≤ 64 * length to_take.old }
+    ensures queued { OnOk result (ends.new ≡ changed ends.old at (λ s. queued s (msg ∷ []) tag)) }
+    ensures index { (to_handle : List ℕ) → IsIndexed ends.old to_handle to_take.old → IsIndexed ends.new to_handle to_take.new }
 {
-    let Some(end) = map.get_mut(&at) else {
+    let Some(place) = find(ends, &at) else {
         return Ok(());
     };
-    note(to_take, at, end.can_take())?;
+    let end = &mut ends[place].1;
     let done = end.enqueue(msg, tag);
-    drop_unless(to_take, at, end.can_take());
+    set(to_take, place, end.can_take());
     done
 }
 
 /// The oldest message on the wire of an end that is up, which leaves it.
-#[tactic(auto, using(std::proofs::lemmas::Map::Steps::set_value_same), unfolding(crate::specs::Steps::from_wire))]
+#[tactic(auto, unfolding(crate::specs::Steps::from_wire))]
 pub fn next_sent(
-    map: &mut BTreeMap<(Zid, Zid), LinkEnd>,
-    to_handle: &mut BTreeSet<(Zid, Zid)>,
+    ends: &mut [NamedEnd],
+    to_handle: &mut [u64],
     at: (Zid, Zid),
 ) -> Result<Tagged, ScriptError>
-    ensures steps { Gives result (from_wire map.old.entries at) map.old.entries map.new.entries }
-    ensures index { (to_take : List End) → IsIndexed map.old.entries to_handle.old.keys to_take → IsIndexed map.new.entries to_handle.new.keys to_take }
+    requires ordered { IsStrictlySortedBy end_cmp (keys_of ends.old) }
+    requires room { length ends.old ≤ 64 * length to_handle.old }
+    ensures steps { Gives result (from_wire ends.old at) ends.old ends.new }
+    ensures index { (to_take : List ℕ) → IsIndexed ends.old to_handle.old to_take → IsIndexed ends.new to_handle.new to_take }
 {
-    let Some(end) = map.get_mut(&at) else {
+    let Some(place) = find(ends, &at) else {
         return Err(ScriptError::NotLinked);
     };
+    let end = &mut ends[place].1;
     if !end.is_up() {
         return Err(ScriptError::NotLinked);
     }
     let Some(x) = end.next_sent() else {
         return Err(ScriptError::NothingThere);
     };
-    drop_unless(to_handle, at, end.can_handle());
+    set(to_handle, place, end.can_handle());
     Ok(x)
 }
 
 /// A message that was taken off the wire of an end is back on it, before all others.
-#[tactic(auto, using(std::proofs::lemmas::Map::Steps::set_value_same))]
 pub fn put_back(
-    map: &mut BTreeMap<(Zid, Zid), LinkEnd>,
-    to_handle: &mut BTreeSet<(Zid, Zid)>,
+    ends: &mut [NamedEnd],
+    to_handle: &mut [u64],
     at: (Zid, Zid),
     x: Tagged,
 ) -> Result<(), AllocError>
-    ensures back { OnOk result (map.new.entries ≡ changed_at map.old.entries at (λ s. returned s x) (end_of map.old.entries at)) }
-    ensures index { (to_take : List End) → IsIndexed map.old.entries to_handle.old.keys to_take → IsIndexed map.new.entries to_handle.new.keys to_take }
+    requires ordered { IsStrictlySortedBy end_cmp (keys_of ends.old) }
+    requires room { length ends.old ≤ 64 * length to_handle.old }
+    ensures back { OnOk result (ends.new ≡ changed_at ends.old at (λ s. returned s x) (end_of ends.old at)) }
+    ensures index { (to_take : List ℕ) → IsIndexed ends.old to_handle.old to_take → IsIndexed ends.new to_handle.new to_take }
 {
-    let Some(end) = map.get_mut(&at) else {
+    let Some(place) = find(ends, &at) else {
         return Ok(());
     };
-    note(to_handle, at, end.can_handle())?;
+    let end = &mut ends[place].1;
     let done = end.put_back(x);
-    drop_unless(to_handle, at, end.can_handle());
+    set(to_handle, place, end.can_handle());
     done
 }
 
 /// The oldest message in the queue of an end that is up, where the link is unbroken. It leaves the queue.
-#[tactic(auto, using(std::proofs::lemmas::Map::Steps::set_value_same), unfolding(crate::specs::Steps::from_queue))]
+#[tactic(auto, unfolding(crate::specs::Steps::from_queue))]
 pub fn next_queued(
-    map: &mut BTreeMap<(Zid, Zid), LinkEnd>,
-    to_take: &mut BTreeSet<(Zid, Zid)>,
+    ends: &mut [NamedEnd],
+    to_take: &mut [u64],
     at: (Zid, Zid),
 ) -> Result<Tagged, ScriptError>
-    ensures steps { Gives result (from_queue map.old.entries at) map.old.entries map.new.entries }
-    ensures index { (to_handle : List End) → IsIndexed map.old.entries to_handle to_take.old.keys → IsIndexed map.new.entries to_handle to_take.new.keys }
+    requires ordered { IsStrictlySortedBy end_cmp (keys_of ends.old) }
+    requires room { length ends.old ≤ 64 * length to_take.old }
+    ensures steps { Gives result (from_queue ends.old at) ends.old ends.new }
+    ensures index { (to_handle : List ℕ) → IsIndexed ends.old to_handle to_take.old → IsIndexed ends.new to_handle to_take.new }
 {
-    let Some(end) = map.get_mut(&at) else {
+    let Some(place) = find(ends, &at) else {
         return Err(ScriptError::NotLinked);
     };
+    let end = &mut ends[place].1;
     if !end.is_up() {
         return Err(ScriptError::NotLinked);
     }
@@ -122,110 +133,139 @@ pub fn next_queued(
     let Some(x) = end.next_queued() else {
         return Err(ScriptError::NothingThere);
     };
-    drop_unless(to_take, at, end.can_take());
+    set(to_take, place, end.can_take());
     Ok(x)
 }
 
 /// An end comes up.
-#[tactic(auto, using(std::proofs::lemmas::Map::Steps::set_value_same))]
 pub fn lift(
-    map: &mut BTreeMap<(Zid, Zid), LinkEnd>,
-    to_handle: &mut BTreeSet<(Zid, Zid)>,
-    to_take: &mut BTreeSet<(Zid, Zid)>,
+    ends: &mut [NamedEnd],
+    to_handle: &mut [u64],
+    to_take: &mut [u64],
     at: (Zid, Zid),
 ) -> Result<(), AllocError>
-    ensures lifted { OnOk result (map.new.entries ≡ changed_at map.old.entries at lifted (end_of map.old.entries at)) }
-    ensures index { IsIndexed map.old.entries to_handle.old.keys to_take.old.keys → IsIndexed map.new.entries to_handle.new.keys to_take.new.keys }
+    requires ordered { IsStrictlySortedBy end_cmp (keys_of ends.old) }
+    requires handle_room { length ends.old ≤ 64 * length to_handle.old }
+    requires take_room { length ends.old ≤ 64 * length to_take.old }
+    ensures lifted { OnOk result (ends.new ≡ changed_at ends.old at lifted (end_of ends.old at)) }
+    ensures index { IsIndexed ends.old to_handle.old to_take.old → IsIndexed ends.new to_handle.new to_take.new }
 {
-    let Some(end) = map.get_mut(&at) else {
+    let Some(place) = find(ends, &at) else {
         return Ok(());
     };
-    note(to_handle, at, end.can_handle())?;
-    if note(to_take, at, end.can_take()).is_err() {
-        drop_unless(to_handle, at, end.can_handle());
-        return Err(AllocError);
-    }
+    let end = &mut ends[place].1;
     end.lift();
-    drop_unless(to_handle, at, end.can_handle());
-    drop_unless(to_take, at, end.can_take());
+    set(to_handle, place, end.can_handle());
+    set(to_take, place, end.can_take());
     Ok(())
 }
 
 /// An end goes down, and what was queued there is lost.
-#[tactic(auto, using(std::proofs::lemmas::Map::Steps::set_value_same))]
-pub fn lower(
-    map: &mut BTreeMap<(Zid, Zid), LinkEnd>,
-    to_handle: &mut BTreeSet<(Zid, Zid)>,
-    to_take: &mut BTreeSet<(Zid, Zid)>,
-    at: (Zid, Zid),
-)
-    ensures lowered { map.new.entries ≡ changed_at map.old.entries at lowered (end_of map.old.entries at) }
-    ensures index { IsIndexed map.old.entries to_handle.old.keys to_take.old.keys → IsIndexed map.new.entries to_handle.new.keys to_take.new.keys }
+pub fn lower(ends: &mut [NamedEnd], to_handle: &mut [u64], to_take: &mut [u64], at: (Zid, Zid))
+    requires ordered { IsStrictlySortedBy end_cmp (keys_of ends.old) }
+    requires handle_room { length ends.old ≤ 64 * length to_handle.old }
+    requires take_room { length ends.old ≤ 64 * length to_take.old }
+    ensures lowered { ends.new ≡ changed ends.old at lowered }
+    ensures index { IsIndexed ends.old to_handle.old to_take.old → IsIndexed ends.new to_handle.new to_take.new }
 {
-    let Some(end) = map.get_mut(&at) else {
+    let Some(place) = find(ends, &at) else {
         return;
     };
+    let end = &mut ends[place].1;
     end.lower();
-    drop_unless(to_handle, at, end.can_handle());
-    drop_unless(to_take, at, end.can_take());
+    set(to_handle, place, end.can_handle());
+    set(to_take, place, end.can_take());
 }
 
 /// The link of an end breaks, and what was on the wire is lost.
-#[tactic(auto, using(std::proofs::lemmas::Map::Steps::set_value_same))]
-pub fn break_off(
-    map: &mut BTreeMap<(Zid, Zid), LinkEnd>,
-    to_handle: &mut BTreeSet<(Zid, Zid)>,
-    to_take: &mut BTreeSet<(Zid, Zid)>,
-    at: (Zid, Zid),
-)
-    ensures broken { map.new.entries ≡ changed_at map.old.entries at broken (end_of map.old.entries at) }
-    ensures index { IsIndexed map.old.entries to_handle.old.keys to_take.old.keys → IsIndexed map.new.entries to_handle.new.keys to_take.new.keys }
+pub fn break_off(ends: &mut [NamedEnd], to_handle: &mut [u64], to_take: &mut [u64], at: (Zid, Zid))
+    requires ordered { IsStrictlySortedBy end_cmp (keys_of ends.old) }
+    requires handle_room { length ends.old ≤ 64 * length to_handle.old }
+    requires take_room { length ends.old ≤ 64 * length to_take.old }
+    ensures broken { ends.new ≡ changed ends.old at broken }
+    ensures index { IsIndexed ends.old to_handle.old to_take.old → IsIndexed ends.new to_handle.new to_take.new }
 {
-    let Some(end) = map.get_mut(&at) else {
+    let Some(place) = find(ends, &at) else {
         return;
     };
+    let end = &mut ends[place].1;
     end.break_off();
-    drop_unless(to_handle, at, end.can_handle());
-    drop_unless(to_take, at, end.can_take());
+    set(to_handle, place, end.can_handle());
+    set(to_take, place, end.can_take());
 }
 
 /// An end comes, or another one takes its place. Nothing waits there.
 pub fn put(
-    map: &mut BTreeMap<(Zid, Zid), LinkEnd>,
-    to_handle: &mut BTreeSet<(Zid, Zid)>,
-    to_take: &mut BTreeSet<(Zid, Zid)>,
+    ends: &mut Vec<NamedEnd>,
+    to_handle: &mut Vec<u64>,
+    to_take: &mut Vec<u64>,
     at: (Zid, Zid),
     new: LinkEnd,
 ) -> Result<(), AllocError>
-    requires { is_idle new ≡ true }
-    ensures put { OnOk result (map.new.entries ≡ put_end map.old.entries at new) }
-    ensures index { IsIndexed map.old.entries to_handle.old.keys to_take.old.keys → IsIndexed map.new.entries to_handle.new.keys to_take.new.keys }
+    requires index { IsIndexed ends.old.items to_handle.old.items to_take.old.items }
+    ensures put { OnOk result (ends.new.items ≡ put_end ends.old.items at new) }
+    ensures index { IsIndexed ends.new.items to_handle.new.items to_take.new.items }
 {
-    if map.contains_key(&at) {
-        replace(map, to_handle, to_take, at, new);
-    } else {
-        map.insert(at, new)?;
+    match place_of(ends, &at) {
+        Ok(place) => {
+            replace(ends, to_handle, to_take, place, &at, new);
+            Ok(())
+        }
+        Err(place) => insert(ends, to_handle, to_take, place, (at, new)),
     }
+}
+
+// Another end takes the place of one.
+fn replace(
+    ends: &mut [NamedEnd],
+    to_handle: &mut [u64],
+    to_take: &mut [u64],
+    place: usize,
+    at: &(Zid, Zid),
+    new: LinkEnd,
+)
+    requires place { IsThere ends.old at.now place }
+    requires index { IsIndexed ends.old to_handle.old to_take.old }
+    ensures put { ends.new ≡ put_end ends.old at.now new }
+    ensures index { IsIndexed ends.new to_handle.new to_take.new }
+{
+    let end = &mut ends[place].1;
+    *end = new;
+    set(to_handle, place, end.can_handle());
+    set(to_take, place, end.can_take());
+}
+
+// A new end comes to a place, and the ends are marked anew.
+fn insert(
+    ends: &mut Vec<NamedEnd>,
+    to_handle: &mut Vec<u64>,
+    to_take: &mut Vec<u64>,
+    place: usize,
+    new: NamedEnd,
+) -> Result<(), AllocError>
+    requires place { place ≤ length ends.old.items }
+    requires ordered { IsStrictlySortedBy end_cmp (keys_of (insert ends.old.items place new)) }
+    requires index { IsIndexed ends.old.items to_handle.old.items to_take.old.items }
+    ensures put { OnOk result (ends.new.items ≡ insert ends.old.items place new) }
+    ensures index { IsIndexed ends.new.items to_handle.new.items to_take.new.items }
+{
+    make_room(to_handle, ends.len())?;
+    make_room(to_take, ends.len())?;
+    ends.insert(place, new)?;
+    mark_all(ends, to_handle, to_take);
     Ok(())
 }
 
-// Another end, at which nothing waits, takes the place of one.
-#[tactic(auto, using(std::proofs::lemmas::Map::Steps::set_value_same))]
-fn replace(
-    map: &mut BTreeMap<(Zid, Zid), LinkEnd>,
-    to_handle: &mut BTreeSet<(Zid, Zid)>,
-    to_take: &mut BTreeSet<(Zid, Zid)>,
-    at: (Zid, Zid),
-    new: LinkEnd,
-)
-    requires { is_idle new ≡ true }
-    ensures replaced { map.new.entries ≡ changed_at map.old.entries at (λ s. new) (end_of map.old.entries at) }
-    ensures index { IsIndexed map.old.entries to_handle.old.keys to_take.old.keys → IsIndexed map.new.entries to_handle.new.keys to_take.new.keys }
+fn mark_all(ends: &[NamedEnd], to_handle: &mut [u64], to_take: &mut [u64])
+    requires ordered { IsStrictlySortedBy end_cmp (keys_of ends.now) }
+    requires handle_room { length ends.now ≤ 64 * length to_handle.old }
+    requires take_room { length ends.now ≤ 64 * length to_take.old }
+    requires no_handle { (q : ℕ) → length ends.now ≤ q → has_mark to_handle.old q ≡ false }
+    requires no_take { (q : ℕ) → length ends.now ≤ q → has_mark to_take.old q ≡ false }
+    ensures { IsIndexed ends.now to_handle.new to_take.new }
 {
-    let Some(end) = map.get_mut(&at) else {
-        return;
-    };
-    *end = new;
-    drop_unless(to_handle, at, end.can_handle());
-    drop_unless(to_take, at, end.can_take());
+    for (place, end) in ends.iter().enumerate() {
+        set(to_handle, place, end.1.can_handle());
+        set(to_take, place, end.1.can_take());
+    }
 }

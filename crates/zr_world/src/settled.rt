@@ -48,13 +48,11 @@ impl Tables {
     pub fn links_in_place(&self) -> usize
         ensures { result ≡ length (links_in_place (state_of self.now)) }
     {
-        let mut count = 0;
-        for at in self.ends.map().keys() {
-            if self.is_counted(at) {
-                count += 1;
-            }
-        }
-        count
+        self.ends
+            .list()
+            .iter()
+            .filter(|(at, _)| self.is_counted(at))
+            .count()
     }
 
     fn is_counted(&self, at: &(Zid, Zid)) -> bool
@@ -68,7 +66,7 @@ impl Tables {
         ensures { result ≡ is_settled (state_of self.now) }
     {
         self.ends
-            .map()
+            .list()
             .iter()
             .all(|(at, end)| self.is_met(at, end) && end.is_calm())
     }

@@ -1,21 +1,16 @@
-use Rattle.std.proofs.Common.{◌≡◌, ◌&&◌, not, Some, List, sym, ap, ◌∙◌, subst, rules}
-use Rattle.zr_network.specs.World.{Ends, EndState, end_of, with_end, is_empty}
-use Rattle.zr_network.specs.Next.{can_handle, can_take}
-use Rattle.zr_ends.specs.Index.{IsIndexed}
-use Rattle.zr_ends.proofs.Index.{both_changed, dropped, broken_steps}
+use Rattle.std.proofs.Common.{rules}
+use Rattle.zr_network.specs.World.{broken}
+use Rattle.zr_ends.proofs.Same.{changed_by_look_up}
+use Rattle.zr_ends.proofs.Index.{both_changed}
 use Rattle.zr_ends.proofs.waiting.break_off.Goals as goal
 
 pub returns-clause-index : goal.returns-clause-index
-returns-clause-index c = λ i.
-    let es = c.args.map.now.entries in
-    let s = c.in-Some.end.now in
-    let s' = c.break_off.new.self in
-    let there : end_of c.args.map.now.entries c.args.at ≡ Some c.in-Some.end.now = search rules in
-    let lent : (c.get_mut.follows.lender c.break_off.new.self).entries ≡ with_end c.args.map.now.entries c.args.at c.break_off.new.self = search rules in
-    let only = broken_steps s s in
-    subst (λ (z : Ends). IsIndexed z c.drop_unless.new.ends.keys c.drop_unless-2.new.ends.keys) (sym lent)
-    (both_changed es c.args.to_handle.now.keys c.drop_unless.new.ends.keys c.args.to_take.now.keys c.drop_unless-2.new.ends.keys c.args.at s s' there
-    (dropped can_handle c.args.to_handle.now.keys c.drop_unless.new.ends.keys es c.args.at s (can_handle s') there i.handles (λ k. only.0 (sym (ap can_handle c.break_off.ensures) ∙ k))
-    (λ q. rw (← c.can_handle.ensures) (c.drop_unless.ensures q)))
-    (dropped can_take c.args.to_take.now.keys c.drop_unless-2.new.ends.keys es c.args.at s (can_take s') there i.takes (λ k. only.1 (sym (ap can_take c.break_off.ensures) ∙ k))
-    (λ q. rw (← c.can_take.ensures) (c.drop_unless-2.ensures q))) i)
+returns-clause-index c = λ x.
+    both_changed c.args.ends.now c.args.to_handle.now c.set.new.words c.args.to_take.now c.in-Some.place _ c.break_off.new.self c.in-Some.ensures.there.within c.set-2.new.words
+    (λ q. rw (← c.can_handle.ensures) (c.set.ensures.marks q)) c.set.ensures.room (λ q. rw (← c.can_take.ensures) (c.set-2.ensures.marks q)) c.set-2.ensures.room x
+
+pub returns-in_default-clause-broken : goal.returns-in_default-clause-broken
+returns-in_default-clause-broken c = rw (← changed_by_look_up c.args.ends.now c.args.at broken c.requires.ordered) (search rules)
+
+pub returns-clause-broken : goal.returns-clause-broken
+returns-clause-broken c = rw (← changed_by_look_up c.args.ends.now c.args.at broken c.requires.ordered) (search rules)

@@ -1,19 +1,16 @@
-use Rattle.std.proofs.Common.{◌≡◌, ◌&&◌, not, Some, List, sym, ap, ◌∙◌, subst, rules}
-use Rattle.zr_network.specs.World.{Ends, EndState, end_of, with_end, is_empty}
-use Rattle.zr_network.specs.Next.{can_handle, can_take}
-use Rattle.zr_ends.specs.Index.{IsIndexed}
-use Rattle.zr_ends.proofs.Index.{handles_changed, moved}
+use Rattle.std.proofs.Common.{rules}
+use Rattle.zr_network.specs.World.{sent}
+use Rattle.zr_ends.proofs.Same.{changed_by_look_up}
+use Rattle.zr_ends.proofs.Index.{handles_changed}
 use Rattle.zr_ends.proofs.waiting.send.Goals as goal
 
 pub returns-clause-index : goal.returns-clause-index
-returns-clause-index c = λ to_take i.
-    let es = c.args.map.now.entries in
-    let s = c.in-Some.end.now in
-    let s' = c.send-done.new.self in
-    let there : end_of c.args.map.now.entries c.args.at ≡ Some c.in-Some.end.now = search rules in
-    let lent : (c.get_mut.follows.lender c.send-done.new.self).entries ≡ with_end c.args.map.now.entries c.args.at c.send-done.new.self = search rules in
-    subst (λ (z : Ends). IsIndexed z c.drop_unless.new.ends.keys to_take) (sym lent)
-    (handles_changed es c.args.to_handle.now.keys c.drop_unless.new.ends.keys to_take c.args.at s s' there
-    (moved can_handle c.args.to_handle.now.keys c.note.new.ends.keys c.drop_unless.new.ends.keys es c.args.at s (can_handle s') there i.handles
-    (λ q. rw (← c.can_handle.ensures) (c.in_ok-note.ensures.put q)) (λ q. rw (← c.can_handle-2.ensures) (c.drop_unless.ensures q)))
-    c.send-done.ensures.take i)
+returns-clause-index c = λ to_take x.
+    handles_changed c.args.ends.now c.args.to_handle.now c.set.new.words to_take c.in-Some.place _ c.send-done.new.self c.in-Some.ensures.there.within
+    (λ q. rw (← c.can_handle.ensures) (c.set.ensures.marks q)) c.set.ensures.room c.send-done.ensures.take x
+
+pub returns-in_default-clause-changed : goal.returns-in_default-clause-changed
+returns-in_default-clause-changed c = rw (← changed_by_look_up c.args.ends.now c.args.at (λ s. sent s c.args.msg c.args.tag) c.requires.ordered) (search rules)
+
+pub returns-clause-changed : goal.returns-clause-changed
+returns-clause-changed c = rw (← changed_by_look_up c.args.ends.now c.args.at (λ s. sent s c.args.msg c.args.tag) c.requires.ordered) (search rules)

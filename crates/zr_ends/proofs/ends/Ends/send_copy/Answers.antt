@@ -1,12 +1,9 @@
-use Rattle.std.proofs.Common.{◌≡◌, OnOk, sym, ap, ◌∙◌}
-use Rattle.zr_network.specs.World.{Ends, changed, sent}
-use Rattle.zr_ends.proofs.Same.{changed_by_look_up}
+use Rattle.std.proofs.Common.{◌≡◌, ◌++◌, take, drop, length, ◌∙◌}
+use Rattle.std.proofs.lemmas.List.{take_at}
 use Rattle.zr_ends.proofs.ends.Ends.send_copy.Goals as goal
-
-pub invariant_of-self : goal.invariant_of-self
-invariant_of-self c = c.send.ensures.index c.self.inside.to_take.keys c.self.invariant
 
 pub returns : goal.returns
 returns c =
-    rw (← c.self.view_is, ← changed_by_look_up c.self.inside.map.entries c.args.at (λ s. sent s c.args.msg.now c.args.tag) c.self.invariant.ordered, ← c.in_ok-copy.ensures)
-    c.send.ensures.sent
+    let back : take c.self.inside.list.len (c.send.new.ends ++ drop (length c.send.new.ends) c.self.inside.list.items) ≡ c.send.new.ends =
+    take_at c.send.new.ends (drop (length c.send.new.ends) c.self.inside.list.items) _ (c.send.auto.ends ∙ c.deref_mut.ensures.len) in
+    rw (← c.self.view_is, ← c.in_ok-copy.ensures, back) (rw c.deref_mut.ensures.value at c.send.ensures.changed)
