@@ -13,7 +13,7 @@ use thiserror::Error;
 use zr_id::link::LinkNo;
 
 /// Why a request doesn't begin. The table is then as before.
-#[derive(Clone, Copy, Debug, PartialEq, Eq, Drop, Error)]
+#[derive(Clone, Copy, Debug, Drop, Error)]
 pub enum PendError {
     #[error("this asker has a request of this number pending")]
     Taken,
@@ -24,7 +24,7 @@ pub enum PendError {
 }
 
 /// The pending requests of one router, in the order in which they began.
-#[derive(Debug, Drop)]
+#[derive(Drop)]
 pub struct Pending {
     rows: Vec<Row>,
 }

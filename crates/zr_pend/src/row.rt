@@ -2,7 +2,7 @@
 
 ghost use Rattle.std.specs.Prelude.{◌≡◌, not, length, filter, IfOk};
 ghost use Rattle.std.specs.List.{list_all};
-ghost use Rattle.zr_pend.specs.Row.{is_branch, has, is_done, is_last, is_of, is_asked_by, branches_of, without, orphaned};
+ghost use Rattle.zr_pend.specs.Row.{is_branch, has, is_last, is_of, is_asked_by, branches_of, without, orphaned};
 
 use crate::branch::{Asker, Branch};
 use std::alloc::{AllocError, Global};
@@ -10,7 +10,7 @@ use std::marker::Model;
 use zr_id::link::LinkNo;
 
 /// A request that was passed on: who asked it, unless that link went down, and its pending branches.
-#[derive(Debug, Drop)]
+#[derive(Drop)]
 pub struct Row {
     asker: Option<Asker>,
     branches: Vec<Branch>,
@@ -84,13 +84,6 @@ impl Row {
         ensures { result ≡ is_last branch self.now }
     {
         self.has(branch) && self.has_no_other(branch)
-    }
-
-    /// Whether no branch is pending.
-    pub fn is_done(&self) -> bool
-        ensures { result ≡ is_done self.now }
-    {
-        self.branches.is_empty()
     }
 
     /// Ends a branch.
