@@ -142,6 +142,15 @@ client_weighs : (cs : List ClientInterests) (link n : ℕ) (d : ClientInterests)
     clients_weight (clients_left cs link) + interests_weight (get_or cs n d).interests ≡ clients_weight cs
 client_weighs cs link n d h = others_weigh nat_cmp client_link nat_order client_weight cs link n d h
 
+pub client_apart : (cs : List ClientInterests) (link n : ℕ) (x : ClientInterests) → IsAt nat_cmp client_link cs link n → x ≡ get_or cs n x →
+    clients_weight (clients_left cs link) + interests_weight x.interests ≡ clients_weight cs
+client_apart cs link n x h e = ap (λ (c : ClientInterests). clients_weight (clients_left cs link) + interests_weight c.interests) e ∙ client_weighs cs link n x h
+
+pub interest_apart : (is : List Interest) (id n : ℕ) (x : Interest) → IsAt nat_cmp interest_id is id n → x ≡ get_or is n x →
+    interests_weight (without nat_cmp interest_id is id) + interest_weight x ≡ interests_weight is
+interest_apart is id n x h e =
+    ap (λ (i : Interest). interests_weight (without nat_cmp interest_id is id) + interest_weight i) e ∙ others_weigh nat_cmp interest_id nat_order interest_weight is id n x h
+
 pub one_weighs : (cs : List ClientInterests) (link : LinkNo) (id n w : ℕ) (x : ClientInterests) → IsAt nat_cmp client_link cs link.0 n → x ≡ get_or cs n x →
     w + interests_weight (without nat_cmp interest_id x.interests id) ≡ interests_weight x.interests → w + weight_but cs link id ≡ clients_weight cs
 one_weighs cs link id n w x h e s =

@@ -9,7 +9,7 @@ use std::alloc::{AllocError, Global};
 use zr_msg::decl::Decl;
 
 /// What became of the set of all clients' declarations, each list in ascending order.
-#[derive(Debug, Drop)]
+#[derive(Drop)]
 pub struct Changes {
     /// What no client declares any more.
     pub gone: Vec<Decl>,

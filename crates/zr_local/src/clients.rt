@@ -14,7 +14,7 @@ use std::marker::Model;
 use zr_id::link::LinkNo;
 
 /// The live interests of all clients of one router, by link.
-#[derive(Debug, Drop)]
+#[derive(Drop)]
 pub struct Clients {
     items: Vec<ClientInterests>,
 }

@@ -4,7 +4,7 @@ use std::alloc::AllocError;
 use thiserror::Error;
 
 /// Why a declaration wasn't taken, or not taken back. What is declared is then as before.
-#[derive(Clone, Copy, Debug, PartialEq, Eq, Error)]
+#[derive(Clone, Copy, Debug, Error)]
 pub enum LocalError {
     /// The client has declared nothing of this kind under the id.
     #[error("nothing is declared under the id")]

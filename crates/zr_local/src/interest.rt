@@ -14,7 +14,7 @@ use zr_msg::msg::Kinds;
 use zr_set::weight::OVERHEAD;
 
 /// An interest of a client in what is declared later.
-#[derive(Debug, Drop)]
+#[derive(Drop)]
 pub struct Interest {
     /// The id that the client gave it.
     pub id: u32,
@@ -27,14 +27,14 @@ pub struct Interest {
 }
 
 /// The live interests of the client of a link.
-#[derive(Debug, Drop)]
+#[derive(Drop)]
 pub struct ClientInterests {
     pub link: LinkNo,
     pub interests: Interests,
 }
 
 /// The live interests of one client, in ascending order of their ids.
-#[derive(Debug, Drop)]
+#[derive(Drop)]
 pub struct Interests {
     items: Vec<Interest>,
 }

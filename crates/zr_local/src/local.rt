@@ -23,7 +23,7 @@ use zr_set::decl_set::DeclSet;
 use zr_set::weight::{MOST_WEIGHT, decl_weight};
 
 /// What the clients of one router have declared, by link, subscribers first, then by id, and their live interests.
-#[derive(Debug, Drop)]
+#[derive(Drop)]
 pub struct Local {
     rows: Vec<Row>,
     owners: Owners,

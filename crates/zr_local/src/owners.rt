@@ -13,14 +13,14 @@ use std::marker::Model;
 use zr_msg::decl::Decl;
 
 /// A declaration, and how many rows have it.
-#[derive(Debug, Drop)]
+#[derive(Drop)]
 pub struct Owned {
     pub decl: Decl,
     pub count: u64,
 }
 
 /// How many rows have each declaration, in ascending order of the declarations.
-#[derive(Debug, Drop)]
+#[derive(Drop)]
 pub struct Owners {
     items: Vec<Owned>,
 }

@@ -14,7 +14,7 @@ use zr_id::link::LinkNo;
 use zr_msg::decl::{Decl, Kind};
 
 /// What the client of a link has declared under an id.
-#[derive(Debug, Drop)]
+#[derive(Drop)]
 pub struct Row {
     pub link: LinkNo,
     pub id: u32,
