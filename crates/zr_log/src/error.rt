@@ -5,7 +5,7 @@ use thiserror::Error;
 use zr_id::zid::Zid;
 
 /// Why a change or a snapshot wasn't taken over. What is known is then as before.
-#[derive(Clone, Copy, Debug, PartialEq, Eq, Error)]
+#[derive(Clone, Copy, Debug, Error)]
 pub enum KnownError {
     /// A change is missing before this one: the first `has` changes of the log are known, and `came` is a later one than the next.
     #[error("a change of a log came too early")]

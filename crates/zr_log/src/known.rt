@@ -16,7 +16,7 @@ use zr_set::decl_set::DeclSet;
 use zr_set::weight::MOST_WEIGHT;
 
 /// What became of a change or a snapshot.
-#[derive(Clone, Copy, Debug, PartialEq, Eq)]
+#[derive(Clone, Copy, Debug)]
 pub enum Taken {
     /// It tells something new, and is taken over.
     New,
@@ -25,7 +25,7 @@ pub enum Taken {
 }
 
 /// What one router knows of the change logs of all routers, its own among them.
-#[derive(Debug, Drop)]
+#[derive(Drop)]
 pub struct Known {
     me: Zid,
     // the routers of the logs, in the same order

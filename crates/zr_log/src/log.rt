@@ -10,7 +10,7 @@ use zr_set::decl_set::DeclSet;
 use zr_set::weight::decl_weight;
 
 /// What is known of the change log of one router.
-#[derive(Debug, Drop)]
+#[derive(Drop)]
 pub struct Log {
     /// The router whose clients' declarations it tells.
     pub source: Zid,
