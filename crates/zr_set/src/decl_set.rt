@@ -11,7 +11,7 @@ use std::marker::Model;
 use zr_msg::decl::Decl;
 
 /// A set of declarations in ascending order. What it weighs is at hand.
-#[derive(Debug, Drop)]
+#[derive(Drop)]
 pub struct DeclSet {
     items: Vec<Decl>,
     total: u64,
