@@ -50,15 +50,7 @@ impl Edges {
         requires { names.now ≡ ids base.now.records }
         ensures { IfOk result (λ e. e.records ≡ base.now.records) }
     {
-        let records = base.records();
-        // a table of 2^32 rows and as many columns fits no memory
-        if records.len() >= u32::MAX as usize {
-            return Err(AllocError);
-        }
-        let mut rows = Vec::new(alloc);
-        for r in records {
-            rows.push(row_of(alloc, names, records, r)?)?;
-        }
+        let rows = rows_of(alloc, names, base.records())?;
         Ok(Edges {
             base: Snapshot::of(base),
             rows,
@@ -79,6 +71,23 @@ impl Row {
     {
         self.indexes.as_slice()
     }
+}
+
+// The rows of all records, which have these names.
+fn rows_of(alloc: Global, names: &[Zid], records: &[LinkRecord]) -> Result<Vec<Row>, AllocError>
+    requires names { names.now ≡ ids records.now }
+    requires ascending { IsAscending (ids records.now) }
+    ensures { IfOk result (λ v. AreEdges (record { records = records.now; rows = v.items })) }
+{
+    // a table of 2^32 rows and as many columns fits no memory
+    if records.len() >= u32::MAX as usize {
+        return Err(AllocError);
+    }
+    let mut rows = Vec::new(alloc);
+    for r in records {
+        rows.push(row_of(alloc, names, records, r)?)?;
+    }
+    Ok(rows)
 }
 
 // The indexes of the records that have an edge with this one.

@@ -1,7 +1,7 @@
 use Rattle.std.proofs.Common.{◌≡◌, ℕ, ◌<◌, All, length, map}
 use Rattle.zr_tree.specs.Index.{name, row}
 use Rattle.zr_tree.specs.Walk.{graph_of, near}
-use Rattle.zr_tree.proofs.edges.Edges.of.Given as goal
+use Rattle.zr_tree.proofs.edges.rows_of.Given as goal
 
 abbrev pub invariant-loop-r : goal.invariant-loop-r
 invariant-loop-r l = record {
