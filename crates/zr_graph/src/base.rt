@@ -24,7 +24,7 @@ pub enum Accepted {
 }
 
 /// Why the own record didn't change.
-#[derive(Clone, Copy, Debug, PartialEq, Eq, Drop, Error)]
+#[derive(Clone, Copy, Debug, Drop, Error)]
 pub enum ChangeError {
     #[error("the own record has had its last number")]
     Worn,
@@ -44,7 +44,7 @@ impl From<AllocError> for ChangeError {
 }
 
 /// The newest record of each router that one router knows of, its own among them.
-#[derive(Debug, Drop)]
+#[derive(Drop)]
 pub struct Base {
     me: Zid,
     records: Vec<LinkRecord>,
