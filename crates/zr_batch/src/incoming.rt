@@ -9,7 +9,7 @@ use std::marker::Model;
 
 /// Contracts see the bytes that came, with those of the length. They never go further than the end of the batch, and
 /// memory is taken for bytes that came alone.
-#[derive(Debug, Drop)]
+#[derive(Drop)]
 pub struct Incoming {
     alloc: Global,
     bytes: Vec<u8>,
