@@ -20,7 +20,7 @@ pub enum Mode {
 }
 
 /// What one line of a script asks.
-#[derive(Debug, Drop)]
+#[derive(Drop)]
 pub enum Command {
     /// One act.
     Act { act: Act },
@@ -29,7 +29,7 @@ pub enum Command {
 }
 
 /// One act on the network: one atomic step, or a mark.
-#[derive(Debug, Drop)]
+#[derive(Drop)]
 pub enum Act {
     /// A router without links.
     Router {

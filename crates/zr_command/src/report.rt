@@ -6,7 +6,7 @@ use zr_msg::decl::Decls;
 use zr_msg::msg::Msg;
 
 /// What was seen of one step, or of a whole run. A tag is the number of the script line that the message comes from.
-#[derive(Debug, Drop)]
+#[derive(Drop)]
 pub enum ReportLine {
     /// A router has handled a message of a neighbour.
     Handled {
