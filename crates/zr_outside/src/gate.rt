@@ -64,7 +64,7 @@ impl<K: Sink + Drop> Sink for GateSink<K> {
 }
 
 /// Some bytes, which come once so many bytes went through a gate.
-#[derive(Debug, Drop)]
+#[derive(Drop)]
 pub struct Part {
     pub after: u64,
     pub bytes: Vec<u8>,

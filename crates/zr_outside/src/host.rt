@@ -29,7 +29,7 @@ pub enum Accepted<S, K> {
 }
 
 /// What an accept gave, without the link.
-#[derive(Clone, Copy, Debug, PartialEq, Eq)]
+#[derive(Clone, Copy)]
 pub enum Answer {
     Link,
     Quiet,
@@ -38,7 +38,7 @@ pub enum Answer {
 }
 
 /// An address as a host was given it. Contracts see its bytes.
-#[derive(Debug, Drop)]
+#[derive(Drop)]
 pub struct Address {
     bytes: Vec<u8>,
 }
@@ -70,7 +70,7 @@ impl Address {
 }
 
 /// A call of a host with its answer: whether it listens at the address, or has given a link.
-#[derive(Debug, Drop)]
+#[derive(Drop)]
 pub enum Call {
     Listen {
         address: Address,

@@ -5,7 +5,7 @@ ghost use Rattle.std.specs.Prelude.{◌≡◌, ◌≤◌, ◌+◌, ◌-◌, ◌^
 use crate::clock::Clock;
 
 /// Stands still but for its pauses: each moves it on by so many milliseconds.
-#[derive(Clone, Copy, Debug)]
+#[derive(Clone, Copy)]
 pub struct MemClock {
     time: u64,
     step: u64,

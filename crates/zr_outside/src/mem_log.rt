@@ -6,7 +6,7 @@ use crate::log::Log;
 use std::alloc::Global;
 
 /// Keeps the lines that it is told, as long as it has memory for them.
-#[derive(Debug, Drop)]
+#[derive(Drop)]
 pub struct MemLog {
     bytes: Vec<u8>,
 }

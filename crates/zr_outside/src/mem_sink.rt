@@ -6,7 +6,7 @@ use crate::sink::{Put, Sink};
 use std::alloc::Global;
 
 /// Keeps what is written. The writes with these numbers, counted from 0, fail.
-#[derive(Debug, Drop)]
+#[derive(Drop)]
 pub struct MemSink {
     bytes: Vec<u8>,
     calls: u64,

@@ -5,7 +5,7 @@ ghost use Rattle.std.specs.Prelude.{◌≡◌, ℕ, ◌≤◌, ◌<◌, ◌↔�
 use crate::source::{Got, Source};
 
 /// Gives its bytes in order. The reads with these numbers, counted from 0, fail or are quiet.
-#[derive(Debug, Drop)]
+#[derive(Drop)]
 pub struct MemSource {
     bytes: Vec<u8>,
     at: usize,

@@ -7,7 +7,7 @@ ghost use Rattle.zr_outside.specs.Sink.{Writes, IsFailed};
 ghost use Rattle.zr_outside.specs.Told.{Appends, AppendsPrefix};
 
 /// What a write gave.
-#[derive(Clone, Copy, Debug, PartialEq, Eq)]
+#[derive(Clone, Copy)]
 pub enum Put {
     /// The first so many bytes, at least one, were appended.
     Took(usize),
@@ -16,7 +16,7 @@ pub enum Put {
 }
 
 /// A write failed: the sink's count of faults has risen.
-#[derive(Clone, Copy, Debug, PartialEq, Eq)]
+#[derive(Clone, Copy)]
 pub struct WriteFailed;
 
 /// Where bytes go. Its count of faults rises by one where a write failed, and only there.

@@ -6,7 +6,7 @@ ghost use Rattle.zr_outside.specs.Counts.{Counted, RoseBy};
 ghost use Rattle.zr_outside.specs.Source.{GetsNext, IsFailed, IsQuiet, IsEnd};
 
 /// What a read gave.
-#[derive(Clone, Copy, Debug, PartialEq, Eq)]
+#[derive(Clone, Copy)]
 pub enum Got {
     /// So many bytes are the first of the buffer, at least one: the next that were left.
     Bytes(usize),
