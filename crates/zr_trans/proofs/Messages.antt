@@ -10,7 +10,7 @@ use Rattle.zr_format.proofs.Follows.{Follows, follows_gives, follows_unknown, fo
 use Rattle.zr_id.specs.Zid.{is_zid}
 use Rattle.zr_trans.specs.declared.trans.Trans.TheVariants.{Init, Open, Close, KeepAlive, Frame, Fragment}
 use Rattle.zr_trans.specs.Trans.{first_number, number_ext, identifier, cookie, sizes, init, opening, close, keep_alive, frame, fragment, behind, trans_format, MayStandBefore}
-use Rattle.zr_trans.specs.Reading.{id_of, sizes_of, cookie_of, init_of, open_of, close_of, keep_alive_of, frame_of, fragment_of, behind_of, trans_of}
+use Rattle.zr_trans.specs.Reading.{id_of, sizes_of, cookie_of, behind_id_of, init_of, open_of, close_of, keep_alive_of, frame_of, fragment_of, behind_of, trans_of}
 
 follows_sizes : Follows anywhere sizes sizes_of
 unfolding sizes_of
@@ -29,7 +29,7 @@ unfolding id_of
 follows_identifier count = follows_checked (so_many count) (so_many_of count) is_zid BadText (follows_so_many count)
 
 follows_init : (header : ℕ) → Follows MayStandBefore (init header) (init_of header)
-unfolding init_of
+unfolding init_of behind_id_of
 follows_init header =
     follows_then MayStandBefore byte _ byte_of _ follows_byte (λ version.
     follows_then MayStandBefore byte _ byte_of _ follows_byte (λ tag.

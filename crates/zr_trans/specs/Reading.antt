@@ -24,15 +24,20 @@ sizes_of bytes = do
 unfoldable pub cookie_of : List ℕ → Read (List ℕ)
 cookie_of bytes = text_of (2 ^ 16 - 1) bytes
 
+-- INIT behind the identifier
+unfoldable pub behind_id_of : ℕ → ℕ → ℕ → List ℕ → List ℕ → Read Trans
+behind_id_of header version tag id bytes = do
+  sizes ← optional_of (has_flag header 0x40) sizes_of bytes
+  cookie ← optional_of (has_flag header 0x20) cookie_of sizes.1
+  exts ← exts_of (number_ext 9) header cookie.1
+  Ok (Init (has_flag header 0x20) version (tag % 4) id sizes.0 cookie.0 (first_number exts.0), exts.1)
+
 unfoldable pub init_of : ℕ → List ℕ → Read Trans
 init_of header bytes = do
   version ← byte_of bytes
   tag ← byte_of version.1
   id ← id_of (tag.0 / 16 + 1) tag.1
-  sizes ← optional_of (has_flag header 0x40) sizes_of id.1
-  cookie ← optional_of (has_flag header 0x20) cookie_of sizes.1
-  exts ← exts_of (number_ext 9) header cookie.1
-  Ok (Init (has_flag header 0x20) version.0 (tag.0 % 4) id.0 sizes.0 cookie.0 (first_number exts.0), exts.1)
+  behind_id_of header version.0 tag.0 id.0 id.1
 
 unfoldable pub open_of : ℕ → List ℕ → Read Trans
 open_of header bytes = do

@@ -4,7 +4,7 @@ ghost use Rattle.std.specs.Prelude.{◌≡◌, IfOk};
 ghost use Rattle.zr_bytes.specs.Reading.{Keeps, Steps};
 ghost use Rattle.zr_trans.specs.Trans.{first_number};
 ghost use Rattle.zr_format.specs.Reading.{optional_of};
-ghost use Rattle.zr_trans.specs.Reading.{id_of, sizes_of, cookie_of, init_of, open_of, close_of, keep_alive_of, frame_of, fragment_of, behind_of, trans_of};
+ghost use Rattle.zr_trans.specs.Reading.{id_of, sizes_of, cookie_of, behind_id_of, init_of, open_of, close_of, keep_alive_of, frame_of, fragment_of, behind_of, trans_of};
 ghost use Rattle.zr_trans.specs.Writing.{Fits};
 
 use crate::parts::{
@@ -64,6 +64,20 @@ fn read_init(alloc: Global, c: &mut Cursor<'_>, header: u8) -> Result<Trans, Rea
     let version = c.u8()?;
     let tag = c.u8()?;
     let id = identifier(c, usize::from(tag / LENGTH_STEP) + 1)?;
+    behind_identifier(alloc, c, header, version, tag, id)
+}
+
+#[tactic(auto, unfolding(crate::specs::Reading::behind_id_of))]
+fn behind_identifier(
+    alloc: Global,
+    c: &mut Cursor<'_>,
+    header: u8,
+    version: u8,
+    tag: u8,
+    id: Zid,
+) -> Result<Trans, ReadError>
+    ensures { Steps (λ t. t) result (behind_id_of header version tag id c.old) c.new }
+{
     let sizes = sizes(c, header & SECOND != 0)?;
     let cookie = cookie(alloc, c, header & FIRST != 0)?;
     let exts = read_extensions(alloc, c, header, &[(SPEAKS, Form::Number)])?;

@@ -1,6 +1,7 @@
 //! The one spelling of a transport message that is written.
 
-ghost use Rattle.std.specs.Prelude.{◌≡◌, ◌<◌, ◌∷◌, ◌++◌, OnOk, OnErr};
+ghost use Rattle.std.specs.Prelude.{◌≡◌, ◌<◌, [], ◌∷◌, ◌++◌, OnOk, OnErr};
+ghost use Rattle.zr_bytes.specs.Number.{writes};
 ghost use Rattle.zr_bytes.specs.Writing.{KeepsFront};
 ghost use Rattle.zr_trans.specs.Writing.{writes_tag, writes_sizes, writes_cookie, writes_speaks, header_of, fields_of, writes_trans, Fits};
 
@@ -70,31 +71,80 @@ fn put_fields(out: &mut Vec<u8>, t: &Trans) -> Result<(), AllocError>
             cookie,
             speaks,
             ..
-        } => {
-            out.push(*version)?;
-            put_identifier(out, *role, id)?;
-            put_sizes(out, sizes)?;
-            put_cookie(out, cookie)?;
-            put_speaks(out, speaks)
-        }
+        } => put_init(out, *version, *role, id, sizes, cookie, speaks),
         Trans::Open {
             lease,
             number,
             cookie,
             ..
-        } => {
-            put_zint(out, *lease)?;
-            put_zint(out, *number)?;
-            put_cookie(out, cookie)
-        }
-        Trans::Close { reason, .. } => Ok(out.push(*reason)?),
+        } => put_open(out, *lease, *number, cookie),
+        Trans::Close { reason, .. } => put_byte(out, *reason),
         Trans::KeepAlive => Ok(()),
         Trans::Frame { number, .. } => put_zint(out, *number),
-        Trans::Fragment { number, piece, .. } => {
-            put_zint(out, *number)?;
-            out.extend_from_slice(piece.as_slice())
-        }
+        Trans::Fragment { number, piece, .. } => put_fragment(out, *number, piece),
     }
+}
+
+fn put_init(
+    out: &mut Vec<u8>,
+    version: u8,
+    role: u8,
+    id: &Zid,
+    sizes: &Option<Sizes>,
+    cookie: &Option<ByteString>,
+    speaks: &Option<u64>,
+) -> Result<(), AllocError>
+    requires { role < 4 }
+    ensures ok { OnOk result (out.new.items ≡ out.old.items ++ version ∷ writes_tag role id.now ∷ id.now ++ (writes_sizes sizes.now ++ (writes_cookie cookie.now ++ writes_speaks speaks.now))) }
+    ensures err { OnErr result (KeepsFront out.old.items out.new.items) }
+{
+    out.push(version)?;
+    put_identifier(out, role, id)?;
+    put_settings(out, sizes, cookie, speaks)
+}
+
+fn put_settings(
+    out: &mut Vec<u8>,
+    sizes: &Option<Sizes>,
+    cookie: &Option<ByteString>,
+    speaks: &Option<u64>,
+) -> Result<(), AllocError>
+    ensures ok { OnOk result (out.new.items ≡ out.old.items ++ (writes_sizes sizes.now ++ (writes_cookie cookie.now ++ writes_speaks speaks.now))) }
+    ensures err { OnErr result (KeepsFront out.old.items out.new.items) }
+{
+    put_sizes(out, sizes)?;
+    put_cookie(out, cookie)?;
+    put_speaks(out, speaks)
+}
+
+fn put_open(
+    out: &mut Vec<u8>,
+    lease: u64,
+    number: u64,
+    cookie: &Option<ByteString>,
+) -> Result<(), AllocError>
+    ensures ok { OnOk result (out.new.items ≡ out.old.items ++ (writes lease ++ (writes number ++ writes_cookie cookie.now))) }
+    ensures err { OnErr result (KeepsFront out.old.items out.new.items) }
+{
+    put_zint(out, lease)?;
+    put_zint(out, number)?;
+    put_cookie(out, cookie)
+}
+
+fn put_byte(out: &mut Vec<u8>, byte: u8) -> Result<(), AllocError>
+    ensures ok { OnOk result (out.new.items ≡ out.old.items ++ byte ∷ []) }
+    ensures err { OnErr result (out.new.items ≡ out.old.items) }
+{
+    out.push(byte)?;
+    Ok(())
+}
+
+fn put_fragment(out: &mut Vec<u8>, number: u64, piece: &ByteString) -> Result<(), AllocError>
+    ensures ok { OnOk result (out.new.items ≡ out.old.items ++ (writes number ++ piece.now)) }
+    ensures err { OnErr result (KeepsFront out.old.items out.new.items) }
+{
+    put_zint(out, number)?;
+    out.extend_from_slice(piece.as_slice())
 }
 
 /// The length of an identifier with the role, and the identifier.
