@@ -1,9 +1,8 @@
 -- Each message that has a spelling can be written: what the parts of a spelling tell of what was read.
-use Rattle.std.proofs.Common.{◌≡◌, ℕ, ◌<◌, ◌^◌, Bool, true, false, cond, List, [], ◌∷◌, ◌++◌, length, Option, Some, None, Result, Ok, Err, refl, sym, ap, subst, ◌∙◌, eqb, inl}
+use Rattle.std.proofs.Common.{◌≡◌, ℕ, Bool, true, false, cond, List, [], ◌∷◌, Option, Some, None, Ok, Err, refl, sym, ap, subst, ◌∙◌, eqb, inl}
 use Rattle.std.specs.Prelude.{is_some}
 use Rattle.std.specs.List.{AllByRecursion}
 use Rattle.std.proofs.lemmas.Bool.{eqb-true, false≢true}
-use Rattle.zr_bytes.specs.declared.read_error.ReadError.{ReadError}
 use Rattle.zr_bytes.specs.declared.read_error.ReadError.TheVariants.{BadText}
 use Rattle.zr_bytes.specs.Flag.{has_id, has_flag}
 use Rattle.zr_bytes.proofs.Steps.{ok_is, not_both}
@@ -13,9 +12,9 @@ use Rattle.zr_ext.specs.declared.ext.Content.TheVariants as content
 use Rattle.zr_ext.specs.declared.ext.Form.{Form}
 use Rattle.zr_ext.specs.declared.ext.Form.TheVariants as form
 use Rattle.zr_ext.specs.Header.{form_of, is_known, content_number}
-use Rattle.zr_ext.specs.Chain.{SpellsChain, knows}
+use Rattle.zr_ext.specs.Chain.{knows}
 use Rattle.zr_ext.proofs.Distinct.{HasLength, AreDistinct, chain_kept}
-use Rattle.zr_format.specs.Format.{Format, choose, gives, unknown, chain, extensions}
+use Rattle.zr_format.specs.Format.{choose, gives, unknown, chain, extensions}
 use Rattle.zr_format.specs.Laws.{HasSpelling}
 use Rattle.zr_format.proofs.Spelled.{spelled_allows, chosen_holds}
 use Rattle.zr_id.specs.Zid.{is_zid}
@@ -35,9 +34,9 @@ use Rattle.zr_decl.specs.declared.declared.Declared.{Declared}
 use Rattle.zr_decl.specs.declared.declared.Declared.TheVariants.{Told, Number, Unnumber, Ignored}
 use Rattle.zr_decl.specs.Writing as decl
 use Rattle.zr_decl.proofs.Fitting.{declare_fits, interest_fits, wire_key_is}
-use Rattle.zr_net.specs.Exts.{or_else, content_bytes, push_known, request_known, response_known, final_known, number_at, bytes_at, extras_of, target_of, tree_of, marks_of}
+use Rattle.zr_net.specs.Exts.{or_else, content_bytes, push_known, request_known, response_known, final_known, number_at, bytes_at, extras_of, target_of, tree_of}
 use Rattle.zr_net.specs.Net.{push, request, response, final, declared, asked, behind, net_format}
-use Rattle.zr_net.specs.Writing.{target_number, kept_exts, TextFits, ExtrasFit, Fits, NumbersFit, IsOfNumbers, TreeFits, KeyFits, CanBeSent, AnyFits, ToldFits}
+use Rattle.zr_net.specs.Writing.{target_number, TextFits, ExtrasFit, Fits, IsOfNumbers, TreeFits, KeyFits, CanBeSent, AnyFits, ToldFits}
 use Rattle.zr_net.specs.Reading.{net_of}
 use Rattle.zr_net.proofs.Messages.{follows_net}
 use Rattle.zr_net.proofs.Marks.{on_at, marks_kept, target_on}

@@ -1,5 +1,5 @@
 -- The extensions that are written of a message: they ascend, each has a spelling, and they say what the message has.
-use Rattle.std.proofs.Common.{◌≡◌, ℕ, ◌+◌, ◌<◌, ◌≤◌, Bool, true, false, List, [], ◌∷◌, ◌++◌, Option, Some, None, Ok, refl, sym, ap, subst, ◌∙◌, arith, eqb, inl, inr}
+use Rattle.std.proofs.Common.{◌≡◌, ℕ, ◌+◌, ◌<◌, ◌≤◌, Bool, true, false, List, [], ◌∷◌, ◌++◌, append_assoc, Option, Some, None, Ok, refl, sym, ap, subst, ◌∙◌, arith, eqb, inl, inr}
 use Rattle.std.specs.Prelude.{nat_le, fold}
 use Rattle.std.specs.List.{list_all, AllByRecursion}
 use Rattle.std.proofs.lemmas.Bool.{and_parts, eqb-true, le-leb, leb-true, cases_Bool}
@@ -304,3 +304,10 @@ final_knows e responder budget timeout =
     (absent_number final_known 5 (has_flag e.marks 0x20) e.budget (from_6 e None) budget
     (absent_number final_known 6 (has_flag e.marks 0x40) e.timeout (from_7 None) timeout
     refl))))
+
+-- put in two parts and the tree's root
+pub kept_in_parts : (e : Extras) (target : Target) (tree : Option (List ℕ))
+    → ((number_ext 1 (has_flag e.marks 0x02) e.qos ++ (bytes_ext 2 (has_flag e.marks 0x04) e.stamp ++ bytes_ext 3 (has_flag e.marks 0x08) e.responder))
+    ++ (number_ext 4 (has_flag e.marks 0x10) (target_number target) ++ (number_ext 5 (has_flag e.marks 0x20) e.budget ++ number_ext 6 (has_flag e.marks 0x40) e.timeout))) ++ bytes_ext 7 true tree
+    ≡ kept_exts e target tree
+kept_in_parts e target tree = search append_assoc

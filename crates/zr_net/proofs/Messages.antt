@@ -19,10 +19,10 @@ use Rattle.zr_decl.specs.Reading.{wire_key_of, declare_of, asked_of}
 use Rattle.zr_decl.proofs.Messages.{follows_wire_key, follows_declare, follows_asked}
 use Rattle.zr_net.specs.Exts.{push_known, request_known, response_known, final_known, number_at, bytes_at, extras_of, target_of, tree_of}
 use Rattle.zr_net.specs.Net.{push, request, response, final, declared, asked, behind, net_format}
-use Rattle.zr_net.specs.Reading.{push_of, request_of, response_of, final_of, declared_of, told_of, behind_of, net_of}
+use Rattle.zr_net.specs.Reading.{sample_of, push_of, question_of, request_of, reply_of, response_of, final_of, declared_of, told_of, behind_of, net_of}
 
 follows_push : (role : Role) (theirs ours : Texts) (header : ℕ) → Follows anywhere (push role theirs ours header) (push_of role theirs ours header)
-unfolding push_of
+unfolding push_of sample_of
 follows_push role theirs ours header =
     follows_then anywhere (wire_key theirs ours header) _ (wire_key_of theirs ours header) _ (follows_wire_key theirs ours header) (λ key.
     follows_then anywhere (extensions (push_known role) header) _ (exts_of (push_known role) header) _ (follows_extensions (push_known role) header) (λ exts.
@@ -31,7 +31,7 @@ follows_push role theirs ours header =
     follows_gives anywhere (Told (Push tree (record { key = key; extras = extras_of exts; body = b }))) (λ rest. tt)))))
 
 follows_request : (role : Role) (theirs ours : Texts) (header : ℕ) → Follows anywhere (request role theirs ours header) (request_of role theirs ours header)
-unfolding request_of
+unfolding request_of question_of
 follows_request role theirs ours header =
     follows_then anywhere (below (2 ^ 32)) _ (number_below (2 ^ 32)) _ (follows_below (2 ^ 32)) (λ id.
     follows_then anywhere (wire_key theirs ours header) _ (wire_key_of theirs ours header) _ (follows_wire_key theirs ours header) (λ key.
@@ -42,7 +42,7 @@ follows_request role theirs ours header =
     follows_gives anywhere (Told (Request tree id target (record { key = key; extras = extras_of exts; body = b }))) (λ rest. tt)))))))
 
 follows_response : (theirs ours : Texts) (header : ℕ) → Follows anywhere (response theirs ours header) (response_of theirs ours header)
-unfolding response_of
+unfolding response_of reply_of
 follows_response theirs ours header =
     follows_then anywhere (below (2 ^ 32)) _ (number_below (2 ^ 32)) _ (follows_below (2 ^ 32)) (λ id.
     follows_then anywhere (wire_key theirs ours header) _ (wire_key_of theirs ours header) _ (follows_wire_key theirs ours header) (λ key.

@@ -4,7 +4,7 @@ ghost use Rattle.std.specs.Prelude.{◌≡◌, IfOk};
 ghost use Rattle.zr_bytes.specs.Reading.{Keeps, Steps};
 ghost use Rattle.zr_format.specs.Reading.{exts_of};
 ghost use Rattle.zr_net.specs.Exts.{push_known, request_known, response_known, final_known};
-ghost use Rattle.zr_net.specs.Reading.{push_of, request_of, response_of, final_of, declared_of, told_of, behind_of, net_of};
+ghost use Rattle.zr_net.specs.Reading.{content_of, sample_of, push_of, question_of, request_of, reply_of, response_of, final_of, declared_of, told_of, behind_of, net_of};
 ghost use Rattle.zr_net.specs.Writing.{ToldFits};
 
 use crate::exts;
@@ -12,13 +12,14 @@ use crate::parts::{
     BUDGET, DECLARE, INTEREST, NODE_ID, PUSH, QOS, REQUEST, RESPONDER, RESPONSE, RESPONSE_FINAL,
     TARGET, TIMEOUT, TIMESTAMP, TREE,
 };
-use std::alloc::Global;
-use zr_body::{Place, read_body};
+use std::alloc::{AllocError, Global};
+use zr_body::{Body, Place, read_body};
 use zr_bytes::{Cursor, ReadError};
 use zr_decl::{Declared, read_asked, read_declare, read_wire_key};
 use zr_ext::{Ext, Form};
 use zr_format::header::ID;
 use zr_format::read_extensions;
+use zr_key::key::KeyExpr;
 use zr_msg::content::Content;
 use zr_msg::msg::Msg;
 use zr_msg::peer::Role;
@@ -93,13 +94,30 @@ fn push(
 {
     let key = read_wire_key(alloc, c, theirs, ours, header)?;
     let exts = push_extensions(alloc, c, role, header)?;
-    let tree = exts::tree(&exts)?;
+    sample(alloc, c, key, &exts)
+}
+
+/// A PUSH behind its key and its extensions.
+#[tactic(auto, unfolding(crate::specs::Reading::sample_of))]
+fn sample(
+    alloc: Global,
+    c: &mut Cursor<'_>,
+    key: KeyExpr,
+    exts: &[Ext],
+) -> Result<Declared, ReadError>
+    ensures { Steps (λ d. d) result (sample_of key exts.now c.old) c.new }
+{
+    let tree = exts::tree(exts)?;
     let body = read_body(alloc, c, Place::Push)?;
-    let extras = exts::extras(alloc, &exts)?;
-    Ok(Declared::Told(Msg::Push {
-        tree,
-        content: Content::new(alloc, key, extras, body)?,
-    }))
+    let content = content(alloc, key, exts, body)?;
+    Ok(Declared::Told(Msg::Push { tree, content }))
+}
+
+fn content(alloc: Global, key: KeyExpr, exts: &[Ext], body: Body) -> Result<Content, AllocError>
+    ensures { IfOk result (λ c. c ≡ content_of key exts.now body) }
+{
+    let extras = exts::extras(alloc, exts)?;
+    Content::new(alloc, key, extras, body)
 }
 
 #[tactic(auto, unfolding(crate::specs::Reading::request_of))]
@@ -116,15 +134,29 @@ fn request(
     let id = c.z32()?;
     let key = read_wire_key(alloc, c, theirs, ours, header)?;
     let exts = request_extensions(alloc, c, role, header)?;
-    let tree = exts::tree(&exts)?;
-    let target = exts::target(&exts)?;
+    question(alloc, c, id, key, &exts)
+}
+
+/// A REQUEST behind its key and its extensions.
+#[tactic(auto, unfolding(crate::specs::Reading::question_of))]
+fn question(
+    alloc: Global,
+    c: &mut Cursor<'_>,
+    id: u32,
+    key: KeyExpr,
+    exts: &[Ext],
+) -> Result<Declared, ReadError>
+    ensures { Steps (λ d. d) result (question_of id key exts.now c.old) c.new }
+{
+    let tree = exts::tree(exts)?;
+    let target = exts::target(exts)?;
     let body = read_body(alloc, c, Place::Request)?;
-    let extras = exts::extras(alloc, &exts)?;
+    let content = content(alloc, key, exts, body)?;
     Ok(Declared::Told(Msg::Request {
         tree,
         id,
         target,
-        content: Content::new(alloc, key, extras, body)?,
+        content,
     }))
 }
 
@@ -141,12 +173,23 @@ fn response(
     let id = c.z32()?;
     let key = read_wire_key(alloc, c, theirs, ours, header)?;
     let exts = response_extensions(alloc, c, header)?;
+    reply(alloc, c, id, key, &exts)
+}
+
+/// A RESPONSE behind its key and its extensions.
+#[tactic(auto, unfolding(crate::specs::Reading::reply_of))]
+fn reply(
+    alloc: Global,
+    c: &mut Cursor<'_>,
+    id: u32,
+    key: KeyExpr,
+    exts: &[Ext],
+) -> Result<Declared, ReadError>
+    ensures { Steps (λ d. d) result (reply_of id key exts.now c.old) c.new }
+{
     let body = read_body(alloc, c, Place::Response)?;
-    let extras = exts::extras(alloc, &exts)?;
-    Ok(Declared::Told(Msg::Response {
-        id,
-        content: Content::new(alloc, key, extras, body)?,
-    }))
+    let content = content(alloc, key, exts, body)?;
+    Ok(Declared::Told(Msg::Response { id, content }))
 }
 
 #[tactic(auto, unfolding(crate::specs::Reading::final_of))]

@@ -1,8 +1,10 @@
 //! The one spelling of a network message that is written.
 
-ghost use Rattle.std.specs.Prelude.{◌≡◌, ◌<◌, ◌==◌, ◌++◌, All, None, not, true, OnOk, OnErr, IfOk};
+ghost use Rattle.std.specs.Prelude.{◌≡◌, ◌<◌, ◌==◌, ◌∷◌, ◌++◌, All, false, None, not, true, OnOk, OnErr, IfOk};
 ghost use Rattle.zr_bytes.specs.Flag.{has_flag};
+ghost use Rattle.zr_bytes.specs.Number.{writes};
 ghost use Rattle.zr_bytes.specs.Writing.{KeepsFront};
+ghost use Rattle.zr_format.specs.Writing.{writes_header};
 ghost use Rattle.zr_ext.specs.Writing.{ascends_from, writes_chain, Fits as ExtFits};
 ghost use Rattle.zr_net.specs.Writing.{number_ext, bytes_ext, target_number, kept_exts, has_any, writes_keyed, writes_content, writes_push, writes_request, writes_response, writes_final, writes_net, TextFits, Fits};
 
@@ -79,8 +81,22 @@ fn put_push(
     ensures err { OnErr result (KeepsFront out.old.items out.new.items) }
 {
     let exts = kept_exts(*out.allocator(), content.extras(), Target::Best, tree)?;
-    out.push(keyed(PUSH, number, &exts))?;
-    put_content(out, content, &exts, number)
+    put_sample(out, content, &exts, number)
+}
+
+fn put_sample(
+    out: &mut Vec<u8>,
+    content: &content::Content,
+    exts: &[Ext],
+    number: u16,
+) -> Result<(), AllocError>
+    requires fit { All ExtFits exts.now }
+    requires ascending { ascends_from 0 exts.now ≡ true }
+    ensures ok { OnOk result (out.new.items ≡ out.old.items ++ writes_keyed 0x1D number exts.now ∷ writes_content content.now exts.now number) }
+    ensures err { OnErr result (KeepsFront out.old.items out.new.items) }
+{
+    out.push(keyed(PUSH, number, exts))?;
+    put_content(out, content, exts, number)
 }
 
 fn put_request(
@@ -97,9 +113,7 @@ fn put_request(
     ensures err { OnErr result (KeepsFront out.old.items out.new.items) }
 {
     let exts = kept_exts(*out.allocator(), content.extras(), target, tree)?;
-    out.push(keyed(REQUEST, number, &exts))?;
-    put_zint(out, u64::from(id))?;
-    put_content(out, content, &exts, number)
+    put_numbered(out, REQUEST, id, content, &exts, number)
 }
 
 fn put_response(
@@ -114,9 +128,26 @@ fn put_response(
     ensures err { OnErr result (KeepsFront out.old.items out.new.items) }
 {
     let exts = kept_exts(*out.allocator(), content.extras(), Target::Best, &None)?;
-    out.push(keyed(RESPONSE, number, &exts))?;
+    put_numbered(out, RESPONSE, id, content, &exts, number)
+}
+
+/// A message with an id of its own, which stands behind the header.
+fn put_numbered(
+    out: &mut Vec<u8>,
+    message: u8,
+    id: u32,
+    content: &content::Content,
+    exts: &[Ext],
+    number: u16,
+) -> Result<(), AllocError>
+    requires fit { All ExtFits exts.now }
+    requires ascending { ascends_from 0 exts.now ≡ true }
+    ensures ok { OnOk result (out.new.items ≡ out.old.items ++ writes_keyed message number exts.now ∷ (writes id ++ writes_content content.now exts.now number)) }
+    ensures err { OnErr result (KeepsFront out.old.items out.new.items) }
+{
+    out.push(keyed(message, number, exts))?;
     put_zint(out, u64::from(id))?;
-    put_content(out, content, &exts, number)
+    put_content(out, content, exts, number)
 }
 
 fn put_final(out: &mut Vec<u8>, id: u32, extras: &Extras) -> Result<(), AllocError>
@@ -126,9 +157,18 @@ fn put_final(out: &mut Vec<u8>, id: u32, extras: &Extras) -> Result<(), AllocErr
     ensures err { OnErr result (KeepsFront out.old.items out.new.items) }
 {
     let exts = kept_exts(*out.allocator(), extras, Target::Best, &None)?;
-    out.push(header_byte(RESPONSE_FINAL, false, false, has_any(&exts)))?;
+    put_last(out, id, &exts)
+}
+
+fn put_last(out: &mut Vec<u8>, id: u32, exts: &[Ext]) -> Result<(), AllocError>
+    requires fit { All ExtFits exts.now }
+    requires ascending { ascends_from 0 exts.now ≡ true }
+    ensures ok { OnOk result (out.new.items ≡ out.old.items ++ writes_header 0x1A false false (has_any exts.now) ∷ (writes id ++ writes_chain exts.now)) }
+    ensures err { OnErr result (KeepsFront out.old.items out.new.items) }
+{
+    out.push(header_byte(RESPONSE_FINAL, false, false, has_any(exts)))?;
     put_zint(out, u64::from(id))?;
-    put_chain(out, &exts)
+    put_chain(out, exts)
 }
 
 /// The header of a message with a key.
@@ -204,36 +244,42 @@ fn each_ext(
     ensures items { IfOk result (λ exts. exts.items ≡ kept_exts extras.now target tree.now) }
     ensures fit { IfOk result (λ exts. All ExtFits exts.items) }
 {
-    let marks = extras.marks;
     let mut exts = Vec::new(alloc);
-    put_number(&mut exts, QOS, marks & QOS_MARK != 0, extras.qos)?;
+    put_origin(&mut exts, extras)?;
+    put_request_exts(&mut exts, extras, target)?;
+    put_tree(&mut exts, tree)?;
+    Ok(exts)
+}
+
+/// The quality of service, the timestamp and the responder.
+fn put_origin(exts: &mut Vec<Ext>, extras: &Extras) -> Result<(), AllocError>
+    requires stamp { TextFits extras.now.stamp }
+    requires responder { TextFits extras.now.responder }
+    requires fit { All ExtFits exts.old.items }
+    ensures items { OnOk result (exts.new.items ≡ exts.old.items ++ (number_ext 1 (has_flag extras.now.marks 0x02) extras.now.qos ++ (bytes_ext 2 (has_flag extras.now.marks 0x04) extras.now.stamp ++ bytes_ext 3 (has_flag extras.now.marks 0x08) extras.now.responder))) }
+    ensures fits { OnOk result (All ExtFits exts.new.items) }
+{
+    let marks = extras.marks;
+    put_number(exts, QOS, marks & QOS_MARK != 0, extras.qos)?;
+    put_bytes(exts, TIMESTAMP, marks & TIMESTAMP_MARK != 0, &extras.stamp)?;
     put_bytes(
-        &mut exts,
-        TIMESTAMP,
-        marks & TIMESTAMP_MARK != 0,
-        &extras.stamp,
-    )?;
-    put_bytes(
-        &mut exts,
+        exts,
         RESPONDER,
         marks & RESPONDER_MARK != 0,
         &extras.responder,
-    )?;
-    put_number(
-        &mut exts,
-        TARGET,
-        marks & TARGET_MARK != 0,
-        number_of(target),
-    )?;
-    put_number(&mut exts, BUDGET, marks & BUDGET_MARK != 0, extras.budget)?;
-    put_number(
-        &mut exts,
-        TIMEOUT,
-        marks & TIMEOUT_MARK != 0,
-        extras.timeout,
-    )?;
-    put_tree(&mut exts, tree)?;
-    Ok(exts)
+    )
+}
+
+/// The target, the budget and the timeout.
+fn put_request_exts(exts: &mut Vec<Ext>, extras: &Extras, target: Target) -> Result<(), AllocError>
+    requires fit { All ExtFits exts.old.items }
+    ensures items { OnOk result (exts.new.items ≡ exts.old.items ++ (number_ext 4 (has_flag extras.now.marks 0x10) (target_number target) ++ (number_ext 5 (has_flag extras.now.marks 0x20) extras.now.budget ++ number_ext 6 (has_flag extras.now.marks 0x40) extras.now.timeout))) }
+    ensures fits { OnOk result (All ExtFits exts.new.items) }
+{
+    let marks = extras.marks;
+    put_number(exts, TARGET, marks & TARGET_MARK != 0, number_of(target))?;
+    put_number(exts, BUDGET, marks & BUDGET_MARK != 0, extras.budget)?;
+    put_number(exts, TIMEOUT, marks & TIMEOUT_MARK != 0, extras.timeout)
 }
 
 /// The number of a target. The best matching one is written as absent.
