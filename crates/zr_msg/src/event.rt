@@ -8,7 +8,7 @@ use std::alloc::{AllocError, Global};
 use zr_id::link::LinkNo;
 
 /// What one router hears of in one atomic step.
-#[derive(Debug, Drop)]
+#[derive(Drop)]
 pub enum Event {
     /// A link has come up.
     Up { link: LinkNo, peer: Peer },

@@ -8,7 +8,7 @@ use zr_frame::Outbox;
 use zr_msg::event::Event;
 
 /// What one call made of a router: an event that its tables handled, and which links had too few free slots for what it sends.
-#[derive(Debug, Drop)]
+#[derive(Drop)]
 pub struct Entry {
     pub event: Event,
     /// What the link sends by, where the event is an Up.
