@@ -4,7 +4,7 @@ use zr_bytes::ByteString;
 use zr_msg::msg::Msg;
 
 /// What a DECLARE tells its reader.
-#[derive(Debug, Drop)]
+#[derive(Drop)]
 pub enum Declared {
     /// A message for the router.
     Told(Msg),

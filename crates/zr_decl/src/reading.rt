@@ -1,6 +1,6 @@
 //! Reading a declaration.
 
-ghost use Rattle.std.specs.Prelude.{◌≡◌, ◌+◌, ◌^◌, nat_le, length, IfOk};
+ghost use Rattle.std.specs.Prelude.{◌≡◌, ◌+◌, ◌++◌, ◌^◌, nat_le, length, IfOk};
 ghost use Rattle.zr_bytes.specs.Flag.{has_flag};
 ghost use Rattle.zr_bytes.specs.Reading.{Keeps, Steps, number_below};
 ghost use Rattle.zr_format.specs.Reading.{optional_of, exts_of};
@@ -14,7 +14,7 @@ use crate::parts::{
     MOST_TEXT, NAMED, NODE_ID, QOS, TIMESTAMP, U_KEYEXPR, U_QUERYABLE, U_SUBSCRIBER, U_TOKEN,
     UNDECLARED_KEY,
 };
-use std::alloc::Global;
+use std::alloc::{AllocError, Global};
 use zr_bytes::{ByteString, Cursor, ReadError};
 use zr_ext::{Content, Ext, Form};
 use zr_format::header::ID;
@@ -148,9 +148,16 @@ fn keyexpr(
     let number = number(c)?;
     let (scope, suffix) = text(c, theirs, header)?;
     read_extensions(alloc, c, header, &[])?;
+    let text = joined(alloc, scope, suffix)?;
+    Ok(Declared::Number(number, text))
+}
+
+fn joined(alloc: Global, scope: &[u8], suffix: &[u8]) -> Result<ByteString, AllocError>
+    ensures { IfOk result (λ text. text ≡ scope.now ++ suffix.now) }
+{
     let mut text = scope.to_vec(alloc)?;
     text.extend_from_slice(suffix)?;
-    Ok(Declared::Number(number, ByteString::new(text)))
+    Ok(ByteString::new(text))
 }
 
 /// A number that may stand for a text: 0 stands for the empty one.

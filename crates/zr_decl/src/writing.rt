@@ -1,6 +1,7 @@
 //! The one spelling of a declaration or an interest that is written.
 
-ghost use Rattle.std.specs.Prelude.{◌≡◌, ◌<◌, ◌++◌, Some, None, OnOk, OnErr};
+ghost use Rattle.std.specs.Prelude.{◌≡◌, ◌<◌, ◌∷◌, ◌++◌, Some, None, OnOk, OnErr};
+ghost use Rattle.zr_bytes.specs.Number.{writes};
 ghost use Rattle.zr_bytes.specs.Writing.{KeepsFront};
 ghost use Rattle.zr_decl.specs.Writing.{Fits, writes_some, writes_declare, writes_subscriber, writes_queryable, writes_complete, writes_undeclared, writes_final, writes_restriction, options_of, writes_interest, writes_end, writes_decl};
 
@@ -88,10 +89,24 @@ fn put_subscriber(
     ensures ok { OnOk result (out.new.items ≡ out.old.items ++ (writes_declare interest ++ writes_subscriber id key.now)) }
     ensures err { OnErr result (KeepsFront out.old.items out.new.items) }
 {
-    put_declare(out, interest)?;
-    out.push(header_byte(D_SUBSCRIBER, true, false, false))?;
-    put_zint(out, u64::from(id))?;
+    let header = header_byte(D_SUBSCRIBER, true, false, false);
+    put_declaration(out, interest, header, id)?;
     write_key(out, key, 0)
+}
+
+/// DECLARE with the interest that it answers, and the header and the id of what is declared.
+fn put_declaration(
+    out: &mut Vec<u8>,
+    interest: Option<u32>,
+    header: u8,
+    id: u32,
+) -> Result<(), AllocError>
+    ensures ok { OnOk result (out.new.items ≡ out.old.items ++ (writes_declare interest ++ header ∷ writes id)) }
+    ensures err { OnErr result (KeepsFront out.old.items out.new.items) }
+{
+    put_declare(out, interest)?;
+    out.push(header)?;
+    put_zint(out, u64::from(id))
 }
 
 fn put_queryable(
@@ -104,9 +119,8 @@ fn put_queryable(
     ensures ok { OnOk result (out.new.items ≡ out.old.items ++ (writes_declare interest ++ writes_queryable id key.now complete)) }
     ensures err { OnErr result (KeepsFront out.old.items out.new.items) }
 {
-    put_declare(out, interest)?;
-    out.push(header_byte(D_QUERYABLE, true, false, complete))?;
-    put_zint(out, u64::from(id))?;
+    let header = header_byte(D_QUERYABLE, true, false, complete);
+    put_declaration(out, interest, header, id)?;
     write_key(out, key, 0)?;
     put_complete(out, complete)
 }
@@ -131,9 +145,7 @@ fn put_undeclared(out: &mut Vec<u8>, header: u8, id: u32) -> Result<(), AllocErr
     ensures ok { OnOk result (out.new.items ≡ out.old.items ++ (writes_declare None ++ writes_undeclared header id)) }
     ensures err { OnErr result (KeepsFront out.old.items out.new.items) }
 {
-    put_declare(out, None)?;
-    out.push(header_byte(header, false, false, false))?;
-    put_zint(out, u64::from(id))
+    put_declaration(out, None, header_byte(header, false, false, false), id)
 }
 
 fn put_final(out: &mut Vec<u8>, interest: u32) -> Result<(), AllocError>

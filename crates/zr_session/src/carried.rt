@@ -14,7 +14,7 @@ use zr_oam::read_oam;
 use zr_wirekey::Scopes;
 
 /// A network message, as it is read.
-#[derive(Debug, Drop)]
+#[derive(Drop)]
 pub enum Carried {
     /// An OAM message: one between routers, or another one, of which nothing is made.
     BetweenRouters(Option<Msg>),
