@@ -10,7 +10,7 @@ use thiserror::Error;
 use zr_bytes::ByteString;
 
 /// One channel, reliable or best effort (Zenoh protocol 1.0, "Frame" and "Fragment").
-#[derive(Debug, Drop)]
+#[derive(Drop)]
 pub struct Channel {
     pub numbers: Counter,
     /// What came of a message whose last fragment is still to come.

@@ -13,7 +13,7 @@ use zr_bytes::ByteString;
 use zr_msg::peer::Role;
 
 /// The channels of one direction. Both count from the initial number of OPEN, each for itself.
-#[derive(Debug, Drop)]
+#[derive(Drop)]
 pub struct Channels {
     pub reliable: Channel,
     pub best_effort: Channel,

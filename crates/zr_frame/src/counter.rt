@@ -19,7 +19,7 @@ pub fn modulus(bits: u8) -> u64
 }
 
 /// Contracts see the modulus and the number that is expected.
-#[derive(Debug, Drop)]
+#[derive(Drop)]
 pub struct Counter {
     modulus: u64,
     next: u64,

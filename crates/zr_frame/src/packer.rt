@@ -103,18 +103,23 @@ impl Packer {
         ensures { IfOk result (λ rest. Cuts (option_copied rest) message.now self.old self.new) }
     {
         let number = self.outbox.next();
-        let mut parcel = fragment_head(alloc, true, number)?;
+        let parcel = fragment_head(alloc, true, number)?;
         let room = usize::from(self.outbox.batch()) - parcel.as_slice().len();
         if message.len() <= room {
-            let mut last = fragment_head(alloc, false, number)?;
-            last.append(message)?;
-            self.put(last)?;
+            let last = fragment_head(alloc, false, number)?;
+            self.put_fragment(last, message)?;
             return Ok(None);
         }
         let (piece, rest) = message.split_at(room);
-        parcel.append(piece)?;
-        self.put(parcel)?;
+        self.put_fragment(parcel, piece)?;
         Ok(Some(rest))
+    }
+
+    fn put_fragment(&mut self, mut head: ByteString, piece: &[u8]) -> Result<(), AllocError>
+        ensures { OnOk result (self.new ≡ with_batch self.old (head ++ piece.now)) }
+    {
+        head.append(piece)?;
+        self.put(head)
     }
 
     /// A batch is whole.
