@@ -5,7 +5,7 @@ use zr_msg::peer::Peer;
 use zr_trans::Trans;
 
 /// The message that an opening waits for.
-#[derive(Clone, Copy, Debug)]
+#[derive(Clone, Copy)]
 pub enum Expected {
     /// INIT, at the accepting end.
     Init,
@@ -18,7 +18,7 @@ pub enum Expected {
 }
 
 /// A session that is open.
-#[derive(Debug, Drop)]
+#[derive(Drop)]
 pub struct Opened {
     pub peer: Peer,
     /// What this end sends by.
@@ -32,7 +32,7 @@ pub struct Opened {
 }
 
 /// What an expected message led to.
-#[derive(Debug, Drop)]
+#[derive(Drop)]
 pub enum Progress {
     /// The answer is sent, and then another message is expected.
     Answers { expected: Expected, answer: Trans },

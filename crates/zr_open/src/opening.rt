@@ -21,7 +21,7 @@ pub(crate) const CLIENT: u8 = 2;
 pub(crate) const SECRET: usize = 32;
 
 /// One link of a router: what an opening on it starts from, at either end.
-#[derive(Debug, Drop)]
+#[derive(Drop)]
 pub struct Opening {
     pub(crate) me: Zid,
     pub(crate) secret: [u8; SECRET],
