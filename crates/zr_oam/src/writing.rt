@@ -68,24 +68,11 @@ fn put_state(out: &mut Vec<u8>, links: &LinkRecord) -> Result<(), AllocError>
     ensures err { OnErr result (KeepsFront out.old.items out.new.items) }
 {
     let mut content = Vec::new(*out.allocator());
-    put_record(&mut content, links)?;
+    put_bytes(&mut content, links.id().bytes())?;
+    put_zint(&mut content, links.seq())?;
+    put_zint(&mut content, links.links().len() as u64)?;
+    put_links(&mut content, links.links())?;
     put_own(out, RECORD, &content)
-}
-
-/// The router, its number, and its links behind their count.
-fn put_record(out: &mut Vec<u8>, links: &LinkRecord) -> Result<(), AllocError>
-    ensures { OnOk result (out.new.items ≡ out.old.items ++ writes_record links.now) }
-{
-    put_bytes(out, links.id().bytes())?;
-    put_zint(out, links.seq())?;
-    put_counted_links(out, links.links())
-}
-
-fn put_counted_links(out: &mut Vec<u8>, links: &[Zid]) -> Result<(), AllocError>
-    ensures { OnOk result (out.new.items ≡ out.old.items ++ (writes (length links.now) ++ flat_map (λ id. writes_text id) links.now)) }
-{
-    put_zint(out, links.len() as u64)?;
-    put_links(out, links)
 }
 
 fn put_links(out: &mut Vec<u8>, links: &[Zid]) -> Result<(), AllocError>
@@ -108,22 +95,14 @@ fn put_step(
     ensures err { OnErr result (KeepsFront out.old.items out.new.items) }
 {
     let mut content = Vec::new(*out.allocator());
-    put_change(&mut content, source, number, added, decl)?;
+    put_head(
+        &mut content,
+        if added { ADDED } else { REMOVED },
+        source,
+        number,
+    )?;
+    put_decl(&mut content, decl)?;
     put_own(out, DECLARATIONS, &content)
-}
-
-fn put_change(
-    out: &mut Vec<u8>,
-    source: &Zid,
-    number: u64,
-    added: bool,
-    decl: &Decl,
-) -> Result<(), AllocError>
-    ensures { OnOk result (out.new.items ≡ out.old.items ++ writes_step source.now number added decl.now) }
-{
-    let form = if added { ADDED } else { REMOVED };
-    put_head(out, form, source, number)?;
-    put_decl(out, decl)
 }
 
 fn put_snap(out: &mut Vec<u8>, source: &Zid, number: u64, decls: &[Decl]) -> Result<(), AllocError>
@@ -131,21 +110,10 @@ fn put_snap(out: &mut Vec<u8>, source: &Zid, number: u64, decls: &[Decl]) -> Res
     ensures err { OnErr result (KeepsFront out.old.items out.new.items) }
 {
     let mut content = Vec::new(*out.allocator());
-    put_snapshot(&mut content, source, number, decls)?;
+    put_head(&mut content, SNAPSHOT, source, number)?;
+    put_zint(&mut content, decls.len() as u64)?;
+    put_decls(&mut content, decls)?;
     put_own(out, DECLARATIONS, &content)
-}
-
-fn put_snapshot(
-    out: &mut Vec<u8>,
-    source: &Zid,
-    number: u64,
-    decls: &[Decl],
-) -> Result<(), AllocError>
-    ensures { OnOk result (out.new.items ≡ out.old.items ++ writes_snap source.now number decls.now) }
-{
-    put_head(out, SNAPSHOT, source, number)?;
-    put_zint(out, decls.len() as u64)?;
-    put_decls(out, decls)
 }
 
 fn put_decls(out: &mut Vec<u8>, decls: &[Decl]) -> Result<(), AllocError>
