@@ -144,11 +144,18 @@ impl Msg {
     pub fn copy(&self, alloc: Global) -> Result<Msg, AllocError>
         ensures { IfOk result (λ m. m ≡ self.now) }
     {
-        match self {
-            Msg::Sub { id, key } => copy_sub(alloc, *id, key),
-            Msg::Unsub { id } => Ok(Msg::Unsub { id: *id }),
-            Msg::Able { id, key, complete } => copy_able(alloc, *id, key, *complete),
-            Msg::Unable { id } => Ok(Msg::Unable { id: *id }),
+        Ok(match self {
+            Msg::Sub { id, key } => Msg::Sub {
+                id: *id,
+                key: key.copy(alloc)?,
+            },
+            Msg::Unsub { id } => Msg::Unsub { id: *id },
+            Msg::Able { id, key, complete } => Msg::Able {
+                id: *id,
+                key: key.copy(alloc)?,
+                complete: *complete,
+            },
+            Msg::Unable { id } => Msg::Unable { id: *id },
             Msg::Interest {
                 id,
                 current,
@@ -156,177 +163,84 @@ impl Msg {
                 kinds,
                 key,
                 aggregate,
-            } => copy_interest(alloc, *id, *current, *future, *kinds, key, *aggregate),
-            Msg::EndInterest { id } => Ok(Msg::EndInterest { id: *id }),
-            Msg::ToldSub { id, key, interest } => copy_told_sub(alloc, *id, key, *interest),
+            } => Msg::Interest {
+                id: *id,
+                current: *current,
+                future: *future,
+                kinds: *kinds,
+                key: copied(alloc, key)?,
+                aggregate: *aggregate,
+            },
+            Msg::EndInterest { id } => Msg::EndInterest { id: *id },
+            Msg::ToldSub { id, key, interest } => Msg::ToldSub {
+                id: *id,
+                key: key.copy(alloc)?,
+                interest: *interest,
+            },
             Msg::ToldAble {
                 id,
                 key,
                 complete,
                 interest,
-            } => copy_told_able(alloc, *id, key, *complete, *interest),
-            Msg::ToldUnsub { id } => Ok(Msg::ToldUnsub { id: *id }),
-            Msg::ToldUnable { id } => Ok(Msg::ToldUnable { id: *id }),
-            Msg::ToldEnd { interest } => Ok(Msg::ToldEnd {
+            } => Msg::ToldAble {
+                id: *id,
+                key: key.copy(alloc)?,
+                complete: *complete,
                 interest: *interest,
-            }),
-            Msg::Push { tree, content } => copy_push(*tree, content),
+            },
+            Msg::ToldUnsub { id } => Msg::ToldUnsub { id: *id },
+            Msg::ToldUnable { id } => Msg::ToldUnable { id: *id },
+            Msg::ToldEnd { interest } => Msg::ToldEnd {
+                interest: *interest,
+            },
+            Msg::Push { tree, content } => Msg::Push {
+                tree: *tree,
+                content: content.copy()?,
+            },
             Msg::Request {
                 tree,
                 id,
                 target,
                 content,
-            } => copy_request(*tree, *id, *target, content),
-            Msg::Response { id, content } => copy_response(*id, content),
-            Msg::Final { id, extras } => copy_final(*id, extras),
-            Msg::State { links } => copy_state(links),
+            } => Msg::Request {
+                tree: *tree,
+                id: *id,
+                target: *target,
+                content: content.copy()?,
+            },
+            Msg::Response { id, content } => Msg::Response {
+                id: *id,
+                content: content.copy()?,
+            },
+            Msg::Final { id, extras } => Msg::Final {
+                id: *id,
+                extras: extras.copy()?,
+            },
+            Msg::State { links } => Msg::State {
+                links: links.copy()?,
+            },
             Msg::Step {
                 source,
                 number,
                 added,
                 decl,
-            } => copy_step(*source, *number, *added, decl),
+            } => Msg::Step {
+                source: *source,
+                number: *number,
+                added: *added,
+                decl: decl.copy()?,
+            },
             Msg::Snap {
                 source,
                 number,
                 decls,
-            } => copy_snap(*source, *number, decls),
-        }
+            } => Msg::Snap {
+                source: *source,
+                number: *number,
+                decls: decls.copy()?,
+            },
+        })
     }
-}
-
-fn copy_sub(alloc: Global, id: u32, key: &KeyExpr) -> Result<Msg, AllocError>
-    ensures { IfOk result (λ m. m ≡ Msg.Sub id key.now) }
-{
-    let key = key.copy(alloc)?;
-    Ok(Msg::Sub { id, key })
-}
-
-fn copy_able(alloc: Global, id: u32, key: &KeyExpr, complete: bool) -> Result<Msg, AllocError>
-    ensures { IfOk result (λ m. m ≡ Msg.Able id key.now complete) }
-{
-    let key = key.copy(alloc)?;
-    Ok(Msg::Able { id, key, complete })
-}
-
-fn copy_interest(
-    alloc: Global,
-    id: u32,
-    current: bool,
-    future: bool,
-    kinds: Kinds,
-    key: &Option<KeyExpr>,
-    aggregate: bool,
-) -> Result<Msg, AllocError>
-    ensures { IfOk result (λ m. m ≡ Msg.Interest id current future kinds key.now aggregate) }
-{
-    let key = copied(alloc, key)?;
-    Ok(Msg::Interest {
-        id,
-        current,
-        future,
-        kinds,
-        key,
-        aggregate,
-    })
-}
-
-fn copy_told_sub(
-    alloc: Global,
-    id: u32,
-    key: &KeyExpr,
-    interest: Option<u32>,
-) -> Result<Msg, AllocError>
-    ensures { IfOk result (λ m. m ≡ Msg.ToldSub id key.now interest) }
-{
-    let key = key.copy(alloc)?;
-    Ok(Msg::ToldSub { id, key, interest })
-}
-
-fn copy_told_able(
-    alloc: Global,
-    id: u32,
-    key: &KeyExpr,
-    complete: bool,
-    interest: Option<u32>,
-) -> Result<Msg, AllocError>
-    ensures { IfOk result (λ m. m ≡ Msg.ToldAble id key.now complete interest) }
-{
-    let key = key.copy(alloc)?;
-    Ok(Msg::ToldAble {
-        id,
-        key,
-        complete,
-        interest,
-    })
-}
-
-fn copy_push(tree: Option<Zid>, content: &Content) -> Result<Msg, AllocError>
-    ensures { IfOk result (λ m. m ≡ Msg.Push tree content.now) }
-{
-    let content = content.copy()?;
-    Ok(Msg::Push { tree, content })
-}
-
-fn copy_request(
-    tree: Option<Zid>,
-    id: u32,
-    target: Target,
-    content: &Content,
-) -> Result<Msg, AllocError>
-    ensures { IfOk result (λ m. m ≡ Msg.Request tree id target content.now) }
-{
-    let content = content.copy()?;
-    Ok(Msg::Request {
-        tree,
-        id,
-        target,
-        content,
-    })
-}
-
-fn copy_response(id: u32, content: &Content) -> Result<Msg, AllocError>
-    ensures { IfOk result (λ m. m ≡ Msg.Response id content.now) }
-{
-    let content = content.copy()?;
-    Ok(Msg::Response { id, content })
-}
-
-fn copy_final(id: u32, extras: &Shared<Extras>) -> Result<Msg, AllocError>
-    ensures { IfOk result (λ m. m ≡ Msg.Final id extras.now) }
-{
-    let extras = extras.copy()?;
-    Ok(Msg::Final { id, extras })
-}
-
-fn copy_state(links: &Shared<LinkRecord>) -> Result<Msg, AllocError>
-    ensures { IfOk result (λ m. m ≡ Msg.State links.now) }
-{
-    let links = links.copy()?;
-    Ok(Msg::State { links })
-}
-
-fn copy_step(source: Zid, number: u64, added: bool, decl: &Shared<Decl>) -> Result<Msg, AllocError>
-    ensures { IfOk result (λ m. m ≡ Msg.Step source number added decl.now) }
-{
-    let decl = decl.copy()?;
-    Ok(Msg::Step {
-        source,
-        number,
-        added,
-        decl,
-    })
-}
-
-fn copy_snap(source: Zid, number: u64, decls: &Decls) -> Result<Msg, AllocError>
-    ensures { IfOk result (λ m. m ≡ Msg.Snap source number decls.now) }
-{
-    let decls = decls.copy()?;
-    Ok(Msg::Snap {
-        source,
-        number,
-        decls,
-    })
 }
 
 fn copied(alloc: Global, key: &Option<KeyExpr>) -> Result<Option<KeyExpr>, AllocError>
