@@ -1,5 +1,5 @@
 -- Plans of the clients that changed declarations touch are what all clients are told.
-use Rattle.std.proofs.Common.{Less, Result, Ok, Err, ◌≡◌, ℕ, ◌+◌, ◌<◌, ◌==◌, ◌&&◌, ◌||◌, Bool, true, false, cond, List, [], ◌∷◌, ◌++◌, map, length, drop, get_or, refl, sym, ap, ◌∙◌, subst, arith, append_assoc}
+use Rattle.std.proofs.Common.{Less, Result, Ok, Err, ◌≡◌, ℕ, ◌+◌, ◌<◌, ◌==◌, ◌&&◌, ◌||◌, Bool, true, false, cond, List, [], ◌∷◌, ◌++◌, map, length, drop, get_or, refl, sym, ap, ◌∙◌, subst, arith, append_assoc, append-nil}
 use Rattle.std.specs.declared.option.Option.TheVariants.{None, Some}
 use Rattle.std.specs.List.{flat_map, fold, list_any, AllByRecursion}
 use Rattle.std.specs.List.Sorted.{IsStrictlySortedBy}
@@ -155,6 +155,21 @@ pub record ArePlanned (t : TableState) (cs : List ClientInterests) (maps : Maps)
 
 pub none_planned : (t : TableState) (cs : List ClientInterests) (maps : Maps) → AreByLink cs → ArePlanned t cs maps [] cs
 none_planned t cs maps s = record { links = sorted_links cs s; last = tt; tells = refl; told = λ k. refl; ids = refl }
+
+-- and where none is left
+pub record AreAll (t : TableState) (cs : List ClientInterests) (maps : Maps) (es : List LinkPlan) : Type 0 where
+  pub ascend : PlansAscend es
+  pub tells : flat_map (tells_plan maps) es ≡ tells_all t cs maps
+  pub ids : one_lacks_ids t cs ≡ false
+
+pub all_planned : (t : TableState) (cs : List ClientInterests) (maps : Maps) (es : List LinkPlan) (rest : List ClientInterests) → rest ≡ [] → ArePlanned t cs maps es rest → AreAll t cs maps es
+all_planned t cs maps es rest e a =
+    let b = subst (λ z. ArePlanned t cs maps es z) e a in
+    record {
+      ascend = subst (λ z. Sorted z) (append-nil (map (λ e. e.link.0) es)) b.links;
+      tells = sym (append-nil (flat_map (tells_plan maps) es)) ∙ b.tells;
+      ids = b.ids;
+    }
 
 pub or_first : (a b : Bool) → a ≡ true → (a || b) ≡ true
 or_first true b h = refl

@@ -1,10 +1,11 @@
 //! `Book`: of what one client was told.
 
-ghost use Rattle.std.specs.Prelude.{◌≡◌, ◌≤◌, ◌+◌, [], ◌∷◌, ◌++◌, ◌&&◌, not, nat_lt, length, is_some, Some, IfOk, OnOk, OnErr};
+ghost use Rattle.std.specs.Prelude.{◌≡◌, ◌≤◌, ◌+◌, [], ◌∷◌, ◌++◌, ◌&&◌, ◌||◌, not, nat_lt, length, is_some, Some, None, IfOk, OnOk, OnErr};
 ghost use Rattle.std.specs.List.{fold};
+ghost use Rattle.std.specs.BTreeMap.{insert_entry};
 ghost use Rattle.std.specs.Map.{keys_of, remove_entry};
 ghost use Rattle.zr_table.specs.Prefix.{IsPrefixBehind};
-ghost use Rattle.zr_told.specs.Place.{same, Ascends};
+ghost use Rattle.zr_told.specs.Place.{place_cmp, same, Ascends};
 ghost use Rattle.zr_told.specs.declared.place.Place.{Place};
 ghost use Rattle.zr_told.specs.declared.book.Entry.{Entry};
 ghost use Rattle.zr_told.specs.Plan.{count_new, fit, put_mark, unwanted, forgotten, marked_gone, marked_fresh};
@@ -12,7 +13,7 @@ ghost use Rattle.zr_told.specs.Rows.{most_id, sent_on};
 ghost use Rattle.zr_told.specs.Told.{at, is_told, id_at, id_for, declares, undeclares, undeclared, declared, entered};
 
 use crate::ids::Ids;
-use crate::mark::Mark;
+use crate::mark::{Mark, put_copy};
 use crate::place::{Class, Place};
 use std::alloc::{AllocError, Global};
 use std::collections::BTreeMap;
@@ -21,14 +22,14 @@ use zr_id::link::LinkNo;
 use zr_msg::msg::Msg;
 
 /// Under which id a client was told of a place, and whether as complete.
-#[derive(Clone, Copy, Debug, PartialEq, Eq)]
+#[derive(Clone, Copy)]
 pub struct Entry {
     pub id: u32,
     pub complete: bool,
 }
 
 /// What one client is to be told: the places that are undeclared, and those that are declared, each with its completeness.
-#[derive(Debug, Drop)]
+#[derive(Drop)]
 pub struct Plan {
     pub gone: Vec<Place>,
     pub fresh: Vec<(Place, bool)>,
@@ -75,7 +76,7 @@ impl Book {
     {
         let mut marks = BTreeMap::new(alloc);
         for place in self.entries.keys() {
-            marks.insert(place.copy(alloc)?, UNWANTED)?;
+            put_copy(alloc, place, UNWANTED, &mut marks)?;
         }
         Ok(marks)
     }
@@ -100,7 +101,7 @@ impl Book {
         let mut gone = Vec::new(alloc);
         for (place, mark) in marks.iter() {
             if self.is_gone(place, *mark) {
-                gone.push(place.copy(alloc)?)?;
+                put_place(alloc, place, &mut gone)?;
             }
         }
         Ok(gone)
@@ -124,18 +125,25 @@ impl Book {
     {
         let mut fresh = Vec::new(alloc);
         for (place, mark) in marks.iter() {
-            if mark.wanted && (mark.again || !self.is_told(place, mark.complete)) {
-                fresh.push((place.copy(alloc)?, mark.complete))?;
+            if self.is_fresh(place, *mark) {
+                put_fresh(alloc, place, mark.complete, &mut fresh)?;
             }
         }
         Ok(fresh)
+    }
+
+    // Whether a place that is marked is to be told.
+    fn is_fresh(&self, place: &Place, mark: Mark) -> bool
+        ensures { result ≡ (mark.wanted && (mark.again || not (is_told self.now (place.now, mark.complete)))) }
+    {
+        mark.wanted && (mark.again || !self.is_told(place, mark.complete))
     }
 
     // Whether the client was told of a place, and with this completeness.
     fn is_told(&self, place: &Place, complete: bool) -> bool
         ensures { result ≡ is_told self.now (place.now, complete) }
     {
-        match self.entries.get(place) {
+        match self.entry_at(place) {
             Some(entry) => entry.complete == complete,
             None => false,
         }
@@ -163,7 +171,7 @@ impl Book {
         let mut count: u64 = 0;
         for wanted in fresh {
             if self.is_new(&wanted.0) {
-                count = count.checked_add(1).ok_or(AllocError)?;
+                count = one_more(count)?;
             }
         }
         Ok(count)
@@ -205,7 +213,7 @@ impl Book {
         ensures err { OnErr result (IsPrefixBehind out.old.items (sent_on link (undeclared self.now places.now)) out.new.items) }
     {
         for place in places {
-            out.push((link, undeclares(self.id_at(place), place.class)))?;
+            say(link, undeclares(self.id_at(place), place.class), out)?;
         }
         Ok(())
     }
@@ -214,7 +222,7 @@ impl Book {
     fn id_at(&self, place: &Place) -> u32
         ensures { result ≡ id_at self.now place.now }
     {
-        match self.entries.get(place) {
+        match self.entry_at(place) {
             Some(entry) => entry.id,
             None => 0,
         }
@@ -233,11 +241,10 @@ impl Book {
     fn forget(&mut self, place: &Place) -> Result<(), AllocError>
         ensures { OnOk result (self.new ≡ remove_entry (same place.now) self.old) }
     {
-        let Some(entry) = self.entries.get(place) else {
+        let Some(entry) = self.entry_at(place) else {
             return Ok(());
         };
-        let id = entry.id;
-        self.ids.free(id)?;
+        self.ids.free(entry.id)?;
         self.entries.remove(place);
         Ok(())
     }
@@ -257,7 +264,7 @@ impl Book {
     {
         for wanted in fresh {
             let id = self.enter(alloc, &wanted.0, wanted.1)?;
-            out.push((link, declares(alloc, id, &wanted.0, wanted.1, interest)?))?;
+            say_declared(alloc, link, id, wanted, interest, out)?;
         }
         Ok(())
     }
@@ -268,17 +275,109 @@ impl Book {
         ensures id { IfOk result (λ n. n ≡ id_for self.old place.now) }
         ensures map { OnOk result (self.new ≡ entered self.old (place.now, complete)) }
     {
-        let copy = place.copy(alloc)?;
-        if let Some(entry) = self.entries.get(place) {
-            let id = entry.id;
-            self.entries.insert(copy, Entry { id, complete })?;
-            return Ok(id);
+        match self.entry_at(place) {
+            Some(entry) => self.enter_again(alloc, place, entry, complete),
+            None => self.enter_new(alloc, place, complete),
         }
+    }
+
+    fn enter_again(
+        &mut self,
+        alloc: Global,
+        place: &Place,
+        entry: Entry,
+        complete: bool,
+    ) -> Result<u32, AllocError>
+        requires { at self.old place.now ≡ Some entry }
+        ensures id { IfOk result (λ n. n ≡ id_for self.old place.now) }
+        ensures map { OnOk result (self.new ≡ entered self.old (place.now, complete)) }
+    {
+        let again = Entry { complete, ..entry };
+        put_entry(alloc, place, again, &mut self.entries)?;
+        Ok(entry.id)
+    }
+
+    fn enter_new(&mut self, alloc: Global, place: &Place, complete: bool) -> Result<u32, AllocError>
+        requires new { at self.old place.now ≡ None }
+        requires id { id_for self.old place.now ≤ most_id }
+        ensures id { IfOk result (λ n. n ≡ id_for self.old place.now) }
+        ensures map { OnOk result (self.new ≡ entered self.old (place.now, complete)) }
+    {
         let id = self.ids.least();
-        self.entries.insert(copy, Entry { id, complete })?;
+        put_entry(alloc, place, Entry { id, complete }, &mut self.entries)?;
         self.ids.give();
         Ok(id)
     }
+
+    // How the client was told of a place.
+    fn entry_at(&self, place: &Place) -> Option<Entry>
+        ensures { result ≡ at self.now place.now }
+    {
+        self.entries.get(place).copied()
+    }
+}
+
+fn one_more(count: u64) -> Result<u64, AllocError>
+    ensures { IfOk result (λ n. n ≡ count + 1) }
+{
+    count.checked_add(1).ok_or(AllocError)
+}
+
+fn put_place(alloc: Global, place: &Place, places: &mut Vec<Place>) -> Result<(), AllocError>
+    ensures { OnOk result (places.new.items ≡ places.old.items ++ place.now ∷ []) }
+{
+    places.push(place.copy(alloc)?)?;
+    Ok(())
+}
+
+fn put_fresh(
+    alloc: Global,
+    place: &Place,
+    complete: bool,
+    fresh: &mut Vec<(Place, bool)>,
+) -> Result<(), AllocError>
+    ensures { OnOk result (fresh.new.items ≡ fresh.old.items ++ (place.now, complete) ∷ []) }
+{
+    fresh.push((place.copy(alloc)?, complete))?;
+    Ok(())
+}
+
+fn put_entry(
+    alloc: Global,
+    place: &Place,
+    entry: Entry,
+    entries: &mut BTreeMap<Place, Entry>,
+) -> Result<(), AllocError>
+    ensures ok { OnOk result (entries.new.entries ≡ insert_entry place_cmp entries.old.entries place.now entry) }
+    ensures err { OnErr result (entries.new.entries ≡ entries.old.entries) }
+{
+    entries.insert(place.copy(alloc)?, entry)?;
+    Ok(())
+}
+
+/// A message goes to the client of a link, behind what was sent before; out of memory, nothing more does.
+pub fn say(link: LinkNo, msg: Msg, out: &mut Vec<(LinkNo, Msg)>) -> Result<(), AllocError>
+    ensures ok { OnOk result (out.new.items ≡ out.old.items ++ (link, msg) ∷ []) }
+    ensures err { OnErr result (out.new.items ≡ out.old.items) }
+{
+    out.push((link, msg))?;
+    Ok(())
+}
+
+/// A client is told of a place, and whether as complete.
+pub fn say_declared(
+    alloc: Global,
+    link: LinkNo,
+    id: u32,
+    wanted: &(Place, bool),
+    interest: Option<u32>,
+    out: &mut Vec<(LinkNo, Msg)>,
+) -> Result<(), AllocError>
+    ensures ok { OnOk result (out.new.items ≡ out.old.items ++ (link, declares id wanted.now.0.class wanted.now.0.key wanted.now.1 interest) ∷ []) }
+    ensures err { OnErr result (out.new.items ≡ out.old.items) }
+{
+    let msg = declares(alloc, id, &wanted.0, wanted.1, interest)?;
+    say(link, msg, out)
 }
 
 fn undeclares(id: u32, class: Class) -> Msg
@@ -290,8 +389,7 @@ fn undeclares(id: u32, class: Class) -> Msg
     }
 }
 
-/// A client is told of a place.
-pub fn declares(
+fn declares(
     alloc: Global,
     id: u32,
     place: &Place,

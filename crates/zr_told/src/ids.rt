@@ -8,7 +8,7 @@ use std::collections::BTreeSet;
 use std::marker::Model;
 
 /// Which ids are in use: all that were given and not freed. The least one that isn't in use is found without a search.
-#[derive(Debug, Drop)]
+#[derive(Drop)]
 pub struct Ids {
     // the first that was never given, 2^32 where all were
     next: u64,

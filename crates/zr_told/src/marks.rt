@@ -1,15 +1,16 @@
 //! Marks on all places of which a client was told or is to be told.
 
-ghost use Rattle.std.specs.Prelude.{◌≡◌, [], ◌∷◌, IfOk, OnOk};
-ghost use Rattle.zr_told.specs.Wanted.{wanted};
+ghost use Rattle.std.specs.Prelude.{◌≡◌, [], ◌∷◌, if◌then◌else◌, IfOk, OnOk};
+ghost use Rattle.zr_told.specs.Place.{place_of};
+ghost use Rattle.zr_told.specs.Wanted.{fits, told_as, wanted};
 ghost use Rattle.std.specs.List.{fold};
 ghost use Rattle.std.specs.Option.{option_copied};
 ghost use Rattle.zr_routing.specs.Queries.{is_complete};
-ghost use Rattle.zr_told.specs.Plan.{updated, put_mark, unwanted, is_wanted, with_again, with_complete, mark_wanted, mark_again, mark_complete, mark_answered, marks_of};
+ghost use Rattle.zr_told.specs.Plan.{updated, put_mark, is_wanted, with_again, with_complete, mark_wanted, mark_again, mark_complete, mark_answered, marks_of};
 
 use crate::book::Book;
 use crate::interest::{fits, told_as};
-use crate::mark::Mark;
+use crate::mark::{Mark, put};
 use crate::place::{Place, class_of, place_of};
 use std::alloc::{AllocError, Global};
 use std::collections::BTreeMap;
@@ -27,12 +28,37 @@ pub fn marks_of(
     ensures { IfOk result (λ ms. ms.entries ≡ marks_of book.now others.now interests.now (option_copied answered.entry)) }
 {
     let mut marks = book.unwanted(alloc)?;
-    for interest in interests {
-        mark_wanted(alloc, others, interest, &mut marks)?;
-    }
-    mark_answered(alloc, others, answered, &mut marks)?;
-    mark_complete(alloc, others, &mut marks)?;
+    mark_all(alloc, others, interests, answered, &mut marks)?;
     Ok(marks)
+}
+
+// What is wanted, what is told again and what is complete is marked.
+fn mark_all(
+    alloc: Global,
+    others: &[Decl],
+    interests: &[Interest],
+    answered: Option<&Interest>,
+    marks: &mut BTreeMap<Place, Mark>,
+) -> Result<(), AllocError>
+    ensures { OnOk result (marks.new.entries ≡ mark_complete others.now (mark_answered others.now (fold (mark_wanted others.now) marks.old.entries interests.now) (option_copied answered.entry))) }
+{
+    mark_each(alloc, others, interests, marks)?;
+    mark_answered(alloc, others, answered, marks)?;
+    mark_complete(alloc, others, marks)
+}
+
+fn mark_each(
+    alloc: Global,
+    others: &[Decl],
+    interests: &[Interest],
+    marks: &mut BTreeMap<Place, Mark>,
+) -> Result<(), AllocError>
+    ensures { OnOk result (marks.new.entries ≡ fold (mark_wanted others.now) marks.old.entries interests.now) }
+{
+    for interest in interests {
+        mark_wanted(alloc, others, interest, marks)?;
+    }
+    Ok(())
 }
 
 fn mark_wanted(
@@ -44,13 +70,25 @@ fn mark_wanted(
     ensures { OnOk result (marks.new.entries ≡ mark_wanted others.now marks.old.entries interest.now) }
 {
     for decl in others {
-        let class = class_of(decl.kind);
-        if fits(interest, class, &decl.key) {
-            let place = told_as(alloc, interest, class, &decl.key)?;
-            put(place, WANTED, marks)?;
-        }
+        mark_if_wanted(alloc, decl, interest, marks)?;
     }
     Ok(())
+}
+
+fn mark_if_wanted(
+    alloc: Global,
+    decl: &Decl,
+    interest: &Interest,
+    marks: &mut BTreeMap<Place, Mark>,
+) -> Result<(), AllocError>
+    ensures { OnOk result (marks.new.entries ≡ (if fits interest.now (place_of decl.now) then put_mark is_wanted marks.old.entries (told_as interest.now (place_of decl.now)) else marks.old.entries)) }
+{
+    let class = class_of(decl.kind);
+    if !fits(interest, class, &decl.key) {
+        return Ok(());
+    }
+    let place = told_as(alloc, interest, class, &decl.key)?;
+    put(place, WANTED, marks)
 }
 
 const WANTED: Mark = Mark {
@@ -58,13 +96,6 @@ const WANTED: Mark = Mark {
     complete: false,
     again: false,
 };
-
-fn put(place: Place, mark: Mark, marks: &mut BTreeMap<Place, Mark>) -> Result<(), AllocError>
-    ensures { OnOk result (marks.new.entries ≡ put_mark mark marks.old.entries place) }
-{
-    marks.insert(place, mark)?;
-    Ok(())
-}
 
 fn mark_answered(
     alloc: Global,
@@ -89,26 +120,41 @@ fn mark_again(
     ensures { OnOk result (marks.new.entries ≡ mark_again others.now marks.old.entries interest.now) }
 {
     for decl in others {
-        let class = class_of(decl.kind);
-        if fits(interest, class, &decl.key) {
-            let place = told_as(alloc, interest, class, &decl.key)?;
-            put_again(place, marks)?;
-        }
+        mark_if_again(alloc, decl, interest, marks)?;
     }
     Ok(())
+}
+
+fn mark_if_again(
+    alloc: Global,
+    decl: &Decl,
+    interest: &Interest,
+    marks: &mut BTreeMap<Place, Mark>,
+) -> Result<(), AllocError>
+    ensures { OnOk result (marks.new.entries ≡ (if fits interest.now (place_of decl.now) then updated with_again marks.old.entries (told_as interest.now (place_of decl.now)) else marks.old.entries)) }
+{
+    let class = class_of(decl.kind);
+    if !fits(interest, class, &decl.key) {
+        return Ok(());
+    }
+    let place = told_as(alloc, interest, class, &decl.key)?;
+    put_again(place, marks)
 }
 
 fn put_again(place: Place, marks: &mut BTreeMap<Place, Mark>) -> Result<(), AllocError>
     ensures { OnOk result (marks.new.entries ≡ updated with_again marks.old.entries place) }
 {
-    if let Some(mark) = marks.get(&place) {
-        let mark = Mark {
-            again: true,
-            ..*mark
-        };
-        marks.insert(place, mark)?;
+    match marks.get(&place).copied() {
+        Some(mark) => put(
+            place,
+            Mark {
+                again: true,
+                ..mark
+            },
+            marks,
+        ),
+        None => Ok(()),
     }
-    Ok(())
 }
 
 fn mark_complete(
@@ -129,14 +175,17 @@ fn mark_complete(
 fn put_complete(place: Place, marks: &mut BTreeMap<Place, Mark>) -> Result<(), AllocError>
     ensures { OnOk result (marks.new.entries ≡ updated with_complete marks.old.entries place) }
 {
-    if let Some(mark) = marks.get(&place) {
-        let mark = Mark {
-            complete: true,
-            ..*mark
-        };
-        marks.insert(place, mark)?;
+    match marks.get(&place).copied() {
+        Some(mark) => put(
+            place,
+            Mark {
+                complete: true,
+                ..mark
+            },
+            marks,
+        ),
+        None => Ok(()),
     }
-    Ok(())
 }
 
 /// What one interest wants of what others declare, each place with its completeness.

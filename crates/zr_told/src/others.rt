@@ -1,6 +1,6 @@
 //! What all others than the client of a link declare.
 
-ghost use Rattle.std.specs.Prelude.{◌≡◌, ◌++◌, filter, IfOk, OnOk};
+ghost use Rattle.std.specs.Prelude.{◌≡◌, ◌++◌, ◌∷◌, [], filter, IfOk, OnOk};
 ghost use Rattle.std.specs.List.{flat_map};
 ghost use Rattle.zr_local.specs.Rows.{decls_of, left};
 ghost use Rattle.zr_told.specs.Rows.{is_source, others};
@@ -32,7 +32,7 @@ fn put_rows(
 {
     for row in rows {
         if row.link.0 != link.0 {
-            decls.push(row.decl.copy(alloc)?)?;
+            put_decl(alloc, &row.decl, decls)?;
         }
     }
     Ok(())
@@ -65,7 +65,14 @@ fn put_decls(alloc: Global, more: &[Decl], decls: &mut Vec<Decl>) -> Result<(), 
     ensures { OnOk result (decls.new.items ≡ decls.old.items ++ more.now) }
 {
     for decl in more {
-        decls.push(decl.copy(alloc)?)?;
+        put_decl(alloc, decl, decls)?;
     }
+    Ok(())
+}
+
+fn put_decl(alloc: Global, decl: &Decl, decls: &mut Vec<Decl>) -> Result<(), AllocError>
+    ensures { OnOk result (decls.new.items ≡ decls.old.items ++ decl.now ∷ []) }
+{
+    decls.push(decl.copy(alloc)?)?;
     Ok(())
 }

@@ -24,7 +24,7 @@ use zr_msg::decl::Decl;
 use zr_routing::tables::Tables;
 
 /// What the client of a link is to be told.
-#[derive(Debug, Drop)]
+#[derive(Drop)]
 pub struct LinkPlan {
     pub link: LinkNo,
     pub plan: Plan,

@@ -1,7 +1,9 @@
 //! `Told`: of what the clients of a router were told.
 
 ghost use Rattle.std.specs.Prelude.{◌≡◌, ℕ, ◌==◌, ◌∷◌, ◌++◌, true, false, [], if◌then◌else◌, Some, None, Err, IfOk, OnOk, OnErr};
+ghost use Rattle.std.specs.BTreeMap.{insert_entry};
 ghost use Rattle.std.specs.Option.{option_copied};
+ghost use Rattle.std.specs.Ordering.{nat_cmp};
 ghost use Rattle.std.specs.List.{flat_map, fold};
 ghost use Rattle.zr_local.specs.Clients.{AreByLink};
 ghost use Rattle.zr_table.specs.Prefix.{IsPrefixBehind};
@@ -10,7 +12,7 @@ ghost use Rattle.zr_told.specs.Rows.{AreAsWantedBut, AreListed, IsAsWantedBut, I
 ghost use Rattle.zr_told.specs.Told.{entered, undeclared, declared};
 ghost use Rattle.zr_told.specs.Wanted.{wanted};
 
-use crate::book::{Book, Plan, declares};
+use crate::book::{Book, Plan, say, say_declared};
 use crate::error::ToldError;
 use crate::marks::wanted_places;
 use crate::others::others;
@@ -76,8 +78,7 @@ impl Told {
         ensures unchanged { result ≡ Err ToldError.Worn → (self.new ≡ self.old) × (out.new.items ≡ out.old.items) }
         ensures err { OnErr result (IsPrefixBehind out.old.items (sent_on link (tells_changes (others tables.now link.0) interests.now (map_on self.old link.0))) out.new.items) }
     {
-        let others = others(alloc, tables, link)?;
-        let plan = self.plan(alloc, link, &others, interests, None)?;
+        let plan = self.plan_changes(alloc, tables, link, interests)?;
         Ok(self.tell(alloc, link, None, &plan, out)?)
     }
 
@@ -104,9 +105,33 @@ impl Told {
         ensures err { OnErr result (IsPrefixBehind out.old.items (sent_on link (tells_interest current future (others tables.now link.0) interests.now interest.now (map_on self.old link.0))) out.new.items) }
     {
         let others = others(alloc, tables, link)?;
-        let plan = self.plan(alloc, link, &others, interests, answered(interest, future))?;
+        self.interest_among(
+            alloc, &others, link, interests, interest, current, future, out,
+        )
+    }
+
+    // As `interest`, where this is what others declare.
+    fn interest_among(
+        &mut self,
+        alloc: Global,
+        others: &[Decl],
+        link: LinkNo,
+        interests: &[Interest],
+        interest: &Interest,
+        current: bool,
+        future: bool,
+        out: &mut Vec<(LinkNo, Msg)>,
+    ) -> Result<(), ToldError>
+        ensures map { OnOk result ((k : ℕ) → map_on self.new k ≡ (if link.0 == k then told_interest future others.now interests.now interest.now (map_on self.old link.0) else map_on self.old k)) }
+        ensures out { OnOk result (out.new.items ≡ out.old.items ++ sent_on link (tells_interest current future others.now interests.now interest.now (map_on self.old link.0))) }
+        ensures ids { OnOk result (lacks_ids others.now interests.now ≡ false) }
+        ensures worn { result ≡ Err ToldError.Worn → lacks_ids others.now interests.now ≡ true }
+        ensures unchanged { result ≡ Err ToldError.Worn → (self.new ≡ self.old) × (out.new.items ≡ out.old.items) }
+        ensures err { OnErr result (IsPrefixBehind out.old.items (sent_on link (tells_interest current future others.now interests.now interest.now (map_on self.old link.0))) out.new.items) }
+    {
+        let plan = self.plan(alloc, link, others, interests, answered(interest, future))?;
         self.tell(alloc, link, names(interest, current, future), &plan, out)?;
-        Ok(close(alloc, link, &others, interest, current, future, out)?)
+        Ok(close(alloc, link, others, interest, current, future, out)?)
     }
 
     /// Declarations changed at these places, and the clients are told of it, in the order of their links. `clients` have all live interests, by
@@ -191,9 +216,24 @@ impl Told {
         ensures ids { OnOk result (lacks_ids (others tables.now client.now.link.0) client.now.interests ≡ false) }
         ensures worn { result ≡ Err ToldError.Worn → lacks_ids (others tables.now client.now.link.0) client.now.interests ≡ true }
     {
-        let others = others(alloc, tables, client.link)?;
         let interests = client.interests.as_slice();
-        self.plan(alloc, client.link, &others, interests, None)
+        self.plan_changes(alloc, tables, client.link, interests)
+    }
+
+    // What the client of a link, which has these live interests, is to be told, worked out from all that others declare.
+    fn plan_changes(
+        &self,
+        alloc: Global,
+        tables: &Tables,
+        link: LinkNo,
+        interests: &[Interest],
+    ) -> Result<Plan, ToldError>
+        ensures plan { IfOk result (λ p. IsPlan (λ q. false) (wanted (others tables.now link.0) interests.now) (map_on self.now link.0) p) }
+        ensures ids { OnOk result (lacks_ids (others tables.now link.0) interests.now ≡ false) }
+        ensures worn { result ≡ Err ToldError.Worn → lacks_ids (others tables.now link.0) interests.now ≡ true }
+    {
+        let others = others(alloc, tables, link)?;
+        self.plan(alloc, link, &others, interests, None)
     }
 
     // What the clients are to be told of changes at these places.
@@ -297,7 +337,7 @@ impl Told {
     {
         let mut book = self.take(alloc, link);
         book.tell(alloc, link, interest, plan, out)?;
-        self.books.insert(link.0, book)?;
+        put_book(link, book, &mut self.books)?;
         Ok(())
     }
 
@@ -311,6 +351,16 @@ impl Told {
             None => Book::new(alloc),
         }
     }
+}
+
+// What the client of a link was told is that.
+fn put_book(link: LinkNo, book: Book, books: &mut BTreeMap<u32, Book>) -> Result<(), AllocError>
+    ensures map { OnOk result ((k : ℕ) → map_on books.new.entries k ≡ (if link.0 == k then book else map_on books.old.entries k)) }
+    ensures entries { OnOk result (books.new.entries ≡ insert_entry nat_cmp books.old.entries link.0 book) }
+    ensures err { OnErr result (books.new.entries ≡ books.old.entries) }
+{
+    books.insert(link.0, book)?;
+    Ok(())
 }
 
 fn put_plan(link: LinkNo, plan: Plan, plans: &mut Vec<LinkPlan>) -> Result<(), AllocError>
@@ -355,13 +405,10 @@ fn close(
         return Ok(());
     }
     once_if_now(alloc, link, others, interest, future, out)?;
-    out.push((
-        link,
-        Msg::ToldEnd {
-            interest: interest.id,
-        },
-    ))?;
-    Ok(())
+    let end = Msg::ToldEnd {
+        interest: interest.id,
+    };
+    say(link, end, out)
 }
 
 // What is told once of an interest in what is declared now alone.
@@ -394,11 +441,8 @@ fn once(
     ensures err { OnErr result (IsPrefixBehind out.old.items (sent_on link (once others.now interest.now)) out.new.items) }
 {
     let places = wanted_places(alloc, others, interest)?;
-    for (place, complete) in places.iter() {
-        out.push((
-            link,
-            declares(alloc, 0, place, *complete, Some(interest.id))?,
-        ))?;
+    for place in places.iter() {
+        say_declared(alloc, link, 0, place, Some(interest.id), out)?;
     }
     Ok(())
 }

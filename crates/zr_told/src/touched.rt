@@ -7,7 +7,7 @@ ghost use Rattle.zr_told.specs.Rows.{is_touched, others};
 ghost use Rattle.zr_told.specs.Wanted.{fits};
 
 use crate::interest::{fits, told_as};
-use crate::mark::Mark;
+use crate::mark::{Mark, put};
 use crate::place::Place;
 use crate::search::{is_complete_at, is_wanted};
 use std::alloc::{AllocError, Global};
@@ -80,12 +80,24 @@ fn mark_fitting(
 ) -> Result<(), AllocError>
     ensures { OnOk result (marks.new.entries ≡ mark_fitting (others tables.now client.now.link.0) client.now.interests place.now marks.old.entries interest.now) }
 {
-    if fits(interest, place.class, &place.key) {
-        mark_here(tables, client, place.copy(alloc)?, marks)?;
-        let place = told_as(alloc, interest, place.class, &place.key)?;
-        mark_here(tables, client, place, marks)?;
+    if !fits(interest, place.class, &place.key) {
+        return Ok(());
     }
-    Ok(())
+    mark_changed(alloc, tables, client, place, marks)?;
+    let told = told_as(alloc, interest, place.class, &place.key)?;
+    mark_here(tables, client, told, marks)
+}
+
+fn mark_changed(
+    alloc: Global,
+    tables: &Tables,
+    client: &ClientInterests,
+    place: &Place,
+    marks: &mut BTreeMap<Place, Mark>,
+) -> Result<(), AllocError>
+    ensures { OnOk result (marks.new.entries ≡ mark_here (others tables.now client.now.link.0) client.now.interests marks.old.entries place.now) }
+{
+    mark_here(tables, client, place.copy(alloc)?, marks)
 }
 
 fn mark_here(
@@ -100,8 +112,7 @@ fn mark_here(
         return Ok(());
     }
     let mark = mark_at(tables, client, &place);
-    marks.insert(place, mark)?;
-    Ok(())
+    put(place, mark, marks)
 }
 
 fn mark_at(tables: &Tables, client: &ClientInterests, place: &Place) -> Mark

@@ -1,54 +1,22 @@
-use Rattle.std.proofs.Common.{◌==◌, ◌++◌, None, cond, ap, subst, ◌∙◌}
-use Rattle.std.proofs.lemmas.Result.{err_from_is_err_and}
+use Rattle.std.proofs.Common.{◌≡◌, ℕ, ◌==◌, ◌++◌, cond, OnOk, OnErr, subst, ◌∙◌}
 use Rattle.zr_table.specs.Prefix.{IsPrefixBehind}
-use Rattle.zr_told.specs.Rows.{map_on, sent_on, answered, closing, is_again, others}
-use Rattle.zr_told.specs.Told.{retell}
-use Rattle.zr_told.specs.Wanted.{wanted}
-use Rattle.zr_told.proofs.Plans.{interest_told, interest_tells, said_after}
-use Rattle.zr_told.proofs.Said.{in_first, in_second}
+use Rattle.zr_told.specs.Rows.{map_on, sent_on, tells_interest, told_interest}
 use Rattle.zr_told.proofs.told.Told.interest.Goals as goal
 
 pub returns-clause-map : goal.returns-clause-map
-returns-clause-map c = λ k.
-    c.in_ok-tell.ensures.map k
-    ∙ ap (λ z. cond (c.args.link.0 == k) z (map_on c.args.self.now k))
-    (interest_told c.args.future _ _ c.args.interests.now c.args.interest.now (map_on c.args.self.now c.args.link.0) c.in_ok-plan.plan _ (c.deref.ensures.value ∙ c.in_ok-others.ensures) c.answered.ensures c.in_ok-plan.ensures.plan)
+returns-clause-map c =
+    let m = map_on c.args.self.now c.args.link.0 in
+    subst (λ z. OnOk c.interest_among.result ((k : ℕ) → map_on c.interest_among.new.self k ≡ cond (c.args.link.0 == k) (told_interest c.args.future z c.args.interests.now c.args.interest.now m) (map_on c.args.self.now k)))
+    (c.deref.ensures.value ∙ c.in_ok-others.ensures) c.interest_among.ensures.map
 
 pub returns-clause-out : goal.returns-clause-out
 returns-clause-out c =
-    let e = c.deref.ensures.value ∙ c.in_ok-others.ensures in
-    let f = c.deref-2.ensures.value ∙ c.in_ok-others.ensures in
-    let t = interest_tells c.args.future _ _ c.args.interests.now c.args.interest.now (map_on c.args.self.now c.args.link.0) c.in_ok-plan.plan _ _ _ e c.answered.ensures c.names.ensures c.in_ok-plan.ensures.plan in
-    c.in_ok-close.ensures.ok
-    ∙ ap (λ z. z ++ sent_on c.args.link (closing c.args.current c.args.future c.deref-2.result.now c.args.interest.now)) c.in_ok-tell.ensures.out
-    ∙ said_after c.args.link c.args.out.now.items _ _
-    ∙ (λ j. c.args.out.now.items ++ sent_on c.args.link (t j ++ closing c.args.current c.args.future (f j) c.args.interest.now))
-
-pub returns-in_err-tell-clause-err : goal.returns-in_err-tell-clause-err
-returns-in_err-tell-clause-err c =
-    let p = err_from_is_err_and c.from_residual-in_err-tell.result c.from_residual-in_err-tell.ensures.1 in
-    let ds = others c.args.tables.now c.args.link.0 in
-    let i = c.args.interest.now in
     let m = map_on c.args.self.now c.args.link.0 in
-    let e = c.deref.ensures.value ∙ c.in_ok-others.ensures in
-    let t = interest_tells c.args.future _ ds c.args.interests.now i m c.in_ok-plan.plan _ _ (cond c.args.future (answered c.args.current i) None) e c.answered.ensures c.names.ensures c.in_ok-plan.ensures.plan in
-    rw p.1
-    (in_first c.args.link c.args.out.now.items c.tell.new.out.items (retell (is_again c.args.future ds i) (cond c.args.future (answered c.args.current i) None) (wanted ds c.args.interests.now) m)
-    (closing c.args.current c.args.future ds i)
-    (subst (λ z. IsPrefixBehind c.args.out.now.items (sent_on c.args.link z) c.tell.new.out.items) t c.in_err-tell.ensures.err))
+    subst (λ z. OnOk c.interest_among.result (c.interest_among.new.out.items ≡ c.args.out.now.items ++ sent_on c.args.link (tells_interest c.args.current c.args.future z c.args.interests.now c.args.interest.now m)))
+    (c.deref.ensures.value ∙ c.in_ok-others.ensures) c.interest_among.ensures.out
 
-pub returns-in_err-close-clause-err : goal.returns-in_err-close-clause-err
-returns-in_err-close-clause-err c =
-    let p = err_from_is_err_and c.from_residual-in_err-close.result c.from_residual-in_err-close.ensures.1 in
-    let ds = others c.args.tables.now c.args.link.0 in
-    let i = c.args.interest.now in
+pub returns-clause-err : goal.returns-clause-err
+returns-clause-err c =
     let m = map_on c.args.self.now c.args.link.0 in
-    let e = c.deref.ensures.value ∙ c.in_ok-others.ensures in
-    let f = c.deref-2.ensures.value ∙ c.in_ok-others.ensures in
-    let t = interest_tells c.args.future _ ds c.args.interests.now i m c.in_ok-plan.plan _ _ (cond c.args.future (answered c.args.current i) None) e c.answered.ensures c.names.ensures c.in_ok-plan.ensures.plan in
-    rw p.1
-    (in_second c.args.link c.args.out.now.items c.close.new.out.items (retell (is_again c.args.future ds i) (cond c.args.future (answered c.args.current i) None) (wanted ds c.args.interests.now) m)
-    (closing c.args.current c.args.future ds i)
-    c.tell.new.out.items
-    (c.in_ok-tell.ensures.out ∙ ap (λ z. c.args.out.now.items ++ sent_on c.args.link z) t)
-    (subst (λ z. IsPrefixBehind c.tell.new.out.items (sent_on c.args.link (closing c.args.current c.args.future z i)) c.close.new.out.items) f c.in_err-close.ensures.err))
+    subst (λ z. OnErr c.interest_among.result (IsPrefixBehind c.args.out.now.items (sent_on c.args.link (tells_interest c.args.current c.args.future z c.args.interests.now c.args.interest.now m)) c.interest_among.new.out.items))
+    (c.deref.ensures.value ∙ c.in_ok-others.ensures) c.interest_among.ensures.err

@@ -5,7 +5,7 @@ use Rattle.std.proofs.lemmas.Result.{err_from_is_err_and}
 use Rattle.zr_told.specs.declared.error.ToldError.TheVariants.{Worn}
 use Rattle.zr_told.specs.Plan.{plan_on, told_plan}
 use Rattle.zr_told.proofs.Clients.{told_among, told_among_all}
-use Rattle.zr_told.proofs.Changed.{ArePlanned, err_or, next_left, none_planned, one_planned, worn_there}
+use Rattle.zr_told.proofs.Changed.{ArePlanned, all_planned, err_or, next_left, none_planned, one_planned, worn_there}
 use Rattle.zr_told.proofs.told.Told.plans_all.Goals as goal
 
 pub returns-in_err-plan-clause-worn : goal.returns-in_err-plan-clause-worn
@@ -17,6 +17,27 @@ returns-in_err-plan-clause-worn c = λ e.
 
 pub loop-client-init : goal.loop-client-init
 loop-client-init c = rw c.new-plans.ensures.items (none_planned c.args.tables.now c.args.clients.now c.args.self.now c.requires.by_link)
+
+pub returns-clause-ascend : goal.returns-clause-ascend
+returns-clause-ascend c =
+    let l : length c.args.clients.now ≤ c.loop-client.client-index = omega arith in
+    let n = drop_of_length-le c.args.clients.now l in
+    (all_planned c.args.tables.now c.args.clients.now c.args.self.now c.loop-client.plans.items _ n c.loop-client.invariant).ascend
+
+pub returns-clause-last : goal.returns-clause-last
+returns-clause-last c = c.loop-client.invariant.last
+
+pub returns-clause-tells : goal.returns-clause-tells
+returns-clause-tells c =
+    let l : length c.args.clients.now ≤ c.loop-client.client-index = omega arith in
+    let n = drop_of_length-le c.args.clients.now l in
+    (all_planned c.args.tables.now c.args.clients.now c.args.self.now c.loop-client.plans.items _ n c.loop-client.invariant).tells
+
+pub returns-clause-ids : goal.returns-clause-ids
+returns-clause-ids c =
+    let l : length c.args.clients.now ≤ c.loop-client.client-index = omega arith in
+    let n = drop_of_length-le c.args.clients.now l in
+    (all_planned c.args.tables.now c.args.clients.now c.args.self.now c.loop-client.plans.items _ n c.loop-client.invariant).ids
 
 pub returns-clause-told : goal.returns-clause-told
 returns-clause-told c =

@@ -6,7 +6,7 @@ use Rattle.zr_told.specs.declared.error.ToldError.TheVariants.{Worn}
 use Rattle.std.specs.Option.{option_map_or}
 use Rattle.zr_told.specs.Plan.{plan_on, told_plan}
 use Rattle.zr_told.proofs.Clients.{EachIsAsWantedBut, all_listed, each_client, told_among, told_among_all}
-use Rattle.zr_told.proofs.Changed.{ArePlanned, err_or, next_left, none_planned, one_planned, one_skipped, worn_there}
+use Rattle.zr_told.proofs.Changed.{ArePlanned, all_planned, err_or, next_left, none_planned, one_planned, one_skipped, worn_there}
 use Rattle.zr_told.proofs.told.Told.plans_at.Goals as goal
 use Rattle.zr_told.proofs.told.Told.plans_at.Goals.{then-is_touched+in_ok-plan+in_ok-put_plan, else-is_touched}
 
@@ -27,6 +27,27 @@ pub plan_at-requires : goal.plan_at-requires
 plan_at-requires c =
     let q = next_left c.args.clients.now c.loop-client.client-index c.client-item.result c.loop-client-test.true c.client-item.is in
     (subst (λ z. EachIsAsWantedBut c.args.places.now c.args.tables.now z c.args.self.now) q c.loop-client.invariant.1).0
+
+pub returns-clause-ascend : goal.returns-clause-ascend
+returns-clause-ascend c =
+    let l : length c.args.clients.now ≤ c.loop-client.client-index = omega arith in
+    let n = drop_of_length-le c.args.clients.now l in
+    (all_planned c.args.tables.now c.args.clients.now c.args.self.now c.loop-client.plans.items _ n c.loop-client.invariant.0).ascend
+
+pub returns-clause-last : goal.returns-clause-last
+returns-clause-last c = c.loop-client.invariant.0.last
+
+pub returns-clause-tells : goal.returns-clause-tells
+returns-clause-tells c =
+    let l : length c.args.clients.now ≤ c.loop-client.client-index = omega arith in
+    let n = drop_of_length-le c.args.clients.now l in
+    (all_planned c.args.tables.now c.args.clients.now c.args.self.now c.loop-client.plans.items _ n c.loop-client.invariant.0).tells
+
+pub returns-clause-ids : goal.returns-clause-ids
+returns-clause-ids c =
+    let l : length c.args.clients.now ≤ c.loop-client.client-index = omega arith in
+    let n = drop_of_length-le c.args.clients.now l in
+    (all_planned c.args.tables.now c.args.clients.now c.args.self.now c.loop-client.plans.items _ n c.loop-client.invariant.0).ids
 
 pub returns-clause-told : goal.returns-clause-told
 returns-clause-told c =

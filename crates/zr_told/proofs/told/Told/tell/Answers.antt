@@ -6,12 +6,12 @@ use Rattle.std.specs.List.{fold}
 use Rattle.zr_told.specs.Plan.{forgotten}
 use Rattle.zr_told.specs.Rows.{Maps, map_on, most_id, sent_on}
 use Rattle.zr_told.specs.Told.{ToldMap, declared, entered, undeclared}
-use Rattle.zr_told.proofs.Links.{few_with, with_link, put_back}
+use Rattle.zr_told.proofs.Links.{few_with, put_back}
 use Rattle.zr_told.proofs.told.Told.tell.Goals as goal
 
 pub returns-clause-map : goal.returns-clause-map
 returns-clause-map c = λ k.
-    with_link c.args.link.0 k _ _ _ (c.in_ok-insert.ensures.updates.0 k)
+    c.in_ok-put_book.ensures.map k
     ∙ ap (λ (z : Maps). cond (c.args.link.0 == k) c.tell.new.self (map_on z k)) c.self.view_is
     ∙ ap (λ z. cond (c.args.link.0 == k) c.tell.new.self z) (c.take-book.ensures.rest k)
     ∙ put_back (c.args.link.0 == k) c.tell.new.self [] (map_on c.args.self.now k)
@@ -24,9 +24,9 @@ returns-in_err-tell-clause-err c =
     (subst (λ (z : ToldMap). IsPrefixBehind c.args.out.now.items (sent_on c.args.link (undeclared z c.args.plan.now.gone.items ++ declared c.args.interest (forgotten z c.args.plan.now.gone.items) c.args.plan.now.fresh.items)) c.tell.new.out.items)
     c.take-book.ensures.book c.in_err-tell.ensures.err)
 
-pub returns-in_err-insert-clause-err : goal.returns-in_err-insert-clause-err
-returns-in_err-insert-clause-err c =
-    let p = err_from_is_err_and c.from_residual-in_err-insert.result c.from_residual-in_err-insert.ensures.1 in
+pub returns-in_err-put_book-clause-err : goal.returns-in_err-put_book-clause-err
+returns-in_err-put_book-clause-err c =
+    let p = err_from_is_err_and c.from_residual-in_err-put_book.result c.from_residual-in_err-put_book.ensures.1 in
     rw p.1
     (all_said _ _ _
     (c.in_ok-tell.ensures.out
@@ -35,4 +35,4 @@ returns-in_err-insert-clause-err c =
 pub invariant_of-self-2 : goal.invariant_of-self-2
 invariant_of-self-2 c =
     let e = c.in_ok-tell.ensures.map ∙ ap (λ (z : ToldMap). fold entered (forgotten z c.args.plan.now.gone.items) c.args.plan.now.fresh.items) c.take-book.ensures.book in
-    few_with _ _ c.args.link.0 c.tell.new.self c.in_ok-insert.ensures.entries (subst (λ (z : ToldMap). length z ≤ most_id) (sym e) c.requires.1) c.self.invariant
+    few_with _ _ c.args.link.0 c.tell.new.self c.in_ok-put_book.ensures.entries (subst (λ (z : ToldMap). length z ≤ most_id) (sym e) c.requires.1) c.self.invariant
