@@ -1,6 +1,6 @@
 //! `Told`: of what the clients of a router were told.
 
-ghost use Rattle.std.specs.Prelude.{◌≡◌, ℕ, ◌==◌, ◌∷◌, ◌++◌, true, false, [], if◌then◌else◌, Some, None, Err, IfOk, OnOk, OnErr};
+ghost use Rattle.std.specs.Prelude.{◌≡◌, ℕ, ◌==◌, ◌∷◌, ◌++◌, true, false, [], map, if◌then◌else◌, Some, None, Err, IfOk, OnOk, OnErr};
 ghost use Rattle.std.specs.BTreeMap.{insert_entry};
 ghost use Rattle.std.specs.Option.{option_copied};
 ghost use Rattle.std.specs.Ordering.{nat_cmp};
@@ -9,7 +9,7 @@ ghost use Rattle.zr_local.specs.Clients.{AreByLink};
 ghost use Rattle.zr_table.specs.Prefix.{IsPrefixBehind};
 ghost use Rattle.zr_told.specs.Plan.{HasIds, IsPlan, PlansAscend, forgotten, ids_last, is_answered, tells_plan, told_plans};
 ghost use Rattle.zr_told.specs.Rows.{AreAsWantedBut, AreListed, IsAsWantedBut, IsNoted, Maps, map_on, one_lacks_ids, tells_all, told_on, most_id, sent_on, others, lacks_ids, tells_changes, told_changes, is_again, answered, once, closing, tells_interest, told_interest};
-ghost use Rattle.zr_told.specs.Told.{entered, undeclared, declared};
+ghost use Rattle.zr_told.specs.Told.{entered, undeclared, declared, declares};
 ghost use Rattle.zr_told.specs.Wanted.{wanted};
 
 use crate::book::{Book, Plan, say, say_declared};
@@ -441,8 +441,21 @@ fn once(
     ensures err { OnErr result (IsPrefixBehind out.old.items (sent_on link (once others.now interest.now)) out.new.items) }
 {
     let places = wanted_places(alloc, others, interest)?;
-    for place in places.iter() {
-        say_declared(alloc, link, 0, place, Some(interest.id), out)?;
+    say_each(alloc, link, &places, interest.id, out)
+}
+
+fn say_each(
+    alloc: Global,
+    link: LinkNo,
+    places: &[(Place, bool)],
+    interest: u32,
+    out: &mut Vec<(LinkNo, Msg)>,
+) -> Result<(), AllocError>
+    ensures ok { OnOk result (out.new.items ≡ out.old.items ++ sent_on link (map (λ w. declares 0 w.0.class w.0.key w.1 (Some interest)) places.now)) }
+    ensures err { OnErr result (IsPrefixBehind out.old.items (sent_on link (map (λ w. declares 0 w.0.class w.0.key w.1 (Some interest)) places.now)) out.new.items) }
+{
+    for place in places {
+        say_declared(alloc, link, 0, place, Some(interest), out)?;
     }
     Ok(())
 }

@@ -1,8 +1,13 @@
-use Rattle.std.proofs.lemmas.Result.{err_from_is_err_and}
-use Rattle.zr_table.proofs.Prefixes.{so_far_prefix}
+use Rattle.std.proofs.Common.{◌≡◌, ◌++◌, OnErr, OnOk, Some, map, subst, ◌∙◌}
+use Rattle.zr_table.specs.Prefix.{IsPrefixBehind}
+use Rattle.zr_told.specs.Rows.{sent_on}
+use Rattle.zr_told.specs.Told.{declares}
 use Rattle.zr_told.proofs.told.once.Goals as goal
 
-pub returns-in_err-say_declared-clause-err : goal.returns-in_err-say_declared-clause-err
-returns-in_err-say_declared-clause-err c =
-    let p = err_from_is_err_and c.from_residual-in_err-say_declared.result c.from_residual-in_err-say_declared.ensures.1 in
-    rw (p.1, c.in_err-say_declared.ensures.err) (so_far_prefix _ _ _ _ c.loop-place.invariant)
+pub returns-clause-ok : goal.returns-clause-ok
+returns-clause-ok c =
+    subst (λ z. OnOk c.say_each.result (c.say_each.new.out.items ≡ c.args.out.now.items ++ sent_on c.args.link (map (λ w. declares 0 w.0.class w.0.key w.1 (Some c.args.interest.now.id)) z))) (c.deref.ensures.value ∙ c.in_ok-places.ensures) c.say_each.ensures.ok
+
+pub returns-clause-err : goal.returns-clause-err
+returns-clause-err c =
+    subst (λ z. OnErr c.say_each.result (IsPrefixBehind c.args.out.now.items (sent_on c.args.link (map (λ w. declares 0 w.0.class w.0.key w.1 (Some c.args.interest.now.id)) z)) c.say_each.new.out.items)) (c.deref.ensures.value ∙ c.in_ok-places.ensures) c.say_each.ensures.err
