@@ -23,3 +23,13 @@ returns-in_err-tell-clause-err c =
     let p = err_from_is_err_and c.from_residual-in_err-tell.result c.from_residual-in_err-tell.ensures.1 in
     let t = plan_tells (λ p. false) (wanted (others c.args.tables.now c.args.link.0) c.args.interests.now) (map_on c.args.self.now c.args.link.0) c.in_ok-plan.plan None c.in_ok-plan.ensures.plan in
     rw p.1 (subst (λ z. IsPrefixBehind c.args.out.now.items (sent_on c.args.link z) c.tell.new.out.items) t c.in_err-tell.ensures.err)
+
+pub returns-in_err-tell-clause-worn : goal.returns-in_err-tell-clause-worn
+returns-in_err-tell-clause-worn c = λ e.
+    let p = err_from_is_err_and c.from_residual-in_err-tell.result c.from_residual-in_err-tell.ensures.1 in
+    cc
+
+pub returns-in_err-tell-clause-unchanged : goal.returns-in_err-tell-clause-unchanged
+returns-in_err-tell-clause-unchanged c = λ e.
+    let p = err_from_is_err_and c.from_residual-in_err-tell.result c.from_residual-in_err-tell.ensures.1 in
+    (cc, cc)

@@ -22,3 +22,13 @@ returns-in_err-tell_all-clause-err c =
     let p = err_from_is_err_and c.from_residual-in_err-tell_all.result c.from_residual-in_err-tell_all.ensures.1 in
     let t = ap (λ z. flat_map (tells_plan c.args.self.now) z) c.deref.ensures.value ∙ c.in_ok-plans.ensures.tells in
     rw p.1 (subst (λ z. IsPrefixBehind c.args.out.now.items z c.tell_all.new.out.items) t c.in_err-tell_all.ensures.err)
+
+pub returns-in_err-tell_all-clause-worn : goal.returns-in_err-tell_all-clause-worn
+returns-in_err-tell_all-clause-worn c = λ e.
+    let p = err_from_is_err_and c.from_residual-in_err-tell_all.result c.from_residual-in_err-tell_all.ensures.1 in
+    cc
+
+pub returns-in_err-tell_all-clause-unchanged : goal.returns-in_err-tell_all-clause-unchanged
+returns-in_err-tell_all-clause-unchanged c = λ e.
+    let p = err_from_is_err_and c.from_residual-in_err-tell_all.result c.from_residual-in_err-tell_all.ensures.1 in
+    (cc, cc)

@@ -47,3 +47,23 @@ returns-in_err-close-clause-err c =
     c.tell.new.out.items
     (c.in_ok-tell.ensures.out ∙ ap (λ z. c.args.out.now.items ++ sent_on c.args.link z) t)
     c.in_err-close.ensures.err)
+
+pub returns-in_err-tell-clause-worn : goal.returns-in_err-tell-clause-worn
+returns-in_err-tell-clause-worn c = λ e.
+    let p = err_from_is_err_and c.from_residual-in_err-tell.result c.from_residual-in_err-tell.ensures.1 in
+    cc
+
+pub returns-in_err-tell-clause-unchanged : goal.returns-in_err-tell-clause-unchanged
+returns-in_err-tell-clause-unchanged c = λ e.
+    let p = err_from_is_err_and c.from_residual-in_err-tell.result c.from_residual-in_err-tell.ensures.1 in
+    (cc, cc)
+
+pub returns-in_err-close-clause-worn : goal.returns-in_err-close-clause-worn
+returns-in_err-close-clause-worn c = λ e.
+    let p = err_from_is_err_and c.from_residual-in_err-close.result c.from_residual-in_err-close.ensures.1 in
+    cc
+
+pub returns-in_err-close-clause-unchanged : goal.returns-in_err-close-clause-unchanged
+returns-in_err-close-clause-unchanged c = λ e.
+    let p = err_from_is_err_and c.from_residual-in_err-close.result c.from_residual-in_err-close.ensures.1 in
+    (cc, cc)
