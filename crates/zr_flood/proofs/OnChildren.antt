@@ -18,7 +18,8 @@ use Rattle.zr_routing.specs.Snapshots.{is_new_child, snapshot, sends_step, sends
 use Rattle.zr_routing.specs.Tables.{TableState, AreNumbered, is_router, link_at, leads_to_router, is_own_child, leads_to_child, is_to_child}
 use Rattle.zr_table.specs.Event.{on_link}
 use Rattle.zr_table.proofs.Told.{on_link-append}
-use Rattle.zr_flood.specs.Tell.{to_each, all_to_each, bare_tables, children_among, GoesBy, leads_to_new_child, to_new_children}
+use Rattle.zr_tell.specs.Each.{to_each}
+use Rattle.zr_flood.specs.Tell.{all_to_each, bare_tables, children_among, GoesBy, leads_to_new_child, to_new_children}
 use Rattle.zr_flood.proofs.Picked.{on_picked, on_all_picked, all_to_each-append}
 
 -- where links and records are the same the children are

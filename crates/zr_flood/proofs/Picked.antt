@@ -8,7 +8,8 @@ use Rattle.zr_msg.specs.declared.peer.LinkPeer.{LinkPeer}
 use Rattle.zr_routing.specs.Tables.{AreNumbered, link_at}
 use Rattle.zr_table.specs.Event.{on_link}
 use Rattle.zr_table.proofs.Told.{on_link-append, to_picked, on_picked as to_picked_on}
-use Rattle.zr_flood.specs.Tell.{picked, to_each, all_to_each}
+use Rattle.zr_tell.specs.Each.{to_each}
+use Rattle.zr_flood.specs.Tell.{picked, all_to_each}
 
 -- a message for the links that a test picks is one for each such link
 told_picked : (test : LinkPeer → Bool) (msg : Msg) (links : List LinkPeer) → to_each (picked test links) msg ≡ to_picked test msg links

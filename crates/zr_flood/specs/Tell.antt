@@ -1,4 +1,4 @@
--- What one message for several links is, and which links it goes to.
+-- Which links a message goes to, and what several messages for them are.
 use Rattle.std.specs.Prelude.{◌≡◌, ℕ, ◌&&◌, not, Bool, List, [], map, filter}
 use Rattle.std.specs.List.{flat_map}
 use Rattle.zr_graph.specs.Base.{BaseState}
@@ -9,14 +9,11 @@ use Rattle.zr_msg.specs.declared.msg.Msg.{Msg}
 use Rattle.zr_msg.specs.declared.peer.LinkPeer.{LinkPeer}
 use Rattle.zr_routing.specs.Snapshots.{snapshot}
 use Rattle.zr_routing.specs.Tables.{TableState, AreNumbered, is_own_child, leads_to_child}
+use Rattle.zr_tell.specs.Each.{to_each}
 
 -- the numbers of the links that a test picks, in their order
 abbrev pub picked : (LinkPeer → Bool) → List LinkPeer → List LinkNo
 picked test links = map (λ l. l.link) (filter test links)
-
--- a message for each of these links
-abbrev pub to_each : List LinkNo → Msg → List (LinkNo × Msg)
-to_each links msg = map (λ n. (n, msg)) links
 
 -- each of several messages for each of these links
 abbrev pub all_to_each : List LinkNo → List Msg → List (LinkNo × Msg)

@@ -9,10 +9,10 @@ ghost use Rattle.zr_routing.specs.Snapshots.{snapshot, sends_step, sends_snap, s
 ghost use Rattle.zr_routing.specs.Tables.{TableState, AreNumbered, leads_to_router};
 ghost use Rattle.zr_table.specs.Event.{Tells, TellsPrefix};
 ghost use Rattle.zr_table.specs.Prefix.{IsPrefixBehind};
-ghost use Rattle.zr_flood.specs.Tell.{picked, to_each, all_to_each, children_among, leads_to_own_child, leads_to_new_child, to_new_children, GoesBy, HoldsAfter};
+ghost use Rattle.zr_tell.specs.Each.{to_each};
+ghost use Rattle.zr_flood.specs.Tell.{picked, all_to_each, children_among, leads_to_own_child, leads_to_new_child, to_new_children, GoesBy, HoldsAfter};
 
 use crate::flood::is_router;
-use crate::tell::tell_each;
 use std::alloc::{AllocError, Global};
 use zr_id::link::LinkNo;
 use zr_id::zid::Zid;
@@ -23,6 +23,7 @@ use zr_msg::msg::Msg;
 use zr_msg::peer::LinkPeer;
 use zr_msg::shared::Shared;
 use zr_set::decl_set::copies_of;
+use zr_tell::tell::{hand_out, tell_each};
 use zr_tree::family::Family;
 
 /// After an event that changed the records: each neighbour that has become a child in a router's tree is sent what is known of that
@@ -57,7 +58,22 @@ pub fn pass_on(
     ensures snap { (t : TableState) (from number : ℕ) (decls : List Decl) → GoesBy t links.now family.now → AreNumbered t.links → leads_to_router t.links from ≡ true → is_newer t.known source number ≡ true → msg.now ≡ Msg.Snap source number decls → OnOk result (Tells (sends_snap t from source number decls) out.old.items out.new.items) }
     ensures snap_prefix { (t : TableState) (from number : ℕ) (decls : List Decl) → GoesBy t links.now family.now → AreNumbered t.links → leads_to_router t.links from ≡ true → is_newer t.known source number ≡ true → msg.now ≡ Msg.Snap source number decls → OnErr result (TellsPrefix (sends_snap t from source number decls) out.old.items out.new.items) }
 {
-    let to = child_links(alloc, links, family, source)?;
+    tell_children(alloc, links, family, source, msg, out)
+}
+
+// A message goes to each child in the tree of a root.
+fn tell_children(
+    alloc: Global,
+    links: &[LinkPeer],
+    family: &Family,
+    root: Zid,
+    msg: &Msg,
+    out: &mut Vec<(LinkNo, Msg)>,
+) -> Result<(), AllocError>
+    ensures ok { OnOk result (out.new.items ≡ out.old.items ++ to_each (children_among links.now family.now root) msg.now) }
+    ensures err { OnErr result (IsPrefixBehind out.old.items (to_each (children_among links.now family.now root) msg.now) out.new.items) }
+{
+    let to = child_links(alloc, links, family, root)?;
     tell_each(alloc, &to, msg, out)
 }
 
@@ -89,11 +105,13 @@ fn child_links(
 ) -> Result<Vec<LinkNo>, AllocError>
     ensures { IfOk result (λ v. v.items ≡ children_among links.now family.now root) }
 {
-    links
-        .iter()
-        .filter(|link| leads_to_child(family, root, link))
-        .map(|link| link.link)
-        .collect(alloc)
+    let mut to = Vec::new(alloc);
+    for link in links {
+        if leads_to_child(family, root, link) {
+            to.push(link.link)?;
+        }
+    }
+    Ok(to)
 }
 
 // The links that lead to a child in the tree of a root that wasn't one before.
@@ -106,11 +124,13 @@ fn new_child_links(
 ) -> Result<Vec<LinkNo>, AllocError>
     ensures { IfOk result (λ v. v.items ≡ picked (λ l. leads_to_new_child family.now before.now root l) links.now) }
 {
-    links
-        .iter()
-        .filter(|link| leads_to_new_child(family, before, root, link))
-        .map(|link| link.link)
-        .collect(alloc)
+    let mut to = Vec::new(alloc);
+    for link in links {
+        if leads_to_new_child(family, before, root, link) {
+            to.push(link.link)?;
+        }
+    }
+    Ok(to)
 }
 
 fn leads_to_child(family: &Family, root: Zid, link: &LinkPeer) -> bool
@@ -160,19 +180,38 @@ fn tell_log(
     if to.is_empty() {
         return Ok(());
     }
+    tell_snapshot(alloc, &to, log, out)
+}
+
+fn tell_snapshot(
+    alloc: Global,
+    to: &[LinkNo],
+    log: &Log,
+    out: &mut Vec<(LinkNo, Msg)>,
+) -> Result<(), AllocError>
+    ensures ok { OnOk result (out.new.items ≡ out.old.items ++ to_each to.now (snapshot log.now)) }
+    ensures err { OnErr result (IsPrefixBehind out.old.items (to_each to.now (snapshot log.now)) out.new.items) }
+{
     let msg = snapshot(alloc, log)?;
-    tell_each(alloc, &to, &msg, out)
+    hand_out(alloc, to, msg, out)
 }
 
 // What is known of a log, as a message.
 fn snapshot(alloc: Global, log: &Log) -> Result<Msg, AllocError>
     ensures { IfOk result (λ m. m ≡ snapshot log.now) }
 {
+    let decls = decls_of(alloc, log)?;
     Ok(Msg::Snap {
         source: log.source,
         number: log.position,
-        decls: Decls::new(copies_of(alloc, log.decls.as_slice())?)?,
+        decls,
     })
+}
+
+fn decls_of(alloc: Global, log: &Log) -> Result<Decls, AllocError>
+    ensures { IfOk result (λ ds. ds ≡ log.now.decls) }
+{
+    Decls::new(copies_of(alloc, log.decls.as_slice())?)
 }
 
 fn tell_both(
@@ -212,14 +251,29 @@ fn tell_steps(
 {
     for decl in decls {
         number += 1;
-        let decl = Shared::new(alloc, decl.copy(alloc)?)?;
-        let msg = Msg::Step {
-            source: me,
-            number,
-            added,
-            decl,
-        };
-        tell_each(alloc, to, &msg, out)?;
+        tell_step(alloc, to, me, number, added, decl, out)?;
     }
     Ok(())
+}
+
+fn tell_step(
+    alloc: Global,
+    to: &[LinkNo],
+    me: Zid,
+    number: u64,
+    added: bool,
+    decl: &Decl,
+    out: &mut Vec<(LinkNo, Msg)>,
+) -> Result<(), AllocError>
+    ensures ok { OnOk result (out.new.items ≡ out.old.items ++ to_each to.now (Msg.Step me number added decl.now)) }
+    ensures err { OnErr result (IsPrefixBehind out.old.items (to_each to.now (Msg.Step me number added decl.now)) out.new.items) }
+{
+    let decl = Shared::new(alloc, decl.copy(alloc)?)?;
+    let msg = Msg::Step {
+        source: me,
+        number,
+        added,
+        decl,
+    };
+    hand_out(alloc, to, msg, out)
 }

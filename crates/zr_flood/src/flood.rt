@@ -1,6 +1,6 @@
 //! The records that an event sends.
 
-ghost use Rattle.std.specs.Prelude.{◌≡◌, ◌==◌, ◌&&◌, ◌++◌, not, true, OnOk, OnErr};
+ghost use Rattle.std.specs.Prelude.{◌≡◌, ◌==◌, ◌&&◌, ◌++◌, ◌∷◌, [], not, true, IfOk, OnOk, OnErr};
 ghost use Rattle.std.specs.Option.{option_copied};
 ghost use Rattle.zr_graph.specs.Base.{is_newer};
 ghost use Rattle.zr_graph.specs.Record.{record_of};
@@ -19,6 +19,7 @@ use zr_id::zid::Zid;
 use zr_msg::msg::Msg;
 use zr_msg::peer::{LinkPeer, Peer, Role};
 use zr_msg::shared::Shared;
+use zr_tell::tell::tell;
 use zr_tree::same::find_record;
 
 /// A link to a router has come up: each record goes to it, in ascending order of the routers, and the own one to every other router.
@@ -85,10 +86,28 @@ fn tell_all(
     ensures err { OnErr result (IsPrefixBehind out.old.items (all_to base.now to) out.new.items) }
 {
     for record in base.records() {
-        let links = Shared::new(alloc, record.copy(alloc)?)?;
-        out.push((to, Msg::State { links }))?;
+        tell_copy(alloc, record, to, out)?;
     }
     Ok(())
+}
+
+fn tell_copy(
+    alloc: Global,
+    state: &LinkRecord,
+    to: LinkNo,
+    out: &mut Vec<(LinkNo, Msg)>,
+) -> Result<(), AllocError>
+    ensures ok { OnOk result (out.new.items ≡ out.old.items ++ (to, Msg.State state.now) ∷ []) }
+    ensures err { OnErr result (out.new.items ≡ out.old.items) }
+{
+    let links = shared(alloc, state)?;
+    tell(to, Msg::State { links }, out)
+}
+
+fn shared(alloc: Global, state: &LinkRecord) -> Result<Shared<LinkRecord>, AllocError>
+    ensures { IfOk result (λ s. s ≡ state.now) }
+{
+    Shared::new(alloc, state.copy(alloc)?)
 }
 
 // The own record goes to every other router. It is copied once.
@@ -104,7 +123,7 @@ fn tell_own(
 {
     match own_record(base) {
         Some(own) => {
-            let own = Shared::new(alloc, own.copy(alloc)?)?;
+            let own = shared(alloc, own)?;
             tell_others(&own, links, from, out)
         }
         None => Ok(()),
@@ -123,11 +142,22 @@ fn tell_others(
 {
     for link in links {
         if is_other_router(link, from) {
-            let links = told.copy()?;
-            out.push((link.link, Msg::State { links }))?;
+            tell_shared(told, link.link, out)?;
         }
     }
     Ok(())
+}
+
+fn tell_shared(
+    told: &Shared<LinkRecord>,
+    link: LinkNo,
+    out: &mut Vec<(LinkNo, Msg)>,
+) -> Result<(), AllocError>
+    ensures ok { OnOk result (out.new.items ≡ out.old.items ++ (link, Msg.State told.now) ∷ []) }
+    ensures err { OnErr result (out.new.items ≡ out.old.items) }
+{
+    let links = told.copy()?;
+    tell(link, Msg::State { links }, out)
 }
 
 fn is_other_router(link: &LinkPeer, from: LinkNo) -> bool

@@ -5,4 +5,3 @@
 
 pub mod children;
 pub mod flood;
-pub mod tell;

@@ -6,8 +6,9 @@ use Rattle.zr_msg.specs.declared.decl.Decl.{Decl}
 use Rattle.zr_msg.specs.declared.msg.Msg.{Msg}
 use Rattle.zr_msg.specs.declared.msg.Msg.TheVariants.{Step}
 use Rattle.zr_routing.specs.Changes.{steps}
-use Rattle.zr_table.proofs.Prefixes.{IsSoFar, so_far_prefix}
-use Rattle.zr_flood.specs.Tell.{to_each, all_to_each}
+use Rattle.zr_table.proofs.Prefixes.{IsSoFar}
+use Rattle.zr_tell.specs.Each.{to_each}
+use Rattle.zr_flood.specs.Tell.{all_to_each}
 use Rattle.zr_flood.proofs.Chunks.{so_far_more, so_far_stopped}
 use Rattle.zr_flood.proofs.children.tell_steps.Goals as goal
 
@@ -23,23 +24,13 @@ next_decl to me number added ds i d old said now less is h =
     (at_drop_more (λ qs. left_from to me number added qs) ds i d less
     ∙ ap (λ q. to_each to (Step me (number + 1) added q) ++ left_from to me (number + 1) added (drop (i + 1) ds)) (sym is)) h
 
-pub returns-in_err-copy-clause-err : goal.returns-in_err-copy-clause-err
-returns-in_err-copy-clause-err c =
+pub returns-in_err-tell_step-clause-err : goal.returns-in_err-tell_step-clause-err
+returns-in_err-tell_step-clause-err c =
     let p = err_from_is_err_and c.from_residual.result c.from_residual.ensures.1 in
-    rw p.1 (so_far_prefix _ _ _ _ c.loop-decl.invariant.said)
-
-pub returns-in_err-decl-clause-err : goal.returns-in_err-decl-clause-err
-returns-in_err-decl-clause-err c =
-    let p = err_from_is_err_and c.from_residual-in_err-decl.result c.from_residual-in_err-decl.ensures.1 in
-    rw p.1 (so_far_prefix _ _ _ _ c.loop-decl.invariant.said)
-
-pub returns-in_err-tell_each-clause-err : goal.returns-in_err-tell_each-clause-err
-returns-in_err-tell_each-clause-err c =
-    let p = err_from_is_err_and c.from_residual-in_err-tell_each.result c.from_residual-in_err-tell_each.ensures.1 in
     rw p.1
     (so_far_stopped _ _ _ _ _ _
     (next_decl c.args.to.now c.args.me c.loop-decl.number c.args.added c.args.decls.now c.loop-decl.decl-index c.decl-item.result _ _ _ (omega arith) c.decl-item.is c.loop-decl.invariant.said)
-    (rw (c.in_ok-decl.ensures, c.in_ok-copy.ensures) at c.in_err-tell_each.ensures.err))
+    c.in_err-tell_step.ensures.err)
 
 pub loop-decl-preserved : goal.loop-decl-preserved
 loop-decl-preserved c = record {
@@ -47,5 +38,8 @@ loop-decl-preserved c = record {
   said =
       so_far_more _ _ _ _ _ _
       (next_decl c.args.to.now c.args.me c.loop-decl.number c.args.added c.args.decls.now c.loop-decl.decl-index c.decl-item.result _ _ _ (omega arith) c.decl-item.is c.loop-decl.invariant.said)
-      (rw (c.in_ok-decl.ensures, c.in_ok-copy.ensures) at c.in_ok-tell_each.ensures.ok);
+      c.in_ok-tell_step.ensures.ok;
 }
+
+pub overflow_add-number : goal.overflow_add-number
+overflow_add-number c = omega (arith, c.loop-decl.invariant.room, length-drop c.loop-decl.decl-index c.args.decls.now)
