@@ -1,13 +1,13 @@
 //! `Route`: the links over which a sample or a request on a key goes on in a tree.
 
-ghost use Rattle.std.specs.Prelude.{◌≡◌, ◌++◌, IfOk, OnOk, OnErr, map, filter};
+ghost use Rattle.std.specs.Prelude.{◌≡◌, ◌++◌, ◌∷◌, [], IfOk, OnOk, OnErr, map, filter};
 ghost use Rattle.zr_routing.specs.Queries.{tree_for};
 ghost use Rattle.zr_routing.specs.Samples.{push_along};
 ghost use Rattle.zr_routing.specs.Tables.{TableState, AreNumbered};
 ghost use Rattle.zr_table.specs.Event.{Tells, TellsPrefix};
 ghost use Rattle.zr_table.specs.Prefix.{IsPrefixBehind};
 ghost use Rattle.zr_push.specs.declared.sought.Sought.TheVariants.{Subscribers};
-ghost use Rattle.zr_push.specs.Route.{goes_on, is_stop, route_of, sent_along, stop_at, stops_from};
+ghost use Rattle.zr_push.specs.Route.{goes_on, is_stop, push_for, route_of, sent_along, stop_at, stops_from};
 
 use crate::client_rows::ClientRows;
 use crate::hops::Hops;
@@ -22,9 +22,10 @@ use zr_msg::content::Content;
 use zr_msg::msg::Msg;
 use zr_msg::peer::{LinkPeer, Role};
 use zr_routing::tables::Tables;
+use zr_tell::tell::tell;
 
 /// A link of a route, and who is at its other end.
-#[derive(Clone, Copy, Debug, PartialEq, Eq)]
+#[derive(Clone, Copy)]
 pub struct Stop {
     pub link: LinkNo,
     pub role: Role,
@@ -54,7 +55,7 @@ impl Stop {
 
 /// The links over which a sample or a request on a key goes on in a tree, in their order. The client that it comes from is among them if
 /// it has declared what is sought.
-#[derive(Debug, Drop)]
+#[derive(Drop)]
 pub struct Route {
     stops: Vec<Stop>,
 }
@@ -111,11 +112,13 @@ impl Route {
 fn stops_from(alloc: Global, stops: &[Stop], from: LinkNo) -> Result<Vec<Stop>, AllocError>
     ensures { IfOk result (λ v. v.items ≡ stops_from stops.now from.0) }
 {
-    stops
-        .iter()
-        .copied()
-        .filter(|stop| stop.takes_from(from))
-        .collect(alloc)
+    let mut left = Vec::new(alloc);
+    for stop in stops {
+        if stop.takes_from(from) {
+            left.push(*stop)?;
+        }
+    }
+    Ok(left)
 }
 
 fn send_along(
@@ -130,14 +133,24 @@ fn send_along(
 {
     for stop in stops {
         if stop.takes_from(from) {
-            let msg = Msg::Push {
-                tree: stop.named(tree),
-                content: content.copy()?,
-            };
-            out.push((stop.link, msg))?;
+            push_to(stop, tree, content, out)?;
         }
     }
     Ok(())
+}
+
+fn push_to(
+    stop: &Stop,
+    tree: Zid,
+    content: &Content,
+    out: &mut Vec<(LinkNo, Msg)>,
+) -> Result<(), AllocError>
+    ensures ok { OnOk result (out.new.items ≡ out.old.items ++ push_for tree content.now stop.now ∷ []) }
+    ensures err { OnErr result (out.new.items ≡ out.old.items) }
+{
+    let tree = stop.named(tree);
+    let content = content.copy()?;
+    tell(stop.link, Msg::Push { tree, content }, out)
 }
 
 // The stops at the links on the route, where these neighbours are those on the way.

@@ -6,7 +6,7 @@ ghost use Rattle.zr_push.specs.Sought.{sought_by};
 use zr_msg::msg::Target;
 
 /// What is sought: a sample seeks subscribers, and a request queryables, or complete ones alone.
-#[derive(Clone, Copy, Debug, PartialEq, Eq)]
+#[derive(Clone, Copy)]
 pub enum Sought {
     /// Subscribers to an expression that meets the key.
     Subscribers,

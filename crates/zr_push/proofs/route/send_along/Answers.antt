@@ -1,22 +1,17 @@
-use Rattle.std.proofs.Common.{Bool, List, ap, ◌∙◌, arith, sym, refl}
+use Rattle.std.proofs.Common.{Bool, List, ap, ◌∙◌, arith, sym}
 use Rattle.std.proofs.lemmas.Result.{err_from_is_err_and}
 use Rattle.zr_table.proofs.Prefixes.{so_far_prefix, along_picked, along_passed}
 use Rattle.zr_id.specs.declared.link.LinkNo.{LinkNo}
 use Rattle.zr_msg.specs.declared.msg.Msg.{Msg}
 use Rattle.zr_push.specs.declared.route.Stop.{Stop}
 use Rattle.zr_push.specs.Route.{goes_on, push_for, sent_along}
-use Rattle.zr_push.proofs.route.send_along.Goals.{then-takes_from+in_ok-copy+in_ok-push, else-takes_from}
+use Rattle.zr_push.proofs.route.send_along.Goals.{then-takes_from+in_ok-push_to, else-takes_from}
 use Rattle.zr_push.proofs.route.send_along.Goals as goal
 
-pub returns-in_err-copy-clause-err : goal.returns-in_err-copy-clause-err
-returns-in_err-copy-clause-err c =
+pub returns-in_err-push_to-clause-err : goal.returns-in_err-push_to-clause-err
+returns-in_err-push_to-clause-err c =
     let p = err_from_is_err_and c.from_residual.result c.from_residual.ensures.1 in
-    rw p.1 (so_far_prefix _ _ _ _ c.loop-stop.invariant)
-
-pub returns-in_err-push-clause-err : goal.returns-in_err-push-clause-err
-returns-in_err-push-clause-err c =
-    let p = err_from_is_err_and c.from_residual-in_err-push.result c.from_residual-in_err-push.ensures.1 in
-    rw (p.1, c.in_err-push.ensures.items) (so_far_prefix _ _ _ _ c.loop-stop.invariant)
+    rw (p.1, c.in_err-push_to.ensures.err) (so_far_prefix _ _ _ _ c.loop-stop.invariant)
 
 pub loop-stop-preserved : goal.loop-stop-preserved
 loop-stop-preserved c =
@@ -25,10 +20,10 @@ loop-stop-preserved c =
     let goes : Stop → Bool = λ s. goes_on c.args.from.0 s s.role in
     let said_of : Stop → LinkNo × Msg = λ s. push_for c.args.tree c.args.content.now s in
     elim c.if-takes_from.branch [
-      | then-takes_from+in_ok-copy+in_ok-push w ↦
+      | then-takes_from+in_ok-push_to w ↦
           along_picked goes said_of c.args.out.now.items said stops c.loop-stop.stop-index _ c.loop-stop.out.items c.if-takes_from.out.items
           (omega arith) (sym c.takes_from.ensures ∙ w.if-takes_from.true)
-          (ap (λ v. v.items) w.out-is ∙ w.in_ok-push.ensures.items ∙ rw (w.in_ok-copy.ensures, w.named.ensures) refl)
+          (ap (λ v. v.items) w.out-is ∙ w.in_ok-push_to.ensures.ok)
           c.loop-stop.invariant
       | else-takes_from w ↦
           along_passed goes said_of c.args.out.now.items said stops c.loop-stop.stop-index _ c.loop-stop.out.items c.if-takes_from.out.items
