@@ -16,6 +16,7 @@ use zr_msg::msg::Msg;
 use zr_msg::shared::Shared;
 use zr_pend::branch::Asker;
 use zr_pend::pending::Pending;
+use zr_tell::tell::tell;
 
 /// A reply has come under a number of a link: it goes to who asked, if the request is pending there and its asker's link is up.
 pub fn response(
@@ -79,20 +80,16 @@ pub fn send_final(
     ensures err { OnErr result (out.new.items ≡ out.old.items) }
 {
     let id = to.number;
-    out.push((to.link, Msg::Final { id, extras }))?;
-    Ok(())
+    tell(to.link, Msg::Final { id, extras }, out)
 }
 
 fn send_reply(to: Asker, content: &Content, out: &mut Vec<(LinkNo, Msg)>) -> Result<(), AllocError>
     ensures ok { OnOk result (out.new.items ≡ out.old.items ++ reply_sent content.now to ∷ []) }
     ensures err { OnErr result (out.new.items ≡ out.old.items) }
 {
-    let msg = Msg::Response {
-        id: to.number,
-        content: content.copy()?,
-    };
-    out.push((to.link, msg))?;
-    Ok(())
+    let id = to.number;
+    let content = content.copy()?;
+    tell(to.link, Msg::Response { id, content }, out)
 }
 
 // Each of these gets a final, without extensions.
@@ -101,8 +98,19 @@ fn end_each(alloc: Global, askers: &[Asker], out: &mut Vec<(LinkNo, Msg)>) -> Re
     ensures err { OnErr result (IsPrefixBehind out.old.items (map (λ a. final_sent no_extras a) askers.now) out.new.items) }
 {
     let none = Shared::new(alloc, Extras::none())?;
+    end_with(&none, askers, out)
+}
+
+fn end_with(
+    extras: &Shared<Extras>,
+    askers: &[Asker],
+    out: &mut Vec<(LinkNo, Msg)>,
+) -> Result<(), AllocError>
+    ensures ok { OnOk result (out.new.items ≡ out.old.items ++ map (λ a. final_sent extras.now a) askers.now) }
+    ensures err { OnErr result (IsPrefixBehind out.old.items (map (λ a. final_sent extras.now a) askers.now) out.new.items) }
+{
     for asker in askers {
-        send_final(*asker, none.copy()?, out)?;
+        send_final(*asker, extras.copy()?, out)?;
     }
     Ok(())
 }

@@ -12,7 +12,7 @@ ghost use Rattle.zr_routing.specs.Tables.{TableState, link_at};
 ghost use Rattle.zr_table.specs.Event.{Tells, TellsPrefix};
 ghost use Rattle.zr_table.specs.Prefix.{IsPrefixBehind};
 ghost use Rattle.zr_query.specs.Answering.{final_sent};
-ghost use Rattle.zr_query.specs.Asking.{IsRouteOf, all_asked, asked_of, each_asked, links_of, sent_by};
+ghost use Rattle.zr_query.specs.Asking.{IsRouteOf, all_asked, asked_of, each_asked, links_of, request_for, sent_by};
 
 use crate::answering::send_final;
 use std::alloc::{AllocError, Global};
@@ -26,9 +26,10 @@ use zr_msg::shared::Shared;
 use zr_pend::branch::Asker;
 use zr_pend::pending::{PendError, Pending};
 use zr_push::route::{Route, Stop};
+use zr_tell::tell::tell;
 
 /// Why a request doesn't go on.
-#[derive(Clone, Copy, Debug, PartialEq, Eq, Drop, Error)]
+#[derive(Debug, Drop, Error)]
 pub enum RequestError {
     #[error("a link has every number pending")]
     NoNumber,
@@ -182,15 +183,31 @@ fn ask_each(
     ensures err { OnErr result (IsPrefixBehind out.old.items (each_asked tree target content.now stops.now numbers.now) out.new.items) }
 {
     for (i, stop) in stops.iter().enumerate() {
-        let msg = Msg::Request {
-            tree: stop.named(tree),
-            id: numbers[i],
-            target,
-            content: content.copy()?,
-        };
-        out.push((stop.link, msg))?;
+        ask_at(stop, numbers[i], tree, target, content, out)?;
     }
     Ok(())
+}
+
+fn ask_at(
+    stop: &Stop,
+    id: u32,
+    tree: Zid,
+    target: Target,
+    content: &Content,
+    out: &mut Vec<(LinkNo, Msg)>,
+) -> Result<(), AllocError>
+    ensures ok { OnOk result (out.new.items ≡ out.old.items ++ request_for tree target content.now stop.now id ∷ []) }
+    ensures err { OnErr result (out.new.items ≡ out.old.items) }
+{
+    let tree = stop.named(tree);
+    let content = content.copy()?;
+    let msg = Msg::Request {
+        tree,
+        id,
+        target,
+        content,
+    };
+    tell(stop.link, msg, out)
 }
 
 // The asker gets a final, without extensions.
