@@ -18,7 +18,7 @@ use zr_msg::decl::{Decl, Kind};
 use zr_msg::error::NodeError;
 
 /// What a client asks of its declarations.
-#[derive(Debug, Drop)]
+#[derive(Drop)]
 pub enum Asked {
     /// It declares something under an id.
     Declare { link: LinkNo, id: u32, decl: Decl },

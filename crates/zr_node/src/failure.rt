@@ -7,7 +7,7 @@ use zr_msg::error::NodeError;
 use zr_query::asking::RequestError;
 
 /// Why an event wasn't handled.
-#[derive(Debug, Drop)]
+#[derive(Drop)]
 pub enum Failure {
     /// It is refused, and nothing has changed.
     Refused(NodeError),

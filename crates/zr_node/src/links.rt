@@ -18,7 +18,7 @@ use zr_msg::peer::{LinkPeer, Peer};
 const MOST_LINKS: usize = 4_294_967_295;
 
 /// The links that are up.
-#[derive(Debug, Drop)]
+#[derive(Drop)]
 pub struct Links {
     all: Vec<LinkPeer>,
     // by a neighbour's name, the number under which a link to it last came up: a hint, which is checked at the link

@@ -91,9 +91,10 @@ impl Node {
     pub fn new(alloc: Global, me: Zid) -> Result<Node, AllocError>
         ensures { IfOk result (λ node. node ≡ new_node me) }
     {
+        let base = Base::new(alloc, me)?;
         Ok(Node {
             links: Links::new(alloc),
-            base: Base::new(alloc, me)?,
+            base,
             local: Local::new(alloc),
             known: Known::new(alloc, me),
             pending: Pending::new(alloc),
@@ -108,18 +109,52 @@ impl Node {
     pub fn copy(&self, alloc: Global) -> Result<Node, AllocError>
         ensures { IfOk result (λ n. n ≡ self.now) }
     {
+        let links = self.links.copy(alloc)?;
+        let pending = self.pending.copy(alloc)?;
+        self.copy_with(alloc, links, pending)
+    }
+
+    fn copy_with(&self, alloc: Global, links: Links, pending: Pending) -> Result<Node, AllocError>
+        requires links { links ≡ self.now.links }
+        requires pending { pending ≡ self.now.pending }
+        ensures { IfOk result (λ n. n ≡ self.now) }
+    {
+        let base = self.base.copy(alloc)?;
+        let known = self.known.copy(alloc)?;
+        self.copy_of(alloc, links, pending, base, known)
+    }
+
+    // The rest is copied.
+    fn copy_of(
+        &self,
+        alloc: Global,
+        links: Links,
+        pending: Pending,
+        base: Base,
+        known: Known,
+    ) -> Result<Node, AllocError>
+        requires links { links ≡ self.now.links }
+        requires pending { pending ≡ self.now.pending }
+        requires base { base ≡ self.now.base }
+        requires known { known ≡ self.now.known }
+        ensures { IfOk result (λ n. n ≡ self.now) }
+    {
+        let local = self.local.copy(alloc)?;
         Ok(Node {
-            links: self.links.copy(alloc)?,
-            base: self.base.copy(alloc)?,
-            local: self.local.copy(alloc)?,
-            known: self.known.copy(alloc)?,
-            pending: self.pending.copy(alloc)?,
+            links,
+            base,
+            local,
+            known,
+            pending,
             family: None,
             trees: None,
             routes: Routes::new(alloc),
             spent: self.spent,
         })
     }
+
+    /// The router is needed no more. The crates above drop none themselves, so that they know nothing of its parts.
+    pub fn discard(self) {}
 
     /// The router itself.
     pub fn me(&self) -> Zid
@@ -159,13 +194,6 @@ impl Node {
         ensures in_order { AreByLink self.now.clients }
     {
         self.local.clients()
-    }
-
-    /// What its own clients have declared, and their live interests, as the table of them.
-    pub fn local(&self) -> &Local
-        ensures { result.now ≡ local_state self.now }
-    {
-        &self.local
     }
 
     /// What it knows of the change logs of all routers, its own among them.

@@ -1,6 +1,6 @@
 //! How the own record changes where a link to a router comes or goes.
 
-ghost use Rattle.std.specs.Prelude.{◌≡◌, filter, true, false, IfOk, OnOk, OnErr};
+ghost use Rattle.std.specs.Prelude.{◌≡◌, ◌++◌, filter, not, true, false, IfOk, OnOk, OnErr};
 ghost use Rattle.zr_id.specs.Record.{are_links, is_before};
 ghost use Rattle.zr_id.specs.Zid.{is_named};
 ghost use Rattle.zr_table.specs.Table.{own_links, with_name, without_name, joined, parted, is_worn, is_full, refuses_up, refuses_parting};
@@ -70,27 +70,55 @@ fn own_links(base: &Base) -> &[Zid]
 fn with_name(alloc: Global, names: &[Zid], id: &Zid) -> Result<Vec<Zid>, AllocError>
     ensures { IfOk result (λ all. all.items ≡ with_name names.now id.now) }
 {
-    let mut all = names_below(alloc, names, id)?;
+    let mut all = Vec::new(alloc);
+    push_below(&mut all, names, id)?;
     all.push(*id)?;
-    let above = names_above(alloc, names, id)?;
-    all.extend_from_slice(above.as_slice())?;
+    push_above(&mut all, names, id)?;
     Ok(all)
 }
 
-fn names_below(alloc: Global, names: &[Zid], id: &Zid) -> Result<Vec<Zid>, AllocError>
-    ensures { IfOk result (λ below. below.items ≡ filter (λ y. is_before y id.now) names.now) }
+fn push_below(all: &mut Vec<Zid>, names: &[Zid], id: &Zid) -> Result<(), AllocError>
+    ensures { OnOk result (all.new.items ≡ all.old.items ++ filter (λ y. is_before y id.now) names.now) }
 {
-    names.iter().copied().filter(|y| *y < *id).collect(alloc)
+    for name in names {
+        if is_before(name, id) {
+            all.push(*name)?;
+        }
+    }
+    Ok(())
 }
 
-fn names_above(alloc: Global, names: &[Zid], id: &Zid) -> Result<Vec<Zid>, AllocError>
-    ensures { IfOk result (λ above. above.items ≡ filter (λ y. is_before id.now y) names.now) }
+fn push_above(all: &mut Vec<Zid>, names: &[Zid], id: &Zid) -> Result<(), AllocError>
+    ensures { OnOk result (all.new.items ≡ all.old.items ++ filter (λ y. is_before id.now y) names.now) }
 {
-    names.iter().copied().filter(|y| *id < *y).collect(alloc)
+    for name in names {
+        if is_before(id, name) {
+            all.push(*name)?;
+        }
+    }
+    Ok(())
+}
+
+fn is_before(first: &Zid, second: &Zid) -> bool
+    ensures { result ≡ is_before first.now second.now }
+{
+    *first < *second
 }
 
 fn without_name(alloc: Global, names: &[Zid], id: &Zid) -> Result<Vec<Zid>, AllocError>
     ensures { IfOk result (λ rest. rest.items ≡ without_name names.now id.now) }
 {
-    names.iter().copied().filter(|y| *y != *id).collect(alloc)
+    let mut rest = Vec::new(alloc);
+    for name in names {
+        if is_other(name, id) {
+            rest.push(*name)?;
+        }
+    }
+    Ok(rest)
+}
+
+fn is_other(name: &Zid, id: &Zid) -> bool
+    ensures { result ≡ not (is_named name.now id.now) }
+{
+    *name != *id
 }

@@ -24,7 +24,7 @@ const START: u64 = 0xcbf2_9ce4_8422_2325;
 const FACTOR: u64 = 0x0100_0000_01b3;
 
 /// A route, with the tree, what is sought and the key that it is of.
-#[derive(Debug, Drop)]
+#[derive(Drop)]
 pub struct Remembered {
     tree: Zid,
     sought: Sought,
@@ -43,7 +43,7 @@ impl Remembered {
 }
 
 /// The routes that are remembered.
-#[derive(Debug, Drop)]
+#[derive(Drop)]
 pub struct Routes {
     // by a number that is worked out from tree, what is sought and key: a hint, which is checked at the route
     known: BTreeMap<u64, Remembered>,

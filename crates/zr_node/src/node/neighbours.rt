@@ -1,14 +1,14 @@
 //! The links of a router that come up and go down.
 
-ghost use Rattle.std.specs.Prelude.{◌≡◌, true, OnOk, OnErr, is_some};
+ghost use Rattle.std.specs.Prelude.{◌≡◌, [], true, OnOk, OnErr, is_some};
 ghost use Rattle.zr_pend.specs.Pending.{dropped};
 ghost use Rattle.zr_routing.specs.Queries.{sends_ends};
 ghost use Rattle.zr_routing.specs.Tables.{link_at};
 ghost use Rattle.zr_table.specs.Event.{IsFresh, Tells, TellsPrefix};
-ghost use Rattle.zr_table.specs.State.{new_link};
+ghost use Rattle.zr_table.specs.State.{NodeState, new_link};
 ghost use Rattle.zr_table.specs.Table.{with_link, with_pending, without_link};
-ghost use Rattle.zr_node.specs.Done.{IsDone};
-ghost use Rattle.zr_node.specs.Steps.{with_links, event_part, up_part, join_part, down_part, parting_part, leave_part};
+ghost use Rattle.zr_node.specs.Done.{IsDone, IsLeft};
+ghost use Rattle.zr_node.specs.Steps.{with_links, event_part, up_part, join_part, down_part, parting_part, asked_part, leave_part};
 
 use super::Node;
 use crate::asked::Asked;
@@ -21,6 +21,7 @@ use zr_msg::event::Event;
 use zr_msg::msg::Msg;
 use zr_msg::peer::{Peer, Role};
 use zr_query::answering::ends_of;
+use zr_tell::tell::{append, discard};
 
 impl Node {
     // A link has come up.
@@ -121,13 +122,34 @@ impl Node {
     {
         let mut told = Vec::new(alloc);
         match self.change_rows(alloc, Asked::Leave { link }, &mut told) {
+            Ok(()) => self.leave(alloc, link, told, out),
+            Err(failure) => {
+                discard(told);
+                Err(failure)
+            }
+        }
+    }
+
+    // All that the client had declared is gone, of which this is to be told.
+    fn leave(
+        &mut self,
+        alloc: Global,
+        link: LinkNo,
+        told: Vec<(LinkNo, Msg)>,
+        out: &mut Vec<(LinkNo, Msg)>,
+    ) -> Result<(), Failure>
+        ensures { (node : NodeState) → IsLeft (asked_part node (Asked.Leave link)) self.old [] told.items → IsDone (leave_part node link) result self.new out.old.items out.new.items }
+    {
+        match self.end_requests(alloc, link, out) {
             Ok(()) => {
-                self.end_requests(alloc, link, out)?;
-                out.append(&mut told)?;
+                append(out, told)?;
                 self.remove(link);
                 Ok(())
             }
-            Err(failure) => Err(failure),
+            Err(AllocError) => {
+                discard(told);
+                Err(Failure::NoMemory)
+            }
         }
     }
 

@@ -1,0 +1,8 @@
+-- The names that are left are left to be added.
+use Rattle.std.proofs.Common.{drop, filter}
+use Rattle.zr_id.specs.Record.{is_before}
+use Rattle.zr_table.proofs.Prefixes.{IsSoFar}
+use Rattle.zr_node.proofs.own.push_above.Given as goal
+
+abbrev pub invariant-loop-name : goal.invariant-loop-name
+invariant-loop-name l = IsSoFar l.fn.all.items (filter (λ y. is_before l.id y) l.names) l.all.items (filter (λ y. is_before l.id y) (drop l.name-index l.names))
