@@ -4,7 +4,7 @@ use std::alloc::AllocError;
 use zr_msg::error::NodeError;
 
 /// Why an event wasn't handled.
-#[derive(Debug, Drop)]
+#[derive(Drop)]
 pub enum Failure {
     /// It is refused, and nothing has changed.
     Refused(NodeError),

@@ -1,9 +1,8 @@
 //! Where an event changes what is declared.
 
 ghost use Rattle.std.specs.Prelude.{◌≡◌, ◌++◌, ◌∷◌, [], Some, IfOk, IfSome, OnOk};
-ghost use Rattle.std.specs.Option.{option_copied, option_map};
+ghost use Rattle.std.specs.Option.{option_map};
 ghost use Rattle.zr_graph.specs.Base.{is_newer};
-ghost use Rattle.zr_graph.specs.Record.{record_of};
 ghost use Rattle.zr_local.specs.Rows.{AreInOrder};
 ghost use Rattle.zr_routing.specs.Tables.{link_at};
 ghost use Rattle.zr_table.specs.Table.{able_kind, key_of, row};
@@ -14,7 +13,6 @@ use std::alloc::{AllocError, Global};
 use zr_graph::base::Base;
 use zr_id::link::LinkNo;
 use zr_id::record::LinkRecord;
-use zr_id::zid::Zid;
 use zr_key::key::KeyExpr;
 use zr_local::row::{self, Key, Row};
 use zr_msg::decl::{Decl, Kind};
@@ -23,6 +21,7 @@ use zr_msg::msg::Msg;
 use zr_msg::peer::Role;
 use zr_node::node::Node;
 use zr_told::place::{Place, class_of};
+use zr_tree::same::find_record;
 
 /// Where an event changes what is declared: at these places alone, or anywhere where there is no list of them.
 pub fn changed_places(
@@ -134,16 +133,10 @@ fn is_newer(base: &Base, told: &LinkRecord) -> bool
     if told.id() == base.me() {
         return false;
     }
-    match record_of(base.records(), told.id()) {
+    match find_record(base.records(), &told.id()) {
         Some(known) => known.seq() < told.seq(),
         None => true,
     }
-}
-
-fn record_of(records: &[LinkRecord], id: Zid) -> Option<&LinkRecord>
-    ensures { option_copied result ≡ record_of records.now id }
-{
-    records.iter().find(|record| record.id() == id)
 }
 
 fn some(places: Result<Vec<Place>, AllocError>) -> Result<Option<Vec<Place>>, AllocError>

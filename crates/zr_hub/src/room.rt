@@ -10,9 +10,13 @@ use crate::counts::{count_foreign, more_decls, most_interests};
 use crate::failure::Failure;
 use crate::handled::handle;
 use std::alloc::Global;
+use zr_id::link::LinkNo;
 use zr_msg::error::NodeError;
 use zr_msg::event::Event;
+use zr_msg::msg::Msg;
 use zr_node::node::Node;
+use zr_routing::tables::Tables;
+use zr_tell::tell::discard;
 use zr_told::error::ToldError;
 use zr_told::told::Told;
 
@@ -46,8 +50,25 @@ fn judge_copy(alloc: Global, mut node: Node, event: &Event) -> Result<(), Failur
     requires may_come { MayCome node event.now }
     ensures { IsRoomy node event.now result }
 {
-    match handle(alloc, &mut node, event, &mut Vec::new(alloc)) {
-        Ok(()) => judge_ids(alloc, &mut node),
+    let mut sent = Vec::new(alloc);
+    let answer = judge_event(alloc, &mut node, event, &mut sent);
+    discard(sent);
+    node.discard();
+    answer
+}
+
+fn judge_event(
+    alloc: Global,
+    node: &mut Node,
+    event: &Event,
+    sent: &mut Vec<(LinkNo, Msg)>,
+) -> Result<(), Failure>
+    requires awake { node.old.spent ≡ false }
+    requires may_come { MayCome node.old event.now }
+    ensures { IsRoomy node.old event.now result }
+{
+    match handle(alloc, node, event, sent) {
+        Ok(()) => judge_ids(alloc, node),
         Err(Failure::Refused(error)) => Err(Failure::Refused(error)),
         Err(Failure::NoMemory) => Err(Failure::NoMemory),
     }
@@ -58,9 +79,18 @@ fn judge_ids(alloc: Global, node: &mut Node) -> Result<(), Failure>
     ensures { IsLasting (one_lacks_ids (tables node.old) node.old.clients) result }
 {
     let trees = node.take_trees(alloc)?;
-    let mut told = Told::new(alloc);
     let mut sent = Vec::new(alloc);
-    match told.changed_all(alloc, &node.tables(&trees), node.clients(), &mut sent) {
+    let answer = judge_told(alloc, &node.tables(&trees), &mut sent);
+    discard(sent);
+    node.put_trees(trees);
+    answer
+}
+
+fn judge_told(alloc: Global, tables: &Tables, sent: &mut Vec<(LinkNo, Msg)>) -> Result<(), Failure>
+    ensures { IsLasting (one_lacks_ids tables.now tables.now.clients) result }
+{
+    let mut told = Told::new(alloc);
+    match told.changed_all(alloc, tables, tables.local().clients(), sent) {
         Ok(()) => Ok(()),
         Err(ToldError::Worn) => Err(Failure::Refused(NodeError::Worn)),
         Err(ToldError::NoMemory) => Err(Failure::NoMemory),

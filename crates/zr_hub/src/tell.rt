@@ -17,7 +17,7 @@ use crate::quiet::is_own;
 use std::alloc::{AllocError, Global};
 use zr_id::link::LinkNo;
 use zr_key::key::KeyExpr;
-use zr_local::interest::{ClientInterests, Interest};
+use zr_local::interest::{ClientInterests, Interest, copied};
 use zr_msg::event::Event;
 use zr_msg::msg::{Kinds, Msg};
 use zr_msg::peer::{LinkPeer, Role};
@@ -153,14 +153,10 @@ fn interest_of(
 ) -> Result<Interest, AllocError>
     ensures { IfOk result (λ i. i ≡ record { id = id; kinds = kinds; key = key.now; aggregate = aggregate }) }
 {
-    let key = match key {
-        Some(key) => Some(key.copy(alloc)?),
-        None => None,
-    };
     Ok(Interest {
         id,
         kinds,
-        key,
+        key: copied(alloc, key)?,
         aggregate,
     })
 }
