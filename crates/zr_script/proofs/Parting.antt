@@ -1,14 +1,14 @@
 -- The first word of a text, and what is behind it.
-use Rattle.std.proofs.Common.{◌≡◌, ℕ, ◌+◌, ◌-◌, ◌<◌, ◌==◌, true, nat_lt, nat_le, List, [], ◌∷◌, length, take, drop, Some, None, Result, Ok, Err, ap, subst, arith}
+use Rattle.std.proofs.Common.{◌≡◌, ℕ, ◌+◌, ◌-◌, ◌<◌, ◌==◌, true, nat_lt, nat_le, List, [], ◌∷◌, length, take, drop, Some, None, Err, refl, ap, subst, arith}
 use Rattle.std.specs.Prelude.{position, filter, if◌then◌else◌}
 use Rattle.std.proofs.lemmas.Bool.{and_parts}
 use Rattle.std.proofs.lemmas.List.{take_all, length-drop, length-take}
 use Rattle.std.proofs.lemmas.List.Quantifiers.{position-Some}
 use Rattle.zr_text.proofs.Cutting.{cut_some, none_cut}
 use Rattle.zr_language.specs.Lines.{most_line}
-use Rattle.zr_command.specs.declared.error.ScriptError.{ScriptError}
-use Rattle.zr_language.specs.Words.{words, five_of}
-use Rattle.zr_script.specs.Args.{first_of}
+use Rattle.zr_command.specs.declared.error.ScriptError.TheVariants.{BadWords}
+use Rattle.zr_language.specs.Words.{words, one_of, two_of, three_of, four_of, five_of}
+use Rattle.zr_script.specs.Args.{none_of}
 use Rattle.zr_script.specs.Short.{are_short}
 
 -- the words behind the first are as short
@@ -32,22 +32,33 @@ behind_shorter text place k found =
     let within = (position-Some (λ b. b == 32) text place 0 found).0 in
     omega (arith, length-take k (drop (place + 1) text), length-drop (place + 1) text)
 
-abbrev all_or_none : Result (List ℕ × List (List ℕ)) ScriptError → List (List ℕ)
-all_or_none (Ok p) = p.0 ∷ p.1
-all_or_none (Err e) = []
+-- with a word more than too few or too many there are too few or too many
+pub one_more : (ws more : List (List ℕ)) (a : List ℕ) → ws ≡ a ∷ more → none_of more ≡ Err BadWords → one_of ws ≡ Err BadWords
+one_more ws [] a e h = absurd (cc)
+one_more ws (b ∷ more) a e h = ap one_of e
 
-first_is : (ws : List (List ℕ)) (w : List ℕ) (more : List (List ℕ)) → first_of ws ≡ Ok (w, more) → ws ≡ w ∷ more
-first_is [] w more e = absurd (cc)
-first_is (v ∷ vs) w more e = ap all_or_none e
+pub two_more : (ws more : List (List ℕ)) (a : List ℕ) → ws ≡ a ∷ more → one_of more ≡ Err BadWords → two_of ws ≡ Err BadWords
+two_more ws [] a e h = ap two_of e
+two_more ws (b ∷ []) a e h = absurd (cc)
+two_more ws (b ∷ c ∷ more) a e h = ap two_of e
 
--- five words that were taken one after another, and those behind them
-pub five_from : (ws r1 r2 r3 r4 r5 : List (List ℕ)) (a b c d e : List ℕ) → first_of ws ≡ Ok (a, r1) → first_of r1 ≡ Ok (b, r2) → first_of r2 ≡ Ok (c, r3) →
-    first_of r3 ≡ Ok (d, r4) → first_of r4 ≡ Ok (e, r5) → five_of ws ≡ Ok (a, b, c, d, e, r5)
-five_from ws r1 r2 r3 r4 r5 a b c d e h1 h2 h3 h4 h5 =
-    let i1 = first_is ws a r1 h1 in
-    let i2 = first_is r1 b r2 h2 in
-    let i3 = first_is r2 c r3 h3 in
-    let i4 = first_is r3 d r4 h4 in
-    let i5 = first_is r4 e r5 h5 in
-    let whole : ws ≡ a ∷ b ∷ c ∷ d ∷ e ∷ r5 = cc in
-    ap five_of whole
+pub three_more : (ws more : List (List ℕ)) (a : List ℕ) → ws ≡ a ∷ more → two_of more ≡ Err BadWords → three_of ws ≡ Err BadWords
+three_more ws [] a e h = ap three_of e
+three_more ws (b ∷ []) a e h = ap three_of e
+three_more ws (b ∷ c ∷ []) a e h = absurd (cc)
+three_more ws (b ∷ c ∷ d ∷ more) a e h = ap three_of e
+
+pub four_more : (ws more : List (List ℕ)) (a : List ℕ) → ws ≡ a ∷ more → three_of more ≡ Err BadWords → four_of ws ≡ Err BadWords
+four_more ws [] a e h = ap four_of e
+four_more ws (b ∷ []) a e h = ap four_of e
+four_more ws (b ∷ c ∷ []) a e h = ap four_of e
+four_more ws (b ∷ c ∷ d ∷ []) a e h = absurd (cc)
+four_more ws (b ∷ c ∷ d ∷ f ∷ more) a e h = ap four_of e
+
+pub few_five : (ws : List (List ℕ)) → length ws < 5 → five_of ws ≡ Err BadWords
+few_five [] le = refl
+few_five (a ∷ []) le = refl
+few_five (a ∷ b ∷ []) le = refl
+few_five (a ∷ b ∷ c ∷ []) le = refl
+few_five (a ∷ b ∷ c ∷ d ∷ []) le = refl
+few_five (a ∷ b ∷ c ∷ d ∷ e ∷ more) le = absurd (omega arith)

@@ -1,10 +1,9 @@
 -- The words of a line are no longer than the line.
-use Rattle.std.proofs.Common.{◌≡◌, ℕ, ◌≤◌, ◌<◌, ◌^◌, ◌==◌, Bool, true, false, cond, nat_lt, nat_le, List, [], ◌∷◌, length, Result, Ok, Err, refl, ap, subst, arith}
+use Rattle.std.proofs.Common.{◌≡◌, ℕ, ◌≤◌, ◌<◌, ◌^◌, ◌==◌, Bool, true, false, cond, nat_lt, nat_le, List, [], ◌∷◌, length, refl, subst, arith}
 use Rattle.std.specs.List.{list_all, filter, slice_split, onto_first}
 use Rattle.std.proofs.lemmas.Bool.{and_parts, and_from, leb-true, le-leb}
-use Rattle.zr_command.specs.declared.error.ScriptError.{ScriptError}
 use Rattle.zr_language.specs.Lines.{most_line}
-use Rattle.zr_language.specs.Words.{words, three_of, four_of, payload_at, is_word}
+use Rattle.zr_language.specs.Words.{words, payload_at, is_word}
 use Rattle.zr_script.specs.Short.{are_short}
 
 abbrev within : ℕ → List (List ℕ) → Bool
@@ -60,39 +59,18 @@ payload_short word short = by (is_word word (45 ∷ []))
     by true = omega arith
     by false = omega (arith, short)
 
-abbrev third_or_none : Result (List ℕ × List ℕ × List ℕ) ScriptError → List ℕ
-third_or_none (Ok w) = w.2
-third_or_none (Err e) = []
-
 -- the payload of the third of three words is short enough for a body
-pub third_short : (args : List (List ℕ)) (a b c : List ℕ) → are_short args ≡ true → three_of args ≡ Ok (a, b, c) → length (payload_at c) < 2 ^ 32
-third_short [] a b c h e = absurd (cc)
-third_short (x ∷ []) a b c h e = absurd (cc)
-third_short (x ∷ y ∷ []) a b c h e = absurd (cc)
-third_short (x ∷ y ∷ z ∷ []) a b c h e =
-    let same : z ≡ c = ap third_or_none e in
-    let first = and_parts (nat_le (length x) most_line) (are_short (y ∷ z ∷ [])) h in
-    let second = and_parts (nat_le (length y) most_line) (are_short (z ∷ [])) first.1 in
-    let third = and_parts (nat_le (length z) most_line) true second.1 in
-    let short : length z ≤ most_line = leb-true (length z) most_line third.0 in
-    subst (λ w. length (payload_at w) < 2 ^ 32) same (payload_short z short)
-third_short (x ∷ y ∷ z ∷ w ∷ more) a b c h e = absurd (cc)
-
-abbrev fourth_or_none : Result (List ℕ × List ℕ × List ℕ × List ℕ) ScriptError → List ℕ
-fourth_or_none (Ok w) = w.3
-fourth_or_none (Err e) = []
+pub third_short : (args : List (List ℕ)) (a b c : List ℕ) → are_short args ≡ true → args ≡ a ∷ b ∷ c ∷ [] → length (payload_at c) < 2 ^ 32
+third_short args a b c h e =
+    let all : are_short (a ∷ b ∷ c ∷ []) ≡ true = subst (λ ws. are_short ws ≡ true) e h in
+    let first = and_parts (nat_le (length a) most_line) (are_short (b ∷ c ∷ [])) all in
+    let second = and_parts (nat_le (length b) most_line) (are_short (c ∷ [])) first.1 in
+    let third = and_parts (nat_le (length c) most_line) true second.1 in
+    payload_short c (leb-true (length c) most_line third.0)
 
 -- the payload of the fourth of four words is short enough for a body
-pub fourth_short : (args : List (List ℕ)) (a b c d : List ℕ) → are_short args ≡ true → four_of args ≡ Ok (a, b, c, d) → length (payload_at d) < 2 ^ 32
-fourth_short [] a b c d h e = absurd (cc)
-fourth_short (x ∷ []) a b c d h e = absurd (cc)
-fourth_short (x ∷ y ∷ []) a b c d h e = absurd (cc)
-fourth_short (x ∷ y ∷ z ∷ []) a b c d h e = absurd (cc)
-fourth_short (x ∷ y ∷ z ∷ w ∷ []) a b c d h e =
-    let same : w ≡ d = ap fourth_or_none e in
-    let first = and_parts (nat_le (length x) most_line) (are_short (y ∷ z ∷ w ∷ [])) h in
-    let second = and_parts (nat_le (length y) most_line) (are_short (z ∷ w ∷ [])) first.1 in
-    let third = and_parts (nat_le (length z) most_line) (are_short (w ∷ [])) second.1 in
-    let fourth = and_parts (nat_le (length w) most_line) true third.1 in
-    subst (λ v. length (payload_at v) < 2 ^ 32) same (payload_short w (leb-true (length w) most_line fourth.0))
-fourth_short (x ∷ y ∷ z ∷ w ∷ v ∷ more) a b c d h e = absurd (cc)
+pub fourth_short : (args : List (List ℕ)) (a b c d : List ℕ) → are_short args ≡ true → args ≡ a ∷ b ∷ c ∷ d ∷ [] → length (payload_at d) < 2 ^ 32
+fourth_short args a b c d h e =
+    let all : are_short (a ∷ b ∷ c ∷ d ∷ []) ≡ true = subst (λ ws. are_short ws ≡ true) e h in
+    let first = and_parts (nat_le (length a) most_line) (are_short (b ∷ c ∷ d ∷ [])) all in
+    third_short (b ∷ c ∷ d ∷ []) b c d first.1 refl

@@ -1,10 +1,11 @@
 //! The words of a text, taken from it one after another: no list of them is made.
 
 ghost use Rattle.std.specs.Prelude.{◌≡◌, ◌==◌, ◌<◌, ◌∷◌, [], length, nat_lt, position, MatchOption, if◌then◌else◌};
-ghost use Rattle.zr_language.specs.Step.{IsSaid, IsSaidBy};
-ghost use Rattle.zr_language.specs.Words.{words, is_word, aggregate_at, one_of, two_of, three_of, four_of, five_of};
-ghost use Rattle.zr_script.specs.Args.{first_of, none_of};
+ghost use Rattle.zr_language.specs.Step.{IsSaid};
+ghost use Rattle.zr_language.specs.Words.{words, aggregate_at, one_of, two_of, three_of, four_of, five_of};
+ghost use Rattle.zr_script.specs.Args.{Takes, none_of};
 
+use crate::word::is_word;
 use zr_command::error::ScriptError;
 
 /// The first word of a text, and what is behind it.
@@ -41,66 +42,78 @@ fn space(text: &[u8]) -> Option<usize>
     text.iter().position(|b| *b == b' ')
 }
 
-/// Whether a name is this word.
-pub fn is_word(name: &[u8], word: &[u8]) -> bool
-    ensures { result ≡ is_word name.now word.now }
-{
-    // most words differ in length, which is told without a call
-    name.len() == word.len() && name == word
-}
-
 /// The one word that there is.
+#[tactic(auto, using(crate::proofs::Parting::one_more))]
 pub fn one(text: &[u8]) -> Result<&[u8], ScriptError>
-    ensures { IsSaidBy (λ w. w.now) result (one_of (words text.now)) }
+    ensures { Takes (λ a. a.now ∷ []) result (one_of (words text.now)) (words text.now) }
 {
-    let (a, rest) = next(text)?;
+    let Some((a, rest)) = first(text) else {
+        return Err(ScriptError::BadWords);
+    };
     none(rest)?;
     Ok(a)
 }
 
 /// The two words that there are.
+#[tactic(auto, using(crate::proofs::Parting::two_more))]
 pub fn two(text: &[u8]) -> Result<(&[u8], &[u8]), ScriptError>
-    ensures { IsSaidBy (λ x. (x.0.now, x.1.now)) result (two_of (words text.now)) }
+    ensures { Takes (λ x. x.0.now ∷ x.1.now ∷ []) result (two_of (words text.now)) (words text.now) }
 {
-    let (a, rest) = next(text)?;
-    let (b, rest) = next(rest)?;
-    none(rest)?;
+    let Some((a, rest)) = first(text) else {
+        return Err(ScriptError::BadWords);
+    };
+    let b = one(rest)?;
     Ok((a, b))
 }
 
 /// The three words that there are.
+#[tactic(auto, using(crate::proofs::Parting::three_more))]
 pub fn three(text: &[u8]) -> Result<(&[u8], &[u8], &[u8]), ScriptError>
-    ensures { IsSaidBy (λ x. (x.0.now, x.1.now, x.2.now)) result (three_of (words text.now)) }
+    ensures { Takes (λ x. x.0.now ∷ x.1.now ∷ x.2.now ∷ []) result (three_of (words text.now)) (words text.now) }
 {
-    let (a, rest) = next(text)?;
-    let (b, rest) = next(rest)?;
-    let (c, rest) = next(rest)?;
-    none(rest)?;
+    let Some((a, rest)) = first(text) else {
+        return Err(ScriptError::BadWords);
+    };
+    let (b, c) = two(rest)?;
     Ok((a, b, c))
 }
 
 /// The four words that there are.
+#[tactic(auto, using(crate::proofs::Parting::four_more))]
 pub fn four(text: &[u8]) -> Result<(&[u8], &[u8], &[u8], &[u8]), ScriptError>
-    ensures { IsSaidBy (λ x. (x.0.now, x.1.now, x.2.now, x.3.now)) result (four_of (words text.now)) }
+    ensures { Takes (λ x. x.0.now ∷ x.1.now ∷ x.2.now ∷ x.3.now ∷ []) result (four_of (words text.now)) (words text.now) }
 {
-    let (a, rest) = next(text)?;
-    let (b, rest) = next(rest)?;
-    let (c, rest) = next(rest)?;
-    let (d, rest) = next(rest)?;
-    none(rest)?;
+    let Some((a, rest)) = first(text) else {
+        return Err(ScriptError::BadWords);
+    };
+    let (b, c, d) = three(rest)?;
     Ok((a, b, c, d))
 }
 
 /// The first five words and what is behind them, where there are five at least.
+#[tactic(auto, using(crate::proofs::Parting::few_five))]
 pub fn five(text: &[u8]) -> Result<(&[u8], &[u8], &[u8], &[u8], &[u8], &[u8]), ScriptError>
-    ensures { IsSaidBy (λ x. (x.0.now, x.1.now, x.2.now, x.3.now, x.4.now, words x.5.now)) result (five_of (words text.now)) }
+    ensures { Takes (λ x. x.0.now ∷ x.1.now ∷ x.2.now ∷ x.3.now ∷ x.4.now ∷ words x.5.now) result (five_of (words text.now)) (words text.now) }
 {
-    let (a, rest) = next(text)?;
-    let (b, rest) = next(rest)?;
-    let (c, rest) = next(rest)?;
-    let (d, rest) = next(rest)?;
-    let (e, rest) = next(rest)?;
+    let Some((a, rest)) = first(text) else {
+        return Err(ScriptError::BadWords);
+    };
+    let Some((b, c, rest)) = pair(rest) else {
+        return Err(ScriptError::BadWords);
+    };
+    let Some((d, e, rest)) = pair(rest) else {
+        return Err(ScriptError::BadWords);
+    };
     Ok((a, b, c, d, e, rest))
+}
+
+// The first two words and what is behind them, where there are two at least.
+fn pair(text: &[u8]) -> Option<(&[u8], &[u8], &[u8])>
+    ensures { MatchOption result (length (words text.now) < 2) (λ x. words text.now ≡ x.0.now ∷ x.1.now ∷ words x.2.now) }
+{
+    let (a, rest) = first(text)?;
+    let (b, rest) = first(rest)?;
+    Some((a, b, rest))
 }
 
 /// Whether the words behind an interest's key ask that all is told as one.
@@ -120,19 +133,10 @@ pub fn aggregate(text: &[u8]) -> Result<bool, ScriptError>
 
 /// That there is no word.
 pub fn none(text: &[u8]) -> Result<(), ScriptError>
-    ensures { IsSaid result (none_of (words text.now)) }
+    ensures { Takes (λ u. []) result (none_of (words text.now)) (words text.now) }
 {
     match first(text) {
         None => Ok(()),
         Some(_) => Err(ScriptError::BadWords),
-    }
-}
-
-fn next(text: &[u8]) -> Result<(&[u8], &[u8]), ScriptError>
-    ensures { IsSaidBy (λ p. (p.0.now, words p.1.now)) result (first_of (words text.now)) }
-{
-    match first(text) {
-        Some(word) => Ok(word),
-        None => Err(ScriptError::BadWords),
     }
 }

@@ -1,23 +1,28 @@
 //! `read_line`: what a line of a script asks, or why it is refused.
 
-ghost use Rattle.std.specs.Prelude.{◌≡◌, ◌≤◌, length, true, Ok};
+ghost use Rattle.std.specs.Prelude.{◌≡◌, ◌≤◌, ◌<◌, ◌^◌, length, true, Ok};
 ghost use Rattle.zr_language.specs.Lines.{most_line};
 ghost use Rattle.zr_language.specs.Step.{IsSaid};
-ghost use Rattle.zr_language.specs.Command.{command_of, by_words, by_name, is_command, is_silent, plain, router_line, client_line, link_line, up_line, break_line, down_line, sub_line, unsub_line, able_line, unable_line, interest_line, uninterest_line, put_line, del_line, get_line, reply_line, end_line, handle_line, take_line, run_line, mark_line, show_line};
+ghost use Rattle.zr_language.specs.Command.{command_of, by_words, by_name, is_command, is_silent, plain, query_body, reply_body, router_line, client_line, link_line, up_line, break_line, down_line, sub_line, unsub_line, able_line, unable_line, interest_line, uninterest_line, put_line, del_line, get_line, reply_line, end_line, handle_line, take_line, run_line, mark_line, show_line};
 ghost use Rattle.zr_language.specs.Words.{words, is_clean};
+ghost use Rattle.zr_script.specs.Args.{LeadsOn, names_then, pair_then, numbered_then, keyed_then, terms_then};
+ghost use Rattle.zr_script.specs.Names.{is_later_command, is_last_command, by_later_name, by_last_name};
 ghost use Rattle.zr_script.specs.Short.{are_short};
 
-use crate::args::{aggregate, first, five, four, is_word, none, one, three, two};
+use crate::args::{aggregate, first, five, four, none, one, three, two};
 use crate::body::{query_body, reply_body};
-use crate::word::{is_clean, key, kinds, mode, number, optional_key, payload, target, zid};
+use crate::word::{
+    is_clean, is_word, key, kinds, mode, number, optional_key, payload, target, zid,
+};
 use std::alloc::Global;
 use zr_body::Body;
-use zr_command::command::{Act, Command};
+use zr_command::command::{Act, Command, Mode};
 use zr_command::error::ScriptError;
 use zr_id::zid::Zid;
 use zr_key::key::KeyExpr;
 use zr_msg::content::Content;
 use zr_msg::extras::Extras;
+use zr_msg::msg::{Kinds, Target};
 
 /// How many bytes a line has at most, without its end.
 pub const MOST_LINE: usize = 4096;
@@ -73,14 +78,28 @@ fn is_command(name: &[u8]) -> bool
         || is_word(name, b"up")
         || is_word(name, b"break")
         || is_word(name, b"down")
-        || is_word(name, b"sub")
+        || is_later_command(name)
+}
+
+// Whether it is a command by which clients declare, or one that stands behind these.
+fn is_later_command(name: &[u8]) -> bool
+    ensures { result ≡ is_later_command name.now }
+{
+    is_word(name, b"sub")
         || is_word(name, b"unsub")
         || is_word(name, b"able")
         || is_word(name, b"full")
         || is_word(name, b"unable")
         || is_word(name, b"interest")
         || is_word(name, b"uninterest")
-        || is_word(name, b"put")
+        || is_last_command(name)
+}
+
+// Whether it is a command that sends messages or lets them move on, or one that stands behind these.
+fn is_last_command(name: &[u8]) -> bool
+    ensures { result ≡ is_last_command name.now }
+{
+    is_word(name, b"put")
         || is_word(name, b"del")
         || is_word(name, b"get")
         || is_word(name, b"reply")
@@ -92,7 +111,7 @@ fn is_command(name: &[u8]) -> bool
         || is_word(name, b"show")
 }
 
-#[tactic(auto, unfolding(zr_language::specs::Command::by_name))]
+#[tactic(auto, unfolding(zr_language::specs::Command::by_name, crate::specs::Names::by_later_name, crate::specs::Names::by_last_name))]
 fn by_name(alloc: Global, name: &[u8], args: &[u8]) -> Result<Command, ScriptError>
     requires { are_short (words args.now) ≡ true }
     ensures { IsSaid result (by_name name.now (words args.now)) }
@@ -109,7 +128,18 @@ fn by_name(alloc: Global, name: &[u8], args: &[u8]) -> Result<Command, ScriptErr
         break_link(args)
     } else if is_word(name, b"down") {
         down(args)
-    } else if is_word(name, b"sub") {
+    } else {
+        by_later_name(alloc, name, args)
+    }
+}
+
+// The commands by which clients declare, and those that stand behind them.
+#[tactic(auto, unfolding(crate::specs::Names::by_later_name, crate::specs::Names::by_last_name))]
+fn by_later_name(alloc: Global, name: &[u8], args: &[u8]) -> Result<Command, ScriptError>
+    requires { are_short (words args.now) ≡ true }
+    ensures { IsSaid result (by_later_name name.now (words args.now)) }
+{
+    if is_word(name, b"sub") {
         sub(alloc, args)
     } else if is_word(name, b"unsub") {
         unsub(args)
@@ -123,7 +153,18 @@ fn by_name(alloc: Global, name: &[u8], args: &[u8]) -> Result<Command, ScriptErr
         interest(alloc, args)
     } else if is_word(name, b"uninterest") {
         uninterest(args)
-    } else if is_word(name, b"put") {
+    } else {
+        by_last_name(alloc, name, args)
+    }
+}
+
+// The commands that send messages or let them move on, and those that stand behind them.
+#[tactic(auto, unfolding(crate::specs::Names::by_last_name))]
+fn by_last_name(alloc: Global, name: &[u8], args: &[u8]) -> Result<Command, ScriptError>
+    requires { are_short (words args.now) ≡ true }
+    ensures { IsSaid result (by_last_name name.now (words args.now)) }
+{
+    if is_word(name, b"put") {
         put(alloc, args)
     } else if is_word(name, b"del") {
         del(alloc, args)
@@ -148,6 +189,43 @@ fn by_name(alloc: Global, name: &[u8], args: &[u8]) -> Result<Command, ScriptErr
     }
 }
 
+// Two words, which are names.
+fn names(args: &[u8]) -> Result<(Zid, Zid), ScriptError>
+    ensures { LeadsOn result (names_then (words args.now)) }
+{
+    let (one, other) = two(args)?;
+    let one = zid(one)?;
+    let other = zid(other)?;
+    Ok((one, other))
+}
+
+// Two words, a name and a number.
+fn numbered(args: &[u8]) -> Result<(Zid, u32), ScriptError>
+    ensures { LeadsOn result (pair_then (words args.now)) }
+{
+    let (client, id) = two(args)?;
+    numbered_words(client, id)
+}
+
+// A name and a number.
+fn numbered_words(client: &[u8], id: &[u8]) -> Result<(Zid, u32), ScriptError>
+    ensures { LeadsOn result (numbered_then client.now id.now) }
+{
+    let client = zid(client)?;
+    let id = number(id)?;
+    Ok((client, id))
+}
+
+// Three words, a name, a number and a key.
+fn keyed(alloc: Global, args: &[u8]) -> Result<(Zid, u32, KeyExpr), ScriptError>
+    ensures { LeadsOn result (keyed_then (words args.now)) }
+{
+    let (client, id, text) = three(args)?;
+    let (client, id) = numbered_words(client, id)?;
+    let key = key(alloc, text)?;
+    Ok((client, id, key))
+}
+
 #[tactic(auto, unfolding(zr_language::specs::Command::router_line))]
 fn router(args: &[u8]) -> Result<Command, ScriptError>
     ensures { IsSaid result (router_line (words args.now)) }
@@ -161,9 +239,7 @@ fn router(args: &[u8]) -> Result<Command, ScriptError>
 fn client(args: &[u8]) -> Result<Command, ScriptError>
     ensures { IsSaid result (client_line (words args.now)) }
 {
-    let (id, router) = two(args)?;
-    let id = zid(id)?;
-    let router = zid(router)?;
+    let (id, router) = names(args)?;
     let act = Act::Client { id, router };
     Ok(Command::Act { act })
 }
@@ -173,9 +249,7 @@ fn client(args: &[u8]) -> Result<Command, ScriptError>
 fn link(args: &[u8]) -> Result<Command, ScriptError>
     ensures { IsSaid result (link_line (words args.now)) }
 {
-    let (one, other) = two(args)?;
-    let one = zid(one)?;
-    let other = zid(other)?;
+    let (one, other) = names(args)?;
     if one == other {
         return Err(ScriptError::BadWords);
     }
@@ -187,9 +261,7 @@ fn link(args: &[u8]) -> Result<Command, ScriptError>
 fn up(args: &[u8]) -> Result<Command, ScriptError>
     ensures { IsSaid result (up_line (words args.now)) }
 {
-    let (router, neighbour) = two(args)?;
-    let router = zid(router)?;
-    let neighbour = zid(neighbour)?;
+    let (router, neighbour) = names(args)?;
     let act = Act::Up { router, neighbour };
     Ok(Command::Act { act })
 }
@@ -198,9 +270,7 @@ fn up(args: &[u8]) -> Result<Command, ScriptError>
 fn break_link(args: &[u8]) -> Result<Command, ScriptError>
     ensures { IsSaid result (break_line (words args.now)) }
 {
-    let (router, neighbour) = two(args)?;
-    let router = zid(router)?;
-    let neighbour = zid(neighbour)?;
+    let (router, neighbour) = names(args)?;
     let act = Act::Break { router, neighbour };
     Ok(Command::Act { act })
 }
@@ -209,9 +279,7 @@ fn break_link(args: &[u8]) -> Result<Command, ScriptError>
 fn down(args: &[u8]) -> Result<Command, ScriptError>
     ensures { IsSaid result (down_line (words args.now)) }
 {
-    let (router, neighbour) = two(args)?;
-    let router = zid(router)?;
-    let neighbour = zid(neighbour)?;
+    let (router, neighbour) = names(args)?;
     let act = Act::Down { router, neighbour };
     Ok(Command::Act { act })
 }
@@ -220,10 +288,7 @@ fn down(args: &[u8]) -> Result<Command, ScriptError>
 fn sub(alloc: Global, args: &[u8]) -> Result<Command, ScriptError>
     ensures { IsSaid result (sub_line (words args.now)) }
 {
-    let (client, id, text) = three(args)?;
-    let client = zid(client)?;
-    let id = number(id)?;
-    let key = key(alloc, text)?;
+    let (client, id, key) = keyed(alloc, args)?;
     let act = Act::Sub { client, id, key };
     Ok(Command::Act { act })
 }
@@ -232,9 +297,7 @@ fn sub(alloc: Global, args: &[u8]) -> Result<Command, ScriptError>
 fn unsub(args: &[u8]) -> Result<Command, ScriptError>
     ensures { IsSaid result (unsub_line (words args.now)) }
 {
-    let (client, id) = two(args)?;
-    let client = zid(client)?;
-    let id = number(id)?;
+    let (client, id) = numbered(args)?;
     let act = Act::Unsub { client, id };
     Ok(Command::Act { act })
 }
@@ -243,10 +306,7 @@ fn unsub(args: &[u8]) -> Result<Command, ScriptError>
 fn able(alloc: Global, complete: bool, args: &[u8]) -> Result<Command, ScriptError>
     ensures { IsSaid result (able_line complete (words args.now)) }
 {
-    let (client, id, word) = three(args)?;
-    let client = zid(client)?;
-    let id = number(id)?;
-    let key = key(alloc, word)?;
+    let (client, id, key) = keyed(alloc, args)?;
     let act = Act::Able {
         client,
         id,
@@ -260,9 +320,7 @@ fn able(alloc: Global, complete: bool, args: &[u8]) -> Result<Command, ScriptErr
 fn unable(args: &[u8]) -> Result<Command, ScriptError>
     ensures { IsSaid result (unable_line (words args.now)) }
 {
-    let (client, id) = two(args)?;
-    let client = zid(client)?;
-    let id = number(id)?;
+    let (client, id) = numbered(args)?;
     let act = Act::Unable { client, id };
     Ok(Command::Act { act })
 }
@@ -272,11 +330,8 @@ fn interest(alloc: Global, args: &[u8]) -> Result<Command, ScriptError>
     ensures { IsSaid result (interest_line (words args.now)) }
 {
     let (client, id, mode_word, kinds_word, text, behind) = five(args)?;
-    let client = zid(client)?;
-    let id = number(id)?;
-    let mode = mode(mode_word)?;
-    let kinds = kinds(kinds_word)?;
-    let aggregate = aggregate(behind)?;
+    let (client, id) = numbered_words(client, id)?;
+    let (mode, kinds, aggregate) = terms(mode_word, kinds_word, behind)?;
     let key = optional_key(alloc, text)?;
     let act = Act::Interest {
         client,
@@ -289,13 +344,25 @@ fn interest(alloc: Global, args: &[u8]) -> Result<Command, ScriptError>
     Ok(Command::Act { act })
 }
 
+// Of which declarations an interest is told, of which kinds, and whether all is told as one.
+fn terms(
+    mode_word: &[u8],
+    kinds_word: &[u8],
+    behind: &[u8],
+) -> Result<(Mode, Kinds, bool), ScriptError>
+    ensures { LeadsOn result (terms_then mode_word.now kinds_word.now (words behind.now)) }
+{
+    let mode = mode(mode_word)?;
+    let kinds = kinds(kinds_word)?;
+    let aggregate = aggregate(behind)?;
+    Ok((mode, kinds, aggregate))
+}
+
 #[tactic(auto, unfolding(zr_language::specs::Command::uninterest_line))]
 fn uninterest(args: &[u8]) -> Result<Command, ScriptError>
     ensures { IsSaid result (uninterest_line (words args.now)) }
 {
-    let (client, id) = two(args)?;
-    let client = zid(client)?;
-    let id = number(id)?;
+    let (client, id) = numbered(args)?;
     let act = Act::Uninterest { client, id };
     Ok(Command::Act { act })
 }
@@ -337,10 +404,21 @@ fn get(alloc: Global, args: &[u8]) -> Result<Command, ScriptError>
     ensures { IsSaid result (get_line (words args.now)) }
 {
     let (client, id, text, word) = four(args)?;
-    let client = zid(client)?;
-    let number = number(id)?;
+    let (client, number) = numbered_words(client, id)?;
     let target = target(word)?;
     let key = key(alloc, text)?;
+    ask(alloc, client, number, target, key)
+}
+
+fn ask(
+    alloc: Global,
+    client: Zid,
+    number: u32,
+    target: Target,
+    key: KeyExpr,
+) -> Result<Command, ScriptError>
+    ensures { IsSaid result (Ok (Command.Act (Act.Get client number target (plain key query_body)))) }
+{
     let body = query_body(alloc)?;
     let content = Content::new(alloc, key, Extras::none(), body)?;
     let act = Act::Get {
@@ -358,10 +436,22 @@ fn reply(alloc: Global, args: &[u8]) -> Result<Command, ScriptError>
     ensures { IsSaid result (reply_line (words args.now)) }
 {
     let (client, id, text, word) = four(args)?;
-    let client = zid(client)?;
-    let number = number(id)?;
+    let (client, number) = numbered_words(client, id)?;
     let key = key(alloc, text)?;
-    let body = reply_body(alloc, payload(word))?;
+    answer(alloc, client, number, key, payload(word))
+}
+
+fn answer(
+    alloc: Global,
+    client: Zid,
+    number: u32,
+    key: KeyExpr,
+    payload: &[u8],
+) -> Result<Command, ScriptError>
+    requires { length payload.now < 2 ^ 32 }
+    ensures { IsSaid result (Ok (Command.Act (Act.Reply client number (plain key (reply_body payload.now))))) }
+{
+    let body = reply_body(alloc, payload)?;
     let content = Content::new(alloc, key, Extras::none(), body)?;
     let act = Act::Reply {
         client,
@@ -375,9 +465,7 @@ fn reply(alloc: Global, args: &[u8]) -> Result<Command, ScriptError>
 fn end(args: &[u8]) -> Result<Command, ScriptError>
     ensures { IsSaid result (end_line (words args.now)) }
 {
-    let (client, id) = two(args)?;
-    let client = zid(client)?;
-    let number = number(id)?;
+    let (client, number) = numbered(args)?;
     let act = Act::End { client, number };
     Ok(Command::Act { act })
 }
@@ -386,9 +474,7 @@ fn end(args: &[u8]) -> Result<Command, ScriptError>
 fn handle(args: &[u8]) -> Result<Command, ScriptError>
     ensures { IsSaid result (handle_line (words args.now)) }
 {
-    let (router, from) = two(args)?;
-    let router = zid(router)?;
-    let from = zid(from)?;
+    let (router, from) = names(args)?;
     let act = Act::Handle { router, from };
     Ok(Command::Act { act })
 }
@@ -397,9 +483,7 @@ fn handle(args: &[u8]) -> Result<Command, ScriptError>
 fn take(args: &[u8]) -> Result<Command, ScriptError>
     ensures { IsSaid result (take_line (words args.now)) }
 {
-    let (router, to) = two(args)?;
-    let router = zid(router)?;
-    let to = zid(to)?;
+    let (router, to) = names(args)?;
     let act = Act::Take { router, to };
     Ok(Command::Act { act })
 }

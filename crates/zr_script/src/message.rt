@@ -4,11 +4,12 @@ ghost use Rattle.std.specs.Prelude.{◌≡◌, ◌++◌, ◌∷◌, codes, OnOk}
 ghost use Rattle.std.specs.Fmt.{decimal};
 ghost use Rattle.std.specs.List.{flat_map};
 ghost use Rattle.zr_body.specs.Payload.{payload_of};
-ghost use Rattle.zr_language.specs.Report.{id_text, optional_id_text, payload_text, interest_text, kinds_text, target_text, sign_text, links_text, record_text, decl_text, msg_text};
+ghost use Rattle.zr_language.specs.Report.{id_text, optional_id_text, payload_text, interest_text, kinds_text, key_text, if_so, target_text, sign_text, links_text, record_text, decl_text, msg_text};
 
 use crate::part::{
     able_text, aggregate_text, kind_text, kinds_text, mode_text, put_id, put_interest, put_key,
-    put_number, put_payload, sign_text, target_text, told_able_text,
+    put_named, put_number, put_numbered, put_payload, put_word, sign_text, target_text,
+    told_able_text,
 };
 use std::alloc::AllocError;
 use zr_id::record::LinkRecord;
@@ -24,9 +25,9 @@ pub fn put_msg(msg: &Msg, out: &mut Vec<u8>) -> Result<(), AllocError>
 {
     match msg {
         Msg::Sub { id, key } => put_declared(b"sub", *id, key, out),
-        Msg::Unsub { id } => put_numbered(b"unsub ", *id, out),
+        Msg::Unsub { id } => put_under(b"unsub ", *id, out),
         Msg::Able { id, key, complete } => put_declared(able_text(*complete), *id, key, out),
-        Msg::Unable { id } => put_numbered(b"unable ", *id, out),
+        Msg::Unable { id } => put_under(b"unable ", *id, out),
         Msg::Interest {
             id,
             current,
@@ -34,12 +35,15 @@ pub fn put_msg(msg: &Msg, out: &mut Vec<u8>) -> Result<(), AllocError>
             kinds,
             key,
             aggregate,
-        } => {
-            put_asked(*id, mode_text(*current, *future), *kinds, out)?;
-            put_key(key, out)?;
-            out.extend_from_slice(aggregate_text(*aggregate))
-        }
-        Msg::EndInterest { id } => put_numbered(b"uninterest ", *id, out),
+        } => put_asked(
+            *id,
+            mode_text(*current, *future),
+            *kinds,
+            key,
+            *aggregate,
+            out,
+        ),
+        Msg::EndInterest { id } => put_under(b"uninterest ", *id, out),
         Msg::ToldSub { id, key, interest } => put_told(b"told sub", *id, key, *interest, out),
         Msg::ToldAble {
             id,
@@ -47,9 +51,9 @@ pub fn put_msg(msg: &Msg, out: &mut Vec<u8>) -> Result<(), AllocError>
             complete,
             interest,
         } => put_told(told_able_text(*complete), *id, key, *interest, out),
-        Msg::ToldUnsub { id } => put_numbered(b"told unsub ", *id, out),
-        Msg::ToldUnable { id } => put_numbered(b"told unable ", *id, out),
-        Msg::ToldEnd { interest } => put_numbered(b"told end ", *interest, out),
+        Msg::ToldUnsub { id } => put_under(b"told unsub ", *id, out),
+        Msg::ToldUnable { id } => put_under(b"told unable ", *id, out),
+        Msg::ToldEnd { interest } => put_under(b"told end ", *interest, out),
         Msg::Push { tree, content } => put_sample(tree, content, out),
         Msg::Request {
             tree,
@@ -58,7 +62,7 @@ pub fn put_msg(msg: &Msg, out: &mut Vec<u8>) -> Result<(), AllocError>
             content,
         } => put_request(tree, *id, *target, content, out),
         Msg::Response { id, content } => put_reply(*id, content, out),
-        Msg::Final { id, .. } => put_numbered(b"final ", *id, out),
+        Msg::Final { id, .. } => put_under(b"final ", *id, out),
         Msg::State { links } => put_record(links.get(), out),
         Msg::Step {
             source,
@@ -74,32 +78,42 @@ pub fn put_msg(msg: &Msg, out: &mut Vec<u8>) -> Result<(), AllocError>
     }
 }
 
-fn put_numbered(words: &[u8], id: u32, out: &mut Vec<u8>) -> Result<(), AllocError>
+// Some words, and the id or the number that stands behind them.
+fn put_under(words: &[u8], id: u32, out: &mut Vec<u8>) -> Result<(), AllocError>
     ensures { OnOk result (out.new.items ≡ out.old.items ++ (words.now ++ decimal id)) }
 {
-    out.extend_from_slice(words)?;
-    put_number(u64::from(id), out)
+    put_numbered(words, u64::from(id), out)
 }
 
 fn put_declared(word: &[u8], id: u32, key: &KeyExpr, out: &mut Vec<u8>) -> Result<(), AllocError>
     ensures { OnOk result (out.new.items ≡ out.old.items ++ (word.now ++ codes " " ++ decimal id ++ codes " " ++ key.now)) }
 {
     out.extend_from_slice(word)?;
-    out.extend_from_slice(b" ")?;
-    put_number(u64::from(id), out)?;
-    out.extend_from_slice(b" ")?;
-    out.extend_from_slice(key.text().as_bytes())
+    put_under(b" ", id, out)?;
+    put_word(key.text().as_bytes(), out)
 }
 
-fn put_asked(id: u32, mode: &[u8], kinds: Kinds, out: &mut Vec<u8>) -> Result<(), AllocError>
+fn put_asked(
+    id: u32,
+    mode: &[u8],
+    kinds: Kinds,
+    key: &Option<KeyExpr>,
+    aggregate: bool,
+    out: &mut Vec<u8>,
+) -> Result<(), AllocError>
+    ensures { OnOk result (out.new.items ≡ out.old.items ++ (codes "interest " ++ decimal id ++ codes " " ++ mode.now ++ codes " " ++ kinds_text kinds ++ codes " " ++ key_text key.now ++ if_so aggregate (codes "aggregate"))) }
+{
+    put_terms(id, mode, kinds, out)?;
+    put_key(key, out)?;
+    out.extend_from_slice(aggregate_text(aggregate))
+}
+
+fn put_terms(id: u32, mode: &[u8], kinds: Kinds, out: &mut Vec<u8>) -> Result<(), AllocError>
     ensures { OnOk result (out.new.items ≡ out.old.items ++ (codes "interest " ++ decimal id ++ codes " " ++ mode.now ++ codes " " ++ kinds_text kinds ++ codes " ")) }
 {
-    out.extend_from_slice(b"interest ")?;
-    put_number(u64::from(id), out)?;
-    out.extend_from_slice(b" ")?;
-    out.extend_from_slice(mode)?;
-    out.extend_from_slice(b" ")?;
-    out.extend_from_slice(kinds_text(kinds))?;
+    put_under(b"interest ", id, out)?;
+    put_word(mode, out)?;
+    put_word(kinds_text(kinds), out)?;
     out.extend_from_slice(b" ")
 }
 
@@ -168,15 +182,14 @@ fn put_request(
 {
     put_kind(b"get ", b"get - ", tree, out)?;
     put_number(u64::from(id), out)?;
-    out.extend_from_slice(b" ")?;
-    out.extend_from_slice(content.key().text().as_bytes())?;
+    put_word(content.key().text().as_bytes(), out)?;
     out.extend_from_slice(target_text(target))
 }
 
 fn put_reply(id: u32, content: &Content, out: &mut Vec<u8>) -> Result<(), AllocError>
     ensures { OnOk result (out.new.items ≡ out.old.items ++ (codes "reply " ++ decimal id ++ codes " " ++ content.now.key ++ codes " " ++ payload_text (payload_of content.now.body))) }
 {
-    put_numbered(b"reply ", id, out)?;
+    put_under(b"reply ", id, out)?;
     out.extend_from_slice(b" ")?;
     put_content(content, out)
 }
@@ -185,10 +198,8 @@ fn put_reply(id: u32, content: &Content, out: &mut Vec<u8>) -> Result<(), AllocE
 pub fn put_record(state: &LinkRecord, out: &mut Vec<u8>) -> Result<(), AllocError>
     ensures { OnOk result (out.new.items ≡ out.old.items ++ record_text state.now) }
 {
-    out.extend_from_slice(b"record ")?;
-    put_id(&state.id(), out)?;
-    out.extend_from_slice(b" ")?;
-    put_number(state.seq(), out)?;
+    put_named(b"record ", &state.id(), out)?;
+    put_numbered(b" ", state.seq(), out)?;
     out.extend_from_slice(b" ")?;
     put_links(state.links(), out)
 }
@@ -224,10 +235,8 @@ fn put_entry(
 ) -> Result<(), AllocError>
     ensures { OnOk result (out.new.items ≡ out.old.items ++ (codes "entry " ++ id_text source.now ++ codes " " ++ decimal number ++ codes " " ++ sign_text added ++ decl_text decl.now)) }
 {
-    out.extend_from_slice(b"entry ")?;
-    put_id(source, out)?;
-    out.extend_from_slice(b" ")?;
-    put_number(number, out)?;
+    put_named(b"entry ", source, out)?;
+    put_numbered(b" ", number, out)?;
     out.extend_from_slice(sign_text(added))?;
     put_decl(decl, out)
 }
@@ -240,10 +249,8 @@ fn put_snapshot(
 ) -> Result<(), AllocError>
     ensures { OnOk result (out.new.items ≡ out.old.items ++ (codes "snap " ++ id_text source.now ++ codes " " ++ decimal number ++ flat_map decl_text decls.now)) }
 {
-    out.extend_from_slice(b"snap ")?;
-    put_id(source, out)?;
-    out.extend_from_slice(b" ")?;
-    put_number(number, out)?;
+    put_named(b"snap ", source, out)?;
+    put_numbered(b" ", number, out)?;
     put_decls(decls, out)
 }
 

@@ -45,6 +45,30 @@ pub fn put_number(number: u64, out: &mut Vec<u8>) -> Result<(), AllocError>
     out.extend_from_slice(buffer.format(number).as_bytes())
 }
 
+/// Appends some words and an identifier.
+pub fn put_named(words: &[u8], id: &Zid, out: &mut Vec<u8>) -> Result<(), AllocError>
+    ensures { OnOk result (out.new.items ≡ out.old.items ++ (words.now ++ id_text id.now)) }
+{
+    out.extend_from_slice(words)?;
+    put_id(id, out)
+}
+
+/// Appends some words and a number.
+pub fn put_numbered(words: &[u8], number: u64, out: &mut Vec<u8>) -> Result<(), AllocError>
+    ensures { OnOk result (out.new.items ≡ out.old.items ++ (words.now ++ decimal number)) }
+{
+    out.extend_from_slice(words)?;
+    put_number(number, out)
+}
+
+/// Appends a space and a word.
+pub fn put_word(word: &[u8], out: &mut Vec<u8>) -> Result<(), AllocError>
+    ensures { OnOk result (out.new.items ≡ out.old.items ++ (codes " " ++ word.now)) }
+{
+    out.extend_from_slice(b" ")?;
+    out.extend_from_slice(word)
+}
+
 /// Appends the tag of a message, with a space and a sign before it, and the end of its line. They are put together on the stack, and so
 /// appended at once.
 pub fn put_tag(tag: u64, out: &mut Vec<u8>) -> Result<(), AllocError>

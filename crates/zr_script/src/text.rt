@@ -6,7 +6,7 @@ ghost use Rattle.std.specs.List.{flat_map};
 ghost use Rattle.zr_language.specs.Report.{decl_text, line_end, line_text, msg_text, rest_text, id_text, optional_id_text, record_text, refusal_text, refused_text};
 
 use crate::message::{put_decls, put_msg, put_record};
-use crate::part::{put_id, put_number, put_optional_id, put_tag};
+use crate::part::{put_id, put_named, put_numbered, put_optional_id, put_tag};
 use std::alloc::AllocError;
 use zr_command::error::ScriptError;
 use zr_command::report::ReportLine;
@@ -85,8 +85,7 @@ fn put_step(
     ensures { OnOk result (out.new.items ≡ out.old.items ++ (id_text router.now ++ arrow.now ++ id_text other.now ++ codes ": " ++ msg_text msg.now ++ codes " #" ++ decimal tag ++ line_end)) }
 {
     put_id(router, out)?;
-    out.extend_from_slice(arrow)?;
-    put_id(other, out)?;
+    put_named(arrow, other, out)?;
     out.extend_from_slice(b": ")?;
     put_msg(msg, out)?;
     put_tag(tag, out)
@@ -95,8 +94,7 @@ fn put_step(
 fn put_ran(steps: u32, quiet: bool, out: &mut Vec<u8>) -> Result<(), AllocError>
     ensures { OnOk result (out.new.items ≡ out.old.items ++ (codes "run " ++ decimal steps ++ rest_text quiet ++ line_end)) }
 {
-    out.extend_from_slice(b"run ")?;
-    put_number(u64::from(steps), out)?;
+    put_numbered(b"run ", u64::from(steps), out)?;
     out.extend_from_slice(rest_text(quiet))?;
     out.extend_from_slice(b"\n")
 }
@@ -110,16 +108,14 @@ fn rest_text(quiet: bool) -> &'static [u8]
 fn put_mark(line: u64, out: &mut Vec<u8>) -> Result<(), AllocError>
     ensures { OnOk result (out.new.items ≡ out.old.items ++ (codes "mark #" ++ decimal line ++ line_end)) }
 {
-    out.extend_from_slice(b"mark #")?;
-    put_number(line, out)?;
+    put_numbered(b"mark #", line, out)?;
     out.extend_from_slice(b"\n")
 }
 
 fn put_show(router: &Zid, out: &mut Vec<u8>) -> Result<(), AllocError>
     ensures { OnOk result (out.new.items ≡ out.old.items ++ (codes "show " ++ id_text router.now ++ line_end)) }
 {
-    out.extend_from_slice(b"show ")?;
-    put_id(router, out)?;
+    put_named(b"show ", router, out)?;
     out.extend_from_slice(b"\n")
 }
 
@@ -133,8 +129,7 @@ fn put_record_line(record: &LinkRecord, out: &mut Vec<u8>) -> Result<(), AllocEr
 fn put_parent(root: &Zid, parent: &Option<Zid>, out: &mut Vec<u8>) -> Result<(), AllocError>
     ensures { OnOk result (out.new.items ≡ out.old.items ++ (codes "parent " ++ id_text root.now ++ codes " " ++ optional_id_text parent.now ++ line_end)) }
 {
-    out.extend_from_slice(b"parent ")?;
-    put_id(root, out)?;
+    put_named(b"parent ", root, out)?;
     out.extend_from_slice(b" ")?;
     put_optional_id(parent, out)?;
     out.extend_from_slice(b"\n")
@@ -148,10 +143,8 @@ fn put_source(
 ) -> Result<(), AllocError>
     ensures { OnOk result (out.new.items ≡ out.old.items ++ (codes "source " ++ id_text source.now ++ codes " " ++ decimal number ++ flat_map decl_text decls.now ++ line_end)) }
 {
-    out.extend_from_slice(b"source ")?;
-    put_id(source, out)?;
-    out.extend_from_slice(b" ")?;
-    put_number(number, out)?;
+    put_named(b"source ", source, out)?;
+    put_numbered(b" ", number, out)?;
     put_decls(decls, out)?;
     out.extend_from_slice(b"\n")
 }
@@ -159,8 +152,7 @@ fn put_source(
 fn put_refused(number: u64, error: ScriptError, out: &mut Vec<u8>) -> Result<(), AllocError>
     ensures { OnOk result (out.new.items ≡ out.old.items ++ refused_text number error) }
 {
-    out.extend_from_slice(b"line ")?;
-    put_number(number, out)?;
+    put_numbered(b"line ", number, out)?;
     out.extend_from_slice(b": ")?;
     out.extend_from_slice(refusal_text(error))?;
     out.extend_from_slice(b"\n")

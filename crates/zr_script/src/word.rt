@@ -4,7 +4,7 @@ ghost use Rattle.std.specs.Prelude.{◌≡◌, ◌==◌, ◌&&◌, ◌+◌, ◌*
 ghost use Rattle.std.specs.List.{list_all};
 ghost use Rattle.std.specs.Option.{option_copied};
 ghost use Rattle.zr_language.specs.Step.{IsSaid};
-ghost use Rattle.zr_language.specs.Words.{words, is_clean, is_space, is_printable, is_digit, is_number, value_of, number_at, zid_at, target_at, mode_at, kinds_at, key_at, optional_key_at, payload_at};
+ghost use Rattle.zr_language.specs.Words.{words, is_word, is_clean, is_space, is_printable, is_digit, is_number, value_of, number_at, zid_at, target_at, mode_at, kinds_at, key_at, optional_key_at, payload_at};
 
 use std::alloc::{AllocError, Global};
 use zr_command::command::Mode;
@@ -27,6 +27,14 @@ pub fn is_clean(line: &[u8]) -> bool
     ensures { result ≡ is_clean line.now }
 {
     are_printable(line) && !is_space(line.first()) && !is_space(line.last())
+}
+
+/// Whether a name is this word.
+pub fn is_word(name: &[u8], word: &[u8]) -> bool
+    ensures { result ≡ is_word name.now word.now }
+{
+    // most words differ in length, which is told without a call
+    name.len() == word.len() && name == word
 }
 
 /// The identifier that a word names.
