@@ -64,23 +64,10 @@ words_behind name =
 abbrev pub most_behind : List ℕ → ℕ
 most_behind name = if is_interest name then 6 else words_behind name
 
--- which words a command takes
-unfoldable pub form : List ℕ → List ℕ
-form name =
-    if is_word name (codes "router") then codes "router ID"
-    else if is_word name (codes "client") then codes "client ID ROUTER"
-    else if is_word name (codes "link") then codes "link A B"
-    else if is_word name (codes "up") then codes "up A B"
-    else if is_word name (codes "break") then codes "break A B"
-    else if is_word name (codes "down") then codes "down A B"
-    else if is_word name (codes "sub") then codes "sub CLIENT N KEY"
-    else if is_word name (codes "unsub") then codes "unsub CLIENT N"
-    else if is_word name (codes "able") then codes "able CLIENT N KEY"
-    else if is_word name (codes "full") then codes "full CLIENT N KEY"
-    else if is_word name (codes "unable") then codes "unable CLIENT N"
-    else if is_word name (codes "interest") then codes "interest CLIENT N MODE KIND KEY [aggregate]"
-    else if is_word name (codes "uninterest") then codes "uninterest CLIENT N"
-    else if is_word name (codes "put") then codes "put CLIENT KEY PAYLOAD"
+-- which words a command takes that sends messages or lets them move on, or that stands behind these
+unfoldable pub last_form : List ℕ → List ℕ
+last_form name =
+    if is_word name (codes "put") then codes "put CLIENT KEY PAYLOAD"
     else if is_word name (codes "del") then codes "del CLIENT KEY"
     else if is_word name (codes "get") then codes "get CLIENT N KEY TARGET"
     else if is_word name (codes "reply") then codes "reply CLIENT N KEY PAYLOAD"
@@ -90,3 +77,26 @@ form name =
     else if is_word name (codes "run") then codes "run N"
     else if is_word name (codes "show") then codes "show ROUTER"
     else codes "mark"
+
+-- which words one takes by which clients declare, or one that stands behind these
+unfoldable pub later_form : List ℕ → List ℕ
+later_form name =
+    if is_word name (codes "sub") then codes "sub CLIENT N KEY"
+    else if is_word name (codes "unsub") then codes "unsub CLIENT N"
+    else if is_word name (codes "able") then codes "able CLIENT N KEY"
+    else if is_word name (codes "full") then codes "full CLIENT N KEY"
+    else if is_word name (codes "unable") then codes "unable CLIENT N"
+    else if is_word name (codes "interest") then codes "interest CLIENT N MODE KIND KEY [aggregate]"
+    else if is_word name (codes "uninterest") then codes "uninterest CLIENT N"
+    else last_form name
+
+-- which words a command takes
+unfoldable pub form : List ℕ → List ℕ
+form name =
+    if is_word name (codes "router") then codes "router ID"
+    else if is_word name (codes "client") then codes "client ID ROUTER"
+    else if is_word name (codes "link") then codes "link A B"
+    else if is_word name (codes "up") then codes "up A B"
+    else if is_word name (codes "break") then codes "break A B"
+    else if is_word name (codes "down") then codes "down A B"
+    else later_form name

@@ -5,7 +5,7 @@ use Rattle.zr_id.specs.Zid.{zid_of_hex}
 use Rattle.zr_command.specs.declared.error.ScriptError.{ScriptError}
 use Rattle.zr_command.specs.declared.error.ScriptError.TheVariants.{UnknownCommand, BadWords, BadKey, UnknownName, NameTaken, NotLinked, AlreadyLinked, NothingThere, NotAsked, NotSettled, NotJoined, Limit, NoMemory}
 use Rattle.zr_language.specs.Lines.{most_line}
-use Rattle.zr_language.specs.Words.{words, is_word, is_clean, is_printable, is_space, is_number, value_of}
+use Rattle.zr_language.specs.Words.{is_word, is_clean, is_printable, is_space, is_number, value_of}
 use Rattle.zr_explain.specs.Forms.{word_at, gives_number, is_interest, is_of_client, key_number, words_behind, most_behind}
 
 -- ---- words that have not their form

@@ -13,12 +13,12 @@ use crate::places::{
     begins_with_space, has_all, is_first_good, is_interest_bad, is_kind, is_mode, is_name,
     is_target_bad, odd_byte,
 };
-use crate::put::{put_shown, put_told, put_two};
+use crate::put::{put_one, put_shown, put_told, put_two};
 use std::alloc::{AllocError, Global};
 use zr_command::error::ScriptError;
 use zr_key::key::{KeyError, KeyExpr};
 use zr_script::line::MOST_LINE;
-use zr_script::word::is_clean;
+use zr_script::word::{is_clean, is_word};
 
 /// The cause why a line of these words is refused.
 pub(crate) fn put_cause(
@@ -129,7 +129,7 @@ fn put_both(before: &[u8], behind: &[u8], text: &mut Vec<u8>) -> Result<(), Allo
 fn put_first_cause(words: &[&[u8]], text: &mut Vec<u8>) -> Result<(), AllocError>
     ensures { OnOk result (text.new.items ≡ text.old.items ++ first_cause (map (λ w. w.now) words.now)) }
 {
-    if word_at(0, words) == b"run".as_slice() {
+    if is_word(word_at(0, words), b"run") {
         put_number_cause(1, words, text)
     } else {
         put_name_cause(1, words, text)
@@ -181,8 +181,12 @@ fn put_word(
 fn put_target_cause(words: &[&[u8]], text: &mut Vec<u8>) -> Result<(), AllocError>
     ensures { OnOk result (text.new.items ≡ text.old.items ++ target_cause (map (λ w. w.now) words.now)) }
 {
-    put_told(4, words, text)?;
-    text.extend_from_slice(b" is no target, which is best, all or complete")
+    put_word(
+        4,
+        b" is no target, which is best, all or complete",
+        words,
+        text,
+    )
 }
 
 fn put_second_cause(words: &[&[u8]], text: &mut Vec<u8>) -> Result<(), AllocError>
@@ -201,18 +205,22 @@ fn put_second_cause(words: &[&[u8]], text: &mut Vec<u8>) -> Result<(), AllocErro
 fn put_name_cause(number: usize, words: &[&[u8]], text: &mut Vec<u8>) -> Result<(), AllocError>
     ensures { OnOk result (text.new.items ≡ text.old.items ++ name_cause number (map (λ w. w.now) words.now)) }
 {
-    put_told(number, words, text)?;
-    text.extend_from_slice(
+    put_word(
+        number,
         b" is no identifier, which is 2 to 32 lower-case hexadecimal digits, an even number of them, not all 0",
+        words,
+        text,
     )
 }
 
 fn put_number_cause(number: usize, words: &[&[u8]], text: &mut Vec<u8>) -> Result<(), AllocError>
     ensures { OnOk result (text.new.items ≡ text.old.items ++ number_cause number (map (λ w. w.now) words.now)) }
 {
-    put_told(number, words, text)?;
-    text.extend_from_slice(
+    put_word(
+        number,
         b" is no number, which is decimal digits without leading zeros, at most 4294967295",
+        words,
+        text,
     )
 }
 
@@ -245,11 +253,11 @@ fn put_unknown_cause(words: &[&[u8]], text: &mut Vec<u8>) -> Result<(), AllocErr
     ensures { OnOk result (text.new.items ≡ text.old.items ++ unknown_cause (map (λ w. w.now) words.now)) }
 {
     let name = word_at(0, words);
-    if name == b"client".as_slice() {
+    if is_word(name, b"client") {
         put_one(b"no router is named ", 2, words, text)
-    } else if name == b"show".as_slice() {
+    } else if is_word(name, b"show") {
         put_one(b"no router is named ", 1, words, text)
-    } else if name == b"link".as_slice() {
+    } else if is_word(name, b"link") {
         put_either(b"no router is named ", b", or none is named ", words, text)
     } else if undeclares(name) {
         put_either(
@@ -275,19 +283,6 @@ fn put_unknown_cause(words: &[&[u8]], text: &mut Vec<u8>) -> Result<(), AllocErr
             text,
         )
     }
-}
-
-// A text, and a word behind it.
-fn put_one(
-    before: &[u8],
-    number: usize,
-    words: &[&[u8]],
-    text: &mut Vec<u8>,
-) -> Result<(), AllocError>
-    ensures { OnOk result (text.new.items ≡ text.old.items ++ (before.now ++ told number (map (λ w. w.now) words.now))) }
-{
-    text.extend_from_slice(before)?;
-    put_told(number, words, text)
 }
 
 // The two words behind the command's name, with a text behind each.
@@ -330,7 +325,7 @@ fn put_taken_cause(words: &[&[u8]], text: &mut Vec<u8>) -> Result<(), AllocError
             words,
             text,
         )
-    } else if name == b"get".as_slice() {
+    } else if is_word(name, b"get") {
         put_two(
             b"number ",
             2,
@@ -352,16 +347,16 @@ fn put_link_cause(words: &[&[u8]], text: &mut Vec<u8>) -> Result<(), AllocError>
     if is_of_client(name) {
         put_one(b"the link of ", 1, words, text)?;
         text.extend_from_slice(b" is broken")
-    } else if name == b"up".as_slice() || name == b"break".as_slice() {
+    } else if is_word(name, b"up") || is_word(name, b"break") {
         put_pair(b" has no link to ", b", or it is broken", words, text)
-    } else if name == b"down".as_slice() {
+    } else if is_word(name, b"down") {
         put_pair(
             b" has no broken link to ",
             b" that it holds for up",
             words,
             text,
         )
-    } else if name == b"handle".as_slice() {
+    } else if is_word(name, b"handle") {
         put_pair(b" has no link to ", b" that it holds for up", words, text)
     } else {
         put_pair(
@@ -376,7 +371,7 @@ fn put_link_cause(words: &[&[u8]], text: &mut Vec<u8>) -> Result<(), AllocError>
 fn put_already_cause(words: &[&[u8]], text: &mut Vec<u8>) -> Result<(), AllocError>
     ensures { OnOk result (text.new.items ≡ text.old.items ++ already_cause (map (λ w. w.now) words.now)) }
 {
-    if word_at(0, words) == b"link".as_slice() {
+    if is_word(word_at(0, words), b"link") {
         put_pair(b" and ", b" are already linked", words, text)
     } else {
         put_pair(b" holds its link to ", b" for up already", words, text)
@@ -386,7 +381,7 @@ fn put_already_cause(words: &[&[u8]], text: &mut Vec<u8>) -> Result<(), AllocErr
 fn put_nothing_cause(words: &[&[u8]], text: &mut Vec<u8>) -> Result<(), AllocError>
     ensures { OnOk result (text.new.items ≡ text.old.items ++ nothing_cause (map (λ w. w.now) words.now)) }
 {
-    if word_at(0, words) == b"handle".as_slice() {
+    if is_word(word_at(0, words), b"handle") {
         put_either(b"nothing waits at ", b" on the wire from ", words, text)
     } else {
         put_either(b"nothing waits at ", b" in the queue for ", words, text)
@@ -404,15 +399,15 @@ fn limit_cause(long: bool, name: &[u8]) -> &'static [u8]
 {
     if long {
         b"a line of more than 4096 bytes"
-    } else if name == b"router".as_slice() {
+    } else if is_word(name, b"router") {
         b"more than 64 routers"
-    } else if name == b"client".as_slice() {
+    } else if is_word(name, b"client") {
         b"more than 1024 clients"
-    } else if name == b"link".as_slice() {
+    } else if is_word(name, b"link") {
         b"more than 512 links between routers"
-    } else if name == b"run".as_slice() {
+    } else if is_word(name, b"run") {
         b"more than 10000000 steps of all runs together"
-    } else if name == b"get".as_slice() {
+    } else if is_word(name, b"get") {
         b"more than 4096 open queries of a client"
     } else {
         b"declarations and interests of the clients of a router weigh more than 4194304"

@@ -1,7 +1,9 @@
 //! What words a command takes.
 
 ghost use Rattle.std.specs.Prelude.{◌≡◌, ◌++◌, map, codes};
-ghost use Rattle.zr_explain.specs.Forms.{declares, ends_interest, form, gives_number, is_interest, is_numbered, is_of_client, is_of_query, is_single, key_number, most_behind, publishes, undeclares, word_at, words_behind};
+ghost use Rattle.zr_explain.specs.Forms.{declares, ends_interest, form, later_form, last_form, gives_number, is_interest, is_numbered, is_of_client, is_of_query, is_single, key_number, most_behind, publishes, undeclares, word_at, words_behind};
+
+use zr_script::word::is_word;
 
 /// The word of this number, the command's name being number 0; no bytes where there is none.
 pub(crate) fn word_at<'a>(number: usize, words: &[&'a [u8]]) -> &'a [u8]
@@ -23,41 +25,41 @@ pub(crate) fn word_at<'a>(number: usize, words: &[&'a [u8]]) -> &'a [u8]
 pub(crate) fn declares(name: &[u8]) -> bool
     ensures { result ≡ declares name.now }
 {
-    name == b"sub".as_slice() || name == b"able".as_slice() || name == b"full".as_slice()
+    is_word(name, b"sub") || is_word(name, b"able") || is_word(name, b"full")
 }
 
 /// Whether a command takes a declaration back.
 pub(crate) fn undeclares(name: &[u8]) -> bool
     ensures { result ≡ undeclares name.now }
 {
-    name == b"unsub".as_slice() || name == b"unable".as_slice()
+    is_word(name, b"unsub") || is_word(name, b"unable")
 }
 
 fn publishes(name: &[u8]) -> bool
     ensures { result ≡ publishes name.now }
 {
-    name == b"put".as_slice() || name == b"del".as_slice()
+    is_word(name, b"put") || is_word(name, b"del")
 }
 
 // Whether a command asks or answers a query.
 fn is_of_query(name: &[u8]) -> bool
     ensures { result ≡ is_of_query name.now }
 {
-    name == b"get".as_slice() || name == b"reply".as_slice() || name == b"end".as_slice()
+    is_word(name, b"get") || is_word(name, b"reply") || is_word(name, b"end")
 }
 
 /// Whether a command is that of an interest.
 pub(crate) fn is_interest(name: &[u8]) -> bool
     ensures { result ≡ is_interest name.now }
 {
-    name == b"interest".as_slice()
+    is_word(name, b"interest")
 }
 
 /// Whether a command ends an interest.
 pub(crate) fn ends_interest(name: &[u8]) -> bool
     ensures { result ≡ ends_interest name.now }
 {
-    name == b"uninterest".as_slice()
+    is_word(name, b"uninterest")
 }
 
 /// Whether the second word behind a command's name is a number.
@@ -82,7 +84,7 @@ pub(crate) fn is_of_client(name: &[u8]) -> bool
 pub(crate) fn gives_number(name: &[u8]) -> bool
     ensures { result ≡ gives_number name.now }
 {
-    declares(name) || is_interest(name) || name == b"get".as_slice()
+    declares(name) || is_interest(name) || is_word(name, b"get")
 }
 
 /// The number of the word that is the key, where a command takes one.
@@ -101,20 +103,20 @@ pub(crate) fn key_number(name: &[u8]) -> usize
 fn is_single(name: &[u8]) -> bool
     ensures { result ≡ is_single name.now }
 {
-    name == b"router".as_slice() || name == b"run".as_slice() || name == b"show".as_slice()
+    is_word(name, b"router") || is_word(name, b"run") || is_word(name, b"show")
 }
 
 /// How many words a command takes behind its name, at least.
 pub(crate) fn words_behind(name: &[u8]) -> usize
     ensures { result ≡ words_behind name.now }
 {
-    if name == b"mark".as_slice() {
+    if is_word(name, b"mark") {
         0
     } else if is_single(name) {
         1
-    } else if declares(name) || name == b"put".as_slice() {
+    } else if declares(name) || is_word(name, b"put") {
         3
-    } else if name == b"get".as_slice() || name == b"reply".as_slice() {
+    } else if is_word(name, b"get") || is_word(name, b"reply") {
         4
     } else if is_interest(name) {
         5
@@ -135,53 +137,73 @@ pub(crate) fn most_behind(name: &[u8]) -> usize
 }
 
 /// Which words a command takes.
-#[tactic(auto, unfolding(crate::specs::Forms::form))]
+#[tactic(auto, unfolding(crate::specs::Forms::form, crate::specs::Forms::later_form, crate::specs::Forms::last_form))]
 pub(crate) fn form(name: &[u8]) -> &'static [u8]
     ensures { result.now ≡ form name.now }
 {
-    if name == b"router".as_slice() {
+    if is_word(name, b"router") {
         b"router ID"
-    } else if name == b"client".as_slice() {
+    } else if is_word(name, b"client") {
         b"client ID ROUTER"
-    } else if name == b"link".as_slice() {
+    } else if is_word(name, b"link") {
         b"link A B"
-    } else if name == b"up".as_slice() {
+    } else if is_word(name, b"up") {
         b"up A B"
-    } else if name == b"break".as_slice() {
+    } else if is_word(name, b"break") {
         b"break A B"
-    } else if name == b"down".as_slice() {
+    } else if is_word(name, b"down") {
         b"down A B"
-    } else if name == b"sub".as_slice() {
+    } else {
+        later_form(name)
+    }
+}
+
+// The commands by which clients declare, and those that stand behind them.
+#[tactic(auto, unfolding(crate::specs::Forms::later_form, crate::specs::Forms::last_form))]
+fn later_form(name: &[u8]) -> &'static [u8]
+    ensures { result.now ≡ later_form name.now }
+{
+    if is_word(name, b"sub") {
         b"sub CLIENT N KEY"
-    } else if name == b"unsub".as_slice() {
+    } else if is_word(name, b"unsub") {
         b"unsub CLIENT N"
-    } else if name == b"able".as_slice() {
+    } else if is_word(name, b"able") {
         b"able CLIENT N KEY"
-    } else if name == b"full".as_slice() {
+    } else if is_word(name, b"full") {
         b"full CLIENT N KEY"
-    } else if name == b"unable".as_slice() {
+    } else if is_word(name, b"unable") {
         b"unable CLIENT N"
-    } else if name == b"interest".as_slice() {
+    } else if is_word(name, b"interest") {
         b"interest CLIENT N MODE KIND KEY [aggregate]"
-    } else if name == b"uninterest".as_slice() {
+    } else if is_word(name, b"uninterest") {
         b"uninterest CLIENT N"
-    } else if name == b"put".as_slice() {
+    } else {
+        last_form(name)
+    }
+}
+
+// The commands that send messages or let them move on, and those that stand behind them.
+#[tactic(auto, unfolding(crate::specs::Forms::last_form))]
+fn last_form(name: &[u8]) -> &'static [u8]
+    ensures { result.now ≡ last_form name.now }
+{
+    if is_word(name, b"put") {
         b"put CLIENT KEY PAYLOAD"
-    } else if name == b"del".as_slice() {
+    } else if is_word(name, b"del") {
         b"del CLIENT KEY"
-    } else if name == b"get".as_slice() {
+    } else if is_word(name, b"get") {
         b"get CLIENT N KEY TARGET"
-    } else if name == b"reply".as_slice() {
+    } else if is_word(name, b"reply") {
         b"reply CLIENT N KEY PAYLOAD"
-    } else if name == b"end".as_slice() {
+    } else if is_word(name, b"end") {
         b"end CLIENT N"
-    } else if name == b"handle".as_slice() {
+    } else if is_word(name, b"handle") {
         b"handle ROUTER FROM"
-    } else if name == b"take".as_slice() {
+    } else if is_word(name, b"take") {
         b"take ROUTER TO"
-    } else if name == b"run".as_slice() {
+    } else if is_word(name, b"run") {
         b"run N"
-    } else if name == b"show".as_slice() {
+    } else if is_word(name, b"show") {
         b"show ROUTER"
     } else {
         b"mark"

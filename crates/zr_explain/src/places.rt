@@ -10,7 +10,7 @@ use crate::forms::{
 use zr_command::error::ScriptError;
 use zr_id::zid::Zid;
 use zr_script::line::MOST_LINE;
-use zr_script::word::{is_clean, is_number, value};
+use zr_script::word::{is_clean, is_number, is_word, value};
 
 /// The place of the word that is wrong, or of the byte where a byte is wrong, in a line of these words.
 pub(crate) fn place(line: &[u8], words: &[&[u8]], error: ScriptError) -> usize
@@ -50,13 +50,13 @@ fn place_of_limit(line: &[u8], name: &[u8]) -> usize
     if line.len() > MOST_LINE {
         return MOST_LINE;
     }
-    place_of_word(if name == b"run".as_slice() { 1 } else { 0 }, line)
+    place_of_word(if is_word(name, b"run") { 1 } else { 0 }, line)
 }
 
 fn unknown_word(name: &[u8]) -> usize
     ensures { result ≡ unknown_word name.now }
 {
-    if name == b"client".as_slice() { 2 } else { 1 }
+    if is_word(name, b"client") { 2 } else { 1 }
 }
 
 fn taken_word(name: &[u8]) -> usize
@@ -114,7 +114,7 @@ fn interest_word(words: &[&[u8]]) -> usize
 pub(crate) fn is_target_bad(words: &[&[u8]]) -> bool
     ensures { result ≡ is_target_bad (map (λ w. w.now) words.now) }
 {
-    word_at(0, words) == b"get".as_slice() && is_count(word_at(2, words))
+    is_word(word_at(0, words), b"get") && is_count(word_at(2, words))
 }
 
 /// Whether a word of an `interest` behind its number is wrong, where some word behind the first is.
@@ -128,14 +128,14 @@ pub(crate) fn is_interest_bad(words: &[&[u8]]) -> bool
 pub(crate) fn is_mode(word: &[u8]) -> bool
     ensures { result ≡ is_mode word.now }
 {
-    word == b"now".as_slice() || word == b"later".as_slice() || word == b"both".as_slice()
+    is_word(word, b"now") || is_word(word, b"later") || is_word(word, b"both")
 }
 
 /// Whether a word tells of which kinds of declarations an interest is to be told.
 pub(crate) fn is_kind(word: &[u8]) -> bool
     ensures { result ≡ is_kind word.now }
 {
-    word == b"sub".as_slice() || word == b"able".as_slice() || word == b"all".as_slice()
+    is_word(word, b"sub") || is_word(word, b"able") || is_word(word, b"all")
 }
 
 /// Whether a line has as many words as its command takes.
@@ -150,7 +150,7 @@ pub(crate) fn has_all(words: &[&[u8]]) -> bool
 pub(crate) fn is_first_good(words: &[&[u8]]) -> bool
     ensures { result ≡ is_first_good (map (λ w. w.now) words.now) }
 {
-    if word_at(0, words) == b"run".as_slice() {
+    if is_word(word_at(0, words), b"run") {
         is_count(word_at(1, words))
     } else {
         is_name(word_at(1, words))

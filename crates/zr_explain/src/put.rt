@@ -55,6 +55,19 @@ pub(crate) fn put_told(number: usize, words: &[&[u8]], text: &mut Vec<u8>) -> Re
     put_shown(word_at(number, words), text)
 }
 
+/// A text, and a word behind it.
+pub(crate) fn put_one(
+    before: &[u8],
+    number: usize,
+    words: &[&[u8]],
+    text: &mut Vec<u8>,
+) -> Result<(), AllocError>
+    ensures { OnOk result (text.new.items ≡ text.old.items ++ (before.now ++ told number (map (λ w. w.now) words.now))) }
+{
+    text.extend_from_slice(before)?;
+    put_told(number, words, text)
+}
+
 /// Two words, with texts around them.
 pub(crate) fn put_two(
     before: &[u8],
@@ -67,9 +80,7 @@ pub(crate) fn put_two(
 ) -> Result<(), AllocError>
     ensures { OnOk result (text.new.items ≡ text.old.items ++ of_two before.now one between.now other behind.now (map (λ w. w.now) words.now)) }
 {
-    text.extend_from_slice(before)?;
-    put_told(one, words, text)?;
-    text.extend_from_slice(between)?;
-    put_told(other, words, text)?;
+    put_one(before, one, words, text)?;
+    put_one(between, other, words, text)?;
     text.extend_from_slice(behind)
 }
