@@ -1,8 +1,8 @@
 -- The first mark, by words: the lowest bit of the first word that is not 0.
-use Rattle.std.proofs.Common.{◌≡◌, ℕ, zero, suc, ◌+◌, ◌*◌, ◌/◌, ◌%◌, ◌<◌, ◌==◌, Bool, true, false, not, cond, nat_lt, List, [], ◌∷◌, is_some, length, get_or, Some, None, refl, sym, ap, ◌∙◌, arith}
+use Rattle.std.proofs.Common.{◌≡◌, ℕ, zero, suc, ◌+◌, ◌*◌, ◌/◌, ◌%◌, ◌<◌, ◌≢◌, ◌==◌, Bool, true, false, not, cond, nat_lt, List, [], ◌∷◌, is_some, length, get_or, Some, None, refl, sym, ap, ◌∙◌, arith}
 use Rattle.std.specs.Int.{bit_at}
 use Rattle.std.specs.List.{position, position_or_len}
-use Rattle.std.proofs.lemmas.Bool.{eqb-true, true≢false}
+use Rattle.std.proofs.lemmas.Bool.{eqb-true, eqb-false, ltb-false, true≢false}
 use Rattle.std.proofs.lemmas.List.Quantifiers.{position-Some}
 use Rattle.std.proofs.lemmas.List.Sums.{fails_before_first}
 use Rattle.std.proofs.lemmas.Nat.Bits.{bit_at-zero}
@@ -45,7 +45,8 @@ module _ (words : List ℕ) (at bit : ℕ) (within : bit < 64) where
           let below : q % 64 < bit = omega (arith, same) in
           ap (λ w. bit_at (get_or words w 0) (q % 64) == 1) same ∙ ap (λ b. b == 1) (least (q % 64) below)
       by false e =
-          let below : q / 64 < at = grind (arith, e) in
+          let apart : q / 64 ≢ at = eqb-false (q / 64) at e in
+          let below : q / 64 < at = omega (arith, apart, lt) in
           unmarked words q ((position-Some is_some_word words at 0 found).2 (q / 64) below)
 
 -- where each word is 0 nothing is marked
@@ -60,4 +61,4 @@ none_marked words none q = unmarked words q (no_word words (q / 64) (λ j lt. fa
     by : (b : Bool) → nat_lt (position_or_len is_some_word words) (length words) ≡ b → cond b (Some (position_or_len is_some_word words)) None ≡ None → (j : ℕ) → j < length words →
         j < position_or_len is_some_word words
     by true e n j lt = absurd (true≢false (ap is_some n))
-    by false e n j lt = grind (arith, e)
+    by false e n j lt = let le = ltb-false (position_or_len is_some_word words) (length words) e in omega (arith, le, lt)

@@ -5,7 +5,7 @@ use Rattle.std.specs.List.Sorted.{IsStrictlySortedBy}
 use Rattle.std.specs.Map.{keys_of}
 use Rattle.std.specs.Option.{option_map_or}
 use Rattle.std.proofs.Math.Seq.{map-set_same}
-use Rattle.std.proofs.lemmas.Bool.{eqb-true, eqb-false}
+use Rattle.std.proofs.lemmas.Bool.{eqb-true, eqb-false, ltb-true, ltb-false, lt-ltb, le-ltb}
 use Rattle.std.proofs.lemmas.List.{get_or-set_same, get_or-set_other, length-set}
 use Rattle.std.proofs.lemmas.Option.{slice_get-get_or, slice_get_past}
 use Rattle.zr_network.specs.World.{EndState, End, Ends, end_cmp}
@@ -26,11 +26,11 @@ module _ {X : Type 0} (xs : List X) (i : ℕ) (x : X) where
     where
       by : (b : Bool) → nat_lt q (length xs) ≡ b → slice_get (set xs i x) q ≡ slice_get xs q
       by true e =
-          let lt : q < length xs = grind (arith, e) in
+          let lt : q < length xs = ltb-true q (length xs) e in
           let within : q < length (set xs i x) = rw (length-set xs i x) lt in
           slice_get-get_or (set xs i x) q x within ∙ ap (λ y. Some y) (get_or-set_other xs i q x x ne) ∙ sym (slice_get-get_or xs q x lt)
       by false e =
-          let le : length xs ≤ q = grind (arith, e) in
+          let le : length xs ≤ q = ltb-false q (length xs) e in
           let past : length (set xs i x) ≤ q = rw (length-set xs i x) le in
           slice_get_past (set xs i x) q past ∙ sym (slice_get_past xs q le)
 
@@ -124,7 +124,7 @@ module _ (test : EndState → Bool) (es : Ends) where
       by : (b : Bool) → (q == n) ≡ b → cond b (test (get_or es n d).1) (has_mark words q) ≡ cond (nat_lt q (n + 1)) (passes_at test es q) (has_mark first q)
       by true e =
           let same : q ≡ n = eqb-true q n e in
-          let inside : nat_lt q (n + 1) ≡ true = grind (arith, same) in
+          let inside : nat_lt q (n + 1) ≡ true = lt-ltb q (n + 1) (omega (arith, same)) in
           rw inside
           (sym (ap (passes_at test es) same ∙ ap (λ (o : Option (End × EndState)). option_map_or (λ x. test x.1) o false) (slice_get-get_or es n d lt)))
       by false e =
@@ -132,8 +132,8 @@ module _ (test : EndState → Bool) (es : Ends) where
           before q ∙ ap (λ c. cond c (passes_at test es q) (has_mark first q)) (below (nat_lt q n) refl apart)
         where
           below : (c : Bool) → nat_lt q n ≡ c → q ≢ n → c ≡ nat_lt q (n + 1)
-          below true k ne = grind (arith, k)
-          below false k ne = grind (arith, k, ne)
+          below true k ne = let lt : q < n = ltb-true q n k in sym (lt-ltb q (n + 1) (omega (arith, lt)))
+          below false k ne = let le : n ≤ q = ltb-false q n k in sym (le-ltb q (n + 1) (omega (arith, le, ne)))
 
   -- nothing was marked behind the last place
   pub just_anew : (n : ℕ) (words words' : List ℕ) → length es ≤ n → ((q : ℕ) → length es ≤ q → has_mark words q ≡ false) →
@@ -142,7 +142,7 @@ module _ (test : EndState → Bool) (es : Ends) where
     where
       by : (b : Bool) → nat_lt q n ≡ b → cond b (passes_at test es q) (has_mark words q) ≡ passes_at test es q
       by true e = refl
-      by false e = let past : length es ≤ q = grind (arith, e, le) in none q past ∙ sym (passes_past test es q past)
+      by false e = let behind : n ≤ q = ltb-false q n e in let past : length es ≤ q = omega (arith, behind, le) in none q past ∙ sym (passes_past test es q past)
 
   -- so it is where there was room made for one place more
   pub none_behind : (fewer : Ends) (first words : List ℕ) → length fewer ≤ length es → HasJust test first fewer → ((q : ℕ) → has_mark words q ≡ has_mark first q) →

@@ -12,7 +12,7 @@ use std::marker::Model;
 use zr_msg::msg::Msg;
 
 /// A message that waits, with the number of the script line that it comes from.
-#[derive(Debug, Drop)]
+#[derive(Drop)]
 pub struct Tagged {
     pub msg: Msg,
     pub tag: u64,
@@ -27,7 +27,7 @@ impl Model for Tagged {
 }
 
 /// A router's end of a link.
-#[derive(Debug, Drop)]
+#[derive(Drop)]
 pub struct LinkEnd {
     up: bool,
     unbroken: bool,

@@ -19,7 +19,7 @@ use zr_msg::msg::Msg;
 /// The ends, which are what is seen of it, each by its router and its neighbour. They stand in order, and beside
 /// them are marked the places of those at which a message can be handled, and of those at which one can be taken: so the first is found
 /// without a search through all ends.
-#[derive(Debug, Drop)]
+#[derive(Drop)]
 pub struct Ends {
     list: Vec<NamedEnd>,
     to_handle: Vec<u64>,

@@ -1,10 +1,11 @@
 //! What each change of an end does to the ends, and to the marks of the ends at which a step is possible.
 
-ghost use Rattle.std.specs.Prelude.{◌≡◌, ◌∷◌, [], ◌*◌, ◌≤◌, false, ℕ, List, length, OnOk};
+ghost use Rattle.std.specs.Prelude.{◌≡◌, ◌∷◌, [], ◌*◌, ◌<◌, ◌≤◌, ◌==◌, cond, false, ℕ, List, length, OnOk};
 ghost use Rattle.std.specs.List.{insert};
 ghost use Rattle.std.specs.List.Sorted.{IsStrictlySortedBy};
 ghost use Rattle.std.specs.Map.{keys_of};
 ghost use Rattle.zr_network.specs.World.{end_cmp, end_of, changed, sent, queued, broken, lifted, lowered, put_end};
+ghost use Rattle.zr_network.specs.Next.{can_handle, can_take};
 ghost use Rattle.zr_ends.specs.Index.{IsIndexed, IsThere, has_mark};
 ghost use Rattle.zr_ends.specs.Steps.{Gives, changed_at, returned, from_wire, from_queue};
 
@@ -155,8 +156,7 @@ pub fn lift(
     };
     let end = &mut ends[place].1;
     end.lift();
-    set(to_handle, place, end.can_handle());
-    set(to_take, place, end.can_take());
+    mark(end, to_handle, to_take, place);
     Ok(())
 }
 
@@ -173,8 +173,7 @@ pub fn lower(ends: &mut [NamedEnd], to_handle: &mut [u64], to_take: &mut [u64], 
     };
     let end = &mut ends[place].1;
     end.lower();
-    set(to_handle, place, end.can_handle());
-    set(to_take, place, end.can_take());
+    mark(end, to_handle, to_take, place);
 }
 
 /// The link of an end breaks, and what was on the wire is lost.
@@ -190,8 +189,7 @@ pub fn break_off(ends: &mut [NamedEnd], to_handle: &mut [u64], to_take: &mut [u6
     };
     let end = &mut ends[place].1;
     end.break_off();
-    set(to_handle, place, end.can_handle());
-    set(to_take, place, end.can_take());
+    mark(end, to_handle, to_take, place);
 }
 
 /// An end comes, or another one takes its place. Nothing waits there.
@@ -231,8 +229,7 @@ fn replace(
 {
     let end = &mut ends[place].1;
     *end = new;
-    set(to_handle, place, end.can_handle());
-    set(to_take, place, end.can_take());
+    mark(end, to_handle, to_take, place);
 }
 
 // A new end comes to a place, and the ends are marked anew.
@@ -256,6 +253,19 @@ fn insert(
     Ok(())
 }
 
+// The marks at a place say what is possible at this end.
+fn mark(end: &LinkEnd, to_handle: &mut [u64], to_take: &mut [u64], place: usize)
+    requires handle_room { place < 64 * length to_handle.old }
+    requires take_room { place < 64 * length to_take.old }
+    ensures handles { (q : ℕ) → has_mark to_handle.new q ≡ cond (q == place) (can_handle end.now) (has_mark to_handle.old q) }
+    ensures handle_room { length to_handle.new ≡ length to_handle.old }
+    ensures takes { (q : ℕ) → has_mark to_take.new q ≡ cond (q == place) (can_take end.now) (has_mark to_take.old q) }
+    ensures take_room { length to_take.new ≡ length to_take.old }
+{
+    set(to_handle, place, end.can_handle());
+    set(to_take, place, end.can_take());
+}
+
 fn mark_all(ends: &[NamedEnd], to_handle: &mut [u64], to_take: &mut [u64])
     requires ordered { IsStrictlySortedBy end_cmp (keys_of ends.now) }
     requires handle_room { length ends.now ≤ 64 * length to_handle.old }
@@ -265,7 +275,6 @@ fn mark_all(ends: &[NamedEnd], to_handle: &mut [u64], to_take: &mut [u64])
     ensures { IsIndexed ends.now to_handle.new to_take.new }
 {
     for (place, end) in ends.iter().enumerate() {
-        set(to_handle, place, end.1.can_handle());
-        set(to_take, place, end.1.can_take());
+        mark(&end.1, to_handle, to_take, place);
     }
 }
