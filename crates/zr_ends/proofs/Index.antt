@@ -1,12 +1,12 @@
 -- The marks keep their meaning where the state of an end changes, and where an end is new.
-use Rattle.std.proofs.Common.{◌≡◌, ◌≢◌, ℕ, ◌+◌, ◌*◌, ◌<◌, ◌≤◌, ◌==◌, Bool, true, false, cond, nat_lt, List, [], Option, Some, length, get_or, set, refl, sym, ap, ◌∙◌, subst, arith}
+use Rattle.std.proofs.Common.{◌≡◌, ◌≢◌, ℕ, ◌+◌, ◌*◌, ◌<◌, ◌≤◌, ◌==◌, Bool, true, false, cond, nat_lt, List, [], ◌++◌, Option, Some, length, get_or, set, take, drop, refl, sym, ap, ◌∙◌, subst, arith}
 use Rattle.std.specs.Prelude.{slice_get}
 use Rattle.std.specs.List.Sorted.{IsStrictlySortedBy}
 use Rattle.std.specs.Map.{keys_of}
 use Rattle.std.specs.Option.{option_map_or}
 use Rattle.std.proofs.Math.Seq.{map-set_same}
 use Rattle.std.proofs.lemmas.Bool.{eqb-true, eqb-false, ltb-true, ltb-false, lt-ltb, le-ltb}
-use Rattle.std.proofs.lemmas.List.{get_or-set_same, get_or-set_other, length-set}
+use Rattle.std.proofs.lemmas.List.{get_or-set_same, get_or-set_other, length-set, take_at}
 use Rattle.std.proofs.lemmas.Option.{slice_get-get_or, slice_get_past}
 use Rattle.zr_network.specs.World.{EndState, End, Ends, end_cmp}
 use Rattle.zr_network.specs.Next.{can_handle, can_take}
@@ -150,3 +150,19 @@ module _ (test : EndState → Bool) (es : Ends) where
   none_behind fewer first words le just same q past =
       let past' : length fewer ≤ q = omega (arith, past, le) in
       same q ∙ just q ∙ passes_past test fewer q past'
+
+-- ---- what was lent is back, as long as it was
+
+pub lent_handles : (es lent new : Ends) (h lent' new' t : List ℕ) (n m : ℕ) → lent ≡ es → lent' ≡ h → length new ≡ n → length new' ≡ m →
+    (IsIndexed lent lent' t → IsIndexed new new' t) → IsIndexed es h t → IsIndexed (take n (new ++ drop (length new) es)) (take m (new' ++ drop (length new') h)) t
+lent_handles es lent new h lent' new' t n m e e' l l' keeps x =
+    let ends : take n (new ++ drop (length new) es) ≡ new = take_at new (drop (length new) es) n l in
+    let marks : take m (new' ++ drop (length new') h) ≡ new' = take_at new' (drop (length new') h) m l' in
+    rw (ends, marks) (keeps (rw (e, e') x))
+
+pub lent_takes : (es lent new : Ends) (h t lent' new' : List ℕ) (n m : ℕ) → lent ≡ es → lent' ≡ t → length new ≡ n → length new' ≡ m →
+    (IsIndexed lent h lent' → IsIndexed new h new') → IsIndexed es h t → IsIndexed (take n (new ++ drop (length new) es)) h (take m (new' ++ drop (length new') t))
+lent_takes es lent new h t lent' new' n m e e' l l' keeps x =
+    let ends : take n (new ++ drop (length new) es) ≡ new = take_at new (drop (length new) es) n l in
+    let marks : take m (new' ++ drop (length new') t) ≡ new' = take_at new' (drop (length new') t) m l' in
+    rw (ends, marks) (keeps (rw (e, e') x))
