@@ -3,3 +3,4 @@ mod Index
 mod Bits
 mod Standing
 pub mod Same
+pub mod Giving
