@@ -26,12 +26,15 @@ impl Entry {
     pub fn copy(&self, alloc: Global) -> Result<Entry, AllocError>
         ensures { IfOk result (λ e. e ≡ self.now) }
     {
+        let dropped = self.dropped.copy(alloc)?;
+        let closed = self.closed.copy(alloc)?;
+        let event = self.event.copy(alloc)?; // last, so that no event is dropped here
         Ok(Entry {
-            event: self.event.copy(alloc)?,
+            event,
             outbox: self.outbox,
             reason: self.reason,
-            dropped: self.dropped.copy(alloc)?,
-            closed: self.closed.copy(alloc)?,
+            dropped,
+            closed,
         })
     }
 }

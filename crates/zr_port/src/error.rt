@@ -6,7 +6,7 @@ use zr_msg::error::NodeError;
 use zr_msg::peer::Role;
 
 /// Why a link doesn't come up.
-#[derive(Clone, Copy, Debug, PartialEq, Eq, Error)]
+#[derive(Clone, Copy, Debug, Error)]
 pub enum UpError {
     /// So many sessions are up, of them so many to routers: one of the two limits is reached.
     #[error("the router has as many sessions as it may")]
@@ -23,7 +23,7 @@ pub enum UpError {
 }
 
 /// Why a message isn't delivered.
-#[derive(Clone, Copy, Debug, PartialEq, Eq, Error)]
+#[derive(Clone, Copy, Debug, Error)]
 pub enum DeliverError {
     /// The link isn't up.
     #[error("the link is not up")]
@@ -46,7 +46,7 @@ pub enum DeliverError {
 }
 
 /// Why a link doesn't go down.
-#[derive(Clone, Copy, Debug, PartialEq, Eq, Error)]
+#[derive(Clone, Copy, Debug, Error)]
 pub enum DownError {
     /// The link isn't up.
     #[error("the link is not up")]
