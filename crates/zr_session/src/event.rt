@@ -1,14 +1,15 @@
 //! What a session gives.
 
-ghost use Rattle.std.specs.Prelude.{◌≡◌, []};
+ghost use Rattle.std.specs.Prelude.{◌≡◌, [], IfErr};
 
+use crate::stop::Stop;
 use std::alloc::Global;
 use zr_frame::Outbox;
 use zr_msg::msg::Msg;
 use zr_msg::peer::Peer;
 
 /// What happens in a session, in the order of the stream.
-#[derive(Debug, Drop)]
+#[derive(Drop)]
 pub enum SessionEvent {
     /// Both ends are open. This end sends by the outbox.
     Opened(Peer, Outbox),
@@ -17,7 +18,7 @@ pub enum SessionEvent {
 }
 
 /// Where calls append what they give.
-#[derive(Debug, Drop)]
+#[derive(Drop)]
 pub struct Fed {
     pub events: Vec<SessionEvent>,
     /// What is to be written to the link, batches behind their lengths.
@@ -25,6 +26,11 @@ pub struct Fed {
 }
 
 impl Fed {
+    ghost use Rattle.zr_session.specs.declared.phase.Phase.{Phase};
+    ghost use Rattle.zr_session.specs.Course.{gives};
+    ghost use Rattle.zr_session.specs.Done.{Keeps, Steps};
+    ghost use Rattle.zr_session.specs.declared.stop.Stop.TheVariants.{NoMemory};
+
     /// Nothing was given yet.
     pub fn new(alloc: Global) -> Fed
         ensures events { result.events.items ≡ [] }
@@ -33,6 +39,20 @@ impl Fed {
         Fed {
             events: Vec::new(alloc),
             bytes: Vec::new(alloc),
+        }
+    }
+
+    /// Gives one more event.
+    pub(crate) fn give(&mut self, event: SessionEvent) -> Result<(), Stop>
+        ensures steps { (phase : Phase) → Steps result (gives phase event) phase self.old self.new }
+        ensures memory { IfErr result (λ e. (e ≡ NoMemory) × Keeps self.old self.new) }
+    {
+        match self.events.push(event) {
+            Ok(()) => Ok(()),
+            Err(failed) => {
+                drop(failed);
+                Err(Stop::NoMemory)
+            }
         }
     }
 }

@@ -6,7 +6,7 @@ ghost use Rattle.zr_session.specs.Session.{fate_of};
 use zr_open::Reason;
 
 /// How a session ended.
-#[derive(Clone, Copy, Debug, PartialEq, Eq)]
+#[derive(Clone, Copy)]
 pub enum End {
     /// This end closed it.
     Closed(Reason),

@@ -57,7 +57,7 @@ fn on_opening(
         Ok(Progress::Answers { expected, answer }) => answer_with(
             alloc, expected, &answer, phase, out,
         ),
-        Ok(Progress::Opened(opened)) => establish(alloc, opened, phase, out),
+        Ok(Progress::Opened(opened)) => establish(alloc, &opened, phase, out),
         Err(OpenError::Closed(reason)) => Err(Stop::Ended(End::Closed(reason))),
         Err(OpenError::Peer(reason)) => Err(Stop::Ended(End::Peer(reason))),
         Err(OpenError::NoMemory) => Err(Stop::NoMemory),
@@ -80,19 +80,32 @@ fn answer_with(
         return Err(INVALID);
     }
     put_batch(&mut out.bytes, &batch)?;
-    *phase = Phase::Opening(next);
+    enter(phase, Phase::Opening(next));
     Ok(())
 }
 
 /// Both ends are open.
-fn establish(alloc: Global, opened: Opened, phase: &mut Phase, out: &mut Fed) -> Result<(), Stop>
-    requires first { opened.first < modulus_of opened.outbox.bits }
-    requires answer { AnswerFits opened.answer }
-    ensures { (expected : Expected) → phase.old ≡ Phase.Opening expected → Steps result (on_progress expected (Ok (Progress.Opened opened))) phase.new out.old out.new }
+fn establish(alloc: Global, opened: &Opened, phase: &mut Phase, out: &mut Fed) -> Result<(), Stop>
+    requires first { opened.now.first < modulus_of opened.now.outbox.bits }
+    requires answer { AnswerFits opened.now.answer }
+    ensures { (expected : Expected) → phase.old ≡ Phase.Opening expected → Steps result (on_progress expected (Ok (Progress.Opened opened.now))) phase.new out.old out.new }
 {
-    let session = Established::new(alloc, &opened)?;
-    out.events
-        .push(SessionEvent::Opened(opened.peer, opened.outbox))?;
-    *phase = Phase::Established(session);
-    Ok(())
+    let session = Established::new(alloc, opened)?;
+    match out.give(SessionEvent::Opened(opened.peer, opened.outbox)) {
+        Ok(()) => {
+            enter(phase, Phase::Established(session));
+            Ok(())
+        }
+        Err(e) => {
+            drop(session);
+            Err(e)
+        }
+    }
+}
+
+/// The session goes on in this phase.
+fn enter(phase: &mut Phase, next: Phase)
+    ensures { phase.new ≡ next }
+{
+    *phase = next;
 }

@@ -124,10 +124,15 @@ impl Established {
         ensures { Steps result (on_whole self.old (carried_of self.old.role self.old.keys bytes.now)) (phase.Established self.new) out.old out.new }
     {
         let mut c = Cursor::new(bytes);
-        match read_carried(alloc, &mut c, self.role, &self.keys) {
-            Ok(message) if c.left() == 0 => self.on_carried(message, out),
-            Ok(_) => Err(INVALID),
-            Err(e) => Err(stop_of_read(e)),
+        let message = match read_carried(alloc, &mut c, self.role, &self.keys) {
+            Ok(message) => message,
+            Err(e) => return Err(stop_of_read(e)),
+        };
+        if c.left() == 0 {
+            self.on_carried(message, out)
+        } else {
+            drop(message);
+            Err(INVALID)
         }
     }
 
@@ -137,7 +142,8 @@ impl Established {
     {
         match message {
             Carried::Network(declared) => self.on_network(declared, out),
-            Carried::BetweenRouters(msg) => self.on_oam(msg, out),
+            Carried::BetweenRouters(None) => Ok(()),
+            Carried::BetweenRouters(Some(msg)) => self.on_oam(msg, out),
         }
     }
 
@@ -155,14 +161,15 @@ impl Established {
         }
     }
 
-    fn on_oam(&mut self, msg: Option<Msg>, out: &mut Fed) -> Result<(), Stop>
-        ensures { Steps result (on_carried self.old (Carried.BetweenRouters msg)) (phase.Established self.new) out.old out.new }
+    /// A message between routers, which a client's session ignores.
+    fn on_oam(&self, msg: Msg, out: &mut Fed) -> Result<(), Stop>
+        ensures { Steps result (between_routers self.now.role self.now msg) (phase.Established self.now) out.old out.new }
     {
-        let Some(msg) = msg else {
-            return Ok(());
-        };
         match self.role {
-            Role::Client => Ok(()),
+            Role::Client => {
+                drop(msg);
+                Ok(())
+            }
             Role::Router => self.give(msg, out),
         }
     }
@@ -171,11 +178,12 @@ impl Established {
     fn give(&self, msg: Msg, out: &mut Fed) -> Result<(), Stop>
         ensures { Steps result (given (admits self.now.role msg) self.now msg) (phase.Established self.now) out.old out.new }
     {
-        if !admits(self.role, &msg) {
-            return Err(INVALID);
+        if admits(self.role, &msg) {
+            out.give(SessionEvent::Message(msg))
+        } else {
+            drop(msg);
+            Err(INVALID)
         }
-        out.events.push(SessionEvent::Message(msg))?;
-        Ok(())
     }
 
     /// The peer numbers a text, in the place of an earlier one of that number.

@@ -4,13 +4,13 @@ ghost use Rattle.std.specs.Prelude.{◌≡◌};
 ghost use Rattle.zr_session.specs.Done.{stop_of_read, stop_of_channel};
 
 use crate::fate::End;
-use std::alloc::{AllocError, AllocFailed};
+use std::alloc::AllocError;
 use zr_bytes::ReadError;
 use zr_frame::ChannelError;
 use zr_open::Reason;
 
 /// Why a part of a stream is not read on.
-#[derive(Clone, Copy, Debug, PartialEq, Eq)]
+#[derive(Clone, Copy)]
 pub enum Stop {
     /// The session has ended.
     Ended(End),
@@ -52,17 +52,6 @@ impl From<AllocError> for Stop {
     ghost from_gives = { λ _ e. e ≡ NoMemory };
 
     fn from(_e: AllocError) -> Stop {
-        Stop::NoMemory
-    }
-}
-
-impl<T: Drop> From<AllocFailed<T>> for Stop {
-    ghost use Rattle.std.specs.Prelude.{◌≡◌};
-    ghost use Rattle.zr_session.specs.declared.stop.Stop.TheVariants.{NoMemory};
-
-    ghost from_gives = { λ _ e. e ≡ NoMemory };
-
-    fn from(_e: AllocFailed<T>) -> Stop {
         Stop::NoMemory
     }
 }
