@@ -4,7 +4,7 @@ ghost use Rattle.std.specs.Prelude.{◌≡◌};
 ghost use Rattle.zr_writer.specs.Ends.{end_of_stop};
 
 /// How a writer ended.
-#[derive(Clone, Copy, Debug, PartialEq, Eq)]
+#[derive(Clone, Copy, PartialEq, Eq)]
 pub enum WriterEnd {
     /// The ring's end was taken, with this reason, and all was written.
     Done(Option<u8>),
@@ -17,7 +17,7 @@ pub enum WriterEnd {
 }
 
 /// Why a writer stops before the ring's end.
-#[derive(Clone, Copy, Debug, PartialEq, Eq)]
+#[derive(Clone, Copy)]
 pub(crate) enum Stop {
     Fault,
     NoMemory,

@@ -74,7 +74,6 @@ impl Joined {
     }
 
     /// Nothing is to be had: writes what waits, or a KEEP_ALIVE where nothing was written for a while, and rests once.
-    #[tactic(auto, using(crate::proofs::Carrying::appends_none))]
     pub(crate) fn rest<K: Sink, C: Clock>(
         &mut self,
         sink: &mut K,
@@ -90,12 +89,32 @@ impl Joined {
         ensures moment { (self.old.moment ≤ self.new.moment) × (self.new.moment ≤ C.last clock.new) }
         ensures clock { C.last clock.old ≤ C.last clock.new }
     {
+        self.catch_up(sink, clock)?;
+        clock.pause();
+        Ok(())
+    }
+
+    // Writes what waits, or a KEEP_ALIVE where nothing was written for a while.
+    #[tactic(auto, using(crate::proofs::Carrying::appends_none))]
+    fn catch_up<K: Sink, C: Clock>(&mut self, sink: &mut K, clock: &mut C) -> Result<(), Stop>
+        requires past { self.old.moment ≤ C.last clock.old }
+        ensures empty { OnOk result (self.new.bytes.items ≡ []) }
+        ensures wrote { OnOk result (Rests self.old.bytes.items self.old.moment self.new.moment (K.held sink.old) (K.held sink.new)) }
+        ensures part { OnErr result (Fails self.old.bytes.items self.old.moment (C.last clock.new) (K.held sink.old) (K.held sink.new)) }
+        ensures cause { OnErr result (Rose (K.faults sink.old) (K.faults sink.new)) }
+        ensures fault { IfErr result (λ e. e ≡ Fault) }
+        ensures later { K.faults sink.old ≤ K.faults sink.new }
+        ensures moment { (self.old.moment ≤ self.new.moment) × (self.new.moment ≤ C.last clock.new) }
+        ensures clock { C.last clock.old ≤ C.last clock.new }
+    {
         if !self.bytes.is_empty() {
             self.flush(sink, clock)?;
-        } else if clock.now().saturating_sub(self.moment) >= KEEP_ALIVE_MS {
-            self.send(sink, clock, &KEEP_ALIVE)?;
+            return Ok(());
         }
-        clock.pause();
+        if clock.now().saturating_sub(self.moment) >= KEEP_ALIVE_MS {
+            self.send(sink, clock, &KEEP_ALIVE)?;
+            return Ok(());
+        }
         Ok(())
     }
 
