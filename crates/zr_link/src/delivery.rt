@@ -102,6 +102,7 @@ fn deliver_all<P: Port>(
         match event {
             SessionEvent::Message(msg) => {
                 if let Err(e) = port.deliver(pass, link, msg) {
+                    drop(rest);
                     return Err(LinkEnd::of_delivery(e));
                 }
             }

@@ -8,7 +8,7 @@ use zr_open::Reason;
 use zr_port::{DeliverError, UpError};
 
 /// How the reader of a link ended.
-#[derive(Clone, Copy, Debug, PartialEq, Eq)]
+#[derive(Clone, Copy, PartialEq, Eq)]
 pub enum LinkEnd {
     /// A read failed.
     ReadFault,

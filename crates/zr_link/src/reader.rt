@@ -101,9 +101,11 @@ impl Reader {
     {
         let mut out = out;
         let Ok(port) = Arc::try_clone(&out.port) else {
+            drop(session);
             return (LinkEnd::NoMemory, Some(out.sink));
         };
         let Ok(()) = write_all(&mut out.sink, first) else {
+            drop(session);
             return (LinkEnd::WriteFault, Some(out.sink));
         };
         let Ok(mut intake) = Intake::new(alloc, session) else {
@@ -178,6 +180,7 @@ where
     let (link, taker) = match port.up(pass, peer, outbox) {
         Ok(up) => up,
         Err(e) => {
+            drop(messages);
             let end = LinkEnd::of_up(e);
             refuse(intake, &mut out.sink, end);
             return (end, Some(out.sink));
@@ -193,6 +196,7 @@ where
             (end, None)
         }
         Err((end, sink)) => {
+            drop(messages);
             leave(port, pass, link, end);
             (end, Some(sink))
         }

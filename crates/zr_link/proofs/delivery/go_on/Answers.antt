@@ -1,11 +1,14 @@
 -- Each read leads on, and what it gives is delivered.
-use Rattle.std.proofs.Common.{◌≡◌, ◌≤◌, ◌∙◌, true, min, refl, sym, subst, arith, [], append-nil}
+use Rattle.std.proofs.Common.{◌≡◌, ◌≤◌, ◌∙◌, true, min, refl, sym, subst, [], append-nil}
+use Rattle.std.proofs.Math.Nat.{le_refl, le_trans}
 use Rattle.zr_hist.specs.Words.{seen, mine}
 use Rattle.zr_session.specs.Session.{SessionState, is_running}
 use Rattle.zr_link.specs.Heard.{IsLate, IsIn, IsOpen}
 use Rattle.zr_link.specs.Run.{Delivers}
 use Rattle.zr_link.proofs.Hearing.{plainly, plainly_some}
-use Rattle.zr_link.proofs.Going.{Gone, prefix_trans, gone_none, gone_more, gone_lost, gone_settled, gone_over, open_on, open_gives, leads_by, counted_same, rose_more, moment_more}
+use Rattle.zr_link.specs.declared.end.LinkEnd.TheVariants as end
+use Rattle.zr_link.proofs.Counts.{IsUnread, counted_err, counted_never, counted_none, moment_none, rose_none, settles_unread}
+use Rattle.zr_link.proofs.Going.{Gone, prefix_trans, gone_none, gone_more, gone_lost, gone_settled, gone_over, open_on, open_gives, leads_by, rose_more, moment_more}
 use Rattle.zr_link.proofs.Unopened.{late_before}
 use Rattle.zr_link.proofs.delivery.go_on.Goals as goal
 
@@ -17,9 +20,9 @@ loop-init g c = record {
   running = c.requires.running;
   opened = c.requires.opened;
   counts = (refl, refl);
-  reads = record { most = omega arith; least = omega arith };
-  later = (omega arith, omega arith);
-  moment = omega arith;
+  reads = rose_none _;
+  later = (le_refl _, le_refl _);
+  moment = moment_none _ _;
 }
 
 pub settle-requires-clause-messages : goal.settle-requires-clause-messages
@@ -62,9 +65,9 @@ loop-preserved g c =
       gone = subst (λ (z : SessionState). Gone c.args.link c.args.intake.now.session z (g.S.Source.left c.args.source.now) (g.S.Source.left c.next.new.source) (mine c.args.pass.now) (mine c.settle.new.pass)) kept gone;
       running = subst (λ (z : SessionState). is_running z.state ≡ true) kept (heard.running going);
       opened = subst (λ (z : SessionState). IsIn IsOpen z) kept (open_on c.loop.intake.session c.next.new.self.session _ _ _ _ c.in-Ok.fate inv.opened told going);
-      counts = (counted_same _ _ _ heard.fault (λ e. absurd cc) ∙ inv.counts.0, counted_same _ _ _ heard.ended (λ e. absurd cc) ∙ inv.counts.1);
+      counts = (counted_none _ _ _ _ heard.fault ∙ inv.counts.0, counted_none _ _ _ _ heard.ended ∙ inv.counts.1);
       reads = reads;
-      later = (omega (arith, inv.later.0, heard.later.0), omega (arith, inv.later.1, heard.later.1));
+      later = (le_trans inv.later.0 heard.later.0, le_trans inv.later.1 heard.later.1);
       moment = subst (λ (z : SessionState). min c.args.intake.now.session.heard (g.C.Clock.last c.args.clock.now) ≤ z.heard) kept (moment_more _ _ _ _ _ inv.moment inv.later.1 heard.moment);
     }
 
@@ -74,3 +77,40 @@ returns-clause-followed g c =
     (IsLate (g.S.Source.quiets c.args.source.now) (g.S.Source.quiets c.loop.source) c.args.intake.now.session.heard (g.C.Clock.last c.args.clock.now) (g.C.Clock.last c.loop.clock))
     (g.P.Port.refuses_message c.args.port.now) (seen c.loop.pass) c.loop.invariant.gone c.loop.invariant.running in
     (all.msgs, all.does, all.follows)
+
+pub returns-in-Err-clause-fault : goal.returns-in-Err-clause-fault
+returns-in-Err-clause-fault g c = counted_err _ _ _ c.next.result c.in-Err.end end.ReadFault c.in-Err.is c.loop.invariant.counts.0 c.next.ensures.fault
+
+pub returns-in-Err-clause-ended : goal.returns-in-Err-clause-ended
+returns-in-Err-clause-ended g c = counted_err _ _ _ c.next.result c.in-Err.end end.PeerEnded c.in-Err.is c.loop.invariant.counts.1 c.next.ensures.ended
+
+pub returns-in-Err-clause-later : goal.returns-in-Err-clause-later
+returns-in-Err-clause-later g c =
+    let inv = c.loop.invariant in
+    (le_trans inv.later.0 c.in-Err.ensures.later.0, le_trans inv.later.1 c.in-Err.ensures.later.1)
+
+pub returns-in-Err-settle-clause-fault : goal.returns-in-Err-settle-clause-fault
+returns-in-Err-settle-clause-fault g c =
+    let stops = c.in-Err-settle.ensures.err in
+    let unread = settles_unread _ stops.0 c.in-Ok.fate c.in-Err-settle.end stops.2 in
+    counted_never _ _ _ (counted_none _ _ _ _ c.in-Ok.ensures.fault ∙ c.loop.invariant.counts.0) (λ is. subst IsUnread is unread)
+
+pub returns-in-Err-settle-clause-ended : goal.returns-in-Err-settle-clause-ended
+returns-in-Err-settle-clause-ended g c =
+    let stops = c.in-Err-settle.ensures.err in
+    let unread = settles_unread _ stops.0 c.in-Ok.fate c.in-Err-settle.end stops.2 in
+    counted_never _ _ _ (counted_none _ _ _ _ c.in-Ok.ensures.ended ∙ c.loop.invariant.counts.1) (λ is. subst IsUnread is unread)
+
+pub returns-in-Err-settle-clause-later : goal.returns-in-Err-settle-clause-later
+returns-in-Err-settle-clause-later g c =
+    let inv = c.loop.invariant in
+    (le_trans inv.later.0 c.in-Ok.ensures.later.0, le_trans inv.later.1 c.in-Ok.ensures.later.1)
+
+pub returns-clause-fault : goal.returns-clause-fault
+returns-clause-fault g c = counted_never _ _ _ c.loop.invariant.counts.0 (λ is. subst IsUnread is tt)
+
+pub returns-clause-ended : goal.returns-clause-ended
+returns-clause-ended g c = counted_never _ _ _ c.loop.invariant.counts.1 (λ is. subst IsUnread is tt)
+
+pub returns-clause-later : goal.returns-clause-later
+returns-clause-later g c = c.loop.invariant.later

@@ -2,6 +2,8 @@
 use Rattle.std.specs.Vec.Iter.{into_iter_items}
 use Rattle.zr_hist.specs.Words.{seen}
 use Rattle.zr_link.specs.Heard.{IsLate}
+use Rattle.std.proofs.Common.{refl, subst}
+use Rattle.zr_link.proofs.Counts.{IsUnread, counted_never, settles_unread}
 use Rattle.zr_link.proofs.Going.{waited_settled, waited_followed, settles_started, follows_started}
 use Rattle.zr_link.proofs.reader.follow.Goals as goal
 
@@ -35,3 +37,27 @@ returns-in-Ok-clause-started g c =
 
 pub returns-in-Err-clause-started : goal.returns-in-Err-clause-started
 returns-in-Err-clause-started g c = let stops = c.in-Err.ensures.err in settles_started _ stops.0 c.args.fate c.in-Err.end stops.2
+
+pub returns-in-Ok-clause-fault : goal.returns-in-Ok-clause-fault
+returns-in-Ok-clause-fault g c = c.go_on.ensures.fault
+
+pub returns-in-Ok-clause-ended : goal.returns-in-Ok-clause-ended
+returns-in-Ok-clause-ended g c = c.go_on.ensures.ended
+
+pub returns-in-Ok-clause-turns : goal.returns-in-Ok-clause-turns
+returns-in-Ok-clause-turns g c = c.go_on.ensures.turns
+
+pub returns-in-Ok-clause-later : goal.returns-in-Ok-clause-later
+returns-in-Ok-clause-later g c = c.go_on.ensures.later
+
+pub returns-in-Err-clause-fault : goal.returns-in-Err-clause-fault
+returns-in-Err-clause-fault g c =
+    let stops = c.in-Err.ensures.err in
+    let unread = settles_unread _ stops.0 c.args.fate c.in-Err.end stops.2 in
+    counted_never _ _ _ refl (λ is. subst IsUnread is unread)
+
+pub returns-in-Err-clause-ended : goal.returns-in-Err-clause-ended
+returns-in-Err-clause-ended g c =
+    let stops = c.in-Err.ensures.err in
+    let unread = settles_unread _ stops.0 c.args.fate c.in-Err.end stops.2 in
+    counted_never _ _ _ refl (λ is. subst IsUnread is unread)
