@@ -115,18 +115,26 @@ impl<B: Naming> Tables<B> {
         ensures stays { is_spent self.old ≡ true → is_spent self.new ≡ true }
     {
         let Ok(worn) = self.look(history, pass) else {
+            drop(msg);
             return Err(DeliverError::NoMemory);
         };
         let peer = self.hub.peer_at(link);
         let closing = closing_of(self.ends.as_slice(), link);
         if let Some(refused) = refuses_message(peer, closing, link, &msg, worn) {
+            drop(msg);
             return Err(refused);
         }
         let event = Event::From { link, msg };
         let sent = match self.handle(alloc, &event) {
             Ok(sent) => sent,
-            Err(Failure::NoMemory) => return Err(DeliverError::NoMemory),
-            Err(Failure::Refused(error)) => return Err(DeliverError::Node(error)),
+            Err(Failure::NoMemory) => {
+                drop(event);
+                return Err(DeliverError::NoMemory);
+            }
+            Err(Failure::Refused(error)) => {
+                drop(event);
+                return Err(DeliverError::Node(error));
+            }
         };
         let arrival = Arrival {
             event,
@@ -134,8 +142,14 @@ impl<B: Naming> Tables<B> {
             reason: None,
         };
         match self.enter(alloc, history, pass, arrival, sent.as_slice()) {
-            Ok(()) => Ok(()),
-            Err(AllocError) => Err(DeliverError::NoMemory),
+            Ok(()) => {
+                drop(sent);
+                Ok(())
+            }
+            Err(AllocError) => {
+                drop(sent);
+                Err(DeliverError::NoMemory)
+            }
         }
     }
 
@@ -174,10 +188,18 @@ impl<B: Naming> Tables<B> {
         let event = Event::Up { link, peer };
         let sent = match self.handle(alloc, &event) {
             Ok(sent) => sent,
-            Err(Failure::NoMemory) => return Err(UpError::NoMemory),
-            Err(Failure::Refused(_)) => return Err(UpError::Worn), // a number that the event needs
+            Err(Failure::NoMemory) => {
+                drop(event);
+                return Err(UpError::NoMemory);
+            }
+            Err(Failure::Refused(_)) => {
+                drop(event);
+                return Err(UpError::Worn); // a number that the event needs
+            }
         };
         let Ok(taker) = self.add_end(alloc, link, peer.role, outbox) else {
+            drop(event);
+            drop(sent);
             return Err(UpError::NoMemory);
         };
         let arrival = Arrival {
@@ -186,8 +208,15 @@ impl<B: Naming> Tables<B> {
             reason: None,
         };
         match self.enter(alloc, history, pass, arrival, sent.as_slice()) {
-            Ok(()) => Ok((link, taker)),
-            Err(AllocError) => Err(UpError::NoMemory),
+            Ok(()) => {
+                drop(sent);
+                Ok((link, taker))
+            }
+            Err(AllocError) => {
+                drop(sent);
+                drop(taker);
+                Err(UpError::NoMemory)
+            }
         }
     }
 
@@ -225,8 +254,14 @@ impl<B: Naming> Tables<B> {
         let event = Event::Down { link };
         let sent = match self.handle(alloc, &event) {
             Ok(sent) => sent,
-            Err(Failure::NoMemory) => return Err(DownError::NoMemory),
-            Err(Failure::Refused(_)) => return Err(DownError::Worn), // a number that the event needs
+            Err(Failure::NoMemory) => {
+                drop(event);
+                return Err(DownError::NoMemory);
+            }
+            Err(Failure::Refused(_)) => {
+                drop(event);
+                return Err(DownError::Worn); // a number that the event needs
+            }
         };
         let Some(end) = taken_out(&mut self.ends, link) else {
             unreachable!()
@@ -237,8 +272,11 @@ impl<B: Naming> Tables<B> {
             reason,
         };
         let Ok(()) = self.enter(alloc, history, pass, arrival, sent.as_slice()) else {
+            drop(sent);
+            drop(end);
             return Err(DownError::NoMemory);
         };
+        drop(sent);
         self.due |= bell_of(link);
         let note = Queued {
             me: self.me,
@@ -349,6 +387,7 @@ impl<B: Naming> Tables<B> {
         } = arrival;
         let entry = prepare(alloc, ends, sent, event, outbox, reason)?;
         enter(history, &mut self.kept, pass, self.me, ends, &entry);
+        drop(entry);
         self.is_spent = false;
         self.due |= due_of(sent);
         Ok(())
