@@ -38,11 +38,39 @@ pub fn prepare(
     ensures dropped { IfOk result (λ e. e.dropped ≡ map (λ x. x.queue.link) (filter (λ x. is_dropped x) ends.new)) }
     ensures closed { IfOk result (λ e. e.closed ≡ map (λ x. x.queue.link) (filter (λ x. is_closing x) ends.new)) }
 {
+    match plan_links(alloc, ends, sent) {
+        Ok(Lacking { dropped, closed }) => Ok(Entry {
+            event,
+            outbox,
+            reason,
+            dropped,
+            closed,
+        }),
+        Err(e) => {
+            drop(event);
+            Err(e)
+        }
+    }
+}
+
+// Links whose rings lack room for what an event has for them.
+struct Lacking {
+    dropped: Links,
+    closed: Links,
+}
+
+fn plan_links(
+    alloc: Global,
+    ends: &mut [LinkEnd],
+    sent: &[(LinkNo, Msg)],
+) -> Result<Lacking, AllocError>
+    requires { All (λ x. IsWritable x.1) sent.now }
+    ensures planned { OnOk result (AllZip (λ old new. IsPlannedAnew (on_link old.queue.link sent.now) old new) ends.old ends.new) }
+    ensures dropped { IfOk result (λ l. l.dropped ≡ map (λ x. x.queue.link) (filter (λ x. is_dropped x) ends.new)) }
+    ensures closed { IfOk result (λ l. l.closed ≡ map (λ x. x.queue.link) (filter (λ x. is_closing x) ends.new)) }
+{
     plan_all(alloc, ends, sent)?;
-    Ok(Entry {
-        event,
-        outbox,
-        reason,
+    Ok(Lacking {
         dropped: dropped_of(alloc, ends)?,
         closed: closed_of(alloc, ends)?,
     })
