@@ -1,7 +1,7 @@
 //! How serving ends.
 
 /// How serving ended.
-#[derive(Clone, Copy, Debug, PartialEq, Eq)]
+#[derive(Clone, Copy, PartialEq, Eq)]
 pub enum ServeEnd {
     /// No more links come.
     Done,

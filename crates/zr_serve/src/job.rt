@@ -5,7 +5,7 @@ ghost use Rattle.std.specs.Prelude.{◌≡◌};
 use zr_id::zid::Zid;
 
 /// Which end of a link the router is.
-#[derive(Clone, Copy, Debug, PartialEq, Eq)]
+#[derive(Clone, Copy)]
 pub enum Side {
     /// The peer has dialled.
     Accepting,
@@ -15,7 +15,7 @@ pub enum Side {
 
 /// What the reader of a link begins with: which end it is, the link's number, counted from 0 in the order in which the links came, the router's
 /// identifier, the secret of its cookies, the link's random word, how often it reads at most, and whether the link has a log.
-#[derive(Debug, Drop)]
+#[derive(Drop)]
 pub struct LinkJob {
     pub side: Side,
     pub number: u64,

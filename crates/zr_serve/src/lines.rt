@@ -15,7 +15,7 @@ use zr_id::zid::Zid;
 use zr_outside::sink::{Sink, WriteFailed, write_all};
 
 /// Why a line was not written.
-#[derive(Clone, Copy, Debug, PartialEq, Eq)]
+#[derive(Clone, Copy)]
 pub(crate) enum Unsaid {
     Fault,
     NoMemory,

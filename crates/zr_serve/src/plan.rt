@@ -3,7 +3,7 @@
 use zr_id::zid::Zid;
 
 /// A router that is to run: its identifier, the address at which it listens, the addresses that it dials, in order, and whether its links have logs.
-#[derive(Debug, Drop)]
+#[derive(Drop)]
 pub struct ServePlan {
     pub id: Zid,
     pub listen: String,
