@@ -14,24 +14,32 @@ const ROUTERS: usize = 5;
 /// How many triples of them there are.
 const TRIPLES: usize = ROUTERS * ROUTERS * ROUTERS;
 
-const NAMES: [u8; ROUTERS] = [1, 2, 3, 4, 5];
-/// The pairs of them that may have an edge.
-const PAIRS: [(usize, usize); 10] = [
-    (0, 1),
-    (0, 2),
-    (0, 3),
-    (0, 4),
-    (1, 2),
-    (1, 3),
-    (1, 4),
-    (2, 3),
-    (2, 4),
-    (3, 4),
-];
 /// A distance that no walk has, and a parent that no router is.
 const NONE: u8 = 255;
 
 type Table = [[u8; ROUTERS]; ROUTERS];
+
+/// The bit of an edge in the number of a graph, by the indexes of its two routers.
+static BITS: [[u32; ROUTERS]; ROUTERS] = [
+    [0, 1, 2, 4, 8],
+    [1, 0, 16, 32, 64],
+    [2, 16, 0, 128, 256],
+    [4, 32, 128, 0, 512],
+    [8, 64, 256, 512, 0],
+];
+
+/// The distances where there are no edges.
+static APART: Table = [
+    [0, NONE, NONE, NONE, NONE],
+    [NONE, 0, NONE, NONE, NONE],
+    [NONE, NONE, 0, NONE, NONE],
+    [NONE, NONE, NONE, 0, NONE],
+    [NONE, NONE, NONE, NONE, 0],
+];
+
+fn is_edge(graph: u32, i: usize, j: usize) -> bool {
+    i < ROUTERS && j < ROUTERS && graph & BITS[i][j] != 0
+}
 
 fn cell(table: &Table, i: usize, j: usize) -> u8 {
     if i < ROUTERS && j < ROUTERS {
@@ -53,81 +61,60 @@ fn triple(number: usize) -> (usize, usize, usize) {
     (first % ROUTERS, second % ROUTERS, number % ROUTERS)
 }
 
-// 1 where the graph of this number has an edge.
-fn edges_of(graph: u32) -> Table {
-    let mut edges = [[0; ROUTERS]; ROUTERS];
-    let mut rest = graph;
-    for (i, j) in PAIRS {
-        if rest % 2 == 1 {
-            set(&mut edges, i, j, 1);
-            set(&mut edges, j, i, 1);
-        }
-        rest /= 2;
-    }
-    edges
-}
-
 // The distances by walks that grow until none is shorter: no shortest walk has as many edges as there are routers.
-fn distances_of(edges: &Table) -> Table {
-    let mut far = [[NONE; ROUTERS]; ROUTERS];
-    for i in 0..ROUTERS {
-        set(&mut far, i, i, 0);
-    }
+fn distances_of(graph: u32) -> Table {
+    let mut far = APART;
     for step in 0..ROUTERS * TRIPLES {
         let (root, x, y) = triple(step);
         let by = cell(&far, root, y).saturating_add(1);
-        if cell(edges, x, y) == 1 && by < cell(&far, root, x) {
+        if is_edge(graph, x, y) && by < cell(&far, root, x) {
             set(&mut far, root, x, by);
         }
     }
     far
 }
 
-// The least neighbour that is one nearer to a root.
-fn parent_of(edges: &Table, far: &Table, root: usize, x: usize) -> u8 {
-    let by = cell(far, root, x);
-    for y in 0..ROUTERS {
-        let is_next = by < NONE && cell(far, root, y).saturating_add(1) == by;
-        if is_next && cell(edges, x, y) == 1 {
-            return y as u8;
-        }
-    }
-    NONE
-}
-
-fn parents_of(edges: &Table, far: &Table) -> Table {
+// The parents: of each root and router the least neighbour that is one nearer to the root.
+fn parents_of(graph: u32, far: &Table) -> Table {
     let mut parents = [[NONE; ROUTERS]; ROUTERS];
-    for root in 0..ROUTERS {
-        for x in 0..ROUTERS {
-            set(&mut parents, root, x, parent_of(edges, far, root, x));
+    for step in 0..TRIPLES {
+        let (root, x, y) = triple(step);
+        let by = cell(far, root, x);
+        let is_next = by < NONE && cell(far, root, y).saturating_add(1) == by;
+        if is_next && is_edge(graph, x, y) && cell(&parents, root, x) == NONE {
+            set(&mut parents, root, x, (y % ROUTERS) as u8);
         }
     }
     parents
 }
 
-fn is_below(parents: &Table, root: usize, y: usize, x: usize) -> bool {
-    let mut at = x;
+// The child of a router on the way up from the destination; none where the way doesn't lead to the router.
+fn toward_of(parents: &Table, root: usize, at: usize, dest: usize) -> u8 {
+    let mut y = dest;
     for _ in 0..ROUTERS {
-        if at == y {
-            return true;
+        let parent = cell(parents, root, y);
+        if usize::from(parent) == at {
+            return (y % ROUTERS) as u8;
         }
-        at = cell(parents, root, at) as usize;
+        y = usize::from(parent);
     }
-    false
+    NONE
 }
 
-fn toward_of(parents: &Table, root: usize, at: usize, dest: usize) -> Result<Option<Zid>, BadId> {
-    for y in 0..ROUTERS {
-        if cell(parents, root, y) as usize == at && is_below(parents, root, y, dest) {
-            return known(y);
-        }
-    }
-    Ok(None)
+// The identifier of the router of this index: one byte, so the order is that of the indexes. None for the parent that no router is.
+fn known(i: u8) -> Option<Zid> {
+    Zid::from_bytes(&[i.wrapping_add(1)]).ok()
 }
 
-// The identifier of the router of this index: one byte, so the order is that of the indexes.
-fn name(i: usize) -> Result<Zid, BadId> {
-    Zid::from_bytes(&[NAMES[i % ROUTERS]])
+/// The identifiers of the routers, by their indexes.
+type Names = [Zid; ROUTERS];
+
+fn names() -> Result<Names, BadId> {
+    let mut names = [Zid::from_bytes(&[1])?; ROUTERS];
+    for i in 1..ROUTERS {
+        names[i] = Zid::from_bytes(&[i as u8 + 1])?;
+    }
+    Ok(names)
 }
 
 /// The first graph below a number whose trees, or whose children of one router, are not those of the slow program; or what trees tell, of the
@@ -142,29 +129,14 @@ pub fn answer(alloc: Global, words: &[&str]) -> Result<String, Fault> {
     row::walk(alloc, &mut trees, row::behind(words, 2))
 }
 
-fn links_of(alloc: Global, edges: &Table, i: usize) -> Result<Vec<Zid>, Fault> {
+fn links_of(alloc: Global, graph: u32, names: &Names, i: usize) -> Result<Vec<Zid>, AllocError> {
     let mut links = Vec::new(alloc);
     for j in 0..ROUTERS {
-        if cell(edges, i, j) == 1 {
-            links.push(name(j)?)?;
+        if is_edge(graph, i, j) {
+            links.push(names[j])?;
         }
     }
     Ok(links)
-}
-
-fn base_of(alloc: Global, edges: &Table, me: usize) -> Result<Base, Fault> {
-    let mut base = Base::new(alloc, name(me)?)?;
-    let own = links_of(alloc, edges, me)?;
-    relink(&mut base, &own)?;
-    accept_all(alloc, &mut base, edges)?;
-    Ok(base)
-}
-
-fn accept_all(alloc: Global, base: &mut Base, edges: &Table) -> Result<(), Fault> {
-    for i in 0..ROUTERS {
-        accept(base, name(i)?, 1, links_of(alloc, edges, i)?)?;
-    }
-    Ok(())
 }
 
 // A router's record comes.
@@ -174,30 +146,49 @@ fn accept(base: &mut Base, id: Zid, seq: u64, links: Vec<Zid>) -> Result<(), Fau
     Ok(())
 }
 
+// The base of a router that has all records of a graph.
+fn base_of(alloc: Global, graph: u32, names: &Names, me: usize) -> Result<Base, Fault> {
+    let mut base = Base::new(alloc, names[me % ROUTERS])?;
+    relink(&mut base, &links_of(alloc, graph, names, me)?)?;
+    for i in 0..ROUTERS {
+        accept(&mut base, names[i], 1, links_of(alloc, graph, names, i)?)?;
+    }
+    Ok(base)
+}
+
 // The first graph below this number whose trees or children are others than those of the tables.
 fn first_other(alloc: Global, graphs: u32) -> Result<Option<u32>, Fault> {
+    let names = names()?;
     for graph in 0..graphs {
-        if !is_like_the_slow_program(alloc, graph)? {
+        if !is_like_the_slow_program(alloc, graph, &names)? {
             return Ok(Some(graph));
         }
     }
     Ok(None)
 }
 
-fn is_like_the_slow_program(alloc: Global, graph: u32) -> Result<bool, Fault> {
-    let edges = edges_of(graph);
-    let far = distances_of(&edges);
-    let parents = parents_of(&edges, &far);
+fn is_like_the_slow_program(alloc: Global, graph: u32, names: &Names) -> Result<bool, Fault> {
+    let far = distances_of(graph);
+    let parents = parents_of(graph, &far);
     let me = graph as usize % ROUTERS;
-    let base = base_of(alloc, &edges, me)?;
-    Ok(has_trees(alloc, &base, &far, &parents)? && has_children(alloc, &base, &parents, me)?)
+    let base = base_of(alloc, graph, names, me)?;
+    Ok(
+        has_trees(alloc, &base, names, &far, &parents)?
+            && has_children(alloc, &base, names, &parents, me)?,
+    )
 }
 
 // Whether the trees of a base are those of the tables.
-fn has_trees(alloc: Global, base: &Base, far: &Table, parents: &Table) -> Result<bool, Fault> {
+fn has_trees(
+    alloc: Global,
+    base: &Base,
+    names: &Names,
+    far: &Table,
+    parents: &Table,
+) -> Result<bool, AllocError> {
     let trees = Trees::of(alloc, base)?;
-    for number in 0..TRIPLES {
-        if !are_same(alloc, &trees, far, parents, number)? {
+    for step in 0..TRIPLES {
+        if !are_same(&trees, names, far, parents, step) {
             return Ok(false);
         }
     }
@@ -205,21 +196,18 @@ fn has_trees(alloc: Global, base: &Base, far: &Table, parents: &Table) -> Result
 }
 
 // Whether the children of a base's own router, in the trees of all routers, are those of the table.
-fn has_children(alloc: Global, base: &Base, parents: &Table, me: usize) -> Result<bool, Fault> {
+fn has_children(
+    alloc: Global,
+    base: &Base,
+    names: &Names,
+    parents: &Table,
+    me: usize,
+) -> Result<bool, AllocError> {
     let family = Family::of(alloc, base)?;
-    for root in 0..ROUTERS {
-        if !are_children(&family, parents, root, me)? {
-            return Ok(false);
-        }
-    }
-    Ok(true)
-}
-
-// The same in the tree of one root.
-fn are_children(family: &Family, parents: &Table, root: usize, me: usize) -> Result<bool, BadId> {
-    for child in 0..ROUTERS {
-        let is_child = cell(parents, root, child) as usize == me;
-        if family.is_child(name(root)?, name(child)?) != is_child {
+    for step in 0..TRIPLES {
+        let (_, root, child) = triple(step);
+        let is_child = usize::from(cell(parents, root, child)) == me;
+        if family.is_child(names[root % ROUTERS], names[child % ROUTERS]) != is_child {
             return Ok(false);
         }
     }
@@ -227,61 +215,53 @@ fn are_children(family: &Family, parents: &Table, root: usize, me: usize) -> Res
 }
 
 // Whether the answers of a root, a router and a destination, of the triple of this number, are those of the tables.
-fn are_same(
-    alloc: Global,
-    trees: &Trees,
-    far: &Table,
-    parents: &Table,
-    number: usize,
-) -> Result<bool, Fault> {
+fn are_same(trees: &Trees, names: &Names, far: &Table, parents: &Table, number: usize) -> bool {
     let (root, at, dest) = triple(number);
-    let (from, to) = (name(root)?, name(at)?);
-    let children = children_of(alloc, parents, root, at)?;
-    let has_way = trees.parent(from, to) == known(cell(parents, root, at) as usize)?
-        && trees.toward(from, to, name(dest)?) == toward_of(parents, root, at, dest)?
-        && trees.reached(from, to) == (cell(far, root, at) < NONE);
-    Ok(has_way && trees.children(from, to) == children.as_slice())
+    let (from, to) = (names[root % ROUTERS], names[at % ROUTERS]);
+    trees.parent(from, to) == known(cell(parents, root, at))
+        && trees.toward(from, to, names[dest % ROUTERS])
+            == known(toward_of(parents, root, at, dest))
+        && trees.reached(from, to) == (cell(far, root, at) < NONE)
+        && are_children(trees.children(from, to), names, parents, root, at)
 }
 
-// The identifier of the router of an index, where there is one.
-fn known(i: usize) -> Result<Option<Zid>, BadId> {
-    if i < ROUTERS {
-        Ok(Some(name(i)?))
-    } else {
-        Ok(None)
-    }
-}
-
-fn children_of(alloc: Global, parents: &Table, root: usize, at: usize) -> Result<Vec<Zid>, Fault> {
-    let mut children = Vec::new(alloc);
+// Whether these are the children of a router, in the order of the indexes.
+fn are_children(children: &[Zid], names: &Names, parents: &Table, root: usize, at: usize) -> bool {
+    let mut rest = children;
     for y in 0..ROUTERS {
-        if cell(parents, root, y) as usize == at {
-            children.push(name(y)?)?;
+        if usize::from(cell(parents, root, y)) == at {
+            let [child, others @ ..] = rest else {
+                return false;
+            };
+            if *child != names[y] {
+                return false;
+            }
+            rest = others;
         }
     }
-    Ok(children)
+    rest.is_empty()
 }
 
 fn trees_of(alloc: Global, graph: u32, me: usize) -> Result<Trees, Fault> {
-    let base = base_of(alloc, &edges_of(graph), me)?;
+    let base = base_of(alloc, graph, &names()?, me)?;
     Ok(Trees::of(alloc, &base)?)
 }
 
 // The trees at router 0, which lists router 1 and knows no record of it.
 fn lone(alloc: Global) -> Result<Trees, Fault> {
-    let mut base = Base::new(alloc, name(0)?)?;
-    let own = [name(1)?];
-    relink(&mut base, &own)?;
+    let [me, other, ..] = names()?;
+    let mut base = Base::new(alloc, me)?;
+    relink(&mut base, &[other])?;
     Ok(Trees::of(alloc, &base)?)
 }
 
 // The base of this graph, where router 0 lists router 3 as well, which doesn't list it.
 fn one_more(alloc: Global, graph: u32) -> Result<Base, Fault> {
-    let edges = edges_of(graph);
-    let mut base = base_of(alloc, &edges, 3)?;
-    let mut links = links_of(alloc, &edges, 0)?;
-    links.push(name(3)?)?;
-    accept(&mut base, name(0)?, 2, links)?;
+    let names = names()?;
+    let mut base = base_of(alloc, graph, &names, 3)?;
+    let mut links = links_of(alloc, graph, &names, 0)?;
+    links.push(names[3])?;
+    accept(&mut base, names[0], 2, links)?;
     Ok(base)
 }
 
@@ -300,31 +280,23 @@ fn far_name(i: u32) -> Result<Zid, BadId> {
     Zid::from_bytes(&[1, a, b, c, d])
 }
 
-fn neighbours(alloc: Global, i: u32, routers: u32) -> Result<Vec<Zid>, Fault> {
-    let mut links = Vec::new(alloc);
-    if i > 0 {
-        links.push(far_name(i - 1)?)?;
-    }
-    if i < routers.saturating_sub(1) {
-        links.push(far_name(i.saturating_add(1))?)?;
-    }
-    Ok(links)
+// The record of a router in a line comes: it lists the one before and the one behind.
+fn accept_far(alloc: Global, base: &mut Base, i: u32) -> Result<(), Fault> {
+    let links = [
+        far_name(i.saturating_sub(1))?,
+        far_name(i.saturating_add(1))?,
+    ];
+    accept(base, far_name(i)?, 1, links.to_vec(alloc)?)
 }
 
-// The trees at the first router of a line of so many.
+// The trees at the first router of a line of so many, of which the last one lists one more, of which nothing came.
 fn line(alloc: Global, routers: u32) -> Result<Trees, Fault> {
     let mut base = Base::new(alloc, far_name(0)?)?;
-    let own = [far_name(1)?];
-    relink(&mut base, &own)?;
-    accept_line(alloc, &mut base, routers)?;
-    Ok(Trees::of(alloc, &base)?)
-}
-
-fn accept_line(alloc: Global, base: &mut Base, routers: u32) -> Result<(), Fault> {
+    relink(&mut base, &[far_name(1)?])?;
     for i in 1..routers {
-        accept(base, far_name(i)?, 1, neighbours(alloc, i, routers)?)?;
+        accept_far(alloc, &mut base, i)?;
     }
-    Ok(())
+    Ok(Trees::of(alloc, &base)?)
 }
 
 impl Steps for Trees {
@@ -332,7 +304,7 @@ impl Steps for Trees {
     fn step(&mut self, alloc: Global, parts: &[&str]) -> Result<String, Fault> {
         match row::word(parts, 0) {
             "edges" => {
-                let base = base_of(alloc, &edges_of(row::parsed(parts, 1)?), 1)?;
+                let base = base_of(alloc, row::parsed(parts, 1)?, &names()?, 1)?;
                 row::text(alloc, &self.have_edges_of(&base))
             }
             "follow" => {
