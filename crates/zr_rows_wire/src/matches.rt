@@ -20,7 +20,10 @@ pub fn answer(alloc: Global, words: &[&str]) -> Result<String, Fault> {
     }
 }
 
-// How many keys there may be: of each expression a bit tells whether it matches the key.
+/// An expression, and by the rules a bit for each key that it matches.
+type Expression = (KeyExpr, u128);
+
+// How many keys there may be.
 const MOST_KEYS: usize = 128;
 
 fn pairs(alloc: Global, words: &[&str]) -> Result<String, Fault> {
@@ -31,62 +34,8 @@ fn pairs(alloc: Global, words: &[&str]) -> Result<String, Fault> {
     if keys.len() > MOST_KEYS {
         return Err(Fault::Row);
     }
-    let mut all = Vec::new(alloc);
-    for text in &texts {
-        all.push(expression_of(alloc, text, &keys)?)?;
-    }
+    let all = expressions(alloc, &texts, &keys)?;
     row::text(alloc, &first_other(alloc, &all)?)
-}
-
-/// An expression, and by the rules a bit for each key that it matches.
-#[derive(Drop)]
-struct Expression {
-    key: KeyExpr,
-    matched: u128,
-}
-
-fn expression_of(alloc: Global, text: &str, keys: &[String]) -> Result<Expression, Fault> {
-    let key = KeyExpr::read(alloc, text.as_bytes())?;
-    let matched = matched_keys(alloc, text, keys)?;
-    Ok(Expression { key, matched })
-}
-
-fn matched_keys(alloc: Global, text: &str, keys: &[String]) -> Result<u128, AllocError> {
-    let expression = row::parts(alloc, text, '/')?;
-    let mut matched: u128 = 0;
-    for key in keys {
-        let is_matched = matches_all(&expression, &row::parts(alloc, key, '/')?);
-        matched = matched.wrapping_mul(2) | u128::from(is_matched);
-    }
-    Ok(matched)
-}
-
-// The first expression that meets or covers another one against the rules.
-fn first_other(alloc: Global, all: &[Expression]) -> Result<Option<usize>, AllocError> {
-    for (place, one) in all.iter().enumerate() {
-        if !agrees(alloc, one, all)? {
-            return Ok(Some(place));
-        }
-    }
-    Ok(None)
-}
-
-// Whether an expression meets and covers each of them by the rules.
-fn agrees(alloc: Global, one: &Expression, all: &[Expression]) -> Result<bool, AllocError> {
-    for other in all {
-        let have_common = one.matched & other.matched != 0;
-        let takes = takes(alloc, one.key.text(), other.key.text())?;
-        if meets(&one.key, &other.key) != have_common || covers(&one.key, &other.key) != takes {
-            return Ok(false);
-        }
-    }
-    Ok(true)
-}
-
-// Whether one covers the other by the rule.
-fn takes(alloc: Global, one: &str, other: &str) -> Result<bool, AllocError> {
-    let whole = row::parts(alloc, one, '/')?;
-    Ok(takes_all(&whole, &row::parts(alloc, other, '/')?))
 }
 
 // All texts of one of these chunks to so many.
@@ -118,57 +67,73 @@ fn lengthen(
     Ok(())
 }
 
-fn is_gap(chunk: &str) -> bool {
-    chunk == "**"
-}
-
-fn is_verbatim(chunk: &str) -> bool {
-    chunk.starts_with('@')
-}
-
-// The rule of matching, by cases on the chunks.
-fn matches_all(expression: &[&str], key: &[&str]) -> bool {
-    let [first, rest @ ..] = expression else {
-        return key.is_empty();
-    };
-    if is_gap(first) && matches_all(rest, key) {
-        return true;
+fn expressions(alloc: Global, texts: &[String], keys: &[String]) -> Result<Vec<Expression>, Fault> {
+    let mut all = Vec::new(alloc);
+    for text in texts {
+        let matched = matched_keys(alloc, text, keys)?;
+        all.push((KeyExpr::read(alloc, text.as_bytes())?, matched))?;
     }
-    let [chunk, more @ ..] = key else {
-        return false;
-    };
-    if is_gap(first) {
-        return !is_verbatim(chunk) && matches_all(expression, more);
-    }
-    matches_one(first, chunk) && matches_all(rest, more)
+    Ok(all)
 }
 
-fn matches_one(wanted: &str, chunk: &str) -> bool {
-    if wanted == "*" {
-        return !is_verbatim(chunk);
+fn matched_keys(alloc: Global, text: &str, keys: &[String]) -> Result<u128, AllocError> {
+    let expression = row::parts(alloc, text, '/')?;
+    let mut matched: u128 = 0;
+    for key in keys {
+        let is_matched = takes_all(&expression, &row::parts(alloc, key, '/')?);
+        matched = matched.wrapping_mul(2) | u128::from(is_matched);
     }
-    fits(wanted.as_bytes(), chunk.as_bytes()) && !(wanted.contains('$') && is_verbatim(chunk))
+    Ok(matched)
 }
 
-// The rule of covering, by cases on the chunks.
+// The first expression that meets or covers another one against the rules.
+fn first_other(alloc: Global, all: &[Expression]) -> Result<Option<usize>, AllocError> {
+    for place in 0..all.len() {
+        if !agrees(alloc, &all[place], all)? {
+            return Ok(Some(place));
+        }
+    }
+    Ok(None)
+}
+
+// Whether an expression meets and covers each of them by the rules.
+fn agrees(alloc: Global, one: &Expression, all: &[Expression]) -> Result<bool, AllocError> {
+    let (one, matched) = one;
+    let whole = row::parts(alloc, one.text(), '/')?;
+    for (other, others) in all {
+        let takes = takes_all(&whole, &row::parts(alloc, other.text(), '/')?);
+        if meets(one, other) != (*matched & *others != 0) || covers(one, other) != takes {
+            return Ok(false);
+        }
+    }
+    Ok(true)
+}
+
+// The rule of covering, by cases on the chunks. Of a key, which has no wildcards, it is the rule of matching.
 fn takes_all(first: &[&str], second: &[&str]) -> bool {
     let [wanted, rest @ ..] = first else {
         return second.is_empty();
     };
-    if is_gap(wanted) && takes_all(rest, second) {
+    if *wanted == "**" && takes_all(rest, second) {
         return true;
     }
     let [chunk, more @ ..] = second else {
         return false;
     };
-    if is_gap(wanted) {
-        return !is_verbatim(chunk) && takes_all(first, more);
+    if *wanted == "**" {
+        return !chunk.starts_with('@') && takes_all(first, more);
     }
     takes_one(wanted, chunk) && takes_all(rest, more)
 }
 
 fn takes_one(wanted: &str, chunk: &str) -> bool {
-    !is_gap(chunk) && (chunk != "*" || wanted == "*") && matches_one(wanted, chunk)
+    if wanted == "*" {
+        return chunk != "**" && !chunk.starts_with('@');
+    }
+    chunk != "**"
+        && chunk != "*"
+        && fits(wanted.as_bytes(), chunk.as_bytes())
+        && !(wanted.contains('$') && chunk.starts_with('@'))
 }
 
 // A `$*` takes some bytes or none, and another byte itself.
