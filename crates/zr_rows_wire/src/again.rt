@@ -1,20 +1,22 @@
 //! Messages that are read and written again: as a router passes them on, and with bytes changed at random. They come from a router that
 //! declared `a/b` as 1.
 
-ghost use Rattle.zr_net.specs.Writing.{AnyFits};
-ghost use Rattle.zr_oam.specs.Writing.{Fits};
+ghost use Rattle.zr_wire.specs.Writing.{IsSpelled};
 
 use crate::keys::declared;
 use crate::row::{self, Fault};
+use crate::texts;
 use rand_core::utils::NextWord;
 use rand_pcg::Pcg32;
 use std::alloc::{AllocError, Global};
 use zr_bytes::{Cursor, ReadError};
-use zr_decl::{Declared, write_decl};
+use zr_decl::Declared;
+use zr_msg::extras::Extras;
 use zr_msg::msg::Msg;
 use zr_msg::peer::Role;
-use zr_net::{read_net, write_net};
-use zr_oam::{read_oam, write_oam};
+use zr_net::read_net;
+use zr_oam::read_oam;
+use zr_wire::write_message;
 use zr_wirekey::Scopes;
 
 /// How often a message is changed.
@@ -24,11 +26,7 @@ const CHANGES: u32 = 300;
 const OAM: u8 = 0x1F;
 
 /// A message that was read: its fields, and what is written of it.
-#[derive(Drop)]
-struct Found {
-    fields: String,
-    written: Vec<u8>,
-}
+type Found = (String, Vec<u8>);
 
 pub fn answer(alloc: Global, words: &[&str]) -> Result<String, Fault> {
     let theirs = declared(alloc)?;
@@ -43,7 +41,7 @@ pub fn answer(alloc: Global, words: &[&str]) -> Result<String, Fault> {
 // What is written of a message, with whole keys.
 fn passed(alloc: Global, bytes: &[u8], theirs: &Scopes) -> Result<String, Fault> {
     match look(alloc, &mut Cursor::new(bytes), theirs) {
-        Ok(Some(seen)) => row::digits(alloc, &seen.written),
+        Ok(Some((_, written))) => row::digits(alloc, &written),
         _ => Err(Fault::Row),
     }
 }
@@ -83,13 +81,15 @@ fn is_sound(alloc: Global, bytes: &[u8], theirs: &Scopes) -> bool {
 }
 
 fn is_read_again(alloc: Global, first: &Found, theirs: &Scopes) -> bool {
-    let mut c = Cursor::new(&first.written);
+    let mut c = Cursor::new(&first.1);
     match look(alloc, &mut c, theirs) {
-        Ok(Some(again)) => {
-            c.left() == 0 && again.fields == first.fields && again.written == first.written
-        }
+        Ok(Some(again)) => c.left() == 0 && are_same(first, &again),
         _ => false,
     }
+}
+
+fn are_same(first: &Found, again: &Found) -> bool {
+    first.0 == again.0 && first.1 == again.1
 }
 
 fn look(alloc: Global, c: &mut Cursor<'_>, theirs: &Scopes) -> Result<Option<Found>, ReadError> {
@@ -100,58 +100,47 @@ fn look(alloc: Global, c: &mut Cursor<'_>, theirs: &Scopes) -> Result<Option<Fou
 }
 
 // What a network message is read as; none where it is nothing that is written.
+#[tactic(auto, using(crate::proofs::Spelled::network_spelled))]
 fn network(alloc: Global, c: &mut Cursor<'_>, theirs: &Scopes) -> Result<Option<Found>, ReadError> {
     let ours = Scopes::new(alloc);
     match read_net(alloc, c, theirs, &ours, Role::Router)? {
-        Declared::Told(msg) => seen(alloc, &msg),
+        Declared::Told(msg) => found(alloc, &msg),
         _ => Ok(None),
     }
 }
 
-fn seen(alloc: Global, msg: &Msg) -> Result<Option<Found>, ReadError>
-    requires { AnyFits msg.now }
-{
-    let written = written(alloc, msg)?;
-    let fields = fields(alloc, msg)?;
-    Ok(Some(Found { fields, written }))
-}
-
-fn written(alloc: Global, msg: &Msg) -> Result<Vec<u8>, AllocError>
-    requires { AnyFits msg.now }
-{
-    let mut out = Vec::new(alloc);
-    match msg {
-        Msg::Push { .. } | Msg::Request { .. } | Msg::Response { .. } | Msg::Final { .. } => {
-            write_net(&mut out, msg, 0)?;
-        }
-        Msg::Sub { .. }
-        | Msg::Unsub { .. }
-        | Msg::Able { .. }
-        | Msg::Unable { .. }
-        | Msg::Interest { .. }
-        | Msg::EndInterest { .. } => write_decl(&mut out, msg)?,
-        _ => {}
-    }
-    Ok(out)
-}
-
-fn fields(alloc: Global, msg: &Msg) -> Result<String, AllocError> {
-    Ok(format!(in alloc; "{msg:?}")?)
-}
-
 // The same of a message between routers.
+#[tactic(auto, using(crate::proofs::Spelled::between_spelled))]
 fn between_routers(alloc: Global, c: &mut Cursor<'_>) -> Result<Option<Found>, ReadError> {
     match read_oam(alloc, c)? {
-        Some(msg) => seen_between_routers(alloc, &msg),
+        Some(msg) => found(alloc, &msg),
         None => Ok(None),
     }
 }
 
-fn seen_between_routers(alloc: Global, msg: &Msg) -> Result<Option<Found>, ReadError>
-    requires { Fits msg.now }
+fn found(alloc: Global, msg: &Msg) -> Result<Option<Found>, ReadError>
+    requires { IsSpelled msg.now }
 {
     let mut written = Vec::new(alloc);
-    write_oam(&mut written, msg)?;
-    let fields = fields(alloc, msg)?;
-    Ok(Some(Found { fields, written }))
+    write_message(&mut written, msg)?;
+    match fields(alloc, msg) {
+        Ok(fields) => Ok(Some((fields, written))),
+        Err(_) => Err(ReadError::NoMemory),
+    }
+}
+
+// A message as text, and all extensions that it has.
+fn fields(alloc: Global, msg: &Msg) -> Result<String, Fault> {
+    let text = texts::message(alloc, msg)?;
+    let extras = extras_of(msg);
+    Ok(format!(in alloc; "{text} {extras:?}")?)
+}
+
+fn extras_of(msg: &Msg) -> Option<&Extras> {
+    match msg {
+        Msg::Push { content, .. } | Msg::Request { content, .. } | Msg::Response { content, .. } =>
+            { Some(content.extras()) }
+        Msg::Final { extras, .. } => Some(extras.get()),
+        _ => None,
+    }
 }
