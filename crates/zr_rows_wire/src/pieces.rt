@@ -1,7 +1,7 @@
 //! A long session in random pieces against the same in one piece.
 
 use crate::row::{self, Fault};
-use crate::sessions::{Link, framed, started};
+use crate::sessions::{Link, put_framed, started};
 use std::alloc::{AllocError, Global};
 
 /// How many bytes a piece has at most, and how many seeds there are.
@@ -12,7 +12,8 @@ const SEEDS: u32 = 8;
 /// The first seed whose pieces lead to other events than the whole, and how many events that has, of a session of so many frames.
 pub fn answer(alloc: Global, words: &[&str]) -> Result<String, Fault> {
     let bytes = session(alloc, row::parsed(words, 0)?)?;
-    let whole = fed(alloc, &bytes, None)?;
+    let mut whole = started(alloc, "client")?;
+    whole.feed(0, &bytes)?;
     let wrong = first_wrong(alloc, &bytes, &whole.events(alloc)?)?;
     row::text(alloc, &(wrong, whole.counted()))
 }
@@ -32,15 +33,20 @@ fn push_on_k(batch: &mut Vec<u8>, length: u8) -> Result<(), AllocError> {
     Ok(())
 }
 
-// A frame of this number with up to four pushes on `k` of up to 70 bytes, and a KEEP_ALIVE behind.
-fn frame(alloc: Global, number: u8, state: &mut u32) -> Result<Vec<u8>, AllocError> {
+// Appends a frame of this number with up to four pushes on `k` of up to 70 bytes, and a KEEP_ALIVE behind.
+fn put_frame(
+    alloc: Global,
+    out: &mut Vec<u8>,
+    number: u8,
+    state: &mut u32,
+) -> Result<(), AllocError> {
     let mut batch = [0x25, number].to_vec(alloc)?;
     for _ in 0..random(state) % 5 {
         let length = random(state) % 71;
         push_on_k(&mut batch, length as u8)?;
     }
     batch.push(0x04)?;
-    framed(alloc, &batch)
+    put_framed(out, &batch)
 }
 
 // So many such frames.
@@ -48,7 +54,7 @@ fn session(alloc: Global, frames: u8) -> Result<Vec<u8>, AllocError> {
     let mut state = 7;
     let mut bytes = Vec::new(alloc);
     for number in 0..frames {
-        bytes.append(&mut frame(alloc, number % 128, &mut state)?)?;
+        put_frame(alloc, &mut bytes, number % 128, &mut state)?;
     }
     Ok(bytes)
 }
@@ -66,23 +72,10 @@ fn in_pieces(link: &mut Link, bytes: &[u8], seed: u32) -> Result<(), Fault> {
     link.feed(0, rest)
 }
 
-// A client's session that is fed the bytes in one piece, or in pieces by a seed.
-fn fed(alloc: Global, bytes: &[u8], seed: Option<u32>) -> Result<Link, Fault> {
-    let mut link = started(alloc, "client")?;
-    feed(&mut link, bytes, seed)?;
-    Ok(link)
-}
-
-fn feed(link: &mut Link, bytes: &[u8], seed: Option<u32>) -> Result<(), Fault> {
-    match seed {
-        Some(seed) => in_pieces(link, bytes, seed),
-        None => link.feed(0, bytes),
-    }
-}
-
 fn first_wrong(alloc: Global, bytes: &[u8], events: &str) -> Result<Option<u32>, Fault> {
     for seed in 0..SEEDS {
-        let other = fed(alloc, bytes, Some(seed))?;
+        let mut other = started(alloc, "client")?;
+        in_pieces(&mut other, bytes, seed)?;
         if other.events(alloc)?.as_str() != events {
             return Ok(Some(seed));
         }

@@ -81,43 +81,46 @@ fn opening(id: u8) -> Result<Opening, Fault> {
     Ok(Opening::new(Zid::from_bytes(&[id])?, &SECRET, NUMBER, 0))
 }
 
-fn link_of(session: Session, fed: Fed) -> Link {
-    Link {
-        session,
-        fed,
-        fate: Fate::Going,
-    }
-}
-
+// The accepting end of router 01.
 fn accepting(alloc: Global) -> Result<Link, Fault> {
-    let session = Session::accepting(alloc, opening(1)?, 0);
-    Ok(link_of(session, Fed::new(alloc)))
+    Ok(Link {
+        session: Session::accepting(alloc, opening(1)?, 0),
+        fed: Fed::new(alloc),
+        fate: Fate::Going,
+    })
 }
 
+// The dialling one of router 02.
 fn dialling(alloc: Global) -> Result<Link, Fault> {
     let opening = opening(2)?;
     let mut fed = Fed::new(alloc);
-    let session = Session::dialling(alloc, opening, 0, &mut fed.bytes)?;
-    Ok(link_of(session, fed))
+    Ok(Link {
+        session: Session::dialling(alloc, opening, 0, &mut fed.bytes)?,
+        fed,
+        fate: Fate::Going,
+    })
 }
 
-fn led(alloc: Global, steps: &[&str]) -> Result<Link, Fault> {
-    let mut link = accepting(alloc)?;
-    row::walk(alloc, &mut link, steps)?;
-    Ok(link)
+// What an accepting end is told before the steps of a row.
+fn beginning(start: &str) -> Result<&'static [&'static str], Fault> {
+    match start {
+        "accepting" => Ok(&[]),
+        "greeted" => Ok(&GREETED),
+        "client" => Ok(&CLIENT),
+        "router" => Ok(&ROUTER),
+        _ => Err(Fault::Row),
+    }
 }
 
 /// The accepting end of router 01 or the dialling one of router 02, with random word 0; or one that has answered the INIT of a client, or
 /// is open with a client or a router, of which it expects frame number 0.
 pub fn started(alloc: Global, start: &str) -> Result<Link, Fault> {
-    match start {
-        "accepting" => accepting(alloc),
-        "dialling" => dialling(alloc),
-        "greeted" => led(alloc, &GREETED),
-        "client" => led(alloc, &CLIENT),
-        "router" => led(alloc, &ROUTER),
-        _ => Err(Fault::Row),
+    if start == "dialling" {
+        return dialling(alloc);
     }
+    let mut link = accepting(alloc)?;
+    row::walk(alloc, &mut link, beginning(start)?)?;
+    Ok(link)
 }
 
 impl Link {
@@ -134,41 +137,6 @@ impl Link {
         Ok(())
     }
 
-    // A batch of these bytes and so many more, which are the letter `a`.
-    fn feed_batch(&mut self, alloc: Global, head: &[u8], more: usize) -> Result<(), Fault> {
-        let mut batch = head.to_vec(alloc)?;
-        batch.append(&mut row::letters(alloc, more)?)?;
-        let bytes = framed(alloc, &batch)?;
-        self.feed(0, &bytes)
-    }
-
-    // So many long fragments, which more follow, from number 0 on.
-    fn feed_fragments(&mut self, alloc: Global, count: u8) -> Result<(), Fault> {
-        for number in 0..count {
-            self.feed_batch(alloc, &[0x66, number], PIECE)?;
-        }
-        Ok(())
-    }
-
-    // A frame of this number that numbers a text of so many bytes, under the number plus one. The numbers and the length take two bytes each.
-    fn feed_numbering(&mut self, alloc: Global, number: u16, length: u16) -> Result<(), Fault> {
-        let [low, high] = two_bytes(number);
-        let [next_low, next_high] = two_bytes(number.saturating_add(1));
-        let [text_low, text_high] = two_bytes(length);
-        let head = [
-            0x25, low, high, 0x1E, 0x20, next_low, next_high, 0x00, text_low, text_high,
-        ];
-        self.feed_batch(alloc, &head, usize::from(length))
-    }
-
-    // So many such frames from number 0 on, each with a long text.
-    fn feed_numberings(&mut self, alloc: Global, count: u16) -> Result<(), Fault> {
-        for number in 0..count {
-            self.feed_numbering(alloc, number, TEXT)?;
-        }
-        Ok(())
-    }
-
     fn tick(&mut self, now: u64) -> Result<(), Fault> {
         self.fate = self.session.tick(now, &mut self.fed.bytes)?;
         Ok(())
@@ -177,14 +145,6 @@ impl Link {
     fn confirm(&mut self) -> Result<(), Fault> {
         self.session.confirm(&mut self.fed.bytes)?;
         Ok(())
-    }
-
-    fn forget(&mut self) {
-        self.fed.bytes.clear();
-    }
-
-    fn begin(&mut self, alloc: Global) {
-        self.fed = Fed::new(alloc);
     }
 
     // Its events, how its session stands, with the byte of a CLOSE where it has ended, and what it has to write.
@@ -210,37 +170,22 @@ impl Link {
         Ok(text)
     }
 
-    // Feeds the bytes that a step names.
-    fn hear(&mut self, alloc: Global, parts: &[&str]) -> Result<(), Fault> {
-        let bytes = row::bytes(alloc, parts, 1)?;
-        match row::word(parts, 0) {
-            "whole" => self.feed(0, &bytes),
-            "each" => self.feed_each(&bytes),
-            "at" => self.feed(row::parsed(parts, 2)?, &bytes),
-            "batch" => self.feed_batch(alloc, &bytes, row::parsed(parts, 2)?),
-            _ => Err(Fault::Row),
-        }
-    }
-
-    // Takes a step that names no bytes, or one that does.
+    // Takes a step that brings no bytes, or one that does.
     fn take(&mut self, alloc: Global, parts: &[&str]) -> Result<(), Fault> {
         match row::word(parts, 0) {
             "tick" => self.tick(row::parsed(parts, 1)?),
             "confirm" => self.confirm(),
             "forget" => {
-                self.forget();
+                self.fed.bytes.clear();
                 Ok(())
             }
             "begin" => {
-                self.begin(alloc);
+                self.fed = Fed::new(alloc);
                 Ok(())
             }
-            "fragments" => self.feed_fragments(alloc, row::parsed(parts, 1)?),
-            "numberings" => self.feed_numberings(alloc, row::parsed(parts, 1)?),
-            "numbering" => {
-                self.feed_numbering(alloc, row::parsed(parts, 1)?, row::parsed(parts, 2)?)
-            }
-            _ => self.hear(alloc, parts),
+            "each" => self.feed_each(&row::bytes(alloc, parts, 1)?),
+            "at" => self.feed(row::parsed(parts, 2)?, &row::bytes(alloc, parts, 1)?),
+            _ => self.feed(0, &brought(alloc, parts)?),
         }
     }
 }
@@ -259,18 +204,79 @@ impl Steps for Link {
     }
 }
 
-// A number as a spelling of two bytes, the low seven bits first.
-fn two_bytes(number: u16) -> [u8; 2] {
-    [0x80 | (number % 128) as u8, (number / 128 % 128) as u8]
-}
-
-/// A batch behind its length.
-pub fn framed(alloc: Global, batch: &[u8]) -> Result<Vec<u8>, AllocError> {
+// The bytes that a step brings.
+fn brought(alloc: Global, parts: &[&str]) -> Result<Vec<u8>, Fault> {
     let mut out = Vec::new(alloc);
-    if batch.len() <= MOST {
-        put_batch(&mut out, batch)?;
+    match row::word(parts, 0) {
+        "whole" => return row::bytes(alloc, parts, 1),
+        "batch" => put_long(
+            alloc,
+            &mut out,
+            &row::bytes(alloc, parts, 1)?,
+            row::parsed(parts, 2)?,
+        )?,
+        "fragments" => put_fragments(alloc, &mut out, row::parsed(parts, 1)?)?,
+        "numberings" => put_numberings(alloc, &mut out, row::parsed(parts, 1)?)?,
+        "numbering" => put_numbering(
+            alloc,
+            &mut out,
+            row::parsed(parts, 1)?,
+            row::parsed(parts, 2)?,
+        )?,
+        _ => return Err(Fault::Row),
     }
     Ok(out)
+}
+
+// Appends a batch of these bytes and so many more, which are the letter `a`.
+fn put_long(alloc: Global, out: &mut Vec<u8>, head: &[u8], more: usize) -> Result<(), AllocError> {
+    let mut batch = head.to_vec(alloc)?;
+    batch.append(&mut row::letters(alloc, more)?)?;
+    put_framed(out, &batch)
+}
+
+// So many long fragments, which more follow, from number 0 on.
+fn put_fragments(alloc: Global, out: &mut Vec<u8>, count: u8) -> Result<(), AllocError> {
+    for number in 0..count {
+        put_long(alloc, out, &[0x66, number], PIECE)?;
+    }
+    Ok(())
+}
+
+// A frame of this number that numbers a text of so many bytes, under the number plus one. The numbers and the length take two bytes each.
+fn put_numbering(
+    alloc: Global,
+    out: &mut Vec<u8>,
+    number: u16,
+    length: u16,
+) -> Result<(), AllocError> {
+    let (frame, next) = (two_bytes(number), two_bytes(number.saturating_add(1)));
+    let text = two_bytes(length);
+    let head = [
+        0x25, frame.0, frame.1, 0x1E, 0x20, next.0, next.1, 0x00, text.0, text.1,
+    ];
+    put_long(alloc, out, &head, usize::from(length))
+}
+
+// So many such frames from number 0 on, each with a long text.
+fn put_numberings(alloc: Global, out: &mut Vec<u8>, count: u16) -> Result<(), AllocError> {
+    for number in 0..count {
+        put_numbering(alloc, out, number, TEXT)?;
+    }
+    Ok(())
+}
+
+// A number as a spelling of two bytes, the low seven bits first.
+fn two_bytes(number: u16) -> (u8, u8) {
+    (0x80 | (number % 128) as u8, (number / 128 % 128) as u8)
+}
+
+/// Appends a batch behind its length.
+pub fn put_framed(out: &mut Vec<u8>, batch: &[u8]) -> Result<(), AllocError> {
+    if batch.len() <= MOST {
+        put_batch(out, batch)?;
+    }
+    Ok(())
 }
 
 // Zero where the session goes on.
