@@ -25,18 +25,17 @@ fn read(alloc: Global, words: &[&str]) -> Result<String, Fault> {
 // A chain of a number and an extension without content.
 fn written(alloc: Global) -> Result<String, Fault> {
     let mut out = Vec::new(alloc);
-    let exts = [
-        Ext {
-            id: 1,
-            mandatory: false,
-            content: Content::Number(300),
-        },
-        Ext {
-            id: 7,
-            mandatory: true,
-            content: Content::Unit,
-        },
-    ];
+    let mut exts = Vec::new(alloc);
+    exts.push(Ext {
+        id: 1,
+        mandatory: false,
+        content: Content::Number(300),
+    })?;
+    exts.push(Ext {
+        id: 7,
+        mandatory: true,
+        content: Content::Unit,
+    })?;
     write_chain(&mut out, &exts)?;
     row::digits(alloc, &out)
 }

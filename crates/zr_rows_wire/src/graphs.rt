@@ -52,10 +52,11 @@ fn accept(alloc: Global, base: &mut Base, parts: &[&str]) -> Result<String, Faul
 
 // Of each record its router, its number, and how many links it lists.
 fn records(alloc: Global, base: &Base) -> Result<Vec<(Zid, u64, usize)>, AllocError> {
-    base.records()
-        .iter()
-        .map(|record| (record.id(), record.seq(), record.links().len()))
-        .collect(alloc)
+    let mut all = Vec::new(alloc);
+    for record in base.records() {
+        all.push((record.id(), record.seq(), record.links().len()))?;
+    }
+    Ok(all)
 }
 
 impl Steps for Base {

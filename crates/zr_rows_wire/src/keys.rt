@@ -4,7 +4,7 @@ use crate::row::{self, Fault, Steps};
 use std::alloc::Global;
 use zr_bytes::{Cursor, ReadError};
 use zr_key::key::KeyExpr;
-use zr_wirekey::{ScopeError, Scopes, read_key, write_key};
+use zr_wirekey::{Scopes, read_key, write_key};
 
 pub fn answer(alloc: Global, words: &[&str]) -> Result<String, Fault> {
     match row::word(words, 0) {
@@ -24,32 +24,32 @@ pub fn declared(alloc: Global) -> Result<Scopes, Fault> {
     }
 }
 
-// By whom `a/b` was declared as 1, whose number the key has, and whether it is named.
 fn read(alloc: Global, words: &[&str]) -> Result<String, Fault> {
-    let (full, empty) = (declared(alloc)?, Scopes::new(alloc));
-    let by_sender = is_sender(words, 1)?;
-    let (theirs, ours) = if by_sender {
-        (&full, &empty)
-    } else {
-        (&empty, &full)
-    };
-    let of_sender = is_sender(words, 2)?;
-    let named = row::is_first(words, 3, "named", "bare")?;
     let bytes = row::bytes(alloc, words, 4)?;
+    let full = declared(alloc)?;
     let mut c = Cursor::new(&bytes);
-    let key = read_key(alloc, &mut c, named, of_sender, theirs, ours);
-    shown(alloc, &key, c.left())
+    match key(alloc, words, &mut c, &full) {
+        Ok(key) => row::read(alloc, &key.text(), c.left()),
+        Err(e) => row::read(alloc, &e, c.left()),
+    }
 }
 
-// Whether the word at a place is the sender, and not the receiver.
-fn is_sender(words: &[&str], at: usize) -> Result<bool, Fault> {
-    row::is_first(words, at, "sender", "receiver")
-}
-
-fn shown(alloc: Global, key: &Result<KeyExpr, ReadError>, left: usize) -> Result<String, Fault> {
-    match key {
-        Ok(key) => row::read(alloc, &key.text(), left),
-        Err(e) => row::read(alloc, e, left),
+// By whom `a/b` was declared as 1, sender or receiver, whose number the key has, and whether it is named or bare.
+fn key(
+    alloc: Global,
+    words: &[&str],
+    c: &mut Cursor<'_>,
+    full: &Scopes,
+) -> Result<KeyExpr, ReadError> {
+    let empty = Scopes::new(alloc);
+    let (of_sender, named) = (
+        row::word(words, 2) == "sender",
+        row::word(words, 3) == "named",
+    );
+    if row::word(words, 1) == "sender" {
+        read_key(alloc, c, named, of_sender, full, &empty)
+    } else {
+        read_key(alloc, c, named, of_sender, &empty, full)
     }
 }
 
@@ -61,8 +61,14 @@ fn written(alloc: Global, words: &[&str]) -> Result<String, Fault> {
 }
 
 fn declare(alloc: Global, scopes: &mut Scopes, number: u16, text: &[u8]) -> Result<String, Fault> {
-    let answer: Result<(), ScopeError> = scopes.declare(number, text);
-    row::text(alloc, &answer)
+    row::text(alloc, &scopes.declare(number, text))
+}
+
+fn length(alloc: Global, text: Option<&[u8]>) -> Result<String, Fault> {
+    match text {
+        Some(text) => row::text(alloc, &Some(text.len())),
+        None => row::text(alloc, &text),
+    }
 }
 
 impl Steps for Scopes {
@@ -71,17 +77,15 @@ impl Steps for Scopes {
         let number = row::parsed(parts, 1)?;
         match row::word(parts, 0) {
             "declare" => declare(alloc, self, number, row::word(parts, 2).as_bytes()),
-            "letters" => declare(
-                alloc,
-                self,
-                number,
-                &row::letters(alloc, row::parsed(parts, 2)?)?,
-            ),
+            "letters" => {
+                let letters = row::letters(alloc, row::parsed(parts, 2)?)?;
+                declare(alloc, self, number, &letters)
+            }
             "undeclare" => {
                 self.undeclare(number);
                 Ok(String::new(alloc))
             }
-            "length" => row::text(alloc, &self.text(number).map(|text| text.len())),
+            "length" => length(alloc, self.text(number)),
             "text" => row::text(alloc, &self.text(number)),
             _ => Err(Fault::Row),
         }

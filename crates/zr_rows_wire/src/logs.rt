@@ -20,14 +20,11 @@ pub fn answer(alloc: Global, words: &[&str]) -> Result<String, Fault> {
     row::walk(alloc, &mut known, words)
 }
 
-// A subscriber of a key of 2,032 bytes that begins with the number's four digits.
+// A subscriber of a key of 2,032 bytes that begins with the number.
 fn long(alloc: Global, number: u32) -> Result<Decl, Fault> {
-    let mut text = vec![in alloc; b'x'; LONG]?;
-    let digits = [number / 1_000, number / 100, number / 10, number];
-    for (place, digit) in text.iter_mut().zip(digits) {
-        *place = b'0' + (digit % 10) as u8;
-    }
-    declaration(alloc, Kind::Sub, text.as_slice())
+    let mut text = format!(in alloc; "{number}")?.into_bytes();
+    text.append(&mut row::letters(alloc, LONG.saturating_sub(text.len()))?)?;
+    declaration(alloc, Kind::Sub, &text)
 }
 
 // The subscriber that a word names: a key, or the number of a long one.
@@ -53,21 +50,16 @@ fn subscribers(alloc: Global, long_ones: u32, word: &str) -> Result<Vec<Decl>, F
     Ok(all)
 }
 
-// Whether the word at a place adds, and does not remove.
-fn is_added(parts: &[&str], at: usize) -> Result<bool, Fault> {
-    row::is_first(parts, at, "add", "remove")
-}
-
 fn own(alloc: Global, known: &mut Known, parts: &[&str]) -> Result<String, Fault> {
     let decl = subscriber(alloc, parts, 2)?;
-    let answer = known.own(is_added(parts, 1)?, &decl);
+    let answer = known.own(row::word(parts, 1) == "add", &decl);
     row::text(alloc, &answer)
 }
 
 fn one(alloc: Global, known: &mut Known, parts: &[&str]) -> Result<String, Fault> {
     let (source, number) = (row::id(parts, 1)?, row::parsed(parts, 2)?);
     let decl = subscriber(alloc, parts, 4)?;
-    let answer = known.step(source, number, is_added(parts, 3)?, &decl);
+    let answer = known.step(source, number, row::word(parts, 3) == "add", &decl);
     row::text(alloc, &answer)
 }
 
@@ -94,11 +86,13 @@ fn keys(alloc: Global, known: &Known, source: Zid) -> Result<String, AllocError>
 }
 
 // The routers of whose logs a change is known, by their names and by their logs.
-fn sources(alloc: Global, known: &Known) -> Result<String, Fault> {
-    let names = row::text(alloc, &known.sources())?;
-    let logs: Vec<Zid> = known.logs().iter().map(|log| log.source).collect(alloc)?;
-    let logs = row::text(alloc, &logs)?;
-    Ok(format!(in alloc; "{names} {logs}")?)
+fn sources(alloc: Global, known: &Known) -> Result<String, AllocError> {
+    let mut logs = Vec::new(alloc);
+    for log in known.logs() {
+        logs.push(log.source)?;
+    }
+    let names = known.sources();
+    format!(in alloc; "{names:?} {logs:?}")
 }
 
 impl Steps for Known {
@@ -109,7 +103,7 @@ impl Steps for Known {
             "step" => one(alloc, self, parts),
             "snap" => snapshot(alloc, self, parts, 0),
             "snap-long" => snapshot(alloc, self, parts, MOST_LONG),
-            "sources" => sources(alloc, self),
+            "sources" => Ok(sources(alloc, self)?),
             "keys" => Ok(keys(alloc, self, row::id(parts, 1)?)?),
             _ => Err(Fault::Row),
         }

@@ -66,6 +66,13 @@ fn answer(alloc: Global, name: &str, words: &[&str]) -> Result<String, Fault> {
         "message" => messages::answer(alloc, words),
         "again" => again::answer(alloc, words),
         "equal" => equalities::answer(alloc, words),
+        _ => of_state(alloc, name, words),
+    }
+}
+
+// The calls of what has a state.
+fn of_state(alloc: Global, name: &str, words: &[&str]) -> Result<String, Fault> {
+    match name {
         "graph" => graphs::answer(alloc, words),
         "trees" => trees::answer(alloc, words),
         "set" => sets::answer(alloc, words),

@@ -26,51 +26,38 @@ pub fn answer(alloc: Global, words: &[&str]) -> Result<String, Fault> {
         "told" => row::digits(alloc, &told(alloc)?),
         "push" => row::digits(alloc, &push(alloc, row::parsed(words, 1)?)?),
         "entry" => row::digits(alloc, &entry(alloc)?),
-        word => shown(alloc, sort_of(word)?, &row::bytes(alloc, words, 1)?),
+        word => shown(alloc, word, &row::bytes(alloc, words, 1)?),
     }
 }
 
-/// As what bytes are read.
-#[derive(Clone, Copy)]
-enum Sort {
-    Declaration,
-    Interest,
-    BetweenRouters,
-    /// What a peer of this role may send.
-    Network(Role),
-}
-
-fn sort_of(word: &str) -> Result<Sort, Fault> {
-    match word {
-        "declaration" => Ok(Sort::Declaration),
-        "interest" => Ok(Sort::Interest),
-        "between-routers" => Ok(Sort::BetweenRouters),
-        "of-router" => Ok(Sort::Network(Role::Router)),
-        "of-client" => Ok(Sort::Network(Role::Client)),
-        _ => Err(Fault::Row),
-    }
-}
-
+// What bytes are read as by the call of this name: as a declaration, an interest, a message between routers, or what a router or a client may
+// send.
 fn read(
     alloc: Global,
-    sort: Sort,
+    sort: &str,
     c: &mut Cursor<'_>,
     theirs: &Scopes,
 ) -> Result<Declared, ReadError> {
     let ours = Scopes::new(alloc);
     match sort {
-        Sort::Declaration => read_decl(alloc, c, theirs, &ours),
-        Sort::Interest => Ok(Declared::Told(read_interest(alloc, c, theirs, &ours)?)),
-        Sort::BetweenRouters => match read_oam(alloc, c)? {
-            Some(msg) => Ok(Declared::Told(msg)),
-            None => Ok(Declared::Ignored),
-        },
-        Sort::Network(role) => read_net(alloc, c, theirs, &ours, role),
+        "declaration" => read_decl(alloc, c, theirs, &ours),
+        "interest" => Ok(Declared::Told(read_interest(alloc, c, theirs, &ours)?)),
+        "between-routers" => between_routers(alloc, c),
+        "of-router" => read_net(alloc, c, theirs, &ours, Role::Router),
+        "of-client" => read_net(alloc, c, theirs, &ours, Role::Client),
+        _ => Err(ReadError::UnknownId),
+    }
+}
+
+fn between_routers(alloc: Global, c: &mut Cursor<'_>) -> Result<Declared, ReadError> {
+    match read_oam(alloc, c)? {
+        Some(msg) => Ok(Declared::Told(msg)),
+        None => Ok(Declared::Ignored),
     }
 }
 
 // What the bytes are read as, and how many are left.
-fn shown(alloc: Global, sort: Sort, bytes: &[u8]) -> Result<String, Fault> {
+fn shown(alloc: Global, sort: &str, bytes: &[u8]) -> Result<String, Fault> {
     let theirs = declared(alloc)?;
     let mut c = Cursor::new(bytes);
     let text = texts::read(alloc, &read(alloc, sort, &mut c, &theirs))?;
@@ -79,13 +66,15 @@ fn shown(alloc: Global, sort: Sort, bytes: &[u8]) -> Result<String, Fault> {
 
 // How many bytes the first beginning has that is not refused as short.
 fn cut(alloc: Global, words: &[&str]) -> Result<String, Fault> {
-    let sort = sort_of(row::word(words, 1))?;
     let theirs = declared(alloc)?;
     let bytes = row::bytes(alloc, words, 2)?;
-    row::text(alloc, &first_whole(alloc, sort, &bytes, &theirs))
+    row::text(
+        alloc,
+        &first_whole(alloc, row::word(words, 1), &bytes, &theirs),
+    )
 }
 
-fn first_whole(alloc: Global, sort: Sort, bytes: &[u8], theirs: &Scopes) -> Option<usize> {
+fn first_whole(alloc: Global, sort: &str, bytes: &[u8], theirs: &Scopes) -> Option<usize> {
     for end in 0..bytes.len() {
         if !is_short(alloc, sort, &bytes[..end], theirs) {
             return Some(end);
@@ -94,9 +83,11 @@ fn first_whole(alloc: Global, sort: Sort, bytes: &[u8], theirs: &Scopes) -> Opti
     None
 }
 
-fn is_short(alloc: Global, sort: Sort, bytes: &[u8], theirs: &Scopes) -> bool {
-    let read = read(alloc, sort, &mut Cursor::new(bytes), theirs);
-    read.err() == Some(ReadError::Short)
+fn is_short(alloc: Global, sort: &str, bytes: &[u8], theirs: &Scopes) -> bool {
+    matches!(
+        read(alloc, sort, &mut Cursor::new(bytes), theirs),
+        Err(ReadError::Short)
+    )
 }
 
 // A subscriber in answer to an interest, and the end of the answers.

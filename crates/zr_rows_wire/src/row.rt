@@ -81,15 +81,6 @@ pub fn behind<'a, 'b>(words: &'b [&'a str], at: usize) -> &'b [&'a str] {
     behind
 }
 
-/// Whether the word at a place is the first of the two that may stand there.
-pub fn is_first(words: &[&str], at: usize, first: &str, second: &str) -> Result<bool, Fault> {
-    let word = word(words, at);
-    if word != first && word != second {
-        return Err(Fault::Row);
-    }
-    Ok(word == first)
-}
-
 /// The bytes that a word of hex digits stands for.
 pub fn bytes(alloc: Global, words: &[&str], at: usize) -> Result<Vec<u8>, Fault> {
     match hex::decode(alloc, word(words, at)) {

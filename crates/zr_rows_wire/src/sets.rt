@@ -7,7 +7,7 @@ use zr_msg::decl::{Decl, Kind};
 use zr_set::decl_set::DeclSet;
 
 // What a set has at first: not in order, and one of them twice.
-const ROWS: [(Kind, &str); 7] = [
+static ROWS: [(Kind, &str); 7] = [
     (Kind::Full, "a"),
     (Kind::Sub, "b"),
     (Kind::Sub, "a"),
@@ -33,8 +33,8 @@ pub fn declaration(alloc: Global, kind: Kind, text: &[u8]) -> Result<Decl, Fault
 
 fn of_rows(alloc: Global) -> Result<DeclSet, Fault> {
     let mut all = Vec::new(alloc);
-    for (kind, text) in ROWS {
-        all.push(declaration(alloc, kind, text.as_bytes())?)?;
+    for (kind, text) in &ROWS {
+        all.push(declaration(alloc, *kind, text.as_bytes())?)?;
     }
     Ok(DeclSet::of(alloc, all.as_slice())?)
 }

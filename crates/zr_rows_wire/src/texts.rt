@@ -4,6 +4,7 @@ use crate::row::{self, Fault};
 use std::alloc::Global;
 use zr_bytes::ReadError;
 use zr_decl::Declared;
+use zr_key::key::KeyExpr;
 use zr_msg::content::Content;
 use zr_msg::decl::Decl;
 use zr_msg::extras::Extras;
@@ -79,8 +80,7 @@ fn declared(alloc: Global, msg: &Msg) -> Result<String, Fault> {
             key,
             aggregate,
         } => {
-            let key = key.as_ref().map(|key| key.text());
-            let when = (*current, *future);
+            let (key, when) = (text_of(key), (*current, *future));
             format!(in alloc;
                 "interest {id} {when:?} {} {key:?} aggregate {aggregate}",
                 kinds.0
@@ -89,6 +89,13 @@ fn declared(alloc: Global, msg: &Msg) -> Result<String, Fault> {
         Msg::EndInterest { id } => format!(in alloc; "end {id}")?,
         _ => String::new(alloc),
     })
+}
+
+fn text_of(key: &Option<KeyExpr>) -> Option<&str> {
+    match key {
+        Some(key) => Some(key.text()),
+        None => None,
+    }
 }
 
 fn between_routers(alloc: Global, msg: &Msg) -> Result<String, Fault> {
