@@ -226,34 +226,32 @@ show_line args = do
 
 -- ---- a line
 
+-- whether a word names a command by which clients send, messages move on, or more is told
+abbrev pub is_last_command : List ℕ → Bool
+is_last_command name =
+    is_word name (codes "put") || is_word name (codes "del") || is_word name (codes "get") || is_word name (codes "reply")
+    || is_word name (codes "end") || is_word name (codes "handle") || is_word name (codes "take")
+    || is_word name (codes "run") || is_word name (codes "mark") || is_word name (codes "show")
+
+-- whether it names one of these, or one by which clients declare
+abbrev pub is_later_command : List ℕ → Bool
+is_later_command name =
+    is_word name (codes "sub") || is_word name (codes "unsub")
+    || is_word name (codes "able") || is_word name (codes "full") || is_word name (codes "unable")
+    || is_word name (codes "interest") || is_word name (codes "uninterest")
+    || is_last_command name
+
 -- whether a word names a command
 abbrev pub is_command : List ℕ → Bool
 is_command name =
     is_word name (codes "router") || is_word name (codes "client") || is_word name (codes "link") || is_word name (codes "up")
-    || is_word name (codes "break") || is_word name (codes "down") || is_word name (codes "sub") || is_word name (codes "unsub")
-    || is_word name (codes "able") || is_word name (codes "full") || is_word name (codes "unable")
-    || is_word name (codes "interest") || is_word name (codes "uninterest")
-    || is_word name (codes "put") || is_word name (codes "del") || is_word name (codes "get") || is_word name (codes "reply")
-    || is_word name (codes "end") || is_word name (codes "handle") || is_word name (codes "take")
-    || is_word name (codes "run") || is_word name (codes "mark") || is_word name (codes "show")
+    || is_word name (codes "break") || is_word name (codes "down")
+    || is_later_command name
 
--- what a command's name and the words behind it ask
-unfoldable pub by_name : List ℕ → List (List ℕ) → Result Command ScriptError
-by_name name args =
-    if is_word name (codes "router") then router_line args
-    else if is_word name (codes "client") then client_line args
-    else if is_word name (codes "link") then link_line args
-    else if is_word name (codes "up") then up_line args
-    else if is_word name (codes "break") then break_line args
-    else if is_word name (codes "down") then down_line args
-    else if is_word name (codes "sub") then sub_line args
-    else if is_word name (codes "unsub") then unsub_line args
-    else if is_word name (codes "able") then able_line false args
-    else if is_word name (codes "full") then able_line true args
-    else if is_word name (codes "unable") then unable_line args
-    else if is_word name (codes "interest") then interest_line args
-    else if is_word name (codes "uninterest") then uninterest_line args
-    else if is_word name (codes "put") then put_line args
+-- what such a name and the words behind it ask, by which clients send, messages move on, or more is told
+unfoldable pub by_last_name : List ℕ → List (List ℕ) → Result Command ScriptError
+by_last_name name args =
+    if is_word name (codes "put") then put_line args
     else if is_word name (codes "del") then del_line args
     else if is_word name (codes "get") then get_line args
     else if is_word name (codes "reply") then reply_line args
@@ -264,6 +262,29 @@ by_name name args =
     else if is_word name (codes "mark") then mark_line args
     else if is_word name (codes "show") then show_line args
     else Err UnknownCommand
+
+-- the same of these names and of those by which clients declare
+unfoldable pub by_later_name : List ℕ → List (List ℕ) → Result Command ScriptError
+by_later_name name args =
+    if is_word name (codes "sub") then sub_line args
+    else if is_word name (codes "unsub") then unsub_line args
+    else if is_word name (codes "able") then able_line false args
+    else if is_word name (codes "full") then able_line true args
+    else if is_word name (codes "unable") then unable_line args
+    else if is_word name (codes "interest") then interest_line args
+    else if is_word name (codes "uninterest") then uninterest_line args
+    else by_last_name name args
+
+-- what a command's name and the words behind it ask
+unfoldable pub by_name : List ℕ → List (List ℕ) → Result Command ScriptError
+by_name name args =
+    if is_word name (codes "router") then router_line args
+    else if is_word name (codes "client") then client_line args
+    else if is_word name (codes "link") then link_line args
+    else if is_word name (codes "up") then up_line args
+    else if is_word name (codes "break") then break_line args
+    else if is_word name (codes "down") then down_line args
+    else by_later_name name args
 
 -- what the words of a line ask, where it is told whether its bytes are clean
 unfoldable pub by_words : Bool → List (List ℕ) → Result Command ScriptError

@@ -18,7 +18,7 @@ use Rattle.zr_command.specs.declared.command.Command.{Command}
 use Rattle.zr_command.specs.declared.command.Command.TheVariants as command
 use Rattle.zr_language.specs.Lines.{most_line}
 use Rattle.zr_language.specs.Words.{words, is_word, is_clean, one_of, two_of, three_of, four_of, five_of, zid_at, number_at, target_at, mode_at, kinds_at, aggregate_at, key_of_word, key_at, optional_key_at}
-use Rattle.zr_language.specs.Command.{router_line, client_line, link_line, up_line, break_line, down_line, sub_line, unsub_line, able_line, unable_line, interest_line, uninterest_line, put_line, del_line, get_line, reply_line, end_line, handle_line, take_line, run_line, mark_line, show_line, is_command, by_name, by_words, is_silent, command_of}
+use Rattle.zr_language.specs.Command.{router_line, client_line, link_line, up_line, break_line, down_line, sub_line, unsub_line, able_line, unable_line, interest_line, uninterest_line, put_line, del_line, get_line, reply_line, end_line, handle_line, take_line, run_line, mark_line, show_line, is_command, by_name, by_later_name, by_last_name, by_words, is_silent, command_of}
 use Rattle.zr_language.specs.Step.{◌>>=◌}
 use Rattle.zr_network.specs.World.{End, WorldState}
 use Rattle.zr_network.specs.Acts.{outcome}
@@ -193,23 +193,10 @@ one_line : (b : Bool) (x y : Result Command ScriptError) → IfOk x AsksKeyText 
 one_line true x y h k = h
 one_line false x y h k = k
 
-name_text : (name : List ℕ) (args : List (List ℕ)) → IfOk (by_name name args) AsksKeyText
-unfolding by_name
-name_text name args =
-    one_line (is_word name (codes "router")) _ _ (router_text args)
-    (one_line (is_word name (codes "client")) _ _ (client_text args)
-    (one_line (is_word name (codes "link")) _ _ (link_text args)
-    (one_line (is_word name (codes "up")) _ _ (up_text args)
-    (one_line (is_word name (codes "break")) _ _ (break_text args)
-    (one_line (is_word name (codes "down")) _ _ (down_text args)
-    (one_line (is_word name (codes "sub")) _ _ (sub_text args)
-    (one_line (is_word name (codes "unsub")) _ _ (unsub_text args)
-    (one_line (is_word name (codes "able")) _ _ (able_text false args)
-    (one_line (is_word name (codes "full")) _ _ (able_text true args)
-    (one_line (is_word name (codes "unable")) _ _ (unable_text args)
-    (one_line (is_word name (codes "interest")) _ _ (interest_text args)
-    (one_line (is_word name (codes "uninterest")) _ _ (uninterest_text args)
-    (one_line (is_word name (codes "put")) _ _ (put_text args)
+last_text : (name : List ℕ) (args : List (List ℕ)) → IfOk (by_last_name name args) AsksKeyText
+unfolding by_last_name
+last_text name args =
+    one_line (is_word name (codes "put")) _ _ (put_text args)
     (one_line (is_word name (codes "del")) _ _ (del_text args)
     (one_line (is_word name (codes "get")) _ _ (get_text args)
     (one_line (is_word name (codes "reply")) _ _ (reply_text args)
@@ -218,7 +205,28 @@ name_text name args =
     (one_line (is_word name (codes "take")) _ _ (take_text args)
     (one_line (is_word name (codes "run")) _ _ (run_text args)
     (one_line (is_word name (codes "mark")) _ _ (mark_text args)
-    (one_line (is_word name (codes "show")) _ _ (show_text args) tt))))))))))))))))))))))
+    (one_line (is_word name (codes "show")) _ _ (show_text args) tt)))))))))
+
+later_text : (name : List ℕ) (args : List (List ℕ)) → IfOk (by_later_name name args) AsksKeyText
+unfolding by_later_name
+later_text name args =
+    one_line (is_word name (codes "sub")) _ _ (sub_text args)
+    (one_line (is_word name (codes "unsub")) _ _ (unsub_text args)
+    (one_line (is_word name (codes "able")) _ _ (able_text false args)
+    (one_line (is_word name (codes "full")) _ _ (able_text true args)
+    (one_line (is_word name (codes "unable")) _ _ (unable_text args)
+    (one_line (is_word name (codes "interest")) _ _ (interest_text args)
+    (one_line (is_word name (codes "uninterest")) _ _ (uninterest_text args) (last_text name args)))))))
+
+name_text : (name : List ℕ) (args : List (List ℕ)) → IfOk (by_name name args) AsksKeyText
+unfolding by_name
+name_text name args =
+    one_line (is_word name (codes "router")) _ _ (router_text args)
+    (one_line (is_word name (codes "client")) _ _ (client_text args)
+    (one_line (is_word name (codes "link")) _ _ (link_text args)
+    (one_line (is_word name (codes "up")) _ _ (up_text args)
+    (one_line (is_word name (codes "break")) _ _ (break_text args)
+    (one_line (is_word name (codes "down")) _ _ (down_text args) (later_text name args))))))
 
 words_text : (clean : Bool) (ws : List (List ℕ)) → IfOk (by_words clean ws) AsksKeyText
 unfolding by_words

@@ -3,10 +3,9 @@
 ghost use Rattle.std.specs.Prelude.{◌≡◌, ◌≤◌, ◌<◌, ◌^◌, length, true, Ok};
 ghost use Rattle.zr_language.specs.Lines.{most_line};
 ghost use Rattle.zr_language.specs.Step.{IsSaid};
-ghost use Rattle.zr_language.specs.Command.{command_of, by_words, by_name, is_command, is_silent, plain, query_body, reply_body, router_line, client_line, link_line, up_line, break_line, down_line, sub_line, unsub_line, able_line, unable_line, interest_line, uninterest_line, put_line, del_line, get_line, reply_line, end_line, handle_line, take_line, run_line, mark_line, show_line};
+ghost use Rattle.zr_language.specs.Command.{command_of, by_words, by_name, by_later_name, by_last_name, is_command, is_later_command, is_last_command, is_silent, plain, query_body, reply_body, router_line, client_line, link_line, up_line, break_line, down_line, sub_line, unsub_line, able_line, unable_line, interest_line, uninterest_line, put_line, del_line, get_line, reply_line, end_line, handle_line, take_line, run_line, mark_line, show_line};
 ghost use Rattle.zr_language.specs.Words.{words, is_clean};
 ghost use Rattle.zr_script.specs.Args.{LeadsOn, names_then, pair_then, numbered_then, keyed_then, terms_then};
-ghost use Rattle.zr_script.specs.Names.{is_later_command, is_last_command, by_later_name, by_last_name};
 ghost use Rattle.zr_script.specs.Short.{are_short};
 
 use crate::args::{aggregate, first, five, four, none, one, three, two};
@@ -111,7 +110,7 @@ fn is_last_command(name: &[u8]) -> bool
         || is_word(name, b"show")
 }
 
-#[tactic(auto, unfolding(zr_language::specs::Command::by_name, crate::specs::Names::by_later_name, crate::specs::Names::by_last_name))]
+#[tactic(auto, unfolding(zr_language::specs::Command::by_name))]
 fn by_name(alloc: Global, name: &[u8], args: &[u8]) -> Result<Command, ScriptError>
     requires { are_short (words args.now) ≡ true }
     ensures { IsSaid result (by_name name.now (words args.now)) }
@@ -134,7 +133,7 @@ fn by_name(alloc: Global, name: &[u8], args: &[u8]) -> Result<Command, ScriptErr
 }
 
 // The commands by which clients declare, and those that stand behind them.
-#[tactic(auto, unfolding(crate::specs::Names::by_later_name, crate::specs::Names::by_last_name))]
+#[tactic(auto, unfolding(zr_language::specs::Command::by_later_name))]
 fn by_later_name(alloc: Global, name: &[u8], args: &[u8]) -> Result<Command, ScriptError>
     requires { are_short (words args.now) ≡ true }
     ensures { IsSaid result (by_later_name name.now (words args.now)) }
@@ -159,7 +158,7 @@ fn by_later_name(alloc: Global, name: &[u8], args: &[u8]) -> Result<Command, Scr
 }
 
 // The commands that send messages or let them move on, and those that stand behind them.
-#[tactic(auto, unfolding(crate::specs::Names::by_last_name))]
+#[tactic(auto, unfolding(zr_language::specs::Command::by_last_name))]
 fn by_last_name(alloc: Global, name: &[u8], args: &[u8]) -> Result<Command, ScriptError>
     requires { are_short (words args.now) ≡ true }
     ensures { IsSaid result (by_last_name name.now (words args.now)) }
