@@ -8,8 +8,9 @@ use Rattle.std.proofs.lemmas.Bool.{and_parts, and_from}
 use Rattle.zr_id.specs.Zid.{is_named}
 use Rattle.zr_graph.specs.Record.{has, lists, has_edge}
 use Rattle.zr_graph.proofs.Names.{same_refl}
+use Rattle.zr_climb.specs.Distance.{is_sum}
 use Rattle.zr_tree.specs.Walk.{graph_of, near}
-use Rattle.zr_tree.specs.Tree.{dist, is_sum}
+use Rattle.zr_tree.specs.Tree.{dist}
 use Rattle.zr_tree.proofs.Finds.{find_in, in_filter}
 use Rattle.zr_tree.proofs.Branches.{child_is}
 use Rattle.zr_msg.specs.declared.event.Event.{Event}

@@ -4,8 +4,9 @@ use Rattle.std.specs.Option.{option_map_or}
 use Rattle.std.proofs.lemmas.Bool.{false≢true, eq-eqb, eqb-true, or_cases, or_right, or_left}
 use Rattle.zr_id.specs.Zid.{is_named}
 use Rattle.zr_graph.proofs.Names.{same_is, same_refl}
+use Rattle.zr_climb.specs.Distance.{is_sum}
 use Rattle.zr_tree.specs.Walk.{Graph, near, edge_length}
-use Rattle.zr_tree.specs.Tree.{dist, is_sum, parent, climbs, below, is_child}
+use Rattle.zr_tree.specs.Tree.{dist, parent, climbs, below, is_child}
 use Rattle.zr_tree.proofs.Finds.{In, find_in, in_find, none_find}
 use Rattle.zr_tree.proofs.Distances.{step_back}
 

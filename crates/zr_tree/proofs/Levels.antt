@@ -12,10 +12,12 @@ use Rattle.zr_id.specs.Record.{RecordState}
 use Rattle.zr_id.specs.Zid.{is_named}
 use Rattle.zr_graph.specs.Record.{ids, has_edge, lists, IsAscending}
 use Rattle.zr_graph.proofs.Names.{same_is, same_refl, comes}
+use Rattle.zr_climb.specs.Climb.{row}
+use Rattle.zr_climb.specs.Distance.{kept_at}
 use Rattle.zr_tree.specs.Walk.{graph_of, near}
 use Rattle.zr_tree.specs.Tree.{leads}
-use Rattle.zr_tree.specs.Index.{EdgeTable, AreEdges, name, row}
-use Rattle.zr_tree.specs.Search.{Visits, AreDistances, has_index, kept_at}
+use Rattle.zr_tree.specs.Index.{EdgeTable, AreEdges, name}
+use Rattle.zr_tree.specs.Search.{Visits, AreDistances, has_index}
 use Rattle.zr_tree.proofs.Finds.{In, any_in, in_any, in_filter, filter_in, place_in, in_place, map_in, in_map}
 use Rattle.zr_tree.proofs.Distances.{within, is_at, step_on, least_some}
 

@@ -4,7 +4,6 @@ pub mod Children
 pub mod Distances
 pub mod Finds
 pub mod Indexes
-pub mod Jumps
 pub mod Levels
 pub mod Linked
 pub mod Links

@@ -15,12 +15,14 @@ use Rattle.zr_id.specs.Zid.{is_named}
 use Rattle.zr_graph.specs.Base.{BaseState}
 use Rattle.zr_graph.specs.Record.{ids, has}
 use Rattle.zr_graph.proofs.Names.{same_is, same_refl}
+use Rattle.zr_climb.specs.Climb.{row}
+use Rattle.zr_climb.specs.Distance.{is_sum}
 use Rattle.zr_tree.specs.OwnChildren.{is_first, AreFlags, IsFamily}
-use Rattle.zr_tree.specs.Index.{EdgeTable, AreEdges, name, row}
+use Rattle.zr_tree.specs.Index.{EdgeTable, AreEdges, name}
 use Rattle.zr_tree.specs.Laws.{IsGraph}
 use Rattle.zr_tree.specs.Same.{HaveSameEdges}
 use Rattle.zr_tree.specs.Searches.{is_searched, distance_kept, is_nearer, AreSearches, Searched}
-use Rattle.zr_tree.specs.Tree.{dist, is_child, is_sum}
+use Rattle.zr_tree.specs.Tree.{dist, is_child}
 use Rattle.zr_tree.specs.Walk.{Graph, graph_of, IsDistance, near}
 use Rattle.zr_tree.proofs.Branches.{parent_is, child_is}
 use Rattle.zr_tree.proofs.Finds.{In, find_in, in_map, in_place, same_find}

@@ -12,8 +12,9 @@ use Rattle.zr_id.specs.Zid.{is_named}
 use Rattle.zr_graph.specs.Record.{IsAscending}
 use Rattle.zr_id.specs.Record.{is_before}
 use Rattle.zr_graph.proofs.Names.{same_is, same_refl, comes}
+use Rattle.zr_climb.specs.Distance.{is_sum}
 use Rattle.zr_tree.specs.Laws.{IsGraph, IsNext, HaveSameTrees, steps_toward}
-use Rattle.zr_tree.specs.Tree.{leads, dist, is_sum, parent, is_child, children, climbs, below, toward}
+use Rattle.zr_tree.specs.Tree.{leads, dist, parent, is_child, children, climbs, below, toward}
 use Rattle.zr_tree.specs.Walk.{Graph, near, edge_length}
 use Rattle.zr_tree.proofs.Finds.{In, in_filter, filter_in, same_any, same_find, only_find}
 use Rattle.zr_tree.proofs.Distances.{least_some, zero_is_root}

@@ -2,11 +2,11 @@
 use Rattle.std.specs.Prelude.{◌≡◌, ℕ, ◌<◌, ◌==◌, true, List, [], Option, Some, None, length, slice_get, slice_index_or, if◌then◌else◌}
 use Rattle.zr_id.specs.Record.{RecordState}
 use Rattle.zr_graph.specs.Record.{ids, IsAscending}
+use Rattle.zr_climb.specs.Climb.{at}
+use Rattle.zr_climb.specs.Distance.{kept_at}
 use Rattle.zr_tree.specs.declared.tree.Hop.{Hop}
 use Rattle.zr_tree.specs.declared.tree.TheConstants.{UNREACHED}
-use Rattle.zr_tree.specs.Climb.{at}
 use Rattle.zr_tree.specs.Index.{name}
-use Rattle.zr_tree.specs.Search.{kept_at}
 use Rattle.zr_tree.specs.Tree.{dist, parent, below, children}
 use Rattle.zr_tree.specs.Walk.{graph_of}
 

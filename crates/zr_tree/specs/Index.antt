@@ -2,15 +2,12 @@
 use Rattle.std.specs.Prelude.{◌≡◌, ℕ, ◌<◌, ◌-◌, ◌^◌, true, List, [], length, map, All, slice_index_or}
 use Rattle.zr_id.specs.Record.{RecordState}
 use Rattle.zr_graph.specs.Record.{ids, lists, IsAscending}
+use Rattle.zr_climb.specs.Climb.{row}
 use Rattle.zr_tree.specs.Walk.{graph_of, near}
 
 -- the identifier at an index
 abbrev pub name : List RecordState → ℕ → List ℕ
 name records i = slice_index_or (ids records) i []
-
--- the list at an index
-abbrev pub row : List (List ℕ) → ℕ → List ℕ
-row rows i = slice_index_or rows i []
 
 -- the neighbours of each router of the records, by index
 pub record EdgeTable : Type 0 where

@@ -1,4 +1,4 @@
-pub mod Climb
+pub mod Children
 pub mod Hop
 pub mod Index
 pub mod Laws

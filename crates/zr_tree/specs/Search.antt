@@ -1,7 +1,8 @@
 -- What the search for shortest walks keeps, by index.
-use Rattle.std.specs.Prelude.{◌≡◌, ℕ, ◌<◌, ◌&&◌, ◌||◌, ◌==◌, Bool, List, Option, Some, None, is_none, length, slice_index_or, if◌then◌else◌}
+use Rattle.std.specs.Prelude.{◌≡◌, ℕ, ◌<◌, ◌&&◌, ◌||◌, ◌==◌, Bool, List, Option, Some, None, is_none, length, if◌then◌else◌}
 use Rattle.std.specs.List.{list_any}
 use Rattle.std.specs.Option.{option_or}
+use Rattle.zr_climb.specs.Distance.{kept_at}
 use Rattle.zr_tree.specs.Index.{EdgeTable, name}
 use Rattle.zr_tree.specs.Tree.{dist}
 use Rattle.zr_tree.specs.Walk.{graph_of}
@@ -9,10 +10,6 @@ use Rattle.zr_tree.specs.Walk.{graph_of}
 -- an index is among these
 abbrev pub has_index : List ℕ → ℕ → Bool
 has_index indexes x = list_any (λ j. j == x) indexes
-
--- the distance that is kept of an index
-abbrev pub kept_at : List (Option ℕ) → ℕ → Option ℕ
-kept_at distances x = slice_index_or distances x None
 
 -- of the neighbours, those that had no distance have got this one, and were found
 pub record Visits (old new : List (Option ℕ)) (before after : List ℕ) (neighbours : List ℕ) (depth : ℕ) : Type 0 where

@@ -1,8 +1,8 @@
 -- The distances from each router that was searched from, by its index.
 use Rattle.std.specs.Prelude.{◌≡◌, ℕ, true, Bool, List, Option, Some, None, All, is_some, length, option_and_then, slice_index_or}
+use Rattle.zr_climb.specs.Distance.{kept_at, is_sum}
 use Rattle.zr_tree.specs.Index.{EdgeTable}
-use Rattle.zr_tree.specs.Search.{AreDistances, kept_at}
-use Rattle.zr_tree.specs.Tree.{is_sum}
+use Rattle.zr_tree.specs.Search.{AreDistances}
 
 -- what a search from a router found, if there was one
 abbrev pub found_from : List (Option (List (Option ℕ))) → ℕ → Option (List (Option ℕ))

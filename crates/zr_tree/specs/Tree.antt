@@ -1,8 +1,9 @@
 -- The tree of a root: how far each router is from it, and over which neighbours the shortest walks go.
-use Rattle.std.specs.Prelude.{ℕ, ◌+◌, suc, zero, Bool, false, ◌&&◌, ◌||◌, ◌==◌, List, length, Option, Some, None, is_some, unwrap_or, if◌then◌else◌}
+use Rattle.std.specs.Prelude.{ℕ, suc, zero, Bool, false, ◌&&◌, ◌||◌, List, length, Option, Some, None, is_some, unwrap_or, if◌then◌else◌}
 use Rattle.std.specs.List.{list_any, find, filter}
 use Rattle.std.specs.Option.{option_or, option_map_or}
 use Rattle.zr_id.specs.Zid.{is_named}
+use Rattle.zr_climb.specs.Distance.{is_sum}
 use Rattle.zr_tree.specs.Walk.{Graph, near, edge_length}
 
 -- a walk of length n leads from the root to x
@@ -22,12 +23,6 @@ dist g root x = least (λ n. leads g n root x) (suc (length g.names))
 -- a walk leads from one router to the other
 abbrev pub reached : Graph → List ℕ → List ℕ → Bool
 reached g from to = is_some (dist g from to)
-
--- the second distance is the first and this length more
-abbrev pub is_sum : Option ℕ → ℕ → Option ℕ → Bool
-is_sum (Some m) length (Some n) = m + length == n
-is_sum (Some m) length None = false
-is_sum None length to = false
 
 -- the parent of x: its least neighbour from which the last edge of a shortest walk leads to it
 abbrev pub parent : Graph → List ℕ → List ℕ → Option (List ℕ)

@@ -4,34 +4,21 @@ ghost use Rattle.std.specs.Prelude.{◌≡◌, ◌<◌, ◌++◌, ◌∷◌, [],
 ghost use Rattle.std.specs.Option.{option_map_or};
 ghost use Rattle.zr_graph.specs.Record.{has, ids, lists, record_of, IsAscending};
 ghost use Rattle.zr_tree.specs.Walk.{graph_of, near};
-ghost use Rattle.zr_tree.specs.Index.{name, row, AreEdges, EdgeTable, LinksBack};
+ghost use Rattle.zr_tree.specs.Index.{name, AreEdges, EdgeTable, LinksBack};
 
 use std::alloc::{AllocError, Global};
 use std::marker::Model;
 use std::snapshot::Snapshot;
+use zr_climb::row::Row;
 use zr_graph::base::Base;
 use zr_id::record::LinkRecord;
 use zr_id::zid::Zid;
-
-/// A list of indexes.
-#[derive(Drop)]
-pub struct Row {
-    indexes: Vec<usize>,
-}
 
 /// The neighbours of each router of a base, by the routers' indexes in ascending order.
 #[derive(Drop)]
 pub struct Edges {
     base: Snapshot<Base>,
     rows: Vec<Row>,
-}
-
-impl Model for Row {
-    ghost use Rattle.std.specs.Prelude.{List, ℕ};
-
-    ghost Value = { List ℕ };
-
-    ghost view = { λ r. r.indexes.items };
 }
 
 impl Model for Edges {
@@ -62,14 +49,6 @@ impl Edges {
         ensures right { AreEdges self.now }
     {
         self.rows.as_slice()
-    }
-}
-
-impl Row {
-    pub fn indexes(&self) -> &[usize]
-        ensures { result.now ≡ self.now }
-    {
-        self.indexes.as_slice()
     }
 }
 
@@ -108,7 +87,7 @@ fn row_of(
     for to in links {
         extend(&mut indexes, linked_back(names, records, from.id(), to))?;
     }
-    Ok(Row { indexes })
+    Ok(Row::of(indexes))
 }
 
 // The index of a router's record, if it lists the other one.

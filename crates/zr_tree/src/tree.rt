@@ -1,20 +1,20 @@
 //! The tree of one root, by the routers' indexes.
 
-ghost use Rattle.std.specs.Prelude.{◌≡◌, ◌<◌, ◌^◌, ◌⊎◌, ℕ, IfOk, OnOk, length, unwrap_or, map, true, Some, [], All, slice_get, slice_index_or};
-ghost use Rattle.std.specs.List.{find, range_with_len};
+ghost use Rattle.std.specs.Prelude.{◌≡◌, ◌<◌, ◌^◌, IfOk, OnOk, length, unwrap_or, true, Some, [], All, slice_get, slice_index_or};
 ghost use Rattle.zr_graph.specs.Record.{ids};
-ghost use Rattle.zr_tree.specs.Climb.{at, nearer, AreIndexes, AreJumps, is_child_index, children_by};
+ghost use Rattle.zr_climb.specs.Climb.{at};
+ghost use Rattle.zr_climb.specs.Distance.{kept_at};
+ghost use Rattle.zr_tree.specs.Children.{is_child_index, children_by};
 ghost use Rattle.zr_tree.specs.Hop.{AreWays};
-ghost use Rattle.zr_tree.specs.Index.{row};
 ghost use Rattle.zr_tree.specs.Lists.{OnlyAdds};
-ghost use Rattle.zr_tree.specs.Search.{kept_at};
-ghost use Rattle.zr_tree.specs.Tree.{is_sum};
 
-use crate::edges::{Edges, Row};
+use crate::edges::Edges;
 use crate::lists::Lists;
 use crate::search::{Reach, search_from};
 use std::alloc::{AllocError, Global};
 use std::marker::Model;
+use zr_climb::jumps::jumps_of;
+use zr_climb::parents::parents_of;
 use zr_id::zid::Zid;
 
 /// The depth of a router that its root doesn't reach.
@@ -125,83 +125,6 @@ fn hop_of(ways: &Ways, x: usize, children: u32) -> Hop
         parent: ways.parents[x] as u32,
         jump: ways.jumps[x] as u32,
         children,
-    }
-}
-
-// Each router's parent by index, or its own where it has none.
-fn parents_of(
-    alloc: Global,
-    rows: &[Row],
-    distances: &[Option<u32>],
-) -> Result<Vec<usize>, AllocError>
-    requires long { length distances.now ≡ length rows.now }
-    requires within { (x : ℕ) → x < length rows.now → All (λ y. y < length rows.now) (row rows.now x) }
-    ensures { IfOk result (λ v. v.items ≡ map (nearer rows.now distances.now) (range_with_len 0 (length rows.now))) }
-{
-    let mut parents = Vec::with_capacity(alloc, rows.len())?;
-    for x in 0..rows.len() {
-        let neighbours = rows[x].indexes();
-        parents.push(nearer_of(neighbours, distances, x).unwrap_or(x))?;
-    }
-    Ok(parents)
-}
-
-// The first of these neighbours that is one nearer than router x.
-fn nearer_of(neighbours: &[usize], distances: &[Option<u32>], x: usize) -> Option<usize>
-    requires within { All (λ y. y < length distances.now) neighbours.now }
-    requires x { x < length distances.now }
-    ensures { result ≡ find (λ y. is_sum (kept_at distances.now y) 1 (kept_at distances.now x)) neighbours.now }
-{
-    for y in neighbours {
-        if is_next(distances[*y], distances[x]) {
-            return Some(*y);
-        }
-    }
-    None
-}
-
-/// Whether one distance is one less than another one.
-pub fn is_next(near: Option<u32>, far: Option<u32>) -> bool
-    ensures { result ≡ is_sum near 1 far }
-{
-    match (near, far) {
-        (Some(near), Some(far)) => u64::from(near) + 1 == u64::from(far),
-        _ => false,
-    }
-}
-
-// For each router one at or above its parent. The longer the way up, the farther the jumps go, so that
-// a way of n steps takes about twice the logarithm of n.
-fn jumps_of(
-    alloc: Global,
-    distances: &[Option<u32>],
-    order: &[usize],
-    parents: &[usize],
-) -> Result<Vec<usize>, AllocError>
-    requires long { length distances.now ≡ length parents.now }
-    requires order { All (λ x. x < length parents.now) order.now }
-    requires parents { AreIndexes parents.now }
-    ensures { IfOk result (λ v. AreJumps parents.now v.items) }
-{
-    let mut jumps = parents.to_vec(alloc)?;
-    for x in order {
-        jumps[*x] = jump_over(distances, &jumps, parents[*x]);
-    }
-    Ok(jumps)
-}
-
-// The jump of a router by those of its parent: over both, where they are of one length.
-fn jump_over(distances: &[Option<u32>], jumps: &[usize], parent: usize) -> usize
-    requires long { length distances.now ≡ length jumps.now }
-    requires jumps { AreIndexes jumps.now }
-    requires parent { parent < length jumps.now }
-    ensures { (result ≡ parent) ⊎ (result ≡ at jumps.now (at jumps.now parent)) }
-{
-    let near = jumps[parent];
-    let far = jumps[near];
-    match (distances[parent], distances[near], distances[far]) {
-        (Some(a), Some(b), Some(c)) if a.abs_diff(b) == b.abs_diff(c) => far,
-        _ => parent,
     }
 }
 

@@ -16,4 +16,4 @@ returns-clause-neighbours c =
     let all = take_all c.loop-to.to-index c.links-links.result.now (omega (arith, c.loop-to-test.false)) ∙ c.links-links.ensures.value in
     let front = subst (λ (links : List (List ℕ)). IsFront c.args.records.now c.args.from.now.id links c.loop-to.indexes.items) all c.loop-to.invariant in
     let sorted = (parts_of_links c.args.from.now.id c.args.from.now.links c.links-links.ensures.in_order).0.ascending in
-    row_is c.args.records.now c.args.from.now c.loop-to.indexes.items c.requires.ascending c.requires.among sorted front
+    rw c.of.ensures (row_is c.args.records.now c.args.from.now c.loop-to.indexes.items c.requires.ascending c.requires.among sorted front)

@@ -1,6 +1,6 @@
 use Rattle.std.proofs.Common.{◌≡◌, [], get_or, map, take}
 use Rattle.std.specs.List.{filter}
-use Rattle.zr_tree.specs.Climb.{is_child_index}
+use Rattle.zr_tree.specs.Children.{is_child_index}
 use Rattle.zr_tree.proofs.tree.children_of.Given as goal
 
 abbrev pub invariant-loop-y : goal.invariant-loop-y

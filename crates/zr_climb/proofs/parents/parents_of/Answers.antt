@@ -1,9 +1,8 @@
 use Rattle.std.proofs.Common.{◌≡◌, ◌<◌, [], length, refl, sym, ◌∙◌, arith}
 use Rattle.std.proofs.lemmas.List.{get_or_read}
 use Rattle.std.proofs.lemmas.List.FromFn.{map-range_with_len_more}
-use Rattle.zr_tree.specs.Climb.{nearer}
-use Rattle.zr_tree.specs.Index.{row}
-use Rattle.zr_tree.proofs.tree.parents_of.Goals as goal
+use Rattle.zr_climb.specs.Climb.{nearer, row}
+use Rattle.zr_climb.proofs.parents.parents_of.Goals as goal
 
 pub nearer_of-requires-clause-within : goal.nearer_of-requires-clause-within
 nearer_of-requires-clause-within c k d lt =

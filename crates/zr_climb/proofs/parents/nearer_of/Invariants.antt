@@ -1,8 +1,7 @@
 use Rattle.std.proofs.Common.{◌≡◌, drop}
 use Rattle.std.specs.List.{find}
-use Rattle.zr_tree.specs.Search.{kept_at}
-use Rattle.zr_tree.specs.Tree.{is_sum}
-use Rattle.zr_tree.proofs.tree.nearer_of.Given as goal
+use Rattle.zr_climb.specs.Distance.{is_sum, kept_at}
+use Rattle.zr_climb.proofs.parents.nearer_of.Given as goal
 
 abbrev pub invariant-loop-y : goal.invariant-loop-y
 invariant-loop-y l =
