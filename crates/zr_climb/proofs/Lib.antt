@@ -1,1 +1,2 @@
+mod FirstChildren
 mod Upward

@@ -1,2 +1,4 @@
+pub mod Children
 pub mod Climb
 pub mod Distance
+pub mod Lists

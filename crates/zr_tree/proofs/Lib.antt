@@ -1,6 +1,5 @@
 pub mod Ancestors
 pub mod Branches
-pub mod Children
 pub mod Distances
 pub mod Finds
 pub mod Indexes

@@ -9,11 +9,11 @@ use Rattle.zr_id.specs.Record.{RecordState}
 use Rattle.zr_id.specs.Zid.{is_named}
 use Rattle.zr_graph.specs.Record.{ids, has_edge}
 use Rattle.zr_graph.proofs.Names.{same_is, same_refl}
+use Rattle.zr_climb.specs.Children.{is_child_index}
 use Rattle.zr_climb.specs.Climb.{at, climb, nearer, AreIndexes, AreJumps, row}
 use Rattle.zr_climb.specs.Distance.{kept_at, is_sum}
-use Rattle.zr_tree.specs.Children.{is_child_index}
+use Rattle.zr_climb.specs.Lists.{OnlyAdds}
 use Rattle.zr_tree.specs.Hop.{AreTrees, AreWays, IsHop, IsTree, depth_of, parent_name}
-use Rattle.zr_tree.specs.Lists.{OnlyAdds}
 use Rattle.zr_tree.specs.declared.tree.Hop.{Hop}
 use Rattle.zr_tree.specs.declared.tree.TheConstants.{UNREACHED}
 use Rattle.zr_tree.specs.Index.{EdgeTable, AreEdges, name}

@@ -9,12 +9,12 @@ ghost use Rattle.zr_tree.specs.Tree.{dist, parent, children, below, toward, reac
 ghost use Rattle.zr_tree.specs.Walk.{graph_of};
 
 use crate::edges::{Edges, index_in};
-use crate::lists::Lists;
 use crate::same::are_same_edges;
 use crate::tree::{Hop, Tree, UNREACHED};
 use crate::way::Way;
 use std::alloc::{AllocError, Global};
 use std::marker::Model;
+use zr_climb::lists::Lists;
 use zr_graph::base::{Base, copies_of};
 use zr_id::record::LinkRecord;
 use zr_id::zid::Zid;

@@ -1,7 +1,7 @@
 use Rattle.std.proofs.Common.{sym, ◌∙◌}
-use Rattle.zr_tree.proofs.Children.{one_more, no_more}
-use Rattle.zr_tree.proofs.tree.are_children.Goals as goal
-use Rattle.zr_tree.proofs.tree.are_children.Goals.{then-is_child+else-not-stands_at, else-is_child}
+use Rattle.zr_climb.proofs.FirstChildren.{one_more, no_more}
+use Rattle.zr_climb.proofs.children.are_children.Goals as goal
+use Rattle.zr_climb.proofs.children.are_children.Goals.{then-is_child+else-not-stands_at, else-is_child}
 
 pub loop-y-preserved : goal.loop-y-preserved
 loop-y-preserved c =

@@ -3,7 +3,7 @@ use Rattle.std.proofs.Common.{◌≡◌, ℕ, ◌+◌, ◌<◌, ◌≤◌, true,
 use Rattle.std.specs.List.{filter}
 use Rattle.std.proofs.lemmas.List.{append-nil, map_push, take_more}
 use Rattle.std.proofs.lemmas.List.Elements.{filter_more}
-use Rattle.zr_tree.specs.Children.{is_child_index, children_by}
+use Rattle.zr_climb.specs.Children.{is_child_index, children_by}
 
 -- the children so far are the first ones of the list
 pub record AreFirst (list names : List (List ℕ)) (parents : List ℕ) (x : ℕ) (neighbours : List ℕ) (count : ℕ) : Type 0 where
