@@ -1,4 +1,4 @@
--- A request that isn't refused for who asks, and fails all the same. And the route of a request.
+-- A request that isn't refused for who asks: it goes on, or fails all the same. And the route of a request.
 use Rattle.std.proofs.Common.{◌≡◌, ℕ, ◌&&◌, Bool, true, false, cond, List, Option, Some, None, Result, Err, refl, ap, subst, ◌∙◌}
 use Rattle.std.specs.Result.{IsErrAnd}
 use Rattle.zr_id.specs.declared.link.LinkNo.{LinkNo}
@@ -15,13 +15,13 @@ use Rattle.zr_push.specs.declared.route.Stop.{Stop}
 use Rattle.zr_push.specs.declared.sought.Sought.{Sought}
 use Rattle.zr_query.specs.declared.asking.RequestError.{RequestError}
 use Rattle.zr_query.specs.declared.asking.RequestError.TheVariants as request
-use Rattle.zr_routing.specs.Queries.{asked_links, asker, asks_most, has_no_number, most_pending, sends_request}
+use Rattle.zr_routing.specs.Queries.{after_request, asked_links, asker, asks_most, has_no_number, most_pending, sends_request}
 use Rattle.zr_routing.specs.Tables.{TableState, leads_to_client}
-use Rattle.zr_table.specs.Event.{TellsPrefix}
+use Rattle.zr_table.specs.Event.{Tells, TellsPrefix}
 use Rattle.zr_table.specs.State.{NodeState, tables}
 use Rattle.zr_table.specs.Table.{refuses_request, with_pending}
 use Rattle.zr_node.specs.Answer.{request_failure}
-use Rattle.zr_node.specs.Done.{Part, IsDone}
+use Rattle.zr_node.specs.Done.{Part, IsLeft, IsDone}
 use Rattle.zr_node.specs.Requests.{refuses_asker}
 use Rattle.zr_node.specs.Steps.{request_part}
 use Rattle.zr_node.specs.declared.failure.Failure.{Failure}
@@ -33,11 +33,11 @@ pub is_route : (t : TableState) (tree : List ℕ) (target : Target) (sought : So
     → stops ≡ route_of t tree (sought_by target) own_key
 is_route t tree target sought key own_key stops e f g = e ∙ ap (λ (s : Sought). route_of t tree s key) f ∙ ap (λ (k : List ℕ). route_of t tree (sought_by target) k) g
 
--- who may ask is refused where a link that it goes over has no number
-no_number : (n : NodeState) (from number : ℕ) (links : List LinkNo) → refuses_asker n.pending (asker from number) (leads_to_client n.links from) ≡ None → has_no_number n.pending links ≡ true
-    → refuses_request n from number links ≡ Some Worn
-no_number n from number links h k =
-    by (asked (asker from number) n.pending) (leads_to_client n.links from && asks_most n.pending from) (cond (has_no_number n.pending links) (Some Worn) None) h ∙ ap (λ t. cond t (Some Worn) None) k
+-- who may ask is refused only where a link that the request goes over has no number
+asker_allowed : (n : NodeState) (from number : ℕ) (links : List LinkNo) → refuses_asker n.pending (asker from number) (leads_to_client n.links from) ≡ None
+    → refuses_request n from number links ≡ cond (has_no_number n.pending links) (Some Worn) None
+asker_allowed n from number links h =
+    by (asked (asker from number) n.pending) (leads_to_client n.links from && asks_most n.pending from) (cond (has_no_number n.pending links) (Some Worn) None) h
   where
     by : (a b : Bool) (z : Option NodeError) → cond a (Some (NumberTaken number)) (cond b (Some (TooMany most_pending)) None) ≡ None → cond a (Some (NumberTaken number)) (cond b (Some (TooMany most_pending)) z) ≡ z
     by true b z h = cc
@@ -54,6 +54,16 @@ module _ (n : NodeState) (from number : ℕ) (named : Option (List ℕ)) (target
   abbrev over : TableState → List LinkNo
   over t = asked_links t from named target content.key
 
+  -- each has one: the request goes on
+  pub request_left : (t : TableState) → t ≡ tables n → (rows : List RowState) (said all : List (LinkNo × Msg)) → Tells (sends_request t n.pending from named number target content) said all
+      → rows ≡ after_request t n.pending from named number target content.key → has_no_number n.pending (over t) ≡ false → IsLeft part (with_pending n rows) said all
+  request_left t is rows said all told is_after room = record {
+    allowed =
+        asker_allowed n from number (over (tables n)) allowed ∙ ap (λ b. cond b (Some Worn) None) (subst (λ (u : TableState). has_no_number n.pending (over u) ≡ false) is room);
+    state = ap (λ (rs : List RowState). with_pending n rs) (is_after ∙ ap (λ (u : TableState). after_request u n.pending from named number target content.key) is);
+    sends = subst (λ (u : TableState). Tells (sends_request u n.pending from named number target content) said all) is told;
+  }
+
   -- there is none, or memory ran out
   pub request_failed : (t : TableState) → t ≡ tables n → (rows : List RowState) (said all : List (LinkNo × Msg)) (e : RequestError) (r : Result (Unit {0}) Failure) → IsErrAnd r (λ f. f ≡ request_failure e)
       → (error e ≡ error request.NoNumber → has_no_number n.pending (over t) ≡ true) → (error e ≡ error request.NoNumber → (rows ≡ n.pending) × (all ≡ said))
@@ -61,6 +71,6 @@ module _ (n : NodeState) (from number : ℕ) (named : Option (List ℕ)) (target
   request_failed t is rows said all request.NoNumber r h full same prefix =
       let none : has_no_number n.pending (over (tables n)) ≡ true = subst (λ (u : TableState). has_no_number n.pending (over u) ≡ true) is (full refl) in
       failed part (Refused Worn) r (with_pending n rows) said all h
-      (record { refused = no_number n from number (over (tables n)) allowed none; state = ap (λ (rs : List RowState). with_pending n rs) (same refl).0; sends = (same refl).1 })
+      (record { refused = asker_allowed n from number (over (tables n)) allowed ∙ ap (λ b. cond b (Some Worn) None) none; state = ap (λ (rs : List RowState). with_pending n rs) (same refl).0; sends = (same refl).1 })
   request_failed t is rows said all request.NoMemory r h full same prefix =
       failed part NoMemory r (with_pending n rows) said all h (subst (λ (u : TableState). TellsPrefix (sends_request u n.pending from named number target content) said all) is prefix)

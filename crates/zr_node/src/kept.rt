@@ -2,7 +2,7 @@
 
 ghost use Rattle.std.specs.Prelude.{◌≡◌, Some, None, OnOk, OnErr, IfOk, IfSome};
 ghost use Rattle.zr_routing.specs.Samples.{sends_push};
-ghost use Rattle.zr_routing.specs.Tables.{AreNumbered, link_at};
+ghost use Rattle.zr_routing.specs.Tables.{TableState, AreNumbered, link_at};
 ghost use Rattle.zr_table.specs.Event.{Tells, TellsPrefix};
 ghost use Rattle.zr_node.specs.Routes.{AreRoutes};
 
@@ -59,6 +59,31 @@ pub fn take_trees(alloc: Global, kept: &mut Option<Trees>, base: &Base) -> Resul
         Some(trees) => Ok(trees),
         None => Trees::of(alloc, base),
     }
+}
+
+/// The trees of records with the same edges stay, and take over the records. Where there is no memory for it they are worked out anew when
+/// they are asked for.
+pub fn followed(alloc: Global, mut before: Trees, base: &Base) -> Option<Trees>
+    ensures { IfSome result (λ t. t ≡ base.now.records) }
+{
+    if !before.have_edges_of(base) {
+        return None;
+    }
+    match before.follow(alloc, base) {
+        Ok(()) => Some(before),
+        Err(_) => None,
+    }
+}
+
+/// The records have changed: nothing that was worked out of them is kept.
+pub fn forget(family: &mut Option<Family>, trees: &mut Option<Trees>, routes: &mut Routes)
+    ensures family { family.new ≡ None }
+    ensures trees { trees.new ≡ None }
+    ensures routes { (t : TableState) → AreRoutes routes.new t }
+{
+    *family = None;
+    *trees = None;
+    routes.clear();
 }
 
 /// What a router goes by, lent.

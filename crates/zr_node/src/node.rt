@@ -28,7 +28,7 @@ mod traffic;
 
 use crate::asked::{self, Asked, able_kind, apply, has_room};
 use crate::failure::Failure;
-use crate::kept::{Before, take_family};
+use crate::kept::{Before, followed, forget, take_family};
 use crate::links::Links;
 use crate::routes::Routes;
 use std::alloc::{AllocError, Global};
@@ -388,7 +388,7 @@ impl Node {
     {
         let number = self.known.position(self.base.me());
         if number > SURE_OF_ROOM {
-            self.judge(alloc, number, &asked)?;
+            self.judge(alloc, &asked)?;
         }
         let changes = self.apply(asked)?;
         if !has_room(number, &changes) {
@@ -398,13 +398,21 @@ impl Node {
     }
 
     // Whether what a client asks is refused, found out on a copy.
-    fn judge(&self, alloc: Global, number: u64, asked: &Asked) -> Result<(), Failure>
-        requires { number ≡ position self.now.known self.now.base.me }
+    fn judge(&self, alloc: Global, asked: &Asked) -> Result<(), Failure>
         ensures { IsJudged (refuses_change self.now asked.now) result }
     {
+        let asked = asked.copy(alloc)?;
         let mut local = self.local.copy(alloc)?;
-        let changes = apply(&mut local, asked.copy(alloc)?)?;
-        if !has_room(number, &changes) {
+        self.judge_on(&mut local, asked)
+    }
+
+    // The same on a copy of what its clients have declared, which changes by it.
+    fn judge_on(&self, local: &mut Local, asked: Asked) -> Result<(), Failure>
+        requires { local.old ≡ local_state self.now }
+        ensures { IsJudged (refuses_change self.now asked) result }
+    {
+        let changes = apply(local, asked)?;
+        if !has_room(self.known.position(self.base.me()), &changes) {
             return Err(Failure::Refused(NodeError::Worn));
         }
         Ok(())
@@ -502,9 +510,7 @@ impl Node {
         match self.base.accept(told)? {
             Accepted::Old => Ok(Accepted::Old),
             Accepted::Newer => {
-                self.family = None;
-                self.trees = None;
-                self.routes.clear();
+                forget(&mut self.family, &mut self.trees, &mut self.routes);
                 Ok(Accepted::Newer)
             }
         }
@@ -686,7 +692,7 @@ impl Node {
         Ok(())
     }
 
-    // And so do the trees. Where there is no memory for it they are worked out anew when they are asked for.
+    // And so do the trees.
     fn keep_trees(&mut self, alloc: Global, before: Option<Trees>)
         ensures { self.new ≡ self.old }
     {
@@ -695,18 +701,10 @@ impl Node {
         }
     }
 
-    fn follow_trees(&mut self, alloc: Global, mut before: Trees)
+    fn follow_trees(&mut self, alloc: Global, before: Trees)
         ensures { self.new ≡ self.old }
     {
-        if !before.have_edges_of(&self.base) {
-            return;
-        }
-        match before.follow(alloc, &self.base) {
-            Ok(()) => {
-                self.trees = Some(before);
-            }
-            Err(_) => {}
-        }
+        self.trees = followed(alloc, before, &self.base);
     }
 
     fn leads_to_client(&self, link: LinkNo) -> bool

@@ -13,6 +13,7 @@ ghost use Rattle.zr_node.specs.Steps.{with_links, event_part, up_part, join_part
 use super::Node;
 use crate::asked::Asked;
 use crate::failure::Failure;
+use crate::kept::forget;
 use crate::own;
 use std::alloc::{AllocError, Global};
 use zr_flood::flood::{flood_down, flood_up};
@@ -74,9 +75,7 @@ impl Node {
         ensures { IsDone (join_part self.old link peer.now) result self.new out.old.items out.new.items }
     {
         own::join(alloc, &mut self.base, &peer.id)?;
-        self.family = None;
-        self.trees = None;
-        self.routes.clear();
+        forget(&mut self.family, &mut self.trees, &mut self.routes);
         Ok(flood_up(alloc, &self.base, self.links.as_slice(), link, out)?)
     }
 
@@ -198,9 +197,7 @@ impl Node {
         ensures { IsDone (parting_part self.old link.0 peer.now) result self.new out.old.items out.new.items }
     {
         own::part(alloc, &mut self.base, &peer.id)?;
-        self.family = None;
-        self.trees = None;
-        self.routes.clear();
+        forget(&mut self.family, &mut self.trees, &mut self.routes);
         ends_of(alloc, &mut self.pending, link, out)?;
         Ok(flood_down(alloc, &self.base, self.links.as_slice(), link, out)?)
     }
