@@ -5,5 +5,5 @@ use Rattle.zr_guarantee.specs.Item.{Carried, Sample, Query}
 
 -- the sample or the query that the code keeps
 abbrev pub carried_of : d.Carried → Carried
-carried_of (v.Sample content) = Sample content
-carried_of (v.Query target content) = Query target content
+carried_of (v.Sample content) = Sample content.now
+carried_of (v.Query target content) = Query target content.now

@@ -18,21 +18,26 @@ use zr_msg::msg::Target;
 
 /// What goes to all clients that are to have it.
 #[derive(Drop)]
-pub enum Carried {
+pub enum Carried<'a> {
     /// A sample.
-    Sample { content: Content },
+    Sample {
+        content: &'a Content,
+    },
     /// A query, which is sent to each client that it asks as a request.
-    Query { target: Target, content: Content },
+    Query {
+        target: Target,
+        content: &'a Content,
+    },
 }
 
 /// A sample or a query, with the number of the line that publishes or asks it.
 #[derive(Drop)]
-pub struct Item {
+pub struct Item<'a> {
     pub line: u64,
-    pub carried: Carried,
+    pub carried: Carried<'a>,
 }
 
-impl Model for Item {
+impl<'a> Model for Item<'a> {
     ghost use Rattle.zr_guarantee.specs.Item.{Item};
     ghost use Rattle.zr_judge.specs.Given.{carried_of};
 
@@ -41,7 +46,7 @@ impl Model for Item {
     ghost view = { λ i. record { line = i.line; carried = carried_of i.carried } };
 }
 
-impl PartialEq for Item {
+impl<'a> PartialEq for Item<'a> {
     ghost use Rattle.zr_judge.specs.Same.{is_same};
     ghost use Rattle.zr_judge.specs.Equal.{item_laws};
 
@@ -49,66 +54,66 @@ impl PartialEq for Item {
 
     ghost laws = { item_laws };
 
-    fn eq(&self, other: &Item) -> bool {
+    fn eq(&self, other: &Item<'a>) -> bool {
         self.line == other.line && is_same_carried(&self.carried, &other.carried)
     }
 }
 
 // What an act publishes: the client that does it, and the sample or the query.
 #[derive(Drop)]
-struct Publication {
-    client: Zid,
-    carried: Carried,
+struct Publication<'a> {
+    client: &'a Zid,
+    carried: Carried<'a>,
 }
 
-impl Model for Publication {
+impl<'a> Model for Publication<'a> {
     ghost use Rattle.zr_guarantee.specs.Broker.{Publication};
     ghost use Rattle.zr_judge.specs.Given.{carried_of};
 
     ghost Value = { Publication };
 
-    ghost view = { λ p. record { client = p.client; carried = carried_of p.carried } };
+    ghost view = { λ p. record { client = p.client.now; carried = carried_of p.carried } };
 }
 
 // What a client has declared that it takes, under an id of its own.
 #[derive(Drop)]
-struct Declaration {
+struct Declaration<'a> {
     id: u32,
-    key: KeyExpr,
+    key: &'a KeyExpr,
 }
 
-impl Model for Declaration {
+impl<'a> Model for Declaration<'a> {
     ghost use Rattle.zr_guarantee.specs.Broker.{Declaration};
 
     ghost Value = { Declaration };
 
-    ghost view = { λ d. record { id = d.id; key = d.key } };
+    ghost view = { λ d. record { id = d.id; key = d.key.now } };
 }
 
 // What a client has declared that it can answer, under an id of its own.
 #[derive(Drop)]
-struct Queryable {
+struct Queryable<'a> {
     id: u32,
-    key: KeyExpr,
+    key: &'a KeyExpr,
     complete: bool,
 }
 
-impl Model for Queryable {
+impl<'a> Model for Queryable<'a> {
     ghost use Rattle.zr_guarantee.specs.Broker.{Queryable};
 
     ghost Value = { Queryable };
 
-    ghost view = { λ q. record { id = q.id; key = q.key; complete = q.complete } };
+    ghost view = { λ q. record { id = q.id; key = q.key.now; complete = q.complete } };
 }
 
 /// What the receiver is to have of the publisher's lines in a phase.
-pub fn due(
+pub fn due<'a>(
     alloc: Global,
     before: &[(u64, Act)],
-    phase: &[(u64, Act)],
+    phase: &'a [(u64, Act)],
     publisher: &Zid,
     receiver: &Zid,
-) -> Result<Vec<Item>, AllocError>
+) -> Result<Vec<Item<'a>>, AllocError>
     ensures { IfOk result (λ v. v.items ≡ from before.now phase.now publisher.now receiver.now) }
 {
     let mut due = Vec::new(alloc);
@@ -159,15 +164,13 @@ fn is_publisher(name: &Zid, act: &Act) -> bool
     }
 }
 
-fn published(act: &Act) -> Result<Option<Publication>, AllocError>
-    ensures { IfOk result (λ p. p ≡ publication act.now) }
+fn published<'a>(act: &'a Act) -> Option<Publication<'a>>
+    ensures { result ≡ publication act.now }
 {
-    Ok(match act {
+    match act {
         Act::Publish { client, content } => Some(Publication {
-            client: *client,
-            carried: Carried::Sample {
-                content: content.copy()?,
-            },
+            client,
+            carried: Carried::Sample { content },
         }),
         Act::Get {
             client,
@@ -175,28 +178,28 @@ fn published(act: &Act) -> Result<Option<Publication>, AllocError>
             content,
             ..
         } => Some(Publication {
-            client: *client,
+            client,
             carried: Carried::Query {
                 target: *target,
-                content: content.copy()?,
+                content,
             },
         }),
         _ => None,
-    })
+    }
 }
 
-fn add_due(
+fn add_due<'a>(
     alloc: Global,
     before: &[(u64, Act)],
-    x: &(u64, Act),
+    x: &'a (u64, Act),
     publisher: &Zid,
     receiver: &Zid,
-    out: &mut Vec<Item>,
+    out: &mut Vec<Item<'a>>,
 ) -> Result<(), AllocError>
     ensures { OnOk result (out.new.items ≡ out.old.items ++ item_for before.now publisher.now receiver.now x.now.0 (publication x.now.1)) }
 {
-    if let Some(p) = published(&x.1)? {
-        if publisher == &p.client && is_for(alloc, before, publisher, receiver, &p.carried)? {
+    if let Some(p) = published(&x.1) {
+        if publisher == p.client && is_for(alloc, before, publisher, receiver, &p.carried)? {
             let carried = p.carried;
             out.push(Item { line: x.0, carried })?;
         }
@@ -210,7 +213,7 @@ pub fn is_for(
     before: &[(u64, Act)],
     publisher: &Zid,
     receiver: &Zid,
-    carried: &Carried,
+    carried: &Carried<'_>,
 ) -> Result<bool, AllocError>
     ensures { IfOk result (λ answer. answer ≡ is_for before.now publisher.now receiver.now (carried_of carried.now)) }
 {
@@ -225,7 +228,7 @@ fn takes(
     alloc: Global,
     before: &[(u64, Act)],
     name: &Zid,
-    carried: &Carried,
+    carried: &Carried<'_>,
 ) -> Result<bool, AllocError>
     ensures { IfOk result (λ answer. answer ≡ takes before.now name.now (carried_of carried.now)) }
 {
@@ -263,32 +266,30 @@ fn attached_by(name: &Zid, so_far: bool, act: &Act) -> bool
 }
 
 // The subscriptions of a client.
-fn declarations(
+fn declarations<'a>(
     alloc: Global,
-    acts: &[(u64, Act)],
+    acts: &'a [(u64, Act)],
     name: &Zid,
-) -> Result<Vec<Declaration>, AllocError>
+) -> Result<Vec<Declaration<'a>>, AllocError>
     ensures { IfOk result (λ v. v.items ≡ declarations acts.now name.now) }
 {
     let mut so_far = Vec::new(alloc);
     for x in acts {
-        declare(alloc, name, &x.1, &mut so_far)?;
+        declare(name, &x.1, &mut so_far)?;
     }
     Ok(so_far)
 }
 
 // One more act is done.
-fn declare(
-    alloc: Global,
+fn declare<'a>(
     name: &Zid,
-    act: &Act,
-    so_far: &mut Vec<Declaration>,
+    act: &'a Act,
+    so_far: &mut Vec<Declaration<'a>>,
 ) -> Result<(), AllocError>
     ensures { OnOk result (so_far.new.items ≡ declared_by name.now so_far.old.items act.now) }
 {
     match act {
         Act::Sub { client, id, key } if name == client => {
-            let key = key.copy(alloc)?;
             so_far.push(Declaration { id: *id, key })?;
         }
         Act::Unsub { client, id } if name == client => forget(so_far, *id),
@@ -297,30 +298,29 @@ fn declare(
     Ok(())
 }
 
-fn forget(so_far: &mut Vec<Declaration>, id: u32)
+fn forget(so_far: &mut Vec<Declaration<'_>>, id: u32)
     ensures { so_far.new.items ≡ filter (λ d. not (d.id == id)) so_far.old.items }
 {
     so_far.retain(|d| d.id != id);
 }
 
 // The queryables of a client.
-fn queryables(alloc: Global, acts: &[(u64, Act)], name: &Zid) -> Result<Vec<Queryable>, AllocError>
+fn queryables<'a>(
+    alloc: Global,
+    acts: &'a [(u64, Act)],
+    name: &Zid,
+) -> Result<Vec<Queryable<'a>>, AllocError>
     ensures { IfOk result (λ v. v.items ≡ queryables acts.now name.now) }
 {
     let mut so_far = Vec::new(alloc);
     for x in acts {
-        enable(alloc, name, &x.1, &mut so_far)?;
+        enable(name, &x.1, &mut so_far)?;
     }
     Ok(so_far)
 }
 
 // One more act is done.
-fn enable(
-    alloc: Global,
-    name: &Zid,
-    act: &Act,
-    so_far: &mut Vec<Queryable>,
-) -> Result<(), AllocError>
+fn enable<'a>(name: &Zid, act: &'a Act, so_far: &mut Vec<Queryable<'a>>) -> Result<(), AllocError>
     ensures { OnOk result (so_far.new.items ≡ able_by name.now so_far.old.items act.now) }
 {
     match act {
@@ -330,7 +330,6 @@ fn enable(
             key,
             complete,
         } if name == client => {
-            let key = key.copy(alloc)?;
             so_far.push(Queryable {
                 id: *id,
                 key,
@@ -343,35 +342,35 @@ fn enable(
     Ok(())
 }
 
-fn disable(so_far: &mut Vec<Queryable>, id: u32)
+fn disable(so_far: &mut Vec<Queryable<'_>>, id: u32)
     ensures { so_far.new.items ≡ filter (λ d. not (d.id == id)) so_far.old.items }
 {
     so_far.retain(|d| d.id != id);
 }
 
-fn does_any_ask(declared: &[Declaration], key: &KeyExpr) -> bool
+fn does_any_ask(declared: &[Declaration<'_>], key: &KeyExpr) -> bool
     ensures { result ≡ list_any (λ d. asks_for key.now d) declared.now }
 {
     declared.iter().any(|d| asks_for(key, d))
 }
 
-fn asks_for(key: &KeyExpr, declared: &Declaration) -> bool
+fn asks_for(key: &KeyExpr, declared: &Declaration<'_>) -> bool
     ensures { result ≡ asks_for key.now declared.now }
 {
-    meets(&declared.key, key)
+    meets(declared.key, key)
 }
 
-fn can_any_answer(declared: &[Queryable], target: Target, key: &KeyExpr) -> bool
+fn can_any_answer(declared: &[Queryable<'_>], target: Target, key: &KeyExpr) -> bool
     ensures { result ≡ list_any (λ d. can_answer target key.now d) declared.now }
 {
     declared.iter().any(|d| can_answer(target, key, d))
 }
 
-fn can_answer(target: Target, key: &KeyExpr, declared: &Queryable) -> bool
+fn can_answer(target: Target, key: &KeyExpr, declared: &Queryable<'_>) -> bool
     ensures { result ≡ can_answer target key.now declared.now }
 {
     match target {
-        Target::Best | Target::All => meets(&declared.key, key),
-        Target::Complete => declared.complete && covers(&declared.key, key),
+        Target::Best | Target::All => meets(declared.key, key),
+        Target::Complete => declared.complete && covers(declared.key, key),
     }
 }

@@ -347,7 +347,7 @@ fn asks(alloc: Global, acts: &[(u64, Act)], q: &Asked<'_>, client: &Zid) -> Resu
 {
     let carried = Carried::Query {
         target: q.target,
-        content: q.content.copy()?,
+        content: q.content,
     };
     is_for(alloc, acts, q.client, client, &carried)
 }

@@ -12,7 +12,7 @@ use zr_msg::extras::Extras;
 use zr_msg::msg::Target;
 
 /// Whether two samples or queries are one.
-pub fn is_same_carried(a: &Carried, b: &Carried) -> bool
+pub fn is_same_carried(a: &Carried<'_>, b: &Carried<'_>) -> bool
     ensures { result ≡ is_same_carried (carried_of a.now) (carried_of b.now) }
 {
     match (a, b) {

@@ -82,13 +82,13 @@ pub fn told_to<'a>(
 }
 
 /// What the receiver was sent of the publisher's lines in a phase.
-pub fn sent(
+pub fn sent<'a>(
     alloc: Global,
     phase: &[(u64, Act)],
-    report: &[ReportLine],
+    report: &'a [ReportLine],
     publisher: &Zid,
     receiver: &Zid,
-) -> Result<Vec<Item>, AllocError>
+) -> Result<Vec<Item<'a>>, AllocError>
     ensures { IfOk result (λ v. v.items ≡ filter (λ i. is_line_of phase.now publisher.now i.line) (sent_to report.now receiver.now)) }
 {
     let told = told_to(alloc, report, receiver)?;
@@ -109,35 +109,33 @@ pub fn is_carried(msg: &Msg) -> bool
     }
 }
 
-fn carried_by(msg: &Msg) -> Result<Option<Carried>, AllocError>
-    ensures { IfOk result (λ c. option_map carried_of c ≡ carried_by msg.now) }
+fn carried_by<'a>(msg: &'a Msg) -> Option<Carried<'a>>
+    ensures { option_map carried_of result ≡ carried_by msg.now }
 {
-    Ok(match msg {
-        Msg::Push { content, .. } => Some(Carried::Sample {
-            content: content.copy()?,
-        }),
+    match msg {
+        Msg::Push { content, .. } => Some(Carried::Sample { content }),
         Msg::Request {
             target,
             content,
             ..
         } => Some(Carried::Query {
             target: *target,
-            content: content.copy()?,
+            content,
         }),
         _ => None,
-    })
+    }
 }
 
-fn add_sent(
+fn add_sent<'a>(
     phase: &[(u64, Act)],
     publisher: &Zid,
-    told: &Told<'_>,
-    out: &mut Vec<Item>,
+    told: &Told<'a>,
+    out: &mut Vec<Item<'a>>,
 ) -> Result<(), AllocError>
     ensures { OnOk result (out.new.items ≡ out.old.items ++ filter (λ i. is_line_of phase.now publisher.now i.line) (item_of told.now.msg told.now.tag)) }
 {
     if is_line_of(phase, publisher, told.tag) {
-        if let Some(carried) = carried_by(told.msg)? {
+        if let Some(carried) = carried_by(told.msg) {
             out.push(Item {
                 line: told.tag,
                 carried,
