@@ -1,0 +1,12 @@
+use Rattle.std.proofs.Common.{List, arith}
+use Rattle.zr_network.specs.Moments.{Numbered}
+use Rattle.zr_guarantee.specs.Broker.{Queryable, able_by}
+use Rattle.zr_judge.proofs.Loops.{folded_more, folded_all}
+use Rattle.zr_judge.proofs.broker.queryables.Goals as goal
+
+pub loop-x-preserved : goal.loop-x-preserved
+loop-x-preserved c =
+    folded_more (λ (so_far : List Queryable) (x : Numbered). able_by c.args.name.now so_far x.1) c.args.acts.now c.loop-x.x-index c.x-item.result c.loop-x-test.true c.x-item.is c.loop-x.so_far.items c.enable.new.so_far.items _ c.in_ok-enable.ensures c.loop-x.invariant
+
+pub returns : goal.returns
+returns c = folded_all (λ (so_far : List Queryable) (x : Numbered). able_by c.args.name.now so_far x.1) c.args.acts.now c.loop-x.x-index (omega arith) c.loop-x.so_far.items _ c.loop-x.invariant
