@@ -61,20 +61,6 @@ pub fn take_trees(alloc: Global, kept: &mut Option<Trees>, base: &Base) -> Resul
     }
 }
 
-/// The trees of records with the same edges stay, and take over the records. Where there is no memory for it they are worked out anew when
-/// they are asked for.
-pub fn followed(alloc: Global, mut before: Trees, base: &Base) -> Option<Trees>
-    ensures { IfSome result (λ t. t ≡ base.now.records) }
-{
-    if !before.have_edges_of(base) {
-        return None;
-    }
-    match before.follow(alloc, base) {
-        Ok(()) => Some(before),
-        Err(_) => None,
-    }
-}
-
 /// The records have changed: nothing that was worked out of them is kept.
 pub fn forget(family: &mut Option<Family>, trees: &mut Option<Trees>, routes: &mut Routes)
     ensures family { family.new ≡ None }

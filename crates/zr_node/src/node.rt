@@ -28,7 +28,7 @@ mod traffic;
 
 use crate::asked::{self, Asked, able_kind, apply, has_room};
 use crate::failure::Failure;
-use crate::kept::{Before, followed, forget, take_family};
+use crate::kept::{Before, forget, take_family};
 use crate::links::Links;
 use crate::routes::Routes;
 use std::alloc::{AllocError, Global};
@@ -692,7 +692,7 @@ impl Node {
         Ok(())
     }
 
-    // And so do the trees.
+    // And so do the trees. Where there is no memory for it they are worked out anew when they are asked for.
     fn keep_trees(&mut self, alloc: Global, before: Option<Trees>)
         ensures { self.new ≡ self.old }
     {
@@ -701,10 +701,18 @@ impl Node {
         }
     }
 
-    fn follow_trees(&mut self, alloc: Global, before: Trees)
+    fn follow_trees(&mut self, alloc: Global, mut before: Trees)
         ensures { self.new ≡ self.old }
     {
-        self.trees = followed(alloc, before, &self.base);
+        if !before.have_edges_of(&self.base) {
+            return;
+        }
+        match before.follow(alloc, &self.base) {
+            Ok(()) => {
+                self.trees = Some(before);
+            }
+            Err(_) => {}
+        }
     }
 
     fn leads_to_client(&self, link: LinkNo) -> bool
