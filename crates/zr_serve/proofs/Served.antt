@@ -1,6 +1,6 @@
 -- Serving as a whole, return by return.
-use Rattle.std.proofs.Common.{arith, ◌≡◌, ℕ, ◌≤◌, Bool, true, false, List, [], ◌∷◌, ◌++◌, length, Option, refl, sym, ap, subst, inl, inr}
-use Rattle.std.proofs.lemmas.List.{append-nil}
+use Rattle.std.proofs.Common.{arith, ◌≡◌, ℕ, ◌≤◌, Bool, true, false, List, [], ◌∷◌, ◌++◌, length, map, Option, refl, sym, ap, subst, ◌∙◌, inl, inr}
+use Rattle.std.proofs.lemmas.List.{append-nil, length-map}
 use Rattle.std.proofs.lemmas.Bool.{false≢true, true≢false}
 use Rattle.std.proofs.lemmas.List.Elements.{All-nil}
 use Rattle.rand_core.specs.Stream.{Stream}
@@ -127,7 +127,7 @@ unsaid_serves u id log address texts s is calls mid calls' told faults out out' 
     by Fault = (cut, refl)
     by NoMemory = (cut, refl)
 
-pub cut_serves : (end : ServeEnd) (id : List ℕ) (log : Bool) (address : List ℕ) (texts : List (List ℕ)) (s : Stream) (is : Bool) (calls mid heard calls' : Option (List Call)) (told told' : Option (List LinkJob)) (faults faults' : ℕ)
+cut_serves : (end : ServeEnd) (id : List ℕ) (log : Bool) (address : List ℕ) (texts : List (List ℕ)) (s : Stream) (is : Bool) (calls mid heard calls' : Option (List Call)) (told told' : Option (List LinkJob)) (faults faults' : ℕ)
     (l l' : LinksState) (o p : Outputs) → mid ≡ calls → host.Records (Listen address is) mid heard → is ≡ true → l ≡ first_links id log s
     → (gave : List Bool) × BreaksOff (dials texts gave) (moment heard told faults o.err l) (moment calls' told' faults' p.err l')
     → Appends (serving_text id) o.out p.out → (end ≡ e.Done → ⊥) → (end ≡ e.HostFault → ⊥)
@@ -150,7 +150,7 @@ cut_serves end id log address texts s is calls mid heard calls' told told' fault
     by e.NoMemory d h = (cut, refl)
     by e.WriteFault d h = (cut, refl)
 
-pub whole_serves : (end : ServeEnd) (id : List ℕ) (log : Bool) (address : List ℕ) (texts : List (List ℕ)) (s : Stream) (is : Bool) (calls mid heard dialled calls' : Option (List Call)) (told told' told'' : Option (List LinkJob))
+whole_serves : (end : ServeEnd) (id : List ℕ) (log : Bool) (address : List ℕ) (texts : List (List ℕ)) (s : Stream) (is : Bool) (calls mid heard dialled calls' : Option (List Call)) (told told' told'' : Option (List LinkJob))
     (faults faults' faults'' : ℕ) (held : Option (List ℕ)) (errs : ℕ) (l l' l'' : LinksState) (o p : Outputs) → mid ≡ calls → host.Records (Listen address is) mid heard → is ≡ true → l ≡ first_links id log s
     → (gave : List Bool) × (length gave ≡ length texts) × Serves (dials texts gave) (moment heard told faults o.err l) (moment dialled told' faults' held l')
     → Accepts end (moment dialled told' faults' held l') (moment calls' told'' faults'' held l'')
@@ -163,6 +163,40 @@ whole_serves end id log address texts s is calls mid heard dialled calls' told t
   comes = comes id address texts _ (moment heard told faults o.err l) _ o p (hears id log address s is calls mid heard told faults o.err l same recorded listens links) (moment calls' told'' faults'' held l'') gave end accepted said
       (λ it. says_later _ _ _ o.faults errs p.faults later (last it)) (λ not. sym (quiet not));
 }
+
+-- ---- the same, where what is dialled is a list of other things, each with its text, and the address is at hand under another name
+
+named_dials : {A : Type 0} (f : A → List ℕ) (named xs : List A) (a b : Moment) → named ≡ xs
+    → (gave : List Bool) × (length gave ≡ length named) × Serves (dials (map f named) gave) a b
+    → (gave : List Bool) × (length gave ≡ length (map f xs)) × Serves (dials (map f xs) gave) a b
+named_dials f named xs a b e q = (q.0, q.1 ∙ (ap (λ z. length z) e ∙ sym (length-map xs f)), subst (λ z. Serves (dials (map f z) q.0) a b) e q.2)
+
+named_breaks : {A : Type 0} (f : A → List ℕ) (named xs : List A) (a b : Moment) → named ≡ xs → (gave : List Bool) × BreaksOff (dials (map f named) gave) a b
+    → (gave : List Bool) × BreaksOff (dials (map f xs) gave) a b
+named_breaks f named xs a b e q = (q.0, subst (λ z. BreaksOff (dials (map f z) q.0) a b) e q.1)
+
+named_listen : (shown address : List ℕ) (is : Bool) (a b : Option (List Call)) → shown ≡ address → host.Records (Listen shown is) a b → host.Records (Listen address is) a b
+named_listen shown address is a b e recorded = subst (λ z. host.Records (Listen z is) a b) e recorded
+
+pub cut_serves_at : {A : Type 0} (f : A → List ℕ) (named xs : List A) (shown address : List ℕ) (end : ServeEnd) (id : List ℕ) (log : Bool) (s : Stream) (is : Bool) (calls mid heard calls' : Option (List Call))
+    (told told' : Option (List LinkJob)) (faults faults' : ℕ) (l l' : LinksState) (o p : Outputs) → named ≡ xs → shown ≡ address → mid ≡ calls → host.Records (Listen shown is) mid heard → is ≡ true
+    → l ≡ first_links id log s → (gave : List Bool) × BreaksOff (dials (map f named) gave) (moment heard told faults o.err l) (moment calls' told' faults' p.err l')
+    → Appends (serving_text id) o.out p.out → (end ≡ e.Done → ⊥) → (end ≡ e.HostFault → ⊥)
+    → IsServed end id log address (map f xs) calls calls' told told' faults faults' o p
+cut_serves_at f named xs shown address end id log s is calls mid heard calls' told told' faults faults' l l' o p names as_shown same recorded listens links broken said not_done not_host =
+    cut_serves end id log address (map f xs) s is calls mid heard calls' told told' faults faults' l l' o p same (named_listen shown address is mid heard as_shown recorded) listens links
+    (named_breaks f named xs (moment heard told faults o.err l) (moment calls' told' faults' p.err l') names broken) said not_done not_host
+
+pub whole_serves_at : {A : Type 0} (f : A → List ℕ) (named xs : List A) (shown address : List ℕ) (end : ServeEnd) (id : List ℕ) (log : Bool) (s : Stream) (is : Bool) (calls mid heard dialled calls' : Option (List Call))
+    (told told' told'' : Option (List LinkJob)) (faults faults' faults'' : ℕ) (held : Option (List ℕ)) (errs : ℕ) (l l' l'' : LinksState) (o p : Outputs) → named ≡ xs → shown ≡ address → mid ≡ calls
+    → host.Records (Listen shown is) mid heard → is ≡ true → l ≡ first_links id log s
+    → (gave : List Bool) × (length gave ≡ length named) × Serves (dials (map f named) gave) (moment heard told faults o.err l) (moment dialled told' faults' held l')
+    → ((h : Option (List ℕ)) → Accepts end (moment dialled told' faults' h l') (moment calls' told'' faults'' h l''))
+    → Appends (serving_text id) o.out p.out → o.faults ≤ errs → (end ≡ e.HostFault → Says accept_text held p.err errs p.faults) → ((end ≡ e.HostFault → ⊥) → p.err ≡ held)
+    → IsServed end id log address (map f xs) calls calls' told told'' faults faults'' o p
+whole_serves_at f named xs shown address end id log s is calls mid heard dialled calls' told told' told'' faults faults' faults'' held errs l l' l'' o p names as_shown same recorded listens links gave accepted said later last quiet =
+    whole_serves end id log address (map f xs) s is calls mid heard dialled calls' told told' told'' faults faults' faults'' held errs l l' l'' o p same (named_listen shown address is mid heard as_shown recorded) listens links
+    (named_dials f named xs (moment heard told faults o.err l) (moment dialled told' faults' held l') names gave) (accepted held) said later last quiet
 
 pub no_write_fault : (end : ServeEnd) (a b : Moment) → Accepts end a b → end ≡ e.WriteFault → ⊥
 no_write_fault e.WriteFault a b h it = h

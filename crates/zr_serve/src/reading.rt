@@ -4,6 +4,8 @@ ghost use Rattle.std.specs.Prelude.{◌≡◌, IfOk, is_some};
 ghost use Rattle.std.specs.Arc.{arc_value};
 ghost use Rattle.zr_hist.specs.Words.{pass_name};
 ghost use Rattle.zr_link.specs.Heard.{IsBegun};
+ghost use Rattle.zr_link.specs.Log.{stage_of};
+ghost use Rattle.zr_link.specs.declared.log.Stage.TheVariants as stages;
 
 use crate::job::{LinkJob, Side};
 use std::alloc::{AllocError, Global};
@@ -76,10 +78,6 @@ where
         mut crew,
     } = reading;
     let mut log = LinkLog::new(alloc, log, Stage::Unopened);
-    let Ok((session, first)) = begin(alloc, &job, clock.now()) else {
-        log.read(LinkEnd::NoMemory);
-        return;
-    };
     let out = Outward {
         sink,
         port,
@@ -87,18 +85,57 @@ where
         turns: job.turns,
         log: writer_log,
     };
-    let (end, _) = Reader::run(
+    let end = hear(
         alloc,
+        &job,
         &mut source,
         out,
-        first.as_slice(),
-        session,
         &mut clock,
         &mut crew,
         &mut pass,
         &mut log,
     );
     log.read(end);
+}
+
+// Opens the session of a job, and runs the link's reader.
+fn hear<
+    S: Source,
+    K: Sink + Send + Drop + 'static,
+    C: Clock + Send + Drop + 'static,
+    L: Log + Send + Drop + 'static,
+    P: Port + Send + Sync + Drop + 'static,
+    R: Threads + Drop,
+>(
+    alloc: Global,
+    job: &LinkJob,
+    source: &mut S,
+    out: Outward<K, P, C, L>,
+    clock: &mut C,
+    crew: &mut Crew<R, LinkNo>,
+    pass: &mut Pass<Entry>,
+    log: &mut LinkLog<L>,
+) -> LinkEnd
+where
+    P::Note: Send + 'static,
+    requires pass { pass_name pass.old ≡ P.history (arc_value out.port) }
+    requires unopened { stage_of log.old ≡ stages.Unopened }
+{
+    let Ok((session, first)) = begin(alloc, job, clock.now()) else {
+        return LinkEnd::NoMemory;
+    };
+    let (end, _) = Reader::run(
+        alloc,
+        source,
+        out,
+        first.as_slice(),
+        session,
+        clock,
+        crew,
+        pass,
+        log,
+    );
+    end
 }
 
 // The session of a job, and what it asks to be written first.
@@ -128,10 +165,14 @@ pub(crate) fn give_up<
 >(reading: Reading<S, K, C, L, P, R>) {
     let Reading {
         alloc,
-        mut sink,
+        sink,
         log,
         ..
     } = reading;
+    refuse(alloc, sink, log);
+}
+
+fn refuse<K: Sink + Drop, L: Log + Drop>(alloc: Global, mut sink: K, log: Option<L>) {
     // where the peer has gone there is nobody to be told
     let _ = write_all(&mut sink, &close_batch(GENERIC));
     LinkLog::new(alloc, log, Stage::Unopened).read(LinkEnd::CrewRefused);

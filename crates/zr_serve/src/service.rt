@@ -1,6 +1,6 @@
 //! `serve`: the loop that listens, dials and accepts.
 
-ghost use Rattle.std.specs.Prelude.{◌≡◌, ◌≤◌, ℕ, Option, ◌⊎◌, [], ◌∷◌, Bool, Err, IfErr, List, OnErr, OnOk, is_some, length, map, true};
+ghost use Rattle.std.specs.Prelude.{◌≡◌, ◌≤◌, ℕ, Option, ◌⊎◌, [], ◌∷◌, Bool, Err, IfErr, IfOk, List, OnErr, OnOk, is_some, length, map, true};
 ghost use Rattle.std.specs.Arc.{arc_value};
 ghost use Rattle.std.specs.String.{string_bytes};
 ghost use Rattle.zr_crew.specs.Crew.{crew_faults, crew_told};
@@ -26,6 +26,7 @@ use std::sync::{Arc, Wait};
 use std::thread::Threads;
 use zr_crew::Crew;
 use zr_hist::Pass;
+use zr_id::link::LinkNo;
 use zr_outside::clock::Clock;
 use zr_outside::host::{Accepted, Host};
 use zr_outside::log::Log;
@@ -273,13 +274,13 @@ where
     ensures counts { (H.faults host.new ≡ H.faults host.old) × (H.ends host.new ≡ H.ends host.old) }
 {
     let job = links.next(side);
+    // what may fail comes first, while there is little to be let go
+    let (port, inner) = shared(serving)?;
     let told = job.copy();
     let clock = host.time();
     let writer_clock = host.time();
     let log = log_of(serving.alloc, host, &job, &source);
     let writer_log = log_of(serving.alloc, host, &job, &source);
-    let port = Arc::try_clone(&serving.port)?;
-    let inner = Crew::new(serving.rt, serving.alloc)?;
     let reading = Reading {
         alloc: serving.alloc,
         job,
@@ -295,6 +296,17 @@ where
     };
     hand_over(crew, reading, told);
     Ok(())
+}
+
+// The port for one more link, and a crew that starts its writer.
+fn shared<P: Port + Drop, R: Threads + Wait + Copy + Drop>(
+    serving: &Serving<P, R>,
+) -> Result<(Arc<P>, Crew<R, LinkNo>), AllocError>
+    ensures { IfOk result (λ r. arc_value r.0 ≡ arc_value serving.now.port) }
+{
+    let inner = Crew::new(serving.rt, serving.alloc)?;
+    let port = Arc::try_clone(&serving.port)?;
+    Ok((port, inner))
 }
 
 // A log for one more thread of a link, where its job has one.
