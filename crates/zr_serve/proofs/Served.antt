@@ -4,6 +4,7 @@ use Rattle.std.proofs.lemmas.List.{append-nil, length-map}
 use Rattle.std.proofs.lemmas.Bool.{false≢true, true≢false}
 use Rattle.std.proofs.lemmas.List.Elements.{All-nil}
 use Rattle.rand_core.specs.Stream.{Stream}
+use Rattle.zr_outside.specs.Counts.{Rose}
 use Rattle.zr_outside.specs.Host as host
 use Rattle.zr_outside.specs.Told.{Appends, AppendsPrefix}
 use Rattle.zr_outside.specs.declared.host.Call.{Call}
@@ -26,6 +27,14 @@ use Rattle.zr_serve.proofs.Stepping.{serves_none}
 says_later : (line : List ℕ) (h h' : Option (List ℕ)) (a b c : ℕ) → a ≤ b → Says line h h' b c → Says line h h' a c
 says_later line h h' a b c le (inl said) = inl said
 says_later line h h' a b c le (inr part) = inr (part.0, rose_later a b c le part.1)
+
+-- a count that stood still twice, never fell and then rose
+pub rose_behind : (a b c d f : ℕ) → b ≡ a → c ≡ b → c ≤ d → Rose d f → Rose a f
+rose_behind a b c d f same same_too le rose = omega arith
+
+-- a count that never fell and then rose
+pub rose_far : (a b c d f : ℕ) → a ≤ b → b ≤ c → c ≤ d → Rose d f → Rose a f
+rose_far a b c d f le le_too le_more rose = omega arith
 
 no_stream : Stream
 no_stream = record { u32_after = λ calls. 0; u64_after = λ calls. 0; bytes_after = λ calls n. [] }

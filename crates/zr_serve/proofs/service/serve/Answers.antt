@@ -1,6 +1,6 @@
-use Rattle.std.proofs.Common.{ap, Err, true, false, refl}
+use Rattle.std.proofs.Common.{ap, Err, true, false, refl, le_trans, inr}
 use Rattle.std.specs.String.{string_bytes}
-use Rattle.zr_serve.proofs.Served.{without_words, deaf, unsaid_serves, cut_serves_at, whole_serves_at, no_write_fault}
+use Rattle.zr_serve.proofs.Served.{without_words, deaf, unsaid_serves, cut_serves_at, whole_serves_at, no_write_fault, rose_behind, rose_far}
 use Rattle.zr_serve.proofs.service.serve.Goals as goal
 
 pub returns-in_default-clause-served : goal.returns-in_default-clause-served
@@ -30,3 +30,23 @@ returns-clause-served g c =
 
 pub returns-clause-write : goal.returns-clause-write
 returns-clause-write g c = λ it. absurd (no_write_fault _ _ _ (c.accept_all-end.ensures.ended (g.E.Sink.held c.dial_all.new.err)) it)
+
+pub returns-in-Err-dial_all-clause-done : goal.returns-in-Err-dial_all-clause-done
+returns-in-Err-dial_all-clause-done g c = λ it. absurd (c.in-Err-dial_all.ensures.cause.0 (ap Err it))
+
+pub returns-in-Err-dial_all-clause-host : goal.returns-in-Err-dial_all-clause-host
+returns-in-Err-dial_all-clause-host g c = λ it. absurd (c.in-Err-dial_all.ensures.cause.1 (ap Err it))
+
+pub returns-in-Err-dial_all-clause-write : goal.returns-in-Err-dial_all-clause-write
+returns-in-Err-dial_all-clause-write g c = λ it. inr (c.in-Err-dial_all.ensures.cause.2 (ap Err it))
+
+pub returns-clause-done : goal.returns-clause-done
+returns-clause-done g c =
+    λ it. rose_behind _ _ _ _ _ c.in-Some.ensures.others.1 c.if-not-listen.ensures.others.1 c.dial_all.ensures.later.2 (c.accept_all-end.ensures.cause.0 it)
+
+pub returns-clause-host : goal.returns-clause-host
+returns-clause-host g c =
+    λ it. rose_far _ _ _ _ _ c.in-Some.ensures.failed.later c.if-not-listen.ensures.failed.later c.dial_all.ensures.later.1 (c.accept_all-end.ensures.cause.1 it)
+
+pub returns-clause-later : goal.returns-clause-later
+returns-clause-later g c = (c.say_serving.ensures.later, le_trans c.dial_all.ensures.later.0 c.tell_end.ensures.later)
