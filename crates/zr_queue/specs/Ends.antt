@@ -63,10 +63,6 @@ last_reason (Some asked) reason = Some full_reason
 abbrev pub IsOver : LinkQueue → ℕ → Type 0
 IsOver q n = slots_of q.role < length q.batches + n
 
--- an answer on free slots: where more parcels come for a link than these, they and all that were queued for it are more than its slots
-abbrev pub IsFree : LinkQueue → ℕ → Type 0
-IsFree q free = (n : ℕ) → free < n → IsOver q n
-
 -- the ring lacks room for what an event has for its link
 abbrev pub lacks_room : ℕ → PlanState → Bool
 lacks_room free p = nat_lt free (length p.parcels.batches)

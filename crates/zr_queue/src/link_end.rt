@@ -13,7 +13,7 @@ ghost use Rattle.zr_queue.specs.Writable.{IsWritable};
 ghost use Rattle.zr_queue.specs.Tables as tables;
 ghost use Rattle.zr_queue.specs.Tables.{is_among, queued, queued_by, new_queue, with_parcels, with_closed};
 ghost use Rattle.zr_queue.specs.Note.{batches_of, Vouches, full_reason};
-ghost use Rattle.zr_queue.specs.Ends.{new_end, with_queue, giver_ring, taker_ring, last_reason, is_dropped, is_closing, IsAsked, IsFree, IsEntered, IsPlanned, IsPlannedFor, IsSameRing};
+ghost use Rattle.zr_queue.specs.Ends.{new_end, with_queue, giver_ring, taker_ring, last_reason, is_dropped, is_closing, IsAsked, IsEntered, IsOver, IsPlanned, IsPlannedFor, IsSameRing};
 
 use crate::note::Queued;
 use crate::plan::Plan;
@@ -141,20 +141,21 @@ impl LinkEnd {
             return Ok(());
         }
         let plan = Plan::of(alloc, sent, self.link, self.outbox)?;
-        if !plan.batches.is_empty() {
-            self.ask();
-        }
+        self.ask(plan.batches.len());
         self.plan = Some(plan);
         Ok(())
     }
 
-    // The slots that are free, as the ring knows them now.
-    fn ask(&mut self)
+    // The slots that are free, as the ring knows them now, where there are so many parcels for them.
+    fn ask(&mut self, parcels: usize)
         requires open { self.old.queue.closed ≡ None }
         ensures same { (self.new.queue ≡ self.old.queue) × (self.new.ring ≡ self.old.ring) × (self.new.plan ≡ self.old.plan) }
-        ensures called { self.new.calls ≡ self.old.calls + 1 }
-        ensures answer { IsFree self.old.queue self.new.free }
+        ensures called { 0 < parcels → self.new.calls ≡ self.old.calls + 1 }
+        ensures answer { self.new.free < parcels → IsOver self.old.queue parcels }
     {
+        if parcels == 0 {
+            return;
+        }
         self.free = self.giver.free();
     }
 
