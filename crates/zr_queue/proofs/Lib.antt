@@ -1,4 +1,5 @@
 pub mod Batches
+pub mod Chosen
 pub mod Entering
 pub mod InStep
 pub mod Kept
