@@ -356,3 +356,8 @@ dials_more_at f xs i x t a b c lt is e p q =
 pub dials_stop_at : {A : Type 0} (f : A → List ℕ) (xs : List A) (i : ℕ) (x : A) (t : List ℕ) (a b c : Moment) → i < length xs → x ≡ get_or xs i x → t ≡ f x
     → Dials (map f xs) i a b → (is : Bool) × BreaksOff (Dial t is ∷ []) b c → (gave : List Bool) × BreaksOff (dials (map f xs) gave) a c
 dials_stop_at f xs i x t a b c lt is e p q = dials_stop (map f xs) i t a b c (omega (arith, length-map xs f)) (text_at f xs i x t lt is e) p q
+
+pub dials_all_at : {A : Type 0} (f : A → List ℕ) (xs : List A) (i : ℕ) (a b : Moment) → i ≡ length xs
+    → Dials (map f xs) i a b → (gave : List Bool) × (length gave ≡ length xs) × Serves (dials (map f xs) gave) a b
+dials_all_at f xs i a b e p =
+    let q = dials_all (map f xs) a b (subst (λ n. Dials (map f xs) n a b) (e ∙ sym (length-map xs f)) p) in (q.0, q.1 ∙ length-map xs f, q.2)

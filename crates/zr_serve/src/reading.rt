@@ -165,14 +165,10 @@ pub(crate) fn give_up<
 >(reading: Reading<S, K, C, L, P, R>) {
     let Reading {
         alloc,
-        sink,
+        mut sink,
         log,
         ..
     } = reading;
-    refuse(alloc, sink, log);
-}
-
-fn refuse<K: Sink + Drop, L: Log + Drop>(alloc: Global, mut sink: K, log: Option<L>) {
     // where the peer has gone there is nobody to be told
     let _ = write_all(&mut sink, &close_batch(GENERIC));
     LinkLog::new(alloc, log, Stage::Unopened).read(LinkEnd::CrewRefused);

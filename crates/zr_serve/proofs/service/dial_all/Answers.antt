@@ -1,6 +1,6 @@
-use Rattle.std.proofs.Common.{le_trans}
+use Rattle.std.proofs.Common.{◌≡◌, length, le_trans, arith}
 use Rattle.std.specs.String.{string_bytes}
-use Rattle.zr_serve.proofs.Reaching.{dials_more_at, dials_stop_at}
+use Rattle.zr_serve.proofs.Reaching.{dials_all_at, dials_more_at, dials_stop_at, rose_later}
 use Rattle.zr_serve.proofs.service.dial_all.Goals as goal
 
 pub returns-in-Err-clause-stopped : goal.returns-in-Err-clause-stopped
@@ -16,3 +16,21 @@ loop-address-preserved g c = (
   le_trans c.loop-address.invariant.2 c.in_default.ensures.later.1,
   le_trans c.loop-address.invariant.3 c.in_default.ensures.later.2,
 )
+
+pub returns-in-Err-clause-cause : goal.returns-in-Err-clause-cause
+returns-in-Err-clause-cause g c = (c.in-Err.ensures.cause.0, c.in-Err.ensures.cause.1, λ e. rose_later _ _ _ c.loop-address.invariant.1 (c.in-Err.ensures.cause.2 e))
+
+pub returns-in-Err-clause-later : goal.returns-in-Err-clause-later
+returns-in-Err-clause-later g c = (
+  le_trans c.loop-address.invariant.1 c.in-Err.ensures.later.0,
+  le_trans c.loop-address.invariant.2 c.in-Err.ensures.later.1,
+  le_trans c.loop-address.invariant.3 c.in-Err.ensures.later.2,
+)
+
+pub returns-clause-dialled : goal.returns-clause-dialled
+returns-clause-dialled g c =
+    let all : c.loop-address.address-index ≡ length c.args.addresses.now = omega arith in
+    dials_all_at (λ s. string_bytes s) c.args.addresses.now _ _ _ all c.loop-address.invariant.0
+
+pub returns-clause-later : goal.returns-clause-later
+returns-clause-later g c = (c.loop-address.invariant.1, c.loop-address.invariant.2, c.loop-address.invariant.3)
