@@ -12,22 +12,25 @@ use Rattle.zr_outside.specs.Told.{IsAsBefore, Appends, AppendsPrefix}
 use Rattle.zr_language.specs.Lines.{most_bytes, most_kept, ended_lines, open_line}
 use Rattle.zr_command.specs.declared.error.ScriptError.{ScriptError}
 use Rattle.zr_network.specs.Run.{Run, start, on_line, run_of_ended, within}
+use Rattle.zr_runner.specs.declared.runner.Stop.{Stop}
+use Rattle.zr_runner.specs.declared.runner.Stop.TheVariants.{Refused, NoMemory, WriteFault}
 use Rattle.zr_netrun.specs.declared.status.Status.{Status}
 use Rattle.zr_netrun.specs.declared.status.Status.TheVariants as s
-use Rattle.zr_netrun.specs.declared.runner.Stop.{Stop}
-use Rattle.zr_netrun.specs.declared.runner.Stop.TheVariants.{Refused, NoMemory, WriteFault}
 use Rattle.zr_network.specs.Moments.{beginning}
 use Rattle.zr_network.specs.Accepted.{accepted_from}
-use Rattle.zr_netrun.specs.declared.counts.Counts.{Counts}
-use Rattle.zr_netrun.specs.Summary.{counts_of}
-use Rattle.zr_netrun.specs.Kept.{Kept, begun, fresh, seen, IsAt, Stopped, KeepsRefused, Turns, TellsRefusal, Tells}
-use Rattle.zr_netrun.specs.Counted.{all_capped, CountsOn, CountsFromNone}
-use Rattle.zr_netrun.specs.Judged.{judged_lines, judged, refused_line, refusal_told, is_too_long, is_refused, complaint_by, complaint_of}
+use Rattle.zr_report.specs.declared.counts.Counts.{Counts}
+use Rattle.zr_report.specs.Summary.{counts_of}
+use Rattle.zr_report.specs.Counted.{all_capped}
+use Rattle.zr_runner.specs.Kept.{Kept, begun, fresh, seen, IsAt, Stopped, KeepsRefused, Turns, refused_line}
+use Rattle.zr_runner.specs.Counted.{CountsOn}
+use Rattle.zr_runner.proofs.Lines.{ended_append, open_after, open_last}
+use Rattle.zr_runner.proofs.Runs.{fold_kept, open_kept}
+use Rattle.zr_runner.proofs.Writing.{turn_more, all_written, written_all, written_flushed, appends_all, prefix_flushed, seen_all, seen_prefix}
+use Rattle.zr_runner.proofs.Accepting.{HasCounted, piece_counted}
+use Rattle.zr_netrun.specs.Told.{TellsRefusal, Tells}
+use Rattle.zr_netrun.specs.Counted.{CountsFromNone}
+use Rattle.zr_netrun.specs.Judged.{judged_lines, judged, refusal_told, is_too_long, is_refused, complaint_by, complaint_of}
 use Rattle.zr_netrun.specs.Clauses.{OfRead, ReportsBy}
-use Rattle.zr_netrun.proofs.Lines.{ended_append, open_after, open_last}
-use Rattle.zr_netrun.proofs.Runs.{fold_kept, open_kept}
-use Rattle.zr_netrun.proofs.Writing.{turn_more, all_written, written_all, written_flushed, appends_all, prefix_flushed, seen_all, seen_prefix}
-use Rattle.zr_netrun.proofs.Accepting.{HasCounted, piece_counted}
 
 -- ---- what is kept of the bytes that were read
 

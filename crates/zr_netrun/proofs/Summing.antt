@@ -8,15 +8,17 @@ use Rattle.zr_language.specs.Lines.{lines}
 use Rattle.zr_network.specs.Moments.{Moment, reached}
 use Rattle.zr_network.specs.Accepted.{accepted, IsMoment}
 use Rattle.zr_network.proofs.Lines.{lines_are_moments}
-use Rattle.zr_netrun.specs.declared.counts.Counts.{Counts}
+use Rattle.zr_report.specs.declared.counts.Counts.{Counts}
+use Rattle.zr_report.specs.Summary.{counts_of, summary_text}
+use Rattle.zr_report.specs.Counted.{all_capped}
+use Rattle.zr_runner.specs.Kept.{Kept, writes}
+use Rattle.zr_runner.specs.Counted.{CountsWhole}
+use Rattle.zr_runner.proofs.Bounds.{counts_fit}
 use Rattle.zr_netrun.specs.declared.status.Status.{Status}
 use Rattle.zr_netrun.specs.declared.status.Status.TheVariants as s
-use Rattle.zr_netrun.specs.Summary.{counts_of, summary_text}
-use Rattle.zr_netrun.specs.Kept.{Kept, writes}
 use Rattle.zr_netrun.specs.Judged.{is_refused, complaint_by}
 use Rattle.zr_netrun.specs.Clauses.{OfRead, ReportsBy, SumsUpBy, IsSummedUpBy}
-use Rattle.zr_netrun.specs.Counted.{all_capped, CountsWhole, IsRun, TellsSummary}
-use Rattle.zr_netrun.proofs.Bounds.{counts_fit}
+use Rattle.zr_netrun.specs.Counted.{IsRun, TellsSummary}
 use Rattle.zr_netrun.proofs.Reading.{as_before}
 use Rattle.zr_netrun.proofs.Telling.{of_read}
 

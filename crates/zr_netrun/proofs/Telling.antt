@@ -9,18 +9,21 @@ use Rattle.zr_outside.specs.Told.{IsAsBefore, Appends, AppendsPrefix, Consumes}
 use Rattle.zr_language.specs.Lines.{most_bytes, most_kept, ended_lines, open_line, unless_empty, lines}
 use Rattle.zr_language.specs.Report.{too_long_text}
 use Rattle.zr_network.specs.Run.{Run, start, on_line, run_of_ended, within}
+use Rattle.zr_runner.specs.declared.runner.Stop.{Stop}
 use Rattle.zr_netrun.specs.declared.status.Status.{Status}
 use Rattle.zr_netrun.specs.declared.status.Status.TheVariants as s
-use Rattle.zr_netrun.specs.declared.runner.Stop.{Stop}
 use Rattle.zr_network.specs.Accepted.{accepted_from}
-use Rattle.zr_netrun.specs.Counted.{CountsOn, IsRun}
-use Rattle.zr_netrun.specs.Kept.{Kept, fresh, Written, IsAt, KeepsRefused, Stopped, Turns, Complains, Tells}
-use Rattle.zr_netrun.specs.Judged.{judged_lines, judged, refused_line, refusal_told, is_too_long, is_refused, complaint_by, complaint_of}
+use Rattle.zr_report.specs.Waiting.{Written}
+use Rattle.zr_runner.specs.Counted.{CountsOn}
+use Rattle.zr_runner.specs.Kept.{Kept, fresh, IsAt, KeepsRefused, Stopped, Turns, refused_line}
+use Rattle.zr_runner.proofs.Runs.{last_kept}
+use Rattle.zr_runner.proofs.Writing.{turn_more, all_written, appends_all}
+use Rattle.zr_runner.proofs.Accepting.{last_counted}
+use Rattle.zr_runner.proofs.Refusing.{keeps_same, refused_piece, refused_last}
+use Rattle.zr_netrun.specs.Counted.{IsRun}
+use Rattle.zr_netrun.specs.Told.{Complains, Tells}
+use Rattle.zr_netrun.specs.Judged.{judged_lines, judged, refusal_told, is_too_long, is_refused, complaint_by, complaint_of}
 use Rattle.zr_netrun.specs.Clauses.{OfRead, ReportsBy, IsReportedBy}
-use Rattle.zr_netrun.proofs.Runs.{last_kept}
-use Rattle.zr_netrun.proofs.Writing.{turn_more, all_written, appends_all}
-use Rattle.zr_netrun.proofs.Accepting.{last_counted}
-use Rattle.zr_netrun.proofs.Refusing.{keeps_same, refused_piece, refused_last}
 use Rattle.zr_netrun.proofs.Reading.{IsAfter, piece_more, reads_more, as_before, tells_judged, within_piece}
 
 -- what is kept with nothing waiting has written its whole text

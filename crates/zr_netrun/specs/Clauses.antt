@@ -5,9 +5,9 @@ use Rattle.zr_outside.specs.Counts.{Rose}
 use Rattle.zr_outside.specs.Told.{IsAsBefore, Appends, AppendsPrefix}
 use Rattle.zr_network.specs.Moments.{Moment}
 use Rattle.zr_network.specs.Accepted.{IsMoment}
+use Rattle.zr_report.specs.Summary.{counts_of, summary_text}
 use Rattle.zr_netrun.specs.declared.status.Status.{Status}
 use Rattle.zr_netrun.specs.declared.status.Status.TheVariants.{Done, Refused, Words, NoMemory, ReadFault, WriteFault, HostFault}
-use Rattle.zr_netrun.specs.Summary.{counts_of, summary_text}
 use Rattle.zr_netrun.specs.Judged.{judged_lines, judged, is_refused, complaint_by}
 
 -- where the source tells its bytes: P holds of those that were read, and the others are left

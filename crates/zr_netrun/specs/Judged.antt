@@ -1,11 +1,12 @@
 -- What counts of a script where some bytes of it were read: the lines that have ended, as far as they end within the limit of a script's
 -- length; and the last line, which no line end has to end, only where the script was read to its end.
-use Rattle.std.specs.Prelude.{ℕ, ◌||◌, nat_lt, Bool, true, false, if◌then◌else◌, List, [], ◌∷◌, ◌++◌, length, take, Option, Some, None, is_some}
+use Rattle.std.specs.Prelude.{ℕ, ◌||◌, nat_lt, Bool, true, false, if◌then◌else◌, List, [], ◌++◌, length, take, Option, Some, None, is_some}
 use Rattle.zr_command.specs.declared.error.ScriptError.{ScriptError}
 use Rattle.zr_language.specs.Lines.{most_bytes, most_kept, lines, ended_lines}
 use Rattle.zr_language.specs.Report.{refused_text, too_long_text}
-use Rattle.zr_network.specs.Run.{Run, start, on_line, run_lines, within}
+use Rattle.zr_network.specs.Run.{Run, start, run_lines, within}
 use Rattle.zr_explain.specs.Explained.{explanation}
+use Rattle.zr_runner.specs.Kept.{refused_line}
 
 -- the lines that count
 abbrev pub judged_lines : Bool → List ℕ → List (List ℕ)
@@ -27,11 +28,6 @@ is_refused to_end bytes = is_some (judged to_end bytes).refusal || is_too_long b
 -- what is said of a script whose lines were not refused
 abbrev pub complaint_of_length : Bool → List ℕ
 complaint_of_length too_long = if too_long then too_long_text else []
-
--- the line of some that is refused behind a run: the first behind which the run is. No bytes where none is
-abbrev pub refused_line : Run → List (List ℕ) → List ℕ
-refused_line run [] = []
-refused_line run (line ∷ more) = if is_some (on_line run line).refusal then line else refused_line (on_line run line) more
 
 -- what is said of a refused line: why it is refused and, where that is asked for, its explanation
 abbrev pub refusal_told : Bool → ℕ → List ℕ → ScriptError → List ℕ

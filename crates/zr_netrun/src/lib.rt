@@ -2,8 +2,6 @@
 //! It streams: a line is applied as soon as it has ended, and its report is written before the next read.
 #![tactic(auto)]
 
-mod counts;
 pub mod netrun;
 mod nowhere;
-mod runner;
 pub mod status;

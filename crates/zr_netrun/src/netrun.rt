@@ -4,15 +4,14 @@ ghost use Rattle.std.specs.Prelude.{◌≡◌, ◌≤◌, ◌⊎◌, true, false
 ghost use Rattle.zr_outside.specs.Counts.{Rose};
 ghost use Rattle.zr_language.specs.Report.{too_long_text};
 ghost use Rattle.zr_network.specs.Run.{start};
-ghost use Rattle.zr_netrun.specs.Possible.{StepsGo};
-ghost use Rattle.zr_netrun.specs.Kept.{begun, seen, writes, Tells, Complains};
+ghost use Rattle.zr_runner.specs.Possible.{StepsGo};
+ghost use Rattle.zr_runner.specs.Kept.{begun, seen, writes};
+ghost use Rattle.zr_netrun.specs.Told.{Tells, Complains};
 ghost use Rattle.zr_netrun.specs.Clauses.{OfRead, IsReported, IsReportedBy, IsExplained, IsReadToEnd, IsSummedUp, IsSummedUpBy, IsExplainedSum};
 ghost use Rattle.zr_netrun.specs.Judged.{refusal_told};
 ghost use Rattle.zr_netrun.specs.Counted.{CountsFromNone, IsRun, TellsSummary};
 
-use crate::counts::Counts;
 use crate::nowhere::Nowhere;
-use crate::runner::{Runner, Stop};
 use crate::status::Status;
 use std::alloc::{AllocError, Global};
 use zr_command::error::ScriptError;
@@ -20,6 +19,8 @@ use zr_explain::explain;
 use zr_numbers::steps_are_possible;
 use zr_outside::sink::{Sink, write_all};
 use zr_outside::source::{Got, Source};
+use zr_report::counts::Counts;
+use zr_runner::runner::{Runner, Stop};
 use zr_script::text::refused_text;
 
 /// How many bytes a script has at most.
@@ -88,7 +89,7 @@ pub fn run_explained<S: Source, K: Sink, E: Sink>(
 }
 
 // The report is written as it comes.
-#[tactic(auto, using(crate::proofs::Going::from_start))]
+#[tactic(auto, using(crate::proofs::Starting::from_start))]
 fn report<S: Source, K: Sink, E: Sink>(
     alloc: Global,
     explains: bool,
@@ -113,7 +114,7 @@ fn report<S: Source, K: Sink, E: Sink>(
 }
 
 // The report is counted and goes nowhere; at the script's end the summary is written.
-#[tactic(auto, using(crate::proofs::Going::from_start))]
+#[tactic(auto, using(crate::proofs::Starting::from_start))]
 fn sum_up<S: Source, K: Sink, E: Sink>(
     alloc: Global,
     explains: bool,

@@ -5,14 +5,15 @@ use Rattle.zr_world.specs.Living.{Living}
 use Rattle.zr_language.specs.Lines.{ended_lines}
 use Rattle.zr_language.specs.Report.{too_long_text}
 use Rattle.zr_outside.specs.Told.{Consumes}
-use Rattle.zr_netrun.specs.Kept.{Kept, fresh, writes, Tells, Complains}
+use Rattle.zr_runner.specs.Kept.{Kept, fresh, writes}
+use Rattle.zr_runner.specs.Possible.{StepsGo}
+use Rattle.zr_runner.proofs.Writing.{seen_at, seen_stopped}
+use Rattle.zr_runner.proofs.Going.{goes_behind}
+use Rattle.zr_netrun.specs.Told.{Tells, Complains}
 use Rattle.zr_netrun.specs.Judged.{refusal_told}
-use Rattle.zr_netrun.specs.Possible.{StepsGo}
 use Rattle.zr_netrun.specs.Clauses.{IsReadToEnd}
-use Rattle.zr_netrun.proofs.Writing.{seen_at, seen_stopped}
 use Rattle.zr_netrun.proofs.Reading.{after_nothing, reads_piece, seen_tells}
 use Rattle.zr_netrun.proofs.Telling.{stops_reading, passes_limit, fails_reading, ends_reading, stops_at_end, not_done, fault_not_done}
-use Rattle.zr_netrun.proofs.Going.{goes_behind}
 use Rattle.zr_netrun.proofs.netrun.run_lines.Goals as goal
 
 pub reading-init : goal.reading-init

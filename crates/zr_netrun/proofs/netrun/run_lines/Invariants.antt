@@ -1,7 +1,7 @@
 -- While it is read: what was kept is the run of what was read, all of its report was written, and the counts tell what happened.
 use Rattle.std.proofs.Common.{◌≡◌, ◌+◌, ◌-◌, ◌*◌, ◌^◌, ◌≤◌, true, false, min, length, if◌then◌else◌}
-use Rattle.zr_netrun.specs.Kept.{fresh, seen, writes}
-use Rattle.zr_netrun.specs.Possible.{StepsGo}
+use Rattle.zr_runner.specs.Kept.{fresh, seen, writes}
+use Rattle.zr_runner.specs.Possible.{StepsGo}
 use Rattle.zr_netrun.specs.Clauses.{OfRead, IsReadToEnd}
 use Rattle.zr_netrun.proofs.Reading.{IsAfter}
 use Rattle.zr_netrun.proofs.netrun.run_lines.Given as goal

@@ -1,6 +1,6 @@
 use Rattle.std.proofs.Common.{◌≡◌, false, Option, refl, ap, ◌∙◌, subst}
-use Rattle.zr_netrun.specs.declared.counts.Counts.{Counts}
-use Rattle.zr_netrun.specs.Kept.{Kept, writes}
+use Rattle.zr_report.specs.declared.counts.Counts.{Counts}
+use Rattle.zr_runner.specs.Kept.{Kept, writes}
 use Rattle.zr_netrun.specs.Counted.{TellsSummary}
 use Rattle.zr_netrun.proofs.Summing.{summed, not_summed}
 use Rattle.zr_netrun.proofs.netrun.sum_up.Goals as goal

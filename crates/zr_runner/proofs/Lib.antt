@@ -1,0 +1,13 @@
+pub mod Lines
+pub mod Runs
+pub mod Writing
+pub mod Acting
+pub mod Stepping
+pub mod Keeping
+pub mod Known
+pub mod Bounds
+pub mod Counting
+pub mod Accepting
+pub mod Feeding
+pub mod Refusing
+pub mod Going
