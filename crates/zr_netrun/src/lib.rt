@@ -3,5 +3,4 @@
 #![tactic(auto)]
 
 pub mod netrun;
-mod nowhere;
 pub mod status;

@@ -11,7 +11,6 @@ ghost use Rattle.zr_netrun.specs.Clauses.{OfRead, IsReported, IsReportedBy, IsEx
 ghost use Rattle.zr_netrun.specs.Judged.{refusal_told};
 ghost use Rattle.zr_netrun.specs.Counted.{CountsFromNone, IsRun, TellsSummary};
 
-use crate::nowhere::Nowhere;
 use crate::status::Status;
 use std::alloc::{AllocError, Global};
 use zr_command::error::ScriptError;
@@ -20,6 +19,7 @@ use zr_numbers::steps_are_possible;
 use zr_outside::sink::{Sink, write_all};
 use zr_outside::source::{Got, Source};
 use zr_report::counts::Counts;
+use zr_report::nowhere::Nowhere;
 use zr_runner::runner::{Runner, Stop};
 use zr_script::text::refused_text;
 

@@ -60,26 +60,18 @@ fn put_lines(
     Ok(())
 }
 
-fn put_line(line: &ReportLine, text: &mut Vec<u8>, pending: &mut Vec<u8>) -> Result<(), AllocError>
+/// The text of a report line waits behind what waited. Where memory runs out nothing more waits. `text` is overwritten: it is kept for
+/// its memory alone.
+pub fn put_line(
+    line: &ReportLine,
+    text: &mut Vec<u8>,
+    pending: &mut Vec<u8>,
+) -> Result<(), AllocError>
     ensures ok { OnOk result (pending.new.items ≡ pending.old.items ++ line_text line.now) }
     ensures err { OnErr result (pending.new.items ≡ pending.old.items) }
 {
     line_text(line, text)?;
     pending.extend_from_slice(text)
-}
-
-/// The last line of a run waits behind what waited: how many steps it did, and whether no step is possible any more. Where memory runs
-/// out nothing more waits. `text` is overwritten: it is kept for its memory alone.
-pub fn put_end(
-    done: u32,
-    quiet: bool,
-    text: &mut Vec<u8>,
-    pending: &mut Vec<u8>,
-) -> Result<(), AllocError>
-    ensures ok { OnOk result (pending.new.items ≡ pending.old.items ++ line_text (ReportLine.Ran done quiet)) }
-    ensures err { OnErr result (pending.new.items ≡ pending.old.items) }
-{
-    put_line(&ReportLine::Ran { steps: done, quiet }, text, pending)
 }
 
 /// What waits is written. After a failure nothing waits any more, of which a prefix was written.

@@ -3,6 +3,7 @@
 ghost use Rattle.std.specs.Prelude.{◌≡◌, ◌==◌, ◌+◌, ◌^◌, ◌<◌, ◌≤◌, ◌∷◌, ◌++◌, [], false, length, take, position, is_none, OnOk, OnErr};
 ghost use Rattle.std.specs.List.{fold};
 ghost use Rattle.zr_language.specs.Lines.{most_bytes, most_kept, ended_lines, open_line, parts, unless_empty};
+ghost use Rattle.zr_language.specs.Report.{line_text};
 ghost use Rattle.zr_network.specs.Accepted.{accepted_from};
 ghost use Rattle.zr_network.specs.Next.{applied, book_step, next};
 ghost use Rattle.zr_network.specs.Run.{on_line};
@@ -22,7 +23,7 @@ use zr_command::error::ScriptError;
 use zr_command::report::ReportLine;
 use zr_outside::sink::{Sink, WriteFailed};
 use zr_report::counts::Counts;
-use zr_report::waiting::{put_end, tell_lines, write_if_enough, write_out};
+use zr_report::waiting::{put_line, tell_lines, write_if_enough, write_out};
 use zr_script::line::{MOST_LINE, read_line};
 use zr_world::world::World;
 
@@ -421,4 +422,17 @@ fn is_quiet(world: &World) -> bool
     ensures { result ≡ is_none (next world.now.state) }
 {
     world.next().is_none()
+}
+
+// The last line of a run waits behind what waited. Where memory runs out nothing more waits.
+fn put_end(
+    done: u32,
+    quiet: bool,
+    text: &mut Vec<u8>,
+    pending: &mut Vec<u8>,
+) -> Result<(), AllocError>
+    ensures ok { OnOk result (pending.new.items ≡ pending.old.items ++ line_text (ReportLine.Ran done quiet)) }
+    ensures err { OnErr result (pending.new.items ≡ pending.old.items) }
+{
+    put_line(&ReportLine::Ran { steps: done, quiet }, text, pending)
 }
