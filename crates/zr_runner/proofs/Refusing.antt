@@ -1,6 +1,6 @@
 -- Which line is refused: it is the same behind a run whatever text was written before, whatever lines went before that were not refused, and of a
 -- line that is not whole yet the prefix of 4,097 bytes is enough. So the line that is kept is that of the script.
-use Rattle.std.proofs.Common.{◌≡◌, ℕ, ◌≤◌, Bool, true, false, cond, List, [], ◌∷◌, ◌++◌, length, take, Option, Some, None, is_some, Result, Ok, Err, refl, sym, ap, ◌∙◌, append-nil, arith, inl, inr}
+use Rattle.std.proofs.Common.{◌≡◌, ℕ, Bool, true, false, cond, List, [], ◌∷◌, ◌++◌, take, Option, Some, None, is_some, Result, Ok, Err, refl, sym, ap, ◌∙◌, append-nil, arith, inl, inr}
 use Rattle.std.specs.Prelude.{OnOk, OnErr}
 use Rattle.std.specs.List.{fold}
 use Rattle.std.proofs.lemmas.Bool.{false≢true}
@@ -8,7 +8,6 @@ use Rattle.std.proofs.lemmas.List.{take_all, take-take}
 use Rattle.zr_command.specs.declared.error.ScriptError.{ScriptError}
 use Rattle.zr_language.specs.Lines.{most_kept, parts, all_but_last, ended_lines, open_line, unless_empty, lines}
 use Rattle.zr_network.specs.Run.{Run, start, on_line, run_of_ended}
-use Rattle.zr_outside.specs.Told.{AppendsPrefix}
 use Rattle.zr_world.specs.Living.{Living}
 use Rattle.zr_runner.specs.declared.runner.Stop.{Stop}
 use Rattle.zr_runner.specs.declared.runner.Stop.TheVariants.{Refused, NoMemory, WriteFault}
