@@ -1,4 +1,4 @@
-use Rattle.std.proofs.Common.{◌≡◌, ℕ, List, Option, Some}
+use Rattle.std.proofs.Common.{◌≡◌, ℕ, List, Option, Some, Err, sym, ap, ◌∙◌}
 use Rattle.std.proofs.lemmas.Result.{err_from_is_err_and}
 use Rattle.zr_msg.specs.declared.msg.Target.{Target}
 use Rattle.zr_push.specs.Route.{route_of}
@@ -88,3 +88,18 @@ returns-in_err-remember-clause-prefix c = λ named at.
     rw p.1 (all_told _ _ _ (c.in_ok-request.ensures.sends c.args.tables.now named
     (is_route_of c.args.tables.now c.args.from.link.0 named c.args.tree c.args.target c.sought_by-sought.result c.key-key.result.now c.args.content.now.key c.in_ok-route.route c.requires.numbered at
     c.in_ok-route.ensures c.sought_by-sought.ensures c.key-key.ensures)))
+
+pub returns-in_err-request-clause-prefix : goal.returns-in_err-request-clause-prefix
+returns-in_err-request-clause-prefix c = λ named at.
+    let p = err_from_is_err_and c.from_residual-in_err-request.result c.from_residual-in_err-request.ensures.1 in
+    rw p.1 (c.in_err-request.ensures.prefix c.args.tables.now named
+    (is_route_of c.args.tables.now c.args.from.link.0 named c.args.tree c.args.target c.sought_by-sought.result c.key-key.result.now c.args.content.now.key c.in_ok-route.route c.requires.numbered at
+    c.in_ok-route.ensures c.sought_by-sought.ensures c.key-key.ensures))
+
+pub returns-in_err-request-clause-full : goal.returns-in_err-request-clause-full
+returns-in_err-request-clause-full c = λ named at worn.
+    let p = err_from_is_err_and c.from_residual-in_err-request.result c.from_residual-in_err-request.ensures.1 in
+    c.in_err-request.ensures.full c.args.tables.now named
+    (is_route_of c.args.tables.now c.args.from.link.0 named c.args.tree c.args.target c.sought_by-sought.result c.key-key.result.now c.args.content.now.key c.in_ok-route.route c.requires.numbered at
+    c.in_ok-route.ensures c.sought_by-sought.ensures c.key-key.ensures)
+    (sym (p.1 ∙ ap Err p.2) ∙ worn)

@@ -1,0 +1,21 @@
+use Rattle.std.proofs.Common.{List, refl, ap, subst}
+use Rattle.zr_pend.specs.Row.{RowState}
+use Rattle.zr_table.specs.State.{NodeState}
+use Rattle.zr_table.specs.Table.{with_pending}
+use Rattle.zr_node.specs.Done.{IsLeft, IsDone}
+use Rattle.zr_node.specs.Steps.{final_part}
+use Rattle.zr_node.proofs.Done.{nothing_sent}
+use Rattle.zr_node.proofs.node.Node.end.Goals as goal
+
+pub returns-in_err-final_of : goal.returns-in_err-final_of
+returns-in_err-final_of c =
+    let node : NodeState = record { links = c.self.inside.links; base = c.self.inside.base; rows = c.self.inside.local.rows; clients = c.self.inside.local.clients; known = c.self.inside.known; pending = c.self.inside.pending; spent = c.self.inside.spent } in
+    subst (λ (m : NodeState). IsDone (final_part m c.args.link.0 c.args.number c.args.extras.now) c.from_residual.result (with_pending node c.final_of.new.pending) c.args.out.now.items c.final_of.new.out.items) c.self.view_is
+    (nothing_sent (final_part node c.args.link.0 c.args.number c.args.extras.now) c.from_residual.result (with_pending node c.final_of.new.pending) c.args.out.now.items c.final_of.new.out.items c.from_residual.ensures.1
+    c.in_err-final_of.ensures.err)
+
+pub returns : goal.returns
+returns c =
+    let node : NodeState = record { links = c.self.inside.links; base = c.self.inside.base; rows = c.self.inside.local.rows; clients = c.self.inside.local.clients; known = c.self.inside.known; pending = c.self.inside.pending; spent = c.self.inside.spent } in
+    subst (λ (m : NodeState). IsLeft (final_part m c.args.link.0 c.args.number c.args.extras.now) (with_pending node c.final_of.new.pending) c.args.out.now.items c.final_of.new.out.items) c.self.view_is
+    (record { allowed = refl; state = ap (λ (rs : List RowState). with_pending node rs) c.in_ok-final_of.ensures.rows; sends = c.in_ok-final_of.ensures.ok })
