@@ -3,18 +3,17 @@
 //! The lines are those of the language of scripts, and what is sent is written as the line that brings such a message. What else routers do,
 //! and who takes a step, is nothing to the judge: so a `run` stands for the steps before the mark, and the steps of a phase are lines of their own.
 
-use crate::row::{Fault, key, name};
-use std::alloc::Global;
+use crate::row::{act_of, message, name};
+use std::alloc::{AllocError, Global};
 use std::test::Fail;
 use zr_body::Body;
-use zr_command::command::{Act, Command};
+use zr_command::command::Act;
 use zr_command::report::ReportLine;
 use zr_judge::judge::{Case, refines};
+use zr_key::key::KeyExpr;
 use zr_msg::content::Content;
 use zr_msg::extras::Extras;
 use zr_msg::msg::Msg;
-use zr_msg::shared::Shared;
-use zr_script::line::read_line;
 
 /// A script: its lines before the mark, and those behind it.
 struct Script {
@@ -28,13 +27,16 @@ type Sent = (u8, u8, u64, &'static str);
 /// How many lines of the phase are done, what was sent, whether nothing is under way, and what there is to see.
 type Row = (usize, &'static [Sent], bool, &'static str);
 
+/// A script, and rows of it.
+type Table = (Script, &'static [Row]);
+
 /// In place of a line: the sample `put c1 a/b h` with another priority.
-const URGENT: &str = "urgent";
+const URGENT: &str = "";
 
 const SAMPLE_PHASE: &[&str] = &["put c1 a/b h", "handle 0a c1", "take 0a c2"];
 
 // A subscriber, and one sample for it.
-static SAMPLE: Script = Script {
+const SAMPLE: Script = Script {
     before: &[
         "router 0a",
         "client c1 0a",
@@ -46,7 +48,7 @@ static SAMPLE: Script = Script {
 };
 
 // What the script leads to, and reports that tell of nothing else.
-static TRUE_SAMPLES: [Row; 6] = [
+const TRUE_SAMPLES: &[Row] = &[
     (0, &[], true, "at the mark"),
     (1, &[], false, "published"),
     (2, &[], false, "handled"),
@@ -65,7 +67,7 @@ static TRUE_SAMPLES: [Row; 6] = [
     ),
 ];
 
-static FORGED_SAMPLES: [Row; 9] = [
+const FORGED_SAMPLES: &[Row] = &[
     (
         3,
         &[(0x0a, 0xc2, 7, "put c1 a/b o")],
@@ -106,7 +108,7 @@ static FORGED_SAMPLES: [Row; 9] = [
 ];
 
 // The same script, but that the subscriber takes something back: what it had declared, or what it had not.
-static TAKEN_BACK: Script = Script {
+const TAKEN_BACK: Script = Script {
     before: &[
         "router 0a",
         "client c1 0a",
@@ -118,7 +120,7 @@ static TAKEN_BACK: Script = Script {
     phase: SAMPLE_PHASE,
 };
 
-static NOT_TAKEN_BACK: Script = Script {
+const NOT_TAKEN_BACK: Script = Script {
     before: &[
         "router 0a",
         "client c1 0a",
@@ -130,7 +132,7 @@ static NOT_TAKEN_BACK: Script = Script {
     phase: SAMPLE_PHASE,
 };
 
-static SENT_ALL_THE_SAME: [Row; 1] = [(
+const SENT_ALL_THE_SAME: &[Row] = &[(
     3,
     &[(0x0a, 0xc2, 8, "put c1 a/b h")],
     true,
@@ -138,7 +140,7 @@ static SENT_ALL_THE_SAME: [Row; 1] = [(
 )];
 
 // A queryable, and one query for it.
-static QUERY: Script = Script {
+const QUERY: Script = Script {
     before: &[
         "router 0a",
         "client c1 0a",
@@ -168,7 +170,7 @@ const ENDS: Sent = (0x0a, 0xc1, 13, "end c2 5");
 /// The end, told as a reply.
 const REPLIES_ON_END: Sent = (0x0a, 0xc1, 13, "reply c2 5 a/b r");
 
-static TRUE_ANSWERS: [Row; 10] = [
+const TRUE_ANSWERS: &[Row] = &[
     (0, &[], true, "at the mark"),
     (1, &[], false, "asked"),
     (2, &[], false, "handled"),
@@ -181,7 +183,7 @@ static TRUE_ANSWERS: [Row; 10] = [
     (9, &[ASKS, REPLIES, ENDS], true, "at the end"),
 ];
 
-static FORGED_ANSWERS: [Row; 16] = [
+const FORGED_ANSWERS: &[Row] = &[
     (3, &[], true, "the request is never sent"),
     (3, &[ASKS, ASKS], false, "a request is sent twice"),
     (
@@ -246,7 +248,7 @@ static FORGED_ANSWERS: [Row; 16] = [
 ];
 
 // The publisher and a client that subscribes to nothing are at the first of two routers, and the subscriber at the second.
-static TWO_ROUTERS: Script = Script {
+const TWO_ROUTERS: Script = Script {
     before: &[
         "router 01",
         "router 02",
@@ -273,7 +275,7 @@ const TO_SECOND: Sent = (0x01, 0x02, 12, "put c1 a/b x");
 const TO_SUBSCRIBER: Sent = (0x02, 0xc2, 12, "put c1 a/b x");
 
 // The report that the network gives of these lines stands in `tests/program`.
-static TRUE_OF_TWO: [Row; 5] = [
+const TRUE_OF_TWO: &[Row] = &[
     (1, &[], false, "published"),
     (2, &[], false, "handled by the first router"),
     (3, &[TO_SECOND], false, "on the link"),
@@ -282,7 +284,7 @@ static TRUE_OF_TWO: [Row; 5] = [
 ];
 
 // None of these may be added to its report.
-static ADDED: [Row; 5] = [
+const ADDED: &[Row] = &[
     (
         5,
         &[TO_SECOND, TO_SUBSCRIBER, TO_SUBSCRIBER],
@@ -317,7 +319,7 @@ static ADDED: [Row; 5] = [
 
 // The publisher is at the first of three routers in a line, the client that subscribes to nothing at the second, and the subscriber at the
 // third. Of two samples the first is under way when the second is published.
-static THREE_ROUTERS: Script = Script {
+const THREE_ROUTERS: Script = Script {
     before: &[
         "router 01",
         "router 02",
@@ -365,7 +367,7 @@ const X_TO_SUBSCRIBER: Sent = (0x03, 0xc2, 16, "put c1 a/b x");
 const Y_TO_SUBSCRIBER: Sent = (0x03, 0xc2, 17, "put c1 a/b y");
 
 // As above its report stands in `tests/program`. The last rows are reports that end too early, while something is under way.
-static TRUE_OF_THREE: [Row; 16] = [
+const TRUE_OF_THREE: &[Row] = &[
     (1, &[], false, "the first is published"),
     (2, &[], false, "the second is published"),
     (3, &[], false, "the first router handles the first"),
@@ -448,7 +450,7 @@ static TRUE_OF_THREE: [Row; 16] = [
     (2, &[X_TO_SUBSCRIBER], false, "the first, before its turn"),
 ];
 
-static FORGED_OF_THREE: [Row; 2] = [
+const FORGED_OF_THREE: &[Row] = &[
     (2, &[Y_TO_SUBSCRIBER], false, "the second without the first"),
     (
         14,
@@ -464,25 +466,32 @@ static FORGED_OF_THREE: [Row; 2] = [
     ),
 ];
 
-// The act of a line, if it is one.
-fn act_of(alloc: Global, line: &str) -> Result<Option<Act>, Fault> {
-    match read_line(alloc, line.as_bytes()) {
-        Ok(Some(Command::Act { act })) => Ok(Some(act)),
-        Ok(Some(Command::Run { .. })) | Ok(None) => Ok(None),
-        Err(error) => Err(Fault::from(error)),
-    }
-}
+static TRUE_TABLES: [Table; 5] = [
+    (SAMPLE, TRUE_SAMPLES),
+    (NOT_TAKEN_BACK, SENT_ALL_THE_SAME),
+    (QUERY, TRUE_ANSWERS),
+    (TWO_ROUTERS, TRUE_OF_TWO),
+    (THREE_ROUTERS, TRUE_OF_THREE),
+];
 
+static FORGED_TABLES: [Table; 5] = [
+    (SAMPLE, FORGED_SAMPLES),
+    (TAKEN_BACK, SENT_ALL_THE_SAME),
+    (QUERY, FORGED_ANSWERS),
+    (TWO_ROUTERS, ADDED),
+    (THREE_ROUTERS, FORGED_OF_THREE),
+];
+
+// Appends the act of a line, if it is one.
 fn put_act(
     alloc: Global,
     number: u64,
     line: &str,
     acts: &mut Vec<(u64, Act)>,
-) -> Result<(), Fault> {
-    match act_of(alloc, line) {
-        Ok(Some(act)) => Ok(acts.push((number, act))?),
-        Ok(None) => Ok(()),
-        Err(fault) => Err(fault),
+) -> Result<(), AllocError> {
+    match act_of(alloc, line.as_bytes())? {
+        Some(act) => Ok(acts.push((number, act))?),
+        None => Ok(()),
     }
 }
 
@@ -493,18 +502,18 @@ fn put_acts(
     lines: &[&str],
     most: usize,
     acts: &mut Vec<(u64, Act)>,
-) -> Result<(), Fault> {
-    let mut number = first;
-    for line in lines.iter().take(most) {
-        put_act(alloc, number, line, acts)?;
-        number = number.saturating_add(1);
+) -> Result<(), AllocError> {
+    for i in 0..lines.len().min(most) {
+        put_act(alloc, first.saturating_add(i as u64), lines[i], acts)?;
     }
     Ok(())
 }
 
 // The sample of the first script with another priority.
-fn urgent(alloc: Global) -> Result<Msg, Fault> {
-    let key = key(alloc, b"a/b".as_slice())?;
+fn urgent(alloc: Global) -> Result<Msg, AllocError> {
+    let Ok(key) = KeyExpr::read(alloc, b"a/b".as_slice()) else {
+        return Err(AllocError);
+    };
     let mut extras = Extras::none();
     extras.qos = Some(1);
     let content = Content::new(alloc, key, extras, Body::put(alloc, b"h".as_slice())?)?;
@@ -514,66 +523,25 @@ fn urgent(alloc: Global) -> Result<Msg, Fault> {
     })
 }
 
-fn last(alloc: Global, id: u32) -> Result<Msg, Fault> {
-    let extras = Shared::new(alloc, Extras::none())?;
-    Ok(Msg::Final { id, extras })
-}
-
-// The message that a client is sent where it is one like that of this act.
-fn message_of(alloc: Global, act: Act) -> Result<Msg, Fault> {
-    match act {
-        Act::Publish { client: _, content } => Ok(Msg::Push {
-            tree: None,
-            content,
-        }),
-        Act::Get {
-            client: _,
-            number,
-            target,
-            content,
-        } => Ok(Msg::Request {
-            tree: None,
-            id: number,
-            target,
-            content,
-        }),
-        Act::Reply {
-            client: _,
-            number,
-            content,
-        } => Ok(Msg::Response {
-            id: number,
-            content,
-        }),
-        Act::End { client: _, number } => last(alloc, number),
-        _ => Err(Fault::Row),
+fn sent_message(alloc: Global, line: &str) -> Result<Msg, AllocError> {
+    if line.is_empty() {
+        urgent(alloc)
+    } else {
+        message(alloc, line.as_bytes(), 0)
     }
 }
 
-fn message(alloc: Global, line: &str) -> Result<Msg, Fault> {
-    if line == URGENT {
-        return urgent(alloc);
-    }
-    match act_of(alloc, line) {
-        Ok(Some(act)) => message_of(alloc, act),
-        Ok(None) => Err(Fault::Row),
-        Err(fault) => Err(fault),
-    }
-}
-
-fn put_line(alloc: Global, sent: &Sent, report: &mut Vec<ReportLine>) -> Result<(), Fault> {
+fn put_line(alloc: Global, sent: &Sent, report: &mut Vec<ReportLine>) -> Result<(), AllocError> {
     let (router, to, tag, line) = *sent;
     let router = name(router)?;
     let to = name(to)?;
-    match message(alloc, line) {
-        Ok(msg) => Ok(report.push(ReportLine::Taken {
-            router,
-            to,
-            msg,
-            tag,
-        })?),
-        Err(fault) => Err(fault),
-    }
+    let msg = sent_message(alloc, line)?;
+    Ok(report.push(ReportLine::Taken {
+        router,
+        to,
+        msg,
+        tag,
+    })?)
 }
 
 // Appends the mark and the lines of what was sent.
@@ -582,10 +550,10 @@ fn put_report(
     mark: u64,
     sent: &[Sent],
     report: &mut Vec<ReportLine>,
-) -> Result<(), Fault> {
+) -> Result<(), AllocError> {
     report.push(ReportLine::Mark { line: mark })?;
-    for one in sent {
-        put_line(alloc, one, report)?;
+    for i in 0..sent.len() {
+        put_line(alloc, &sent[i], report)?;
     }
     Ok(())
 }
@@ -603,7 +571,7 @@ fn fill(
     before: &mut Vec<(u64, Act)>,
     phase: &mut Vec<(u64, Act)>,
     report: &mut Vec<ReportLine>,
-) -> Result<(), Fault> {
+) -> Result<(), AllocError> {
     let mark = mark_of(script);
     put_acts(alloc, 1, script.before, usize::MAX, before)?;
     put_acts(alloc, mark.saturating_add(1), script.phase, row.0, phase)?;
@@ -611,7 +579,7 @@ fn fill(
 }
 
 // Whether the judge takes a row for true.
-fn holds_at(alloc: Global, script: &Script, row: &Row) -> Result<bool, Fault> {
+fn holds_at(alloc: Global, script: &Script, row: &Row) -> Result<bool, AllocError> {
     let mut before = Vec::new(alloc);
     let mut phase = Vec::new(alloc);
     let mut report = Vec::new(alloc);
@@ -624,21 +592,28 @@ fn holds_at(alloc: Global, script: &Script, row: &Row) -> Result<bool, Fault> {
         quiet: row.2,
     };
     match filled {
-        Ok(()) => Ok(refines(alloc, &case)?),
-        Err(fault) => Err(fault),
+        Ok(()) => refines(alloc, &case),
+        Err(error) => Err(error),
     }
 }
 
-// What there is to see at the first row of which the judge says otherwise; nothing where there is none.
-fn first_wrong(
-    alloc: Global,
-    script: &Script,
-    rows: &'static [Row],
-    want: bool,
-) -> Result<&'static str, Fault> {
-    for row in rows {
-        if holds_at(alloc, script, row)? != want {
-            return Ok(row.3);
+// What there is to see at the first row of a table of which the judge says otherwise; nothing where there is none.
+fn wrong_of(alloc: Global, table: &Table, want: bool) -> Result<&'static str, AllocError> {
+    let (script, rows) = table;
+    for i in 0..rows.len() {
+        if holds_at(alloc, script, &rows[i])? != want {
+            return Ok(rows[i].3);
+        }
+    }
+    Ok("")
+}
+
+// The same of the first table.
+fn first_wrong(alloc: Global, tables: &[Table], want: bool) -> Result<&'static str, AllocError> {
+    for i in 0..tables.len() {
+        let wrong = wrong_of(alloc, &tables[i], want)?;
+        if !wrong.is_empty() {
+            return Ok(wrong);
         }
     }
     Ok("")
@@ -646,55 +621,14 @@ fn first_wrong(
 
 #[test]
 fn holds_at_each_moment(rt: HostRuntime) -> Result<(), Fail> {
-    let wrong = first_wrong(rt.alloc(), &SAMPLE, &TRUE_SAMPLES, true)?;
+    let wrong = first_wrong(rt.alloc(), &TRUE_TABLES, true)?;
     assert!(rt; wrong.is_empty(), "{wrong}");
     Ok(())
 }
 
 #[test]
 fn refuses_forged_reports(rt: HostRuntime) -> Result<(), Fail> {
-    let wrong = first_wrong(rt.alloc(), &SAMPLE, &FORGED_SAMPLES, false)?;
+    let wrong = first_wrong(rt.alloc(), &FORGED_TABLES, false)?;
     assert!(rt; wrong.is_empty(), "{wrong}");
-    Ok(())
-}
-
-#[test]
-fn undeclared_asks_for_nothing(rt: HostRuntime) -> Result<(), Fail> {
-    let taken_back = first_wrong(rt.alloc(), &TAKEN_BACK, &SENT_ALL_THE_SAME, false)?;
-    assert!(rt; taken_back.is_empty(), "{taken_back}");
-    let kept = first_wrong(rt.alloc(), &NOT_TAKEN_BACK, &SENT_ALL_THE_SAME, true)?;
-    assert!(rt; kept.is_empty(), "{kept}");
-    Ok(())
-}
-
-#[test]
-fn holds_at_each_moment_of_a_query(rt: HostRuntime) -> Result<(), Fail> {
-    let wrong = first_wrong(rt.alloc(), &QUERY, &TRUE_ANSWERS, true)?;
-    assert!(rt; wrong.is_empty(), "{wrong}");
-    Ok(())
-}
-
-#[test]
-fn refuses_forged_replies_and_finals(rt: HostRuntime) -> Result<(), Fail> {
-    let wrong = first_wrong(rt.alloc(), &QUERY, &FORGED_ANSWERS, false)?;
-    assert!(rt; wrong.is_empty(), "{wrong}");
-    Ok(())
-}
-
-#[test]
-fn routers_in_a_line_refine_one_broker(rt: HostRuntime) -> Result<(), Fail> {
-    let two = first_wrong(rt.alloc(), &TWO_ROUTERS, &TRUE_OF_TWO, true)?;
-    assert!(rt; two.is_empty(), "{two}");
-    let three = first_wrong(rt.alloc(), &THREE_ROUTERS, &TRUE_OF_THREE, true)?;
-    assert!(rt; three.is_empty(), "{three}");
-    Ok(())
-}
-
-#[test]
-fn refuses_forged_reports_of_routers(rt: HostRuntime) -> Result<(), Fail> {
-    let two = first_wrong(rt.alloc(), &TWO_ROUTERS, &ADDED, false)?;
-    assert!(rt; two.is_empty(), "{two}");
-    let three = first_wrong(rt.alloc(), &THREE_ROUTERS, &FORGED_OF_THREE, false)?;
-    assert!(rt; three.is_empty(), "{three}");
     Ok(())
 }

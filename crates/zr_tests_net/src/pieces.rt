@@ -16,14 +16,17 @@ const REPORT: &[u8] =
 /// What the script's lines up to the mark report.
 const TO_MARK: &[u8] = b"0a < c2: sub 1 a/b #4\nmark #6\n";
 
-/// The reads that are quiet.
-const QUIET: [u64; 3] = [0, 7, 8];
-
-/// A read that fails, where each gives a byte, and what is written before it.
-type Row = (u64, &'static [u8]);
+/// Where each read gives a byte: those that fail and those that are quiet, how the run ends, and what is written before.
+type Row = (&'static [u64], &'static [u64], Status, &'static [u8]);
 
 // The mark's line has the bytes 62 to 66, and the script 105 bytes.
-static FAULTS: [Row; 4] = [(0, b""), (67, TO_MARK), (70, TO_MARK), (105, REPORT)];
+static ROWS: [Row; 5] = [
+    (&[], &[0, 7, 8], Status::Done, REPORT),
+    (&[0], &[], Status::ReadFault, b""),
+    (&[67], &[], Status::ReadFault, TO_MARK),
+    (&[70], &[], Status::ReadFault, TO_MARK),
+    (&[105], &[], Status::ReadFault, REPORT),
+];
 
 // Runs the script, and tells its status alone.
 fn status(alloc: Global, input: &mut MemSource, out: &mut MemSink, err: &mut MemSink) -> Status {
@@ -38,14 +41,9 @@ fn bytewise(alloc: Global, failing: &[u64], quiet: &[u64]) -> Result<MemSource, 
     Ok(MemSource::new(script, 1, failing, quiet))
 }
 
-// Whether the run ends with this status, has written just this, and no word of an error.
-fn ends(
-    alloc: Global,
-    failing: &[u64],
-    quiet: &[u64],
-    want: Status,
-    written: &[u8],
-) -> Result<bool, AllocError> {
+// Whether the run ends with the row's status, has written just what the row says, and no word of an error.
+fn is_so(alloc: Global, row: &Row) -> Result<bool, AllocError> {
+    let (failing, quiet, want, written) = *row;
     let mut input = bytewise(alloc, failing, quiet)?;
     let mut out = MemSink::new(alloc, Vec::new(alloc));
     let mut err = MemSink::new(alloc, Vec::new(alloc));
@@ -53,25 +51,19 @@ fn ends(
     Ok(status == want && out.bytes() == written && err.bytes().is_empty())
 }
 
-// The first read whose fault does not end the run with what is written before it.
-fn first_wrong(alloc: Global) -> Result<Option<u64>, AllocError> {
-    for (read, written) in FAULTS {
-        if !ends(alloc, &[read], &[], Status::ReadFault, written)? {
-            return Ok(Some(read));
+// The number of the first row that isn't so; that of all where there is none.
+fn first_wrong(alloc: Global) -> Result<usize, AllocError> {
+    for i in 0..ROWS.len() {
+        if !is_so(alloc, &ROWS[i])? {
+            return Ok(i);
         }
     }
-    Ok(None)
+    Ok(ROWS.len())
 }
 
 #[test]
-fn pieces_make_no_difference(rt: HostRuntime) -> Result<(), Fail> {
-    assert!(rt; ends(rt.alloc(), &[], &QUIET, Status::Done, REPORT)?);
-    Ok(())
-}
-
-#[test]
-fn a_fault_of_a_read_ends_the_run(rt: HostRuntime) -> Result<(), Fail> {
+fn pieces_and_faults_of_reads(rt: HostRuntime) -> Result<(), Fail> {
     let wrong = first_wrong(rt.alloc())?;
-    assert!(rt; wrong.is_none(), "{wrong:?}");
+    assert!(rt; wrong == ROWS.len(), "row {wrong}");
     Ok(())
 }

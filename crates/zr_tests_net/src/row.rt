@@ -1,61 +1,88 @@
-//! Why a row has no answer, and names and keys for rows.
+//! Names, acts and messages for rows. Where a row's text is none, that is told as out of memory: the test fails by either.
 
-use std::alloc::{AllocError, AllocFailed, Global};
-use zr_command::error::ScriptError;
-use zr_id::zid::{BadId, Zid};
-use zr_key::key::{KeyError, KeyExpr};
-
-/// Why a row has no answer.
-#[derive(Clone, Copy, Debug, Drop)]
-pub enum Fault {
-    /// Memory ran out.
-    Memory,
-    /// A name, a key or a line of the row is none, or the line brings nothing where it is to bring a message.
-    Row,
-}
-
-impl From<AllocError> for Fault {
-    fn from(_e: AllocError) -> Fault {
-        Fault::Memory
-    }
-}
-
-impl<T: Drop> From<AllocFailed<T>> for Fault {
-    fn from(_e: AllocFailed<T>) -> Fault {
-        Fault::Memory
-    }
-}
-
-impl From<BadId> for Fault {
-    fn from(_e: BadId) -> Fault {
-        Fault::Row
-    }
-}
-
-impl From<KeyError> for Fault {
-    fn from(e: KeyError) -> Fault {
-        match e {
-            KeyError::NoMemory => Fault::Memory,
-            _ => Fault::Row,
-        }
-    }
-}
-
-impl From<ScriptError> for Fault {
-    fn from(e: ScriptError) -> Fault {
-        match e {
-            ScriptError::NoMemory => Fault::Memory,
-            _ => Fault::Row,
-        }
-    }
-}
+use std::alloc::{AllocError, Global};
+use zr_command::command::{Act, Command};
+use zr_id::zid::Zid;
+use zr_msg::extras::Extras;
+use zr_msg::msg::Msg;
+use zr_msg::shared::Shared;
+use zr_script::line::read_line;
 
 /// The name of one byte.
-pub fn name(byte: u8) -> Result<Zid, Fault> {
-    Ok(Zid::from_bytes(&[byte])?)
+pub fn name(byte: u8) -> Result<Zid, AllocError> {
+    match Zid::from_bytes(&[byte]) {
+        Ok(id) => Ok(id),
+        Err(_) => Err(AllocError),
+    }
 }
 
-/// The key that a text spells.
-pub fn key(alloc: Global, text: &[u8]) -> Result<KeyExpr, Fault> {
-    Ok(KeyExpr::read(alloc, text)?)
+/// The act of a line, if it is one.
+pub fn act_of(alloc: Global, line: &[u8]) -> Result<Option<Act>, AllocError> {
+    match read_line(alloc, line) {
+        Ok(Some(Command::Act { act })) => Ok(Some(act)),
+        Ok(Some(Command::Run { .. })) | Ok(None) => Ok(None),
+        Err(_) => Err(AllocError),
+    }
+}
+
+/// A message like the one that a line brings, under a number that is higher by so much.
+pub fn message(alloc: Global, line: &[u8], more: u32) -> Result<Msg, AllocError> {
+    match act_of(alloc, line)? {
+        Some(act) => message_of(alloc, act, more),
+        None => Err(AllocError),
+    }
+}
+
+// The same of an act.
+fn message_of(alloc: Global, act: Act, more: u32) -> Result<Msg, AllocError> {
+    match act {
+        Act::Sub { client: _, id, key } => Ok(Msg::Sub {
+            id: id.wrapping_add(more),
+            key,
+        }),
+        Act::Able {
+            client: _,
+            id,
+            key,
+            complete,
+        } => Ok(Msg::Able {
+            id: id.wrapping_add(more),
+            key,
+            complete,
+        }),
+        Act::Publish { client: _, content } => Ok(Msg::Push {
+            tree: None,
+            content,
+        }),
+        Act::Get {
+            client: _,
+            number,
+            target,
+            content,
+        } => Ok(Msg::Request {
+            tree: None,
+            id: number.wrapping_add(more),
+            target,
+            content,
+        }),
+        Act::Reply {
+            client: _,
+            number,
+            content,
+        } => Ok(Msg::Response {
+            id: number.wrapping_add(more),
+            content,
+        }),
+        Act::End { client: _, number } => last(alloc, number.wrapping_add(more)),
+        other => no_message(other),
+    }
+}
+
+fn no_message(_act: Act) -> Result<Msg, AllocError> {
+    Err(AllocError)
+}
+
+fn last(alloc: Global, id: u32) -> Result<Msg, AllocError> {
+    let extras = Shared::new(alloc, Extras::none())?;
+    Ok(Msg::Final { id, extras })
 }
