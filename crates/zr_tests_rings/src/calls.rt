@@ -3,10 +3,9 @@ ghost use Rattle.std.specs.Prelude.{◌≡◌, []};
 ghost use Rattle.zr_hist.specs.Words.{kept_name, list_of, name, pass_name};
 
 use crate::desk::{Hand, Say};
-use std::alloc::Global;
+use std::alloc::{AllocError, Global};
 use std::marker::Brand;
 use std::sync::Wait;
-use std::test::Fail;
 use zr_frame::Outbox;
 use zr_hist::{History, Kept, Pass};
 use zr_id::zid::Zid;
@@ -26,7 +25,7 @@ const MOST_TAKES: u64 = 2_048;
 /// The identifier of the first of many peers.
 pub const MANY: u8 = 100;
 
-/// A call. Peers are told by their identifiers, and `Take` and `Next` by how many links came up one by one before theirs.
+/// A call. Peers are told by their identifiers, and `Take` and `Next` by how many links came up before theirs.
 #[derive(Clone, Copy)]
 pub enum Call {
     Client(u8),
@@ -74,7 +73,7 @@ pub enum Told {
     Other,
 }
 
-/// A router, one pass of its history, and the takers of the links that came up one by one.
+/// A router, one pass of its history, and the takers of the links that came up, in turn.
 #[derive(Drop)]
 struct Bench<B: Naming, R: Wait + Drop> {
     alloc: Global,
@@ -84,77 +83,64 @@ struct Bench<B: Naming, R: Wait + Drop> {
 }
 
 impl<B: Naming, R: Wait + Drop> Bench<B, R> {
-    fn up(&mut self, id: u8, role: Role, start: Start) -> Result<Told, Fail> {
-        match self.hand.up(&self.router, peer(id, role)?, outbox(start)) {
-            Ok((link, taker)) => {
-                self.takers.push(taker)?;
-                Ok(Told::Link(link.0))
-            }
+    fn up(&mut self, id: u8, role: Role, start: Start) -> Told {
+        let Ok(peer) = peer(id, role) else {
+            return Told::Other;
+        };
+        match self.hand.up(&self.router, peer, outbox(start)) {
+            Ok((link, taker)) => keep(&mut self.takers, taker, Told::Link(link.0)),
             Err(error) => up_refused(error),
         }
     }
 
     // So many peers come up.
-    fn many(&mut self, count: u8, role: Role) -> Result<Told, Fail> {
+    fn many(&mut self, count: u8, role: Role) -> Told {
         for number in 0..count {
-            let peer = peer(MANY.wrapping_add(number), role)?;
-            if let Err(error) = self.hand.up(&self.router, peer, outbox(Start::Zero)) {
-                return up_refused(error);
+            let told = self.up(MANY.wrapping_add(number), role, Start::Zero);
+            if !is_link(told) {
+                return told;
             }
         }
-        Ok(Told::Ok)
+        Told::Ok
     }
 
     // A router comes up and goes down so many times.
-    fn blinks(&mut self, id: u8, count: u32) -> Result<Told, Fail> {
+    fn blinks(&mut self, id: u8, count: u32) -> Told {
         for _ in 0..count {
-            let peer = peer(id, Role::Router)?;
-            match self.hand.up(&self.router, peer, outbox(Start::Zero)) {
-                Ok((link, _)) => self.hand.down(&self.router, link.0, None)?,
-                Err(error) => return up_refused(error),
-            }
+            let told = self.up(id, Role::Router, Start::Zero);
+            let Told::Link(link) = told else {
+                return told;
+            };
+            self.down(link, None);
         }
-        Ok(Told::Ok)
+        Told::Ok
     }
 
-    fn say(&mut self, link: u32, say: Say) -> Result<Told, Fail> {
-        delivered(self.hand.deliver(self.alloc, &self.router, link, say)?)
+    fn say(&mut self, link: u32, say: Say) -> Told {
+        match self.hand.deliver(self.alloc, &self.router, link, say) {
+            Ok(()) => Told::Ok,
+            Err(error) => undelivered(error),
+        }
     }
 
-    // So many samples.
-    fn samples(&mut self, link: u32, count: u32) -> Result<Told, Fail> {
+    // So many samples; the answer to the last.
+    fn samples(&mut self, link: u32, count: u32) -> Told {
+        let mut told = Told::Ok;
         for _ in 0..count {
-            let told = self.say(link, Say::Sample)?;
-            if told != Told::Ok {
-                return Ok(told);
-            }
+            told = self.say(link, Say::Sample);
         }
-        Ok(Told::Ok)
+        told
     }
 
-    fn down(&mut self, link: u32, reason: Option<u8>) -> Result<Told, Fail> {
+    fn down(&mut self, link: u32, reason: Option<u8>) -> Told {
         match self.hand.down(&self.router, link, reason) {
-            Ok(()) => Ok(Told::Ok),
-            Err(DownError::NotUp { link }) => Ok(Told::NotUp(link.0)),
-            Err(error) => Err(error)?,
+            Ok(()) => Told::Ok,
+            Err(DownError::NotUp { link }) => Told::NotUp(link.0),
+            Err(DownError::Worn) | Err(DownError::NoMemory) => Told::Other,
         }
     }
 
-    fn take(&mut self, at: usize) -> Told {
-        match self.takers.get_mut(at) {
-            Some(taker) => all_of(taker),
-            None => Told::Other,
-        }
-    }
-
-    fn next(&mut self, at: usize, bytes: &[u8]) -> Told {
-        match self.takers.get_mut(at) {
-            Some(taker) => next_of(taker, bytes),
-            None => Told::Other,
-        }
-    }
-
-    fn answer(&mut self, call: Call) -> Result<Told, Fail> {
+    fn answer(&mut self, call: Call) -> Told {
         match call {
             Call::Client(id) => self.up(id, Role::Client, Start::Zero),
             Call::ClientAt(id, start) => self.up(id, Role::Client, start),
@@ -165,15 +151,26 @@ impl<B: Naming, R: Wait + Drop> Bench<B, R> {
             Call::Say(link, say) => self.say(link, say),
             Call::Samples(link, count) => self.samples(link, count),
             Call::Down(link, reason) => self.down(link, reason),
-            Call::Take(at) => Ok(self.take(at)),
-            Call::Next(at, bytes) => Ok(self.next(at, bytes)),
+            Call::Take(at) => taken(&mut self.takers, at, None),
+            Call::Next(at, bytes) => taken(&mut self.takers, at, Some(bytes)),
         }
     }
 }
 
-pub fn peer(id: u8, role: Role) -> Result<Peer, Fail> {
-    let id = Zid::from_bytes(&[id])?;
-    Ok(Peer { id, role })
+pub fn peer(id: u8, role: Role) -> Result<Peer, AllocError> {
+    match Zid::from_bytes(&[id]) {
+        Ok(id) => Ok(Peer { id, role }),
+        Err(_) => Err(AllocError),
+    }
+}
+
+// Keeps a taker behind the others; what is told then, where there is memory for it.
+fn keep(takers: &mut Vec<Taker<Queued>>, taker: Taker<Queued>, told: Told) -> Told {
+    if takers.push(taker).is_ok() {
+        told
+    } else {
+        Told::Other
+    }
 }
 
 pub fn outbox(start: Start) -> Outbox {
@@ -185,23 +182,35 @@ pub fn outbox(start: Start) -> Outbox {
     }
 }
 
-fn up_refused(error: UpError) -> Result<Told, Fail> {
+fn up_refused(error: UpError) -> Told {
     match error {
-        UpError::Full { sessions, routers } => Ok(Told::Sessions(sessions, routers)),
-        UpError::Twice => Ok(Told::Twice),
-        UpError::Worn | UpError::NoMemory => Err(error)?,
+        UpError::Full { sessions, routers } => Told::Sessions(sessions, routers),
+        UpError::Twice => Told::Twice,
+        UpError::Worn | UpError::NoMemory => Told::Other,
     }
 }
 
-fn delivered(answer: Result<(), DeliverError>) -> Result<Told, Fail> {
-    match answer {
-        Ok(()) => Ok(Told::Ok),
-        Err(DeliverError::NotUp { link }) => Ok(Told::NotUp(link.0)),
-        Err(DeliverError::Misplaced { role }) => Ok(Told::Misplaced(role)),
-        Err(DeliverError::Full { asked, free }) => Ok(Told::Full(asked, free)),
-        Err(DeliverError::Node(NodeError::NotDeclared { id })) => Ok(Told::NotDeclared(id)),
-        Err(DeliverError::Node(NodeError::Gap { has, came, .. })) => Ok(Told::Gap(has, came)),
-        Err(error) => Err(error)?,
+fn undelivered(error: DeliverError) -> Told {
+    match error {
+        DeliverError::NotUp { link } => Told::NotUp(link.0),
+        DeliverError::Misplaced { role } => Told::Misplaced(role),
+        DeliverError::Full { asked, free } => Told::Full(asked, free),
+        DeliverError::Node(NodeError::NotDeclared { id }) => Told::NotDeclared(id),
+        DeliverError::Node(NodeError::Gap { has, came, .. }) => Told::Gap(has, came),
+        _ => Told::Other,
+    }
+}
+
+fn is_link(told: Told) -> bool {
+    matches!(told, Told::Link(_))
+}
+
+// Takes all that is there for a link, or one parcel that is to have these bytes.
+fn taken(takers: &mut [Taker<Queued>], at: usize, bytes: Option<&[u8]>) -> Told {
+    match (takers.get_mut(at), bytes) {
+        (Some(taker), Some(bytes)) => next_of(taker, bytes),
+        (Some(taker), None) => all_of(taker),
+        (None, _) => Told::Other,
     }
 }
 
@@ -226,17 +235,14 @@ fn next_of(taker: &mut Taker<Queued>, bytes: &[u8]) -> Told {
 }
 
 // The number of the first row that isn't so, where the rows come one after the other; that of all where there is none.
-fn wrong<B: Naming, R: Wait + Drop>(
-    bench: &mut Bench<B, R>,
-    rows: &[(Call, Told)],
-) -> Result<usize, Fail> {
-    for (i, (call, want)) in rows.iter().enumerate() {
-        let told = bench.answer(*call)?;
-        if told != *want {
-            return Ok(i);
+fn wrong<B: Naming, R: Wait + Drop>(bench: &mut Bench<B, R>, rows: &[(Call, Told)]) -> usize {
+    for i in 0..rows.len() {
+        let (call, want) = rows[i];
+        if bench.answer(call) != want {
+            return i;
         }
     }
-    Ok(rows.len())
+    rows.len()
 }
 
 // The same for a router of this history.
@@ -248,19 +254,20 @@ fn wrong_at<B: Naming, R: Wait + Drop>(
     kept: Kept<Entry>,
     pass: Pass<Entry>,
     rows: &[(Call, Told)],
-) -> Result<usize, Fail>
+) -> Result<usize, AllocError>
     requires history { name history ≡ B.history }
     requires kept { (kept_name kept ≡ B.history) × (list_of kept ≡ []) }
     requires pass { pass_name pass ≡ B.history }
     requires own { me ≡ B.me }
 {
+    let hand = Hand::new(pass);
     let mut bench = Bench {
         alloc,
         router: Router::<B, R>::new(rt, alloc, me, history, kept)?,
-        hand: Hand::new(pass),
+        hand,
         takers: Vec::new(alloc),
     };
-    wrong(&mut bench, rows)
+    Ok(wrong(&mut bench, rows))
 }
 
 /// The number of the first row that a new router answers otherwise, where the rows come one after the other; that of all where there is none.
@@ -268,8 +275,10 @@ pub fn first_wrong<R: Wait + Drop>(
     rt: R,
     alloc: Global,
     rows: &[(Call, Told)],
-) -> Result<usize, Fail> {
-    let me = Zid::from_bytes(&[OWN])?;
+) -> Result<usize, AllocError> {
+    let Ok(me) = Zid::from_bytes(&[OWN]) else {
+        return Err(AllocError);
+    };
     let (history, kept, pass) = History::<Entry>::new(alloc)?;
     wrong_at::<Brand, R>(rt, alloc, me, history, kept, pass, rows)
 }

@@ -1,5 +1,7 @@
 use std::alloc::{AllocError, Global};
+use std::sync::Wait;
 use std::test::Fail;
+use std::thread::Threads;
 use zr_crew::Crew;
 use zr_outside::gate::{Gate, GateSink, GateSource, Part};
 use zr_outside::mem_sink::MemSink;
@@ -7,7 +9,7 @@ use zr_outside::sink::Sink;
 use zr_outside::source::{Got, Source};
 
 /// A source of one byte, which comes once a byte went through the gate.
-pub fn source_of(alloc: Global, gate: &Gate) -> Result<GateSource, AllocError> {
+fn source_of(alloc: Global, gate: &Gate) -> Result<GateSource, AllocError> {
     let part = Part {
         after: 1,
         bytes: vec![in alloc; 9]?,
@@ -52,19 +54,38 @@ fn begin(mut sink: GateSink<MemSink>) {
     let _ = sink.write(&[9]);
 }
 
+// Starts a job that waits for what a second one writes, that one, and a third; whether the first two were started and the third refused.
+fn started<R: Threads + Wait + Drop + 'static>(
+    alloc: Global,
+    first: &Gate,
+    second: &Gate,
+    crew: &mut Crew<R, u8>,
+) -> Result<bool, AllocError> {
+    let waiting = Relay::new(alloc, first, second)?;
+    let relayed = crew.start(waiting, 1, |job| pass_on(job)).is_ok();
+    let last = GateSink::new(MemSink::new(alloc, Vec::new(alloc)), first.share()?);
+    let begun = crew.start(last, 2, |sink| begin(sink)).is_ok();
+    let third = Relay::new(alloc, first, second)?;
+    let refused = crew.start(third, 3, |job| pass_on(job)).is_err();
+    Ok(relayed && begun && refused)
+}
+
+// Whether both gates let a byte through, and the crew tells both jobs.
+fn has_run<R: Threads + Wait + Drop + 'static>(
+    first: &Gate,
+    second: &Gate,
+    crew: &Crew<R, u8>,
+) -> bool {
+    first.count() == 1 && second.count() == 1 && crew.told().unwrap_or(&[]) == [1, 2].as_slice()
+}
+
 #[test]
 fn a_crew_runs_its_jobs_at_once(rt: HostRuntime) -> Result<(), Fail> {
     let alloc = rt.alloc();
     let (first, second) = (Gate::new(alloc)?, Gate::new(alloc)?);
     let mut crew: Crew<HostRuntime, u8> = Crew::telling(rt, alloc, vec![in alloc; 2]?)?;
-    let last = GateSink::new(MemSink::new(alloc, Vec::new(alloc)), first.share()?);
-    // the first job waits for what the second writes
-    let relayed = crew.start(Relay::new(alloc, &first, &second)?, 1, |job| pass_on(job));
-    let begun = crew.start(last, 2, |sink| begin(sink));
-    let refused = crew.start(Relay::new(alloc, &first, &second)?, 3, |job| pass_on(job));
-    assert!(rt; (relayed.is_ok(), begun.is_ok(), refused.is_err()) == (true, true, true));
+    assert!(rt; started(alloc, &first, &second, &mut crew)?);
     crew.wait();
-    assert!(rt; (first.count(), second.count()) == (1, 1));
-    assert!(rt; crew.told().unwrap_or(&[]) == [1, 2].as_slice());
+    assert!(rt; has_run(&first, &second, &crew));
     Ok(())
 }

@@ -66,9 +66,11 @@ impl<B: Naming> Hand<B> {
         router: &Router<B, R>,
         link: u32,
         say: Say,
-    ) -> Result<Result<(), DeliverError>, AllocError> {
-        let msg = message(alloc, say)?;
-        Ok(router.deliver(&mut self.pass, LinkNo(link), msg))
+    ) -> Result<(), DeliverError> {
+        match message(alloc, say) {
+            Ok(msg) => router.deliver(&mut self.pass, LinkNo(link), msg),
+            Err(_) => Err(DeliverError::NoMemory),
+        }
     }
 
     pub fn down<R: Wait + Drop>(
@@ -113,24 +115,32 @@ fn message(alloc: Global, say: Say) -> Result<Msg, AllocError>
     ensures { IfOk result (λ m. IsSpelled m) }
 {
     match say {
-        Say::Sub => Ok(Msg::Sub {
-            id: 1,
-            key: key(alloc)?,
-        }),
-        Say::Told => Ok(Msg::ToldSub {
-            id: 1,
-            key: key(alloc)?,
-            interest: None,
-        }),
-        Say::Sample => sample(alloc, None, None, hi(alloc)?),
-        Say::Keep => sample(alloc, None, Some(DONT_DROP), hi(alloc)?),
-        Say::Express => sample(alloc, None, Some(EXPRESS), hi(alloc)?),
-        Say::Long => sample(alloc, None, None, long(alloc)?),
-        Say::LongKeep => sample(alloc, None, Some(DONT_DROP), long(alloc)?),
-        Say::Along => sample(alloc, root(), None, hi(alloc)?),
+        Say::Sub => sub(alloc),
+        Say::Told => told_sub(alloc),
         Say::Unsub => Ok(Msg::Unsub { id: 1 }),
         Say::Tells(bytes) => told(alloc, bytes),
+        Say::Sample | Say::Keep | Say::Express | Say::Long | Say::LongKeep | Say::Along => {
+            sample(alloc, say)
+        }
     }
+}
+
+fn sub(alloc: Global) -> Result<Msg, AllocError>
+    ensures { IfOk result (λ m. IsSpelled m) }
+{
+    let key = key(alloc)?;
+    Ok(Msg::Sub { id: 1, key })
+}
+
+fn told_sub(alloc: Global) -> Result<Msg, AllocError>
+    ensures { IfOk result (λ m. IsSpelled m) }
+{
+    let key = key(alloc)?;
+    Ok(Msg::ToldSub {
+        id: 1,
+        key,
+        interest: None,
+    })
 }
 
 // What a router tells in these bytes.
@@ -145,33 +155,51 @@ fn told(alloc: Global, bytes: &[u8]) -> Result<Msg, AllocError>
 }
 
 fn key(alloc: Global) -> Result<KeyExpr, AllocError> {
-    KeyExpr::read(alloc, b"a/b".as_slice()).map_err(|_| AllocError)
+    match KeyExpr::read(alloc, b"a/b".as_slice()) {
+        Ok(key) => Ok(key),
+        Err(_) => Err(AllocError),
+    }
 }
 
-fn hi(alloc: Global) -> Result<Body, AllocError> {
-    Body::put(alloc, b"hi".as_slice())
+fn body(alloc: Global, say: Say) -> Result<Body, AllocError> {
+    match say {
+        Say::Long | Say::LongKeep => Body::put(alloc, [7; 200].as_slice()),
+        _ => Body::put(alloc, b"hi".as_slice()),
+    }
 }
 
-fn long(alloc: Global) -> Result<Body, AllocError> {
-    Body::put(alloc, [7; 200].as_slice())
+fn qos(say: Say) -> Option<u64> {
+    match say {
+        Say::Keep | Say::LongKeep => Some(DONT_DROP),
+        Say::Express => Some(EXPRESS),
+        _ => None,
+    }
 }
 
-// The root of a tree.
-fn root() -> Option<Zid> {
-    Zid::from_bytes(&[2]).ok()
+// The root of the tree along which a sample goes.
+fn root(say: Say) -> Option<Zid> {
+    match say {
+        Say::Along => Zid::from_bytes(&[2]).ok(),
+        _ => None,
+    }
 }
 
-fn sample(alloc: Global, tree: Option<Zid>, qos: Option<u64>, body: Body) -> Result<Msg, AllocError>
+fn sample(alloc: Global, say: Say) -> Result<Msg, AllocError>
     ensures { IfOk result (λ m. IsSpelled m) }
 {
+    let key = key(alloc)?;
+    let body = body(alloc, say)?;
     let extras = Extras {
-        qos,
+        qos: qos(say),
         stamp: None,
         budget: None,
         timeout: None,
         responder: None,
         marks: 0,
     };
-    let content = Content::new(alloc, key(alloc)?, extras, body)?;
-    Ok(Msg::Push { tree, content })
+    let content = Content::new(alloc, key, extras, body)?;
+    Ok(Msg::Push {
+        tree: root(say),
+        content,
+    })
 }

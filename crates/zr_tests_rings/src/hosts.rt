@@ -1,34 +1,62 @@
-use crate::crews::source_of;
+//! A host in memory, and its calls as letters.
+
 use rand_chacha::ChaCha20Rng;
 use rand_core::SeedableRng;
 use std::alloc::{AllocError, Global};
 use std::test::Fail;
-use zr_outside::gate::{Gate, GateSource};
 use zr_outside::host::{Answer, Call, Host};
 use zr_outside::mem_clock::MemClock;
 use zr_outside::mem_host::MemHost;
 use zr_outside::mem_sink::MemSink;
+use zr_outside::mem_source::MemSource;
 
-type TestHost = MemHost<GateSource, MemSink, ChaCha20Rng>;
+pub type TestHost = MemHost<MemSource, MemSink, ChaCha20Rng>;
 
-fn host(alloc: Global) -> Result<TestHost, AllocError> {
-    let words = ChaCha20Rng::from_seed([7; 32]);
-    let mut host = TestHost::new(alloc, MemClock::new(5, 100), words);
-    let gate = Gate::new(alloc)?;
-    host.accepts(
-        source_of(alloc, &gate)?,
-        MemSink::new(alloc, Vec::new(alloc)),
-    )?;
-    Ok(host)
+fn nothing(alloc: Global) -> MemSource {
+    MemSource::new(Vec::new(alloc), 1, Vec::new(alloc), Vec::new(alloc))
 }
 
-// A letter for each call: what it was and what it gave.
-fn letters(alloc: Global, calls: &[Call]) -> Result<Vec<u8>, AllocError> {
-    let mut all = Vec::new(alloc);
-    for call in calls.iter() {
-        all.push(letter(call))?;
+pub fn sink(alloc: Global) -> MemSink {
+    MemSink::new(alloc, Vec::new(alloc))
+}
+
+fn no_host(alloc: Global) -> TestHost {
+    let words = ChaCha20Rng::from_seed([7; 32]);
+    TestHost::new(alloc, MemClock::new(0, 100), words)
+}
+
+// Adds two links that come and one that is dialled; whether there was memory for them.
+fn has_links(alloc: Global, host: &mut TestHost) -> bool {
+    let first = host.accepts(nothing(alloc), sink(alloc)).is_ok();
+    let second = host.accepts(nothing(alloc), sink(alloc)).is_ok();
+    let dialled = host.dials(nothing(alloc), sink(alloc)).is_ok();
+    first && second && dialled
+}
+
+/// A host with two links that come and one that is dialled, where the accepts with these numbers fail or are quiet.
+pub fn host(alloc: Global, failing: &[u64], quiet: &[u64]) -> Result<TestHost, AllocError> {
+    let failing = failing.to_vec(alloc)?;
+    let quiet = quiet.to_vec(alloc)?;
+    let mut host = no_host(alloc);
+    let has_links = has_links(alloc, &mut host);
+    if has_links {
+        Ok(host.troubled(failing, quiet))
+    } else {
+        Err(AllocError)
     }
-    Ok(all)
+}
+
+// Whether the calls are those of the letters: what each was and what it gave.
+fn are_calls(calls: &[Call], letters: &[u8]) -> bool {
+    if calls.len() != letters.len() {
+        return false;
+    }
+    for i in 0..calls.len() {
+        if letter(&calls[i]) != letters[i] {
+            return false;
+        }
+    }
+    true
 }
 
 fn letter(call: &Call) -> u8 {
@@ -44,19 +72,37 @@ fn letter(call: &Call) -> u8 {
     }
 }
 
-#[test]
-fn a_host_in_memory_tells_its_calls(rt: HostRuntime) -> Result<(), Fail> {
-    let alloc = rt.alloc();
-    let mut host = host(alloc)?.troubled(vec![in alloc; 2]?, vec![in alloc; 1]?);
-    let is_listening = host.listen("here");
-    let is_link = host.dial("there").is_some();
-    assert!(rt; (is_listening, is_link) == (true, false));
-    for _ in 0..4u32 {
+fn accepts(host: &mut TestHost) {
+    for _ in 0..5u32 {
         let _ = host.accept();
     }
-    let calls = letters(alloc, host.calls().unwrap_or(&[]))?;
-    assert!(rt; calls.as_slice() == b"LdAqfe".as_slice());
-    let words = (host.words().is_some(), host.words().is_some());
-    assert!(rt; words == (true, false));
+}
+
+fn dials(host: &mut TestHost, address: &str) -> bool {
+    host.dial(address).is_some()
+}
+
+fn has_words(host: &mut TestHost) -> bool {
+    host.words().is_some()
+}
+
+// Whether it listens, dials once, accepts two links, is quiet and fails where it is to, gives its words once, and tells its calls.
+fn is_in_order(host: &mut TestHost) -> bool {
+    let is_listening = host.listen("here");
+    let is_link = dials(host, "there");
+    let is_lost = !dials(host, "nowhere");
+    accepts(host);
+    let has_words_once = has_words(host) && !has_words(host);
+    is_listening
+        && is_link
+        && is_lost
+        && has_words_once
+        && are_calls(host.calls().unwrap_or(&[]), b"LDdAqfAe")
+}
+
+#[test]
+fn a_host_in_memory_tells_its_calls(rt: HostRuntime) -> Result<(), Fail> {
+    let mut host = host(rt.alloc(), &[2], &[1])?;
+    assert!(rt; is_in_order(&mut host));
     Ok(())
 }

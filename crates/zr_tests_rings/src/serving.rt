@@ -1,36 +1,23 @@
 //! A router that is served over a host in memory: which links become jobs of the crew, and how it ends where the host fails.
 
-use rand_chacha::ChaCha20Rng;
-use rand_core::SeedableRng;
+use crate::hosts::{TestHost, host, sink};
 use std::alloc::{AllocError, Global};
 use std::sync::Wait;
 use std::test::Fail;
 use std::thread::Threads;
 use zr_crew::Crew;
 use zr_id::zid::Zid;
-use zr_outside::mem_clock::MemClock;
-use zr_outside::mem_host::MemHost;
 use zr_outside::mem_sink::MemSink;
-use zr_outside::mem_source::MemSource;
 use zr_serve::{LinkJob, ServeEnd, ServePlan, Side};
 use zr_service::serving::serve_router;
 
-/// What the host does beside giving two links that come and one that is dialled.
-#[derive(Clone, Copy, PartialEq, Eq)]
-enum Trouble {
-    Nothing,
-    /// It can't listen.
-    Deaf,
-    /// Its first accept fails.
-    Failing,
-}
-
-/// Which addresses are dialled and whether links have logs, what the host does, and what it comes to: the end, both outputs, and a letter for each job that the
-/// crew started, a capital one where it has a log.
+/// Which addresses are dialled and whether links have logs, whether the host can listen and which of its accepts fail, and what it comes to: the end, both
+/// outputs, and a letter for each job that the crew started, a capital one where it has a log.
 type Row = (
     &'static [&'static str],
     bool,
-    Trouble,
+    bool,
+    &'static [u64],
     ServeEnd,
     &'static str,
     &'static str,
@@ -41,7 +28,8 @@ static ROWS: [Row; 4] = [
     (
         &["there", "nowhere"],
         false,
-        Trouble::Nothing,
+        true,
+        &[],
         ServeEnd::Done,
         "serving 01\n",
         "dial nowhere failed\n",
@@ -50,7 +38,8 @@ static ROWS: [Row; 4] = [
     (
         &["there", "nowhere"],
         true,
-        Trouble::Nothing,
+        true,
+        &[],
         ServeEnd::Done,
         "serving 01\n",
         "dial nowhere failed\n",
@@ -59,7 +48,8 @@ static ROWS: [Row; 4] = [
     (
         &[],
         false,
-        Trouble::Deaf,
+        false,
+        &[],
         ServeEnd::HostFault,
         "",
         "listen here failed\n",
@@ -68,7 +58,8 @@ static ROWS: [Row; 4] = [
     (
         &[],
         false,
-        Trouble::Failing,
+        true,
+        &[0],
         ServeEnd::HostFault,
         "serving 01\n",
         "accept failed\n",
@@ -76,31 +67,9 @@ static ROWS: [Row; 4] = [
     ),
 ];
 
-type TestHost = MemHost<MemSource, MemSink, ChaCha20Rng>;
-
-fn nothing(alloc: Global) -> MemSource {
-    MemSource::new(Vec::new(alloc), 1, Vec::new(alloc), Vec::new(alloc))
-}
-
-fn sink(alloc: Global) -> MemSink {
-    MemSink::new(alloc, Vec::new(alloc))
-}
-
-// The host of a row.
-fn host(alloc: Global, trouble: Trouble) -> Result<TestHost, AllocError> {
-    let words = ChaCha20Rng::from_seed([7; 32]);
-    let mut host = TestHost::new(alloc, MemClock::new(0, 100), words);
-    host.accepts(nothing(alloc), sink(alloc))?;
-    host.accepts(nothing(alloc), sink(alloc))?;
-    host.dials(nothing(alloc), sink(alloc))?;
-    match trouble {
-        Trouble::Nothing => Ok(host),
-        Trouble::Deaf => Ok(host.deaf()),
-        Trouble::Failing => {
-            let failing = Vec::from_elem(alloc, 0, 1)?;
-            Ok(host.troubled(failing, Vec::new(alloc)))
-        }
-    }
+fn host_of(alloc: Global, can_listen: bool, failing: &[u64]) -> Result<TestHost, AllocError> {
+    let host = host(alloc, failing, &[])?;
+    Ok(if can_listen { host } else { host.deaf() })
 }
 
 fn texts(alloc: Global, words: &[&str]) -> Result<Vec<String>, AllocError> {
@@ -138,8 +107,8 @@ fn are_jobs(jobs: &[LinkJob], letters: &[u8]) -> bool {
     if jobs.len() != letters.len() {
         return false;
     }
-    for (job, want) in jobs.iter().zip(letters) {
-        if letter(job) != *want {
+    for i in 0..jobs.len() {
+        if letter(&jobs[i]) != letters[i] {
             return false;
         }
     }
@@ -159,25 +128,36 @@ fn ended<R: Threads + Wait + Copy + Send + Sync + Drop + 'static>(
     serve_router(rt, alloc, plan, out, err, host, crew)
 }
 
+// Whether serving comes to what the row says.
+fn serves<R: Threads + Wait + Copy + Send + Sync + Drop + 'static>(
+    rt: R,
+    alloc: Global,
+    plan: &ServePlan,
+    host: &mut TestHost,
+    crew: &mut Crew<R, LinkJob>,
+    row: &Row,
+) -> bool {
+    let (_, _, _, _, end, out_text, err_text, jobs) = *row;
+    let mut out = sink(alloc);
+    let mut err = sink(alloc);
+    let told = ended(rt, alloc, plan, &mut out, &mut err, host, crew);
+    crew.wait();
+    told == end
+        && out.bytes() == out_text.as_bytes()
+        && err.bytes() == err_text.as_bytes()
+        && are_jobs(crew.told().unwrap_or(&[]), jobs.as_bytes())
+}
+
 // Whether a row is so.
 fn is_so<R: Threads + Wait + Copy + Send + Sync + Drop + 'static>(
     rt: R,
     alloc: Global,
     row: &Row,
 ) -> Result<bool, AllocError> {
-    let (dials, log, trouble, end, out_text, err_text, jobs) = *row;
-    let plan = plan(alloc, dials, log)?;
-    let mut host = host(alloc, trouble)?;
-    let (mut out, mut err) = (sink(alloc), sink(alloc));
+    let plan = plan(alloc, row.0, row.1)?;
+    let mut host = host_of(alloc, row.2, row.3)?;
     let mut crew = Crew::telling(rt, alloc, Vec::new(alloc))?;
-    let told = ended(rt, alloc, &plan, &mut out, &mut err, &mut host, &mut crew);
-    crew.wait();
-    Ok(
-        told == end
-            && out.bytes() == out_text.as_bytes()
-            && err.bytes() == err_text.as_bytes()
-            && are_jobs(crew.told().unwrap_or(&[]), jobs.as_bytes()),
-    )
+    Ok(serves(rt, alloc, &plan, &mut host, &mut crew, row))
 }
 
 // The number of the first row that isn't so; that of all where there is none.
@@ -186,8 +166,8 @@ fn first_wrong<R: Threads + Wait + Copy + Send + Sync + Drop + 'static>(
     alloc: Global,
     rows: &[Row],
 ) -> Result<usize, AllocError> {
-    for (i, row) in rows.iter().enumerate() {
-        if !is_so(rt, alloc, row)? {
+    for i in 0..rows.len() {
+        if !is_so(rt, alloc, &rows[i])? {
             return Ok(i);
         }
     }

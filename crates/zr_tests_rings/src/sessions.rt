@@ -105,8 +105,66 @@ fn session(alloc: Global, me: Zid) -> Session
     Session::accepting(alloc, Opening::new(me, &SECRET, NUMBER, 0), 0)
 }
 
-// How the reader ended, and what was written to the link.
-fn ran_at<
+// What the link's two threads share or hand on, where what is written goes to these bytes.
+fn outward<B: Naming, R: Wait + Copy + Drop>(
+    rt: R,
+    alloc: Global,
+    router: Router<B, R>,
+    bytes: &Arc<Mutex<Vec<u8>>>,
+) -> Result<Outward<SharedSink<R>, Router<B, R>, MemClock, MemLog>, AllocError> {
+    let port = Arc::new(alloc, router)?;
+    let bytes = Arc::try_clone(bytes)?;
+    let sink = SharedSink {
+        rt,
+        bytes,
+        faults: 0,
+    };
+    Ok(Outward {
+        sink,
+        port,
+        clock: MemClock::new(0, 100),
+        turns: MOST_TURNS,
+        log: Some(MemLog::new(alloc)),
+    })
+}
+
+// How the reader ends.
+fn ended<
+    B: Naming + Send + Sync + 'static,
+    R: Threads + Wait + Copy + Send + Sync + Drop + 'static,
+>(
+    alloc: Global,
+    me: Zid,
+    source: &mut MemSource,
+    out: Outward<SharedSink<R>, Router<B, R>, MemClock, MemLog>,
+    crew: &mut Crew<R, LinkNo>,
+    pass: &mut Pass<Entry>,
+) -> LinkEnd
+    requires { pass_name pass.old ≡ B.history }
+{
+    let session = session(alloc, me);
+    let mut clock = MemClock::new(0, 100);
+    let mut log = LinkLog::new(alloc, Some(MemLog::new(alloc)), Stage::Unopened);
+    let (end, _) = Reader::run(
+        alloc,
+        source,
+        out,
+        &[],
+        session,
+        &mut clock,
+        crew,
+        pass,
+        &mut log,
+    );
+    end
+}
+
+fn hold<R: Wait>(rt: &R, bytes: &Arc<Mutex<Vec<u8>>>, want: &[u8]) -> bool {
+    bytes.lock(rt).as_slice() == want
+}
+
+// Whether the client's end comes with just these bytes before it, where it sends so many bytes a read at most.
+fn is_answered_at<
     B: Naming + Send + Sync + 'static,
     R: Threads + Wait + Copy + Send + Sync + Drop + 'static,
 >(
@@ -116,8 +174,9 @@ fn ran_at<
     history: History<Entry>,
     kept: Kept<Entry>,
     pass: Pass<Entry>,
-    most: usize,
-) -> Result<(LinkEnd, Vec<u8>), Fail>
+    source: &mut MemSource,
+    want: &[u8],
+) -> Result<bool, AllocError>
     requires history { name history ≡ B.history }
     requires kept { (kept_name kept ≡ B.history) × (list_of kept ≡ []) }
     requires pass { pass_name pass ≡ B.history }
@@ -125,45 +184,27 @@ fn ran_at<
 {
     let mut pass = pass;
     let router = Router::<B, R>::new(rt, alloc, me, history, kept)?;
-    let bytes = Arc::new(alloc, Mutex::new(Vec::new(alloc)))?;
-    let out = Outward {
-        sink: SharedSink {
-            rt,
-            bytes: Arc::try_clone(&bytes)?,
-            faults: 0,
-        },
-        port: Arc::new(alloc, router)?,
-        clock: MemClock::new(0, 100),
-        turns: MOST_TURNS,
-        log: Some(MemLog::new(alloc)),
-    };
     let mut crew: Crew<R, LinkNo> = Crew::new(rt, alloc)?;
-    let mut log = LinkLog::new(alloc, Some(MemLog::new(alloc)), Stage::Unopened);
-    let (end, _) = Reader::run(
-        alloc,
-        &mut client(alloc, most)?,
-        out,
-        &[],
-        session(alloc, me),
-        &mut MemClock::new(0, 100),
-        &mut crew,
-        &mut pass,
-        &mut log,
-    );
+    let bytes = Arc::new(alloc, Mutex::new(Vec::new(alloc)))?;
+    let out = outward(rt, alloc, router, &bytes)?;
+    let end = ended(alloc, me, source, out, &mut crew, &mut pass);
     crew.wait();
-    let written = bytes.lock(&rt).to_vec(alloc)?;
-    Ok((end, written))
+    Ok(end == LinkEnd::Peer(0) && hold(&rt, &bytes, want))
 }
 
-// The same for a new router 01.
-fn ran<R: Threads + Wait + Copy + Send + Sync + Drop + 'static>(
+// The same at a new router 01.
+fn is_answered<R: Threads + Wait + Copy + Send + Sync + Drop + 'static>(
     rt: R,
     alloc: Global,
     most: usize,
-) -> Result<(LinkEnd, Vec<u8>), Fail> {
-    let me = Zid::from_bytes(&[1])?;
+    want: &[u8],
+) -> Result<bool, AllocError> {
+    let Ok(me) = Zid::from_bytes(&[1]) else {
+        return Err(AllocError);
+    };
+    let mut source = client(alloc, most)?;
     let (history, kept, pass) = History::<Entry>::new(alloc)?;
-    ran_at::<Brand, R>(rt, alloc, me, history, kept, pass, most)
+    is_answered_at::<Brand, R>(rt, alloc, me, history, kept, pass, &mut source, want)
 }
 
 #[test]
@@ -173,9 +214,8 @@ fn a_usual_client_is_answered(rt: HostRuntime) -> Result<(), Fail> {
         alloc,
         &[&INIT_ANSWER, &COOKIE, &OPEN_ANSWER, &TOLD_END, &FINAL],
     )?;
-    let (end, written) = ran(rt, alloc, 65_536)?;
-    assert!(rt; (end, written.as_slice()) == (LinkEnd::Peer(0), answers.as_slice()));
-    let (end, written) = ran(rt, alloc, 1)?;
-    assert!(rt; (end, written.as_slice()) == (LinkEnd::Peer(0), answers.as_slice()));
+    let at_once = is_answered(rt, alloc, 65_536, &answers)?;
+    let bytewise = is_answered(rt, alloc, 1, &answers)?;
+    assert!(rt; at_once && bytewise);
     Ok(())
 }

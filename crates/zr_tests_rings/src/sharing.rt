@@ -4,7 +4,7 @@ ghost use Rattle.zr_hist.specs.Words.{kept_name, list_of, name, pass_name};
 
 use crate::calls::{OWN, Start, outbox, peer};
 use crate::desk::{Hand, Say};
-use std::alloc::Global;
+use std::alloc::{AllocError, Global};
 use std::marker::Brand;
 use std::sync::Wait;
 use std::test::Fail;
@@ -20,6 +20,16 @@ use zr_router::Router;
 /// How many samples each thread delivers.
 const SAMPLES: u32 = 120;
 
+/// The links of the clients that publish, and of the one that subscribes.
+const ONE: u32 = 0;
+
+const TWO: u32 = 1;
+
+const SUBSCRIBER: u32 = 2;
+
+/// The identifier of the client at link 0; the others have the next ones.
+const FIRST_CLIENT: u8 = 11;
+
 // Delivers samples, and counts those that were.
 fn publish<B: Naming, R: Wait + Drop>(
     alloc: Global,
@@ -29,22 +39,27 @@ fn publish<B: Naming, R: Wait + Drop>(
 ) -> u32 {
     let mut count = 0u32;
     for _ in 0..SAMPLES {
-        if matches!(hand.deliver(alloc, router, link, Say::Sample), Ok(Ok(()))) {
+        if hand.deliver(alloc, router, link, Say::Sample).is_ok() {
             count = count.saturating_add(1);
         }
     }
     count
 }
 
-// Takes what is there: how many parcels came at the next place, each with its number as its frame's.
+// Takes a parcel; whether it came at this place, with the place's number as its frame's.
+fn is_next(taker: &mut Taker<Queued>, place: u32) -> bool {
+    match taker.take() {
+        Took::Parcel(p) => p.place == u64::from(place) && is_frame(place, &p.bytes),
+        Took::Ended(_) | Took::Nothing => false,
+    }
+}
+
+// Takes what is there: how many parcels came at the next place.
 fn in_order(taker: &mut Taker<Queued>) -> u32 {
     let mut count = 0u32;
     for _ in 0..2 * SAMPLES + 1 {
-        match taker.take() {
-            Took::Parcel(p) if p.place == u64::from(count) && is_frame(count, &p.bytes) => {
-                count = count.saturating_add(1);
-            }
-            Took::Parcel(_) | Took::Ended(_) | Took::Nothing => break,
+        if is_next(taker, count) {
+            count = count.saturating_add(1);
         }
     }
     count
@@ -60,17 +75,67 @@ fn is_frame(number: u32, bytes: &[u8]) -> bool {
     }
 }
 
-// The link of a client that comes up, and its taker.
+// A client comes up; its taker, where it has the next link.
 fn client<B: Naming, R: Wait + Drop>(
     router: &Router<B, R>,
     hand: &mut Hand<B>,
-    id: u8,
-) -> Result<(u32, Taker<Queued>), Fail> {
-    let (link, taker) = hand.up(router, peer(id, Role::Client)?, outbox(Start::Zero))?;
-    Ok((link.0, taker))
+    link: u32,
+) -> Result<Taker<Queued>, AllocError> {
+    let id = FIRST_CLIENT.wrapping_add((link % 256) as u8);
+    match hand.up(router, peer(id, Role::Client)?, outbox(Start::Zero)) {
+        Ok((up, taker)) if up.0 == link => Ok(taker),
+        Ok(_) | Err(_) => Err(AllocError),
+    }
 }
 
-// How many samples of two threads were delivered, how many one subscriber got, and how many it gets of a further one once the passes are joined.
+// Two clients come up that publish, and one that subscribes, whose taker comes back.
+fn clients<B: Naming, R: Wait + Drop>(
+    alloc: Global,
+    router: &Router<B, R>,
+    hand: &mut Hand<B>,
+) -> Result<Taker<Queued>, AllocError> {
+    let _one = client(router, hand, ONE)?;
+    let _two = client(router, hand, TWO)?;
+    let taker = client(router, hand, SUBSCRIBER)?;
+    if hand.deliver(alloc, router, SUBSCRIBER, Say::Sub).is_ok() {
+        Ok(taker)
+    } else {
+        Err(AllocError)
+    }
+}
+
+// How many samples of two threads were delivered.
+fn publish_both<B: Naming + Send + Sync, R: Threads + Wait + Copy + Send + Sync + Drop>(
+    rt: R,
+    alloc: Global,
+    router: &Router<B, R>,
+    hand: &mut Hand<B>,
+    other: &mut Hand<B>,
+) -> (u32, u32) {
+    join(
+        &rt,
+        || publish(alloc, router, hand, ONE),
+        || publish(alloc, router, other, TWO),
+    )
+}
+
+// The same, how many the subscriber got, and whether it gets a further one once the passes are joined.
+fn share_at<B: Naming + Send + Sync, R: Threads + Wait + Copy + Send + Sync + Drop>(
+    rt: R,
+    alloc: Global,
+    router: &Router<B, R>,
+    hand: &mut Hand<B>,
+) -> Result<[u32; 4], AllocError> {
+    let mut taker = clients(alloc, router, hand)?;
+    let mut other = hand.split(router);
+    let (first, second) = publish_both(rt, alloc, router, hand, &mut other);
+    hand.join(router, other);
+    let got = in_order(&mut taker);
+    let further = hand.deliver(alloc, router, TWO, Say::Sample).is_ok() && is_next(&mut taker, got);
+    Ok([first, second, got, u32::from(further)])
+}
+
+// The same at a router of this history.
 fn share<B: Naming + Send + Sync, R: Threads + Wait + Copy + Send + Sync + Drop>(
     rt: R,
     alloc: Global,
@@ -78,40 +143,24 @@ fn share<B: Naming + Send + Sync, R: Threads + Wait + Copy + Send + Sync + Drop>
     history: History<Entry>,
     kept: Kept<Entry>,
     pass: Pass<Entry>,
-) -> Result<[u32; 4], Fail>
+) -> Result<[u32; 4], AllocError>
     requires history { name history ≡ B.history }
     requires kept { (kept_name kept ≡ B.history) × (list_of kept ≡ []) }
     requires pass { pass_name pass ≡ B.history }
     requires own { me ≡ B.me }
 {
-    let router = Router::<B, R>::new(rt, alloc, me, history, kept)?;
     let mut hand = Hand::new(pass);
-    let (one, _) = client(&router, &mut hand, 11)?;
-    let (two, _) = client(&router, &mut hand, 12)?;
-    let (three, mut taker) = client(&router, &mut hand, 13)?;
-    hand.deliver(alloc, &router, three, Say::Sub)??;
-    let mut other = hand.split(&router);
-    let (first, second) = join(
-        &rt,
-        || publish(alloc, &router, &mut hand, one),
-        || publish(alloc, &router, &mut other, two),
-    );
-    hand.join(&router, other);
-    let got = in_order(&mut taker);
-    hand.deliver(alloc, &router, two, Say::Sample)??;
-    Ok([
-        first,
-        second,
-        got,
-        u32::from(matches!(taker.take(), Took::Parcel(_))),
-    ])
+    let router = Router::<B, R>::new(rt, alloc, me, history, kept)?;
+    share_at(rt, alloc, &router, &mut hand)
 }
 
 fn shared<R: Threads + Wait + Copy + Send + Sync + Drop>(
     rt: R,
     alloc: Global,
-) -> Result<[u32; 4], Fail> {
-    let me = Zid::from_bytes(&[OWN])?;
+) -> Result<[u32; 4], AllocError> {
+    let Ok(me) = Zid::from_bytes(&[OWN]) else {
+        return Err(AllocError);
+    };
     let (history, kept, pass) = History::<Entry>::new(alloc)?;
     share::<Brand, R>(rt, alloc, me, history, kept, pass)
 }
