@@ -123,13 +123,15 @@ impl<B: Naming, R: Wait + Drop> Bench<B, R> {
         }
     }
 
-    // So many samples; the answer to the last.
+    // So many samples; the first answer that is a refusal, if there is one.
     fn samples(&mut self, link: u32, count: u32) -> Told {
-        let mut told = Told::Ok;
         for _ in 0..count {
-            told = self.say(link, Say::Sample);
+            let told = self.say(link, Say::Sample);
+            if told != Told::Ok {
+                return told;
+            }
         }
-        told
+        Told::Ok
     }
 
     fn down(&mut self, link: u32, reason: Option<u8>) -> Told {
