@@ -1,9 +1,12 @@
 //! What clients ask, reply and end.
 
-ghost use Rattle.std.specs.Prelude.{◌≡◌};
+ghost use Rattle.std.specs.Prelude.{◌≡◌, None, IfOk};
+ghost use Rattle.zr_msg.specs.Extras.{no_extras};
 ghost use Rattle.zr_world.specs.Steps.{Does};
 
+use crate::settled::is_unbroken;
 use crate::tables::Tables;
+use std::alloc::{AllocError, Global};
 use zr_command::error::ScriptError;
 use zr_id::zid::Zid;
 use zr_msg::content::Content;
@@ -33,21 +36,13 @@ impl Tables {
         if c.has_open(number) {
             return Err(ScriptError::NameTaken);
         }
-        let Some(end) = self.ends.get((c.router(), client)) else {
-            return Err(ScriptError::NotLinked);
-        };
-        if !end.is_unbroken() {
+        if !is_unbroken(&self.ends, (c.router(), client)) {
             return Err(ScriptError::NotLinked);
         }
         if c.is_full() {
             return Err(ScriptError::Limit);
         }
-        let msg = Msg::Request {
-            tree: None,
-            id: number,
-            target,
-            content,
-        };
+        let msg = request(number, target, content);
         self.ends.send((c.router(), client), msg, line)?;
         c.ask(number)?;
         Ok(())
@@ -68,18 +63,14 @@ impl Tables {
             return Err(ScriptError::UnknownName);
         };
         let router = c.router();
-        let Some(end) = self.ends.get((router, client)) else {
-            return Err(ScriptError::NotLinked);
-        };
-        if !end.is_unbroken() {
+        if !is_unbroken(&self.ends, (router, client)) {
             return Err(ScriptError::NotLinked);
         }
         if !c.is_asked(number) {
             return Err(ScriptError::NotAsked);
         }
-        let id = number;
-        self.ends
-            .send((router, client), Msg::Response { id, content }, line)?;
+        let msg = response(number, content);
+        self.ends.send((router, client), msg, line)?;
         Ok(())
     }
 
@@ -91,21 +82,44 @@ impl Tables {
         let Some(c) = self.clients.get_mut(&client) else {
             return Err(ScriptError::UnknownName);
         };
-        let Some(end) = self.ends.get((c.router(), client)) else {
-            return Err(ScriptError::NotLinked);
-        };
-        if !end.is_unbroken() {
+        if !is_unbroken(&self.ends, (c.router(), client)) {
             return Err(ScriptError::NotLinked);
         }
         if !c.is_asked(number) {
             return Err(ScriptError::NotAsked);
         }
-        let msg = Msg::Final {
-            id: number,
-            extras: Shared::new(self.alloc, Extras::none())?,
-        };
+        let msg = final_of(self.alloc, number)?;
         self.ends.send((c.router(), client), msg, line)?;
         c.end(number);
         Ok(())
     }
+}
+
+// The message by which a client asks. On its link no tree is named.
+fn request(id: u32, target: Target, content: Content) -> Msg
+    ensures { result ≡ Msg.Request None id target content }
+{
+    Msg::Request {
+        tree: None,
+        id,
+        target,
+        content,
+    }
+}
+
+// The message by which a client replies.
+fn response(id: u32, content: Content) -> Msg
+    ensures { result ≡ Msg.Response id content }
+{
+    Msg::Response { id, content }
+}
+
+// The message by which a client ends a request.
+fn final_of(alloc: Global, id: u32) -> Result<Msg, AllocError>
+    ensures { IfOk result (λ msg. msg ≡ Msg.Final id no_extras) }
+{
+    Ok(Msg::Final {
+        id,
+        extras: Shared::new(alloc, Extras::none())?,
+    })
 }

@@ -8,6 +8,7 @@ ghost use Rattle.zr_world.specs.Messages.{declaration, withdrawal};
 ghost use Rattle.zr_world.specs.Steps.{Changes, Does};
 
 use crate::router::Router;
+use crate::settled::is_unbroken;
 use crate::tables::Tables;
 use std::collections::BTreeMap;
 use zr_command::error::ScriptError;
@@ -40,10 +41,7 @@ impl Tables {
         if c.has(kind, id) {
             return Err(ScriptError::NameTaken);
         }
-        let Some(end) = self.ends.get((c.router(), client)) else {
-            return Err(ScriptError::NotLinked);
-        };
-        if !end.is_unbroken() {
+        if !is_unbroken(&self.ends, (c.router(), client)) {
             return Err(ScriptError::NotLinked);
         }
         weigh(&mut self.routers, &c.router(), key.text().as_bytes())?;
@@ -85,10 +83,7 @@ impl Tables {
         if !c.has(kind, id) {
             return Err(ScriptError::UnknownName);
         }
-        let Some(end) = self.ends.get((c.router(), client)) else {
-            return Err(ScriptError::NotLinked);
-        };
-        if !end.is_unbroken() {
+        if !is_unbroken(&self.ends, (c.router(), client)) {
             return Err(ScriptError::NotLinked);
         }
         let msg = withdrawal(kind, id);
@@ -106,10 +101,7 @@ impl Tables {
             return Err(ScriptError::UnknownName);
         };
         let router = c.router();
-        let Some(end) = self.ends.get((router, client)) else {
-            return Err(ScriptError::NotLinked);
-        };
-        if !end.is_unbroken() {
+        if !is_unbroken(&self.ends, (router, client)) {
             return Err(ScriptError::NotLinked);
         }
         let tree = None;

@@ -5,6 +5,7 @@ ghost use Rattle.zr_command.specs.Mode.{is_current, is_future};
 ghost use Rattle.zr_world.specs.Steps.{Does};
 
 use crate::declared::weigh;
+use crate::settled::is_unbroken;
 use crate::tables::Tables;
 use zr_command::command::Mode;
 use zr_command::error::ScriptError;
@@ -37,10 +38,7 @@ impl Tables {
         if c.has_interest(id) {
             return Err(ScriptError::NameTaken);
         }
-        let Some(end) = self.ends.get((c.router(), client)) else {
-            return Err(ScriptError::NotLinked);
-        };
-        if !end.is_unbroken() {
+        if !is_unbroken(&self.ends, (c.router(), client)) {
             return Err(ScriptError::NotLinked);
         }
         if mode.is_future() {
@@ -66,10 +64,7 @@ impl Tables {
         if !c.has_interest(id) {
             return Err(ScriptError::UnknownName);
         }
-        let Some(end) = self.ends.get((c.router(), client)) else {
-            return Err(ScriptError::NotLinked);
-        };
-        if !end.is_unbroken() {
+        if !is_unbroken(&self.ends, (c.router(), client)) {
             return Err(ScriptError::NotLinked);
         }
         self.ends

@@ -5,6 +5,7 @@ ghost use Rattle.zr_world.specs.Steps.{Does};
 
 use crate::client::Client;
 use crate::router::Router;
+use crate::settled::is_unbroken;
 use crate::spread::spread;
 use crate::tables::Tables;
 use zr_command::error::ScriptError;
@@ -131,10 +132,7 @@ impl Tables {
         if !self.is_router(&router) || !self.is_taken(&neighbour) {
             return Err(ScriptError::UnknownName);
         }
-        let Some(end) = self.ends.get((router, neighbour)) else {
-            return Err(ScriptError::NotLinked);
-        };
-        if !end.is_unbroken() {
+        if !is_unbroken(&self.ends, (router, neighbour)) {
             return Err(ScriptError::NotLinked);
         }
         self.ends.break_off((router, neighbour));

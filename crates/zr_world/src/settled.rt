@@ -1,14 +1,16 @@
 //! Whether links are in place, and whether the world is settled.
 
 ghost use Rattle.std.specs.Prelude.{◌≡◌, length};
+ghost use Rattle.zr_network.specs.World.{is_unbroken};
 
 use crate::tables::Tables;
 use zr_ends::end::LinkEnd;
+use zr_ends::ends::Ends;
 use zr_id::zid::Zid;
 
 impl Tables {
     ghost use Rattle.std.specs.Prelude.{◌&&◌};
-    ghost use Rattle.zr_network.specs.World.{is_up, is_unbroken, is_linked, is_in_place, is_first_end, links_in_place, is_met, is_settled};
+    ghost use Rattle.zr_network.specs.World.{is_up, is_linked, is_in_place, is_first_end, links_in_place, is_met, is_settled};
     ghost use Rattle.zr_world.specs.State.{state_of};
 
     /// Whether the router's end to the neighbour is up.
@@ -17,15 +19,6 @@ impl Tables {
     {
         match self.ends.get((router, neighbour)) {
             Some(end) => end.is_up(),
-            None => false,
-        }
-    }
-
-    fn is_unbroken(&self, router: Zid, neighbour: Zid) -> bool
-        ensures { result ≡ is_unbroken (state_of self.now).ends (router, neighbour) }
-    {
-        match self.ends.get((router, neighbour)) {
-            Some(end) => end.is_unbroken(),
             None => false,
         }
     }
@@ -41,7 +34,7 @@ impl Tables {
     pub fn is_in_place(&self, one: Zid, other: Zid) -> bool
         ensures { result ≡ is_in_place (state_of self.now).ends (one, other) }
     {
-        self.is_unbroken(one, other) || self.is_up(one, other) || self.is_up(other, one)
+        is_unbroken(&self.ends, (one, other)) || self.is_up(one, other) || self.is_up(other, one)
     }
 
     /// How many links between routers are in place.
@@ -75,5 +68,15 @@ impl Tables {
         ensures { result ≡ is_met (state_of self.now) at.now end.now }
     {
         !end.is_up() || (end.is_unbroken() && (!self.is_router(&at.1) || self.is_up(at.1, at.0)))
+    }
+}
+
+/// Whether the link of an end is unbroken, where the end is there.
+pub(crate) fn is_unbroken(ends: &Ends, at: (Zid, Zid)) -> bool
+    ensures { result ≡ is_unbroken ends.now at }
+{
+    match ends.get(at) {
+        Some(end) => end.is_unbroken(),
+        None => false,
     }
 }
