@@ -11,7 +11,6 @@ use crate::tables::Tables;
 use zr_command::error::ScriptError;
 use zr_ends::end::LinkEnd;
 use zr_id::zid::Zid;
-use zr_msg::event::Event;
 use zr_msg::peer::{Peer, Role};
 
 /// How many routers a world has at most, all that ever came.
@@ -62,8 +61,7 @@ impl Tables {
             return Err(ScriptError::Limit);
         }
         let role = Role::Client;
-        let event = r.up_event(Peer { id, role });
-        r.hear(self.alloc, &event, &mut self.out)?;
+        r.hear_up(self.alloc, Peer { id, role }, &mut self.out)?;
         let mut end = LinkEnd::new(self.alloc);
         end.lift();
         self.ends.put((router, id), end)?;
@@ -162,7 +160,7 @@ impl Tables {
         let Some(link) = r.link_to(&neighbour) else {
             return Err(ScriptError::NotLinked);
         };
-        r.hear(self.alloc, &Event::Down { link }, &mut self.out)?;
+        r.hear_down(self.alloc, link, &mut self.out)?;
         spread(r, router, &mut self.ends, &mut self.out, line)?;
         self.ends.lower((router, neighbour));
         Ok(())

@@ -99,6 +99,33 @@ impl Router {
         }
     }
 
+    /// It hears that the link to a neighbour has come up, under the least number that is free.
+    pub fn hear_up(
+        &mut self,
+        alloc: Global,
+        peer: Peer,
+        out: &mut Vec<(LinkNo, Msg)>,
+    ) -> Result<(), ScriptError>
+        requires { MayCome self.old.node (up_event self.old peer) }
+        ensures { IsHeard result self.old self.new (up_event self.old peer) out.new.items }
+    {
+        let event = self.up_event(peer);
+        self.hear(alloc, &event, out)
+    }
+
+    /// It hears that a link has gone down.
+    pub fn hear_down(
+        &mut self,
+        alloc: Global,
+        link: LinkNo,
+        out: &mut Vec<(LinkNo, Msg)>,
+    ) -> Result<(), ScriptError>
+        requires { MayCome self.old.node (Event.Down link) }
+        ensures { IsHeard result self.old self.new (Event.Down link) out.new.items }
+    {
+        self.hear(alloc, &Event::Down { link }, out)
+    }
+
     /// Whether there is room for what one more declaration of this text weighs, or one more interest.
     pub fn has_room(&self, text: &[u8]) -> bool
         ensures { result ≡ nat_le (self.now.weight + weight_of text.now) most_weight }

@@ -13,8 +13,8 @@ use Rattle.zr_world.proofs.Moving.{hears_is, down_is}
 use Rattle.zr_world.proofs.Refusing.{down_refused}
 use Rattle.zr_world.proofs.tables.Tables.down.Goals as goal
 
-pub hear-requires : goal.hear-requires
-hear-requires c =
+pub hear_down-requires : goal.hear_down-requires
+hear_down-requires c =
     let w = state_of c.args.self.now in
     let er : router_of (state_of c.args.self.now).routers c.args.router ≡ Some c.in-Some.r.now = search rules in
     let l = link_found (link_to c.in-Some.r.now.node.links c.args.neighbour) c.in-Some-link_to.link c.in-Some-link_to.ensures in
@@ -24,7 +24,7 @@ pub returns : goal.returns
 returns c =
     let w = state_of c.args.self.now in
     let r = c.in-Some.r.now in
-    let r' = c.hear.new.self in
+    let r' = c.hear_down.new.self in
     let s = c.in-Some-get.end.now in
     let er : router_of (state_of c.args.self.now).routers c.args.router ≡ Some c.in-Some.r.now = search rules in
     let et : is_taken (state_of c.args.self.now) c.args.neighbour ≡ true = sym c.is_taken-is_known.ensures ∙ c.if-not-is_known.false in
@@ -32,17 +32,17 @@ returns c =
     let up : c.in-Some-get.end.now.up ≡ true = sym c.is_up.ensures ∙ c.if-not-is_up.false in
     let broken : c.in-Some-get.end.now.unbroken ≡ false = sym c.is_unbroken.ensures ∙ c.if-is_unbroken.false in
     let l = link_found (link_to c.in-Some.r.now.node.links c.args.neighbour) c.in-Some-link_to.link c.in-Some-link_to.ensures in
-    let heard : IsHeard (Ok tt) c.in-Some.r.now c.hear.new.self (Down l.0.link) c.hear.new.out.items =
-    subst (λ (z : LinkNo). IsHeard (Ok tt) c.in-Some.r.now c.hear.new.self (Down z) c.hear.new.out.items) (sym l.2) c.in_ok-hear.ensures in
-    let lent : (c.get_mut.follows.lender c.hear.new.self).entries ≡ with_router c.args.self.now.routers.entries c.args.router c.hear.new.self = search rules in
+    let heard : IsHeard (Ok tt) c.in-Some.r.now c.hear_down.new.self (Down l.0.link) c.hear_down.new.out.items =
+    subst (λ (z : LinkNo). IsHeard (Ok tt) c.in-Some.r.now c.hear_down.new.self (Down z) c.hear_down.new.out.items) (sym l.2) c.in_ok-hear_down.ensures in
+    let lent : (c.get_mut.follows.lender c.hear_down.new.self).entries ≡ with_router c.args.self.now.routers.entries c.args.router c.hear_down.new.self = search rules in
     let lower : changed c.spread.new.ends (c.args.router, c.args.neighbour) lowered ≡ c.lower.new.self = sym c.lower.ensures in
     down_is w _ c.args.line c.args.router c.args.neighbour r s l.0 er et es up broken l.1
-    (hears_is w w.ends c.spread.new.ends c.args.router r r' (Down l.0.link) c.hear.new.out.items c.args.line heard c.requires.in_order (c.requires.unique c.args.router r er)
+    (hears_is w w.ends c.spread.new.ends c.args.router r r' (Down l.0.link) c.hear_down.new.out.items c.args.line heard c.requires.in_order (c.requires.unique c.args.router r er)
     (has_link w c.requires c.args.router r er c.args.neighbour l.0 l.1) c.in_ok-spread.ensures)
     ∙ (λ i. Ok ([], record { routers = sym lent i; clients = c.args.self.now.clients.entries; ends = lower i; booked = c.args.self.now.booked }))
 
-pub returns-in_err-hear : goal.returns-in_err-hear
-returns-in_err-hear c =
+pub returns-in_err-hear_down : goal.returns-in_err-hear_down
+returns-in_err-hear_down c =
     let w = state_of c.args.self.now in
     let p = err_from_is_err_and c.from_residual.result c.from_residual.ensures.1 in
     let er : router_of (state_of c.args.self.now).routers c.args.router ≡ Some c.in-Some.r.now = search rules in
@@ -51,11 +51,11 @@ returns-in_err-hear c =
     let up : c.in-Some-get.end.now.up ≡ true = sym c.is_up.ensures ∙ c.if-not-is_up.false in
     let broken : c.in-Some-get.end.now.unbroken ≡ false = sym c.is_unbroken.ensures ∙ c.if-is_unbroken.false in
     let l = link_found (link_to c.in-Some.r.now.node.links c.args.neighbour) c.in-Some-link_to.link c.in-Some-link_to.ensures in
-    let heard : IsHeard (Err c.in_err-hear.field-0.0) c.in-Some.r.now c.hear.new.self (Down l.0.link) c.hear.new.out.items =
-    subst (λ (z : LinkNo). IsHeard (Err c.in_err-hear.field-0.0) c.in-Some.r.now c.hear.new.self (Down z) c.hear.new.out.items) (sym l.2) c.in_err-hear.ensures in
-    let lent : (c.get_mut.follows.lender c.hear.new.self).entries ≡ with_router c.args.self.now.routers.entries c.args.router c.hear.new.self = search rules in
+    let heard : IsHeard (Err c.in_err-hear_down.field-0.0) c.in-Some.r.now c.hear_down.new.self (Down l.0.link) c.hear_down.new.out.items =
+    subst (λ (z : LinkNo). IsHeard (Err c.in_err-hear_down.field-0.0) c.in-Some.r.now c.hear_down.new.self (Down z) c.hear_down.new.out.items) (sym l.2) c.in_err-hear_down.ensures in
+    let lent : (c.get_mut.follows.lender c.hear_down.new.self).entries ≡ with_router c.args.self.now.routers.entries c.args.router c.hear_down.new.self = search rules in
     rw (p.1, p.2)
-    (down_refused w _ c.args.line c.args.router c.args.neighbour c.in-Some.r.now c.hear.new.self c.in-Some-get.end.now l.0 c.hear.new.out.items c.in_err-hear.field-0.0 er et es up broken l.1 heard
+    (down_refused w _ c.args.line c.args.router c.args.neighbour c.in-Some.r.now c.hear_down.new.self c.in-Some-get.end.now l.0 c.hear_down.new.out.items c.in_err-hear_down.field-0.0 er et es up broken l.1 heard
     (λ k. λ i. record {
       routers = (lent ∙ ap (with_router c.args.self.now.routers.entries c.args.router) k ∙ set_value_same (is_named c.args.router) c.args.self.now.routers.entries c.in-Some.r.now er) i;
       clients = c.args.self.now.clients.entries;
