@@ -1,6 +1,6 @@
 //! What waits of a report: its lines are counted, or else their texts wait, and are written once enough wait.
 
-ghost use Rattle.std.specs.Prelude.{◌≡◌, ◌<◌, ◌≤◌, ◌++◌, [], true, length, is_none, OnOk, OnErr};
+ghost use Rattle.std.specs.Prelude.{◌≡◌, ◌<◌, ◌≤◌, ◌++◌, [], true, length, nat_le, is_none, OnOk, OnErr};
 ghost use Rattle.std.specs.List.{flat_map};
 ghost use Rattle.std.specs.Option.{option_map};
 ghost use Rattle.zr_language.specs.Report.{line_text};
@@ -95,8 +95,14 @@ pub fn write_if_enough<K: Sink>(pending: &mut Vec<u8>, out: &mut K) -> Result<()
     ensures fault { OnErr result (Rose (K.faults out.old) (K.faults out.new)) }
     ensures later { K.faults out.old ≤ K.faults out.new }
 {
-    if pending.len() < MOST_PENDING {
-        return Ok(());
+    if is_enough(pending) {
+        return write_out(pending, out);
     }
-    write_out(pending, out)
+    Ok(())
+}
+
+fn is_enough(pending: &[u8]) -> bool
+    ensures { result ≡ nat_le most_pending (length pending.now) }
+{
+    pending.len() >= MOST_PENDING
 }
