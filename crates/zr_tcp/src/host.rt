@@ -4,13 +4,15 @@ ghost use Rattle.std.specs.Prelude.{◌≡◌, None};
 
 use crate::clock::SystemClock;
 use crate::log::ErrorLog;
+use crate::shared::{Shared, Streams};
 use crate::stream::{TcpSink, TcpSource, ends_of};
 use rand_chacha::ChaCha20Rng;
 use rand_core::SeedableRng;
-use std::alloc::Global;
+use std::alloc::{AllocError, Global};
 use std::io::{ErrorKind, Stderr};
 use std::net::{Net, TcpListener, TcpStream, ToSocketAddrs};
 use std::random::RandomSource;
+use std::sync::Arc;
 use std::time::{Clock, Duration};
 use std::{io, thread};
 use zr_outside::host::{Accepted, Host};
@@ -18,53 +20,60 @@ use zr_outside::host::{Accepted, Host};
 /// How long accepting rests where the system lacks descriptors, memory or a network.
 const LACK_MS: u64 = 100;
 
-/// How long a dial waits for each address to answer.
-const MOST_DIAL_S: u64 = 10;
+/// How long a dial waits for each address to answer. Nothing is accepted meanwhile, so it is well below the lease with which peers give up.
+const MOST_DIAL_S: u64 = 3;
 
 /// The codes of Linux for an accept that failed for a while, though the listener is sound (accept(2)): EPERM, ENOMEM, ENFILE, EMFILE, ENONET,
 /// EPROTO, ENOPROTOOPT, EOPNOTSUPP, ENETDOWN, ENETUNREACH, ENOBUFS, EHOSTDOWN, EHOSTUNREACH.
 const LACKING: [i32; 13] = [1, 12, 23, 24, 64, 71, 92, 95, 100, 101, 105, 112, 113];
 
-/// Listens, accepts and dials over TCP. Its accepts never end.
+/// Listens, accepts and dials over TCP. Its accepts never end. Only so many of its streams are open at a time: what is one too many is closed at once.
 #[derive(Drop)]
 pub struct TcpHost<
     R: Net<Listener = TcpListener, Stream = TcpStream> + RandomSource + Clock + Drop,
 > {
     rt: R,
+    alloc: Global,
     err: Stderr,
     listener: Option<TcpListener>,
+    streams: Arc<Streams>,
     faults: u64,
     quiets: u64,
     lost_dials: u64,
 }
 
 /// What an accept came to.
-enum Came {
-    Link(TcpSource, TcpSink),
+enum Came<R: Clock + Drop> {
+    Link(TcpSource, TcpSink<R>),
     Nothing,
     Fault,
 }
 
-impl<R: Net<Listener = TcpListener, Stream = TcpStream> + RandomSource + Clock + Drop> TcpHost<R> {
+impl<
+    R: Net<Listener = TcpListener, Stream = TcpStream> + RandomSource + Clock + Copy + Drop,
+> TcpHost<R> {
     /// A host that doesn't listen yet. The logs of its links tell on the error output.
-    pub fn new(rt: R, err: Stderr) -> TcpHost<R> {
-        TcpHost {
+    pub fn new(rt: R, alloc: Global, err: Stderr) -> Result<TcpHost<R>, AllocError> {
+        let streams = Streams::new(alloc)?;
+        Ok(TcpHost {
             rt,
+            alloc,
             err,
             listener: None,
+            streams,
             faults: 0,
             quiets: 0,
             lost_dials: 0,
-        }
+        })
     }
 
-    fn next(&self) -> Came {
+    fn next(&self) -> Came<R> {
         let Some(listener) = &self.listener else {
             return Came::Fault;
         };
         match listener.accept() {
-            // a peer that went at once, or a system out of descriptors, is no fault of the listener
-            Ok((stream, _)) => match ends_of(stream) {
+            // a peer that went at once, one too many, or a system out of descriptors or memory, is no fault of the listener
+            Ok((stream, _)) => match self.ends(stream) {
                 Ok((source, sink)) => Came::Link(source, sink),
                 Err(_) => Came::Nothing,
             },
@@ -73,7 +82,7 @@ impl<R: Net<Listener = TcpListener, Stream = TcpStream> + RandomSource + Clock +
     }
 
     // What an accept that failed comes to.
-    fn lost(&self, e: &io::Error) -> Came {
+    fn lost(&self, e: &io::Error) -> Came<R> {
         match e.kind() {
             ErrorKind::Interrupted
             | ErrorKind::WouldBlock
@@ -87,13 +96,21 @@ impl<R: Net<Listener = TcpListener, Stream = TcpStream> + RandomSource + Clock +
         }
     }
 
+    // Both ends of a stream, if there may be one more.
+    fn ends(&self, stream: TcpStream) -> io::Result<(TcpSource, TcpSink<R>)> {
+        let Some(shared) = Shared::new(&self.streams) else {
+            return Err(io::Error::other("too many streams"));
+        };
+        ends_of(self.alloc, SystemClock::new(self.rt), stream, shared)
+    }
+
     // Tries each address that the text stands for.
-    fn connected(&self, address: &str) -> io::Result<(TcpSource, TcpSink)> {
+    fn connected(&self, address: &str) -> io::Result<(TcpSource, TcpSink<R>)> {
         let most = Duration::from_secs(MOST_DIAL_S);
         let mut last = io::Error::other("no address");
         for address in address.to_socket_addrs(&self.rt)? {
             match TcpStream::connect_timeout(&self.rt, &address, most) {
-                Ok(stream) => return ends_of(stream),
+                Ok(stream) => return self.ends(stream),
                 Err(e) => last = e,
             }
         }
@@ -113,7 +130,7 @@ impl<
 > Host for TcpHost<R> {
     type In = TcpSource;
 
-    type Out = TcpSink;
+    type Out = TcpSink<R>;
 
     type Time = SystemClock<R>;
 
@@ -144,7 +161,7 @@ impl<
         }
     }
 
-    fn accept(&mut self) -> Accepted<TcpSource, TcpSink> {
+    fn accept(&mut self) -> Accepted<TcpSource, TcpSink<R>> {
         match self.next() {
             Came::Link(source, sink) => Accepted::Link(source, sink),
             Came::Nothing => {
@@ -158,7 +175,7 @@ impl<
         }
     }
 
-    fn dial(&mut self, address: &str) -> Option<(TcpSource, TcpSink)> {
+    fn dial(&mut self, address: &str) -> Option<(TcpSource, TcpSink<R>)> {
         match self.connected(address) {
             Ok(link) => Some(link),
             Err(_) => {

@@ -3,11 +3,13 @@
 #![tactic(auto)]
 
 mod clock;
+mod grace;
 mod host;
 mod log;
+mod shared;
 mod stream;
 
 pub use clock::SystemClock;
 pub use host::TcpHost;
 pub use log::ErrorLog;
-pub use stream::{TcpSink, TcpSource, ends_of};
+pub use stream::{TcpSink, TcpSource};

@@ -2,10 +2,15 @@
 
 ghost use Rattle.std.specs.Prelude.{◌≡◌, ◌≤◌, None, length};
 
+use crate::clock::SystemClock;
+use crate::grace::Grace;
+use crate::shared::Shared;
+use std::alloc::Global;
 use std::io;
 use std::io::{ErrorKind, Read, Write};
 use std::net::{Shutdown, SocketAddr, TcpStream};
-use std::time::Duration;
+use std::sync::Arc;
+use std::time::{Clock, Duration};
 use zr_outside::sink::{Put, Sink};
 use zr_outside::source::{Got, Source};
 
@@ -18,30 +23,39 @@ const MOST_WRITE_S: u64 = 10;
 /// How often a write that a signal broke off is tried.
 const MOST_TRIES: u32 = 16;
 
-/// The reading end of a stream.
-#[derive(Drop)]
+/// The reading end of a stream. Once it is dropped the writing end has its grace period left.
 pub struct TcpSource {
     stream: TcpStream,
+    shared: Arc<Shared>,
     reads: u64,
     faults: u64,
     quiets: u64,
     ends: u64,
 }
 
-/// The writing end of a stream. As it is dropped the peer reads the end, behind all that was written.
-pub struct TcpSink {
+/// The writing end of a stream. As it is dropped the peer reads the end, behind all that was written; where a write has failed, the reading end reads it too.
+pub struct TcpSink<R: Clock + Drop> {
     stream: TcpStream,
+    grace: Grace<R>,
     faults: u64,
 }
 
 /// Both ends of a stream, each with a descriptor of its own.
-pub fn ends_of(stream: TcpStream) -> io::Result<(TcpSource, TcpSink)> {
+pub(crate) fn ends_of<R: Clock + Drop>(
+    alloc: Global,
+    clock: SystemClock<R>,
+    stream: TcpStream,
+    shared: Shared,
+) -> io::Result<(TcpSource, TcpSink<R>)> {
     stream.set_nodelay(true)?;
     stream.set_read_timeout(Some(Duration::from_millis(QUIET_MS)))?;
     stream.set_write_timeout(Some(Duration::from_secs(MOST_WRITE_S)))?;
     let other = stream.try_clone()?;
+    let shared = Arc::new(alloc, shared)?;
+    let theirs = Arc::try_clone(&shared)?;
     let source = TcpSource {
         stream,
+        shared,
         reads: 0,
         faults: 0,
         quiets: 0,
@@ -49,6 +63,7 @@ pub fn ends_of(stream: TcpStream) -> io::Result<(TcpSource, TcpSink)> {
     };
     let sink = TcpSink {
         stream: other,
+        grace: Grace::new(theirs, clock),
         faults: 0,
     };
     Ok((source, sink))
@@ -61,11 +76,35 @@ impl TcpSource {
     }
 }
 
-impl Drop for TcpSink {
+impl Drop for TcpSource {
     fn drop(self) {
-        let TcpSink { stream, faults: _ } = self;
+        let TcpSource {
+            stream: _,
+            shared,
+            reads: _,
+            faults: _,
+            quiets: _,
+            ends: _,
+        } = self;
+        shared.end_reading();
+    }
+}
+
+impl<R: Clock + Drop> Drop for TcpSink<R> {
+    fn drop(self) {
+        let TcpSink {
+            stream,
+            grace: _,
+            faults,
+        } = self;
+        // a link to which nothing can be written is to go down, though its peer may still send
+        let how = if faults == 0 {
+            Shutdown::Write
+        } else {
+            Shutdown::Both
+        };
         // where the peer has gone there is nobody to be told
-        let _ = stream.shutdown(Shutdown::Write);
+        let _ = stream.shutdown(how);
     }
 }
 
@@ -102,13 +141,13 @@ impl Source for TcpSource {
     }
 }
 
-impl Sink for TcpSink {
+impl<R: Clock + Drop> Sink for TcpSink<R> {
     ghost held = { λ _. None };
 
     ghost faults = { λ s. s.faults };
 
     fn write(&mut self, from: &[u8]) -> Put {
-        match written(&mut self.stream, from) {
+        match written(&mut self.stream, &mut self.grace, from) {
             0 => {
                 self.faults = self.faults.saturating_add(1);
                 Put::Failed
@@ -118,8 +157,23 @@ impl Sink for TcpSink {
     }
 }
 
-// How many bytes the stream took, and 0 where the write failed.
-fn written(stream: &mut TcpStream, from: &[u8]) -> usize
+// How many bytes the stream took, and 0 where the write failed. In the grace period one that didn't take all has failed, having waited as long as a write may,
+// and so has each behind the period.
+fn written<R: Clock + Drop>(stream: &mut TcpStream, grace: &mut Grace<R>, from: &[u8]) -> usize
+    ensures { result ≤ length from.now }
+{
+    if grace.is_over() {
+        return 0;
+    }
+    let count = taken(stream, from);
+    if count < from.len() && grace.is_due() {
+        return 0;
+    }
+    count
+}
+
+// How many bytes the stream took, and 0 where it took none.
+fn taken(stream: &mut TcpStream, from: &[u8]) -> usize
     ensures { result ≤ length from.now }
 {
     for _ in 0..MOST_TRIES {

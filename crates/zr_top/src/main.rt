@@ -28,7 +28,9 @@ fn main(rt: HostRuntime) -> ExitCode {
     };
     let mut input = ReadSource::new(rt.stdin());
     let mut out = WriteSink::new(rt.stdout());
-    let mut host = TcpHost::new(rt, rt.stderr());
+    let Ok(mut host) = TcpHost::new(rt, alloc, rt.stderr()) else {
+        return end(Status::NoMemory, &mut err);
+    };
     let Ok(mut crew) = Crew::new(rt, alloc) else {
         return end(Status::NoMemory, &mut err);
     };
