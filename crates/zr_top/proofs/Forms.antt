@@ -107,7 +107,7 @@ made_is (a ∷ b ∷ c ∷ d ∷ e ∷ f ∷ g ∷ i ∷ []) p h = absurd (cc)
 made_is (first ∷ second ∷ third ∷ fourth ∷ fifth ∷ sixth ∷ seventh ∷ eighth ∷ ninth ∷ []) p h =
     let named : names_make first second fourth sixth eighth ≡ true = chosen (names_make first second fourth sixth eighth) _ p (sym h) in
     let other : is_word (codes "serve") first ≡ false = not_word 109 115 _ _ first refl (first_holds (is_word (codes "make") first) _ named) in
-    not_chosen (begins_serve first second fourth) _ _ (first_fails (is_word (codes "serve") first) _ other)
+    not_chosen (begins_serve first second fourth && _) _ _ (first_fails (begins_serve first second fourth) _ (first_fails (is_word (codes "serve") first) _ other))
 made_is (a ∷ b ∷ c ∷ d ∷ e ∷ f ∷ g ∷ i ∷ j ∷ k ∷ more) p h = absurd (cc)
 
 pub made_not_served : (words : List (List ℕ)) (p : MakePlan) (P : Served → Type 0) → Some p ≡ made_of words → IfSome (served_of words) P

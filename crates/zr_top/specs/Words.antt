@@ -1,5 +1,6 @@
 -- The program's words, and what is said of others.
-use Rattle.std.specs.Prelude.{ℕ, ◌^◌, nat_eq, nat_lt, ◌&&◌, ◌||◌, Bool, true, false, if◌then◌else◌, List, [], ◌∷◌, Option, Some, None, is_some, codes, ◌⊎◌, option_and_then}
+use Rattle.std.specs.Prelude.{ℕ, ◌^◌, nat_eq, nat_lt, not, ◌&&◌, ◌||◌, Bool, true, false, if◌then◌else◌, List, [], ◌∷◌, Option, Some, None, is_some, codes, ◌⊎◌, option_and_then}
+use Rattle.std.specs.List.{list_any, starts_with}
 use Rattle.std.specs.Option.{option_map}
 use Rattle.std.specs.Cmp.Lexicographic.{pointwise}
 use Rattle.zr_id.specs.Zid.{zid_of_hex}
@@ -62,7 +63,11 @@ abbrev pub dials_of : List (List ℕ) → List (List ℕ)
 dials_of [] = []
 dials_of (word ∷ words) = if is_word (codes "--log") word then words else word ∷ words
 
--- what the words `serve --id ID --listen ADDRESS [--log] [DIAL]...` ask for, where they are these
+-- whether a word begins with a hyphen, as options do
+abbrev pub is_option : List ℕ → Bool
+is_option word = starts_with nat_eq word (codes "-")
+
+-- what the words `serve --id ID --listen ADDRESS [--log] [DIAL]...` ask for, where they are these: no address is an option
 abbrev pub served_of : List (List ℕ) → Option Served
 served_of [] = None
 served_of (first ∷ []) = None
@@ -70,7 +75,9 @@ served_of (first ∷ second ∷ []) = None
 served_of (first ∷ second ∷ id ∷ []) = None
 served_of (first ∷ second ∷ id ∷ fourth ∷ []) = None
 served_of (first ∷ second ∷ id ∷ fourth ∷ listen ∷ more) =
-    if begins_serve first second fourth then option_map (λ i. record { id = i; listen = listen; log = has_log more; dials = dials_of more }) (zid_of_hex id) else None
+    if begins_serve first second fourth && not (list_any is_option (listen ∷ dials_of more))
+    then option_map (λ i. record { id = i; listen = listen; log = has_log more; dials = dials_of more }) (zid_of_hex id)
+    else None
 
 -- ---- `make`
 

@@ -47,6 +47,7 @@ where
     H::Time: 'static,
     H::Log: 'static,
     ensures served { IfSome (served_of (map string_bytes words.now)) (λ s. IsServing s result (H.calls host.old) (H.calls host.new) (crew_told crew.old) (crew_told crew.new) (crew_faults crew.old) (crew_faults crew.new) (outputs (K.held out.old) (E.held err.old) (E.faults err.old)) (outputs (K.held out.new) (E.held err.new) (E.faults err.new))) }
+    ensures unserved { is_some (served_of (map string_bytes words.now)) ≡ false → (host.new ≡ host.old) × (crew.new ≡ crew.old) }
     ensures made { IfSome (made_of (map string_bytes words.now)) (λ plan. IsWritten result (text_of (script plan)) (K.held out.old) (K.held out.new) (K.faults out.old) (K.faults out.new) × (E.held err.new ≡ E.held err.old)) }
     ensures told { IfSome (topic_of (map string_bytes words.now)) (λ topic. IsWritten result (help_text topic) (K.held out.old) (K.held out.new) (K.faults out.old) (K.faults out.new) × (E.held err.new ≡ E.held err.old) × (result ≡ Status.NoMemory → ⊥)) }
     ensures done { is_some (served_of (map string_bytes words.now)) ≡ true → result ≡ Status.Done → Rose (H.ends host.old) (H.ends host.new) }

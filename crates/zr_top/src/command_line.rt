@@ -1,9 +1,10 @@
 //! The program's words: what they ask for.
 
 ghost use Rattle.std.specs.Prelude.{◌≡◌, [], ◌∷◌, codes, is_some, map, true, IfOk, IfSome, OnErr};
+ghost use Rattle.std.specs.List.{list_any};
 ghost use Rattle.std.specs.String.{string_bytes};
 ghost use Rattle.zr_make.specs.Plan.{is_in_range};
-ghost use Rattle.zr_top.specs.Words.{are_both, begins_serve, dials_of, explained_of, has_log, is_word, made_of, names_make, net_of, plan_by, served_of, topic_of, topic_of_command};
+ghost use Rattle.zr_top.specs.Words.{are_both, begins_serve, dials_of, explained_of, has_log, is_option, is_word, made_of, names_make, net_of, plan_by, served_of, topic_of, topic_of_command};
 ghost use Rattle.zr_top.specs.Asked.{served_by};
 
 use crate::number::{count, number};
@@ -55,7 +56,7 @@ fn is_summary(word: &String) -> bool
     word.as_bytes() == b"--summary".as_slice()
 }
 
-/// The plan that the words `serve --id ID --listen ADDRESS [--log] [DIAL]...` ask for, if they are these. Other words take no memory.
+/// The plan that the words `serve --id ID --listen ADDRESS [--log] [DIAL]...` ask for, if they are these: no address begins with a hyphen. Other words take no memory.
 pub fn plan_of(alloc: Global, words: &[String]) -> Result<Option<ServePlan>, AllocError>
     ensures plan { IfOk result (λ plan. served_by plan ≡ served_of (map string_bytes words.now)) }
     ensures memory { OnErr result (is_some (served_of (map string_bytes words.now)) ≡ true) }
@@ -66,13 +67,17 @@ pub fn plan_of(alloc: Global, words: &[String]) -> Result<Option<ServePlan>, All
     if !begins_serve(first, second, fourth) {
         return Ok(None);
     }
+    let dials = dials_of(more);
+    if is_option(listen) || has_option(dials) {
+        return Ok(None);
+    }
     let Ok(id) = Zid::from_text(id.as_str()) else {
         return Ok(None);
     };
     Ok(Some(ServePlan {
         id,
         listen: listen.clone()?,
-        dials: all_of(alloc, dials_of(more))?,
+        dials: all_of(alloc, dials)?,
         log: has_log(more),
     }))
 }
@@ -83,6 +88,19 @@ fn begins_serve(first: &String, second: &String, fourth: &String) -> bool
     first.as_bytes() == b"serve".as_slice()
         && second.as_bytes() == b"--id".as_slice()
         && fourth.as_bytes() == b"--listen".as_slice()
+}
+
+// Whether a word begins with a hyphen: then it is no address.
+fn is_option(word: &String) -> bool
+    ensures { result ≡ is_option (string_bytes word.now) }
+{
+    word.as_bytes().starts_with(b"-")
+}
+
+fn has_option(words: &[String]) -> bool
+    ensures { result ≡ list_any is_option (map string_bytes words.now) }
+{
+    words.iter().any(|word| is_option(word))
 }
 
 fn has_log(words: &[String]) -> bool

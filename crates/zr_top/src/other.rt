@@ -45,6 +45,7 @@ where
     H::Time: 'static,
     H::Log: 'static,
     ensures served { IfSome (served_of (map string_bytes words.now)) (λ s. IsServing s result (H.calls host.old) (H.calls host.new) (crew_told crew.old) (crew_told crew.new) (crew_faults crew.old) (crew_faults crew.new) (outputs (K.held out.old) (E.held err.old) (E.faults err.old)) (outputs (K.held out.new) (E.held err.new) (E.faults err.new))) }
+    ensures unserved { is_some (served_of (map string_bytes words.now)) ≡ false → (host.new ≡ host.old) × (crew.new ≡ crew.old) }
     ensures done { result ≡ Status.Done → Rose (H.ends host.old) (H.ends host.new) }
     ensures host { result ≡ Status.HostFault → Rose (H.faults host.old) (H.faults host.new) }
     ensures write { result ≡ Status.WriteFault → Rose (K.faults out.old) (K.faults out.new) ⊎ Rose (E.faults err.old) (E.faults err.new) }

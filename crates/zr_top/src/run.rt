@@ -50,7 +50,7 @@ use zr_settled::{settled_logs_agree, settled_tables_agree};
 /// `net --summary` writes, at the script's end, four counts of the report in its place. With `--explain` beside these words `err` has the explanation
 /// of a refused line behind the line that tells its refusal, and all else is the same.
 /// `serve --id ID --listen ADDRESS [--log] [DIAL]...` runs a router of that identifier, which listens at the address and dials each of the others once,
-/// until the host gives no more links: the crew starts the reader of each link, with a log where the words say so.
+/// until the host gives no more links: the crew starts the reader of each link, with a log where the words say so. No address begins with a hyphen.
 /// `make --number N --routers R --clients C --messages M` writes a script that is made from the number. `--help`, a command with `--help`, and
 /// `--version` are told to `out`. With other words, or a value out of range, the status is `Words`, and `err` has the usage line.
 ///
@@ -73,6 +73,7 @@ use zr_settled::{settled_logs_agree, settled_tables_agree};
 ///
 /// The clause `served` says what was called of the host, which jobs the crew started, and what was written, where a router was served. The clauses
 /// `made` and `helped` say which text was written, where a script was made or something was told: all of it at `Done`, and else a prefix.
+/// With all other words than those of `serve` the host and the crew are as they were (`unserved`), and with all other words than those of `net` the input is (`unread`).
 #[tactic(auto, using(crate::proofs::Forms::net_not_served, crate::proofs::Forms::net_not_made, crate::proofs::Forms::net_not_told, crate::proofs::Explains::explained_not_served, crate::proofs::Explains::explained_not_made, crate::proofs::Explains::explained_not_told, crate::proofs::Explains::explained_not_net, crate::proofs::Explains::explained_is_net, crate::proofs::Explains::plain_is_net, crate::proofs::Explains::net_is_taken, crate::proofs::Explains::neither_is_net, crate::proofs::Explains::others_are_taken))]
 pub fn run<
     S: Source,
@@ -116,6 +117,8 @@ where
     ensures covering { AnsweringIsCovering }
     ensures rest { RestIsQuiet }
     ensures served { IfSome (served_of (map string_bytes words.now)) (λ s. IsServing s result (H.calls host.old) (H.calls host.new) (crew_told crew.old) (crew_told crew.new) (crew_faults crew.old) (crew_faults crew.new) (outputs (K.held out.old) (E.held err.old) (E.faults err.old)) (outputs (K.held out.new) (E.held err.new) (E.faults err.new))) }
+    ensures unserved { is_some (served_of (map string_bytes words.now)) ≡ false → (host.new ≡ host.old) × (crew.new ≡ crew.old) }
+    ensures unread { is_net (map string_bytes words.now) ≡ false → input.new ≡ input.old }
     ensures whole { is_net (map string_bytes words.now) ≡ true → result ≡ Status.Done → IsReadToEnd (S.ends input.old) (S.ends input.new) (S.quiets input.old) (S.quiets input.new) }
     ensures made { IfSome (made_of (map string_bytes words.now)) (λ plan. IsWritten result (text_of (script plan)) (K.held out.old) (K.held out.new) (K.faults out.old) (K.faults out.new) × (E.held err.new ≡ E.held err.old) × (S.left input.new ≡ S.left input.old)) }
     ensures helped { IfSome (topic_of (map string_bytes words.now)) (λ topic. IsWritten result (help_text topic) (K.held out.old) (K.held out.new) (K.faults out.old) (K.faults out.new) × (E.held err.new ≡ E.held err.old) × (S.left input.new ≡ S.left input.old) × (result ≡ Status.NoMemory → ⊥)) }
