@@ -46,14 +46,22 @@ pub(crate) fn say_serving<K: Sink>(alloc: Global, id: &Zid, out: &mut K) -> Resu
     }
 }
 
-/// The line that an address was dialled in vain.
-pub(crate) fn say_not_dialled<K: Sink>(address: &str, out: &mut K) -> Result<(), WriteFailed>
+/// The line that an address was dialled in vain. It is one write, since links that were dialled before may have logs, whose threads write to the same output.
+#[tactic(auto, using(zr_writer::proofs::Carrying::prefix_none))]
+pub(crate) fn say_not_dialled<K: Sink>(
+    alloc: Global,
+    address: &str,
+    out: &mut K,
+) -> Result<(), Unsaid>
     ensures said { OnOk result (Appends (dial_text address.now) (K.held out.old) (K.held out.new)) }
     ensures part { OnErr result (AppendsPrefix (dial_text address.now) (K.held out.old) (K.held out.new)) }
-    ensures fault { OnErr result (Rose (K.faults out.old) (K.faults out.new)) }
+    ensures fault { result ≡ Err Fault → Rose (K.faults out.old) (K.faults out.new) }
     ensures later { K.faults out.old ≤ K.faults out.new }
 {
-    say_failed("dial ", address, out)
+    match dial_line(alloc, address) {
+        Ok(line) => say(line.as_bytes(), out),
+        Err(_) => Err(Unsaid::NoMemory),
+    }
 }
 
 /// The line that the router can't listen at an address. It is told before serving ends anyway, so a write that fails changes nothing of that.
@@ -64,6 +72,7 @@ pub(crate) fn say_not_listening<K: Sink>(address: &str, out: &mut K)
     let _ = say_failed("listen ", address, out);
 }
 
+// It is three writes, which ask for no memory, so that only a write that fails can keep the line back. No link is there yet whose log could come between.
 #[tactic(auto, using(zr_writer::proofs::Carrying::appends_both, zr_writer::proofs::Carrying::prefix_more, zr_writer::proofs::Carrying::prefix_written, zr_writer::proofs::Carrying::prefix_behind))]
 fn say_failed<K: Sink>(head: &str, address: &str, out: &mut K) -> Result<(), WriteFailed>
     ensures said { OnOk result (Appends (failed_text head.now address.now) (K.held out.old) (K.held out.new)) }
@@ -106,5 +115,14 @@ fn serving_line(alloc: Global, id: &Zid) -> Result<String, AllocError>
     let mut line = String::from_str(alloc, "serving ")?;
     line.push_str(id.text(alloc)?.as_str())?;
     line.push_str("\n")?;
+    Ok(line)
+}
+
+fn dial_line(alloc: Global, address: &str) -> Result<String, AllocError>
+    ensures { IfOk result (λ s. string_bytes s ≡ dial_text address.now) }
+{
+    let mut line = String::from_str(alloc, "dial ")?;
+    line.push_str(address)?;
+    line.push_str(" failed\n")?;
     Ok(line)
 }

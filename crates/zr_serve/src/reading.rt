@@ -3,9 +3,10 @@
 ghost use Rattle.std.specs.Prelude.{◌≡◌, IfOk, is_some};
 ghost use Rattle.std.specs.Arc.{arc_value};
 ghost use Rattle.zr_hist.specs.Words.{pass_name};
-ghost use Rattle.zr_link.specs.Heard.{IsBegun};
 ghost use Rattle.zr_link.specs.Log.{stage_of};
 ghost use Rattle.zr_link.specs.declared.log.Stage.TheVariants as stages;
+ghost use Rattle.zr_serve.specs.Begins.{expects, greets, opening_of};
+ghost use Rattle.zr_session.specs.Session.{begun};
 
 use crate::job::{LinkJob, Side};
 use std::alloc::{AllocError, Global};
@@ -15,7 +16,7 @@ use zr_crew::Crew;
 use zr_hist::Pass;
 use zr_id::link::LinkNo;
 use zr_link::{LinkEnd, LinkLog, Outward, Reader, Stage};
-use zr_open::Opening;
+use zr_open::{Opening, Reason};
 use zr_outside::clock::Clock;
 use zr_outside::log::Log;
 use zr_outside::sink::{Sink, write_all};
@@ -23,9 +24,6 @@ use zr_outside::source::Source;
 use zr_port::{Entry, Port};
 use zr_session::Session;
 use zr_writer::close_batch;
-
-/// The reason of a link that could not be started (Zenoh protocol 1.0, "CLOSE").
-const GENERIC: u8 = 0;
 
 /// What the thread of a link's reader owns.
 #[derive(Drop)]
@@ -99,6 +97,7 @@ where
 }
 
 // Opens the session of a job, and runs the link's reader.
+#[tactic(auto, using(crate::proofs::Beginning::is_begun))]
 fn hear<
     S: Source,
     K: Sink + Send + Drop + 'static,
@@ -138,10 +137,10 @@ where
     end
 }
 
-// The session of a job, and what it asks to be written first.
+// The session of a job, by its side, and what it asks to be written first.
 fn begin(alloc: Global, job: &LinkJob, now: u64) -> Result<(Session, Vec<u8>), AllocError>
-    ensures begun { IfOk result (λ r. IsBegun r.0 r.1.items) }
-    ensures opening { IfOk result (λ r. r.0.opening ≡ record { me = job.now.me; secret = job.now.secret; number = job.now.number; word = job.now.word }) }
+    ensures session { IfOk result (λ r. r.0 ≡ begun (expects job.now.side) (opening_of job.now) now) }
+    ensures first { IfOk result (λ r. r.1.items ≡ greets job.now.side (opening_of job.now)) }
 {
     let opening = Opening::new(job.me, &job.secret, job.number, job.word);
     let mut first = Vec::new(alloc);
@@ -170,6 +169,6 @@ pub(crate) fn give_up<
         ..
     } = reading;
     // where the peer has gone there is nobody to be told
-    let _ = write_all(&mut sink, &close_batch(GENERIC));
+    let _ = write_all(&mut sink, &close_batch(Reason::Generic.byte()));
     LinkLog::new(alloc, log, Stage::Unopened).read(LinkEnd::CrewRefused);
 }

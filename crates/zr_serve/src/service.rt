@@ -173,9 +173,9 @@ where
                 Err(_) => Err(ServeEnd::NoMemory),
             }
         }
-        None => match say_not_dialled(address, err) {
+        None => match say_not_dialled(serving.alloc, address, err) {
             Ok(()) => Ok(()),
-            Err(_) => Err(ServeEnd::WriteFault),
+            Err(unsaid) => Err(unsaid.end()),
         },
     }
 }
@@ -276,7 +276,6 @@ where
     let job = links.next(side);
     // what may fail comes first, while there is little to be let go
     let (port, inner) = shared(serving)?;
-    let told = job.copy();
     let clock = host.time();
     let writer_clock = host.time();
     let log = log_of(serving.alloc, host, &job, &source);
@@ -294,7 +293,7 @@ where
         pass: serving.port.split(&mut serving.pass),
         crew: inner,
     };
-    hand_over(crew, reading, told);
+    hand_over(crew, reading);
     Ok(())
 }
 
@@ -322,7 +321,7 @@ fn log_of<H: Host>(alloc: Global, host: &mut H, job: &LinkJob, source: &H::In) -
     }
 }
 
-// Gives the job to the crew. Where that hands it back, the peer is told.
+// Gives a job to the crew, which tells it as its reader has it. Where the crew hands it back, the peer is told.
 #[tactic(auto, using(crate::proofs::Stepping::starts_one))]
 fn hand_over<
     S: Source + Send + Drop + 'static,
@@ -331,11 +330,12 @@ fn hand_over<
     L: Log + Send + Drop + 'static,
     P: Port + Send + Sync + Drop + 'static,
     R: Threads + Copy + Send + Sync + Drop + 'static,
->(crew: &mut Crew<R, LinkJob>, reading: Reading<S, K, C, L, P, R>, told: LinkJob)
+>(crew: &mut Crew<R, LinkJob>, reading: Reading<S, K, C, L, P, R>)
 where
     P::Note: Send + 'static,
-    ensures { Starts (told ∷ []) (crew_told crew.old) (crew_told crew.new) (crew_faults crew.old) (crew_faults crew.new) }
+    ensures { Starts (reading.job ∷ []) (crew_told crew.old) (crew_told crew.new) (crew_faults crew.old) (crew_faults crew.new) }
 {
+    let told = reading.job.copy();
     let run = |reading: Reading<S, K, C, L, P, R>| read(reading);
     if let Err(reading) = crew.start(reading, told, run) {
         give_up(reading);
