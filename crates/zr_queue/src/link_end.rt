@@ -35,6 +35,9 @@ const CLIENT_SLOTS: u32 = 256;
 /// How many parcels wait for a router at most.
 const ROUTER_SLOTS: u32 = 1_024;
 
+/// A ring of which fewer than this part of the slots are free is crowded.
+const CROWDED_PART: u32 = 4;
+
 /// The reason with which a ring that is too full ends (Zenoh protocol 1.0, "CLOSE").
 const FULL: u8 = 0;
 
@@ -176,6 +179,22 @@ impl LinkEnd {
         match &self.plan {
             None => false,
             Some(plan) => plan.batches.len() > self.free as usize && !plan.droppable,
+        }
+    }
+
+    /// For how long who brought an event is to rest, in milliseconds, so that the link's writer gets to run: where the event leaves the ring crowded with
+    /// what may not be dropped, the longer the fewer slots stay free, and else not at all. It is asked before the entry is appended.
+    pub fn rest_ms(&self) -> u64 {
+        match &self.plan {
+            None => 0,
+            Some(plan) => {
+                let parcels = plan.batches.len();
+                if plan.droppable || parcels == 0 || parcels > self.free as usize {
+                    return 0;
+                }
+                let crowded = u64::from(slots_of(self.role) / CROWDED_PART);
+                crowded / (self.free as u64 - parcels as u64 + 1)
+            }
         }
     }
 

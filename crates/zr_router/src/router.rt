@@ -3,7 +3,7 @@
 ghost use Rattle.std.specs.Prelude.{◌≡◌, []};
 ghost use Rattle.zr_hist.specs.Words.{kept_name, list_of, name};
 
-use crate::tables::{BELLS, Tables};
+use crate::tables::{BELLS, Due, Tables};
 use std::alloc::{AllocError, Global};
 use std::marker::PhantomData;
 use std::sync::{Mutex, Wait};
@@ -20,7 +20,8 @@ use zr_queue::Queued;
 use zr_ring::Taker;
 
 /// A router that many threads share. Each call works on the tables under their lock and wakes the links' writers once it is free again; only
-/// `split` and `join` take no lock.
+/// `split` and `join` take no lock. Where an event leaves a ring crowded, its thread rests for a moment, so that a writer which wasn't scheduled at once
+/// gets to run before the ring is full.
 #[derive(Drop)]
 pub struct Router<B: Naming, R: Wait + Drop> {
     rt: R,
@@ -59,9 +60,19 @@ impl<B: Naming, R: Wait + Drop> Router<B, R> {
         })
     }
 
+    // Does what a call leaves to be done once the lock is free: the writers are woken, and where a ring is crowded this thread rests for a while. No one
+    // wakes it earlier.
+    fn follow(&self, due: Due) {
+        self.ring(due.links);
+        if due.rest_ms > 0 {
+            let parker = Parker::new();
+            parker.park_timeout(&self.rt, Duration::from_millis(due.rest_ms));
+        }
+    }
+
     // Wakes the writers of these links.
-    fn ring(&self, due: u128) {
-        let mut rest = due;
+    fn ring(&self, links: u128) {
+        let mut rest = links;
         for _ in 0..BELLS {
             if rest == 0 {
                 break;
@@ -104,7 +115,7 @@ impl<B: Naming, R: Wait + Drop> Port for Router<B, R> {
         let result = tables.up(self.alloc, &self.history, pass, peer, outbox);
         let due = tables.take_due();
         drop(tables);
-        self.ring(due);
+        self.follow(due);
         result
     }
 
@@ -113,7 +124,7 @@ impl<B: Naming, R: Wait + Drop> Port for Router<B, R> {
         let result = tables.deliver(self.alloc, &self.history, pass, link, msg);
         let due = tables.take_due();
         drop(tables);
-        self.ring(due);
+        self.follow(due);
         result
     }
 
@@ -127,7 +138,7 @@ impl<B: Naming, R: Wait + Drop> Port for Router<B, R> {
         let result = tables.down(self.alloc, &self.history, pass, link, reason);
         let due = tables.take_due();
         drop(tables);
-        self.ring(due);
+        self.follow(due);
         match result {
             Ok(_) => Ok(()),
             Err(e) => Err(e),

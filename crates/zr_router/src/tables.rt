@@ -54,12 +54,23 @@ pub struct Tables<B: Naming> {
     kept: Kept<Entry>,
     // the links whose writers have something new, a bit for each
     due: u128,
+    // for how long who brought the last event is to rest, in milliseconds
+    rest_ms: u64,
     is_spent: bool,
     of: PhantomData<B>,
     ghost named: { kept_name kept ≡ B.history },
     ghost own: { me ≡ B.me },
     ghost legal: { is_legal B.me (list_of kept) ≡ true },
     ghost replayed: { is_spent ≡ false → IsReplay B.me (list_of kept) hub ends.items } by { IsReplay-prop is_spent B.me (list_of kept) hub ends.items },
+}
+
+/// What the calls on the tables leave to be done once their lock is free.
+#[derive(Clone, Copy)]
+pub struct Due {
+    /// The links whose writers have something new, a bit for each.
+    pub links: u128,
+    /// For how long the thread rests, in milliseconds: it has brought an event that leaves a ring crowded, whose writer is to run before the next one.
+    pub rest_ms: u64,
 }
 
 // What has come to the router, with what the call said beside it.
@@ -85,6 +96,7 @@ impl<B: Naming> Tables<B> {
             ends: Vec::new(alloc),
             kept,
             due: 0,
+            rest_ms: 0,
             is_spent: false,
             of: PhantomData,
         })
@@ -286,12 +298,16 @@ impl<B: Naming> Tables<B> {
         Ok(end.end(reason, note))
     }
 
-    /// The links whose writers have something new since the last call, a bit for each.
-    pub fn take_due(&mut self) -> u128
+    /// What is left to be done since the last call.
+    pub fn take_due(&mut self) -> Due
         ensures { (entries self.new ≡ entries self.old) × (is_spent self.new ≡ is_spent self.old) × (open_links self.new ≡ open_links self.old) }
     {
-        let due = self.due;
+        let due = Due {
+            links: self.due,
+            rest_ms: self.rest_ms,
+        };
         self.due = 0;
+        self.rest_ms = 0;
         due
     }
 
@@ -386,12 +402,23 @@ impl<B: Naming> Tables<B> {
             reason,
         } = arrival;
         let entry = prepare(alloc, ends, sent, event, outbox, reason)?;
+        let rest_ms = rest_for(ends);
         enter(history, &mut self.kept, pass, self.me, ends, &entry);
         drop(entry);
         self.is_spent = false;
         self.due |= due_of(sent);
+        self.rest_ms = rest_ms;
         Ok(())
     }
+}
+
+// For how long who brought the event that is prepared is to rest, in milliseconds: as long as the most crowded ring asks for.
+fn rest_for(ends: &[LinkEnd]) -> u64 {
+    let mut most = 0u64;
+    for end in ends {
+        most = most.max(end.rest_ms());
+    }
+    most
 }
 
 // The links to which something was sent.
