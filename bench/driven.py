@@ -1,0 +1,265 @@
+"""A running router and its clients over real sockets, and what was seen of them. `bench/serve` has the cases."""
+import contextlib
+import importlib.machinery
+import importlib.util
+import os
+import pathlib
+import socket
+import subprocess
+import sys
+import time
+
+HERE = pathlib.Path(__file__).resolve().parent
+PUBSUB = HERE.parent / "examples" / "pubsub"
+loader = importlib.machinery.SourceFileLoader("pubsub", str(PUBSUB))
+sys.dont_write_bytecode = True
+pubsub = importlib.util.module_from_spec(importlib.util.spec_from_loader("pubsub", loader))
+loader.exec_module(pubsub)
+Session, Ended, Reader, Sample, Answer, Told = pubsub.Session, pubsub.Ended, pubsub.Reader, pubsub.Sample, pubsub.Answer, pubsub.Told
+
+MOST_WAIT = 10  # seconds
+SILENCE = 0.3  # seconds for which nothing comes
+PROBE = "settle/"  # the keys by which a client learns that its subscription is seen
+SPEAKS_RECORDS = bytes([0x29, 0x01])  # the extension of INIT that a router of this kind sends
+RECORD, DECLARATIONS = 0x5A01, 0x5A02  # messages between routers
+
+
+class Wrong(Exception):
+    """What was seen isn't what must be seen."""
+
+
+def must(seen, wanted, what):
+    if seen != wanted:
+        raise Wrong(f"{what}: {seen!r}, not {wanted!r}")
+
+
+def until(test, what, seconds=MOST_WAIT):
+    """Waits until the test holds."""
+    end = time.monotonic() + seconds
+    while not test():
+        if time.monotonic() > end:
+            raise Wrong(f"not within {seconds} s: {what}")
+        time.sleep(0.02)
+
+
+def free_port():
+    with socket.socket() as s:
+        s.bind(("127.0.0.1", 0))
+        return s.getsockname()[1]
+
+
+class Router:
+    """The program, as it serves."""
+
+    program = []
+
+    def __init__(self, ident, *dials, options=()):
+        self.ident = ident
+        self.port = free_port()
+        self.address = ("127.0.0.1", self.port)
+        words = ["serve", "--id", ident, "--listen", f"127.0.0.1:{self.port}", *options]
+        words += [f"127.0.0.1:{d.port if isinstance(d, Router) else d}" for d in dials]
+        self.process = subprocess.Popen(
+            self.program + words, stdin=subprocess.DEVNULL, stdout=subprocess.PIPE, stderr=subprocess.PIPE, text=True
+        )
+        line = self.process.stdout.readline()
+        if line != f"serving {ident}\n":
+            self.process.kill()
+            raise Wrong(f"the router wrote {line!r}, not 'serving {ident}'; on standard error: {self.process.stderr.read()!r}")
+
+    def __enter__(self):
+        return self
+
+    def __exit__(self, *_):
+        self.process.kill()
+        self.process.wait()
+        self.process.stdout.close()
+        self.process.stderr.close()
+
+    def client(self, ident=None, lease=pubsub.LEASE_S):
+        return Client(self.address, bytes.fromhex(ident) if ident else None, lease)
+
+    def threads(self):
+        """How many threads it runs, and how much memory it holds, in KiB."""
+        status = pathlib.Path(f"/proc/{self.process.pid}/status").read_text().split("\n")
+        values = dict(line.split(":", 1) for line in status if ":" in line)
+        return int(values["Threads"]), int(values["VmRSS"].split()[0])
+
+    def descriptors(self):
+        return len(os.listdir(f"/proc/{self.process.pid}/fd"))
+
+
+class Client(Session):
+    """A client whose probes are told apart from its samples."""
+
+    def __init__(self, *words):
+        self.heard = set()
+        super().__init__(*words)
+
+    def receive(self, seconds):
+        end = time.monotonic() + seconds
+        while (sample := super().receive(max(end - time.monotonic(), 0))) is not None:
+            if not sample.key.startswith(PROBE):
+                return sample
+            self.heard.add(sample.key)
+        return None
+
+    def hears(self, key):
+        """Whether a probe has come, within a moment."""
+        if (sample := self.receive(0.05)) is not None:
+            self.samples.insert(0, sample)
+        return key in self.heard
+
+
+class Watcher(Session):
+    """A session of a router, which keeps what the other end tells of links."""
+
+    def __init__(self, address, ident):
+        self.records = {}
+        super().__init__(address, bytes.fromhex(ident))
+
+    def open(self, lease):
+        self.batch(bytes([pubsub.INIT | pubsub.EXTENDED, pubsub.VERSION, len(self.ident) - 1 << 4]) + self.ident + SPEAKS_RECORDS)
+        answer = Reader(self.wait_batch())
+        header = self.expect(answer, pubsub.INIT)
+        answer.byte()
+        self.router = answer.take((answer.byte() >> 4) + 1)
+        if header & pubsub.SIZED:
+            answer.take(3)
+        cookie = answer.string()
+        self.batch(bytes([pubsub.OPEN | pubsub.SECONDS]) + pubsub.number(lease) + b"\0" + pubsub.string(cookie))
+        self.expect(Reader(self.wait_batch()), pubsub.OPEN)
+
+    def read_frame(self, reader):
+        while not reader.is_empty() and reader.content[reader.at] & pubsub.KIND >= pubsub.INTEREST:
+            header = reader.byte()
+            if header & pubsub.KIND != pubsub.OAM:
+                raise Wrong(f"a router sent {header:#04x} to a router")
+            kind = reader.number()
+            reader.extensions(header)
+            content = Reader(reader.string())
+            if kind == RECORD:
+                self.read_record(content)
+
+    def read_record(self, content):
+        ident = content.string().hex()
+        count = content.number()
+        links = [content.string().hex() for _ in range(content.number())]
+        self.records[ident] = (count, links)
+
+    def links(self):
+        """The links of each router of which it was told."""
+        self.receive(0.05)
+        return {ident: record[1] for ident, record in self.records.items()}
+
+
+def received(session, count, seconds=MOST_WAIT):
+    """So many samples."""
+    samples = []
+    while len(samples) < count:
+        sample = session.receive(seconds)
+        if sample is None:
+            raise Wrong(f"{len(samples)} samples came, not {count}")
+        samples.append(sample)
+    return samples
+
+
+def is_silent(session, seconds=SILENCE):
+    sample = session.receive(seconds)
+    if sample is not None:
+        raise Wrong(f"{sample} came, and nothing must")
+
+
+def handed(session, key, payload=None, target=pubsub.BEST_MATCHING):
+    """The next query that a client is handed, which must have these contents."""
+    query = session.receive_query(MOST_WAIT)
+    must(query and query[1:], (key, payload, target), "the query")
+    return query
+
+
+def is_unasked(session):
+    must(session.receive_query(SILENCE), None, "what is asked of who can't answer")
+
+
+def answered(session, *answers, seconds=MOST_WAIT):
+    """The answers to a client's queries must be these, each within so long, and no more."""
+    for answer in answers:
+        must(session.receive_answer(seconds), answer, "the answer")
+    must(session.receive_answer(SILENCE), None, "what comes behind the answers")
+
+
+def reply_to(number, key, payload):
+    return Answer(number, reply=Sample(key, payload))
+
+
+def told(session, *messages):
+    """What a client is told of others' declarations must be these, and no more."""
+    for message in messages:
+        must(session.receive_told(MOST_WAIT), message, "what is told")
+    must(session.receive_told(SILENCE), None, "what is told behind it")
+
+
+@contextlib.contextmanager
+def program(router, *words):
+    """The small client as a program of its own, which is killed at the end."""
+    words = [sys.executable, str(PUBSUB), "--router", f"127.0.0.1:{router.port}", *words]
+    process = subprocess.Popen(words, stdout=subprocess.PIPE, text=True)
+    try:
+        yield process
+    finally:
+        process.kill()
+        process.wait()
+        process.stdout.close()
+
+
+def ending(act, what):
+    """The text with which a session ends."""
+    try:
+        act()
+    except Ended as e:
+        return str(e)
+    raise Wrong(f"{what}: the session goes on")
+
+
+def reason(text):
+    """The reason of a CLOSE, where the text tells one."""
+    head = "the router has closed the session: "
+    return int(text[len(head) :].split()[0]) if text.startswith(head) else text
+
+
+def settle(*clients):
+    """Waits until the router has read all that was sent by these: each hears a sample on a key of its own, which another client publishes."""
+    for client in clients:
+        key = f"{PROBE}{os.urandom(8).hex()}"
+        subscription = client.subscribe(key)
+        probe = Session(client.link.getpeername())
+        until(lambda: probe.put(key, b"") or client.hears(key), "a subscription is seen")
+        probe.close()
+        client.unsubscribe(subscription)
+
+def takes(router, ident):
+    try:
+        router.client(ident).close()
+    except Ended:
+        return False
+    return True
+
+
+def settle_across(client, router):
+    """Waits until a client's declarations so far have come to another router: what a client of that one publishes comes to it."""
+    key = f"{PROBE}{os.urandom(8).hex()}"
+    subscription = client.subscribe(key)
+    probe = Session(router.address)
+    until(lambda: probe.put(key, b"") or client.hears(key), "a subscription is seen from another router")
+    probe.close()
+    client.unsubscribe(subscription)
+
+
+def clients_hear_each_other(router):
+    subscriber, publisher = router.client(), router.client()
+    subscriber.subscribe("x")
+    settle(subscriber)
+    publisher.put("x", b"y")
+    must(received(subscriber, 1), [Sample("x", b"y")], "a sample among clients of one router")
+    subscriber.close()
+    publisher.close()
