@@ -9,20 +9,27 @@ use zr_outside::mem_clock::MemClock;
 use zr_outside::mem_host::MemHost;
 use zr_outside::mem_sink::MemSink;
 use zr_outside::mem_source::MemSource;
+use zr_outside::sink::Sink;
 
 pub type TestHost = MemHost<MemSource, MemSink, ChaCha20Rng>;
 
+/// A source of these bytes, one a read.
+pub fn source(alloc: Global, bytes: Vec<u8>) -> MemSource {
+    MemSource::new(bytes, 1, Vec::new(alloc), Vec::new(alloc))
+}
+
 fn nothing(alloc: Global) -> MemSource {
-    MemSource::new(Vec::new(alloc), 1, Vec::new(alloc), Vec::new(alloc))
+    source(alloc, Vec::new(alloc))
 }
 
 pub fn sink(alloc: Global) -> MemSink {
     MemSink::new(alloc, Vec::new(alloc))
 }
 
-fn no_host(alloc: Global) -> TestHost {
+/// A host without links. Its random words are those of ChaCha under 32 bytes 07.
+pub fn no_host<K: Sink + Drop>(alloc: Global) -> MemHost<MemSource, K, ChaCha20Rng> {
     let words = ChaCha20Rng::from_seed([7; 32]);
-    TestHost::new(alloc, MemClock::new(0, 100), words)
+    MemHost::new(alloc, MemClock::new(0, 100), words)
 }
 
 // Adds two links that come and one that is dialled; whether there was memory for them.

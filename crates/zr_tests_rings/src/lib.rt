@@ -22,6 +22,8 @@ mod serving;
 #[cfg(test)]
 mod sessions;
 #[cfg(test)]
+mod shared_sink;
+#[cfg(test)]
 mod sharing;
 #[cfg(test)]
 mod tests;

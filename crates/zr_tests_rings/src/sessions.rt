@@ -3,6 +3,7 @@ ghost use Rattle.std.specs.Prelude.{◌≡◌, [], IfOk};
 ghost use Rattle.zr_hist.specs.Words.{kept_name, list_of, name, pass_name};
 ghost use Rattle.zr_link.specs.Heard.{IsBegun};
 
+use crate::shared_sink::{SharedSink, hold, no_bytes};
 use std::alloc::{AllocError, Global};
 use std::marker::Brand;
 use std::sync::{Arc, Mutex, Wait};
@@ -17,7 +18,6 @@ use zr_open::Opening;
 use zr_outside::mem_clock::MemClock;
 use zr_outside::mem_log::MemLog;
 use zr_outside::mem_source::MemSource;
-use zr_outside::sink::{Put, Sink};
 use zr_port::{Entry, Naming};
 use zr_router::Router;
 use zr_session::Session;
@@ -59,31 +59,6 @@ const TOLD_END: [u8; 7] = [0x05, 0x00, 0x25, 0x00, 0x3E, 0x01, 0x1A];
 
 const FINAL: [u8; 6] = [0x04, 0x00, 0x25, 0x01, 0x1A, 0x01];
 
-/// Appends to bytes that threads share.
-#[derive(Drop)]
-struct SharedSink<R: Wait + Drop> {
-    rt: R,
-    bytes: Arc<Mutex<Vec<u8>>>,
-    faults: u64,
-}
-
-impl<R: Wait + Drop> Sink for SharedSink<R> {
-    ghost use Rattle.std.specs.Prelude.{None};
-
-    ghost held = { λ _. None };
-
-    ghost faults = { λ s. s.faults };
-
-    fn write(&mut self, from: &[u8]) -> Put {
-        let taken = self.bytes.lock(&self.rt).extend_from_slice(from).is_ok();
-        if taken {
-            return Put::Took(from.len());
-        }
-        self.faults = self.faults.saturating_add(1);
-        Put::Failed
-    }
-}
-
 fn joined(alloc: Global, parts: &[&[u8]]) -> Result<Vec<u8>, AllocError> {
     let mut bytes = Vec::new(alloc);
     for part in parts {
@@ -113,12 +88,7 @@ fn outward<B: Naming, R: Wait + Copy + Drop>(
     bytes: &Arc<Mutex<Vec<u8>>>,
 ) -> Result<Outward<SharedSink<R>, Router<B, R>, MemClock, MemLog>, AllocError> {
     let port = Arc::new(alloc, router)?;
-    let bytes = Arc::try_clone(bytes)?;
-    let sink = SharedSink {
-        rt,
-        bytes,
-        faults: 0,
-    };
+    let sink = SharedSink::new(rt, bytes)?;
     Ok(Outward {
         sink,
         port,
@@ -159,10 +129,6 @@ fn ended<
     end
 }
 
-fn hold<R: Wait>(rt: &R, bytes: &Arc<Mutex<Vec<u8>>>, want: &[u8]) -> bool {
-    bytes.lock(rt).as_slice() == want
-}
-
 // Whether the client's end comes with just these bytes before it, where it sends so many bytes a read at most.
 fn is_answered_at<
     B: Naming + Send + Sync + 'static,
@@ -185,7 +151,7 @@ fn is_answered_at<
     let mut pass = pass;
     let router = Router::<B, R>::new(rt, alloc, me, history, kept)?;
     let mut crew: Crew<R, LinkNo> = Crew::new(rt, alloc)?;
-    let bytes = Arc::new(alloc, Mutex::new(Vec::new(alloc)))?;
+    let bytes = no_bytes(alloc)?;
     let out = outward(rt, alloc, router, &bytes)?;
     let end = ended(alloc, me, source, out, &mut crew, &mut pass);
     crew.wait();
