@@ -1,9 +1,11 @@
 //! Messages as text: each field that it has, its key as text and its body as hex digits.
 
 use crate::row::{self, Fault};
-use std::alloc::Global;
+use std::alloc::{AllocError, Global};
 use zr_bytes::ReadError;
 use zr_decl::Declared;
+use zr_id::record::LinkRecord;
+use zr_id::zid::Zid;
 use zr_key::key::KeyExpr;
 use zr_msg::content::Content;
 use zr_msg::decl::Decl;
@@ -48,7 +50,9 @@ pub fn message(alloc: Global, msg: &Msg) -> Result<String, Fault> {
             let extras = extensions(alloc, extras.get())?;
             Ok(format!(in alloc; "final {id}{extras}")?)
         }
-        Msg::State { .. } | Msg::Step { .. } | Msg::Snap { .. } => between_routers(alloc, msg),
+        Msg::State { .. } | Msg::Step { .. } | Msg::Snap { .. } => {
+            Ok(between_routers(alloc, msg)?)
+        }
         Msg::Sub { .. }
         | Msg::Unsub { .. }
         | Msg::Able { .. }
@@ -59,19 +63,17 @@ pub fn message(alloc: Global, msg: &Msg) -> Result<String, Fault> {
         | Msg::ToldAble { .. }
         | Msg::ToldUnsub { .. }
         | Msg::ToldUnable { .. }
-        | Msg::ToldEnd { .. } => declared(alloc, msg),
+        | Msg::ToldEnd { .. } => Ok(declared(alloc, msg)?),
     }
 }
 
 // A declaration or an interest of a client. It is told nothing that is read here.
-fn declared(alloc: Global, msg: &Msg) -> Result<String, Fault> {
-    Ok(match msg {
-        Msg::Sub { id, key } => format!(in alloc; "sub {id} {}", key.text())?,
-        Msg::Unsub { id } => format!(in alloc; "unsub {id}")?,
-        Msg::Able { id, key, complete } => {
-            format!(in alloc; "able {id} {} complete {complete}", key.text())?
-        }
-        Msg::Unable { id } => format!(in alloc; "unable {id}")?,
+fn declared(alloc: Global, msg: &Msg) -> Result<String, AllocError> {
+    match msg {
+        Msg::Sub { id, key } => keyed(alloc, "sub", *id, key),
+        Msg::Unsub { id } => numbered(alloc, "unsub", *id),
+        Msg::Able { id, key, complete } => able(alloc, *id, key, *complete),
+        Msg::Unable { id } => numbered(alloc, "unable", *id),
         Msg::Interest {
             id,
             current,
@@ -79,16 +81,34 @@ fn declared(alloc: Global, msg: &Msg) -> Result<String, Fault> {
             kinds,
             key,
             aggregate,
-        } => {
-            let (key, when) = (text_of(key), (*current, *future));
-            format!(in alloc;
-                "interest {id} {when:?} {} {key:?} aggregate {aggregate}",
-                kinds.0
-            )?
-        }
-        Msg::EndInterest { id } => format!(in alloc; "end {id}")?,
-        _ => String::new(alloc),
-    })
+        } => interest(alloc, *id, (*current, *future), kinds.0, key, *aggregate),
+        Msg::EndInterest { id } => numbered(alloc, "end", *id),
+        _ => Ok(String::new(alloc)),
+    }
+}
+
+fn numbered(alloc: Global, word: &str, id: u32) -> Result<String, AllocError> {
+    format!(in alloc; "{word} {id}")
+}
+
+fn keyed(alloc: Global, word: &str, id: u32, key: &KeyExpr) -> Result<String, AllocError> {
+    format!(in alloc; "{word} {id} {}", key.text())
+}
+
+fn able(alloc: Global, id: u32, key: &KeyExpr, complete: bool) -> Result<String, AllocError> {
+    format!(in alloc; "able {id} {} complete {complete}", key.text())
+}
+
+fn interest(
+    alloc: Global,
+    id: u32,
+    when: (bool, bool),
+    kinds: u8,
+    key: &Option<KeyExpr>,
+    aggregate: bool,
+) -> Result<String, AllocError> {
+    let key = text_of(key);
+    format!(in alloc; "interest {id} {when:?} {kinds} {key:?} aggregate {aggregate}")
 }
 
 fn text_of(key: &Option<KeyExpr>) -> Option<&str> {
@@ -98,40 +118,51 @@ fn text_of(key: &Option<KeyExpr>) -> Option<&str> {
     }
 }
 
-fn between_routers(alloc: Global, msg: &Msg) -> Result<String, Fault> {
+fn between_routers(alloc: Global, msg: &Msg) -> Result<String, AllocError> {
     match msg {
-        Msg::State { links } => {
-            let record = links.get();
-            let (id, number, links) = (record.id(), record.seq(), record.links());
-            Ok(format!(in alloc; "record {id:?} {number} {links:?}")?)
-        }
+        Msg::State { links } => record(alloc, links.get()),
         Msg::Step {
             source,
             number,
             added,
             decl,
-        } => {
-            let decl = declaration(alloc, decl.get())?;
-            Ok(format!(in alloc; "entry {source:?} {number} added {added}{decl}")?)
-        }
+        } => entry(alloc, *source, *number, *added, decl.get()),
         Msg::Snap {
             source,
             number,
             decls,
-        } => {
-            let mut out = format!(in alloc; "snapshot {source:?} {number}")?;
-            for decl in decls.as_slice() {
-                out.push_str(&declaration(alloc, decl)?)?;
-            }
-            Ok(out)
-        }
+        } => snapshot(alloc, *source, *number, decls.as_slice()),
         _ => Ok(String::new(alloc)),
     }
 }
 
-fn declaration(alloc: Global, decl: &Decl) -> Result<String, Fault> {
+fn record(alloc: Global, record: &LinkRecord) -> Result<String, AllocError> {
+    let (id, number, links) = (record.id(), record.seq(), record.links());
+    format!(in alloc; "record {id:?} {number} {links:?}")
+}
+
+fn entry(
+    alloc: Global,
+    source: Zid,
+    number: u64,
+    added: bool,
+    decl: &Decl,
+) -> Result<String, AllocError> {
+    let decl = declaration(alloc, decl)?;
+    format!(in alloc; "entry {source:?} {number} added {added}{decl}")
+}
+
+fn snapshot(alloc: Global, source: Zid, number: u64, decls: &[Decl]) -> Result<String, AllocError> {
+    let mut out = format!(in alloc; "snapshot {source:?} {number}")?;
+    for decl in decls {
+        out.push_str(&declaration(alloc, decl)?)?;
+    }
+    Ok(out)
+}
+
+fn declaration(alloc: Global, decl: &Decl) -> Result<String, AllocError> {
     let kind = decl.kind;
-    Ok(format!(in alloc; " {kind:?} {}", decl.key.text())?)
+    format!(in alloc; " {kind:?} {}", decl.key.text())
 }
 
 // Its key, its body, and the extensions that it has.
