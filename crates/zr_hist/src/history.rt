@@ -27,7 +27,7 @@ pub struct History<E: Drop> {
 }
 
 impl<E: Drop> History<E> {
-    ghost use Rattle.std.specs.Prelude.{◌+◌, ◌++◌, IfOk, OnOk, OnErr, is_err, ◌==◌};
+    ghost use Rattle.std.specs.Prelude.{◌+◌, ◌<◌, ◌++◌, IfOk, OnOk, OnErr, is_err, ◌==◌};
     ghost use mathlib.Core.List.{IsPrefix};
     ghost use Rattle.zr_hist.specs.Rule.{longer, IsSublist};
     ghost use Rattle.zr_hist.specs.Words.{most_entries, list_of, seen, mine, looks};
@@ -66,11 +66,11 @@ impl<E: Drop> History<E> {
         ensures in_order { IsSublist (mine pass.new) (seen pass.new) }
         ensures looked { looks pass.new ≡ looks pass.old + 1 }
     {
-        let place = kept.count;
-        if place == u64::MAX {
+        if kept.is_full() {
             self.look_beside(kept, pass);
             return Err(Worn);
         }
+        let place = kept.count;
         self.lend_right(&mut kept.badge, &mut pass.seat);
         self.table
             .shared
@@ -78,6 +78,23 @@ impl<E: Drop> History<E> {
         kept.badge = self.return_right(&mut pass.seat);
         kept.count = place + 1;
         Ok(place)
+    }
+
+    /// Appends an entry to a list that isn't full, which `Kept::is_full` tells. The pass has then seen the list.
+    pub fn note(&self, kept: &mut Kept<E>, pass: &mut Pass<E>, entry: &E)
+        requires kept { IsKeptOf self.now kept.old }
+        requires pass { IsPassOf self.now pass.old }
+        requires room { length (list_of kept.old) < most_entries }
+        ensures same { IsSameKept kept.old kept.new × IsSamePass pass.old pass.new }
+        ensures prefix { IsPrefix (seen pass.old) (list_of kept.old) }
+        ensures list { list_of kept.new ≡ list_of kept.old ++ entry.now ∷ [] }
+        ensures mine { mine pass.new ≡ mine pass.old ++ entry.now ∷ [] }
+        ensures seen { seen pass.new ≡ list_of kept.new }
+    {
+        match self.append(kept, pass, entry) {
+            Ok(_) => (),
+            Err(_) => unreachable!(),
+        }
     }
 
     /// The length of the list at a moment within this call; the pass has then seen that list. It waits for nobody.

@@ -13,3 +13,15 @@ pub struct Kept<E> {
     ghost whole: { badge.views ≡ kept_view (first_view badge.views).list ∷ [] },
     ghost counted: { count ≡ length (first_view badge.views).list },
 }
+
+impl<E> Kept<E> {
+    ghost use Rattle.std.specs.Prelude.{◌==◌};
+    ghost use Rattle.zr_hist.specs.Words.{most_entries, list_of};
+
+    /// Whether the list has as many entries as a history can have.
+    pub fn is_full(&self) -> bool
+        ensures { result ≡ (length (list_of self.now) == most_entries) }
+    {
+        self.count == u64::MAX
+    }
+}

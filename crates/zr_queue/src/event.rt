@@ -136,30 +136,8 @@ pub fn enter(
     ensures given { AllZip (λ old new. new.queue ≡ queued_by (replay me (list_of kept.old)).hub entry.now old.queue) ends.old ends.new }
     ensures queues { map (λ x. x.queue) ends.new ≡ open_queues (replay me (list_of kept.new)) }
 {
-    note_entry(history, kept, pass, entry);
+    history.note(kept, pass, entry);
     settle_all(ends, history, pass, me, entry);
-}
-
-// Notes an entry last in the history, which has room for it.
-fn note_entry(
-    history: &History<Entry>,
-    kept: &mut Kept<Entry>,
-    pass: &mut Pass<Entry>,
-    entry: &Entry,
-)
-    requires kept { IsKeptOf history.now kept.old }
-    requires pass { IsPassOf history.now pass.old }
-    requires room { length (list_of kept.old) < most_entries }
-    ensures same { IsSameKept kept.old kept.new × IsSamePass pass.old pass.new }
-    ensures prefix { IsPrefix (seen pass.old) (list_of kept.old) }
-    ensures list { list_of kept.new ≡ list_of kept.old ++ entry.now ∷ [] }
-    ensures mine { mine pass.new ≡ mine pass.old ++ entry.now ∷ [] }
-    ensures seen { seen pass.new ≡ list_of kept.new }
-{
-    match history.append(kept, pass, entry) {
-        Ok(_) => (),
-        Err(_) => unreachable!(),
-    }
 }
 
 #[tactic(auto, using(crate::proofs::Stepped::stepped_first, crate::proofs::Stepped::stepped_all))]
