@@ -20,7 +20,7 @@ use std::marker::Model;
 use zr_id::link::LinkNo;
 use zr_msg::decl::{Decl, Kind};
 use zr_set::decl_set::DeclSet;
-use zr_set::weight::{MOST_WEIGHT, decl_weight};
+use zr_set::weight::{decl_weight, is_over_limit};
 
 /// What the clients of one router have declared, by link, subscribers first, then by id, and their live interests.
 #[derive(Drop)]
@@ -275,7 +275,7 @@ impl Local {
 fn within(held: u64, more: u64) -> Result<(), LocalError>
     ensures { over_limit held more ≡ refusal result }
 {
-    if held > MOST_WEIGHT || more > MOST_WEIGHT - held {
+    if is_over_limit(held, more) {
         return Err(LocalError::TextLimit { held, more });
     }
     Ok(())

@@ -13,7 +13,7 @@ use std::marker::Model;
 use zr_id::zid::Zid;
 use zr_msg::decl::Decl;
 use zr_set::decl_set::DeclSet;
-use zr_set::weight::MOST_WEIGHT;
+use zr_set::weight::is_over_limit;
 
 /// What became of a change or a snapshot.
 #[derive(Clone, Copy, Debug)]
@@ -223,7 +223,7 @@ impl Known {
 fn within(held: u64, more: u64) -> Result<(), KnownError>
     ensures { over_limit held more ≡ refusal result }
 {
-    if held > MOST_WEIGHT || more > MOST_WEIGHT - held {
+    if is_over_limit(held, more) {
         return Err(KnownError::TextLimit { held, more });
     }
     Ok(())

@@ -1,7 +1,7 @@
 //! What declarations weigh, and how much a router takes.
 
-ghost use Rattle.std.specs.Prelude.{◌≡◌};
-ghost use Rattle.zr_set.specs.Decls.{decl_weight};
+ghost use Rattle.std.specs.Prelude.{◌≡◌, ◌+◌, nat_lt};
+ghost use Rattle.zr_set.specs.Decls.{decl_weight, most_weight};
 
 use zr_msg::decl::Decl;
 
@@ -16,4 +16,11 @@ pub fn decl_weight(decl: &Decl) -> u64
     ensures { result ≡ decl_weight decl.now }
 {
     decl.key.text().len() as u64 + OVERHEAD
+}
+
+/// Whether what is held and what is to come weigh more together than `MOST_WEIGHT`.
+pub fn is_over_limit(held: u64, more: u64) -> bool
+    ensures { result ≡ nat_lt most_weight (held + more) }
+{
+    held > MOST_WEIGHT || more > MOST_WEIGHT - held
 }
