@@ -11,8 +11,8 @@ use Rattle.zr_local.specs.State.{LocalState}
 use Rattle.zr_local.specs.declared.row.Row.{Row}
 use Rattle.zr_routing.specs.Tables.{TableState}
 use Rattle.zr_push.specs.Route.{route_of}
-use Rattle.zr_push.specs.declared.sought.Sought.{Sought}
-use Rattle.zr_push.specs.declared.sought.Sought.TheVariants.{Subscribers, Queryables, Complete}
+use Rattle.zr_sought.specs.declared.sought.Sought.{Sought}
+use Rattle.zr_sought.specs.declared.sought.Sought.TheVariants.{Subscribers, Queryables, Complete}
 use Rattle.zr_node.specs.Routes.{AreRoutes}
 use Rattle.zr_node.specs.Sought.{sought_number}
 use Rattle.zr_node.specs.declared.routes.Remembered.{Remembered}

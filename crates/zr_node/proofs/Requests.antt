@@ -10,9 +10,9 @@ use Rattle.zr_msg.specs.declared.msg.Target.{Target}
 use Rattle.zr_pend.specs.Pending.{asked}
 use Rattle.zr_pend.specs.Row.{RowState}
 use Rattle.zr_push.specs.Route.{route_of}
-use Rattle.zr_push.specs.Sought.{sought_by}
+use Rattle.zr_sought.specs.Sought.{sought_by}
 use Rattle.zr_push.specs.declared.route.Stop.{Stop}
-use Rattle.zr_push.specs.declared.sought.Sought.{Sought}
+use Rattle.zr_sought.specs.declared.sought.Sought.{Sought}
 use Rattle.zr_query.specs.declared.asking.RequestError.{RequestError}
 use Rattle.zr_query.specs.declared.asking.RequestError.TheVariants as request
 use Rattle.zr_routing.specs.Queries.{after_request, asked_links, asker, asks_most, has_no_number, most_pending, sends_request}

@@ -21,9 +21,9 @@ use zr_pend::branch::Asker;
 use zr_pend::pending::Pending;
 use zr_push::push::tree_of;
 use zr_push::route::Route;
-use zr_push::sought::sought_by;
 use zr_query::asking::{RequestError, refuse, request};
 use zr_routing::tables::Tables;
+use zr_sought::sought::sought_by;
 
 /// How many requests a client has pending at most.
 const MOST_PENDING: u32 = 4_096;

@@ -19,8 +19,8 @@ use zr_msg::msg::Msg;
 use zr_msg::peer::LinkPeer;
 use zr_push::push::tree_of;
 use zr_push::route::Route;
-use zr_push::sought::Sought;
 use zr_routing::tables::Tables;
+use zr_sought::sought::Sought;
 use zr_tree::family::Family;
 use zr_tree::trees::Trees;
 

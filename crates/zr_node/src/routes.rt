@@ -12,7 +12,7 @@ use std::collections::BTreeMap;
 use zr_id::zid::Zid;
 use zr_key::key::KeyExpr;
 use zr_push::route::Route;
-use zr_push::sought::Sought;
+use zr_sought::sought::Sought;
 
 /// How many routes are remembered at most. Messages may come on ever new keys, so there has to be a bound. With a thousand stops in
 /// each, the routes take some 32 megabytes, or twice that with the room that a `Vec` keeps to grow in.

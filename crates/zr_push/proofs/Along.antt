@@ -12,7 +12,7 @@ use Rattle.zr_routing.specs.Queries.{tree_for}
 use Rattle.zr_routing.specs.Samples.{push_to, push_on, push_along, tree_by, tree_of, sends_push}
 use Rattle.zr_routing.specs.Tables.{TableState, AreNumbered, link_at}
 use Rattle.zr_table.specs.Event.{on_link, Tells, TellsPrefix}
-use Rattle.zr_push.specs.declared.sought.Sought.TheVariants.{Subscribers}
+use Rattle.zr_sought.specs.declared.sought.Sought.TheVariants.{Subscribers}
 use Rattle.zr_push.specs.Route.{push_for, route_of, sent_along}
 use Rattle.zr_push.proofs.Stops.{is_told, told_stops, kept_at, on_kept, told_each}
 

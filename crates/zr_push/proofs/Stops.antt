@@ -12,8 +12,8 @@ use Rattle.zr_routing.specs.Tables.{TableState, AreNumbered, link_at}
 use Rattle.zr_table.specs.Event.{on_link}
 use Rattle.zr_table.proofs.Links.{none_behind, ascending_behind}
 use Rattle.zr_push.specs.declared.route.Stop.{Stop}
-use Rattle.zr_push.specs.declared.sought.Sought.{Sought}
-use Rattle.zr_push.specs.Sought.{has_declared, leads_to}
+use Rattle.zr_sought.specs.declared.sought.Sought.{Sought}
+use Rattle.zr_sought.specs.Sought.{has_declared, leads_to}
 use Rattle.zr_push.specs.Route.{is_on_route, is_stop, stop_at, route_of, goes_on, stops_from}
 
 -- tests that answer the same keep the same

@@ -1,2 +1,1 @@
-pub mod Sought
 pub mod Route

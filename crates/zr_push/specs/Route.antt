@@ -1,8 +1,7 @@
 -- The links over which a sample or a request goes on in a tree.
-use Rattle.std.specs.Prelude.{ℕ, ◌==◌, ◌&&◌, not, Bool, true, List, filter, map}
+use Rattle.std.specs.Prelude.{ℕ, ◌==◌, not, Bool, true, List, filter, map}
 use Rattle.zr_graph.specs.Record.{has}
 use Rattle.zr_id.specs.declared.link.LinkNo.{LinkNo}
-use Rattle.zr_log.specs.declared.log.Log.{Log}
 use Rattle.zr_msg.specs.declared.content.Parts.{Parts}
 use Rattle.zr_msg.specs.declared.msg.Msg.{Msg}
 use Rattle.zr_msg.specs.declared.msg.Msg.TheVariants.{Push}
@@ -10,21 +9,10 @@ use Rattle.zr_msg.specs.declared.peer.LinkPeer.{LinkPeer}
 use Rattle.zr_msg.specs.declared.peer.Role.{Role}
 use Rattle.zr_msg.specs.declared.peer.Role.TheVariants.{Client, Router}
 use Rattle.zr_push.specs.declared.route.Stop.{Stop}
-use Rattle.zr_push.specs.declared.sought.Sought.{Sought}
-use Rattle.zr_push.specs.Sought.{has_declared, is_in_log, leads_to}
+use Rattle.zr_sought.specs.declared.sought.Sought.{Sought}
+use Rattle.zr_sought.specs.Sought.{has_declared, leads_to}
 use Rattle.zr_routing.specs.Queries.{tree_for}
-use Rattle.zr_routing.specs.Samples.{is_toward}
-use Rattle.zr_routing.specs.Tables.{TableState, graph}
-use Rattle.zr_tree.specs.Tree.{reached}
-use Rattle.zr_tree.specs.Way.{WayState}
-
--- this router in the tree of a root
-abbrev pub way_of : TableState → List ℕ → WayState
-way_of t tree = record { records = t.base.records; root = tree; at = t.base.me }
-
--- the neighbour is on the way in the tree to the router of a log, which is reached and whose clients have declared what is sought
-abbrev pub is_way_to : TableState → List ℕ → Sought → List ℕ → List ℕ → Log → Bool
-is_way_to t tree sought key name log = is_in_log sought key log && (reached (graph t) t.base.me log.source && is_toward t tree log.source name)
+use Rattle.zr_routing.specs.Tables.{TableState}
 
 -- a link is on the route: it leads to a router on the way to one whose clients have declared what is sought, or to a client that has
 abbrev pub is_on_route : TableState → List ℕ → Sought → List ℕ → LinkPeer → Role → Bool

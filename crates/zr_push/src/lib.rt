@@ -2,9 +2,5 @@
 //! tree and what is sought of declarations, so whoever remembers it spares the search for as long as the tables stay as they are.
 #![tactic(auto)]
 
-mod client_rows;
-mod hops;
 pub mod push;
 pub mod route;
-mod search;
-pub mod sought;

@@ -9,7 +9,6 @@ ghost use Rattle.std.specs.Option.{option_map_or};
 ghost use Rattle.zr_table.specs.Event.{Tells, TellsPrefix};
 
 use crate::route::Route;
-use crate::sought::Sought;
 use std::alloc::{AllocError, Global};
 use zr_id::link::LinkNo;
 use zr_id::zid::Zid;
@@ -17,6 +16,7 @@ use zr_msg::content::Content;
 use zr_msg::msg::Msg;
 use zr_msg::peer::{LinkPeer, Role};
 use zr_routing::tables::Tables;
+use zr_sought::sought::Sought;
 
 /// A sample has come over a link of this router, naming a tree or none: it goes along the route of its key in the tree that it stays in.
 pub fn push(

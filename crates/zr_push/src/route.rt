@@ -6,13 +6,9 @@ ghost use Rattle.zr_routing.specs.Samples.{push_along};
 ghost use Rattle.zr_routing.specs.Tables.{TableState, AreNumbered};
 ghost use Rattle.zr_table.specs.Event.{Tells, TellsPrefix};
 ghost use Rattle.zr_table.specs.Prefix.{IsPrefixBehind};
-ghost use Rattle.zr_push.specs.declared.sought.Sought.TheVariants.{Subscribers};
+ghost use Rattle.zr_sought.specs.declared.sought.Sought.TheVariants.{Subscribers};
 ghost use Rattle.zr_push.specs.Route.{goes_on, is_stop, push_for, route_of, sent_along, stop_at, stops_from};
 
-use crate::client_rows::ClientRows;
-use crate::hops::Hops;
-use crate::search::has_declared;
-use crate::sought::Sought;
 use std::alloc::{AllocError, Global};
 use std::marker::Model;
 use zr_id::link::LinkNo;
@@ -22,6 +18,10 @@ use zr_msg::content::Content;
 use zr_msg::msg::Msg;
 use zr_msg::peer::{LinkPeer, Role};
 use zr_routing::tables::Tables;
+use zr_sought::client_rows::ClientRows;
+use zr_sought::hops::Hops;
+use zr_sought::search::has_declared;
+use zr_sought::sought::Sought;
 use zr_tell::tell::tell;
 
 /// A link of a route, and who is at its other end.

@@ -17,7 +17,7 @@ use Rattle.zr_pend.specs.declared.branch.Asker.{Asker}
 use Rattle.zr_pend.specs.declared.branch.Branch.{Branch}
 use Rattle.zr_push.specs.declared.route.Stop.{Stop}
 use Rattle.zr_push.specs.Route.{stop_at, route_of, stops_from}
-use Rattle.zr_push.specs.Sought.{sought_by}
+use Rattle.zr_sought.specs.Sought.{sought_by}
 use Rattle.zr_push.proofs.Stops.{kept_same, is_told, told_stops, each_kept, on_kept, told_each}
 use Rattle.zr_routing.specs.Queries.{is_asked, links_along, asked_links, tree_for, request_along, final_at_once, has_no_number, sends_request, after_request, asked_over}
 use Rattle.zr_routing.specs.Tables.{TableState, AreNumbered, link_at}

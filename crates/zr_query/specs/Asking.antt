@@ -11,7 +11,7 @@ use Rattle.zr_pend.specs.Row.{RowState}
 use Rattle.zr_pend.specs.declared.branch.Asker.{Asker}
 use Rattle.zr_push.specs.declared.route.Stop.{Stop}
 use Rattle.zr_push.specs.Route.{route_of, stops_from}
-use Rattle.zr_push.specs.Sought.{sought_by}
+use Rattle.zr_sought.specs.Sought.{sought_by}
 use Rattle.zr_routing.specs.Queries.{tree_for}
 use Rattle.zr_routing.specs.Samples.{tree_of}
 use Rattle.zr_routing.specs.Tables.{TableState, AreNumbered, link_at}

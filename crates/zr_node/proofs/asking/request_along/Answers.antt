@@ -2,9 +2,9 @@ use Rattle.std.proofs.Common.{◌≡◌, ℕ, List, Option, Some, Err, sym, ap, 
 use Rattle.std.proofs.lemmas.Result.{err_from_is_err_and}
 use Rattle.zr_msg.specs.declared.msg.Target.{Target}
 use Rattle.zr_push.specs.Route.{route_of}
-use Rattle.zr_push.specs.Sought.{sought_by}
+use Rattle.zr_sought.specs.Sought.{sought_by}
 use Rattle.zr_push.specs.declared.route.Stop.{Stop}
-use Rattle.zr_push.specs.declared.sought.Sought.{Sought}
+use Rattle.zr_sought.specs.declared.sought.Sought.{Sought}
 use Rattle.zr_query.specs.Asking.{IsRouteOf}
 use Rattle.zr_routing.specs.Samples.{tree_of}
 use Rattle.zr_routing.specs.Tables.{TableState, AreNumbered, link_at}

@@ -1,7 +1,7 @@
 use Rattle.std.proofs.Common.{Some, Result, Ok, Err, OnOk, OnErr, ap, ◌∙◌}
 use Rattle.std.proofs.lemmas.Result.{err_from_is_err_and, on_ok_weaker, on_err_weaker}
 use Rattle.zr_push.specs.Route.{route_of}
-use Rattle.zr_push.specs.declared.sought.Sought.TheVariants.{Subscribers}
+use Rattle.zr_sought.specs.declared.sought.Sought.TheVariants.{Subscribers}
 use Rattle.zr_push.proofs.Along.{pushed, tells_same, prefix_same}
 use Rattle.zr_node.proofs.Retold.{all_told}
 use Rattle.zr_node.proofs.kept.push_along.Goals as goal

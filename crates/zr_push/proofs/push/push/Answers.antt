@@ -1,6 +1,6 @@
 use Rattle.std.proofs.Common.{Some, ap, ◌∙◌}
 use Rattle.std.proofs.lemmas.Result.{on_ok_weaker, on_err_weaker}
-use Rattle.zr_push.specs.declared.sought.Sought.TheVariants.{Subscribers}
+use Rattle.zr_sought.specs.declared.sought.Sought.TheVariants.{Subscribers}
 use Rattle.zr_push.specs.Route.{route_of}
 use Rattle.zr_push.proofs.Along.{pushed, prefix_same, tells_same}
 use Rattle.zr_push.proofs.push.push.Goals as goal
