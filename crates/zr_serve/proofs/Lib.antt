@@ -2,4 +2,3 @@ pub mod Words
 pub mod Stepping
 pub mod Reaching
 pub mod Served
-pub mod Beginning

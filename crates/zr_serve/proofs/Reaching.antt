@@ -12,12 +12,13 @@ use Rattle.zr_outside.specs.declared.host.Answer.TheVariants as answer
 use Rattle.zr_outside.specs.declared.host.Call.{Call}
 use Rattle.zr_outside.specs.declared.host.Call.TheVariants.{Listen, Dial, Accept}
 use Rattle.zr_writer.proofs.Carrying.{appends_none, appends_nothing_more, prefix_none, prefix_more, prefix_whole}
-use Rattle.zr_serve.specs.declared.job.LinkJob.{LinkJob}
-use Rattle.zr_serve.specs.declared.job.Side.TheVariants.{Accepting, Dialling}
+use Rattle.zr_job.specs.Starts.{Starts}
+use Rattle.zr_job.specs.declared.job.LinkJob.{LinkJob}
+use Rattle.zr_job.specs.declared.job.Side.TheVariants.{Accepting, Dialling}
 use Rattle.zr_serve.specs.Calls.{Records, side_of, dials, accepts, IsGoing}
 use Rattle.zr_serve.specs.Jobs.{LinksState, next_job, with_next}
 use Rattle.zr_serve.specs.Lines.{dial_text, serving_text, accept_text}
-use Rattle.zr_serve.specs.Moments.{Moment, moment, Starts, Serves, BreaksOff}
+use Rattle.zr_serve.specs.Moments.{Moment, moment, Serves, BreaksOff}
 use Rattle.zr_serve.specs.Serving.{Goes, Stops, Accepts, Dials, Outputs, CutsOff, Comes, Says, listening}
 use Rattle.zr_serve.specs.declared.end.ServeEnd.{ServeEnd}
 use Rattle.zr_serve.specs.declared.end.ServeEnd.TheVariants as e

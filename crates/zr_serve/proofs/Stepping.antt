@@ -1,19 +1,19 @@
 -- Serving step by step: calls behind other calls, jobs behind other jobs.
-use Rattle.std.proofs.Common.{arith, suc, ◌≡◌, ℕ, ◌+◌, ◌-◌, ◌^◌, ◌≤◌, Bool, true, false, List, [], ◌∷◌, ◌++◌, length, Option, Some, None, Result, Ok, Err, refl, sym, ap, subst, ◌∙◌, append_assoc}
+use Rattle.std.proofs.Common.{arith, suc, ◌≡◌, ℕ, ◌+◌, ◌-◌, ◌^◌, ◌≤◌, Bool, true, false, List, [], ◌∷◌, ◌++◌, length, Option, Some, None, refl, sym, ap, subst, ◌∙◌, append_assoc}
 use Rattle.std.proofs.lemmas.List.{append-nil, length-append}
-use Rattle.std.specs.Prelude.{min, is_err}
-use Rattle.zr_outside.specs.Counts.{Counted}
+use Rattle.std.specs.Prelude.{min}
 use Rattle.zr_outside.specs.Host as host
 use Rattle.zr_outside.specs.Told.{Appends, AppendsPrefix}
 use Rattle.zr_outside.specs.declared.host.Call.{Call}
 use Rattle.zr_writer.proofs.Carrying.{appends_none, appends_both, prefix_behind}
-use Rattle.zr_crew.specs.Crew as crew
-use Rattle.zr_serve.specs.declared.job.LinkJob.{LinkJob}
-use Rattle.zr_serve.specs.declared.job.Side.{Side}
+use Rattle.zr_job.specs.Starts.{marked, unmarked, Tells, Starts}
+use Rattle.zr_job.specs.declared.job.LinkJob.{LinkJob}
+use Rattle.zr_job.specs.declared.job.Side.{Side}
+use Rattle.zr_job.proofs.Starting.{tells_none}
 use Rattle.zr_serve.specs.Calls.{Records, side_of, sides_of}
 use Rattle.zr_serve.specs.Jobs.{LinksState, next_job, with_next, jobs_of, behind}
 use Rattle.zr_serve.specs.Lines.{complaint, complaints}
-use Rattle.zr_serve.specs.Moments.{Moment, marked, unmarked, Tells, Starts, Serves, BreaksOff}
+use Rattle.zr_serve.specs.Moments.{Moment, Serves, BreaksOff}
 
 -- ---- lists of calls and of links
 
@@ -74,10 +74,6 @@ unmarked_both [] ns = omega arith
 unmarked_both (true ∷ ms) ns = unmarked_both ms ns
 unmarked_both (false ∷ ms) ns = omega (arith, unmarked_both ms ns)
 
-tells_none : (t : Option (List LinkJob)) → Tells [] t t
-tells_none None = refl
-tells_none (Some told) = ap Some (sym (append-nil told))
-
 tells_both : (js ks : List LinkJob) (a b c : Option (List LinkJob)) → Tells js a b → Tells ks b c → Tells (js ++ ks) a c
 tells_both js ks None b c h k = rw h at k
 tells_both js ks (Some told) b c h k = rw h at k ∙ ap Some (append_assoc told js ks)
@@ -98,19 +94,6 @@ starts_both js ks a b c f g h p q = record {
   are_told = subst (λ z. Tells z a c) (sym (marked_both p.marks q.marks js ks p.each)) (tells_both _ _ a b c p.are_told q.are_told);
   back = subst (λ n. min (f + n) (2 ^ 64 - 1) ≤ h) (sym (unmarked_both p.marks q.marks)) (back_both f g h _ _ p.back q.back);
 }
-
--- one start, by what the crew says of it
-pub starts_one : {J : Type 0} (r : Result (Unit {0}) J) (job : LinkJob) (a b : Option (List LinkJob)) (f g : ℕ) → crew.Tells r job a b
-    → Counted f g (is_err r ≡ true) → Starts (job ∷ []) a b f g
-starts_one (Ok u) job None b f g h k = record { marks = true ∷ []; each = refl; are_told = h; back = by k.later }
-  where
-    by : f ≤ g → min (f + 0) (2 ^ 64 - 1) ≤ g
-    by le = omega arith
-starts_one (Ok u) job (Some told) b f g h k = record { marks = true ∷ []; each = refl; are_told = h; back = by k.later }
-  where
-    by : f ≤ g → min (f + 0) (2 ^ 64 - 1) ≤ g
-    by le = omega arith
-starts_one (Err e) job a b f g h k = record { marks = false ∷ []; each = refl; are_told = subst (λ t. Tells [] a t) (sym h) (tells_none a); back = k.cause refl }
 
 -- ---- both
 

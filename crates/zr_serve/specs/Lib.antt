@@ -5,4 +5,3 @@ pub mod Moments
 pub mod Serving
 pub mod Unsaid
 pub mod Links
-pub mod Begins

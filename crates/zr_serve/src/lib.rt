@@ -3,14 +3,11 @@
 #![tactic(auto)]
 
 mod end;
-mod job;
 mod lines;
 mod links;
 mod plan;
-mod reading;
 mod service;
 
 pub use end::ServeEnd;
-pub use job::{LinkJob, Side};
 pub use plan::ServePlan;
 pub use service::{Serving, serve};

@@ -4,9 +4,9 @@ ghost use Rattle.std.specs.Prelude.{◌≡◌, ◌≤◌, ◌+◌, ◌%◌, ◌^
 ghost use Rattle.zr_serve.specs.Jobs.{first_links, next_job, with_next};
 ghost use Rattle.zr_serve.specs.Links.{links_of};
 
-use crate::job::{LinkJob, Side};
 use rand_core::Rng;
 use zr_id::zid::Zid;
+use zr_job::{LinkJob, Side};
 
 /// How often a reader reads at most.
 const TURNS: u64 = u64::MAX;

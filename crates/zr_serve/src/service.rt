@@ -5,6 +5,7 @@ ghost use Rattle.std.specs.Arc.{arc_value};
 ghost use Rattle.std.specs.String.{string_bytes};
 ghost use Rattle.zr_crew.specs.Crew.{crew_faults, crew_told};
 ghost use Rattle.zr_hist.specs.Words.{pass_name};
+ghost use Rattle.zr_job.specs.Starts.{Starts};
 ghost use Rattle.zr_outside.specs.Counts.{Rose};
 ghost use Rattle.zr_outside.specs.declared.host.Answer.{Answer};
 ghost use Rattle.zr_outside.specs.declared.host.Call.TheVariants as call;
@@ -12,26 +13,22 @@ ghost use Rattle.zr_serve.specs.Calls.{IsGoing, accepts, dials};
 ghost use Rattle.zr_serve.specs.Jobs.{next_job, with_next};
 ghost use Rattle.zr_serve.specs.Lines.{accept_text};
 ghost use Rattle.zr_serve.specs.Links.{links_of};
-ghost use Rattle.zr_serve.specs.Moments.{BreaksOff, Serves, Starts, moment};
+ghost use Rattle.zr_serve.specs.Moments.{BreaksOff, Serves, moment};
 ghost use Rattle.zr_serve.specs.Serving.{Accepts, IsServed, Says, Stops, outputs};
 
 use crate::end::ServeEnd;
-use crate::job::{LinkJob, Side};
 use crate::lines::{say_last, say_not_dialled, say_not_listening, say_serving};
 use crate::links::Links;
 use crate::plan::ServePlan;
-use crate::reading::{Reading, give_up, read};
 use std::alloc::{AllocError, Global};
 use std::sync::{Arc, Wait};
 use std::thread::Threads;
 use zr_crew::Crew;
 use zr_hist::Pass;
 use zr_id::link::LinkNo;
-use zr_outside::clock::Clock;
+use zr_job::{LinkJob, Reading, Side, hand_over};
 use zr_outside::host::{Accepted, Host};
-use zr_outside::log::Log;
 use zr_outside::sink::Sink;
-use zr_outside::source::Source;
 use zr_port::{Entry, Port};
 
 /// What the threads of each link are made of: the threads of the system, the port at which links reach the router, and a pass of its history.
@@ -318,26 +315,5 @@ fn log_of<H: Host>(alloc: Global, host: &mut H, job: &LinkJob, source: &H::In) -
         Some(host.log(alloc, source))
     } else {
         None
-    }
-}
-
-// Gives a job to the crew, which tells it as its reader has it. Where the crew hands it back, the peer is told.
-#[tactic(auto, using(crate::proofs::Stepping::starts_one))]
-fn hand_over<
-    S: Source + Send + Drop + 'static,
-    K: Sink + Send + Drop + 'static,
-    C: Clock + Send + Drop + 'static,
-    L: Log + Send + Drop + 'static,
-    P: Port + Send + Sync + Drop + 'static,
-    R: Threads + Copy + Send + Sync + Drop + 'static,
->(crew: &mut Crew<R, LinkJob>, reading: Reading<S, K, C, L, P, R>)
-where
-    P::Note: Send + 'static,
-    ensures { Starts (reading.job ∷ []) (crew_told crew.old) (crew_told crew.new) (crew_faults crew.old) (crew_faults crew.new) }
-{
-    let told = reading.job.copy();
-    let run = |reading: Reading<S, K, C, L, P, R>| read(reading);
-    if let Err(reading) = crew.start(reading, told, run) {
-        give_up(reading);
     }
 }

@@ -13,11 +13,12 @@ use std::sync::{Arc, Wait};
 use std::thread::Threads;
 use zr_crew::Crew;
 use zr_hist::{History, Kept, Pass};
+use zr_job::LinkJob;
 use zr_outside::host::Host;
 use zr_outside::sink::Sink;
 use zr_port::{Entry, Naming};
 use zr_router::Router;
-use zr_serve::{LinkJob, ServeEnd, ServePlan, Serving, serve};
+use zr_serve::{ServeEnd, ServePlan, Serving, serve};
 
 /// Makes the router of a plan, and serves it.
 #[tactic(auto, using(zr_serve::proofs::Served::not_begun))]

@@ -9,11 +9,12 @@ use std::test::Fail;
 use std::thread::Threads;
 use zr_crew::Crew;
 use zr_id::zid::Zid;
+use zr_job::{LinkJob, Side};
 use zr_outside::host::Host;
 use zr_outside::mem_host::MemHost;
 use zr_outside::mem_sink::MemSink;
 use zr_outside::mem_source::MemSource;
-use zr_serve::{LinkJob, ServeEnd, ServePlan, Side};
+use zr_serve::{ServeEnd, ServePlan};
 use zr_service::serving::serve_router;
 
 /// Which addresses are dialled and whether links have logs, whether the host can listen, which of its accepts and which writes of the error output fail, and

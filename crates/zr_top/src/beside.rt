@@ -19,11 +19,11 @@ use std::alloc::Global;
 use std::sync::Wait;
 use std::thread::Threads;
 use zr_crew::Crew;
+use zr_job::LinkJob;
 use zr_make::{MakeError, MakePlan, make};
 use zr_netrun::status::Status;
 use zr_outside::host::Host;
 use zr_outside::sink::{Sink, write_all};
-use zr_serve::LinkJob;
 
 /// The program with other words than `net`.
 #[tactic(auto, using(crate::proofs::Cases::of_some, crate::proofs::Forms::told_not_served, crate::proofs::Forms::told_not_made, crate::proofs::Forms::made_not_served, crate::proofs::Forms::none_of))]

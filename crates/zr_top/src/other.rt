@@ -13,10 +13,11 @@ use std::alloc::Global;
 use std::sync::Wait;
 use std::thread::Threads;
 use zr_crew::Crew;
+use zr_job::LinkJob;
 use zr_netrun::status::Status;
 use zr_outside::host::Host;
 use zr_outside::sink::{Sink, write_all};
-use zr_serve::{LinkJob, ServeEnd};
+use zr_serve::ServeEnd;
 use zr_service::serving::serve_router;
 
 /// The forms of the program's words.

@@ -32,6 +32,7 @@ use zr_answers::{answers_always_hold, lines_refine};
 use zr_crew::Crew;
 use zr_declared::{settled_logs_are_known, settled_rows_are_declared, settled_sets_are_declared};
 use zr_informed::lines_tell_clients;
+use zr_job::LinkJob;
 use zr_laws::keys::{
     answering_is_covering, answering_is_meeting, asking_is_meeting, keys_are_texts,
 };
@@ -43,7 +44,6 @@ use zr_numbers::{no_event_is_refused, numbers_always_hold};
 use zr_outside::host::Host;
 use zr_outside::sink::Sink;
 use zr_outside::source::Source;
-use zr_serve::LinkJob;
 use zr_settled::{settled_logs_agree, settled_tables_agree};
 
 /// The whole program. Its words, without its name, ask for one of four things. `net` reads a script from `input`, and writes the report to `out`;

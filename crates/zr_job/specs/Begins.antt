@@ -4,9 +4,9 @@ use Rattle.zr_open.specs.Opening.{OpeningState}
 use Rattle.zr_open.specs.declared.expected.Expected.{Expected}
 use Rattle.zr_open.specs.declared.expected.Expected.TheVariants.{Init, InitAnswer}
 use Rattle.zr_session.specs.Session.{greeting_bytes}
-use Rattle.zr_serve.specs.declared.job.LinkJob.{LinkJob}
-use Rattle.zr_serve.specs.declared.job.Side.{Side}
-use Rattle.zr_serve.specs.declared.job.Side.TheVariants.{Accepting, Dialling}
+use Rattle.zr_job.specs.declared.job.LinkJob.{LinkJob}
+use Rattle.zr_job.specs.declared.job.Side.{Side}
+use Rattle.zr_job.specs.declared.job.Side.TheVariants.{Accepting, Dialling}
 
 abbrev pub opening_of : LinkJob → OpeningState
 opening_of job = record { me = job.me; secret = job.secret; number = job.number; word = job.word }

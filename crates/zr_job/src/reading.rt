@@ -1,11 +1,13 @@
 //! What the thread of a link's reader owns, and does.
 
-ghost use Rattle.std.specs.Prelude.{◌≡◌, IfOk, is_some};
+ghost use Rattle.std.specs.Prelude.{◌≡◌, [], ◌∷◌, IfOk, is_some};
 ghost use Rattle.std.specs.Arc.{arc_value};
+ghost use Rattle.zr_crew.specs.Crew.{crew_faults, crew_told};
 ghost use Rattle.zr_hist.specs.Words.{pass_name};
+ghost use Rattle.zr_job.specs.Begins.{expects, greets, opening_of};
+ghost use Rattle.zr_job.specs.Starts.{Starts};
 ghost use Rattle.zr_link.specs.Log.{stage_of};
 ghost use Rattle.zr_link.specs.declared.log.Stage.TheVariants as stages;
-ghost use Rattle.zr_serve.specs.Begins.{expects, greets, opening_of};
 ghost use Rattle.zr_session.specs.Session.{begun};
 
 use crate::job::{LinkJob, Side};
@@ -25,9 +27,10 @@ use zr_port::{Entry, Port};
 use zr_session::Session;
 use zr_writer::close_batch;
 
-/// What the thread of a link's reader owns.
+/// What the thread of a link's reader owns: its job, both ways of the link, a clock and a log for it and for the writer that it starts, the port at
+/// which the link reaches the router, a pass of its history, and the crew that starts the writer. There are logs exactly where the job asks for them.
 #[derive(Drop)]
-pub(crate) struct Reading<
+pub struct Reading<
     S: Source + Drop,
     K: Sink + Drop,
     C: Clock + Drop,
@@ -50,8 +53,30 @@ pub(crate) struct Reading<
     ghost asked: { (is_some log ≡ job.log) × (is_some writer_log ≡ job.log) },
 }
 
-/// Runs the reader of a link. How it ended is seen by the peer and the log alone.
-pub(crate) fn read<
+/// Starts the reader of a link by the crew, which tells its job. A reader that the crew hands back is let go: its peer is told so by a CLOSE, where it
+/// still reads, and its log. The count of the crew's failed starts says that there was one.
+#[tactic(auto, using(crate::proofs::Starting::starts_one))]
+pub fn hand_over<
+    S: Source + Send + Drop + 'static,
+    K: Sink + Send + Drop + 'static,
+    C: Clock + Send + Drop + 'static,
+    L: Log + Send + Drop + 'static,
+    P: Port + Send + Sync + Drop + 'static,
+    R: Threads + Copy + Send + Sync + Drop + 'static,
+>(crew: &mut Crew<R, LinkJob>, reading: Reading<S, K, C, L, P, R>)
+where
+    P::Note: Send + 'static,
+    ensures { Starts (reading.job ∷ []) (crew_told crew.old) (crew_told crew.new) (crew_faults crew.old) (crew_faults crew.new) }
+{
+    let told = reading.job.copy();
+    let run = |reading: Reading<S, K, C, L, P, R>| read(reading);
+    if let Err(reading) = crew.start(reading, told, run) {
+        give_up(reading);
+    }
+}
+
+// Runs the reader of a link. How it ended is seen by the peer and the log alone.
+fn read<
     S: Source + Drop,
     K: Sink + Send + Drop + 'static,
     C: Clock + Send + Drop + 'static,
@@ -153,8 +178,8 @@ fn begin(alloc: Global, job: &LinkJob, now: u64) -> Result<(Session, Vec<u8>), A
     }
 }
 
-/// The link's reader could not be started: its peer is told so, and its log.
-pub(crate) fn give_up<
+// The link's reader could not be started: its peer is told so, and its log.
+fn give_up<
     S: Source + Drop,
     K: Sink + Drop,
     C: Clock + Drop,

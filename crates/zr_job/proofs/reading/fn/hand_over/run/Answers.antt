@@ -1,5 +1,5 @@
 use denote.Param.Send.{param_send}
-use Rattle.zr_serve.proofs.service.fn.hand_over.run.Goals as goal
+use Rattle.zr_job.proofs.reading.fn.hand_over.run.Goals as goal
 
 -- what crosses threads where the job is started crosses them again where its writer is
 pub read-requires-send-K : goal.read-requires-send-K
