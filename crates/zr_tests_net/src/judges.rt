@@ -27,8 +27,8 @@ type Sent = (u8, u8, u64, &'static str);
 /// How many lines of the phase are done, what was sent, whether nothing is under way, and what there is to see.
 type Row = (usize, &'static [Sent], bool, &'static str);
 
-/// A script, and rows of it.
-type Table = (Script, &'static [Row]);
+/// A script, rows at which the network refines one broker, and rows at which it doesn't.
+type Table = (Script, &'static [Row], &'static [Row]);
 
 /// In place of a line: the sample `put c1 a/b h` with another priority.
 const URGENT: &str = "";
@@ -466,21 +466,42 @@ const FORGED_OF_THREE: &[Row] = &[
     ),
 ];
 
-static TRUE_TABLES: [Table; 5] = [
-    (SAMPLE, TRUE_SAMPLES),
-    (NOT_TAKEN_BACK, SENT_ALL_THE_SAME),
-    (QUERY, TRUE_ANSWERS),
-    (TWO_ROUTERS, TRUE_OF_TWO),
-    (THREE_ROUTERS, TRUE_OF_THREE),
-];
+static SAMPLES: Table = (SAMPLE, TRUE_SAMPLES, FORGED_SAMPLES);
 
-static FORGED_TABLES: [Table; 5] = [
-    (SAMPLE, FORGED_SAMPLES),
-    (TAKEN_BACK, SENT_ALL_THE_SAME),
-    (QUERY, FORGED_ANSWERS),
-    (TWO_ROUTERS, ADDED),
-    (THREE_ROUTERS, FORGED_OF_THREE),
-];
+static TAKEN: Table = (TAKEN_BACK, &[], SENT_ALL_THE_SAME);
+
+static NOT_TAKEN: Table = (NOT_TAKEN_BACK, SENT_ALL_THE_SAME, &[]);
+
+static ANSWERS: Table = (QUERY, TRUE_ANSWERS, FORGED_ANSWERS);
+
+static OF_TWO: Table = (TWO_ROUTERS, TRUE_OF_TWO, ADDED);
+
+static OF_THREE: Table = (THREE_ROUTERS, TRUE_OF_THREE, FORGED_OF_THREE);
+
+// A proof writes out a static at each step of a function that names it. So each table is named by a function that takes few.
+fn samples() -> &'static Table {
+    &SAMPLES
+}
+
+fn taken() -> &'static Table {
+    &TAKEN
+}
+
+fn not_taken() -> &'static Table {
+    &NOT_TAKEN
+}
+
+fn answers() -> &'static Table {
+    &ANSWERS
+}
+
+fn of_two() -> &'static Table {
+    &OF_TWO
+}
+
+fn of_three() -> &'static Table {
+    &OF_THREE
+}
 
 // Appends the act of a line, if it is one.
 fn put_act(
@@ -511,15 +532,15 @@ fn put_acts(
 
 // The sample of the first script with another priority.
 fn urgent(alloc: Global) -> Result<Msg, AllocError> {
+    let body = Body::put(alloc, b"h".as_slice())?;
     let Ok(key) = KeyExpr::read(alloc, b"a/b".as_slice()) else {
         return Err(AllocError);
     };
     let mut extras = Extras::none();
     extras.qos = Some(1);
-    let content = Content::new(alloc, key, extras, Body::put(alloc, b"h".as_slice())?)?;
     Ok(Msg::Push {
         tree: None,
-        content,
+        content: Content::new(alloc, key, extras, body)?,
     })
 }
 
@@ -597,9 +618,13 @@ fn holds_at(alloc: Global, script: &Script, row: &Row) -> Result<bool, AllocErro
     }
 }
 
-// What there is to see at the first row of a table of which the judge says otherwise; nothing where there is none.
-fn wrong_of(alloc: Global, table: &Table, want: bool) -> Result<&'static str, AllocError> {
-    let (script, rows) = table;
+// What there is to see at the first row of which the judge says otherwise; nothing where there is none.
+fn wrong_of(
+    alloc: Global,
+    script: &Script,
+    rows: &[Row],
+    want: bool,
+) -> Result<&'static str, AllocError> {
     for i in 0..rows.len() {
         if holds_at(alloc, script, &rows[i])? != want {
             return Ok(rows[i].3);
@@ -608,10 +633,20 @@ fn wrong_of(alloc: Global, table: &Table, want: bool) -> Result<&'static str, Al
     Ok("")
 }
 
-// The same of the first table.
-fn first_wrong(alloc: Global, tables: &[Table], want: bool) -> Result<&'static str, AllocError> {
+// The same of the rows of a table.
+fn wrong_in(alloc: Global, table: &Table) -> Result<&'static str, AllocError> {
+    let wrong = wrong_of(alloc, &table.0, table.1, true)?;
+    if wrong.is_empty() {
+        wrong_of(alloc, &table.0, table.2, false)
+    } else {
+        Ok(wrong)
+    }
+}
+
+// The same of some tables.
+fn first_wrong(alloc: Global, tables: [&Table; 6]) -> Result<&'static str, AllocError> {
     for i in 0..tables.len() {
-        let wrong = wrong_of(alloc, &tables[i], want)?;
+        let wrong = wrong_in(alloc, tables[i])?;
         if !wrong.is_empty() {
             return Ok(wrong);
         }
@@ -620,15 +655,16 @@ fn first_wrong(alloc: Global, tables: &[Table], want: bool) -> Result<&'static s
 }
 
 #[test]
-fn holds_at_each_moment(rt: HostRuntime) -> Result<(), Fail> {
-    let wrong = first_wrong(rt.alloc(), &TRUE_TABLES, true)?;
-    assert!(rt; wrong.is_empty(), "{wrong}");
-    Ok(())
-}
-
-#[test]
-fn refuses_forged_reports(rt: HostRuntime) -> Result<(), Fail> {
-    let wrong = first_wrong(rt.alloc(), &FORGED_TABLES, false)?;
+fn the_judge_tells_each_moment_from_forged_reports(rt: HostRuntime) -> Result<(), Fail> {
+    let tables = [
+        samples(),
+        taken(),
+        not_taken(),
+        answers(),
+        of_two(),
+        of_three(),
+    ];
+    let wrong = first_wrong(rt.alloc(), tables)?;
     assert!(rt; wrong.is_empty(), "{wrong}");
     Ok(())
 }
