@@ -75,6 +75,7 @@ fn of_state(alloc: Global, name: &str, words: &[&str]) -> Result<String, Fault> 
     match name {
         "graph" => graphs::answer(alloc, words),
         "trees" => trees::answer(alloc, words),
+        "family" => trees::children(alloc, words),
         "set" => sets::answer(alloc, words),
         "log" => logs::answer(alloc, words),
         "pending" => pending::answer(alloc, words),
