@@ -62,13 +62,17 @@ fn changed(alloc: Global, bytes: &[u8], theirs: &Scopes) -> Result<String, Fault
 fn other(alloc: Global, bytes: &[u8], random: &mut Pcg32) -> Result<Vec<u8>, AllocError> {
     let mut out = bytes.to_vec(alloc)?;
     for _ in 0..1 + random.next_word() % 2 {
-        let at = random.next_word() as usize % out.len().max(1);
-        let byte = (random.next_word() % 256) as u8;
-        if let Some(place) = out.get_mut(at) {
-            *place = byte;
-        }
+        change(&mut out, random);
     }
     Ok(out)
+}
+
+fn change(bytes: &mut [u8], random: &mut Pcg32) {
+    let at = random.next_word() as usize % bytes.len().max(1);
+    let byte = (random.next_word() % 256) as u8;
+    if let Some(place) = bytes.get_mut(at) {
+        *place = byte;
+    }
 }
 
 fn is_sound(alloc: Global, bytes: &[u8], theirs: &Scopes) -> bool {

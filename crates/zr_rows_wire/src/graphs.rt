@@ -1,7 +1,7 @@
 //! What a base keeps of the records that come in, and which edges they make.
 
 use crate::row::{self, Fault, Steps};
-use std::alloc::{AllocError, Global};
+use std::alloc::Global;
 use zr_graph::base::Base;
 use zr_id::record::{LinkRecord, are_links};
 use zr_id::zid::Zid;
@@ -50,26 +50,34 @@ fn accept(alloc: Global, base: &mut Base, parts: &[&str]) -> Result<String, Faul
     row::text(alloc, &base.accept(&record)?)
 }
 
+fn links(alloc: Global, base: &mut Base, parts: &[&str]) -> Result<String, Fault> {
+    let links = ids(alloc, row::word(parts, 1))?;
+    relink(base, &links)?;
+    Ok(String::new(alloc))
+}
+
+fn edge(alloc: Global, base: &Base, parts: &[&str]) -> Result<String, Fault> {
+    let (first, second) = (row::id(parts, 1)?, row::id(parts, 2)?);
+    row::text(alloc, &base.edge(first, second))
+}
+
 // Of each record its router, its number, and how many links it lists.
-fn records(alloc: Global, base: &Base) -> Result<Vec<(Zid, u64, usize)>, AllocError> {
+fn records(alloc: Global, base: &Base) -> Result<String, Fault> {
     let mut all = Vec::new(alloc);
     for record in base.records() {
         all.push((record.id(), record.seq(), record.links().len()))?;
     }
-    Ok(all)
+    row::text(alloc, &all)
 }
 
 impl Steps for Base {
     // Other links, a record that comes, or a question.
     fn step(&mut self, alloc: Global, parts: &[&str]) -> Result<String, Fault> {
         match row::word(parts, 0) {
-            "links" => {
-                relink(self, &ids(alloc, row::word(parts, 1))?)?;
-                Ok(String::new(alloc))
-            }
+            "links" => links(alloc, self, parts),
             "record" => accept(alloc, self, parts),
-            "records" => row::text(alloc, &records(alloc, self)?),
-            "edge" => row::text(alloc, &self.edge(row::id(parts, 1)?, row::id(parts, 2)?)),
+            "records" => records(alloc, self),
+            "edge" => edge(alloc, self, parts),
             _ => Err(Fault::Row),
         }
     }

@@ -23,7 +23,7 @@ pub fn answer(alloc: Global, words: &[&str]) -> Result<String, Fault> {
 // A subscriber of a key of 2,032 bytes that begins with the number.
 fn long(alloc: Global, number: u32) -> Result<Decl, Fault> {
     let mut text = format!(in alloc; "{number}")?.into_bytes();
-    text.append(&mut row::letters(alloc, LONG.saturating_sub(text.len()))?)?;
+    text.resize(LONG, b'a')?;
     declaration(alloc, Kind::Sub, &text)
 }
 
@@ -41,13 +41,18 @@ fn subscribers(alloc: Global, long_ones: u32, word: &str) -> Result<Vec<Decl>, F
     for number in 0..long_ones {
         all.push(long(alloc, number)?)?;
     }
+    push_short(alloc, &mut all, word)?;
+    Ok(all)
+}
+
+fn push_short(alloc: Global, all: &mut Vec<Decl>, word: &str) -> Result<(), Fault> {
     let keys = row::parts(alloc, word, ',')?;
     for key in &keys {
         if !key.is_empty() {
             all.push(declaration(alloc, Kind::Sub, key.as_bytes())?)?;
         }
     }
-    Ok(all)
+    Ok(())
 }
 
 fn own(alloc: Global, known: &mut Known, parts: &[&str]) -> Result<String, Fault> {

@@ -39,13 +39,30 @@ fn read(
     theirs: &Scopes,
 ) -> Result<Declared, ReadError> {
     let ours = Scopes::new(alloc);
+    read_by(alloc, sort, c, theirs, &ours)
+}
+
+fn read_by(
+    alloc: Global,
+    sort: &str,
+    c: &mut Cursor<'_>,
+    theirs: &Scopes,
+    ours: &Scopes,
+) -> Result<Declared, ReadError> {
     match sort {
-        "declaration" => read_decl(alloc, c, theirs, &ours),
-        "interest" => Ok(Declared::Told(read_interest(alloc, c, theirs, &ours)?)),
+        "declaration" => read_decl(alloc, c, theirs, ours),
+        "interest" => interest(read_interest(alloc, c, theirs, ours)),
         "between-routers" => between_routers(alloc, c),
-        "of-router" => read_net(alloc, c, theirs, &ours, Role::Router),
-        "of-client" => read_net(alloc, c, theirs, &ours, Role::Client),
+        "of-router" => read_net(alloc, c, theirs, ours, Role::Router),
+        "of-client" => read_net(alloc, c, theirs, ours, Role::Client),
         _ => Err(ReadError::UnknownId),
+    }
+}
+
+fn interest(read: Result<Msg, ReadError>) -> Result<Declared, ReadError> {
+    match read {
+        Ok(msg) => Ok(Declared::Told(msg)),
+        Err(e) => Err(e),
     }
 }
 

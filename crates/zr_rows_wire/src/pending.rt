@@ -18,31 +18,43 @@ fn begin(
     alloc: Global,
     pending: &mut Pending,
     from: LinkNo,
+    number: u32,
+    to: &str,
+) -> Result<String, Fault> {
+    match to {
+        "2" => row::text(alloc, &pending.begin(from, number, &[TWO])),
+        "3" => row::text(alloc, &pending.begin(from, number, &[THREE])),
+        "2,3" => row::text(alloc, &pending.begin(from, number, &[TWO, THREE])),
+        "3,2" => row::text(alloc, &pending.begin(from, number, &[THREE, TWO])),
+        _ => Err(Fault::Row),
+    }
+}
+
+// What is asked of a number on a link.
+fn numbered(
+    alloc: Global,
+    pending: &mut Pending,
+    link: LinkNo,
     parts: &[&str],
 ) -> Result<String, Fault> {
     let number = row::parsed(parts, 2)?;
-    let answer = match row::word(parts, 3) {
-        "2" => pending.begin(from, number, &[TWO]),
-        "3" => pending.begin(from, number, &[THREE]),
-        "2,3" => pending.begin(from, number, &[TWO, THREE]),
-        "3,2" => pending.begin(from, number, &[THREE, TWO]),
-        _ => return Err(Fault::Row),
-    };
-    row::text(alloc, &answer)
+    match row::word(parts, 0) {
+        "begin" => begin(alloc, pending, link, number, row::word(parts, 3)),
+        "finish" => row::text(alloc, &pending.finish(link, number)),
+        "find" => row::text(alloc, &pending.find(link, number)),
+        "asked" => row::text(alloc, &pending.asked(link, number)),
+        _ => Err(Fault::Row),
+    }
 }
 
 impl Steps for Pending {
-    // A link, and a number on it.
+    // A link, and maybe a number on it.
     fn step(&mut self, alloc: Global, parts: &[&str]) -> Result<String, Fault> {
         let link = LinkNo(row::parsed(parts, 1)?);
         match row::word(parts, 0) {
-            "begin" => begin(alloc, self, link, parts),
-            "finish" => row::text(alloc, &self.finish(link, row::parsed(parts, 2)?)),
-            "find" => row::text(alloc, &self.find(link, row::parsed(parts, 2)?)),
             "drop" => row::text(alloc, &self.drop_link(link)),
             "count" => row::text(alloc, &self.count(link)),
-            "asked" => row::text(alloc, &self.asked(link, row::parsed(parts, 2)?)),
-            _ => Err(Fault::Row),
+            _ => numbered(alloc, self, link, parts),
         }
     }
 }

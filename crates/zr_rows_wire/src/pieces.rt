@@ -27,10 +27,7 @@ fn random(state: &mut u32) -> usize {
 // A push on `k` of so many bytes.
 fn push_on_k(batch: &mut Vec<u8>, length: u8) -> Result<(), AllocError> {
     batch.extend_from_slice(&[0x3D, 0x00, 0x01, 0x6B, 0x01, length])?;
-    for _ in 0..length {
-        batch.push(0x78)?;
-    }
-    Ok(())
+    batch.resize(batch.len().saturating_add(usize::from(length)), 0x78)
 }
 
 // Appends a frame of this number with up to four pushes on `k` of up to 70 bytes, and a KEEP_ALIVE behind.

@@ -183,9 +183,17 @@ impl Link {
                 self.fed = Fed::new(alloc);
                 Ok(())
             }
-            "each" => self.feed_each(&row::bytes(alloc, parts, 1)?),
-            "at" => self.feed(row::parsed(parts, 2)?, &row::bytes(alloc, parts, 1)?),
-            _ => self.feed(0, &brought(alloc, parts)?),
+            _ => self.bring(alloc, parts),
+        }
+    }
+
+    // Takes a step that brings bytes.
+    fn bring(&mut self, alloc: Global, parts: &[&str]) -> Result<(), Fault> {
+        let bytes = brought(alloc, parts)?;
+        match row::word(parts, 0) {
+            "each" => self.feed_each(&bytes),
+            "at" => self.feed(row::parsed(parts, 2)?, &bytes),
+            _ => self.feed(0, &bytes),
         }
     }
 }
@@ -206,37 +214,52 @@ impl Steps for Link {
 
 // The bytes that a step brings.
 fn brought(alloc: Global, parts: &[&str]) -> Result<Vec<u8>, Fault> {
-    let mut out = Vec::new(alloc);
     match row::word(parts, 0) {
-        "whole" => return row::bytes(alloc, parts, 1),
-        "batch" => put_long(
-            alloc,
-            &mut out,
-            &row::bytes(alloc, parts, 1)?,
-            row::parsed(parts, 2)?,
-        )?,
-        "fragments" => put_fragments(alloc, &mut out, row::parsed(parts, 1)?)?,
-        "numberings" => put_numberings(alloc, &mut out, row::parsed(parts, 1)?)?,
-        "numbering" => put_numbering(
-            alloc,
-            &mut out,
-            row::parsed(parts, 1)?,
-            row::parsed(parts, 2)?,
-        )?,
-        _ => return Err(Fault::Row),
+        "whole" | "each" | "at" => row::bytes(alloc, parts, 1),
+        name => made(alloc, name, parts),
     }
+}
+
+fn made(alloc: Global, name: &str, parts: &[&str]) -> Result<Vec<u8>, Fault> {
+    let mut out = Vec::new(alloc);
+    put(alloc, &mut out, name, parts)?;
     Ok(out)
+}
+
+fn put(alloc: Global, out: &mut Vec<u8>, name: &str, parts: &[&str]) -> Result<(), Fault> {
+    match name {
+        "batch" => put_begun(alloc, out, parts),
+        "fragments" => put_fragments(alloc, out, parts),
+        "numberings" => put_numberings(alloc, out, parts),
+        "numbering" => put_one(alloc, out, parts),
+        _ => Err(Fault::Row),
+    }
+}
+
+// A batch that begins with the bytes of a step.
+fn put_begun(alloc: Global, out: &mut Vec<u8>, parts: &[&str]) -> Result<(), Fault> {
+    let more = row::parsed(parts, 2)?;
+    let head = row::bytes(alloc, parts, 1)?;
+    put_long(alloc, out, &head, more)?;
+    Ok(())
+}
+
+fn put_one(alloc: Global, out: &mut Vec<u8>, parts: &[&str]) -> Result<(), Fault> {
+    let (number, length) = (row::parsed(parts, 1)?, row::parsed(parts, 2)?);
+    put_numbering(alloc, out, number, length)?;
+    Ok(())
 }
 
 // Appends a batch of these bytes and so many more, which are the letter `a`.
 fn put_long(alloc: Global, out: &mut Vec<u8>, head: &[u8], more: usize) -> Result<(), AllocError> {
     let mut batch = head.to_vec(alloc)?;
-    batch.append(&mut row::letters(alloc, more)?)?;
+    batch.resize(head.len().saturating_add(more), b'a')?;
     put_framed(out, &batch)
 }
 
 // So many long fragments, which more follow, from number 0 on.
-fn put_fragments(alloc: Global, out: &mut Vec<u8>, count: u8) -> Result<(), AllocError> {
+fn put_fragments(alloc: Global, out: &mut Vec<u8>, parts: &[&str]) -> Result<(), Fault> {
+    let count: u8 = row::parsed(parts, 1)?;
     for number in 0..count {
         put_long(alloc, out, &[0x66, number], PIECE)?;
     }
@@ -259,7 +282,8 @@ fn put_numbering(
 }
 
 // So many such frames from number 0 on, each with a long text.
-fn put_numberings(alloc: Global, out: &mut Vec<u8>, count: u16) -> Result<(), AllocError> {
+fn put_numberings(alloc: Global, out: &mut Vec<u8>, parts: &[&str]) -> Result<(), Fault> {
+    let count: u16 = row::parsed(parts, 1)?;
     for number in 0..count {
         put_numbering(alloc, out, number, TEXT)?;
     }
