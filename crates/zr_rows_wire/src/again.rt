@@ -5,9 +5,7 @@ ghost use Rattle.zr_wire.specs.Writing.{IsSpelled};
 
 use crate::keys::declared;
 use crate::row::{self, Fault};
-use crate::texts;
-use rand_core::utils::NextWord;
-use rand_pcg::Pcg32;
+use crate::{random, texts};
 use std::alloc::{AllocError, Global};
 use zr_bytes::{Cursor, ReadError};
 use zr_decl::Declared;
@@ -19,7 +17,9 @@ use zr_oam::read_oam;
 use zr_wire::write_message;
 use zr_wirekey::Scopes;
 
-/// How often a message is changed.
+/// Where the sequence of changes begins, and how many there are.
+const SEED: u32 = 42;
+
 const CHANGES: u32 = 300;
 
 /// What a message between routers begins with, in the bits of the id.
@@ -29,11 +29,11 @@ const OAM: u8 = 0x1F;
 type Found = (String, Vec<u8>);
 
 pub fn answer(alloc: Global, words: &[&str]) -> Result<String, Fault> {
-    let theirs = declared(alloc)?;
     let bytes = row::bytes(alloc, words, 1)?;
+    let theirs = declared(alloc)?;
     match row::word(words, 0) {
         "passed" => passed(alloc, &bytes, &theirs),
-        "changed" => changed(alloc, &bytes, &theirs),
+        "changed" => row::or_fault(changed(alloc, &bytes, &theirs)),
         _ => Err(Fault::Row),
     }
 }
@@ -41,35 +41,36 @@ pub fn answer(alloc: Global, words: &[&str]) -> Result<String, Fault> {
 // What is written of a message, with whole keys.
 fn passed(alloc: Global, bytes: &[u8], theirs: &Scopes) -> Result<String, Fault> {
     match look(alloc, &mut Cursor::new(bytes), theirs) {
-        Ok(Some((_, written))) => row::digits(alloc, &written),
+        Ok(Some((_, written))) => row::or_fault(row::digits(alloc, &written)),
         _ => Err(Fault::Row),
     }
 }
 
 // The first of its changes that is neither refused with the cursor where it stood, nor read and, written again, read as the same message.
-fn changed(alloc: Global, bytes: &[u8], theirs: &Scopes) -> Result<String, Fault> {
-    let mut random = Pcg32::new(42, 54);
+fn changed(alloc: Global, bytes: &[u8], theirs: &Scopes) -> Result<String, AllocError> {
+    let mut state = SEED;
     for _ in 0..CHANGES {
-        let other = other(alloc, bytes, &mut random)?;
+        let other = other(alloc, bytes, &mut state)?;
         if !is_sound(alloc, &other, theirs) {
             return row::digits(alloc, &other);
         }
     }
-    Ok(String::from_str(alloc, "none")?)
+    String::from_str(alloc, "none")
 }
 
 // One or two of the bytes are others.
-fn other(alloc: Global, bytes: &[u8], random: &mut Pcg32) -> Result<Vec<u8>, AllocError> {
+fn other(alloc: Global, bytes: &[u8], state: &mut u32) -> Result<Vec<u8>, AllocError> {
     let mut out = bytes.to_vec(alloc)?;
-    for _ in 0..1 + random.next_word() % 2 {
-        change(&mut out, random);
+    change(&mut out, state);
+    if random::next(state) % 2 == 1 {
+        change(&mut out, state);
     }
     Ok(out)
 }
 
-fn change(bytes: &mut [u8], random: &mut Pcg32) {
-    let at = random.next_word() as usize % bytes.len().max(1);
-    let byte = (random.next_word() % 256) as u8;
+fn change(bytes: &mut [u8], state: &mut u32) {
+    let at = random::next(state) % bytes.len().max(1);
+    let byte = (random::next(state) % 256) as u8;
     if let Some(place) = bytes.get_mut(at) {
         *place = byte;
     }
@@ -127,17 +128,15 @@ fn found(alloc: Global, msg: &Msg) -> Result<Option<Found>, ReadError>
 {
     let mut written = Vec::new(alloc);
     write_message(&mut written, msg)?;
-    match fields(alloc, msg) {
-        Ok(fields) => Ok(Some((fields, written))),
-        Err(_) => Err(ReadError::NoMemory),
-    }
+    let fields = fields(alloc, msg)?;
+    Ok(Some((fields, written)))
 }
 
 // A message as text, and all extensions that it has.
-fn fields(alloc: Global, msg: &Msg) -> Result<String, Fault> {
+fn fields(alloc: Global, msg: &Msg) -> Result<String, AllocError> {
     let text = texts::message(alloc, msg)?;
     let extras = extras_of(msg);
-    Ok(format!(in alloc; "{text} {extras:?}")?)
+    format!(in alloc; "{text} {extras:?}")
 }
 
 fn extras_of(msg: &Msg) -> Option<&Extras> {

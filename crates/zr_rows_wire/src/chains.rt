@@ -1,14 +1,14 @@
 //! Chains of extensions: what is kept, skipped and refused, and how a chain is written.
 
 use crate::row::{self, Fault};
-use std::alloc::Global;
+use std::alloc::{AllocError, Global};
 use zr_bytes::Cursor;
 use zr_ext::{Content, Ext, Form, read_chain, write_chain};
 
 pub fn answer(alloc: Global, words: &[&str]) -> Result<String, Fault> {
     match row::word(words, 0) {
         "read" => read(alloc, words),
-        "written" => written(alloc),
+        "written" => row::or_fault(written(alloc)),
         _ => Err(Fault::Row),
     }
 }
@@ -23,8 +23,7 @@ fn read(alloc: Global, words: &[&str]) -> Result<String, Fault> {
 }
 
 // A chain of a number and an extension without content.
-fn written(alloc: Global) -> Result<String, Fault> {
-    let mut out = Vec::new(alloc);
+fn written(alloc: Global) -> Result<String, AllocError> {
     let mut exts = Vec::new(alloc);
     exts.push(Ext {
         id: 1,
@@ -36,6 +35,7 @@ fn written(alloc: Global) -> Result<String, Fault> {
         mandatory: true,
         content: Content::Unit,
     })?;
+    let mut out = Vec::new(alloc);
     write_chain(&mut out, &exts)?;
     row::digits(alloc, &out)
 }

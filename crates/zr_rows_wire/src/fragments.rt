@@ -23,9 +23,9 @@ type Heard = Result<Option<usize>, ChannelError>;
 
 pub fn answer(alloc: Global, words: &[&str]) -> Result<String, Fault> {
     match row::word(words, 0) {
-        "shapes" => shapes(alloc),
+        "shapes" => row::or_fault(shapes(alloc)),
         "joined" => joined(alloc, row::behind(words, 1)),
-        "limit" => limit(alloc),
+        "limit" => row::or_fault(limit(alloc)),
         _ => Err(Fault::Row),
     }
 }
@@ -40,14 +40,20 @@ fn long_message(alloc: Global) -> Result<Vec<ByteString>, AllocError> {
 }
 
 // The header, the number and the length of the piece of each fragment.
-fn shapes(alloc: Global) -> Result<String, Fault> {
+fn shapes(alloc: Global) -> Result<String, AllocError> {
+    let parcels = long_message(alloc)?;
     let mut all = Vec::new(alloc);
-    for parcel in &long_message(alloc)? {
-        if let [header, number, piece @ ..] = parcel.as_slice() {
-            all.push((*header, *number, piece.len()))?;
-        }
+    for parcel in &parcels {
+        push_shape(parcel.as_slice(), &mut all)?;
     }
-    row::text(alloc, &all)
+    format!(in alloc; "{all:?}")
+}
+
+fn push_shape(parcel: &[u8], all: &mut Vec<(u8, u8, usize)>) -> Result<(), AllocError> {
+    if let [header, number, piece @ ..] = parcel {
+        all.push((*header, *number, piece.len()))?;
+    }
+    Ok(())
 }
 
 fn heard(alloc: Global, channel: &mut Channel, more: bool, number: u64, piece: &[u8]) -> Heard {
@@ -79,22 +85,32 @@ fn joined(alloc: Global, places: &[&str]) -> Result<String, Fault> {
     let mut channel = Channel::new(BITS, 0);
     let mut all = Vec::new(alloc);
     for at in 0..places.len() {
-        let place: usize = row::parsed(places, at)?;
-        if let Some(parcel) = parcels.get(place) {
-            all.push(received(alloc, &mut channel, parcel.as_slice())?)?;
-        }
+        let parcel = parcel_at(&parcels, row::parsed(places, at)?)?;
+        all.push(received(alloc, &mut channel, parcel)?)?;
     }
     row::text(alloc, &all)
 }
 
+fn parcel_at(parcels: &[ByteString], place: usize) -> Result<&[u8], Fault> {
+    match parcels.get(place) {
+        Some(parcel) => Ok(parcel.as_slice()),
+        None => Err(Fault::Row),
+    }
+}
+
 // What is made of one byte more than a client's message may have, and of the end of as much as it may have.
-fn limit(alloc: Global) -> Result<String, Fault> {
+fn limit(alloc: Global) -> Result<String, AllocError> {
     let piece = vec![in alloc; 7; PIECE]?;
+    let ends = ends(alloc, &piece);
+    format!(in alloc; "{ends:?}")
+}
+
+fn ends(alloc: Global, piece: &[u8]) -> (Heard, Heard) {
     let mut channel = Channel::new(BITS, 0);
     for number in 0..PIECES {
-        let _ = heard(alloc, &mut channel, true, number, &piece);
+        let _ = heard(alloc, &mut channel, true, number, piece);
     }
     let above = heard(alloc, &mut channel, true, PIECES, &[7]);
     let whole = heard(alloc, &mut channel, false, PIECES, &[]);
-    row::text(alloc, &(above, whole))
+    (above, whole)
 }

@@ -8,8 +8,8 @@ use zr_id::zid::Zid;
 
 /// The base of the router `02` takes the steps.
 pub fn answer(alloc: Global, words: &[&str]) -> Result<String, Fault> {
-    let mut base = Base::new(alloc, Zid::from_bytes(&[2])?)?;
-    row::walk(alloc, &mut base, words)
+    let base = Base::new(alloc, Zid::from_bytes(&[2])?)?;
+    row::run(alloc, base, words)
 }
 
 // The identifiers that a word lists.
@@ -18,10 +18,16 @@ fn ids(alloc: Global, word: &str) -> Result<Vec<Zid>, Fault> {
     let mut ids = Vec::new(alloc);
     for text in &texts {
         if !text.is_empty() {
-            ids.push(Zid::from_text(text)?)?;
+            push_id(&mut ids, text)?;
         }
     }
     Ok(ids)
+}
+
+fn push_id(ids: &mut Vec<Zid>, text: &str) -> Result<(), Fault> {
+    let id = Zid::from_text(text)?;
+    ids.push(id)?;
+    Ok(())
 }
 
 /// The router whose base it is has these links from now on.

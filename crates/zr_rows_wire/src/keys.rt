@@ -1,7 +1,7 @@
 //! Keys on the wire: how they are read and refused by scopes, how scopes are limited, and how a key is written.
 
 use crate::row::{self, Fault, Steps};
-use std::alloc::Global;
+use std::alloc::{AllocError, Global};
 use zr_bytes::{Cursor, ReadError};
 use zr_key::key::KeyExpr;
 use zr_wirekey::{Scopes, read_key, write_key};
@@ -10,7 +10,7 @@ pub fn answer(alloc: Global, words: &[&str]) -> Result<String, Fault> {
     match row::word(words, 0) {
         "read" => read(alloc, words),
         "written" => written(alloc, words),
-        "scopes" => row::walk(alloc, &mut Scopes::new(alloc), row::behind(words, 1)),
+        "scopes" => row::run(alloc, Scopes::new(alloc), row::behind(words, 1)),
         _ => Err(Fault::Row),
     }
 }
@@ -27,8 +27,12 @@ pub fn declared(alloc: Global) -> Result<Scopes, Fault> {
 fn read(alloc: Global, words: &[&str]) -> Result<String, Fault> {
     let bytes = row::bytes(alloc, words, 4)?;
     let full = declared(alloc)?;
-    let mut c = Cursor::new(&bytes);
-    match key(alloc, words, &mut c, &full) {
+    shown(alloc, words, &bytes, &full)
+}
+
+fn shown(alloc: Global, words: &[&str], bytes: &[u8], full: &Scopes) -> Result<String, Fault> {
+    let mut c = Cursor::new(bytes);
+    match key(alloc, words, &mut c, full, &Scopes::new(alloc)) {
         Ok(key) => row::read(alloc, &key.text(), c.left()),
         Err(e) => row::read(alloc, &e, c.left()),
     }
@@ -40,28 +44,36 @@ fn key(
     words: &[&str],
     c: &mut Cursor<'_>,
     full: &Scopes,
+    empty: &Scopes,
 ) -> Result<KeyExpr, ReadError> {
-    let empty = Scopes::new(alloc);
-    let (of_sender, named) = (
-        row::word(words, 2) == "sender",
-        row::word(words, 3) == "named",
-    );
+    let of_sender = row::word(words, 2) == "sender";
+    let named = row::word(words, 3) == "named";
     if row::word(words, 1) == "sender" {
-        read_key(alloc, c, named, of_sender, full, &empty)
+        read_key(alloc, c, named, of_sender, full, empty)
     } else {
-        read_key(alloc, c, named, of_sender, &empty, full)
+        read_key(alloc, c, named, of_sender, empty, full)
     }
 }
 
 fn written(alloc: Global, words: &[&str]) -> Result<String, Fault> {
+    let number = row::parsed(words, 2)?;
     let key = KeyExpr::read(alloc, row::word(words, 1).as_bytes())?;
+    row::or_fault(written_of(alloc, &key, number))
+}
+
+fn written_of(alloc: Global, key: &KeyExpr, number: u16) -> Result<String, AllocError> {
     let mut out = Vec::new(alloc);
-    write_key(&mut out, &key, row::parsed(words, 2)?)?;
+    write_key(&mut out, key, number)?;
     row::digits(alloc, &out)
 }
 
 fn declare(alloc: Global, scopes: &mut Scopes, number: u16, text: &[u8]) -> Result<String, Fault> {
     row::text(alloc, &scopes.declare(number, text))
+}
+
+fn letters(alloc: Global, scopes: &mut Scopes, number: u16, count: usize) -> Result<String, Fault> {
+    let letters = row::letters(alloc, count)?;
+    declare(alloc, scopes, number, &letters)
 }
 
 fn length(alloc: Global, text: Option<&[u8]>) -> Result<String, Fault> {
@@ -77,10 +89,7 @@ impl Steps for Scopes {
         let number = row::parsed(parts, 1)?;
         match row::word(parts, 0) {
             "declare" => declare(alloc, self, number, row::word(parts, 2).as_bytes()),
-            "letters" => {
-                let letters = row::letters(alloc, row::parsed(parts, 2)?)?;
-                declare(alloc, self, number, &letters)
-            }
+            "letters" => letters(alloc, self, number, row::parsed(parts, 2)?),
             "undeclare" => {
                 self.undeclare(number);
                 Ok(String::new(alloc))

@@ -16,8 +16,8 @@ const MOST_LONG: u32 = 2_048;
 const LONG: usize = 2_032;
 
 pub fn answer(alloc: Global, words: &[&str]) -> Result<String, Fault> {
-    let mut known = Known::new(alloc, Zid::from_bytes(&[OWN])?);
-    row::walk(alloc, &mut known, words)
+    let known = Known::new(alloc, Zid::from_bytes(&[OWN])?);
+    row::run(alloc, known, words)
 }
 
 // A subscriber of a key of 2,032 bytes that begins with the number.
@@ -38,20 +38,31 @@ fn subscriber(alloc: Global, parts: &[&str], at: usize) -> Result<Decl, Fault> {
 // Subscribers on the keys that a word names, behind so many on long ones.
 fn subscribers(alloc: Global, long_ones: u32, word: &str) -> Result<Vec<Decl>, Fault> {
     let mut all = Vec::new(alloc);
-    for number in 0..long_ones {
-        all.push(long(alloc, number)?)?;
-    }
+    push_long(alloc, &mut all, long_ones)?;
     push_short(alloc, &mut all, word)?;
     Ok(all)
+}
+
+fn push_long(alloc: Global, all: &mut Vec<Decl>, count: u32) -> Result<(), Fault> {
+    for number in 0..count {
+        all.push(long(alloc, number)?)?;
+    }
+    Ok(())
 }
 
 fn push_short(alloc: Global, all: &mut Vec<Decl>, word: &str) -> Result<(), Fault> {
     let keys = row::parts(alloc, word, ',')?;
     for key in &keys {
         if !key.is_empty() {
-            all.push(declaration(alloc, Kind::Sub, key.as_bytes())?)?;
+            push_sub(alloc, all, key)?;
         }
     }
+    Ok(())
+}
+
+fn push_sub(alloc: Global, all: &mut Vec<Decl>, key: &str) -> Result<(), Fault> {
+    let decl = declaration(alloc, Kind::Sub, key.as_bytes())?;
+    all.push(decl)?;
     Ok(())
 }
 
@@ -108,8 +119,8 @@ impl Steps for Known {
             "step" => one(alloc, self, parts),
             "snap" => snapshot(alloc, self, parts, 0),
             "snap-long" => snapshot(alloc, self, parts, MOST_LONG),
-            "sources" => Ok(sources(alloc, self)?),
-            "keys" => Ok(keys(alloc, self, row::id(parts, 1)?)?),
+            "sources" => row::or_fault(sources(alloc, self)),
+            "keys" => row::or_fault(keys(alloc, self, row::id(parts, 1)?)),
             _ => Err(Fault::Row),
         }
     }

@@ -21,6 +21,7 @@ mod numbers;
 mod openings;
 mod pending;
 mod pieces;
+mod random;
 mod row;
 mod sessions;
 mod sets;

@@ -8,14 +8,24 @@ use zr_match::{covers, meets};
 /// Of two expressions, whether they meet (either way) or whether the first covers the second. Of two lists of chunks, for expressions and for
 /// keys: the first expression that meets or covers another against the rules.
 pub fn answer(alloc: Global, words: &[&str]) -> Result<String, Fault> {
-    if row::word(words, 0) == "pairs" {
-        return pairs(alloc, words);
-    }
-    let first = KeyExpr::read(alloc, row::word(words, 1).as_bytes())?;
-    let second = KeyExpr::read(alloc, row::word(words, 2).as_bytes())?;
     match row::word(words, 0) {
-        "meets" => row::text(alloc, &(meets(&first, &second), meets(&second, &first))),
-        "covers" => row::text(alloc, &covers(&first, &second)),
+        "pairs" => pairs(alloc, words),
+        name => {
+            let first = KeyExpr::read(alloc, row::word(words, 1).as_bytes())?;
+            with_second(alloc, name, &first, row::word(words, 2))
+        }
+    }
+}
+
+fn with_second(alloc: Global, name: &str, first: &KeyExpr, text: &str) -> Result<String, Fault> {
+    let second = KeyExpr::read(alloc, text.as_bytes())?;
+    of_two(alloc, name, first, &second)
+}
+
+fn of_two(alloc: Global, name: &str, first: &KeyExpr, second: &KeyExpr) -> Result<String, Fault> {
+    match name {
+        "meets" => row::text(alloc, &(meets(first, second), meets(second, first))),
+        "covers" => row::text(alloc, &covers(first, second)),
         _ => Err(Fault::Row),
     }
 }
@@ -27,31 +37,43 @@ type Expression = (KeyExpr, u128);
 const MOST_KEYS: usize = 128;
 
 fn pairs(alloc: Global, words: &[&str]) -> Result<String, Fault> {
-    let wild = row::parts(alloc, row::word(words, 2), ',')?;
-    let plain = row::parts(alloc, row::word(words, 4), ',')?;
-    let texts = joined(alloc, &wild, row::parsed(words, 1)?)?;
-    let keys = joined(alloc, &plain, row::parsed(words, 3)?)?;
+    let texts = joined(alloc, words, 1)?;
+    let keys = joined(alloc, words, 3)?;
     if keys.len() > MOST_KEYS {
         return Err(Fault::Row);
     }
     let all = expressions(alloc, &texts, &keys)?;
-    row::text(alloc, &first_other(alloc, &all)?)
+    let other = first_other(alloc, &all)?;
+    row::text(alloc, &other)
 }
 
-// All texts of one of these chunks to so many.
-fn joined(alloc: Global, chunks: &[&str], most: usize) -> Result<Vec<String>, AllocError> {
+// All texts of one chunk to so many as the word at a place says, of those that the next word lists.
+fn joined(alloc: Global, words: &[&str], at: usize) -> Result<Vec<String>, Fault> {
+    let most: usize = row::parsed(words, at)?;
+    let chunks = row::parts(alloc, row::word(words, at.saturating_add(1)), ',')?;
     let mut all = Vec::new(alloc);
-    lengthen(alloc, "", chunks, &mut all)?;
+    lengthen(alloc, "", &chunks, &mut all)?;
     let mut first = 0;
     for _ in 1..most {
-        let mut next = Vec::new(alloc);
-        for text in all.iter().skip(first) {
-            lengthen(alloc, &format!(in alloc; "{text}/")?, chunks, &mut next)?;
-        }
-        first = all.len();
-        all.append(&mut next)?;
+        first = longer(alloc, first, &chunks, &mut all)?;
     }
     Ok(all)
+}
+
+// Appends each text from this place on with each of the chunks behind it, and tells where those begin.
+fn longer(
+    alloc: Global,
+    first: usize,
+    chunks: &[&str],
+    all: &mut Vec<String>,
+) -> Result<usize, AllocError> {
+    let mut next = Vec::new(alloc);
+    for text in all.iter().skip(first) {
+        lengthen(alloc, &format!(in alloc; "{text}/")?, chunks, &mut next)?;
+    }
+    let from = all.len();
+    all.append(&mut next)?;
+    Ok(from)
 }
 
 // Appends the text with each of the chunks behind it.
@@ -70,10 +92,14 @@ fn lengthen(
 fn expressions(alloc: Global, texts: &[String], keys: &[String]) -> Result<Vec<Expression>, Fault> {
     let mut all = Vec::new(alloc);
     for text in texts {
-        let matched = matched_keys(alloc, text, keys)?;
-        all.push((KeyExpr::read(alloc, text.as_bytes())?, matched))?;
+        all.push(expression(alloc, text, keys)?)?;
     }
     Ok(all)
+}
+
+fn expression(alloc: Global, text: &str, keys: &[String]) -> Result<Expression, Fault> {
+    let matched = matched_keys(alloc, text, keys)?;
+    Ok((KeyExpr::read(alloc, text.as_bytes())?, matched))
 }
 
 fn matched_keys(alloc: Global, text: &str, keys: &[String]) -> Result<u128, AllocError> {
@@ -98,15 +124,19 @@ fn first_other(alloc: Global, all: &[Expression]) -> Result<Option<usize>, Alloc
 
 // Whether an expression meets and covers each of them by the rules.
 fn agrees(alloc: Global, one: &Expression, all: &[Expression]) -> Result<bool, AllocError> {
-    let (one, matched) = one;
-    let whole = row::parts(alloc, one.text(), '/')?;
-    for (other, others) in all {
-        let takes = takes_all(&whole, &row::parts(alloc, other.text(), '/')?);
-        if meets(one, other) != (*matched & *others != 0) || covers(one, other) != takes {
+    let whole = row::parts(alloc, one.0.text(), '/')?;
+    for other in all {
+        let takes = takes_all(&whole, &row::parts(alloc, other.0.text(), '/')?);
+        if !is_right(one, other, takes) {
             return Ok(false);
         }
     }
     Ok(true)
+}
+
+fn is_right(one: &Expression, other: &Expression, takes: bool) -> bool {
+    let meet = one.1 & other.1 != 0;
+    meets(&one.0, &other.0) == meet && covers(&one.0, &other.0) == takes
 }
 
 // The rule of covering, by cases on the chunks. Of a key, which has no wildcards, it is the rule of matching.

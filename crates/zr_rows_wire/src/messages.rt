@@ -4,7 +4,7 @@
 use crate::keys::declared;
 use crate::row::{self, Fault};
 use crate::texts;
-use std::alloc::Global;
+use std::alloc::{AllocError, Global};
 use zr_body::Body;
 use zr_bytes::{Cursor, ReadError};
 use zr_decl::{Declared, read_decl, read_interest, write_decl};
@@ -23,9 +23,9 @@ use zr_wirekey::Scopes;
 pub fn answer(alloc: Global, words: &[&str]) -> Result<String, Fault> {
     match row::word(words, 0) {
         "cut" => cut(alloc, words),
-        "told" => row::digits(alloc, &told(alloc)?),
-        "push" => row::digits(alloc, &push(alloc, row::parsed(words, 1)?)?),
-        "entry" => row::digits(alloc, &entry(alloc)?),
+        "told" => told(alloc),
+        "push" => push(alloc, row::parsed(words, 1)?),
+        "entry" => entry(alloc),
         word => shown(alloc, word, &row::bytes(alloc, words, 1)?),
     }
 }
@@ -76,19 +76,38 @@ fn between_routers(alloc: Global, c: &mut Cursor<'_>) -> Result<Declared, ReadEr
 // What the bytes are read as, and how many are left.
 fn shown(alloc: Global, sort: &str, bytes: &[u8]) -> Result<String, Fault> {
     let theirs = declared(alloc)?;
+    row::or_fault(shown_of(alloc, sort, bytes, &theirs))
+}
+
+fn shown_of(
+    alloc: Global,
+    sort: &str,
+    bytes: &[u8],
+    theirs: &Scopes,
+) -> Result<String, AllocError> {
     let mut c = Cursor::new(bytes);
-    let text = texts::read(alloc, &read(alloc, sort, &mut c, &theirs))?;
-    Ok(format!(in alloc; "{text}, left {}", c.left())?)
+    let text = text_of(alloc, sort, &mut c, theirs)?;
+    format!(in alloc; "{text}, left {}", c.left())
+}
+
+fn text_of(
+    alloc: Global,
+    sort: &str,
+    c: &mut Cursor<'_>,
+    theirs: &Scopes,
+) -> Result<String, AllocError> {
+    let read = read(alloc, sort, c, theirs);
+    let text = texts::read(alloc, &read);
+    drop(read);
+    text
 }
 
 // How many bytes the first beginning has that is not refused as short.
 fn cut(alloc: Global, words: &[&str]) -> Result<String, Fault> {
-    let theirs = declared(alloc)?;
     let bytes = row::bytes(alloc, words, 2)?;
-    row::text(
-        alloc,
-        &first_whole(alloc, row::word(words, 1), &bytes, &theirs),
-    )
+    let theirs = declared(alloc)?;
+    let whole = first_whole(alloc, row::word(words, 1), &bytes, &theirs);
+    row::text(alloc, &whole)
 }
 
 fn first_whole(alloc: Global, sort: &str, bytes: &[u8], theirs: &Scopes) -> Option<usize> {
@@ -108,44 +127,83 @@ fn is_short(alloc: Global, sort: &str, bytes: &[u8], theirs: &Scopes) -> bool {
 }
 
 // A subscriber in answer to an interest, and the end of the answers.
-fn told(alloc: Global) -> Result<Vec<u8>, Fault> {
+fn told(alloc: Global) -> Result<String, Fault> {
+    let key = KeyExpr::read(alloc, b"a/b")?;
+    row::or_fault(told_of(alloc, key))
+}
+
+fn told_of(alloc: Global, key: KeyExpr) -> Result<String, AllocError> {
+    let mut out = Vec::new(alloc);
+    put_told(&mut out, key)?;
+    write_decl(&mut out, &Msg::ToldEnd { interest: 1 })?;
+    row::digits(alloc, &out)
+}
+
+fn put_told(out: &mut Vec<u8>, key: KeyExpr) -> Result<(), AllocError> {
     let msg = Msg::ToldSub {
         id: 1,
-        key: KeyExpr::read(alloc, b"a/b")?,
+        key,
         interest: Some(1),
     };
-    let mut out = Vec::new(alloc);
-    write_decl(&mut out, &msg)?;
-    write_decl(&mut out, &Msg::ToldEnd { interest: 1 })?;
-    Ok(out)
+    let written = write_decl(out, &msg);
+    drop(msg);
+    written
 }
 
 // The value `hi` on `a/b`, for which a number may stand.
-fn push(alloc: Global, number: u16) -> Result<Vec<u8>, Fault> {
+fn push(alloc: Global, number: u16) -> Result<String, Fault> {
     let key = KeyExpr::read(alloc, b"a/b")?;
+    row::or_fault(push_of(alloc, key, number))
+}
+
+fn push_of(alloc: Global, key: KeyExpr, number: u16) -> Result<String, AllocError> {
     let body = Body::put(alloc, b"hi")?;
+    let mut out = Vec::new(alloc);
+    put_push(alloc, &mut out, key, body, number)?;
+    row::digits(alloc, &out)
+}
+
+fn put_push(
+    alloc: Global,
+    out: &mut Vec<u8>,
+    key: KeyExpr,
+    body: Body,
+    number: u16,
+) -> Result<(), AllocError> {
+    let content = Content::new(alloc, key, Extras::none(), body)?;
     let msg = Msg::Push {
         tree: None,
-        content: Content::new(alloc, key, Extras::none(), body)?,
+        content,
     };
-    let mut out = Vec::new(alloc);
-    write_net(&mut out, &msg, number)?;
-    Ok(out)
+    let written = write_net(out, &msg, number);
+    drop(msg);
+    written
 }
 
 // The first entry of 02, which adds the subscriber `a`.
-fn entry(alloc: Global) -> Result<Vec<u8>, Fault> {
+fn entry(alloc: Global) -> Result<String, Fault> {
     let decl = Decl {
         kind: Kind::Sub,
         key: KeyExpr::read(alloc, b"a")?,
     };
+    let source = Zid::from_bytes(&[2])?;
+    row::or_fault(entry_of(alloc, source, decl))
+}
+
+fn entry_of(alloc: Global, source: Zid, decl: Decl) -> Result<String, AllocError> {
+    let mut out = Vec::new(alloc);
+    put_entry(&mut out, source, Shared::new(alloc, decl)?)?;
+    row::digits(alloc, &out)
+}
+
+fn put_entry(out: &mut Vec<u8>, source: Zid, decl: Shared<Decl>) -> Result<(), AllocError> {
     let msg = Msg::Step {
-        source: Zid::from_bytes(&[2])?,
+        source,
         number: 1,
         added: true,
-        decl: Shared::new(alloc, decl)?,
+        decl,
     };
-    let mut out = Vec::new(alloc);
-    write_oam(&mut out, &msg)?;
-    Ok(out)
+    let written = write_oam(out, &msg);
+    drop(msg);
+    written
 }

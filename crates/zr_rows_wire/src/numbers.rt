@@ -1,13 +1,13 @@
 //! Numbers and byte strings: what is read, what is refused, and what is written.
 
 use crate::row::{self, Fault};
-use std::alloc::Global;
+use std::alloc::{AllocError, Global};
 use zr_bytes::{ByteString, Cursor, ReadError, put_bytes, put_zint};
 
 pub fn answer(alloc: Global, words: &[&str]) -> Result<String, Fault> {
     match row::word(words, 0) {
-        "text" => text(alloc, row::parsed(words, 1)?, &row::bytes(alloc, words, 2)?),
-        "put" => put(alloc, row::parsed(words, 1)?),
+        "text" => text(alloc, words),
+        "put" => put(alloc, words),
         name => of_bytes(alloc, name, &row::bytes(alloc, words, 1)?),
     }
 }
@@ -16,13 +16,13 @@ pub fn answer(alloc: Global, words: &[&str]) -> Result<String, Fault> {
 fn of_bytes(alloc: Global, name: &str, bytes: &[u8]) -> Result<String, Fault> {
     let mut c = Cursor::new(bytes);
     match name {
-        "fork" => fork(alloc, &c),
+        "fork" => row::or_fault(fork(alloc, &c)),
         "rest" => {
             let rest = c.rest();
             row::read(alloc, &rest, c.left())
         }
-        "put-text" => put_text(alloc, bytes),
-        "kept" => kept(alloc, bytes),
+        "put-text" => row::or_fault(put_text(alloc, bytes)),
+        "kept" => row::or_fault(kept(alloc, bytes)),
         kind => {
             let given = number(&mut c, kind);
             row::read(alloc, &given, c.left())
@@ -43,36 +43,47 @@ fn number(c: &mut Cursor<'_>, kind: &str) -> Result<u64, ReadError> {
 }
 
 // A byte string behind its length, the bytes that are left, and those that are taken as the rest.
-fn text(alloc: Global, limit: u64, bytes: &[u8]) -> Result<String, Fault> {
+fn text(alloc: Global, words: &[&str]) -> Result<String, Fault> {
+    let limit = row::parsed(words, 1)?;
+    let bytes = row::bytes(alloc, words, 2)?;
+    row::or_fault(texts(alloc, limit, &bytes))
+}
+
+fn texts(alloc: Global, limit: u64, bytes: &[u8]) -> Result<String, AllocError> {
     let mut c = Cursor::new(bytes);
     let given = c.bytes(limit);
     let left = c.as_slice();
     let rest = c.rest();
-    Ok(format!(in alloc; "{given:?}, {left:?}, {rest:?}")?)
+    format!(in alloc; "{given:?}, {left:?}, {rest:?}")
 }
 
 // The first byte by a fork, and what the fork and its cursor have left.
-fn fork(alloc: Global, c: &Cursor<'_>) -> Result<String, Fault> {
+fn fork(alloc: Global, c: &Cursor<'_>) -> Result<String, AllocError> {
     let mut ahead = c.fork();
     let first = ahead.u8();
     let (rest, left) = (ahead.as_slice(), c.as_slice());
-    Ok(format!(in alloc; "{first:?}, {rest:?}, {left:?}")?)
+    format!(in alloc; "{first:?}, {rest:?}, {left:?}")
 }
 
-fn put(alloc: Global, number: u64) -> Result<String, Fault> {
+fn put(alloc: Global, words: &[&str]) -> Result<String, Fault> {
+    let number = row::parsed(words, 1)?;
+    row::or_fault(put_number(alloc, number))
+}
+
+fn put_number(alloc: Global, number: u64) -> Result<String, AllocError> {
     let mut out = Vec::new(alloc);
     put_zint(&mut out, number)?;
     row::digits(alloc, &out)
 }
 
-fn put_text(alloc: Global, bytes: &[u8]) -> Result<String, Fault> {
+fn put_text(alloc: Global, bytes: &[u8]) -> Result<String, AllocError> {
     let mut out = Vec::new(alloc);
     put_bytes(&mut out, bytes)?;
     row::digits(alloc, &out)
 }
 
 // A copy's bytes, and what is made again of its list.
-fn kept(alloc: Global, bytes: &[u8]) -> Result<String, Fault> {
+fn kept(alloc: Global, bytes: &[u8]) -> Result<String, AllocError> {
     let copy = ByteString::from_slice(alloc, bytes)?.copy(alloc)?;
     row::digits(alloc, ByteString::new(copy.into_vec()).as_slice())
 }

@@ -3,11 +3,12 @@
 ghost use Rattle.zr_trans.specs.Writing.{Fits};
 
 use crate::row::{self, Fault, Steps};
+use crate::transport::written;
 use std::alloc::Global;
 use zr_bytes::Cursor;
 use zr_id::zid::Zid;
 use zr_open::{Expected, Opened, Opening, Progress};
-use zr_trans::{Trans, read_trans, write_trans};
+use zr_trans::{Trans, read_trans};
 
 /// What an end knows that nobody else does.
 pub const SECRET: [u8; 32] = [7; 32];
@@ -21,23 +22,28 @@ struct End {
 
 /// The end that a word names, of a router, a link and a word of these numbers, takes the steps.
 pub fn answer(alloc: Global, words: &[&str]) -> Result<String, Fault> {
-    let expected = match row::word(words, 0) {
-        "accepting" => Expected::Init,
-        "dialling" => Expected::InitAnswer,
-        _ => return Err(Fault::Row),
-    };
-    let me = Zid::from_bytes(&[row::parsed(words, 1)?])?;
-    let opening = Opening::new(me, &SECRET, row::parsed(words, 2)?, row::parsed(words, 3)?);
-    let mut end = End { opening, expected };
-    row::walk(alloc, &mut end, row::behind(words, 4))
+    let opening = opening(words)?;
+    let steps = row::behind(words, 4);
+    match row::word(words, 0) {
+        "accepting" => of_end(alloc, opening, Expected::Init, steps),
+        "dialling" => of_end(alloc, opening, Expected::InitAnswer, steps),
+        _ => Err(Fault::Row),
+    }
 }
 
-fn digits(alloc: Global, message: &Trans) -> Result<String, Fault>
-    requires { Fits message.now }
-{
-    let mut out = Vec::new(alloc);
-    write_trans(&mut out, message)?;
-    row::digits(alloc, &out)
+fn opening(words: &[&str]) -> Result<Opening, Fault> {
+    let me = Zid::from_bytes(&[row::parsed(words, 1)?])?;
+    let (link, word) = (row::parsed(words, 2)?, row::parsed(words, 3)?);
+    Ok(Opening::new(me, &SECRET, link, word))
+}
+
+fn of_end(
+    alloc: Global,
+    opening: Opening,
+    expected: Expected,
+    steps: &[&str],
+) -> Result<String, Fault> {
+    row::run(alloc, End { opening, expected }, steps)
 }
 
 // What the end of an open session knows: the peer, its lease, the most bytes of a batch, the numbers of the first frames of the peer and of
@@ -54,7 +60,7 @@ fn receive(alloc: Global, end: &mut End, message: &Trans) -> Result<String, Faul
     match end.opening.receive(alloc, end.expected, message) {
         Ok(Progress::Answers { expected, answer }) => {
             end.expected = expected;
-            digits(alloc, &answer)
+            row::or_fault(written(alloc, &answer))
         }
         Ok(Progress::Opened(o)) => shown(alloc, &o),
         Err(e) => row::text(alloc, &e),
@@ -72,7 +78,7 @@ impl Steps for End {
     // The INIT of an end that dials, or a message that it hears.
     fn step(&mut self, alloc: Global, parts: &[&str]) -> Result<String, Fault> {
         match row::word(parts, 0) {
-            "greets" => digits(alloc, &self.opening.greeting()),
+            "greets" => row::or_fault(written(alloc, &self.opening.greeting())),
             "hears" => hear(alloc, self, &row::bytes(alloc, parts, 1)?),
             _ => Err(Fault::Row),
         }

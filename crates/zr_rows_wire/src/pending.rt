@@ -10,7 +10,7 @@ const TWO: LinkNo = LinkNo(2);
 const THREE: LinkNo = LinkNo(3);
 
 pub fn answer(alloc: Global, words: &[&str]) -> Result<String, Fault> {
-    row::walk(alloc, &mut Pending::new(alloc), words)
+    row::run(alloc, Pending::new(alloc), words)
 }
 
 // A request that comes from a link with a number, and the links that it goes to.

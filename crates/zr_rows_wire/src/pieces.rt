@@ -1,7 +1,8 @@
 //! A long session in random pieces against the same in one piece.
 
+use crate::random;
 use crate::row::{self, Fault};
-use crate::sessions::{Link, put_framed, started};
+use crate::sessions::{put_framed, told};
 use std::alloc::{AllocError, Global};
 
 /// How many bytes a piece has at most, and how many seeds there are.
@@ -9,19 +10,19 @@ const MOST: usize = 40;
 
 const SEEDS: u32 = 8;
 
-/// The first seed whose pieces lead to other events than the whole, and how many events that has, of a session of so many frames.
+/// The first seed whose pieces lead to something else than the whole, and how many events that has and how it stands, of a session of so many frames.
 pub fn answer(alloc: Global, words: &[&str]) -> Result<String, Fault> {
     let bytes = session(alloc, row::parsed(words, 0)?)?;
-    let mut whole = started(alloc, "client")?;
-    whole.feed(0, &bytes)?;
-    let wrong = first_wrong(alloc, &bytes, &whole.events(alloc)?)?;
-    row::text(alloc, &(wrong, whole.counted()))
+    let digits = row::digits(alloc, &bytes)?;
+    let wrong = first_wrong(alloc, &bytes, &of_whole(alloc, &digits, "told")?)?;
+    let counted = of_whole(alloc, &digits, "counted")?;
+    row::or_fault(format!(in alloc; "({wrong:?}, {counted})"))
 }
 
-// The next number of a sequence that looks random, and how far it has come.
-fn random(state: &mut u32) -> usize {
-    *state = state.wrapping_mul(1_664_525).wrapping_add(1_013_904_223);
-    (*state >> 16) as usize
+// What comes of a client's session that is fed these bytes in one piece, by this question.
+fn of_whole(alloc: Global, digits: &str, question: &str) -> Result<String, Fault> {
+    let row = format!(in alloc; "client whole:{digits} {question}")?;
+    told(alloc, &row)
 }
 
 // A push on `k` of so many bytes.
@@ -38,8 +39,8 @@ fn put_frame(
     state: &mut u32,
 ) -> Result<(), AllocError> {
     let mut batch = [0x25, number].to_vec(alloc)?;
-    for _ in 0..random(state) % 5 {
-        let length = random(state) % 71;
+    for _ in 0..random::next(state) % 5 {
+        let length = random::next(state) % 71;
         push_on_k(&mut batch, length as u8)?;
     }
     batch.push(0x04)?;
@@ -56,24 +57,35 @@ fn session(alloc: Global, frames: u8) -> Result<Vec<u8>, AllocError> {
     Ok(bytes)
 }
 
-// Feeds the bytes in pieces by a seed.
-fn in_pieces(link: &mut Link, bytes: &[u8], seed: u32) -> Result<(), Fault> {
+// What comes of such a session that is fed the bytes in pieces by a seed.
+fn of_pieces(alloc: Global, bytes: &[u8], seed: u32) -> Result<String, Fault> {
+    let mut row = String::from_str(alloc, "client")?;
+    push_pieces(alloc, &mut row, bytes, seed)?;
+    row.push_str(" told")?;
+    told(alloc, &row)
+}
+
+// Appends a step for each piece.
+fn push_pieces(alloc: Global, row: &mut String, bytes: &[u8], seed: u32) -> Result<(), AllocError> {
     let mut state = seed;
     let mut rest = bytes;
     for _ in 0..bytes.len() {
-        let length = (random(&mut state) % (MOST + 1)).min(rest.len());
+        let length = (random::next(&mut state) % (MOST + 1)).min(rest.len());
         let (piece, others) = rest.split_at(length);
-        link.feed(0, piece)?;
+        push_piece(alloc, row, piece)?;
         rest = others;
     }
-    link.feed(0, rest)
+    push_piece(alloc, row, rest)
 }
 
-fn first_wrong(alloc: Global, bytes: &[u8], events: &str) -> Result<Option<u32>, Fault> {
+fn push_piece(alloc: Global, row: &mut String, piece: &[u8]) -> Result<(), AllocError> {
+    row.push_str(" whole:")?;
+    row.push_str(&row::digits(alloc, piece)?)
+}
+
+fn first_wrong(alloc: Global, bytes: &[u8], whole: &str) -> Result<Option<u32>, Fault> {
     for seed in 0..SEEDS {
-        let mut other = started(alloc, "client")?;
-        in_pieces(&mut other, bytes, seed)?;
-        if other.events(alloc)?.as_str() != events {
+        if of_pieces(alloc, bytes, seed)?.as_str() != whole {
             return Ok(Some(seed));
         }
     }

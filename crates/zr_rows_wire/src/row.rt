@@ -49,17 +49,59 @@ pub trait Steps {
 }
 
 /// Takes the steps that the words are, each with parts between colons, and tells what came of those of which something came.
+pub fn run<W: Steps + Drop>(alloc: Global, mut state: W, words: &[&str]) -> Result<String, Fault> {
+    walk(alloc, &mut state, words)
+}
+
+/// The same behind first steps, of which nothing is told.
+pub fn run_both<W: Steps + Drop>(
+    alloc: Global,
+    mut state: W,
+    first: &[&str],
+    words: &[&str],
+) -> Result<String, Fault> {
+    walk(alloc, &mut state, first)?;
+    walk(alloc, &mut state, words)
+}
+
+/// The same of what is lent.
 pub fn walk<W: Steps>(alloc: Global, state: &mut W, words: &[&str]) -> Result<String, Fault> {
     let mut out = String::new(alloc);
     for word in words {
-        let parts = parts(alloc, word, ':')?;
-        let told = state.step(alloc, &parts)?;
-        if !told.is_empty() {
-            out.push_str(&told)?;
-            out.push_str("; ")?;
-        }
+        take(alloc, state, word, &mut out)?;
     }
     Ok(out)
+}
+
+fn take<W: Steps>(alloc: Global, state: &mut W, word: &str, out: &mut String) -> Result<(), Fault> {
+    let parts = parts(alloc, word, ':')?;
+    let told = state.step(alloc, &parts)?;
+    if !told.is_empty() {
+        put(out, &told)?;
+    }
+    Ok(())
+}
+
+/// Appends what came of a step, and what stands behind it.
+pub fn put(out: &mut String, told: &str) -> Result<(), AllocError> {
+    out.push_str(told)?;
+    out.push_str("; ")
+}
+
+/// Nothing as the text of what was done.
+pub fn done(alloc: Global, done: Result<(), Fault>) -> Result<String, Fault> {
+    match done {
+        Ok(()) => Ok(String::new(alloc)),
+        Err(e) => Err(e),
+    }
+}
+
+/// What memory was left for, or the fault that none was.
+pub fn or_fault<T>(given: Result<T, AllocError>) -> Result<T, Fault> {
+    match given {
+        Ok(given) => Ok(given),
+        Err(_) => Err(Fault::Memory),
+    }
 }
 
 /// The parts of a text between these characters.
@@ -108,17 +150,17 @@ pub fn id(words: &[&str], at: usize) -> Result<Zid, Fault> {
 
 /// A value as text.
 pub fn text<T: Debug>(alloc: Global, value: &T) -> Result<String, Fault> {
-    Ok(format!(in alloc; "{value:?}")?)
+    or_fault(format!(in alloc; "{value:?}"))
 }
 
 /// What was read as text, and how many bytes are left.
 pub fn read<T: Debug>(alloc: Global, value: &T, left: usize) -> Result<String, Fault> {
-    Ok(format!(in alloc; "{value:?}, left {left}")?)
+    or_fault(format!(in alloc; "{value:?}, left {left}"))
 }
 
 /// Bytes as hex digits.
-pub fn digits(alloc: Global, bytes: &[u8]) -> Result<String, Fault> {
-    Ok(hex::encode(alloc, bytes)?)
+pub fn digits(alloc: Global, bytes: &[u8]) -> Result<String, AllocError> {
+    hex::encode(alloc, bytes)
 }
 
 /// So many bytes that are the letter `a`.

@@ -5,7 +5,9 @@ use crate::row::{self, Fault, Steps};
 use crate::texts;
 use std::alloc::{AllocError, Global};
 use zr_batch::put_batch;
+use zr_frame::Outbox;
 use zr_id::zid::Zid;
+use zr_msg::peer::Peer;
 use zr_open::Opening;
 use zr_session::{Fate, Fed, Session, SessionEvent};
 
@@ -44,15 +46,33 @@ const ROUTER: [&str; 5] = [
 
 /// One end, and what it has given so far.
 #[derive(Drop)]
-pub struct Link {
+struct Link {
     session: Session,
     fed: Fed,
     fate: Fate,
 }
 
+/// The accepting end of router 01 or the dialling one of router 02, with random word 0, takes steps; or one that has answered the INIT of a client,
+/// or is open with a client or a router, of which it expects frame number 0.
 pub fn answer(alloc: Global, words: &[&str]) -> Result<String, Fault> {
-    let mut link = started(alloc, row::word(words, 0))?;
-    row::walk(alloc, &mut link, row::behind(words, 1))
+    let steps = row::behind(words, 1);
+    match row::word(words, 0) {
+        "dialling" => dialling(alloc, steps),
+        "accepting" => accepting(alloc, &[], steps),
+        "greeted" => accepting(alloc, &GREETED, steps),
+        "client" => accepting(alloc, &CLIENT, steps),
+        "router" => accepting(alloc, &ROUTER, steps),
+        _ => Err(Fault::Row),
+    }
+}
+
+/// What comes of a row of which one step is a question, without what stands behind it.
+pub fn told(alloc: Global, row: &str) -> Result<String, Fault> {
+    let words = row::parts(alloc, row, ' ')?;
+    let mut told = answer(alloc, &words)?;
+    told.pop();
+    told.pop();
+    Ok(told)
 }
 
 /// What comes of these bytes, cut behind each of them, where something else comes of it than of the whole, or of the whole.
@@ -62,125 +82,87 @@ pub fn cuts(alloc: Global, words: &[&str]) -> Result<String, Fault> {
     for at in 0..bytes.len() {
         let other = of_cut(alloc, &bytes, at)?;
         if other.as_str() != whole.as_str() {
-            return Ok(format!(in alloc; "cut at {at}: {other}")?);
+            return row::or_fault(format!(in alloc; "cut at {at}: {other}"));
         }
     }
     Ok(whole)
 }
 
 fn of_cut(alloc: Global, bytes: &[u8], at: usize) -> Result<String, Fault> {
-    let mut link = started(alloc, "accepting")?;
     let (first, second) = bytes.split_at(at.min(bytes.len()));
-    link.feed(0, first)?;
-    link.feed(0, second)?;
-    link.confirm()?;
-    link.told(alloc)
+    let row = cut_row(alloc, first, second)?;
+    told(alloc, &row)
+}
+
+fn cut_row(alloc: Global, first: &[u8], second: &[u8]) -> Result<String, AllocError> {
+    let first = row::digits(alloc, first)?;
+    let second = row::digits(alloc, second)?;
+    format!(in alloc; "accepting whole:{first} whole:{second} confirm told")
 }
 
 fn opening(id: u8) -> Result<Opening, Fault> {
     Ok(Opening::new(Zid::from_bytes(&[id])?, &SECRET, NUMBER, 0))
 }
 
-// The accepting end of router 01.
-fn accepting(alloc: Global) -> Result<Link, Fault> {
-    Ok(Link {
-        session: Session::accepting(alloc, opening(1)?, 0),
-        fed: Fed::new(alloc),
-        fate: Fate::Going,
-    })
+// The accepting end of router 01, which takes the first steps before those of the row.
+fn accepting(alloc: Global, first: &[&str], steps: &[&str]) -> Result<String, Fault> {
+    let session = Session::accepting(alloc, opening(1)?, 0);
+    of_link(alloc, session, Vec::new(alloc), first, steps)
 }
 
 // The dialling one of router 02.
-fn dialling(alloc: Global) -> Result<Link, Fault> {
+fn dialling(alloc: Global, steps: &[&str]) -> Result<String, Fault> {
     let opening = opening(2)?;
-    let mut fed = Fed::new(alloc);
-    Ok(Link {
-        session: Session::dialling(alloc, opening, 0, &mut fed.bytes)?,
-        fed,
-        fate: Fate::Going,
-    })
+    let mut bytes = Vec::new(alloc);
+    let session = Session::dialling(alloc, opening, 0, &mut bytes)?;
+    of_link(alloc, session, bytes, &[], steps)
 }
 
-// What an accepting end is told before the steps of a row.
-fn beginning(start: &str) -> Result<&'static [&'static str], Fault> {
-    match start {
-        "accepting" => Ok(&[]),
-        "greeted" => Ok(&GREETED),
-        "client" => Ok(&CLIENT),
-        "router" => Ok(&ROUTER),
-        _ => Err(Fault::Row),
-    }
-}
-
-/// The accepting end of router 01 or the dialling one of router 02, with random word 0; or one that has answered the INIT of a client, or
-/// is open with a client or a router, of which it expects frame number 0.
-pub fn started(alloc: Global, start: &str) -> Result<Link, Fault> {
-    if start == "dialling" {
-        return dialling(alloc);
-    }
-    let mut link = accepting(alloc)?;
-    row::walk(alloc, &mut link, beginning(start)?)?;
-    Ok(link)
+fn of_link(
+    alloc: Global,
+    session: Session,
+    bytes: Vec<u8>,
+    first: &[&str],
+    steps: &[&str],
+) -> Result<String, Fault> {
+    let fed = Fed {
+        events: Vec::new(alloc),
+        bytes,
+    };
+    let fate = Fate::Going;
+    row::run_both(alloc, Link { session, fed, fate }, first, steps)
 }
 
 impl Link {
-    /// Feeds a piece at this moment, in milliseconds.
-    pub fn feed(&mut self, now: u64, piece: &[u8]) -> Result<(), Fault> {
+    // Feeds a piece at this moment, in milliseconds.
+    fn feed(&mut self, now: u64, piece: &[u8]) -> Result<(), AllocError> {
         self.fate = self.session.feed(piece, now, &mut self.fed)?;
         Ok(())
     }
 
-    fn feed_each(&mut self, bytes: &[u8]) -> Result<(), Fault> {
+    fn feed_each(&mut self, bytes: &[u8]) -> Result<(), AllocError> {
         for byte in bytes {
             self.feed(0, &[*byte])?;
         }
         Ok(())
     }
 
-    fn tick(&mut self, now: u64) -> Result<(), Fault> {
+    fn tick(&mut self, now: u64) -> Result<(), AllocError> {
         self.fate = self.session.tick(now, &mut self.fed.bytes)?;
         Ok(())
     }
 
-    fn confirm(&mut self) -> Result<(), Fault> {
-        self.session.confirm(&mut self.fed.bytes)?;
-        Ok(())
-    }
-
-    // Its events, how its session stands, with the byte of a CLOSE where it has ended, and what it has to write.
-    fn told(&self, alloc: Global) -> Result<String, Fault> {
-        let events = self.events(alloc)?;
-        let (fate, reason) = (self.fate, reason_of(self.fate));
-        let bytes = row::digits(alloc, &self.fed.bytes)?;
-        Ok(format!(in alloc; "{events}{fate:?} {reason} {bytes}")?)
-    }
-
-    /// How many events it has given, and how its session stands.
-    pub fn counted(&self) -> (usize, Fate) {
-        (self.fed.events.len(), self.fate)
-    }
-
-    /// The events so far, one behind another.
-    pub fn events(&self, alloc: Global) -> Result<String, Fault> {
-        let mut text = String::new(alloc);
-        for event in &self.fed.events {
-            text.push_str(&event_text(alloc, event)?)?;
-            text.push_str("; ")?;
-        }
-        Ok(text)
-    }
-
-    // Takes a step that brings no bytes, or one that does.
+    // Takes a step of which nothing comes at once.
     fn take(&mut self, alloc: Global, parts: &[&str]) -> Result<(), Fault> {
         match row::word(parts, 0) {
-            "tick" => self.tick(row::parsed(parts, 1)?),
-            "confirm" => self.confirm(),
+            "tick" => row::or_fault(self.tick(row::parsed(parts, 1)?)),
+            "confirm" => row::or_fault(self.session.confirm(&mut self.fed.bytes)),
             "forget" => {
                 self.fed.bytes.clear();
                 Ok(())
             }
             "begin" => {
-                self.fed = Fed::new(alloc);
+                begin(&mut self.fed);
                 Ok(())
             }
             _ => self.bring(alloc, parts),
@@ -189,11 +171,12 @@ impl Link {
 
     // Takes a step that brings bytes.
     fn bring(&mut self, alloc: Global, parts: &[&str]) -> Result<(), Fault> {
+        let now = moment(parts)?;
         let bytes = brought(alloc, parts)?;
-        match row::word(parts, 0) {
-            "each" => self.feed_each(&bytes),
-            "at" => self.feed(row::parsed(parts, 2)?, &bytes),
-            _ => self.feed(0, &bytes),
+        if row::word(parts, 0) == "each" {
+            row::or_fault(self.feed_each(&bytes))
+        } else {
+            row::or_fault(self.feed(now, &bytes))
         }
     }
 }
@@ -202,13 +185,61 @@ impl Steps for Link {
     // A question, or a step of which nothing comes at once.
     fn step(&mut self, alloc: Global, parts: &[&str]) -> Result<String, Fault> {
         match row::word(parts, 0) {
-            "told" => self.told(alloc),
-            "counted" => row::text(alloc, &self.counted()),
-            _ => {
-                self.take(alloc, parts)?;
-                Ok(String::new(alloc))
-            }
+            "told" => row::or_fault(state(alloc, &self.fed, self.fate)),
+            "counted" => row::text(alloc, &(self.fed.events.len(), self.fate)),
+            _ => row::done(alloc, self.take(alloc, parts)),
         }
+    }
+}
+
+// Forgets what has come so far.
+fn begin(fed: &mut Fed) {
+    fed.events.clear();
+    fed.bytes.clear();
+}
+
+// The events, how the session stands, with the byte of a CLOSE where it has ended, and what it has to write.
+fn state(alloc: Global, fed: &Fed, fate: Fate) -> Result<String, AllocError> {
+    let events = events(alloc, &fed.events)?;
+    let bytes = row::digits(alloc, &fed.bytes)?;
+    format!(in alloc; "{events}{fate:?} {} {bytes}", reason_of(fate))
+}
+
+// The events, one behind another.
+fn events(alloc: Global, events: &[SessionEvent]) -> Result<String, AllocError> {
+    let mut text = String::new(alloc);
+    for event in events {
+        row::put(&mut text, &event_text(alloc, event)?)?;
+    }
+    Ok(text)
+}
+
+fn event_text(alloc: Global, event: &SessionEvent) -> Result<String, AllocError> {
+    match event {
+        SessionEvent::Opened(peer, outbox) => opened(alloc, peer, outbox),
+        SessionEvent::Message(msg) => texts::message(alloc, msg),
+    }
+}
+
+fn opened(alloc: Global, peer: &Peer, outbox: &Outbox) -> Result<String, AllocError> {
+    let (role, id, batch, next) = (peer.role, peer.id, outbox.batch(), outbox.next());
+    format!(in alloc; "({role:?}, {id:?}, {batch}, {next})")
+}
+
+// Zero where the session goes on.
+fn reason_of(fate: Fate) -> u8 {
+    match fate {
+        Fate::Going => 0,
+        Fate::Closed(reason) => reason.byte(),
+        Fate::Peer(reason) => reason,
+    }
+}
+
+// When a step's bytes come, in milliseconds.
+fn moment(parts: &[&str]) -> Result<u64, Fault> {
+    match row::word(parts, 0) {
+        "at" => row::parsed(parts, 2),
+        _ => Ok(0),
     }
 }
 
@@ -240,14 +271,12 @@ fn put(alloc: Global, out: &mut Vec<u8>, name: &str, parts: &[&str]) -> Result<(
 fn put_begun(alloc: Global, out: &mut Vec<u8>, parts: &[&str]) -> Result<(), Fault> {
     let more = row::parsed(parts, 2)?;
     let head = row::bytes(alloc, parts, 1)?;
-    put_long(alloc, out, &head, more)?;
-    Ok(())
+    row::or_fault(put_long(alloc, out, &head, more))
 }
 
 fn put_one(alloc: Global, out: &mut Vec<u8>, parts: &[&str]) -> Result<(), Fault> {
     let (number, length) = (row::parsed(parts, 1)?, row::parsed(parts, 2)?);
-    put_numbering(alloc, out, number, length)?;
-    Ok(())
+    row::or_fault(put_numbering(alloc, out, number, length))
 }
 
 // Appends a batch of these bytes and so many more, which are the letter `a`.
@@ -301,22 +330,4 @@ pub fn put_framed(out: &mut Vec<u8>, batch: &[u8]) -> Result<(), AllocError> {
         put_batch(out, batch)?;
     }
     Ok(())
-}
-
-// Zero where the session goes on.
-fn reason_of(fate: Fate) -> u8 {
-    match fate {
-        Fate::Going => 0,
-        Fate::Closed(reason) => reason.byte(),
-        Fate::Peer(reason) => reason,
-    }
-}
-
-fn event_text(alloc: Global, event: &SessionEvent) -> Result<String, Fault> {
-    match event {
-        SessionEvent::Opened(peer, outbox) => {
-            row::text(alloc, &(peer.role, peer.id, outbox.batch(), outbox.next()))
-        }
-        SessionEvent::Message(msg) => texts::message(alloc, msg),
-    }
 }

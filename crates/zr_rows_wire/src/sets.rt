@@ -21,8 +21,11 @@ static ROWS: [(Kind, &str); 7] = [
 pub fn answer(alloc: Global, words: &[&str]) -> Result<String, Fault> {
     let mut set = of_rows(alloc)?;
     let told = row::walk(alloc, &mut set, words)?;
-    let count = set.into_vec().len();
-    Ok(format!(in alloc; "{told}{count} left")?)
+    row::or_fault(with_count(alloc, &told, set.into_vec().len()))
+}
+
+fn with_count(alloc: Global, told: &str, count: usize) -> Result<String, AllocError> {
+    format!(in alloc; "{told}{count} left")
 }
 
 /// A declaration of this kind on the key that a text spells.
@@ -42,10 +45,14 @@ fn of_rows(alloc: Global) -> Result<DeclSet, Fault> {
 fn order(alloc: Global, set: &DeclSet) -> Result<String, AllocError> {
     let mut out = String::new(alloc);
     for decl in set.as_slice() {
-        let kind = decl.kind;
-        out.push_str(&format!(in alloc; "{kind:?} {}, ", decl.key.text())?)?;
+        out.push_str(&shown(alloc, decl)?)?;
     }
     Ok(out)
+}
+
+fn shown(alloc: Global, decl: &Decl) -> Result<String, AllocError> {
+    let kind = decl.kind;
+    format!(in alloc; "{kind:?} {}, ", decl.key.text())
 }
 
 // What a set weighs, what it weighs without a declaration, and whether it has it.
@@ -64,7 +71,7 @@ fn taken(alloc: Global, set: &mut DeclSet, kind: Kind, text: &str) -> Result<Str
 impl Steps for DeclSet {
     fn step(&mut self, alloc: Global, parts: &[&str]) -> Result<String, Fault> {
         match row::word(parts, 0) {
-            "order" => Ok(order(alloc, self)?),
+            "order" => row::or_fault(order(alloc, self)),
             "sub" => taken(alloc, self, Kind::Sub, row::word(parts, 1)),
             "able" => taken(alloc, self, Kind::Able, row::word(parts, 1)),
             _ => Err(Fault::Row),

@@ -1,6 +1,6 @@
 //! Messages as text: each field that it has, its key as text and its body as hex digits.
 
-use crate::row::{self, Fault};
+use crate::row;
 use std::alloc::{AllocError, Global};
 use zr_bytes::ReadError;
 use zr_decl::Declared;
@@ -10,49 +10,37 @@ use zr_key::key::KeyExpr;
 use zr_msg::content::Content;
 use zr_msg::decl::Decl;
 use zr_msg::extras::Extras;
-use zr_msg::msg::Msg;
+use zr_msg::msg::{Msg, Target};
 
 /// What was read, or why nothing was.
-pub fn read(alloc: Global, read: &Result<Declared, ReadError>) -> Result<String, Fault> {
+pub fn read(alloc: Global, read: &Result<Declared, ReadError>) -> Result<String, AllocError> {
     match read {
         Ok(Declared::Told(msg)) => message(alloc, msg),
-        Ok(Declared::Number(number, text)) => {
-            let digits = row::digits(alloc, text.as_slice())?;
-            Ok(format!(in alloc; "number {number} {digits}")?)
-        }
-        Ok(Declared::Unnumber(number)) => Ok(format!(in alloc; "unnumber {number}")?),
-        Ok(Declared::Ignored) => Ok(String::from_str(alloc, "ignored")?),
-        Err(e) => row::text(alloc, e),
+        Ok(Declared::Number(number, text)) => scope(alloc, *number, text.as_slice()),
+        Ok(Declared::Unnumber(number)) => format!(in alloc; "unnumber {number}"),
+        Ok(Declared::Ignored) => String::from_str(alloc, "ignored"),
+        Err(e) => format!(in alloc; "{e:?}"),
     }
 }
 
+fn scope(alloc: Global, number: u16, text: &[u8]) -> Result<String, AllocError> {
+    let digits = row::digits(alloc, text)?;
+    format!(in alloc; "number {number} {digits}")
+}
+
 /// A message.
-pub fn message(alloc: Global, msg: &Msg) -> Result<String, Fault> {
+pub fn message(alloc: Global, msg: &Msg) -> Result<String, AllocError> {
     match msg {
-        Msg::Push { tree, content } => {
-            let content = carried(alloc, content)?;
-            Ok(format!(in alloc; "push {tree:?} {content}")?)
-        }
+        Msg::Push { tree, content } => push(alloc, *tree, content),
         Msg::Request {
             tree,
             id,
             target,
             content,
-        } => {
-            let content = carried(alloc, content)?;
-            Ok(format!(in alloc; "request {id} {tree:?} {target:?} {content}")?)
-        }
-        Msg::Response { id, content } => {
-            let content = carried(alloc, content)?;
-            Ok(format!(in alloc; "reply {id} {content}")?)
-        }
-        Msg::Final { id, extras } => {
-            let extras = extensions(alloc, extras.get())?;
-            Ok(format!(in alloc; "final {id}{extras}")?)
-        }
-        Msg::State { .. } | Msg::Step { .. } | Msg::Snap { .. } => {
-            Ok(between_routers(alloc, msg)?)
-        }
+        } => request(alloc, *tree, *id, *target, content),
+        Msg::Response { id, content } => reply(alloc, *id, content),
+        Msg::Final { id, extras } => last(alloc, *id, extras.get()),
+        Msg::State { .. } | Msg::Step { .. } | Msg::Snap { .. } => between_routers(alloc, msg),
         Msg::Sub { .. }
         | Msg::Unsub { .. }
         | Msg::Able { .. }
@@ -63,8 +51,34 @@ pub fn message(alloc: Global, msg: &Msg) -> Result<String, Fault> {
         | Msg::ToldAble { .. }
         | Msg::ToldUnsub { .. }
         | Msg::ToldUnable { .. }
-        | Msg::ToldEnd { .. } => Ok(declared(alloc, msg)?),
+        | Msg::ToldEnd { .. } => declared(alloc, msg),
     }
+}
+
+fn push(alloc: Global, tree: Option<Zid>, content: &Content) -> Result<String, AllocError> {
+    let content = carried(alloc, content)?;
+    format!(in alloc; "push {tree:?} {content}")
+}
+
+fn request(
+    alloc: Global,
+    tree: Option<Zid>,
+    id: u32,
+    target: Target,
+    content: &Content,
+) -> Result<String, AllocError> {
+    let content = carried(alloc, content)?;
+    format!(in alloc; "request {id} {tree:?} {target:?} {content}")
+}
+
+fn reply(alloc: Global, id: u32, content: &Content) -> Result<String, AllocError> {
+    let content = carried(alloc, content)?;
+    format!(in alloc; "reply {id} {content}")
+}
+
+fn last(alloc: Global, id: u32, extras: &Extras) -> Result<String, AllocError> {
+    let extras = extensions(alloc, extras)?;
+    format!(in alloc; "final {id}{extras}")
 }
 
 // A declaration or an interest of a client. It is told nothing that is read here.
@@ -166,17 +180,17 @@ fn declaration(alloc: Global, decl: &Decl) -> Result<String, AllocError> {
 }
 
 // Its key, its body, and the extensions that it has.
-fn carried(alloc: Global, content: &Content) -> Result<String, Fault> {
+fn carried(alloc: Global, content: &Content) -> Result<String, AllocError> {
     let body = row::digits(alloc, content.body().as_slice())?;
     let extras = extensions(alloc, content.extras())?;
-    Ok(format!(in alloc; "{} {body}{extras}", content.key().text())?)
+    format!(in alloc; "{} {body}{extras}", content.key().text())
 }
 
 // Nothing where there are none.
-fn extensions(alloc: Global, extras: &Extras) -> Result<String, Fault> {
+fn extensions(alloc: Global, extras: &Extras) -> Result<String, AllocError> {
     let (qos, budget, timeout, marks) = (extras.qos, extras.budget, extras.timeout, extras.marks);
     if qos.is_none() && budget.is_none() && timeout.is_none() && marks == 0 {
         return Ok(String::new(alloc));
     }
-    Ok(format!(in alloc; " qos {qos:?} budget {budget:?} timeout {timeout:?} marks {marks}")?)
+    format!(in alloc; " qos {qos:?} budget {budget:?} timeout {timeout:?} marks {marks}")
 }

@@ -1,9 +1,11 @@
 //! Transport messages: which bytes are read as which, which are refused, and how messages are written.
 
+ghost use Rattle.zr_trans.specs.Writing.{Fits};
+
 use crate::row::{self, Fault};
-use std::alloc::Global;
+use std::alloc::{AllocError, Global};
 use zr_bytes::Cursor;
-use zr_trans::{read_trans, write_trans};
+use zr_trans::{Trans, read_trans, write_trans};
 
 pub fn answer(alloc: Global, words: &[&str]) -> Result<String, Fault> {
     match row::word(words, 0) {
@@ -23,10 +25,17 @@ fn read(alloc: Global, words: &[&str]) -> Result<String, Fault> {
 // What is written of the message that was read.
 fn again(alloc: Global, words: &[&str]) -> Result<String, Fault> {
     let bytes = row::bytes(alloc, words, 1)?;
-    let Ok(message) = read_trans(alloc, &mut Cursor::new(&bytes)) else {
-        return Err(Fault::Row);
-    };
+    match read_trans(alloc, &mut Cursor::new(&bytes)) {
+        Ok(message) => row::or_fault(written(alloc, &message)),
+        Err(_) => Err(Fault::Row),
+    }
+}
+
+/// What is written of a message that can be spelled.
+pub fn written(alloc: Global, message: &Trans) -> Result<String, AllocError>
+    requires { Fits message.now }
+{
     let mut out = Vec::new(alloc);
-    write_trans(&mut out, &message)?;
+    write_trans(&mut out, message)?;
     row::digits(alloc, &out)
 }

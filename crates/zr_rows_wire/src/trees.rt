@@ -27,15 +27,15 @@ static BITS: [[u32; ROUTERS]; ROUTERS] = [
 /// What trees tell, of the graph of a number at a router, of a router that knows no record of its neighbour, or of a line of so many routers.
 pub fn answer(alloc: Global, words: &[&str]) -> Result<String, Fault> {
     let base = named(alloc, words)?;
-    let mut trees = Trees::of(alloc, &base)?;
-    row::walk(alloc, &mut trees, row::behind(words, 2))
+    let trees = Trees::of(alloc, &base)?;
+    row::run(alloc, trees, row::behind(words, 2))
 }
 
 /// Which routers are children of the one at which such a base is.
 pub fn children(alloc: Global, words: &[&str]) -> Result<String, Fault> {
     let base = named(alloc, words)?;
-    let mut family = Family::of(alloc, &base)?;
-    row::walk(alloc, &mut family, row::behind(words, 2))
+    let family = Family::of(alloc, &base)?;
+    row::run(alloc, family, row::behind(words, 2))
 }
 
 // The base that a row's first two words name: of the first of a line of so many routers, or of a graph at the router of this index.
@@ -122,17 +122,23 @@ impl Steps for Trees {
     // Another base of a graph, or a question: of a root and a router in its tree, or whether the edges of a graph are theirs.
     fn step(&mut self, alloc: Global, parts: &[&str]) -> Result<String, Fault> {
         match row::word(parts, 0) {
-            "edges" => {
-                let base = base_of(alloc, row::parsed(parts, 1)?, 1)?;
-                row::text(alloc, &self.have_edges_of(&base))
-            }
-            "follow" => {
-                let base = one_more(alloc, row::parsed(parts, 1)?)?;
-                row::text(alloc, &follow(alloc, self, &base)?)
-            }
+            "edges" => edges(alloc, self, row::parsed(parts, 1)?),
+            "follow" => follow(alloc, self, row::parsed(parts, 1)?),
             question => asked(alloc, self, question, parts),
         }
     }
+}
+
+fn edges(alloc: Global, trees: &Trees, graph: u32) -> Result<String, Fault> {
+    let base = base_of(alloc, graph, 1)?;
+    row::text(alloc, &trees.have_edges_of(&base))
+}
+
+// The base of a graph comes, in which router 0 lists one router more.
+fn follow(alloc: Global, trees: &mut Trees, graph: u32) -> Result<String, Fault> {
+    let base = one_more(alloc, graph)?;
+    let is_followed = is_followed(alloc, trees, &base)?;
+    row::text(alloc, &is_followed)
 }
 
 // The base of this graph at router 3, where router 0 lists router 3 as well, which doesn't list it.
@@ -145,7 +151,7 @@ fn one_more(alloc: Global, graph: u32) -> Result<Base, Fault> {
 }
 
 // Whether no edge came with that base, which is followed then.
-fn follow(alloc: Global, trees: &mut Trees, base: &Base) -> Result<bool, AllocError> {
+fn is_followed(alloc: Global, trees: &mut Trees, base: &Base) -> Result<bool, AllocError> {
     if !trees.have_edges_of(base) {
         return Ok(false);
     }
