@@ -109,7 +109,11 @@ fn look(alloc: Global, c: &mut Cursor<'_>, theirs: &Scopes) -> Result<Option<Fou
 fn network(alloc: Global, c: &mut Cursor<'_>, theirs: &Scopes) -> Result<Option<Found>, ReadError> {
     let ours = Scopes::new(alloc);
     match read_net(alloc, c, theirs, &ours, Role::Router)? {
-        Declared::Told(msg) => found(alloc, &msg),
+        Declared::Told(msg) => {
+            let found = found(alloc, &msg);
+            drop(msg);
+            found
+        }
         _ => Ok(None),
     }
 }
@@ -118,7 +122,11 @@ fn network(alloc: Global, c: &mut Cursor<'_>, theirs: &Scopes) -> Result<Option<
 #[tactic(auto, using(crate::proofs::Spelled::between_spelled))]
 fn between_routers(alloc: Global, c: &mut Cursor<'_>) -> Result<Option<Found>, ReadError> {
     match read_oam(alloc, c)? {
-        Some(msg) => found(alloc, &msg),
+        Some(msg) => {
+            let found = found(alloc, &msg);
+            drop(msg);
+            found
+        }
         None => Ok(None),
     }
 }

@@ -2,7 +2,7 @@
 
 use crate::row::{self, Fault};
 use std::alloc::{AllocError, Global};
-use zr_bytes::{ByteString, Cursor};
+use zr_bytes::{ByteString, Cursor, ReadError};
 use zr_frame::{Channel, ChannelError, MOST_OF_CLIENT, Outbox};
 use zr_trans::{Trans, read_trans};
 
@@ -66,7 +66,18 @@ fn heard(alloc: Global, channel: &mut Channel, more: bool, number: u64, piece: &
 
 // What a channel that is handed one more parcel makes of it.
 fn received(alloc: Global, channel: &mut Channel, parcel: &[u8]) -> Result<Heard, Fault> {
-    match read_trans(alloc, &mut Cursor::new(parcel)) {
+    let read = read_trans(alloc, &mut Cursor::new(parcel));
+    let heard = heard_of(alloc, channel, &read);
+    drop(read);
+    heard
+}
+
+fn heard_of(
+    alloc: Global,
+    channel: &mut Channel,
+    read: &Result<Trans, ReadError>,
+) -> Result<Heard, Fault> {
+    match read {
         Ok(
             Trans::Fragment {
                 more,
@@ -74,7 +85,7 @@ fn received(alloc: Global, channel: &mut Channel, parcel: &[u8]) -> Result<Heard
                 piece,
                 ..
             },
-        ) => Ok(heard(alloc, channel, more, number, piece.as_slice())),
+        ) => Ok(heard(alloc, channel, *more, *number, piece.as_slice())),
         _ => Err(Fault::Row),
     }
 }

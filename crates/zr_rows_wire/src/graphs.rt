@@ -2,7 +2,7 @@
 
 use crate::row::{self, Fault, Steps};
 use std::alloc::Global;
-use zr_graph::base::Base;
+use zr_graph::base::{Accepted, Base};
 use zr_id::record::{LinkRecord, are_links};
 use zr_id::zid::Zid;
 
@@ -14,12 +14,10 @@ pub fn answer(alloc: Global, words: &[&str]) -> Result<String, Fault> {
 
 // The identifiers that a word lists.
 fn ids(alloc: Global, word: &str) -> Result<Vec<Zid>, Fault> {
-    let texts = row::parts(alloc, word, ',')?;
+    let texts = row::listed(alloc, word)?;
     let mut ids = Vec::new(alloc);
     for text in &texts {
-        if !text.is_empty() {
-            push_id(&mut ids, text)?;
-        }
+        push_id(&mut ids, text)?;
     }
     Ok(ids)
 }
@@ -52,8 +50,16 @@ pub fn record(id: Zid, number: u64, links: Vec<Zid>) -> Result<LinkRecord, Fault
 
 fn accept(alloc: Global, base: &mut Base, parts: &[&str]) -> Result<String, Fault> {
     let (id, number) = (row::id(parts, 1)?, row::parsed(parts, 2)?);
-    let record = record(id, number, ids(alloc, row::word(parts, 3))?)?;
-    row::text(alloc, &base.accept(&record)?)
+    let links = ids(alloc, row::word(parts, 3))?;
+    let accepted = taken(base, record(id, number, links)?)?;
+    row::text(alloc, &accepted)
+}
+
+/// A router's record comes.
+pub fn taken(base: &mut Base, record: LinkRecord) -> Result<Accepted, Fault> {
+    let accepted = base.accept(&record);
+    drop(record);
+    row::or_fault(accepted)
 }
 
 fn links(alloc: Global, base: &mut Base, parts: &[&str]) -> Result<String, Fault> {

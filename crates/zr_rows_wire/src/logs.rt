@@ -51,11 +51,9 @@ fn push_long(alloc: Global, all: &mut Vec<Decl>, count: u32) -> Result<(), Fault
 }
 
 fn push_short(alloc: Global, all: &mut Vec<Decl>, word: &str) -> Result<(), Fault> {
-    let keys = row::parts(alloc, word, ',')?;
+    let keys = row::listed(alloc, word)?;
     for key in &keys {
-        if !key.is_empty() {
-            push_sub(alloc, all, key)?;
-        }
+        push_sub(alloc, all, key)?;
     }
     Ok(())
 }

@@ -120,23 +120,26 @@ fn first_whole(alloc: Global, sort: &str, bytes: &[u8], theirs: &Scopes) -> Opti
 }
 
 fn is_short(alloc: Global, sort: &str, bytes: &[u8], theirs: &Scopes) -> bool {
-    matches!(
-        read(alloc, sort, &mut Cursor::new(bytes), theirs),
-        Err(ReadError::Short)
-    )
+    let read = read(alloc, sort, &mut Cursor::new(bytes), theirs);
+    let is_short = matches!(&read, Err(ReadError::Short));
+    drop(read);
+    is_short
 }
 
 // A subscriber in answer to an interest, and the end of the answers.
 fn told(alloc: Global) -> Result<String, Fault> {
     let key = KeyExpr::read(alloc, b"a/b")?;
-    row::or_fault(told_of(alloc, key))
-}
-
-fn told_of(alloc: Global, key: KeyExpr) -> Result<String, AllocError> {
     let mut out = Vec::new(alloc);
     put_told(&mut out, key)?;
-    write_decl(&mut out, &Msg::ToldEnd { interest: 1 })?;
-    row::digits(alloc, &out)
+    put_end(&mut out)?;
+    row::or_fault(row::digits(alloc, &out))
+}
+
+fn put_end(out: &mut Vec<u8>) -> Result<(), AllocError> {
+    let msg = Msg::ToldEnd { interest: 1 };
+    let written = write_decl(out, &msg);
+    drop(msg);
+    written
 }
 
 fn put_told(out: &mut Vec<u8>, key: KeyExpr) -> Result<(), AllocError> {
@@ -153,23 +156,13 @@ fn put_told(out: &mut Vec<u8>, key: KeyExpr) -> Result<(), AllocError> {
 // The value `hi` on `a/b`, for which a number may stand.
 fn push(alloc: Global, number: u16) -> Result<String, Fault> {
     let key = KeyExpr::read(alloc, b"a/b")?;
-    row::or_fault(push_of(alloc, key, number))
-}
-
-fn push_of(alloc: Global, key: KeyExpr, number: u16) -> Result<String, AllocError> {
-    let body = Body::put(alloc, b"hi")?;
     let mut out = Vec::new(alloc);
-    put_push(alloc, &mut out, key, body, number)?;
-    row::digits(alloc, &out)
+    put_push(alloc, &mut out, key, number)?;
+    row::or_fault(row::digits(alloc, &out))
 }
 
-fn put_push(
-    alloc: Global,
-    out: &mut Vec<u8>,
-    key: KeyExpr,
-    body: Body,
-    number: u16,
-) -> Result<(), AllocError> {
+fn put_push(alloc: Global, out: &mut Vec<u8>, key: KeyExpr, number: u16) -> Result<(), AllocError> {
+    let body = Body::put(alloc, b"hi")?;
     let content = Content::new(alloc, key, Extras::none(), body)?;
     let msg = Msg::Push {
         tree: None,
@@ -187,13 +180,9 @@ fn entry(alloc: Global) -> Result<String, Fault> {
         key: KeyExpr::read(alloc, b"a")?,
     };
     let source = Zid::from_bytes(&[2])?;
-    row::or_fault(entry_of(alloc, source, decl))
-}
-
-fn entry_of(alloc: Global, source: Zid, decl: Decl) -> Result<String, AllocError> {
     let mut out = Vec::new(alloc);
     put_entry(&mut out, source, Shared::new(alloc, decl)?)?;
-    row::digits(alloc, &out)
+    row::or_fault(row::digits(alloc, &out))
 }
 
 fn put_entry(out: &mut Vec<u8>, source: Zid, decl: Shared<Decl>) -> Result<(), AllocError> {

@@ -3,7 +3,7 @@
 ghost use Rattle.zr_trans.specs.Writing.{Fits};
 
 use crate::row::{self, Fault, Steps};
-use crate::transport::written;
+use crate::transport::spent;
 use std::alloc::Global;
 use zr_bytes::Cursor;
 use zr_id::zid::Zid;
@@ -60,16 +60,24 @@ fn receive(alloc: Global, end: &mut End, message: &Trans) -> Result<String, Faul
     match end.opening.receive(alloc, end.expected, message) {
         Ok(Progress::Answers { expected, answer }) => {
             end.expected = expected;
-            row::or_fault(written(alloc, &answer))
+            row::or_fault(spent(alloc, answer))
         }
-        Ok(Progress::Opened(o)) => shown(alloc, &o),
+        Ok(Progress::Opened(o)) => {
+            let text = shown(alloc, &o);
+            drop(o);
+            text
+        }
         Err(e) => row::text(alloc, &e),
     }
 }
 
 fn hear(alloc: Global, end: &mut End, bytes: &[u8]) -> Result<String, Fault> {
     match read_trans(alloc, &mut Cursor::new(bytes)) {
-        Ok(message) => receive(alloc, end, &message),
+        Ok(message) => {
+            let text = receive(alloc, end, &message);
+            drop(message);
+            text
+        }
         Err(_) => Err(Fault::Row),
     }
 }
@@ -78,7 +86,7 @@ impl Steps for End {
     // The INIT of an end that dials, or a message that it hears.
     fn step(&mut self, alloc: Global, parts: &[&str]) -> Result<String, Fault> {
         match row::word(parts, 0) {
-            "greets" => row::or_fault(written(alloc, &self.opening.greeting())),
+            "greets" => row::or_fault(spent(alloc, self.opening.greeting())),
             "hears" => hear(alloc, self, &row::bytes(alloc, parts, 1)?),
             _ => Err(Fault::Row),
         }

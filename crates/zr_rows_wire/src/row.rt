@@ -109,6 +109,14 @@ pub fn parts(alloc: Global, text: &str, between: char) -> Result<Vec<&str>, Allo
     text.split(between).collect(alloc)
 }
 
+/// The parts of a word between commas, none of an empty one.
+pub fn listed(alloc: Global, word: &str) -> Result<Vec<&str>, AllocError> {
+    if word.is_empty() {
+        return Ok(Vec::new(alloc));
+    }
+    parts(alloc, word, ',')
+}
+
 /// The word at a place, empty where there is none.
 pub fn word<'a>(words: &[&'a str], at: usize) -> &'a str {
     match words.get(at) {

@@ -19,20 +19,31 @@ fn read(alloc: Global, words: &[&str]) -> Result<String, Fault> {
     let bytes = row::bytes(alloc, words, 1)?;
     let mut c = Cursor::new(&bytes);
     let message = read_trans(alloc, &mut c);
-    row::read(alloc, &message, c.left())
+    let text = row::read(alloc, &message, c.left());
+    drop(message);
+    text
 }
 
 // What is written of the message that was read.
 fn again(alloc: Global, words: &[&str]) -> Result<String, Fault> {
     let bytes = row::bytes(alloc, words, 1)?;
     match read_trans(alloc, &mut Cursor::new(&bytes)) {
-        Ok(message) => row::or_fault(written(alloc, &message)),
+        Ok(message) => row::or_fault(spent(alloc, message)),
         Err(_) => Err(Fault::Row),
     }
 }
 
-/// What is written of a message that can be spelled.
-pub fn written(alloc: Global, message: &Trans) -> Result<String, AllocError>
+/// The same of a message that is not used again.
+pub fn spent(alloc: Global, message: Trans) -> Result<String, AllocError>
+    requires { Fits message }
+{
+    let text = written(alloc, &message);
+    drop(message);
+    text
+}
+
+// What is written of a message that can be spelled.
+fn written(alloc: Global, message: &Trans) -> Result<String, AllocError>
     requires { Fits message.now }
 {
     let mut out = Vec::new(alloc);

@@ -1,7 +1,7 @@
 //! Trees of small graphs, of a router that knows no record of its neighbour and of a long line, and the children of one router in them.
 //! `tests/trees` asks of each graph of five routers.
 
-use crate::graphs::{record, relink};
+use crate::graphs::{record, relink, taken};
 use crate::row::{self, Fault, Steps};
 use std::alloc::{AllocError, Global};
 use zr_graph::base::Base;
@@ -86,8 +86,7 @@ fn bare(alloc: Global, graph: u32, me: usize) -> Result<Base, Fault> {
 
 // A router's record comes.
 fn accept(base: &mut Base, id: Zid, seq: u64, links: Vec<Zid>) -> Result<(), Fault> {
-    let record = record(id, seq, links)?;
-    base.accept(&record)?;
+    let _ = taken(base, record(id, seq, links)?)?;
     Ok(())
 }
 
@@ -143,9 +142,9 @@ fn follow(alloc: Global, trees: &mut Trees, graph: u32) -> Result<String, Fault>
 
 // The base of this graph at router 3, where router 0 lists router 3 as well, which doesn't list it.
 fn one_more(alloc: Global, graph: u32) -> Result<Base, Fault> {
-    let mut base = base_of(alloc, graph, 3)?;
     let mut links = links_of(alloc, graph, 0)?;
     links.push(name(3)?)?;
+    let mut base = base_of(alloc, graph, 3)?;
     accept(&mut base, name(0)?, 2, links)?;
     Ok(base)
 }
