@@ -1,5 +1,5 @@
 //! Trees of small graphs, of a router that knows no record of its neighbour and of a long line, and the children of one router in them.
-//! `tests/trees` asks of each graph of five routers.
+//! `tests/rules` asks of each graph of five routers.
 
 use crate::graphs::{record, relink, taken};
 use crate::row::{self, Fault, Steps};
