@@ -279,11 +279,11 @@ client_is w v line id router r er et few h =
     rw (er, et, few) (ap (λ (o : Result WorldState ScriptError). o >>= (λ x. Ok ([], with_clients x (insert_entry (slice_cmp nat_cmp) x.clients id (new_client router))))) h)
 
 -- an end that comes up
-pub up_is : (w v : WorldState) (line : ℕ) (router name : List ℕ) (r : RouterState) (s : EndState) → router_of w.routers router ≡ Some r → is_taken w name ≡ true →
-    end_of w.ends (router, name) ≡ Some s → s.unbroken ≡ true → s.up ≡ false →
-    hears (with_ends w (with_end w.ends (router, name) (lifted s))) router r (up_event r (peer_of w name)) line ≡ Ok v → up_step w line router name ≡ Ok ([], v)
+pub up_by : (w : WorldState) (line : ℕ) (router name : List ℕ) (r : RouterState) (s : EndState) → router_of w.routers router ≡ Some r → is_taken w name ≡ true →
+    end_of w.ends (router, name) ≡ Some s → s.unbroken ≡ true → s.up ≡ false → (o : Result WorldState ScriptError) →
+    hears (with_ends w (with_end w.ends (router, name) (lifted s))) router r (up_event r (peer_of w name)) line ≡ o → up_step w line router name ≡ o >>= (λ x. Ok ([], x))
 unfolding up_step
-up_is w v line router name r s er et es unbroken up h =
+up_by w line router name r s er et es unbroken up o h =
     rw (er, et, es) (ap (λ b. unless (not b) e.NotLinked >>= (λ x. unless s.up e.AlreadyLinked >>= (λ y. more))) unbroken
     ∙ ap (λ b. unless b e.AlreadyLinked >>= (λ y. more)) up ∙ ap (λ (o : Result WorldState ScriptError). o >>= (λ x. Ok ([], x))) h)
   where

@@ -1,5 +1,5 @@
 -- An act whose event a router refuses is refused, and the world is as before.
-use Rattle.std.proofs.Common.{◌≡◌, ℕ, true, false, List, [], ◌∷◌, Some, Result, Ok, Err, refl, ap, ◌∙◌}
+use Rattle.std.proofs.Common.{◌≡◌, ℕ, true, false, List, [], ◌∷◌, Some, None, Result, Ok, Err, refl, ap, ◌∙◌}
 use Rattle.zr_id.specs.declared.link.LinkNo.{LinkNo}
 use Rattle.zr_msg.specs.declared.event.Event.TheVariants.{Down, From}
 use Rattle.zr_msg.specs.declared.msg.Msg.{Msg}
@@ -10,16 +10,25 @@ use Rattle.zr_command.specs.declared.report.ReportLine.{ReportLine}
 use Rattle.zr_command.specs.declared.report.ReportLine.TheVariants.{Handled}
 use Rattle.zr_routing.specs.Tables.{link_to}
 use Rattle.zr_language.specs.Step.{◌>>=◌}
-use Rattle.zr_network.specs.World.{Tagged, EndState, Ends, RouterState, WorldState, with_ends, router_of, is_taken, end_of}
-use Rattle.zr_network.specs.Acts.{hears, down_step, handle_step}
+use Rattle.zr_network.specs.World.{Tagged, EndState, Ends, RouterState, WorldState, with_ends, router_of, is_taken, end_of, with_end, lifted}
+use Rattle.zr_network.specs.Acts.{hears, peer_of, up_event, up_step, down_step, handle_step}
 use Rattle.zr_ends.specs.Steps.{from_wire}
 use Rattle.zr_world.specs.Hearing.{IsHeard, IsHandled}
 use Rattle.zr_world.specs.Living.{lines_of}
 use Rattle.zr_world.specs.Steps.{AppliesTo, Does}
-use Rattle.zr_world.proofs.Moving.{hears_refused, handle_by, handled_by, no_lines}
+use Rattle.zr_world.proofs.Moving.{hears_refused, up_by, handle_by, handled_by, no_lines}
 use Rattle.zr_world.proofs.Returned.{back_is}
 
 -- ---- `down`
+
+pub down_unknown : (w : WorldState) (line : ℕ) (router name : List ℕ) (r : RouterState) → router_of w.routers router ≡ Some r → is_taken w name ≡ false → down_step w line router name ≡ Err e.UnknownName
+unfolding down_step
+down_unknown w line router name r er et = rw (er, et) refl
+
+pub down_unlinked : (w : WorldState) (line : ℕ) (router name : List ℕ) (r : RouterState) → router_of w.routers router ≡ Some r → is_taken w name ≡ true → end_of w.ends (router, name) ≡ None →
+    down_step w line router name ≡ Err e.NotLinked
+unfolding down_step
+down_unlinked w line router name r er et es = rw (er, et, es) refl
 
 down_fails : (w : WorldState) (line : ℕ) (router name : List ℕ) (r : RouterState) (s : EndState) (l : LinkPeer) (error : ScriptError) → router_of w.routers router ≡ Some r → is_taken w name ≡ true →
     end_of w.ends (router, name) ≡ Some s → s.up ≡ true → s.unbroken ≡ false → link_to r.node.links name ≡ Some l → hears w router r (Down l.link) line ≡ Err error →
@@ -34,6 +43,35 @@ down_refused w w' line router name r r' s l out e.NoMemory er et es up unbroken 
 down_refused w w' line router name r r' s l out error er et es up unbroken el heard same =
     let k = hears_refused w router r r' (Down l.link) out line error heard (λ (z : error ≡ e.NoMemory). cc) in
     (down_fails w line router name r s l error er et es up unbroken el k.0, same k.1)
+
+-- ---- `up`
+
+pub up_unknown : (w : WorldState) (line : ℕ) (router name : List ℕ) (r : RouterState) → router_of w.routers router ≡ Some r → is_taken w name ≡ false → up_step w line router name ≡ Err e.UnknownName
+unfolding up_step
+up_unknown w line router name r er et = rw (er, et) refl
+
+pub up_unlinked : (w : WorldState) (line : ℕ) (router name : List ℕ) (r : RouterState) → router_of w.routers router ≡ Some r → is_taken w name ≡ true → end_of w.ends (router, name) ≡ None →
+    up_step w line router name ≡ Err e.NotLinked
+unfolding up_step
+up_unlinked w line router name r er et es = rw (er, et, es) refl
+
+pub up_broken : (w : WorldState) (line : ℕ) (router name : List ℕ) (r : RouterState) (s : EndState) → router_of w.routers router ≡ Some r → is_taken w name ≡ true → end_of w.ends (router, name) ≡ Some s →
+    s.unbroken ≡ false → up_step w line router name ≡ Err e.NotLinked
+unfolding up_step
+up_broken w line router name r s er et es unbroken = rw (er, et, es, unbroken) refl
+
+pub up_twice : (w : WorldState) (line : ℕ) (router name : List ℕ) (r : RouterState) (s : EndState) → router_of w.routers router ≡ Some r → is_taken w name ≡ true → end_of w.ends (router, name) ≡ Some s →
+    s.unbroken ≡ true → s.up ≡ true → up_step w line router name ≡ Err e.AlreadyLinked
+unfolding up_step
+up_twice w line router name r s er et es unbroken up = rw (er, et, es, unbroken, up) refl
+
+pub up_refused : (w w' : WorldState) (line : ℕ) (router name : List ℕ) (r r' : RouterState) (s : EndState) (out : List (LinkNo × Msg)) (error : ScriptError) →
+    router_of w.routers router ≡ Some r → is_taken w name ≡ true → end_of w.ends (router, name) ≡ Some s → s.unbroken ≡ true → s.up ≡ false →
+    IsHeard (Err error) r r' (up_event r (peer_of w name)) out → (r' ≡ r → w' ≡ w) → Does (Err error) (up_step w line router name) w w'
+up_refused w w' line router name r r' s out e.NoMemory er et es unbroken up heard same = tt
+up_refused w w' line router name r r' s out error er et es unbroken up heard same =
+    let k = hears_refused (with_ends w (with_end w.ends (router, name) (lifted s))) router r r' (up_event r (peer_of w name)) out line error heard (λ (z : error ≡ e.NoMemory). cc) in
+    (up_by w line router name r s er et es unbroken up (Err error) k.0, same k.1)
 
 -- ---- `handle`
 

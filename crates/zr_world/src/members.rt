@@ -39,7 +39,7 @@ impl Tables {
             return Err(ScriptError::Limit);
         }
         let router = Router::new(self.alloc, id)?;
-        self.routers.insert(id, router)?;
+        drop(self.routers.insert(id, router)?); // none was there
         Ok(())
     }
 
@@ -66,7 +66,7 @@ impl Tables {
         end.lift();
         self.ends.put((router, id), end)?;
         spread(r, router, &mut self.ends, &mut self.out, line)?;
-        self.clients.insert(id, Client::new(self.alloc, router))?;
+        drop(self.clients.insert(id, Client::new(self.alloc, router))?); // none was there
         Ok(())
     }
 
@@ -115,8 +115,7 @@ impl Tables {
         if end.is_up() {
             return Err(ScriptError::AlreadyLinked);
         }
-        let event = r.up_event(peer);
-        r.hear(self.alloc, &event, &mut self.out)?;
+        r.hear_up(self.alloc, peer, &mut self.out)?;
         self.ends.lift((router, neighbour))?;
         spread(r, router, &mut self.ends, &mut self.out, line)?;
         Ok(())

@@ -110,7 +110,9 @@ impl Router {
         ensures { IsHeard result self.old self.new (up_event self.old peer) out.new.items }
     {
         let event = self.up_event(peer);
-        self.hear(alloc, &event, out)
+        let heard = self.hear(alloc, &event, out);
+        drop(event);
+        heard
     }
 
     /// It hears that a link has gone down.
@@ -123,7 +125,10 @@ impl Router {
         requires { MayCome self.old.node (Event.Down link) }
         ensures { IsHeard result self.old self.new (Event.Down link) out.new.items }
     {
-        self.hear(alloc, &Event::Down { link }, out)
+        let event = Event::Down { link };
+        let heard = self.hear(alloc, &event, out);
+        drop(event);
+        heard
     }
 
     /// Whether there is room for what one more declaration of this text weighs, or one more interest.

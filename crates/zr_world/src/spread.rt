@@ -38,6 +38,9 @@ fn enqueue(
 {
     match router.peer_at(link) {
         Some(peer) => ends.enqueue((name, peer.id), msg, tag),
-        None => Ok(()),
+        None => {
+            drop(msg); // by a call, since a message has many forms to let go
+            Ok(())
+        }
     }
 }

@@ -49,7 +49,10 @@ impl Tables {
         let tag = x.tag;
         let at = (router, from);
         let msg = hear_message(self.alloc, r, link, x, at, &mut self.ends, &mut self.out)?;
-        spread(r, router, &mut self.ends, &mut self.out, tag)?;
+        let Ok(()) = spread(r, router, &mut self.ends, &mut self.out, tag) else {
+            drop(msg); // by a call, since a message has many forms to let go
+            return Err(ScriptError::NoMemory);
+        };
         report.push(ReportLine::Handled {
             router,
             from,
@@ -76,15 +79,18 @@ impl Tables {
         };
         let tag = x.tag;
         let is_router = self.is_router(&to);
-        pass_on(
+        let Ok(()) = deliver(
             self.alloc,
             &mut self.ends,
+            &mut self.clients,
             is_router,
             (to, router),
             &x.msg,
             tag,
-        )?;
-        receive(&mut self.clients, &to, &x.msg)?;
+        ) else {
+            drop(x);
+            return Err(ScriptError::NoMemory);
+        };
         report.push(ReportLine::Taken {
             router,
             to,
@@ -141,6 +147,24 @@ fn hear_message(
             Err(refusal)
         }
     }
+}
+
+// A message goes to a neighbour, of which the router's end is the one named: onto the wire if it is a router, else to the client itself.
+fn deliver(
+    alloc: Global,
+    ends: &mut Ends,
+    clients: &mut BTreeMap<Zid, Client>,
+    is_router: bool,
+    at: (Zid, Zid),
+    msg: &Msg,
+    tag: u64,
+) -> Result<(), AllocError>
+    requires { is_router ≡ false → is_some (end_of ends.old at) ≡ false }
+    ensures wire { OnOk result (ends.new ≡ changed ends.old at (λ s. sent s msg.now tag)) }
+    ensures client { OnOk result (clients.new.entries ≡ received clients.old.entries at.0 msg.now (client_of clients.old.entries at.0)) }
+{
+    pass_on(alloc, ends, is_router, at, msg, tag)?;
+    receive(clients, &at.0, msg)
 }
 
 // A copy of a message comes onto the wire to the end of a router. A client has no end of its own, so none is looked for.

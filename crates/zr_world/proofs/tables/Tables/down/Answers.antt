@@ -1,4 +1,4 @@
-use Rattle.std.proofs.Common.{◌≡◌, true, false, [], Ok, Err, Some, sym, ap, ◌∙◌, subst, rules}
+use Rattle.std.proofs.Common.{◌≡◌, true, false, [], Ok, Err, Some, None, sym, ap, ◌∙◌, subst, rules}
 use Rattle.std.proofs.lemmas.Map.Steps.{set_value_same}
 use Rattle.std.proofs.lemmas.Result.{err_from_is_err_and}
 use Rattle.zr_id.specs.Zid.{is_named}
@@ -10,7 +10,7 @@ use Rattle.zr_world.specs.Hearing.{IsHeard}
 use Rattle.zr_world.specs.State.{state_of}
 use Rattle.zr_world.proofs.Events.{has_link, link_found}
 use Rattle.zr_world.proofs.Moving.{hears_is, down_is}
-use Rattle.zr_world.proofs.Refusing.{down_refused}
+use Rattle.zr_world.proofs.Refusing.{down_unknown, down_unlinked, down_refused}
 use Rattle.zr_world.proofs.tables.Tables.down.Goals as goal
 
 pub hear_down-requires : goal.hear_down-requires
@@ -62,3 +62,20 @@ returns-in_err-hear_down c =
       ends = c.args.self.now.ends;
       booked = c.args.self.now.booked;
     }))
+
+pub returns-then-not-is_known : goal.returns-then-not-is_known
+returns-then-not-is_known c =
+    let w = state_of c.args.self.now in
+    let er : router_of (state_of c.args.self.now).routers c.args.router ≡ Some c.in-Some.r.now = search rules in
+    let et : is_taken (state_of c.args.self.now) c.args.neighbour ≡ false = sym c.is_taken-is_known.ensures ∙ c.if-not-is_known.true in
+    let back : (c.get_mut.follows.lender c.in-Some.r.now).entries ≡ c.args.self.now.routers.entries = search (rules, set_value_same) in
+    (down_unknown w c.args.line c.args.router c.args.neighbour c.in-Some.r.now er et, λ i. record { routers = back i; clients = c.args.self.now.clients.entries; ends = c.args.self.now.ends; booked = c.args.self.now.booked })
+
+pub returns-in_default-get : goal.returns-in_default-get
+returns-in_default-get c =
+    let w = state_of c.args.self.now in
+    let er : router_of (state_of c.args.self.now).routers c.args.router ≡ Some c.in-Some.r.now = search rules in
+    let et : is_taken (state_of c.args.self.now) c.args.neighbour ≡ true = sym c.is_taken-is_known.ensures ∙ c.if-not-is_known.false in
+    let es : end_of (state_of c.args.self.now).ends (c.args.router, c.args.neighbour) ≡ None = search rules in
+    let back : (c.get_mut.follows.lender c.in-Some.r.now).entries ≡ c.args.self.now.routers.entries = search (rules, set_value_same) in
+    (down_unlinked w c.args.line c.args.router c.args.neighbour c.in-Some.r.now er et es, λ i. record { routers = back i; clients = c.args.self.now.clients.entries; ends = c.args.self.now.ends; booked = c.args.self.now.booked })
