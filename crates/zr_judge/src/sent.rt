@@ -3,7 +3,7 @@
 ghost use Rattle.std.specs.Prelude.{◌≡◌, ◌++◌, IfOk, OnOk, filter, is_some};
 ghost use Rattle.std.specs.Option.{option_map};
 ghost use Rattle.zr_guarantee.specs.Broker.{is_line_of};
-ghost use Rattle.zr_guarantee.specs.Sent.{behind_finals, carried_by, finals_in, is_final, is_request, item_of, replies_in, requests_to, sent_to, told_to};
+ghost use Rattle.zr_guarantee.specs.Sent.{behind_finals, carried_by, finals_in, is_final, is_request, item_of, replies_in, reply_in, requests_to, sent_to, told_in, told_to};
 ghost use Rattle.zr_judge.specs.Given.{carried_of};
 
 use crate::broker::{Carried, Item, is_line_of};
@@ -72,13 +72,21 @@ pub fn told_to<'a>(
 {
     let mut told = Vec::new(alloc);
     for x in report {
-        if let ReportLine::Taken { to, msg, tag, .. } = x {
-            if receiver == to {
-                told.push(Told { msg, tag: *tag })?;
-            }
+        if let Some(t) = told_in(receiver, x) {
+            told.push(t)?;
         }
     }
     Ok(told)
+}
+
+// The message that a report line says was sent to the receiver, if it says so.
+fn told_in<'a>(receiver: &Zid, line: &'a ReportLine) -> Option<Told<'a>>
+    ensures { result ≡ told_in receiver.now line.now }
+{
+    match line {
+        ReportLine::Taken { to, msg, tag, .. } if receiver == to => Some(Told { msg, tag: *tag }),
+        _ => None,
+    }
 }
 
 /// What the receiver was sent of the publisher's lines in a phase.
@@ -170,15 +178,25 @@ pub fn replies_in<'a>(alloc: Global, told: &[Told<'a>]) -> Result<Vec<Reply<'a>>
 {
     let mut replies = Vec::new(alloc);
     for x in told {
-        if let Msg::Response { id, content } = x.msg {
-            replies.push(Reply {
-                line: x.tag,
-                number: *id,
-                content,
-            })?;
+        if let Some(r) = reply_in(x.tag, x.msg) {
+            replies.push(r)?;
         }
     }
     Ok(replies)
+}
+
+// The reply that a message is, if it is one.
+fn reply_in<'a>(tag: u64, msg: &'a Msg) -> Option<Reply<'a>>
+    ensures { result ≡ reply_in tag msg.now }
+{
+    match msg {
+        Msg::Response { id, content } => Some(Reply {
+            line: tag,
+            number: *id,
+            content,
+        }),
+        _ => None,
+    }
 }
 
 /// How many finals of a number are among some messages.
