@@ -49,6 +49,20 @@ pub fn take_family(
     }
 }
 
+/// The children are kept.
+pub fn put_family(kept: &mut Option<Family>, family: Family)
+    ensures { kept.new ≡ Some family }
+{
+    *kept = Some(family);
+}
+
+/// The trees are kept.
+pub fn put_trees(kept: &mut Option<Trees>, trees: Trees)
+    ensures { kept.new ≡ Some trees }
+{
+    *kept = Some(trees);
+}
+
 /// The trees of the records: those that are kept, or worked out anew.
 pub fn take_trees(alloc: Global, kept: &mut Option<Trees>, base: &Base) -> Result<Trees, AllocError>
     requires { IfSome kept.old (λ t. t ≡ base.now.records) }

@@ -28,7 +28,7 @@ mod traffic;
 
 use crate::asked::{self, Asked, able_kind, apply, has_room};
 use crate::failure::Failure;
-use crate::kept::{Before, forget, take_family};
+use crate::kept::{Before, forget, put_family, put_trees, take_family};
 use crate::links::Links;
 use crate::routes::Routes;
 use std::alloc::{AllocError, Global};
@@ -464,7 +464,7 @@ impl Node {
         let family = take_family(alloc, &mut self.family, &self.base)?;
         let links = self.links.as_slice();
         let told = tell_changes(alloc, links, &family, number, changes, out);
-        self.family = Some(family);
+        put_family(&mut self.family, family);
         told
     }
 
@@ -581,7 +581,7 @@ impl Node {
     {
         let family = take_family(alloc, &mut self.family, &self.base)?;
         let told = pass_on(alloc, self.links.as_slice(), &family, source, msg, out);
-        self.family = Some(family);
+        put_family(&mut self.family, family);
         told
     }
 
@@ -677,7 +677,7 @@ impl Node {
         let family = take_family(alloc, &mut self.family, &self.base)?;
         let links = self.links.as_slice();
         let told = fresh_children(alloc, links, &family, &before, self.known.logs(), out);
-        self.family = Some(family);
+        put_family(&mut self.family, family);
         told
     }
 
@@ -688,7 +688,7 @@ impl Node {
         ensures { self.new ≡ self.old }
     {
         before.follow(alloc, &self.base)?;
-        self.family = Some(before);
+        put_family(&mut self.family, before);
         Ok(())
     }
 
@@ -709,7 +709,7 @@ impl Node {
         }
         match before.follow(alloc, &self.base) {
             Ok(()) => {
-                self.trees = Some(before);
+                put_trees(&mut self.trees, before);
             }
             Err(_) => {}
         }

@@ -98,15 +98,13 @@ impl Routes {
         self.make_room();
         let number = number_of(tree, sought, key);
         let key = key.copy(alloc)?;
-        self.known.insert(
-            number,
-            Remembered {
-                tree,
-                sought,
-                key,
-                route,
-            },
-        )?;
+        let route = Remembered {
+            tree,
+            sought,
+            key,
+            route,
+        };
+        drop(self.known.insert(number, route)?); // another may have had the number
         Ok(())
     }
 

@@ -4,7 +4,7 @@ ghost use Rattle.std.specs.Prelude.{◌≡◌, IfOk};
 ghost use Rattle.zr_log.specs.Known.{AreInOrder};
 ghost use Rattle.zr_table.specs.State.{tables};
 
-use crate::kept::{lend, take_trees};
+use crate::kept::{lend, put_trees, take_trees};
 use crate::node::Node;
 use std::alloc::{AllocError, Global};
 use zr_log::log::Log;
@@ -35,7 +35,7 @@ impl Node {
         requires { trees ≡ self.old.base.records }
         ensures { self.new ≡ self.old }
     {
-        self.trees = Some(trees);
+        put_trees(&mut self.trees, trees);
     }
 
     /// What it goes by, lent, with the trees of its records.

@@ -59,7 +59,10 @@ impl Node {
                 self.add(link, peer)?;
                 Ok(self.tell_new_children(alloc, before, out)?)
             }
-            Err(failure) => Err(failure),
+            Err(failure) => {
+                drop(before);
+                Err(failure)
+            }
         }
     }
 
@@ -182,7 +185,10 @@ impl Node {
                 self.remove(link);
                 Ok(self.tell_new_children(alloc, before, out)?)
             }
-            Err(failure) => Err(failure),
+            Err(failure) => {
+                drop(before);
+                Err(failure)
+            }
         }
     }
 

@@ -9,7 +9,7 @@ ghost use Rattle.zr_node.specs.Steps.{push_part, request_part, response_part, fi
 use super::Node;
 use crate::asking::{ask, refusal};
 use crate::failure::Failure;
-use crate::kept::{lend, push_along, take_trees};
+use crate::kept::{lend, push_along, put_trees, take_trees};
 use std::alloc::Global;
 use zr_id::link::LinkNo;
 use zr_id::zid::Zid;
@@ -39,7 +39,7 @@ impl Node {
         let trees = take_trees(alloc, &mut self.trees, &self.base)?;
         let tables = lend(&self.links, &self.base, &trees, &self.local, &self.known);
         let pushed = push_along(alloc, &tables, &mut self.routes, from, tree, content, out);
-        self.trees = Some(trees);
+        put_trees(&mut self.trees, trees);
         Ok(pushed?)
     }
 
@@ -92,7 +92,7 @@ impl Node {
             content,
             out,
         );
-        self.trees = Some(trees);
+        put_trees(&mut self.trees, trees);
         Ok(asked?)
     }
 

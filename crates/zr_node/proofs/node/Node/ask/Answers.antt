@@ -1,9 +1,12 @@
-use Rattle.std.proofs.Common.{◌≡◌, None, sym, subst}
-use Rattle.zr_routing.specs.Tables.{leads_to_client}
+use Rattle.std.proofs.Common.{◌≡◌, List, Option, None, sym, subst}
+use Rattle.std.specs.Prelude.{IfSome}
+use Rattle.zr_id.specs.Record.{RecordState}
+use Rattle.zr_routing.specs.Tables.{TableState, leads_to_client}
 use Rattle.zr_table.specs.State.{NodeState}
 use Rattle.zr_table.specs.Table.{with_pending}
 use Rattle.zr_node.specs.Done.{IsLeft, IsDone}
 use Rattle.zr_node.specs.Requests.{refuses_asker}
+use Rattle.zr_node.specs.Routes.{AreRoutes}
 use Rattle.zr_node.specs.Steps.{request_part}
 use Rattle.zr_node.proofs.Requests.{request_failed, request_left}
 use Rattle.zr_node.proofs.node.Node.ask.Goals as goal
@@ -25,3 +28,23 @@ returns c =
     subst (λ (m : NodeState). IsLeft (request_part m c.args.from.link.0 c.args.named c.args.from.number c.args.target c.args.content.now) (with_pending node c.ask-asked.new.pending) c.args.out.now.items c.ask-asked.new.out.items) c.self.view_is
     (request_left node c.args.from.link.0 c.args.from.number c.args.named c.args.target c.args.content.now allowed c.lend-tables.result c.lend-tables.ensures c.ask-asked.new.pending c.args.out.now.items c.ask-asked.new.out.items
     c.in_ok-asked.ensures.sends c.in_ok-asked.ensures.rows c.in_ok-asked.ensures.room)
+
+pub invariant_of-self-in_err-asked : goal.invariant_of-self-in_err-asked
+invariant_of-self-in_err-asked c =
+    record {
+      links = c.self.invariant.links;
+      own = c.self.invariant.own;
+      family = c.self.invariant.family;
+      trees = subst (λ (o : Option (List RecordState)). IfSome o (λ r. r ≡ c.self.inside.base.records)) (sym c.put_trees.ensures) c.in_ok-trees.ensures.trees;
+      routes = subst (λ (t : TableState). AreRoutes c.ask-asked.new.routes t) c.lend-tables.ensures c.ask-asked.ensures.routes;
+    }
+
+pub invariant_of-self-2 : goal.invariant_of-self-2
+invariant_of-self-2 c =
+    record {
+      links = c.self.invariant.links;
+      own = c.self.invariant.own;
+      family = c.self.invariant.family;
+      trees = subst (λ (o : Option (List RecordState)). IfSome o (λ r. r ≡ c.self.inside.base.records)) (sym c.put_trees.ensures) c.in_ok-trees.ensures.trees;
+      routes = subst (λ (t : TableState). AreRoutes c.ask-asked.new.routes t) c.lend-tables.ensures c.ask-asked.ensures.routes;
+    }

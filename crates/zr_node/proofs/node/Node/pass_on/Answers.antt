@@ -1,4 +1,6 @@
-use Rattle.std.proofs.Common.{sym, ap, ◌∙◌}
+use Rattle.std.proofs.Common.{◌≡◌, Option, sym, ap, subst, ◌∙◌}
+use Rattle.std.specs.Prelude.{IfSome}
+use Rattle.zr_graph.specs.Base.{BaseState}
 use Rattle.zr_table.specs.State.{NodeState, tables}
 use Rattle.zr_node.proofs.Parts.{goes_by}
 use Rattle.zr_node.proofs.node.Node.pass_on.Goals as goal
@@ -26,3 +28,13 @@ returns-clause-snap_prefix c = λ t from number ds same.
     let by = goes_by _ (tables c.args.self.now) c.as_slice.result.now c.in_ok-family.family same
     (sym (ap (λ (m : NodeState). m.links) c.self.view_is) ∙ sym c.as_slice.ensures.value) (sym (ap (λ (m : NodeState). m.base) c.self.view_is) ∙ sym c.in_ok-family.ensures.family) in
     c.pass_on-told.ensures.snap_prefix t from number ds by
+
+pub invariant_of-self-2 : goal.invariant_of-self-2
+invariant_of-self-2 c =
+    record {
+      links = c.self.invariant.links;
+      own = c.self.invariant.own;
+      family = subst (λ (o : Option BaseState). IfSome o (λ b. b ≡ c.self.inside.base)) (sym c.put_family.ensures) c.in_ok-family.ensures.family;
+      trees = c.self.invariant.trees;
+      routes = c.self.invariant.routes;
+    }

@@ -1,11 +1,14 @@
-use Rattle.std.proofs.Common.{◌≡◌, ℕ, Some, refl, sym, subst}
+use Rattle.std.proofs.Common.{◌≡◌, ℕ, List, Option, Some, refl, sym, subst}
+use Rattle.std.specs.Prelude.{IfSome}
 use Rattle.std.proofs.lemmas.Result.{IfOk-at_ok, IfErr-at_err}
+use Rattle.zr_id.specs.Record.{RecordState}
 use Rattle.zr_routing.specs.Samples.{sends_push}
 use Rattle.zr_routing.specs.Tables.{TableState, link_at}
 use Rattle.zr_table.specs.Event.{Tells, TellsPrefix}
 use Rattle.zr_table.specs.State.{NodeState, tables}
 use Rattle.zr_table.proofs.Links.{found_number}
 use Rattle.zr_node.specs.Done.{IsLeft, IsDone}
+use Rattle.zr_node.specs.Routes.{AreRoutes}
 use Rattle.zr_node.specs.Steps.{push_part}
 use Rattle.zr_node.specs.declared.failure.Failure.TheVariants.{NoMemory}
 use Rattle.zr_node.proofs.Done.{failed}
@@ -36,3 +39,23 @@ returns c =
           (subst (λ (t : TableState). Tells (sends_push t c.in-Some.from.link.0 c.args.tree c.args.content.now) c.args.out.now.items c.push_along-pushed.new.out.items) c.lend-tables.ensures
           (IfOk-at_ok (λ x. Tells (sends_push c.lend-tables.result c.in-Some.from.link.0 c.args.tree c.args.content.now) c.args.out.now.items c.push_along-pushed.new.out.items) c.in_ok-pushed.was c.push_along-pushed.ensures.sends)));
     })
+
+pub invariant_of-self-in_err-pushed : goal.invariant_of-self-in_err-pushed
+invariant_of-self-in_err-pushed c =
+    record {
+      links = c.self.invariant.links;
+      own = c.self.invariant.own;
+      family = c.self.invariant.family;
+      trees = subst (λ (o : Option (List RecordState)). IfSome o (λ r. r ≡ c.self.inside.base.records)) (sym c.put_trees.ensures) c.in_ok-trees.ensures.trees;
+      routes = subst (λ (t : TableState). AreRoutes c.push_along-pushed.new.routes t) c.lend-tables.ensures c.push_along-pushed.ensures.routes;
+    }
+
+pub invariant_of-self-2 : goal.invariant_of-self-2
+invariant_of-self-2 c =
+    record {
+      links = c.self.invariant.links;
+      own = c.self.invariant.own;
+      family = c.self.invariant.family;
+      trees = subst (λ (o : Option (List RecordState)). IfSome o (λ r. r ≡ c.self.inside.base.records)) (sym c.put_trees.ensures) c.in_ok-trees.ensures.trees;
+      routes = subst (λ (t : TableState). AreRoutes c.push_along-pushed.new.routes t) c.lend-tables.ensures c.push_along-pushed.ensures.routes;
+    }

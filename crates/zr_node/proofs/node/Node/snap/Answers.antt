@@ -1,8 +1,9 @@
-use Rattle.std.proofs.Common.{◌≡◌, List, None, true, refl, sym, ap, subst, ◌∙◌}
+use Rattle.std.proofs.Common.{◌≡◌, List, None, true, refl, sym, ap, subst, ◌∙◌, rules, arith}
+use Rattle.std.proofs.lemmas.Grind.{common_steps}
 use Rattle.zr_log.specs.Known.{KnownState, after_snap, is_newer, refuses_snap}
 use Rattle.zr_msg.specs.declared.decl.Decl.{Decl}
 use Rattle.zr_msg.specs.declared.msg.Msg.TheVariants.{Snap}
-use Rattle.zr_routing.specs.Tables.{HaveSameTrees, leads_to_router}
+use Rattle.zr_routing.specs.Tables.{TableState, HaveSameTrees, leads_to_router}
 use Rattle.zr_table.specs.State.{NodeState, tables}
 use Rattle.zr_table.specs.Table.{with_known}
 use Rattle.zr_node.specs.Done.{IsLeft, IsDone}
@@ -33,3 +34,39 @@ returns-in_ok-pass_on-in-New c =
     router c.pass_on.new.self c.args.out.now.items c.pass_on.new.out.items (subst (λ (ds : List Decl). refuses_snap node.known c.args.source c.args.number ds ≡ None) c.as_slice.ensures c.in_ok-snap.ensures.refused)
     (c.pass_on.ensures.same ∙ ap (λ (k : KnownState). with_known node k) (subst (λ (ds : List Decl). c.snap.new.self ≡ after_snap node.known c.args.source c.args.number ds) c.as_slice.ensures c.in_ok-snap.ensures.known))
     (c.in_ok-pass_on-in-New.ensures.snap (tables node) c.args.link.0 c.args.number c.args.decls.now same c.self.invariant.links.ascending router next c.requires))
+
+pub invariant_of-self : goal.invariant_of-self
+invariant_of-self c =
+    let now : TableState = record { links = c.self.inside.links; base = c.self.inside.base; rows = c.self.inside.local.rows; clients = c.self.inside.local.clients; known = c.snap.new.self } in
+    let own : c.snap.new.self.me ≡ c.self.inside.base.me = first_of (search rules, grind (arith, common_steps)) in
+    record {
+      links = c.self.invariant.links;
+      own = own;
+      family = c.self.invariant.family;
+      trees = c.self.invariant.trees;
+      routes = c.clear.ensures now;
+    }
+
+pub invariant_of-self-in-Old : goal.invariant_of-self-in-Old
+invariant_of-self-in-Old c =
+    let now : TableState = record { links = c.self.inside.links; base = c.self.inside.base; rows = c.self.inside.local.rows; clients = c.self.inside.local.clients; known = c.snap.new.self } in
+    let own : c.snap.new.self.me ≡ c.self.inside.base.me = first_of (search rules, grind (arith, common_steps)) in
+    record {
+      links = c.self.invariant.links;
+      own = own;
+      family = c.self.invariant.family;
+      trees = c.self.invariant.trees;
+      routes = c.clear.ensures now;
+    }
+
+pub invariant_of-self-in-New : goal.invariant_of-self-in-New
+invariant_of-self-in-New c =
+    let now : TableState = record { links = c.self.inside.links; base = c.self.inside.base; rows = c.self.inside.local.rows; clients = c.self.inside.local.clients; known = c.snap.new.self } in
+    let own : c.snap.new.self.me ≡ c.self.inside.base.me = first_of (search rules, grind (arith, common_steps)) in
+    record {
+      links = c.self.invariant.links;
+      own = own;
+      family = c.self.invariant.family;
+      trees = c.self.invariant.trees;
+      routes = c.clear.ensures now;
+    }
