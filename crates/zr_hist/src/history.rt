@@ -20,10 +20,16 @@ const COUNT: usize = 0;
 pub struct Worn;
 
 /// A list of entries that only grows. It is shared by reference; who may append has its `Kept`.
-#[derive(Drop)]
 pub struct History<E: Drop> {
     pub(crate) table: Table<E, View<E>, (), OneList, Global>,
     ghost one_word: { (table.shared.table_id.words ≡ 1) × (table.shared.table_id.slots ≡ 0) },
+}
+
+// Written out, so that it is proved here, and not by each crate that lets one go.
+impl<E: Drop> Drop for History<E> {
+    fn drop(self) {
+        let Self { table: _table } = self;
+    }
 }
 
 impl<E: Drop> History<E> {

@@ -28,12 +28,22 @@ use zr_node::node::Node;
 use zr_told::told::Told;
 
 /// A router, and of what each of its clients was told.
-#[derive(Drop)]
 pub struct Hub {
     node: Node,
     told: Told,
     // memory ran out at an earlier event, in the router or where its clients were told
     spent: bool,
+}
+
+// Written out, so that it is proved here, and not by each crate that lets one go.
+impl Drop for Hub {
+    fn drop(self) {
+        let Self {
+            node: _node,
+            told: _told,
+            spent: _spent,
+        } = self;
+    }
 }
 
 impl Model for Hub {

@@ -18,9 +18,16 @@ pub struct Parts {
 }
 
 /// A key with extensions and a body. It is kept once, however many receivers it goes to; contracts see its parts.
-#[derive(Debug, Drop)]
+#[derive(Debug)]
 pub struct Content {
     parts: Shared<Parts>,
+}
+
+// Written out, so that it is proved here, and not by each crate that lets one go.
+impl Drop for Content {
+    fn drop(self) {
+        let Self { parts: _parts } = self;
+    }
 }
 
 impl Model for Content {

@@ -39,7 +39,7 @@ pub enum Target {
 }
 
 /// A message on a link (Zenoh protocol 1.0, "Network messages").
-#[derive(Debug, Drop)]
+#[derive(Debug)]
 pub enum Msg {
     /// A client subscribes to an expression, under an id of its own.
     Sub {
@@ -137,6 +137,77 @@ pub enum Msg {
         number: u64,
         decls: Decls,
     },
+}
+
+// Written out, so that it is proved here, and not by each crate that lets one go.
+impl Drop for Msg {
+    fn drop(self) {
+        match self {
+            Self::Sub { id: _id, key: _key } => (),
+            Self::Unsub { id: _id } => (),
+            Self::Able {
+                id: _id,
+                key: _key,
+                complete: _complete,
+            } => (),
+            Self::Unable { id: _id } => (),
+            Self::Interest {
+                id: _id,
+                current: _current,
+                future: _future,
+                kinds: _kinds,
+                key: _key,
+                aggregate: _aggregate,
+            } => (),
+            Self::EndInterest { id: _id } => (),
+            Self::ToldSub {
+                id: _id,
+                key: _key,
+                interest: _interest,
+            } => (),
+            Self::ToldAble {
+                id: _id,
+                key: _key,
+                complete: _complete,
+                interest: _interest,
+            } => (),
+            Self::ToldUnsub { id: _id } => (),
+            Self::ToldUnable { id: _id } => (),
+            Self::ToldEnd {
+                interest: _interest,
+            } => (),
+            Self::Push {
+                tree: _tree,
+                content: _content,
+            } => (),
+            Self::Request {
+                tree: _tree,
+                id: _id,
+                target: _target,
+                content: _content,
+            } => (),
+            Self::Response {
+                id: _id,
+                content: _content,
+            } => (),
+            Self::Final {
+                id: _id,
+                extras: _extras,
+            } => (),
+            Self::State { links: _links } => (),
+            Self::Step {
+                source: _source,
+                number: _number,
+                added: _added,
+                decl: _decl,
+            } => (),
+            Self::Snap {
+                source: _source,
+                number: _number,
+                decls: _decls,
+            } => (),
+        }
+    }
 }
 
 impl Msg {

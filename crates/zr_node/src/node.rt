@@ -60,7 +60,6 @@ const SURE_OF_ROOM: u64 = 0x4000_0000_0000_0000;
 
 /// A router: its links, what it knows of the links of all routers, what its clients have declared and their live interests, what it knows of
 /// all logs, and the requests that it has passed on and that have not ended.
-#[derive(Drop)]
 pub struct Node {
     links: Links,
     base: Base,
@@ -73,6 +72,23 @@ pub struct Node {
     // where earlier samples and requests went by what the node is now; no contract sees them
     routes: Routes,
     spent: bool,
+}
+
+// Written out, so that it is proved here, and not by each crate that lets one go.
+impl Drop for Node {
+    fn drop(self) {
+        let Self {
+            links: _links,
+            base: _base,
+            local: _local,
+            known: _known,
+            pending: _pending,
+            family: _family,
+            trees: _trees,
+            routes: _routes,
+            spent: _spent,
+        } = self;
+    }
 }
 
 impl Model for Node {

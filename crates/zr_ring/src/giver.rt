@@ -11,7 +11,6 @@ use crate::taker::{Taker, Took};
 const MOST_PARCELS: u64 = u64::MAX - 1;
 
 /// It gives parcels, and at last an end.
-#[derive(Drop)]
 pub struct Giver<N: Note + Drop> {
     pub(crate) ring: GivingEnd<Item<N>>,
     pub(crate) slots: u32,
@@ -20,6 +19,17 @@ pub struct Giver<N: Note + Drop> {
     ghost last: { ring.going ≡ false → 0 < ring.count },
     ghost room: { ring.count - ends_given ring.going + free ≤ ring.seat.me.0.giver.known + slots },
     ghost small: { ring.count - ends_given ring.going + free ≤ most_parcels },
+}
+
+// Written out, so that it is proved here, and not by each crate that lets one go.
+impl<N: Note + Drop> Drop for Giver<N> {
+    fn drop(self) {
+        let Self {
+            ring: _ring,
+            slots: _slots,
+            free: _free,
+        } = self;
+    }
 }
 
 impl<N: Note + Drop> Giver<N> {

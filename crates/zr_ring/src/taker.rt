@@ -6,11 +6,20 @@ use crate::ends::TakingEnd;
 use crate::parcel::{Ending, Item, Note, Parcel};
 
 /// It takes what was given, in order: parcels, and at last the end.
-#[derive(Drop)]
 pub struct Taker<N: Note + Drop> {
     pub(crate) ring: TakingEnd<Item<N>>,
     pub(crate) over: Option<Option<u8>>,
     ghost known: { over ≡ end_of ring.seat.me.0.taker.list },
+}
+
+// Written out, so that it is proved here, and not by each crate that lets one go.
+impl<N: Note + Drop> Drop for Taker<N> {
+    fn drop(self) {
+        let Self {
+            ring: _ring,
+            over: _over,
+        } = self;
+    }
 }
 
 /// What a take gives.

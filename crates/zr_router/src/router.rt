@@ -22,7 +22,6 @@ use zr_ring::Taker;
 /// A router that many threads share. Each call works on the tables under their lock and wakes the links' writers once it is free again; only
 /// `split` and `join` take no lock. Where an event leaves a ring crowded, its thread rests for a moment, so that a writer which wasn't scheduled at once
 /// gets to run before the ring is full.
-#[derive(Drop)]
 pub struct Router<B: Naming, R: Wait + Drop> {
     rt: R,
     alloc: Global,
@@ -31,6 +30,20 @@ pub struct Router<B: Naming, R: Wait + Drop> {
     bells: Vec<Parker>,
     of: PhantomData<B>,
     ghost named: { name history ≡ B.history },
+}
+
+// Written out, so that it is proved here, and not by each crate that lets one go.
+impl<B: Naming, R: Wait + Drop> Drop for Router<B, R> {
+    fn drop(self) {
+        let Self {
+            rt: _rt,
+            alloc: _alloc,
+            history: _history,
+            tables: _tables,
+            bells: _bells,
+            of: _of,
+        } = self;
+    }
 }
 
 impl<B: Naming, R: Wait + Drop> Router<B, R> {

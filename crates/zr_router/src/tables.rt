@@ -46,7 +46,6 @@ pub(crate) const BELLS: u32 = 128;
 
 /// The tables of a running router: the router itself with what its clients were told, the links that are up in the order in which they came up, and
 /// what stands for the history. Unless memory ran out they are the replay of its list.
-#[derive(Drop)]
 pub struct Tables<B: Naming> {
     me: Zid,
     hub: Hub,
@@ -62,6 +61,22 @@ pub struct Tables<B: Naming> {
     ghost own: { me ≡ B.me },
     ghost legal: { is_legal B.me (list_of kept) ≡ true },
     ghost replayed: { is_spent ≡ false → IsReplay B.me (list_of kept) hub ends.items } by { IsReplay-prop is_spent B.me (list_of kept) hub ends.items },
+}
+
+// Written out, so that it is proved here, and not by each crate that lets one go.
+impl<B: Naming> Drop for Tables<B> {
+    fn drop(self) {
+        let Self {
+            me: _me,
+            hub: _hub,
+            ends: _ends,
+            kept: _kept,
+            due: _due,
+            rest_ms: _rest_ms,
+            is_spent: _is_spent,
+            of: _of,
+        } = self;
+    }
 }
 
 /// What the calls on the tables leave to be done once their lock is free.

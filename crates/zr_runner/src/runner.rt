@@ -42,7 +42,6 @@ pub enum Stop {
 }
 
 /// A script's run so far.
-#[derive(Drop)]
 pub struct Runner {
     alloc: Global,
     world: World,
@@ -53,6 +52,22 @@ pub struct Runner {
     text: Vec<u8>,
     pending: Vec<u8>,
     counts: Option<Counts>,
+}
+
+// Written out, so that it is proved here, and not by each crate that lets one go.
+impl Drop for Runner {
+    fn drop(self) {
+        let Self {
+            alloc: _alloc,
+            world: _world,
+            number: _number,
+            line: _line,
+            report: _report,
+            text: _text,
+            pending: _pending,
+            counts: _counts,
+        } = self;
+    }
 }
 
 impl Model for Runner {

@@ -30,7 +30,6 @@ const MOST_OF_IDLE: usize = 2048;
 const _: () = prove!(size_of::<Session>() + MOST_IDLE + MOST_ANSWER < MOST_OF_IDLE);
 
 /// One end of a session over a link. Each call appends what it gives and answers how the session stands.
-#[derive(Drop)]
 pub struct Session {
     alloc: Global,
     opening: Opening,
@@ -41,6 +40,20 @@ pub struct Session {
     confirmed: bool,
     /// When bytes came last, in milliseconds.
     heard: u64,
+}
+
+// Written out, so that it is proved here, and not by each crate that lets one go.
+impl Drop for Session {
+    fn drop(self) {
+        let Self {
+            alloc: _alloc,
+            opening: _opening,
+            state: _state,
+            kept: _kept,
+            confirmed: _confirmed,
+            heard: _heard,
+        } = self;
+    }
 }
 
 impl Model for Session {

@@ -16,10 +16,19 @@ use zr_command::report::ReportLine;
 use zr_id::zid::Zid;
 
 /// The routers and clients of a script, and the ends of their links with what waits there.
-#[derive(Drop)]
 pub struct World {
     tables: Tables,
     spent: bool,
+}
+
+// Written out, so that it is proved here, and not by each crate that lets one go.
+impl Drop for World {
+    fn drop(self) {
+        let Self {
+            tables: _tables,
+            spent: _spent,
+        } = self;
+    }
 }
 
 impl Model for World {
