@@ -1,7 +1,6 @@
 -- What the run of a script promises, status by status, over the bytes that were read.
-use Rattle.std.specs.Prelude.{◌≡◌, ℕ, ◌+◌, ◌-◌, ◌^◌, ◌≤◌, min, Bool, true, false, List, ◌++◌, length, Option, Some, None, ◌⊎◌}
+use Rattle.std.specs.Prelude.{◌≡◌, ℕ, ◌≤◌, Bool, true, false, List, ◌++◌, length, Option, Some, None, ◌⊎◌}
 use Rattle.zr_language.specs.Lines.{most_bytes}
-use Rattle.zr_outside.specs.Counts.{Rose}
 use Rattle.zr_outside.specs.Told.{IsAsBefore, Appends, AppendsPrefix}
 use Rattle.zr_network.specs.Moments.{Moment}
 use Rattle.zr_network.specs.Accepted.{IsMoment}
@@ -18,10 +17,6 @@ OfRead (Some all) after P = (read : List ℕ) × (rest : List ℕ) × (all ≡ r
 -- where the source tells its bytes: P holds of the lines that count of those that were read, whether they are the whole script or not
 abbrev pub OfLines : Option (List ℕ) → Option (List ℕ) → (List (List ℕ) → Type 0) → Type 0
 OfLines before after P = OfRead before after (λ read. (to_end : Bool) → P (judged_lines to_end read))
-
--- the count of ends has risen, or that of quiet reads by 2 ^ 32
-abbrev pub IsReadToEnd : ℕ → ℕ → ℕ → ℕ → Type 0
-IsReadToEnd ends ends' quiets quiets' = Rose ends ends' ⊎ (min (quiets + 2 ^ 32) (2 ^ 64 - 1) ≤ quiets')
 
 -- What was written to out and to err, by the status, where these bytes were read, to the end of the script or not.
 -- Done: it was read to its end and is not refused, and out gained its whole report; err gained nothing.

@@ -2,12 +2,13 @@
 
 ghost use Rattle.std.specs.Prelude.{◌≡◌, ◌≤◌, ◌⊎◌, true, false, IfOk};
 ghost use Rattle.zr_outside.specs.Counts.{Rose};
+ghost use Rattle.zr_outside.specs.Piece.{IsReadToEnd};
 ghost use Rattle.zr_language.specs.Report.{too_long_text};
 ghost use Rattle.zr_network.specs.Run.{start};
 ghost use Rattle.zr_runner.specs.Possible.{StepsGo};
 ghost use Rattle.zr_runner.specs.Kept.{begun, seen, writes};
 ghost use Rattle.zr_netrun.specs.Told.{Tells, Complains};
-ghost use Rattle.zr_netrun.specs.Clauses.{OfRead, IsReported, IsReportedBy, IsExplained, IsReadToEnd, IsSummedUp, IsSummedUpBy, IsExplainedSum};
+ghost use Rattle.zr_netrun.specs.Clauses.{OfRead, IsReported, IsReportedBy, IsExplained, IsSummedUp, IsSummedUpBy, IsExplainedSum};
 ghost use Rattle.zr_netrun.specs.Judged.{refusal_told};
 ghost use Rattle.zr_netrun.specs.Counted.{CountsFromNone, IsRun, TellsSummary};
 
@@ -16,8 +17,9 @@ use std::alloc::{AllocError, Global};
 use zr_command::error::ScriptError;
 use zr_explain::explain;
 use zr_numbers::steps_are_possible;
+use zr_outside::piece::{Piece, next_piece};
 use zr_outside::sink::{Sink, write_all};
-use zr_outside::source::{Got, Source};
+use zr_outside::source::Source;
 use zr_report::counts::Counts;
 use zr_report::nowhere::Nowhere;
 use zr_runner::runner::{Runner, Stop};
@@ -26,11 +28,8 @@ use zr_script::text::refused_text;
 /// How many bytes a script has at most.
 pub const MOST_BYTES: usize = 67_108_864;
 
-/// So many quiet reads in a row count as the end.
-const MOST_QUIET: u64 = 4_294_967_296;
-
 /// How many bytes are asked for in a read.
-const PIECE: usize = 65_536;
+const MOST_A_READ: usize = 65_536;
 
 /// Reads a script to its end, applies its lines as they come, and writes each report line before the next read; or, where a summary is
 /// asked for, counts them, and writes nothing but the summary once the script has ended and no line was refused.
@@ -182,14 +181,11 @@ fn run_lines<S: Source, K: Sink, E: Sink>(
     ensures out_later { K.faults out.old ≤ K.faults out.new }
     ensures err_later { E.faults err.old ≤ E.faults err.new }
 {
-    let mut piece = [0; PIECE];
+    let mut piece = [0; MOST_A_READ];
     let mut total: usize = 0;
-    let mut quiet: u64 = 0;
-    let mut is_ended = false;
-    'reading: while !is_ended {
-        match input.read(&mut piece) {
-            Got::Bytes(count) => {
-                quiet = 0;
+    'reading: loop {
+        match next_piece(input, &mut piece) {
+            Piece::Bytes(count) => {
                 let used = count.min(MOST_BYTES - total);
                 total += used;
                 match runner.feed(&piece[..used], out) {
@@ -200,14 +196,8 @@ fn run_lines<S: Source, K: Sink, E: Sink>(
                     return tell_too_long(err);
                 }
             }
-            Got::Quiet => {
-                quiet += 1;
-                is_ended = quiet == MOST_QUIET;
-            }
-            Got::End => {
-                is_ended = true;
-            }
-            Got::Failed => return Status::ReadFault,
+            Piece::End => break,
+            Piece::Failed => return Status::ReadFault,
         }
     }
     match runner.finish(out) {

@@ -1,6 +1,7 @@
 pub mod Counts
 pub mod Told
 pub mod Source
+pub mod Piece
 pub mod Sink
 pub mod Memory
 pub mod Streams

@@ -12,6 +12,7 @@ pub mod mem_host;
 pub mod mem_log;
 pub mod mem_sink;
 pub mod mem_source;
+pub mod piece;
 pub mod sink;
 pub mod source;
 pub mod std_streams;

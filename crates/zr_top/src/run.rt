@@ -3,6 +3,7 @@
 ghost use Rattle.std.specs.Prelude.{◌≡◌, ◌≤◌, ◌⊎◌, ◌↔◌, true, false, is_some, map, Some, IfSome, IsTrue};
 ghost use Rattle.std.specs.String.{string_bytes};
 ghost use Rattle.zr_outside.specs.Counts.{Rose};
+ghost use Rattle.zr_outside.specs.Piece.{IsReadToEnd};
 ghost use Rattle.zr_guarantee.specs.Scripts.{IsRefined, TellsClients};
 ghost use Rattle.zr_laws.specs.Keys.{AnsweringIsCovering, AnsweringIsMeeting, AskingIsMeeting};
 ghost use Rattle.zr_laws.specs.Runs.{RestIsQuiet};
@@ -13,7 +14,7 @@ ghost use Rattle.zr_answers.specs.Answers.{AnswersAlwaysHold};
 ghost use Rattle.zr_numbers.specs.Numbers.{NumbersAlwaysHold};
 ghost use Rattle.zr_settled.specs.Events.{NoEventIsRefused};
 ghost use Rattle.zr_settled.specs.Tables.{AgreeWhereSettled, SettledLogsAgree};
-ghost use Rattle.zr_netrun.specs.Clauses.{OfRead, OfLines, IsReported, IsExplained, IsReadToEnd, IsSummedUp, IsExplainedSum};
+ghost use Rattle.zr_netrun.specs.Clauses.{OfRead, OfLines, IsReported, IsExplained, IsSummedUp, IsExplainedSum};
 ghost use Rattle.zr_top.specs.Means.{HaveKeyTexts, LeadToTheirReport};
 ghost use Rattle.zr_crew.specs.Crew.{crew_faults, crew_told};
 ghost use Rattle.zr_serve.specs.Serving.{outputs};

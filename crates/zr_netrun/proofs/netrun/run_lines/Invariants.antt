@@ -1,8 +1,8 @@
 -- While it is read: what was kept is the run of what was read, all of its report was written, and the counts tell what happened.
-use Rattle.std.proofs.Common.{◌≡◌, ◌+◌, ◌-◌, ◌*◌, ◌^◌, ◌≤◌, true, false, min, length, if◌then◌else◌}
+use Rattle.std.proofs.Common.{◌≡◌, ◌-◌, ◌≤◌, false, length}
 use Rattle.zr_runner.specs.Kept.{fresh, seen, writes}
 use Rattle.zr_runner.specs.Possible.{StepsGo}
-use Rattle.zr_netrun.specs.Clauses.{OfRead, IsReadToEnd}
+use Rattle.zr_netrun.specs.Clauses.{OfRead}
 use Rattle.zr_netrun.proofs.Reading.{IsAfter}
 use Rattle.zr_netrun.proofs.netrun.run_lines.Given as goal
 
@@ -14,11 +14,8 @@ invariant-reading g l = record {
   goes : StepsGo (fresh l.runner);
   most : l.total ≤ 67108864;
   sized : length l.piece ≡ 65536;
-  quiet : l.quiet ≤ 2 ^ 32;
-  quiets : min (g.S.Source.quiets l.fn.input + l.quiet) (2 ^ 64 - 1) ≤ g.S.Source.quiets l.input;
+  quiets : g.S.Source.quiets l.fn.input ≤ g.S.Source.quiets l.input;
   ends : g.S.Source.ends l.fn.input ≤ g.S.Source.ends l.input;
-  ended : l.is_ended ≡ true → IsReadToEnd (g.S.Source.ends l.fn.input) (g.S.Source.ends l.input) (g.S.Source.quiets l.fn.input) (g.S.Source.quiets l.input);
-  going : l.is_ended ≡ false → l.quiet + 1 ≤ 2 ^ 32;
   input : g.S.Source.faults l.fn.input ≤ g.S.Source.faults l.input;
   out : g.K.Sink.faults l.fn.out ≤ g.K.Sink.faults l.out;
   err : g.E.Sink.faults l.fn.err ≤ g.E.Sink.faults l.err;
@@ -27,4 +24,4 @@ invariant-reading g l = record {
 }
 
 abbrev pub decreases-reading : goal.decreases-reading
-decreases-reading g l = (67108864 - l.total) * (2 ^ 32 + 1) + (2 ^ 32 - l.quiet) + (if l.is_ended then 0 else 1)
+decreases-reading g l = 67108864 - l.total
