@@ -271,11 +271,11 @@ take_refused w w' router to error told es' before t h same = by (router_of w.rou
 -- ---- the other acts
 
 -- a client that comes
-pub client_is : (w v : WorldState) (line : ℕ) (id router : List ℕ) (r : RouterState) → router_of w.routers router ≡ Some r → is_taken w id ≡ false → nat_le most_clients (length w.clients) ≡ false →
-    hears (with_ends w (put_end w.ends (router, id) (lifted new_end))) router r (up_event r (record { id = id; role = role.Client })) line ≡ Ok v →
-    client_step w line id router ≡ Ok ([], with_clients v (insert_entry (slice_cmp nat_cmp) v.clients id (new_client router)))
+pub client_by : (w : WorldState) (line : ℕ) (id router : List ℕ) (r : RouterState) → router_of w.routers router ≡ Some r → is_taken w id ≡ false → nat_le most_clients (length w.clients) ≡ false →
+    (o : Result WorldState ScriptError) → hears (with_ends w (put_end w.ends (router, id) (lifted new_end))) router r (up_event r (record { id = id; role = role.Client })) line ≡ o →
+    client_step w line id router ≡ o >>= (λ x. Ok ([], with_clients x (insert_entry (slice_cmp nat_cmp) x.clients id (new_client router))))
 unfolding client_step
-client_is w v line id router r er et few h =
+client_by w line id router r er et few o h =
     rw (er, et, few) (ap (λ (o : Result WorldState ScriptError). o >>= (λ x. Ok ([], with_clients x (insert_entry (slice_cmp nat_cmp) x.clients id (new_client router))))) h)
 
 -- an end that comes up

@@ -1,22 +1,24 @@
 -- An act whose event a router refuses is refused, and the world is as before.
-use Rattle.std.proofs.Common.{◌≡◌, ℕ, true, false, List, [], ◌∷◌, Some, None, Result, Ok, Err, refl, ap, ◌∙◌}
+use Rattle.std.proofs.Common.{◌≡◌, ℕ, true, false, List, length, [], ◌∷◌, Some, None, Result, Ok, Err, refl, ap, ◌∙◌}
+use Rattle.std.specs.Prelude.{nat_le}
 use Rattle.zr_id.specs.declared.link.LinkNo.{LinkNo}
 use Rattle.zr_msg.specs.declared.event.Event.TheVariants.{Down, From}
 use Rattle.zr_msg.specs.declared.msg.Msg.{Msg}
 use Rattle.zr_msg.specs.declared.peer.LinkPeer.{LinkPeer}
+use Rattle.zr_msg.specs.declared.peer.Role.TheVariants as role
 use Rattle.zr_command.specs.declared.error.ScriptError.{ScriptError}
 use Rattle.zr_command.specs.declared.error.ScriptError.TheVariants as e
 use Rattle.zr_command.specs.declared.report.ReportLine.{ReportLine}
 use Rattle.zr_command.specs.declared.report.ReportLine.TheVariants.{Handled}
 use Rattle.zr_routing.specs.Tables.{link_to}
 use Rattle.zr_language.specs.Step.{◌>>=◌}
-use Rattle.zr_network.specs.World.{Tagged, EndState, Ends, RouterState, WorldState, with_ends, router_of, is_taken, end_of, with_end, lifted}
-use Rattle.zr_network.specs.Acts.{hears, peer_of, up_event, up_step, down_step, handle_step}
+use Rattle.zr_network.specs.World.{Tagged, EndState, Ends, RouterState, WorldState, with_ends, router_of, is_taken, end_of, with_end, put_end, new_end, most_clients, lifted}
+use Rattle.zr_network.specs.Acts.{hears, peer_of, up_event, client_step, up_step, down_step, handle_step}
 use Rattle.zr_ends.specs.Steps.{from_wire}
 use Rattle.zr_world.specs.Hearing.{IsHeard, IsHandled}
 use Rattle.zr_world.specs.Living.{lines_of}
 use Rattle.zr_world.specs.Steps.{AppliesTo, Does}
-use Rattle.zr_world.proofs.Moving.{hears_refused, up_by, handle_by, handled_by, no_lines}
+use Rattle.zr_world.proofs.Moving.{hears_refused, client_by, up_by, handle_by, handled_by, no_lines}
 use Rattle.zr_world.proofs.Returned.{back_is}
 
 -- ---- `down`
@@ -43,6 +45,20 @@ down_refused w w' line router name r r' s l out e.NoMemory er et es up unbroken 
 down_refused w w' line router name r r' s l out error er et es up unbroken el heard same =
     let k = hears_refused w router r r' (Down l.link) out line error heard (λ (z : error ≡ e.NoMemory). cc) in
     (down_fails w line router name r s l error er et es up unbroken el k.0, same k.1)
+
+-- ---- `client`
+
+pub client_taken : (w : WorldState) (line : ℕ) (id router : List ℕ) (r : RouterState) → router_of w.routers router ≡ Some r → is_taken w id ≡ true → client_step w line id router ≡ Err e.NameTaken
+unfolding client_step
+client_taken w line id router r er et = rw (er, et) refl
+
+pub client_refused : (w w' : WorldState) (line : ℕ) (id router : List ℕ) (r r' : RouterState) (out : List (LinkNo × Msg)) (error : ScriptError) → router_of w.routers router ≡ Some r →
+    is_taken w id ≡ false → nat_le most_clients (length w.clients) ≡ false → IsHeard (Err error) r r' (up_event r (record { id = id; role = role.Client })) out → (r' ≡ r → w' ≡ w) →
+    Does (Err error) (client_step w line id router) w w'
+client_refused w w' line id router r r' out e.NoMemory er et few heard same = tt
+client_refused w w' line id router r r' out error er et few heard same =
+    let k = hears_refused (with_ends w (put_end w.ends (router, id) (lifted new_end))) router r r' (up_event r (record { id = id; role = role.Client })) out line error heard (λ (z : error ≡ e.NoMemory). cc) in
+    (client_by w line id router r er et few (Err error) k.0, same k.1)
 
 -- ---- `up`
 
