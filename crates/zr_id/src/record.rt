@@ -17,11 +17,22 @@ pub struct Zids {
 
 /// The links of one router, as it told them under a number that goes up with each change: at most 65,535 of them, strictly ascending
 /// and without the router itself.
-#[derive(Debug, Drop)]
+#[derive(Debug)]
 pub struct LinkRecord {
     id: Zid,
     seq: u64,
     links: Vec<Zid>,
+}
+
+// Written out, so that it is proved here, and not by each crate that lets one go.
+impl Drop for LinkRecord {
+    fn drop(self) {
+        let Self {
+            id: _id,
+            seq: _seq,
+            links: _links,
+        } = self;
+    }
 }
 
 impl Model for LinkRecord {

@@ -18,11 +18,21 @@ pub const MOST_BYTES: usize = 2048;
 /// A key expression in its canonical form (Zenoh key expressions RFC): chunks joined by `/`, none empty, with no `#` or `?`. A chunk `*` stands
 /// for any one chunk, a chunk `**` for any number of them, and `$*` within a chunk for any characters. A chunk that begins with `@` is
 /// verbatim: it has no `$*`, and no wildcard matches it.
-#[derive(Debug, Drop)]
+#[derive(Debug)]
 pub struct KeyExpr {
     text: String,
     // how many bytes stand before the first wildcard, which is asked at each comparison
     plain_prefix: usize,
+}
+
+// Written out, so that it is proved here, and not by each crate that lets one go.
+impl Drop for KeyExpr {
+    fn drop(self) {
+        let Self {
+            text: _text,
+            plain_prefix: _plain_prefix,
+        } = self;
+    }
 }
 
 /// Why a text is no key expression. The first that applies is answered: `Empty`, `TooLong`, `NotUtf8`, and then, for the first

@@ -20,10 +20,20 @@ pub enum Kind {
 }
 
 /// A declaration. Declarations are ordered by their kinds, and then by the bytes of their keys.
-#[derive(Debug, PartialEq, Eq, Drop)]
+#[derive(Debug, PartialEq, Eq)]
 pub struct Decl {
     pub kind: Kind,
     pub key: KeyExpr,
+}
+
+// Written out, so that it is proved here, and not by each crate that lets one go.
+impl Drop for Decl {
+    fn drop(self) {
+        let Self {
+            kind: _kind,
+            key: _key,
+        } = self;
+    }
 }
 
 impl Decl {

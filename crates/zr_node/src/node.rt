@@ -505,22 +505,15 @@ impl Node {
             return Ok(());
         }
         let before = self.take_before(alloc)?;
-        let Ok(accepted) = self.keep(told.get()) else {
-            drop(before);
-            return Err(Failure::NoMemory);
-        };
-        match accepted {
+        match self.keep(told.get())? {
             Accepted::Old => {
                 self.put_back(before);
                 Ok(())
             }
-            Accepted::Newer => match flood_newer(told, self.links.as_slice(), link, out) {
-                Ok(()) => Ok(self.tell_new_children(alloc, before, out)?),
-                Err(AllocError) => {
-                    drop(before);
-                    Err(Failure::NoMemory)
-                }
-            },
+            Accepted::Newer => {
+                flood_newer(told, self.links.as_slice(), link, out)?;
+                Ok(self.tell_new_children(alloc, before, out)?)
+            }
         }
     }
 
@@ -683,25 +676,23 @@ impl Node {
         if before.have_edges_of(&self.base) {
             return self.keep_family(alloc, before); // no child is new
         }
-        let told = self.tell_fresh_of(alloc, &before, out);
-        drop(before);
-        told
+        self.tell_fresh_of(alloc, before, out)
     }
 
     // The edges have changed.
     fn tell_fresh_of(
         &mut self,
         alloc: Global,
-        before: &Family,
+        before: Family,
         out: &mut Vec<(LinkNo, Msg)>,
     ) -> Result<(), AllocError>
         ensures same { self.new ≡ self.old }
-        ensures sends { (base : BaseState) → base.me ≡ self.old.base.me → before.now ≡ base → OnOk result (Tells (sends_snapshots (tables self.old) base.records) out.old.items out.new.items) }
-        ensures prefix { (base : BaseState) → base.me ≡ self.old.base.me → before.now ≡ base → OnErr result (TellsPrefix (sends_snapshots (tables self.old) base.records) out.old.items out.new.items) }
+        ensures sends { (base : BaseState) → base.me ≡ self.old.base.me → before ≡ base → OnOk result (Tells (sends_snapshots (tables self.old) base.records) out.old.items out.new.items) }
+        ensures prefix { (base : BaseState) → base.me ≡ self.old.base.me → before ≡ base → OnErr result (TellsPrefix (sends_snapshots (tables self.old) base.records) out.old.items out.new.items) }
     {
         let family = take_family(alloc, &mut self.family, &self.base)?;
         let links = self.links.as_slice();
-        let told = fresh_children(alloc, links, &family, before, self.known.logs(), out);
+        let told = fresh_children(alloc, links, &family, &before, self.known.logs(), out);
         put_family(&mut self.family, family);
         told
     }
@@ -712,16 +703,9 @@ impl Node {
         requires edges { HaveSameEdges before.records self.old.base.records }
         ensures { self.new ≡ self.old }
     {
-        match before.follow(alloc, &self.base) {
-            Ok(()) => {
-                put_family(&mut self.family, before);
-                Ok(())
-            }
-            Err(AllocError) => {
-                drop(before);
-                Err(AllocError)
-            }
-        }
+        before.follow(alloc, &self.base)?;
+        put_family(&mut self.family, before);
+        Ok(())
     }
 
     // And so do the trees. Where there is no memory for it they are worked out anew when they are asked for.
@@ -737,12 +721,13 @@ impl Node {
         ensures { self.new ≡ self.old }
     {
         if !before.have_edges_of(&self.base) {
-            drop(before);
             return;
         }
         match before.follow(alloc, &self.base) {
-            Ok(()) => put_trees(&mut self.trees, before),
-            Err(_) => drop(before),
+            Ok(()) => {
+                put_trees(&mut self.trees, before);
+            }
+            Err(_) => {}
         }
     }
 

@@ -22,13 +22,24 @@ use zr_id::zid::Zid;
 /// The children of a base's own router in the trees of all its routers.
 ///
 /// Contracts see the base that they were worked out of, so a copy of its records is kept.
-#[derive(Drop)]
 pub struct Family {
     me: Zid,
     records: Vec<LinkRecord>,
     names: Vec<Zid>,
     // by the index of the child
     flags: Vec<Flags>,
+}
+
+// Written out, so that it is proved here, and not by each crate that lets one go.
+impl Drop for Family {
+    fn drop(self) {
+        let Self {
+            me: _me,
+            records: _records,
+            names: _names,
+            flags: _flags,
+        } = self;
+    }
 }
 
 impl Model for Family {

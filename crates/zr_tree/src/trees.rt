@@ -22,12 +22,23 @@ use zr_id::zid::Zid;
 /// The trees of a base's routers, each by the edges alone.
 ///
 /// Contracts see the records that the trees were made of, so a copy of them is kept. A router that they don't know reaches none but itself.
-#[derive(Drop)]
 pub struct Trees {
     records: Vec<LinkRecord>,
     names: Vec<Zid>,
     trees: Vec<Tree>,
     lists: Lists,
+}
+
+// Written out, so that it is proved here, and not by each crate that lets one go.
+impl Drop for Trees {
+    fn drop(self) {
+        let Self {
+            records: _records,
+            names: _names,
+            trees: _trees,
+            lists: _lists,
+        } = self;
+    }
 }
 
 impl Model for Trees {

@@ -33,22 +33,16 @@ impl Tables {
         ensures { Does result (interest_step (state_of self.old) line client id mode kinds key aggregate) (state_of self.old) (state_of self.new) }
     {
         let Some(c) = self.clients.get_mut(&client) else {
-            drop(key);
             return Err(ScriptError::UnknownName);
         };
         if c.has_interest(id) {
-            drop(key);
             return Err(ScriptError::NameTaken);
         }
         if !is_unbroken(&self.ends, (c.router(), client)) {
-            drop(key);
             return Err(ScriptError::NotLinked);
         }
         if mode.is_future() {
-            if let Err(refusal) = weigh(&mut self.routers, &c.router(), text_of(&key)) {
-                drop(key);
-                return Err(refusal);
-            }
+            weigh(&mut self.routers, &c.router(), text_of(&key))?;
             let msg = asks(id, mode, kinds, key, aggregate);
             self.ends.send((c.router(), client), msg, line)?;
             c.want(id)?;

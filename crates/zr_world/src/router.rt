@@ -110,9 +110,7 @@ impl Router {
         ensures { IsHeard result self.old self.new (up_event self.old peer) out.new.items }
     {
         let event = self.up_event(peer);
-        let heard = self.hear(alloc, &event, out);
-        drop(event);
-        heard
+        self.hear(alloc, &event, out)
     }
 
     /// It hears that a link has gone down.
@@ -125,10 +123,7 @@ impl Router {
         requires { MayCome self.old.node (Event.Down link) }
         ensures { IsHeard result self.old self.new (Event.Down link) out.new.items }
     {
-        let event = Event::Down { link };
-        let heard = self.hear(alloc, &event, out);
-        drop(event);
-        heard
+        self.hear(alloc, &Event::Down { link }, out)
     }
 
     /// Whether there is room for what one more declaration of this text weighs, or one more interest.

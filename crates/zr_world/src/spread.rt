@@ -38,9 +38,6 @@ fn enqueue(
 {
     match router.peer_at(link) {
         Some(peer) => ends.enqueue((name, peer.id), msg, tag),
-        None => {
-            drop(msg); // by a call, since a message has many forms to let go
-            Ok(())
-        }
+        None => Ok(()),
     }
 }

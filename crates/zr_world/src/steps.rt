@@ -49,10 +49,7 @@ impl Tables {
         let tag = x.tag;
         let at = (router, from);
         let msg = hear_message(self.alloc, r, link, x, at, &mut self.ends, &mut self.out)?;
-        let Ok(()) = spread(r, router, &mut self.ends, &mut self.out, tag) else {
-            drop(msg); // by a call, since a message has many forms to let go
-            return Err(ScriptError::NoMemory);
-        };
+        spread(r, router, &mut self.ends, &mut self.out, tag)?;
         report.push(ReportLine::Handled {
             router,
             from,
@@ -79,7 +76,7 @@ impl Tables {
         };
         let tag = x.tag;
         let is_router = self.is_router(&to);
-        let Ok(()) = deliver(
+        deliver(
             self.alloc,
             &mut self.ends,
             &mut self.clients,
@@ -87,10 +84,7 @@ impl Tables {
             (to, router),
             &x.msg,
             tag,
-        ) else {
-            drop(x);
-            return Err(ScriptError::NoMemory);
-        };
+        )?;
         report.push(ReportLine::Taken {
             router,
             to,

@@ -100,7 +100,6 @@ impl World {
         ensures spent { self.old.spent ≡ true → (result ≡ Err ScriptError.NoMemory) × (self.new ≡ self.old) × (report.new.items ≡ report.old.items) }
     {
         if self.spent {
-            drop(act);
             return Err(ScriptError::NoMemory);
         }
         match self.tables.act(line, act, report) {

@@ -59,10 +59,7 @@ impl Node {
                 self.add(link, peer)?;
                 Ok(self.tell_new_children(alloc, before, out)?)
             }
-            Err(failure) => {
-                drop(before);
-                Err(failure)
-            }
+            Err(failure) => Err(failure),
         }
     }
 
@@ -185,10 +182,7 @@ impl Node {
                 self.remove(link);
                 Ok(self.tell_new_children(alloc, before, out)?)
             }
-            Err(failure) => {
-                drop(before);
-                Err(failure)
-            }
+            Err(failure) => Err(failure),
         }
     }
 

@@ -77,8 +77,12 @@ returns-in_err-msg c =
       booked = c.args.self.now.booked;
     }))
 
-pub returns-in_default-spread : goal.returns-in_default-spread
-returns-in_default-spread c = no_lines c.args.report.now.items (lines_of (handle_step (state_of c.args.self.now) c.args.router c.args.from))
+pub returns-in_err-spread : goal.returns-in_err-spread
+returns-in_err-spread c =
+    let w = state_of c.args.self.now in
+    let p = err_from_is_err_and c.from_residual-in_err-spread.result c.from_residual-in_err-spread.ensures.1 in
+    ran_out c.from_residual-in_err-spread.result (handle_step w c.args.router c.args.from) w _ c.args.report.now.items c.args.report.now.items (p.1 ∙ ap Err p.2)
+    (no_lines c.args.report.now.items (lines_of (handle_step w c.args.router c.args.from)))
 
 pub returns-in_err-push : goal.returns-in_err-push
 returns-in_err-push c =
@@ -102,7 +106,7 @@ returns c =
     let heard : IsHeard (Ok tt) c.in-Some.r.now c.hear_message.new.router (From l.0.link c.in_ok-x.x.msg) c.hear_message.new.out.items =
     subst (λ (z : LinkNo). IsHeard (Ok tt) c.in-Some.r.now c.hear_message.new.router (From z c.in_ok-x.x.msg) c.hear_message.new.out.items) (sym l.2) c.in_ok-msg.ensures.1 in
     let spread : c.spread.new.ends ≡ all_queued_on c.hear_message.new.router.node.links c.next_sent.new.self c.args.router c.hear_message.new.out.items c.in_ok-x.x.tag =
-    c.in-Ok.ensures
+    c.in_ok-spread.ensures
     ∙ (λ i. all_queued_on c.hear_message.new.router.node.links (c.in_ok-msg.ensures.2 i) c.args.router c.hear_message.new.out.items (tag i)) in
     let lent : (c.get_mut.follows.lender c.hear_message.new.router).entries ≡ with_router c.args.self.now.routers.entries c.args.router c.hear_message.new.router = search rules in
     applied (handle_step w c.args.router c.args.from) (Handled c.args.router c.args.from c.in_ok-msg.msg c.x.inside.tag ∷ []) w

@@ -17,14 +17,11 @@ returns-in-Err c =
     take_refused (state_of c.args.self.now) _ c.args.router c.args.to c.in-Err.e c.refusal_of.result c.next_queued.new.self c.args.report.now.items c.refusal_of.ensures c.in-Err.ensures
     (λ h. λ i. record { routers = c.args.self.now.routers.entries; clients = c.args.self.now.clients.entries; ends = h i; booked = c.args.self.now.booked })
 
-pub returns-in_default : goal.returns-in_default
-returns-in_default c = no_lines c.args.report.now.items (lines_of (take_step (state_of c.args.self.now) c.args.router c.args.to))
-
 pub returns-in_err-push : goal.returns-in_err-push
 returns-in_err-push c =
     let w = state_of c.args.self.now in
-    let p = err_from_is_err_and c.from_residual.result c.from_residual.ensures.1 in
-    ran_out c.from_residual.result (take_step w c.args.router c.args.to) w _ c.args.report.now.items c.push.new.self.items (p.1 ∙ ap Err p.2)
+    let p = err_from_is_err_and c.from_residual-in_err-push.result c.from_residual-in_err-push.ensures.1 in
+    ran_out c.from_residual-in_err-push.result (take_step w c.args.router c.args.to) w _ c.args.report.now.items c.push.new.self.items (p.1 ∙ ap Err p.2)
     (rw c.in_err-push.ensures.items (no_lines c.args.report.now.items (lines_of (take_step w c.args.router c.args.to))))
 
 pub returns : goal.returns
@@ -35,8 +32,8 @@ returns c =
     c.in-Ok.ensures ∙ ap (λ (z : Tagged). Ok (z, c.next_queued.new.self)) (sym c.x.view_is) in
     let end = queue_there w.ends (c.args.router, c.args.to) (x, c.next_queued.new.self) told in
     let r = there (router_of w.routers c.args.router) (c.requires.routers c.args.router c.args.to end) in
-    let ends : changed c.next_queued.new.self (c.args.to, c.args.router) (λ s. sent s x.msg x.tag) ≡ c.deliver.new.ends = sym c.in-Ok-deliver.ensures.wire in
-    let clients : received w.clients c.args.to x.msg (client_of w.clients c.args.to) ≡ c.deliver.new.clients.entries = sym c.in-Ok-deliver.ensures.client in
+    let ends : changed c.next_queued.new.self (c.args.to, c.args.router) (λ s. sent s x.msg x.tag) ≡ c.deliver.new.ends = sym c.in_ok-deliver.ensures.wire in
+    let clients : received w.clients c.args.to x.msg (client_of w.clients c.args.to) ≡ c.deliver.new.clients.entries = sym c.in_ok-deliver.ensures.client in
     applied (take_step w c.args.router c.args.to) (Taken c.args.router c.args.to x.msg x.tag ∷ []) w
     (record { routers = c.args.self.now.routers.entries; clients = c.deliver.new.clients.entries; ends = c.deliver.new.ends; booked = c.args.self.now.booked })
     c.args.report.now.items c.push.new.self.items
