@@ -1,11 +1,8 @@
 -- What a list of numbers queues for a link of the tests.
-use Rattle.std.specs.Prelude.{◌≡◌, ℕ, ◌%◌, ◌==◌, Bool, true, false, List, [], ◌∷◌, ◌++◌, Option, Some, slice_get, if◌then◌else◌}
+use Rattle.std.specs.Prelude.{◌≡◌, ℕ, ◌%◌, ◌==◌, Bool, true, false, List, [], ◌∷◌, ◌++◌, if◌then◌else◌}
 use Rattle.std.proofs.Common.{refl, ap, sym}
-use Rattle.std.specs.Coded.{Unit-prop}
-use Rattle.std.proofs.Props.{props}
 use mathlib.Core.List.{IsPrefix}
 use Rattle.atomic_table.specs.Seated.{TableId}
-use Rattle.zr_ring.specs.Content.{Content, bytes, end}
 
 -- each number of the link's parity, as one byte
 abbrev pub queued : ℕ → List ℕ → List (List ℕ)
@@ -24,14 +21,6 @@ queued-append link (x ∷ xs) ys = behind (x % 2 == link) (x % 256 ∷ []) _ _ _
 pub queued-grows : (link : ℕ) (list more : List ℕ) → IsPrefix (queued link list) (queued link (list ++ more))
 queued-grows link list more = (queued link more, sym (queued-append link list more))
 
--- a queue has these bytes at the place; of an end nothing is said
-abbrev pub Vouches : List (List ℕ) → Content → ℕ → Type 0
-Vouches queue (bytes b) k = slice_get queue k ≡ Some b
-Vouches queue (end r) k = Unit {0}
-
-pub Vouches-prop : (queue : List (List ℕ)) (c : Content) (k : ℕ) → IsProp (Vouches queue c k)
-Vouches-prop queue (bytes b) k = Prim.hlevel props
-Vouches-prop queue (end r) k = Unit-prop
-
+-- the name of no history
 abbrev pub no_table : TableId
 no_table = record { words = 0; slots = 0; views_name = 0; atom = 0; block = 0; offset = 0; slot_names = [] }

@@ -54,6 +54,29 @@ fn begin(mut sink: GateSink<MemSink>) {
     let _ = sink.write(&[9]);
 }
 
+// Starts a job that passes a byte on from one gate to the other; whether it was started.
+fn relays<R: Threads + Wait + Drop + 'static>(
+    alloc: Global,
+    from: &Gate,
+    to: &Gate,
+    crew: &mut Crew<R, u8>,
+    number: u8,
+) -> Result<bool, AllocError> {
+    let job = Relay::new(alloc, from, to)?;
+    Ok(crew.start(job, number, |job| pass_on(job)).is_ok())
+}
+
+// Starts a job that writes a byte through a gate; whether it was started.
+fn begins<R: Threads + Wait + Drop + 'static>(
+    alloc: Global,
+    gate: &Gate,
+    crew: &mut Crew<R, u8>,
+    number: u8,
+) -> Result<bool, AllocError> {
+    let sink = GateSink::new(MemSink::new(alloc, Vec::new(alloc)), gate.share()?);
+    Ok(crew.start(sink, number, |sink| begin(sink)).is_ok())
+}
+
 // Starts a job that waits for what a second one writes, that one, and a third; whether the first two were started and the third refused.
 fn started<R: Threads + Wait + Drop + 'static>(
     alloc: Global,
@@ -61,12 +84,9 @@ fn started<R: Threads + Wait + Drop + 'static>(
     second: &Gate,
     crew: &mut Crew<R, u8>,
 ) -> Result<bool, AllocError> {
-    let waiting = Relay::new(alloc, first, second)?;
-    let relayed = crew.start(waiting, 1, |job| pass_on(job)).is_ok();
-    let last = GateSink::new(MemSink::new(alloc, Vec::new(alloc)), first.share()?);
-    let begun = crew.start(last, 2, |sink| begin(sink)).is_ok();
-    let third = Relay::new(alloc, first, second)?;
-    let refused = crew.start(third, 3, |job| pass_on(job)).is_err();
+    let relayed = relays(alloc, first, second, crew, 1)?;
+    let begun = begins(alloc, first, crew, 2)?;
+    let refused = !relays(alloc, first, second, crew, 3)?;
     Ok(relayed && begun && refused)
 }
 
@@ -79,13 +99,18 @@ fn has_run<R: Threads + Wait + Drop + 'static>(
     first.count() == 1 && second.count() == 1 && crew.told().unwrap_or(&[]) == [1, 2].as_slice()
 }
 
+// Whether a crew with room for two jobs starts two, refuses a third, and runs both at once.
+fn runs_two<R: Threads + Wait + Drop + 'static>(rt: R, alloc: Global) -> Result<bool, AllocError> {
+    let first = Gate::new(alloc)?;
+    let second = Gate::new(alloc)?;
+    let mut crew: Crew<R, u8> = Crew::telling(rt, alloc, vec![in alloc; 2]?)?;
+    let started = started(alloc, &first, &second, &mut crew)?;
+    crew.wait();
+    Ok(started && has_run(&first, &second, &crew))
+}
+
 #[test]
 fn a_crew_runs_its_jobs_at_once(rt: HostRuntime) -> Result<(), Fail> {
-    let alloc = rt.alloc();
-    let (first, second) = (Gate::new(alloc)?, Gate::new(alloc)?);
-    let mut crew: Crew<HostRuntime, u8> = Crew::telling(rt, alloc, vec![in alloc; 2]?)?;
-    assert!(rt; started(alloc, &first, &second, &mut crew)?);
-    crew.wait();
-    assert!(rt; has_run(&first, &second, &crew));
+    assert!(rt; runs_two(rt, rt.alloc())?);
     Ok(())
 }

@@ -12,8 +12,6 @@ mod giving;
 #[cfg(test)]
 mod hosts;
 #[cfg(test)]
-mod locked;
-#[cfg(test)]
 mod note;
 #[cfg(test)]
 mod routers;

@@ -1,11 +1,8 @@
-//! Notes of the tests: one that says nothing, and one that says what the router's will say.
-ghost use Rattle.std.specs.Prelude.{◌≡◌, ◌+◌, ◌^◌, ◌<◌, IfOk, Some, slice_get, length};
-ghost use Rattle.zr_hist.specs.Words.{seen};
+//! The note of the tests' parcels, which says nothing, and a link for which lists queue.
+ghost use Rattle.std.specs.Prelude.{◌≡◌, ◌+◌, ◌^◌, ◌<◌, IfOk, length};
 ghost use Rattle.zr_ring.specs.Items.{GoOnFrom};
-ghost use Rattle.zr_tests_rings.specs.Queue.{queued};
 
 use std::alloc::{AllocError, Global};
-use zr_hist::Pass;
 use zr_ring::{Note, Parcel, Queue};
 
 /// It vouches for everything.
@@ -36,27 +33,6 @@ impl Queue<u64> for Link {
 
     ghost grows = { λ link list more _ _. queued-grows link.0 list more };
 }
-
-/// It vouches for what the list that its pass has seen queues for the link. The pass was split off as the parcel was given.
-#[derive(Drop)]
-pub struct Queued {
-    pub link: Link,
-    pub pass: Pass<u64>,
-}
-
-impl Note for Queued {
-    ghost use Rattle.zr_hist.specs.Words.{seen};
-    ghost use Rattle.zr_tests_rings.specs.Queue.{queued, Vouches, Vouches-prop};
-
-    ghost vouches = { λ n c k. Vouches (queued n.link.0 (seen n.pass)) c k };
-
-    ghost is_fact = { λ n c k. Vouches-prop (queued n.link.0 (seen n.pass)) c k };
-}
-
-/// What any thread knows of such a parcel: its bytes are those that the list queues at its place.
-pub fn is_queued(parcel: &Parcel<Queued>)
-    ensures { slice_get (queued parcel.now.note.link.0 (seen parcel.now.note.pass)) parcel.now.place ≡ Some parcel.now.bytes.items }
-{}
 
 fn parcel(alloc: Global, place: u64) -> Result<Parcel<Anything>, AllocError>
     ensures { IfOk result (λ p. p.place ≡ place) }

@@ -129,6 +129,26 @@ fn ended<
     end
 }
 
+// Whether the client's end comes, and all threads have ended then.
+fn is_left<
+    B: Naming + Send + Sync + 'static,
+    R: Threads + Wait + Copy + Send + Sync + Drop + 'static,
+>(
+    rt: R,
+    alloc: Global,
+    me: Zid,
+    source: &mut MemSource,
+    out: Outward<SharedSink<R>, Router<B, R>, MemClock, MemLog>,
+    pass: &mut Pass<Entry>,
+) -> Result<bool, AllocError>
+    requires { pass_name pass.old ≡ B.history }
+{
+    let mut crew: Crew<R, LinkNo> = Crew::new(rt, alloc)?;
+    let end = ended(alloc, me, source, out, &mut crew, pass);
+    crew.wait();
+    Ok(end == LinkEnd::Peer(0))
+}
+
 // Whether the client's end comes with just these bytes before it, where it sends so many bytes a read at most.
 fn is_answered_at<
     B: Naming + Send + Sync + 'static,
@@ -149,13 +169,11 @@ fn is_answered_at<
     requires own { me ≡ B.me }
 {
     let mut pass = pass;
-    let router = Router::<B, R>::new(rt, alloc, me, history, kept)?;
-    let mut crew: Crew<R, LinkNo> = Crew::new(rt, alloc)?;
     let bytes = no_bytes(alloc)?;
+    let router = Router::<B, R>::new(rt, alloc, me, history, kept)?;
     let out = outward(rt, alloc, router, &bytes)?;
-    let end = ended(alloc, me, source, out, &mut crew, &mut pass);
-    crew.wait();
-    Ok(end == LinkEnd::Peer(0) && hold(&rt, &bytes, want))
+    let is_left = is_left(rt, alloc, me, source, out, &mut pass)?;
+    Ok(is_left && hold(&rt, &bytes, want))
 }
 
 // The same at a new router 01.

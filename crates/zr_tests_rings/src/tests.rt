@@ -1,4 +1,5 @@
-use crate::note::{Anything, Link, Queued, parcels};
+use crate::giving::Giving;
+use crate::note::{Anything, Link, parcels};
 use crate::threads::{PARCELS, relay};
 use crate::turns::{PLACES, places_alike};
 use std::alloc::{AllocError, Global};
@@ -17,9 +18,9 @@ fn places_come_out_as_from_rtrb(rt: HostRuntime) -> Result<(), Fail> {
 
 // How many parcels came in order from one thread to another, and how many were right.
 fn relayed<R: Threads + Wait + Sync>(rt: &R, alloc: Global) -> Result<(u64, u64), AllocError> {
-    let (giver, mut taker) = ring::<Queued>(alloc, 256)?;
+    let (giving, mut taker) = Giving::ring(alloc, 256)?;
     let (history, kept, pass) = History::<u64>::new(alloc)?;
-    Ok(relay::<Brand, R>(rt, alloc, history, kept, pass, giver, &mut taker))
+    Ok(relay::<Brand, R>(rt, alloc, history, kept, pass, giving, &mut taker))
 }
 
 #[test]

@@ -1,39 +1,89 @@
-//! One thread appends and gives under the lock, another takes and looks beside it.
-ghost use Rattle.std.specs.Prelude.{◌≡◌, [], true};
-ghost use Rattle.zr_hist.specs.Words.{list_of, name, IsKeptOf, IsPassOf};
-ghost use Rattle.zr_ring.specs.Giver.{sent, is_going};
+//! One thread appends to a history and gives a parcel for each entry, another takes the parcels and looks at the history.
+ghost use Rattle.std.specs.Prelude.{◌≡◌};
+ghost use Rattle.zr_hist.specs.Words.{IsKeptOf, IsPassOf, kept_name, name, pass_name};
 
-use crate::locked::{Locked, Member, Named, Shared};
-use crate::note::{Queued, is_queued};
+use crate::giving::Giving;
+use crate::note::Anything;
 use std::alloc::Global;
+use std::marker::{Brand, PhantomData};
 use std::sync::Wait;
 use std::thread;
 use std::thread::{Threads, join};
 use zr_hist::{History, Kept, Pass};
-use zr_ring::{Giver, Taker, Took};
+use zr_ring::{Taker, Took};
 
 /// How many parcels go from thread to thread.
 pub const PARCELS: u64 = 100_000;
 
-fn add_one<H: Named, W: Wait>(
-    rt: &W,
-    alloc: Global,
-    shared: &Shared<H>,
-    member: &mut Member<H>,
-    entry: u64,
-) {
+/// Names one history, so that what each thread has is known to be of the same.
+pub trait Named {
+    ghost use Rattle.atomic_table.specs.Seated.{TableId};
+
+    ghost table: { TableId };
+}
+
+impl Named for Brand {
+    ghost use Rattle.zr_tests_rings.specs.Queue.{no_table};
+
+    ghost table = { no_table };
+}
+
+/// What both threads see.
+#[derive(Drop)]
+struct Shared<H: Named> {
+    history: History<u64>,
+    of: PhantomData<H>,
+    ghost here: { name history ≡ H.table },
+}
+
+/// What the thread has that appends and gives.
+#[derive(Drop)]
+struct Adding<H: Named> {
+    kept: Kept<u64>,
+    pass: Pass<u64>,
+    giving: Giving,
+    of: PhantomData<H>,
+    ghost here: { (kept_name kept ≡ H.table) × (pass_name pass ≡ H.table) },
+}
+
+/// What the thread has that takes and looks.
+#[derive(Drop)]
+struct Taking<H: Named> {
+    pass: Pass<u64>,
+    of: PhantomData<H>,
+    ghost here: { pass_name pass ≡ H.table },
+}
+
+impl<H: Named> Shared<H> {
+    // Appends an entry; whether there was room for it.
+    fn append(&self, adding: &mut Adding<H>, entry: u64) -> bool {
+        self.history
+            .append(&mut adding.kept, &mut adding.pass, &entry)
+            .is_ok()
+    }
+
+    // The length of the history. It goes through no lock.
+    fn look(&self, taking: &mut Taking<H>) -> u64 {
+        self.history.look(&mut taking.pass)
+    }
+}
+
+// Gives a parcel as soon as there is room for it.
+fn give<W: Wait>(rt: &W, alloc: Global, giving: &mut Giving, byte: u8) {
     for _ in rt.forever() {
-        if shared.add(rt, alloc, member, entry).is_ok() {
+        if giving.give(alloc, &[byte]).unwrap_or(false) {
             return;
         }
         thread::yield_now();
     }
 }
 
-// Two entries to each parcel.
-fn add_all<H: Named, W: Wait>(rt: &W, alloc: Global, shared: &Shared<H>, member: &mut Member<H>) {
-    for entry in 0..PARCELS * 2 {
-        add_one(rt, alloc, shared, member, entry);
+// A parcel for each entry, once that is in the history.
+fn add_all<H: Named, W: Wait>(rt: &W, alloc: Global, shared: &Shared<H>, adding: &mut Adding<H>) {
+    for entry in 0..PARCELS {
+        if shared.append(adding, entry) {
+            give(rt, alloc, &mut adding.giving, (entry % 256) as u8);
+        }
     }
 }
 
@@ -46,22 +96,20 @@ enum Came {
     Nothing,
 }
 
-// Whether a parcel has the bytes of its place, and the history the entry that queued it.
+// Whether a parcel has the byte of its entry, and the history that entry.
 fn is_right(place: u64, bytes: &[u8], entries: u64) -> bool {
-    let entry = place.wrapping_mul(2).wrapping_add(1);
-    bytes == [(entry % 256) as u8].as_slice() && entry < entries
+    bytes == [(place % 256) as u8].as_slice() && place < entries
 }
 
 fn take_one<H: Named>(
-    taker: &mut Taker<Queued>,
+    taker: &mut Taker<Anything>,
     shared: &Shared<H>,
-    member: &mut Member<H>,
+    taking: &mut Taking<H>,
     place: u64,
 ) -> Came {
     match taker.take() {
         Took::Parcel(p) if p.place == place => {
-            is_queued(&p);
-            if is_right(place, &p.bytes, shared.look(member)) {
+            if is_right(place, &p.bytes, shared.look(taking)) {
                 Came::Right
             } else {
                 Came::Wrong
@@ -75,9 +123,9 @@ fn take_one<H: Named>(
 // How many parcels came at the next place, and how many of these were right.
 fn take_all<H: Named, W: Wait>(
     rt: &W,
-    taker: &mut Taker<Queued>,
+    taker: &mut Taker<Anything>,
     shared: &Shared<H>,
-    member: &mut Member<H>,
+    taking: &mut Taking<H>,
 ) -> (u64, u64) {
     let mut got = 0u64;
     let mut right = 0u64;
@@ -85,7 +133,7 @@ fn take_all<H: Named, W: Wait>(
         if got >= PARCELS {
             break;
         }
-        match take_one(taker, shared, member, got) {
+        match take_one(taker, shared, taking, got) {
             Came::Right => {
                 got = got.wrapping_add(1);
                 right = right.wrapping_add(1);
@@ -98,24 +146,34 @@ fn take_all<H: Named, W: Wait>(
     (got, right)
 }
 
-/// Appends in one thread, and takes what was queued in another.
+/// Appends and gives in one thread, and takes what was given in another.
 pub fn relay<H: Named + Send + Sync, W: Threads + Wait + Sync>(
     rt: &W,
     alloc: Global,
     history: History<u64>,
     kept: Kept<u64>,
     pass: Pass<u64>,
-    giver: Giver<Queued>,
-    taker: &mut Taker<Queued>,
+    giving: Giving,
+    taker: &mut Taker<Anything>,
 ) -> (u64, u64)
     requires named { name history ≡ H.table }
     requires of { IsKeptOf history kept × IsPassOf history pass }
-    requires empty { (is_going giver ≡ true) × (sent giver ≡ []) × (list_of kept ≡ []) }
 {
     let mut pass = pass;
-    let mut taking = Member::<H>::new(history.split(&mut pass));
-    let mut adding = Member::<H>::new(pass);
-    let shared = Shared::<H>::new(history, Locked::new(kept, giver));
+    let mut taking = Taking {
+        pass: history.split(&mut pass),
+        of: PhantomData,
+    };
+    let mut adding = Adding {
+        kept,
+        pass,
+        giving,
+        of: PhantomData,
+    };
+    let shared = Shared::<H> {
+        history,
+        of: PhantomData,
+    };
     at_once(rt, alloc, &shared, &mut adding, taker, &mut taking)
 }
 
@@ -123,9 +181,9 @@ fn at_once<H: Named + Send + Sync, W: Threads + Wait + Sync>(
     rt: &W,
     alloc: Global,
     shared: &Shared<H>,
-    adding: &mut Member<H>,
-    taker: &mut Taker<Queued>,
-    taking: &mut Member<H>,
+    adding: &mut Adding<H>,
+    taker: &mut Taker<Anything>,
+    taking: &mut Taking<H>,
 ) -> (u64, u64) {
     let ((), taken) = join(
         rt,
