@@ -5,7 +5,9 @@ ghost use Rattle.zr_wire.specs.Writing.{IsSpelled};
 
 use crate::keys::declared;
 use crate::row::{self, Fault};
-use crate::{random, texts};
+use crate::texts;
+use rand_core::utils::NextWord;
+use rand_pcg::Pcg32;
 use std::alloc::{AllocError, Global};
 use zr_bytes::{Cursor, ReadError};
 use zr_decl::Declared;
@@ -17,9 +19,7 @@ use zr_oam::read_oam;
 use zr_wire::write_message;
 use zr_wirekey::Scopes;
 
-/// Where the sequence of changes begins, and how many there are.
-const SEED: u32 = 42;
-
+/// How often a message is changed.
 const CHANGES: u32 = 300;
 
 /// What a message between routers begins with, in the bits of the id.
@@ -48,9 +48,9 @@ fn passed(alloc: Global, bytes: &[u8], theirs: &Scopes) -> Result<String, Fault>
 
 // The first of its changes that is neither refused with the cursor where it stood, nor read and, written again, read as the same message.
 fn changed(alloc: Global, bytes: &[u8], theirs: &Scopes) -> Result<String, AllocError> {
-    let mut state = SEED;
+    let mut random = Pcg32::new(42, 54);
     for _ in 0..CHANGES {
-        let other = other(alloc, bytes, &mut state)?;
+        let other = other(alloc, bytes, &mut random)?;
         if !is_sound(alloc, &other, theirs) {
             return row::digits(alloc, &other);
         }
@@ -59,18 +59,18 @@ fn changed(alloc: Global, bytes: &[u8], theirs: &Scopes) -> Result<String, Alloc
 }
 
 // One or two of the bytes are others.
-fn other(alloc: Global, bytes: &[u8], state: &mut u32) -> Result<Vec<u8>, AllocError> {
+fn other(alloc: Global, bytes: &[u8], random: &mut Pcg32) -> Result<Vec<u8>, AllocError> {
     let mut out = bytes.to_vec(alloc)?;
-    change(&mut out, state);
-    if random::next(state) % 2 == 1 {
-        change(&mut out, state);
+    change(&mut out, random);
+    if random.next_word() % 2 == 1 {
+        change(&mut out, random);
     }
     Ok(out)
 }
 
-fn change(bytes: &mut [u8], state: &mut u32) {
-    let at = random::next(state) % bytes.len().max(1);
-    let byte = (random::next(state) % 256) as u8;
+fn change(bytes: &mut [u8], random: &mut Pcg32) {
+    let at = random.next_word() as usize % bytes.len().max(1);
+    let byte = (random.next_word() % 256) as u8;
     if let Some(place) = bytes.get_mut(at) {
         *place = byte;
     }

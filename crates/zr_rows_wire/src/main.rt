@@ -21,7 +21,6 @@ mod numbers;
 mod openings;
 mod pending;
 mod pieces;
-mod random;
 mod row;
 mod sessions;
 mod sets;

@@ -1,6 +1,5 @@
 //! A long session in random pieces against the same in one piece.
 
-use crate::random;
 use crate::row::{self, Fault};
 use crate::sessions::{put_framed, told};
 use std::alloc::{AllocError, Global};
@@ -9,6 +8,12 @@ use std::alloc::{AllocError, Global};
 const MOST: usize = 40;
 
 const SEEDS: u32 = 8;
+
+// The next number of a sequence that looks random, and how far it has come.
+fn random(state: &mut u32) -> usize {
+    *state = state.wrapping_mul(1_664_525).wrapping_add(1_013_904_223);
+    (*state >> 16) as usize
+}
 
 /// The first seed whose pieces lead to something else than the whole, and how many events that has and how it stands, of a session of so many frames.
 pub fn answer(alloc: Global, words: &[&str]) -> Result<String, Fault> {
@@ -39,8 +44,8 @@ fn put_frame(
     state: &mut u32,
 ) -> Result<(), AllocError> {
     let mut batch = [0x25, number].to_vec(alloc)?;
-    for _ in 0..random::next(state) % 5 {
-        let length = random::next(state) % 71;
+    for _ in 0..random(state) % 5 {
+        let length = random(state) % 71;
         push_on_k(&mut batch, length as u8)?;
     }
     batch.push(0x04)?;
@@ -70,7 +75,7 @@ fn push_pieces(alloc: Global, row: &mut String, bytes: &[u8], seed: u32) -> Resu
     let mut state = seed;
     let mut rest = bytes;
     for _ in 0..bytes.len() {
-        let length = (random::next(&mut state) % (MOST + 1)).min(rest.len());
+        let length = (random(&mut state) % (MOST + 1)).min(rest.len());
         let (piece, others) = rest.split_at(length);
         push_piece(alloc, row, piece)?;
         rest = others;
