@@ -8,10 +8,10 @@ use Rattle.zr_bytes.specs.Spelling.{Begins}
 use Rattle.zr_bytes.specs.Reading.{◌>>=◌, byte_of, number_of, number_below, text_of}
 use Rattle.zr_bytes.proofs.Steps.{ok_is, bind_ok, bind_err, not_both}
 use Rattle.zr_ext.specs.Reading.{chain_of}
-use Rattle.zr_format.specs.Format.{Format, gives, fails, unknown, choose, ◌then◌, passed, byte, number, below, text, chain}
-use Rattle.zr_format.specs.Reading.{Reader}
-use Rattle.zr_format.specs.Laws.{anywhere}
-use Rattle.zr_format.proofs.Follows.{Follows, follows_gives, follows_fails, follows_unknown, follows_choose, follows_then, follows_passed, follows_byte, follows_number, follows_below, follows_text, follows_chain}
+use Rattle.zr_format_spec.specs.Format.{Format, gives, fails, unknown, choose, ◌then◌, passed, byte, number, below, text, chain}
+use Rattle.zr_format_spec.specs.Reading.{Reader}
+use Rattle.zr_format_spec.specs.Laws.{anywhere}
+use Rattle.zr_format_spec.proofs.Follows.{Follows, follows_gives, follows_fails, follows_unknown, follows_choose, follows_then, follows_passed, follows_byte, follows_number, follows_below, follows_text, follows_chain}
 use Rattle.zr_body.specs.declared.place.Place.{Place}
 use Rattle.zr_body.specs.declared.place.Place.TheVariants.{Push, Request, Response}
 use Rattle.zr_body.specs.Body.{when, some_text, timestamp, encoding, payload, put, del, query, sample, reply, err, behind, body_format, body}

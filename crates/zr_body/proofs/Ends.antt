@@ -1,7 +1,7 @@
 -- A payload stands at the end of its body: one lemma for each way of putting formats together.
 use Rattle.std.proofs.Common.{◌≡◌, ℕ, ◌^◌, ◌-◌, List, [], ◌++◌, Bool, true, false, sym, ap, ◌∙◌, append_assoc}
 use Rattle.zr_bytes.specs.Flag.{has_id, has_flag}
-use Rattle.zr_format.specs.Format.{Format, gives, unknown, choose, ◌then◌, passed, byte, number, text}
+use Rattle.zr_format_spec.specs.Format.{Format, gives, unknown, choose, ◌then◌, passed, byte, number, text}
 use Rattle.zr_body.specs.declared.place.Place.{Place}
 use Rattle.zr_body.specs.declared.place.Place.TheVariants.{Push, Request, Response}
 use Rattle.zr_body.specs.Body.{when, timestamp, encoding, extensions_if, payload, put, del, query, sample, reply, err, behind, body_format}

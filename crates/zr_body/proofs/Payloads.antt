@@ -10,7 +10,7 @@ use Rattle.zr_bytes.specs.Reading.{Read, ◌>>=◌, byte_of}
 use Rattle.zr_bytes.proofs.Steps.{bind_ok, not_both, chosen}
 use Rattle.zr_bytes.proofs.Numbers.{written_spells}
 use Rattle.zr_bytes.proofs.Texts.{begins_text}
-use Rattle.zr_format.proofs.Follows.{is_read}
+use Rattle.zr_format_spec.proofs.Follows.{is_read}
 use Rattle.zr_body.specs.declared.place.Place.{Place}
 use Rattle.zr_body.specs.declared.place.Place.TheVariants.{Push, Request, Response}
 use Rattle.zr_body.specs.Body.{body_format}

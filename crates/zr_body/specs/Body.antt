@@ -4,7 +4,7 @@
 use Rattle.std.specs.Prelude.{◌≡◌, ℕ, ◌-◌, ◌%◌, ◌^◌, Bool, List, [], length, ◌==◌}
 use Rattle.zr_bytes.specs.declared.read_error.ReadError.TheVariants.{BadText}
 use Rattle.zr_bytes.specs.Flag.{has_id, has_flag}
-use Rattle.zr_format.specs.Format.{Format, gives, fails, unknown, choose, ◌then◌, passed, byte, number, below, text, chain}
+use Rattle.zr_format_spec.specs.Format.{Format, gives, fails, unknown, choose, ◌then◌, passed, byte, number, below, text, chain}
 use Rattle.zr_body.specs.declared.place.Place.{Place}
 use Rattle.zr_body.specs.declared.place.Place.TheVariants.{Push, Request, Response}
 

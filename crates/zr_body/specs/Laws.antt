@@ -1,7 +1,7 @@
 -- The laws of bodies: what a reading call answers is what the bytes spell, and what is passed on is read again.
 use Rattle.std.specs.Prelude.{◌≡◌, ℕ, List, ◌++◌, Ok}
 use Rattle.zr_bytes.specs.Spelling.{HasOneReading}
-use Rattle.zr_format.specs.Laws.{anywhere, IsReadBy}
+use Rattle.zr_format_spec.specs.Laws.{anywhere, IsReadBy}
 use Rattle.zr_body.specs.declared.place.Place.{Place}
 use Rattle.zr_body.specs.Body.{IsBodyIn, body}
 use Rattle.zr_body.specs.Reading.{body_of}

@@ -6,7 +6,7 @@ use Rattle.zr_bytes.specs.Flag.{has_id, has_flag}
 use Rattle.zr_bytes.specs.Reading.{Read, ◌>>=◌, byte_of, number_of, number_below, text_of}
 use Rattle.zr_ext.specs.Reading.{chain_of}
 use Rattle.zr_ext.specs.Finding.{without_value}
-use Rattle.zr_format.specs.Reading.{Reader}
+use Rattle.zr_format_spec.specs.Reading.{Reader}
 use Rattle.zr_body.specs.declared.place.Place.{Place}
 use Rattle.zr_body.specs.declared.place.Place.TheVariants.{Push, Request, Response}
 

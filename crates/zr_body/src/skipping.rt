@@ -9,7 +9,7 @@ use crate::place::Place;
 use std::alloc::Global;
 use zr_bytes::{Cursor, ReadError};
 use zr_ext::read_chain;
-use zr_format::header::{EXTENSIONS, ID};
+use zr_format_spec::header::{EXTENSIONS, ID};
 
 pub(crate) const PUT: u8 = 1;
 

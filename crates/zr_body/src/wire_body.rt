@@ -9,7 +9,7 @@ use std::alloc::{AllocError, Global};
 use std::marker::Model;
 use std::sync::ArcSlice;
 use zr_bytes::put_bytes;
-use zr_format::header::ID;
+use zr_format_spec::header::ID;
 
 /// How many bytes stand before a payload at most, where a body has neither flags nor extensions: its header and the payload's length.
 const MOST_HEAD: usize = 6;

@@ -3,9 +3,9 @@ use Rattle.std.proofs.Common.{◌≡◌, ℕ, ◌<◌, ◌%◌, ◌^◌, Bool, t
 use Rattle.zr_bytes.specs.Flag.{has_id, has_flag}
 use Rattle.zr_bytes.specs.Reading.{◌>>=◌}
 use Rattle.zr_bytes.proofs.Steps.{ok_is, bind_ok}
-use Rattle.zr_format.specs.Format.{Format, gives, choose, unknown, optional, below}
-use Rattle.zr_format.specs.Laws.{HasSpelling}
-use Rattle.zr_format.proofs.Spelled.{spelled_allows, chosen_holds}
+use Rattle.zr_format_spec.specs.Format.{Format, gives, choose, unknown, optional, below}
+use Rattle.zr_format_spec.specs.Laws.{HasSpelling}
+use Rattle.zr_format_spec.proofs.Spelled.{spelled_allows, chosen_holds}
 use Rattle.zr_key.specs.declared.key.KeyError.{KeyError}
 use Rattle.zr_key.specs.Key.{read_key}
 use Rattle.zr_key.proofs.Reading.{Sound-from_read, read_again}

@@ -4,10 +4,10 @@ use Rattle.std.specs.Prelude.{nat_le, if◌then◌else◌}
 use Rattle.zr_bytes.specs.declared.read_error.ReadError.TheVariants.{BadText, BadKey}
 use Rattle.zr_bytes.specs.Flag.{has_id, has_flag}
 use Rattle.zr_bytes.specs.Reading.{byte_of, number_below}
-use Rattle.zr_format.specs.Format.{checked, byte, below, extensions}
-use Rattle.zr_format.specs.Reading.{exts_of}
-use Rattle.zr_format.specs.Laws.{anywhere}
-use Rattle.zr_format.proofs.Follows.{Follows, follows_gives, follows_unknown, follows_choose, follows_then, follows_checked, follows_optional, follows_byte, follows_below, follows_extensions}
+use Rattle.zr_format_spec.specs.Format.{checked, byte, below, extensions}
+use Rattle.zr_format_spec.specs.Reading.{exts_of}
+use Rattle.zr_format_spec.specs.Laws.{anywhere}
+use Rattle.zr_format_spec.proofs.Follows.{Follows, follows_gives, follows_unknown, follows_choose, follows_then, follows_checked, follows_optional, follows_byte, follows_below, follows_extensions}
 use Rattle.zr_wirekey.specs.Scopes.{Texts}
 use Rattle.zr_wirekey.specs.Spelling.{key_parts}
 use Rattle.zr_wirekey.specs.Reading.{parts_of}

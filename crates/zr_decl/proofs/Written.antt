@@ -9,7 +9,7 @@ use Rattle.zr_bytes.proofs.Numbers.{written_spells}
 use Rattle.zr_ext.specs.declared.ext.Ext.{Ext}
 use Rattle.zr_ext.specs.Header.{IsHeader}
 use Rattle.zr_ext.proofs.Trying.{all_below, all_below-at, same_bool, same_bool-true}
-use Rattle.zr_format.specs.Format.{gives, choose, optional, below, extensions, chain}
+use Rattle.zr_format_spec.specs.Format.{gives, choose, optional, below, extensions, chain}
 use Rattle.zr_wirekey.specs.Scopes.{Texts}
 use Rattle.zr_wirekey.specs.Spelling.{key_format}
 use Rattle.zr_wirekey.specs.Writing.{writes_key}

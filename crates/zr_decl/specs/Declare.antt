@@ -8,7 +8,7 @@ use Rattle.zr_ext.specs.declared.ext.Content.{Content}
 use Rattle.zr_ext.specs.declared.ext.Content.TheVariants as content
 use Rattle.zr_ext.specs.declared.ext.Form.{Form}
 use Rattle.zr_ext.specs.declared.ext.Form.TheVariants as form
-use Rattle.zr_format.specs.Format.{Format, gives, unknown, choose, ◌then◌, checked, optional, byte, below, extensions}
+use Rattle.zr_format_spec.specs.Format.{Format, gives, unknown, choose, ◌then◌, checked, optional, byte, below, extensions}
 use Rattle.zr_wirekey.specs.Scopes.{Texts}
 use Rattle.zr_wirekey.specs.Spelling.{key_parts, key_format}
 use Rattle.zr_msg.specs.declared.msg.Msg.{Msg}

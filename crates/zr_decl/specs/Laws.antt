@@ -1,6 +1,6 @@
 -- The laws of declarations and interests: what a reading call answers is what the bytes spell, and what is written is read again.
 use Rattle.zr_bytes.specs.Spelling.{HasOneReading}
-use Rattle.zr_format.specs.Laws.{anywhere, IsReadBy, WrittenIsRead, SpelledIsWritten}
+use Rattle.zr_format_spec.specs.Laws.{anywhere, IsReadBy, WrittenIsRead, SpelledIsWritten}
 use Rattle.zr_wirekey.specs.Scopes.{Texts}
 use Rattle.zr_decl.specs.Declare.{declare_format, interest_format}
 use Rattle.zr_decl.specs.Reading.{message_of, interest_of}

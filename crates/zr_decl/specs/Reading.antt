@@ -3,7 +3,7 @@ use Rattle.std.specs.Prelude.{ℕ, ◌+◌, ◌^◌, ◌%◌, not, ◌||◌, ◌
 use Rattle.zr_bytes.specs.declared.read_error.ReadError.TheVariants.{UnknownId, BadText, BadKey}
 use Rattle.zr_bytes.specs.Flag.{has_id, has_flag}
 use Rattle.zr_bytes.specs.Reading.{◌>>=◌, byte_of, number_below}
-use Rattle.zr_format.specs.Reading.{Reader, checked_of, optional_of, exts_of}
+use Rattle.zr_format_spec.specs.Reading.{Reader, checked_of, optional_of, exts_of}
 use Rattle.zr_wirekey.specs.Scopes.{Texts}
 use Rattle.zr_wirekey.specs.Reading.{parts_of, key_of}
 use Rattle.zr_msg.specs.declared.msg.Msg.{Msg}

@@ -4,7 +4,7 @@ use Rattle.zr_bytes.specs.Number.{writes}
 use Rattle.zr_ext.specs.declared.ext.Ext.{Ext}
 use Rattle.zr_ext.specs.declared.ext.Content.TheVariants as content
 use Rattle.zr_ext.specs.Writing.{writes_chain}
-use Rattle.zr_format.specs.Writing.{writes_header}
+use Rattle.zr_format_spec.specs.Writing.{writes_header}
 use Rattle.zr_key.specs.Key.{read_key}
 use Rattle.zr_wirekey.specs.Writing.{writes_key}
 use Rattle.zr_msg.specs.declared.msg.Msg.{Msg}

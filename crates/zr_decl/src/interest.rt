@@ -3,7 +3,7 @@
 ghost use Rattle.std.specs.Prelude.{◌≡◌, IfOk};
 ghost use Rattle.zr_bytes.specs.Flag.{has_flag};
 ghost use Rattle.zr_bytes.specs.Reading.{Keeps, Steps};
-ghost use Rattle.zr_format.specs.Reading.{optional_of, exts_of};
+ghost use Rattle.zr_format_spec.specs.Reading.{optional_of, exts_of};
 ghost use Rattle.zr_decl.specs.Reading.{wire_key_of, wanted_of, ended_of, asked_of, interest_of};
 ghost use Rattle.zr_decl.specs.Writing.{Fits};
 
@@ -11,7 +11,7 @@ use crate::parts::{AGGREGATE, CURRENT, FUTURE, INTEREST, KINDS, RESTRICTED};
 use crate::reading::{message_extensions, read_wire_key};
 use std::alloc::Global;
 use zr_bytes::{Cursor, ReadError};
-use zr_format::header::ID;
+use zr_format_spec::header::ID;
 use zr_key::key::KeyExpr;
 use zr_msg::msg::{Kinds, Msg};
 use zr_wirekey::Scopes;

@@ -3,7 +3,7 @@
 ghost use Rattle.std.specs.Prelude.{◌≡◌, ◌+◌, ◌++◌, ◌^◌, nat_le, length, IfOk};
 ghost use Rattle.zr_bytes.specs.Flag.{has_flag};
 ghost use Rattle.zr_bytes.specs.Reading.{Keeps, Steps, number_below};
-ghost use Rattle.zr_format.specs.Reading.{optional_of, exts_of};
+ghost use Rattle.zr_format_spec.specs.Reading.{optional_of, exts_of};
 ghost use Rattle.zr_decl.specs.Declare.{says_complete, content_odd, message_exts, info_ext, undeclared_ext};
 ghost use Rattle.zr_decl.specs.Reading.{wire_key_of, number_of, text_of, keyexpr_of, undeclared_keyexpr_of, subscriber_of, queryable_of, token_of, undeclared_of, unsubscriber_of, unqueryable_of, untoken_of, final_of, declaration_of, declare_of, message_of, declared_of};
 ghost use Rattle.zr_decl.specs.Writing.{ToldFits};
@@ -17,8 +17,8 @@ use crate::parts::{
 use std::alloc::{AllocError, Global};
 use zr_bytes::{ByteString, Cursor, ReadError};
 use zr_ext::{Content, Ext, Form};
-use zr_format::header::ID;
-use zr_format::read_extensions;
+use zr_format_spec::header::ID;
+use zr_format_spec::read_extensions;
 use zr_key::key::KeyExpr;
 use zr_msg::msg::Msg;
 use zr_wirekey::{Scopes, read_key, read_parts};

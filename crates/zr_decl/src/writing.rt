@@ -12,7 +12,7 @@ use crate::parts::{
 use std::alloc::AllocError;
 use zr_bytes::{all_or_nothing, put_zint};
 use zr_ext::{Content, Ext, write_chain};
-use zr_format::header::header_byte;
+use zr_format_spec::header::header_byte;
 use zr_key::key::KeyExpr;
 use zr_msg::msg::Msg;
 use zr_wirekey::write_key;

@@ -2,6 +2,7 @@
 use Rattle.std.proofs.Common.{◌≡◌, ℕ, ◌-◌, ◌^◌, List, [], ◌∷◌, ◌++◌, Option, Some, None, Result, Ok, Err, Bool, true, false, not, ◌&&◌, ◌||◌, cond, refl, sym, ap, subst, ◌∙◌, arith, inl, inr, ◌⊎◌, eqb}
 use Rattle.std.specs.Prelude.{bit_and}
 use Rattle.std.proofs.lemmas.Bool.{eqb-true}
+use Rattle.zr_lists.proofs.Truths.{where_so, so_there}
 use Rattle.zr_bytes.specs.declared.read_error.ReadError.{ReadError}
 use Rattle.zr_bytes.specs.declared.read_error.ReadError.TheVariants.{Short, Mandatory, BadText}
 use Rattle.zr_bytes.specs.Flag.{has_flag}
@@ -203,14 +204,6 @@ admits known ext = not ext.mandatory || knows known ext
 abbrev rest_of : Header → List ℕ → Read (Ext × Bool)
 rest_of head bytes = content_of head.form bytes >>= λ x. Ok ((record { id = head.id; mandatory = head.mandatory; content = x.0 }, head.more), x.1)
 
-admits_if : (m k : Bool) → (m ≡ true → k ≡ true) → (not m || k) ≡ true
-admits_if true k h = h refl
-admits_if false k h = refl
-
-if_admits : (m k : Bool) → (not m || k) ≡ true → m ≡ true → k ≡ true
-if_admits true k h p = h
-if_admits false k h p = absurd cc
-
 -- what is read is an extension that is spelled here, and is not refused
 pub record IsFound (known : List (ℕ × Form)) (x : Ext × Bool) (bytes rest : List ℕ) : Type 0 where
   pub front : List ℕ
@@ -244,7 +237,7 @@ ext_found known x (header ∷ bytes) rest e =
       front = header ∷ inner.0;
       spelled = (is, inner.1);
       whole = ap (λ (xs : List ℕ). header ∷ xs) inner.2;
-      admitted = admits_if head.mandatory (knows known made.0) known_too;
+      admitted = where_so head.mandatory (knows known made.0) known_too;
     } in
     let P : (Ext × Bool) × List ℕ → Type 0 = λ p. IsFound known p.0 (header ∷ bytes) p.1 in
     subst P same found
@@ -259,7 +252,7 @@ ext_read known x bytes rest found = ap (ext_of known) found.whole ∙ by_front f
         let is = spelled.0 in
         let f : Form = form_of x.0.content in
         let known_if : has_flag header 0x10 ≡ true → is_known known (bit_and header 0x0F) f ≡ true = λ m.
-        ap (λ (i : ℕ). is_known known i f) (sym is.id) ∙ if_admits x.0.mandatory (knows known x.0) found.admitted (is.mandatory ∙ m) in
+        ap (λ (i : ℕ). is_known known i f) (sym is.id) ∙ so_there x.0.mandatory (knows known x.0) found.admitted (is.mandatory ∙ m) in
         let accepted : header_of known header ≡ Ok (head_at header f) = header_accepted known header f (is.form, known_if) in
         let read : content_of f (text ++ rest) ≡ Ok (x.0.content, rest) = content_read x.0.content (text ++ rest) rest (text, spelled.1, refl) in
         let same : (record { id = bit_and header 0x0F; mandatory = has_flag header 0x10; content = x.0.content }, has_flag header 0x80) ≡ x =

@@ -13,12 +13,12 @@ use Rattle.zr_msg.specs.declared.decl.Decl.{Decl}
 use Rattle.zr_msg.specs.declared.msg.Msg.{Msg}
 use Rattle.zr_msg.specs.declared.msg.Msg.TheVariants.{Step, Snap}
 use Rattle.zr_msg.specs.declared.peer.LinkPeer.{LinkPeer}
-use Rattle.zr_routing.specs.Changes.{changes_of, steps, sends_changes}
-use Rattle.zr_routing.specs.Snapshots.{is_new_child, snapshot, sends_step, sends_snap, sends_snapshots}
-use Rattle.zr_routing.specs.Tables.{TableState, AreNumbered, is_router, link_at, leads_to_router, is_own_child, leads_to_child, is_to_child}
-use Rattle.zr_table.specs.Event.{on_link}
-use Rattle.zr_table.proofs.Told.{on_link-append}
-use Rattle.zr_tell.specs.Each.{to_each}
+use Rattle.zr_node_spec.specs.Changes.{changes_of, steps, sends_changes}
+use Rattle.zr_node_spec.specs.Snapshots.{is_new_child, snapshot, sends_step, sends_snap, sends_snapshots}
+use Rattle.zr_node_spec.specs.Tables.{TableState, AreNumbered, is_router, link_at, leads_to_router, is_own_child, leads_to_child, is_to_child}
+use Rattle.zr_node_spec.specs.Event.{on_link}
+use Rattle.zr_node_spec.proofs.Told.{on_link-append}
+use Rattle.zr_node_spec.specs.Each.{to_each}
 use Rattle.zr_flood.specs.Tell.{all_to_each, bare_tables, children_among, GoesBy, leads_to_new_child, to_new_children}
 use Rattle.zr_flood.proofs.Picked.{on_picked, on_all_picked, all_to_each-append}
 

@@ -5,10 +5,10 @@ use Rattle.std.proofs.lemmas.Grind.{flat_map-append}
 use Rattle.zr_id.specs.declared.link.LinkNo.{LinkNo}
 use Rattle.zr_msg.specs.declared.msg.Msg.{Msg}
 use Rattle.zr_msg.specs.declared.peer.LinkPeer.{LinkPeer}
-use Rattle.zr_routing.specs.Tables.{AreNumbered, link_at}
-use Rattle.zr_table.specs.Event.{on_link}
-use Rattle.zr_table.proofs.Told.{on_link-append, to_picked, on_picked as to_picked_on}
-use Rattle.zr_tell.specs.Each.{to_each}
+use Rattle.zr_node_spec.specs.Tables.{AreNumbered, link_at}
+use Rattle.zr_node_spec.specs.Event.{on_link}
+use Rattle.zr_node_spec.proofs.Told.{on_link-append, to_picked, on_picked as to_picked_on}
+use Rattle.zr_node_spec.specs.Each.{to_each}
 use Rattle.zr_flood.specs.Tell.{picked, all_to_each}
 
 -- a message for the links that a test picks is one for each such link

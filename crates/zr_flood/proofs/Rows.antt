@@ -12,12 +12,12 @@ use Rattle.zr_msg.specs.declared.msg.Msg.TheVariants.{State}
 use Rattle.zr_msg.specs.declared.peer.LinkPeer.{LinkPeer}
 use Rattle.zr_msg.specs.declared.peer.Peer.{Peer}
 use Rattle.zr_msg.specs.declared.peer.Role.TheVariants.{Router}
-use Rattle.zr_table.specs.Event.{on_link}
-use Rattle.zr_routing.specs.Tables.{is_router, leads_to_router}
-use Rattle.zr_table.specs.State.{NodeState}
-use Rattle.zr_table.specs.Table.{joined, parted, is_other_router, all_records, sends_own, sends_up, sends_parted, sends_state}
-use Rattle.zr_table.proofs.Links.{asked_of_number}
-use Rattle.zr_table.proofs.Told.{on_link-append, on_picked}
+use Rattle.zr_node_spec.specs.Event.{on_link}
+use Rattle.zr_node_spec.specs.Tables.{is_router, leads_to_router}
+use Rattle.zr_node_spec.specs.State.{NodeState}
+use Rattle.zr_node_spec.specs.Table.{joined, parted, is_other_router, all_records, sends_own, sends_up, sends_parted, sends_state}
+use Rattle.zr_node_spec.proofs.Links.{asked_of_number}
+use Rattle.zr_node_spec.proofs.Told.{on_link-append, on_picked}
 use Rattle.zr_flood.specs.Flood.{AreOf, to_others, own_to_others, all_to}
 
 abbrev nothing : List Msg

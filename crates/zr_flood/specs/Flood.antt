@@ -7,9 +7,9 @@ use Rattle.zr_graph.specs.Record.{record_of}
 use Rattle.zr_msg.specs.declared.msg.Msg.{Msg}
 use Rattle.zr_msg.specs.declared.msg.Msg.TheVariants.{State}
 use Rattle.zr_msg.specs.declared.peer.LinkPeer.{LinkPeer}
-use Rattle.zr_routing.specs.Tables.{is_router}
-use Rattle.zr_table.specs.State.{NodeState}
-use Rattle.zr_table.specs.Event.{AreLinks}
+use Rattle.zr_node_spec.specs.Tables.{is_router}
+use Rattle.zr_node_spec.specs.State.{NodeState}
+use Rattle.zr_node_spec.specs.Event.{AreLinks}
 
 -- these are the links of a router
 pub record AreOf (node : NodeState) (links : List LinkPeer) : Type 0 where

@@ -7,9 +7,9 @@ use Rattle.zr_log.specs.Known.{nothing_known}
 use Rattle.zr_log.specs.declared.log.Log.{Log}
 use Rattle.zr_msg.specs.declared.msg.Msg.{Msg}
 use Rattle.zr_msg.specs.declared.peer.LinkPeer.{LinkPeer}
-use Rattle.zr_routing.specs.Snapshots.{snapshot}
-use Rattle.zr_routing.specs.Tables.{TableState, AreNumbered, is_own_child, leads_to_child}
-use Rattle.zr_tell.specs.Each.{to_each}
+use Rattle.zr_node_spec.specs.Snapshots.{snapshot}
+use Rattle.zr_node_spec.specs.Tables.{TableState, AreNumbered, is_own_child, leads_to_child}
+use Rattle.zr_node_spec.specs.Each.{to_each}
 
 -- the numbers of the links that a test picks, in their order
 abbrev pub picked : (LinkPeer → Bool) → List LinkPeer → List LinkNo

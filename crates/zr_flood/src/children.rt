@@ -4,12 +4,12 @@ ghost use Rattle.std.specs.Prelude.{◌≡◌, ◌++◌, ◌+◌, ◌<◌, ◌^�
 ghost use Rattle.std.specs.List.{flat_map};
 ghost use Rattle.zr_log.specs.Known.{position, is_next, is_newer};
 ghost use Rattle.zr_log.specs.Log.{Change};
-ghost use Rattle.zr_routing.specs.Changes.{changes_of, steps, sends_changes};
-ghost use Rattle.zr_routing.specs.Snapshots.{snapshot, sends_step, sends_snap, sends_snapshots};
-ghost use Rattle.zr_routing.specs.Tables.{TableState, AreNumbered, leads_to_router};
-ghost use Rattle.zr_table.specs.Event.{Tells, TellsPrefix};
-ghost use Rattle.zr_table.specs.Prefix.{IsPrefixBehind};
-ghost use Rattle.zr_tell.specs.Each.{to_each};
+ghost use Rattle.zr_node_spec.specs.Changes.{changes_of, steps, sends_changes};
+ghost use Rattle.zr_node_spec.specs.Snapshots.{snapshot, sends_step, sends_snap, sends_snapshots};
+ghost use Rattle.zr_node_spec.specs.Tables.{TableState, AreNumbered, leads_to_router};
+ghost use Rattle.zr_node_spec.specs.Event.{Tells, TellsPrefix};
+ghost use Rattle.zr_lists.specs.Prefix.{IsPrefixBehind};
+ghost use Rattle.zr_node_spec.specs.Each.{to_each};
 ghost use Rattle.zr_flood.specs.Tell.{picked, all_to_each, children_among, leads_to_own_child, leads_to_new_child, to_new_children, GoesBy, HoldsAfter};
 
 use crate::flood::is_router;
@@ -18,12 +18,12 @@ use zr_id::link::LinkNo;
 use zr_id::zid::Zid;
 use zr_local::changes::Changes;
 use zr_log::log::Log;
+use zr_log_set::decl_set::copies_of;
 use zr_msg::decl::{Decl, Decls};
 use zr_msg::msg::Msg;
 use zr_msg::peer::LinkPeer;
 use zr_msg::shared::Shared;
-use zr_set::decl_set::copies_of;
-use zr_tell::tell::{hand_out, tell_each};
+use zr_node_spec::tell::{hand_out, tell_each};
 use zr_tree::family::Family;
 
 /// After an event that changed the records: each neighbour that has become a child in a router's tree is sent what is known of that

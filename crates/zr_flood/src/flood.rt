@@ -4,11 +4,11 @@ ghost use Rattle.std.specs.Prelude.{◌≡◌, ◌==◌, ◌&&◌, ◌++◌, ◌
 ghost use Rattle.std.specs.Option.{option_copied};
 ghost use Rattle.zr_graph.specs.Base.{is_newer};
 ghost use Rattle.zr_graph.specs.Record.{record_of};
-ghost use Rattle.zr_table.specs.Event.{Tells, TellsPrefix};
-ghost use Rattle.zr_table.specs.Prefix.{IsPrefixBehind};
-ghost use Rattle.zr_routing.specs.Tables.{is_router, leads_to_router};
-ghost use Rattle.zr_table.specs.State.{NodeState};
-ghost use Rattle.zr_table.specs.Table.{joined, parted, sends_up, sends_parted, sends_state};
+ghost use Rattle.zr_node_spec.specs.Event.{Tells, TellsPrefix};
+ghost use Rattle.zr_lists.specs.Prefix.{IsPrefixBehind};
+ghost use Rattle.zr_node_spec.specs.Tables.{is_router, leads_to_router};
+ghost use Rattle.zr_node_spec.specs.State.{NodeState};
+ghost use Rattle.zr_node_spec.specs.Table.{joined, parted, sends_up, sends_parted, sends_state};
 ghost use Rattle.zr_flood.specs.Flood.{AreOf, all_to, own_to_others, to_others};
 
 use std::alloc::{AllocError, Global};
@@ -19,7 +19,7 @@ use zr_id::zid::Zid;
 use zr_msg::msg::Msg;
 use zr_msg::peer::{LinkPeer, Peer, Role};
 use zr_msg::shared::Shared;
-use zr_tell::tell::tell;
+use zr_node_spec::tell::tell;
 use zr_tree::same::find_record;
 
 /// A link to a router has come up: each record goes to it, in ascending order of the routers, and the own one to every other router.

@@ -1,9 +1,10 @@
 -- What is packed is received again. That written transport messages are read again is handed in.
-use Rattle.std.proofs.Common.{◌≡◌, ◌∙◌, ap, refl, sym, subst, ℕ, zero, suc, ◌+◌, ◌-◌, ◌%◌, ◌<◌, ◌≤◌, ◌==◌, inl, inr, Bool, true, false, cond, List, [], ◌∷◌, ◌++◌, length, take, drop, take-append-drop, length-append, append-nil, append_assoc, mod-lt, Ok, Option, Some, None, nat_le, nat_lt, arith}
+use Rattle.std.proofs.Common.{◌≡◌, ◌∙◌, ap, refl, sym, subst, ℕ, zero, suc, ◌+◌, ◌-◌, ◌%◌, ◌<◌, ◌≤◌, inl, inr, Bool, true, false, cond, List, [], ◌∷◌, ◌++◌, length, take, drop, take-append-drop, length-append, append-nil, append_assoc, mod-lt, Ok, Option, Some, None, nat_le, nat_lt, arith}
 use Rattle.std.proofs.Math.Nat.{mod_self}
 use Rattle.std.proofs.lemmas.Bool.Decides.{nat_tests}
 use Rattle.std.proofs.lemmas.List.Folds.{concat-append}
 use Rattle.std.specs.List.{AllByRecursion, concat}
+use Rattle.zr_lists.proofs.Numbers.{same_number}
 use Rattle.zr_trans.specs.Reading.{trans_of}
 use Rattle.zr_trans.specs.Writing.{writes_trans, Fits, IsNamed}
 use Rattle.zr_trans.specs.Trans.{MayStandBefore}
@@ -60,9 +61,6 @@ frame_delivers law most o vs h =
 fragment_read : ReadsAgain → (more : Bool) (n : ℕ) (piece : List ℕ) → trans_of (writes_trans (Fragment true more n piece)) ≡ Ok (Fragment true more n piece, [])
 fragment_read law more n piece =
     ap trans_of (sym (append-nil (writes_trans (Fragment true more n piece)))) ∙ law (Fragment true more n piece) [] tt tt refl
-
-same_number : (n : ℕ) → (n == n) ≡ true
-same_number n = grind (arith, nat_tests)
 
 -- the last fragment of a message
 last_delivers : ReadsAgain → (most : ℕ) (o : OutboxState) (assembly : Option (List ℕ)) (m : List ℕ) → in_turn (turn o) assembly o.next ≡ true →

@@ -5,37 +5,25 @@ use Rattle.std.specs.List.{list_any, flat_map, fold}
 use Rattle.std.specs.Option.{option_map_or}
 use Rattle.zr_id.specs.Zid.{is_named}
 use Rattle.zr_match.specs.Table.{texts_meet, texts_cover}
+use Rattle.zr_msg.specs.declared.decl.Decl.{Decl}
 use Rattle.zr_msg.specs.declared.msg.Target.{Target}
 use Rattle.zr_msg.specs.declared.msg.Target.TheVariants.{Best, All, Complete}
-use Rattle.zr_command.specs.declared.command.Act.{Act}
-use Rattle.zr_command.specs.declared.command.Act.TheVariants as a
-use Rattle.zr_network.specs.Moments.{Numbered}
+use Rattle.zr_node_spec.specs.Queries.{is_complete}
+use Rattle.zr_told_spec.specs.Place.{class_rank}
+use Rattle.zr_told_spec.specs.declared.place.Class.{Class}
+use Rattle.zr_told_spec.specs.declared.place.Class.TheVariants.{Subscriber, Queryable}
+use Rattle.zr_script_spec.specs.declared.command.Act.{Act}
+use Rattle.zr_world_spec.specs.Moments.{Numbered}
 use Rattle.zr_guarantee.specs.Item.{Item, Carried, Sample, Query}
+use Rattle.zr_guarantee.specs.Meaning.{meaning}
+pub use Rattle.zr_guarantee.specs.Meaning.{Publication}
 
 -- ---- who is attached
 
 -- whether a client is attached, once one more act was done: it is from its line on until its link is broken
 abbrev pub attached_by : List ℕ → Bool → Act → Bool
-attached_by name so_far (a.Router id) = so_far
-attached_by name so_far (a.Client id router) = so_far || is_named name id
-attached_by name so_far (a.Link one other) = so_far
-attached_by name so_far (a.Up router neighbour) = so_far
-attached_by name so_far (a.Break router neighbour) = so_far && not (is_named name neighbour)
-attached_by name so_far (a.Down router neighbour) = so_far
-attached_by name so_far (a.Sub client id key) = so_far
-attached_by name so_far (a.Unsub client id) = so_far
-attached_by name so_far (a.Able client id key complete) = so_far
-attached_by name so_far (a.Unable client id) = so_far
-attached_by name so_far (a.Interest client id mode kinds key aggregate) = so_far
-attached_by name so_far (a.Uninterest client id) = so_far
-attached_by name so_far (a.Publish client content) = so_far
-attached_by name so_far (a.Get client number target content) = so_far
-attached_by name so_far (a.Reply client number content) = so_far
-attached_by name so_far (a.End client number) = so_far
-attached_by name so_far (a.Handle router from) = so_far
-attached_by name so_far (a.Take router to) = so_far
-attached_by name so_far a.Mark = so_far
-attached_by name so_far (a.Show router) = so_far
+attached_by name so_far act =
+    option_map_or (λ x. so_far && not (is_named name x)) (meaning act).broken (option_map_or (λ x. so_far || is_named name x.0) (meaning act).client so_far)
 
 -- whether a client is attached
 abbrev pub is_attached : List Numbered → List ℕ → Bool
@@ -43,85 +31,39 @@ is_attached acts name = fold (λ so_far x. attached_by name so_far x.1) false ac
 
 -- ---- what a client has declared
 
--- what a client declares under an id of its own: it subscribes to a key expression, or it answers queries on one, and maybe all that there is
--- to be answered on it
-pub record Declaration : Type 0 where
+-- what stands under an id
+pub record Standing : Type 0 where
   pub id : ℕ
-  pub key : List ℕ
+  pub decl : Decl
 
-pub record Queryable : Type 0 where
-  pub id : ℕ
-  pub key : List ℕ
-  pub complete : Bool
+-- what is declared is the last that stands, and what is taken back stands no more
+abbrev pub stands_then : List Standing → ℕ → Option Decl → List Standing
+stands_then so_far id (Some decl) = so_far ++ record { id = id; decl = decl } ∷ []
+stands_then so_far id None = filter (λ s. not (s.id == id)) so_far
 
--- the subscriptions of a client, once one more act was done: what its lines declared less what its lines undeclared
-abbrev pub declared_by : List ℕ → List Declaration → Act → List Declaration
-declared_by name so_far (a.Router id) = so_far
-declared_by name so_far (a.Client id router) = so_far
-declared_by name so_far (a.Link one other) = so_far
-declared_by name so_far (a.Up router neighbour) = so_far
-declared_by name so_far (a.Break router neighbour) = so_far
-declared_by name so_far (a.Down router neighbour) = so_far
-declared_by name so_far (a.Sub client id key) = if is_named name client then so_far ++ record { id = id; key = key } ∷ [] else so_far
-declared_by name so_far (a.Unsub client id) = if is_named name client then filter (λ d. not (d.id == id)) so_far else so_far
-declared_by name so_far (a.Able client id key complete) = so_far
-declared_by name so_far (a.Unable client id) = so_far
-declared_by name so_far (a.Interest client id mode kinds key aggregate) = so_far
-declared_by name so_far (a.Uninterest client id) = so_far
-declared_by name so_far (a.Publish client content) = so_far
-declared_by name so_far (a.Get client number target content) = so_far
-declared_by name so_far (a.Reply client number content) = so_far
-declared_by name so_far (a.End client number) = so_far
-declared_by name so_far (a.Handle router from) = so_far
-declared_by name so_far (a.Take router to) = so_far
-declared_by name so_far a.Mark = so_far
-declared_by name so_far (a.Show router) = so_far
+-- what a client has declared of a class, subscribers or queryables, once one more act was done
+abbrev pub standing_by : List ℕ → Class → List Standing → Act → List Standing
+standing_by name class so_far act =
+    option_map_or (λ d. if is_named name d.client && class_rank d.class == class_rank class then stands_then so_far d.id d.decl else so_far) (meaning act).declares so_far
 
--- the subscriptions of a client
-abbrev pub declarations : List Numbered → List ℕ → List Declaration
-declarations acts name = fold (λ so_far x. declared_by name so_far x.1) [] acts
+-- what a client has declared of a class
+abbrev pub standing : List Numbered → List ℕ → Class → List Standing
+standing acts name class = fold (λ so_far x. standing_by name class so_far x.1) [] acts
 
--- the queryables of a client, once one more act was done
-abbrev pub able_by : List ℕ → List Queryable → Act → List Queryable
-able_by name so_far (a.Router id) = so_far
-able_by name so_far (a.Client id router) = so_far
-able_by name so_far (a.Link one other) = so_far
-able_by name so_far (a.Up router neighbour) = so_far
-able_by name so_far (a.Break router neighbour) = so_far
-able_by name so_far (a.Down router neighbour) = so_far
-able_by name so_far (a.Sub client id key) = so_far
-able_by name so_far (a.Unsub client id) = so_far
-able_by name so_far (a.Able client id key complete) = if is_named name client then so_far ++ record { id = id; key = key; complete = complete } ∷ [] else so_far
-able_by name so_far (a.Unable client id) = if is_named name client then filter (λ d. not (d.id == id)) so_far else so_far
-able_by name so_far (a.Interest client id mode kinds key aggregate) = so_far
-able_by name so_far (a.Uninterest client id) = so_far
-able_by name so_far (a.Publish client content) = so_far
-able_by name so_far (a.Get client number target content) = so_far
-able_by name so_far (a.Reply client number content) = so_far
-able_by name so_far (a.End client number) = so_far
-able_by name so_far (a.Handle router from) = so_far
-able_by name so_far (a.Take router to) = so_far
-able_by name so_far a.Mark = so_far
-able_by name so_far (a.Show router) = so_far
-
--- the queryables of a client
-abbrev pub queryables : List Numbered → List ℕ → List Queryable
-queryables acts name = fold (λ so_far x. able_by name so_far x.1) [] acts
-
--- whether a declaration asks for the samples on a key: its expression meets the key, which is that some key is matched by both
-abbrev pub asks_for : List ℕ → Declaration → Bool
-asks_for key declaration = texts_meet declaration.key key
+-- whether a subscription asks for the samples on a key: its expression meets the key, which is that some key is matched by both
+abbrev pub asks_for : List ℕ → Decl → Bool
+asks_for key subscription = texts_meet subscription.key key
 
 -- whether a queryable can answer a query on a key: its expression meets the key; where complete ones are asked, it is complete and covers the key
-abbrev pub can_answer : Target → List ℕ → Queryable → Bool
+abbrev pub can_answer : Target → List ℕ → Decl → Bool
 can_answer Best key queryable = texts_meet queryable.key key
 can_answer All key queryable = texts_meet queryable.key key
-can_answer Complete key queryable = queryable.complete && texts_cover queryable.key key
+can_answer Complete key queryable = is_complete queryable.kind && texts_cover queryable.key key
 
 -- whether a client has declared that it takes a sample, or that it can answer a query
 abbrev pub takes : List Numbered → List ℕ → Carried → Bool
-takes acts name (Sample content) = list_any (λ d. asks_for content.key d) (declarations acts name)
-takes acts name (Query target content) = list_any (λ d. can_answer target content.key d) (queryables acts name)
+takes acts name (Sample content) = list_any (λ s. asks_for content.key s.decl) (standing acts name Subscriber)
+takes acts name (Query target content) = list_any (λ s. can_answer target content.key s.decl) (standing acts name Queryable)
 
 -- whether a sample or a query of a publisher is for a receiver: another client, attached, that takes it
 abbrev pub is_for : List Numbered → List ℕ → List ℕ → Carried → Bool
@@ -129,33 +71,9 @@ is_for acts publisher receiver carried = not (is_named publisher receiver) && (i
 
 -- ---- what is published
 
--- what an act publishes: the client that does it, and the sample or the query
-pub record Publication : Type 0 where
-  pub client : List ℕ
-  pub carried : Carried
-
 -- what an act publishes, if it publishes a sample or asks a query
 abbrev pub publication : Act → Option Publication
-publication (a.Router id) = None
-publication (a.Client id router) = None
-publication (a.Link one other) = None
-publication (a.Up router neighbour) = None
-publication (a.Break router neighbour) = None
-publication (a.Down router neighbour) = None
-publication (a.Sub client id key) = None
-publication (a.Unsub client id) = None
-publication (a.Able client id key complete) = None
-publication (a.Unable client id) = None
-publication (a.Interest client id mode kinds key aggregate) = None
-publication (a.Uninterest client id) = None
-publication (a.Publish client content) = Some (record { client = client; carried = Sample content })
-publication (a.Get client number target content) = Some (record { client = client; carried = Query target content })
-publication (a.Reply client number content) = None
-publication (a.End client number) = None
-publication (a.Handle router from) = None
-publication (a.Take router to) = None
-publication a.Mark = None
-publication (a.Show router) = None
+publication act = (meaning act).publishes
 
 -- whether an act publishes
 abbrev pub publishes : Act → Bool

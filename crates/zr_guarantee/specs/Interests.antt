@@ -1,50 +1,35 @@
 -- What clients are to be told: of what all others have declared, what each client's interests want. The lines of the script say what is declared and
 -- wanted, and the report says what each client was told: no router or table is known here.
-use Rattle.std.specs.Prelude.{◌≡◌, ℕ, ◌==◌, ◌&&◌, not, Bool, true, if◌then◌else◌, List, [], ◌∷◌, ◌++◌, map, filter, Option, Some}
+use Rattle.std.specs.Prelude.{◌≡◌, ℕ, ◌==◌, ◌&&◌, not, Bool, true, if◌then◌else◌, List, [], ◌∷◌, ◌++◌, map, filter, Option, Some, None}
 use Rattle.std.specs.List.{flat_map, fold}
+use Rattle.std.specs.Option.{option_map_or}
 use Rattle.zr_id.specs.Zid.{is_named}
 use Rattle.zr_msg.specs.declared.decl.Decl.{Decl}
-use Rattle.zr_msg.specs.declared.decl.Kind.TheVariants.{Sub, Able, Full}
 use Rattle.zr_local.specs.declared.interest.Interest.{Interest}
-use Rattle.zr_told.specs.declared.place.Place.{Place}
-use Rattle.zr_told.specs.Wanted.{want}
-use Rattle.zr_told.specs.Told.{Heard, heard}
-use Rattle.zr_command.specs.Mode.{is_future}
-use Rattle.zr_command.specs.declared.command.Act.{Act}
-use Rattle.zr_command.specs.declared.command.Act.TheVariants as a
-use Rattle.zr_command.specs.declared.report.ReportLine.{ReportLine}
-use Rattle.zr_network.specs.World.{WorldState, is_settled, is_quiet}
-use Rattle.zr_network.specs.Joined.{is_joined}
-use Rattle.zr_network.specs.Moments.{Numbered, Moment, reached}
+use Rattle.zr_told_spec.specs.declared.place.Class.TheVariants.{Subscriber, Queryable}
+use Rattle.zr_told_spec.specs.declared.place.Place.{Place}
+use Rattle.zr_told_spec.specs.Wanted.{want}
+use Rattle.zr_told_spec.specs.Told.{Heard, heard}
+use Rattle.zr_script_spec.specs.declared.command.Act.{Act}
+use Rattle.zr_script_spec.specs.declared.report.ReportLine.{ReportLine}
+use Rattle.zr_world_spec.specs.World.{WorldState, is_settled, is_quiet}
+use Rattle.zr_world_spec.specs.Joined.{is_joined}
+use Rattle.zr_world_spec.specs.Moments.{Numbered, Moment, reached}
 use Rattle.zr_guarantee.specs.Names.{clients}
-use Rattle.zr_guarantee.specs.Broker.{is_attached, declarations, queryables}
+use Rattle.zr_guarantee.specs.Meaning.{meaning}
+use Rattle.zr_guarantee.specs.Broker.{is_attached, standing}
 use Rattle.zr_guarantee.specs.Sent.{told_to}
 
 -- ---- what a client wants
 
+-- a new interest is the last of them, and one that is ended is none any more
+abbrev pub wanted_then : List Interest → ℕ → Option Interest → List Interest
+wanted_then so_far id (Some interest) = so_far ++ interest ∷ []
+wanted_then so_far id None = filter (λ i. not (i.id == id)) so_far
+
 -- the interests of a client, once one more act was done: those of its lines in what is declared later, less those that its lines ended
 abbrev pub wanted_by : List ℕ → List Interest → Act → List Interest
-wanted_by name so_far (a.Router id) = so_far
-wanted_by name so_far (a.Client id router) = so_far
-wanted_by name so_far (a.Link one other) = so_far
-wanted_by name so_far (a.Up router neighbour) = so_far
-wanted_by name so_far (a.Break router neighbour) = so_far
-wanted_by name so_far (a.Down router neighbour) = so_far
-wanted_by name so_far (a.Sub client id key) = so_far
-wanted_by name so_far (a.Unsub client id) = so_far
-wanted_by name so_far (a.Able client id key complete) = so_far
-wanted_by name so_far (a.Unable client id) = so_far
-wanted_by name so_far (a.Interest client id mode kinds key aggregate) =
-    if is_named name client && is_future mode then so_far ++ record { id = id; kinds = kinds; key = key; aggregate = aggregate } ∷ [] else so_far
-wanted_by name so_far (a.Uninterest client id) = if is_named name client then filter (λ i. not (i.id == id)) so_far else so_far
-wanted_by name so_far (a.Publish client content) = so_far
-wanted_by name so_far (a.Get client number target content) = so_far
-wanted_by name so_far (a.Reply client number content) = so_far
-wanted_by name so_far (a.End client number) = so_far
-wanted_by name so_far (a.Handle router from) = so_far
-wanted_by name so_far (a.Take router to) = so_far
-wanted_by name so_far a.Mark = so_far
-wanted_by name so_far (a.Show router) = so_far
+wanted_by name so_far act = option_map_or (λ x. if is_named name x.client then wanted_then so_far x.id x.interest else so_far) (meaning act).wants so_far
 
 -- the interests of a client
 abbrev pub interests : List Numbered → List ℕ → List Interest
@@ -54,8 +39,7 @@ interests acts name = fold (λ so_far x. wanted_by name so_far x.1) [] acts
 
 -- what a client has declared, subscriptions and queryables
 abbrev pub declared : List Numbered → List ℕ → List Decl
-declared acts name =
-    map (λ d. record { kind = Sub; key = d.key }) (declarations acts name) ++ map (λ q. record { kind = if q.complete then Full else Able; key = q.key }) (queryables acts name)
+declared acts name = map (λ s. s.decl) (standing acts name Subscriber ++ standing acts name Queryable)
 
 -- what all other attached clients have declared
 abbrev pub declared_by_others : List Numbered → List ℕ → List Decl

@@ -1,5 +1,6 @@
 pub mod Phase
 pub mod Item
+pub mod Meaning
 pub mod Names
 pub mod Broker
 pub mod Sent

@@ -5,48 +5,21 @@ use Rattle.std.specs.List.{list_any, list_all, filter_map, slice_get, count_by}
 use Rattle.std.specs.Option.{option_map_or}
 use Rattle.zr_id.specs.Zid.{is_named}
 use Rattle.zr_msg.specs.declared.content.Parts.{Parts}
-use Rattle.zr_msg.specs.declared.msg.Target.{Target}
-use Rattle.zr_command.specs.declared.command.Act.{Act}
-use Rattle.zr_command.specs.declared.command.Act.TheVariants as a
-use Rattle.zr_command.specs.declared.report.ReportLine.{ReportLine}
-use Rattle.zr_network.specs.Moments.{Numbered}
+use Rattle.zr_script_spec.specs.declared.command.Act.{Act}
+use Rattle.zr_script_spec.specs.declared.report.ReportLine.{ReportLine}
+use Rattle.zr_world_spec.specs.Moments.{Numbered}
 use Rattle.zr_guarantee.specs.Names.{clients}
 use Rattle.zr_guarantee.specs.Item.{Query, Reply}
+use Rattle.zr_guarantee.specs.Meaning.{meaning}
+pub use Rattle.zr_guarantee.specs.Meaning.{Asked, Saying}
 use Rattle.zr_guarantee.specs.Broker.{is_for}
 use Rattle.zr_guarantee.specs.Sent.{requests_to}
 
 -- ---- queries
 
--- a query that a line asks: the client that asks it, its number there, which queryables it asks, and what it is
-pub record Asked : Type 0 where
-  pub line : ℕ
-  pub client : List ℕ
-  pub number : ℕ
-  pub target : Target
-  pub content : Parts
-
 -- the query that an act of a line asks, if it asks one
 abbrev pub asked_in : ℕ → Act → Option Asked
-asked_in line (a.Router id) = None
-asked_in line (a.Client id router) = None
-asked_in line (a.Link one other) = None
-asked_in line (a.Up router neighbour) = None
-asked_in line (a.Break router neighbour) = None
-asked_in line (a.Down router neighbour) = None
-asked_in line (a.Sub client id key) = None
-asked_in line (a.Unsub client id) = None
-asked_in line (a.Able client id key complete) = None
-asked_in line (a.Unable client id) = None
-asked_in line (a.Interest client id mode kinds key aggregate) = None
-asked_in line (a.Uninterest client id) = None
-asked_in line (a.Publish client content) = None
-asked_in line (a.Get client number target content) = Some (record { line = line; client = client; number = number; target = target; content = content })
-asked_in line (a.Reply client number content) = None
-asked_in line (a.End client number) = None
-asked_in line (a.Handle router from) = None
-asked_in line (a.Take router to) = None
-asked_in line a.Mark = None
-asked_in line (a.Show router) = None
+asked_in line act = (meaning act).asks line
 
 -- the queries of some acts
 abbrev pub queries : List Numbered → List Asked
@@ -71,35 +44,9 @@ asks acts q client = is_for acts q.client client (Query q.target q.content)
 
 -- ---- what clients say to their requests
 
--- what a client says to the request that it was sent under a number: a reply, or none where it ends the request
-pub record Saying : Type 0 where
-  pub line : ℕ
-  pub client : List ℕ
-  pub number : ℕ
-  pub reply : Option Parts
-
 -- what an act of a line says to a request, if it says something
 abbrev pub saying_in : ℕ → Act → Option Saying
-saying_in line (a.Router id) = None
-saying_in line (a.Client id router) = None
-saying_in line (a.Link one other) = None
-saying_in line (a.Up router neighbour) = None
-saying_in line (a.Break router neighbour) = None
-saying_in line (a.Down router neighbour) = None
-saying_in line (a.Sub client id key) = None
-saying_in line (a.Unsub client id) = None
-saying_in line (a.Able client id key complete) = None
-saying_in line (a.Unable client id) = None
-saying_in line (a.Interest client id mode kinds key aggregate) = None
-saying_in line (a.Uninterest client id) = None
-saying_in line (a.Publish client content) = None
-saying_in line (a.Get client number target content) = None
-saying_in line (a.Reply client number content) = Some (record { line = line; client = client; number = number; reply = Some content })
-saying_in line (a.End client number) = Some (record { line = line; client = client; number = number; reply = None })
-saying_in line (a.Handle router from) = None
-saying_in line (a.Take router to) = None
-saying_in line a.Mark = None
-saying_in line (a.Show router) = None
+saying_in line act = (meaning act).says line
 
 -- all that clients say
 abbrev pub sayings : List Numbered → List Saying

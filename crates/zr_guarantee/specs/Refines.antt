@@ -1,11 +1,11 @@
 -- The network refines one broker: from each accepted mark on, at each moment of its phase.
 use Rattle.std.specs.Prelude.{◌≡◌, ℕ, ◌≤◌, suc, length, ◌==◌, ◌||◌, nat_lt, nat_le, Bool, true, false, List, [], ◌∷◌, ◌++◌, filter, Some}
 use Rattle.std.specs.List.{list_any, list_all, AllByRecursion}
-use Rattle.zr_command.specs.declared.command.Act.TheVariants.{Mark}
-use Rattle.zr_command.specs.declared.report.ReportLine.{ReportLine}
-use Rattle.zr_table.specs.Prefix.{IsPrefixOf}
-use Rattle.zr_network.specs.World.{is_quiet}
-use Rattle.zr_network.specs.Moments.{Numbered, ascends, Moment, reached}
+use Rattle.zr_script_spec.specs.declared.command.Act.TheVariants.{Mark}
+use Rattle.zr_script_spec.specs.declared.report.ReportLine.{ReportLine}
+use Rattle.zr_lists.specs.Prefix.{IsPrefixOf}
+use Rattle.zr_world_spec.specs.World.{is_quiet}
+use Rattle.zr_world_spec.specs.Moments.{Numbered, ascends, Moment, reached}
 use Rattle.zr_guarantee.specs.Phase.{is_phase}
 use Rattle.zr_guarantee.specs.Names.{is_router}
 use Rattle.zr_guarantee.specs.Item.{Item, Reply}

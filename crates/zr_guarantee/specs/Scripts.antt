@@ -1,8 +1,8 @@
 -- The guarantee, of scripts: it holds at each moment of each phase of their accepted acts.
 use Rattle.std.specs.Prelude.{◌≡◌, ℕ, true, List, ◌∷◌, ◌++◌, Some}
-use Rattle.zr_command.specs.declared.command.Act.TheVariants.{Mark}
-use Rattle.zr_network.specs.Moments.{Numbered, Moment, reached}
-use Rattle.zr_network.specs.Accepted.{accepted}
+use Rattle.zr_script_spec.specs.declared.command.Act.TheVariants.{Mark}
+use Rattle.zr_world_spec.specs.Moments.{Numbered, Moment, reached}
+use Rattle.zr_world_spec.specs.Accepted.{accepted}
 use Rattle.zr_guarantee.specs.Phase.{is_phase}
 use Rattle.zr_guarantee.specs.Refines.{Refines}
 use Rattle.zr_guarantee.specs.Interests.{AreTold, is_at_rest}

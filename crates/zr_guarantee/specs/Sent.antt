@@ -4,8 +4,8 @@ use Rattle.std.specs.List.{flat_map, count_by, filter_map}
 use Rattle.zr_id.specs.Zid.{is_named}
 use Rattle.zr_msg.specs.declared.msg.Msg.{Msg}
 use Rattle.zr_msg.specs.declared.msg.Msg.TheVariants.{Sub, Unsub, Able, Unable, Interest, EndInterest, ToldSub, ToldAble, ToldUnsub, ToldUnable, ToldEnd, Push, Request, Response, Final, State, Step, Snap}
-use Rattle.zr_command.specs.declared.report.ReportLine.{ReportLine}
-use Rattle.zr_command.specs.declared.report.ReportLine.TheVariants as r
+use Rattle.zr_script_spec.specs.declared.report.ReportLine.{ReportLine}
+use Rattle.zr_script_spec.specs.declared.report.ReportLine.TheVariants as r
 use Rattle.zr_guarantee.specs.Item.{Item, Carried, Sample, Query, Reply}
 
 -- ---- samples and requests

@@ -10,10 +10,11 @@ use lib.ListN.{get_elem?, length-map}
 use Rattle.std.specs.Prelude.{nat_le}
 use Rattle.atomic_table.specs.Table.{State, Me, step, keeps, stepped, Allows, Splits, Joins, opening, Final, Seen}
 use Rattle.atomic_table.proofs.Lists.{at_set}
+use Rattle.zr_lists.proofs.Prefixes.{prefix_self}
 use Rattle.zr_hist.specs.declared.rule.View.{View}
 use Rattle.zr_hist.specs.Rule.{IsSublist, entries, made_by, no_view, kept_view, pass_view, appending_view, joining_view, longer, Fits, IsOneList, appended, looked, looked_beside, compared}
-use Rattle.zr_seats.proofs.Views.{at_below, seats_set, seats_more}
-use Rattle.zr_hist.proofs.Lists.{prefix_self, prefix_nil, prefix_more, prefix_shorter, own_entry, others_entry, entries_last, made_by_sublist}
+use Rattle.zr_hist.proofs.Views.{at_below, seats_set, seats_more}
+use Rattle.zr_hist.proofs.Lists.{prefix_nil, prefix_more, prefix_shorter, own_entry, others_entry, entries_last, made_by_sublist}
 
 abbrev St : Type 0 → Type 0
 St E = State E (View E)

@@ -4,10 +4,6 @@ use mathlib.Core.List.{IsPrefix, map-append}
 use Rattle.std.specs.Prelude.{if◌then◌else◌}
 use Rattle.zr_hist.specs.Rule.{entries, made_by, IsSublist}
 
-pub prefix_self : {A : Type 0} (xs : List A) → IsPrefix xs xs
-prefix_self [] = ([], refl)
-prefix_self (x ∷ xs) = (let r = prefix_self xs in r.0, ap (λ ys. x ∷ ys) (prefix_self xs).1)
-
 pub prefix_nil : {A : Type 0} (xs : List A) → IsPrefix [] xs
 prefix_nil xs = (xs, refl)
 

@@ -7,7 +7,7 @@ ghost use Rattle.zr_key.specs.Expression.{Chunk, piece_text, spelled};
 ghost use Rattle.zr_key.specs.Key.{expression_of, canonical, lined, ordered, settled, chunk_of, single, pieces_of};
 
 use std::alloc::{AllocError, Global};
-use zr_text::cut;
+use zr_lists::cut;
 
 /// The text of the canonical form.
 pub fn canonical_text(alloc: Global, text: &[u8]) -> Result<Vec<u8>, AllocError>

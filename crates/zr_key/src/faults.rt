@@ -5,7 +5,7 @@ ghost use Rattle.std.specs.List.{list_any};
 ghost use Rattle.zr_key.specs.Key.{fault_of, first_fault, chunks, has_good_stars, is_paired, begins_at};
 
 use crate::key::KeyError;
-use zr_text::cut;
+use zr_lists::cut;
 
 /// What is wrong with the first faulty chunk from the left.
 pub fn fault(text: &[u8]) -> Option<KeyError>

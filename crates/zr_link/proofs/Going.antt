@@ -1,21 +1,25 @@
 -- Messages that are delivered on a link, and how the reader of a link that is up ends.
-use Rattle.std.proofs.Common.{◌≡◌, ◌≢◌, ◌⊎◌, ℕ, ◌+◌, ◌≤◌, min, ltb, arith, Bool, true, false, List, [], ◌∷◌, ◌++◌, map, Option, refl, sym, ap, subst, ◌∙◌, append_assoc, inl, inr}
+use Rattle.std.proofs.Common.{◌≡◌, ◌≢◌, ◌⊎◌, ℕ, ◌+◌, ◌<◌, ◌≤◌, min, ltb, arith, length, Bool, true, false, List, [], ◌∷◌, ◌++◌, map, Option, None, refl, sym, ap, subst, ◌∙◌, append_assoc, inl, inr}
 use Rattle.std.proofs.lemmas.List.{append-nil, map-append}
 use Rattle.std.proofs.lemmas.Bool.{ltb-true, ltb-false}
 use mathlib.Core.List.{IsPrefix}
+use Rattle.std.specs.List.{AllByRecursion}
+use Rattle.zr_lists.proofs.Prefixes.{prefix_trans, prefix_self}
 use Rattle.zr_id.specs.declared.link.LinkNo.{LinkNo}
 use Rattle.zr_frame.specs.Outbox.{OutboxState}
 use Rattle.zr_msg.specs.declared.event.Event.{Event}
+use Rattle.zr_msg.specs.declared.event.Event.TheVariants.{From}
 use Rattle.zr_msg.specs.declared.msg.Msg.{Msg}
 use Rattle.zr_msg.specs.declared.error.NodeError.TheVariants as node
 use Rattle.zr_open.specs.declared.expected.Expected.{Expected}
 use Rattle.zr_open.specs.declared.error.Reason.{Reason}
 use Rattle.zr_outside.specs.Counts.{Counted, RoseBy}
-use Rattle.zr_hist.proofs.Lists.{prefix_self}
+use Rattle.zr_hist.specs.declared.pass.Pass.{Pass}
+use Rattle.zr_hist.specs.Words.{mine}
 use Rattle.zr_port.specs.declared.entry.Entry.{Entry}
 use Rattle.zr_port.specs.declared.error.DeliverError.{DeliverError}
 use Rattle.zr_port.specs.declared.error.DeliverError.TheVariants as deliver
-use Rattle.zr_port.specs.Adding.{IsEntryOf}
+use Rattle.zr_port.specs.Adding.{AddsAll, DeliversUpTo, IsEntryOf, StopsAt}
 use Rattle.zr_session.specs.declared.event.SessionEvent.{SessionEvent}
 use Rattle.zr_session.specs.declared.event.SessionEvent.TheVariants.{Opened, Message}
 use Rattle.zr_session.specs.declared.fate.Fate.{Fate}
@@ -33,9 +37,6 @@ use Rattle.zr_link.specs.Heard.{AreMessages, messages, Between, Hears, HearsSome
 use Rattle.zr_link.specs.Run.{Delivers, Stops, Refuses, UpEnds, EndIs, Follows}
 use Rattle.zr_link.proofs.Stream.{are_bytes_then}
 use Rattle.zr_link.proofs.Hearing.{Leads, leads_self, leads_then, heard_still, hears_then, hears_some_then, runs_at, comes_at}
-
-pub prefix_trans : {X : Type 0} (xs ys zs : List X) → IsPrefix xs ys → IsPrefix ys zs → IsPrefix xs zs
-prefix_trans xs ys zs a b = (a.0 ++ b.0, sym (append_assoc xs a.0 b.0) ∙ ap (λ l. l ++ b.0) a.1 ∙ b.1)
 
 -- ---- acts
 
@@ -77,13 +78,55 @@ open_messages (Established s) (Established t) es h k = (k, tt)
 pub delivers_none : (link : LinkNo) (events : List SessionEvent) (a : List Entry) → Delivers link events events a a
 delivers_none link events a = record { msgs = []; are = refl; does = does_none a }
 
-pub delivers_step : (link : LinkNo) (events rest next : List SessionEvent) (m : Msg) (a b c : List Entry) → Delivers link events rest a b → rest ≡ Message m ∷ next
-    → Does (from link m ∷ []) b c → Delivers link events next a c
-delivers_step link events rest next m a b c d e k = record {
-  msgs = d.msgs ++ m ∷ [];
-  are = d.are ∙ ap (λ z. messages d.msgs ++ z) e ∙ sym (ap (λ z. z ++ next) (map-append (λ x. Message x) d.msgs (m ∷ [])) ∙ append_assoc (messages d.msgs) (Message m ∷ []) next);
-  does = subst (λ z. Does z a c) (sym (map-append (λ x. from link x) d.msgs (m ∷ []))) (does_then (froms link d.msgs) (from link m ∷ []) a b c d.does k);
-}
+-- ---- what a port tells of messages, as it is of their events
+
+pub messages_more : (rest next : List SessionEvent) (ms : List Msg) (m : Msg) → rest ≡ Message m ∷ next → messages ms ++ rest ≡ messages (ms ++ m ∷ []) ++ next
+messages_more rest next ms m is =
+    ap (λ z. messages ms ++ z) is ∙ sym (ap (λ z. z ++ next) (map-append (λ x. Message x) ms (m ∷ [])) ∙ append_assoc (messages ms) (Message m ∷ []) next)
+
+pub spelled_more : (ms : List Msg) (m : Msg) → AllByRecursion IsSpelled ms → IsSpelled m → AllByRecursion IsSpelled (ms ++ m ∷ [])
+spelled_more [] m h s = (s, tt)
+spelled_more (x ∷ ms) m h s = (h.0, spelled_more ms m h.1 s)
+
+-- before the first one
+pub none_yet : (events : List SessionEvent) (ms : List Msg) → ms ≡ [] → events ≡ messages ms ++ events
+none_yet events ms is = ap (λ z. messages z ++ events) (sym is)
+
+pub none_spelled : (ms : List Msg) → ms ≡ [] → AllByRecursion IsSpelled ms
+none_spelled ms is = subst (AllByRecursion IsSpelled) (sym is) tt
+
+-- behind the last one
+pub all_messages : (events rest : List SessionEvent) (ms : List Msg) → events ≡ messages ms ++ rest → rest ≡ [] → events ≡ messages ms
+all_messages events rest ms is none = is ∙ ap (λ z. messages ms ++ z) none ∙ append-nil (messages ms)
+
+pub some_left : (events : List SessionEvent) (count : ℕ) → 0 < count → count ≡ length events → events ≢ []
+some_left [] count lt is e = absurd (omega (arith, lt, is))
+some_left (x ∷ events) count lt is e = absurd cc
+
+module _ (refuses : List Entry → Msg → DeliverError → Type 0) (link : LinkNo) where
+  does_all : (ms : List Msg) (a b : Pass Entry) → AddsAll refuses link ms a b → Does (froms link ms) (mine a) (mine b)
+  does_all [] a b d = ([], d.0 ∙ sym (append-nil (mine a)), refl)
+  does_all (m ∷ ms) a b d =
+      does_then (from link m ∷ []) (froms link ms) (mine a) (mine d.0) (mine b)
+      (does_entry (mine a) (mine d.0) d.1.entry (From link m) None None d.1.own d.1.says.0) (does_all ms d.0 b d.2)
+
+  pub delivers_of : (events : List SessionEvent) (ms rest : List Msg) (a b : Pass Entry) → events ≡ messages ms → DeliversUpTo refuses link ms rest a b
+      → Delivers link events (messages rest) (mine a) (mine b)
+  delivers_of events ms rest a b is d = record {
+    msgs = d.msgs;
+    are = is ∙ ap messages d.are ∙ map-append (λ x. Message x) d.msgs rest;
+    does = does_all d.msgs a b d.adds;
+  }
+
+pub stops_of : (refuses : Msg → DeliverError → Type 0) (rest : List Msg) (error : DeliverError) (e : LinkEnd) → e ≡ end_of_delivery error → StopsAt refuses rest error
+    → Stops refuses (messages rest) e
+stops_of refuses rest error e is s = record { msg = s.msg; others = messages s.others; error = error; first = ap messages s.first; refused = s.refused; ends = is }
+
+-- memory ran out before the first of them was delivered
+pub stops_memory : (P : Msg → Type 0) (refuses : Msg → DeliverError → Type 0) (events : List SessionEvent) → AreMessages P events → events ≢ [] → Stops refuses events end.NoMemory
+stops_memory P refuses [] are some = absurd (some refl)
+stops_memory P refuses (Opened peer outbox ∷ es) are some = absurd are
+stops_memory P refuses (Message m ∷ es) are some = record { msg = m; others = es; error = deliver.NoMemory; first = refl; refused = λ ne. absurd (ne refl); ends = refl }
 
 pub froms_then : (link : LinkNo) (ms ns : List Msg) (a b c : List Entry) → Does (froms link ms) a b → Does (froms link ns) b c → Does (froms link (ms ++ ns)) a c
 froms_then link ms ns a b c h k = subst (λ z. Does z a c) (sym (map-append (λ x. from link x) ms ns)) (does_then (froms link ms) (froms link ns) a b c h k)

@@ -6,7 +6,7 @@ use Rattle.zr_frame.specs.Outbox.{OutboxState}
 use Rattle.zr_msg.specs.declared.msg.Msg.{Msg}
 use Rattle.zr_msg.specs.declared.peer.Peer.{Peer}
 use Rattle.zr_open.specs.declared.error.Reason.{Reason}
-use Rattle.zr_crew.specs.Told.{with_last}
+use Rattle.zr_outside_crew.specs.Told.{with_last}
 use Rattle.zr_hist.specs.declared.pass.Pass.{Pass}
 use Rattle.zr_hist.specs.Words.{seen, mine}
 use Rattle.zr_port.specs.declared.entry.Entry.{Entry}

@@ -1,6 +1,7 @@
 //! A link that is up: what comes is delivered.
 
-ghost use Rattle.std.specs.Prelude.{◌≡◌, ◌≤◌, ◌⊎◌, List, [], true, IfErr, OnOk};
+ghost use Rattle.std.specs.Prelude.{◌≡◌, ◌≢◌, ◌<◌, ◌≤◌, ◌⊎◌, List, [], true, IfErr, IfOk, OnErr, OnOk, vec_capacity};
+ghost use Rattle.std.specs.List.{AllByRecursion};
 ghost use mathlib.Core.List.{IsPrefix};
 ghost use Rattle.std.specs.Vec.Iter.{into_iter_items};
 ghost use Rattle.zr_outside.specs.Counts.{Counted, RoseBy};
@@ -12,16 +13,18 @@ ghost use Rattle.zr_session.specs.Session.{is_running};
 ghost use Rattle.zr_wire.specs.Writing.{IsSpelled};
 ghost use Rattle.zr_link.specs.declared.end.LinkEnd.TheVariants as end;
 ghost use Rattle.zr_link.specs.Heard.{AreMessages, IsLate, IsOpen, IsIn};
+ghost use Rattle.zr_link.specs.Heard as heard;
 ghost use Rattle.zr_link.specs.Acts.{Does, froms};
 ghost use Rattle.zr_link.specs.Run.{Delivers, Stops, EndIs, Follows};
 
 use crate::end::LinkEnd;
 use crate::intake::Intake;
 use crate::opening::ended;
-use std::alloc::Global;
+use std::alloc::{AllocError, Global};
 use std::vec;
 use zr_hist::Pass;
 use zr_id::link::LinkNo;
+use zr_msg::msg::Msg;
 use zr_outside::clock::Clock;
 use zr_outside::source::Source;
 use zr_port::{Entry, Port};
@@ -55,7 +58,7 @@ pub(crate) fn go_on<S: Source, P: Port, C: Clock>(
             Err(end) => return end,
         };
         let events = intake.take_events(alloc).into_iter();
-        if let Err(end) = settle(port, pass, link, events, fate) {
+        if let Err(end) = settle(alloc, port, pass, link, events, fate) {
             return end;
         }
     }
@@ -64,6 +67,7 @@ pub(crate) fn go_on<S: Source, P: Port, C: Clock>(
 
 /// Delivers these messages, and tells the end where the session has come to it.
 pub(crate) fn settle<P: Port>(
+    alloc: Global,
     port: &P,
     pass: &mut Pass<Entry>,
     link: LinkNo,
@@ -77,39 +81,64 @@ pub(crate) fn settle<P: Port>(
     ensures ok { OnOk result ((fate ≡ fates.Going) × Delivers link (into_iter_items messages) [] (mine pass.old) (mine pass.new)) }
     ensures err { IfErr result (λ e. (rest : List SessionEvent) × Delivers link (into_iter_items messages) rest (mine pass.old) (mine pass.new) × (Stops (λ m x. P.refuses_message port.now (seen pass.new) link m x) rest e ⊎ ((rest ≡ []) × EndIs fate e))) }
 {
-    match deliver_all(port, pass, link, messages) {
+    match deliver_all(alloc, port, pass, link, messages) {
         Ok(()) => ended(fate),
         Err(end) => Err(end),
     }
 }
 
-// Delivers these messages, in order.
+// Delivers the messages of these events, in order.
 fn deliver_all<P: Port>(
+    alloc: Global,
     port: &P,
     pass: &mut Pass<Entry>,
     link: LinkNo,
-    messages: vec::IntoIter<SessionEvent>,
+    events: vec::IntoIter<SessionEvent>,
 ) -> Result<(), LinkEnd>
     requires pass { pass_name pass.old ≡ P.history port.now }
-    requires messages { AreMessages IsSpelled (into_iter_items messages) }
+    requires messages { AreMessages IsSpelled (into_iter_items events) }
     ensures same { IsSamePass pass.old pass.new }
     ensures prefix { IsPrefix (seen pass.old) (seen pass.new) }
-    ensures all { OnOk result (Delivers link (into_iter_items messages) [] (mine pass.old) (mine pass.new)) }
-    ensures stopped { IfErr result (λ e. (rest : List SessionEvent) × Delivers link (into_iter_items messages) rest (mine pass.old) (mine pass.new) × Stops (λ m x. P.refuses_message port.now (seen pass.new) link m x) rest e) }
+    ensures all { OnOk result (Delivers link (into_iter_items events) [] (mine pass.old) (mine pass.new)) }
+    ensures stopped { IfErr result (λ e. (rest : List SessionEvent) × Delivers link (into_iter_items events) rest (mine pass.old) (mine pass.new) × Stops (λ m x. P.refuses_message port.now (seen pass.new) link m x) rest e) }
 {
-    let mut rest = messages;
+    let Ok(messages) = messages_of(alloc, events) else {
+        return Err(LinkEnd::NoMemory);
+    };
+    if let Err(e) = port.deliver_all(pass, link, messages) {
+        return Err(LinkEnd::of_delivery(e));
+    }
+    Ok(())
+}
+
+// The messages of these events. Where there are none it takes no memory.
+#[tactic(auto, using(crate::proofs::Going::none_yet, crate::proofs::Going::none_spelled, crate::proofs::Going::all_messages, crate::proofs::Going::some_left))]
+fn messages_of(alloc: Global, events: vec::IntoIter<SessionEvent>) -> Result<Vec<Msg>, AllocError>
+    requires { AreMessages IsSpelled (into_iter_items events) }
+    ensures are { IfOk result (λ m. into_iter_items events ≡ heard.messages m.items) }
+    ensures spelled { IfOk result (λ m. AllByRecursion IsSpelled m.items) }
+    ensures some { OnErr result (into_iter_items events ≢ []) }
+{
+    let mut rest = events;
+    let mut messages = room_for(alloc, rest.len())?;
     while let Some(event) = rest.next() {
         match event {
-            SessionEvent::Message(msg) => {
-                if let Err(e) = port.deliver(pass, link, msg) {
-                    drop(rest);
-                    return Err(LinkEnd::of_delivery(e));
-                }
-            }
+            SessionEvent::Message(msg) => messages.push_reserved(msg),
             // a session opens once
             SessionEvent::Opened(_, _) => unreachable!(),
         }
     }
     rest.destroy_empty();
-    Ok(())
+    Ok(messages)
+}
+
+// Room for so many messages.
+fn room_for(alloc: Global, count: usize) -> Result<Vec<Msg>, AllocError>
+    ensures room { IfOk result (λ m. (m.items ≡ []) × (count ≤ vec_capacity m)) }
+    ensures some { OnErr result (0 < count) }
+{
+    if count == 0 {
+        return Ok(Vec::new(alloc));
+    }
+    Vec::with_capacity(alloc, count)
 }

@@ -7,8 +7,8 @@ ghost use Rattle.std.specs.Vec.Iter.{into_iter_items};
 ghost use Rattle.zr_outside.specs.Counts.{Counted, Rose, RoseBy};
 ghost use Rattle.zr_msg.specs.declared.msg.Msg.{Msg};
 ghost use Rattle.zr_hist.specs.Words.{pass_name, IsSamePass, seen, mine};
-ghost use Rattle.zr_crew.specs.Crew.{crew_faults, crew_told};
-ghost use Rattle.zr_crew.specs.Told.{with_last};
+ghost use Rattle.zr_outside_crew.specs.Crew.{crew_faults, crew_told};
+ghost use Rattle.zr_outside_crew.specs.Told.{with_last};
 ghost use Rattle.zr_session.specs.declared.fate.Fate.TheVariants as fates;
 ghost use Rattle.zr_session.specs.Session.{is_running, with_confirmed, owed_bytes};
 ghost use Rattle.zr_wire.specs.Writing.{IsSpelled};
@@ -16,7 +16,7 @@ ghost use Rattle.zr_link.specs.declared.end.LinkEnd.TheVariants as end;
 ghost use Rattle.zr_link.specs.Acts.{Act, Does, froms};
 ghost use Rattle.zr_link.specs.Heard.{IsBegun, IsLate, IsOpen, IsIn, AreMessages};
 ghost use Rattle.zr_link.specs.Written.{IsWritten, Puts, Wrote, close_with};
-ghost use Rattle.zr_writer.specs.Parts.{close_bytes};
+ghost use Rattle.zr_link_writer.specs.Parts.{close_bytes};
 ghost use Rattle.zr_link.specs.Run.{Follows, Enters, Runs, Starts, GoesDown};
 ghost use Rattle.zr_link.specs.declared.log.Stage.TheVariants as stages;
 ghost use Rattle.zr_link.specs.Log.{IsLogged, stage_of};
@@ -33,19 +33,19 @@ use std::alloc::Global;
 use std::sync::Arc;
 use std::thread::Threads;
 use std::vec;
-use zr_crew::Crew;
 use zr_hist::Pass;
 use zr_id::link::LinkNo;
+use zr_link_writer::close_batch;
 use zr_msg::peer::Peer;
 use zr_open::Reason;
 use zr_outside::clock::Clock;
 use zr_outside::log::Log;
 use zr_outside::sink::{Sink, write_all};
 use zr_outside::source::Source;
+use zr_outside_crew::Crew;
 use zr_port::{Entry, Port};
 use zr_ring::Taker;
 use zr_session::{Fate, Session, SessionEvent};
-use zr_writer::close_batch;
 
 /// The reader of a link.
 pub struct Reader;
@@ -246,7 +246,7 @@ fn follow<S: Source, P: Port, C: Clock>(
     ensures turns { result ≡ end.Turns → RoseBy turns (S.reads source.old) (S.reads source.new) }
     ensures later { (S.quiets source.old ≤ S.quiets source.new) × (C.last clock.old ≤ C.last clock.new) }
 {
-    match settle(port, pass, link, waiting, fate) {
+    match settle(alloc, port, pass, link, waiting, fate) {
         Ok(()) => go_on(alloc, intake, source, clock, port, pass, link, turns),
         Err(end) => end,
     }

@@ -6,9 +6,9 @@ use Rattle.std.proofs.lemmas.List.Kept.{IsStrictlySortedBy-filter}
 use Rattle.std.proofs.lemmas.List.Sums.{sum_by-cons}
 use Rattle.zr_msg.specs.Decl.{decl_cmp}
 use Rattle.zr_msg.specs.declared.decl.Decl.{Decl}
-use Rattle.zr_set.specs.Decls.{is_decl, IsSet, has}
-use Rattle.zr_set.proofs.Decls.{decl_order, sets_same, set_none, set_all, has_all}
-use Rattle.zr_set.proofs.Order.{is_same, is_itself}
+use Rattle.zr_log_set.specs.Decls.{is_decl, IsSet, has}
+use Rattle.zr_log_set.proofs.Decls.{decl_order, sets_same, set_none, set_all, has_all}
+use Rattle.zr_lists.proofs.Order.{is_same, is_itself}
 use Rattle.zr_local.specs.declared.row.Row.{Row}
 use Rattle.zr_local.specs.declared.owners.Owned.{Owned}
 use Rattle.zr_local.specs.Rows.{decls_of, declared_set, gone, came}

@@ -6,12 +6,12 @@ use Rattle.std.proofs.lemmas.Bool.{ltb-false}
 use Rattle.std.proofs.lemmas.Option.{slice_get-get_or}
 use Rattle.zr_msg.specs.Decl.{decl_cmp}
 use Rattle.zr_msg.specs.declared.decl.Decl.{Decl}
-use Rattle.zr_set.specs.Ascending.{IsAscending, at_key, put, without}
-use Rattle.zr_set.specs.Decls.{is_decl}
-use Rattle.zr_set.specs.Place.{IsAt, IsGap}
-use Rattle.zr_set.proofs.Decls.{decl_order}
-use Rattle.zr_set.proofs.Order.{is_same}
-use Rattle.zr_set.proofs.Puts.{ascending_put, ascending_without, at-put, at-without, put_at, put_in, removed_at}
+use Rattle.zr_lists.specs.Ascending.{IsAscending, at_key, put, without}
+use Rattle.zr_log_set.specs.Decls.{is_decl}
+use Rattle.zr_lists.specs.Place.{IsAt, IsGap}
+use Rattle.zr_log_set.proofs.Decls.{decl_order}
+use Rattle.zr_lists.proofs.Order.{is_same}
+use Rattle.zr_lists.proofs.Puts.{ascending_put, ascending_without, at-put, at-without, put_at, put_in, removed_at}
 use Rattle.zr_local.specs.declared.owners.Owned.{Owned}
 use Rattle.zr_local.specs.Owners.{owned_decl, count_of, once_more, once_less, one}
 

@@ -2,8 +2,8 @@
 use Rattle.std.proofs.Common.{◌≡◌, List, [], ◌∷◌, Bool, true, false, ◌&&◌, ◌||◌, not, nat_lt, refl, ◌∙◌}
 use Rattle.std.specs.List.{fold}
 use Rattle.zr_msg.specs.declared.decl.Decl.{Decl}
-use Rattle.zr_set.specs.Decls.{is_decl, IsSet, has, with_decl, without_decl}
-use Rattle.zr_set.proofs.Decls.{sets_same, set_from, set_without, set_all, has_from, has_less, has_all}
+use Rattle.zr_log_set.specs.Decls.{is_decl, IsSet, has, with_decl, without_decl}
+use Rattle.zr_log_set.proofs.Decls.{sets_same, set_from, set_without, set_all, has_from, has_less, has_all}
 use Rattle.zr_local.specs.declared.row.Row.{Row}
 use Rattle.zr_local.specs.Rows.{decls_of, declared_set, gone, came}
 use Rattle.zr_local.specs.Owners.{rows_with}

@@ -6,8 +6,8 @@ use Rattle.std.proofs.lemmas.List.Filters.{sum_by-filter_both}
 use Rattle.std.proofs.lemmas.List.Kept.{IsStrictlySortedBy-filter}
 use Rattle.std.proofs.lemmas.List.Sums.{sum_by-cons}
 use Rattle.zr_msg.specs.declared.decl.Decl.{Decl}
-use Rattle.zr_set.specs.Decls.{is_decl, decl_weight}
-use Rattle.zr_set.proofs.Decls.{sets_same, set_none, set_all, has_all}
+use Rattle.zr_log_set.specs.Decls.{is_decl, decl_weight}
+use Rattle.zr_log_set.proofs.Decls.{sets_same, set_none, set_all, has_all}
 use Rattle.zr_local.specs.declared.row.Row.{Row}
 use Rattle.zr_local.specs.declared.owners.Owned.{Owned}
 use Rattle.zr_local.specs.Rows.{key_cmp, row_key, left, decls_of, declared_set, gone, came, weight_of}

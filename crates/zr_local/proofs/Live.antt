@@ -1,19 +1,16 @@
 -- What clients' interests are, and what they weigh, once one is kept or forgotten at its place.
 use Rattle.std.proofs.Common.{◌≡◌, ℕ, ◌+◌, not, Bool, true, false, cond, List, [], ◌∷◌, Ordering, Less, Equal, Greater, Option, Result, Ok, Err, OnOk, OnErr, get_or, set, refl, sym, ap, ◌∙◌, arith, rules}
-use Rattle.std.specs.Cmp.{IsTotalOrder}
-use Rattle.std.specs.Cmp.Rules.{comparing}
 use Rattle.std.specs.List.{insert, sum_by}
 use Rattle.std.specs.List.Sorted.{IsStrictlySortedBy}
 use Rattle.std.specs.Option.{option_map_or}
 use Rattle.std.specs.Ordering.{nat_cmp, is_eq, is_lt}
 use Rattle.std.proofs.lemmas.List.Sums.{sum_by-append, sum_by-cons, sum_by-remove}
-use Rattle.std.proofs.lemmas.Map.Lookups.{exact_unsigned}
 use Rattle.std.proofs.lemmas.Option.{slice_get-get_or}
 use Rattle.zr_id.specs.declared.link.LinkNo.{LinkNo}
-use Rattle.zr_set.specs.Ascending.{before_key, behind_key, has_key, put, without}
-use Rattle.zr_set.specs.Place.{IsAt, IsGap}
-use Rattle.zr_set.proofs.Order.{IsExactOrder, comes, comes_back, not_before_itself}
-use Rattle.zr_set.proofs.Puts.{ascending_put, put_at, put_in, removed_at, place_has}
+use Rattle.zr_lists.specs.Ascending.{before_key, behind_key, has_key, put, without}
+use Rattle.zr_lists.specs.Place.{IsAt, IsGap}
+use Rattle.zr_lists.proofs.Order.{IsExactOrder, comes, comes_back, not_before_itself, nat_order}
+use Rattle.zr_lists.proofs.Puts.{ascending_put, put_at, put_in, removed_at, place_has}
 use Rattle.zr_local.specs.Clients.{AreByLink, client_link, interests_on, with_interests, kept, forgotten, clients_left, client_weight, clients_weight, weight_but}
 use Rattle.zr_local.specs.Interests.{AreById, interest_id, interest_weight, interests_weight}
 use Rattle.zr_local.specs.declared.interest.ClientInterests.{ClientInterests}
@@ -47,12 +44,6 @@ module _ {X K : Type 0} (cmp : K → K → Ordering) (key : X → K) (o : IsExac
 
   pub others_weigh : (xs : List X) (k : K) (i : ℕ) (d : X) → IsAt cmp key xs k i → sum_by f (without cmp key xs k) + f (get_or xs i d) ≡ sum_by f xs
   others_weigh xs k i d h = rw (← removed_at cmp key o xs k i h) (sum_by-remove f xs i d h.within)
-
-nat_total : IsTotalOrder nat_cmp
-nat_total = search (comparing, rules)
-
-pub nat_order : IsExactOrder nat_cmp
-nat_order = record { total = nat_total; exact = λ k l h. exact_unsigned k l h }
 
 pub by_id_none : AreById []
 unfolding IsStrictlySortedBy

@@ -7,8 +7,8 @@ use Rattle.std.specs.Ordering.{nat_cmp, ordering_then}
 use Rattle.std.proofs.lemmas.List.Sums.{sum_by-cons, sum_by-insert, sum_by-remove, sum_by-set}
 use Rattle.std.proofs.lemmas.Map.Lookups.{exact_unsigned}
 use Rattle.zr_msg.specs.declared.decl.Decl.{Decl}
-use Rattle.zr_set.specs.Decls.{is_decl, decl_weight}
-use Rattle.zr_set.proofs.Order.{IsExactOrder}
+use Rattle.zr_log_set.specs.Decls.{is_decl, decl_weight}
+use Rattle.zr_lists.proofs.Order.{IsExactOrder}
 use Rattle.zr_local.specs.declared.row.Row.{Row}
 use Rattle.zr_local.specs.Rows.{Key, key_cmp, decls_of, weight_of}
 use Rattle.zr_local.specs.Owners.{one, rows_with}

@@ -2,8 +2,8 @@
 use Rattle.std.proofs.Common.{◌≡◌, ℕ, List, [], get_or, set, refl, ◌∙◌, arith}
 use Rattle.std.specs.List.{insert, remove}
 use Rattle.std.specs.List.Sorted.{IsStrictlySortedBy}
-use Rattle.zr_set.specs.Place.{IsAt, IsGap}
-use Rattle.zr_set.proofs.Puts.{ascending_put, ascending_without, put_at, put_in, removed_at}
+use Rattle.zr_lists.specs.Place.{IsAt, IsGap}
+use Rattle.zr_lists.proofs.Puts.{ascending_put, ascending_without, put_at, put_in, removed_at}
 use Rattle.zr_local.specs.declared.row.Row.{Row}
 use Rattle.zr_local.specs.declared.owners.Owned.{Owned}
 use Rattle.zr_local.specs.Rows.{Key, key_cmp, row_key, AreInOrder, declared, undeclared}

@@ -2,13 +2,13 @@
 use Rattle.std.proofs.Common.{◌≡◌, ℕ, ◌+◌, List, Some, None, get_or, sym, ap, ◌∙◌, arith}
 use Rattle.std.specs.List.{remove}
 use Rattle.zr_msg.specs.declared.decl.Decl.{Decl}
-use Rattle.zr_set.specs.Place.{IsAt, IsGap}
+use Rattle.zr_lists.specs.Place.{IsAt, IsGap}
 use Rattle.zr_local.specs.declared.row.Row.{Row}
 use Rattle.zr_local.specs.declared.owners.Owned.{Owned}
 use Rattle.zr_local.specs.Rows.{Key, key_cmp, row_key, declared, undeclared, weight_of, gone, came}
 use Rattle.zr_local.specs.Owners.{one, rows_with, where_counted, IsSound}
 use Rattle.zr_local.proofs.Changed.{gone_is, came_is}
-use Rattle.zr_set.specs.Decls.{decl_weight}
+use Rattle.zr_log_set.specs.Decls.{decl_weight}
 use Rattle.zr_local.proofs.Rows.{with-insert, with-set, with-remove, weight-set, weight-remove}
 use Rattle.zr_local.proofs.Sound.{set_is, insert_is, remove_is}
 

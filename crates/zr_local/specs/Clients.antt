@@ -4,7 +4,7 @@ use Rattle.std.specs.List.{sum_by}
 use Rattle.std.specs.Option.{option_map_or}
 use Rattle.std.specs.Ordering.{nat_cmp}
 use Rattle.zr_id.specs.declared.link.LinkNo.{LinkNo}
-use Rattle.zr_set.specs.Ascending.{IsAscending, at_key, has_key, put, without}
+use Rattle.zr_lists.specs.Ascending.{IsAscending, at_key, has_key, put, without}
 use Rattle.zr_local.specs.Interests.{interest_id, interests_weight}
 use Rattle.zr_local.specs.declared.interest.ClientInterests.{ClientInterests}
 use Rattle.zr_local.specs.declared.interest.Interest.{Interest}

@@ -3,8 +3,8 @@ use Rattle.std.specs.Prelude.{ℕ, ◌+◌, List, length}
 use Rattle.std.specs.List.{sum_by}
 use Rattle.std.specs.Option.{option_map_or}
 use Rattle.std.specs.Ordering.{nat_cmp}
-use Rattle.zr_set.specs.Ascending.{IsAscending}
-use Rattle.zr_set.specs.Decls.{decl_overhead}
+use Rattle.zr_lists.specs.Ascending.{IsAscending}
+use Rattle.zr_log_set.specs.Decls.{decl_overhead}
 use Rattle.zr_local.specs.declared.interest.Interest.{Interest}
 
 abbrev pub interest_id : Interest → ℕ

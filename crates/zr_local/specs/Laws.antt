@@ -1,7 +1,7 @@
 -- What follows of clients' declarations, for the proofs above.
 use Rattle.std.specs.Prelude.{◌≡◌, ◌≤◌, List}
 use Rattle.std.specs.List.{fold}
-use Rattle.zr_set.specs.Decls.{with_decl, without_decl, weight}
+use Rattle.zr_log_set.specs.Decls.{with_decl, without_decl, weight}
 use Rattle.zr_local.specs.Rows.{declared_set, gone, came, weight_of}
 use Rattle.zr_local.specs.declared.row.Row.{Row}
 

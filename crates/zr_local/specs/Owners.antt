@@ -4,8 +4,8 @@ use Rattle.std.specs.List.{count_by}
 use Rattle.std.specs.Option.{option_map_or}
 use Rattle.zr_msg.specs.Decl.{decl_cmp}
 use Rattle.zr_msg.specs.declared.decl.Decl.{Decl}
-use Rattle.zr_set.specs.Ascending.{at_key, put, without}
-use Rattle.zr_set.specs.Decls.{is_decl}
+use Rattle.zr_lists.specs.Ascending.{at_key, put, without}
+use Rattle.zr_log_set.specs.Decls.{is_decl}
 use Rattle.zr_local.specs.Rows.{AreInOrder}
 use Rattle.zr_local.specs.declared.owners.Owned.{Owned}
 use Rattle.zr_local.specs.declared.row.Row.{Row}

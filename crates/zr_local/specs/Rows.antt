@@ -5,8 +5,8 @@ use Rattle.std.specs.Ordering.{nat_cmp, on, then_cmp}
 use Rattle.zr_msg.specs.declared.decl.Decl.{Decl}
 use Rattle.zr_msg.specs.declared.decl.Kind.{Kind}
 use Rattle.zr_msg.specs.declared.decl.Kind.TheVariants.{Sub, Able, Full}
-use Rattle.zr_set.specs.Ascending.{IsAscending, at_key, put, without}
-use Rattle.zr_set.specs.Decls.{has, set_of, weight, most_weight}
+use Rattle.zr_lists.specs.Ascending.{IsAscending, at_key, put, without}
+use Rattle.zr_log_set.specs.Decls.{has, set_of, weight, most_weight}
 use Rattle.zr_local.specs.declared.error.LocalError.{LocalError}
 use Rattle.zr_local.specs.declared.error.LocalError.TheVariants.{UnknownId, TextLimit, NoMemory}
 use Rattle.zr_local.specs.declared.row.Row.{Row}

@@ -1,7 +1,7 @@
 -- What is kept of the clients of one router, and why a client's declaration or interest is refused.
 use Rattle.std.specs.Prelude.{ℕ, ◌+◌, List, Option, Some, None}
 use Rattle.zr_id.specs.declared.link.LinkNo.{LinkNo}
-use Rattle.zr_set.specs.Decls.{decl_weight}
+use Rattle.zr_log_set.specs.Decls.{decl_weight}
 use Rattle.zr_local.specs.Clients.{clients_weight, weight_but}
 use Rattle.zr_local.specs.Interests.{interest_weight}
 use Rattle.zr_local.specs.Rows.{row_key, undeclared, weight_of, over_limit}

@@ -5,8 +5,8 @@ ghost use Rattle.std.specs.Ordering.{nat_cmp};
 ghost use Rattle.zr_local.specs.Clients.{AreByLink, client_link, kept, forgotten, clients_left, clients_weight, weight_but};
 ghost use Rattle.zr_local.specs.Interests.{interest_id};
 ghost use Rattle.zr_local.specs.declared.interest.ClientInterests.{ClientInterests};
-ghost use Rattle.zr_set.specs.Ascending.{put, without};
-ghost use Rattle.zr_set.specs.Place.{IsPlace};
+ghost use Rattle.zr_lists.specs.Ascending.{put, without};
+ghost use Rattle.zr_lists.specs.Place.{IsPlace};
 
 use crate::interest::{ClientInterests, Interest, Interests};
 use std::alloc::{AllocError, Global};

@@ -3,15 +3,15 @@
 ghost use Rattle.std.specs.Prelude.{◌≡◌, ◌+◌, ◌-◌, ◌<◌, ◌≤◌, [], length, slice_set, IfOk, OnOk, OnErr};
 ghost use Rattle.std.specs.Ordering.{nat_cmp};
 ghost use Rattle.zr_local.specs.Interests.{AreById, interest_id, interest_weight, interests_weight};
-ghost use Rattle.zr_set.specs.Ascending.{put, without};
-ghost use Rattle.zr_set.specs.Place.{IsPlace};
+ghost use Rattle.zr_lists.specs.Ascending.{put, without};
+ghost use Rattle.zr_lists.specs.Place.{IsPlace};
 
 use std::alloc::{AllocError, Global};
 use std::marker::Model;
 use zr_id::link::LinkNo;
 use zr_key::key::KeyExpr;
+use zr_log_set::weight::OVERHEAD;
 use zr_msg::msg::Kinds;
-use zr_set::weight::OVERHEAD;
 
 /// An interest of a client in what is declared later.
 #[derive(Drop)]

@@ -9,9 +9,9 @@ use crate::owners::Owners;
 use crate::row::Row;
 use std::alloc::{AllocError, Global};
 use zr_id::link::LinkNo;
+use zr_log_set::decl_set::DeclSet;
+use zr_log_set::weight::decl_weight;
 use zr_msg::decl::Decl;
-use zr_set::decl_set::DeclSet;
-use zr_set::weight::decl_weight;
 
 /// The set of what the client of a link has declared.
 pub fn set_on(alloc: Global, rows: &[Row], link: LinkNo) -> Result<DeclSet, AllocError>

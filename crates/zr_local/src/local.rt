@@ -6,7 +6,7 @@ ghost use Rattle.zr_local.specs.Clients.{AreByLink, kept, forgotten, noted, clie
 ghost use Rattle.zr_local.specs.Interests.{interest_weight};
 ghost use Rattle.zr_local.specs.Rows.{AreInOrder, id_kind, row_key, key_cmp, declared, undeclared, left, weight_of, gone, came, refuses_undeclare, refusal, over_limit};
 ghost use Rattle.zr_local.specs.State.{refuses_declare, refuses_interest};
-ghost use Rattle.zr_set.specs.Place.{IsGap, IsAt};
+ghost use Rattle.zr_lists.specs.Place.{IsGap, IsAt};
 
 use crate::changes::{Changes, difference};
 use crate::clients::Clients;
@@ -18,9 +18,9 @@ use crate::row::{Key, Row, copies_of, exchange, insert, place_of, remove};
 use std::alloc::{AllocError, Global};
 use std::marker::Model;
 use zr_id::link::LinkNo;
+use zr_log_set::decl_set::DeclSet;
+use zr_log_set::weight::{decl_weight, is_over_limit};
 use zr_msg::decl::{Decl, Kind};
-use zr_set::decl_set::DeclSet;
-use zr_set::weight::{decl_weight, is_over_limit};
 
 /// What the clients of one router have declared, by link, subscribers first, then by id, and their live interests.
 #[derive(Drop)]

@@ -5,8 +5,8 @@ ghost use Rattle.std.specs.List.{remove, insert};
 ghost use Rattle.zr_local.specs.Owners.{owned_decl, count_of, once_more, once_less};
 ghost use Rattle.zr_local.specs.declared.owners.Owned.{Owned};
 ghost use Rattle.zr_msg.specs.Decl.{decl_cmp};
-ghost use Rattle.zr_set.specs.Ascending.{IsAscending};
-ghost use Rattle.zr_set.specs.Place.{IsPlace};
+ghost use Rattle.zr_lists.specs.Ascending.{IsAscending};
+ghost use Rattle.zr_lists.specs.Place.{IsPlace};
 
 use std::alloc::{AllocError, Global};
 use std::marker::Model;
@@ -29,7 +29,7 @@ impl Model for Owners {
     ghost use Rattle.std.specs.Prelude.{List};
     ghost use Rattle.zr_local.specs.declared.owners.Owned.{Owned};
     ghost use Rattle.zr_msg.specs.Decl.{decl_cmp};
-    ghost use Rattle.zr_set.specs.Ascending.{IsAscending};
+    ghost use Rattle.zr_lists.specs.Ascending.{IsAscending};
 
     ghost Value = { List Owned };
 

@@ -5,7 +5,7 @@ ghost use Rattle.std.specs.List.{insert, remove};
 ghost use Rattle.zr_local.specs.Owners.{once_more, once_less};
 ghost use Rattle.zr_local.specs.Rows.{AreInOrder, id_kind, row_key, key_cmp, declared};
 ghost use Rattle.zr_local.specs.declared.row.Row.{Row};
-ghost use Rattle.zr_set.specs.Place.{IsPlace};
+ghost use Rattle.zr_lists.specs.Place.{IsPlace};
 
 use crate::owners::Owners;
 use std::alloc::{AllocError, Global};

@@ -5,8 +5,8 @@ use Rattle.std.proofs.lemmas.List.{take-append-le}
 use Rattle.std.proofs.lemmas.List.Sums.{fold_push}
 use Rattle.std.proofs.Math.Seq.{take-append_seam, take-append-add}
 use Rattle.zr_msg.specs.declared.decl.Decl.{Decl}
-use Rattle.zr_set.specs.Decls.{IsSet, with_decl, without_decl}
-use Rattle.zr_set.proofs.Decls.{set_with, set_without, set_none}
+use Rattle.zr_log_set.specs.Decls.{IsSet, with_decl, without_decl}
+use Rattle.zr_log_set.proofs.Decls.{set_with, set_without, set_none}
 use Rattle.zr_log.specs.Log.{Change, changed, known}
 
 pub stays : (log more : List Change) (n : ℕ) → n ≤ length log → known (log ++ more) n ≡ known log n

@@ -1,24 +1,20 @@
 -- Logs in ascending order of their routers: one that is put keeps the order, and what was found at a place.
 use Rattle.std.proofs.Common.{◌≡◌, ℕ, ◌<◌, List, [], ◌∷◌, Option, Some, map, get_or, set, take, drop, refl, sym, ap, ◌∙◌}
-use Rattle.std.specs.Cmp.Lexicographic.{slice_cmp, nat_list_cmp_total}
+use Rattle.std.specs.Cmp.Lexicographic.{slice_cmp}
 use Rattle.std.specs.List.{insert}
 use Rattle.std.specs.List.Sorted.{IsStrictlySortedBy}
 use Rattle.std.specs.Option.{option_map_or}
 use Rattle.std.specs.Ordering.{nat_cmp}
 use Rattle.std.proofs.Math.Seq.{map-set_same}
 use Rattle.std.proofs.lemmas.List.{map-append, take-map, drop-map}
-use Rattle.std.proofs.lemmas.Map.Lookups.{exact_bytes}
 use Rattle.std.proofs.lemmas.Option.{slice_get-get_or}
-use Rattle.zr_set.specs.Ascending.{put}
-use Rattle.zr_set.specs.Place.{IsAt}
-use Rattle.zr_set.proofs.Order.{IsExactOrder}
-use Rattle.zr_set.proofs.Puts.{ascending_put, All-put, put_at}
+use Rattle.zr_lists.specs.Ascending.{put}
+use Rattle.zr_lists.specs.Place.{IsAt}
+use Rattle.zr_lists.proofs.Order.{name_order}
+use Rattle.zr_lists.proofs.Puts.{ascending_put, All-put, put_at}
 use Rattle.zr_log.specs.declared.log.Log.{Log}
 use Rattle.zr_log.specs.Log.{Change, changed}
 use Rattle.zr_log.specs.Known.{KnownState, AreInOrder, log_of, decls, changed_log}
-
-pub name_order : IsExactOrder (slice_cmp nat_cmp)
-name_order = record { total = nat_list_cmp_total; exact = λ k l h. exact_bytes k l h }
 
 abbrev pub source_of : Log → List ℕ
 source_of l = l.source

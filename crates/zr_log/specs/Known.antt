@@ -6,8 +6,8 @@ use Rattle.std.specs.Option.{option_map_or}
 use Rattle.std.specs.Ordering.{nat_cmp}
 use Rattle.zr_id.specs.Zid.{is_named}
 use Rattle.zr_msg.specs.declared.decl.Decl.{Decl}
-use Rattle.zr_set.specs.Ascending.{IsAscending, at_key, put}
-use Rattle.zr_set.specs.Decls.{set_of, weight, most_weight}
+use Rattle.zr_lists.specs.Ascending.{IsAscending, at_key, put}
+use Rattle.zr_log_set.specs.Decls.{set_of, weight, most_weight}
 use Rattle.zr_log.specs.declared.log.Log.{Log}
 use Rattle.zr_log.specs.declared.error.KnownError.{KnownError}
 use Rattle.zr_log.specs.declared.error.KnownError.TheVariants.{Gap, TextLimit, Worn, NoMemory}

@@ -1,6 +1,6 @@
 -- What follows of change logs, for the proofs above.
 use Rattle.std.specs.Prelude.{◌≡◌, ℕ, ◌+◌, ◌≤◌, List, ◌∷◌, ◌++◌, length}
-use Rattle.zr_set.specs.Decls.{IsSet}
+use Rattle.zr_log_set.specs.Decls.{IsSet}
 use Rattle.zr_log.specs.Log.{Change, changed, known}
 
 -- what is known after a number of changes stays so when the log grows

@@ -2,7 +2,7 @@
 use Rattle.std.specs.Prelude.{ℕ, Bool, if◌then◌else◌, List, [], take}
 use Rattle.std.specs.List.{fold}
 use Rattle.zr_msg.specs.declared.decl.Decl.{Decl}
-use Rattle.zr_set.specs.Decls.{with_decl, without_decl, decl_weight, weight}
+use Rattle.zr_log_set.specs.Decls.{with_decl, without_decl, decl_weight, weight}
 
 -- one change: a declaration is added or removed
 pub record Change : Type 0 where

@@ -11,9 +11,9 @@ use crate::place;
 use std::alloc::{AllocError, Global};
 use std::marker::Model;
 use zr_id::zid::Zid;
+use zr_log_set::decl_set::DeclSet;
+use zr_log_set::weight::is_over_limit;
 use zr_msg::decl::Decl;
-use zr_set::decl_set::DeclSet;
-use zr_set::weight::is_over_limit;
 
 /// What became of a change or a snapshot.
 #[derive(Clone, Copy, Debug)]

@@ -5,9 +5,9 @@ ghost use Rattle.zr_log.specs.Log.{changed, change_held, change_more};
 
 use std::alloc::{AllocError, Global};
 use zr_id::zid::Zid;
+use zr_log_set::decl_set::DeclSet;
+use zr_log_set::weight::decl_weight;
 use zr_msg::decl::Decl;
-use zr_set::decl_set::DeclSet;
-use zr_set::weight::decl_weight;
 
 /// What is known of the change log of one router.
 #[derive(Drop)]

@@ -3,8 +3,8 @@
 ghost use Rattle.std.specs.Prelude.{◌≡◌, ◌<◌, ◌≤◌, map, length, slice_set, slice_index_or, OnOk, OnErr};
 ghost use Rattle.std.specs.Cmp.Lexicographic.{slice_cmp};
 ghost use Rattle.std.specs.Ordering.{nat_cmp};
-ghost use Rattle.zr_set.specs.Ascending.{IsAscending, put};
-ghost use Rattle.zr_set.specs.Place.{IsPlace};
+ghost use Rattle.zr_lists.specs.Ascending.{IsAscending, put};
+ghost use Rattle.zr_lists.specs.Place.{IsPlace};
 ghost use Rattle.zr_log.specs.Known.{changed_log};
 ghost use Rattle.zr_log.specs.declared.log.Log.{Log};
 ghost use Rattle.std.specs.List.{insert};

@@ -2,7 +2,7 @@
 use Rattle.std.proofs.Common.{◌≡◌, ℕ, ◌==◌, ◌+◌, ◌<◌, ◌≤◌, ◌∷◌, [], List, Bool, true, false, cond, Option, Some, None, Bor, refl, ap, ◌∙◌, arith, length, map}
 use Rattle.std.specs.List.{slice_split, onto_first}
 use Rattle.std.specs.Option.{option_copied, option_map_or, IfSome}
-use Rattle.zr_text.specs.Cut.{parts}
+use Rattle.zr_lists.specs.Cut.{parts}
 use Rattle.zr_key.specs.Expression.{Chunk}
 use Rattle.zr_key.specs.Key.{chunk_of}
 

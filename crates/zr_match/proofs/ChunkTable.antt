@@ -3,6 +3,8 @@ use Rattle.std.proofs.Common.{◌≡◌, ℕ, ◌==◌, ◌∷◌, ◌++◌, [],
 use Rattle.std.specs.List.{list_any, list_all}
 use Rattle.std.proofs.lemmas.Bool.{and_parts, and_from, false≢true, not-true}
 use Rattle.std.proofs.lemmas.List.{reverse-reverse}
+use Rattle.zr_lists.proofs.Truths.{same_test}
+use Rattle.zr_lists.proofs.Tests.{all_pass}
 use Rattle.zr_key.specs.Expression.{Piece, Char, AnyChars, Chunk, Any, AnyChunks, Pieces, is_plain, is_piece, is_wild, begins_verbatim, is_verbatim, is_key_chunk, is_chunk, Fits, MatchesChunk, Matches}
 use Rattle.zr_match.specs.Match.{Takes, TakesChunk, Covers, Meets, is_verbatim_chunk}
 use Rattle.zr_match.specs.Table.{pieces_compare, is_any_chunks, chunks_go_together, chunk_signs, compare_chunks}
@@ -271,10 +273,6 @@ both_all f g (x ∷ xs) h =
     let c = both_all f g xs a.1 in
     (and_from (f x) (list_all f xs) b.0 c.0, and_from (g x) (list_all g xs) b.1 c.1)
 
-all_pass : {X : Type 0} (xs : List X) → list_all (λ (x : X). true) xs ≡ true
-all_pass [] = refl
-all_pass (x ∷ xs) = all_pass xs
-
 pub compare_common : (a b : List Chunk) → list_all is_chunk a ≡ true → list_all is_chunk b ≡ true → compare_chunks true a b ≡ true → Common is_key_chunk Matches a b
 compare_common a b oka okb h =
     let c = compare_passes (λ c. true) (λ x. true) no_more a b (all_both is_chunk (λ x. true) a oka (all_pass a)) (all_both is_chunk (λ x. true) b okb (all_pass b)) h in
@@ -432,12 +430,6 @@ covers_compare a b m =
 
 front_covers : (x y : Chunk) (a b : List Chunk) → is_any_chunks x ≡ false → Covers (x ∷ a) (y ∷ b) → TakesChunk x y × Covers a b
 front_covers x y a b g m = one_cons (chunk_signs false) (barred (chunk_signs false)) TakesChunk Covers covers_law x a y b g m
-
--- two tests that hold together are one
-pub same_test : (t u : Bool) → (t ≡ true → u ≡ true) → (u ≡ true → t ≡ true) → t ≡ u
-same_test true u f g = sym (f refl)
-same_test false true f g = g refl
-same_test false false f g = refl
 
 -- so chunks in front that are not `**` may be compared by themselves
 pub front : (expands : Bool) (x y : Chunk) (a b : List Chunk) → is_any_chunks x ≡ false → is_any_chunks y ≡ false → list_all is_chunk (x ∷ a) ≡ true → list_all is_chunk (y ∷ b) ≡ true

@@ -3,11 +3,13 @@ use Rattle.std.proofs.Common.{◌≡◌, ◌∷◌, [], List, Bool, true, false,
 use Rattle.std.specs.List.{list_all}
 use Rattle.std.proofs.lemmas.Bool.{and_parts, and_from}
 use Rattle.std.proofs.lemmas.List.{reverse-reverse}
+use Rattle.std.proofs.Math.Bool.{or-false, or-true}
+use Rattle.zr_lists.proofs.Truths.{same_test}
 use Rattle.zr_key.specs.Expression.{Chunk, Any, AnyChunks, Pieces}
 use Rattle.zr_match.specs.Match.{is_verbatim_chunk}
 use Rattle.zr_match.specs.Table.{first_row, next_row, table, is_any_chunks, chunk_signs, compare_chunks}
 use Rattle.zr_match.proofs.PieceTable.{list_all-reverse}
-use Rattle.zr_match.proofs.ChunkTable.{same_test, gap_is_open}
+use Rattle.zr_match.proofs.ChunkTable.{gap_is_open}
 
 -- a test of all of a list reads the same backwards
 reverse_same : {X : Type 0} (p : X → Bool) (xs : List X) → list_all p (reverse xs) ≡ list_all p xs
@@ -72,14 +74,6 @@ all_gaps_open (y ∷ b) h =
     let parts = and_parts (is_any_chunks y) (list_all is_any_chunks b) h in
     and_from (opened y) (list_all opened b) (gap_is_open y parts.0) (all_gaps_open b parts.1)
 
-or_false : (t : Bool) → (t || false) ≡ t
-or_false true = refl
-or_false false = refl
-
-or_true : (t : Bool) → (t || true) ≡ true
-or_true true = refl
-or_true false = refl
-
 gap_column : (a : List Chunk) → table (chunk_signs true) a (AnyChunks ∷ []) ≡ list_all opened a
 gap_column [] = refl
 gap_column (Any ∷ a) = gap_column a
@@ -87,10 +81,10 @@ gap_column (Pieces p ∷ a) = ap (λ z. opened (Pieces p) && z) (gap_column a)
 gap_column (AnyChunks ∷ a) = by (table (chunk_signs true) a []) refl (gap_column a)
   where
     by : (t : Bool) → table (chunk_signs true) a [] ≡ t → table (chunk_signs true) a (AnyChunks ∷ []) ≡ list_all opened a → (table (chunk_signs true) a (AnyChunks ∷ []) || t) ≡ list_all opened a
-    by false e ih = or_false (table (chunk_signs true) a (AnyChunks ∷ [])) ∙ ih
+    by false e ih = or-false (table (chunk_signs true) a (AnyChunks ∷ [])) ∙ ih
     by true e ih =
         let all : list_all opened a ≡ true = all_gaps_open a (sym (no_rows true a) ∙ e) in
-        or_true (table (chunk_signs true) a (AnyChunks ∷ [])) ∙ sym all
+        or-true (table (chunk_signs true) a (AnyChunks ∷ [])) ∙ sym all
 
 pub gap_second : (a : List Chunk) → compare_chunks true a (AnyChunks ∷ []) ≡ list_all opened a
 gap_second a = gap_column (reverse a) ∙ reverse_same opened a

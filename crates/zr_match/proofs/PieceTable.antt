@@ -5,6 +5,7 @@ use Rattle.std.specs.List.{list_any, list_all}
 use Rattle.std.proofs.lemmas.Bool.{and_parts, and_from, eqb-true, eq-eqb, false≢true}
 use Rattle.std.proofs.lemmas.List.{reverse-append, reverse-reverse}
 use Rattle.std.proofs.lemmas.List.Folds.{list_all-append}
+use Rattle.zr_lists.proofs.Tests.{all_pass}
 use Rattle.zr_key.specs.Expression.{Piece, Char, AnyChars, is_plain, is_piece, is_any_chars, Fits}
 use Rattle.zr_key.proofs.Spelling.{same_bytes}
 use Rattle.zr_match.specs.Match.{Takes}
@@ -208,17 +209,13 @@ take_chars (c ∷ w) (d ∷ k) m =
     let rest : w ≡ k = take_chars w k m.1 in
     cc
 
-all_true : {X : Type 0} (xs : List X) → list_all (λ (x : X). true) xs ≡ true
-all_true [] = refl
-all_true (x ∷ xs) = all_true xs
-
 -- they compare well where they are the same
 pub compare_chars : (expands : Bool) (w k : List ℕ) → pieces_compare expands (chars w) (chars k) ≡ pointwise nat_eq w k
 compare_chars expands w k = by expands (pieces_compare expands (chars w) (chars k)) (pointwise nat_eq w k) refl refl
   where
     same : (e : Bool) → pieces_compare e (chars w) (chars k) ≡ true → w ≡ k
     same true h =
-        let c = compare_common (λ (x : ℕ). true) (λ (x : Piece). true) (λ c e. refl) (chars w) (chars k) (all_true (chars w)) (all_true (chars k)) h in
+        let c = compare_common (λ (x : ℕ). true) (λ (x : Piece). true) (λ c e. refl) (chars w) (chars k) (all_pass (chars w)) (all_pass (chars k)) h in
         fit_chars w c.word c.first_matches ∙ sym (fit_chars k c.word c.second_matches)
     same false h = take_chars w k (compare_takes (chars w) (chars k) h)
 

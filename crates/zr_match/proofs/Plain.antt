@@ -4,6 +4,7 @@ use Rattle.std.specs.List.{list_any, list_all, onto_first, join_with_byte}
 use Rattle.std.specs.Cmp.Lexicographic.{pointwise}
 use Rattle.std.proofs.lemmas.List.Splits.{join_with_byte-slice_split}
 use Rattle.std.proofs.lemmas.Bool.{and_parts, or_parts, not-true, false≢true}
+use Rattle.zr_lists.proofs.Truths.{same_test}
 use Rattle.zr_key.specs.Expression.{Chunk, Any, AnyChunks, Pieces, is_wild, is_chunk, Matches}
 use Rattle.zr_key.specs.Key.{chunks, pieces_of, chunk_of, expression_of, is_plain_text}
 use Rattle.zr_key.proofs.Spelling.{same_bytes}
@@ -11,7 +12,7 @@ use Rattle.zr_match.specs.Match.{Covers}
 use Rattle.zr_match.specs.Table.{compare_chunks}
 use Rattle.zr_match.proofs.PieceTable.{chars, chars_fit, fit_chars, chars_take, take_chars, bytes_same}
 use Rattle.zr_match.proofs.GoTogether.{plain_chars}
-use Rattle.zr_match.proofs.ChunkTable.{compare_common, common_compare, compare_covers, covers_compare, same_test}
+use Rattle.zr_match.proofs.ChunkTable.{compare_common, common_compare, compare_covers, covers_compare}
 
 -- the chunks of a key's text have no wildcard
 abbrev bare : List ℕ → Bool

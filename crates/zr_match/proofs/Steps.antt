@@ -4,7 +4,7 @@ use Rattle.std.specs.List.{slice_split, onto_first, list_all}
 use Rattle.std.specs.Option.{option_copied}
 use Rattle.std.specs.Cmp.Lexicographic.{pointwise}
 use Rattle.std.proofs.lemmas.Bool.{and_parts}
-use Rattle.zr_text.specs.Cut.{parts}
+use Rattle.zr_lists.specs.Cut.{parts}
 use Rattle.zr_key.specs.Expression.{Any, AnyChunks, Pieces, is_chunk}
 use Rattle.zr_key.specs.Key.{chunk_of, pieces_of, expression_of}
 use Rattle.zr_match.specs.Table.{compare_chunks, chunks_go_together, is_any_chunks}

@@ -8,7 +8,7 @@ ghost use Rattle.zr_key.specs.Key.{pieces_of, chunk_of, expression_of, is_plain_
 ghost use Rattle.zr_match.specs.Table.{place, first_row, table, IsRow, chunk_signs, compare_chunks, chunks_go_together, is_any_chunks};
 
 use crate::pieces::pieces_compare;
-use zr_text::cut;
+use zr_lists::cut;
 
 /// How many places a row has: more than the longest expression has chunks.
 const ROW: usize = 2050;

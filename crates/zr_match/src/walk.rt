@@ -9,7 +9,7 @@ ghost use Rattle.zr_match.specs.Match.{is_verbatim_chunk};
 ghost use Rattle.zr_match.specs.Table.{compare_chunks, is_any_chunks};
 
 use crate::chunks::{chunks_compare, go_together, is_any_chunks, is_verbatim};
-use zr_text::cut;
+use zr_lists::cut;
 
 /// Whether two expressions have a key in common, where `expands` is true, and else whether the first covers the second.
 ///

@@ -1,3 +1,4 @@
 pub mod Extras
 pub mod Decl
 pub mod Kinds
+pub mod Groups

@@ -1,6 +1,7 @@
 //! Messages on a link.
 
 ghost use Rattle.std.specs.Prelude.{◌≡◌, IfOk};
+ghost use Rattle.zr_msg.specs.Groups.{group_of};
 
 use crate::content::Content;
 use crate::decl::{Decl, Decls};
@@ -36,6 +37,19 @@ pub enum Target {
     All,
     /// All complete ones.
     Complete,
+}
+
+/// What a message is about, and so between whom it goes.
+#[derive(Clone, Copy, Debug, PartialEq, Eq)]
+pub enum Group {
+    /// What a client declares, or no longer declares.
+    Declared,
+    /// What a client is told of others' declarations.
+    Told,
+    /// A sample, a request or what answers it, which goes along routes.
+    Routed,
+    /// What routers tell each other of links and declarations.
+    Flooded,
 }
 
 /// A message on a link (Zenoh protocol 1.0, "Network messages").
@@ -139,7 +153,7 @@ pub enum Msg {
     },
 }
 
-// Written out, so that it is proved here, and not by each crate that lets one go.
+// Written out, so that it is proved here, and not by each crate that lets one go. It names each part of each message, so it is long.
 impl Drop for Msg {
     fn drop(self) {
         match self {
@@ -211,8 +225,43 @@ impl Drop for Msg {
 }
 
 impl Msg {
+    /// The group that it is of.
+    pub fn group(&self) -> Group
+        ensures { result ≡ group_of self.now }
+    {
+        match self {
+            Msg::Sub { .. }
+            | Msg::Unsub { .. }
+            | Msg::Able { .. }
+            | Msg::Unable { .. }
+            | Msg::Interest { .. }
+            | Msg::EndInterest { .. } => Group::Declared,
+            Msg::ToldSub { .. }
+            | Msg::ToldAble { .. }
+            | Msg::ToldUnsub { .. }
+            | Msg::ToldUnable { .. }
+            | Msg::ToldEnd { .. } => Group::Told,
+            Msg::Push { .. } | Msg::Request { .. } | Msg::Response { .. } | Msg::Final { .. } => {
+                Group::Routed
+            }
+            Msg::State { .. } | Msg::Step { .. } | Msg::Snap { .. } => Group::Flooded,
+        }
+    }
+
     /// The same message again. What it shares is not copied.
     pub fn copy(&self, alloc: Global) -> Result<Msg, AllocError>
+        ensures { IfOk result (λ m. m ≡ self.now) }
+    {
+        match self.group() {
+            Group::Declared => self.copy_declared(alloc),
+            Group::Told => self.copy_told(alloc),
+            Group::Routed => self.copy_routed(),
+            Group::Flooded => self.copy_flooded(),
+        }
+    }
+
+    fn copy_declared(&self, alloc: Global) -> Result<Msg, AllocError>
+        requires { group_of self.now ≡ Group.Declared }
         ensures { IfOk result (λ m. m ≡ self.now) }
     {
         Ok(match self {
@@ -243,6 +292,15 @@ impl Msg {
                 aggregate: *aggregate,
             },
             Msg::EndInterest { id } => Msg::EndInterest { id: *id },
+            _ => unreachable!(),
+        })
+    }
+
+    fn copy_told(&self, alloc: Global) -> Result<Msg, AllocError>
+        requires { group_of self.now ≡ Group.Told }
+        ensures { IfOk result (λ m. m ≡ self.now) }
+    {
+        Ok(match self {
             Msg::ToldSub { id, key, interest } => Msg::ToldSub {
                 id: *id,
                 key: key.copy(alloc)?,
@@ -264,6 +322,15 @@ impl Msg {
             Msg::ToldEnd { interest } => Msg::ToldEnd {
                 interest: *interest,
             },
+            _ => unreachable!(),
+        })
+    }
+
+    fn copy_routed(&self) -> Result<Msg, AllocError>
+        requires { group_of self.now ≡ Group.Routed }
+        ensures { IfOk result (λ m. m ≡ self.now) }
+    {
+        Ok(match self {
             Msg::Push { tree, content } => Msg::Push {
                 tree: *tree,
                 content: content.copy()?,
@@ -287,6 +354,15 @@ impl Msg {
                 id: *id,
                 extras: extras.copy()?,
             },
+            _ => unreachable!(),
+        })
+    }
+
+    fn copy_flooded(&self) -> Result<Msg, AllocError>
+        requires { group_of self.now ≡ Group.Flooded }
+        ensures { IfOk result (λ m. m ≡ self.now) }
+    {
+        Ok(match self {
             Msg::State { links } => Msg::State {
                 links: links.copy()?,
             },
@@ -310,6 +386,7 @@ impl Msg {
                 number: *number,
                 decls: decls.copy()?,
             },
+            _ => unreachable!(),
         })
     }
 }

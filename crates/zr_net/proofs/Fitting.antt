@@ -14,9 +14,9 @@ use Rattle.zr_ext.specs.declared.ext.Form.TheVariants as form
 use Rattle.zr_ext.specs.Header.{form_of, is_known, content_number}
 use Rattle.zr_ext.specs.Chain.{knows}
 use Rattle.zr_ext.proofs.Distinct.{HasLength, AreDistinct, chain_kept}
-use Rattle.zr_format.specs.Format.{choose, gives, unknown, chain, extensions}
-use Rattle.zr_format.specs.Laws.{HasSpelling}
-use Rattle.zr_format.proofs.Spelled.{spelled_allows, chosen_holds}
+use Rattle.zr_format_spec.specs.Format.{choose, gives, unknown, chain, extensions}
+use Rattle.zr_format_spec.specs.Laws.{HasSpelling}
+use Rattle.zr_format_spec.proofs.Spelled.{spelled_allows, chosen_holds}
 use Rattle.zr_id.specs.Zid.{is_zid}
 use Rattle.zr_body.specs.declared.place.Place.{Place}
 use Rattle.zr_body.specs.declared.place.Place.TheVariants as place

@@ -4,6 +4,7 @@ use Rattle.std.proofs.Common.{◌≡◌, ℕ, ◌+◌, Bool, true, false, not, �
 use Rattle.std.specs.Prelude.{is_some, fold, bit_or}
 use Rattle.std.specs.List.{list_any}
 use Rattle.std.proofs.lemmas.Bool.{and_parts, eqb-true, cases_Bool, false≢true}
+use Rattle.std.proofs.Math.Bool.{or-false, or_assoc}
 use Rattle.zr_bytes.specs.Flag.{has_flag}
 use Rattle.zr_ext.specs.declared.ext.Ext.{Ext}
 use Rattle.zr_ext.specs.declared.ext.Content.{Content}
@@ -73,14 +74,6 @@ more_5 = refl
 more_6 : six (bits_more 0x40 6) ≡ true
 more_6 = refl
 
-or_false : (b : Bool) → (b || false) ≡ b
-or_false true = refl
-or_false false = refl
-
-or_more : (a b c : Bool) → ((a || b) || c) ≡ (a || (b || c))
-or_more true b c = refl
-or_more false b c = refl
-
 -- the bit of each id, and of none
 bit_in : (id : ℕ) (a b c d e f : Bool)
     → bit_or (pack a b c d e f) (bit_of id) ≡ pack (a || eqb id 1) (b || eqb id 2) (c || eqb id 3) (d || eqb id 4) (e || eqb id 5) (f || eqb id 6)
@@ -145,15 +138,15 @@ mark_one x a b c d e f = by_test (x.mandatory && is_kept_content x.id x.content)
     by_test : (t : Bool) → cond t (bit_or (pack a b c d e f) (bit_of x.id)) (pack a b c d e f)
         ≡ pack (a || (t && eqb x.id 1)) (b || (t && eqb x.id 2)) (c || (t && eqb x.id 3)) (d || (t && eqb x.id 4)) (e || (t && eqb x.id 5)) (f || (t && eqb x.id 6))
     by_test true = bit_in x.id a b c d e f
-    by_test false = sym (same_pack (or_false a) (or_false b) (or_false c) (or_false d) (or_false e) (or_false f))
+    by_test false = sym (same_pack (or-false a) (or-false b) (or-false c) (or-false d) (or-false e) (or-false f))
 
 marks_from : (exts : List Ext) (a b c d e f : Bool) → fold with_mark (pack a b c d e f) exts
     ≡ pack (a || on_at 1 exts) (b || on_at 2 exts) (c || on_at 3 exts) (d || on_at 4 exts) (e || on_at 5 exts) (f || on_at 6 exts)
-marks_from [] a b c d e f = sym (same_pack (or_false a) (or_false b) (or_false c) (or_false d) (or_false e) (or_false f))
+marks_from [] a b c d e f = sym (same_pack (or-false a) (or-false b) (or-false c) (or-false d) (or-false e) (or-false f))
 marks_from (x ∷ exts) a b c d e f =
     ap (λ (m : ℕ). fold with_mark m exts) (mark_one x a b c d e f)
     ∙ marks_from exts (a || is_on 1 x) (b || is_on 2 x) (c || is_on 3 x) (d || is_on 4 x) (e || is_on 5 x) (f || is_on 6 x)
-    ∙ same_pack (or_more a (is_on 1 x) (on_at 1 exts)) (or_more b (is_on 2 x) (on_at 2 exts)) (or_more c (is_on 3 x) (on_at 3 exts)) (or_more d (is_on 4 x) (on_at 4 exts)) (or_more e (is_on 5 x) (on_at 5 exts)) (or_more f (is_on 6 x) (on_at 6 exts))
+    ∙ same_pack (or_assoc a (is_on 1 x) (on_at 1 exts)) (or_assoc b (is_on 2 x) (on_at 2 exts)) (or_assoc c (is_on 3 x) (on_at 3 exts)) (or_assoc d (is_on 4 x) (on_at 4 exts)) (or_assoc e (is_on 5 x) (on_at 5 exts)) (or_assoc f (is_on 6 x) (on_at 6 exts))
 
 marks_packed : (exts : List Ext) → marks_of exts ≡ packed exts
 marks_packed exts = marks_from exts false false false false false false
@@ -162,7 +155,7 @@ marks_packed exts = marks_from exts false false false false false false
 
 on_both : (id : ℕ) (xs ys : List Ext) → on_at id (xs ++ ys) ≡ (on_at id xs || on_at id ys)
 on_both id [] ys = refl
-on_both id (x ∷ xs) ys = ap (λ (b : Bool). is_on id x || b) (on_both id xs ys) ∙ sym (or_more (is_on id x) (on_at id xs) (on_at id ys))
+on_both id (x ∷ xs) ys = ap (λ (b : Bool). is_on id x || b) (on_both id xs ys) ∙ sym (or_assoc (is_on id x) (on_at id xs) (on_at id ys))
 
 one_on : (t m : Bool) → (((m && true) && t) || false) ≡ (t && (m && true))
 one_on true true = refl

@@ -2,10 +2,10 @@
 use Rattle.std.proofs.Common.{ℕ, ◌^◌}
 use Rattle.zr_bytes.specs.Flag.{has_id}
 use Rattle.zr_bytes.specs.Reading.{byte_of, number_below}
-use Rattle.zr_format.specs.Format.{byte, below, extensions}
-use Rattle.zr_format.specs.Reading.{exts_of}
-use Rattle.zr_format.specs.Laws.{anywhere}
-use Rattle.zr_format.proofs.Follows.{Follows, follows_gives, follows_unknown, follows_choose, follows_then, follows_allows, follows_byte, follows_below, follows_extensions}
+use Rattle.zr_format_spec.specs.Format.{byte, below, extensions}
+use Rattle.zr_format_spec.specs.Reading.{exts_of}
+use Rattle.zr_format_spec.specs.Laws.{anywhere}
+use Rattle.zr_format_spec.proofs.Follows.{Follows, follows_gives, follows_unknown, follows_choose, follows_then, follows_allows, follows_byte, follows_below, follows_extensions}
 use Rattle.zr_wirekey.specs.Scopes.{Texts}
 use Rattle.zr_body.specs.declared.place.Place.TheVariants as place
 use Rattle.zr_body.specs.Body.{body}

@@ -12,9 +12,9 @@ use Rattle.zr_ext.specs.declared.ext.Form.{Form}
 use Rattle.zr_ext.specs.Chain.{knows}
 use Rattle.zr_ext.specs.Writing.{Fits as ExtFits, writes_chain, ascends_from}
 use Rattle.zr_ext.proofs.Written.{chain_again}
-use Rattle.zr_format.specs.Format.{Format, gives, choose, ◌then◌, ◌allows◌, extensions, chain}
-use Rattle.zr_format.specs.Writing.{writes_header}
-use Rattle.zr_format.proofs.Spelled.{allows_spelled}
+use Rattle.zr_format_spec.specs.Format.{Format, gives, choose, ◌then◌, ◌allows◌, extensions, chain}
+use Rattle.zr_format_spec.specs.Writing.{writes_header}
+use Rattle.zr_format_spec.proofs.Spelled.{allows_spelled}
 use Rattle.zr_wirekey.specs.Scopes.{Texts}
 use Rattle.zr_wirekey.specs.Spelling.{key_format}
 use Rattle.zr_wirekey.specs.Writing.{writes_key}

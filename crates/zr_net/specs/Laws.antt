@@ -1,7 +1,7 @@
 -- The laws of network messages: what a reading call answers is what the bytes spell, and what is written is read again.
 use Rattle.std.specs.Prelude.{ℕ}
 use Rattle.zr_bytes.specs.Spelling.{HasOneReading}
-use Rattle.zr_format.specs.Laws.{anywhere, IsReadBy, WrittenIsRead, SpelledIsWritten}
+use Rattle.zr_format_spec.specs.Laws.{anywhere, IsReadBy, WrittenIsRead, SpelledIsWritten}
 use Rattle.zr_wirekey.specs.Scopes.{Texts}
 use Rattle.zr_msg.specs.declared.peer.Role.{Role}
 use Rattle.zr_decl.specs.declared.declared.Declared.TheVariants.{Told}

@@ -2,7 +2,7 @@
 -- of the message's own: N (0x20), the key has a suffix, and M (0x40), the sender declared its scope. A flag that isn't named here is ignored.
 use Rattle.std.specs.Prelude.{ℕ, ◌^◌}
 use Rattle.zr_bytes.specs.Flag.{has_id}
-use Rattle.zr_format.specs.Format.{Format, gives, unknown, choose, ◌then◌, ◌allows◌, byte, below, extensions}
+use Rattle.zr_format_spec.specs.Format.{Format, gives, unknown, choose, ◌then◌, ◌allows◌, byte, below, extensions}
 use Rattle.zr_wirekey.specs.Scopes.{Texts}
 use Rattle.zr_body.specs.declared.place.Place.TheVariants as place
 use Rattle.zr_body.specs.Body.{body}

@@ -4,7 +4,7 @@ use Rattle.zr_bytes.specs.declared.read_error.ReadError.TheVariants.{UnknownId}
 use Rattle.zr_bytes.specs.Flag.{has_id}
 use Rattle.zr_bytes.specs.Reading.{◌>>=◌, byte_of, number_below}
 use Rattle.zr_ext.specs.declared.ext.Ext.{Ext}
-use Rattle.zr_format.specs.Reading.{Reader, exts_of}
+use Rattle.zr_format_spec.specs.Reading.{Reader, exts_of}
 use Rattle.zr_wirekey.specs.Scopes.{Texts}
 use Rattle.zr_body.specs.declared.place.Place.TheVariants as place
 use Rattle.zr_body.specs.Reading.{body_of}

@@ -1,7 +1,7 @@
 //! What the extensions of a message say.
 
 ghost use Rattle.std.specs.Prelude.{◌≡◌, IfOk, Some, None, drop, fold, option_copied};
-ghost use Rattle.zr_format.specs.Reading.{Makes};
+ghost use Rattle.zr_format_spec.specs.Reading.{Makes};
 ghost use Rattle.zr_net.specs.Exts.{content_bytes, number_in, number_at, bytes_in, bytes_at, is_kept_number, is_kept_content, bit_of, with_mark, marks_of, extras_of, target_of, tree_of};
 
 use crate::parts::{

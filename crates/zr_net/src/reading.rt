@@ -2,7 +2,7 @@
 
 ghost use Rattle.std.specs.Prelude.{◌≡◌, IfOk};
 ghost use Rattle.zr_bytes.specs.Reading.{Keeps, Steps};
-ghost use Rattle.zr_format.specs.Reading.{exts_of};
+ghost use Rattle.zr_format_spec.specs.Reading.{exts_of};
 ghost use Rattle.zr_net.specs.Exts.{push_known, request_known, response_known, final_known};
 ghost use Rattle.zr_net.specs.Reading.{content_of, sample_of, push_of, question_of, request_of, reply_of, response_of, final_of, declared_of, told_of, behind_of, net_of};
 ghost use Rattle.zr_net.specs.Writing.{ToldFits};
@@ -17,8 +17,8 @@ use zr_body::{Body, Place, read_body};
 use zr_bytes::{Cursor, ReadError};
 use zr_decl::{Declared, read_asked, read_declare, read_wire_key};
 use zr_ext::{Ext, Form};
-use zr_format::header::ID;
-use zr_format::read_extensions;
+use zr_format_spec::header::ID;
+use zr_format_spec::read_extensions;
 use zr_key::key::KeyExpr;
 use zr_msg::content::Content;
 use zr_msg::msg::Msg;

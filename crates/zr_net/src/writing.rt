@@ -4,7 +4,7 @@ ghost use Rattle.std.specs.Prelude.{◌≡◌, ◌<◌, ◌==◌, ◌∷◌, ◌
 ghost use Rattle.zr_bytes.specs.Flag.{has_flag};
 ghost use Rattle.zr_bytes.specs.Number.{writes};
 ghost use Rattle.zr_bytes.specs.Writing.{KeepsFront};
-ghost use Rattle.zr_format.specs.Writing.{writes_header};
+ghost use Rattle.zr_format_spec.specs.Writing.{writes_header};
 ghost use Rattle.zr_ext.specs.Writing.{ascends_from, writes_chain, Fits as ExtFits};
 ghost use Rattle.zr_net.specs.Writing.{number_ext, bytes_ext, target_number, kept_exts, has_any, writes_keyed, writes_content, writes_push, writes_request, writes_response, writes_final, writes_net, TextFits, Fits};
 
@@ -17,7 +17,7 @@ use std::alloc::{AllocError, Global};
 use zr_body::write_body;
 use zr_bytes::{ByteString, all_or_nothing, put_zint};
 use zr_ext::{Content, Ext, write_chain};
-use zr_format::header::header_byte;
+use zr_format_spec::header::header_byte;
 use zr_id::zid::Zid;
 use zr_msg::content;
 use zr_msg::extras::Extras;

@@ -9,28 +9,28 @@ use Rattle.std.proofs.lemmas.List.{length-append, length-take, take_all, take-ta
 use Rattle.std.proofs.Math.Seq.{take-append-add}
 use Rattle.zr_outside.specs.Told.{Consumes}
 use Rattle.zr_outside.specs.Told.{IsAsBefore, Appends, AppendsPrefix}
-use Rattle.zr_language.specs.Lines.{most_bytes, most_kept, ended_lines, open_line}
-use Rattle.zr_command.specs.declared.error.ScriptError.{ScriptError}
-use Rattle.zr_network.specs.Run.{Run, start, on_line, run_of_ended, within}
-use Rattle.zr_runner.specs.declared.runner.Stop.{Stop}
-use Rattle.zr_runner.specs.declared.runner.Stop.TheVariants.{Refused, NoMemory, WriteFault}
+use Rattle.zr_script_spec.specs.Lines.{most_bytes, most_kept, ended_lines, open_line}
+use Rattle.zr_script_spec.specs.declared.error.ScriptError.{ScriptError}
+use Rattle.zr_world_spec.specs.Run.{Run, start, on_line, run_of_ended, within}
+use Rattle.zr_netrun_lines.specs.declared.runner.RunStop.{RunStop}
+use Rattle.zr_netrun_lines.specs.declared.runner.RunStop.TheVariants.{Refused, NoMemory, WriteFault}
 use Rattle.zr_netrun.specs.declared.status.Status.{Status}
 use Rattle.zr_netrun.specs.declared.status.Status.TheVariants as s
-use Rattle.zr_network.specs.Moments.{beginning}
-use Rattle.zr_network.specs.Accepted.{accepted_from}
-use Rattle.zr_report.specs.declared.counts.Counts.{Counts}
-use Rattle.zr_report.specs.Summary.{counts_of}
-use Rattle.zr_report.specs.Counted.{all_capped}
-use Rattle.zr_runner.specs.Kept.{Kept, begun, fresh, seen, IsAt, Stopped, KeepsRefused, Turns, refused_line}
-use Rattle.zr_runner.specs.Counted.{CountsOn}
-use Rattle.zr_runner.proofs.Lines.{ended_append, open_after, open_last}
-use Rattle.zr_runner.proofs.Runs.{fold_kept, open_kept}
-use Rattle.zr_runner.proofs.Writing.{turn_more, all_written, written_all, written_flushed, appends_all, prefix_flushed, seen_all, seen_prefix}
-use Rattle.zr_runner.proofs.Accepting.{HasCounted, piece_counted}
+use Rattle.zr_world_spec.specs.Moments.{beginning}
+use Rattle.zr_world_spec.specs.Accepted.{accepted_from}
+use Rattle.zr_netrun_report.specs.declared.counts.Counts.{Counts}
+use Rattle.zr_netrun_report.specs.Summary.{counts_of}
+use Rattle.zr_netrun_report.specs.Counted.{all_capped}
+use Rattle.zr_netrun_lines.specs.Kept.{Kept, begun, fresh, seen, IsAt, Stopped, KeepsRefused, Turns, refused_line}
+use Rattle.zr_netrun_lines.specs.Counted.{CountsOn}
+use Rattle.zr_netrun_lines.proofs.Lines.{ended_append, open_after, open_last}
+use Rattle.zr_netrun_lines.proofs.Runs.{fold_kept, open_kept}
+use Rattle.zr_netrun_lines.proofs.Writing.{turn_more, all_written, written_all, written_flushed, appends_all, prefix_flushed, seen_all, seen_prefix}
+use Rattle.zr_netrun_lines.proofs.Accepting.{HasCounted, piece_counted}
 use Rattle.zr_netrun.specs.Told.{TellsRefusal, Tells}
 use Rattle.zr_netrun.specs.Counted.{CountsFromNone}
-use Rattle.zr_netrun.specs.Judged.{judged_lines, judged, refusal_told, is_too_long, is_refused, complaint_by, complaint_of}
-use Rattle.zr_netrun.specs.Clauses.{OfRead, ReportsBy}
+use Rattle.zr_netrun.specs.Judged.{judged_lines, judged, refusal_told, is_too_long, is_refused, complaint, complaint_of}
+use Rattle.zr_netrun.specs.Clauses.{OfRead, Reports}
 
 -- ---- what is kept of the bytes that were read
 
@@ -77,7 +77,7 @@ open_piece k read piece e =
     ap (λ z. take most_kept (open_line (z ++ piece))) e ∙ open_kept (open_line read) piece (open_last read) ∙ ap (take most_kept) (sym (open_after read piece))
 
 -- one more piece
-pub piece_more : (k m : Kept) (total : ℕ) (a b c : Option (List ℕ)) (read piece : List ℕ) (result : Result (Unit {0}) Stop) → IsAfter k total a b read →
+pub piece_more : (k m : Kept) (total : ℕ) (a b c : Option (List ℕ)) (read piece : List ℕ) (result : Result (Unit {0}) RunStop) → IsAfter k total a b read →
     Turns result (fold on_line (fresh k) (ended_lines (k.line ++ piece))) (take most_kept (open_line (k.line ++ piece))) k.pending m b c →
     Turns result (run_of_ended (read ++ piece)) (take most_kept (open_line (read ++ piece))) [] m a c
 piece_more k m total a b c read piece result h turn =
@@ -115,7 +115,7 @@ as_before None e' h = tt
 as_before (Some held) e' h = h
 
 -- what was told is told of what is looked at
-pub seen_tells : (shows : Bool) (stop : Stop) (status : Status) (n : ScriptError → List ℕ) (p : List ℕ) (a b e e' : Option (List ℕ)) → Tells stop status n p a b e e' → Tells stop status n p (seen shows a) (seen shows b) e e'
+pub seen_tells : (shows : Bool) (stop : RunStop) (status : Status) (n : ScriptError → List ℕ) (p : List ℕ) (a b e e' : Option (List ℕ)) → Tells stop status n p a b e e' → Tells stop status n p (seen shows a) (seen shows b) e e'
 seen_tells shows (Refused error) status n p a b e e' h = by status h
   where
     by : (status : Status) → TellsRefusal status (n error) p a b e e' → TellsRefusal status (n error) p (seen shows a) (seen shows b) e e'
@@ -131,15 +131,15 @@ seen_tells shows NoMemory status n p a b e e' h = (h.0, ap (seen shows) h.1, h.2
 seen_tells shows WriteFault status n p a b e e' h = (h.0, ap (seen shows) h.1, h.2)
 
 -- what was told of a run that stopped is what is to be told
-pub tells_judged : (x to_end : Bool) (bytes : List ℕ) (m : Kept) (a b c e e' : Option (List ℕ)) (stop : Stop) (status : Status) →
+pub tells_judged : (x to_end : Bool) (bytes : List ℕ) (m : Kept) (a b c e e' : Option (List ℕ)) (stop : RunStop) (status : Status) →
     Stopped stop (judged to_end bytes) [] m a b → KeepsRefused (Err stop) (refused_line start (judged_lines to_end bytes)) m →
-    Tells stop status (refusal_told x m.number m.line) m.pending b c e e' → ReportsBy x status to_end a c e e' bytes
+    Tells stop status (refusal_told x m.number m.line) m.pending b c e e' → Reports x status to_end a c e e' bytes
 tells_judged x to_end bytes m a b c e e' (Refused error) status h kept told = by status told
   where
     line : List ℕ
     line = take most_kept (refused_line start (judged_lines to_end bytes))
 
-    why : complaint_by x to_end bytes ≡ refusal_told x m.number m.line error
+    why : complaint x to_end bytes ≡ refusal_told x m.number m.line error
     why =
         ap (λ r. complaint_of x r (judged to_end bytes).number line (is_too_long bytes)) h.0 ∙ ap (λ n. refusal_told x n line error) (sym h.1)
         ∙ ap (λ l. refusal_told x m.number l error) (sym kept)
@@ -150,7 +150,7 @@ tells_judged x to_end bytes m a b c e e' (Refused error) status h kept told = by
     whole : Appends m.pending b c → Appends (judged to_end bytes).text a c
     whole out = all_written (judged to_end bytes).text a c (written_flushed (judged to_end bytes).text m.pending a b c h.2 out)
 
-    by : (status : Status) → TellsRefusal status (refusal_told x m.number m.line error) m.pending b c e e' → ReportsBy x status to_end a c e e' bytes
+    by : (status : Status) → TellsRefusal status (refusal_told x m.number m.line error) m.pending b c e e' → Reports x status to_end a c e e' bytes
     by s.Refused t = (refused, whole t.0, subst (λ (z : List ℕ). Appends z e e') (sym why) t.1)
     by s.WriteFault (inl t) = inl (prefix_flushed (judged to_end bytes).text m.pending a b c h.2 t.0, as_before e e' t.1)
     by s.WriteFault (inr t) = inr (refused, whole t.0, subst (λ (z : List ℕ). AppendsPrefix z e e') (sym why) t.1)

@@ -1,12 +1,12 @@
 -- What counts of a script where some bytes of it were read: the lines that have ended, as far as they end within the limit of a script's
 -- length; and the last line, which no line end has to end, only where the script was read to its end.
 use Rattle.std.specs.Prelude.{ℕ, ◌||◌, nat_lt, Bool, true, false, if◌then◌else◌, List, [], ◌++◌, length, take, Option, Some, None, is_some}
-use Rattle.zr_command.specs.declared.error.ScriptError.{ScriptError}
-use Rattle.zr_language.specs.Lines.{most_bytes, most_kept, lines, ended_lines}
-use Rattle.zr_language.specs.Report.{refused_text, too_long_text}
-use Rattle.zr_network.specs.Run.{Run, start, run_lines, within}
-use Rattle.zr_explain.specs.Explained.{explanation}
-use Rattle.zr_runner.specs.Kept.{refused_line}
+use Rattle.zr_script_spec.specs.declared.error.ScriptError.{ScriptError}
+use Rattle.zr_script_spec.specs.Lines.{most_bytes, most_kept, lines, ended_lines}
+use Rattle.zr_script_spec.specs.Report.{refused_text, too_long_text}
+use Rattle.zr_world_spec.specs.Run.{Run, start, run_lines, within}
+use Rattle.zr_script_explain.specs.Explained.{explanation}
+use Rattle.zr_netrun_lines.specs.Kept.{refused_line}
 
 -- the lines that count
 abbrev pub judged_lines : Bool → List ℕ → List (List ℕ)
@@ -41,11 +41,7 @@ complaint_of explains None number line too_long = complaint_of_length too_long
 
 -- the line that tells why a script is refused, with an explanation where that is asked for; nothing where it isn't refused. Of a line that
 -- is too long only the first bytes are explained
-abbrev pub complaint_by : Bool → Bool → List ℕ → List ℕ
-complaint_by explains to_end bytes =
+abbrev pub complaint : Bool → Bool → List ℕ → List ℕ
+complaint explains to_end bytes =
     complaint_of explains (judged to_end bytes).refusal (judged to_end bytes).number (take most_kept (refused_line start (judged_lines to_end bytes)))
     (is_too_long bytes)
-
--- the line that tells why a script is refused; nothing where it isn't
-abbrev pub complaint : Bool → List ℕ → List ℕ
-complaint to_end bytes = complaint_by false to_end bytes

@@ -3,3 +3,4 @@ pub mod Judged
 pub mod Clauses
 pub mod Counted
 pub mod Told
+pub mod Ended

@@ -1,9 +1,9 @@
 -- What was told of a run that stopped, by its status.
 use Rattle.std.specs.Prelude.{◌≡◌, ◌⊎◌, ℕ, List, Option}
-use Rattle.zr_command.specs.declared.error.ScriptError.{ScriptError}
+use Rattle.zr_script_spec.specs.declared.error.ScriptError.{ScriptError}
 use Rattle.zr_outside.specs.Told.{Appends, AppendsPrefix}
-use Rattle.zr_runner.specs.declared.runner.Stop.{Stop}
-use Rattle.zr_runner.specs.declared.runner.Stop.TheVariants.{Refused, NoMemory, WriteFault}
+use Rattle.zr_netrun_lines.specs.declared.runner.RunStop.{RunStop}
+use Rattle.zr_netrun_lines.specs.declared.runner.RunStop.TheVariants.{Refused, NoMemory, WriteFault}
 use Rattle.zr_netrun.specs.declared.status.Status.{Status}
 use Rattle.zr_netrun.specs.declared.status.Status.TheVariants as s
 
@@ -30,7 +30,7 @@ TellsRefusal s.ReadFault text pending out out' err err' = ⊥
 TellsRefusal s.HostFault text pending out out' err err' = ⊥
 
 -- otherwise nothing was written
-abbrev pub Tells : Stop → Status → (ScriptError → List ℕ) → List ℕ → Option (List ℕ) → Option (List ℕ) → Option (List ℕ) → Option (List ℕ) → Type 0
+abbrev pub Tells : RunStop → Status → (ScriptError → List ℕ) → List ℕ → Option (List ℕ) → Option (List ℕ) → Option (List ℕ) → Option (List ℕ) → Type 0
 Tells (Refused error) status text pending out out' err err' = TellsRefusal status (text error) pending out out' err err'
 Tells NoMemory status text pending out out' err err' = (status ≡ s.NoMemory) × (out' ≡ out) × (err' ≡ err)
 Tells WriteFault status text pending out out' err err' = (status ≡ s.WriteFault) × (out' ≡ out) × (err' ≡ err)

@@ -3,4 +3,5 @@
 #![tactic(auto)]
 
 pub mod netrun;
+pub mod options;
 pub mod status;

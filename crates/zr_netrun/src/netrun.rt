@@ -1,32 +1,36 @@
 //! `run_script`: a script from a source, its report or the summary of it to a sink, and why it is refused to another sink.
 
-ghost use Rattle.std.specs.Prelude.{◌≡◌, ◌≤◌, ◌⊎◌, true, false, IfOk};
+ghost use Rattle.std.specs.Prelude.{◌≡◌, ◌≤◌, ◌⊎◌, IfOk};
 ghost use Rattle.zr_outside.specs.Counts.{Rose};
 ghost use Rattle.zr_outside.specs.Piece.{IsReadToEnd};
-ghost use Rattle.zr_language.specs.Report.{too_long_text};
-ghost use Rattle.zr_network.specs.Run.{start};
-ghost use Rattle.zr_runner.specs.Possible.{StepsGo};
-ghost use Rattle.zr_runner.specs.Kept.{begun, seen, writes};
+ghost use Rattle.zr_world_spec.specs.Run.{start};
+ghost use Rattle.zr_netrun_lines.specs.Possible.{StepsGo};
+ghost use Rattle.zr_netrun_lines.specs.Kept.{begun, seen, writes};
 ghost use Rattle.zr_netrun.specs.Told.{Tells, Complains};
-ghost use Rattle.zr_netrun.specs.Clauses.{OfRead, IsReported, IsReportedBy, IsExplained, IsSummedUp, IsSummedUpBy, IsExplainedSum};
+ghost use Rattle.zr_netrun.specs.Clauses.{OfRead, IsSummedUp, WritesAsAsked};
+ghost use Rattle.zr_netrun.specs.Ended.{IsEnded};
 ghost use Rattle.zr_netrun.specs.Judged.{refusal_told};
 ghost use Rattle.zr_netrun.specs.Counted.{CountsFromNone, IsRun, TellsSummary};
 
+use crate::options::NetOptions;
 use crate::status::Status;
 use std::alloc::{AllocError, Global};
-use zr_command::error::ScriptError;
-use zr_explain::explain;
-use zr_numbers::steps_are_possible;
+use zr_law_numbers::steps_are_possible;
+use zr_netrun_lines::runner::{RunStop, Runner};
+use zr_netrun_report::counts::Counts;
+use zr_netrun_report::nowhere::Nowhere;
 use zr_outside::piece::{Piece, next_piece};
 use zr_outside::sink::{Sink, write_all};
 use zr_outside::source::Source;
-use zr_report::counts::Counts;
-use zr_report::nowhere::Nowhere;
-use zr_runner::runner::{Runner, Stop};
 use zr_script::text::refused_text;
+use zr_script_explain::explain;
+use zr_script_spec::error::ScriptError;
 
 /// How many bytes a script has at most.
 pub const MOST_BYTES: usize = 67_108_864;
+
+/// What is told of a script that has more.
+const TOO_LONG: &[u8] = b"script too long\n";
 
 /// How many bytes are asked for in a read.
 const MOST_A_READ: usize = 65_536;
@@ -34,107 +38,43 @@ const MOST_A_READ: usize = 65_536;
 /// Reads a script to its end, applies its lines as they come, and writes each report line before the next read; or, where a summary is
 /// asked for, counts them, and writes nothing but the summary once the script has ended and no line was refused.
 ///
-/// A refused line ends the run: `err` then has `line N: NUMBER NAME`. So does a script of more than 67,108,864 bytes, none of whose
-/// lines within them is refused: `err` has `script too long`. A status of fault comes only where that count rose in this call.
+/// A refused line ends the run: `err` then has `line N: NUMBER NAME`, and its explanation behind it where that is asked for. So does a
+/// script of more than 67,108,864 bytes, none of whose lines within them is refused: `err` has `script too long`. A status of fault comes
+/// only where that count rose in this call.
+#[tactic(auto, using(crate::proofs::Starting::from_start, crate::proofs::Asked::writes_report, crate::proofs::Asked::writes_summary))]
 pub fn run_script<S: Source, K: Sink, E: Sink>(
     alloc: Global,
+    options: NetOptions,
     input: &mut S,
     out: &mut K,
     err: &mut E,
-    summary: bool,
 ) -> Status
-    ensures left { OfRead (S.left input.old) (S.left input.new) (λ read. Unit {0}) }
-    ensures report { summary ≡ false → OfRead (S.left input.old) (S.left input.new) (IsReported (IsReadToEnd (S.ends input.old) (S.ends input.new) (S.quiets input.old) (S.quiets input.new)) result (K.held out.old) (K.held out.new) (E.held err.old) (E.held err.new)) }
-    ensures summed_up { summary ≡ true → OfRead (S.left input.old) (S.left input.new) (IsSummedUp (IsReadToEnd (S.ends input.old) (S.ends input.new) (S.quiets input.old) (S.quiets input.new)) result (K.held out.old) (K.held out.new) (E.held err.old) (E.held err.new)) }
-    ensures whole { result ≡ Status.Done → IsReadToEnd (S.ends input.old) (S.ends input.new) (S.quiets input.old) (S.quiets input.new) }
-    ensures read { result ≡ Status.ReadFault → Rose (S.faults input.old) (S.faults input.new) }
-    ensures write { result ≡ Status.WriteFault → Rose (K.faults out.old) (K.faults out.new) ⊎ Rose (E.faults err.old) (E.faults err.new) }
-    ensures words { (result ≡ Status.Words) → ⊥ }
-    ensures host { (result ≡ Status.HostFault) → ⊥ }
-    ensures input_later { S.faults input.old ≤ S.faults input.new }
-    ensures out_later { K.faults out.old ≤ K.faults out.new }
-    ensures err_later { E.faults err.old ≤ E.faults err.new }
+    ensures writes { WritesAsAsked options (S.left input.old) (S.left input.new) (IsReadToEnd (S.ends input.old) (S.ends input.new) (S.quiets input.old) (S.quiets input.new)) result (K.held out.old) (K.held out.new) (E.held err.old) (E.held err.new) }
+    ensures ends { IsEnded (IsReadToEnd (S.ends input.old) (S.ends input.new) (S.quiets input.old) (S.quiets input.new)) result (S.faults input.old) (S.faults input.new) (K.faults out.old) (K.faults out.new) (E.faults err.old) (E.faults err.new) }
 {
-    if summary {
-        return sum_up(alloc, false, input, out, err);
+    if options.summary {
+        return sum_up(alloc, options, input, out, err);
     }
-    report(alloc, false, input, out, err)
-}
-
-/// The same, but where a line is refused `err` has its explanation behind `line N: NUMBER NAME`.
-pub fn run_explained<S: Source, K: Sink, E: Sink>(
-    alloc: Global,
-    input: &mut S,
-    out: &mut K,
-    err: &mut E,
-    summary: bool,
-) -> Status
-    ensures left { OfRead (S.left input.old) (S.left input.new) (λ read. Unit {0}) }
-    ensures explained { summary ≡ false → OfRead (S.left input.old) (S.left input.new) (IsExplained (IsReadToEnd (S.ends input.old) (S.ends input.new) (S.quiets input.old) (S.quiets input.new)) result (K.held out.old) (K.held out.new) (E.held err.old) (E.held err.new)) }
-    ensures explained_sum { summary ≡ true → OfRead (S.left input.old) (S.left input.new) (IsExplainedSum (IsReadToEnd (S.ends input.old) (S.ends input.new) (S.quiets input.old) (S.quiets input.new)) result (K.held out.old) (K.held out.new) (E.held err.old) (E.held err.new)) }
-    ensures whole { result ≡ Status.Done → IsReadToEnd (S.ends input.old) (S.ends input.new) (S.quiets input.old) (S.quiets input.new) }
-    ensures read { result ≡ Status.ReadFault → Rose (S.faults input.old) (S.faults input.new) }
-    ensures write { result ≡ Status.WriteFault → Rose (K.faults out.old) (K.faults out.new) ⊎ Rose (E.faults err.old) (E.faults err.new) }
-    ensures words { (result ≡ Status.Words) → ⊥ }
-    ensures host { (result ≡ Status.HostFault) → ⊥ }
-    ensures input_later { S.faults input.old ≤ S.faults input.new }
-    ensures out_later { K.faults out.old ≤ K.faults out.new }
-    ensures err_later { E.faults err.old ≤ E.faults err.new }
-{
-    if summary {
-        return sum_up(alloc, true, input, out, err);
-    }
-    report(alloc, true, input, out, err)
-}
-
-// The report is written as it comes.
-#[tactic(auto, using(crate::proofs::Starting::from_start))]
-fn report<S: Source, K: Sink, E: Sink>(
-    alloc: Global,
-    explains: bool,
-    input: &mut S,
-    out: &mut K,
-    err: &mut E,
-) -> Status
-    ensures left { OfRead (S.left input.old) (S.left input.new) (λ read. Unit {0}) }
-    ensures report { OfRead (S.left input.old) (S.left input.new) (IsReportedBy explains (IsReadToEnd (S.ends input.old) (S.ends input.new) (S.quiets input.old) (S.quiets input.new)) result (K.held out.old) (K.held out.new) (E.held err.old) (E.held err.new)) }
-    ensures whole { result ≡ Status.Done → IsReadToEnd (S.ends input.old) (S.ends input.new) (S.quiets input.old) (S.quiets input.new) }
-    ensures read { result ≡ Status.ReadFault → Rose (S.faults input.old) (S.faults input.new) }
-    ensures write { result ≡ Status.WriteFault → Rose (K.faults out.old) (K.faults out.new) ⊎ Rose (E.faults err.old) (E.faults err.new) }
-    ensures words { (result ≡ Status.Words) → ⊥ }
-    ensures host { (result ≡ Status.HostFault) → ⊥ }
-    ensures input_later { S.faults input.old ≤ S.faults input.new }
-    ensures out_later { K.faults out.old ≤ K.faults out.new }
-    ensures err_later { E.faults err.old ≤ E.faults err.new }
-{
     steps_are_possible();
     let mut runner = Runner::new(alloc, None);
-    run_lines(alloc, explains, &mut runner, input, out, err)
+    run_lines(alloc, options, &mut runner, input, out, err)
 }
 
 // The report is counted and goes nowhere; at the script's end the summary is written.
 #[tactic(auto, using(crate::proofs::Starting::from_start))]
 fn sum_up<S: Source, K: Sink, E: Sink>(
     alloc: Global,
-    explains: bool,
+    options: NetOptions,
     input: &mut S,
     out: &mut K,
     err: &mut E,
 ) -> Status
-    ensures left { OfRead (S.left input.old) (S.left input.new) (λ read. Unit {0}) }
-    ensures summed_up { OfRead (S.left input.old) (S.left input.new) (IsSummedUpBy explains (IsReadToEnd (S.ends input.old) (S.ends input.new) (S.quiets input.old) (S.quiets input.new)) result (K.held out.old) (K.held out.new) (E.held err.old) (E.held err.new)) }
-    ensures whole { result ≡ Status.Done → IsReadToEnd (S.ends input.old) (S.ends input.new) (S.quiets input.old) (S.quiets input.new) }
-    ensures read { result ≡ Status.ReadFault → Rose (S.faults input.old) (S.faults input.new) }
-    ensures write { result ≡ Status.WriteFault → Rose (K.faults out.old) (K.faults out.new) ⊎ Rose (E.faults err.old) (E.faults err.new) }
-    ensures words { (result ≡ Status.Words) → ⊥ }
-    ensures host { (result ≡ Status.HostFault) → ⊥ }
-    ensures input_later { S.faults input.old ≤ S.faults input.new }
-    ensures out_later { K.faults out.old ≤ K.faults out.new }
-    ensures err_later { E.faults err.old ≤ E.faults err.new }
+    ensures summed_up { OfRead (S.left input.old) (S.left input.new) (IsSummedUp options.explain (IsReadToEnd (S.ends input.old) (S.ends input.new) (S.quiets input.old) (S.quiets input.new)) result (K.held out.old) (K.held out.new) (E.held err.old) (E.held err.new)) }
+    ensures ends { IsEnded (IsReadToEnd (S.ends input.old) (S.ends input.new) (S.quiets input.old) (S.quiets input.new)) result (S.faults input.old) (S.faults input.new) (K.faults out.old) (K.faults out.new) (E.faults err.old) (E.faults err.new) }
 {
     steps_are_possible();
     let mut runner = Runner::new(alloc, Some(Counts::new()));
-    match run_lines(alloc, explains, &mut runner, input, &mut Nowhere, err) {
+    match run_lines(alloc, options, &mut runner, input, &mut Nowhere, err) {
         Status::Done => tell_summary(alloc, runner.counts(), out),
         status => status,
     }
@@ -161,7 +101,7 @@ fn tell_summary<K: Sink>(alloc: Global, counts: Option<Counts>, out: &mut K) -> 
 // Reads a script to its end, and applies its lines as they come, by a runner to which none has come yet.
 fn run_lines<S: Source, K: Sink, E: Sink>(
     alloc: Global,
-    explains: bool,
+    options: NetOptions,
     runner: &mut Runner,
     input: &mut S,
     out: &mut K,
@@ -171,15 +111,8 @@ fn run_lines<S: Source, K: Sink, E: Sink>(
     requires begins { runner.old ≡ begun runner.old.counts }
     requires counts { CountsFromNone runner.old.counts }
     ensures mode { result ≡ Status.Done → writes runner.new ≡ writes runner.old }
-    ensures report { OfRead (S.left input.old) (S.left input.new) (IsRun explains (IsReadToEnd (S.ends input.old) (S.ends input.new) (S.quiets input.old) (S.quiets input.new)) result (seen (writes runner.old) (K.held out.old)) (seen (writes runner.old) (K.held out.new)) (E.held err.old) (E.held err.new) runner.new) }
-    ensures whole { result ≡ Status.Done → IsReadToEnd (S.ends input.old) (S.ends input.new) (S.quiets input.old) (S.quiets input.new) }
-    ensures read { result ≡ Status.ReadFault → Rose (S.faults input.old) (S.faults input.new) }
-    ensures write { result ≡ Status.WriteFault → Rose (K.faults out.old) (K.faults out.new) ⊎ Rose (E.faults err.old) (E.faults err.new) }
-    ensures words { (result ≡ Status.Words) → ⊥ }
-    ensures host { (result ≡ Status.HostFault) → ⊥ }
-    ensures input_later { S.faults input.old ≤ S.faults input.new }
-    ensures out_later { K.faults out.old ≤ K.faults out.new }
-    ensures err_later { E.faults err.old ≤ E.faults err.new }
+    ensures report { OfRead (S.left input.old) (S.left input.new) (IsRun options.explain (IsReadToEnd (S.ends input.old) (S.ends input.new) (S.quiets input.old) (S.quiets input.new)) result (seen (writes runner.old) (K.held out.old)) (seen (writes runner.old) (K.held out.new)) (E.held err.old) (E.held err.new) runner.new) }
+    ensures ends { IsEnded (IsReadToEnd (S.ends input.old) (S.ends input.new) (S.quiets input.old) (S.quiets input.new)) result (S.faults input.old) (S.faults input.new) (K.faults out.old) (K.faults out.new) (E.faults err.old) (E.faults err.new) }
 {
     let mut piece = [0; MOST_A_READ];
     let mut total: usize = 0;
@@ -190,10 +123,10 @@ fn run_lines<S: Source, K: Sink, E: Sink>(
                 total += used;
                 match runner.feed(&piece[..used], out) {
                     Ok(()) => {}
-                    Err(stop) => return tell(alloc, explains, runner, stop, out, err),
+                    Err(stop) => return tell(alloc, options, runner, stop, out, err),
                 }
                 if used < count {
-                    return tell_too_long(err);
+                    return complain(TOO_LONG, err);
                 }
             }
             Piece::End => break,
@@ -202,33 +135,33 @@ fn run_lines<S: Source, K: Sink, E: Sink>(
     }
     match runner.finish(out) {
         Ok(()) => Status::Done,
-        Err(stop) => tell(alloc, explains, runner, stop, out, err),
+        Err(stop) => tell(alloc, options, runner, stop, out, err),
     }
 }
 
 // A run has stopped: what waits is written, and then why its last line is refused, where it is.
 fn tell<K: Sink, E: Sink>(
     alloc: Global,
-    explains: bool,
+    options: NetOptions,
     runner: &mut Runner,
-    stop: Stop,
+    stop: RunStop,
     out: &mut K,
     err: &mut E,
 ) -> Status
-    ensures tells { Tells stop result (refusal_told explains runner.old.number runner.old.line) runner.old.pending (K.held out.old) (K.held out.new) (E.held err.old) (E.held err.new) }
+    ensures tells { Tells stop result (refusal_told options.explain runner.old.number runner.old.line) runner.old.pending (K.held out.old) (K.held out.new) (E.held err.old) (E.held err.new) }
     ensures stops { (result ≡ Status.Done) → ⊥ }
-    ensures write { result ≡ Status.WriteFault → (stop ≡ Stop.WriteFault) ⊎ (Rose (K.faults out.old) (K.faults out.new) ⊎ Rose (E.faults err.old) (E.faults err.new)) }
+    ensures write { result ≡ Status.WriteFault → (stop ≡ RunStop.WriteFault) ⊎ (Rose (K.faults out.old) (K.faults out.new) ⊎ Rose (E.faults err.old) (E.faults err.new)) }
     ensures out_later { K.faults out.old ≤ K.faults out.new }
     ensures err_later { E.faults err.old ≤ E.faults err.new }
 {
     match stop {
-        Stop::NoMemory => Status::NoMemory,
-        Stop::WriteFault => Status::WriteFault,
-        Stop::Refused(error) => {
+        RunStop::NoMemory => Status::NoMemory,
+        RunStop::WriteFault => Status::WriteFault,
+        RunStop::Refused(error) => {
             if runner.flush(out).is_err() {
                 return Status::WriteFault;
             }
-            tell_refusal(alloc, explains, runner, error, err)
+            tell_refusal(alloc, options, runner, error, err)
         }
     }
 }
@@ -236,15 +169,15 @@ fn tell<K: Sink, E: Sink>(
 // Why a line is refused, which is the last that has ended, and its explanation where that is asked for.
 fn refusal_told(
     alloc: Global,
-    explains: bool,
+    options: NetOptions,
     runner: &Runner,
     error: ScriptError,
 ) -> Result<Vec<u8>, AllocError>
-    ensures { IfOk result (λ text. text.items ≡ refusal_told explains runner.now.number runner.now.line error) }
+    ensures { IfOk result (λ text. text.items ≡ refusal_told options.explain runner.now.number runner.now.line error) }
 {
     let mut text = Vec::new(alloc);
     refused_text(runner.number(), error, &mut text)?;
-    if explains {
+    if options.explain {
         let explanation = explain(alloc, runner.line(), error)?;
         text.extend_from_slice(explanation.as_slice())?;
     }
@@ -253,33 +186,25 @@ fn refusal_told(
 
 fn tell_refusal<E: Sink>(
     alloc: Global,
-    explains: bool,
+    options: NetOptions,
     runner: &Runner,
     error: ScriptError,
     err: &mut E,
 ) -> Status
-    ensures tells { Complains result (refusal_told explains runner.now.number runner.now.line error) (E.held err.old) (E.held err.new) }
+    ensures tells { Complains result (refusal_told options.explain runner.now.number runner.now.line error) (E.held err.old) (E.held err.new) }
     ensures write { result ≡ Status.WriteFault → Rose (E.faults err.old) (E.faults err.new) }
     ensures later { E.faults err.old ≤ E.faults err.new }
 {
-    match refusal_told(alloc, explains, runner, error) {
+    match refusal_told(alloc, options, runner, error) {
         Ok(text) => complain(&text, err),
         Err(_) => Status::NoMemory,
     }
 }
 
-fn tell_too_long<E: Sink>(err: &mut E) -> Status
-    ensures tells { Complains result too_long_text (E.held err.old) (E.held err.new) }
-    ensures stops { (result ≡ Status.Done) → ⊥ }
-    ensures write { result ≡ Status.WriteFault → Rose (E.faults err.old) (E.faults err.new) }
-    ensures memory { result ≡ Status.NoMemory → ⊥ }
-    ensures later { E.faults err.old ≤ E.faults err.new }
-{
-    complain(b"script too long\n", err)
-}
-
+// What is wrong with the script is told.
 fn complain<E: Sink>(text: &[u8], err: &mut E) -> Status
     ensures tells { Complains result text.now (E.held err.old) (E.held err.new) }
+    ensures stops { (result ≡ Status.Done) → ⊥ }
     ensures write { result ≡ Status.WriteFault → Rose (E.faults err.old) (E.faults err.new) }
     ensures memory { result ≡ Status.NoMemory → ⊥ }
     ensures later { E.faults err.old ≤ E.faults err.new }

@@ -8,11 +8,11 @@ use Rattle.zr_flood.specs.Flood.{AreOf}
 use Rattle.zr_msg.specs.declared.msg.Msg.{Msg}
 use Rattle.zr_msg.specs.declared.msg.Msg.TheVariants.{State}
 use Rattle.zr_msg.specs.declared.peer.LinkPeer.{LinkPeer}
-use Rattle.zr_routing.specs.Snapshots.{sends_snapshots}
-use Rattle.zr_routing.specs.Tables.{leads_to_router}
-use Rattle.zr_table.specs.Event.{AreLinks}
-use Rattle.zr_table.specs.State.{NodeState, tables}
-use Rattle.zr_table.specs.Table.{with_base, is_other_router, base_told, sends_state}
+use Rattle.zr_node_spec.specs.Snapshots.{sends_snapshots}
+use Rattle.zr_node_spec.specs.Tables.{leads_to_router}
+use Rattle.zr_node_spec.specs.Event.{AreLinks}
+use Rattle.zr_node_spec.specs.State.{NodeState, tables}
+use Rattle.zr_node_spec.specs.Table.{with_base, is_other_router, base_told, sends_state}
 use Rattle.zr_node.specs.Done.{Part, IsLeft}
 use Rattle.zr_node.specs.Steps.{told_part, news_to}
 use Rattle.zr_node.proofs.Done.{IsFirst}

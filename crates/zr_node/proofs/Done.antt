@@ -3,32 +3,32 @@ use Rattle.std.proofs.Common.{◌≡◌, ℕ, List, ◌++◌, Result, Ok, Err, r
 use Rattle.std.specs.Result.{IsErrAnd}
 use Rattle.zr_id.specs.declared.link.LinkNo.{LinkNo}
 use Rattle.zr_msg.specs.declared.msg.Msg.{Msg}
-use Rattle.zr_table.specs.Event.{Tells, TellsPrefix}
-use Rattle.zr_table.specs.State.{NodeState}
+use Rattle.zr_node_spec.specs.Event.{Tells, TellsPrefix}
+use Rattle.zr_node_spec.specs.State.{NodeState}
 use Rattle.zr_node.specs.Answer.{IsJudged}
 use Rattle.zr_node.specs.Done.{Part, IsLeft, IsDone}
-use Rattle.zr_node.specs.declared.failure.Failure.{Failure}
-use Rattle.zr_node.specs.declared.failure.Failure.TheVariants.{Refused, NoMemory}
+use Rattle.zr_node.specs.declared.failure.NodeFailure.{NodeFailure}
+use Rattle.zr_node.specs.declared.failure.NodeFailure.TheVariants.{Refused, NoMemory}
 use Rattle.zr_node.proofs.Retold.{nothing_told, all_told, retold, retold_prefix, told_both, prefix_first, prefix_second}
 
 -- ---- the exit of a `?`
 
-pub failed : (p : Part) (e : Failure) (r : Result (Unit {0}) Failure) (now : NodeState) (said all : List (LinkNo × Msg)) → IsErrAnd r (λ f. f ≡ e) → IsDone p (Err e) now said all → IsDone p r now said all
+pub failed : (p : Part) (e : NodeFailure) (r : Result (Unit {0}) NodeFailure) (now : NodeState) (said all : List (LinkNo × Msg)) → IsErrAnd r (λ f. f ≡ e) → IsDone p (Err e) now said all → IsDone p r now said all
 failed p e (Ok x) now said all h k = absurd h
-failed p e (Err f) now said all h k = subst (λ (g : Failure). IsDone p (Err g) now said all) (sym h) k
+failed p e (Err f) now said all h k = subst (λ (g : NodeFailure). IsDone p (Err g) now said all) (sym h) k
 
 -- memory ran out before anything was sent
-pub nothing_sent : (p : Part) (r : Result (Unit {0}) Failure) (now : NodeState) (said all : List (LinkNo × Msg)) → IsErrAnd r (λ f. f ≡ NoMemory) → all ≡ said → IsDone p r now said all
+pub nothing_sent : (p : Part) (r : Result (Unit {0}) NodeFailure) (now : NodeState) (said all : List (LinkNo × Msg)) → IsErrAnd r (λ f. f ≡ NoMemory) → all ≡ said → IsDone p r now said all
 nothing_sent p r now said all h e = failed p NoMemory r now said all h (subst (λ (xs : List (LinkNo × Msg)). TellsPrefix p.sends said xs) (sym e) (nothing_told p.sends said))
 
 -- what was judged to be refused is, where nothing has changed
-pub judged_failed : (p : Part) (e : Failure) (now : NodeState) (said : List (LinkNo × Msg)) → IsJudged {X = Unit {0}} p.refused (Err e) → now ≡ p.before → IsDone p (Err e) now said said
+pub judged_failed : (p : Part) (e : NodeFailure) (now : NodeState) (said : List (LinkNo × Msg)) → IsJudged {X = Unit {0}} p.refused (Err e) → now ≡ p.before → IsDone p (Err e) now said said
 judged_failed p (Refused why) now said h same = record { refused = h; state = same; sends = refl }
 judged_failed p NoMemory now said h same = nothing_told p.sends said
 
 -- ---- the same part
 
-pub redone : (p q : Part) (r : Result (Unit {0}) Failure) (now : NodeState) (said all : List (LinkNo × Msg)) → p.before ≡ q.before → p.left ≡ q.left → ((to : ℕ) → p.sends to ≡ q.sends to) → p.refused ≡ q.refused
+pub redone : (p q : Part) (r : Result (Unit {0}) NodeFailure) (now : NodeState) (said all : List (LinkNo × Msg)) → p.before ≡ q.before → p.left ≡ q.left → ((to : ℕ) → p.sends to ≡ q.sends to) → p.refused ≡ q.refused
     → IsDone p r now said all → IsDone q r now said all
 redone p q (Ok x) now said all before left sends refused h =
     record { allowed = sym refused ∙ h.allowed; state = h.state ∙ left; sends = retold p.sends q.sends said all sends h.sends }
@@ -45,7 +45,7 @@ pub record IsFirst (p q : Part) (more : ℕ → List Msg) : Type 0 where
 
 module _ (p q : Part) (more : ℕ → List Msg) (h : IsFirst p q more) where
   -- the first failed
-  pub first_failed : (e : Failure) (now : NodeState) (said all : List (LinkNo × Msg)) → IsDone p (Err e) now said all → IsDone q (Err e) now said all
+  pub first_failed : (e : NodeFailure) (now : NodeState) (said all : List (LinkNo × Msg)) → IsDone p (Err e) now said all → IsDone q (Err e) now said all
   first_failed (Refused why) now said all k = record { refused = sym h.refused ∙ k.refused; state = k.state ∙ h.before; sends = k.sends }
   first_failed NoMemory now said all k = prefix_first p.sends more q.sends said h.sends all k
 

@@ -16,18 +16,18 @@ use Rattle.zr_msg.specs.declared.peer.Peer.{Peer}
 use Rattle.zr_msg.specs.declared.peer.Role.{Role}
 use Rattle.zr_msg.specs.declared.peer.Role.TheVariants.{Client, Router}
 use Rattle.zr_pend.specs.Pending.{dropped}
-use Rattle.zr_routing.specs.Changes.{changes, after_changes}
-use Rattle.zr_routing.specs.Queries.{link_no, sends_ends}
-use Rattle.zr_routing.specs.Snapshots.{sends_snapshots}
-use Rattle.zr_routing.specs.Tables.{link_at, is_router}
-use Rattle.zr_table.specs.Event.{Tells, TellsPrefix}
-use Rattle.zr_table.specs.State.{NodeState, tables}
-use Rattle.zr_table.specs.Table.{base_down, base_parted, without_link, with_pending, with_rows, sends_rows, sends_down, sends_parted, refuses_rows, refuses_down, refuses_parting}
+use Rattle.zr_node_spec.specs.Changes.{changes, after_changes}
+use Rattle.zr_node_spec.specs.Queries.{link_no, sends_ends}
+use Rattle.zr_node_spec.specs.Snapshots.{sends_snapshots}
+use Rattle.zr_node_spec.specs.Tables.{link_at, is_router}
+use Rattle.zr_node_spec.specs.Event.{Tells, TellsPrefix}
+use Rattle.zr_node_spec.specs.State.{NodeState, tables}
+use Rattle.zr_node_spec.specs.Table.{base_down, base_parted, without_link, with_pending, with_rows, sends_rows, sends_down, sends_parted, refuses_rows, refuses_down, refuses_parting}
 use Rattle.zr_node.specs.Done.{Part, IsLeft, IsDone}
 use Rattle.zr_node.specs.Steps.{with_links, event_part, asked_part, leave_part, down_part, parted_from}
 use Rattle.zr_node.specs.declared.asked.Asked.TheVariants.{Leave}
-use Rattle.zr_node.specs.declared.failure.Failure.{Failure}
-use Rattle.zr_node.specs.declared.failure.Failure.TheVariants.{Refused, NoMemory}
+use Rattle.zr_node.specs.declared.failure.NodeFailure.{NodeFailure}
+use Rattle.zr_node.specs.declared.failure.NodeFailure.TheVariants.{Refused, NoMemory}
 use Rattle.zr_node.proofs.Done.{redone}
 use Rattle.zr_node.proofs.Quiet.{nothing_more, rows_stay, rows_silent, rows_allowed}
 use Rattle.zr_node.proofs.Retold.{nothing_told, all_told, told_behind, told_both, prefix_first}
@@ -93,7 +93,7 @@ module _ (n : NodeState) (link : LinkNo) where
         refused = option_or (refuses_down n.base o) (refuses_rows n (rows_of o));
       }
 
-  module _ (r : Result (Unit {0}) Failure) (now : NodeState) (said all : List (LinkNo × Msg)) where
+  module _ (r : Result (Unit {0}) NodeFailure) (now : NodeState) (said all : List (LinkNo × Msg)) where
     -- the peer is that of the link
     of_link : (peer : Peer) (role : Role) → Some peer ≡ option_map (λ l. l.peer) (link_at n.links link.0) → peer.role ≡ role → IsDone (down_by peer role) r now said all
         → IsDone (event_part n (Down link)) r now said all
@@ -132,7 +132,7 @@ module _ (n : NodeState) (link : LinkNo) where
   leaves = asked_part n (Leave link)
 
   -- that fails, and what was to be told of it is forgotten
-  pub leaving_failed : (e : Failure) (now : NodeState) (said told : List (LinkNo × Msg)) → IsDone leaves (Err e) now [] told → IsDone (leave_part n link) (Err e) now said said
+  pub leaving_failed : (e : NodeFailure) (now : NodeState) (said told : List (LinkNo × Msg)) → IsDone leaves (Err e) now [] told → IsDone (leave_part n link) (Err e) now said said
   leaving_failed (Refused why) now said told h = record { refused = h.refused; state = h.state; sends = refl }
   leaving_failed NoMemory now said told h = nothing_told (leave_part n link).sends said
 

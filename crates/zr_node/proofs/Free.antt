@@ -7,9 +7,9 @@ use Rattle.std.proofs.lemmas.Bool.{eqb-true, eq-eqb, ltb-true, ltb-false, false_
 use Rattle.std.proofs.lemmas.List.{at_drop_more}
 use Rattle.std.proofs.lemmas.Map.Keys.{sorted_head}
 use Rattle.zr_msg.specs.declared.peer.LinkPeer.{LinkPeer}
-use Rattle.zr_routing.specs.Tables.{is_link, free_link}
-use Rattle.zr_table.proofs.Inserted.{All-each}
-use Rattle.zr_table.proofs.Links.{AreAscending, ascending_behind}
+use Rattle.zr_node_spec.specs.Tables.{is_link, free_link}
+use Rattle.zr_lists.proofs.Each.{All-each}
+use Rattle.zr_node_spec.proofs.Links.{AreAscending, ascending_behind}
 
 -- the first number from one on that the links do not have in a row
 abbrev pub counted : ℕ → List LinkPeer → ℕ

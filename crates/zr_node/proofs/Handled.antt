@@ -5,13 +5,13 @@ use Rattle.zr_msg.specs.declared.error.NodeError.{NodeError}
 use Rattle.zr_msg.specs.declared.error.NodeError.TheVariants.{Spent, NoMemory}
 use Rattle.zr_msg.specs.declared.event.Event.{Event}
 use Rattle.zr_msg.specs.declared.msg.Msg.{Msg}
-use Rattle.zr_table.specs.State.{NodeState}
-use Rattle.zr_table.specs.Table.{refuses}
+use Rattle.zr_node_spec.specs.State.{NodeState}
+use Rattle.zr_node_spec.specs.Table.{refuses}
 use Rattle.zr_node.specs.Answer.{refusal_of}
 use Rattle.zr_node.specs.Done.{IsRefused, IsDone}
 use Rattle.zr_node.specs.Steps.{event_part}
-use Rattle.zr_node.specs.declared.failure.Failure.{Failure}
-use Rattle.zr_node.specs.declared.failure.Failure.TheVariants.{Refused}
+use Rattle.zr_node.specs.declared.failure.NodeFailure.{NodeFailure}
+use Rattle.zr_node.specs.declared.failure.NodeFailure.TheVariants.{Refused}
 use Rattle.zr_node.proofs.Refusals.{not_memory, not_spent}
 
 -- an answer that is an error
@@ -22,10 +22,10 @@ same_error : (x y : NodeError) → error x ≡ error y → x ≡ y
 same_error x y h = cc
 
 module _ (n : NodeState) (event : Event) where
-  module _ (why : NodeError) (failure : Failure) (now : NodeState) (said all : List (LinkNo × Msg)) (is : failure ≡ Refused why) (done : IsDone (event_part n event) (Err failure) now said all) where
+  module _ (why : NodeError) (failure : NodeFailure) (now : NodeState) (said all : List (LinkNo × Msg)) (is : failure ≡ Refused why) (done : IsDone (event_part n event) (Err failure) now said all) where
     refused : refuses n event ≡ Some why
     refused =
-        let h : IsRefused (event_part n event) why now said all = subst (λ (f : Failure). IsDone (event_part n event) (Err f) now said all) is done in
+        let h : IsRefused (event_part n event) why now said all = subst (λ (f : NodeFailure). IsDone (event_part n event) (Err f) now said all) is done in
         h.refused
 
     pub refused_not_memory : error why ≡ error NoMemory → ⊥

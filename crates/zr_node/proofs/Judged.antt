@@ -5,7 +5,7 @@ use Rattle.std.proofs.lemmas.Bool.{true≢false}
 use Rattle.zr_local.specs.Rows.{refusal}
 use Rattle.zr_local.specs.declared.error.LocalError.{LocalError}
 use Rattle.zr_local.specs.declared.error.LocalError.TheVariants as local
-use Rattle.zr_table.specs.Table.{local_error}
+use Rattle.zr_node_spec.specs.Table.{local_error}
 use Rattle.zr_node.specs.Answer.{IsJudged, answered}
 
 pub judged : {X : Type 0} (id : ℕ) (r : Result X LocalError) → IsJudged (option_map (λ e. local_error id e) (refusal r)) (answered id r)

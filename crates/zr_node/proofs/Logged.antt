@@ -4,7 +4,7 @@ use Rattle.std.proofs.lemmas.List.{at_drop_more}
 use Rattle.zr_log.specs.Known.{KnownState, after_own}
 use Rattle.zr_log.specs.Log.{Change}
 use Rattle.zr_msg.specs.declared.decl.Decl.{Decl}
-use Rattle.zr_routing.specs.Changes.{after_changes}
+use Rattle.zr_node_spec.specs.Changes.{after_changes}
 
 -- of the same kind
 abbrev pub alike : (added : Bool) → List Decl → List Change

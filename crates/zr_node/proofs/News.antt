@@ -5,10 +5,10 @@ use Rattle.zr_log.specs.Known.{KnownState}
 use Rattle.zr_log.specs.declared.error.KnownError.{KnownError}
 use Rattle.zr_log.specs.declared.known.Taken.TheVariants.{New, Old}
 use Rattle.zr_msg.specs.declared.msg.Msg.{Msg}
-use Rattle.zr_routing.specs.Tables.{leads_to_router, is_to_child}
-use Rattle.zr_table.specs.Event.{Tells}
-use Rattle.zr_table.specs.State.{NodeState, tables}
-use Rattle.zr_table.specs.Table.{with_known, known_error}
+use Rattle.zr_node_spec.specs.Tables.{leads_to_router, is_to_child}
+use Rattle.zr_node_spec.specs.Event.{Tells}
+use Rattle.zr_node_spec.specs.State.{NodeState, tables}
+use Rattle.zr_node_spec.specs.Table.{with_known, known_error}
 use Rattle.zr_node.specs.Done.{Part, IsLeft}
 
 -- ---- answers

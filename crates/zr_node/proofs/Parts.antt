@@ -16,15 +16,15 @@ use Rattle.zr_msg.specs.declared.error.NodeError.{NodeError}
 use Rattle.zr_msg.specs.declared.event.Event.{Event}
 use Rattle.zr_msg.specs.declared.msg.Msg.{Msg}
 use Rattle.zr_msg.specs.declared.peer.LinkPeer.{LinkPeer}
-use Rattle.zr_routing.specs.Tables.{TableState, HaveSameTrees, leads_to_client}
-use Rattle.zr_table.specs.State.{NodeState, tables, local_state}
-use Rattle.zr_table.specs.Table.{after_from, with_clients, with_rows, sends, sends_from, sends_rows, refuses_from, refuses_rows, refuses_noted, live, local_error}
+use Rattle.zr_node_spec.specs.Tables.{TableState, HaveSameTrees, leads_to_client}
+use Rattle.zr_node_spec.specs.State.{NodeState, tables, local_state}
+use Rattle.zr_node_spec.specs.Table.{after_from, with_clients, with_rows, sends, sends_from, sends_rows, refuses_from, refuses_rows, refuses_noted, live, local_error}
 use Rattle.zr_node.specs.Answer.{IsJudged}
 use Rattle.zr_node.specs.Done.{Part, IsLeft, IsDone}
 use Rattle.zr_node.specs.Steps.{event_part, message_part, asked_part, declare_part, undeclare_part, interest_part}
 use Rattle.zr_node.specs.declared.asked.Asked.TheVariants.{Declare, Undeclare}
-use Rattle.zr_node.specs.declared.failure.Failure.{Failure}
-use Rattle.zr_node.specs.declared.failure.Failure.TheVariants.{Refused, NoMemory}
+use Rattle.zr_node.specs.declared.failure.NodeFailure.{NodeFailure}
+use Rattle.zr_node.specs.declared.failure.NodeFailure.TheVariants.{Refused, NoMemory}
 use Rattle.zr_node.proofs.Done.{redone}
 use Rattle.zr_node.proofs.Quiet.{nothing_more, rows_stay, rows_silent}
 use Rattle.zr_node.proofs.Retold.{nothing_told, silent}
@@ -36,7 +36,7 @@ goes_by t u links b same e f = record { links_are = same.links ∙ e; base_is = 
 -- ---- a message
 
 -- one that leaves the records as they are makes no new child
-pub message_done : (n : NodeState) (from : ℕ) (msg same : Msg) → same ≡ msg → (r : Result (Unit {0}) Failure) (now : NodeState) (said all : List (LinkNo × Msg)) (p : Part) → IsDone p r now said all
+pub message_done : (n : NodeState) (from : ℕ) (msg same : Msg) → same ≡ msg → (r : Result (Unit {0}) NodeFailure) (now : NodeState) (said all : List (LinkNo × Msg)) (p : Part) → IsDone p r now said all
     → p.before ≡ n → p.left ≡ after_from n from msg → ((to : ℕ) → p.sends to ≡ sends_from n from msg to) → p.refused ≡ refuses_from n from msg → (after_from n from msg).base ≡ n.base
     → IsDone (message_part n from same) r now said all
 message_done n from msg same is r now said all p h before left sends refused base =
@@ -45,7 +45,7 @@ message_done n from msg same is r now said all p h before left sends refused bas
     (λ to. sends to ∙ nothing_more (tables (after_from n from msg)) n.base.records (sends_from n from msg to) (ap (λ (b : BaseState). b.records) base) to)
     refused h)
 
-pub at_message : (n : NodeState) (from : ℕ) (msg same : Msg) → same ≡ msg → (r : Result (Unit {0}) Failure) (now : NodeState) (said all : List (LinkNo × Msg)) → IsDone (message_part n from msg) r now said all
+pub at_message : (n : NodeState) (from : ℕ) (msg same : Msg) → same ≡ msg → (r : Result (Unit {0}) NodeFailure) (now : NodeState) (said all : List (LinkNo × Msg)) → IsDone (message_part n from msg) r now said all
     → IsDone (message_part n from same) r now said all
 at_message n from msg same is r now said all h = subst (λ (m : Msg). IsDone (message_part n from m) r now said all) (sym is) h
 
@@ -69,7 +69,7 @@ module _ (n : NodeState) (from : ℕ) (r : Row) where
       }
 
   -- where a client stands there, it is asked
-  pub declare_asked : (x : Result (Unit {0}) Failure) (now : NodeState) (said all : List (LinkNo × Msg)) → leads_to_client n.links from ≡ true
+  pub declare_asked : (x : Result (Unit {0}) NodeFailure) (now : NodeState) (said all : List (LinkNo × Msg)) → leads_to_client n.links from ≡ true
       → IsDone (asked_part n (Declare r.link r.id r.decl)) x now said all → IsDone (declare_part n from r) x now said all
   declare_asked x now said all lead h = subst (λ b. IsDone (declare_by b) x now said all) (sym lead) h
 
@@ -92,7 +92,7 @@ module _ (n : NodeState) (link : LinkNo) (id : ℕ) (kind : Kind) where
         refused = cond b (option_or (option_map (λ x. local_error id x) (refuses_undeclare n.rows key)) (refuses_rows n (cond b (undeclared n.rows key) n.rows))) None;
       }
 
-  pub undeclare_asked : (x : Result (Unit {0}) Failure) (now : NodeState) (said all : List (LinkNo × Msg)) → leads_to_client n.links link.0 ≡ true
+  pub undeclare_asked : (x : Result (Unit {0}) NodeFailure) (now : NodeState) (said all : List (LinkNo × Msg)) → leads_to_client n.links link.0 ≡ true
       → IsDone (asked_part n (Undeclare link id kind)) x now said all → IsDone (undeclare_part n link.0 (record { link = link.0; kind = id_kind kind; id = id })) x now said all
   undeclare_asked x now said all lead h = subst (λ b. IsDone (undeclare_by b) x now said all) (sym lead) h
 
@@ -141,12 +141,12 @@ module _ (n : NodeState) (link : LinkNo) (id : ℕ) (i : Option Interest) where
   interest_nothing said lead =
       subst (λ b. IsLeft (interest_by b) n said said) (sym lead) (record { allowed = refl; state = refl; sends = silent (λ to. []) said (λ to. refl) })
 
-  pub interest_noted : (r : Result (Unit {0}) Failure) (now : NodeState) (said : List (LinkNo × Msg)) → leads_to_client n.links link.0 ≡ true
+  pub interest_noted : (r : Result (Unit {0}) NodeFailure) (now : NodeState) (said : List (LinkNo × Msg)) → leads_to_client n.links link.0 ≡ true
       → OnOk r (now ≡ with_clients n (noted n.clients link id i)) → IsJudged (option_map (λ x. local_error id x) (refuses_interest (local_state n) link id i)) r → OnErr r (now ≡ n)
       → IsDone (interest_part n link.0 id i) r now said said
   interest_noted r now said lead state judged same = subst (λ b. IsDone (interest_by b) r now said said) (sym lead) (by r state judged same)
     where
-      by : (r : Result (Unit {0}) Failure) → OnOk r (now ≡ with_clients n (noted n.clients link id i)) → IsJudged (option_map (λ x. local_error id x) (refuses_interest (local_state n) link id i)) r
+      by : (r : Result (Unit {0}) NodeFailure) → OnOk r (now ≡ with_clients n (noted n.clients link id i)) → IsJudged (option_map (λ x. local_error id x) (refuses_interest (local_state n) link id i)) r
           → OnErr r (now ≡ n) → IsDone (interest_by true) r now said said
       by (Ok x) s j u = record { allowed = j; state = s; sends = silent (λ to. []) said (λ to. refl) }
       by (Err (Refused why)) s j u = record { refused = j; state = u; sends = refl }
@@ -154,5 +154,5 @@ module _ (n : NodeState) (link : LinkNo) (id : ℕ) (i : Option Interest) where
 
 -- ---- the same event
 
-pub at_event : (n : NodeState) (event same : Event) → event ≡ same → (r : Result (Unit {0}) Failure) (now : NodeState) (said all : List (LinkNo × Msg)) → IsDone (event_part n same) r now said all → IsDone (event_part n event) r now said all
+pub at_event : (n : NodeState) (event same : Event) → event ≡ same → (r : Result (Unit {0}) NodeFailure) (now : NodeState) (said all : List (LinkNo × Msg)) → IsDone (event_part n same) r now said all → IsDone (event_part n event) r now said all
 at_event n event same e r now said all h = subst (λ (x : Event). IsDone (event_part n x) r now said all) (sym e) h

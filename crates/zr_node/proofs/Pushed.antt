@@ -1,8 +1,8 @@
 -- The link over which a sample has come.
 use Rattle.std.proofs.Common.{◌≡◌, ℕ, List, Some, sym, ap, ◌∙◌}
 use Rattle.zr_msg.specs.declared.peer.LinkPeer.{LinkPeer}
-use Rattle.zr_routing.specs.Tables.{link_at}
-use Rattle.zr_table.proofs.Links.{found_number}
+use Rattle.zr_node_spec.specs.Tables.{link_at}
+use Rattle.zr_node_spec.proofs.Links.{found_number}
 
 -- the link that is found under a number is the one of its own number
 pub at_itself : (links : List LinkPeer) (number : ℕ) (l : LinkPeer) → Some l ≡ link_at links number → link_at links l.link.0 ≡ Some l

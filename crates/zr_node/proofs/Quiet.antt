@@ -15,18 +15,18 @@ use Rattle.zr_log.specs.Known.{position}
 use Rattle.zr_msg.specs.Decl.{decl_cmp}
 use Rattle.zr_msg.specs.declared.decl.Decl.{Decl}
 use Rattle.zr_msg.specs.declared.error.NodeError.TheVariants.{Worn}
-use Rattle.zr_routing.specs.Changes.{changes, after_changes, sends_changes, have_no_room}
-use Rattle.zr_set.specs.Decls.{has}
-use Rattle.zr_set.proofs.Decls.{decl_order}
-use Rattle.zr_set.proofs.Order.{is_itself}
-use Rattle.zr_table.specs.Event.{Tells, TellsPrefix}
-use Rattle.zr_table.specs.State.{NodeState, tables}
-use Rattle.zr_table.specs.Table.{with_rows, sends_rows, refuses_rows}
+use Rattle.zr_node_spec.specs.Changes.{changes, after_changes, sends_changes, have_no_room}
+use Rattle.zr_log_set.specs.Decls.{has}
+use Rattle.zr_log_set.proofs.Decls.{decl_order}
+use Rattle.zr_lists.proofs.Order.{is_itself}
+use Rattle.zr_node_spec.specs.Event.{Tells, TellsPrefix}
+use Rattle.zr_node_spec.specs.State.{NodeState, tables}
+use Rattle.zr_node_spec.specs.Table.{with_rows, sends_rows, refuses_rows}
 use Rattle.zr_log.specs.declared.log.Log.{Log}
 use Rattle.zr_msg.specs.declared.msg.Msg.{Msg}
 use Rattle.zr_msg.specs.declared.peer.LinkPeer.{LinkPeer}
-use Rattle.zr_routing.specs.Snapshots.{is_new_child, snapshot, snapshots_on, sends_snapshots}
-use Rattle.zr_routing.specs.Tables.{TableState, is_router, is_to_child, link_at}
+use Rattle.zr_node_spec.specs.Snapshots.{is_new_child, snapshot, snapshots_on, sends_snapshots}
+use Rattle.zr_node_spec.specs.Tables.{TableState, is_router, is_to_child, link_at}
 use Rattle.zr_tree.specs.Same.{HaveSameEdges}
 use Rattle.zr_tree.specs.Tree.{is_child}
 use Rattle.zr_tree.specs.Walk.{graph_of}

@@ -25,12 +25,12 @@ use Rattle.zr_msg.specs.declared.peer.LinkPeer.{LinkPeer}
 use Rattle.zr_msg.specs.declared.peer.Role.{Role}
 use Rattle.zr_msg.specs.declared.peer.Role.TheVariants.{Client, Router}
 use Rattle.zr_pend.specs.Pending.{asked}
-use Rattle.zr_routing.specs.Changes.{changes, have_no_room}
-use Rattle.zr_routing.specs.Queries.{link_no, asked_links, asker, asks_most, has_no_number, most_pending}
-use Rattle.zr_routing.specs.Tables.{link_at, leads_to_client, leads_to_router}
-use Rattle.zr_set.specs.Decls.{decl_weight, most_weight, set_of, weight}
-use Rattle.zr_table.specs.State.{NodeState, tables, local_state}
-use Rattle.zr_table.specs.Table.{refuses, refuses_up, refuses_parting, refuses_down, refuses_rows, refuses_declared, refuses_undeclared, refuses_noted, refuses_step_from, refuses_snap_from, refuses_from, refuses_request, local_error, known_error, is_worn, is_full, able_kind, live, row, key_of, rows_declared, rows_undeclared, rows_left}
+use Rattle.zr_node_spec.specs.Changes.{changes, have_no_room}
+use Rattle.zr_node_spec.specs.Queries.{link_no, asked_links, asker, asks_most, has_no_number, most_pending}
+use Rattle.zr_node_spec.specs.Tables.{link_at, leads_to_client, leads_to_router}
+use Rattle.zr_log_set.specs.Decls.{decl_weight, most_weight, set_of, weight}
+use Rattle.zr_node_spec.specs.State.{NodeState, tables, local_state}
+use Rattle.zr_node_spec.specs.Table.{refuses, refuses_up, refuses_parting, refuses_down, refuses_rows, refuses_declared, refuses_undeclared, refuses_noted, refuses_step_from, refuses_snap_from, refuses_from, refuses_request, local_error, known_error, is_worn, is_full, able_kind, live, row, key_of, rows_declared, rows_undeclared, rows_left}
 
 abbrev pub IsOfTable : NodeError → Type 0
 IsOfTable (e.Gap router has came) = Unit {0}

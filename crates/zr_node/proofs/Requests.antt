@@ -10,26 +10,26 @@ use Rattle.zr_msg.specs.declared.msg.Target.{Target}
 use Rattle.zr_pend.specs.Pending.{asked}
 use Rattle.zr_pend.specs.Row.{RowState}
 use Rattle.zr_push.specs.Route.{route_of}
-use Rattle.zr_sought.specs.Sought.{sought_by}
-use Rattle.zr_push.specs.declared.route.Stop.{Stop}
-use Rattle.zr_sought.specs.declared.sought.Sought.{Sought}
+use Rattle.zr_push_sought.specs.Sought.{sought_by}
+use Rattle.zr_push.specs.declared.route.RouteLink.{RouteLink}
+use Rattle.zr_push_sought.specs.declared.sought.Sought.{Sought}
 use Rattle.zr_query.specs.declared.asking.RequestError.{RequestError}
 use Rattle.zr_query.specs.declared.asking.RequestError.TheVariants as request
-use Rattle.zr_routing.specs.Queries.{after_request, asked_links, asker, asks_most, has_no_number, most_pending, sends_request}
-use Rattle.zr_routing.specs.Tables.{TableState, leads_to_client}
-use Rattle.zr_table.specs.Event.{Tells, TellsPrefix}
-use Rattle.zr_table.specs.State.{NodeState, tables}
-use Rattle.zr_table.specs.Table.{refuses_request, with_pending}
+use Rattle.zr_node_spec.specs.Queries.{after_request, asked_links, asker, asks_most, has_no_number, most_pending, sends_request}
+use Rattle.zr_node_spec.specs.Tables.{TableState, leads_to_client}
+use Rattle.zr_node_spec.specs.Event.{Tells, TellsPrefix}
+use Rattle.zr_node_spec.specs.State.{NodeState, tables}
+use Rattle.zr_node_spec.specs.Table.{refuses_request, with_pending}
 use Rattle.zr_node.specs.Answer.{request_failure}
 use Rattle.zr_node.specs.Done.{Part, IsLeft, IsDone}
 use Rattle.zr_node.specs.Requests.{refuses_asker}
 use Rattle.zr_node.specs.Steps.{request_part}
-use Rattle.zr_node.specs.declared.failure.Failure.{Failure}
-use Rattle.zr_node.specs.declared.failure.Failure.TheVariants.{Refused, NoMemory}
+use Rattle.zr_node.specs.declared.failure.NodeFailure.{NodeFailure}
+use Rattle.zr_node.specs.declared.failure.NodeFailure.TheVariants.{Refused, NoMemory}
 use Rattle.zr_node.proofs.Done.{failed}
 
 -- the route of what a request seeks is its route
-pub is_route : (t : TableState) (tree : List ℕ) (target : Target) (sought : Sought) (key own_key : List ℕ) (stops : List Stop) → stops ≡ route_of t tree sought key → sought ≡ sought_by target → key ≡ own_key
+pub is_route : (t : TableState) (tree : List ℕ) (target : Target) (sought : Sought) (key own_key : List ℕ) (stops : List RouteLink) → stops ≡ route_of t tree sought key → sought ≡ sought_by target → key ≡ own_key
     → stops ≡ route_of t tree (sought_by target) own_key
 is_route t tree target sought key own_key stops e f g = e ∙ ap (λ (s : Sought). route_of t tree s key) f ∙ ap (λ (k : List ℕ). route_of t tree (sought_by target) k) g
 
@@ -65,7 +65,7 @@ module _ (n : NodeState) (from number : ℕ) (named : Option (List ℕ)) (target
   }
 
   -- there is none, or memory ran out
-  pub request_failed : (t : TableState) → t ≡ tables n → (rows : List RowState) (said all : List (LinkNo × Msg)) (e : RequestError) (r : Result (Unit {0}) Failure) → IsErrAnd r (λ f. f ≡ request_failure e)
+  pub request_failed : (t : TableState) → t ≡ tables n → (rows : List RowState) (said all : List (LinkNo × Msg)) (e : RequestError) (r : Result (Unit {0}) NodeFailure) → IsErrAnd r (λ f. f ≡ request_failure e)
       → (error e ≡ error request.NoNumber → has_no_number n.pending (over t) ≡ true) → (error e ≡ error request.NoNumber → (rows ≡ n.pending) × (all ≡ said))
       → TellsPrefix (sends_request t n.pending from named number target content) said all → IsDone part r (with_pending n rows) said all
   request_failed t is rows said all request.NoNumber r h full same prefix =

@@ -3,9 +3,9 @@ use Rattle.std.proofs.Common.{◌≡◌, ℕ, ◌∙◌, List, [], ◌++◌, app
 use Rattle.std.proofs.lemmas.List.{append-nil}
 use Rattle.zr_id.specs.declared.link.LinkNo.{LinkNo}
 use Rattle.zr_msg.specs.declared.msg.Msg.{Msg}
-use Rattle.zr_table.specs.Event.{on_link, Tells, TellsPrefix}
-use Rattle.zr_table.specs.Prefix.{IsPrefixOf}
-use Rattle.zr_table.proofs.Told.{on_link-append}
+use Rattle.zr_node_spec.specs.Event.{on_link, Tells, TellsPrefix}
+use Rattle.zr_lists.specs.Prefix.{IsPrefixOf}
+use Rattle.zr_node_spec.proofs.Told.{on_link-append}
 
 -- nothing at all is a prefix
 pub nothing_told : (rows : ℕ → List Msg) (before : List (LinkNo × Msg)) → TellsPrefix rows before before

@@ -12,17 +12,17 @@ use Rattle.zr_msg.specs.declared.decl.Decl.{Decl}
 use Rattle.zr_msg.specs.declared.error.NodeError.{NodeError}
 use Rattle.zr_msg.specs.declared.error.NodeError.TheVariants.{Worn}
 use Rattle.zr_msg.specs.declared.msg.Msg.{Msg}
-use Rattle.zr_routing.specs.Changes.{changes_of, changes, after_changes, sends_changes, have_no_room}
-use Rattle.zr_table.specs.Event.{Tells, TellsPrefix}
-use Rattle.zr_table.specs.State.{NodeState, tables, local_state}
-use Rattle.zr_table.specs.Table.{with_known, refuses_rows}
+use Rattle.zr_node_spec.specs.Changes.{changes_of, changes, after_changes, sends_changes, have_no_room}
+use Rattle.zr_node_spec.specs.Event.{Tells, TellsPrefix}
+use Rattle.zr_node_spec.specs.State.{NodeState, tables, local_state}
+use Rattle.zr_node_spec.specs.Table.{with_known, refuses_rows}
 use Rattle.zr_node.specs.Answer.{IsJudged}
 use Rattle.zr_node.specs.Asked.{rows_after, local_after, refuses_asked, refuses_change}
 use Rattle.zr_node.specs.Done.{IsDone}
 use Rattle.zr_node.specs.Steps.{with_local, with_asked, asked_part}
 use Rattle.zr_node.specs.declared.asked.Asked.{Asked}
-use Rattle.zr_node.specs.declared.failure.Failure.{Failure}
-use Rattle.zr_node.specs.declared.failure.Failure.TheVariants.{Refused, NoMemory}
+use Rattle.zr_node.specs.declared.failure.NodeFailure.{NodeFailure}
+use Rattle.zr_node.specs.declared.failure.NodeFailure.TheVariants.{Refused, NoMemory}
 use Rattle.zr_node.proofs.Done.{failed, nothing_sent, judged_failed}
 
 -- ---- room in the log
@@ -44,14 +44,14 @@ fits number lost won h =
 
 module _ (n : NodeState) (asked : Asked) where
   -- it is refused for itself, or memory ran out
-  pub asked_failed : (e : Failure) (r : Result (Unit {0}) Failure) (now : NodeState) (said : List (LinkNo × Msg)) → IsErrAnd r (λ f. f ≡ e) → IsJudged {X = Unit {0}} (refuses_asked (local_state n) asked) (Err e) → now ≡ n
+  pub asked_failed : (e : NodeFailure) (r : Result (Unit {0}) NodeFailure) (now : NodeState) (said : List (LinkNo × Msg)) → IsErrAnd r (λ f. f ≡ e) → IsJudged {X = Unit {0}} (refuses_asked (local_state n) asked) (Err e) → now ≡ n
       → IsDone (asked_part n asked) r now said said
   asked_failed (Refused why) r now said h j same =
       failed (asked_part n asked) (Refused why) r now said said h (record { refused = ap (λ (o : Option NodeError). option_or o (refuses_rows n (rows_after n.rows asked))) j; state = same; sends = refl })
   asked_failed NoMemory r now said h j same = nothing_sent (asked_part n asked) r now said said h refl
 
   -- it was judged to be refused
-  pub judge_failed : (e : Failure) (r : Result (Unit {0}) Failure) (now : NodeState) (said : List (LinkNo × Msg)) → IsErrAnd r (λ f. f ≡ e) → IsJudged {X = Unit {0}} (refuses_change n asked) (Err e) → now ≡ n
+  pub judge_failed : (e : NodeFailure) (r : Result (Unit {0}) NodeFailure) (now : NodeState) (said : List (LinkNo × Msg)) → IsErrAnd r (λ f. f ≡ e) → IsJudged {X = Unit {0}} (refuses_change n asked) (Err e) → now ≡ n
       → IsDone (asked_part n asked) r now said said
   judge_failed e r now said h j same = failed (asked_part n asked) e r now said said h (judged_failed (asked_part n asked) e now said j same)
 

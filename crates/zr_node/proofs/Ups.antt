@@ -9,10 +9,10 @@ use Rattle.zr_msg.specs.declared.msg.Msg.{Msg}
 use Rattle.zr_msg.specs.declared.peer.Peer.{Peer}
 use Rattle.zr_msg.specs.declared.peer.Role.{Role}
 use Rattle.zr_msg.specs.declared.peer.Role.TheVariants.{Client, Router}
-use Rattle.zr_table.specs.State.{NodeState, new_link, tables}
+use Rattle.zr_node_spec.specs.State.{NodeState, new_link, tables}
 use Rattle.zr_pend.specs.Pending.{dropped}
-use Rattle.zr_routing.specs.Queries.{link_no}
-use Rattle.zr_table.specs.Table.{with_base, with_pending, with_link, without_link, joined, parted}
+use Rattle.zr_node_spec.specs.Queries.{link_no}
+use Rattle.zr_node_spec.specs.Table.{with_base, with_pending, with_link, without_link, joined, parted}
 use Rattle.zr_node.specs.Done.{IsLeft}
 use Rattle.zr_node.specs.Steps.{with_links, up_as, up_part, join_part, parted_from, parting_part, down_part, news_to}
 use Rattle.zr_node.proofs.Done.{IsFirst}

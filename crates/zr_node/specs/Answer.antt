@@ -11,10 +11,10 @@ use Rattle.zr_msg.specs.declared.error.NodeError.TheVariants as node
 use Rattle.zr_msg.specs.declared.event.Event.{Event}
 use Rattle.zr_query.specs.declared.asking.RequestError.{RequestError}
 use Rattle.zr_query.specs.declared.asking.RequestError.TheVariants as request
-use Rattle.zr_table.specs.State.{NodeState}
-use Rattle.zr_table.specs.Table.{refuses}
-use Rattle.zr_node.specs.declared.failure.Failure.{Failure}
-use Rattle.zr_node.specs.declared.failure.Failure.TheVariants.{Refused, NoMemory}
+use Rattle.zr_node_spec.specs.State.{NodeState}
+use Rattle.zr_node_spec.specs.Table.{refuses}
+use Rattle.zr_node.specs.declared.failure.NodeFailure.{NodeFailure}
+use Rattle.zr_node.specs.declared.failure.NodeFailure.TheVariants.{Refused, NoMemory}
 
 -- the refusal of a change of the own record, if it is one: out of memory is none
 abbrev pub refusal : Result (Unit {0}) ChangeError → Option NodeError
@@ -23,29 +23,29 @@ refusal (Err change.Worn) = Some node.Worn
 refusal (Err change.NoMemory) = None
 
 -- as failures of the router
-abbrev pub change_failure : ChangeError → Failure
+abbrev pub change_failure : ChangeError → NodeFailure
 change_failure change.Worn = Refused node.Worn
 change_failure change.NoMemory = NoMemory
 
-abbrev pub known_failure : KnownError → Failure
+abbrev pub known_failure : KnownError → NodeFailure
 known_failure (known.Gap source has came) = Refused (node.Gap source has came)
 known_failure (known.TextLimit held more) = Refused (node.TextLimit held more)
 known_failure known.Worn = Refused node.Worn
 known_failure known.NoMemory = NoMemory
 
-abbrev pub request_failure : RequestError → Failure
+abbrev pub request_failure : RequestError → NodeFailure
 request_failure request.NoNumber = Refused node.Worn
 request_failure request.NoMemory = NoMemory
 
 -- what became of a client's declarations, as the router answers it
-abbrev pub answered : {X : Type 0} → ℕ → Result X LocalError → Result X Failure
+abbrev pub answered : {X : Type 0} → ℕ → Result X LocalError → Result X NodeFailure
 answered id (Ok x) = Ok x
 answered id (Err local.UnknownId) = Err (Refused (node.NotDeclared id))
 answered id (Err (local.TextLimit held more)) = Err (Refused (node.TextLimit held more))
 answered id (Err local.NoMemory) = Err NoMemory
 
 -- the refusal was answered, or memory ran out first
-abbrev pub IsJudged : {X : Type 0} → Option NodeError → Result X Failure → Type 0
+abbrev pub IsJudged : {X : Type 0} → Option NodeError → Result X NodeFailure → Type 0
 IsJudged r (Ok x) = r ≡ None
 IsJudged r (Err (Refused e)) = r ≡ Some e
 IsJudged r (Err NoMemory) = Unit {0}

@@ -7,8 +7,8 @@ use Rattle.zr_local.specs.State.{LocalState, refuses_declare}
 use Rattle.zr_local.specs.declared.interest.ClientInterests.{ClientInterests}
 use Rattle.zr_local.specs.declared.row.Row.{Row}
 use Rattle.zr_msg.specs.declared.error.NodeError.{NodeError}
-use Rattle.zr_table.specs.State.{NodeState, local_state}
-use Rattle.zr_table.specs.Table.{local_error, refuses_rows}
+use Rattle.zr_node_spec.specs.State.{NodeState, local_state}
+use Rattle.zr_node_spec.specs.Table.{local_error, refuses_rows}
 use Rattle.zr_node.specs.declared.asked.Asked.{Asked}
 use Rattle.zr_node.specs.declared.asked.Asked.TheVariants.{Declare, Undeclare, Leave}
 

@@ -3,10 +3,10 @@ use Rattle.std.specs.Prelude.{◌≡◌, ℕ, List, Option, Some, None, Result, 
 use Rattle.zr_id.specs.declared.link.LinkNo.{LinkNo}
 use Rattle.zr_msg.specs.declared.error.NodeError.{NodeError}
 use Rattle.zr_msg.specs.declared.msg.Msg.{Msg}
-use Rattle.zr_table.specs.Event.{Tells, TellsPrefix}
-use Rattle.zr_table.specs.State.{NodeState}
-use Rattle.zr_node.specs.declared.failure.Failure.{Failure}
-use Rattle.zr_node.specs.declared.failure.Failure.TheVariants.{Refused, NoMemory}
+use Rattle.zr_node_spec.specs.Event.{Tells, TellsPrefix}
+use Rattle.zr_node_spec.specs.State.{NodeState}
+use Rattle.zr_node.specs.declared.failure.NodeFailure.{NodeFailure}
+use Rattle.zr_node.specs.declared.failure.NodeFailure.TheVariants.{Refused, NoMemory}
 
 -- a part of an event, as the table has it
 pub record Part : Type 0 where
@@ -31,7 +31,7 @@ pub record IsRefused (part : Part) (why : NodeError) (now : NodeState) (said all
   pub sends : all ≡ said
 
 -- what is answered of it is right: `said` was sent before it, and `all` is sent now
-abbrev pub IsDone : Part → Result (Unit {0}) Failure → NodeState → List (LinkNo × Msg) → List (LinkNo × Msg) → Type 0
+abbrev pub IsDone : Part → Result (Unit {0}) NodeFailure → NodeState → List (LinkNo × Msg) → List (LinkNo × Msg) → Type 0
 IsDone part (Ok x) now said all = IsLeft part now said all
 IsDone part (Err (Refused why)) now said all = IsRefused part why now said all
 IsDone part (Err NoMemory) now said all = TellsPrefix part.sends said all

@@ -1,9 +1,7 @@
 pub mod Answer
 pub mod Asked
 pub mod Done
-pub mod Place
+pub mod Hints
 pub mod Requests
-pub mod Routes
-pub mod Sought
 pub mod Steps
 pub mod Whole

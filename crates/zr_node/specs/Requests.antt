@@ -5,7 +5,7 @@ use Rattle.zr_msg.specs.declared.error.NodeError.TheVariants.{NumberTaken, TooMa
 use Rattle.zr_pend.specs.Pending.{asked}
 use Rattle.zr_pend.specs.Row.{RowState}
 use Rattle.zr_pend.specs.declared.branch.Asker.{Asker}
-use Rattle.zr_routing.specs.Queries.{asks_most, most_pending}
+use Rattle.zr_node_spec.specs.Queries.{asks_most, most_pending}
 
 -- under its number one is pending, or the client has as many pending as it may
 abbrev pub refuses_asker : List RowState → Asker → Bool → Option NodeError

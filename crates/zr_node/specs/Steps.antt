@@ -18,11 +18,11 @@ use Rattle.zr_msg.specs.declared.peer.Role.{Role}
 use Rattle.zr_msg.specs.declared.peer.Role.TheVariants.{Router}
 use Rattle.zr_msg.specs.declared.peer.LinkPeer.{LinkPeer}
 use Rattle.zr_pend.specs.Pending.{dropped}
-use Rattle.zr_routing.specs.Queries.{link_no, asked_links, sends_request, sends_reply, sends_final, sends_ends, after_request, after_final}
-use Rattle.zr_routing.specs.Samples.{sends_push}
-use Rattle.zr_routing.specs.Snapshots.{sends_step, sends_snap, sends_snapshots}
-use Rattle.zr_table.specs.State.{NodeState, new_link, tables}
-use Rattle.zr_table.specs.Table.{after, sends, refuses, base_up, base_told, joined, parted, with_base, with_clients, with_pending, with_link, without_link, with_known, with_rows, clients_noted, refuses_noted, known_step, known_snap, rows_declared, rows_undeclared, sends_up, sends_parted, sends_state, sends_from, sends_rows, after_from, refuses_up, refuses_parting, refuses_from, refuses_request, refuses_declared, refuses_undeclared, refuses_step_from, refuses_snap_from}
+use Rattle.zr_node_spec.specs.Queries.{link_no, asked_links, sends_request, sends_reply, sends_final, sends_ends, after_request, after_final}
+use Rattle.zr_node_spec.specs.Samples.{sends_push}
+use Rattle.zr_node_spec.specs.Snapshots.{sends_step, sends_snap, sends_snapshots}
+use Rattle.zr_node_spec.specs.State.{NodeState, new_link, tables}
+use Rattle.zr_node_spec.specs.Table.{after, sends, refuses, base_up, base_told, joined, parted, with_base, with_clients, with_pending, with_link, without_link, with_known, with_rows, clients_noted, refuses_noted, known_step, known_snap, rows_declared, rows_undeclared, sends_up, sends_parted, sends_state, sends_from, sends_rows, after_from, refuses_up, refuses_parting, refuses_from, refuses_request, refuses_declared, refuses_undeclared, refuses_step_from, refuses_snap_from}
 use Rattle.zr_node.specs.Asked.{rows_after, clients_after, refuses_change}
 use Rattle.zr_node.specs.Done.{Part}
 use Rattle.zr_node.specs.declared.asked.Asked.{Asked}

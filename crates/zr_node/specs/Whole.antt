@@ -2,10 +2,10 @@
 use Rattle.std.specs.Prelude.{◌≡◌, List, Option, IfSome}
 use Rattle.zr_id.specs.Record.{RecordState}
 use Rattle.zr_graph.specs.Base.{BaseState}
-use Rattle.zr_routing.specs.Tables.{TableState}
-use Rattle.zr_table.specs.Event.{AreLinks}
-use Rattle.zr_node.specs.Routes.{AreRoutes}
-use Rattle.zr_node.specs.declared.routes.Routes.{Routes}
+use Rattle.zr_node_spec.specs.Tables.{TableState}
+use Rattle.zr_node_spec.specs.Event.{AreLinks}
+use Rattle.zr_push.specs.Routes.{AreRoutes}
+use Rattle.zr_push.specs.declared.routes.Routes.{Routes}
 
 -- the links are those of one router, whose own log is among those that are known; the children and the trees that it keeps are those by its records, and the
 -- routes that it remembers are those by its tables

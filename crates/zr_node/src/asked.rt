@@ -2,12 +2,12 @@
 
 ghost use Rattle.std.specs.Prelude.{◌≡◌, ◌+◌, ◌-◌, ◌^◌, not, nat_lt, length, map, IfOk, OnOk, OnErr};
 ghost use Rattle.zr_local.specs.Rows.{gone, came};
-ghost use Rattle.zr_routing.specs.Changes.{changes_of, after_changes};
-ghost use Rattle.zr_table.specs.Table.{able_kind};
+ghost use Rattle.zr_node_spec.specs.Changes.{changes_of, after_changes};
+ghost use Rattle.zr_node_spec.specs.Table.{able_kind};
 ghost use Rattle.zr_node.specs.Answer.{IsJudged, answered};
 ghost use Rattle.zr_node.specs.Asked.{rows_after, local_after, refuses_asked};
 
-use crate::failure::Failure;
+use crate::failure::NodeFailure;
 use std::alloc::{AllocError, Global};
 use zr_id::link::LinkNo;
 use zr_local::changes::Changes;
@@ -57,7 +57,7 @@ pub fn able_kind(complete: bool) -> Kind
 }
 
 /// Does what a client asks, and tells what became of the set of all declarations.
-pub fn apply(local: &mut Local, asked: Asked) -> Result<Changes, Failure>
+pub fn apply(local: &mut Local, asked: Asked) -> Result<Changes, NodeFailure>
     ensures gone { IfOk result (λ c. c.gone.items ≡ gone local.old.rows (rows_after local.old.rows asked)) }
     ensures came { IfOk result (λ c. c.came.items ≡ came local.old.rows (rows_after local.old.rows asked)) }
     ensures value { OnOk result (local.new ≡ local_after local.old asked) }
@@ -72,16 +72,16 @@ pub fn apply(local: &mut Local, asked: Asked) -> Result<Changes, Failure>
 }
 
 /// What became of what a client says of an id, as an answer of the router.
-pub fn answer<T>(id: u32, done: Result<T, LocalError>) -> Result<T, Failure>
+pub fn answer<T>(id: u32, done: Result<T, LocalError>) -> Result<T, NodeFailure>
     ensures { result ≡ answered id done }
 {
     match done {
         Ok(value) => Ok(value),
-        Err(LocalError::UnknownId) => Err(Failure::Refused(NodeError::NotDeclared { id })),
+        Err(LocalError::UnknownId) => Err(NodeFailure::Refused(NodeError::NotDeclared { id })),
         Err(LocalError::TextLimit { held, more }) => {
-            Err(Failure::Refused(NodeError::TextLimit { held, more }))
+            Err(NodeFailure::Refused(NodeError::TextLimit { held, more }))
         }
-        Err(LocalError::NoMemory) => Err(Failure::NoMemory),
+        Err(LocalError::NoMemory) => Err(NodeFailure::NoMemory),
     }
 }
 

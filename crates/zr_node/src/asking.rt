@@ -2,14 +2,13 @@
 
 ghost use Rattle.std.specs.Prelude.{◌≡◌, ℕ, List, Option, Some, None, false, true, OnOk, OnErr};
 ghost use Rattle.zr_node.specs.Requests.{refuses_asker};
-ghost use Rattle.zr_node.specs.Routes.{AreRoutes};
+ghost use Rattle.zr_push.specs.Routes.{AreRoutes};
 ghost use Rattle.zr_pend.specs.Pending.{asked};
-ghost use Rattle.zr_routing.specs.Queries.{after_request, asked_links, has_no_number, sends_request};
-ghost use Rattle.zr_routing.specs.Samples.{tree_of};
-ghost use Rattle.zr_routing.specs.Tables.{AreNumbered, link_at};
-ghost use Rattle.zr_table.specs.Event.{Tells, TellsPrefix};
+ghost use Rattle.zr_node_spec.specs.Queries.{after_request, asked_links, has_no_number, sends_request};
+ghost use Rattle.zr_node_spec.specs.Samples.{tree_of};
+ghost use Rattle.zr_node_spec.specs.Tables.{AreNumbered, link_at};
+ghost use Rattle.zr_node_spec.specs.Event.{Tells, TellsPrefix};
 
-use crate::routes::Routes;
 use std::alloc::Global;
 use zr_id::link::LinkNo;
 use zr_id::zid::Zid;
@@ -17,13 +16,14 @@ use zr_msg::content::Content;
 use zr_msg::error::NodeError;
 use zr_msg::msg::{Msg, Target};
 use zr_msg::peer::LinkPeer;
+use zr_node_spec::tables::TablesView;
 use zr_pend::branch::Asker;
 use zr_pend::pending::Pending;
 use zr_push::push::tree_of;
 use zr_push::route::Route;
+use zr_push::routes::Routes;
+use zr_push_sought::sought::sought_by;
 use zr_query::asking::{RequestError, refuse, request};
-use zr_routing::tables::Tables;
-use zr_sought::sought::sought_by;
 
 /// How many requests a client has pending at most.
 const MOST_PENDING: u32 = 4_096;
@@ -46,7 +46,7 @@ pub fn refusal(pending: &Pending, from: Asker, is_client: bool) -> Option<NodeEr
 /// A request of a link goes on in the tree that it stays in, or a final goes back at once where it stays in none.
 pub fn ask(
     alloc: Global,
-    tables: &Tables,
+    tables: &TablesView,
     routes: &mut Routes,
     pending: &mut Pending,
     from: Asker,
@@ -77,7 +77,7 @@ pub fn ask(
 }
 
 // The tree along which a request goes on, if it goes on.
-fn tree_for(tables: &Tables, link: Option<LinkPeer>, named: Option<Zid>) -> Option<Zid>
+fn tree_for(tables: &TablesView, link: Option<LinkPeer>, named: Option<Zid>) -> Option<Zid>
     ensures { result ≡ tree_of tables.now link named }
 {
     tree_of(tables, link?, named)
@@ -87,7 +87,7 @@ fn tree_for(tables: &Tables, link: Option<LinkPeer>, named: Option<Zid>) -> Opti
 // and remembered.
 fn request_along(
     alloc: Global,
-    tables: &Tables,
+    tables: &TablesView,
     routes: &mut Routes,
     pending: &mut Pending,
     from: Asker,

@@ -8,70 +8,70 @@ use zr_query::asking::RequestError;
 
 /// Why an event wasn't handled.
 #[derive(Drop)]
-pub enum Failure {
+pub enum NodeFailure {
     /// It is refused, and nothing has changed.
     Refused(NodeError),
     /// Memory ran out on the way.
     NoMemory,
 }
 
-impl From<AllocError> for Failure {
+impl From<AllocError> for NodeFailure {
     ghost use Rattle.std.specs.Prelude.{◌≡◌};
-    ghost use Rattle.zr_node.specs.declared.failure.Failure.TheVariants.{NoMemory};
+    ghost use Rattle.zr_node.specs.declared.failure.NodeFailure.TheVariants.{NoMemory};
 
     ghost from_gives = { λ _ e. e ≡ NoMemory };
 
-    fn from(_: AllocError) -> Failure {
-        Failure::NoMemory
+    fn from(_: AllocError) -> NodeFailure {
+        NodeFailure::NoMemory
     }
 }
 
-impl From<RequestError> for Failure {
+impl From<RequestError> for NodeFailure {
     ghost use Rattle.std.specs.Prelude.{◌≡◌};
     ghost use Rattle.zr_node.specs.Answer.{request_failure};
 
     ghost from_gives = { λ e f. f ≡ request_failure e };
 
-    fn from(error: RequestError) -> Failure {
+    fn from(error: RequestError) -> NodeFailure {
         match error {
-            RequestError::NoNumber => Failure::Refused(NodeError::Worn),
-            RequestError::NoMemory => Failure::NoMemory,
+            RequestError::NoNumber => NodeFailure::Refused(NodeError::Worn),
+            RequestError::NoMemory => NodeFailure::NoMemory,
         }
     }
 }
 
-impl From<ChangeError> for Failure {
+impl From<ChangeError> for NodeFailure {
     ghost use Rattle.std.specs.Prelude.{◌≡◌};
     ghost use Rattle.zr_node.specs.Answer.{change_failure};
 
     ghost from_gives = { λ e f. f ≡ change_failure e };
 
-    fn from(error: ChangeError) -> Failure {
+    fn from(error: ChangeError) -> NodeFailure {
         match error {
-            ChangeError::Worn => Failure::Refused(NodeError::Worn),
-            ChangeError::NoMemory => Failure::NoMemory,
+            ChangeError::Worn => NodeFailure::Refused(NodeError::Worn),
+            ChangeError::NoMemory => NodeFailure::NoMemory,
         }
     }
 }
 
-impl From<KnownError> for Failure {
+impl From<KnownError> for NodeFailure {
     ghost use Rattle.std.specs.Prelude.{◌≡◌};
     ghost use Rattle.zr_node.specs.Answer.{known_failure};
 
     ghost from_gives = { λ e f. f ≡ known_failure e };
 
-    fn from(error: KnownError) -> Failure {
+    fn from(error: KnownError) -> NodeFailure {
         match error {
-            KnownError::Gap { source, has, came } => Failure::Refused(NodeError::Gap {
+            KnownError::Gap { source, has, came } => NodeFailure::Refused(NodeError::Gap {
                 router: source,
                 has,
                 came,
             }),
             KnownError::TextLimit { held, more } => {
-                Failure::Refused(NodeError::TextLimit { held, more })
+                NodeFailure::Refused(NodeError::TextLimit { held, more })
             }
-            KnownError::Worn => Failure::Refused(NodeError::Worn),
-            KnownError::NoMemory => Failure::NoMemory,
+            KnownError::Worn => NodeFailure::Refused(NodeError::Worn),
+            KnownError::NoMemory => NodeFailure::NoMemory,
         }
     }
 }

@@ -1,7 +1,7 @@
 //! Which interests of a client are live.
 
 ghost use Rattle.std.specs.Prelude.{◌≡◌, IfOk};
-ghost use Rattle.zr_table.specs.Table.{live};
+ghost use Rattle.zr_node_spec.specs.Table.{live};
 
 use std::alloc::{AllocError, Global};
 use zr_key::key::KeyExpr;

@@ -10,4 +10,3 @@ mod kept;
 mod links;
 pub mod node;
 mod own;
-mod routes;

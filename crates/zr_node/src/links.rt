@@ -2,10 +2,12 @@
 
 ghost use Rattle.std.specs.Prelude.{◌≡◌, ◌<◌, ◌^◌, [], length, None, true, OnOk, IfOk, IfSome, OnErr};
 ghost use Rattle.std.specs.Option.{option_map};
-ghost use Rattle.zr_routing.specs.Tables.{link_at, link_to, free_link};
-ghost use Rattle.zr_table.specs.State.{new_link};
-ghost use Rattle.zr_table.specs.Table.{with_link, without_link};
-ghost use Rattle.zr_node.specs.Place.{AreAscending, IsGap, IsPlace, leads_to};
+ghost use Rattle.std.specs.Ordering.{nat_cmp};
+ghost use Rattle.zr_node_spec.specs.Tables.{AreNumbered, link_at, link_to, free_link};
+ghost use Rattle.zr_lists.specs.Place.{IsGap, IsPlace};
+ghost use Rattle.zr_node_spec.specs.State.{new_link};
+ghost use Rattle.zr_node_spec.specs.Table.{with_link, without_link};
+ghost use Rattle.zr_node.specs.Hints.{leads_to};
 
 use std::alloc::{AllocError, Global};
 use std::collections::BTreeMap;
@@ -28,13 +30,13 @@ pub struct Links {
 impl Model for Links {
     ghost use Rattle.std.specs.Prelude.{◌<◌, ◌^◌, List, length};
     ghost use Rattle.zr_msg.specs.declared.peer.LinkPeer.{LinkPeer};
-    ghost use Rattle.zr_node.specs.Place.{AreAscending};
+    ghost use Rattle.zr_node_spec.specs.Tables.{AreNumbered};
 
     ghost Value = { List LinkPeer };
 
     ghost view = { λ l. l.all.items };
 
-    ghost invariant = { λ l. AreAscending l.all.items × (length l.all.items < 2 ^ 32) };
+    ghost invariant = { λ l. AreNumbered l.all.items × (length l.all.items < 2 ^ 32) };
 }
 
 impl Links {
@@ -61,7 +63,7 @@ impl Links {
     /// The links in ascending order of their numbers.
     pub fn as_slice(&self) -> &[LinkPeer]
         ensures value { result.now ≡ self.now }
-        ensures ascending { AreAscending self.now }
+        ensures ascending { AreNumbered self.now }
         ensures few { length self.now < 2 ^ 32 }
     {
         self.all.as_slice()
@@ -129,8 +131,8 @@ impl Links {
 }
 
 fn place_of(links: &[LinkPeer], number: LinkNo) -> Result<usize, usize>
-    requires { AreAscending links.now }
-    ensures { IsPlace links.now number.0 result }
+    requires { AreNumbered links.now }
+    ensures { IsPlace nat_cmp (λ l. l.link.0) links.now number.0 result }
 {
     links.binary_search_by_key(&number.0, |l| l.link.0)
 }
@@ -138,7 +140,7 @@ fn place_of(links: &[LinkPeer], number: LinkNo) -> Result<usize, usize>
 // The least number that no link has.
 fn free_number(links: &[LinkPeer]) -> u32
     requires few { length links.now < 2 ^ 32 }
-    requires ascending { AreAscending links.now }
+    requires ascending { AreNumbered links.now }
     ensures { result ≡ free_link links.now }
 {
     let mut free = 0;
@@ -152,9 +154,9 @@ fn free_number(links: &[LinkPeer]) -> u32
 }
 
 fn gap_of(links: &[LinkPeer], number: LinkNo) -> usize
-    requires ascending { AreAscending links.now }
+    requires ascending { AreNumbered links.now }
     requires absent { link_at links.now number.0 ≡ None }
-    ensures { IsGap links.now number.0 result }
+    ensures { IsGap nat_cmp (λ l. l.link.0) links.now number.0 result }
 {
     match place_of(links, number) {
         Ok(at) => at,
@@ -179,7 +181,7 @@ fn hints_of(alloc: Global, links: &[LinkPeer]) -> Result<BTreeMap<Zid, LinkNo>, 
 
 // The link has gone down.
 fn forget_hint(numbers: &mut BTreeMap<Zid, LinkNo>, links: &[LinkPeer], gone: LinkNo)
-    requires { AreAscending links.now }
+    requires { AreNumbered links.now }
 {
     if let Ok(at) = place_of(links, gone) {
         numbers.remove(&links[at].peer.id);

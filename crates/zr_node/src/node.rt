@@ -9,12 +9,12 @@ ghost use Rattle.zr_log.specs.Known.{position, is_next};
 ghost use Rattle.zr_log.specs.Known.{is_newer as is_newer_log};
 ghost use Rattle.zr_log.specs.Log.{Change};
 ghost use Rattle.zr_msg.specs.declared.decl.Decl.{Decl};
-ghost use Rattle.zr_routing.specs.Changes.{changes_of, after_changes, sends_changes};
-ghost use Rattle.zr_routing.specs.Snapshots.{sends_step, sends_snap, sends_snapshots};
-ghost use Rattle.zr_routing.specs.Tables.{TableState, HaveSameTrees, AreNumbered, link_at, link_to, leads_to_client, leads_to_router, free_link};
-ghost use Rattle.zr_table.specs.Event.{AreLinks, MayCome, Sends, SendsPrefix, Tells, TellsPrefix};
-ghost use Rattle.zr_table.specs.State.{new_node, tables, local_state};
-ghost use Rattle.zr_table.specs.Table.{row, key_of, after, refuses, with_base, with_known};
+ghost use Rattle.zr_node_spec.specs.Changes.{changes_of, after_changes, sends_changes};
+ghost use Rattle.zr_node_spec.specs.Snapshots.{sends_step, sends_snap, sends_snapshots};
+ghost use Rattle.zr_node_spec.specs.Tables.{TableState, HaveSameTrees, AreNumbered, link_at, link_to, leads_to_client, leads_to_router, free_link};
+ghost use Rattle.zr_node_spec.specs.Event.{AreLinks, MayCome, Sends, SendsPrefix, Tells, TellsPrefix};
+ghost use Rattle.zr_node_spec.specs.State.{new_node, tables, local_state};
+ghost use Rattle.zr_node_spec.specs.Table.{row, key_of, after, refuses, with_base, with_known};
 ghost use Rattle.zr_tree.specs.Same.{HaveSameEdges};
 ghost use Rattle.zr_node.specs.Answer.{IsAnswered, IsJudged, refusal_of};
 ghost use Rattle.zr_node.specs.Asked.{rows_after, local_after, refuses_asked, refuses_change};
@@ -27,10 +27,9 @@ mod neighbours;
 mod traffic;
 
 use crate::asked::{self, Asked, able_kind, apply, has_room};
-use crate::failure::Failure;
+use crate::failure::NodeFailure;
 use crate::kept::{Before, forget, put_family, put_trees, take_family};
 use crate::links::Links;
-use crate::routes::Routes;
 use std::alloc::{AllocError, Global};
 use std::marker::Model;
 use zr_flood::children::{fresh_children, pass_on, tell_changes};
@@ -52,6 +51,7 @@ use zr_msg::msg::Msg;
 use zr_msg::peer::{LinkPeer, Peer};
 use zr_msg::shared::Shared;
 use zr_pend::pending::Pending;
+use zr_push::routes::Routes;
 use zr_tree::family::Family;
 use zr_tree::trees::Trees;
 
@@ -92,7 +92,7 @@ impl Drop for Node {
 }
 
 impl Model for Node {
-    ghost use Rattle.zr_table.specs.State.{NodeState};
+    ghost use Rattle.zr_node_spec.specs.State.{NodeState};
     ghost use Rattle.zr_node.specs.Whole.{IsWhole};
 
     ghost Value = { NodeState };
@@ -276,8 +276,8 @@ impl Node {
         }
         match self.on_event(alloc, event, out) {
             Ok(()) => Ok(()),
-            Err(Failure::Refused(error)) => Err(error),
-            Err(Failure::NoMemory) => {
+            Err(NodeFailure::Refused(error)) => Err(error),
+            Err(NodeFailure::NoMemory) => {
                 self.spent = true;
                 Err(NodeError::NoMemory)
             }
@@ -289,7 +289,7 @@ impl Node {
         alloc: Global,
         event: &Event,
         out: &mut Vec<(LinkNo, Msg)>,
-    ) -> Result<(), Failure>
+    ) -> Result<(), NodeFailure>
         requires { MayCome self.old event.now }
         ensures { IsDone (event_part self.old event.now) result self.new out.old.items out.new.items }
     {
@@ -307,7 +307,7 @@ impl Node {
         link: LinkNo,
         msg: &Msg,
         out: &mut Vec<(LinkNo, Msg)>,
-    ) -> Result<(), Failure>
+    ) -> Result<(), NodeFailure>
         ensures { IsDone (message_part self.old link.0 msg.now) result self.new out.old.items out.new.items }
     {
         match msg {
@@ -364,7 +364,7 @@ impl Node {
         kind: Kind,
         key: &KeyExpr,
         out: &mut Vec<(LinkNo, Msg)>,
-    ) -> Result<(), Failure>
+    ) -> Result<(), NodeFailure>
         ensures { IsDone (declare_part self.old link.0 (row link.0 id kind key.now)) result self.new out.old.items out.new.items }
     {
         if !self.leads_to_client(link) {
@@ -383,7 +383,7 @@ impl Node {
         id: u32,
         kind: Kind,
         out: &mut Vec<(LinkNo, Msg)>,
-    ) -> Result<(), Failure>
+    ) -> Result<(), NodeFailure>
         ensures { IsDone (undeclare_part self.old link.0 (key_of link.0 id kind)) result self.new out.old.items out.new.items }
     {
         if !self.leads_to_client(link) {
@@ -399,7 +399,7 @@ impl Node {
         alloc: Global,
         asked: Asked,
         out: &mut Vec<(LinkNo, Msg)>,
-    ) -> Result<(), Failure>
+    ) -> Result<(), NodeFailure>
         ensures { IsDone (asked_part self.old asked) result self.new out.old.items out.new.items }
     {
         let number = self.known.position(self.base.me());
@@ -408,13 +408,13 @@ impl Node {
         }
         let changes = self.apply(asked)?;
         if !has_room(number, &changes) {
-            return Err(Failure::NoMemory); // never: either there was room, or it was judged
+            return Err(NodeFailure::NoMemory); // never: either there was room, or it was judged
         }
         Ok(self.tell(alloc, number, &changes, out)?)
     }
 
     // Whether what a client asks is refused, found out on a copy.
-    fn judge(&self, alloc: Global, asked: &Asked) -> Result<(), Failure>
+    fn judge(&self, alloc: Global, asked: &Asked) -> Result<(), NodeFailure>
         ensures { IsJudged (refuses_change self.now asked.now) result }
     {
         let asked = asked.copy(alloc)?;
@@ -423,19 +423,19 @@ impl Node {
     }
 
     // The same on a copy of what its clients have declared, which changes by it.
-    fn judge_on(&self, local: &mut Local, asked: Asked) -> Result<(), Failure>
+    fn judge_on(&self, local: &mut Local, asked: Asked) -> Result<(), NodeFailure>
         requires { local.old ≡ local_state self.now }
         ensures { IsJudged (refuses_change self.now asked) result }
     {
         let changes = apply(local, asked)?;
         if !has_room(self.known.position(self.base.me()), &changes) {
-            return Err(Failure::Refused(NodeError::Worn));
+            return Err(NodeFailure::Refused(NodeError::Worn));
         }
         Ok(())
     }
 
     // The rows change, and nothing stands in the log of it yet.
-    fn apply(&mut self, asked: Asked) -> Result<Changes, Failure>
+    fn apply(&mut self, asked: Asked) -> Result<Changes, NodeFailure>
         ensures gone { IfOk result (λ c. c.gone.items ≡ gone self.old.rows (rows_after self.old.rows asked)) }
         ensures came { IfOk result (λ c. c.came.items ≡ came self.old.rows (rows_after self.old.rows asked)) }
         ensures state { OnOk result (self.new ≡ with_local self.old (local_after (local_state self.old) asked)) }
@@ -498,7 +498,7 @@ impl Node {
         link: LinkNo,
         told: &Shared<LinkRecord>,
         out: &mut Vec<(LinkNo, Msg)>,
-    ) -> Result<(), Failure>
+    ) -> Result<(), NodeFailure>
         ensures { IsDone (told_part self.old link.0 told.now) result self.new out.old.items out.new.items }
     {
         if !self.leads_to_router(link) {
@@ -543,7 +543,7 @@ impl Node {
         added: bool,
         decl: &Decl,
         out: &mut Vec<(LinkNo, Msg)>,
-    ) -> Result<(), Failure>
+    ) -> Result<(), NodeFailure>
         requires { msg.now ≡ Msg.Step source number added decl.now }
         ensures { IsDone (step_part self.old link.0 source number (record { added = added; decl = decl.now })) result self.new out.old.items out.new.items }
     {
@@ -567,7 +567,7 @@ impl Node {
         number: u64,
         decls: &Decls,
         out: &mut Vec<(LinkNo, Msg)>,
-    ) -> Result<(), Failure>
+    ) -> Result<(), NodeFailure>
         requires { msg.now ≡ Msg.Snap source number decls.now }
         ensures { IsDone (snap_part self.old link.0 source number decls.now) result self.new out.old.items out.new.items }
     {

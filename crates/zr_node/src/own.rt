@@ -3,7 +3,7 @@
 ghost use Rattle.std.specs.Prelude.{◌≡◌, ◌++◌, filter, not, true, false, IfOk, OnOk, OnErr};
 ghost use Rattle.zr_id.specs.Record.{are_links, is_before};
 ghost use Rattle.zr_id.specs.Zid.{is_named};
-ghost use Rattle.zr_table.specs.Table.{own_links, with_name, without_name, joined, parted, is_worn, is_full, refuses_up, refuses_parting};
+ghost use Rattle.zr_node_spec.specs.Table.{own_links, with_name, without_name, joined, parted, is_worn, is_full, refuses_up, refuses_parting};
 ghost use Rattle.zr_node.specs.Answer.{refusal};
 
 use std::alloc::{AllocError, Global};

@@ -13,9 +13,9 @@ use Rattle.zr_bytes.specs.Text.{SpellsText, writes_text}
 use Rattle.zr_bytes.proofs.Numbers.{written_shortest}
 use Rattle.zr_ext.specs.declared.ext.Form.{Form}
 use Rattle.zr_ext.specs.Reading.{form_at}
-use Rattle.zr_format.specs.Format.{Format, gives, fails, unknown, choose, ◌then◌, series, is_whole, byte, number, text}
-use Rattle.zr_format.proofs.Spelled.{spelled_allows, spelled_checked}
-use Rattle.zr_format.proofs.Series.{spelled_series}
+use Rattle.zr_format_spec.specs.Format.{Format, gives, fails, unknown, choose, ◌then◌, series, is_whole, byte, number, text}
+use Rattle.zr_format_spec.proofs.Spelled.{spelled_allows, spelled_checked}
+use Rattle.zr_format_spec.proofs.Series.{spelled_series}
 use Rattle.zr_id.specs.Zid.{is_zid}
 use Rattle.zr_id.specs.Record.{RecordState, may_follow, are_in_order}
 use Rattle.zr_msg.specs.declared.decl.Decl.{Decl}

@@ -8,12 +8,12 @@ use Rattle.zr_bytes.specs.Reading.{byte_of, number_of, number_below, text_of}
 use Rattle.zr_ext.specs.declared.ext.Form.{Form}
 use Rattle.zr_ext.specs.Reading.{form_at, content_of}
 use Rattle.zr_ext.specs.Finding.{without_value}
-use Rattle.zr_format.specs.Format.{Format, gives, checked, passed, series, byte, number, below, text, content, extensions}
-use Rattle.zr_format.specs.Reading.{Reader, series_of, exts_of}
-use Rattle.zr_format.specs.Laws.{anywhere}
-use Rattle.zr_format.proofs.Follows.{Follows, follows_gives, follows_fails, follows_unknown, follows_choose, follows_then, follows_allows, follows_checked, follows_passed, follows_series, follows_whole_then, follows_byte, follows_number, follows_below, follows_text, follows_content, follows_extensions}
-use Rattle.zr_format.proofs.Spelled.{spelled_checked}
-use Rattle.zr_format.proofs.Series.{spelled_series}
+use Rattle.zr_format_spec.specs.Format.{Format, gives, checked, passed, series, byte, number, below, text, content, extensions}
+use Rattle.zr_format_spec.specs.Reading.{Reader, series_of, exts_of}
+use Rattle.zr_format_spec.specs.Laws.{anywhere}
+use Rattle.zr_format_spec.proofs.Follows.{Follows, follows_gives, follows_fails, follows_unknown, follows_choose, follows_then, follows_allows, follows_checked, follows_passed, follows_series, follows_whole_then, follows_byte, follows_number, follows_below, follows_text, follows_content, follows_extensions}
+use Rattle.zr_format_spec.proofs.Spelled.{spelled_checked}
+use Rattle.zr_format_spec.proofs.Series.{spelled_series}
 use Rattle.zr_id.specs.Zid.{is_zid}
 use Rattle.zr_id.specs.Record.{may_follow, are_in_order, are_links}
 use Rattle.zr_msg.specs.declared.decl.Decl.{Decl}

@@ -7,9 +7,9 @@ use Rattle.zr_bytes.specs.declared.read_error.ReadError.TheVariants.{BadText}
 use Rattle.zr_bytes.specs.Number.{writes}
 use Rattle.zr_bytes.specs.Text.{writes_text}
 use Rattle.zr_bytes.proofs.Numbers.{written_spells, written_long}
-use Rattle.zr_format.specs.Format.{Format, gives, choose, ◌then◌, checked, series, byte, number, text}
-use Rattle.zr_format.proofs.Spelled.{checked_spelled, allows_spelled}
-use Rattle.zr_format.proofs.Series.{series_spelled}
+use Rattle.zr_format_spec.specs.Format.{Format, gives, choose, ◌then◌, checked, series, byte, number, text}
+use Rattle.zr_format_spec.proofs.Spelled.{checked_spelled, allows_spelled}
+use Rattle.zr_format_spec.proofs.Series.{series_spelled}
 use Rattle.zr_id.specs.Zid.{is_zid}
 use Rattle.zr_id.specs.Record.{RecordState, may_follow, are_in_order, are_links}
 use Rattle.zr_msg.specs.declared.decl.Decl.{Decl}

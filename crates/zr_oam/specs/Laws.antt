@@ -3,7 +3,7 @@ use Rattle.std.specs.Prelude.{ℕ, ◌<◌, List, Some}
 use Rattle.std.specs.List.{AllByRecursion}
 use Rattle.zr_msg.specs.declared.msg.Msg.{Msg}
 use Rattle.zr_bytes.specs.Spelling.{HasOneReading}
-use Rattle.zr_format.specs.Laws.{anywhere, IsReadBy, WrittenIsRead}
+use Rattle.zr_format_spec.specs.Laws.{anywhere, IsReadBy, WrittenIsRead}
 use Rattle.zr_oam.specs.Oam.{oam_format}
 use Rattle.zr_oam.specs.Reading.{oam_of}
 use Rattle.zr_oam.specs.Writing.{writes_oam, CanBeWritten}

@@ -8,7 +8,7 @@ use Rattle.zr_bytes.specs.declared.read_error.ReadError.TheVariants.{BadText}
 use Rattle.zr_bytes.specs.Flag.{has_id}
 use Rattle.zr_ext.specs.declared.ext.Form.{Form}
 use Rattle.zr_ext.specs.Reading.{form_at}
-use Rattle.zr_format.specs.Format.{Format, gives, fails, unknown, choose, ◌then◌, ◌allows◌, checked, passed, series, is_whole, byte, number, below, text, content, extensions}
+use Rattle.zr_format_spec.specs.Format.{Format, gives, fails, unknown, choose, ◌then◌, ◌allows◌, checked, passed, series, is_whole, byte, number, below, text, content, extensions}
 use Rattle.zr_id.specs.Zid.{is_zid}
 use Rattle.zr_id.specs.Record.{RecordState, may_follow}
 use Rattle.zr_key.specs.declared.key.KeyError.{KeyError}

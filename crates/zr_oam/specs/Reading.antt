@@ -6,7 +6,7 @@ use Rattle.zr_bytes.specs.Reading.{◌>>=◌, byte_of, number_of, number_below, 
 use Rattle.zr_ext.specs.declared.ext.Form.{Form}
 use Rattle.zr_ext.specs.Reading.{form_at, content_of}
 use Rattle.zr_ext.specs.Finding.{without_value}
-use Rattle.zr_format.specs.Reading.{Reader, checked_of, series_of, whole_of, exts_of}
+use Rattle.zr_format_spec.specs.Reading.{Reader, checked_of, series_of, whole_of, exts_of}
 use Rattle.zr_id.specs.Zid.{is_zid}
 use Rattle.zr_id.specs.Record.{RecordState, may_follow}
 use Rattle.zr_msg.specs.declared.decl.Decl.{Decl}

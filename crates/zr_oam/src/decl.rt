@@ -4,7 +4,7 @@ ghost use Rattle.std.specs.Prelude.{◌≡◌, None, nat_eq, if◌then◌else◌
 ghost use Rattle.std.specs.Cmp.Lexicographic.{pointwise, slice_cmp};
 ghost use Rattle.std.specs.Ordering.{is_lt, nat_cmp};
 ghost use Rattle.zr_bytes.specs.Reading.{Steps};
-ghost use Rattle.zr_format.specs.Reading.{Makes, last_of, series_of};
+ghost use Rattle.zr_format_spec.specs.Reading.{Makes, last_of, series_of};
 ghost use Rattle.zr_oam.specs.Oam.{kind_byte, kind_of, is_canonical, decl_before, decl_may_follow};
 ghost use Rattle.zr_oam.specs.Reading.{key_of, decl_of, next_decl_of, form_of, entry_number_of, snapshot_of, change_of, declarations_of};
 

@@ -2,7 +2,7 @@
 
 ghost use Rattle.std.specs.Prelude.{◌≡◌, ◌^◌, None, IfOk, true};
 ghost use Rattle.zr_bytes.specs.Reading.{Steps};
-ghost use Rattle.zr_format.specs.Reading.{Makes, last_of, series_of, whole_of};
+ghost use Rattle.zr_format_spec.specs.Reading.{Makes, last_of, series_of, whole_of};
 ghost use Rattle.zr_id.specs.Record.{are_links};
 ghost use Rattle.zr_oam.specs.Reading.{zid_of, link_of, record_of};
 

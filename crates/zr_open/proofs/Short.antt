@@ -1,13 +1,9 @@
 -- The messages with which an opening begins and ends are short.
 use Rattle.std.proofs.Common.{◌≡◌, ap, ℕ, ◌<◌, ◌≤◌, ◌^◌, true, false, List, [], ◌++◌, length, length-append, append-nil, None, Some, arith}
+use Rattle.zr_frame.proofs.Heads.{length-writes}
 use Rattle.zr_bytes.specs.Number.{writes}
-use Rattle.zr_bytes.proofs.Numbers.{written_long}
 use Rattle.zr_trans.specs.Writing.{writes_trans, writes_speaks}
 use Rattle.zr_trans.specs.declared.trans.Trans.TheVariants.{Init, Open}
-
--- a number takes nine bytes at most
-length-writes : (value : ℕ) → length (writes value) ≤ 9
-length-writes value = let h = written_long 8 value in omega (arith, h)
 
 pub opening_answer_short : (lease number : ℕ) → length (writes_trans (Open true true lease number None)) < 2 ^ 16
 opening_answer_short lease number =

@@ -57,7 +57,7 @@ impl Opening {
         ensures fits { Fits result }
         ensures short { length (writes_trans result) < 2 ^ 16 }
     {
-        // An identifier is short; the last clause rests on it.
+        // Read, so that the proof knows that an identifier is short.
         let _short = self.me.bytes();
         Trans::Init {
             answer: false,

@@ -3,8 +3,5 @@ pub mod Told
 pub mod Source
 pub mod Piece
 pub mod Sink
-pub mod Memory
 pub mod Streams
-pub mod MemClock
 pub mod Host
-pub mod Calls

@@ -1,15 +1,15 @@
 -- Lists of branches that are distinct: what holds of their parts and of what a filter leaves.
 use Rattle.std.proofs.Common.{◌≡◌, ◌||◌, Bool, true, false, cond, List, [], ◌∷◌, ◌++◌, filter, refl, sym, ap, ◌∙◌}
 use Rattle.std.specs.List.{list_any}
-use Rattle.std.proofs.lemmas.Bool.{eqb-true, eq-eqb, false_from_ne_true}
+use Rattle.std.proofs.lemmas.Bool.{eqb-true, eq-eqb, false_from_ne_true, and_from, or_from, or_left, or_right, not-true, not_from_false}
 use Rattle.std.proofs.lemmas.List.Folds.{list_any-append}
 use Rattle.zr_pend.specs.declared.branch.Branch.{Branch}
 use Rattle.zr_pend.specs.Row.{is_branch}
 use Rattle.zr_pend.specs.Pending.{are_distinct}
-use Rattle.zr_pend.proofs.Parts.{and_left, and_right, and_both, or_left, or_right, or_none, or_first, or_second, not_true, true_not}
+use Rattle.zr_pend.proofs.Parts.{and_left, and_right, left_false, right_false}
 
 pub is_branch_itself : (x : Branch) → is_branch x x ≡ true
-is_branch_itself x = and_both _ _ (eq-eqb x.link.0 x.link.0 refl) (eq-eqb x.number x.number refl)
+is_branch_itself x = and_from _ _ (eq-eqb x.link.0 x.link.0 refl) (eq-eqb x.number x.number refl)
 
 -- of two branches that are one, each third is both or neither
 pub is_branch_alike : (x y z : Branch) → is_branch x y ≡ true → is_branch x z ≡ is_branch y z
@@ -24,10 +24,10 @@ any_alike x y (b ∷ bs) h = ap (λ t. t || list_any (λ c. is_branch x c) bs) (
 
 none_filtered : (p q : Branch → Bool) (bs : List Branch) → list_any q bs ≡ false → list_any q (filter p bs) ≡ false
 none_filtered p q [] h = refl
-none_filtered p q (b ∷ bs) h = by (p b) (none_filtered p q bs (or_right _ _ h))
+none_filtered p q (b ∷ bs) h = by (p b) (none_filtered p q bs (right_false _ _ h))
   where
     by : (t : Bool) → list_any q (filter p bs) ≡ false → list_any q (cond t (b ∷ filter p bs) (filter p bs)) ≡ false
-    by true ih = or_none _ _ (or_left _ _ h) ih
+    by true ih = or_from _ _ (left_false _ _ h) ih
     by false ih = ih
 
 pub distinct_filtered : (p : Branch → Bool) (bs : List Branch) → are_distinct bs ≡ true → are_distinct (filter p bs) ≡ true
@@ -35,7 +35,7 @@ distinct_filtered p [] h = refl
 distinct_filtered p (b ∷ bs) h = by (p b) (distinct_filtered p bs (and_right _ _ h))
   where
     by : (t : Bool) → are_distinct (filter p bs) ≡ true → are_distinct (cond t (b ∷ filter p bs) (filter p bs)) ≡ true
-    by true ih = and_both _ _ (true_not _ (none_filtered p (λ c. is_branch b c) bs (not_true _ (and_left _ _ h)))) ih
+    by true ih = and_from _ _ (not_from_false _ (none_filtered p (λ c. is_branch b c) bs (not-true _ (and_left _ _ h)))) ih
     by false ih = ih
 
 -- two lists of which no branch of the first is in the second
@@ -43,9 +43,9 @@ pub distinct_joined : (xs ys : List Branch) → are_distinct xs ≡ true → are
     ((b : Branch) → list_any (λ c. is_branch b c) xs ≡ true → list_any (λ c. is_branch b c) ys ≡ false) → are_distinct (xs ++ ys) ≡ true
 distinct_joined [] ys dx dy h = dy
 distinct_joined (x ∷ xs) ys dx dy h =
-    and_both _ _
-    (true_not _ (list_any-append (λ c. is_branch x c) xs ys ∙ or_none _ _ (not_true _ (and_left _ _ dx)) (h x (or_first _ _ (is_branch_itself x)))))
-    (distinct_joined xs ys (and_right _ _ dx) dy (λ b k. h b (or_second _ _ k)))
+    and_from _ _
+    (not_from_false _ (list_any-append (λ c. is_branch x c) xs ys ∙ or_from _ _ (not-true _ (and_left _ _ dx)) (h x (or_left _ _ (is_branch_itself x)))))
+    (distinct_joined xs ys (and_right _ _ dx) dy (λ b k. h b (or_right _ _ k)))
 
 pub distinct_behind : (xs ys : List Branch) → are_distinct (xs ++ ys) ≡ true → are_distinct ys ≡ true
 distinct_behind [] ys h = h
@@ -58,7 +58,7 @@ distinct_apart (x ∷ xs) ys b h k = by (is_branch b x) refl (distinct_apart xs 
   where
     by : (t : Bool) → is_branch b x ≡ t → (list_any (λ c. is_branch b c) xs ≡ true → list_any (λ c. is_branch b c) ys ≡ false)
         → (t || list_any (λ c. is_branch b c) xs) ≡ true → list_any (λ c. is_branch b c) ys ≡ false
-    by true e ih q = any_alike b x ys e ∙ or_right _ _ (sym (list_any-append (λ c. is_branch x c) xs ys) ∙ not_true _ (and_left _ _ h))
+    by true e ih q = any_alike b x ys e ∙ right_false _ _ (sym (list_any-append (λ c. is_branch x c) xs ys) ∙ not-true _ (and_left _ _ h))
     by false e ih q = ih q
 
 pub distinct_apart_back : (xs ys : List Branch) (b : Branch) → are_distinct (xs ++ ys) ≡ true → list_any (λ c. is_branch b c) ys ≡ true → list_any (λ c. is_branch b c) xs ≡ false

@@ -2,14 +2,14 @@
 -- (`left_behind`); the list has each number that was pending on the link, in ascending order (`in_order`).
 use Rattle.std.proofs.Common.{◌≡◌, ℕ, suc, ◌+◌, ◌==◌, ◌&&◌, ◌||◌, ◌≤◌, ◌<◌, nat_le, not, Bool, true, false, cond, List, [], ◌∷◌, map, filter, length, None, refl, sym, ap, ◌∙◌, arith}
 use Rattle.std.specs.List.{list_any, list_all, fold}
-use Rattle.std.proofs.lemmas.Bool.{eqb-true, eq-eqb, leb-true, leb-false, le-leb}
+use Rattle.std.proofs.lemmas.Bool.{eqb-true, eq-eqb, leb-true, leb-false, le-leb, and_from, or_from, or_left, or_right}
 use Rattle.std.proofs.lemmas.Map.Views.{any-filter_same}
 use Rattle.zr_id.specs.declared.link.LinkNo.{LinkNo}
 use Rattle.zr_pend.specs.declared.branch.Branch.{Branch}
 use Rattle.zr_pend.specs.Laws.{IsGone, IsInOrder, ascends}
 use Rattle.zr_pend.specs.Row.{RowState, is_branch, is_done, is_of, without}
 use Rattle.zr_pend.specs.Pending.{is_pending, branch, branches, branches_on, numbers_on, finished, all_finished, all_orphaned, dropped, count, placed, ascending}
-use Rattle.zr_pend.proofs.Parts.{and_left, and_right, and_both, or_left, or_right, or_none, or_first, or_second}
+use Rattle.zr_pend.proofs.Parts.{and_left, and_right, left_false, right_false}
 use Rattle.zr_pend.proofs.Free.{is_in, pending_is_in}
 use Rattle.zr_pend.proofs.Sound.{any_branch, finished_branches, all_orphaned_branches}
 
@@ -29,12 +29,12 @@ placed_any p (m ∷ ms) n = by (nat_le n m) (placed_any p ms n)
     by false ih = ap (λ z. p m || z) ih ∙ swap (p m) (p n) (list_any p ms)
 
 placed_all : (p : ℕ → Bool) (ms : List ℕ) (n : ℕ) → p n ≡ true → list_all p ms ≡ true → list_all p (placed ms n) ≡ true
-placed_all p [] n h k = and_both _ _ h refl
+placed_all p [] n h k = and_from _ _ h refl
 placed_all p (m ∷ ms) n h k = by (nat_le n m) (placed_all p ms n h (and_right _ _ k))
   where
     by : (t : Bool) → list_all p (placed ms n) ≡ true → list_all p (cond t (n ∷ m ∷ ms) (m ∷ placed ms n)) ≡ true
-    by true ih = and_both _ _ h k
-    by false ih = and_both _ _ (and_left _ _ k) ih
+    by true ih = and_from _ _ h k
+    by false ih = and_from _ _ (and_left _ _ k) ih
 
 placed_length : (ms : List ℕ) (n : ℕ) → length (placed ms n) ≡ suc (length ms)
 placed_length [] n = refl
@@ -49,15 +49,15 @@ all_above : (n m : ℕ) (ms : List ℕ) → n ≤ m → list_all (λ k. nat_le m
 all_above n m [] le h = refl
 all_above n m (k ∷ ks) le h =
     let up : m ≤ k = leb-true m k (and_left _ _ h) in
-    and_both _ _ (le-leb n k (omega arith)) (all_above n m ks le (and_right _ _ h))
+    and_from _ _ (le-leb n k (omega arith)) (all_above n m ks le (and_right _ _ h))
 
 placed_up : (ms : List ℕ) (n : ℕ) → ascends ms ≡ true → ascends (placed ms n) ≡ true
 placed_up [] n h = refl
 placed_up (m ∷ ms) n h = by (nat_le n m) refl (placed_up ms n (and_right _ _ h))
   where
     by : (t : Bool) → nat_le n m ≡ t → ascends (placed ms n) ≡ true → ascends (cond t (n ∷ m ∷ ms) (m ∷ placed ms n)) ≡ true
-    by true e ih = and_both _ _ (and_both _ _ e (all_above n m ms (leb-true n m e) (and_left _ _ h))) h
-    by false e ih = let lt : m < n = leb-false n m e in and_both _ _ (placed_all (λ k. nat_le m k) ms n (le-leb m n (omega arith)) (and_left _ _ h)) ih
+    by true e ih = and_from _ _ (and_from _ _ e (all_above n m ms (leb-true n m e) (and_left _ _ h))) h
+    by false e ih = let lt : m < n = leb-false n m e in and_from _ _ (placed_all (λ k. nat_le m k) ms n (le-leb m n (omega arith)) (and_left _ _ h)) ih
 
 all_up : (ms ns : List ℕ) → ascends ms ≡ true → ascends (fold placed ms ns) ≡ true
 all_up ms [] h = h
@@ -124,18 +124,18 @@ ended_has link n (m ∷ ms) h = by (m == n) refl (ended_has link n ms) h
   where
     by : (t : Bool) → (m == n) ≡ t → (is_in n ms ≡ true → list_any (λ b. is_branch b (branch link n)) (map (λ k. branch link k) ms) ≡ true)
         → (t || is_in n ms) ≡ true → list_any (λ b. is_branch b (branch link n)) (map (λ k. branch link k) (m ∷ ms)) ≡ true
-    by true e ih q = or_first _ _ (and_both _ _ (eq-eqb link.0 link.0 refl) (eq-eqb n m (sym (eqb-true m n e))))
-    by false e ih q = or_second _ _ (ih q)
+    by true e ih q = or_left _ _ (and_from _ _ (eq-eqb link.0 link.0 refl) (eq-eqb n m (sym (eqb-true m n e))))
+    by false e ih q = or_right _ _ (ih q)
 
 pub ended_apart : (link : LinkNo) (c : Branch) (ns : List ℕ) → (c.link.0 == link.0) ≡ false → list_any (λ b. is_branch b c) (map (λ m. branch link m) ns) ≡ false
 ended_apart link c [] h = refl
-ended_apart link c (m ∷ ms) h = or_none _ _ (rw h refl) (ended_apart link c ms h)
+ended_apart link c (m ∷ ms) h = or_from _ _ (rw h refl) (ended_apart link c ms h)
 
 -- ---- rows that the link asked
 
 unasked_orphaned : (link : LinkNo) (rows : List RowState) → list_any (λ r. is_of link r) (all_orphaned link rows) ≡ false
 unasked_orphaned link [] = refl
-unasked_orphaned link (r ∷ rows) = or_none _ _ (by (is_of link r) refl) (unasked_orphaned link rows)
+unasked_orphaned link (r ∷ rows) = or_from _ _ (by (is_of link r) refl) (unasked_orphaned link rows)
   where
     by : (t : Bool) → is_of link r ≡ t → is_of link (cond t (record { asker = None; branches = r.branches }) r) ≡ false
     by true e = refl
@@ -143,11 +143,11 @@ unasked_orphaned link (r ∷ rows) = or_none _ _ (by (is_of link r) refl) (unask
 
 unasked_left : (link : LinkNo) (rows : List RowState) (b : Branch) → list_any (λ r. is_of link r) rows ≡ false → list_any (λ r. is_of link r) (finished rows b) ≡ false
 unasked_left link [] b h = refl
-unasked_left link (r ∷ rows) b h = by (is_done (without b r)) (unasked_left link rows b (or_right _ _ h))
+unasked_left link (r ∷ rows) b h = by (is_done (without b r)) (unasked_left link rows b (right_false _ _ h))
   where
     by : (t : Bool) → list_any (λ q. is_of link q) (finished rows b) ≡ false → list_any (λ q. is_of link q) (cond (not t) (without b r ∷ finished rows b) (finished rows b)) ≡ false
     by true ih = ih
-    by false ih = or_none _ _ (or_left _ _ h) ih
+    by false ih = or_from _ _ (left_false _ _ h) ih
 
 unasked_all : (link : LinkNo) (rows : List RowState) (bs : List Branch) → list_any (λ r. is_of link r) rows ≡ false → list_any (λ r. is_of link r) (all_finished rows bs) ≡ false
 unasked_all link rows [] h = h
@@ -155,7 +155,7 @@ unasked_all link rows (b ∷ bs) h = unasked_all link (finished rows b) bs (unas
 
 uncounted : (link : LinkNo) (rows : List RowState) → list_any (λ r. is_of link r) rows ≡ false → count link rows ≡ 0
 uncounted link [] h = refl
-uncounted link (r ∷ rows) h = let e : is_of link r ≡ false = or_left _ _ h in ap (λ t. length (cond t (r ∷ filter (λ q. is_of link q) rows) (filter (λ q. is_of link q) rows))) e ∙ uncounted link rows (or_right _ _ h)
+uncounted link (r ∷ rows) h = let e : is_of link r ≡ false = left_false _ _ h in ap (λ t. length (cond t (r ∷ filter (λ q. is_of link q) rows) (filter (λ q. is_of link q) rows))) e ∙ uncounted link rows (right_false _ _ h)
 
 -- ---- a link that went down
 

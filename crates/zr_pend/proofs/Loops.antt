@@ -9,7 +9,7 @@ use Rattle.zr_pend.specs.declared.branch.Asker.{Asker}
 use Rattle.zr_pend.specs.declared.branch.Branch.{Branch}
 use Rattle.zr_pend.specs.Row.{RowState, numbers_of}
 use Rattle.zr_pend.specs.Pending.{branch, free_number, opened, numbers_on, placed, finished, final_to, all_finished, finals}
-use Rattle.zr_pend.proofs.Parts.{or_right}
+use Rattle.zr_pend.proofs.Parts.{right_false}
 
 -- the branch of one link more is opened
 pub opened_more : (rows : List RowState) (to : List LinkNo) (i : ℕ) (d : LinkNo) (bs news : List Branch) (n : ℕ) → i < length to → n ≡ free_number (get_or to i d) rows →
@@ -22,7 +22,7 @@ opened_more rows to i d bs news n lt is e h =
 
 -- where none of those that are left passes, none does behind the first of them
 pub none_more : (p : LinkNo → Bool) (to : List LinkNo) (i : ℕ) (d : LinkNo) → i < length to → list_any p (drop i to) ≡ false → list_any p (drop (i + 1) to) ≡ false
-none_more p to i d lt h = or_right _ _ (ap (λ ls. list_any p ls) (sym (drop_more to i d lt)) ∙ h)
+none_more p to i d lt h = right_false _ _ (ap (λ ls. list_any p ls) (sym (drop_more to i d lt)) ∙ h)
 
 -- the numbers of one row more are placed
 pub placed_more : (link : LinkNo) (rows : List RowState) (i : ℕ) (r : RowState) (ns news all : List ℕ) → i < length rows → r ≡ get_or rows i r → news ≡ fold placed ns (numbers_of link r) →

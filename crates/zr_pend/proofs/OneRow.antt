@@ -3,7 +3,7 @@
 use Rattle.std.proofs.Common.{◌≡◌, suc, ◌==◌, not, Bool, true, false, cond, List, [], ◌∷◌, ◌++◌, map, filter, length, Option, Some, None, refl, sym, ap, ◌∙◌, append-nil, append_assoc, subst, arith}
 use Rattle.std.specs.List.{list_any, list_all, find}
 use Rattle.std.specs.Option.{option_and_then, option_to_list}
-use Rattle.std.proofs.lemmas.Bool.{eqb-true, false_from_ne_true}
+use Rattle.std.proofs.lemmas.Bool.{eqb-true, false_from_ne_true, or_left, not-true}
 use Rattle.std.proofs.lemmas.Grind.{flat_map-append}
 use Rattle.std.proofs.lemmas.List.{map-append}
 use Rattle.std.proofs.lemmas.List.Elements.{filter-append}
@@ -13,7 +13,7 @@ use Rattle.zr_pend.specs.declared.branch.Branch.{Branch}
 use Rattle.zr_pend.specs.Laws.{rest_of, IsOfRow, IsEnded}
 use Rattle.zr_pend.specs.Row.{RowState, is_branch, has, is_last, is_done, without}
 use Rattle.zr_pend.specs.Pending.{is_pending, branches, are_distinct, IsSound, final_to, finished, all_finished, finals}
-use Rattle.zr_pend.proofs.Parts.{and_left, and_right, or_left, or_right, or_first, not_true}
+use Rattle.zr_pend.proofs.Parts.{and_left, and_right, left_false, right_false}
 use Rattle.zr_pend.proofs.Branches.{is_branch_itself, distinct_behind, distinct_apart, distinct_apart_back}
 use Rattle.zr_pend.proofs.Sound.{any_branch, finished_sound}
 
@@ -22,7 +22,7 @@ use Rattle.zr_pend.proofs.Sound.{any_branch, finished_sound}
 -- the branches that are left of others are all
 others_stay : (b : Branch) (bs : List Branch) → list_any (λ c. is_branch b c) bs ≡ false → filter (λ c. not (is_branch b c)) bs ≡ bs
 others_stay b [] h = refl
-others_stay b (c ∷ cs) h = let e : is_branch b c ≡ false = or_left _ _ h in rw e (ap (λ z. c ∷ z) (others_stay b cs (or_right _ _ h)))
+others_stay b (c ∷ cs) h = let e : is_branch b c ≡ false = left_false _ _ h in rw e (ap (λ z. c ∷ z) (others_stay b cs (right_false _ _ h)))
 
 row_stays : (b : Branch) (r : RowState) → has b r ≡ false → without b r ≡ r
 row_stays b r h = ap (λ bs. record { asker = r.asker; branches = bs }) (others_stay b r.branches h)
@@ -31,20 +31,20 @@ row_stays b r h = ap (λ bs. record { asker = r.asker; branches = bs }) (others_
 pub rows_stay : (b : Branch) (rows : List RowState) → is_pending b rows ≡ false → list_all (λ r. not (is_done r)) rows ≡ true → finished rows b ≡ rows
 rows_stay b [] h k = refl
 rows_stay b (r ∷ rows) h k =
-    let e : without b r ≡ r = row_stays b r (or_left _ _ h) in
+    let e : without b r ≡ r = row_stays b r (left_false _ _ h) in
     let f : not (is_done r) ≡ true = and_left _ _ k in
     ap (λ (x : RowState). cond (not (is_done x)) (x ∷ finished rows b) (finished rows b)) e
     ∙ ap (λ t. cond t (r ∷ finished rows b) (finished rows b)) f
-    ∙ ap (λ z. r ∷ z) (rows_stay b rows (or_right _ _ h) (and_right _ _ k))
+    ∙ ap (λ z. r ∷ z) (rows_stay b rows (right_false _ _ h) (and_right _ _ k))
 
 -- and are not found
 pub none_found : (b : Branch) (rows : List RowState) → is_pending b rows ≡ false → find (λ r. has b r) rows ≡ None
 none_found b [] h = refl
-none_found b (r ∷ rows) h = let e : has b r ≡ false = or_left _ _ h in rw e (none_found b rows (or_right _ _ h))
+none_found b (r ∷ rows) h = let e : has b r ≡ false = left_false _ _ h in rw e (none_found b rows (right_false _ _ h))
 
 pub none_last : (b : Branch) (rows : List RowState) → is_pending b rows ≡ false → find (λ r. is_last b r) rows ≡ None
 none_last b [] h = refl
-none_last b (r ∷ rows) h = let e : has b r ≡ false = or_left _ _ h in rw e (none_last b rows (or_right _ _ h))
+none_last b (r ∷ rows) h = let e : has b r ≡ false = left_false _ _ h in rw e (none_last b rows (right_false _ _ h))
 
 -- ---- the row of a branch, among others
 
@@ -56,7 +56,7 @@ pub record Alone (before : List RowState) (r : RowState) (after : List RowState)
 pub alone : (before : List RowState) (r : RowState) (after : List RowState) (b : Branch) → IsSound (before ++ r ∷ after) → has b r ≡ true → Alone before r after b
 alone before r after b s h =
     let d : are_distinct (branches before ++ (r.branches ++ branches after)) ≡ true = ap are_distinct (sym (flat_map-append (λ (q : RowState). q.branches) before (r ∷ after))) ∙ s.distinct in
-    let here : list_any (λ c. is_branch b c) (r.branches ++ branches after) ≡ true = list_any-append (λ c. is_branch b c) r.branches (branches after) ∙ or_first _ _ h in
+    let here : list_any (λ c. is_branch b c) (r.branches ++ branches after) ≡ true = list_any-append (λ c. is_branch b c) r.branches (branches after) ∙ or_left _ _ h in
     record {
       not_before = sym (any_branch b before) ∙ distinct_apart_back (branches before) (r.branches ++ branches after) b d here;
       not_after = sym (any_branch b after) ∙ distinct_apart r.branches (branches after) b (distinct_behind (branches before) (r.branches ++ branches after) d) h;
@@ -114,7 +114,7 @@ first_apart : (before : List RowState) (asker : Option Asker) (b : Branch) (bs :
 first_apart before asker b bs after s =
     let d : are_distinct (branches before ++ ((b ∷ bs) ++ branches after)) ≡ true = ap are_distinct (sym (flat_map-append (λ (q : RowState). q.branches) before (row asker (b ∷ bs) ∷ after))) ∙ s.distinct in
     let here : are_distinct (b ∷ (bs ++ branches after)) ≡ true = distinct_behind (branches before) ((b ∷ bs) ++ branches after) d in
-    or_left _ _ (sym (list_any-append (λ c. is_branch b c) bs (branches after)) ∙ not_true _ (and_left _ _ here))
+    left_false _ _ (sym (list_any-append (λ c. is_branch b c) bs (branches after)) ∙ not-true _ (and_left _ _ here))
 
 -- it leaves the others
 first_ends : (asker : Option Asker) (b : Branch) (bs : List Branch) → list_any (λ c. is_branch b c) bs ≡ false → without b (row asker (b ∷ bs)) ≡ row asker bs
@@ -127,9 +127,9 @@ not_done c cs = false_from_ne_true _ (λ t. let e : suc (length cs) ≡ 0 = eqb-
 no_final : (before : List RowState) (asker : Option Asker) (b c : Branch) (cs : List Branch) (after : List RowState) → IsSound (before ++ row asker (b ∷ c ∷ cs) ∷ after) → final_to (before ++ row asker (b ∷ c ∷ cs) ∷ after) b ≡ None
 no_final before asker b c cs after s =
     let r = row asker (b ∷ c ∷ cs) in
-    let h : has b r ≡ true = or_first _ _ (is_branch_itself b) in
+    let h : has b r ≡ true = or_left _ _ (is_branch_itself b) in
     let a = alone before r after b s h in
-    let other : is_branch b c ≡ false = or_left _ _ (first_apart before asker b (c ∷ cs) after s) in
+    let other : is_branch b c ≡ false = left_false _ _ (first_apart before asker b (c ∷ cs) after s) in
     let more : is_last b r ≡ false = rw (is_branch_itself b, other) refl in
     let none : find (λ q. is_last b q) (before ++ r ∷ after) ≡ None = found_behind (λ q. is_last b q) before (r ∷ after) (none_last b before a.not_before) ∙ rw more (none_last b after a.not_after) in
     ap (λ o. option_and_then (λ (q : RowState). q.asker) o) none
@@ -138,7 +138,7 @@ no_final before asker b c cs after s =
 last_final : (before : List RowState) (asker : Option Asker) (b : Branch) (after : List RowState) → IsSound (before ++ row asker (b ∷ []) ∷ after) → final_to (before ++ row asker (b ∷ []) ∷ after) b ≡ asker
 last_final before asker b after s =
     let r = row asker (b ∷ []) in
-    let h : has b r ≡ true = or_first _ _ (is_branch_itself b) in
+    let h : has b r ≡ true = or_left _ _ (is_branch_itself b) in
     let a = alone before r after b s h in
     let last : is_last b r ≡ true = rw (is_branch_itself b) refl in
     let one : find (λ q. is_last b q) (before ++ r ∷ after) ≡ Some r = found_behind (λ q. is_last b q) before (r ∷ after) (none_last b before a.not_before) ∙ rw last refl in
@@ -153,7 +153,7 @@ first_leaves before asker b c cs after s =
     let w : without b r ≡ q = first_ends asker b (c ∷ cs) (first_apart before asker b (c ∷ cs) after s) in
     let n : (length (c ∷ cs) == 0) ≡ false = not_done c cs in
     let rest : rest_of b r ≡ q ∷ [] = ap (λ (x : RowState). cond (is_done x) [] (x ∷ [])) w ∙ rw n refl in
-    (of_one_row before r after b s (or_first _ _ (is_branch_itself b))).rows
+    (of_one_row before r after b s (or_left _ _ (is_branch_itself b))).rows
     ∙ ap (λ z. (before ++ z) ++ after) rest
     ∙ append_assoc before (q ∷ []) after
 
@@ -162,7 +162,7 @@ last_leaves before asker b after s =
     let r = row asker (b ∷ []) in
     let w : without b r ≡ row asker [] = first_ends asker b [] refl in
     let rest : rest_of b r ≡ [] = ap (λ (x : RowState). cond (is_done x) [] (x ∷ [])) w in
-    (of_one_row before r after b s (or_first _ _ (is_branch_itself b))).rows
+    (of_one_row before r after b s (or_left _ _ (is_branch_itself b))).rows
     ∙ ap (λ z. (before ++ z) ++ after) rest
     ∙ ap (λ z. z ++ after) (append-nil before)
 

@@ -3,7 +3,7 @@
 use Rattle.std.proofs.Common.{◌≡◌, ℕ, suc, length, arith, ◌==◌, ◌&&◌, ◌||◌, not, Bool, true, false, cond, List, [], ◌∷◌, ◌++◌, append-nil, map, filter, Option, Some, None, refl, sym, ap, ◌∙◌}
 use Rattle.std.specs.List.{list_any, list_all, find}
 use Rattle.std.specs.Option.{option_map, option_map_or, option_and_then}
-use Rattle.std.proofs.lemmas.Bool.{eqb-true, eq-eqb, false_from_ne_true, false≢true, and_parts, and_from}
+use Rattle.std.proofs.lemmas.Bool.{eqb-true, eq-eqb, false_from_ne_true, false≢true, and_parts, and_from, not-true}
 use Rattle.std.proofs.lemmas.Grind.{flat_map-append}
 use Rattle.std.proofs.lemmas.List.Folds.{list_any-append}
 use Rattle.zr_id.specs.declared.link.LinkNo.{LinkNo}
@@ -12,7 +12,7 @@ use Rattle.zr_pend.specs.declared.branch.Branch.{Branch}
 use Rattle.zr_pend.specs.Readings.{back, row_of, new_row, but_for, final_if_none, IsBegun, IsFinished}
 use Rattle.zr_pend.specs.Row.{RowState, is_branch, has, is_last, is_done, is_asked_by, numbers_of, without}
 use Rattle.zr_pend.specs.Pending.{asked, askers_differ, is_pending, branch, branches, are_distinct, numbers_on, opened, begun, differ, finished, final_to, free_number, IsSound}
-use Rattle.zr_pend.proofs.Parts.{and_left, and_right, not_true}
+use Rattle.zr_pend.proofs.Parts.{and_left, and_right}
 use Rattle.zr_pend.proofs.Branches.{is_branch_alike, distinct_apart, distinct_behind}
 use Rattle.zr_pend.proofs.Sound.{any_branch, free_of_number}
 use Rattle.zr_pend.proofs.OneRow.{none_last}
@@ -77,7 +77,7 @@ opened_numbers link rows (l ∷ ls) h = by (l.0 == link.0) refl (opened_numbers 
         ≡ cond (t || list_any (λ k. k.0 == link.0) ls) (free_number link rows ∷ []) []
     by true e ih =
         let same : l.0 ≡ link.0 = eqb-true l.0 link.0 e in
-        let none : list_any (λ k. k.0 == link.0) ls ≡ false = ap (λ n. list_any (λ k. k.0 == n) ls) (sym same) ∙ not_true _ (and_left _ _ h) in
+        let none : list_any (λ k. k.0 == link.0) ls ≡ false = ap (λ n. list_any (λ k. k.0 == n) ls) (sym same) ∙ not-true _ (and_left _ _ h) in
         ap (λ ns. free_number l rows ∷ ns) (ih ∙ ap (λ t. cond t (free_number link rows ∷ []) []) none) ∙ ap (λ n. n ∷ []) (free_of_number l link rows same)
     by false e ih = ih
 

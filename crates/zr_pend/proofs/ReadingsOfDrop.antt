@@ -2,14 +2,14 @@
 use Rattle.std.proofs.Common.{◌≡◌, ℕ, length, ◌==◌, ◌&&◌, ◌||◌, not, Bool, true, false, cond, List, [], ◌∷◌, map, filter, Option, Some, None, refl, sym, ap, ◌∙◌}
 use Rattle.std.specs.List.{list_any, list_all, find}
 use Rattle.std.specs.Option.{option_map, option_map_or}
-use Rattle.std.proofs.lemmas.Bool.{eqb-true, eq-eqb, false≢true}
+use Rattle.std.proofs.lemmas.Bool.{eqb-true, eq-eqb, false≢true, or_left, or_right}
 use Rattle.zr_id.specs.declared.link.LinkNo.{LinkNo}
 use Rattle.zr_pend.specs.declared.branch.Asker.{Asker}
 use Rattle.zr_pend.specs.declared.branch.Branch.{Branch}
 use Rattle.zr_pend.specs.Readings.{back, row_of, but_for, but_link, off_link, IsDropped}
 use Rattle.zr_pend.specs.Row.{RowState, is_branch, has, is_done, is_of, is_asked_by, orphaned}
 use Rattle.zr_pend.specs.Pending.{asked, askers_differ, is_pending, branch, branches_on, numbers_on, ascending, finished, all_finished, all_orphaned, dropped, IsSound}
-use Rattle.zr_pend.proofs.Parts.{and_left, and_right, or_first, or_second}
+use Rattle.zr_pend.proofs.Parts.{and_left, and_right}
 use Rattle.zr_pend.proofs.Branches.{is_branch_itself}
 use Rattle.zr_pend.proofs.Free.{is_in, pending_is_in}
 use Rattle.zr_pend.proofs.Sound.{orphaned_branches, askers_left, askers_orphaned, dropped_sound}
@@ -149,12 +149,12 @@ row_pending a (r ∷ rows) c h = by (is_asked_by a r) (row_pending a rows c) h
   where
     by : (t : Bool) → (list_any (λ d. is_branch c d) (row_of a rows) ≡ true → is_pending c rows ≡ true)
         → list_any (λ d. is_branch c d) (option_map_or (λ (x : RowState). x.branches) (cond t (Some r) (find (λ x. is_asked_by a x) rows)) []) ≡ true → (has c r || is_pending c rows) ≡ true
-    by true ih k = or_first _ _ k
-    by false ih k = or_second _ _ (ih k)
+    by true ih k = or_left _ _ k
+    by false ih k = or_right _ _ (ih k)
 
 filter_same : (p q : Branch → Bool) (bs : List Branch) → ((c : Branch) → list_any (λ d. is_branch c d) bs ≡ true → p c ≡ q c) → filter p bs ≡ filter q bs
 filter_same p q [] h = refl
-filter_same p q (b ∷ bs) h = by (p b) (q b) (h b (or_first _ _ (is_branch_itself b))) (filter_same p q bs (λ c k. h c (or_second _ _ k)))
+filter_same p q (b ∷ bs) h = by (p b) (q b) (h b (or_left _ _ (is_branch_itself b))) (filter_same p q bs (λ c k. h c (or_right _ _ k)))
   where
     by : (t u : Bool) → t ≡ u → filter p bs ≡ filter q bs → cond t (b ∷ filter p bs) (filter p bs) ≡ cond u (b ∷ filter q bs) (filter q bs)
     by true true e ih = ap (λ cs. b ∷ cs) ih

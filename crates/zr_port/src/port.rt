@@ -1,7 +1,8 @@
 //! `Port`: the calls by which links reach a router's tables.
 
-ghost use Rattle.std.specs.Prelude.{◌≡◌, ◌≢◌, ℕ, Bool, true, List, [], IfOk, IfErr, OnErr, Some, None};
+ghost use Rattle.std.specs.Prelude.{◌≡◌, ◌≢◌, ℕ, Bool, true, List, [], IfOk, IfErr, OnOk, OnErr, Some, None};
 ghost use mathlib.Core.List.{IsPrefix};
+ghost use Rattle.std.specs.List.{AllByRecursion};
 ghost use Rattle.atomic_table.specs.Seated.{TableId};
 ghost use Rattle.zr_id.specs.declared.link.LinkNo.{LinkNo};
 ghost use Rattle.zr_msg.specs.declared.peer.Peer.{Peer};
@@ -15,7 +16,7 @@ ghost use Rattle.zr_port.specs.declared.entry.Entry.{Entry};
 ghost use Rattle.zr_port.specs.declared.error.UpError.{UpError};
 ghost use Rattle.zr_port.specs.declared.error.DeliverError.{DeliverError};
 ghost use Rattle.zr_port.specs.declared.error.DownError.{DownError};
-ghost use Rattle.zr_port.specs.Adding.{Adds, IsEntryOf, IsLeastFree, IsAdmitted};
+ghost use Rattle.zr_port.specs.Adding.{Adds, IsEntryOf, IsLeastFree, IsAdmitted, DeliversUpTo, StopsAt};
 
 use crate::entry::Entry;
 use crate::error::{DeliverError, DownError, UpError};
@@ -75,6 +76,22 @@ pub trait Port {
         ensures added { IfOk result (λ _. Adds pass.old pass.new (λ before e. IsEntryOf (event.From link msg) None None e × IsAdmitted (refuses_message self.now before link msg))) }
         ensures refused { IfErr result (λ e. e ≢ DeliverError.NoMemory → refuses_message self.now (seen pass.new) link msg e) }
         ensures unchanged { OnErr result (mine pass.new ≡ mine pass.old) };
+
+    /// Messages that have a spelling on the wire have come over a link. They are delivered in order, each as `deliver` does it, up to the first that is
+    /// refused. That one and those behind it are let go.
+    fn deliver_all(
+        &self,
+        pass: &mut Pass<Entry>,
+        link: LinkNo,
+        messages: Vec<Msg>,
+    ) -> Result<(), DeliverError>
+        requires pass { pass_name pass.old ≡ history self.now }
+        requires spelled { AllByRecursion IsSpelled messages.items }
+        ensures same { IsSamePass pass.old pass.new }
+        ensures prefix { IsPrefix (seen pass.old) (seen pass.new) }
+        ensures legal { messages.items ≢ [] → is_legal self.now (seen pass.new) }
+        ensures all { OnOk result (DeliversUpTo (λ h m e. refuses_message self.now h link m e) link messages.items [] pass.old pass.new) }
+        ensures stopped { IfErr result (λ e. (rest : List Msg) × DeliversUpTo (λ h m x. refuses_message self.now h link m x) link messages.items rest pass.old pass.new × StopsAt (λ m x. refuses_message self.now (seen pass.new) link m x) rest e) };
 
     /// A link has ended, by this end for the reason where there is one. Its ring gets its end with that reason unless it has one.
     fn down(

@@ -1,2 +1,3 @@
-pub mod Stops
 pub mod Along
+pub mod Remembering
+pub mod Stops

@@ -8,12 +8,12 @@ use Rattle.zr_msg.specs.declared.msg.Msg.{Msg}
 use Rattle.zr_msg.specs.declared.peer.LinkPeer.{LinkPeer}
 use Rattle.zr_msg.specs.declared.peer.Role.{Role}
 use Rattle.zr_msg.specs.declared.peer.Role.TheVariants.{Client, Router}
-use Rattle.zr_routing.specs.Tables.{TableState, AreNumbered, link_at}
-use Rattle.zr_table.specs.Event.{on_link}
-use Rattle.zr_table.proofs.Links.{none_behind, ascending_behind}
-use Rattle.zr_push.specs.declared.route.Stop.{Stop}
-use Rattle.zr_sought.specs.declared.sought.Sought.{Sought}
-use Rattle.zr_sought.specs.Sought.{has_declared, leads_to}
+use Rattle.zr_node_spec.specs.Tables.{TableState, AreNumbered, link_at}
+use Rattle.zr_node_spec.specs.Event.{on_link}
+use Rattle.zr_node_spec.proofs.Links.{none_behind, ascending_behind}
+use Rattle.zr_push.specs.declared.route.RouteLink.{RouteLink}
+use Rattle.zr_push_sought.specs.declared.sought.Sought.{Sought}
+use Rattle.zr_push_sought.specs.Sought.{has_declared, leads_to}
 use Rattle.zr_push.specs.Route.{is_on_route, is_stop, stop_at, route_of, goes_on, stops_from}
 
 -- tests that answer the same keep the same
@@ -45,7 +45,7 @@ is_told t from tree sought key l Client = not (l.link.0 == from) && has_declared
 is_told t from tree sought key l Router = leads_to t tree sought key l.peer.id
 
 -- a test of the stops is one of the links
-kept_stops : (p : LinkPeer → Bool) (g : Stop → Bool) (links : List LinkPeer) → filter g (map (λ l. stop_at l) (filter p links)) ≡ map (λ l. stop_at l) (filter (λ l. g (stop_at l) && p l) links)
+kept_stops : (p : LinkPeer → Bool) (g : RouteLink → Bool) (links : List LinkPeer) → filter g (map (λ l. stop_at l) (filter p links)) ≡ map (λ l. stop_at l) (filter (λ l. g (stop_at l) && p l) links)
 kept_stops p g [] = refl
 kept_stops p g (l ∷ links) = by (p l) (g (stop_at l)) refl (kept_stops p g links)
   where
@@ -102,6 +102,6 @@ on_kept test said (l ∷ links) up to = by (test l) (l.link.0 == to.0) refl refl
 
 -- what is told to the stops is told to their links
 pub told_each : (said : LinkNo → Role → Msg) (links : List LinkPeer) →
-    map {B = LinkNo × Msg} (λ (s : Stop). (s.link, said s.link s.role)) (map (λ l. stop_at l) links) ≡ map {B = LinkNo × Msg} (λ l. (l.link, said l.link l.peer.role)) links
+    map {B = LinkNo × Msg} (λ (s : RouteLink). (s.link, said s.link s.role)) (map (λ l. stop_at l) links) ≡ map {B = LinkNo × Msg} (λ l. (l.link, said l.link l.peer.role)) links
 told_each said [] = refl
 told_each said (l ∷ links) = ap (λ xs. (l.link, said l.link l.peer.role) ∷ xs) (told_each said links)

@@ -1,37 +1,30 @@
 //! `Route`: the links over which a sample or a request on a key goes on in a tree.
 
-ghost use Rattle.std.specs.Prelude.{◌≡◌, ◌++◌, ◌∷◌, [], IfOk, OnOk, OnErr, map, filter};
-ghost use Rattle.zr_routing.specs.Queries.{tree_for};
-ghost use Rattle.zr_routing.specs.Samples.{push_along};
-ghost use Rattle.zr_routing.specs.Tables.{TableState, AreNumbered};
-ghost use Rattle.zr_table.specs.Event.{Tells, TellsPrefix};
-ghost use Rattle.zr_table.specs.Prefix.{IsPrefixBehind};
-ghost use Rattle.zr_sought.specs.declared.sought.Sought.TheVariants.{Subscribers};
-ghost use Rattle.zr_push.specs.Route.{goes_on, is_stop, push_for, route_of, sent_along, stop_at, stops_from};
+ghost use Rattle.std.specs.Prelude.{◌≡◌, IfOk, map, filter};
+ghost use Rattle.zr_node_spec.specs.Queries.{tree_for};
+ghost use Rattle.zr_node_spec.specs.Tables.{TableState};
+ghost use Rattle.zr_push.specs.Route.{goes_on, is_stop, route_of, stop_at, stops_from};
 
 use std::alloc::{AllocError, Global};
 use std::marker::Model;
 use zr_id::link::LinkNo;
 use zr_id::zid::Zid;
 use zr_key::key::KeyExpr;
-use zr_msg::content::Content;
-use zr_msg::msg::Msg;
 use zr_msg::peer::{LinkPeer, Role};
-use zr_routing::tables::Tables;
-use zr_sought::client_rows::ClientRows;
-use zr_sought::hops::Hops;
-use zr_sought::search::has_declared;
-use zr_sought::sought::Sought;
-use zr_tell::tell::tell;
+use zr_node_spec::tables::TablesView;
+use zr_push_sought::client_rows::ClientRows;
+use zr_push_sought::hops::Hops;
+use zr_push_sought::search::has_declared;
+use zr_push_sought::sought::Sought;
 
 /// A link of a route, and who is at its other end.
 #[derive(Clone, Copy)]
-pub struct Stop {
+pub struct RouteLink {
     pub link: LinkNo,
     pub role: Role,
 }
 
-impl Stop {
+impl RouteLink {
     /// Whether what came over a link goes on to this stop: it doesn't go back to a client.
     pub fn takes_from(&self, from: LinkNo) -> bool
         ensures { result ≡ goes_on from.0 self.now self.now.role }
@@ -57,14 +50,14 @@ impl Stop {
 /// it has declared what is sought.
 #[derive(Drop)]
 pub struct Route {
-    stops: Vec<Stop>,
+    stops: Vec<RouteLink>,
 }
 
 impl Model for Route {
     ghost use Rattle.std.specs.Prelude.{List};
-    ghost use Rattle.zr_push.specs.declared.route.Stop.{Stop};
+    ghost use Rattle.zr_push.specs.declared.route.RouteLink.{RouteLink};
 
-    ghost Value = { List Stop };
+    ghost Value = { List RouteLink };
 
     ghost view = { λ r. r.stops.items };
 }
@@ -73,7 +66,7 @@ impl Route {
     /// The route in a tree to what is sought for a key.
     pub fn of(
         alloc: Global,
-        tables: &Tables,
+        tables: &TablesView,
         tree: Zid,
         sought: Sought,
         key: &KeyExpr,
@@ -86,30 +79,26 @@ impl Route {
         })
     }
 
+    /// The stops, in the order of their links.
+    pub fn stops(&self) -> &[RouteLink]
+        ensures { result.now ≡ self.now }
+    {
+        self.stops.as_slice()
+    }
+
     /// The stops but for the client that a message has come from, in the order of their links.
-    pub fn stops_from(&self, alloc: Global, from: LinkNo) -> Result<Vec<Stop>, AllocError>
+    pub fn stops_from(&self, alloc: Global, from: LinkNo) -> Result<Vec<RouteLink>, AllocError>
         ensures { IfOk result (λ v. v.items ≡ stops_from self.now from.0) }
     {
         stops_from(alloc, self.stops.as_slice(), from)
     }
-
-    /// A sample that has come over the link `from` goes along the route to the subscribers of its key: with the tree to each router, and
-    /// without it to each client but its publisher. Its content is not copied.
-    pub fn send(
-        &self,
-        from: LinkNo,
-        tree: Zid,
-        content: &Content,
-        out: &mut Vec<(LinkNo, Msg)>,
-    ) -> Result<(), AllocError>
-        ensures ok { (t : TableState) → AreNumbered t.links → self.now ≡ route_of t tree Subscribers content.now.key → OnOk result (Tells (push_along t from.0 (Some tree) content.now) out.old.items out.new.items) }
-        ensures err { (t : TableState) → AreNumbered t.links → self.now ≡ route_of t tree Subscribers content.now.key → OnErr result (TellsPrefix (push_along t from.0 (Some tree) content.now) out.old.items out.new.items) }
-    {
-        send_along(self.stops.as_slice(), from, tree, content, out)
-    }
 }
 
-fn stops_from(alloc: Global, stops: &[Stop], from: LinkNo) -> Result<Vec<Stop>, AllocError>
+fn stops_from(
+    alloc: Global,
+    stops: &[RouteLink],
+    from: LinkNo,
+) -> Result<Vec<RouteLink>, AllocError>
     ensures { IfOk result (λ v. v.items ≡ stops_from stops.now from.0) }
 {
     let mut left = Vec::new(alloc);
@@ -121,46 +110,14 @@ fn stops_from(alloc: Global, stops: &[Stop], from: LinkNo) -> Result<Vec<Stop>, 
     Ok(left)
 }
 
-fn send_along(
-    stops: &[Stop],
-    from: LinkNo,
-    tree: Zid,
-    content: &Content,
-    out: &mut Vec<(LinkNo, Msg)>,
-) -> Result<(), AllocError>
-    ensures ok { OnOk result (out.new.items ≡ out.old.items ++ sent_along stops.now from.0 tree content.now) }
-    ensures err { OnErr result (IsPrefixBehind out.old.items (sent_along stops.now from.0 tree content.now) out.new.items) }
-{
-    for stop in stops {
-        if stop.takes_from(from) {
-            push_to(stop, tree, content, out)?;
-        }
-    }
-    Ok(())
-}
-
-fn push_to(
-    stop: &Stop,
-    tree: Zid,
-    content: &Content,
-    out: &mut Vec<(LinkNo, Msg)>,
-) -> Result<(), AllocError>
-    ensures ok { OnOk result (out.new.items ≡ out.old.items ++ push_for tree content.now stop.now ∷ []) }
-    ensures err { OnErr result (out.new.items ≡ out.old.items) }
-{
-    let tree = stop.named(tree);
-    let content = content.copy()?;
-    tell(stop.link, Msg::Push { tree, content }, out)
-}
-
 // The stops at the links on the route, where these neighbours are those on the way.
 fn stops_on(
     alloc: Global,
-    tables: &Tables,
+    tables: &TablesView,
     hops: &Hops,
     sought: Sought,
     key: &KeyExpr,
-) -> Result<Vec<Stop>, AllocError>
+) -> Result<Vec<RouteLink>, AllocError>
     ensures { IfOk result (λ v. v.items ≡ map (λ l. stop_at l) (filter (λ l. is_stop tables.now hops.now sought key.now l l.peer.role) tables.now.links)) }
 {
     let links = tables.links();
@@ -190,10 +147,10 @@ fn is_stop(
     }
 }
 
-fn stop_at(link: &LinkPeer) -> Stop
+fn stop_at(link: &LinkPeer) -> RouteLink
     ensures { result ≡ stop_at link.now }
 {
-    Stop {
+    RouteLink {
         link: link.link,
         role: link.peer.role,
     }

@@ -15,16 +15,16 @@ use Rattle.zr_pend.specs.Pending.{begun, differ, free_number, is_full, opened}
 use Rattle.zr_pend.specs.Row.{RowState}
 use Rattle.zr_pend.specs.declared.branch.Asker.{Asker}
 use Rattle.zr_pend.specs.declared.branch.Branch.{Branch}
-use Rattle.zr_push.specs.declared.route.Stop.{Stop}
+use Rattle.zr_push.specs.declared.route.RouteLink.{RouteLink}
 use Rattle.zr_push.specs.Route.{stop_at, route_of, stops_from}
-use Rattle.zr_sought.specs.Sought.{sought_by}
+use Rattle.zr_push_sought.specs.Sought.{sought_by}
 use Rattle.zr_push.proofs.Stops.{kept_same, is_told, told_stops, each_kept, on_kept, told_each}
-use Rattle.zr_routing.specs.Queries.{is_asked, links_along, asked_links, tree_for, request_along, final_at_once, has_no_number, sends_request, after_request, asked_over}
-use Rattle.zr_routing.specs.Tables.{TableState, AreNumbered, link_at}
-use Rattle.zr_table.specs.Event.{on_link, Tells, TellsPrefix}
-use Rattle.zr_table.specs.Prefix.{IsPrefixBehind}
-use Rattle.zr_table.proofs.Links.{ascending_behind, none_behind}
-use Rattle.zr_table.proofs.Told.{tells_list, tells_prefix}
+use Rattle.zr_node_spec.specs.Queries.{is_asked, links_along, asked_links, tree_for, request_along, final_at_once, has_no_number, sends_request, after_request, asked_over}
+use Rattle.zr_node_spec.specs.Tables.{TableState, AreNumbered, link_at}
+use Rattle.zr_node_spec.specs.Event.{on_link, Tells, TellsPrefix}
+use Rattle.zr_lists.specs.Prefix.{IsPrefixBehind}
+use Rattle.zr_node_spec.proofs.Links.{ascending_behind, none_behind}
+use Rattle.zr_node_spec.proofs.Told.{tells_list, tells_prefix}
 use Rattle.zr_query.specs.Answering.{final_sent}
 use Rattle.zr_query.specs.Asking.{IsRouteOf, links_of, asked_of, request_for, each_asked, all_asked, sent_by}
 use Rattle.zr_query.proofs.Told.{ended_at_once}
@@ -44,7 +44,7 @@ told_asked t from tree All key l Router = refl
 told_asked t from tree Complete key l Client = refl
 told_asked t from tree Complete key l Router = refl
 
-stops_are_kept : (t : TableState) (from : ℕ) (tree : List ℕ) (target : Target) (key : List ℕ) (stops : List Stop) → stops ≡ route_of t tree (sought_by target) key →
+stops_are_kept : (t : TableState) (from : ℕ) (tree : List ℕ) (target : Target) (key : List ℕ) (stops : List RouteLink) → stops ≡ route_of t tree (sought_by target) key →
     stops_from stops from ≡ map (λ l. stop_at l) (kept_links t from tree target key)
 stops_are_kept t from tree target key stops e =
     ap (λ ss. stops_from ss from) e
@@ -56,7 +56,7 @@ links_kept : (links : List LinkPeer) → links_of (map (λ l. stop_at l) links) 
 links_kept [] = refl
 links_kept (l ∷ links) = ap (λ ls. l.link ∷ ls) (links_kept links)
 
-pub asked_is : (t : TableState) (from : ℕ) (named : Option (List ℕ)) (tree : List ℕ) (target : Target) (key : List ℕ) (stops : List Stop) → IsRouteOf t from named tree target key stops →
+pub asked_is : (t : TableState) (from : ℕ) (named : Option (List ℕ)) (tree : List ℕ) (target : Target) (key : List ℕ) (stops : List RouteLink) → IsRouteOf t from named tree target key stops →
     asked_of stops from ≡ asked_links t from named target key
 asked_is t from named tree target key stops h =
     ap (λ ss. links_of ss) (stops_are_kept t from tree target key stops h.stops_are)
@@ -65,37 +65,37 @@ asked_is t from named tree target key stops h =
 
 -- ---- numbers
 
-pub numbered_is : (rows : List RowState) (tree : List ℕ) (target : Target) (content : Parts) (stops : List Stop) →
+pub numbered_is : (rows : List RowState) (tree : List ℕ) (target : Target) (content : Parts) (stops : List RouteLink) →
     each_asked tree target content stops (map (λ (b : Branch). b.number) (opened rows (links_of stops))) ≡ all_asked rows tree target content stops
 numbered_is rows tree target content [] = refl
 numbered_is rows tree target content (s ∷ stops) = ap (λ xs. request_for tree target content s (free_number s.link rows) ∷ xs) (numbered_is rows tree target content stops)
 
 -- where the numbers are those that the links are given
-pub asked_all : (rows : List RowState) (tree : List ℕ) (target : Target) (content : Parts) (stops : List Stop) (links : List LinkNo) (numbers : List ℕ) → links ≡ links_of stops →
+pub asked_all : (rows : List RowState) (tree : List ℕ) (target : Target) (content : Parts) (stops : List RouteLink) (links : List LinkNo) (numbers : List ℕ) → links ≡ links_of stops →
     numbers ≡ map (λ (b : Branch). b.number) (opened rows links) → each_asked tree target content stops numbers ≡ all_asked rows tree target content stops
 asked_all rows tree target content stops links numbers e f =
     ap (λ ns. each_asked tree target content stops ns) (f ∙ ap (λ ls. map (λ (b : Branch). b.number) (opened rows ls)) e) ∙ numbered_is rows tree target content stops
 
-pub as_many : (rows : List RowState) (stops : List Stop) → length (map (λ (b : Branch). b.number) (opened rows (links_of stops))) ≡ length stops
+pub as_many : (rows : List RowState) (stops : List RouteLink) → length (map (λ (b : Branch). b.number) (opened rows (links_of stops))) ≡ length stops
 as_many rows [] = refl
 as_many rows (s ∷ stops) = ap (λ n. suc n) (as_many rows stops)
 
-pub some_links : (stops : List Stop) → length (links_of stops) ≡ length stops
+pub some_links : (stops : List RouteLink) → length (links_of stops) ≡ length stops
 some_links [] = refl
 some_links (s ∷ stops) = ap (λ n. suc n) (some_links stops)
 
 -- ---- whether there is a stop
 
-pub none_is : (stops : List Stop) → length stops ≡ 0 → stops ≡ []
+pub none_is : (stops : List RouteLink) → length stops ≡ 0 → stops ≡ []
 none_is [] h = refl
 none_is (s ∷ stops) h = absurd (omega arith)
 
-pub some_sent : (rows : List RowState) (from : Asker) (tree : List ℕ) (target : Target) (content : Parts) (stops : List Stop) → 0 < length stops →
+pub some_sent : (rows : List RowState) (from : Asker) (tree : List ℕ) (target : Target) (content : Parts) (stops : List RouteLink) → 0 < length stops →
     all_asked rows tree target content stops ≡ sent_by rows from tree target content stops
 some_sent rows from tree target content [] h = absurd (omega arith)
 some_sent rows from tree target content (s ∷ stops) h = refl
 
-pub some_begun : (rows : List RowState) (from : Asker) (stops : List Stop) → 0 < length stops → begun rows from (links_of stops) ≡ asked_over rows from (links_of stops)
+pub some_begun : (rows : List RowState) (from : Asker) (stops : List RouteLink) → 0 < length stops → begun rows from (links_of stops) ≡ asked_over rows from (links_of stops)
 some_begun rows from [] h = absurd (omega arith)
 some_begun rows from (s ∷ stops) h = refl
 
@@ -111,7 +111,7 @@ module _ (t : TableState) (rows : List RowState) (from : Asker) (tree : List ℕ
   sent_kept [] to = ended_at_once from to ∙ sym (append-nil (final_at_once from.link.0 from.number [] to.0))
   sent_kept (l ∷ links) to = ap (λ xs. on_link to xs) (told_each (λ n r. Request (tree_for tree r) (free_number n rows) target content) (l ∷ links))
 
-  pub sent_is : (named : Option (List ℕ)) (stops : List Stop) → IsRouteOf t from.link.0 named tree target content.key stops → (to : LinkNo)
+  pub sent_is : (named : Option (List ℕ)) (stops : List RouteLink) → IsRouteOf t from.link.0 named tree target content.key stops → (to : LinkNo)
       → on_link to (sent_by rows from tree target content (stops_from stops from.link.0)) ≡ sends_request t rows from.link.0 named from.number target content to.0
   sent_is named stops h to =
       ap (λ ss. on_link to (sent_by rows from tree target content ss)) (stops_are_kept t from.link.0 tree target content.key stops h.stops_are)
@@ -121,7 +121,7 @@ module _ (t : TableState) (rows : List RowState) (from : Asker) (tree : List ℕ
       ∙ ap (λ o. final_at_once from.link.0 from.number (links_along t from.link.0 o target content.key) to.0 ++ request_along t rows from.link.0 o target content to.0) (sym h.stays)
 
   -- what is said of these stops, where they are those of the route but for the asker, is said of the table
-  module _ (named : Option (List ℕ)) (stops kept : List Stop) (h : IsRouteOf t from.link.0 named tree target content.key stops) (e : kept ≡ stops_from stops from.link.0) where
+  module _ (named : Option (List ℕ)) (stops kept : List RouteLink) (h : IsRouteOf t from.link.0 named tree target content.key stops) (e : kept ≡ stops_from stops from.link.0) where
     on_each : (to : LinkNo) → on_link to (sent_by rows from tree target content kept) ≡ sends_request t rows from.link.0 named from.number target content to.0
     on_each to = ap (λ ss. on_link to (sent_by rows from tree target content ss)) e ∙ sent_is named stops h to
 
@@ -161,7 +161,7 @@ kept_differ test (l ∷ links) up = by (test l) (kept_differ test links (ascendi
     by true ih = rw (none_kept test l.link.0 links (none_behind l links up)) ih
     by false ih = ih
 
-pub route_differs : (t : TableState) (from : ℕ) (tree : List ℕ) (target : Target) (key : List ℕ) (stops : List Stop) → AreNumbered t.links → stops ≡ route_of t tree (sought_by target) key → differ (asked_of stops from) ≡ true
+pub route_differs : (t : TableState) (from : ℕ) (tree : List ℕ) (target : Target) (key : List ℕ) (stops : List RouteLink) → AreNumbered t.links → stops ≡ route_of t tree (sought_by target) key → differ (asked_of stops from) ≡ true
 route_differs t from tree target key stops up e =
     ap (λ ss. differ (links_of ss)) (stops_are_kept t from tree target key stops e)
     ∙ ap (λ ls. differ ls) (links_kept (kept_links t from tree target key))

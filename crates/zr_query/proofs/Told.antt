@@ -12,12 +12,12 @@ use Rattle.zr_msg.specs.declared.msg.Target.{Target}
 use Rattle.zr_pend.specs.Row.{RowState}
 use Rattle.zr_pend.specs.Pending.{asker_of, branch, final_to, finals_of_drop}
 use Rattle.zr_pend.specs.declared.branch.Asker.{Asker}
-use Rattle.zr_routing.specs.Queries.{reply_to, final_for, final_at_once, link_no, links_along, request_along, sends_request, sends_reply, sends_final, sends_ends}
-use Rattle.zr_routing.specs.Samples.{tree_of}
-use Rattle.zr_routing.specs.Tables.{TableState, link_at}
-use Rattle.zr_table.specs.Event.{on_link, Tells, TellsPrefix}
-use Rattle.zr_table.specs.Prefix.{IsPrefixBehind}
-use Rattle.zr_table.proofs.Told.{on_link-append, tells_list, tells_prefix}
+use Rattle.zr_node_spec.specs.Queries.{reply_to, final_for, final_at_once, link_no, links_along, request_along, sends_request, sends_reply, sends_final, sends_ends}
+use Rattle.zr_node_spec.specs.Samples.{tree_of}
+use Rattle.zr_node_spec.specs.Tables.{TableState, link_at}
+use Rattle.zr_node_spec.specs.Event.{on_link, Tells, TellsPrefix}
+use Rattle.zr_lists.specs.Prefix.{IsPrefixBehind}
+use Rattle.zr_node_spec.proofs.Told.{on_link-append, tells_list, tells_prefix}
 use Rattle.zr_query.specs.Answering.{reply_sent, final_sent}
 
 -- a message for one link is on that link alone

@@ -2,10 +2,10 @@
 
 ghost use Rattle.std.specs.Prelude.{◌≡◌, ◌++◌, ◌∷◌, [], map, OnOk, OnErr};
 ghost use Rattle.zr_msg.specs.Extras.{no_extras};
-ghost use Rattle.zr_routing.specs.Queries.{after_final, link_no, sends_ends, sends_final, sends_reply};
+ghost use Rattle.zr_node_spec.specs.Queries.{after_final, link_no, sends_ends, sends_final, sends_reply};
 ghost use Rattle.zr_pend.specs.Pending.{dropped};
-ghost use Rattle.zr_table.specs.Event.{Tells, TellsPrefix};
-ghost use Rattle.zr_table.specs.Prefix.{IsPrefixBehind};
+ghost use Rattle.zr_node_spec.specs.Event.{Tells, TellsPrefix};
+ghost use Rattle.zr_lists.specs.Prefix.{IsPrefixBehind};
 ghost use Rattle.zr_query.specs.Answering.{final_sent, reply_sent};
 
 use std::alloc::{AllocError, Global};
@@ -14,9 +14,9 @@ use zr_msg::content::Content;
 use zr_msg::extras::Extras;
 use zr_msg::msg::Msg;
 use zr_msg::shared::Shared;
+use zr_node_spec::tell::tell;
 use zr_pend::branch::Asker;
 use zr_pend::pending::Pending;
-use zr_tell::tell::tell;
 
 /// A reply has come under a number of a link: it goes to who asked, if the request is pending there and its asker's link is up.
 pub fn response(

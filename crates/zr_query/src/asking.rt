@@ -6,11 +6,11 @@ ghost use Rattle.zr_pend.specs.Pending.{asked, begun, differ, is_full, opened};
 ghost use Rattle.zr_pend.specs.Row.{RowState};
 ghost use Rattle.zr_msg.specs.Extras.{no_extras};
 ghost use Rattle.zr_msg.specs.declared.content.Parts.{Parts};
-ghost use Rattle.zr_routing.specs.Queries.{after_request, asked_links, asked_over, has_no_number, sends_request};
-ghost use Rattle.zr_routing.specs.Samples.{tree_of};
-ghost use Rattle.zr_routing.specs.Tables.{TableState, link_at};
-ghost use Rattle.zr_table.specs.Event.{Tells, TellsPrefix};
-ghost use Rattle.zr_table.specs.Prefix.{IsPrefixBehind};
+ghost use Rattle.zr_node_spec.specs.Queries.{after_request, asked_links, asked_over, has_no_number, sends_request};
+ghost use Rattle.zr_node_spec.specs.Samples.{tree_of};
+ghost use Rattle.zr_node_spec.specs.Tables.{TableState, link_at};
+ghost use Rattle.zr_node_spec.specs.Event.{Tells, TellsPrefix};
+ghost use Rattle.zr_lists.specs.Prefix.{IsPrefixBehind};
 ghost use Rattle.zr_query.specs.Answering.{final_sent};
 ghost use Rattle.zr_query.specs.Asking.{IsRouteOf, all_asked, asked_of, each_asked, links_of, request_for, sent_by};
 
@@ -23,10 +23,10 @@ use zr_msg::content::Content;
 use zr_msg::extras::Extras;
 use zr_msg::msg::{Msg, Target};
 use zr_msg::shared::Shared;
+use zr_node_spec::tell::tell;
 use zr_pend::branch::Asker;
 use zr_pend::pending::{PendError, Pending};
-use zr_push::route::{Route, Stop};
-use zr_tell::tell::tell;
+use zr_push::route::{Route, RouteLink};
 
 /// Why a request doesn't go on.
 #[derive(Debug, Drop, Error)]
@@ -95,7 +95,7 @@ pub fn refuse(alloc: Global, from: Asker, out: &mut Vec<(LinkNo, Msg)>) -> Resul
 // The request goes on to these stops, or a final goes back at once where there is none.
 fn ask_or_end(
     alloc: Global,
-    stops: &[Stop],
+    stops: &[RouteLink],
     pending: &mut Pending,
     from: Asker,
     tree: Zid,
@@ -121,7 +121,7 @@ fn ask_or_end(
 // The request goes on to these stops, of which there is one at least.
 fn ask(
     alloc: Global,
-    stops: &[Stop],
+    stops: &[RouteLink],
     pending: &mut Pending,
     from: Asker,
     tree: Zid,
@@ -144,7 +144,7 @@ fn ask(
     Ok(ask_each(stops, numbers.as_slice(), tree, target, content, out)?)
 }
 
-fn links_of(alloc: Global, stops: &[Stop]) -> Result<Vec<LinkNo>, AllocError>
+fn links_of(alloc: Global, stops: &[RouteLink]) -> Result<Vec<LinkNo>, AllocError>
     ensures { IfOk result (λ v. v.items ≡ links_of stops.now) }
 {
     stops.iter().map(|stop| stop.link).collect(alloc)
@@ -171,7 +171,7 @@ fn begin(pending: &mut Pending, from: Asker, links: &[LinkNo]) -> Result<Vec<u32
 
 // The request goes to each stop, under its number there.
 fn ask_each(
-    stops: &[Stop],
+    stops: &[RouteLink],
     numbers: &[u32],
     tree: Zid,
     target: Target,
@@ -189,7 +189,7 @@ fn ask_each(
 }
 
 fn ask_at(
-    stop: &Stop,
+    stop: &RouteLink,
     id: u32,
     tree: Zid,
     target: Target,

@@ -14,7 +14,7 @@ use Rattle.atomic_table.proofs.Lists.{at_set}
 use Rattle.zr_ring.specs.declared.rule.EndView.{EndView}
 use Rattle.zr_ring.specs.declared.rule.View.{View}
 use Rattle.zr_ring.specs.Rule.{SeatState, Progress, AreSlots, Fits, IsRing, one_if, end_view, no_view, view, giver_view, taker_view, loaded_taken, began, gave, gave_last, saw_given, took, looked, loaded_given_beside, loaded_taken_beside}
-use Rattle.zr_seats.proofs.Views.{at_end, seats_set, seats_more}
+use Rattle.zr_hist.proofs.Views.{at_end, seats_set, seats_more}
 use Rattle.zr_ring.proofs.Lists.{there, take_one_more, take_front, take_length}
 use Rattle.zr_ring.proofs.Slots.{taker_takes_slot, taker_returns_slot, giver_takes_slot, giver_returns_slot}
 

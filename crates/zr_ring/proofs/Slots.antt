@@ -9,7 +9,7 @@ use lib.ListN.{get_elem?}
 use Rattle.std.specs.Prelude.{Option, Some, None}
 use Rattle.atomic_table.proofs.Lists.{set_here, set_else}
 use Rattle.zr_ring.specs.Rule.{Progress, AreSlots, one_if}
-use Rattle.zr_seats.proofs.Views.{at_end, at_below}
+use Rattle.zr_hist.proofs.Views.{at_end, at_below}
 use Rattle.zr_ring.proofs.Lists.{apart}
 
 module _ {X : Type 0} (place : X → ℕ) (cap : ℕ) where

@@ -9,17 +9,17 @@ use Rattle.zr_msg.specs.declared.msg.Msg.{Msg}
 use Rattle.zr_msg.specs.declared.error.NodeError.{NodeError}
 use Rattle.zr_msg.specs.declared.peer.Peer.{Peer}
 use Rattle.zr_msg.specs.declared.peer.Role.{Role}
-use Rattle.zr_routing.specs.Tables.{link_at}
+use Rattle.zr_node_spec.specs.Tables.{link_at}
 use Rattle.zr_msg.specs.declared.peer.LinkPeer.{LinkPeer}
-use Rattle.zr_told.specs.Hub.{HubState, hub_refuses}
+use Rattle.zr_told_spec.specs.Hub.{HubState, hub_refuses}
 use Rattle.zr_port.specs.Adding.{IsAdmitted}
 use Rattle.zr_port.specs.declared.entry.Entry.{Entry}
 use Rattle.zr_port.specs.declared.error.DeliverError.{DeliverError}
 use Rattle.zr_port.specs.declared.error.DeliverError.TheVariants as deliver
 use Rattle.zr_wire.specs.Roles.{admits}
-use Rattle.zr_queue.specs.declared.link_end.Closing.{Closing}
-use Rattle.zr_queue.specs.Tables.{LinkQueue, replay}
-use Rattle.zr_queue.specs.Ends.{EndState, IsReplay}
+use Rattle.zr_router_queue.specs.declared.link_end.Closing.{Closing}
+use Rattle.zr_router_queue.specs.Tables.{LinkQueue, replay}
+use Rattle.zr_router_queue.specs.Ends.{EndState, IsReplay}
 use Rattle.zr_router.specs.Before.{message_refusal, open_refusal}
 use Rattle.zr_router.specs.Refusals.{IsClosed, RefusesAt, RefusesOn, RefusesMessage, closing_of, is_worn, refused_by, refuses_on}
 

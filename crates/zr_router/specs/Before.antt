@@ -5,7 +5,7 @@ use Rattle.zr_msg.specs.declared.msg.Msg.{Msg}
 use Rattle.zr_msg.specs.declared.peer.Peer.{Peer}
 use Rattle.zr_port.specs.declared.error.DeliverError.{DeliverError}
 use Rattle.zr_port.specs.declared.error.DeliverError.TheVariants.{NotUp, Full, Misplaced, Worn}
-use Rattle.zr_queue.specs.declared.link_end.Closing.{Closing}
+use Rattle.zr_router_queue.specs.declared.link_end.Closing.{Closing}
 use Rattle.zr_wire.specs.Roles.{admits}
 
 -- of a message over a link that is up and open: `worn` says that the history is at its end

@@ -10,10 +10,10 @@ use Rattle.zr_msg.specs.declared.peer.Peer.{Peer}
 use Rattle.zr_msg.specs.declared.peer.Role.{Role}
 use Rattle.zr_msg.specs.declared.event.Event.{Event}
 use Rattle.zr_msg.specs.declared.event.Event.TheVariants.{Up, Down, From}
-use Rattle.zr_routing.specs.Tables.{link_at, link_to, is_router, free_link}
-use Rattle.zr_table.specs.State.{NodeState}
+use Rattle.zr_node_spec.specs.Tables.{link_at, link_to, is_router, free_link}
+use Rattle.zr_node_spec.specs.State.{NodeState}
 use Rattle.zr_msg.specs.declared.peer.LinkPeer.{LinkPeer}
-use Rattle.zr_told.specs.Hub.{HubState, hub_refuses}
+use Rattle.zr_told_spec.specs.Hub.{HubState, hub_refuses}
 use Rattle.zr_port.specs.declared.entry.Entry.{Entry}
 use Rattle.zr_port.specs.declared.error.UpError.{UpError}
 use Rattle.zr_port.specs.declared.error.UpError.TheVariants as up
@@ -23,7 +23,7 @@ use Rattle.zr_port.specs.declared.error.DownError.{DownError}
 use Rattle.zr_port.specs.declared.error.DownError.TheVariants as down
 use Rattle.zr_wire.specs.Roles.{admits}
 use Rattle.std.specs.List.{find}
-use Rattle.zr_queue.specs.Tables.{LinkQueue, Tables, replay, open_queues}
+use Rattle.zr_router_queue.specs.Tables.{LinkQueue, Tables, replay, open_queues}
 
 -- ---- limits
 

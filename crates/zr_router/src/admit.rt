@@ -1,21 +1,21 @@
 //! Whether a call is refused, as the tables stand.
 
 ghost use Rattle.std.specs.Prelude.{◌≡◌, ◌≤◌, ◌&&◌, ◌||◌, nat_le, filter, length};
-ghost use Rattle.zr_routing.specs.Tables.{is_router};
+ghost use Rattle.zr_node_spec.specs.Tables.{is_router};
 ghost use Rattle.zr_router.specs.Before.{message_refusal};
 ghost use Rattle.zr_router.specs.Refusals as refusals;
 ghost use Rattle.zr_router.specs.Refusals.{down_refusal, most_routers, most_sessions, peer_refusal};
 
-use zr_hub::hub::Hub;
 use zr_id::link::LinkNo;
 use zr_msg::msg::Msg;
 use zr_msg::peer::{LinkPeer, Peer, Role};
 use zr_port::{DeliverError, DownError, UpError};
-use zr_queue::Closing;
+use zr_router_core::hub::Hub;
+use zr_router_queue::Closing;
 use zr_wire::admits;
 
-/// How many sessions a router has at most.
-const MOST_SESSIONS: u32 = 128;
+/// How many sessions a router has at most. The numbers of its links are below that, so each has a bit among those of the writers that are to be woken.
+pub(crate) const MOST_SESSIONS: u32 = 128;
 
 /// How many sessions to routers a router has at most.
 const MOST_ROUTERS: u32 = 16;
@@ -60,7 +60,7 @@ fn is_full(sessions: u32, routers: u32, role: Role) -> bool
 }
 
 // Whether a link of that identifier is up, or it is the router's own.
-#[tactic(auto, using(crate::proofs::OpenEnds::some_mapped))]
+#[tactic(auto, using(zr_lists::proofs::Options::there_changed))]
 fn is_twice(hub: &Hub, peer: &Peer) -> bool
     ensures { result ≡ refusals.is_twice hub.now.node peer.now }
 {

@@ -1,9 +1,11 @@
 //! The shared router: tables under a lock, and the bells of the links' writers beside it.
 
-ghost use Rattle.std.specs.Prelude.{◌≡◌, []};
+ghost use Rattle.std.specs.Prelude.{◌≡◌, [], length};
 ghost use Rattle.zr_hist.specs.Words.{kept_name, list_of, name};
+ghost use Rattle.zr_router.specs.Refusals.{most_sessions};
 
-use crate::tables::{BELLS, Due, Tables};
+use crate::admit::MOST_SESSIONS;
+use crate::tables::{Due, Tables};
 use std::alloc::{AllocError, Global};
 use std::marker::PhantomData;
 use std::sync::{Mutex, Wait};
@@ -16,8 +18,8 @@ use zr_id::zid::Zid;
 use zr_msg::msg::Msg;
 use zr_msg::peer::Peer;
 use zr_port::{DeliverError, DownError, Entry, Naming, Port, UpError};
-use zr_queue::Queued;
 use zr_ring::Taker;
+use zr_router_queue::Queued;
 
 /// A router that many threads share. Each call works on the tables under their lock and wakes the links' writers once it is free again; only
 /// `split` and `join` take no lock. Where an event leaves a ring crowded, its thread rests for a moment, so that a writer which wasn't scheduled at once
@@ -30,6 +32,7 @@ pub struct Router<B: Naming, R: Wait + Drop> {
     bells: Vec<Parker>,
     of: PhantomData<B>,
     ghost named: { name history ≡ B.history },
+    ghost for_each_link: { length bells.items ≡ most_sessions },
 }
 
 // Written out, so that it is proved here, and not by each crate that lets one go.
@@ -59,8 +62,8 @@ impl<B: Naming, R: Wait + Drop> Router<B, R> {
         requires kept { (kept_name kept ≡ B.history) × (list_of kept ≡ []) }
         requires own { me ≡ B.me }
     {
-        let mut bells = Vec::with_capacity(alloc, BELLS as usize)?;
-        for _ in 0..BELLS {
+        let mut bells = Vec::with_capacity(alloc, MOST_SESSIONS as usize)?;
+        for _ in 0..MOST_SESSIONS {
             bells.push(Parker::new())?;
         }
         Ok(Router {
@@ -86,7 +89,7 @@ impl<B: Naming, R: Wait + Drop> Router<B, R> {
     // Wakes the writers of these links.
     fn ring(&self, links: u128) {
         let mut rest = links;
-        for _ in 0..BELLS {
+        for _ in 0..MOST_SESSIONS {
             if rest == 0 {
                 break;
             }
@@ -100,8 +103,8 @@ impl<B: Naming, R: Wait + Drop> Router<B, R> {
 
 impl<B: Naming, R: Wait + Drop> Port for Router<B, R> {
     ghost use Rattle.std.specs.Prelude.{◌≡◌, true};
-    ghost use Rattle.zr_queue.specs.History as history;
-    ghost use Rattle.zr_queue.specs.Tables as tables;
+    ghost use Rattle.zr_router_queue.specs.History as history;
+    ghost use Rattle.zr_router_queue.specs.Tables as tables;
     ghost use Rattle.zr_router.specs.Refusals.{RefusesDown, RefusesMessage, RefusesUp};
 
     type Note = Queued;
@@ -139,6 +142,35 @@ impl<B: Naming, R: Wait + Drop> Port for Router<B, R> {
         drop(tables);
         self.follow(due);
         result
+    }
+
+    fn deliver_all(
+        &self,
+        pass: &mut Pass<Entry>,
+        link: LinkNo,
+        messages: Vec<Msg>,
+    ) -> Result<(), DeliverError> {
+        let mut rest = messages.into_iter();
+        let mut rested = 0u64;
+        while rest.len() > 0 {
+            let mut tables = self.tables.lock(&self.rt);
+            let result = tables.deliver_some(self.alloc, &self.history, pass, link, &mut rest);
+            let most = tables.most_rest_ms(link);
+            let due = tables.take_due();
+            drop(tables);
+            let rest_ms = due.rest_ms.min(most.saturating_sub(rested));
+            rested = rested.saturating_add(rest_ms);
+            self.follow(Due {
+                links: due.links,
+                rest_ms,
+            });
+            if let Err(e) = result {
+                drop(rest);
+                return Err(e);
+            }
+        }
+        rest.destroy_empty();
+        Ok(())
     }
 
     fn down(

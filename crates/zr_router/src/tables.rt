@@ -1,60 +1,66 @@
 //! The tables under a router's lock, and the three calls on them. Each looks at the history first, so that every refusal speaks of all that has
 //! happened.
 
-ghost use Rattle.std.specs.Prelude.{◌≡◌, ◌≢◌, ◌↔◌, ◌<◌, ◌==◌, ◌++◌, ◌∷◌, [], not, filter, false, true, length, Err, IfErr, IfOk, OnErr, OnOk, Some, None, is_err};
+ghost use Rattle.std.specs.Prelude.{◌≡◌, ◌≢◌, ◌↔◌, ◌<◌, ◌==◌, ◌++◌, ◌∷◌, [], not, filter, false, true, length, Err, IfErr, IfOk, OnErr, OnOk, List, Some, None, is_err};
 ghost use mathlib.Core.List.{IsPrefix};
+ghost use Rattle.std.specs.List.{AllByRecursion};
+ghost use Rattle.std.specs.Vec.Iter.{into_iter_items, into_iter_len};
 ghost use Rattle.zr_hist.specs.Words.{IsSamePass, kept_name, list_of, mine, most_entries, name, pass_name, seen};
 ghost use Rattle.zr_id.specs.declared.link.LinkNo.{LinkNo};
 ghost use Rattle.zr_msg.specs.declared.event.Event.TheVariants as event;
-ghost use Rattle.zr_port.specs.Adding.{Adds, IsAdmitted, IsEntryOf, IsLeastFree};
+ghost use Rattle.zr_msg.specs.declared.msg.Msg.{Msg};
+ghost use Rattle.zr_port.specs.Adding.{Adds, DeliversUpTo, IsAdmitted, IsEntryOf, IsLeastFree, StopsAt};
 ghost use Rattle.zr_port.specs.declared.entry.Entry.{Entry};
 ghost use Rattle.zr_ring.specs.Taker.{taken, take_calls};
-ghost use Rattle.zr_table.specs.Event.{MayCome, on_link};
-ghost use Rattle.zr_told.specs.Hub.{hub_after, hub_refuses, hub_sends};
+ghost use Rattle.zr_node_spec.specs.Event.{MayCome, on_link};
+ghost use Rattle.zr_told_spec.specs.Hub.{hub_after, hub_refuses, hub_sends};
 ghost use Rattle.zr_wire.specs.Writing.{IsSpelled};
-ghost use Rattle.zr_queue.specs.Ends.{GoesByRings, IsReplay, new_end, taker_ring};
-ghost use Rattle.zr_queue.specs.History.{is_legal};
-ghost use Rattle.zr_queue.specs.Tables.{is_up, new_queue};
+ghost use Rattle.zr_router_queue.specs.Ends.{GoesByRings, IsReplay, new_end, taker_ring};
+ghost use Rattle.zr_router_queue.specs.History.{is_legal};
+ghost use Rattle.zr_router_queue.specs.Tables.{is_up, new_queue};
 ghost use Rattle.zr_router.specs.Failures.{HasFailed};
 ghost use Rattle.zr_router.specs.Handled.{IsHandled};
 ghost use Rattle.zr_router.specs.Ended.{HasEnded};
 ghost use Rattle.zr_router.specs.Replayed.{IsReplay-prop};
-ghost use Rattle.zr_router.specs.Refusals.{RefusesDown, RefusesMessage, RefusesUp, is_worn};
+ghost use Rattle.zr_router.specs.Refusals.{RefusesDown, RefusesMessage, RefusesUp, is_worn, most_sessions};
 
-use crate::admit::{refuses_down, refuses_message, refuses_peer};
+use crate::admit::{MOST_SESSIONS, refuses_down, refuses_message, refuses_peer};
 use crate::ends::{closing_of, taken_out};
 use crate::failure::Failure;
 use std::alloc::{AllocError, Global};
 use std::marker::PhantomData;
+use std::vec;
 use zr_frame::Outbox;
 use zr_hist::{History, Kept, Pass};
-use zr_hub::hub::Hub;
 use zr_id::link::LinkNo;
 use zr_id::zid::Zid;
 use zr_msg::event::Event;
 use zr_msg::msg::Msg;
 use zr_msg::peer::{Peer, Role};
 use zr_port::{DeliverError, DownError, Entry, Naming, UpError};
-use zr_queue::{LinkEnd, Queued, enter, prepare};
 use zr_ring::{Giver, Taker};
+use zr_router_core::hub::Hub;
+use zr_router_queue::{LinkSender, Queued, enter, prepare};
 
 /// How many entries a history has at most.
 const MOST_ENTRIES: u64 = u64::MAX;
 
-/// How many links have a bell: each has, since the least number that isn't up is below it.
-pub(crate) const BELLS: u32 = 128;
+/// How many messages are delivered at most while the tables are locked once.
+const MOST_HELD: u32 = 64;
 
 /// The tables of a running router: the router itself with what its clients were told, the links that are up in the order in which they came up, and
 /// what stands for the history. Unless memory ran out they are the replay of its list.
 pub struct Tables<B: Naming> {
     me: Zid,
     hub: Hub,
-    ends: Vec<LinkEnd>,
+    ends: Vec<LinkSender>,
     kept: Kept<Entry>,
     // the links whose writers have something new, a bit for each
     due: u128,
     // for how long who brought the last event is to rest, in milliseconds
     rest_ms: u64,
+    // whether a writer is to be woken at once, since the last event leaves its ring half full
+    presses: bool,
     is_spent: bool,
     of: PhantomData<B>,
     ghost named: { kept_name kept ≡ B.history },
@@ -73,6 +79,7 @@ impl<B: Naming> Drop for Tables<B> {
             kept: _kept,
             due: _due,
             rest_ms: _rest_ms,
+            presses: _presses,
             is_spent: _is_spent,
             of: _of,
         } = self;
@@ -112,6 +119,7 @@ impl<B: Naming> Tables<B> {
             kept,
             due: 0,
             rest_ms: 0,
+            presses: false,
             is_spent: false,
             of: PhantomData,
         })
@@ -180,6 +188,50 @@ impl<B: Naming> Tables<B> {
         }
     }
 
+    /// Messages have come over a link: the next of them are delivered, in order, up to the first that is refused. As many of them are left as would hold
+    /// up other threads, or the writers of links: behind so many messages, and behind one that leaves a ring half full or crowded.
+    pub fn deliver_some(
+        &mut self,
+        alloc: Global,
+        history: &History<Entry>,
+        pass: &mut Pass<Entry>,
+        link: LinkNo,
+        messages: &mut vec::IntoIter<Msg>,
+    ) -> Result<(), DeliverError>
+        requires history { name history.now ≡ B.history }
+        requires pass { pass_name pass.old ≡ B.history }
+        requires spelled { AllByRecursion IsSpelled (into_iter_items messages.old) }
+        requires counted { into_iter_len messages.old ≡ length (into_iter_items messages.old) }
+        requires some { 0 < into_iter_len messages.old }
+        ensures same { IsSamePass pass.old pass.new }
+        ensures legal { is_legal B.me (seen pass.new) ≡ true }
+        ensures delivered { OnOk result (DeliversUpTo (λ h m e. RefusesMessage B.me h link m e) link (into_iter_items messages.old) (into_iter_items messages.new) pass.old pass.new) }
+        ensures left { OnOk result (AllByRecursion IsSpelled (into_iter_items messages.new) × (into_iter_len messages.new ≡ length (into_iter_items messages.new))) }
+        ensures fewer { OnOk result (into_iter_len messages.new < into_iter_len messages.old) }
+        ensures stopped { IfErr result (λ e. (rest : List Msg) × DeliversUpTo (λ h m x. RefusesMessage B.me h link m x) link (into_iter_items messages.old) rest pass.old pass.new × StopsAt (λ m x. RefusesMessage B.me (seen pass.new) link m x) rest e) }
+    {
+        for _ in 0..MOST_HELD {
+            let Some(msg) = messages.next() else {
+                return Ok(());
+            };
+            if let Err(e) = self.deliver(alloc, history, pass, link, msg) {
+                return Err(e);
+            }
+            if self.presses || self.rest_ms > 0 {
+                return Ok(());
+            }
+        }
+        Ok(())
+    }
+
+    /// For how long at most who reads from a link rests for all that one read gave, in milliseconds.
+    pub fn most_rest_ms(&self, link: LinkNo) -> u64 {
+        match self.hub.peer_at(link) {
+            Some(peer) => most_rest_ms(peer.role),
+            None => 0,
+        }
+    }
+
     /// A session with a peer has opened: its link comes up under the least number that isn't up.
     pub fn up(
         &mut self,
@@ -198,6 +250,7 @@ impl<B: Naming> Tables<B> {
         ensures added { IfOk result (λ r. Adds pass.old pass.new (λ before e. (before ≡ entries self.old) × IsEntryOf (event.Up r.0 peer) (Some outbox) None e × (IsLeastFree (λ l. is_up B.me before l) r.0 × IsAdmitted (λ e. RefusesUp B.me before peer e)))) }
         ensures rings { IfOk result (λ r. Adds pass.old pass.new (λ before e. (before ≡ entries self.old) × GoesByRings B.me before e (open_links self.old ++ new_end (new_queue r.0 peer.role outbox) (taker_ring r.1) ∷ []) (open_links self.new))) }
         ensures link { IfOk result (λ r. is_up B.me (entries self.new) r.0 ≡ true) }
+        ensures numbered { IfOk result (λ r. r.0.0 < most_sessions) }
         ensures taker { IfOk result (λ r. (taken r.1 ≡ []) × (take_calls r.1 ≡ 0)) }
         ensures refused { IfErr result (λ e. e ≢ UpError.NoMemory → RefusesUp B.me (entries self.old) peer e) }
         ensures unchanged { OnErr result ((entries self.new ≡ entries self.old) × (mine pass.new ≡ mine pass.old)) }
@@ -323,6 +376,7 @@ impl<B: Naming> Tables<B> {
         };
         self.due = 0;
         self.rest_ms = 0;
+        self.presses = false;
         due
     }
 
@@ -339,7 +393,7 @@ impl<B: Naming> Tables<B> {
         ensures ends { IfOk result (λ taker. self.new.ends.items ≡ self.old.ends.items ++ new_end (new_queue link role outbox) (taker_ring taker) ∷ []) }
         ensures taker { IfOk result (λ taker. (taken taker ≡ []) × (take_calls taker ≡ 0)) }
     {
-        let (end, taker) = LinkEnd::new(alloc, link, role, outbox)?;
+        let (end, taker) = LinkSender::new(alloc, link, role, outbox)?;
         match self.ends.push(end) {
             Ok(()) => Ok(taker),
             Err(_) => Err(AllocError),
@@ -418,17 +472,28 @@ impl<B: Naming> Tables<B> {
         } = arrival;
         let entry = prepare(alloc, ends, sent, event, outbox, reason)?;
         let rest_ms = rest_for(ends);
+        let presses = ends.iter().any(|end| end.is_half_full());
         enter(history, &mut self.kept, pass, self.me, ends, &entry);
         drop(entry);
         self.is_spent = false;
         self.due |= due_of(sent);
         self.rest_ms = rest_ms;
+        self.presses = presses;
         Ok(())
     }
 }
 
+// For how long at most who reads from a link to a peer of that role rests for all that one read gave, in milliseconds. A client waits as long as its
+// messages ask for, and nobody else does. What another router sends is of many clients, and it closes a link on which it can't write for ten seconds.
+fn most_rest_ms(role: Role) -> u64 {
+    match role {
+        Role::Client => u64::MAX,
+        Role::Router => 100,
+    }
+}
+
 // For how long who brought the event that is prepared is to rest, in milliseconds: as long as the most crowded ring asks for.
-fn rest_for(ends: &[LinkEnd]) -> u64 {
+fn rest_for(ends: &[LinkSender]) -> u64 {
     let mut most = 0u64;
     for end in ends {
         most = most.max(end.rest_ms());
@@ -447,5 +512,9 @@ fn due_of(sent: &[(LinkNo, Msg)]) -> u128 {
 
 // The bit of a link among those whose writers have something new.
 fn bell_of(link: LinkNo) -> u128 {
-    if link.0 < BELLS { 1 << link.0 } else { 0 }
+    if link.0 < MOST_SESSIONS {
+        1 << link.0
+    } else {
+        0 // no link of such a number comes up
+    }
 }

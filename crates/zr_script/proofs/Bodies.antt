@@ -5,7 +5,7 @@ use Rattle.zr_bytes.specs.Reading.{◌>>=◌, byte_of}
 use Rattle.zr_body.specs.declared.place.Place.TheVariants.{Request, Response}
 use Rattle.zr_body.specs.Reading.{read_behind, read_query, read_reply, payload_in, body_of}
 use Rattle.zr_body.proofs.Payloads.{put_read}
-use Rattle.zr_language.specs.Command.{query_body, reply_body}
+use Rattle.zr_script_spec.specs.Command.{query_body, reply_body}
 
 pub query_read : body_of Request query_body ≡ Ok (query_body, [])
 unfolding body_of payload_in byte_of read_behind read_query

@@ -1,13 +1,9 @@
 -- The value of digits grows with each digit.
-use Rattle.std.proofs.Common.{◌≡◌, ℕ, ◌+◌, ◌-◌, ◌*◌, ◌^◌, ◌<◌, ◌≤◌, false, suc, nat_lt, List, [], ◌∷◌, length, drop, get_or, arith, drop-cons}
+use Rattle.std.proofs.Common.{◌≡◌, ℕ, ◌+◌, ◌-◌, ◌*◌, ◌^◌, ◌<◌, ◌≤◌, false, suc, nat_lt, List, length, drop, get_or, arith, drop-cons}
 use Rattle.std.proofs.lemmas.Bool.Decides.{nat_tests}
 use Rattle.std.specs.List.{fold}
-use Rattle.zr_language.specs.Words.{value_of}
-
--- further digits never make a number less
-fold_grows : (n : ℕ) (digits : List ℕ) → n ≤ fold (λ n b. n * 10 + (b - 48)) n digits
-fold_grows n [] = omega arith
-fold_grows n (b ∷ more) = omega (arith, fold_grows (n * 10 + (b - 48)) more)
+use Rattle.zr_lists.proofs.Numbers.{fold_grows}
+use Rattle.zr_script_spec.specs.Words.{value_of}
 
 -- a number that has passed 32 bits at a digit has passed them at the end
 pub too_large : (n i : ℕ) (word : List ℕ) → i < length word → 2 ^ 32 ≤ n * 10 + (get_or word i 0 - 48) →

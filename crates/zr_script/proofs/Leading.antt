@@ -1,12 +1,12 @@
 -- What was read leads on to what comes then; a refusal stays whatever would have come.
 use Rattle.std.proofs.Common.{◌≡◌, ℕ, Bool, List, [], ◌∷◌, Result, Ok, Err, sym, ap, ◌∙◌, subst}
 use Rattle.zr_msg.specs.declared.msg.Kinds.{Kinds}
-use Rattle.zr_command.specs.declared.command.Command.{Command}
-use Rattle.zr_command.specs.declared.command.Mode.{Mode}
-use Rattle.zr_command.specs.declared.error.ScriptError.{ScriptError}
-use Rattle.zr_command.specs.declared.error.ScriptError.TheVariants.{UnknownCommand, BadWords, UnknownName, NameTaken, BadKey, NotLinked, AlreadyLinked, NothingThere, NotAsked, NotSettled, NotJoined, Limit, NoMemory}
-use Rattle.zr_language.specs.Step.{◌>>=◌, IsSaid}
-use Rattle.zr_language.specs.Words.{two_of, three_of, zid_at, number_at, key_at, mode_at, kinds_at, aggregate_at}
+use Rattle.zr_script_spec.specs.declared.command.Command.{Command}
+use Rattle.zr_script_spec.specs.declared.command.Mode.{Mode}
+use Rattle.zr_script_spec.specs.declared.error.ScriptError.{ScriptError}
+use Rattle.zr_script_spec.specs.declared.error.ScriptError.TheVariants.{UnknownCommand, BadWords, UnknownName, NameTaken, BadKey, NotLinked, AlreadyLinked, NothingThere, NotAsked, NotSettled, NotJoined, Limit, NoMemory}
+use Rattle.zr_script_spec.specs.Step.{◌>>=◌, IsSaid}
+use Rattle.zr_script_spec.specs.Words.{two_of, three_of, zid_at, number_at, key_at, mode_at, kinds_at, aggregate_at}
 use Rattle.zr_script.specs.Args.{LeadsOn, numbered_then, names_then, pair_then, keyed_then, terms_then}
 
 -- a step that is refused, whatever would have come behind it

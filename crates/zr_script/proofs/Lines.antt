@@ -2,15 +2,15 @@
 use Rattle.std.proofs.Common.{◌≡◌, ℕ, Bool, List, [], ◌∷◌, Option, Result, Ok, Err, sym, ap, ◌∙◌, subst}
 use Rattle.zr_msg.specs.declared.msg.Kinds.{Kinds}
 use Rattle.zr_msg.specs.declared.msg.Target.{Target}
-use Rattle.zr_command.specs.declared.command.Act.TheVariants.{Interest, Get, Reply}
-use Rattle.zr_command.specs.declared.command.Command.{Command}
-use Rattle.zr_command.specs.declared.command.Command.TheVariants.{Act}
-use Rattle.zr_command.specs.declared.command.Mode.{Mode}
-use Rattle.zr_command.specs.declared.error.ScriptError.{ScriptError}
-use Rattle.zr_command.specs.declared.error.ScriptError.TheVariants.{BadWords}
-use Rattle.zr_language.specs.Step.{◌>>=◌, IsSaid}
-use Rattle.zr_language.specs.Command.{plain, query_body, reply_body, interest_line, get_line, reply_line}
-use Rattle.zr_language.specs.Words.{five_of, four_of, target_at, key_at, optional_key_at, payload_at}
+use Rattle.zr_script_spec.specs.declared.command.Act.TheVariants.{Interest, Get, Reply}
+use Rattle.zr_script_spec.specs.declared.command.Command.{Command}
+use Rattle.zr_script_spec.specs.declared.command.Command.TheVariants.{Act}
+use Rattle.zr_script_spec.specs.declared.command.Mode.{Mode}
+use Rattle.zr_script_spec.specs.declared.error.ScriptError.{ScriptError}
+use Rattle.zr_script_spec.specs.declared.error.ScriptError.TheVariants.{BadWords}
+use Rattle.zr_script_spec.specs.Step.{◌>>=◌, IsSaid}
+use Rattle.zr_script_spec.specs.Command.{plain, query_body, reply_body, interest_line, get_line, reply_line}
+use Rattle.zr_script_spec.specs.Words.{five_of, four_of, target_at, key_at, optional_key_at, payload_at}
 use Rattle.zr_script.specs.Args.{LeadsOn, numbered_then, terms_then}
 use Rattle.zr_script.proofs.Leading.{stays, stay_words}
 

@@ -3,7 +3,7 @@ use Rattle.std.proofs.Common.{◌≡◌, ℕ, ◌-◌, ◌≤◌, List, [], ◌�
 use Rattle.std.specs.Prelude.{OnOk}
 use Rattle.std.specs.List.{flat_map, join_with_byte}
 use Rattle.std.proofs.lemmas.List.{take_all}
-use Rattle.zr_language.specs.Report.{id_text, links_text}
+use Rattle.zr_script_spec.specs.Report.{id_text, links_text}
 
 -- each but the first stands behind a comma
 abbrev others_text : List (List ℕ) → List ℕ

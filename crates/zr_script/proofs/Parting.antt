@@ -4,10 +4,10 @@ use Rattle.std.specs.Prelude.{position, filter, if◌then◌else◌}
 use Rattle.std.proofs.lemmas.Bool.{and_parts}
 use Rattle.std.proofs.lemmas.List.{take_all, length-drop, length-take}
 use Rattle.std.proofs.lemmas.List.Quantifiers.{position-Some}
-use Rattle.zr_text.proofs.Cutting.{cut_some, none_cut}
-use Rattle.zr_language.specs.Lines.{most_line}
-use Rattle.zr_command.specs.declared.error.ScriptError.TheVariants.{BadWords}
-use Rattle.zr_language.specs.Words.{words, one_of, two_of, three_of, four_of, five_of}
+use Rattle.zr_lists.proofs.Cutting.{cut_some, none_cut}
+use Rattle.zr_script_spec.specs.Lines.{most_line}
+use Rattle.zr_script_spec.specs.declared.error.ScriptError.TheVariants.{BadWords}
+use Rattle.zr_script_spec.specs.Words.{words, one_of, two_of, three_of, four_of, five_of}
 use Rattle.zr_script.specs.Args.{none_of}
 use Rattle.zr_script.specs.Short.{are_short}
 

@@ -2,8 +2,8 @@
 use Rattle.std.proofs.Common.{◌≡◌, ℕ, ◌≤◌, ◌<◌, ◌^◌, ◌==◌, Bool, true, false, cond, nat_lt, nat_le, List, [], ◌∷◌, length, refl, subst, arith}
 use Rattle.std.specs.List.{list_all, filter, slice_split, onto_first}
 use Rattle.std.proofs.lemmas.Bool.{and_parts, and_from, leb-true, le-leb}
-use Rattle.zr_language.specs.Lines.{most_line}
-use Rattle.zr_language.specs.Words.{words, payload_at, is_word}
+use Rattle.zr_script_spec.specs.Lines.{most_line}
+use Rattle.zr_script_spec.specs.Words.{words, payload_at, is_word}
 use Rattle.zr_script.specs.Short.{are_short}
 
 abbrev within : ℕ → List (List ℕ) → Bool

@@ -1,12 +1,12 @@
 -- Words taken from a text.
 use Rattle.std.specs.Prelude.{◌≡◌, ℕ, Bool, List, [], ◌∷◌, Result, Ok, Err}
 use Rattle.zr_msg.specs.declared.msg.Kinds.{Kinds}
-use Rattle.zr_command.specs.declared.command.Command.{Command}
-use Rattle.zr_command.specs.declared.command.Mode.{Mode}
-use Rattle.zr_command.specs.declared.error.ScriptError.{ScriptError}
-use Rattle.zr_command.specs.declared.error.ScriptError.TheVariants.{BadWords}
-use Rattle.zr_language.specs.Step.{◌>>=◌, IsSaid}
-use Rattle.zr_language.specs.Words.{two_of, three_of, zid_at, number_at, key_at, mode_at, kinds_at, aggregate_at}
+use Rattle.zr_script_spec.specs.declared.command.Command.{Command}
+use Rattle.zr_script_spec.specs.declared.command.Mode.{Mode}
+use Rattle.zr_script_spec.specs.declared.error.ScriptError.{ScriptError}
+use Rattle.zr_script_spec.specs.declared.error.ScriptError.TheVariants.{BadWords}
+use Rattle.zr_script_spec.specs.Step.{◌>>=◌, IsSaid}
+use Rattle.zr_script_spec.specs.Words.{two_of, three_of, zid_at, number_at, key_at, mode_at, kinds_at, aggregate_at}
 
 -- that there are no words
 abbrev pub none_of : List (List ℕ) → Result (Unit {0}) ScriptError

@@ -1,12 +1,12 @@
 //! The words of a text, taken from it one after another: no list of them is made.
 
 ghost use Rattle.std.specs.Prelude.{◌≡◌, ◌==◌, ◌<◌, ◌∷◌, [], length, nat_lt, position, MatchOption, if◌then◌else◌};
-ghost use Rattle.zr_language.specs.Step.{IsSaid};
-ghost use Rattle.zr_language.specs.Words.{words, aggregate_at, one_of, two_of, three_of, four_of, five_of};
+ghost use Rattle.zr_script_spec.specs.Step.{IsSaid};
+ghost use Rattle.zr_script_spec.specs.Words.{words, aggregate_at, one_of, two_of, three_of, four_of, five_of};
 ghost use Rattle.zr_script.specs.Args.{Takes, none_of};
 
 use crate::word::is_word;
-use zr_command::error::ScriptError;
+use zr_script_spec::error::ScriptError;
 
 /// The first word of a text, and what is behind it.
 pub fn first(text: &[u8]) -> Option<(&[u8], &[u8])>

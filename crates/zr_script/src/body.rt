@@ -2,7 +2,7 @@
 
 ghost use Rattle.std.specs.Prelude.{◌≡◌, ◌<◌, ◌^◌, [], length, Ok, IfOk};
 ghost use Rattle.zr_body.specs.Reading.{body_of};
-ghost use Rattle.zr_language.specs.Command.{query_body, reply_body};
+ghost use Rattle.zr_script_spec.specs.Command.{query_body, reply_body};
 
 use std::alloc::{AllocError, Global};
 use zr_body::{Body, Place, read_body, write_body};

@@ -1,10 +1,10 @@
 //! `read_line`: what a line of a script asks, or why it is refused.
 
 ghost use Rattle.std.specs.Prelude.{◌≡◌, ◌≤◌, ◌<◌, ◌^◌, length, true, Ok};
-ghost use Rattle.zr_language.specs.Lines.{most_line};
-ghost use Rattle.zr_language.specs.Step.{IsSaid};
-ghost use Rattle.zr_language.specs.Command.{command_of, by_words, by_name, by_later_name, by_last_name, is_command, is_later_command, is_last_command, is_silent, plain, query_body, reply_body, router_line, client_line, link_line, up_line, break_line, down_line, sub_line, unsub_line, able_line, unable_line, interest_line, uninterest_line, put_line, del_line, get_line, reply_line, end_line, handle_line, take_line, run_line, mark_line, show_line};
-ghost use Rattle.zr_language.specs.Words.{words, is_clean};
+ghost use Rattle.zr_script_spec.specs.Lines.{most_line};
+ghost use Rattle.zr_script_spec.specs.Step.{IsSaid};
+ghost use Rattle.zr_script_spec.specs.Command.{command_of, by_words, by_name, by_later_name, by_last_name, is_command, is_later_command, is_last_command, is_silent, plain, query_body, reply_body, router_line, client_line, link_line, up_line, break_line, down_line, sub_line, unsub_line, able_line, unable_line, interest_line, uninterest_line, put_line, del_line, get_line, reply_line, end_line, handle_line, take_line, run_line, mark_line, show_line};
+ghost use Rattle.zr_script_spec.specs.Words.{words, is_clean};
 ghost use Rattle.zr_script.specs.Args.{LeadsOn, names_then, pair_then, numbered_then, keyed_then, terms_then};
 ghost use Rattle.zr_script.specs.Short.{are_short};
 
@@ -15,20 +15,20 @@ use crate::word::{
 };
 use std::alloc::Global;
 use zr_body::Body;
-use zr_command::command::{Act, Command, Mode};
-use zr_command::error::ScriptError;
 use zr_id::zid::Zid;
 use zr_key::key::KeyExpr;
 use zr_msg::content::Content;
 use zr_msg::extras::Extras;
 use zr_msg::msg::{Kinds, Target};
+use zr_script_spec::command::{Act, Command, Mode};
+use zr_script_spec::error::ScriptError;
 
 /// How many bytes a line has at most, without its end.
 pub const MOST_LINE: usize = 4096;
 
 /// The command of a line; none where the line is empty or a comment. A refusal is the first that applies: `Limit` for a line that
 /// is too long, `UnknownCommand`, `BadWords`, `BadKey`.
-#[tactic(auto, unfolding(zr_language::specs::Command::command_of))]
+#[tactic(auto, unfolding(zr_script_spec::specs::Command::command_of))]
 pub fn read_line(alloc: Global, line: &[u8]) -> Result<Option<Command>, ScriptError>
     ensures { IsSaid result (command_of line.now) }
 {
@@ -51,7 +51,7 @@ fn is_silent(line: &[u8]) -> bool
     }
 }
 
-#[tactic(auto, unfolding(zr_language::specs::Command::by_words))]
+#[tactic(auto, unfolding(zr_script_spec::specs::Command::by_words))]
 fn command(alloc: Global, line: &[u8]) -> Result<Command, ScriptError>
     requires { length line.now ≤ most_line }
     ensures { IsSaid result (by_words (is_clean line.now) (words line.now)) }
@@ -110,7 +110,7 @@ fn is_last_command(name: &[u8]) -> bool
         || is_word(name, b"show")
 }
 
-#[tactic(auto, unfolding(zr_language::specs::Command::by_name))]
+#[tactic(auto, unfolding(zr_script_spec::specs::Command::by_name))]
 fn by_name(alloc: Global, name: &[u8], args: &[u8]) -> Result<Command, ScriptError>
     requires { are_short (words args.now) ≡ true }
     ensures { IsSaid result (by_name name.now (words args.now)) }
@@ -133,7 +133,7 @@ fn by_name(alloc: Global, name: &[u8], args: &[u8]) -> Result<Command, ScriptErr
 }
 
 // The commands by which clients declare, and those that stand behind them.
-#[tactic(auto, unfolding(zr_language::specs::Command::by_later_name))]
+#[tactic(auto, unfolding(zr_script_spec::specs::Command::by_later_name))]
 fn by_later_name(alloc: Global, name: &[u8], args: &[u8]) -> Result<Command, ScriptError>
     requires { are_short (words args.now) ≡ true }
     ensures { IsSaid result (by_later_name name.now (words args.now)) }
@@ -158,7 +158,7 @@ fn by_later_name(alloc: Global, name: &[u8], args: &[u8]) -> Result<Command, Scr
 }
 
 // The commands that send messages or let them move on, and those that stand behind them.
-#[tactic(auto, unfolding(zr_language::specs::Command::by_last_name))]
+#[tactic(auto, unfolding(zr_script_spec::specs::Command::by_last_name))]
 fn by_last_name(alloc: Global, name: &[u8], args: &[u8]) -> Result<Command, ScriptError>
     requires { are_short (words args.now) ≡ true }
     ensures { IsSaid result (by_last_name name.now (words args.now)) }
@@ -225,7 +225,7 @@ fn keyed(alloc: Global, args: &[u8]) -> Result<(Zid, u32, KeyExpr), ScriptError>
     Ok((client, id, key))
 }
 
-#[tactic(auto, unfolding(zr_language::specs::Command::router_line))]
+#[tactic(auto, unfolding(zr_script_spec::specs::Command::router_line))]
 fn router(args: &[u8]) -> Result<Command, ScriptError>
     ensures { IsSaid result (router_line (words args.now)) }
 {
@@ -234,7 +234,7 @@ fn router(args: &[u8]) -> Result<Command, ScriptError>
     Ok(Command::Act { act })
 }
 
-#[tactic(auto, unfolding(zr_language::specs::Command::client_line))]
+#[tactic(auto, unfolding(zr_script_spec::specs::Command::client_line))]
 fn client(args: &[u8]) -> Result<Command, ScriptError>
     ensures { IsSaid result (client_line (words args.now)) }
 {
@@ -244,7 +244,7 @@ fn client(args: &[u8]) -> Result<Command, ScriptError>
 }
 
 // A router is never linked to itself.
-#[tactic(auto, unfolding(zr_language::specs::Command::link_line))]
+#[tactic(auto, unfolding(zr_script_spec::specs::Command::link_line))]
 fn link(args: &[u8]) -> Result<Command, ScriptError>
     ensures { IsSaid result (link_line (words args.now)) }
 {
@@ -256,7 +256,7 @@ fn link(args: &[u8]) -> Result<Command, ScriptError>
     Ok(Command::Act { act })
 }
 
-#[tactic(auto, unfolding(zr_language::specs::Command::up_line))]
+#[tactic(auto, unfolding(zr_script_spec::specs::Command::up_line))]
 fn up(args: &[u8]) -> Result<Command, ScriptError>
     ensures { IsSaid result (up_line (words args.now)) }
 {
@@ -265,7 +265,7 @@ fn up(args: &[u8]) -> Result<Command, ScriptError>
     Ok(Command::Act { act })
 }
 
-#[tactic(auto, unfolding(zr_language::specs::Command::break_line))]
+#[tactic(auto, unfolding(zr_script_spec::specs::Command::break_line))]
 fn break_link(args: &[u8]) -> Result<Command, ScriptError>
     ensures { IsSaid result (break_line (words args.now)) }
 {
@@ -274,7 +274,7 @@ fn break_link(args: &[u8]) -> Result<Command, ScriptError>
     Ok(Command::Act { act })
 }
 
-#[tactic(auto, unfolding(zr_language::specs::Command::down_line))]
+#[tactic(auto, unfolding(zr_script_spec::specs::Command::down_line))]
 fn down(args: &[u8]) -> Result<Command, ScriptError>
     ensures { IsSaid result (down_line (words args.now)) }
 {
@@ -283,7 +283,7 @@ fn down(args: &[u8]) -> Result<Command, ScriptError>
     Ok(Command::Act { act })
 }
 
-#[tactic(auto, unfolding(zr_language::specs::Command::sub_line))]
+#[tactic(auto, unfolding(zr_script_spec::specs::Command::sub_line))]
 fn sub(alloc: Global, args: &[u8]) -> Result<Command, ScriptError>
     ensures { IsSaid result (sub_line (words args.now)) }
 {
@@ -292,7 +292,7 @@ fn sub(alloc: Global, args: &[u8]) -> Result<Command, ScriptError>
     Ok(Command::Act { act })
 }
 
-#[tactic(auto, unfolding(zr_language::specs::Command::unsub_line))]
+#[tactic(auto, unfolding(zr_script_spec::specs::Command::unsub_line))]
 fn unsub(args: &[u8]) -> Result<Command, ScriptError>
     ensures { IsSaid result (unsub_line (words args.now)) }
 {
@@ -301,7 +301,7 @@ fn unsub(args: &[u8]) -> Result<Command, ScriptError>
     Ok(Command::Act { act })
 }
 
-#[tactic(auto, unfolding(zr_language::specs::Command::able_line))]
+#[tactic(auto, unfolding(zr_script_spec::specs::Command::able_line))]
 fn able(alloc: Global, complete: bool, args: &[u8]) -> Result<Command, ScriptError>
     ensures { IsSaid result (able_line complete (words args.now)) }
 {
@@ -315,7 +315,7 @@ fn able(alloc: Global, complete: bool, args: &[u8]) -> Result<Command, ScriptErr
     Ok(Command::Act { act })
 }
 
-#[tactic(auto, unfolding(zr_language::specs::Command::unable_line))]
+#[tactic(auto, unfolding(zr_script_spec::specs::Command::unable_line))]
 fn unable(args: &[u8]) -> Result<Command, ScriptError>
     ensures { IsSaid result (unable_line (words args.now)) }
 {
@@ -324,7 +324,7 @@ fn unable(args: &[u8]) -> Result<Command, ScriptError>
     Ok(Command::Act { act })
 }
 
-#[tactic(auto, unfolding(zr_language::specs::Command::interest_line))]
+#[tactic(auto, unfolding(zr_script_spec::specs::Command::interest_line))]
 fn interest(alloc: Global, args: &[u8]) -> Result<Command, ScriptError>
     ensures { IsSaid result (interest_line (words args.now)) }
 {
@@ -357,7 +357,7 @@ fn terms(
     Ok((mode, kinds, aggregate))
 }
 
-#[tactic(auto, unfolding(zr_language::specs::Command::uninterest_line))]
+#[tactic(auto, unfolding(zr_script_spec::specs::Command::uninterest_line))]
 fn uninterest(args: &[u8]) -> Result<Command, ScriptError>
     ensures { IsSaid result (uninterest_line (words args.now)) }
 {
@@ -366,7 +366,7 @@ fn uninterest(args: &[u8]) -> Result<Command, ScriptError>
     Ok(Command::Act { act })
 }
 
-#[tactic(auto, unfolding(zr_language::specs::Command::put_line))]
+#[tactic(auto, unfolding(zr_script_spec::specs::Command::put_line))]
 fn put(alloc: Global, args: &[u8]) -> Result<Command, ScriptError>
     requires { are_short (words args.now) ≡ true }
     ensures { IsSaid result (put_line (words args.now)) }
@@ -378,7 +378,7 @@ fn put(alloc: Global, args: &[u8]) -> Result<Command, ScriptError>
     publish(alloc, client, key, body)
 }
 
-#[tactic(auto, unfolding(zr_language::specs::Command::del_line))]
+#[tactic(auto, unfolding(zr_script_spec::specs::Command::del_line))]
 fn del(alloc: Global, args: &[u8]) -> Result<Command, ScriptError>
     ensures { IsSaid result (del_line (words args.now)) }
 {
@@ -398,7 +398,7 @@ fn publish(alloc: Global, client: Zid, key: KeyExpr, body: Body) -> Result<Comma
     Ok(Command::Act { act })
 }
 
-#[tactic(auto, unfolding(zr_language::specs::Command::get_line))]
+#[tactic(auto, unfolding(zr_script_spec::specs::Command::get_line))]
 fn get(alloc: Global, args: &[u8]) -> Result<Command, ScriptError>
     ensures { IsSaid result (get_line (words args.now)) }
 {
@@ -429,7 +429,7 @@ fn ask(
     Ok(Command::Act { act })
 }
 
-#[tactic(auto, unfolding(zr_language::specs::Command::reply_line))]
+#[tactic(auto, unfolding(zr_script_spec::specs::Command::reply_line))]
 fn reply(alloc: Global, args: &[u8]) -> Result<Command, ScriptError>
     requires { are_short (words args.now) ≡ true }
     ensures { IsSaid result (reply_line (words args.now)) }
@@ -460,7 +460,7 @@ fn answer(
     Ok(Command::Act { act })
 }
 
-#[tactic(auto, unfolding(zr_language::specs::Command::end_line))]
+#[tactic(auto, unfolding(zr_script_spec::specs::Command::end_line))]
 fn end(args: &[u8]) -> Result<Command, ScriptError>
     ensures { IsSaid result (end_line (words args.now)) }
 {
@@ -469,7 +469,7 @@ fn end(args: &[u8]) -> Result<Command, ScriptError>
     Ok(Command::Act { act })
 }
 
-#[tactic(auto, unfolding(zr_language::specs::Command::handle_line))]
+#[tactic(auto, unfolding(zr_script_spec::specs::Command::handle_line))]
 fn handle(args: &[u8]) -> Result<Command, ScriptError>
     ensures { IsSaid result (handle_line (words args.now)) }
 {
@@ -478,7 +478,7 @@ fn handle(args: &[u8]) -> Result<Command, ScriptError>
     Ok(Command::Act { act })
 }
 
-#[tactic(auto, unfolding(zr_language::specs::Command::take_line))]
+#[tactic(auto, unfolding(zr_script_spec::specs::Command::take_line))]
 fn take(args: &[u8]) -> Result<Command, ScriptError>
     ensures { IsSaid result (take_line (words args.now)) }
 {
@@ -487,7 +487,7 @@ fn take(args: &[u8]) -> Result<Command, ScriptError>
     Ok(Command::Act { act })
 }
 
-#[tactic(auto, unfolding(zr_language::specs::Command::run_line))]
+#[tactic(auto, unfolding(zr_script_spec::specs::Command::run_line))]
 fn run(args: &[u8]) -> Result<Command, ScriptError>
     ensures { IsSaid result (run_line (words args.now)) }
 {
@@ -495,7 +495,7 @@ fn run(args: &[u8]) -> Result<Command, ScriptError>
     Ok(Command::Run { steps })
 }
 
-#[tactic(auto, unfolding(zr_language::specs::Command::mark_line))]
+#[tactic(auto, unfolding(zr_script_spec::specs::Command::mark_line))]
 fn mark(args: &[u8]) -> Result<Command, ScriptError>
     ensures { IsSaid result (mark_line (words args.now)) }
 {
@@ -503,7 +503,7 @@ fn mark(args: &[u8]) -> Result<Command, ScriptError>
     Ok(Command::Act { act: Act::Mark })
 }
 
-#[tactic(auto, unfolding(zr_language::specs::Command::show_line))]
+#[tactic(auto, unfolding(zr_script_spec::specs::Command::show_line))]
 fn show(args: &[u8]) -> Result<Command, ScriptError>
     ensures { IsSaid result (show_line (words args.now)) }
 {

@@ -4,7 +4,7 @@ ghost use Rattle.std.specs.Prelude.{◌≡◌, ◌++◌, ◌∷◌, codes, OnOk}
 ghost use Rattle.std.specs.Fmt.{decimal};
 ghost use Rattle.std.specs.List.{flat_map};
 ghost use Rattle.zr_body.specs.Payload.{payload_of};
-ghost use Rattle.zr_language.specs.Report.{id_text, optional_id_text, payload_text, interest_text, kinds_text, key_text, if_so, target_text, sign_text, links_text, record_text, decl_text, msg_text};
+ghost use Rattle.zr_script_spec.specs.Report.{id_text, optional_id_text, payload_text, interest_text, kinds_text, key_text, if_so, target_text, sign_text, links_text, record_text, decl_text, msg_text};
 
 use crate::part::{
     able_text, aggregate_text, kind_text, kinds_text, mode_text, put_id, put_interest, put_key,

@@ -3,7 +3,7 @@
 ghost use Rattle.std.specs.Prelude.{◌≡◌, ◌++◌, codes, OnOk};
 ghost use Rattle.std.specs.Fmt.{decimal};
 ghost use Rattle.zr_msg.specs.Kinds.{in_subs, in_ables};
-ghost use Rattle.zr_language.specs.Report.{line_end, id_text, optional_id_text, payload_text, key_text, interest_text, mode_text, kinds_text, if_so, able_text, target_text, kind_text, sign_text};
+ghost use Rattle.zr_script_spec.specs.Report.{line_end, id_text, optional_id_text, payload_text, key_text, interest_text, mode_text, kinds_text, if_so, able_text, target_text, kind_text, sign_text};
 
 use itoa::{Buffer, write_digits};
 use std::alloc::AllocError;

@@ -3,17 +3,17 @@
 ghost use Rattle.std.specs.Prelude.{◌≡◌, ◌++◌, [], codes, OnOk, OnErr};
 ghost use Rattle.std.specs.Fmt.{decimal};
 ghost use Rattle.std.specs.List.{flat_map};
-ghost use Rattle.zr_language.specs.Report.{decl_text, line_end, line_text, msg_text, rest_text, id_text, optional_id_text, record_text, refusal_text, refused_text};
+ghost use Rattle.zr_script_spec.specs.Report.{decl_text, line_end, line_text, msg_text, rest_text, id_text, optional_id_text, record_text, refusal_text, refused_text};
 
 use crate::message::{put_decls, put_msg, put_record};
 use crate::part::{put_id, put_named, put_numbered, put_optional_id, put_tag};
 use std::alloc::AllocError;
-use zr_command::error::ScriptError;
-use zr_command::report::ReportLine;
 use zr_id::record::LinkRecord;
 use zr_id::zid::Zid;
 use zr_msg::decl::Decl;
 use zr_msg::msg::Msg;
+use zr_script_spec::error::ScriptError;
+use zr_script_spec::report::ReportLine;
 
 /// Writes the text of a report line, its end included, in the place of what was there. Where memory runs out nothing is there.
 pub fn line_text(line: &ReportLine, text: &mut Vec<u8>) -> Result<(), AllocError>

@@ -3,15 +3,15 @@
 ghost use Rattle.std.specs.Prelude.{◌≡◌, ◌==◌, ◌&&◌, ◌+◌, ◌*◌, ◌-◌, ◌^◌, not, nat_lt, Some, None, map, IfOk, if◌then◌else◌};
 ghost use Rattle.std.specs.List.{list_all};
 ghost use Rattle.std.specs.Option.{option_copied};
-ghost use Rattle.zr_language.specs.Step.{IsSaid};
-ghost use Rattle.zr_language.specs.Words.{words, is_word, is_clean, is_space, is_printable, is_digit, is_number, value_of, number_at, zid_at, target_at, mode_at, kinds_at, key_at, optional_key_at, payload_at};
+ghost use Rattle.zr_script_spec.specs.Step.{IsSaid};
+ghost use Rattle.zr_script_spec.specs.Words.{words, is_word, is_clean, is_space, is_printable, is_digit, is_number, value_of, number_at, zid_at, target_at, mode_at, kinds_at, key_at, optional_key_at, payload_at};
 
 use std::alloc::{AllocError, Global};
-use zr_command::command::Mode;
-use zr_command::error::ScriptError;
 use zr_id::zid::Zid;
 use zr_key::key::{KeyError, KeyExpr};
 use zr_msg::msg::{Kinds, QUERYABLES, SUBSCRIBERS, Target};
+use zr_script_spec::command::Mode;
+use zr_script_spec::error::ScriptError;
 
 /// The words of a line, parted by one or more spaces.
 pub fn words_of(alloc: Global, line: &[u8]) -> Result<Vec<&[u8]>, AllocError>

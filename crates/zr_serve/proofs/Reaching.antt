@@ -11,10 +11,10 @@ use Rattle.zr_outside.specs.declared.host.Answer.{Answer}
 use Rattle.zr_outside.specs.declared.host.Answer.TheVariants as answer
 use Rattle.zr_outside.specs.declared.host.Call.{Call}
 use Rattle.zr_outside.specs.declared.host.Call.TheVariants.{Listen, Dial, Accept}
-use Rattle.zr_writer.proofs.Carrying.{appends_none, appends_nothing_more, prefix_none, prefix_more, prefix_whole}
-use Rattle.zr_job.specs.Starts.{Starts}
-use Rattle.zr_job.specs.declared.job.LinkJob.{LinkJob}
-use Rattle.zr_job.specs.declared.job.Side.TheVariants.{Accepting, Dialling}
+use Rattle.zr_link_writer.proofs.Carrying.{appends_none, appends_nothing_more, prefix_none, prefix_more, prefix_whole}
+use Rattle.zr_link_job.specs.Starts.{Starts}
+use Rattle.zr_link_job.specs.declared.job.LinkJob.{LinkJob}
+use Rattle.zr_link_job.specs.declared.job.Side.TheVariants.{Accepting, Dialling}
 use Rattle.zr_serve.specs.Calls.{Records, side_of, dials, accepts, IsGoing}
 use Rattle.zr_serve.specs.Jobs.{LinksState, next_job, with_next}
 use Rattle.zr_serve.specs.Lines.{dial_text, serving_text, accept_text}

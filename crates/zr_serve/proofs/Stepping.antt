@@ -5,11 +5,11 @@ use Rattle.std.specs.Prelude.{min}
 use Rattle.zr_outside.specs.Host as host
 use Rattle.zr_outside.specs.Told.{Appends, AppendsPrefix}
 use Rattle.zr_outside.specs.declared.host.Call.{Call}
-use Rattle.zr_writer.proofs.Carrying.{appends_none, appends_both, prefix_behind}
-use Rattle.zr_job.specs.Starts.{marked, unmarked, Tells, Starts}
-use Rattle.zr_job.specs.declared.job.LinkJob.{LinkJob}
-use Rattle.zr_job.specs.declared.job.Side.{Side}
-use Rattle.zr_job.proofs.Starting.{tells_none}
+use Rattle.zr_link_writer.proofs.Carrying.{appends_none, appends_both, prefix_behind}
+use Rattle.zr_link_job.specs.Starts.{marked, unmarked, Tells, Starts}
+use Rattle.zr_link_job.specs.declared.job.LinkJob.{LinkJob}
+use Rattle.zr_link_job.specs.declared.job.Side.{Side}
+use Rattle.zr_link_job.proofs.Starting.{tells_none}
 use Rattle.zr_serve.specs.Calls.{Records, side_of, sides_of}
 use Rattle.zr_serve.specs.Jobs.{LinksState, next_job, with_next, jobs_of, behind}
 use Rattle.zr_serve.specs.Lines.{complaint, complaints}

@@ -4,8 +4,8 @@ use Rattle.zr_outside.specs.declared.host.Answer.{Answer}
 use Rattle.zr_outside.specs.declared.host.Answer.TheVariants as answer
 use Rattle.zr_outside.specs.declared.host.Call.{Call}
 use Rattle.zr_outside.specs.declared.host.Call.TheVariants.{Listen, Dial, Accept}
-use Rattle.zr_job.specs.declared.job.Side.{Side}
-use Rattle.zr_job.specs.declared.job.Side.TheVariants.{Accepting, Dialling}
+use Rattle.zr_link_job.specs.declared.job.Side.{Side}
+use Rattle.zr_link_job.specs.declared.job.Side.TheVariants.{Accepting, Dialling}
 
 -- these calls were made, where the host tells them. A host may stop to tell them, and then tells none any more
 abbrev pub Records : List Call → Option (List Call) → Option (List Call) → Type 0

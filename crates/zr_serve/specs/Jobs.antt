@@ -2,8 +2,8 @@
 use Rattle.std.specs.Prelude.{ℕ, ◌+◌, ◌-◌, ◌^◌, ◌%◌, Bool, List, [], ◌∷◌, ◌++◌}
 use Rattle.std.specs.Int.{to_le_bytes, w64}
 use Rattle.rand_core.specs.Stream.{Stream, next_u64}
-use Rattle.zr_job.specs.declared.job.LinkJob.{LinkJob}
-use Rattle.zr_job.specs.declared.job.Side.{Side}
+use Rattle.zr_link_job.specs.declared.job.LinkJob.{LinkJob}
+use Rattle.zr_link_job.specs.declared.job.Side.{Side}
 
 -- what the links of a router begin with: its identifier, whether they have logs, the secret of its cookies, the random words that are left, and the next
 -- link's number

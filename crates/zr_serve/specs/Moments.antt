@@ -1,7 +1,7 @@
 -- What is told of serving at a moment, and what calls of the host make of it.
 use Rattle.std.specs.Prelude.{◌≡◌, ℕ, ◌≤◌, List, ◌++◌, length, Option}
-use Rattle.zr_job.specs.Starts.{Starts}
-use Rattle.zr_job.specs.declared.job.LinkJob.{LinkJob}
+use Rattle.zr_link_job.specs.Starts.{Starts}
+use Rattle.zr_link_job.specs.declared.job.LinkJob.{LinkJob}
 use Rattle.zr_outside.specs.Told.{Appends, AppendsPrefix}
 use Rattle.zr_outside.specs.declared.host.Call.{Call}
 use Rattle.zr_serve.specs.Jobs.{LinksState, jobs_of, behind}

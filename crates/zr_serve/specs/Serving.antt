@@ -10,7 +10,7 @@ use Rattle.zr_outside.specs.declared.host.Call.TheVariants.{Listen}
 use Rattle.zr_serve.specs.declared.end.ServeEnd.{ServeEnd}
 use Rattle.zr_serve.specs.declared.end.ServeEnd.TheVariants.{Done, NoMemory, WriteFault, HostFault}
 use Rattle.zr_serve.specs.Calls.{dials, accepts, IsGoing}
-use Rattle.zr_job.specs.declared.job.LinkJob.{LinkJob}
+use Rattle.zr_link_job.specs.declared.job.LinkJob.{LinkJob}
 use Rattle.zr_serve.specs.Jobs.{LinksState, first_links}
 use Rattle.zr_serve.specs.Lines.{serving_text, no_words_text, accept_text, listen_text}
 use Rattle.zr_serve.specs.Moments.{Moment, moment, Serves, BreaksOff}

@@ -33,7 +33,7 @@ impl Unsaid {
 }
 
 /// The line that a router is served, once it listens.
-#[tactic(auto, using(zr_writer::proofs::Carrying::prefix_none))]
+#[tactic(auto, using(zr_link_writer::proofs::Carrying::prefix_none))]
 pub(crate) fn say_serving<K: Sink>(alloc: Global, id: &Zid, out: &mut K) -> Result<(), Unsaid>
     ensures said { OnOk result (Appends (serving_text id.now) (K.held out.old) (K.held out.new)) }
     ensures part { OnErr result (AppendsPrefix (serving_text id.now) (K.held out.old) (K.held out.new)) }
@@ -47,7 +47,7 @@ pub(crate) fn say_serving<K: Sink>(alloc: Global, id: &Zid, out: &mut K) -> Resu
 }
 
 /// The line that an address was dialled in vain. It is one write, since links that were dialled before may have logs, whose threads write to the same output.
-#[tactic(auto, using(zr_writer::proofs::Carrying::prefix_none))]
+#[tactic(auto, using(zr_link_writer::proofs::Carrying::prefix_none))]
 pub(crate) fn say_not_dialled<K: Sink>(
     alloc: Global,
     address: &str,
@@ -73,7 +73,7 @@ pub(crate) fn say_not_listening<K: Sink>(address: &str, out: &mut K)
 }
 
 // It is three writes, which ask for no memory, so that only a write that fails can keep the line back. No link is there yet whose log could come between.
-#[tactic(auto, using(zr_writer::proofs::Carrying::appends_both, zr_writer::proofs::Carrying::prefix_more, zr_writer::proofs::Carrying::prefix_written, zr_writer::proofs::Carrying::prefix_behind))]
+#[tactic(auto, using(zr_link_writer::proofs::Carrying::appends_both, zr_link_writer::proofs::Carrying::prefix_more, zr_link_writer::proofs::Carrying::prefix_written, zr_link_writer::proofs::Carrying::prefix_behind))]
 fn say_failed<K: Sink>(head: &str, address: &str, out: &mut K) -> Result<(), WriteFailed>
     ensures said { OnOk result (Appends (failed_text head.now address.now) (K.held out.old) (K.held out.new)) }
     ensures part { OnErr result (AppendsPrefix (failed_text head.now address.now) (K.held out.old) (K.held out.new)) }

@@ -6,7 +6,7 @@ ghost use Rattle.zr_serve.specs.Links.{links_of};
 
 use rand_core::Rng;
 use zr_id::zid::Zid;
-use zr_job::{LinkJob, Side};
+use zr_link_job::{LinkJob, Side};
 
 /// How often a reader reads at most.
 const TURNS: u64 = u64::MAX;

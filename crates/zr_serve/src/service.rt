@@ -3,9 +3,9 @@
 ghost use Rattle.std.specs.Prelude.{◌≡◌, ◌≤◌, ℕ, Option, ◌⊎◌, [], ◌∷◌, Bool, Err, IfErr, IfOk, List, OnErr, OnOk, is_some, length, map, true};
 ghost use Rattle.std.specs.Arc.{arc_value};
 ghost use Rattle.std.specs.String.{string_bytes};
-ghost use Rattle.zr_crew.specs.Crew.{crew_faults, crew_told};
+ghost use Rattle.zr_outside_crew.specs.Crew.{crew_faults, crew_told};
 ghost use Rattle.zr_hist.specs.Words.{pass_name};
-ghost use Rattle.zr_job.specs.Starts.{Starts};
+ghost use Rattle.zr_link_job.specs.Starts.{Starts};
 ghost use Rattle.zr_outside.specs.Counts.{Rose};
 ghost use Rattle.zr_outside.specs.declared.host.Answer.{Answer};
 ghost use Rattle.zr_outside.specs.declared.host.Call.TheVariants as call;
@@ -23,12 +23,12 @@ use crate::plan::ServePlan;
 use std::alloc::{AllocError, Global};
 use std::sync::{Arc, Wait};
 use std::thread::Threads;
-use zr_crew::Crew;
 use zr_hist::Pass;
 use zr_id::link::LinkNo;
-use zr_job::{LinkJob, Reading, Side, hand_over};
+use zr_link_job::{LinkJob, Reading, Side, hand_over};
 use zr_outside::host::{Accepted, Host};
 use zr_outside::sink::Sink;
+use zr_outside_crew::Crew;
 use zr_port::{Entry, Port};
 
 /// What the threads of each link are made of: the threads of the system, the port at which links reach the router, and a pass of its history.

@@ -1,7 +1,7 @@
 -- Calls one behind another.
 use Rattle.std.proofs.Common.{◌≡◌, ◌∙◌, ap, refl, sym, subst, ℕ, Bool, true, false, ◌||◌, if◌then◌else◌, List, [], ◌∷◌, ◌++◌, append_assoc, append-nil, None}
 use Rattle.std.proofs.lemmas.List.{append_cancel_left, append_cancel_right}
-use Rattle.zr_batch.proofs.Cutting.{cut_one}
+use Rattle.zr_frame_batch.proofs.Cutting.{cut_one}
 use Rattle.zr_open.specs.declared.expected.Expected.{Expected}
 use Rattle.zr_open.specs.Opening.{OpeningState}
 use Rattle.zr_session.specs.declared.event.SessionEvent.{SessionEvent}

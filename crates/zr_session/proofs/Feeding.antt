@@ -8,8 +8,8 @@ use Rattle.zr_session.specs.declared.phase.Phase.{Phase}
 use Rattle.zr_session.specs.declared.phase.Phase.TheVariants.{Opening}
 use Rattle.zr_session.specs.declared.state.State.{State}
 use Rattle.zr_session.specs.declared.state.State.TheVariants.{Running, Ended}
-use Rattle.zr_session.specs.declared.stop.Stop.{Stop}
-use Rattle.zr_session.specs.declared.stop.Stop.TheVariants as stop
+use Rattle.zr_session.specs.declared.stop.ReadStop.{ReadStop}
+use Rattle.zr_session.specs.declared.stop.ReadStop.TheVariants as stop
 use Rattle.zr_session.specs.Course.{Course, going, joined, owed_in}
 use Rattle.zr_session.specs.Stream.{Comes, on_batches}
 use Rattle.zr_session.specs.Done.{Adds, AddsPrefixes, Takes}
@@ -160,22 +160,22 @@ on_err (Ok x) h f = tt
 on_err (Err e) h f = f h
 
 -- what a call of `end` made of it
-pub ends_feed : (s t : SessionState) (p q : Phase) (after piece : List ℕ) (why : Stop) (how : End) (heard : ℕ) (a b d : Fed) → s.state ≡ Running p → why ≡ stop.Ended how →
+pub ends_feed : (s t : SessionState) (p q : Phase) (after piece : List ℕ) (why : ReadStop) (how : End) (heard : ℕ) (a b d : Fed) → s.state ≡ Running p → why ≡ stop.Ended how →
     Takes (Err why) s.opening p (s.kept ++ piece) q after a b →
     t ≡ record { opening = s.opening; state = Ended how (owed_in q); kept = []; confirmed = s.confirmed; heard = heard } →
     d.events.items ≡ b.events.items → d.bytes.items ≡ b.bytes.items ++ close_of how → Feeds s t piece a d
 ends_feed s t p q after piece why how heard a b d e is h t_is events bytes =
-    let k : Takes (Err (stop.Ended how)) s.opening p (s.kept ++ piece) q after a b = subst (λ (z : Stop). Takes (Err z) s.opening p (s.kept ++ piece) q after a b) is h in
+    let k : Takes (Err (stop.Ended how)) s.opening p (s.kept ++ piece) q after a b = subst (λ (z : ReadStop). Takes (Err z) s.opening p (s.kept ++ piece) q after a b) is h in
     subst (λ (z : SessionState). Feeds s z piece a d) (sym t_is) (feeds_last s p q after piece (owed_in q) how heard a b d e k refl events bytes)
 
-pub stalls_feed : (s : SessionState) (p q : Phase) (after piece : List ℕ) (why : Stop) (a b : Fed) → s.state ≡ Running p → why ≡ stop.NoMemory →
+pub stalls_feed : (s : SessionState) (p q : Phase) (after piece : List ℕ) (why : ReadStop) (a b : Fed) → s.state ≡ Running p → why ≡ stop.NoMemory →
     Takes (Err why) s.opening p (s.kept ++ piece) q after a b → Stalls s piece a b
 stalls_feed s p q after piece why a b e is h =
-    let k : Takes (Err stop.NoMemory) s.opening p (s.kept ++ piece) q after a b = subst (λ (z : Stop). Takes (Err z) s.opening p (s.kept ++ piece) q after a b) is h in
+    let k : Takes (Err stop.NoMemory) s.opening p (s.kept ++ piece) q after a b = subst (λ (z : ReadStop). Takes (Err z) s.opening p (s.kept ++ piece) q after a b) is h in
     stalls_at s p piece a b e (fed_out s.opening p q s.kept after piece a b k)
 
-pub stalls_end : (s : SessionState) (p q : Phase) (after piece : List ℕ) (why : Stop) (how : End) (a b d : Fed) → s.state ≡ Running p → why ≡ stop.Ended how →
+pub stalls_end : (s : SessionState) (p q : Phase) (after piece : List ℕ) (why : ReadStop) (how : End) (a b d : Fed) → s.state ≡ Running p → why ≡ stop.Ended how →
     Takes (Err why) s.opening p (s.kept ++ piece) q after a b → d.events.items ≡ b.events.items → d.bytes.items ≡ b.bytes.items → Stalls s piece a d
 stalls_end s p q after piece why how a b d e is h events bytes =
-    let k : Takes (Err (stop.Ended how)) s.opening p (s.kept ++ piece) q after a b = subst (λ (z : Stop). Takes (Err z) s.opening p (s.kept ++ piece) q after a b) is h in
+    let k : Takes (Err (stop.Ended how)) s.opening p (s.kept ++ piece) q after a b = subst (λ (z : ReadStop). Takes (Err z) s.opening p (s.kept ++ piece) q after a b) is h in
     stalls_at s p piece a d e (fed_close_out s.opening p q s.kept after piece how a b d k events bytes)

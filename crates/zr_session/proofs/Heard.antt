@@ -3,7 +3,7 @@ use Rattle.std.proofs.Common.{◌≡◌, ap, refl, ℕ, ◌<◌, Bool, true, fal
 use Rattle.std.specs.Prelude.{nat_le, bit_and}
 use Rattle.zr_bytes.specs.Flag.{has_id}
 use Rattle.zr_bytes.specs.Reading.{Read, ◌>>=◌, byte_of}
-use Rattle.zr_format.specs.Writing.{writes_header}
+use Rattle.zr_format_spec.specs.Writing.{writes_header}
 use Rattle.zr_wirekey.specs.Scopes.{Texts}
 use Rattle.zr_msg.specs.declared.msg.Msg.{Msg}
 use Rattle.zr_msg.specs.declared.msg.Msg.TheVariants.{Sub, Unsub, Able, Unable, Interest, EndInterest, ToldSub, ToldAble, ToldUnsub, ToldUnable, ToldEnd, Push, Request, Response, Final, State, Step, Snap}

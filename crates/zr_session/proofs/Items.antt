@@ -5,8 +5,8 @@ use Rattle.zr_open.specs.Opening.{OpeningState}
 use Rattle.zr_session.specs.declared.phase.Phase.{Phase}
 use Rattle.zr_session.specs.declared.event.Fed.{Fed}
 use Rattle.zr_session.specs.declared.fate.End.TheVariants.{Closed}
-use Rattle.zr_session.specs.declared.stop.Stop.{Stop}
-use Rattle.zr_session.specs.declared.stop.Stop.TheVariants.{Ended, NoMemory}
+use Rattle.zr_session.specs.declared.stop.ReadStop.{ReadStop}
+use Rattle.zr_session.specs.declared.stop.ReadStop.TheVariants.{Ended, NoMemory}
 use Rattle.zr_session.specs.Course.{Course, going, stops, and_then}
 use Rattle.zr_session.specs.Stream.{items_within, item_of}
 use Rattle.zr_session.specs.Done.{Adds, Reads, Goes}
@@ -52,7 +52,7 @@ is_spent all o most f bytes p a b h none e =
     within_last all (left o most f bytes) p p a b b (Err (Ended (Closed Invalid))) h g
 
 -- a message ended the session, or memory ran out
-pub stops_here : (all : Course) (o : OpeningState) (most more : ℕ) (f : Bool) (bytes rest : List ℕ) (p q : Phase) (a b d : Fed) (e : Stop) →
+pub stops_here : (all : Course) (o : OpeningState) (most more : ℕ) (f : Bool) (bytes rest : List ℕ) (p q : Phase) (a b d : Fed) (e : ReadStop) →
     Within all (left o most f bytes) p a b → most ≡ suc more → 0 < length bytes → Reads (Err e) (item_of o p f bytes) q rest b d → Goes (Err e) all q a d
 stops_here all o most more f bytes rest p q a b d (Ended how) h n some g =
     let item = item_of o p f bytes in

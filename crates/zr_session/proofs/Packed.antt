@@ -4,8 +4,9 @@ use Rattle.std.proofs.Common.{◌≡◌, ◌∙◌, ap, refl, sym, subst, ℕ, z
 use Rattle.std.specs.List.{AllByRecursion, concat, flat_map}
 use Rattle.std.specs.Option.{option_to_list}
 use Rattle.std.proofs.lemmas.List.{map-append}
-use Rattle.zr_batch.specs.Framing.{framed}
-use Rattle.zr_batch.specs.Laws.{WrittenBatchesAreCut}
+use Rattle.zr_lists.proofs.Each.{All-append, All-each}
+use Rattle.zr_frame_batch.specs.Framing.{framed}
+use Rattle.zr_frame_batch.specs.Laws.{WrittenBatchesAreCut}
 use Rattle.zr_trans.specs.declared.trans.Trans.{Trans}
 use Rattle.zr_trans.specs.declared.trans.Trans.TheVariants.{Frame, Fragment}
 use Rattle.zr_trans.specs.Reading.{trans_of}
@@ -53,14 +54,6 @@ heard s ms = record { phase = Established s; events = map (λ m. Message m) ms; 
 all_parts : {X : Type 0} (P : X → Type 0) (xs ys : List X) → AllByRecursion P (xs ++ ys) → AllByRecursion P xs × AllByRecursion P ys
 all_parts P [] ys h = (tt, h)
 all_parts P (x ∷ xs) ys h = let rest = all_parts P xs ys h.1 in ((h.0, rest.0), rest.1)
-
-all_then : {X : Type 0} (P : X → Type 0) (xs ys : List X) → AllByRecursion P xs → AllByRecursion P ys → AllByRecursion P (xs ++ ys)
-all_then P [] ys h k = k
-all_then P (x ∷ xs) ys h k = (h.0, all_then P xs ys h.1 k)
-
-all_turn : {X : Type 0} (P Q : X → Type 0) (xs : List X) → ((x : X) → P x → Q x) → AllByRecursion P xs → AllByRecursion Q xs
-all_turn P Q [] f h = tt
-all_turn P Q (x ∷ xs) f h = (f x h.0, all_turn P Q xs f h.1)
 
 -- ---- the messages of a frame
 
@@ -217,8 +210,8 @@ calls_short short (ms ∷ calls) box is =
     let first = parcels box (written ms) in
     let good = short box (written ms) is in
     let fits : (batch : List ℕ) → (0 < length batch) × (length batch ≤ box.batch) → length batch < 2 ^ 16 = λ batch h. omega (arith, h.1, is.small) in
-    all_then (λ batch. length batch < 2 ^ 16) first.batches (packed_in first.outbox calls).batches
-    (all_turn (λ batch. (0 < length batch) × (length batch ≤ box.batch)) (λ batch. length batch < 2 ^ 16) first.batches fits good.0) (calls_short short calls first.outbox good.1)
+    All-append (λ batch. length batch < 2 ^ 16) first.batches (packed_in first.outbox calls).batches
+    (All-each (λ batch. (0 < length batch) × (length batch ≤ box.batch)) (λ batch. length batch < 2 ^ 16) first.batches fits good.0) (calls_short short calls first.outbox good.1)
 
 -- WHAT IS PACKED, behind bytes that established a session.
 pub packed_read_back : AreRead → PackedAreReceived → ParcelsAreShort → WrittenBatchesAreCut →
@@ -228,9 +221,9 @@ pub packed_read_back : AreRead → PackedAreReceived → ParcelsAreShort → Wri
 packed_read_back law received short cut first o bytes c s box calls is comes goes stands may =
     let all : Course = heard (at s (expecting (packed_in box calls).outbox)) (all_of calls) in
     let batches : List (List ℕ) = (packed_in box calls).batches in
-    let each : AreHeard s.role (all_of calls) = all_turn (λ m. MayBeSent s.role m) (λ m. IsHeard s.role m (writes_message m)) (all_of calls) (λ m h. message_heard law s.role m h) may in
+    let each : AreHeard s.role (all_of calls) = All-each (λ m. MayBeSent s.role m) (λ m. IsHeard s.role m (writes_message m)) (all_of calls) (λ m h. message_heard law s.role m h) may in
     let few : AllByRecursion (λ m. length (writes_message m) ≤ most_of s.role) (all_of calls) =
-    all_turn (λ m. MayBeSent s.role m) (λ m. length (writes_message m) ≤ most_of s.role) (all_of calls) (λ m h. h.short) may in
+    All-each (λ m. MayBeSent s.role m) (λ m. length (writes_message m) ≤ most_of s.role) (all_of calls) (λ m h. h.short) may in
     let run : on_batches o (Established (at s (expecting box))) batches ≡ all =
     batches_heard o s batches (expecting box) (expecting (packed_in box calls).outbox) (all_of calls) each (calls_deliver received short (most_of s.role) calls box is few) in
     let rest : Comes o c.phase (flat_map (λ batch. framed batch) batches) all [] = record {

@@ -1,13 +1,13 @@
 -- Batches in pieces.
 use Rattle.std.proofs.Common.{◌≡◌, ◌∙◌, ap, refl, sym, ℕ, ◌<◌, ◌≤◌, List, [], ◌∷◌, ◌++◌, length, length-append, append_assoc, append-nil, Option, Some, None, Ok, Err, arith}
-use Rattle.zr_batch.specs.Framing.{IsFramed, BeginsWith, lacks}
-use Rattle.zr_batch.proofs.Cutting.{are_more, cut_some}
+use Rattle.zr_frame_batch.specs.Framing.{IsFramed, BeginsWith, lacks}
+use Rattle.zr_frame_batch.proofs.Cutting.{are_more, cut_some}
 use Rattle.zr_open.specs.Opening.{OpeningState}
 use Rattle.zr_session.specs.declared.phase.Phase.{Phase}
 use Rattle.zr_session.specs.declared.event.Fed.{Fed}
 use Rattle.zr_session.specs.declared.fate.End.{End}
-use Rattle.zr_session.specs.declared.stop.Stop.{Stop}
-use Rattle.zr_session.specs.declared.stop.Stop.TheVariants.{Ended, NoMemory}
+use Rattle.zr_session.specs.declared.stop.ReadStop.{ReadStop}
+use Rattle.zr_session.specs.declared.stop.ReadStop.TheVariants.{Ended, NoMemory}
 use Rattle.zr_session.specs.Course.{Course, going, joined, and_then}
 use Rattle.zr_session.specs.Stream.{Comes, on_batch, on_batches}
 use Rattle.zr_session.specs.Done.{Adds, AddsPrefixes, Goes, Takes}
@@ -176,7 +176,7 @@ runs_out o p q bytes more mid after c a b h prefixes = by c.ends refl
         let k = comes_some o c.phase (mid ++ more) in
         (joined None c k.0, k.1, comes_more o p bytes more mid k.1 c k.0 h e k.2, prefixes_longer c k.0 a b prefixes)
 
-ends_by : (o : OpeningState) (p q : Phase) (bytes more after : List ℕ) (c x : Course) (a b d : Fed) (s : Stop) →
+ends_by : (o : OpeningState) (p q : Phase) (bytes more after : List ℕ) (c x : Course) (a b d : Fed) (s : ReadStop) →
     Comes o p bytes (joined None c x) [] → Adds c a b → Goes (Err s) x q b d → Takes (Err s) o p (bytes ++ more) q after a d
 ends_by o p q bytes more after c x a b d (Ended how) h adds g =
     let k = comes_ended o p bytes more [] (joined None c x) how h g.0.ends in
@@ -185,7 +185,7 @@ ends_by o p q bytes more after c x a b d NoMemory h adds g =
     runs_out o p q bytes more [] after (joined None c x) a d h (prefixes_more c x a b d adds g)
 
 -- a batch ended the session, or memory ran out in it
-pub rest_ends : (o : OpeningState) (p : Phase) (first piece rest kept grown more batch after : List ℕ) (phase q : Phase) (a b d : Fed) (s : Stop) →
+pub rest_ends : (o : OpeningState) (p : Phase) (first piece rest kept grown more batch after : List ℕ) (phase q : Phase) (a b d : Fed) (s : ReadStop) →
     AtRest o p first piece rest kept phase a b → grown ++ more ≡ kept ++ rest → length more ≤ length rest → IsFramed grown batch → Goes (Err s) (on_batch o phase batch) q b d →
     Takes (Err s) o p (first ++ piece) q after a d
 rest_ends o p first piece rest kept grown more batch after phase q a b d s h e few f g =
@@ -208,7 +208,7 @@ ahead_batch o p first piece rest kept more batch phase q a b d h none f g =
     shorter : (rest begin more : List ℕ) → rest ≡ begin ++ more → length more ≤ length rest
     shorter rest begin more e = let len = ap length e in omega (arith, len, length-append begin more)
 
-pub ahead_ends : (o : OpeningState) (p : Phase) (first piece rest kept more batch after : List ℕ) (phase q : Phase) (a b d : Fed) (s : Stop) →
+pub ahead_ends : (o : OpeningState) (p : Phase) (first piece rest kept more batch after : List ℕ) (phase q : Phase) (a b d : Fed) (s : ReadStop) →
     AtRest o p first piece rest kept phase a b → kept ≡ [] → BeginsWith rest batch more → Goes (Err s) (on_batch o phase batch) q b d →
     Takes (Err s) o p (first ++ piece) q after a d
 ahead_ends o p first piece rest kept more batch after phase q a b d s h none f g =

@@ -2,8 +2,8 @@
 use Rattle.std.proofs.Common.{◌≡◌, ◌∙◌, ap, refl, sym, subst, [], ◌++◌, append_assoc, append-nil, Result, None, Ok, Err}
 use Rattle.zr_session.specs.declared.phase.Phase.{Phase}
 use Rattle.zr_session.specs.declared.event.Fed.{Fed}
-use Rattle.zr_session.specs.declared.stop.Stop.{Stop}
-use Rattle.zr_session.specs.declared.stop.Stop.TheVariants.{Ended, NoMemory}
+use Rattle.zr_session.specs.declared.stop.ReadStop.{ReadStop}
+use Rattle.zr_session.specs.declared.stop.ReadStop.TheVariants.{Ended, NoMemory}
 use Rattle.zr_session.specs.Course.{Course, going, joined, and_then}
 use Rattle.zr_session.specs.Done.{Adds, AddsPrefixes, Keeps, Goes}
 use Rattle.zr_session.proofs.Courses.{then_open, assoc_open}
@@ -56,7 +56,7 @@ prefixes_nothing c a b h = record {
 }
 
 -- the last part was done, and with it all
-pub within_last : (all : Course) (rest : Phase → Course) (p q : Phase) (a b d : Fed) (result : Result (Unit {0}) Stop) →
+pub within_last : (all : Course) (rest : Phase → Course) (p q : Phase) (a b d : Fed) (result : Result (Unit {0}) ReadStop) →
     Within all rest p a b → Goes result (rest p) q b d → Goes result all q a d
 within_last all rest p q a b d result h g =
     subst (λ (z : Course). Goes result z q a d) (sym (then_open h.so_far rest h.goes) ∙ h.leads) (by result g)
@@ -64,7 +64,7 @@ within_last all rest p q a b d result h g =
     here : rest h.so_far.phase ≡ rest p
     here = ap rest h.at
 
-    by : (result : Result (Unit {0}) Stop) → Goes result (rest p) q b d → Goes result (joined None h.so_far (rest h.so_far.phase)) q a d
+    by : (result : Result (Unit {0}) ReadStop) → Goes result (rest p) q b d → Goes result (joined None h.so_far (rest h.so_far.phase)) q a d
     by (Ok x) g = rw here (g.0, g.1, adds_more h.so_far (rest p) a b d h.adds g.2)
     by (Err (Ended how)) g = rw here (record { ends = g.0.ends; owed = g.0.owed }, adds_more h.so_far (rest p) a b d h.adds g.1)
     by (Err NoMemory) g = rw here (prefixes_more h.so_far (rest p) a b d h.adds g)

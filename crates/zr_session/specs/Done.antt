@@ -10,8 +10,8 @@ use Rattle.zr_session.specs.declared.event.Fed.{Fed}
 use Rattle.zr_session.specs.declared.event.SessionEvent.{SessionEvent}
 use Rattle.zr_session.specs.declared.fate.End.{End}
 use Rattle.zr_session.specs.declared.fate.End.TheVariants.{Closed}
-use Rattle.zr_session.specs.declared.stop.Stop.{Stop}
-use Rattle.zr_session.specs.declared.stop.Stop.TheVariants.{Ended, NoMemory}
+use Rattle.zr_session.specs.declared.stop.ReadStop.{ReadStop}
+use Rattle.zr_session.specs.declared.stop.ReadStop.TheVariants.{Ended, NoMemory}
 use Rattle.zr_session.specs.declared.phase.Phase.{Phase}
 use Rattle.zr_session.specs.Course.{Course, owed_in}
 use Rattle.zr_session.specs.Stream.{Item, Comes}
@@ -43,31 +43,31 @@ pub record EndsSo (c : Course) (how : End) (p : Phase) : Type 0 where
   pub owed : owed_in c.phase ≡ owed_in p
 
 -- One step: it goes on with the course's phase, or the session has ended as the course does. Out of memory it gave nothing.
-abbrev pub Steps : Result (Unit {0}) Stop → Course → Phase → Fed → Fed → Type 0
+abbrev pub Steps : Result (Unit {0}) ReadStop → Course → Phase → Fed → Fed → Type 0
 Steps (Ok _) c p old new = (c.ends ≡ None) × (c.phase ≡ p) × Adds c old new
 Steps (Err (Ended how)) c p old new = EndsSo c how p × Adds c old new
 Steps (Err NoMemory) c p old new = Keeps old new
 
 -- One message of a batch: a frame is open behind it or not, and the rest is left.
-abbrev pub Reads : Result Bool Stop → Item → Phase → List ℕ → Fed → Fed → Type 0
+abbrev pub Reads : Result Bool ReadStop → Item → Phase → List ℕ → Fed → Fed → Type 0
 Reads (Ok in_frame) item p rest old new = (item.course.ends ≡ None) × (item.course.phase ≡ p) × (item.in_frame ≡ in_frame) × (item.rest ≡ rest) × Adds item.course old new
 Reads (Err (Ended how)) item p rest old new = EndsSo item.course how p × Adds item.course old new
 Reads (Err NoMemory) item p rest old new = Keeps old new
 
 -- Several: out of memory they gave prefixes.
-abbrev pub Goes : Result (Unit {0}) Stop → Course → Phase → Fed → Fed → Type 0
+abbrev pub Goes : Result (Unit {0}) ReadStop → Course → Phase → Fed → Fed → Type 0
 Goes (Ok _) c p old new = (c.ends ≡ None) × (c.phase ≡ p) × Adds c old new
 Goes (Err (Ended how)) c p old new = EndsSo c how p × Adds c old new
 Goes (Err NoMemory) c p old new = AddsPrefixes c old new
 
 -- The bytes come to a course, and less than a batch of them is left. A call that goes on keeps it.
-abbrev pub Takes : Result (Unit {0}) Stop → OpeningState → Phase → List ℕ → Phase → List ℕ → Fed → Fed → Type 0
+abbrev pub Takes : Result (Unit {0}) ReadStop → OpeningState → Phase → List ℕ → Phase → List ℕ → Fed → Fed → Type 0
 Takes (Ok _) o first bytes p kept old new = (c : Course) × Comes o first bytes c kept × (c.ends ≡ None) × (c.phase ≡ p) × Adds c old new
 Takes (Err (Ended how)) o first bytes p kept old new = (c : Course) × (rest : List ℕ) × Comes o first bytes c rest × EndsSo c how p × Adds c old new
 Takes (Err NoMemory) o first bytes p kept old new = (c : Course) × (rest : List ℕ) × Comes o first bytes c rest × AddsPrefixes c old new
 
 -- how a reader's refusal stops a session
-abbrev pub stop_of_read : ReadError → Stop
+abbrev pub stop_of_read : ReadError → ReadStop
 stop_of_read read.Short = Ended (Closed Invalid)
 stop_of_read read.TooBig = Ended (Closed Invalid)
 stop_of_read read.UnknownId = Ended (Closed Invalid)
@@ -79,7 +79,7 @@ stop_of_read read.Extra = Ended (Closed Invalid)
 stop_of_read read.NoMemory = NoMemory
 
 -- how a channel's does
-abbrev pub stop_of_channel : ChannelError → Stop
+abbrev pub stop_of_channel : ChannelError → ReadStop
 stop_of_channel channel.OutOfTurn = Ended (Closed Invalid)
 stop_of_channel channel.TooLong = Ended (Closed Invalid)
 stop_of_channel channel.NoMemory = NoMemory

@@ -1,7 +1,7 @@
 -- The laws of sessions.
 use Rattle.std.specs.Prelude.{◌≡◌, ℕ, List, [], ◌∷◌, ◌++◌, Option, Some, None}
 use Rattle.std.specs.List.{AllByRecursion, flat_map}
-use Rattle.zr_batch.specs.Framing.{framed}
+use Rattle.zr_frame_batch.specs.Framing.{framed}
 use Rattle.zr_msg.specs.declared.msg.Msg.{Msg}
 use Rattle.zr_frame.specs.Outbox.{OutboxState, IsOutbox}
 use Rattle.zr_open.specs.declared.expected.Expected.{Expected}

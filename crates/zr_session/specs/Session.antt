@@ -1,7 +1,7 @@
 -- A session between two calls, and what each call makes of it.
 use Rattle.std.specs.Prelude.{◌≡◌, ℕ, ◌-◌, Bool, true, false, ◌||◌, List, [], ◌∷◌, ◌++◌, Some, None, Result, Ok, is_ok, nat_le, if◌then◌else◌}
 use Rattle.std.specs.declared.alloc.AllocError.{AllocError}
-use Rattle.zr_batch.specs.Framing.{framed}
+use Rattle.zr_frame_batch.specs.Framing.{framed}
 use Rattle.zr_trans.specs.declared.trans.Trans.TheVariants as trans
 use Rattle.zr_trans.specs.Writing.{writes_trans}
 use Rattle.zr_open.specs.declared.error.Reason.TheVariants.{Expired}

@@ -1,7 +1,7 @@
 -- What one message makes of a session, by its phase.
 use Rattle.std.specs.Prelude.{ℕ, ◌^◌, Bool, true, false, List, [], ◌∷◌, length, Option, Some, None, Result, Ok, Err, if◌then◌else◌, nat_lt}
 use Rattle.zr_bytes.specs.Reading.{Read}
-use Rattle.zr_batch.specs.Framing.{framed}
+use Rattle.zr_frame_batch.specs.Framing.{framed}
 use Rattle.zr_trans.specs.declared.trans.Trans.{Trans}
 use Rattle.zr_trans.specs.declared.trans.Trans.TheVariants.{Init, Open, Close, KeepAlive, Frame, Fragment}
 use Rattle.zr_trans.specs.Writing.{writes_trans}

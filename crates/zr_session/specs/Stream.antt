@@ -1,7 +1,7 @@
 -- What a stream of bytes comes to: its batches, and in each the transport messages and the network messages of frames.
 use Rattle.std.specs.Prelude.{◌≡◌, ℕ, zero, suc, ◌<◌, Bool, true, false, ◌&&◌, List, [], ◌∷◌, length, Ok, Err, if◌then◌else◌}
 use Rattle.zr_bytes.specs.Reading.{Read}
-use Rattle.zr_batch.specs.Framing.{Are, lacks}
+use Rattle.zr_frame_batch.specs.Framing.{Are, lacks}
 use Rattle.zr_trans.specs.declared.trans.Trans.{Trans}
 use Rattle.zr_trans.specs.declared.trans.Trans.TheVariants.{Init, Open, Close, KeepAlive, Frame, Fragment}
 use Rattle.zr_trans.specs.Reading.{trans_of}

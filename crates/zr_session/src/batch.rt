@@ -7,7 +7,7 @@ ghost use Rattle.zr_session.specs.Done.{Goes};
 use crate::event::Fed;
 use crate::item::read_item;
 use crate::phase::Phase;
-use crate::stop::{INVALID, Stop};
+use crate::stop::{INVALID, ReadStop};
 use std::alloc::Global;
 use zr_bytes::Cursor;
 use zr_open::Opening;
@@ -19,7 +19,7 @@ pub(crate) fn read_batch(
     phase: &mut Phase,
     batch: &[u8],
     out: &mut Fed,
-) -> Result<(), Stop>
+) -> Result<(), ReadStop>
     ensures { Goes result (on_batch opening.now phase.old batch.now) phase.new out.old out.new }
 {
     let mut c = Cursor::new(batch);

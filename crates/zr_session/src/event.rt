@@ -2,7 +2,7 @@
 
 ghost use Rattle.std.specs.Prelude.{◌≡◌, [], IfErr};
 
-use crate::stop::Stop;
+use crate::stop::ReadStop;
 use std::alloc::Global;
 use zr_frame::Outbox;
 use zr_msg::msg::Msg;
@@ -29,7 +29,7 @@ impl Fed {
     ghost use Rattle.zr_session.specs.declared.phase.Phase.{Phase};
     ghost use Rattle.zr_session.specs.Course.{gives};
     ghost use Rattle.zr_session.specs.Done.{Keeps, Steps};
-    ghost use Rattle.zr_session.specs.declared.stop.Stop.TheVariants.{NoMemory};
+    ghost use Rattle.zr_session.specs.declared.stop.ReadStop.TheVariants.{NoMemory};
 
     /// Nothing was given yet.
     pub fn new(alloc: Global) -> Fed
@@ -43,7 +43,7 @@ impl Fed {
     }
 
     /// Gives one more event.
-    pub(crate) fn give(&mut self, event: SessionEvent) -> Result<(), Stop>
+    pub(crate) fn give(&mut self, event: SessionEvent) -> Result<(), ReadStop>
         ensures steps { (phase : Phase) → Steps result (gives phase event) phase self.old self.new }
         ensures memory { IfErr result (λ e. (e ≡ NoMemory) × Keeps self.old self.new) }
     {
@@ -51,7 +51,7 @@ impl Fed {
             Ok(()) => Ok(()),
             Err(failed) => {
                 drop(failed);
-                Err(Stop::NoMemory)
+                Err(ReadStop::NoMemory)
             }
         }
     }

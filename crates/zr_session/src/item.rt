@@ -9,7 +9,7 @@ use crate::carried::{begins_network, read_carried};
 use crate::event::Fed;
 use crate::opening::on_trans;
 use crate::phase::{Established, Phase};
-use crate::stop::{INVALID, Stop, stop_of_read};
+use crate::stop::{INVALID, ReadStop, stop_of_read};
 use std::alloc::Global;
 use zr_bytes::Cursor;
 use zr_open::Opening;
@@ -24,7 +24,7 @@ pub(crate) fn read_item(
     in_frame: bool,
     c: &mut Cursor<'_>,
     out: &mut Fed,
-) -> Result<bool, Stop>
+) -> Result<bool, ReadStop>
     ensures { Reads result (item_of opening.now phase.old in_frame c.old) phase.new c.new out.old out.new }
 {
     if in_frame && begins_network(c.as_slice()) {
@@ -40,7 +40,7 @@ fn transport(
     phase: &mut Phase,
     c: &mut Cursor<'_>,
     out: &mut Fed,
-) -> Result<bool, Stop>
+) -> Result<bool, ReadStop>
     ensures { Reads result (trans_item opening.now phase.old (trans_of c.old)) phase.new c.new out.old out.new }
 {
     let t = match read_trans(alloc, c) {
@@ -60,7 +60,7 @@ fn network(
     phase: &mut Phase,
     c: &mut Cursor<'_>,
     out: &mut Fed,
-) -> Result<bool, Stop>
+) -> Result<bool, ReadStop>
     ensures { Reads result (network_item phase.old c.old) phase.new c.new out.old out.new }
 {
     match phase {
@@ -74,7 +74,7 @@ fn carried(
     session: &mut Established,
     c: &mut Cursor<'_>,
     out: &mut Fed,
-) -> Result<bool, Stop>
+) -> Result<bool, ReadStop>
     ensures { Reads result (network_item (Phase.Established session.old) c.old) (Phase.Established session.new) c.new out.old out.new }
 {
     let message = match read_carried(alloc, c, session.role, &session.keys) {

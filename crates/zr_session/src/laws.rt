@@ -2,9 +2,9 @@
 
 ghost use Rattle.zr_session.specs.Laws.{BytesHaveOneCourse, NoCutMatters, PackedMessagesAreReadBack};
 
-use zr_batch::written_batches_are_cut;
 use zr_decl::{written_declarations_are_read, written_interests_are_read};
 use zr_frame::{packed_messages_are_received, parcels_are_short};
+use zr_frame_batch::written_batches_are_cut;
 use zr_net::written_net_is_read;
 use zr_oam::written_oam_is_read;
 

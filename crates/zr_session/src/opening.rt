@@ -10,10 +10,10 @@ ghost use Rattle.zr_session.specs.Done.{Steps};
 use crate::event::{Fed, SessionEvent};
 use crate::fate::End;
 use crate::phase::{Established, Phase};
-use crate::stop::{INVALID, Stop};
+use crate::stop::{INVALID, ReadStop};
 use crate::write::batch_of;
 use std::alloc::Global;
-use zr_batch::put_batch;
+use zr_frame_batch::put_batch;
 use zr_open::{Expected, OpenError, Opened, Opening, Progress};
 use zr_trans::Trans;
 
@@ -27,7 +27,7 @@ pub(crate) fn on_trans(
     phase: &mut Phase,
     t: Trans,
     out: &mut Fed,
-) -> Result<(), Stop>
+) -> Result<(), ReadStop>
     requires { Fits t }
     ensures { Steps result (on_trans opening.now phase.old t) phase.new out.old out.new }
 {
@@ -48,7 +48,7 @@ fn on_opening(
     phase: &mut Phase,
     t: &Trans,
     out: &mut Fed,
-) -> Result<(), Stop>
+) -> Result<(), ReadStop>
     requires fits { Fits t.now }
     requires opening { phase.old ≡ Phase.Opening expected }
     ensures { Steps result (on_progress expected (received opening.now expected t.now)) phase.new out.old out.new }
@@ -58,9 +58,9 @@ fn on_opening(
             alloc, expected, &answer, phase, out,
         ),
         Ok(Progress::Opened(opened)) => establish(alloc, &opened, phase, out),
-        Err(OpenError::Closed(reason)) => Err(Stop::Ended(End::Closed(reason))),
-        Err(OpenError::Peer(reason)) => Err(Stop::Ended(End::Peer(reason))),
-        Err(OpenError::NoMemory) => Err(Stop::NoMemory),
+        Err(OpenError::Closed(reason)) => Err(ReadStop::Ended(End::Closed(reason))),
+        Err(OpenError::Peer(reason)) => Err(ReadStop::Ended(End::Peer(reason))),
+        Err(OpenError::NoMemory) => Err(ReadStop::NoMemory),
     }
 }
 
@@ -71,7 +71,7 @@ fn answer_with(
     answer: &Trans,
     phase: &mut Phase,
     out: &mut Fed,
-) -> Result<(), Stop>
+) -> Result<(), ReadStop>
     requires { Fits answer.now }
     ensures { (expected : Expected) → phase.old ≡ Phase.Opening expected → Steps result (answered expected next (writes_trans answer.now)) phase.new out.old out.new }
 {
@@ -85,7 +85,12 @@ fn answer_with(
 }
 
 /// Both ends are open.
-fn establish(alloc: Global, opened: &Opened, phase: &mut Phase, out: &mut Fed) -> Result<(), Stop>
+fn establish(
+    alloc: Global,
+    opened: &Opened,
+    phase: &mut Phase,
+    out: &mut Fed,
+) -> Result<(), ReadStop>
     requires first { opened.now.first < modulus_of opened.now.outbox.bits }
     requires answer { AnswerFits opened.now.answer }
     ensures { (expected : Expected) → phase.old ≡ Phase.Opening expected → Steps result (on_progress expected (Ok (Progress.Opened opened.now))) phase.new out.old out.new }

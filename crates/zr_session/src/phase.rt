@@ -12,7 +12,7 @@ ghost use Rattle.zr_session.specs.Carried.{carried_of};
 use crate::carried::{Carried, read_carried};
 use crate::event::{Fed, SessionEvent};
 use crate::fate::End;
-use crate::stop::{INVALID, Stop, stop_of_channel, stop_of_read};
+use crate::stop::{INVALID, ReadStop, stop_of_channel, stop_of_read};
 use crate::write::written;
 use std::alloc::{AllocError, Global};
 use zr_bytes::{ByteString, Cursor};
@@ -72,12 +72,17 @@ impl Established {
     }
 
     /// A transport message came.
-    pub(crate) fn on_trans(&mut self, alloc: Global, t: Trans, out: &mut Fed) -> Result<(), Stop>
+    pub(crate) fn on_trans(
+        &mut self,
+        alloc: Global,
+        t: Trans,
+        out: &mut Fed,
+    ) -> Result<(), ReadStop>
         ensures { Steps result (on_established self.old t) (phase.Established self.new) out.old out.new }
     {
         match t {
             Trans::KeepAlive => Ok(()),
-            Trans::Close { reason, .. } => Err(Stop::Ended(End::Peer(reason))),
+            Trans::Close { reason, .. } => Err(ReadStop::Ended(End::Peer(reason))),
             Trans::Frame { reliable, number } => self.on_frame(reliable, number),
             Trans::Fragment {
                 reliable,
@@ -89,7 +94,7 @@ impl Established {
         }
     }
 
-    fn on_frame(&mut self, reliable: bool, number: u64) -> Result<(), Stop>
+    fn on_frame(&mut self, reliable: bool, number: u64) -> Result<(), ReadStop>
         ensures { (out : Fed) → Steps result (on_frame self.old (on_one self.old.channels reliable (frame (one_of self.old.channels reliable) number))) (phase.Established self.new) out out }
     {
         match self.channels.frame(reliable, number) {
@@ -106,7 +111,7 @@ impl Established {
         number: u64,
         piece: &[u8],
         out: &mut Fed,
-    ) -> Result<(), Stop>
+    ) -> Result<(), ReadStop>
         ensures { Steps result (on_fragment self.old (on_one self.old.channels reliable (fragment (most_of self.old.role) (one_of self.old.channels reliable) more number piece.now))) (phase.Established self.new) out.old out.new }
     {
         let whole = self
@@ -120,7 +125,7 @@ impl Established {
     }
 
     /// The pieces of a message are joined. It is one network message, with nothing behind it.
-    fn on_whole(&mut self, alloc: Global, bytes: &[u8], out: &mut Fed) -> Result<(), Stop>
+    fn on_whole(&mut self, alloc: Global, bytes: &[u8], out: &mut Fed) -> Result<(), ReadStop>
         ensures { Steps result (on_whole self.old (carried_of self.old.role self.old.keys bytes.now)) (phase.Established self.new) out.old out.new }
     {
         let mut c = Cursor::new(bytes);
@@ -137,7 +142,7 @@ impl Established {
     }
 
     /// A network message came.
-    pub(crate) fn on_carried(&mut self, message: Carried, out: &mut Fed) -> Result<(), Stop>
+    pub(crate) fn on_carried(&mut self, message: Carried, out: &mut Fed) -> Result<(), ReadStop>
         ensures { Steps result (on_carried self.old message) (phase.Established self.new) out.old out.new }
     {
         match message {
@@ -147,7 +152,7 @@ impl Established {
         }
     }
 
-    fn on_network(&mut self, message: Declared, out: &mut Fed) -> Result<(), Stop>
+    fn on_network(&mut self, message: Declared, out: &mut Fed) -> Result<(), ReadStop>
         ensures { Steps result (on_carried self.old (Carried.Network message)) (phase.Established self.new) out.old out.new }
     {
         match message {
@@ -162,7 +167,7 @@ impl Established {
     }
 
     /// A message between routers, which a client's session ignores.
-    fn on_oam(&self, msg: Msg, out: &mut Fed) -> Result<(), Stop>
+    fn on_oam(&self, msg: Msg, out: &mut Fed) -> Result<(), ReadStop>
         ensures { Steps result (between_routers self.now.role self.now msg) (phase.Established self.now) out.old out.new }
     {
         match self.role {
@@ -175,7 +180,7 @@ impl Established {
     }
 
     /// A message is given where the peer may send it.
-    fn give(&self, msg: Msg, out: &mut Fed) -> Result<(), Stop>
+    fn give(&self, msg: Msg, out: &mut Fed) -> Result<(), ReadStop>
         ensures { Steps result (given (admits self.now.role msg) self.now msg) (phase.Established self.now) out.old out.new }
     {
         if admits(self.role, &msg) {
@@ -187,18 +192,18 @@ impl Established {
     }
 
     /// The peer numbers a text, in the place of an earlier one of that number.
-    fn number(&mut self, number: u16, text: &[u8]) -> Result<(), Stop>
+    fn number(&mut self, number: u16, text: &[u8]) -> Result<(), ReadStop>
         ensures { (out : Fed) → Steps result (numbered self.old (declared self.old.keys number text.now)) (phase.Established self.new) out out }
     {
         match self.keys.declare(number, text) {
             Ok(()) => Ok(()),
-            Err(ScopeError::Limit) => Err(Stop::Ended(End::Closed(Reason::Generic))),
-            Err(ScopeError::NoMemory) => Err(Stop::NoMemory),
+            Err(ScopeError::Limit) => Err(ReadStop::Ended(End::Closed(Reason::Generic))),
+            Err(ScopeError::NoMemory) => Err(ReadStop::NoMemory),
         }
     }
 
     /// A token, or the end of what an interest asked for.
-    fn ignore(&self) -> Result<(), Stop>
+    fn ignore(&self) -> Result<(), ReadStop>
         ensures { (out : Fed) → Steps result (ignored self.now.role self.now) (phase.Established self.now) out out }
     {
         match self.role {

@@ -1,15 +1,15 @@
 //! The batches of a piece.
 
 ghost use Rattle.std.specs.Prelude.{◌≡◌, ◌++◌, ◌<◌, [], IfSome};
-ghost use Rattle.zr_batch.specs.Framing.{BeginsWith, lacks};
+ghost use Rattle.zr_frame_batch.specs.Framing.{BeginsWith, lacks};
 ghost use Rattle.zr_session.specs.Done.{Takes};
 
 use crate::batch::read_batch;
 use crate::event::Fed;
 use crate::phase::Phase;
-use crate::stop::Stop;
+use crate::stop::ReadStop;
 use std::alloc::{AllocError, Global};
-use zr_batch::{Incoming, split_batch};
+use zr_frame_batch::{Incoming, split_batch};
 use zr_open::Opening;
 
 /// The batch at the front of a piece where nothing is kept and the batch is whole, and the bytes behind it.
@@ -31,7 +31,7 @@ pub(crate) fn take_piece(
     kept: &mut Incoming,
     piece: &[u8],
     out: &mut Fed,
-) -> Result<(), Stop>
+) -> Result<(), ReadStop>
     requires { 0 < lacks kept.old }
     ensures stream { Takes result opening.now phase.old (kept.old ++ piece.now) phase.new kept.new out.old out.new }
     ensures partial { 0 < lacks kept.new }
@@ -48,7 +48,7 @@ pub(crate) fn take_piece(
         }
         rest = match kept.take(rest) {
             Ok(more) => more,
-            Err(AllocError) => return Err(Stop::NoMemory),
+            Err(AllocError) => return Err(ReadStop::NoMemory),
         };
         if let Some(batch) = kept.batch() {
             let read = read_batch(alloc, opening, phase, batch, out);

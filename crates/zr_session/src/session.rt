@@ -1,7 +1,7 @@
 //! A session: bytes in any pieces, to events and answers.
 
 ghost use Rattle.std.specs.Prelude.{◌≡◌, ◌++◌, ◌<◌, [], if◌then◌else◌, true, false, is_ok, OnOk, OnErr, IfOk};
-ghost use Rattle.zr_batch.specs.Framing.{lacks};
+ghost use Rattle.zr_frame_batch.specs.Framing.{lacks};
 ghost use Rattle.zr_open.specs.declared.expected.Expected.TheVariants as expects;
 ghost use Rattle.zr_open.specs.declared.error.Reason.TheVariants.{Expired};
 ghost use Rattle.zr_session.specs.Session.{close_of, heard_with};
@@ -11,12 +11,12 @@ use crate::fate::{End, Fate};
 use crate::phase::Phase;
 use crate::piece::take_piece;
 use crate::state::State;
-use crate::stop::Stop;
+use crate::stop::ReadStop;
 use crate::write::put_message;
 use std::alloc::{AllocError, Global};
 use std::marker::Model;
 use std::mem;
-use zr_batch::{Incoming, MOST_IDLE};
+use zr_frame_batch::{Incoming, MOST_IDLE};
 use zr_open::{Expected, Opening, Reason};
 use zr_trans::Trans;
 
@@ -58,7 +58,7 @@ impl Drop for Session {
 
 impl Model for Session {
     ghost use Rattle.std.specs.Prelude.{◌<◌};
-    ghost use Rattle.zr_batch.specs.Framing.{lacks};
+    ghost use Rattle.zr_frame_batch.specs.Framing.{lacks};
     ghost use Rattle.zr_session.specs.Session.{SessionState};
 
     ghost Value = { SessionState };
@@ -144,8 +144,8 @@ impl Session {
                 self.state = State::Running(phase);
                 Ok(Fate::Going)
             }
-            Err(Stop::Ended(how)) => self.end(how, phase, &mut out.bytes),
-            Err(Stop::NoMemory) => Err(AllocError),
+            Err(ReadStop::Ended(how)) => self.end(how, phase, &mut out.bytes),
+            Err(ReadStop::NoMemory) => Err(AllocError),
         }
     }
 

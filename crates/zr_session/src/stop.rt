@@ -11,20 +11,20 @@ use zr_open::Reason;
 
 /// Why a part of a stream is not read on.
 #[derive(Clone, Copy)]
-pub enum Stop {
+pub enum ReadStop {
     /// The session has ended.
     Ended(End),
     NoMemory,
 }
 
 /// Bytes that spell nothing, or a message that is out of place.
-pub(crate) const INVALID: Stop = Stop::Ended(End::Closed(Reason::Invalid));
+pub(crate) const INVALID: ReadStop = ReadStop::Ended(End::Closed(Reason::Invalid));
 
-pub(crate) fn stop_of_read(e: ReadError) -> Stop
+pub(crate) fn stop_of_read(e: ReadError) -> ReadStop
     ensures { result ≡ stop_of_read e }
 {
     match e {
-        ReadError::NoMemory => Stop::NoMemory,
+        ReadError::NoMemory => ReadStop::NoMemory,
         ReadError::Short
         | ReadError::TooBig
         | ReadError::UnknownId
@@ -36,22 +36,22 @@ pub(crate) fn stop_of_read(e: ReadError) -> Stop
     }
 }
 
-pub(crate) fn stop_of_channel(e: ChannelError) -> Stop
+pub(crate) fn stop_of_channel(e: ChannelError) -> ReadStop
     ensures { result ≡ stop_of_channel e }
 {
     match e {
-        ChannelError::NoMemory => Stop::NoMemory,
+        ChannelError::NoMemory => ReadStop::NoMemory,
         ChannelError::OutOfTurn | ChannelError::TooLong => INVALID,
     }
 }
 
-impl From<AllocError> for Stop {
+impl From<AllocError> for ReadStop {
     ghost use Rattle.std.specs.Prelude.{◌≡◌};
-    ghost use Rattle.zr_session.specs.declared.stop.Stop.TheVariants.{NoMemory};
+    ghost use Rattle.zr_session.specs.declared.stop.ReadStop.TheVariants.{NoMemory};
 
     ghost from_gives = { λ _ e. e ≡ NoMemory };
 
-    fn from(_e: AllocError) -> Stop {
-        Stop::NoMemory
+    fn from(_e: AllocError) -> ReadStop {
+        ReadStop::NoMemory
     }
 }

@@ -1,14 +1,14 @@
 //! Writing transport messages, each as a batch of its own.
 
 ghost use Rattle.std.specs.Prelude.{◌≡◌, ◌<◌, ◌^◌, ◌++◌, length, OnOk, OnErr, IfOk};
-ghost use Rattle.zr_batch.specs.Framing.{framed};
+ghost use Rattle.zr_frame_batch.specs.Framing.{framed};
 ghost use Rattle.zr_trans.specs.Writing.{Fits, writes_trans};
 ghost use Rattle.zr_open.specs.Table.{AnswerFits};
 ghost use Rattle.zr_session.specs.Step.{written};
 
 use std::alloc::{AllocError, Global};
-use zr_batch::put_batch;
 use zr_bytes::ByteString;
+use zr_frame_batch::put_batch;
 use zr_trans::{Trans, write_trans};
 
 /// The batch of a message.

@@ -7,13 +7,13 @@ use crate::row::{act_of, message, name};
 use std::alloc::{AllocError, Global};
 use std::test::Fail;
 use zr_body::Body;
-use zr_command::command::Act;
-use zr_command::report::ReportLine;
-use zr_judge::judge::{Case, refines};
 use zr_key::key::KeyExpr;
 use zr_msg::content::Content;
 use zr_msg::extras::Extras;
 use zr_msg::msg::Msg;
+use zr_script_spec::command::Act;
+use zr_script_spec::report::ReportLine;
+use zr_tests_judge::judge::{Case, refines};
 
 /// A script: its lines before the mark, and those behind it.
 struct Script {

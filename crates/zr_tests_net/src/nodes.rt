@@ -1,7 +1,7 @@
 //! What one router refuses, and what it does with messages that no client of a script sends.
 
 ghost use Rattle.std.specs.Prelude.{◌≡◌, true};
-ghost use Rattle.zr_table.specs.Event.{IsFresh, MayCome};
+ghost use Rattle.zr_node_spec.specs.Event.{IsFresh, MayCome};
 
 use crate::row::{message, name};
 use std::alloc::{AllocError, Global};
@@ -15,7 +15,7 @@ use zr_msg::msg::Msg;
 use zr_msg::peer::{Peer, Role};
 use zr_msg::shared::Shared;
 use zr_node::node::Node;
-use zr_tell::tell::discard;
+use zr_node_spec::tell::discard;
 
 /// The link of the client that asks and subscribes. The next two are those of clients that answer.
 const ASKER: u32 = 0;

@@ -3,9 +3,10 @@
 use std::alloc::{AllocError, Global};
 use std::test::Fail;
 use zr_netrun::netrun::run_script;
+use zr_netrun::options::NetOptions;
 use zr_netrun::status::Status;
-use zr_outside::mem_sink::MemSink;
-use zr_outside::mem_source::MemSource;
+use zr_outside_mem::mem_sink::MemSink;
+use zr_outside_mem::mem_source::MemSource;
 
 const SCRIPT: &[u8] =
     b"router 0a\nclient c1 0a\nclient c2 0a\nsub c2 1 a/b\nhandle 0a c2\nmark\nput c1 a/b hi\nhandle 0a c1\ntake 0a c2\n";
@@ -30,7 +31,11 @@ static ROWS: [Row; 5] = [
 
 // Runs the script, and tells its status alone.
 fn status(alloc: Global, input: &mut MemSource, out: &mut MemSink, err: &mut MemSink) -> Status {
-    run_script(alloc, input, out, err, false)
+    let options = NetOptions {
+        summary: false,
+        explain: false,
+    };
+    run_script(alloc, options, input, out, err)
 }
 
 // The script, a byte a read.

@@ -1,12 +1,12 @@
 //! Names, acts and messages for rows. Where a row's text is none, that is told as out of memory: the test fails by either.
 
 use std::alloc::{AllocError, Global};
-use zr_command::command::{Act, Command};
 use zr_id::zid::Zid;
 use zr_msg::extras::Extras;
 use zr_msg::msg::Msg;
 use zr_msg::shared::Shared;
 use zr_script::line::read_line;
+use zr_script_spec::command::{Act, Command};
 
 /// The name of one byte.
 pub fn name(byte: u8) -> Result<Zid, AllocError> {

@@ -5,27 +5,28 @@ use Rattle.std.specs.List.{flat_map, fold, list_any, AllByRecursion}
 use Rattle.std.specs.List.Sorted.{IsStrictlySortedBy}
 use Rattle.std.specs.Ordering.{nat_cmp}
 use Rattle.std.specs.Option.{option_map_or}
-use Rattle.std.proofs.lemmas.Bool.{eqb-true, false≢true, or_parts}
+use Rattle.std.proofs.lemmas.Bool.{eqb-true, or_parts, or_left, or_from}
 use Rattle.std.proofs.lemmas.List.{map-append, at_drop_more}
 use Rattle.std.proofs.lemmas.Grind.{flat_map-append}
-use Rattle.zr_routing.specs.Tables.{TableState}
-use Rattle.zr_told.specs.Place.{same}
-use Rattle.zr_told.specs.Wanted.{fits, told_as, wanted}
-use Rattle.zr_told.specs.Told.{ToldMap, entered, undeclared, declared}
-use Rattle.zr_told.specs.Rows.{Maps, map_on, sent_on, others, touches, is_touched, tells_changes, told_changes, tells_all, lacks_ids, one_lacks_ids, AreFew, IsAsWantedBut}
+use Rattle.zr_lists.proofs.Numbers.{above_differs}
+use Rattle.zr_node_spec.specs.Tables.{TableState}
+use Rattle.zr_told_spec.specs.Place.{same}
+use Rattle.zr_told_spec.specs.Wanted.{fits, told_as, wanted}
+use Rattle.zr_told_spec.specs.Told.{ToldMap, entered, undeclared, declared}
+use Rattle.zr_told_spec.specs.Rows.{Maps, map_on, sent_on, others, touches, is_touched, tells_changes, told_changes, tells_all, lacks_ids, one_lacks_ids, AreFew, IsAsWantedBut}
 use Rattle.zr_told.specs.Plan.{IsPlan, HasIds, forgotten, tells_plan, told_plan, plan_on, told_plans, ids_last, PlansAscend}
 use Rattle.zr_local.specs.Clients.{AreByLink}
 use Rattle.zr_local.specs.declared.interest.ClientInterests.{ClientInterests}
 use Rattle.zr_local.specs.declared.interest.Interest.{Interest}
-use Rattle.zr_told.specs.declared.place.Place.{Place}
+use Rattle.zr_told_spec.specs.declared.place.Place.{Place}
 use Rattle.zr_told.specs.declared.book.Plan.{Plan}
 use Rattle.zr_told.specs.declared.plan.LinkPlan.{LinkPlan}
 use Rattle.zr_told.proofs.Clients.{sorted_links, entry_on, told_among}
-use Rattle.zr_told.proofs.Events.{nothing_is_told}
+use Rattle.zr_told_spec.proofs.Events.{nothing_is_told}
 use Rattle.zr_told.proofs.Links.{few_on}
 use Rattle.zr_told.proofs.Plans.{plan_tells, plan_told}
-use Rattle.zr_told.proofs.Sorted.{few_wanted}
-use Rattle.zr_told.proofs.Touching.{hits, neither}
+use Rattle.zr_told_spec.proofs.Sorted.{few_wanted}
+use Rattle.zr_told_spec.proofs.Touching.{hits}
 
 -- what is left of a list, with its first one
 pub next_left : {X : Type 0} (xs : List X) (i : ℕ) (x : X) → i < length xs → x ≡ get_or xs i x → drop i xs ≡ x ∷ drop (i + 1) xs
@@ -57,23 +58,20 @@ last_part : (xs ys : List ℕ) → Sorted (xs ++ ys) → Sorted ys
 last_part [] ys s = s
 last_part (x ∷ xs) ys s = last_part xs ys (below x (xs ++ ys) s)
 
-apart : (a b : ℕ) → nat_cmp a b ≡ Less → (b == a) ≡ false
-apart a b h = grind (arith, h)
-
 -- no other stands on the link of the first
 none_later : (c : ClientInterests) (cs : List ClientInterests) → Sorted (map (λ d. d.link.0) (c ∷ cs)) → entry_on cs c.link.0 ≡ None
 none_later c cs s = on cs (above c.link.0 (map (λ d. d.link.0) cs) s)
   where
     on : (ds : List ClientInterests) → AllByRecursion (λ y. nat_cmp c.link.0 y ≡ Less) (map (λ d. d.link.0) ds) → entry_on ds c.link.0 ≡ None
     on [] a = refl
-    on (d ∷ ds) a = ap (λ z. cond z (Some d) (entry_on ds c.link.0)) (apart c.link.0 d.link.0 a.0) ∙ on ds a.1
+    on (d ∷ ds) a = ap (λ z. cond z (Some d) (entry_on ds c.link.0)) (above_differs c.link.0 d.link.0 a.0) ∙ on ds a.1
 
 no_plan_later : (e : LinkPlan) (es : List LinkPlan) → PlansAscend (e ∷ es) → plan_on es e.link.0 ≡ None
 no_plan_later e es s = on es (above e.link.0 (map (λ d. d.link.0) es) s)
   where
     on : (ds : List LinkPlan) → AllByRecursion (λ y. nat_cmp e.link.0 y ≡ Less) (map (λ d. d.link.0) ds) → plan_on ds e.link.0 ≡ None
     on [] a = refl
-    on (d ∷ ds) a = ap (λ z. cond z (Some d) (plan_on ds e.link.0)) (apart e.link.0 d.link.0 a.0) ∙ on ds a.1
+    on (d ∷ ds) a = ap (λ z. cond z (Some d) (plan_on ds e.link.0)) (above_differs e.link.0 d.link.0 a.0) ∙ on ds a.1
 
 -- ---- one client is told
 
@@ -171,14 +169,10 @@ all_planned t cs maps es rest e a =
       ids = b.ids;
     }
 
-pub or_first : (a b : Bool) → a ≡ true → (a || b) ≡ true
-or_first true b h = refl
-or_first false b h = absurd (false≢true h)
-
 -- ids don't last for a client that is left
 pub worn_there : (t : TableState) (cs : List ClientInterests) (maps : Maps) (es : List LinkPlan) (c : ClientInterests) (rest left : List ClientInterests) → left ≡ c ∷ rest → ArePlanned t cs maps es left →
     lacks_ids (others t c.link.0) c.interests ≡ true → one_lacks_ids t cs ≡ true
-worn_there t cs maps es c rest left q a h = a.ids ∙ ap (λ z. one_lacks_ids t z) q ∙ or_first (lacks_ids (others t c.link.0) c.interests) (one_lacks_ids t rest) h
+worn_there t cs maps es c rest left q a h = a.ids ∙ ap (λ z. one_lacks_ids t z) q ∙ or_left (lacks_ids (others t c.link.0) c.interests) (one_lacks_ids t rest) h
 
 added_on : (maps : Maps) (es : List LinkPlan) (e : LinkPlan) (k : ℕ) (d : ToldMap) →
     option_map_or (told_plan maps) (plan_on (es ++ e ∷ []) k) d ≡ option_map_or (told_plan maps) (plan_on es k) (cond (e.link.0 == k) (told_plan maps e) d)
@@ -233,13 +227,13 @@ untouched_one : (is : List Interest) (q p : Place) → list_any (λ i. fits i q)
 untouched_one [] q p h = refl
 untouched_one (i ∷ is) q p h =
     let k = or_parts (fits i q) (list_any (λ j. fits j q) is) h in
-    neither (hits i q p) (touches is q p) (ap (λ z. z && (same p q || same p (told_as i q))) k.0) (untouched_one is q p k.1)
+    or_from (hits i q p) (touches is q p) (ap (λ z. z && (same p q || same p (told_as i q))) k.0) (untouched_one is q p k.1)
 
 untouched : (qs : List Place) (is : List Interest) (p : Place) → is_touched qs is ≡ false → list_any (λ q. touches is q p) qs ≡ false
 untouched [] is p h = refl
 untouched (q ∷ qs) is p h =
     let k = or_parts (list_any (λ i. fits i q) is) (is_touched qs is) h in
-    neither (touches is q p) (list_any (λ q. touches is q p) qs) (untouched_one is q p k.0) (untouched qs is p k.1)
+    or_from (touches is q p) (list_any (λ q. touches is q p) qs) (untouched_one is q p k.0) (untouched qs is p k.1)
 
 pub one_skipped : (t : TableState) (cs : List ClientInterests) (maps : Maps) (es : List LinkPlan) (c : ClientInterests) (rest : List ClientInterests) (qs : List Place) →
     is_touched qs c.interests ≡ false → IsAsWantedBut qs (others t c.link.0) c.interests (map_on maps c.link.0) → AreFew maps →

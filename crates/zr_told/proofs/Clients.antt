@@ -4,21 +4,18 @@ use Rattle.std.specs.declared.option.Option.{Option}
 use Rattle.std.specs.declared.option.Option.TheVariants.{None, Some}
 use Rattle.std.specs.List.{find, list_any, AllByRecursion}
 use Rattle.std.specs.List.Sorted.{IsStrictlySortedBy}
-use Rattle.std.specs.Option.{option_map, option_map_or}
+use Rattle.std.specs.Option.{option_map_or}
 use Rattle.std.specs.Ordering.{is_eq, nat_cmp}
-use Rattle.std.proofs.lemmas.Option.{none-some}
-use Rattle.zr_set.specs.Ascending.{at_key}
+use Rattle.zr_lists.specs.Ascending.{at_key}
+use Rattle.zr_lists.proofs.Numbers.{nat_eq_is}
 use Rattle.zr_local.specs.Clients.{AreByLink, client_link, interests_on}
 use Rattle.zr_local.specs.declared.interest.ClientInterests.{ClientInterests}
 use Rattle.zr_local.specs.declared.interest.Interest.{Interest}
-use Rattle.zr_msg.specs.declared.decl.Decl.{Decl}
-use Rattle.zr_routing.specs.Tables.{TableState}
-use Rattle.zr_told.specs.Told.{ToldMap, at}
-use Rattle.zr_told.specs.Rows.{Maps, map_on, others, touches, told_changes, told_on, AreListed, IsAsWanted, IsAsWantedBut, AreAsWantedBut}
-use Rattle.zr_told.specs.declared.book.Entry.{Entry}
-use Rattle.zr_told.specs.declared.place.Place.{Place}
-use Rattle.zr_told.proofs.Links.{link_is}
-use Rattle.zr_told.proofs.Places.{same_at}
+use Rattle.zr_node_spec.specs.Tables.{TableState}
+use Rattle.zr_told_spec.specs.Told.{ToldMap}
+use Rattle.zr_told_spec.specs.Rows.{Maps, map_on, others, touches, told_changes, told_on, AreListed, IsAsWantedBut, AreAsWantedBut}
+use Rattle.zr_told_spec.specs.declared.place.Place.{Place}
+use Rattle.zr_told_spec.proofs.Events.{nothing_told}
 
 -- ---- their order
 
@@ -63,13 +60,6 @@ each_client qs t cs maps s w = on cs (own_found cs s)
 
 -- ---- who has no interests
 
--- it is told of nothing
-pub nothing_told : (ds : List Decl) (m : ToldMap) → IsAsWanted ds [] m → m ≡ []
-nothing_told ds [] w = refl
-nothing_told ds (e ∷ es) w =
-    let there : at (e ∷ es) e.0 ≡ Some e.1 = ap (λ z. cond z (Some e.1) (at es e.0)) (same_at e.0 e.0 refl) in
-    absurd (none-some e.1.complete (sym (w e.0) ∙ ap (λ (o : Option Entry). option_map (λ x. x.complete) o) there))
-
 none_touch : (qs : List Place) (p : Place) → list_any (λ q. touches [] q p) qs ≡ false
 none_touch [] p = refl
 none_touch (q ∷ qs) p = none_touch qs p
@@ -91,7 +81,7 @@ abbrev pub told_among : TableState → List ClientInterests → Maps → ℕ →
 told_among t cs maps link = option_map_or (λ c. told_changes (others t link) c.interests (map_on maps link)) (entry_on cs link) (map_on maps link)
 
 entry_is : (cs : List ClientInterests) (k : ℕ) → entry_on cs k ≡ at_key nat_cmp client_link cs k
-entry_is cs k = sym (λ i. find (λ c. link_is c.link.0 k i) cs)
+entry_is cs k = sym (λ i. find (λ c. nat_eq_is c.link.0 k i) cs)
 
 pub told_among_all : (t : TableState) (cs : List ClientInterests) (maps : Maps) → AreListed cs maps → (k : ℕ) → told_among t cs maps k ≡ told_on t cs maps k
 told_among_all t cs maps h k =

@@ -9,19 +9,16 @@ use Rattle.std.proofs.lemmas.List.Filters.{length-filter_both}
 use Rattle.std.proofs.lemmas.Map.Keys.{IsDistinct-from_sorted}
 use Rattle.std.proofs.lemmas.Map.Made.{length-from_same_keys, is_some-lookup}
 use Rattle.std.proofs.lemmas.Map.Entries.{length-keys_of, lookup-filter-keys}
-use Rattle.zr_told.specs.Place.{Ascends, place_cmp, same}
-use Rattle.zr_told.specs.Wanted.{Wanted}
-use Rattle.zr_told.specs.Told.{ToldMap, at, is_in, kept, gone, bool_same, is_told, fresh}
+use Rattle.std.proofs.Math.Bool.{or-true}
+use Rattle.zr_told_spec.specs.Place.{Ascends, place_cmp, same}
+use Rattle.zr_told_spec.specs.Wanted.{Wanted}
+use Rattle.zr_told_spec.specs.Told.{ToldMap, at, is_in, kept, gone, bool_same, is_told, fresh}
 use Rattle.zr_told.specs.Plan.{count_new}
-use Rattle.zr_told.specs.declared.book.Entry.{Entry}
-use Rattle.zr_told.specs.declared.place.Place.{Place}
-use Rattle.zr_told.proofs.Places.{same_equiv, same_is}
-use Rattle.zr_told.proofs.Agree.{at_kept}
-use Rattle.zr_told.proofs.Sorted.{keys_filter, filter_ascends}
-
-or_true : (b : Bool) → (b || true) ≡ true
-or_true true = refl
-or_true false = refl
+use Rattle.zr_told_spec.specs.declared.entry.Entry.{Entry}
+use Rattle.zr_told_spec.specs.declared.place.Place.{Place}
+use Rattle.zr_told_spec.proofs.Places.{same_equiv, same_is}
+use Rattle.zr_told_spec.proofs.Agree.{at_kept}
+use Rattle.zr_told_spec.proofs.Sorted.{keys_filter, filter_ascends}
 
 -- what wasn't told is told
 new_fresh : (again : Place → Bool) (k m : ToldMap) (ws : Wanted) → ((p : Place) → at m p ≡ None → at k p ≡ None) →
@@ -33,7 +30,7 @@ new_fresh again k m (w ∷ ws) h = by (at m w.0) refl (again w.0 || not (is_told
         filter (λ u. not (is_some (at m u.0))) (cond g (w ∷ fresh again ws k) (fresh again ws k)) ≡ cond (not (is_some (at m w.0))) (w ∷ filter (λ u. not (is_some (at m u.0))) ws) (filter (λ u. not (is_some (at m u.0))) ws)
     by o e true f ih = ap (λ z. cond (not (is_some (at m w.0))) (w ∷ z) z) ih
     by None e false f ih =
-        let t : (again w.0 || not (is_told k w)) ≡ true = ap (λ z. again w.0 || not (option_map_or (λ v. bool_same v.complete w.1) z false)) (h w.0 e) ∙ or_true (again w.0) in
+        let t : (again w.0 || not (is_told k w)) ≡ true = ap (λ z. again w.0 || not (option_map_or (λ v. bool_same v.complete w.1) z false)) (h w.0 e) ∙ or-true (again w.0) in
         absurd (true≢false (sym t ∙ f))
     by (Some v) e false f ih = ih ∙ sym (ap (λ z. cond (not (is_some z)) (w ∷ filter (λ u. not (is_some (at m u.0))) ws) (filter (λ u. not (is_some (at m u.0))) ws)) e)
 

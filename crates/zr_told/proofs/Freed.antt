@@ -8,8 +8,9 @@ use Rattle.std.specs.Ordering.{is_eq, is_gt, nat_cmp, match_ordering}
 use Rattle.std.specs.List.{AllByRecursion}
 use Rattle.std.specs.BTreeSet.{insert_key}
 use Rattle.std.proofs.lemmas.Bool.{eqb-true, eqb-false, false_from_ne_true, true≢false, false≢true}
-use Rattle.zr_told.specs.Ids.{IdsState, is_freed, is_given, AreIds, IsLeast}
-use Rattle.zr_told.proofs.Free.{least_is_one}
+use Rattle.zr_told_spec.specs.Ids.{IsLeast}
+use Rattle.zr_told.specs.Ids.{IdsState, is_freed, is_given, AreIds}
+use Rattle.zr_told_spec.proofs.Free.{least_is_one}
 
 -- where none below a number is freed, and it is freed or the next one, it is the least
 pub least_freed : (s : IdsState) (f : ℕ) (rest : List ℕ) → AreIds s → s.freed ≡ f ∷ rest → ((k : ℕ) → is_freed s.freed k ≡ true → is_gt (nat_cmp f k) ≡ false) → IsLeast (is_given s) f

@@ -10,20 +10,21 @@ use Rattle.std.proofs.lemmas.Bool.{eqb-true, eq-eqb, false_from_ne_true, true≢
 use Rattle.std.proofs.lemmas.List.{length-map}
 use Rattle.std.proofs.lemmas.Map.Keys.{IsDistinct-cons}
 use Rattle.std.proofs.lemmas.Map.Steps.{length-le_from_distinct_below}
-use Rattle.zr_told.specs.Ids.{IsLeast}
+use Rattle.zr_told_spec.specs.Ids.{IsLeast}
 use Rattle.zr_told.specs.Laws.{IdsLast}
-use Rattle.zr_told.specs.Place.{Ascends, place_cmp}
+use Rattle.zr_told_spec.specs.Place.{Ascends, place_cmp}
 use Rattle.zr_told.specs.Plan.{AreUpTo, fit, ids_differ}
-use Rattle.zr_told.specs.Rows.{lacks_ids, most_id}
-use Rattle.zr_told.specs.Told.{ToldMap, at, is_used, is_in, free_id, id_for, entered, kept, fresh, retold}
-use Rattle.zr_told.specs.Wanted.{is_complete_at, wanted}
-use Rattle.zr_told.specs.declared.book.Entry.{Entry}
-use Rattle.zr_told.specs.declared.place.Place.{Place}
-use Rattle.zr_told.proofs.Agree.{found_used}
-use Rattle.zr_told.proofs.Free.{free_is_least_id}
+use Rattle.zr_told_spec.specs.Rows.{lacks_ids, most_id}
+use Rattle.zr_told_spec.specs.Told.{ToldMap, at, is_used, is_in, free_id, id_for, entered, kept, fresh, retold}
+use Rattle.zr_told_spec.specs.Wanted.{is_complete_at, wanted}
+use Rattle.zr_told_spec.specs.declared.entry.Entry.{Entry}
+use Rattle.zr_told_spec.specs.declared.place.Place.{Place}
+use Rattle.zr_told_spec.proofs.Agree.{found_used}
+use Rattle.zr_told_spec.proofs.Free.{free_is_least_id}
 use Rattle.zr_told.proofs.Numbers.{used_put, used_again, differ_put, differ_again}
-use Rattle.zr_told.proofs.Sorted.{Small, as_many, filter_ascends, ids_fit, put_ascends, wanted_ascends}
-use Rattle.zr_told.proofs.Wants.{wanted_by}
+use Rattle.zr_told_spec.proofs.Sorted.{as_many, filter_ascends, put_ascends, wanted_ascends}
+use Rattle.zr_told.proofs.Fitting.{Small, ids_fit}
+use Rattle.zr_told_spec.proofs.Wants.{wanted_by}
 
 -- ---- what is kept
 

@@ -8,21 +8,19 @@ use Rattle.std.specs.BTreeMap.{insert_entry}
 use Rattle.std.specs.Map.{lookup, remove_entry, values_of}
 use Rattle.std.proofs.lemmas.List.Elements.{All-head, All-tail}
 use Rattle.std.proofs.lemmas.Map.Views.{All-map-remove_entry, All-values-insert_entry}
-use Rattle.zr_told.specs.Rows.{Maps, map_on, most_id, AreFew}
-use Rattle.zr_told.specs.Told.{ToldMap}
-
-pub link_is : (a b : ℕ) → is_eq (nat_cmp a b) ≡ (a == b)
-link_is a b = grind arith
+use Rattle.zr_lists.proofs.Numbers.{nat_eq_is}
+use Rattle.zr_told_spec.specs.Rows.{Maps, map_on, most_id, AreFew}
+use Rattle.zr_told_spec.specs.Told.{ToldMap}
 
 pub without_link : (link k : ℕ) (o n : Option ToldMap) → n ≡ cond (is_eq (nat_cmp link k)) None o → unwrap_or n [] ≡ cond (link == k) [] (unwrap_or o [])
-without_link link k o n h = ap (λ z. unwrap_or z []) h ∙ ap (λ z. unwrap_or (cond z None o) []) (link_is link k) ∙ by (link == k)
+without_link link k o n h = ap (λ z. unwrap_or z []) h ∙ ap (λ z. unwrap_or (cond z None o) []) (nat_eq_is link k) ∙ by (link == k)
   where
     by : (b : Bool) → unwrap_or (cond b None o) [] ≡ cond b [] (unwrap_or o [])
     by true = refl
     by false = refl
 
 pub with_link : (link k : ℕ) (m : ToldMap) (o n : Option ToldMap) → n ≡ cond (is_eq (nat_cmp link k)) (Some m) o → unwrap_or n [] ≡ cond (link == k) m (unwrap_or o [])
-with_link link k m o n h = ap (λ z. unwrap_or z []) h ∙ ap (λ z. unwrap_or (cond z (Some m) o) []) (link_is link k) ∙ by (link == k)
+with_link link k m o n h = ap (λ z. unwrap_or z []) h ∙ ap (λ z. unwrap_or (cond z (Some m) o) []) (nat_eq_is link k) ∙ by (link == k)
   where
     by : (b : Bool) → unwrap_or (cond b (Some m) o) [] ≡ cond b m (unwrap_or o [])
     by true = refl

@@ -10,19 +10,19 @@ use Rattle.std.proofs.lemmas.Bool.{true≢false}
 use Rattle.std.proofs.lemmas.Option.{none-some, same_Some}
 use Rattle.std.proofs.lemmas.Map.Made.{is_some-lookup}
 use Rattle.zr_msg.specs.declared.decl.Decl.{Decl}
-use Rattle.zr_routing.specs.Queries.{is_complete}
-use Rattle.zr_told.specs.Place.{Ascends, place_cmp, same, place_of}
-use Rattle.zr_told.specs.Wanted.{fits, told_as, asked, wants, is_complete_at, Wanted, wanted}
-use Rattle.zr_told.specs.Told.{ToldMap, at}
+use Rattle.zr_node_spec.specs.Queries.{is_complete}
+use Rattle.zr_told_spec.specs.Place.{Ascends, place_cmp, same, place_of}
+use Rattle.zr_told_spec.specs.Wanted.{fits, told_as, asked, wants, is_complete_at, Wanted, wanted}
+use Rattle.zr_told_spec.specs.Told.{ToldMap, at}
 use Rattle.zr_told.specs.Plan.{Marks, AreRight, marked_fresh, updated, put_mark, unwanted, is_wanted, with_again, with_complete, mark_wanted, mark_again, mark_complete, mark_answered, is_answered, marks_of}
-use Rattle.zr_told.specs.declared.book.Entry.{Entry}
+use Rattle.zr_told_spec.specs.declared.entry.Entry.{Entry}
 use Rattle.zr_told.specs.declared.mark.Mark.{Mark}
 use Rattle.zr_local.specs.declared.interest.Interest.{Interest}
-use Rattle.zr_told.specs.declared.place.Place.{Place}
-use Rattle.zr_told.proofs.Places.{same_is, at_put}
-use Rattle.zr_told.proofs.Wants.{wanted_by, wanted_in}
+use Rattle.zr_told_spec.specs.declared.place.Place.{Place}
+use Rattle.zr_told_spec.proofs.Places.{same_is, at_put}
+use Rattle.zr_told_spec.proofs.Wants.{wanted_by, wanted_in}
 use Rattle.zr_told.proofs.Planned.{every, fresh_marked}
-use Rattle.zr_told.proofs.Sorted.{nothing_ascends, wanted_ascends}
+use Rattle.zr_told_spec.proofs.Sorted.{nothing_ascends, wanted_ascends}
 
 updated_at : (f : Mark → Mark) (ms : Marks) (q p : Place) → lookup (same p) (updated f ms q) ≡ cond (same p q) (option_map f (lookup (same p) ms)) (lookup (same p) ms)
 updated_at f ms q p = by (lookup (same q) ms) refl (same p q) refl
@@ -201,7 +201,7 @@ marks_right m ds is a = record {
     absent : (p : Place) → lookup (same p) (marks_of m ds is a) ≡ None → (wants ds is p ≡ false) × (is_some (at m p) ≡ false)
     absent p h = absent_by (wants ds is p) (is_answered ds a p) (is_complete_at ds p) (is_some (at m p)) (sym (mark_is m ds is a p) ∙ h)
 
-    nothing : (o : Option Rattle.zr_told.specs.declared.book.Entry.Entry) → is_some o ≡ false → option_map (λ e. e.complete) o ≡ None
+    nothing : (o : Option Rattle.zr_told_spec.specs.declared.entry.Entry.Entry) → is_some o ≡ false → option_map (λ e. e.complete) o ≡ None
     nothing None h = refl
     nothing (Some e) h = absurd (true≢false h)
 

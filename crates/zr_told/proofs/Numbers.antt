@@ -5,22 +5,23 @@ use Rattle.std.specs.Ordering.{is_eq, match_ordering}
 use Rattle.std.specs.declared.option.Option.TheVariants.{None, Some}
 use Rattle.std.specs.Map.{keys_of, remove_entry}
 use Rattle.std.specs.BTreeMap.{insert_entry}
-use Rattle.std.proofs.lemmas.Bool.{eqb-true, eq-eqb, false_from_ne_true, true≢false}
+use Rattle.std.proofs.lemmas.Bool.{eqb-true, eq-eqb, false_from_ne_true, true≢false, or_parts}
 use Rattle.std.proofs.lemmas.Option.{none-some, same_Some}
 use Rattle.std.proofs.lemmas.Map.Keys.{sorted_tail}
 use Rattle.std.proofs.lemmas.Map.Entries.{none_below_head}
 use Rattle.std.proofs.lemmas.Map.{lookup-none}
-use Rattle.zr_told.specs.Place.{Ascends, place_cmp, same}
-use Rattle.zr_told.specs.Told.{ToldMap, at, is_used, free_id}
+use Rattle.zr_told_spec.specs.Place.{Ascends, place_cmp, same}
+use Rattle.zr_told_spec.specs.Told.{ToldMap, at, is_used, free_id}
 use Rattle.zr_told.specs.Plan.{ids_differ, AreNumbered}
-use Rattle.zr_told.specs.Ids.{IdsState, AreIds, IsLeast, is_given}
-use Rattle.zr_told.proofs.Places.{place_total}
-use Rattle.zr_told.proofs.Free.{free_is_least_id, least_is_one}
+use Rattle.zr_told_spec.specs.Ids.{IsLeast}
+use Rattle.zr_told.specs.Ids.{IdsState, AreIds, is_given}
+use Rattle.zr_told_spec.proofs.Places.{place_total}
+use Rattle.zr_told_spec.proofs.Free.{free_is_least_id, least_is_one}
 use Rattle.zr_told.proofs.Freed.{given_within}
-use Rattle.zr_told.proofs.Agree.{found_used}
-use Rattle.zr_told.proofs.Sorted.{put_ascends}
-use Rattle.zr_told.specs.declared.book.Entry.{Entry}
-use Rattle.zr_told.specs.declared.place.Place.{Place}
+use Rattle.zr_told_spec.proofs.Agree.{found_used}
+use Rattle.zr_told_spec.proofs.Sorted.{put_ascends}
+use Rattle.zr_told_spec.specs.declared.entry.Entry.{Entry}
+use Rattle.zr_told_spec.specs.declared.place.Place.{Place}
 
 -- ---- an entry where none was
 
@@ -40,16 +41,12 @@ used_put (e ∷ es) p v k n = by (place_cmp p e.0) (λ z. used_put es p v k z) n
     by Equal ih h = absurd (none-some e.1 (sym h))
     by Greater ih h = ap (λ z. e.1.id == k || z) (ih h) ∙ swap (e.1.id == k) (v.id == k) (is_used es k)
 
-or_false : (a b : Bool) → (a || b) ≡ false → (a ≡ false) × (b ≡ false)
-or_false true b h = absurd (true≢false h)
-or_false false b h = (refl, h)
-
 pub differ_put : (m : ToldMap) (p : Place) (v : Entry) → at m p ≡ None → is_used m v.id ≡ false → ids_differ m → ids_differ (insert_entry place_cmp m p v)
 differ_put [] p v n u d = (refl, tt)
 differ_put (e ∷ es) p v n u d = by (place_cmp p e.0) (λ z. used_put es p v e.1.id z) (λ z w. differ_put es p v z w d.1) n
   where
     off : (e.1.id == v.id) ≡ false
-    off = (or_false (e.1.id == v.id) (is_used es v.id) u).0
+    off = (or_parts (e.1.id == v.id) (is_used es v.id) u).0
 
     back : (v.id == e.1.id) ≡ false
     back = false_from_ne_true _ (λ t. absurd (true≢false (sym (eq-eqb e.1.id v.id (sym (eqb-true v.id e.1.id t))) ∙ off)))
@@ -58,7 +55,7 @@ differ_put (e ∷ es) p v n u d = by (place_cmp p e.0) (λ z. used_put es p v e.
         cond (is_eq o) (Some e.1) (at es p) ≡ None → ids_differ (match_ordering o ((p, v) ∷ e ∷ es) ((e.0, v) ∷ es) (e ∷ insert_entry place_cmp es p v))
     by Less g ih h = (u, d)
     by Equal g ih h = absurd (none-some e.1 (sym h))
-    by Greater g ih h = (g h ∙ ap (λ z. z || is_used es e.1.id) back ∙ d.0, ih h (or_false (e.1.id == v.id) (is_used es v.id) u).1)
+    by Greater g ih h = (g h ∙ ap (λ z. z || is_used es e.1.id) back ∙ d.0, ih h (or_parts (e.1.id == v.id) (is_used es v.id) u).1)
 
 -- ---- another entry in place of one of the same id
 
@@ -130,7 +127,7 @@ used_without (e ∷ es) p u k h d = by (same p e.0) (λ z. used_without es p u k
 
 fewer_used : (m : ToldMap) (p : Place) (k : ℕ) → is_used m k ≡ false → is_used (remove_entry (same p) m) k ≡ false
 fewer_used [] p k u = u
-fewer_used (e ∷ es) p k u = let o = or_false (e.1.id == k) (is_used es k) u in by (same p e.0) o.1 (fewer_used es p k o.1) o.0
+fewer_used (e ∷ es) p k u = let o = or_parts (e.1.id == k) (is_used es k) u in by (same p e.0) o.1 (fewer_used es p k o.1) o.0
   where
     by : (b : Bool) → is_used es k ≡ false → is_used (remove_entry (same p) es) k ≡ false → (e.1.id == k) ≡ false → is_used (cond b es (e ∷ remove_entry (same p) es)) k ≡ false
     by true u ih q = u

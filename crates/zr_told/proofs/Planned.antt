@@ -2,7 +2,7 @@
 use Rattle.std.proofs.Common.{◌≡◌, ◌&&◌, ◌||◌, not, Bool, true, false, cond, List, [], ◌∷◌, map, filter, refl, sym, ap, ◌∙◌, subst}
 use Rattle.std.specs.declared.option.Option.{Option}
 use Rattle.std.specs.declared.option.Option.TheVariants.{None, Some}
-use Rattle.std.specs.List.{list_any, AllByRecursion}
+use Rattle.std.specs.List.{list_any}
 use Rattle.std.specs.List.Sorted.{IsStrictlySortedBy}
 use Rattle.std.specs.Option.{option_map, option_map_or, is_some}
 use Rattle.std.specs.Map.{lookup, keys_of, remove_entry}
@@ -10,17 +10,17 @@ use Rattle.std.proofs.lemmas.Option.{none-some}
 use Rattle.std.proofs.lemmas.Map.Keys.{sorted_tail, IsDistinct-from_sorted}
 use Rattle.std.proofs.lemmas.Map.Entries.{lookup-filter-keys, none_past_head}
 use Rattle.std.proofs.lemmas.Map.{lookup-none}
-use Rattle.zr_told.specs.Place.{Ascends, place_cmp, same}
-use Rattle.zr_told.specs.Wanted.{Wanted}
-use Rattle.zr_told.specs.Told.{ToldMap, at, is_in, kept, gone, is_told, fresh}
+use Rattle.zr_told_spec.specs.Place.{Ascends, place_cmp, same}
+use Rattle.zr_told_spec.specs.Wanted.{Wanted}
+use Rattle.zr_told_spec.specs.Told.{ToldMap, at, is_in, kept, gone, is_told, fresh}
 use Rattle.zr_told.specs.Plan.{Marks, marked_gone, marked_fresh, AreRight, forgotten}
 use Rattle.zr_told.specs.declared.mark.Mark.{Mark}
-use Rattle.zr_told.specs.declared.book.Entry.{Entry}
-use Rattle.zr_told.specs.declared.place.Place.{Place}
-use Rattle.zr_told.proofs.Places.{same_equiv, same_is, same_refl}
-use Rattle.zr_told.proofs.Agree.{at_kept}
-use Rattle.zr_told.proofs.Wants.{IsBy, marks, fresh_by, fresh_is, marks_told}
-use Rattle.zr_told.proofs.Sorted.{same_entries, keys_filter}
+use Rattle.zr_told_spec.specs.declared.entry.Entry.{Entry}
+use Rattle.zr_told_spec.specs.declared.place.Place.{Place}
+use Rattle.zr_told_spec.proofs.Places.{same_equiv, same_is, same_refl}
+use Rattle.zr_told_spec.proofs.Agree.{at_kept}
+use Rattle.zr_told_spec.proofs.Wants.{IsBy, marks, fresh_by, fresh_is, marks_told}
+use Rattle.zr_told_spec.proofs.Sorted.{keys_ascend, keys_filter, same_entries}
 
 -- ---- entries picked by place and value
 
@@ -47,23 +47,6 @@ filter_at {X} f (e ∷ es) p s = by (same p e.0) refl (f e) refl (filter_at f es
         ih ∙ ap (pick f p) (past e es p s t) ∙ ap (λ z. cond z (Some e.1) None) (sym h)
     by false t true q ih = ap (λ z. cond z (Some e.1) (lookup (same p) (filter f es))) t ∙ ih
     by false t false q ih = ih
-
-pub keys_ascend : {X : Type 0} (f : Place × X → Bool) (es : List (Place × X)) → Ascends es → Ascends (filter f es)
-unfolding IsStrictlySortedBy
-keys_ascend f [] s = s
-keys_ascend {X} f (e ∷ es) s = by (f e) (keys_ascend f es s.1)
-  where
-    fewer : (P : Place → Type 0) (xs : List (Place × X)) → AllByRecursion P (keys_of xs) → AllByRecursion P (keys_of (filter f xs))
-    fewer P [] a = a
-    fewer P (x ∷ xs) a = on (f x) (fewer P xs a.1)
-      where
-        on : (b : Bool) → AllByRecursion P (keys_of (filter f xs)) → AllByRecursion P (keys_of (cond b (x ∷ filter f xs) (filter f xs)))
-        on true ih = (a.0, ih)
-        on false ih = ih
-
-    by : (b : Bool) → Ascends (filter f es) → Ascends (cond b (e ∷ filter f es) (filter f es))
-    by true ih = (fewer _ es s.0, ih)
-    by false ih = ih
 
 change_at : {X Y : Type 0} (g : X → Y) (es : List (Place × X)) (p : Place) → lookup (same p) (map (λ e. (e.0, g e.1)) es) ≡ option_map g (lookup (same p) es)
 change_at g [] p = refl
@@ -97,7 +80,7 @@ module _ (again c : Place → Bool) (ws : Wanted) (m : ToldMap) (ms : Marks) (b 
           on false e ih = ih
 
   told_kept : (p : Place) (x : Bool) → is_in ws p ≡ true → is_told (kept ws m) (p, x) ≡ is_told m (p, x)
-  told_kept p x i = ap (λ z. option_map_or (λ e. Rattle.zr_told.specs.Told.bool_same e.complete x) z false) (at_kept ws m p ∙ ap (λ z. cond z (at m p) None) i)
+  told_kept p x i = ap (λ z. option_map_or (λ e. Rattle.zr_told_spec.specs.Told.bool_same e.complete x) z false) (at_kept ws m p ∙ ap (λ z. cond z (at m p) None) i)
 
   fresh_here : (p : Place) (o : Option Mark) → lookup (same p) ms ≡ o → (a : Bool) → is_in ws p ≡ a →
       option_map (λ (v : Mark). v.complete) (pick is_fresh p o) ≡ cond (fresh_by again c (kept ws m) p) (cond a (Some (c p)) None) None

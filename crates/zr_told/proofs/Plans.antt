@@ -6,21 +6,22 @@ use Rattle.std.proofs.lemmas.List.{map-append}
 use Rattle.zr_id.specs.declared.link.LinkNo.{LinkNo}
 use Rattle.zr_msg.specs.declared.msg.Msg.{Msg}
 use Rattle.zr_msg.specs.declared.decl.Decl.{Decl}
-use Rattle.zr_told.specs.Place.{Ascends}
-use Rattle.zr_told.specs.Wanted.{Wanted, is_complete_at, wanted}
-use Rattle.zr_told.specs.Told.{ToldMap, gone, kept, fresh, undeclared, declared, entered, retell, retold}
+use Rattle.zr_told_spec.specs.Place.{Ascends}
+use Rattle.zr_told_spec.specs.Wanted.{Wanted, is_complete_at, wanted}
+use Rattle.zr_told_spec.specs.Told.{ToldMap, gone, kept, fresh, undeclared, declared, entered, retell, retold}
 use Rattle.zr_told.specs.Plan.{Marks, AreRight, IsPlan, is_answered, marks_of, marks_at, count_new, forgotten, marked_gone, marked_fresh}
-use Rattle.zr_told.specs.Rows.{IsAsWantedBut, most_id, lacks_ids, is_again, sent_on, told_interest}
+use Rattle.zr_told_spec.specs.Rows.{IsAsWantedBut, most_id, lacks_ids, is_again, sent_on, told_interest}
 use Rattle.zr_told.specs.declared.book.Plan.{Plan}
 use Rattle.zr_told.specs.declared.error.ToldError.{ToldError}
 use Rattle.zr_local.specs.declared.interest.Interest.{Interest}
-use Rattle.zr_told.specs.declared.place.Place.{Place}
-use Rattle.zr_told.proofs.Wants.{wanted_by}
-use Rattle.zr_told.proofs.Sorted.{Small, wanted_ascends, ids_fit, as_many}
+use Rattle.zr_told_spec.specs.declared.place.Place.{Place}
+use Rattle.zr_told_spec.proofs.Wants.{wanted_by}
+use Rattle.zr_told_spec.proofs.Sorted.{wanted_ascends, as_many}
+use Rattle.zr_told.proofs.Fitting.{Small, ids_fit}
 use Rattle.zr_told.proofs.Planned.{gone_marked, fresh_marked, forgotten_gone}
 use Rattle.zr_told.proofs.Counted.{counted_wanted}
 use Rattle.zr_told.proofs.Marked.{marks_right}
-use Rattle.zr_told.proofs.Touching.{touched_is_right}
+use Rattle.zr_told.proofs.Touches.{touched_is_right}
 
 lt_same : (a b c d : ℕ) → a + d ≡ c + b → nat_lt a b ≡ nat_lt c d
 lt_same a b c d e = grind (arith, e)

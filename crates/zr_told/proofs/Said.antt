@@ -1,36 +1,16 @@
 -- A list is said part by part.
-use Rattle.std.proofs.Common.{◌≡◌, ℕ, Bool, List, [], ◌∷◌, ◌++◌, Option, sym, ap, subst, ◌∙◌, append_assoc}
+use Rattle.std.proofs.Common.{◌≡◌, ℕ, Bool, List, [], ◌∷◌, ◌++◌, Option, sym, ap, subst, ◌∙◌}
 use Rattle.std.proofs.lemmas.List.{map-append}
-use Rattle.zr_table.specs.Prefix.{IsPrefixBehind}
+use Rattle.zr_lists.specs.Prefix.{IsPrefixBehind}
 use Rattle.zr_id.specs.declared.link.LinkNo.{LinkNo}
 use Rattle.zr_msg.specs.declared.msg.Msg.{Msg}
-use Rattle.zr_table.proofs.Prefixes.{IsSoFar, so_far_one, all_said, first_prefix, second_prefix}
+use Rattle.zr_lists.proofs.Prefixes.{IsSoFar, so_far_one, all_said, first_prefix, second_prefix}
 use Rattle.std.specs.List.{fold}
 use Rattle.zr_told.specs.Plan.{fit}
-use Rattle.zr_told.specs.Rows.{most_id, sent_on}
-use Rattle.zr_told.specs.Told.{ToldMap, declared, declares, entered, id_for}
-use Rattle.zr_told.specs.Wanted.{Wanted}
-use Rattle.zr_told.specs.declared.place.Place.{Place}
-
-module _ {X : Type 0} where
-  -- the next part was said
-  pub so_far_part : (before said now next part rest : List X) → IsSoFar before said now (part ++ rest) → next ≡ now ++ part → IsSoFar before said next rest
-  so_far_part before said now next part rest h e =
-      (h.0 ++ part, h.1 ∙ sym (append_assoc h.0 part rest), e ∙ ap (λ (ys : List X). ys ++ part) h.2 ∙ append_assoc before h.0 part)
-
-  -- a prefix of the next part was said
-  pub so_far_within : (before said now next part rest : List X) → IsSoFar before said now (part ++ rest) → IsPrefixBehind now part next → IsPrefixBehind before said next
-  so_far_within before said now next part rest h p = (
-    h.0 ++ p.0,
-    (
-      p.1.0 ++ rest,
-      h.1
-          ∙ ap (λ (ys : List X). h.0 ++ (ys ++ rest)) p.1.1
-          ∙ ap (λ (ys : List X). h.0 ++ ys) (append_assoc p.0 p.1.0 rest)
-          ∙ sym (append_assoc h.0 p.0 (p.1.0 ++ rest)),
-    ),
-    p.2 ∙ ap (λ (ys : List X). ys ++ p.0) h.2 ∙ append_assoc before h.0 p.0,
-  )
+use Rattle.zr_told_spec.specs.Rows.{most_id, sent_on}
+use Rattle.zr_told_spec.specs.Told.{ToldMap, declared, declares, entered, id_for}
+use Rattle.zr_told_spec.specs.Wanted.{Wanted}
+use Rattle.zr_told_spec.specs.declared.place.Place.{Place}
 
 -- ---- messages for one link, in two parts
 

@@ -1,5 +1,5 @@
 -- Which ids of a link are in use.
-use Rattle.std.specs.Prelude.{◌≡◌, ℕ, ◌^◌, ◌≤◌, ◌<◌, ◌&&◌, not, nat_le, nat_lt, Bool, true, false, List, []}
+use Rattle.std.specs.Prelude.{ℕ, ◌^◌, ◌≤◌, ◌<◌, ◌&&◌, not, nat_le, nat_lt, Bool, List, []}
 use Rattle.std.specs.List.{list_any, AllByRecursion}
 use Rattle.std.specs.Ordering.{is_eq, nat_cmp}
 
@@ -23,9 +23,3 @@ pub record AreIds (s : IdsState) : Type 0 where
   pub from : 1 ≤ s.next
   pub upto : s.next ≤ 2 ^ 32
   pub freed : AllByRecursion (λ k. (1 ≤ k) × (k < s.next)) s.freed
-
--- the least number, from 1, that isn't in use
-pub record IsLeast (used : ℕ → Bool) (n : ℕ) : Type 0 where
-  pub positive : 1 ≤ n
-  pub free : used n ≡ false
-  pub least : (k : ℕ) → 1 ≤ k → k < n → used k ≡ true

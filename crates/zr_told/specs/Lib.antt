@@ -1,8 +1,3 @@
-pub mod Place
 pub mod Ids
-pub mod Wanted
-pub mod Told
-pub mod Rows
 pub mod Plan
-pub mod Hub
 pub mod Laws

@@ -9,17 +9,17 @@ use Rattle.std.specs.BTreeMap.{insert_entry}
 use Rattle.zr_id.specs.declared.link.LinkNo.{LinkNo}
 use Rattle.zr_msg.specs.declared.decl.Decl.{Decl}
 use Rattle.zr_msg.specs.declared.msg.Msg.{Msg}
-use Rattle.zr_routing.specs.Queries.{is_complete}
-use Rattle.zr_told.specs.Place.{place_cmp, same, place_of, Ascends}
-use Rattle.zr_told.specs.Wanted.{Wanted, fits, told_as, asked, wants, is_complete_at}
+use Rattle.zr_node_spec.specs.Queries.{is_complete}
+use Rattle.zr_told_spec.specs.Place.{place_cmp, same, place_of, Ascends}
+use Rattle.zr_told_spec.specs.Wanted.{Wanted, fits, told_as, asked, wants, is_complete_at}
 use Rattle.zr_local.specs.declared.interest.Interest.{Interest}
-use Rattle.zr_told.specs.Told.{ToldMap, at, gone, kept, fresh, undeclared, declared, id_for, entered, is_in, is_told, is_used}
-use Rattle.zr_told.specs.Rows.{Maps, map_on, sent_on, most_id}
+use Rattle.zr_told_spec.specs.Told.{ToldMap, at, gone, kept, fresh, undeclared, declared, id_for, entered, is_in, is_told, is_used}
+use Rattle.zr_told_spec.specs.Rows.{Maps, map_on, sent_on, most_id}
 use Rattle.zr_told.specs.Ids.{IdsState, is_given}
 use Rattle.zr_told.specs.declared.book.Plan.{Plan}
 use Rattle.zr_told.specs.declared.mark.Mark.{Mark}
 use Rattle.zr_told.specs.declared.plan.LinkPlan.{LinkPlan}
-use Rattle.zr_told.specs.declared.place.Place.{Place}
+use Rattle.zr_told_spec.specs.declared.place.Place.{Place}
 
 -- ---- ids
 

@@ -4,29 +4,23 @@ ghost use Rattle.std.specs.Prelude.{◌≡◌, ◌≤◌, ◌+◌, [], ◌∷◌
 ghost use Rattle.std.specs.List.{fold};
 ghost use Rattle.std.specs.BTreeMap.{insert_entry};
 ghost use Rattle.std.specs.Map.{keys_of, remove_entry};
-ghost use Rattle.zr_table.specs.Prefix.{IsPrefixBehind};
-ghost use Rattle.zr_told.specs.Place.{place_cmp, same, Ascends};
-ghost use Rattle.zr_told.specs.declared.place.Place.{Place};
-ghost use Rattle.zr_told.specs.declared.book.Entry.{Entry};
+ghost use Rattle.zr_lists.specs.Prefix.{IsPrefixBehind};
+ghost use Rattle.zr_told_spec.specs.Place.{place_cmp, same, Ascends};
+ghost use Rattle.zr_told_spec.specs.declared.place.Place.{Place};
+ghost use Rattle.zr_told_spec.specs.declared.entry.Entry.{Entry};
 ghost use Rattle.zr_told.specs.Plan.{count_new, fit, put_mark, unwanted, forgotten, marked_gone, marked_fresh};
-ghost use Rattle.zr_told.specs.Rows.{most_id, sent_on};
-ghost use Rattle.zr_told.specs.Told.{at, is_told, id_at, id_for, declares, undeclares, undeclared, declared, entered};
+ghost use Rattle.zr_told_spec.specs.Rows.{most_id, sent_on};
+ghost use Rattle.zr_told_spec.specs.Told.{at, is_told, id_at, id_for, declares, undeclares, undeclared, declared, entered};
 
 use crate::ids::Ids;
 use crate::mark::{Mark, put_copy};
-use crate::place::{Class, Place};
 use std::alloc::{AllocError, Global};
 use std::collections::BTreeMap;
 use std::marker::Model;
 use zr_id::link::LinkNo;
 use zr_msg::msg::Msg;
-
-/// Under which id a client was told of a place, and whether as complete.
-#[derive(Clone, Copy)]
-pub struct Entry {
-    pub id: u32,
-    pub complete: bool,
-}
+use zr_told_spec::entry::Entry;
+use zr_told_spec::place::{Class, Place};
 
 /// What one client is to be told: the places that are undeclared, and those that are declared, each with its completeness.
 #[derive(Drop)]
@@ -50,7 +44,7 @@ pub struct Book {
 
 impl Model for Book {
     ghost use Rattle.zr_told.specs.Plan.{AreNumbered};
-    ghost use Rattle.zr_told.specs.Told.{ToldMap};
+    ghost use Rattle.zr_told_spec.specs.Told.{ToldMap};
 
     ghost Value = { ToldMap };
 
@@ -89,6 +83,7 @@ impl Book {
         ensures marks_ascend { Ascends marks.now.entries }
         ensures small { IfOk result (λ _. (p : Place) → (e : Entry) → at self.now p ≡ Some e → e.id ≤ most_id) }
     {
+        // Read, so that the proof knows that both maps ascend, and how large an id may be.
         let _bounds = (self.entries.len(), marks.len(), self.ids.end());
         let gone = self.gone(alloc, marks)?;
         let fresh = self.fresh(alloc, marks)?;

@@ -1,7 +1,8 @@
 //! `Ids`: which ids of a link are in use.
 
 ghost use Rattle.std.specs.Prelude.{◌≡◌, ◌≤◌, ◌<◌, ◌-◌, ◌^◌, ◌==◌, ◌||◌, ◌&&◌, not, true, ℕ, OnOk, OnErr};
-ghost use Rattle.zr_told.specs.Ids.{IsLeast, is_given, none_given};
+ghost use Rattle.zr_told_spec.specs.Ids.{IsLeast};
+ghost use Rattle.zr_told.specs.Ids.{is_given, none_given};
 
 use std::alloc::{AllocError, Global};
 use std::collections::BTreeSet;

@@ -3,16 +3,17 @@
 ghost use Rattle.std.specs.Prelude.{◌≡◌, ◌&&◌, true, IfOk};
 ghost use Rattle.std.specs.Option.{option_map_or};
 ghost use Rattle.zr_match.specs.Table.{texts_meet};
-ghost use Rattle.zr_told.specs.Place.{place_of, same};
-ghost use Rattle.zr_told.specs.Wanted.{asks, fits, told_as};
+ghost use Rattle.zr_told_spec.specs.Place.{place_of, same};
+ghost use Rattle.zr_told_spec.specs.Wanted.{asks, fits, told_as};
 
-use crate::place::{Class, Place, class_of, is_same};
+use crate::place::{class_of, is_same};
 use std::alloc::{AllocError, Global};
 use zr_key::key::KeyExpr;
 use zr_local::interest::Interest;
 use zr_match::meets;
 use zr_msg::decl::Decl;
 use zr_msg::msg::{Kinds, QUERYABLES, SUBSCRIBERS};
+use zr_told_spec::place::{Class, Place};
 
 /// Whether an interest is in what is declared at a place.
 pub fn fits(interest: &Interest, class: Class, key: &KeyExpr) -> bool

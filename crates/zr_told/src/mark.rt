@@ -3,9 +3,9 @@
 ghost use Rattle.std.specs.Prelude.{◌≡◌, OnOk};
 ghost use Rattle.zr_told.specs.Plan.{put_mark};
 
-use crate::place::Place;
 use std::alloc::{AllocError, Global};
 use std::collections::BTreeMap;
+use zr_told_spec::place::Place;
 
 /// Of a place that an event may have touched: whether it is wanted, whether as complete, and whether it is told even if it was told so.
 #[derive(Clone, Copy)]

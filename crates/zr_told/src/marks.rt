@@ -1,21 +1,22 @@
 //! Marks on all places of which a client was told or is to be told.
 
 ghost use Rattle.std.specs.Prelude.{◌≡◌, [], ◌∷◌, if◌then◌else◌, IfOk, OnOk};
-ghost use Rattle.zr_told.specs.Place.{place_of};
-ghost use Rattle.zr_told.specs.Wanted.{fits, told_as, wanted};
+ghost use Rattle.zr_told_spec.specs.Place.{place_of};
+ghost use Rattle.zr_told_spec.specs.Wanted.{fits, told_as, wanted};
 ghost use Rattle.std.specs.List.{fold};
 ghost use Rattle.std.specs.Option.{option_copied};
-ghost use Rattle.zr_routing.specs.Queries.{is_complete};
+ghost use Rattle.zr_node_spec.specs.Queries.{is_complete};
 ghost use Rattle.zr_told.specs.Plan.{updated, put_mark, is_wanted, with_again, with_complete, mark_wanted, mark_again, mark_complete, mark_answered, marks_of};
 
 use crate::book::Book;
 use crate::interest::{fits, told_as};
 use crate::mark::{Mark, put};
-use crate::place::{Place, class_of, place_of};
+use crate::place::{class_of, place_of};
 use std::alloc::{AllocError, Global};
 use std::collections::BTreeMap;
 use zr_local::interest::Interest;
 use zr_msg::decl::{Decl, Kind};
+use zr_told_spec::place::Place;
 
 /// The marks on each place of which a client was told, or wants to be told of what others declare. Of one of its interests it may be told all.
 pub fn marks_of(

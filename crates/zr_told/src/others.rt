@@ -3,17 +3,17 @@
 ghost use Rattle.std.specs.Prelude.{◌≡◌, ◌++◌, ◌∷◌, [], filter, IfOk, OnOk};
 ghost use Rattle.std.specs.List.{flat_map};
 ghost use Rattle.zr_local.specs.Rows.{decls_of, left};
-ghost use Rattle.zr_told.specs.Rows.{is_source, others};
+ghost use Rattle.zr_told_spec.specs.Rows.{is_source, others};
 
 use std::alloc::{AllocError, Global};
 use zr_id::link::LinkNo;
 use zr_local::row::Row;
 use zr_log::log::Log;
 use zr_msg::decl::Decl;
-use zr_routing::tables::Tables;
+use zr_node_spec::tables::TablesView;
 
 /// A copy of what the other clients of this router declare, and those of the routers that it reaches.
-pub fn others(alloc: Global, tables: &Tables, link: LinkNo) -> Result<Vec<Decl>, AllocError>
+pub fn others(alloc: Global, tables: &TablesView, link: LinkNo) -> Result<Vec<Decl>, AllocError>
     ensures { IfOk result (λ ds. ds.items ≡ others tables.now link.0) }
 {
     let mut decls = Vec::new(alloc);
@@ -40,7 +40,7 @@ fn put_rows(
 
 fn put_logs(
     alloc: Global,
-    tables: &Tables,
+    tables: &TablesView,
     logs: &[Log],
     decls: &mut Vec<Decl>,
 ) -> Result<(), AllocError>
@@ -55,7 +55,7 @@ fn put_logs(
 }
 
 /// Whether a log is of another router that this one reaches.
-pub fn is_source(tables: &Tables, log: &Log) -> bool
+pub fn is_source(tables: &TablesView, log: &Log) -> bool
     ensures { result ≡ is_source tables.now log.now }
 {
     log.source != tables.me() && tables.trees().reached(tables.me(), log.source)

@@ -1,73 +1,12 @@
-//! `Place`: of what clients are told.
+//! Where declarations stand.
 
 ghost use Rattle.std.specs.Prelude.{◌≡◌, IfOk};
-ghost use Rattle.zr_told.specs.Place.{same, class_of, place_of};
+ghost use Rattle.zr_told_spec.specs.Place.{same, class_of, place_of};
 
 use std::alloc::{AllocError, Global};
-use std::cmp::Ordering;
 use zr_key::key::KeyExpr;
 use zr_msg::decl::{Decl, Kind};
-
-/// Of what sort of declarations. The order is that of the variants.
-#[derive(Clone, Copy, Debug, PartialEq, Eq, PartialOrd, Ord)]
-pub enum Class {
-    Subscriber,
-    Queryable,
-}
-
-/// Of what a client is told: of the subscribers or the queryables on an expression. The order is by class, then by the expression's bytes.
-#[derive(Debug, PartialEq, Eq, Drop)]
-pub struct Place {
-    pub class: Class,
-    pub key: KeyExpr,
-}
-
-impl Place {
-    /// The same place again.
-    pub fn copy(&self, alloc: Global) -> Result<Place, AllocError>
-        ensures { IfOk result (λ p. p ≡ self.now) }
-    {
-        Ok(Place {
-            class: self.class,
-            key: self.key.copy(alloc)?,
-        })
-    }
-}
-
-impl PartialOrd for Place {
-    ghost use Rattle.std.specs.Cmp.{partial_order_from_own_ties};
-    ghost use Rattle.std.specs.Cmp.Rules.{comparing};
-    ghost use Rattle.std.specs.Ordering.{as_partial_cmp};
-    ghost use Rattle.std.proofs.Common.{rules};
-    ghost use Rattle.zr_told.specs.Place.{place_cmp};
-
-    ghost partial_cmp = { as_partial_cmp place_cmp };
-
-    ghost laws = { partial_order_from_own_ties (Prim.search (comparing, rules)) (Prim.search (comparing, rules)) };
-
-    fn partial_cmp(&self, other: &Place) -> Option<Ordering> {
-        Some(self.cmp(other))
-    }
-}
-
-impl Ord for Place {
-    ghost use Rattle.std.specs.Cmp.Rules.{comparing};
-    ghost use Rattle.std.proofs.Common.{rules};
-    ghost use Rattle.zr_told.specs.Place.{place_cmp};
-
-    ghost cmp = { place_cmp };
-
-    ghost total = { Prim.search (comparing, rules) };
-
-    ghost matches_partial_cmp = { Prim.search (comparing, rules) };
-
-    ghost matches_eq = { Prim.search (comparing, rules) };
-
-    fn cmp(&self, other: &Place) -> Ordering {
-        let texts = self.key.text().as_bytes().cmp(other.key.text().as_bytes());
-        self.class.cmp(&other.class).then(texts)
-    }
-}
+use zr_told_spec::place::{Class, Place};
 
 /// Of what sort a declaration is.
 pub fn class_of(kind: Kind) -> Class

@@ -2,26 +2,26 @@
 
 ghost use Rattle.std.specs.Prelude.{◌≡◌, ◌+◌, ◌≤◌, ℕ, nat_lt, length, true, false, Some, IfOk, OnOk, Err};
 ghost use Rattle.std.specs.Option.{option_copied};
-ghost use Rattle.zr_told.specs.Place.{Ascends};
+ghost use Rattle.zr_told_spec.specs.Place.{Ascends};
 ghost use Rattle.zr_told.specs.Plan.{IsPlan, count_new, is_answered, marked_gone, marked_fresh};
-ghost use Rattle.zr_told.specs.Rows.{IsAsWantedBut, most_id, lacks_ids, others};
-ghost use Rattle.zr_told.specs.Told.{at};
-ghost use Rattle.zr_told.specs.Wanted.{wanted};
-ghost use Rattle.zr_told.specs.declared.book.Entry.{Entry};
-ghost use Rattle.zr_told.specs.declared.place.Place.{Place};
+ghost use Rattle.zr_told_spec.specs.Rows.{IsAsWantedBut, most_id, lacks_ids, others};
+ghost use Rattle.zr_told_spec.specs.Told.{at};
+ghost use Rattle.zr_told_spec.specs.Wanted.{wanted};
+ghost use Rattle.zr_told_spec.specs.declared.entry.Entry.{Entry};
+ghost use Rattle.zr_told_spec.specs.declared.place.Place.{Place};
 
 use crate::book::{Book, Plan};
 use crate::error::ToldError;
 use crate::mark::Mark;
 use crate::marks::marks_of;
-use crate::place::Place;
 use crate::touched::marks_at;
 use std::alloc::Global;
 use std::collections::BTreeMap;
 use zr_id::link::LinkNo;
 use zr_local::interest::{ClientInterests, Interest};
 use zr_msg::decl::Decl;
-use zr_routing::tables::Tables;
+use zr_node_spec::tables::TablesView;
+use zr_told_spec::place::Place;
 
 /// What the client of a link is to be told.
 #[derive(Drop)]
@@ -50,7 +50,7 @@ pub fn plan_of(
 pub fn plan_at(
     alloc: Global,
     book: &Book,
-    tables: &Tables,
+    tables: &TablesView,
     client: &ClientInterests,
     places: &[Place],
 ) -> Result<Plan, ToldError>

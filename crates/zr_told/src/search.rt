@@ -5,28 +5,29 @@ ghost use Rattle.std.specs.List.{list_any, flat_map};
 ghost use Rattle.std.specs.Option.{option_copied};
 ghost use Rattle.zr_local.specs.Rows.{decls_of, left};
 ghost use Rattle.zr_told.specs.Plan.{is_sought};
-ghost use Rattle.zr_told.specs.Rows.{is_source, others};
-ghost use Rattle.zr_told.specs.Wanted.{asked, is_complete_at, wants};
+ghost use Rattle.zr_told_spec.specs.Rows.{is_source, others};
+ghost use Rattle.zr_told_spec.specs.Wanted.{asked, is_complete_at, wants};
 
 use crate::interest::is_told_at;
 use crate::marks::is_complete;
 use crate::others::is_source;
-use crate::place::{Place, is_at};
+use crate::place::is_at;
 use zr_id::link::LinkNo;
 use zr_local::interest::{ClientInterests, Interest};
 use zr_local::row::Row;
 use zr_log::log::Log;
 use zr_msg::decl::Decl;
-use zr_routing::tables::Tables;
+use zr_node_spec::tables::TablesView;
+use zr_told_spec::place::Place;
 
 /// Whether a client wants to be told of a place. Cost: a search of what others declare for each of its interests, up to the first that wants it.
-pub fn is_wanted(tables: &Tables, client: &ClientInterests, place: &Place) -> bool
+pub fn is_wanted(tables: &TablesView, client: &ClientInterests, place: &Place) -> bool
     ensures { result ≡ wants (others tables.now client.now.link.0) client.now.interests place.now }
 {
     one_asks(tables, client.link, client.interests.as_slice(), place)
 }
 
-fn one_asks(tables: &Tables, link: LinkNo, interests: &[Interest], place: &Place) -> bool
+fn one_asks(tables: &TablesView, link: LinkNo, interests: &[Interest], place: &Place) -> bool
     ensures { result ≡ wants (others tables.now link.0) interests.now place.now }
 {
     for interest in interests {
@@ -37,14 +38,14 @@ fn one_asks(tables: &Tables, link: LinkNo, interests: &[Interest], place: &Place
     false
 }
 
-fn is_asked(tables: &Tables, link: LinkNo, interest: &Interest, place: &Place) -> bool
+fn is_asked(tables: &TablesView, link: LinkNo, interest: &Interest, place: &Place) -> bool
     ensures { result ≡ asked (others tables.now link.0) interest.now place.now }
 {
     is_found(tables, link, Some(interest), place)
 }
 
 /// Whether another than the client of a link declares a complete queryable at a place.
-pub fn is_complete_at(tables: &Tables, link: LinkNo, place: &Place) -> bool
+pub fn is_complete_at(tables: &TablesView, link: LinkNo, place: &Place) -> bool
     ensures { result ≡ is_complete_at (others tables.now link.0) place.now }
 {
     is_found(tables, link, None, place)
@@ -52,7 +53,7 @@ pub fn is_complete_at(tables: &Tables, link: LinkNo, place: &Place) -> bool
 
 // Whether others declare what an interest is told of at a place, or, for none, a complete queryable there.
 #[tactic(auto, using(crate::proofs::Found::any_append))]
-fn is_found(tables: &Tables, link: LinkNo, interest: Option<&Interest>, place: &Place) -> bool
+fn is_found(tables: &TablesView, link: LinkNo, interest: Option<&Interest>, place: &Place) -> bool
     ensures { result ≡ list_any (is_sought (option_copied interest.entry) place.now) (others tables.now link.0) }
 {
     is_in_rows(tables.local().rows(), link, interest, place)
@@ -71,7 +72,7 @@ fn is_in_rows(rows: &[Row], link: LinkNo, interest: Option<&Interest>, place: &P
 }
 
 #[tactic(auto, using(crate::proofs::Found::any_append))]
-fn is_in_logs(tables: &Tables, logs: &[Log], interest: Option<&Interest>, place: &Place) -> bool
+fn is_in_logs(tables: &TablesView, logs: &[Log], interest: Option<&Interest>, place: &Place) -> bool
     ensures { result ≡ list_any (is_sought (option_copied interest.entry) place.now) (flat_map (λ l. l.decls) (filter (λ l. is_source tables.now l) logs.now)) }
 {
     for log in logs {

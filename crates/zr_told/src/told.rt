@@ -6,17 +6,16 @@ ghost use Rattle.std.specs.Option.{option_copied};
 ghost use Rattle.std.specs.Ordering.{nat_cmp};
 ghost use Rattle.std.specs.List.{flat_map, fold};
 ghost use Rattle.zr_local.specs.Clients.{AreByLink};
-ghost use Rattle.zr_table.specs.Prefix.{IsPrefixBehind};
+ghost use Rattle.zr_lists.specs.Prefix.{IsPrefixBehind};
 ghost use Rattle.zr_told.specs.Plan.{HasIds, IsPlan, PlansAscend, forgotten, ids_last, is_answered, tells_plan, told_plans};
-ghost use Rattle.zr_told.specs.Rows.{AreAsWantedBut, AreListed, IsAsWantedBut, IsNoted, Maps, map_on, one_lacks_ids, tells_all, told_on, most_id, sent_on, others, lacks_ids, tells_changes, told_changes, is_again, answered, once, closing, tells_interest, told_interest};
-ghost use Rattle.zr_told.specs.Told.{entered, undeclared, declared, declares};
-ghost use Rattle.zr_told.specs.Wanted.{wanted};
+ghost use Rattle.zr_told_spec.specs.Rows.{AreAsWantedBut, AreListed, IsAsWantedBut, IsNoted, Maps, map_on, one_lacks_ids, tells_all, told_on, most_id, sent_on, others, lacks_ids, tells_changes, told_changes, is_again, answered, once, closing, tells_interest, told_interest};
+ghost use Rattle.zr_told_spec.specs.Told.{entered, undeclared, declared, declares};
+ghost use Rattle.zr_told_spec.specs.Wanted.{wanted};
 
 use crate::book::{Book, Plan, say, say_declared};
 use crate::error::ToldError;
 use crate::marks::wanted_places;
 use crate::others::others;
-use crate::place::Place;
 use crate::plan::{LinkPlan, plan_at, plan_of};
 use crate::touched::is_touched;
 use std::alloc::{AllocError, Global};
@@ -26,7 +25,8 @@ use zr_id::link::LinkNo;
 use zr_local::interest::{ClientInterests, Interest};
 use zr_msg::decl::Decl;
 use zr_msg::msg::Msg;
-use zr_routing::tables::Tables;
+use zr_node_spec::tables::TablesView;
+use zr_told_spec::place::Place;
 
 /// Of what the clients of a router were told, link by link.
 #[derive(Drop)]
@@ -35,7 +35,7 @@ pub struct Told {
 }
 
 impl Model for Told {
-    ghost use Rattle.zr_told.specs.Rows.{AreFew, Maps};
+    ghost use Rattle.zr_told_spec.specs.Rows.{AreFew, Maps};
 
     ghost Value = { Maps };
 
@@ -66,7 +66,7 @@ impl Told {
     pub fn changed(
         &mut self,
         alloc: Global,
-        tables: &Tables,
+        tables: &TablesView,
         link: LinkNo,
         interests: &[Interest],
         out: &mut Vec<(LinkNo, Msg)>,
@@ -88,7 +88,7 @@ impl Told {
     pub fn interest(
         &mut self,
         alloc: Global,
-        tables: &Tables,
+        tables: &TablesView,
         link: LinkNo,
         interests: &[Interest],
         interest: &Interest,
@@ -140,7 +140,7 @@ impl Told {
     pub fn changed_at(
         &mut self,
         alloc: Global,
-        tables: &Tables,
+        tables: &TablesView,
         clients: &[ClientInterests],
         places: &[Place],
         out: &mut Vec<(LinkNo, Msg)>,
@@ -164,7 +164,7 @@ impl Told {
     pub fn changed_all(
         &mut self,
         alloc: Global,
-        tables: &Tables,
+        tables: &TablesView,
         clients: &[ClientInterests],
         out: &mut Vec<(LinkNo, Msg)>,
     ) -> Result<(), ToldError>
@@ -185,7 +185,7 @@ impl Told {
     fn plans_all(
         &self,
         alloc: Global,
-        tables: &Tables,
+        tables: &TablesView,
         clients: &[ClientInterests],
     ) -> Result<Vec<LinkPlan>, ToldError>
         requires by_link { AreByLink clients.now }
@@ -209,7 +209,7 @@ impl Told {
     fn plan_all(
         &self,
         alloc: Global,
-        tables: &Tables,
+        tables: &TablesView,
         client: &ClientInterests,
     ) -> Result<Plan, ToldError>
         ensures plan { IfOk result (λ p. IsPlan (λ q. false) (wanted (others tables.now client.now.link.0) client.now.interests) (map_on self.now client.now.link.0) p) }
@@ -224,7 +224,7 @@ impl Told {
     fn plan_changes(
         &self,
         alloc: Global,
-        tables: &Tables,
+        tables: &TablesView,
         link: LinkNo,
         interests: &[Interest],
     ) -> Result<Plan, ToldError>
@@ -240,7 +240,7 @@ impl Told {
     fn plans_at(
         &self,
         alloc: Global,
-        tables: &Tables,
+        tables: &TablesView,
         clients: &[ClientInterests],
         places: &[Place],
     ) -> Result<Vec<LinkPlan>, ToldError>
@@ -253,6 +253,7 @@ impl Told {
         ensures ids { OnOk result (one_lacks_ids tables.now clients.now ≡ false) }
         ensures worn { result ≡ Err ToldError.Worn → one_lacks_ids tables.now clients.now ≡ true }
     {
+        // Read, so that the proof knows that the books ascend by link.
         let _count = self.books.len();
         let mut plans = Vec::new(alloc);
         for client in clients {
@@ -268,7 +269,7 @@ impl Told {
     fn plan_at(
         &self,
         alloc: Global,
-        tables: &Tables,
+        tables: &TablesView,
         client: &ClientInterests,
         places: &[Place],
     ) -> Result<Plan, ToldError>

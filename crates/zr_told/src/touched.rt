@@ -3,17 +3,17 @@
 ghost use Rattle.std.specs.Prelude.{◌≡◌, IfOk, OnOk};
 ghost use Rattle.std.specs.List.{fold, list_any};
 ghost use Rattle.zr_told.specs.Plan.{mark_at, mark_here, mark_fitting, marks_at};
-ghost use Rattle.zr_told.specs.Rows.{is_touched, others};
-ghost use Rattle.zr_told.specs.Wanted.{fits};
+ghost use Rattle.zr_told_spec.specs.Rows.{is_touched, others};
+ghost use Rattle.zr_told_spec.specs.Wanted.{fits};
 
 use crate::interest::{fits, told_as};
 use crate::mark::{Mark, put};
-use crate::place::Place;
 use crate::search::{is_complete_at, is_wanted};
 use std::alloc::{AllocError, Global};
 use std::collections::BTreeMap;
 use zr_local::interest::{ClientInterests, Interest};
-use zr_routing::tables::Tables;
+use zr_node_spec::tables::TablesView;
+use zr_told_spec::place::Place;
 
 /// Whether a client has an interest that fits one of these places.
 pub fn is_touched(places: &[Place], interests: &[Interest]) -> bool
@@ -41,7 +41,7 @@ fn one_fits(place: &Place, interests: &[Interest]) -> bool
 /// The marks on the places that changed declarations touch: those places that an interest fits, and where it is told of them.
 pub fn marks_at(
     alloc: Global,
-    tables: &Tables,
+    tables: &TablesView,
     client: &ClientInterests,
     places: &[Place],
 ) -> Result<BTreeMap<Place, Mark>, AllocError>
@@ -56,7 +56,7 @@ pub fn marks_at(
 
 fn mark_touched(
     alloc: Global,
-    tables: &Tables,
+    tables: &TablesView,
     client: &ClientInterests,
     place: &Place,
     marks: &mut BTreeMap<Place, Mark>,
@@ -72,7 +72,7 @@ fn mark_touched(
 
 fn mark_fitting(
     alloc: Global,
-    tables: &Tables,
+    tables: &TablesView,
     client: &ClientInterests,
     place: &Place,
     interest: &Interest,
@@ -90,7 +90,7 @@ fn mark_fitting(
 
 fn mark_changed(
     alloc: Global,
-    tables: &Tables,
+    tables: &TablesView,
     client: &ClientInterests,
     place: &Place,
     marks: &mut BTreeMap<Place, Mark>,
@@ -101,7 +101,7 @@ fn mark_changed(
 }
 
 fn mark_here(
-    tables: &Tables,
+    tables: &TablesView,
     client: &ClientInterests,
     place: Place,
     marks: &mut BTreeMap<Place, Mark>,
@@ -115,7 +115,7 @@ fn mark_here(
     put(place, mark, marks)
 }
 
-fn mark_at(tables: &Tables, client: &ClientInterests, place: &Place) -> Mark
+fn mark_at(tables: &TablesView, client: &ClientInterests, place: &Place) -> Mark
     ensures { result ≡ mark_at (others tables.now client.now.link.0) client.now.interests place.now }
 {
     Mark {

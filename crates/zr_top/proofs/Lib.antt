@@ -2,4 +2,3 @@ pub mod Cases
 pub mod Digits
 pub mod Forms
 pub mod Nine
-pub mod Explains

@@ -1,7 +1,7 @@
 -- What the words `serve ..` ask for, and what is said of the router that is served.
 use Rattle.std.specs.Prelude.{◌≡◌, ℕ, List, map, Option, Some, None}
 use Rattle.std.specs.String.{string_bytes}
-use Rattle.zr_job.specs.declared.job.LinkJob.{LinkJob}
+use Rattle.zr_link_job.specs.declared.job.LinkJob.{LinkJob}
 use Rattle.zr_netrun.specs.declared.status.Status.{Status}
 use Rattle.zr_netrun.specs.declared.status.Status.TheVariants as status
 use Rattle.zr_outside.specs.declared.host.Call.{Call}

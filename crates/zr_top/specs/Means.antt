@@ -1,9 +1,9 @@
 -- What the headline's words mean, and how it is tied to the report.
 use Rattle.std.specs.Prelude.{◌≡◌, ℕ, List, ◌∷◌, ◌++◌}
-use Rattle.zr_command.specs.declared.command.Act.{Act}
-use Rattle.zr_network.specs.Moments.{Numbered, Moment}
-use Rattle.zr_network.specs.Accepted.{accepted, IsMoment}
-use Rattle.zr_laws.specs.Keys.{HasKeyText}
+use Rattle.zr_script_spec.specs.declared.command.Act.{Act}
+use Rattle.zr_world_spec.specs.Moments.{Numbered, Moment}
+use Rattle.zr_world_spec.specs.Accepted.{accepted, IsMoment}
+use Rattle.zr_law_samples.specs.Keys.{HasKeyText}
 
 -- the key of each accepted act of some lines is the canonical text of an expression
 abbrev pub HaveKeyTexts : List (List ℕ) → Type 0

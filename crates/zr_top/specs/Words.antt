@@ -6,10 +6,11 @@ use Rattle.std.specs.Cmp.Lexicographic.{pointwise}
 use Rattle.zr_id.specs.Zid.{zid_of_hex}
 use Rattle.zr_outside.specs.Counts.{Rose}
 use Rattle.zr_outside.specs.Told.{Appends, AppendsPrefix}
-use Rattle.zr_language.specs.Report.{usage_text}
-use Rattle.zr_language.specs.Words.{is_number, value_of}
+use Rattle.zr_script_spec.specs.Report.{usage_text}
+use Rattle.zr_script_spec.specs.Words.{is_number, value_of}
 use Rattle.zr_make.specs.declared.plan.MakePlan.{MakePlan}
 use Rattle.zr_make.specs.Plan.{is_in_range}
+use Rattle.zr_netrun.specs.declared.options.NetOptions.{NetOptions}
 use Rattle.zr_top.specs.declared.topic.Topic.{Topic}
 use Rattle.zr_top.specs.declared.topic.Topic.TheVariants as topic
 
@@ -17,30 +18,28 @@ use Rattle.zr_top.specs.declared.topic.Topic.TheVariants as topic
 abbrev pub is_word : List ℕ → List ℕ → Bool
 is_word text word = pointwise nat_eq word text
 
--- what `net` and `net --summary` ask for: whether the report is summed up; none where the words are neither
-abbrev pub net_of : List (List ℕ) → Option Bool
-net_of [] = None
-net_of (word ∷ []) = if is_word (codes "net") word then Some false else None
-net_of (word ∷ option ∷ []) = if is_word (codes "net") word && is_word (codes "--summary") option then Some true else None
-net_of (word ∷ option ∷ next ∷ more) = None
+-- what one word behind `net` asks for
+abbrev pub option_of : List ℕ → Option NetOptions
+option_of option =
+    if is_word (codes "--summary") option then Some (record { summary = true; explain = false })
+    else (if is_word (codes "--explain") option then Some (record { summary = false; explain = true }) else None)
 
 -- whether two words are `--summary` and `--explain`, in either order
 abbrev pub are_both : List ℕ → List ℕ → Bool
 are_both one other =
     is_word (codes "--summary") one && is_word (codes "--explain") other || is_word (codes "--explain") one && is_word (codes "--summary") other
 
--- what `net --explain` asks for, with `--summary` before or behind it or without it: whether the report is summed up; none where the words
--- are none of these
-abbrev pub explained_of : List (List ℕ) → Option Bool
-explained_of [] = None
-explained_of (word ∷ []) = None
-explained_of (word ∷ option ∷ []) = if is_word (codes "net") word && is_word (codes "--explain") option then Some false else None
-explained_of (word ∷ one ∷ other ∷ []) = if is_word (codes "net") word && are_both one other then Some true else None
-explained_of (word ∷ one ∷ other ∷ next ∷ more) = None
+-- what `net` asks for, with `--summary` and `--explain` behind it or without, in either order and each once at most; none where the words are no such
+abbrev pub net_of : List (List ℕ) → Option NetOptions
+net_of [] = None
+net_of (word ∷ []) = if is_word (codes "net") word then Some (record { summary = false; explain = false }) else None
+net_of (word ∷ option ∷ []) = if is_word (codes "net") word then option_of option else None
+net_of (word ∷ one ∷ other ∷ []) = if is_word (codes "net") word && are_both one other then Some (record { summary = true; explain = true }) else None
+net_of (word ∷ one ∷ other ∷ next ∷ more) = None
 
--- whether the words are `net`, with `--summary` and `--explain` or without, each once at most
+-- whether the words are `net`, with such options or without
 abbrev pub is_net : List (List ℕ) → Bool
-is_net words = is_some (net_of words) || is_some (explained_of words)
+is_net words = is_some (net_of words)
 
 -- what `serve` asks for: an identifier, the address at which it listens, whether its links have logs, and the addresses that it dials
 pub record Served : Type 0 where

@@ -2,7 +2,7 @@
 
 ghost use Rattle.std.specs.Prelude.{◌≡◌, ◌≤◌, ◌⊎◌, ◌↔◌, true, false, is_some, map, IfSome};
 ghost use Rattle.std.specs.String.{string_bytes};
-ghost use Rattle.zr_crew.specs.Crew.{crew_faults, crew_told};
+ghost use Rattle.zr_outside_crew.specs.Crew.{crew_faults, crew_told};
 ghost use Rattle.zr_make.specs.Plan.{is_in_range};
 ghost use Rattle.zr_make.specs.Script.{script, text_of};
 ghost use Rattle.zr_outside.specs.Counts.{Rose};
@@ -18,12 +18,12 @@ use crate::topic::Topic;
 use std::alloc::Global;
 use std::sync::Wait;
 use std::thread::Threads;
-use zr_crew::Crew;
-use zr_job::LinkJob;
+use zr_link_job::LinkJob;
 use zr_make::{MakeError, MakePlan, make};
 use zr_netrun::status::Status;
 use zr_outside::host::Host;
 use zr_outside::sink::{Sink, write_all};
+use zr_outside_crew::Crew;
 
 /// The program with other words than `net`.
 #[tactic(auto, using(crate::proofs::Cases::of_some, crate::proofs::Forms::told_not_served, crate::proofs::Forms::told_not_made, crate::proofs::Forms::made_not_served, crate::proofs::Forms::none_of))]

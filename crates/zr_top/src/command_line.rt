@@ -1,10 +1,10 @@
 //! The program's words: what they ask for.
 
-ghost use Rattle.std.specs.Prelude.{◌≡◌, [], ◌∷◌, codes, is_some, map, true, IfOk, IfSome, OnErr};
+ghost use Rattle.std.specs.Prelude.{◌≡◌, [], ◌∷◌, is_some, map, true, IfOk, IfSome, OnErr};
 ghost use Rattle.std.specs.List.{list_any};
 ghost use Rattle.std.specs.String.{string_bytes};
 ghost use Rattle.zr_make.specs.Plan.{is_in_range};
-ghost use Rattle.zr_top.specs.Words.{are_both, begins_serve, dials_of, explained_of, has_log, is_option, is_word, made_of, names_make, net_of, plan_by, served_of, topic_of, topic_of_command};
+ghost use Rattle.zr_top.specs.Words.{are_both, begins_serve, dials_of, has_log, is_option, is_word, made_of, names_make, net_of, option_of, plan_by, served_of, topic_of, topic_of_command};
 ghost use Rattle.zr_top.specs.Asked.{served_by};
 
 use crate::number::{count, number};
@@ -12,27 +12,42 @@ use crate::topic::Topic;
 use std::alloc::{AllocError, Global};
 use zr_id::zid::Zid;
 use zr_make::MakePlan;
+use zr_netrun::options::NetOptions;
 use zr_serve::ServePlan;
 
-/// Whether a summary is asked for, where the words are `net` or `net --summary`.
-pub fn net_of(words: &[String]) -> Option<bool>
+/// What the words `net [--summary] [--explain]` ask for, the options in either order, if they are these.
+pub fn net_of(words: &[String]) -> Option<NetOptions>
     ensures { result ≡ net_of (map string_bytes words.now) }
 {
     match words {
-        [word] if is_net(word) => Some(false),
-        [word, option] if is_net(word) && is_summary(option) => Some(true),
+        [word] if is_word(word, b"net") => Some(NetOptions {
+            summary: false,
+            explain: false,
+        }),
+        [word, option] if is_word(word, b"net") => option_of(option),
+        [word, one, other] if is_word(word, b"net") && are_both(one, other) => Some(NetOptions {
+            summary: true,
+            explain: true,
+        }),
         _ => None,
     }
 }
 
-/// Whether a summary is asked for beside explanations, where the words are `net --explain`, with `--summary` before or behind it or without it.
-pub fn explained_of(words: &[String]) -> Option<bool>
-    ensures { result ≡ explained_of (map string_bytes words.now) }
+fn option_of(option: &String) -> Option<NetOptions>
+    ensures { result ≡ option_of (string_bytes option.now) }
 {
-    match words {
-        [word, option] if is_net(word) && is_word(option, b"--explain") => Some(false),
-        [word, one, other] if is_net(word) && are_both(one, other) => Some(true),
-        _ => None,
+    if is_word(option, b"--summary") {
+        Some(NetOptions {
+            summary: true,
+            explain: false,
+        })
+    } else if is_word(option, b"--explain") {
+        Some(NetOptions {
+            summary: false,
+            explain: true,
+        })
+    } else {
+        None
     }
 }
 
@@ -40,20 +55,8 @@ pub fn explained_of(words: &[String]) -> Option<bool>
 fn are_both(one: &String, other: &String) -> bool
     ensures { result ≡ are_both (string_bytes one.now) (string_bytes other.now) }
 {
-    is_summary(one) && is_word(other, b"--explain")
-        || is_word(one, b"--explain") && is_summary(other)
-}
-
-fn is_net(word: &String) -> bool
-    ensures { result ≡ is_word (codes "net") (string_bytes word.now) }
-{
-    word.as_bytes() == b"net".as_slice()
-}
-
-fn is_summary(word: &String) -> bool
-    ensures { result ≡ is_word (codes "--summary") (string_bytes word.now) }
-{
-    word.as_bytes() == b"--summary".as_slice()
+    is_word(one, b"--summary") && is_word(other, b"--explain")
+        || is_word(one, b"--explain") && is_word(other, b"--summary")
 }
 
 /// The plan that the words `serve --id ID --listen ADDRESS [--log] [DIAL]...` ask for, if they are these: no address begins with a hyphen. Other words take no memory.

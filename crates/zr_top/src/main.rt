@@ -15,9 +15,9 @@ use crate::run::run;
 use std::alloc::AllocError;
 use std::process::ExitCode;
 use std::{env, io};
-use zr_crew::Crew;
 use zr_netrun::status::Status;
 use zr_outside::std_streams::{ReadSource, WriteSink};
+use zr_outside_crew::Crew;
 use zr_tcp::TcpHost;
 
 fn main(rt: HostRuntime) -> ExitCode {

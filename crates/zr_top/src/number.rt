@@ -2,7 +2,7 @@
 
 ghost use Rattle.std.specs.Prelude.{◌≡◌, ◌^◌, nat_lt, Some, None, if◌then◌else◌};
 ghost use Rattle.std.specs.List.{list_all};
-ghost use Rattle.zr_language.specs.Words.{is_digit, is_number, value_of};
+ghost use Rattle.zr_script_spec.specs.Words.{is_digit, is_number, value_of};
 ghost use Rattle.zr_top.specs.Words.{number_below};
 
 /// The number of at most 64 bits that a word spells.

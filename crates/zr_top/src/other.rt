@@ -2,7 +2,7 @@
 
 ghost use Rattle.std.specs.Prelude.{◌≡◌, ◌≤◌, ◌⊎◌, ◌↔◌, false, is_some, map, IfSome};
 ghost use Rattle.std.specs.String.{string_bytes};
-ghost use Rattle.zr_crew.specs.Crew.{crew_faults, crew_told};
+ghost use Rattle.zr_outside_crew.specs.Crew.{crew_faults, crew_told};
 ghost use Rattle.zr_outside.specs.Counts.{Rose};
 ghost use Rattle.zr_serve.specs.Serving.{outputs};
 ghost use Rattle.zr_top.specs.Asked.{IsServing, status_of};
@@ -12,13 +12,13 @@ use crate::command_line::plan_of;
 use std::alloc::Global;
 use std::sync::Wait;
 use std::thread::Threads;
-use zr_crew::Crew;
-use zr_job::LinkJob;
+use zr_link_job::LinkJob;
 use zr_netrun::status::Status;
 use zr_outside::host::Host;
 use zr_outside::sink::{Sink, write_all};
+use zr_outside_crew::Crew;
 use zr_serve::ServeEnd;
-use zr_service::serving::serve_router;
+use zr_serve_router::serving::serve_router;
 
 /// The forms of the program's words.
 const USAGE: &str =

@@ -5,47 +5,49 @@ ghost use Rattle.std.specs.String.{string_bytes};
 ghost use Rattle.zr_outside.specs.Counts.{Rose};
 ghost use Rattle.zr_outside.specs.Piece.{IsReadToEnd};
 ghost use Rattle.zr_guarantee.specs.Scripts.{IsRefined, TellsClients};
-ghost use Rattle.zr_laws.specs.Keys.{AnsweringIsCovering, AnsweringIsMeeting, AskingIsMeeting};
-ghost use Rattle.zr_laws.specs.Runs.{RestIsQuiet};
-ghost use Rattle.zr_declared.specs.Logs.{SettledLogsAreKnown};
-ghost use Rattle.zr_declared.specs.Rows.{SettledRowsAreDeclared};
-ghost use Rattle.zr_declared.specs.Sets.{SettledSetsAreDeclared};
-ghost use Rattle.zr_answers.specs.Answers.{AnswersAlwaysHold};
-ghost use Rattle.zr_numbers.specs.Numbers.{NumbersAlwaysHold};
-ghost use Rattle.zr_settled.specs.Events.{NoEventIsRefused};
-ghost use Rattle.zr_settled.specs.Tables.{AgreeWhereSettled, SettledLogsAgree};
-ghost use Rattle.zr_netrun.specs.Clauses.{OfRead, OfLines, IsReported, IsExplained, IsSummedUp, IsExplainedSum};
+ghost use Rattle.zr_law_samples.specs.Keys.{AnsweringIsCovering, AnsweringIsMeeting, AskingIsMeeting};
+ghost use Rattle.zr_law_samples.specs.Runs.{RestIsQuiet};
+ghost use Rattle.zr_law_declared.specs.Logs.{SettledLogsAreKnown};
+ghost use Rattle.zr_law_declared.specs.Rows.{SettledRowsAreDeclared};
+ghost use Rattle.zr_law_declared.specs.Sets.{SettledSetsAreDeclared};
+ghost use Rattle.zr_law_replies.specs.Answers.{AnswersAlwaysHold};
+ghost use Rattle.zr_law_numbers.specs.Numbers.{NumbersAlwaysHold};
+ghost use Rattle.zr_law_settled.specs.Events.{NoEventIsRefused};
+ghost use Rattle.zr_law_settled.specs.Tables.{AgreeWhereSettled, SettledLogsAgree};
+ghost use Rattle.zr_netrun.specs.Clauses.{OfLines, WritesAsAsked};
 ghost use Rattle.zr_top.specs.Means.{HaveKeyTexts, LeadToTheirReport};
-ghost use Rattle.zr_crew.specs.Crew.{crew_faults, crew_told};
+ghost use Rattle.zr_outside_crew.specs.Crew.{crew_faults, crew_told};
 ghost use Rattle.zr_serve.specs.Serving.{outputs};
 ghost use Rattle.zr_top.specs.Asked.{IsServing};
 ghost use Rattle.zr_make.specs.Script.{script, text_of};
 ghost use Rattle.zr_top.specs.Help.{help_text};
 ghost use Rattle.zr_top.specs.Told.{IsWritten};
-ghost use Rattle.zr_top.specs.Words.{explained_of, is_net, net_of, is_taken, made_of, served_of, topic_of, TellsUsage};
+ghost use Rattle.zr_top.specs.Words.{is_net, net_of, is_taken, made_of, served_of, topic_of, TellsUsage};
 
 use crate::beside::run_beside_net;
-use crate::command_line::{explained_of, net_of};
+use crate::command_line::net_of;
 use std::alloc::Global;
 use std::sync::Wait;
 use std::thread::Threads;
-use zr_answers::{answers_always_hold, lines_refine};
-use zr_crew::Crew;
-use zr_declared::{settled_logs_are_known, settled_rows_are_declared, settled_sets_are_declared};
-use zr_informed::lines_tell_clients;
-use zr_job::LinkJob;
-use zr_laws::keys::{
+use zr_law_declared::{
+    settled_logs_are_known, settled_rows_are_declared, settled_sets_are_declared,
+};
+use zr_law_numbers::{no_event_is_refused, numbers_always_hold};
+use zr_law_replies::{answers_always_hold, lines_refine};
+use zr_law_samples::keys::{
     answering_is_covering, answering_is_meeting, asking_is_meeting, keys_are_texts,
 };
-use zr_laws::refines::lines_are_moments;
-use zr_laws::runs::rest_is_quiet;
-use zr_netrun::netrun::{run_explained, run_script};
+use zr_law_samples::refines::lines_are_moments;
+use zr_law_samples::runs::rest_is_quiet;
+use zr_law_settled::{settled_logs_agree, settled_tables_agree};
+use zr_law_told::lines_tell_clients;
+use zr_link_job::LinkJob;
+use zr_netrun::netrun::run_script;
 use zr_netrun::status::Status;
-use zr_numbers::{no_event_is_refused, numbers_always_hold};
 use zr_outside::host::Host;
 use zr_outside::sink::Sink;
 use zr_outside::source::Source;
-use zr_settled::{settled_logs_agree, settled_tables_agree};
+use zr_outside_crew::Crew;
 
 /// The whole program. Its words, without its name, ask for one of four things. `net` reads a script from `input`, and writes the report to `out`;
 /// `net --summary` writes, at the script's end, four counts of the report in its place. With `--explain` beside these words `err` has the explanation
@@ -75,7 +77,7 @@ use zr_settled::{settled_logs_agree, settled_tables_agree};
 /// The clause `served` says what was called of the host, which jobs the crew started, and what was written, where a router was served. The clauses
 /// `made` and `helped` say which text was written, where a script was made or something was told: all of it at `Done`, and else a prefix.
 /// With all other words than those of `serve` the host and the crew are as they were (`unserved`), and with all other words than those of `net` the input is (`unread`).
-#[tactic(auto, using(crate::proofs::Forms::net_not_served, crate::proofs::Forms::net_not_made, crate::proofs::Forms::net_not_told, crate::proofs::Explains::explained_not_served, crate::proofs::Explains::explained_not_made, crate::proofs::Explains::explained_not_told, crate::proofs::Explains::explained_not_net, crate::proofs::Explains::explained_is_net, crate::proofs::Explains::plain_is_net, crate::proofs::Explains::net_is_taken, crate::proofs::Explains::neither_is_net, crate::proofs::Explains::others_are_taken))]
+#[tactic(auto, using(crate::proofs::Cases::of_some, crate::proofs::Forms::none_of, crate::proofs::Forms::net_not_served, crate::proofs::Forms::net_not_made, crate::proofs::Forms::net_not_told, crate::proofs::Forms::net_is_taken, crate::proofs::Forms::others_are_taken))]
 pub fn run<
     S: Source,
     K: Sink,
@@ -97,10 +99,7 @@ where
     H::Out: 'static,
     H::Time: 'static,
     H::Log: 'static,
-    ensures report { net_of (map string_bytes words.now) ≡ Some false → OfRead (S.left input.old) (S.left input.new) (IsReported (IsReadToEnd (S.ends input.old) (S.ends input.new) (S.quiets input.old) (S.quiets input.new)) result (K.held out.old) (K.held out.new) (E.held err.old) (E.held err.new)) }
-    ensures summed_up { net_of (map string_bytes words.now) ≡ Some true → OfRead (S.left input.old) (S.left input.new) (IsSummedUp (IsReadToEnd (S.ends input.old) (S.ends input.new) (S.quiets input.old) (S.quiets input.new)) result (K.held out.old) (K.held out.new) (E.held err.old) (E.held err.new)) }
-    ensures explained { explained_of (map string_bytes words.now) ≡ Some false → OfRead (S.left input.old) (S.left input.new) (IsExplained (IsReadToEnd (S.ends input.old) (S.ends input.new) (S.quiets input.old) (S.quiets input.new)) result (K.held out.old) (K.held out.new) (E.held err.old) (E.held err.new)) }
-    ensures explained_sum { explained_of (map string_bytes words.now) ≡ Some true → OfRead (S.left input.old) (S.left input.new) (IsExplainedSum (IsReadToEnd (S.ends input.old) (S.ends input.new) (S.quiets input.old) (S.quiets input.new)) result (K.held out.old) (K.held out.new) (E.held err.old) (E.held err.new)) }
+    ensures report { IfSome (net_of (map string_bytes words.now)) (λ options. WritesAsAsked options (S.left input.old) (S.left input.new) (IsReadToEnd (S.ends input.old) (S.ends input.new) (S.quiets input.old) (S.quiets input.new)) result (K.held out.old) (K.held out.new) (E.held err.old) (E.held err.new)) }
     ensures headline { is_net (map string_bytes words.now) ≡ true → OfLines (S.left input.old) (S.left input.new) IsRefined }
     ensures interests { is_net (map string_bytes words.now) ≡ true → OfLines (S.left input.old) (S.left input.new) TellsClients }
     ensures told { is_net (map string_bytes words.now) ≡ true → OfLines (S.left input.old) (S.left input.new) LeadToTheirReport }
@@ -134,6 +133,7 @@ where
     ensures err_later { E.faults err.old ≤ E.faults err.new }
     ensures usage { result ≡ Status.Words → TellsUsage (E.held err.old) (E.held err.new) (E.faults err.old) (E.faults err.new) × (K.held out.new ≡ K.held out.old) × (S.left input.new ≡ S.left input.old) }
 {
+    // Laws: each does nothing, and brings the clause of its name.
     asking_is_meeting();
     answering_is_meeting();
     answering_is_covering();
@@ -150,11 +150,8 @@ where
     lines_are_moments();
     keys_are_texts();
     settled_tables_agree();
-    if let Some(summary) = explained_of(words) {
-        return run_explained(alloc, input, out, err, summary);
-    }
     match net_of(words) {
-        Some(summary) => run_script(alloc, input, out, err, summary),
+        Some(options) => run_script(alloc, options, input, out, err),
         None => run_beside_net(rt, alloc, words, out, err, host, crew),
     }
 }

@@ -3,10 +3,10 @@ use Rattle.std.proofs.Common.{ℕ, ◌+◌, ◌*◌, ◌/◌, ◌%◌, ◌-◌, 
 use Rattle.zr_bytes.specs.declared.read_error.ReadError.TheVariants.{BadText}
 use Rattle.zr_bytes.specs.Flag.{has_id, has_flag}
 use Rattle.zr_bytes.specs.Reading.{byte_of, number_of}
-use Rattle.zr_format.specs.Format.{so_many, number, byte}
-use Rattle.zr_format.specs.Reading.{so_many_of}
-use Rattle.zr_format.specs.Laws.{anywhere}
-use Rattle.zr_format.proofs.Follows.{Follows, follows_gives, follows_unknown, follows_choose, follows_then, follows_checked, follows_optional, follows_byte, follows_number, follows_text, follows_so_many, follows_extensions, follows_the_rest}
+use Rattle.zr_format_spec.specs.Format.{so_many, number, byte}
+use Rattle.zr_format_spec.specs.Reading.{so_many_of}
+use Rattle.zr_format_spec.specs.Laws.{anywhere}
+use Rattle.zr_format_spec.proofs.Follows.{Follows, follows_gives, follows_unknown, follows_choose, follows_then, follows_checked, follows_optional, follows_byte, follows_number, follows_text, follows_so_many, follows_extensions, follows_the_rest}
 use Rattle.zr_id.specs.Zid.{is_zid}
 use Rattle.zr_trans.specs.declared.trans.Trans.TheVariants.{Init, Open, Close, KeepAlive, Frame, Fragment}
 use Rattle.zr_trans.specs.Trans.{first_number, number_ext, identifier, cookie, sizes, init, opening, close, keep_alive, frame, fragment, behind, trans_format, MayStandBefore}

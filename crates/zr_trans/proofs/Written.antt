@@ -13,10 +13,10 @@ use Rattle.zr_id.specs.Zid.{is_zid}
 use Rattle.zr_trans.specs.declared.trans.Sizes.{Sizes}
 use Rattle.zr_trans.specs.declared.trans.Trans.{Trans}
 use Rattle.zr_trans.specs.declared.trans.Trans.TheVariants.{Init, Open, Close, KeepAlive, Frame, Fragment}
-use Rattle.zr_format.specs.Format.{Format, gives, choose, optional, unknown, so_many, extensions, chain}
-use Rattle.zr_format.specs.Laws.{HasSpelling}
-use Rattle.zr_format.specs.Writing.{writes_header}
-use Rattle.zr_format.proofs.Spelled.{checked_spelled, spelled_checked, chosen_holds}
+use Rattle.zr_format_spec.specs.Format.{Format, gives, choose, optional, unknown, so_many, extensions, chain}
+use Rattle.zr_format_spec.specs.Laws.{HasSpelling}
+use Rattle.zr_format_spec.specs.Writing.{writes_header}
+use Rattle.zr_format_spec.proofs.Spelled.{checked_spelled, spelled_checked, chosen_holds}
 use Rattle.zr_trans.specs.Trans.{first_number, number_ext, cookie, sizes, init, opening, close, keep_alive, frame, fragment, behind, trans_format, SpellsTrans}
 use Rattle.zr_trans.specs.Reading.{trans_of}
 use Rattle.zr_trans.proofs.Messages.{follows_trans}

@@ -1,5 +1,5 @@
 -- The laws of transport messages: what a reading call answers is what the bytes spell, and what is written is read again.
-use Rattle.zr_format.specs.Laws.{IsReadBy, HasOneReadingBefore, WrittenIsRead, SpelledIsWritten}
+use Rattle.zr_format_spec.specs.Laws.{IsReadBy, HasOneReadingBefore, WrittenIsRead, SpelledIsWritten}
 use Rattle.zr_trans.specs.Trans.{trans_format, MayStandBefore}
 use Rattle.zr_trans.specs.Reading.{trans_of}
 use Rattle.zr_trans.specs.Writing.{writes_trans, HasFields}

@@ -3,7 +3,7 @@ use Rattle.std.specs.Prelude.{ℕ, ◌+◌, ◌*◌, ◌/◌, ◌%◌, ◌-◌, 
 use Rattle.zr_bytes.specs.declared.read_error.ReadError.TheVariants.{UnknownId, BadText}
 use Rattle.zr_bytes.specs.Flag.{has_id, has_flag}
 use Rattle.zr_bytes.specs.Reading.{Read, ◌>>=◌, byte_of, number_of, text_of}
-use Rattle.zr_format.specs.Reading.{optional_of, checked_of, so_many_of, exts_of}
+use Rattle.zr_format_spec.specs.Reading.{optional_of, checked_of, so_many_of, exts_of}
 use Rattle.zr_id.specs.Zid.{is_zid}
 use Rattle.zr_trans.specs.declared.trans.Sizes.{Sizes}
 use Rattle.zr_trans.specs.declared.trans.Trans.{Trans}

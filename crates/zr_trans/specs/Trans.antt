@@ -10,7 +10,7 @@ use Rattle.zr_trans.specs.declared.trans.Sizes.{Sizes}
 use Rattle.zr_trans.specs.declared.trans.Trans.{Trans}
 use Rattle.zr_trans.specs.declared.trans.Trans.TheVariants.{Init, Open, Close, KeepAlive, Frame, Fragment}
 use Rattle.zr_bytes.specs.declared.read_error.ReadError.TheVariants.{BadText}
-use Rattle.zr_format.specs.Format.{Format, gives, unknown, choose, ◌then◌, checked, optional, byte, number, text, so_many, extensions, the_rest}
+use Rattle.zr_format_spec.specs.Format.{Format, gives, unknown, choose, ◌then◌, checked, optional, byte, number, text, so_many, extensions, the_rest}
 use Rattle.zr_id.specs.Zid.{is_zid}
 
 -- the number that the only extension says, where it is there

@@ -5,7 +5,7 @@ use Rattle.zr_bytes.specs.Text.{writes_text}
 use Rattle.zr_ext.specs.declared.ext.Ext.{Ext}
 use Rattle.zr_ext.specs.declared.ext.Content.TheVariants as content
 use Rattle.zr_ext.specs.Writing.{writes_chain}
-use Rattle.zr_format.specs.Writing.{writes_header}
+use Rattle.zr_format_spec.specs.Writing.{writes_header}
 use Rattle.zr_id.specs.Zid.{is_zid}
 use Rattle.zr_trans.specs.declared.trans.Sizes.{Sizes}
 use Rattle.zr_trans.specs.declared.trans.Trans.{Trans}

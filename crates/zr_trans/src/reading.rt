@@ -3,7 +3,7 @@
 ghost use Rattle.std.specs.Prelude.{◌≡◌, IfOk};
 ghost use Rattle.zr_bytes.specs.Reading.{Keeps, Steps};
 ghost use Rattle.zr_trans.specs.Trans.{first_number};
-ghost use Rattle.zr_format.specs.Reading.{optional_of};
+ghost use Rattle.zr_format_spec.specs.Reading.{optional_of};
 ghost use Rattle.zr_trans.specs.Reading.{id_of, sizes_of, cookie_of, behind_id_of, init_of, open_of, close_of, keep_alive_of, frame_of, fragment_of, behind_of, trans_of};
 ghost use Rattle.zr_trans.specs.Writing.{Fits};
 
@@ -14,8 +14,8 @@ use crate::trans::{Sizes, Trans};
 use std::alloc::Global;
 use zr_bytes::{ByteString, Cursor, ReadError};
 use zr_ext::{Ext, Form};
-use zr_format::header::{FIRST, ID, SECOND};
-use zr_format::read_extensions;
+use zr_format_spec::header::{FIRST, ID, SECOND};
+use zr_format_spec::read_extensions;
 use zr_id::zid::Zid;
 
 /// The most bytes of a cookie.
@@ -157,7 +157,7 @@ fn read_fragment(alloc: Global, c: &mut Cursor<'_>, header: u8) -> Result<Trans,
 }
 
 /// An identifier of `count` bytes.
-#[tactic(auto, unfolding(crate::specs::Reading::id_of, zr_format::specs::Reading::so_many_of))]
+#[tactic(auto, unfolding(crate::specs::Reading::id_of, zr_format_spec::specs::Reading::so_many_of))]
 fn identifier(c: &mut Cursor<'_>, count: usize) -> Result<Zid, ReadError>
     ensures { Steps (λ id. id) result (id_of count c.old) c.new }
 {

@@ -10,7 +10,7 @@ use crate::trans::{Sizes, Trans};
 use std::alloc::AllocError;
 use zr_bytes::{ByteString, all_or_nothing, put_bytes, put_zint};
 use zr_ext::{Content, Ext, write_chain};
-use zr_format::header::header_byte;
+use zr_format_spec::header::header_byte;
 use zr_id::zid::Zid;
 
 /// Appends a message that has a spelling (Zenoh protocol 1.0, "Transport messages"): a role below 4, resolutions below 16,

@@ -1,6 +1,7 @@
 -- One step of a way up the tree by what is kept of each router, and where it ends.
 use Rattle.std.proofs.Common.{◌≡◌, ℕ, ◌+◌, ◌<◌, ◌≤◌, zero, suc, Bool, true, false, cond, ◌&&◌, ◌==◌, List, Option, Some, None, IsSome, IfSome, ◌⊎◌, inl, inr, length, refl, sym, ap, ◌∙◌, arith}
 use Rattle.std.proofs.lemmas.Bool.{false≢true, cases_eq, eq-eqb, ne_eqb, and_parts, and_from, false_from_ne_true}
+use Rattle.std.proofs.lemmas.Option.{same_Some}
 use Rattle.zr_id.specs.Record.{RecordState}
 use Rattle.zr_graph.specs.Record.{ids}
 use Rattle.zr_tree.specs.declared.tree.Hop.{Hop}
@@ -9,7 +10,7 @@ use Rattle.zr_tree.specs.Hop.{IsHop, depth_of}
 use Rattle.zr_tree.specs.Index.{name}
 use Rattle.zr_tree.specs.Tree.{dist, parent, below, is_child, toward}
 use Rattle.zr_tree.specs.Walk.{graph_of}
-use Rattle.zr_tree.proofs.Finds.{In, none_find, only_find, some_same}
+use Rattle.zr_lists.proofs.Finds.{In, none_find, only_find}
 use Rattle.zr_tree.proofs.Branches.{parent_is, has_parent, child_is, child_from, below_itself, below_parent, below_trans, below_nearer, below_one, below_cases, unreached_no_parent}
 
 -- the number that is kept of a known distance
@@ -205,7 +206,7 @@ module _ (rs : List RecordState) (r at dest : List ℕ) where
       let f : depth + 1 ≡ suc p.k = omega (arith, e) in
       let i = only n x y d above p (x_depth ∙ ap Some f) in
       let s : Some q ≡ Some at = sym to ∙ ap (parent (graph_of rs) r) (sym i) ∙ p.parent_to in
-      other (some_same q at s))
+      other (same_Some q at s))
 
   pub toward_no_farther : (n depth : ℕ) → dist (graph_of rs) r dest ≡ Some n → depth_of depth ≡ dist (graph_of rs) r at → n ≤ depth → toward (graph_of rs) r at dest ≡ None
   toward_no_farther n depth d e le = elim (cases_eq depth UNREACHED) [

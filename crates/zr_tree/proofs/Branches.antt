@@ -2,12 +2,13 @@
 use Rattle.std.proofs.Common.{◌≡◌, ℕ, ◌+◌, ◌≤◌, zero, suc, Bool, true, false, ◌||◌, List, Option, Some, None, ◌⊎◌, inl, inr, length, unwrap_or, refl, sym, ap, ◌∙◌, subst, arith}
 use Rattle.std.specs.Option.{option_map_or}
 use Rattle.std.proofs.lemmas.Bool.{false≢true, eq-eqb, eqb-true, or_cases, or_right, or_left}
+use Rattle.std.proofs.Math.Bool.{or-false}
 use Rattle.zr_id.specs.Zid.{is_named}
 use Rattle.zr_graph.proofs.Names.{same_is, same_refl}
-use Rattle.zr_climb.specs.Distance.{is_sum}
+use Rattle.zr_tree_parents.specs.Distance.{is_sum}
 use Rattle.zr_tree.specs.Walk.{Graph, near, edge_length}
 use Rattle.zr_tree.specs.Tree.{dist, parent, climbs, below, is_child}
-use Rattle.zr_tree.proofs.Finds.{In, find_in, in_find, none_find}
+use Rattle.zr_lists.proofs.Finds.{In, find_in, in_find, none_find}
 use Rattle.zr_tree.proofs.Distances.{step_back}
 
 -- how a parent stands to its child
@@ -60,10 +61,6 @@ module _ (g : Graph) (root : List ℕ) where
   pub child_from : (x y : List ℕ) → parent g root y ≡ Some x → is_child g root x y ≡ true
   child_from x y h = rw h (same_refl x)
 
-  or_false : (b : Bool) → (b || false) ≡ b
-  or_false true = refl
-  or_false false = refl
-
   -- below, by its own words
   pub below_step : (y x : List ℕ) → below g root y x ≡ (is_named x y || option_map_or (λ p. below g root y p) (parent g root x) false)
   below_step y x = by_dist (dist g root x) refl
@@ -80,8 +77,8 @@ module _ (g : Graph) (root : List ℕ) where
 
       by_dist : (o : Option ℕ) → dist g root x ≡ o →
           climbs g (unwrap_or o 0) root y x ≡ (is_named x y || option_map_or (λ p. below g root y p) (parent g root x) false)
-      by_dist None e = rw (unreached_no_parent x e) (sym (or_false (is_named x y)))
-      by_dist (Some zero) e = rw (zero_no_parent x e) (sym (or_false (is_named x y)))
+      by_dist None e = rw (unreached_no_parent x e) (sym (or-false (is_named x y)))
+      by_dist (Some zero) e = rw (zero_no_parent x e) (sym (or-false (is_named x y)))
       by_dist (Some (suc m)) e = by_parent m e (parent g root x) refl
 
   pub below_itself : (x : List ℕ) → below g root x x ≡ true

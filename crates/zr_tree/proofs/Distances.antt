@@ -6,7 +6,7 @@ use Rattle.std.proofs.lemmas.Bool.{false≢true, cases_lt, eq-eqb}
 use Rattle.zr_graph.proofs.Names.{same_is, same_refl}
 use Rattle.zr_tree.specs.Walk.{Graph, near}
 use Rattle.zr_tree.specs.Tree.{leads, least}
-use Rattle.zr_tree.proofs.Finds.{In, any_in, in_any, any_none, same_any}
+use Rattle.zr_lists.proofs.Finds.{In, any_in, in_any, any_none, same_any}
 
 -- what the least number below a bound is
 pub record IsLeast (test : ℕ → Bool) (bound m : ℕ) : Type 0 where

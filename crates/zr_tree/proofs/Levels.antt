@@ -8,17 +8,18 @@ use Rattle.std.proofs.lemmas.Bool.{false≢true, cases_order, cases_eq, and_part
 use Rattle.std.proofs.lemmas.List.{length-map, length-replicate, get_or-replicate}
 use Rattle.std.proofs.lemmas.List.Folds.{list_any-append}
 use Rattle.std.proofs.lemmas.Map.Keys.{Less-from_sorted}
+use Rattle.zr_lists.proofs.Truths.{same_test}
 use Rattle.zr_id.specs.Record.{RecordState}
 use Rattle.zr_id.specs.Zid.{is_named}
 use Rattle.zr_graph.specs.Record.{ids, has_edge, lists, IsAscending}
 use Rattle.zr_graph.proofs.Names.{same_is, same_refl, comes}
-use Rattle.zr_climb.specs.Climb.{row}
-use Rattle.zr_climb.specs.Distance.{kept_at}
+use Rattle.zr_tree_parents.specs.Climb.{row}
+use Rattle.zr_tree_parents.specs.Distance.{kept_at}
 use Rattle.zr_tree.specs.Walk.{graph_of, near}
 use Rattle.zr_tree.specs.Tree.{leads}
 use Rattle.zr_tree.specs.Index.{EdgeTable, AreEdges, name}
 use Rattle.zr_tree.specs.Search.{Visits, AreDistances, has_index}
-use Rattle.zr_tree.proofs.Finds.{In, any_in, in_any, in_filter, filter_in, place_in, in_place, map_in, in_map}
+use Rattle.zr_lists.proofs.Finds.{In, any_in, in_any, in_filter, filter_in, place_in, in_place, map_in, in_map}
 use Rattle.zr_tree.proofs.Distances.{within, is_at, step_on, least_some}
 
 -- an edge leads both ways
@@ -30,11 +31,6 @@ joined_back rs x y h = flip (lists rs x y) (lists rs y x) h
     flip true false h = h
     flip false true h = h
     flip false false h = h
-
-same_truth : (a b : Bool) → (a ≡ true → b ≡ true) → (b ≡ true → a ≡ true) → a ≡ b
-same_truth true b f g = sym (f refl)
-same_truth false true f g = g refl
-same_truth false false f g = refl
 
 -- ---- indexes and names
 
@@ -80,7 +76,7 @@ pub record IsLevel (e : EdgeTable) (root bound at : ℕ) (distances : List (Opti
 module _ (e : EdgeTable) (right : AreEdges e) where
   -- a row has the indexes of the neighbours
   pub row_has : (u x : ℕ) → u < length e.records → x < length e.records → has_index (row e.rows u) x ≡ has_edge e.records (name e.records u) (name e.records x)
-  row_has u x a b = same_truth _ _ forth back
+  row_has u x a b = same_test _ _ forth back
     where
       forth : has_index (row e.rows u) x ≡ true → has_edge e.records (name e.records u) (name e.records x) ≡ true
       forth h =
@@ -113,7 +109,7 @@ module _ (e : EdgeTable) (right : AreEdges e) where
 
       reached_by : (x : ℕ) → x < length e.records → here x ≡ None → has_index (flat_map (row e.rows) frontier) x ≡ leads (graph_of e.records) (suc m) (name e.records root) (name e.records x)
       reached_by x lt none =
-          any-flat_map (λ j. j == x) (row e.rows) frontier ∙ same_truth _ _ forth back ∙ sym (step_on (graph_of e.records) (name e.records root) m (name e.records x) none)
+          any-flat_map (λ j. j == x) (row e.rows) frontier ∙ same_test _ _ forth back ∙ sym (step_on (graph_of e.records) (name e.records root) m (name e.records x) none)
         where
           forth : list_any (λ u. has_index (row e.rows u) x) frontier ≡ true → list_any (λ y. is_at (within (graph_of e.records) (name e.records root) (suc m) y) m) (near (graph_of e.records) (name e.records x)) ≡ true
           forth t =

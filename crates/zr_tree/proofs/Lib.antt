@@ -1,7 +1,6 @@
 pub mod Ancestors
 pub mod Branches
 pub mod Distances
-pub mod Finds
 pub mod Indexes
 pub mod Levels
 pub mod Linked

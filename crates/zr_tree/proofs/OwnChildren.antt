@@ -15,8 +15,8 @@ use Rattle.zr_id.specs.Zid.{is_named}
 use Rattle.zr_graph.specs.Base.{BaseState}
 use Rattle.zr_graph.specs.Record.{ids, has}
 use Rattle.zr_graph.proofs.Names.{same_is, same_refl}
-use Rattle.zr_climb.specs.Climb.{row}
-use Rattle.zr_climb.specs.Distance.{is_sum}
+use Rattle.zr_tree_parents.specs.Climb.{row}
+use Rattle.zr_tree_parents.specs.Distance.{is_sum}
 use Rattle.zr_tree.specs.OwnChildren.{is_first, AreFlags, IsFamily}
 use Rattle.zr_tree.specs.Index.{EdgeTable, AreEdges, name}
 use Rattle.zr_tree.specs.Laws.{IsGraph}
@@ -25,7 +25,7 @@ use Rattle.zr_tree.specs.Searches.{is_searched, distance_kept, is_nearer, AreSea
 use Rattle.zr_tree.specs.Tree.{dist, is_child}
 use Rattle.zr_tree.specs.Walk.{Graph, graph_of, IsDistance, near}
 use Rattle.zr_tree.proofs.Branches.{parent_is, child_is}
-use Rattle.zr_tree.proofs.Finds.{In, find_in, in_map, in_place, same_find}
+use Rattle.zr_lists.proofs.Finds.{In, find_in, in_map, in_place, same_find}
 use Rattle.zr_tree.proofs.Levels.{all_in, one_index}
 use Rattle.zr_tree.proofs.Paths.{exact, graph_is, walk_back}
 use Rattle.zr_tree.proofs.Searched.{kept_is}

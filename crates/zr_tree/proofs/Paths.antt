@@ -7,6 +7,7 @@ use Rattle.std.specs.List.{AllByRecursion, IsDistinct}
 use Rattle.std.proofs.lemmas.Bool.{false≢true, cases_lt, false_from_ne_true, and_parts}
 use Rattle.std.proofs.lemmas.Map.Keys.{IsDistinct-cons}
 use Rattle.std.proofs.lemmas.Map.Made.{length-le_from_is_member}
+use Rattle.zr_lists.proofs.Elements.{each_in}
 use Rattle.zr_id.specs.Record.{RecordState}
 use Rattle.zr_id.specs.Zid.{is_named}
 use Rattle.zr_graph.specs.Record.{ids, has, has_edge, lists, IsAscending}
@@ -14,7 +15,7 @@ use Rattle.zr_graph.proofs.Names.{same_is, same_refl}
 use Rattle.zr_tree.specs.Laws.{IsGraph, IsExact}
 use Rattle.zr_tree.specs.Tree.{leads, dist}
 use Rattle.zr_tree.specs.Walk.{Graph, graph_of, near, IsWalk, walk_length, IsDistance}
-use Rattle.zr_tree.proofs.Finds.{In, any_in, in_any, in_filter, filter_in}
+use Rattle.zr_lists.proofs.Finds.{In, any_in, in_any, in_filter, filter_in}
 use Rattle.zr_tree.proofs.Distances.{least_some, least_is, least_found, within, step_back}
 use Rattle.zr_tree.proofs.Levels.{joined_back}
 use Rattle.zr_tree.proofs.Unknown.{record_none}
@@ -123,16 +124,11 @@ module _ (g : Graph) (is : IsGraph g) where
         distinct = IsDistinct-cons is_named s.0 c.routers (others root s.0 m c.routers l.first c.nearer) c.distinct;
       }
 
-  all_in : (P : List ℕ → Type 0) (xs : List (List ℕ)) (x : List ℕ) → AllByRecursion P xs → In x xs → P x
-  all_in P [] x h i = absurd i
-  all_in P (y ∷ xs) x h (inl e) = subst P (sym e) h.0
-  all_in P (y ∷ xs) x h (inr i) = all_in P xs x h.1 i
-
   chain_short : (root : List ℕ) (m : ℕ) → Chain root m → m ≤ length g.names
   chain_short root m c =
       let l = length-le_from_is_member {eq = is_named} (eq_by_cmp_equiv nat_list_cmp_total) c.routers g.names c.distinct (λ q t.
       let f = any_in (is_named q) c.routers t in
-      let i = all_in (λ z. In z g.names) c.routers f.0 c.inside f.1 in
+      let i = each_in (λ z. In z g.names) c.routers f.0 c.inside f.1 in
       in_any (is_named q) g.names f.0 i f.2) in
       omega (arith, l, c.long)
 

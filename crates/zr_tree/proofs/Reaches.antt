@@ -10,7 +10,7 @@ use Rattle.zr_tree.specs.Walk.{Graph, graph_of, IsWalk, walk_length}
 use Rattle.zr_tree.proofs.Ancestors.{toward_unreached_dest}
 use Rattle.zr_tree.proofs.Branches.{parent_is, child_is}
 use Rattle.zr_tree.proofs.Distances.{least_some}
-use Rattle.zr_tree.proofs.Finds.{find_in}
+use Rattle.zr_lists.proofs.Finds.{find_in}
 use Rattle.zr_tree.proofs.Paths.{graph_is, walk_back, leads_walk, walk_leads, bounded}
 
 pub walk_append : (g : Graph) (a b c : List ℕ) (path more : List (List ℕ)) → IsWalk g a path b → IsWalk g b more c → IsWalk g a (path ++ more) c

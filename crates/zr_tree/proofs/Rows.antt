@@ -17,7 +17,7 @@ use Rattle.zr_graph.proofs.Names.{same_refl}
 use Rattle.zr_graph.proofs.Places.{at_place}
 use Rattle.zr_tree.specs.Index.{name, LinksBack}
 use Rattle.zr_tree.specs.Walk.{graph_of, near}
-use Rattle.zr_tree.proofs.Finds.{In, in_any, in_filter, filter_in}
+use Rattle.zr_lists.proofs.Finds.{In, in_any, in_filter, filter_in}
 use Rattle.zr_tree.proofs.Levels.{joined_back}
 use Rattle.zr_tree.proofs.Paths.{has_in, graph_is}
 use Rattle.zr_tree.proofs.SameEdges.{same_list}

@@ -1,32 +1,28 @@
 -- The tree laws: what a destination is below, the least parent, and that trees are those of the edges alone.
 use Rattle.std.proofs.Common.{◌≡◌, ℕ, ◌+◌, ◌≤◌, zero, suc, Bool, true, false, cond, ◌&&◌, ◌||◌, List, [], ◌∷◌, Option, Some, None, unwrap_or, Less, ◌⊎◌, inl, inr, length, refl, sym, ap, ◌∙◌, subst, arith}
 use Rattle.std.specs.Cmp.Lexicographic.{slice_cmp, nat_list_cmp_total}
-use Rattle.std.specs.List.{filter, find, list_any, AllByRecursion}
+use Rattle.std.specs.List.{filter, find, list_any}
 use Rattle.std.specs.Option.{option_map_or, option_and_then}
 use Rattle.std.specs.Ordering.{nat_cmp}
 use Rattle.std.proofs.lemmas.Bool.{false≢true, cases_Bool, and_from, and_parts}
 use Rattle.std.proofs.lemmas.Cmp.{tied_itself}
 use Rattle.std.proofs.lemmas.List.Kept.{IsStrictlySortedBy-filter}
 use Rattle.std.proofs.lemmas.Map.Keys.{sorted_head, sorted_tail}
+use Rattle.zr_lists.proofs.Elements.{each_in}
 use Rattle.zr_id.specs.Zid.{is_named}
 use Rattle.zr_graph.specs.Record.{IsAscending}
 use Rattle.zr_id.specs.Record.{is_before}
 use Rattle.zr_graph.proofs.Names.{same_is, same_refl, comes}
-use Rattle.zr_climb.specs.Distance.{is_sum}
+use Rattle.zr_tree_parents.specs.Distance.{is_sum}
 use Rattle.zr_tree.specs.Laws.{IsGraph, IsNext, HaveSameTrees, steps_toward}
 use Rattle.zr_tree.specs.Tree.{leads, dist, parent, is_child, children, climbs, below, toward}
 use Rattle.zr_tree.specs.Walk.{Graph, near, edge_length}
-use Rattle.zr_tree.proofs.Finds.{In, in_filter, filter_in, same_any, same_find, only_find}
+use Rattle.zr_lists.proofs.Finds.{In, in_filter, filter_in, same_any, same_find, only_find}
 use Rattle.zr_tree.proofs.Distances.{least_some, zero_is_root}
 use Rattle.zr_tree.proofs.Branches.{parent_is, has_parent, child_is, child_from, below_itself, below_parent, below_at, below_nearer, below_one}
 use Rattle.zr_tree.proofs.Paths.{has_in, bounded}
 
 -- ---- ascending lists
-
-all_of : (P : List ℕ → Type 0) (xs : List (List ℕ)) (x : List ℕ) → AllByRecursion P xs → In x xs → P x
-all_of P [] x h i = absurd i
-all_of P (y ∷ xs) x h (inl e) = subst P (sym e) h.0
-all_of P (y ∷ xs) x h (inr i) = all_of P xs x h.1 i
 
 -- the first that passes is the least
 pub first_least : (p : List ℕ → Bool) (xs : List (List ℕ)) (a y : List ℕ) → IsAscending xs → find p xs ≡ Some a → In y xs → p y ≡ true → (a ≡ y) ⊎ (is_before a y ≡ true)
@@ -37,14 +33,14 @@ first_least p (x ∷ xs) a y up h i e = by_test (p x) refl h i (first_least p xs
     by_test true f g (inl j) ih = let k : x ≡ a = cc in inl (sym k ∙ sym j)
     by_test true f g (inr j) ih =
         let k : x ≡ a = cc in
-        let l = all_of (λ z. slice_cmp nat_cmp x z ≡ Less) xs y (sorted_head _ x xs up) j in
+        let l = each_in (λ z. slice_cmp nat_cmp x z ≡ Less) xs y (sorted_head _ x xs up) j in
         let P : List ℕ → Type 0 = λ z. is_before z y ≡ true in
         inr (subst P k ((comes x y l).before))
     by_test false f g (inl j) ih = absurd (false≢true (sym f ∙ ap p (sym j) ∙ e))
     by_test false f g (inr j) ih = ih g j e
 
 not_twice : (x : List ℕ) (xs : List (List ℕ)) → IsAscending (x ∷ xs) → In x xs → ⊥
-not_twice x xs up i = let l = all_of (λ z. slice_cmp nat_cmp x z ≡ Less) xs x (sorted_head _ x xs up) i in let t = sym l ∙ tied_itself nat_list_cmp_total x in absurd (cc)
+not_twice x xs up i = let l = each_in (λ z. slice_cmp nat_cmp x z ≡ Less) xs x (sorted_head _ x xs up) i in let t = sym l ∙ tied_itself nat_list_cmp_total x in absurd (cc)
 
 -- two ascending lists with the same elements are one list
 pub same_list : (xs ys : List (List ℕ)) → IsAscending xs → IsAscending ys → ((z : List ℕ) → In z xs → In z ys) → ((z : List ℕ) → In z ys → In z xs) → xs ≡ ys
@@ -54,7 +50,7 @@ same_list (x ∷ xs) [] a b f g = absurd (f x (inl refl))
 same_list (x ∷ xs) (y ∷ ys) a b f g = by_head (f x (inl refl)) (g y (inl refl)) (same_list xs ys (sorted_tail _ x xs a) (sorted_tail _ y ys b))
   where
     before : (u v : List ℕ) (us : List (List ℕ)) → IsAscending (u ∷ us) → In v us → slice_cmp nat_cmp u v ≡ Less
-    before u v us up i = all_of (λ z. slice_cmp nat_cmp u z ≡ Less) us v (sorted_head _ u us up) i
+    before u v us up i = each_in (λ z. slice_cmp nat_cmp u z ≡ Less) us v (sorted_head _ u us up) i
 
     tail : (i : x ≡ y) → ((z : List ℕ) → In z xs → In z ys) × ((z : List ℕ) → In z ys → In z xs)
     tail i = (λ z j. left z j (f z (inr j)), λ z j. right z j (g z (inr j)))

@@ -1,9 +1,9 @@
 -- Where each record that comes in another's place keeps the edges, all edges stay, and the trees with them.
-use Rattle.std.proofs.Common.{◌≡◌, ℕ, ◌+◌, ◌<◌, Bool, true, false, cond, not, ◌&&◌, ◌||◌, ◌==◌, List, [], ◌∷◌, Option, Some, None, ◌⊎◌, inl, inr, length, get_or, refl, sym, ap, ◌∙◌, subst, arith}
-use Rattle.std.specs.List.{list_all}
+use Rattle.std.proofs.Common.{◌≡◌, ℕ, ◌+◌, ◌<◌, Bool, true, false, cond, not, ◌&&◌, ◌||◌, ◌==◌, List, [], Option, Some, None, ◌⊎◌, inl, inr, length, get_or, refl, sym, ap, ◌∙◌, subst, arith}
 use Rattle.std.specs.Option.{option_map_or}
-use Rattle.std.proofs.lemmas.Bool.{true≢false, cases_Bool, cases_lt, and_parts, not-true}
+use Rattle.std.proofs.lemmas.Bool.{true≢false, cases_Bool, cases_lt, not-true}
 use Rattle.std.proofs.lemmas.List.{ext_get_or, get_or_read, length-map}
+use Rattle.zr_lists.proofs.Elements.{passes_each}
 use Rattle.zr_id.specs.Record.{RecordState}
 use Rattle.zr_graph.specs.Record.{ids, has, lists, record_of, IsAscending}
 use Rattle.zr_tree.specs.Hop.{AreTrees, IsHop}
@@ -13,22 +13,16 @@ use Rattle.zr_tree.specs.Same.{HaveSameEdges, KeepsEdges, makes_no_edge}
 use Rattle.zr_tree.specs.Tree.{below, children, dist, is_child, parent}
 use Rattle.zr_tree.specs.Walk.{graph_of}
 use Rattle.zr_tree.specs.declared.tree.Hop.{Hop}
-use Rattle.zr_tree.proofs.Finds.{In}
 use Rattle.zr_tree.proofs.Levels.{in_name}
 use Rattle.zr_tree.proofs.Paths.{has_in, graph_is}
 use Rattle.zr_tree.proofs.Rows.{record_at, name_at}
 use Rattle.zr_tree.proofs.SameEdges.{same_dist, same_parent, same_child, same_below, same_children}
 use Rattle.zr_tree.proofs.Unknown.{record_none}
 
-all_pass : {X : Type 0} (p : X → Bool) (xs : List X) (y : X) → list_all p xs ≡ true → In y xs → p y ≡ true
-all_pass p [] y h i = absurd i
-all_pass p (x ∷ xs) y h (inl e) = ap p e ∙ (and_parts (p x) (list_all p xs) h).0
-all_pass p (x ∷ xs) y h (inr i) = all_pass p xs y (and_parts (p x) (list_all p xs) h).1 i
-
 -- a link that the other record has not makes no edge
 none_made : (rs : List RecordState) (r other : RecordState) (y : List ℕ) → makes_no_edge rs r other ≡ true → has r.links y ≡ true → has other.links y ≡ false → lists rs y r.id ≡ false
 none_made rs r other y h mine theirs =
-    let t = all_pass (λ z. has other.links z || not (lists rs z r.id)) r.links y h (has_in r.links y mine) in
+    let t = passes_each (λ z. has other.links z || not (lists rs z r.id)) r.links y h (has_in r.links y mine) in
     not-true _ (subst (λ (b : Bool). (b || not (lists rs y r.id)) ≡ true) theirs t)
 
 -- what the records say of one router's links, before and after

@@ -8,7 +8,7 @@ use Rattle.zr_graph.specs.Record.{ids, has, lists, has_edge, record_of}
 use Rattle.zr_graph.proofs.Names.{same_is, same_refl}
 use Rattle.zr_tree.specs.Walk.{graph_of, near}
 use Rattle.zr_tree.specs.Tree.{dist, parent, is_child, children, below, toward, reached}
-use Rattle.zr_tree.proofs.Finds.{In, any_none, none_find, in_filter, map_in}
+use Rattle.zr_lists.proofs.Finds.{In, any_none, none_find, in_filter, map_in}
 use Rattle.zr_tree.proofs.Distances.{step_back, root_at_zero, zero_is_root}
 use Rattle.zr_tree.proofs.Branches.{parent_is, child_is, below_cases}
 

@@ -9,10 +9,10 @@ use Rattle.zr_id.specs.Record.{RecordState}
 use Rattle.zr_id.specs.Zid.{is_named}
 use Rattle.zr_graph.specs.Record.{ids, has_edge}
 use Rattle.zr_graph.proofs.Names.{same_is, same_refl}
-use Rattle.zr_climb.specs.Children.{is_child_index}
-use Rattle.zr_climb.specs.Climb.{at, climb, nearer, AreIndexes, AreJumps, row}
-use Rattle.zr_climb.specs.Distance.{kept_at, is_sum}
-use Rattle.zr_climb.specs.Lists.{OnlyAdds}
+use Rattle.zr_tree_parents.specs.Children.{is_child_index}
+use Rattle.zr_tree_parents.specs.Climb.{at, climb, nearer, AreIndexes, AreJumps, row}
+use Rattle.zr_tree_parents.specs.Distance.{kept_at, is_sum}
+use Rattle.zr_tree_parents.specs.Lists.{OnlyAdds}
 use Rattle.zr_tree.specs.Hop.{AreTrees, AreWays, IsHop, IsTree, depth_of, parent_name}
 use Rattle.zr_tree.specs.declared.tree.Hop.{Hop}
 use Rattle.zr_tree.specs.declared.tree.TheConstants.{UNREACHED}
@@ -20,7 +20,7 @@ use Rattle.zr_tree.specs.Index.{EdgeTable, AreEdges, name}
 use Rattle.zr_tree.specs.Search.{AreDistances}
 use Rattle.zr_tree.specs.Tree.{dist, leads, parent, below, is_child, children}
 use Rattle.zr_tree.specs.Walk.{graph_of}
-use Rattle.zr_tree.proofs.Finds.{In, find_in, in_filter, find-map, same_find, same_filter, filter-filter, filter-map}
+use Rattle.zr_lists.proofs.Finds.{In, find_in, in_filter, find-map, same_find, same_filter, filter-filter, filter-map}
 use Rattle.zr_tree.proofs.Branches.{parent_is, child_is, below_itself, below_parent}
 use Rattle.zr_tree.proofs.Distances.{least_some}
 use Rattle.zr_tree.proofs.Levels.{all_in, one_index, joined_back}

@@ -2,8 +2,8 @@
 use Rattle.std.specs.Prelude.{◌≡◌, ℕ, ◌<◌, ◌==◌, true, List, [], Option, Some, None, length, slice_get, slice_index_or, if◌then◌else◌}
 use Rattle.zr_id.specs.Record.{RecordState}
 use Rattle.zr_graph.specs.Record.{ids, IsAscending}
-use Rattle.zr_climb.specs.Climb.{at}
-use Rattle.zr_climb.specs.Distance.{kept_at}
+use Rattle.zr_tree_parents.specs.Climb.{at}
+use Rattle.zr_tree_parents.specs.Distance.{kept_at}
 use Rattle.zr_tree.specs.declared.tree.Hop.{Hop}
 use Rattle.zr_tree.specs.declared.tree.TheConstants.{UNREACHED}
 use Rattle.zr_tree.specs.Index.{name}

@@ -4,7 +4,7 @@ use Rattle.std.specs.Option.{option_map_or, option_and_then}
 use Rattle.zr_id.specs.Record.{RecordState, is_before}
 use Rattle.zr_id.specs.Zid.{is_named}
 use Rattle.zr_graph.specs.Record.{ids, has, IsAscending}
-use Rattle.zr_climb.specs.Distance.{is_sum}
+use Rattle.zr_tree_parents.specs.Distance.{is_sum}
 use Rattle.zr_tree.specs.Tree.{dist, reached, parent, is_child, children, below, toward}
 use Rattle.zr_tree.specs.Walk.{Graph, graph_of, edge_length, IsWalk, walk_length, IsDistance}
 

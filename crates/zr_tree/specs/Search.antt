@@ -2,7 +2,7 @@
 use Rattle.std.specs.Prelude.{◌≡◌, ℕ, ◌<◌, ◌&&◌, ◌||◌, ◌==◌, Bool, List, Option, Some, None, is_none, length, if◌then◌else◌}
 use Rattle.std.specs.List.{list_any}
 use Rattle.std.specs.Option.{option_or}
-use Rattle.zr_climb.specs.Distance.{kept_at}
+use Rattle.zr_tree_parents.specs.Distance.{kept_at}
 use Rattle.zr_tree.specs.Index.{EdgeTable, name}
 use Rattle.zr_tree.specs.Tree.{dist}
 use Rattle.zr_tree.specs.Walk.{graph_of}

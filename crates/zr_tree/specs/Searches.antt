@@ -1,6 +1,6 @@
 -- The distances from each router that was searched from, by its index.
 use Rattle.std.specs.Prelude.{◌≡◌, ℕ, true, Bool, List, Option, Some, None, All, is_some, length, option_and_then, slice_index_or}
-use Rattle.zr_climb.specs.Distance.{kept_at, is_sum}
+use Rattle.zr_tree_parents.specs.Distance.{kept_at, is_sum}
 use Rattle.zr_tree.specs.Index.{EdgeTable}
 use Rattle.zr_tree.specs.Search.{AreDistances}
 

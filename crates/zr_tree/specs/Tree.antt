@@ -3,7 +3,7 @@ use Rattle.std.specs.Prelude.{ℕ, suc, zero, Bool, false, ◌&&◌, ◌||◌, L
 use Rattle.std.specs.List.{list_any, find, filter}
 use Rattle.std.specs.Option.{option_or, option_map_or}
 use Rattle.zr_id.specs.Zid.{is_named}
-use Rattle.zr_climb.specs.Distance.{is_sum}
+use Rattle.zr_tree_parents.specs.Distance.{is_sum}
 use Rattle.zr_tree.specs.Walk.{Graph, near, edge_length}
 
 -- a walk of length n leads from the root to x

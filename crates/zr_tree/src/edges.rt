@@ -9,10 +9,10 @@ ghost use Rattle.zr_tree.specs.Index.{name, AreEdges, EdgeTable, LinksBack};
 use std::alloc::{AllocError, Global};
 use std::marker::Model;
 use std::snapshot::Snapshot;
-use zr_climb::row::Row;
 use zr_graph::base::Base;
 use zr_id::record::LinkRecord;
 use zr_id::zid::Zid;
+use zr_tree_parents::row::Row;
 
 /// The neighbours of each router of a base, by the routers' indexes in ascending order.
 #[derive(Drop)]

@@ -139,7 +139,8 @@ fn own_index(base: &Base, names: &[Zid], me: Zid) -> usize
     ensures within { result < length base.now.records }
     ensures own { name base.now.records result ≡ base.now.me }
 {
-    let _records = base.records(); // they ascend, and the own one is among them
+    // Read, so that the proof knows that they ascend, and that the own one is among them.
+    let _records = base.records();
     let Some(index) = index_in(names, &me) else {
         unreachable!()
     };

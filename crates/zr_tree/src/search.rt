@@ -1,13 +1,13 @@
 //! How far each router is from a root: the search goes from one distance to the next.
 
 ghost use Rattle.std.specs.Prelude.{◌≡◌, ◌<◌, ℕ, IfOk, OnOk, length, flat_map, All};
-ghost use Rattle.zr_climb.specs.Climb.{row};
+ghost use Rattle.zr_tree_parents.specs.Climb.{row};
 ghost use Rattle.zr_tree.specs.Search.{Visits, AreDistances};
 
 use crate::edges::Edges;
 use std::alloc::{AllocError, Global};
 use std::mem::swap;
-use zr_climb::row::Row;
+use zr_tree_parents::row::Row;
 
 /// What a search from a root found.
 #[derive(Drop)]

@@ -1,7 +1,7 @@
 //! How far each router is from those that were searched from. No router is searched from twice.
 
 ghost use Rattle.std.specs.Prelude.{◌≡◌, ◌<◌, ◌++◌, ◌∷◌, [], true, None, IfOk, OnOk, length, All, replicate};
-ghost use Rattle.zr_climb.specs.Distance.{kept_at};
+ghost use Rattle.zr_tree_parents.specs.Distance.{kept_at};
 ghost use Rattle.zr_tree.specs.Search.{AreDistances};
 ghost use Rattle.zr_tree.specs.Searches.{distance_kept, is_nearer, AreSearches, Searched};
 
@@ -9,7 +9,7 @@ use crate::edges::Edges;
 use crate::search::search_from;
 use std::alloc::{AllocError, Global};
 use std::marker::Model;
-use zr_climb::parents::is_next;
+use zr_tree_parents::parents::is_next;
 
 // How far each router is from one, by index.
 #[derive(Drop)]

@@ -2,20 +2,20 @@
 
 ghost use Rattle.std.specs.Prelude.{◌≡◌, ◌<◌, ◌^◌, IfOk, OnOk, length, unwrap_or};
 ghost use Rattle.zr_graph.specs.Record.{ids};
-ghost use Rattle.zr_climb.specs.Climb.{at};
-ghost use Rattle.zr_climb.specs.Distance.{kept_at};
-ghost use Rattle.zr_climb.specs.Lists.{OnlyAdds};
+ghost use Rattle.zr_tree_parents.specs.Climb.{at};
+ghost use Rattle.zr_tree_parents.specs.Distance.{kept_at};
+ghost use Rattle.zr_tree_parents.specs.Lists.{OnlyAdds};
 ghost use Rattle.zr_tree.specs.Hop.{AreWays};
 
 use crate::edges::Edges;
 use crate::search::{Reach, search_from};
 use std::alloc::{AllocError, Global};
 use std::marker::Model;
-use zr_climb::children::children_number;
-use zr_climb::jumps::jumps_of;
-use zr_climb::lists::Lists;
-use zr_climb::parents::parents_of;
 use zr_id::zid::Zid;
+use zr_tree_parents::children::children_number;
+use zr_tree_parents::jumps::jumps_of;
+use zr_tree_parents::lists::Lists;
+use zr_tree_parents::parents::parents_of;
 
 /// The depth of a router that its root doesn't reach.
 pub const UNREACHED: u32 = u32::MAX;

@@ -14,10 +14,10 @@ use crate::tree::{Hop, Tree, UNREACHED};
 use crate::way::Way;
 use std::alloc::{AllocError, Global};
 use std::marker::Model;
-use zr_climb::lists::Lists;
 use zr_graph::base::{Base, copies_of};
 use zr_id::record::LinkRecord;
 use zr_id::zid::Zid;
+use zr_tree_parents::lists::Lists;
 
 /// The trees of a base's routers, each by the edges alone.
 ///

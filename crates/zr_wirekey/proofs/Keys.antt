@@ -6,10 +6,10 @@ use Rattle.zr_bytes.specs.Number.{writes}
 use Rattle.zr_bytes.specs.Text.{writes_text}
 use Rattle.zr_bytes.specs.Reading.{number_below, text_of}
 use Rattle.zr_bytes.proofs.Numbers.{written_spells}
-use Rattle.zr_format.specs.Format.{gives, ◌then◌, ◌allows◌, below, text}
-use Rattle.zr_format.specs.Laws.{anywhere}
-use Rattle.zr_format.proofs.Follows.{Follows, follows_gives, follows_choose, follows_then, follows_allows, follows_below, follows_text}
-use Rattle.zr_format.proofs.Spelled.{allows_spelled}
+use Rattle.zr_format_spec.specs.Format.{gives, ◌then◌, ◌allows◌, below, text}
+use Rattle.zr_format_spec.specs.Laws.{anywhere}
+use Rattle.zr_format_spec.proofs.Follows.{Follows, follows_gives, follows_choose, follows_then, follows_allows, follows_below, follows_text}
+use Rattle.zr_format_spec.proofs.Spelled.{allows_spelled}
 use Rattle.zr_key.specs.Key.{read_key}
 use Rattle.zr_wirekey.specs.Scopes.{Texts, text_at}
 use Rattle.zr_wirekey.specs.Spelling.{scope_of, suffix, key_parts, or_bad_key, key_format}

@@ -1,7 +1,7 @@
 -- The laws of numbered keys: what a reading call answers is what the bytes spell, and what is written is read again.
 use Rattle.std.specs.Prelude.{◌≡◌, ℕ, ◌^◌, ◌<◌, ◌≤◌, Bool, true, false, List, length, Some, Ok}
 use Rattle.zr_bytes.specs.Spelling.{HasOneReading}
-use Rattle.zr_format.specs.Laws.{anywhere, IsReadBy}
+use Rattle.zr_format_spec.specs.Laws.{anywhere, IsReadBy}
 use Rattle.zr_key.specs.Key.{read_key}
 use Rattle.zr_wirekey.specs.Scopes.{Texts, text_at}
 use Rattle.zr_wirekey.specs.Spelling.{key_format}

@@ -2,7 +2,7 @@
 use Rattle.std.specs.Prelude.{ℕ, ◌-◌, ◌^◌, Bool, List, [], ◌++◌, Option, Some, None, Result, Ok, Err}
 use Rattle.zr_bytes.specs.declared.read_error.ReadError.{ReadError}
 use Rattle.zr_bytes.specs.declared.read_error.ReadError.TheVariants.{BadKey, UnknownScope}
-use Rattle.zr_format.specs.Format.{Format, gives, choose, ◌then◌, ◌allows◌, below, text}
+use Rattle.zr_format_spec.specs.Format.{Format, gives, choose, ◌then◌, ◌allows◌, below, text}
 use Rattle.zr_key.specs.declared.key.KeyError.{KeyError}
 use Rattle.zr_key.specs.Key.{read_key}
 use Rattle.zr_wirekey.specs.Scopes.{Texts, text_at}

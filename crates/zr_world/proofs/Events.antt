@@ -3,23 +3,23 @@ use Rattle.std.proofs.Common.{◌≡◌, ℕ, Bool, true, false, List, Option, S
 use Rattle.std.specs.Prelude.{◌||◌, is_some}
 use Rattle.std.specs.Option.{option_map, option_map_or}
 use Rattle.std.proofs.lemmas.Bool.{false≢true}
+use Rattle.zr_lists.proofs.Options.{not_there}
 use Rattle.zr_id.specs.Zid.{is_named}
 use Rattle.zr_id.specs.declared.link.LinkNo.{LinkNo}
 use Rattle.zr_msg.specs.declared.event.Event.{Event}
 use Rattle.zr_msg.specs.declared.event.Event.TheVariants.{Up, Down, From}
 use Rattle.zr_msg.specs.declared.peer.Peer.{Peer}
-use Rattle.zr_table.specs.Event.{IsFresh, MayCome}
-use Rattle.zr_routing.specs.Tables.{link_at, link_to, free_link}
-use Rattle.zr_table.specs.State.{NodeState, new_link}
+use Rattle.zr_node_spec.specs.Event.{IsFresh, MayCome}
+use Rattle.zr_node_spec.specs.Tables.{link_at, link_to, free_link}
+use Rattle.zr_node_spec.specs.State.{NodeState, new_link}
 use Rattle.zr_msg.specs.declared.peer.LinkPeer.{LinkPeer}
-use Rattle.zr_table.specs.Table.{after}
-use Rattle.zr_network.specs.World.{EndState, RouterState, WorldState, router_of, client_of, is_taken, end_of, is_up}
-use Rattle.zr_network.specs.Sound.{AreUnique, IsSound}
-use Rattle.zr_network.proofs.Fits.{up_is_there}
-use Rattle.zr_network.proofs.Keyed.{not_there}
-use Rattle.zr_network.proofs.Names.{names, same_name}
-use Rattle.zr_network.proofs.Links.{free_is_free, numbered_link, unique_with, unique_without}
-use Rattle.zr_network.proofs.Nodes.{peers_from}
+use Rattle.zr_node_spec.specs.Table.{after}
+use Rattle.zr_world_spec.specs.World.{EndState, RouterState, WorldState, router_of, client_of, is_taken, end_of, is_up}
+use Rattle.zr_world_spec.specs.Sound.{AreUnique, IsSound}
+use Rattle.zr_world_spec.proofs.Fits.{up_is_there}
+use Rattle.zr_world_spec.proofs.Names.{names, same_name}
+use Rattle.zr_world_spec.proofs.Links.{free_is_free, numbered_link, unique_with, unique_without}
+use Rattle.zr_world_spec.proofs.Nodes.{peers_from}
 
 -- ---- links stay unique
 

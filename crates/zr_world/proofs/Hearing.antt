@@ -6,13 +6,13 @@ use Rattle.zr_msg.specs.declared.error.NodeError.{NodeError}
 use Rattle.zr_msg.specs.declared.error.NodeError.TheVariants as n
 use Rattle.zr_msg.specs.declared.event.Event.{Event}
 use Rattle.zr_msg.specs.declared.msg.Msg.{Msg}
-use Rattle.zr_command.specs.declared.error.ScriptError.{ScriptError}
-use Rattle.zr_command.specs.declared.error.ScriptError.TheVariants.{Limit, NoMemory}
-use Rattle.zr_told.specs.Hub.{HubState, HubSends, hub_after, hub_refuses}
+use Rattle.zr_script_spec.specs.declared.error.ScriptError.{ScriptError}
+use Rattle.zr_script_spec.specs.declared.error.ScriptError.TheVariants.{Limit, NoMemory}
+use Rattle.zr_told_spec.specs.Hub.{HubState, HubSends, hub_after, hub_refuses}
 use Rattle.zr_node.specs.Answer.{IsAnswered}
-use Rattle.zr_hub.specs.Done.{hub_refusal_of}
-use Rattle.zr_network.specs.World.{RouterState}
-use Rattle.zr_network.specs.Acts.{hub_of}
+use Rattle.zr_router_core.specs.Done.{hub_refusal_of}
+use Rattle.zr_world_spec.specs.World.{RouterState}
+use Rattle.zr_world_spec.specs.Acts.{hub_of}
 use Rattle.zr_world.specs.Hearing.{IsHeard, refusal}
 
 -- the same router with another state of it and of what its clients were told

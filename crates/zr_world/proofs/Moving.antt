@@ -13,22 +13,23 @@ use Rattle.zr_id.specs.declared.link.LinkNo.{LinkNo}
 use Rattle.zr_msg.specs.declared.event.Event.{Event}
 use Rattle.zr_msg.specs.declared.event.Event.TheVariants.{Down, From}
 use Rattle.zr_msg.specs.declared.msg.Msg.{Msg}
-use Rattle.zr_command.specs.declared.error.ScriptError.{ScriptError}
-use Rattle.zr_command.specs.declared.error.ScriptError.TheVariants as e
-use Rattle.zr_command.specs.declared.report.ReportLine.{ReportLine}
-use Rattle.zr_command.specs.declared.report.ReportLine.TheVariants.{Handled, Taken, Show}
-use Rattle.zr_table.specs.Event.{MayCome}
-use Rattle.zr_table.specs.Prefix.{IsPrefixBehind}
-use Rattle.zr_routing.specs.Tables.{link_to}
+use Rattle.zr_script_spec.specs.declared.error.ScriptError.{ScriptError}
+use Rattle.zr_script_spec.specs.declared.error.ScriptError.TheVariants as e
+use Rattle.zr_script_spec.specs.declared.report.ReportLine.{ReportLine}
+use Rattle.zr_script_spec.specs.declared.report.ReportLine.TheVariants.{Handled, Taken, Show}
+use Rattle.zr_node_spec.specs.Event.{MayCome}
+use Rattle.zr_lists.specs.Prefix.{IsPrefixBehind}
+use Rattle.zr_lists.proofs.Options.{not_there}
+use Rattle.zr_node_spec.specs.Tables.{link_to}
 use Rattle.zr_msg.specs.declared.peer.LinkPeer.{LinkPeer}
-use Rattle.zr_language.specs.Step.{◌>>=◌}
-use Rattle.zr_network.specs.World.{Tagged, EndState, End, Ends, RouterState, WorldState, end_cmp, with_ends, with_clients, with_router, router_of, client_of, is_taken, is_up, end_of, with_end, put_end, new_end, new_client, most_clients, lifted, lowered, with_wire, with_queue, changed, sent}
-use Rattle.zr_network.specs.Acts.{Outcome, unless, router_at, end_at, up_at, unbroken_at, oldest, refuses_of, hears, heard_by, number_to, peer_of, up_event, shown, received, client_step, up_step, down_step, handle_step, take_step, show_step}
-use Rattle.zr_network.specs.Sound.{AreUnique}
-use Rattle.zr_network.proofs.Ends.{keys_with_end}
-use Rattle.zr_network.proofs.Keyed.{not_there, there}
-use Rattle.zr_network.proofs.Telling.{heard_is}
-use Rattle.zr_ends.specs.Steps.{Gives, from_wire, from_queue}
+use Rattle.zr_script_spec.specs.Step.{◌>>=◌}
+use Rattle.zr_world_spec.specs.World.{Tagged, EndState, End, Ends, RouterState, WorldState, end_cmp, with_ends, with_clients, with_router, router_of, client_of, is_taken, is_up, end_of, with_end, put_end, new_end, new_client, most_clients, lifted, lowered, with_wire, with_queue, changed, sent}
+use Rattle.zr_world_spec.specs.Acts.{Outcome, unless, router_at, end_at, up_at, unbroken_at, oldest, refuses_of, hears, heard_by, number_to, peer_of, up_event, shown, received, client_step, up_step, down_step, handle_step, take_step, show_step}
+use Rattle.zr_world_spec.specs.Sound.{AreUnique}
+use Rattle.zr_world_spec.proofs.Ends.{keys_with_end}
+use Rattle.zr_world_spec.proofs.Keyed.{there}
+use Rattle.zr_world_spec.proofs.Telling.{heard_is}
+use Rattle.zr_world_ends.specs.Steps.{Gives, from_wire, from_queue}
 use Rattle.zr_world.specs.Hearing.{IsHeard}
 use Rattle.zr_world.specs.Living.{lines_of}
 use Rattle.zr_world.specs.Spread.{all_queued_on}

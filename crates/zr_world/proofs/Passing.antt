@@ -2,13 +2,13 @@
 use Rattle.std.proofs.Common.{◌≡◌, ℕ, Bool, true, false, cond, List, [], ◌∷◌, Option, Some, None, Result, Ok, Err, refl, sym, ap, ◌∙◌}
 use Rattle.std.specs.Prelude.{is_some}
 use Rattle.std.proofs.lemmas.Bool.{true≢false, false_from_ne_true}
-use Rattle.zr_command.specs.declared.error.ScriptError.{ScriptError}
-use Rattle.zr_language.specs.Step.{◌>>=◌}
-use Rattle.zr_network.specs.World.{Tagged, EndState, End, Ends, WorldState, router_of, end_of, is_end, with_end, with_queue, changed}
-use Rattle.zr_network.specs.Acts.{end_at, up_at, unbroken_at, oldest}
-use Rattle.zr_network.specs.Sound.{IsSound}
-use Rattle.zr_network.proofs.Ends.{keep_with_end}
-use Rattle.zr_ends.specs.Steps.{from_queue}
+use Rattle.zr_script_spec.specs.declared.error.ScriptError.{ScriptError}
+use Rattle.zr_script_spec.specs.Step.{◌>>=◌}
+use Rattle.zr_world_spec.specs.World.{Tagged, EndState, End, Ends, WorldState, router_of, end_of, is_end, with_end, with_queue, changed}
+use Rattle.zr_world_spec.specs.Acts.{end_at, up_at, unbroken_at, oldest}
+use Rattle.zr_world_spec.specs.Sound.{IsSound}
+use Rattle.zr_world_spec.proofs.Ends.{keep_with_end}
+use Rattle.zr_world_ends.specs.Steps.{from_queue}
 
 -- where the end is not there, no end changes
 pub changed_nowhere : (es : Ends) (e : End) (change : EndState → EndState) → is_some (end_of es e) ≡ false → es ≡ changed es e change

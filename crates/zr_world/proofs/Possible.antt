@@ -3,14 +3,14 @@
 use Rattle.std.proofs.Common.{◌≡◌, ℕ, List, Option, Some, None, Result, Ok, Err, sym, subst}
 use Rattle.std.specs.Prelude.{IfOk, IfSome}
 use Rattle.std.proofs.lemmas.Bool.{false≢true}
-use Rattle.zr_command.specs.declared.error.ScriptError.{ScriptError}
-use Rattle.zr_command.specs.declared.command.Act.{Act}
-use Rattle.zr_command.specs.declared.report.ReportLine.{ReportLine}
-use Rattle.zr_network.specs.World.{WorldState}
-use Rattle.zr_network.specs.Acts.{Outcome, outcome}
-use Rattle.zr_network.specs.Next.{next, book_step}
-use Rattle.zr_network.specs.Sound.{IsSound, AllAreTaken}
-use Rattle.zr_network.proofs.Sound.{Keeps, act_keeps, book_keeps, next_goes}
+use Rattle.zr_script_spec.specs.declared.error.ScriptError.{ScriptError}
+use Rattle.zr_script_spec.specs.declared.command.Act.{Act}
+use Rattle.zr_script_spec.specs.declared.report.ReportLine.{ReportLine}
+use Rattle.zr_world_spec.specs.World.{WorldState}
+use Rattle.zr_world_spec.specs.Acts.{Outcome, outcome}
+use Rattle.zr_world_spec.specs.Next.{next, book_step}
+use Rattle.zr_world_spec.specs.Sound.{IsSound, AllAreTaken}
+use Rattle.zr_world_spec.proofs.Sound.{Keeps, act_keeps, book_keeps, next_goes}
 use Rattle.zr_world.specs.Steps.{AppliesTo, Counts}
 use Rattle.zr_world.specs.Living.{IsPossible}
 

@@ -7,24 +7,25 @@ use Rattle.std.specs.Map.{keys_of}
 use Rattle.std.specs.Option.{option_map, option_map_or}
 use Rattle.std.proofs.lemmas.Bool.{false≢true, eqb-true, eq-eqb}
 use Rattle.std.proofs.lemmas.List.{append-nil, map-append}
+use Rattle.zr_lists.proofs.Truths.{same_test}
 use Rattle.zr_id.specs.Zid.{is_named}
 use Rattle.zr_id.specs.declared.link.LinkNo.{LinkNo}
 use Rattle.zr_msg.specs.declared.msg.Msg.{Msg}
 use Rattle.zr_msg.specs.declared.event.Event.{Event}
-use Rattle.zr_table.specs.Event.{on_link}
-use Rattle.zr_routing.specs.Tables.{is_link, link_at, link_to}
+use Rattle.zr_node_spec.specs.Event.{on_link}
+use Rattle.zr_node_spec.specs.Tables.{is_link, link_at, link_to}
 use Rattle.zr_msg.specs.declared.peer.LinkPeer.{LinkPeer}
-use Rattle.zr_table.specs.Table.{after}
-use Rattle.zr_told.specs.Hub.{hub_sends, HubSends}
-use Rattle.zr_tree.proofs.Finds.{find_in, in_find}
-use Rattle.zr_network.specs.World.{Tagged, RouterState, EndState, End, Ends, end_cmp, end_of, changed, queued}
-use Rattle.zr_network.specs.Acts.{sends_to, all_queued, told_to, all_told, hub_of}
-use Rattle.zr_network.specs.Sound.{AreUnique}
-use Rattle.zr_network.proofs.Names.{names, same_name}
-use Rattle.zr_network.proofs.Ends.{end_parts, changed_is, keys_changed, waiting_is, keys_waiting, all_queued_is, keys_all_queued}
-use Rattle.zr_network.proofs.Keyed.{each_in}
-use Rattle.zr_network.proofs.Links.{numbered_link, named_link}
-use Rattle.zr_ends.proofs.Same.{same_ends}
+use Rattle.zr_node_spec.specs.Table.{after}
+use Rattle.zr_told_spec.specs.Hub.{hub_sends, HubSends}
+use Rattle.zr_lists.proofs.Finds.{find_in, in_find}
+use Rattle.zr_lists.proofs.Elements.{each_in}
+use Rattle.zr_world_spec.specs.World.{Tagged, RouterState, EndState, End, Ends, end_cmp, end_of, changed, queued}
+use Rattle.zr_world_spec.specs.Acts.{sends_to, all_queued, told_to, all_told, hub_of}
+use Rattle.zr_world_spec.specs.Sound.{AreUnique}
+use Rattle.zr_world_spec.proofs.Names.{names, same_name}
+use Rattle.zr_world_spec.proofs.Ends.{end_parts, changed_is, keys_changed, waiting_is, keys_waiting, all_queued_is, keys_all_queued}
+use Rattle.zr_world_spec.proofs.Links.{numbered_link, named_link}
+use Rattle.zr_world_ends.proofs.Same.{same_ends}
 use Rattle.zr_world.specs.Spread.{queued_on, all_queued_on}
 
 -- ---- links and neighbours
@@ -33,20 +34,14 @@ use Rattle.zr_world.specs.Spread.{queued_on, all_queued_on}
 abbrev leads : List LinkPeer → List ℕ → LinkNo → Bool
 leads links y link = option_map_or (λ l. is_named l.peer.id y) (link_at links link.0) false
 
-either_way : (a b : Bool) → (a ≡ true → b ≡ true) → (b ≡ true → a ≡ true) → a ≡ b
-either_way true true f g = refl
-either_way false false f g = refl
-either_way true false f g = sym (f refl)
-either_way false true f g = g refl
-
 -- of two links that are found by one number, or that lead to one neighbour, the one is the other
 leads_is : (links : List LinkPeer) (y : List ℕ) (l : LinkPeer) → AreUnique links → link_to links y ≡ Some l → (n : LinkNo) → leads links y n ≡ (n.0 == l.link.0)
 leads_is links y l h found n = by (link_at links n.0) refl
   where
     by : (o : Option LinkPeer) → link_at links n.0 ≡ o → option_map_or (λ k. is_named k.peer.id y) o false ≡ (n.0 == l.link.0)
-    by None e = either_way false (n.0 == l.link.0) (λ k. absurd (false≢true k))
+    by None e = same_test false (n.0 == l.link.0) (λ k. absurd (false≢true k))
         (λ k. ap is_some (sym e ∙ ap (link_at links) (eqb-true n.0 l.link.0 k) ∙ numbered_link links h y l found))
-    by (Some k) e = either_way (is_named k.peer.id y) (n.0 == l.link.0) there back
+    by (Some k) e = same_test (is_named k.peer.id y) (n.0 == l.link.0) there back
       where
         there : is_named k.peer.id y ≡ true → (n.0 == l.link.0) ≡ true
         there same =
@@ -66,7 +61,7 @@ leads_none links y none n = by (link_at links n.0) refl
   where
     by : (o : Option LinkPeer) → link_at links n.0 ≡ o → option_map_or (λ k. is_named k.peer.id y) o false ≡ false
     by None e = refl
-    by (Some k) e = either_way (is_named k.peer.id y) false there (λ b. absurd (false≢true b))
+    by (Some k) e = same_test (is_named k.peer.id y) false there (λ b. absurd (false≢true b))
       where
         there : is_named k.peer.id y ≡ true → false ≡ true
         there same =

@@ -6,15 +6,15 @@ use Rattle.zr_msg.specs.declared.event.Event.TheVariants.{Down, From}
 use Rattle.zr_msg.specs.declared.msg.Msg.{Msg}
 use Rattle.zr_msg.specs.declared.peer.LinkPeer.{LinkPeer}
 use Rattle.zr_msg.specs.declared.peer.Role.TheVariants as role
-use Rattle.zr_command.specs.declared.error.ScriptError.{ScriptError}
-use Rattle.zr_command.specs.declared.error.ScriptError.TheVariants as e
-use Rattle.zr_command.specs.declared.report.ReportLine.{ReportLine}
-use Rattle.zr_command.specs.declared.report.ReportLine.TheVariants.{Handled}
-use Rattle.zr_routing.specs.Tables.{link_to}
-use Rattle.zr_language.specs.Step.{◌>>=◌}
-use Rattle.zr_network.specs.World.{Tagged, EndState, Ends, RouterState, WorldState, with_ends, router_of, is_taken, end_of, with_end, put_end, new_end, most_clients, lifted}
-use Rattle.zr_network.specs.Acts.{hears, peer_of, up_event, client_step, up_step, down_step, handle_step}
-use Rattle.zr_ends.specs.Steps.{from_wire}
+use Rattle.zr_script_spec.specs.declared.error.ScriptError.{ScriptError}
+use Rattle.zr_script_spec.specs.declared.error.ScriptError.TheVariants as e
+use Rattle.zr_script_spec.specs.declared.report.ReportLine.{ReportLine}
+use Rattle.zr_script_spec.specs.declared.report.ReportLine.TheVariants.{Handled}
+use Rattle.zr_node_spec.specs.Tables.{link_to}
+use Rattle.zr_script_spec.specs.Step.{◌>>=◌}
+use Rattle.zr_world_spec.specs.World.{Tagged, EndState, Ends, RouterState, WorldState, with_ends, router_of, is_taken, end_of, with_end, put_end, new_end, most_clients, lifted}
+use Rattle.zr_world_spec.specs.Acts.{hears, peer_of, up_event, client_step, up_step, down_step, handle_step}
+use Rattle.zr_world_ends.specs.Steps.{from_wire}
 use Rattle.zr_world.specs.Hearing.{IsHeard, IsHandled}
 use Rattle.zr_world.specs.Living.{lines_of}
 use Rattle.zr_world.specs.Steps.{AppliesTo, Does}

@@ -2,13 +2,13 @@
 use Rattle.std.proofs.Common.{◌≡◌, cond, List, [], ◌∷◌, Option, Some, None, Result, Ok, Err, refl, sym, ap, ◌∙◌}
 use Rattle.std.specs.Prelude.{is_some}
 use Rattle.std.proofs.lemmas.Map.Steps.{set_value_same}
-use Rattle.zr_command.specs.declared.error.ScriptError.{ScriptError}
-use Rattle.zr_language.specs.Step.{◌>>=◌}
-use Rattle.zr_network.specs.World.{Tagged, EndState, End, Ends, is_end, end_of, with_end, with_wire}
-use Rattle.zr_network.specs.Acts.{end_at, up_at, oldest}
-use Rattle.zr_network.proofs.Ends.{ends, with_end_is}
-use Rattle.zr_network.proofs.Keyed.{set_twice}
-use Rattle.zr_ends.specs.Steps.{changed_at, returned, from_wire}
+use Rattle.zr_script_spec.specs.declared.error.ScriptError.{ScriptError}
+use Rattle.zr_script_spec.specs.Step.{◌>>=◌}
+use Rattle.zr_world_spec.specs.World.{Tagged, EndState, End, Ends, is_end, end_of, with_end, with_wire}
+use Rattle.zr_world_spec.specs.Acts.{end_at, up_at, oldest}
+use Rattle.zr_world_spec.proofs.Ends.{ends, with_end_is}
+use Rattle.zr_world_spec.proofs.Keyed.{set_twice}
+use Rattle.zr_world_ends.specs.Steps.{changed_at, returned, from_wire}
 
 -- an end that was changed and is changed back
 restored : (es : Ends) (q : End) (s t : EndState) (back : EndState → EndState) → end_of es q ≡ Some s → back t ≡ s →

@@ -14,11 +14,11 @@ use Rattle.zr_tree.specs.Walk.{Graph, IsWalk, walk_length}
 use Rattle.zr_tree.specs.Tree.{dist, reached}
 use Rattle.zr_tree.specs.Laws.{IsGraph}
 use Rattle.zr_tree.proofs.Paths.{bounded, walk_leads, exact, walk_back}
-use Rattle.zr_tree.proofs.Finds.{any_in, in_any}
-use Rattle.zr_network.specs.World.{EndState, WorldState, Ends, end_of, is_up, is_linked}
-use Rattle.zr_network.specs.Joined.{graph, is_joined}
-use Rattle.zr_network.specs.Sound.{IsSound}
-use Rattle.zr_network.proofs.Names.{names, same_name}
+use Rattle.zr_lists.proofs.Finds.{any_in, in_any}
+use Rattle.zr_world_spec.specs.World.{EndState, WorldState, Ends, end_of, is_up, is_linked}
+use Rattle.zr_world_spec.specs.Joined.{graph, is_joined}
+use Rattle.zr_world_spec.specs.Sound.{IsSound}
+use Rattle.zr_world_spec.proofs.Names.{names, same_name}
 use Rattle.zr_world.specs.Search.{IsSearched}
 
 -- ---- names in lists

@@ -6,13 +6,13 @@ use Rattle.std.proofs.lemmas.List.{map-append, take-append-drop}
 use Rattle.zr_id.specs.Record.{RecordState}
 use Rattle.zr_id.specs.Zid.{is_named}
 use Rattle.zr_graph.specs.Record.{ids}
-use Rattle.zr_command.specs.declared.report.ReportLine.{ReportLine}
-use Rattle.zr_table.specs.Prefix.{IsPrefixBehind}
+use Rattle.zr_script_spec.specs.declared.report.ReportLine.{ReportLine}
+use Rattle.zr_lists.specs.Prefix.{IsPrefixBehind}
 use Rattle.zr_log.specs.declared.log.Log.{Log}
 use Rattle.zr_world.specs.Show.{record_lines, parent_told, parent_lines, source_lines}
 use Rattle.zr_tree.specs.Walk.{graph_of}
 use Rattle.zr_tree.specs.Tree.{parent}
-use Rattle.zr_command.specs.declared.report.ReportLine.TheVariants.{Parent}
+use Rattle.zr_script_spec.specs.declared.report.ReportLine.TheVariants.{Parent}
 
 -- ---- prefixes
 

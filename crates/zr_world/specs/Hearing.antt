@@ -6,12 +6,12 @@ use Rattle.zr_msg.specs.declared.error.NodeError.TheVariants as n
 use Rattle.zr_msg.specs.declared.event.Event.{Event}
 use Rattle.zr_msg.specs.declared.event.Event.TheVariants.{Up, Down, From}
 use Rattle.zr_msg.specs.declared.msg.Msg.{Msg}
-use Rattle.zr_command.specs.declared.error.ScriptError.{ScriptError}
-use Rattle.zr_command.specs.declared.error.ScriptError.TheVariants.{Limit, NoMemory}
-use Rattle.zr_told.specs.Hub.{HubSends}
-use Rattle.zr_network.specs.World.{Tagged, RouterState, End, Ends, end_of}
-use Rattle.zr_network.specs.Acts.{having_told, hub_of, refuses_of}
-use Rattle.zr_ends.specs.Steps.{changed_at, returned}
+use Rattle.zr_script_spec.specs.declared.error.ScriptError.{ScriptError}
+use Rattle.zr_script_spec.specs.declared.error.ScriptError.TheVariants.{Limit, NoMemory}
+use Rattle.zr_told_spec.specs.Hub.{HubSends}
+use Rattle.zr_world_spec.specs.World.{Tagged, RouterState, End, Ends, end_of}
+use Rattle.zr_world_spec.specs.Acts.{having_told, hub_of, refuses_of}
+use Rattle.zr_world_ends.specs.Steps.{changed_at, returned}
 
 -- what a router's refusal is in a script
 abbrev pub refusal : NodeError → ScriptError

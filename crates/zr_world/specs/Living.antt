@@ -1,12 +1,12 @@
 -- A world as its callers see it, and what its calls have done.
 use Rattle.std.specs.Prelude.{◌≡◌, ℕ, Bool, true, false, List, [], ◌++◌, Result, Ok, Err, IfOk, is_ok}
-use Rattle.zr_command.specs.declared.command.Act.{Act}
-use Rattle.zr_command.specs.declared.error.ScriptError.{ScriptError}
-use Rattle.zr_command.specs.declared.error.ScriptError.TheVariants.{NoMemory}
-use Rattle.zr_command.specs.declared.report.ReportLine.{ReportLine}
-use Rattle.zr_table.specs.Prefix.{IsPrefixBehind}
-use Rattle.zr_network.specs.World.{WorldState, empty_world}
-use Rattle.zr_network.specs.Acts.{Outcome, outcome}
+use Rattle.zr_script_spec.specs.declared.command.Act.{Act}
+use Rattle.zr_script_spec.specs.declared.error.ScriptError.{ScriptError}
+use Rattle.zr_script_spec.specs.declared.error.ScriptError.TheVariants.{NoMemory}
+use Rattle.zr_script_spec.specs.declared.report.ReportLine.{ReportLine}
+use Rattle.zr_lists.specs.Prefix.{IsPrefixBehind}
+use Rattle.zr_world_spec.specs.World.{WorldState, empty_world}
+use Rattle.zr_world_spec.specs.Acts.{Outcome, outcome}
 
 -- a world as a value: its state, and whether an earlier call was out of memory
 pub record Living : Type 0 where

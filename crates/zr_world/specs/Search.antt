@@ -3,8 +3,8 @@ use Rattle.std.specs.Prelude.{◌≡◌, ℕ, true, false, List}
 use Rattle.std.specs.Map.{keys_of}
 use Rattle.zr_graph.specs.Record.{has}
 use Rattle.zr_tree.specs.Tree.{reached}
-use Rattle.zr_network.specs.World.{WorldState, is_linked}
-use Rattle.zr_network.specs.Joined.{graph}
+use Rattle.zr_world_spec.specs.World.{WorldState, is_linked}
+use Rattle.zr_world_spec.specs.Joined.{graph}
 
 -- The routers that are missing were not reached so far, and of those that were reached the last have been found just now: the neighbours
 -- of the others are among them.

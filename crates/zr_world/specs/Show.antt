@@ -5,10 +5,10 @@ use Rattle.zr_id.specs.Zid.{is_named}
 use Rattle.zr_graph.specs.Record.{ids}
 use Rattle.zr_tree.specs.Walk.{graph_of}
 use Rattle.zr_tree.specs.Tree.{parent}
-use Rattle.zr_command.specs.declared.report.ReportLine.{ReportLine}
-use Rattle.zr_command.specs.declared.report.ReportLine.TheVariants.{Record, Parent}
+use Rattle.zr_script_spec.specs.declared.report.ReportLine.{ReportLine}
+use Rattle.zr_script_spec.specs.declared.report.ReportLine.TheVariants.{Record, Parent}
 use Rattle.zr_log.specs.declared.log.Log.{Log}
-use Rattle.zr_network.specs.Acts.{source_line}
+use Rattle.zr_world_spec.specs.Acts.{source_line}
 
 -- the records
 abbrev pub record_lines : List RecordState → List ReportLine

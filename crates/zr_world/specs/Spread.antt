@@ -3,9 +3,9 @@ use Rattle.std.specs.Prelude.{ℕ, List, [], ◌∷◌}
 use Rattle.std.specs.Option.{option_map_or}
 use Rattle.zr_id.specs.declared.link.LinkNo.{LinkNo}
 use Rattle.zr_msg.specs.declared.msg.Msg.{Msg}
-use Rattle.zr_routing.specs.Tables.{link_at}
+use Rattle.zr_node_spec.specs.Tables.{link_at}
 use Rattle.zr_msg.specs.declared.peer.LinkPeer.{LinkPeer}
-use Rattle.zr_network.specs.World.{Ends, changed, queued}
+use Rattle.zr_world_spec.specs.World.{Ends, changed, queued}
 
 -- a message for a link is queued at the router's end to that link's peer, where the link is up
 abbrev pub queued_on : List LinkPeer → Ends → List ℕ → LinkNo → Msg → ℕ → Ends

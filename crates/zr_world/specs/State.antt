@@ -1,6 +1,6 @@
 -- The state of a world that its tables stand for.
-use Rattle.zr_network.specs.World.{WorldState}
-use Rattle.zr_world.specs.declared.tables.Tables.{Tables}
+use Rattle.zr_world_spec.specs.World.{WorldState}
+use Rattle.zr_world.specs.declared.tables.WorldTables.{WorldTables}
 
-abbrev pub state_of : Tables → WorldState
+abbrev pub state_of : WorldTables → WorldState
 state_of t = record { routers = t.routers.entries; clients = t.clients.entries; ends = t.ends; booked = t.booked }

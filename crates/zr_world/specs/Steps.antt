@@ -1,11 +1,11 @@
 -- What a call has done to the tables: what is said, or the refusal that is said and nothing else.
 use Rattle.std.specs.Prelude.{◌≡◌, true, List, [], ◌++◌, Result, Ok, Err, IfOk, is_ok}
-use Rattle.zr_command.specs.declared.error.ScriptError.{ScriptError}
-use Rattle.zr_command.specs.declared.error.ScriptError.TheVariants.{NoMemory}
-use Rattle.zr_command.specs.declared.report.ReportLine.{ReportLine}
-use Rattle.zr_table.specs.Prefix.{IsPrefixBehind}
-use Rattle.zr_network.specs.World.{WorldState}
-use Rattle.zr_network.specs.Acts.{Outcome}
+use Rattle.zr_script_spec.specs.declared.error.ScriptError.{ScriptError}
+use Rattle.zr_script_spec.specs.declared.error.ScriptError.TheVariants.{NoMemory}
+use Rattle.zr_script_spec.specs.declared.report.ReportLine.{ReportLine}
+use Rattle.zr_lists.specs.Prefix.{IsPrefixBehind}
+use Rattle.zr_world_spec.specs.World.{WorldState}
+use Rattle.zr_world_spec.specs.Acts.{Outcome}
 use Rattle.zr_world.specs.Living.{lines_of}
 
 -- What a change did is what is said; a refusal changes nothing; where memory ran out nothing is said.

@@ -5,21 +5,21 @@ ghost use Rattle.zr_msg.specs.Extras.{no_extras};
 ghost use Rattle.zr_world.specs.Steps.{Does};
 
 use crate::settled::is_unbroken;
-use crate::tables::Tables;
+use crate::tables::WorldTables;
 use std::alloc::{AllocError, Global};
-use zr_command::error::ScriptError;
 use zr_id::zid::Zid;
 use zr_msg::content::Content;
 use zr_msg::extras::Extras;
 use zr_msg::msg::{Msg, Target};
 use zr_msg::shared::Shared;
+use zr_script_spec::error::ScriptError;
 
-impl Tables {
-    ghost use Rattle.zr_network.specs.Acts.{get_step, reply_step, end_step};
+impl WorldTables {
+    ghost use Rattle.zr_world_spec.specs.Acts.{get_step, reply_step, end_step};
     ghost use Rattle.zr_world.specs.State.{state_of};
 
     /// A client asks a query under a number that is none of its open ones. On its link no tree is named.
-    #[tactic(auto, using(std::proofs::lemmas::Map::Steps::set_value_same), unfolding(zr_network::specs::Acts::get_step, zr_network::specs::Acts::client_sends))]
+    #[tactic(auto, using(std::proofs::lemmas::Map::Steps::set_value_same), unfolding(zr_world_spec::specs::Acts::get_step, zr_world_spec::specs::Acts::client_sends))]
     pub fn get(
         &mut self,
         line: u64,
@@ -49,7 +49,7 @@ impl Tables {
     }
 
     /// A client replies to a request that it was sent and has not ended.
-    #[tactic(auto, unfolding(zr_network::specs::Acts::reply_step, zr_network::specs::Acts::client_sends))]
+    #[tactic(auto, unfolding(zr_world_spec::specs::Acts::reply_step, zr_world_spec::specs::Acts::client_sends))]
     pub fn reply(
         &mut self,
         line: u64,
@@ -75,7 +75,7 @@ impl Tables {
     }
 
     /// A client ends a request that it was sent and has not ended.
-    #[tactic(auto, using(std::proofs::lemmas::Map::Steps::set_value_same), unfolding(zr_network::specs::Acts::end_step, zr_network::specs::Acts::client_sends))]
+    #[tactic(auto, using(std::proofs::lemmas::Map::Steps::set_value_same), unfolding(zr_world_spec::specs::Acts::end_step, zr_world_spec::specs::Acts::client_sends))]
     pub fn end(&mut self, line: u64, client: Zid, number: u32) -> Result<(), ScriptError>
         ensures { Does result (end_step (state_of self.old) line client number) (state_of self.old) (state_of self.new) }
     {

@@ -2,8 +2,8 @@
 //! has not ended.
 
 ghost use Rattle.std.specs.Prelude.{◌≡◌, ◌==◌, ◌∷◌, ◌++◌, [], not, nat_le, filter, length, OnOk};
-ghost use Rattle.zr_network.specs.World.{new_client, most_queries};
-ghost use Rattle.zr_network.specs.Acts.{ids_of, has_id, has_number, declaring, undeclaring, wanting, unwanting, asking, ending, receiving};
+ghost use Rattle.zr_world_spec.specs.World.{new_client, most_queries};
+ghost use Rattle.zr_world_spec.specs.Acts.{ids_of, has_id, has_number, declaring, undeclaring, wanting, unwanting, asking, ending, receiving};
 
 use std::alloc::{AllocError, Global};
 use std::marker::Model;
@@ -26,7 +26,7 @@ pub struct Client {
 }
 
 impl Model for Client {
-    ghost use Rattle.zr_network.specs.World.{ClientState};
+    ghost use Rattle.zr_world_spec.specs.World.{ClientState};
 
     ghost Value = { ClientState };
 

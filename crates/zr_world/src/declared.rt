@@ -1,30 +1,30 @@
 //! What clients declare and publish.
 
 ghost use Rattle.std.specs.Prelude.{◌≡◌};
-ghost use Rattle.zr_network.specs.World.{router_of};
-ghost use Rattle.zr_network.specs.Acts.{weighed};
-ghost use Rattle.zr_table.specs.Table.{able_kind};
+ghost use Rattle.zr_world_spec.specs.World.{router_of};
+ghost use Rattle.zr_world_spec.specs.Acts.{weighed};
+ghost use Rattle.zr_node_spec.specs.Table.{able_kind};
 ghost use Rattle.zr_world.specs.Messages.{declaration, withdrawal};
 ghost use Rattle.zr_world.specs.Steps.{Changes, Does};
 
-use crate::router::Router;
+use crate::router::WorldRouter;
 use crate::settled::is_unbroken;
-use crate::tables::Tables;
+use crate::tables::WorldTables;
 use std::collections::BTreeMap;
-use zr_command::error::ScriptError;
 use zr_id::zid::Zid;
 use zr_key::key::KeyExpr;
 use zr_msg::content::Content;
 use zr_msg::decl::Kind;
 use zr_msg::msg::Msg;
+use zr_script_spec::error::ScriptError;
 
-impl Tables {
-    ghost use Rattle.zr_network.specs.World.{is_unbroken};
-    ghost use Rattle.zr_network.specs.Acts.{declare_step, undeclare_step, publish_step};
+impl WorldTables {
+    ghost use Rattle.zr_world_spec.specs.World.{is_unbroken};
+    ghost use Rattle.zr_world_spec.specs.Acts.{declare_step, undeclare_step, publish_step};
     ghost use Rattle.zr_world.specs.State.{state_of};
 
     /// A client declares something under an id that is new in its sort.
-    #[tactic(auto, using(std::proofs::lemmas::Map::Steps::set_value_same), unfolding(zr_network::specs::Acts::declare_step, zr_network::specs::Acts::client_sends))]
+    #[tactic(auto, using(std::proofs::lemmas::Map::Steps::set_value_same), unfolding(zr_world_spec::specs::Acts::declare_step, zr_world_spec::specs::Acts::client_sends))]
     pub fn declare(
         &mut self,
         line: u64,
@@ -67,7 +67,7 @@ impl Tables {
     }
 
     /// A client takes back what it declared of a sort under an id.
-    #[tactic(auto, using(std::proofs::lemmas::Map::Steps::set_value_same), unfolding(zr_network::specs::Acts::undeclare_step, zr_network::specs::Acts::client_sends))]
+    #[tactic(auto, using(std::proofs::lemmas::Map::Steps::set_value_same), unfolding(zr_world_spec::specs::Acts::undeclare_step, zr_world_spec::specs::Acts::client_sends))]
     pub fn undeclare(
         &mut self,
         line: u64,
@@ -93,7 +93,7 @@ impl Tables {
     }
 
     /// A client publishes a sample. On its link no tree is named.
-    #[tactic(auto, unfolding(zr_network::specs::Acts::publish_step, zr_network::specs::Acts::client_sends))]
+    #[tactic(auto, unfolding(zr_world_spec::specs::Acts::publish_step, zr_world_spec::specs::Acts::client_sends))]
     pub fn publish(&mut self, line: u64, client: Zid, content: Content) -> Result<(), ScriptError>
         ensures { Does result (publish_step (state_of self.old) line client content) (state_of self.old) (state_of self.new) }
     {
@@ -114,7 +114,7 @@ impl Tables {
 /// What has this text as its key weighs on its router, if there is room for it.
 #[tactic(auto, using(std::proofs::lemmas::Map::Steps::set_value_same))]
 pub(crate) fn weigh(
-    routers: &mut BTreeMap<Zid, Router>,
+    routers: &mut BTreeMap<Zid, WorldRouter>,
     name: &Zid,
     text: &[u8],
 ) -> Result<(), ScriptError>

@@ -1,25 +1,25 @@
 //! What clients ask to be told of others' declarations.
 
 ghost use Rattle.std.specs.Prelude.{◌≡◌, [], unwrap_or};
-ghost use Rattle.zr_command.specs.Mode.{is_current, is_future};
+ghost use Rattle.zr_script_spec.specs.Mode.{is_current, is_future};
 ghost use Rattle.zr_world.specs.Steps.{Does};
 
 use crate::declared::weigh;
 use crate::settled::is_unbroken;
-use crate::tables::Tables;
-use zr_command::command::Mode;
-use zr_command::error::ScriptError;
+use crate::tables::WorldTables;
 use zr_id::zid::Zid;
 use zr_key::key::KeyExpr;
 use zr_msg::msg::{Kinds, Msg};
+use zr_script_spec::command::Mode;
+use zr_script_spec::error::ScriptError;
 
-impl Tables {
-    ghost use Rattle.zr_network.specs.Acts.{interest_step, uninterest_step};
+impl WorldTables {
+    ghost use Rattle.zr_world_spec.specs.Acts.{interest_step, uninterest_step};
     ghost use Rattle.zr_world.specs.State.{state_of};
 
     /// A client asks to be told what others declare, under an id that none of its interests has. One in what is declared later goes on, and
     /// weighs on its router.
-    #[tactic(auto, using(std::proofs::lemmas::Map::Steps::set_value_same), unfolding(zr_network::specs::Acts::interest_step, zr_network::specs::Acts::client_sends))]
+    #[tactic(auto, using(std::proofs::lemmas::Map::Steps::set_value_same), unfolding(zr_world_spec::specs::Acts::interest_step, zr_world_spec::specs::Acts::client_sends))]
     pub fn interest(
         &mut self,
         line: u64,
@@ -54,7 +54,7 @@ impl Tables {
     }
 
     /// A client ends its interest of an id.
-    #[tactic(auto, using(std::proofs::lemmas::Map::Steps::set_value_same), unfolding(zr_network::specs::Acts::uninterest_step, zr_network::specs::Acts::client_sends))]
+    #[tactic(auto, using(std::proofs::lemmas::Map::Steps::set_value_same), unfolding(zr_world_spec::specs::Acts::uninterest_step, zr_world_spec::specs::Acts::client_sends))]
     pub fn uninterest(&mut self, line: u64, client: Zid, id: u32) -> Result<(), ScriptError>
         ensures { Does result (uninterest_step (state_of self.old) line client id) (state_of self.old) (state_of self.new) }
     {

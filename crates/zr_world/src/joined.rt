@@ -9,15 +9,15 @@ ghost use Rattle.std.specs.Cmp.Lexicographic.{slice_cmp};
 ghost use Rattle.zr_id.specs.Zid.{is_named};
 ghost use Rattle.zr_graph.specs.Record.{has};
 
-use crate::tables::Tables;
+use crate::tables::WorldTables;
 use std::alloc::AllocError;
 use zr_id::zid::Zid;
 
-impl Tables {
+impl WorldTables {
     ghost use Rattle.zr_tree.specs.Laws.{IsGraph};
-    ghost use Rattle.zr_network.specs.World.{is_linked};
-    ghost use Rattle.zr_network.specs.Joined.{graph, is_joined};
-    ghost use Rattle.zr_network.specs.Sound.{IsSound};
+    ghost use Rattle.zr_world_spec.specs.World.{is_linked};
+    ghost use Rattle.zr_world_spec.specs.Joined.{graph, is_joined};
+    ghost use Rattle.zr_world_spec.specs.Sound.{IsSound};
     ghost use Rattle.zr_world.specs.Search.{IsSearched};
     ghost use Rattle.zr_world.specs.State.{state_of};
 

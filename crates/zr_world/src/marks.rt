@@ -1,30 +1,30 @@
 //! Phases begin, and routers' tables are told.
 
 ghost use Rattle.std.specs.Prelude.{◌≡◌, ◌++◌, IfOk, OnOk, OnErr};
-ghost use Rattle.zr_table.specs.Prefix.{IsPrefixBehind};
-ghost use Rattle.zr_network.specs.Acts.{shown, shown_base, source_line};
+ghost use Rattle.zr_lists.specs.Prefix.{IsPrefixBehind};
+ghost use Rattle.zr_world_spec.specs.Acts.{shown, shown_base, source_line};
 ghost use Rattle.zr_world.specs.Show.{record_lines, parent_lines, parent_told, source_lines};
 ghost use Rattle.zr_world.specs.Steps.{AppliesTo};
 
-use crate::tables::Tables;
+use crate::tables::WorldTables;
 use std::alloc::{AllocError, Global};
-use zr_command::error::ScriptError;
-use zr_command::report::ReportLine;
 use zr_graph::base::Base;
-use zr_hub::hub::Hub;
 use zr_id::record::LinkRecord;
 use zr_id::zid::Zid;
 use zr_log::log::Log;
 use zr_msg::decl::{Decl, Decls};
+use zr_router_core::hub::Hub;
+use zr_script_spec::error::ScriptError;
+use zr_script_spec::report::ReportLine;
 use zr_tree::trees::Trees;
 
-impl Tables {
-    ghost use Rattle.zr_network.specs.Acts.{mark_step, show_step};
-    ghost use Rattle.zr_network.specs.Sound.{IsSound};
+impl WorldTables {
+    ghost use Rattle.zr_world_spec.specs.Acts.{mark_step, show_step};
+    ghost use Rattle.zr_world_spec.specs.Sound.{IsSound};
     ghost use Rattle.zr_world.specs.State.{state_of};
 
     /// A phase begins, where the world is settled and its routers are joined.
-    #[tactic(auto, unfolding(zr_network::specs::Acts::mark_step))]
+    #[tactic(auto, unfolding(zr_world_spec::specs::Acts::mark_step))]
     pub fn mark(&mut self, line: u64, report: &mut Vec<ReportLine>) -> Result<(), ScriptError>
         requires { IsSound (state_of self.old) }
         ensures { AppliesTo result (mark_step (state_of self.old) line) (state_of self.old) (state_of self.new) report.old.items report.new.items }
@@ -40,7 +40,7 @@ impl Tables {
     }
 
     /// A router's tables: its records, its parent in the tree of each other router, and what it knows of each log.
-    #[tactic(auto, unfolding(zr_network::specs::Acts::show_step))]
+    #[tactic(auto, unfolding(zr_world_spec::specs::Acts::show_step))]
     pub fn show(&mut self, router: Zid, report: &mut Vec<ReportLine>) -> Result<(), ScriptError>
         ensures { AppliesTo result (show_step (state_of self.old) router) (state_of self.old) (state_of self.new) report.old.items report.new.items }
     {

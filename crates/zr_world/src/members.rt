@@ -4,14 +4,14 @@ ghost use Rattle.std.specs.Prelude.{◌≡◌};
 ghost use Rattle.zr_world.specs.Steps.{Does};
 
 use crate::client::Client;
-use crate::router::Router;
+use crate::router::WorldRouter;
 use crate::settled::is_unbroken;
 use crate::spread::spread;
-use crate::tables::Tables;
-use zr_command::error::ScriptError;
-use zr_ends::end::LinkEnd;
+use crate::tables::WorldTables;
 use zr_id::zid::Zid;
 use zr_msg::peer::{Peer, Role};
+use zr_script_spec::error::ScriptError;
+use zr_world_ends::end::WorldEnd;
 
 /// How many routers a world has at most, all that ever came.
 const MOST_ROUTERS: usize = 64;
@@ -22,13 +22,13 @@ const MOST_CLIENTS: usize = 1024;
 /// How many links between routers are in place at most.
 const MOST_LINKS: usize = 512;
 
-impl Tables {
-    ghost use Rattle.zr_network.specs.Acts.{router_step, client_step, link_step, up_step, break_step, down_step};
-    ghost use Rattle.zr_network.specs.Sound.{IsSound};
+impl WorldTables {
+    ghost use Rattle.zr_world_spec.specs.Acts.{router_step, client_step, link_step, up_step, break_step, down_step};
+    ghost use Rattle.zr_world_spec.specs.Sound.{IsSound};
     ghost use Rattle.zr_world.specs.State.{state_of};
 
     /// A router without links.
-    #[tactic(auto, unfolding(zr_network::specs::Acts::router_step))]
+    #[tactic(auto, unfolding(zr_world_spec::specs::Acts::router_step))]
     pub fn router(&mut self, id: Zid) -> Result<(), ScriptError>
         ensures { Does result (router_step (state_of self.old) id) (state_of self.old) (state_of self.new) }
     {
@@ -38,13 +38,13 @@ impl Tables {
         if self.routers.len() >= MOST_ROUTERS {
             return Err(ScriptError::Limit);
         }
-        let router = Router::new(self.alloc, id)?;
+        let router = WorldRouter::new(self.alloc, id)?;
         drop(self.routers.insert(id, router)?); // none was there
         Ok(())
     }
 
     /// A client whose link is up at once.
-    #[tactic(auto, using(std::proofs::lemmas::Map::Steps::set_value_same), unfolding(zr_network::specs::Acts::client_step))]
+    #[tactic(auto, using(std::proofs::lemmas::Map::Steps::set_value_same), unfolding(zr_world_spec::specs::Acts::client_step))]
     pub fn client(&mut self, line: u64, id: Zid, router: Zid) -> Result<(), ScriptError>
         requires { IsSound (state_of self.old) }
         ensures { Does result (client_step (state_of self.old) line id router) (state_of self.old) (state_of self.new) }
@@ -62,7 +62,7 @@ impl Tables {
         }
         let role = Role::Client;
         r.hear_up(self.alloc, Peer { id, role }, &mut self.out)?;
-        let mut end = LinkEnd::new(self.alloc);
+        let mut end = WorldEnd::new(self.alloc);
         end.lift();
         self.ends.put((router, id), end)?;
         spread(r, router, &mut self.ends, &mut self.out, line)?;
@@ -71,7 +71,7 @@ impl Tables {
     }
 
     /// A link between two routers, up at neither end.
-    #[tactic(auto, unfolding(zr_network::specs::Acts::link_step))]
+    #[tactic(auto, unfolding(zr_world_spec::specs::Acts::link_step))]
     pub fn link(&mut self, one: Zid, other: Zid) -> Result<(), ScriptError>
         ensures { Does result (link_step (state_of self.old) one other) (state_of self.old) (state_of self.new) }
     {
@@ -87,13 +87,13 @@ impl Tables {
         if self.links_in_place() >= MOST_LINKS {
             return Err(ScriptError::Limit);
         }
-        self.ends.put((one, other), LinkEnd::new(self.alloc))?;
-        self.ends.put((other, one), LinkEnd::new(self.alloc))?;
+        self.ends.put((one, other), WorldEnd::new(self.alloc))?;
+        self.ends.put((other, one), WorldEnd::new(self.alloc))?;
         Ok(())
     }
 
     /// A router's end comes up.
-    #[tactic(auto, using(std::proofs::lemmas::Map::Steps::set_value_same), unfolding(zr_network::specs::Acts::up_step))]
+    #[tactic(auto, using(std::proofs::lemmas::Map::Steps::set_value_same), unfolding(zr_world_spec::specs::Acts::up_step))]
     pub fn up(&mut self, line: u64, router: Zid, neighbour: Zid) -> Result<(), ScriptError>
         requires { IsSound (state_of self.old) }
         ensures { Does result (up_step (state_of self.old) line router neighbour) (state_of self.old) (state_of self.new) }
@@ -122,7 +122,7 @@ impl Tables {
     }
 
     /// A link breaks, and what is on its wires is lost.
-    #[tactic(auto, unfolding(zr_network::specs::Acts::break_step))]
+    #[tactic(auto, unfolding(zr_world_spec::specs::Acts::break_step))]
     pub fn break_link(&mut self, router: Zid, neighbour: Zid) -> Result<(), ScriptError>
         ensures { Does result (break_step (state_of self.old) router neighbour) (state_of self.old) (state_of self.new) }
     {
@@ -138,7 +138,7 @@ impl Tables {
     }
 
     /// A router notices that a link is broken, and what it has queued there is lost.
-    #[tactic(auto, using(std::proofs::lemmas::Map::Steps::set_value_same), unfolding(zr_network::specs::Acts::down_step))]
+    #[tactic(auto, using(std::proofs::lemmas::Map::Steps::set_value_same), unfolding(zr_world_spec::specs::Acts::down_step))]
     pub fn down(&mut self, line: u64, router: Zid, neighbour: Zid) -> Result<(), ScriptError>
         requires { IsSound (state_of self.old) }
         ensures { Does result (down_step (state_of self.old) line router neighbour) (state_of self.old) (state_of self.new) }

@@ -1,22 +1,22 @@
 //! One router of the world: its tables, what its clients were told, and what all declarations and interests of its clients so far weigh.
 
 ghost use Rattle.std.specs.Prelude.{◌≡◌, ◌+◌, ◌≤◌, nat_le, option_map, IfOk};
-ghost use Rattle.zr_table.specs.Event.{MayCome};
-ghost use Rattle.zr_routing.specs.Tables.{link_at, link_to};
-ghost use Rattle.zr_network.specs.World.{new_router, weight_of, most_weight};
-ghost use Rattle.zr_network.specs.Acts.{hub_of, weighing, up_event};
+ghost use Rattle.zr_node_spec.specs.Event.{MayCome};
+ghost use Rattle.zr_node_spec.specs.Tables.{link_at, link_to};
+ghost use Rattle.zr_world_spec.specs.World.{new_router, weight_of, most_weight};
+ghost use Rattle.zr_world_spec.specs.Acts.{hub_of, weighing, up_event};
 ghost use Rattle.zr_world.specs.Hearing.{IsHeard, refusal};
 
 use std::alloc::{AllocError, Global};
 use std::marker::Model;
-use zr_command::error::ScriptError;
-use zr_hub::hub::Hub;
 use zr_id::link::LinkNo;
 use zr_id::zid::Zid;
 use zr_msg::error::NodeError;
 use zr_msg::event::Event;
 use zr_msg::msg::Msg;
 use zr_msg::peer::Peer;
+use zr_router_core::hub::Hub;
+use zr_script_spec::error::ScriptError;
 
 /// What all declarations and interests of one router's clients weigh together at most.
 const MOST_WEIGHT: u64 = 4_194_304;
@@ -26,25 +26,25 @@ const DECLARATION_WEIGHT: u64 = 16;
 
 /// A router of the world.
 #[derive(Drop)]
-pub struct Router {
+pub struct WorldRouter {
     hub: Hub,
     weight: u64,
 }
 
-impl Model for Router {
-    ghost use Rattle.zr_network.specs.World.{RouterState};
+impl Model for WorldRouter {
+    ghost use Rattle.zr_world_spec.specs.World.{RouterState};
 
     ghost Value = { RouterState };
 
     ghost view = { λ r. record { node = r.hub.node; told = r.hub.told; weight = r.weight } };
 }
 
-impl Router {
+impl WorldRouter {
     /// A router without links.
-    pub fn new(alloc: Global, name: Zid) -> Result<Router, AllocError>
+    pub fn new(alloc: Global, name: Zid) -> Result<WorldRouter, AllocError>
         ensures { IfOk result (λ r. r ≡ new_router name) }
     {
-        Ok(Router {
+        Ok(WorldRouter {
             hub: Hub::new(alloc, name)?,
             weight: 0,
         })

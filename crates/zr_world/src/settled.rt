@@ -1,16 +1,16 @@
 //! Whether links are in place, and whether the world is settled.
 
 ghost use Rattle.std.specs.Prelude.{◌≡◌, length};
-ghost use Rattle.zr_network.specs.World.{is_unbroken};
+ghost use Rattle.zr_world_spec.specs.World.{is_unbroken};
 
-use crate::tables::Tables;
-use zr_ends::end::LinkEnd;
-use zr_ends::ends::Ends;
+use crate::tables::WorldTables;
 use zr_id::zid::Zid;
+use zr_world_ends::end::WorldEnd;
+use zr_world_ends::ends::Ends;
 
-impl Tables {
+impl WorldTables {
     ghost use Rattle.std.specs.Prelude.{◌&&◌};
-    ghost use Rattle.zr_network.specs.World.{is_up, is_linked, is_in_place, is_first_end, links_in_place, is_met, is_settled};
+    ghost use Rattle.zr_world_spec.specs.World.{is_up, is_linked, is_in_place, is_first_end, links_in_place, is_met, is_settled};
     ghost use Rattle.zr_world.specs.State.{state_of};
 
     /// Whether the router's end to the neighbour is up.
@@ -64,7 +64,7 @@ impl Tables {
             .all(|(at, end)| self.is_met(at, end) && end.is_calm())
     }
 
-    fn is_met(&self, at: &(Zid, Zid), end: &LinkEnd) -> bool
+    fn is_met(&self, at: &(Zid, Zid), end: &WorldEnd) -> bool
         ensures { result ≡ is_met (state_of self.now) at.now end.now }
     {
         !end.is_up() || (end.is_unbroken() && (!self.is_router(&at.1) || self.is_up(at.1, at.0)))

@@ -3,16 +3,16 @@
 ghost use Rattle.std.specs.Prelude.{◌≡◌, OnOk};
 ghost use Rattle.zr_world.specs.Spread.{queued_on, all_queued_on};
 
-use crate::router::Router;
+use crate::router::WorldRouter;
 use std::alloc::AllocError;
-use zr_ends::ends::Ends;
 use zr_id::link::LinkNo;
 use zr_id::zid::Zid;
 use zr_msg::msg::Msg;
+use zr_world_ends::ends::Ends;
 
 /// Each message is queued for the neighbour of its link. The list of them is empty then, and keeps its memory.
 pub fn spread(
-    router: &Router,
+    router: &WorldRouter,
     name: Zid,
     ends: &mut Ends,
     out: &mut Vec<(LinkNo, Msg)>,
@@ -27,7 +27,7 @@ pub fn spread(
 }
 
 fn enqueue(
-    router: &Router,
+    router: &WorldRouter,
     name: Zid,
     ends: &mut Ends,
     link: LinkNo,

@@ -1,31 +1,31 @@
 //! Messages move on: a router handles one, or one is taken from its queue.
 
 ghost use Rattle.std.specs.Prelude.{◌≡◌, if◌then◌else◌, false, is_some, Some, IsSome, OnOk};
-ghost use Rattle.zr_network.specs.Acts.{received};
-ghost use Rattle.zr_network.specs.World.{changed, client_of, end_of, sent};
-ghost use Rattle.zr_table.specs.Event.{MayCome};
+ghost use Rattle.zr_world_spec.specs.Acts.{received};
+ghost use Rattle.zr_world_spec.specs.World.{changed, client_of, end_of, sent};
+ghost use Rattle.zr_node_spec.specs.Event.{MayCome};
 ghost use Rattle.zr_world.specs.Hearing.{IsHandled, message_of};
 ghost use Rattle.zr_world.specs.Steps.{AppliesTo};
 
 use crate::client::Client;
-use crate::router::Router;
+use crate::router::WorldRouter;
 use crate::spread::spread;
-use crate::tables::Tables;
+use crate::tables::WorldTables;
 use std::alloc::{AllocError, Global};
 use std::collections::BTreeMap;
-use zr_command::error::ScriptError;
-use zr_command::report::ReportLine;
-use zr_ends::end::Tagged;
-use zr_ends::ends::Ends;
 use zr_id::link::LinkNo;
 use zr_id::zid::Zid;
 use zr_msg::event::Event;
 use zr_msg::msg::Msg;
+use zr_script_spec::error::ScriptError;
+use zr_script_spec::report::ReportLine;
+use zr_world_ends::end::Tagged;
+use zr_world_ends::ends::Ends;
 
-impl Tables {
-    ghost use Rattle.zr_network.specs.World.{is_taken, router_of};
-    ghost use Rattle.zr_network.specs.Acts.{handle_step, take_step};
-    ghost use Rattle.zr_network.specs.Sound.{IsSound};
+impl WorldTables {
+    ghost use Rattle.zr_world_spec.specs.World.{is_taken, router_of};
+    ghost use Rattle.zr_world_spec.specs.Acts.{handle_step, take_step};
+    ghost use Rattle.zr_world_spec.specs.Sound.{IsSound};
     ghost use Rattle.zr_world.specs.State.{state_of};
 
     /// A router handles the oldest message on the wire from a neighbour. What it sends has that message's tag.
@@ -120,7 +120,7 @@ impl Tables {
 // A router hears of a message that has left the wire to its end. One that it refuses is back there.
 fn hear_message(
     alloc: Global,
-    router: &mut Router,
+    router: &mut WorldRouter,
     link: LinkNo,
     x: Tagged,
     at: (Zid, Zid),

@@ -4,27 +4,27 @@ ghost use Rattle.std.specs.Prelude.{◌≡◌, is_some};
 ghost use Rattle.zr_world.specs.Steps.{AppliesTo, Counts};
 
 use crate::client::Client;
-use crate::router::Router;
+use crate::router::WorldRouter;
 use std::alloc::Global;
 use std::collections::BTreeMap;
-use zr_command::command::Act;
-use zr_command::error::ScriptError;
-use zr_command::report::ReportLine;
-use zr_ends::ends::Ends;
 use zr_id::link::LinkNo;
 use zr_id::zid::Zid;
 use zr_msg::decl::Kind;
 use zr_msg::msg::Msg;
 use zr_msg::peer::{Peer, Role};
+use zr_script_spec::command::Act;
+use zr_script_spec::error::ScriptError;
+use zr_script_spec::report::ReportLine;
+use zr_world_ends::ends::Ends;
 
 /// How many steps all runs ask for at most.
 const MOST_STEPS: u64 = 10_000_000;
 
 /// Routers, clients and ends by name, and how many steps all runs so far asked for.
 #[derive(Drop)]
-pub struct Tables {
+pub struct WorldTables {
     pub alloc: Global,
-    pub routers: BTreeMap<Zid, Router>,
+    pub routers: BTreeMap<Zid, WorldRouter>,
     pub clients: BTreeMap<Zid, Client>,
     pub ends: Ends,
     pub booked: u64,
@@ -32,18 +32,18 @@ pub struct Tables {
     pub out: Vec<(LinkNo, Msg)>,
 }
 
-impl Tables {
-    ghost use Rattle.zr_network.specs.World.{empty_world, router_of, is_taken};
-    ghost use Rattle.zr_network.specs.Acts.{outcome, peer_of};
-    ghost use Rattle.zr_network.specs.Next.{next, book_step};
-    ghost use Rattle.zr_network.specs.Sound.{IsSound};
+impl WorldTables {
+    ghost use Rattle.zr_world_spec.specs.World.{empty_world, router_of, is_taken};
+    ghost use Rattle.zr_world_spec.specs.Acts.{outcome, peer_of};
+    ghost use Rattle.zr_world_spec.specs.Next.{next, book_step};
+    ghost use Rattle.zr_world_spec.specs.Sound.{IsSound};
     ghost use Rattle.zr_world.specs.State.{state_of};
 
-    /// Tables in which nothing has come yet.
-    pub fn new(alloc: Global) -> Tables
+    /// WorldTables in which nothing has come yet.
+    pub fn new(alloc: Global) -> WorldTables
         ensures { state_of result ≡ empty_world }
     {
-        Tables {
+        WorldTables {
             alloc,
             routers: BTreeMap::new(alloc),
             clients: BTreeMap::new(alloc),
@@ -54,7 +54,7 @@ impl Tables {
     }
 
     /// Does an act of a line. What is told of it comes behind the report's lines.
-    #[tactic(auto, unfolding(zr_network::specs::Acts::outcome))]
+    #[tactic(auto, unfolding(zr_world_spec::specs::Acts::outcome))]
     pub fn act(
         &mut self,
         line: u64,
@@ -121,7 +121,7 @@ impl Tables {
     }
 
     /// Counts the steps that a run asks for, where there is room for them.
-    #[tactic(auto, unfolding(zr_network::specs::Next::book_step))]
+    #[tactic(auto, unfolding(zr_world_spec::specs::Next::book_step))]
     pub fn book(&mut self, steps: u32) -> Result<(), ScriptError>
         ensures { Counts result (book_step (state_of self.old) steps) (state_of self.old) (state_of self.new) }
     {

@@ -1,23 +1,23 @@
 //! `World`: what the acts of a script make, one after another.
 
 ghost use Rattle.std.specs.Prelude.{◌≡◌, true, false, is_some, IfSome};
-ghost use Rattle.zr_network.specs.Acts.{outcome};
-ghost use Rattle.zr_network.specs.Next.{next, book_step};
-ghost use Rattle.zr_network.specs.Sound.{IsSound, AllAreTaken};
-ghost use Rattle.zr_network.specs.World.{router_of};
+ghost use Rattle.zr_world_spec.specs.Acts.{outcome};
+ghost use Rattle.zr_world_spec.specs.Next.{next, book_step};
+ghost use Rattle.zr_world_spec.specs.Sound.{IsSound, AllAreTaken};
+ghost use Rattle.zr_world_spec.specs.World.{router_of};
 ghost use Rattle.zr_world.specs.Living.{Applies, Books, IsPossible, new_world};
 
-use crate::tables::Tables;
+use crate::tables::WorldTables;
 use std::alloc::Global;
 use std::marker::Model;
-use zr_command::command::Act;
-use zr_command::error::ScriptError;
-use zr_command::report::ReportLine;
 use zr_id::zid::Zid;
+use zr_script_spec::command::Act;
+use zr_script_spec::error::ScriptError;
+use zr_script_spec::report::ReportLine;
 
 /// The routers and clients of a script, and the ends of their links with what waits there.
 pub struct World {
-    tables: Tables,
+    tables: WorldTables,
     spent: bool,
 }
 
@@ -33,7 +33,7 @@ impl Drop for World {
 
 impl Model for World {
     ghost use Rattle.std.specs.Prelude.{◌≡◌, false};
-    ghost use Rattle.zr_network.specs.Sound.{IsSound};
+    ghost use Rattle.zr_world_spec.specs.Sound.{IsSound};
     ghost use Rattle.zr_world.specs.Living.{Living};
     ghost use Rattle.zr_world.specs.State.{state_of};
 
@@ -50,7 +50,7 @@ impl World {
         ensures { result ≡ new_world }
     {
         World {
-            tables: Tables::new(alloc),
+            tables: WorldTables::new(alloc),
             spent: false,
         }
     }

@@ -4,15 +4,15 @@ ghost use Rattle.std.specs.Prelude.{◌≡◌, ◌==◌, true, List, None, OnOk,
 ghost use Rattle.std.specs.Option.{option_map, option_map_or};
 ghost use Rattle.zr_local.specs.Clients.{noted};
 ghost use Rattle.zr_local.specs.State.{refuses_interest};
-ghost use Rattle.zr_table.specs.State.{local_state};
-ghost use Rattle.zr_table.specs.Table.{live, local_error, with_clients};
+ghost use Rattle.zr_node_spec.specs.State.{local_state};
+ghost use Rattle.zr_node_spec.specs.Table.{live, local_error, with_clients};
 ghost use Rattle.zr_node.specs.Answer.{IsJudged};
 ghost use Rattle.zr_node.specs.Done.{IsDone};
 ghost use Rattle.zr_node.specs.Steps.{interest_part};
 
 use super::Node;
 use crate::asked::answer;
-use crate::failure::Failure;
+use crate::failure::NodeFailure;
 use crate::interests::live;
 use std::alloc::Global;
 use zr_id::link::LinkNo;
@@ -32,7 +32,7 @@ impl Node {
         kinds: Kinds,
         key: &Option<KeyExpr>,
         aggregate: bool,
-    ) -> Result<(), Failure>
+    ) -> Result<(), NodeFailure>
         ensures { (said : List (LinkNo × Msg)) → IsDone (interest_part self.old link.0 id (live future (record { id = id; kinds = kinds; key = key.now; aggregate = aggregate }))) result self.new said said }
     {
         if !self.leads_to_client(link) {
@@ -43,7 +43,7 @@ impl Node {
     }
 
     // The client's interest of an id ends, if it has one.
-    pub(super) fn end_interest(&mut self, link: LinkNo, id: u32) -> Result<(), Failure>
+    pub(super) fn end_interest(&mut self, link: LinkNo, id: u32) -> Result<(), NodeFailure>
         ensures { (said : List (LinkNo × Msg)) → IsDone (interest_part self.old link.0 id None) result self.new said said }
     {
         if !self.leads_to_client(link) {
@@ -53,7 +53,7 @@ impl Node {
     }
 
     // The interest is live under its id from now on, or none is.
-    fn note(&mut self, link: LinkNo, id: u32, interest: Option<Interest>) -> Result<(), Failure>
+    fn note(&mut self, link: LinkNo, id: u32, interest: Option<Interest>) -> Result<(), NodeFailure>
         requires { option_map_or (λ i. i.id == id) interest true ≡ true }
         ensures state { OnOk result (self.new ≡ with_clients self.old (noted self.old.clients link id interest)) }
         ensures refused { IsJudged (option_map (λ e. local_error id e) (refuses_interest (local_state self.old) link id interest)) result }

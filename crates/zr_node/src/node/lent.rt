@@ -2,13 +2,13 @@
 
 ghost use Rattle.std.specs.Prelude.{◌≡◌, IfOk};
 ghost use Rattle.zr_log.specs.Known.{AreInOrder};
-ghost use Rattle.zr_table.specs.State.{tables};
+ghost use Rattle.zr_node_spec.specs.State.{tables};
 
 use crate::kept::{lend, put_trees, take_trees};
 use crate::node::Node;
 use std::alloc::{AllocError, Global};
 use zr_log::log::Log;
-use zr_routing::tables::Tables;
+use zr_node_spec::tables::TablesView;
 use zr_tree::trees::Trees;
 
 impl Node {
@@ -39,7 +39,7 @@ impl Node {
     }
 
     /// What it goes by, lent, with the trees of its records.
-    pub fn tables<'a>(&'a self, trees: &'a Trees) -> Tables<'a>
+    pub fn tables<'a>(&'a self, trees: &'a Trees) -> TablesView<'a>
         requires { trees.now ≡ self.now.base.records }
         ensures { result ≡ tables self.now }
     {

@@ -2,17 +2,17 @@
 
 ghost use Rattle.std.specs.Prelude.{◌≡◌, [], true, OnOk, OnErr, is_some};
 ghost use Rattle.zr_pend.specs.Pending.{dropped};
-ghost use Rattle.zr_routing.specs.Queries.{sends_ends};
-ghost use Rattle.zr_routing.specs.Tables.{link_at};
-ghost use Rattle.zr_table.specs.Event.{IsFresh, Tells, TellsPrefix};
-ghost use Rattle.zr_table.specs.State.{NodeState, new_link};
-ghost use Rattle.zr_table.specs.Table.{with_link, with_pending, without_link};
+ghost use Rattle.zr_node_spec.specs.Queries.{sends_ends};
+ghost use Rattle.zr_node_spec.specs.Tables.{link_at};
+ghost use Rattle.zr_node_spec.specs.Event.{IsFresh, Tells, TellsPrefix};
+ghost use Rattle.zr_node_spec.specs.State.{NodeState, new_link};
+ghost use Rattle.zr_node_spec.specs.Table.{with_link, with_pending, without_link};
 ghost use Rattle.zr_node.specs.Done.{IsDone, IsLeft};
 ghost use Rattle.zr_node.specs.Steps.{with_links, event_part, up_part, join_part, down_part, parting_part, asked_part, leave_part};
 
 use super::Node;
 use crate::asked::Asked;
-use crate::failure::Failure;
+use crate::failure::NodeFailure;
 use crate::kept::forget;
 use crate::own;
 use std::alloc::{AllocError, Global};
@@ -21,8 +21,8 @@ use zr_id::link::LinkNo;
 use zr_msg::event::Event;
 use zr_msg::msg::Msg;
 use zr_msg::peer::{Peer, Role};
+use zr_node_spec::tell::{append, discard};
 use zr_query::answering::ends_of;
-use zr_tell::tell::{append, discard};
 
 impl Node {
     // A link has come up.
@@ -32,7 +32,7 @@ impl Node {
         link: LinkNo,
         peer: &Peer,
         out: &mut Vec<(LinkNo, Msg)>,
-    ) -> Result<(), Failure>
+    ) -> Result<(), NodeFailure>
         requires { IsFresh self.old link peer.now }
         ensures { IsDone (up_part self.old link peer.now peer.now.role) result self.new out.old.items out.new.items }
     {
@@ -49,7 +49,7 @@ impl Node {
         link: LinkNo,
         peer: &Peer,
         out: &mut Vec<(LinkNo, Msg)>,
-    ) -> Result<(), Failure>
+    ) -> Result<(), NodeFailure>
         requires { IsFresh self.old link peer.now }
         ensures { IsDone (up_part self.old link peer.now Role.Router) result self.new out.old.items out.new.items }
     {
@@ -70,7 +70,7 @@ impl Node {
         link: LinkNo,
         peer: &Peer,
         out: &mut Vec<(LinkNo, Msg)>,
-    ) -> Result<(), Failure>
+    ) -> Result<(), NodeFailure>
         requires { IsFresh self.old link peer.now }
         ensures { IsDone (join_part self.old link peer.now) result self.new out.old.items out.new.items }
     {
@@ -93,7 +93,7 @@ impl Node {
         alloc: Global,
         link: LinkNo,
         out: &mut Vec<(LinkNo, Msg)>,
-    ) -> Result<(), Failure>
+    ) -> Result<(), NodeFailure>
         requires { is_some (link_at self.old.links link.0) ≡ true }
         ensures { IsDone (event_part self.old (Event.Down link)) result self.new out.old.items out.new.items }
     {
@@ -116,7 +116,7 @@ impl Node {
         alloc: Global,
         link: LinkNo,
         out: &mut Vec<(LinkNo, Msg)>,
-    ) -> Result<(), Failure>
+    ) -> Result<(), NodeFailure>
         ensures { IsDone (leave_part self.old link) result self.new out.old.items out.new.items }
     {
         let mut told = Vec::new(alloc);
@@ -136,7 +136,7 @@ impl Node {
         link: LinkNo,
         told: Vec<(LinkNo, Msg)>,
         out: &mut Vec<(LinkNo, Msg)>,
-    ) -> Result<(), Failure>
+    ) -> Result<(), NodeFailure>
         ensures { (node : NodeState) → IsLeft (asked_part node (Asked.Leave link)) self.old [] told.items → IsDone (leave_part node link) result self.new out.old.items out.new.items }
     {
         match self.end_requests(alloc, link, out) {
@@ -147,7 +147,7 @@ impl Node {
             }
             Err(AllocError) => {
                 discard(told);
-                Err(Failure::NoMemory)
+                Err(NodeFailure::NoMemory)
             }
         }
     }
@@ -173,7 +173,7 @@ impl Node {
         link: LinkNo,
         peer: &Peer,
         out: &mut Vec<(LinkNo, Msg)>,
-    ) -> Result<(), Failure>
+    ) -> Result<(), NodeFailure>
         ensures { IsDone (down_part self.old link.0 peer.now) result self.new out.old.items out.new.items }
     {
         let before = self.take_before(alloc)?;
@@ -193,7 +193,7 @@ impl Node {
         link: LinkNo,
         peer: &Peer,
         out: &mut Vec<(LinkNo, Msg)>,
-    ) -> Result<(), Failure>
+    ) -> Result<(), NodeFailure>
         ensures { IsDone (parting_part self.old link.0 peer.now) result self.new out.old.items out.new.items }
     {
         own::part(alloc, &mut self.base, &peer.id)?;

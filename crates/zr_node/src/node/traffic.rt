@@ -1,15 +1,15 @@
 //! Samples, requests, replies and finals at a router.
 
 ghost use Rattle.std.specs.Prelude.{◌≡◌, None};
-ghost use Rattle.zr_routing.specs.Tables.{leads_to_client};
+ghost use Rattle.zr_node_spec.specs.Tables.{leads_to_client};
 ghost use Rattle.zr_node.specs.Done.{IsDone};
 ghost use Rattle.zr_node.specs.Requests.{refuses_asker};
 ghost use Rattle.zr_node.specs.Steps.{push_part, request_part, response_part, final_part};
 
 use super::Node;
 use crate::asking::{ask, refusal};
-use crate::failure::Failure;
-use crate::kept::{lend, push_along, put_trees, take_trees};
+use crate::failure::NodeFailure;
+use crate::kept::{lend, put_trees, take_trees};
 use std::alloc::Global;
 use zr_id::link::LinkNo;
 use zr_id::zid::Zid;
@@ -18,11 +18,11 @@ use zr_msg::extras::Extras;
 use zr_msg::msg::{Msg, Target};
 use zr_msg::shared::Shared;
 use zr_pend::branch::Asker;
+use zr_push::push::push;
 use zr_query::answering::{final_of, response};
 
 impl Node {
-    // A sample has come over a link. Where it goes on a tree and a key that samples came on before, since the tables last changed, is not
-    // asked of the tables again.
+    // A sample has come over a link. The routes that are remembered are those since the tables last changed.
     pub(super) fn push(
         &mut self,
         alloc: Global,
@@ -30,7 +30,7 @@ impl Node {
         tree: Option<Zid>,
         content: &Content,
         out: &mut Vec<(LinkNo, Msg)>,
-    ) -> Result<(), Failure>
+    ) -> Result<(), NodeFailure>
         ensures { IsDone (push_part self.old link.0 tree content.now) result self.new out.old.items out.new.items }
     {
         let Some(from) = self.links.at(link) else {
@@ -38,7 +38,7 @@ impl Node {
         };
         let trees = take_trees(alloc, &mut self.trees, &self.base)?;
         let tables = lend(&self.links, &self.base, &trees, &self.local, &self.known);
-        let pushed = push_along(alloc, &tables, &mut self.routes, from, tree, content, out);
+        let pushed = push(alloc, &tables, &mut self.routes, from, tree, content, out);
         put_trees(&mut self.trees, trees);
         Ok(pushed?)
     }
@@ -53,13 +53,13 @@ impl Node {
         target: Target,
         content: &Content,
         out: &mut Vec<(LinkNo, Msg)>,
-    ) -> Result<(), Failure>
+    ) -> Result<(), NodeFailure>
         ensures { IsDone (request_part self.old link.0 named number target content.now) result self.new out.old.items out.new.items }
     {
         let from = Asker { link, number };
         let is_client = self.leads_to_client(link);
         match refusal(&self.pending, from, is_client) {
-            Some(error) => Err(Failure::Refused(error)),
+            Some(error) => Err(NodeFailure::Refused(error)),
             None => self.ask(alloc, from, named, target, content, out),
         }
     }
@@ -73,7 +73,7 @@ impl Node {
         target: Target,
         content: &Content,
         out: &mut Vec<(LinkNo, Msg)>,
-    ) -> Result<(), Failure>
+    ) -> Result<(), NodeFailure>
         requires { refuses_asker self.old.pending from (leads_to_client self.old.links from.link.0) ≡ None }
         ensures { IsDone (request_part self.old from.link.0 named from.number target content.now) result self.new out.old.items out.new.items }
     {
@@ -103,7 +103,7 @@ impl Node {
         number: u32,
         content: &Content,
         out: &mut Vec<(LinkNo, Msg)>,
-    ) -> Result<(), Failure>
+    ) -> Result<(), NodeFailure>
         ensures { IsDone (response_part self.old link.0 number content.now) result self.new out.old.items out.new.items }
     {
         Ok(response(&self.pending, link, number, content, out)?)
@@ -116,7 +116,7 @@ impl Node {
         number: u32,
         extras: &Shared<Extras>,
         out: &mut Vec<(LinkNo, Msg)>,
-    ) -> Result<(), Failure>
+    ) -> Result<(), NodeFailure>
         ensures { IsDone (final_part self.old link.0 number extras.now) result self.new out.old.items out.new.items }
     {
         Ok(final_of(&mut self.pending, link, number, extras, out)?)

@@ -1,5 +1,5 @@
-use Rattle.zr_format.specs.Laws.{anywhere}
-use Rattle.zr_format.proofs.Follows.{format_is_read}
+use Rattle.zr_format_spec.specs.Laws.{anywhere}
+use Rattle.zr_format_spec.proofs.Follows.{format_is_read}
 use Rattle.zr_body.specs.Body.{body}
 use Rattle.zr_body.specs.Reading.{body_of}
 use Rattle.zr_body.proofs.Bodies.{follows_body}

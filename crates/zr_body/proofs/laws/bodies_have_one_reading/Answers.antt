@@ -1,4 +1,4 @@
-use Rattle.zr_format.proofs.Follows.{one_reading_anywhere}
+use Rattle.zr_format_spec.proofs.Follows.{one_reading_anywhere}
 use Rattle.zr_body.specs.Body.{body}
 use Rattle.zr_body.specs.Reading.{body_of}
 use Rattle.zr_body.proofs.Bodies.{follows_body}

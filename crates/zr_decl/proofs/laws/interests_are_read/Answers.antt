@@ -1,4 +1,4 @@
-use Rattle.zr_format.proofs.Follows.{format_is_read}
+use Rattle.zr_format_spec.proofs.Follows.{format_is_read}
 use Rattle.zr_decl.proofs.Messages.{follows_interest}
 use Rattle.zr_decl.proofs.laws.interests_are_read.Goals as goal
 

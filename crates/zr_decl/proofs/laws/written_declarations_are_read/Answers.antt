@@ -1,4 +1,4 @@
-use Rattle.zr_format.proofs.Follows.{written_is_read}
+use Rattle.zr_format_spec.proofs.Follows.{written_is_read}
 use Rattle.zr_decl.specs.Writing.{writes_decl, tells, Declares}
 use Rattle.zr_decl.proofs.Messages.{follows_message}
 use Rattle.zr_decl.proofs.Written.{declaration_spelled}

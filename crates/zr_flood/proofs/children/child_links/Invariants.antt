@@ -1,6 +1,6 @@
 -- The links that are left are left to be added.
 use Rattle.std.proofs.Common.{[], drop}
-use Rattle.zr_table.proofs.Prefixes.{IsSoFar}
+use Rattle.zr_lists.proofs.Prefixes.{IsSoFar}
 use Rattle.zr_flood.specs.Tell.{children_among}
 use Rattle.zr_flood.proofs.children.child_links.Given as goal
 

@@ -1,7 +1,7 @@
 use Rattle.std.proofs.Common.{◌≡◌, Bool, true, false, List, [], ◌∷◌, ◌++◌, ap, subst, ◌∙◌, sym, arith}
 use Rattle.zr_id.specs.declared.link.LinkNo.{LinkNo}
 use Rattle.zr_msg.specs.declared.peer.LinkPeer.{LinkPeer}
-use Rattle.zr_table.proofs.Prefixes.{along_picked, along_passed}
+use Rattle.zr_lists.proofs.Prefixes.{along_picked, along_passed}
 use Rattle.zr_flood.specs.Tell.{leads_to_new_child, picked}
 use Rattle.zr_flood.proofs.children.new_child_links.Goals.{then-leads_to_new_child+in_ok-push, else-leads_to_new_child}
 use Rattle.zr_flood.proofs.children.new_child_links.Goals as goal

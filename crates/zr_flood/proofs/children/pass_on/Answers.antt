@@ -1,7 +1,7 @@
 use Rattle.std.proofs.Common.{refl, ap, ◌∙◌}
 use Rattle.std.proofs.lemmas.Result.{on_ok_weaker, on_err_weaker}
-use Rattle.zr_table.specs.Event.{on_link}
-use Rattle.zr_table.proofs.Told.{tells_list, tells_prefix}
+use Rattle.zr_node_spec.specs.Event.{on_link}
+use Rattle.zr_node_spec.proofs.Told.{tells_list, tells_prefix}
 use Rattle.zr_flood.proofs.OnChildren.{passed, on_step, on_snap}
 use Rattle.zr_flood.proofs.children.pass_on.Goals as goal
 

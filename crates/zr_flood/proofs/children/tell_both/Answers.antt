@@ -4,9 +4,9 @@ use Rattle.std.proofs.lemmas.List.{append-nil}
 use Rattle.std.proofs.lemmas.Result.{err_from_is_err_and, on_ok_weaker, on_err_weaker}
 use Rattle.zr_id.specs.declared.link.LinkNo.{LinkNo}
 use Rattle.zr_msg.specs.declared.msg.Msg.{Msg}
-use Rattle.zr_routing.specs.Changes.{changes_of, steps}
-use Rattle.zr_table.specs.Prefix.{IsPrefixBehind}
-use Rattle.zr_table.proofs.Prefixes.{first_prefix, second_prefix, both_said}
+use Rattle.zr_node_spec.specs.Changes.{changes_of, steps}
+use Rattle.zr_lists.specs.Prefix.{IsPrefixBehind}
+use Rattle.zr_lists.proofs.Prefixes.{first_prefix, second_prefix, both_said}
 use Rattle.zr_flood.specs.Tell.{all_to_each}
 use Rattle.zr_flood.proofs.OnChildren.{both_steps}
 use Rattle.zr_flood.proofs.Picked.{none_told}

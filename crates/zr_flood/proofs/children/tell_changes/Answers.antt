@@ -1,9 +1,9 @@
 use Rattle.std.proofs.Common.{ap, ◌∙◌}
 use Rattle.std.proofs.lemmas.Result.{err_from_is_err_and, on_ok_weaker, on_err_weaker}
-use Rattle.zr_routing.specs.Changes.{changes_of}
-use Rattle.zr_table.specs.Event.{on_link}
-use Rattle.zr_table.proofs.Prefixes.{nothing_said}
-use Rattle.zr_table.proofs.Told.{tells_list, tells_prefix}
+use Rattle.zr_node_spec.specs.Changes.{changes_of}
+use Rattle.zr_node_spec.specs.Event.{on_link}
+use Rattle.zr_lists.proofs.Prefixes.{nothing_said}
+use Rattle.zr_node_spec.proofs.Told.{tells_list, tells_prefix}
 use Rattle.zr_flood.proofs.OnChildren.{own_passed, on_changes}
 use Rattle.zr_flood.proofs.children.tell_changes.Goals as goal
 

@@ -7,9 +7,8 @@ use Rattle.zr_id.specs.declared.link.LinkNo.{LinkNo}
 use Rattle.zr_log.specs.declared.log.Log.{Log}
 use Rattle.zr_msg.specs.declared.msg.Msg.{Msg}
 use Rattle.zr_msg.specs.declared.peer.LinkPeer.{LinkPeer}
-use Rattle.zr_table.proofs.Prefixes.{IsSoFar}
+use Rattle.zr_lists.proofs.Prefixes.{IsSoFar, so_far_more, so_far_stopped}
 use Rattle.zr_flood.specs.Tell.{to_new_children}
-use Rattle.zr_flood.proofs.Chunks.{so_far_more, so_far_stopped}
 use Rattle.zr_flood.proofs.children.tell_logs.Goals as goal
 
 -- the next log, and those behind it

@@ -1,7 +1,7 @@
 -- What the logs that are left tell is left to be said.
 use Rattle.std.proofs.Common.{drop}
 use Rattle.std.specs.List.{flat_map}
-use Rattle.zr_table.proofs.Prefixes.{IsSoFar}
+use Rattle.zr_lists.proofs.Prefixes.{IsSoFar}
 use Rattle.zr_flood.specs.Tell.{to_new_children}
 use Rattle.zr_flood.proofs.children.tell_logs.Given as goal
 

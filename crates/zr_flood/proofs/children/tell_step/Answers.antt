@@ -1,5 +1,5 @@
 use Rattle.std.proofs.lemmas.Result.{err_from_is_err_and}
-use Rattle.zr_table.proofs.Prefixes.{nothing_said}
+use Rattle.zr_lists.proofs.Prefixes.{nothing_said}
 use Rattle.zr_flood.proofs.children.tell_step.Goals as goal
 
 pub returns-in_err-copy-clause-err : goal.returns-in_err-copy-clause-err

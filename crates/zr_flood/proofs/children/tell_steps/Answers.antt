@@ -5,11 +5,10 @@ use Rattle.zr_id.specs.declared.link.LinkNo.{LinkNo}
 use Rattle.zr_msg.specs.declared.decl.Decl.{Decl}
 use Rattle.zr_msg.specs.declared.msg.Msg.{Msg}
 use Rattle.zr_msg.specs.declared.msg.Msg.TheVariants.{Step}
-use Rattle.zr_routing.specs.Changes.{steps}
-use Rattle.zr_table.proofs.Prefixes.{IsSoFar}
-use Rattle.zr_tell.specs.Each.{to_each}
+use Rattle.zr_node_spec.specs.Changes.{steps}
+use Rattle.zr_lists.proofs.Prefixes.{IsSoFar, so_far_more, so_far_stopped}
+use Rattle.zr_node_spec.specs.Each.{to_each}
 use Rattle.zr_flood.specs.Tell.{all_to_each}
-use Rattle.zr_flood.proofs.Chunks.{so_far_more, so_far_stopped}
 use Rattle.zr_flood.proofs.children.tell_steps.Goals as goal
 
 -- the declarations from a place on, as changes, for each link

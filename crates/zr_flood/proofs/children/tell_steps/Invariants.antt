@@ -1,7 +1,7 @@
 -- What the declarations that are left tell is left to be said, with the numbers behind those so far.
 use Rattle.std.proofs.Common.{◌+◌, ◌<◌, ◌^◌, drop, length, map}
-use Rattle.zr_routing.specs.Changes.{steps}
-use Rattle.zr_table.proofs.Prefixes.{IsSoFar}
+use Rattle.zr_node_spec.specs.Changes.{steps}
+use Rattle.zr_lists.proofs.Prefixes.{IsSoFar}
 use Rattle.zr_flood.specs.Tell.{all_to_each}
 use Rattle.zr_flood.proofs.children.tell_steps.Given as goal
 

@@ -1,5 +1,5 @@
 use Rattle.std.proofs.lemmas.Result.{on_ok_weaker, on_err_weaker}
-use Rattle.zr_table.proofs.Told.{tells_list, tells_prefix}
+use Rattle.zr_node_spec.proofs.Told.{tells_list, tells_prefix}
 use Rattle.zr_flood.proofs.Rows.{on_down}
 use Rattle.zr_flood.proofs.flood.flood_down.Goals as goal
 

@@ -1,6 +1,6 @@
 use Rattle.std.proofs.lemmas.Result.{err_from_is_err_and, on_ok_weaker, on_err_weaker}
-use Rattle.zr_table.proofs.Prefixes.{first_prefix, second_prefix, both_said}
-use Rattle.zr_table.proofs.Told.{tells_list, tells_prefix}
+use Rattle.zr_lists.proofs.Prefixes.{first_prefix, second_prefix, both_said}
+use Rattle.zr_node_spec.proofs.Told.{tells_list, tells_prefix}
 use Rattle.zr_flood.proofs.Rows.{on_up}
 use Rattle.zr_flood.proofs.flood.flood_up.Goals as goal
 

@@ -5,7 +5,7 @@ use Rattle.zr_id.specs.Record.{RecordState}
 use Rattle.zr_id.specs.declared.link.LinkNo.{LinkNo}
 use Rattle.zr_msg.specs.declared.msg.Msg.{Msg}
 use Rattle.zr_msg.specs.declared.msg.Msg.TheVariants.{State}
-use Rattle.zr_table.proofs.Prefixes.{IsSoFar, so_far_one, so_far_prefix}
+use Rattle.zr_lists.proofs.Prefixes.{IsSoFar, so_far_one, so_far_prefix}
 use Rattle.zr_flood.specs.Flood.{all_to}
 use Rattle.zr_flood.proofs.flood.tell_all.Goals as goal
 

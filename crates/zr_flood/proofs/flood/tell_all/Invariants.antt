@@ -1,7 +1,7 @@
 -- What the records that are left tell is left to be said.
 use Rattle.std.proofs.Common.{map, drop}
 use Rattle.zr_msg.specs.declared.msg.Msg.TheVariants.{State}
-use Rattle.zr_table.proofs.Prefixes.{IsSoFar}
+use Rattle.zr_lists.proofs.Prefixes.{IsSoFar}
 use Rattle.zr_flood.specs.Flood.{all_to}
 use Rattle.zr_flood.proofs.flood.tell_all.Given as goal
 

@@ -4,8 +4,8 @@ use Rattle.zr_id.specs.declared.link.LinkNo.{LinkNo}
 use Rattle.zr_msg.specs.declared.msg.Msg.{Msg}
 use Rattle.zr_msg.specs.declared.msg.Msg.TheVariants.{State}
 use Rattle.zr_msg.specs.declared.peer.LinkPeer.{LinkPeer}
-use Rattle.zr_table.proofs.Prefixes.{so_far_prefix, along_picked, along_passed}
-use Rattle.zr_routing.specs.Tables.{is_router}
+use Rattle.zr_lists.proofs.Prefixes.{so_far_prefix, along_picked, along_passed}
+use Rattle.zr_node_spec.specs.Tables.{is_router}
 use Rattle.zr_flood.specs.Flood.{to_others}
 use Rattle.zr_flood.proofs.flood.tell_others.Goals.{then-is_other_router+in_ok-tell_shared, else-is_other_router}
 use Rattle.zr_flood.proofs.flood.tell_others.Goals as goal

@@ -1,7 +1,7 @@
 -- What the links that are left get is left to be said.
 use Rattle.std.proofs.Common.{drop}
 use Rattle.zr_msg.specs.declared.msg.Msg.TheVariants.{State}
-use Rattle.zr_table.proofs.Prefixes.{IsSoFar}
+use Rattle.zr_lists.proofs.Prefixes.{IsSoFar}
 use Rattle.zr_flood.specs.Flood.{to_others}
 use Rattle.zr_flood.proofs.flood.tell_others.Given as goal
 

@@ -1,6 +1,6 @@
 use Rattle.std.proofs.Common.{◌≡◌, ◌-◌, ◌++◌, [], List, ℕ, Bool, Option, None, Bor, sym, ap, ◌∙◌, length, take, map, vec_len, arith}
 use Rattle.std.specs.Option.{option_copied}
-use Rattle.zr_text.specs.Cut.{parts}
+use Rattle.zr_lists.specs.Cut.{parts}
 use Rattle.zr_key.specs.Expression.{Chunk}
 use Rattle.zr_key.specs.Key.{canonical, expression_of, lined, ordered, settled, chunk_of}
 use Rattle.zr_key.proofs.Written.{lined_front}

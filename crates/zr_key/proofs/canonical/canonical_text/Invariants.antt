@@ -1,7 +1,7 @@
 -- What is written and what the rest still writes are together the canonical form, with a `/` behind each chunk.
 use Rattle.std.proofs.Common.{◌≡◌, ◌++◌, ◌+◌, length, map}
 use Rattle.std.specs.Option.{option_copied, option_map_or}
-use Rattle.zr_text.specs.Cut.{parts}
+use Rattle.zr_lists.specs.Cut.{parts}
 use Rattle.zr_key.specs.Key.{expression_of, canonical, lined, ordered, settled, chunk_of}
 use Rattle.zr_key.proofs.canonical.canonical_text.Given as goal
 

@@ -1,7 +1,7 @@
 -- What is left decides what is wrong with the whole text.
 use Rattle.std.proofs.Common.{◌≡◌, ◌+◌, length}
 use Rattle.std.specs.Option.{option_copied, option_map_or}
-use Rattle.zr_text.specs.Cut.{parts}
+use Rattle.zr_lists.specs.Cut.{parts}
 use Rattle.zr_key.specs.Key.{first_fault, chunks}
 use Rattle.zr_key.proofs.faults.fault.Given as goal
 

@@ -1,6 +1,7 @@
 -- Each read leads on, and what it gives is delivered.
 use Rattle.std.proofs.Common.{◌≡◌, ◌≤◌, ◌∙◌, true, min, refl, sym, subst, [], append-nil}
 use Rattle.std.proofs.Math.Nat.{le_refl, le_trans}
+use Rattle.zr_lists.proofs.Prefixes.{prefix_trans}
 use Rattle.zr_hist.specs.Words.{seen, mine}
 use Rattle.zr_session.specs.Session.{SessionState, is_running}
 use Rattle.zr_link.specs.Heard.{IsLate, IsIn, IsOpen}
@@ -8,7 +9,7 @@ use Rattle.zr_link.specs.Run.{Delivers}
 use Rattle.zr_link.proofs.Hearing.{plainly, plainly_some}
 use Rattle.zr_link.specs.declared.end.LinkEnd.TheVariants as end
 use Rattle.zr_link.proofs.Counts.{IsUnread, counted_err, counted_never, counted_none, moment_none, rose_none, settles_unread}
-use Rattle.zr_link.proofs.Going.{Gone, prefix_trans, gone_none, gone_more, gone_lost, gone_settled, gone_over, open_on, open_gives, leads_by, rose_more, moment_more}
+use Rattle.zr_link.proofs.Going.{Gone, gone_none, gone_more, gone_lost, gone_settled, gone_over, open_on, open_gives, leads_by, rose_more, moment_more}
 use Rattle.zr_link.proofs.Unopened.{late_before}
 use Rattle.zr_link.proofs.delivery.go_on.Goals as goal
 

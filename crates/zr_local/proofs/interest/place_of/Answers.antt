@@ -1,9 +1,9 @@
 use Rattle.std.proofs.Common.{rules}
 use Rattle.std.specs.Ordering.{nat_cmp}
 use Rattle.std.proofs.lemmas.List.Sorted.{answers_always}
-use Rattle.zr_set.proofs.Places.{found_place}
+use Rattle.zr_lists.proofs.Places.{found_place}
+use Rattle.zr_lists.proofs.Order.{nat_order}
 use Rattle.zr_local.specs.Interests.{interest_id}
-use Rattle.zr_local.proofs.Live.{nat_order}
 use Rattle.zr_local.proofs.interest.place_of.Goals as goal
 
 pub returns : goal.returns

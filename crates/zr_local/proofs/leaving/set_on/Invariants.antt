@@ -1,6 +1,6 @@
 use Rattle.std.proofs.Common.{◌≡◌, drop}
 use Rattle.std.specs.List.{fold}
-use Rattle.zr_set.specs.Decls.{with_decl}
+use Rattle.zr_log_set.specs.Decls.{with_decl}
 use Rattle.zr_local.specs.Owners.{on_link}
 use Rattle.zr_local.specs.Rows.{decls_of, declared_set}
 use Rattle.zr_local.proofs.leaving.set_on.Given as goal

@@ -1,8 +1,8 @@
 use Rattle.std.proofs.Common.{rules}
 use Rattle.std.proofs.lemmas.Fn.{always_returns_same}
 use Rattle.zr_msg.specs.Decl.{decl_cmp}
-use Rattle.zr_set.proofs.Decls.{decl_order}
-use Rattle.zr_set.proofs.Places.{found_place}
+use Rattle.zr_log_set.proofs.Decls.{decl_order}
+use Rattle.zr_lists.proofs.Places.{found_place}
 use Rattle.zr_local.specs.Owners.{owned_decl}
 use Rattle.zr_local.proofs.owners.place_of.Goals as goal
 

@@ -1,6 +1,6 @@
 use Rattle.std.proofs.Common.{rules}
 use Rattle.std.proofs.lemmas.Fn.{always_returns_same}
-use Rattle.zr_set.proofs.Places.{found_place}
+use Rattle.zr_lists.proofs.Places.{found_place}
 use Rattle.zr_local.specs.Rows.{Key, key_cmp, row_key}
 use Rattle.zr_local.proofs.Rows.{key_order}
 use Rattle.zr_local.proofs.row.place_of.Goals as goal

@@ -2,8 +2,9 @@ use Rattle.std.proofs.Common.{rules}
 use Rattle.std.specs.Cmp.Lexicographic.{slice_cmp}
 use Rattle.std.specs.Ordering.{nat_cmp}
 use Rattle.std.proofs.lemmas.List.Sorted.{answers_always}
-use Rattle.zr_set.proofs.Places.{found_place}
-use Rattle.zr_log.proofs.Logs.{name_order, source_of}
+use Rattle.zr_lists.proofs.Places.{found_place}
+use Rattle.zr_lists.proofs.Order.{name_order}
+use Rattle.zr_log.proofs.Logs.{source_of}
 use Rattle.zr_log.proofs.place.place_of.Goals as goal
 
 pub returns : goal.returns

@@ -1,7 +1,7 @@
 -- The row is filled up to the chunks so far, and those that are left are those of the rest.
 use Rattle.std.proofs.Common.{◌≡◌, ◌≤◌, ◌+◌, length, drop, map}
 use Rattle.std.specs.Option.{option_copied, option_map_or}
-use Rattle.zr_text.specs.Cut.{parts}
+use Rattle.zr_lists.specs.Cut.{parts}
 use Rattle.zr_key.specs.Key.{expression_of, chunk_of}
 use Rattle.zr_match.specs.Table.{first_row, chunk_signs}
 use Rattle.zr_match.proofs.Rows.{UpTo}

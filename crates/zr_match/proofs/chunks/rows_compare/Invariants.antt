@@ -1,7 +1,7 @@
 -- The row is that of the chunks so far, the last one first.
 use Rattle.std.proofs.Common.{◌≡◌, ◌++◌, ◌+◌, List, length, reverse, map}
 use Rattle.std.specs.Option.{option_copied, option_map_or}
-use Rattle.zr_text.specs.Cut.{parts}
+use Rattle.zr_lists.specs.Cut.{parts}
 use Rattle.zr_key.specs.Expression.{Chunk}
 use Rattle.zr_key.specs.Key.{expression_of, chunk_of}
 use Rattle.zr_match.specs.Table.{table, chunk_signs, IsRow}

@@ -1,4 +1,4 @@
-use Rattle.zr_format.proofs.Follows.{format_is_read}
+use Rattle.zr_format_spec.proofs.Follows.{format_is_read}
 use Rattle.zr_net.proofs.Messages.{follows_net}
 use Rattle.zr_net.proofs.laws.net_is_read.Goals as goal
 

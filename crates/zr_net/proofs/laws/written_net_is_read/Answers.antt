@@ -1,4 +1,4 @@
-use Rattle.zr_format.proofs.Follows.{written_is_read}
+use Rattle.zr_format_spec.proofs.Follows.{written_is_read}
 use Rattle.zr_decl.specs.declared.declared.Declared.TheVariants.{Told}
 use Rattle.zr_net.specs.Writing.{writes_net, CanBeSent}
 use Rattle.zr_net.proofs.Messages.{follows_net}

@@ -1,7 +1,7 @@
 use Rattle.std.proofs.Common.{[], ◌∷◌, false}
 use Rattle.zr_bytes.specs.Number.{writes}
 use Rattle.zr_ext.specs.Writing.{writes_chain}
-use Rattle.zr_format.specs.Writing.{writes_header}
+use Rattle.zr_format_spec.specs.Writing.{writes_header}
 use Rattle.zr_net.specs.Writing.{has_any}
 use Rattle.zr_net.proofs.Fronts.{appends_both, appends_more, keeps_same}
 use Rattle.zr_net.proofs.writing.put_last.Goals as goal

@@ -1,18 +1,18 @@
 use Rattle.std.proofs.Common.{◌≡◌, ℕ, ◌-◌, ◌≤◌, List, ◌++◌, length, min, take, Option, refl, sym, ap, ◌∙◌, rules, arith, subst}
 use Rattle.std.proofs.lemmas.List.{length-take}
 use Rattle.zr_world.specs.Living.{Living}
-use Rattle.zr_language.specs.Lines.{ended_lines}
-use Rattle.zr_language.specs.Report.{too_long_text}
+use Rattle.zr_script_spec.specs.Lines.{ended_lines}
+use Rattle.zr_script_spec.specs.Report.{too_long_text}
 use Rattle.zr_outside.specs.Piece.{IsReadToEnd}
 use Rattle.zr_outside.specs.Told.{Consumes}
-use Rattle.zr_runner.specs.Kept.{Kept, fresh, writes}
-use Rattle.zr_runner.specs.Possible.{StepsGo}
-use Rattle.zr_runner.proofs.Writing.{seen_at, seen_stopped}
-use Rattle.zr_runner.proofs.Going.{goes_behind}
+use Rattle.zr_netrun_lines.specs.Kept.{Kept, fresh, writes}
+use Rattle.zr_netrun_lines.specs.Possible.{StepsGo}
+use Rattle.zr_netrun_lines.proofs.Writing.{seen_at, seen_stopped}
+use Rattle.zr_netrun_lines.proofs.Going.{goes_behind}
 use Rattle.zr_netrun.specs.Told.{Tells, Complains}
 use Rattle.zr_netrun.specs.Judged.{refusal_told}
 use Rattle.zr_netrun.proofs.Reading.{after_nothing, reads_piece, seen_tells}
-use Rattle.zr_netrun.proofs.Telling.{stops_reading, passes_limit, still_after, fails_reading, ended_later, ends_reading, stops_at_end, not_done, fault_not_done}
+use Rattle.zr_netrun.proofs.Telling.{stops_reading, passes_limit, still_after, fails_reading, ended_later, ends_done, ends_reading, stops_at_end, not_done, fault_not_done}
 use Rattle.zr_netrun.proofs.netrun.run_lines.Goals as goal
 
 pub reading-init : goal.reading-init
@@ -39,10 +39,10 @@ pub returns-in-Err-clause-report : goal.returns-in-Err-clause-report
 returns-in-Err-clause-report g c =
     let fits : c.in-Bytes.count ≤ length c.next_piece.new.into = grind (arith, c.in-Bytes.ensures.bytes.1, c.reading.invariant.sized) in
     let cut : c.min-used.result ≡ min c.in-Bytes.count (67108864 - c.reading.total) = search rules in
-    let told = subst (λ (z : Option (List ℕ)). Tells c.in-Err.stop c.tell.result (refusal_told c.args.explains c.feed.new.self.number c.feed.new.self.line) c.feed.new.self.pending (g.K.Sink.held c.feed.new.out) (g.K.Sink.held c.tell.new.out) z (g.E.Sink.held c.tell.new.err))
+    let told = subst (λ (z : Option (List ℕ)). Tells c.in-Err.stop c.tell.result (refusal_told c.args.options.explain c.feed.new.self.number c.feed.new.self.line) c.feed.new.self.pending (g.K.Sink.held c.feed.new.out) (g.K.Sink.held c.tell.new.out) z (g.E.Sink.held c.tell.new.err))
     c.reading.invariant.err_same c.tell.ensures.tells in
-    not_done c.args.explains _ _ _ _ _ _ _ _ _ c.tell.ensures.stops
-    (stops_reading c.args.explains _ _ _ _ c.in-Bytes.count c.min-used.result c.reading.total c.next_piece.new.into c.reading.runner c.feed.new.self _ _ _ _ _ _ c.in-Err.stop c.tell.result
+    not_done c.args.options.explain _ _ _ _ _ _ _ _ _ c.tell.ensures.stops
+    (stops_reading c.args.options.explain _ _ _ _ c.in-Bytes.count c.min-used.result c.reading.total c.next_piece.new.into c.reading.runner c.feed.new.self _ _ _ _ _ _ c.in-Err.stop c.tell.result
     c.reading.invariant.read c.in-Bytes.ensures.bytes.2 fits c.reading.invariant.most cut
     (seen_stopped (writes c.reading.runner) (writes c.args.runner.now) _ _ _ _ _ _ c.reading.invariant.mode c.in-Err.ensures.turn) c.in-Err.ensures.refused (seen_tells (writes c.args.runner.now) _ _ _ _ _ _ _ _ told))
 
@@ -50,9 +50,9 @@ pub returns-then-used-count-clause-report : goal.returns-then-used-count-clause-
 returns-then-used-count-clause-report g c =
     let fits : c.in-Bytes.count ≤ length c.next_piece.new.into = grind (arith, c.in-Bytes.ensures.bytes.1, c.reading.invariant.sized) in
     let cut : c.min-used.result ≡ min c.in-Bytes.count (67108864 - c.reading.total) = search rules in
-    let told = subst (λ (z : Option (List ℕ)). Complains c.tell_too_long.result too_long_text z (g.E.Sink.held c.tell_too_long.new.err)) c.reading.invariant.err_same c.tell_too_long.ensures.tells in
-    not_done c.args.explains _ _ _ _ _ _ _ _ _ c.tell_too_long.ensures.stops
-    (passes_limit c.args.explains _ _ _ _ c.in-Bytes.count c.min-used.result c.reading.total c.next_piece.new.into c.reading.runner c.feed.new.self _ _ _ _ _ _ c.tell_too_long.result
+    let told = subst (λ (z : Option (List ℕ)). Complains c.complain.result too_long_text z (g.E.Sink.held c.complain.new.err)) c.reading.invariant.err_same c.complain.ensures.tells in
+    not_done c.args.options.explain _ _ _ _ _ _ _ _ _ c.complain.ensures.stops
+    (passes_limit c.args.options.explain _ _ _ _ c.in-Bytes.count c.min-used.result c.reading.total c.next_piece.new.into c.reading.runner c.feed.new.self _ _ _ _ _ _ c.complain.result
     c.reading.invariant.read c.in-Bytes.ensures.bytes.2 fits c.reading.invariant.most cut c.if-used-count.true
     (seen_at (writes c.reading.runner) (writes c.args.runner.now) _ _ _ _ _ _ c.reading.invariant.mode c.in-Ok.ensures.turn) c.in-Ok.ensures.flushed told)
 
@@ -83,20 +83,22 @@ reading-preserved g c =
 
 pub returns-in-Ok-finish-clause-report : goal.returns-in-Ok-finish-clause-report
 returns-in-Ok-finish-clause-report g c =
-    ends_reading c.args.explains _ _ _ c.reading.total c.reading.runner c.finish.new.self _ _ _ _ _ _
+    ends_reading c.args.options.explain _ _ _ c.reading.total c.reading.runner c.finish.new.self _ _ _ _ _ _
     (ended_later _ _ _ _ _ _ c.reading.invariant.ends c.reading.invariant.quiets (c.in-End.ensures.whole refl))
     (still_after _ _ _ _ _ _ _ c.reading.invariant.read c.in-End.ensures.bytes) c.reading.invariant.most
     (seen_at (writes c.reading.runner) (writes c.args.runner.now) _ _ _ _ _ _ c.reading.invariant.mode c.in-Ok-finish.ensures.turn) c.in-Ok-finish.ensures.counts c.in-Ok-finish.ensures.flushed c.reading.invariant.err_same
 
-pub returns-in-Ok-finish-clause-whole : goal.returns-in-Ok-finish-clause-whole
-returns-in-Ok-finish-clause-whole g c done = ended_later _ _ _ _ _ _ c.reading.invariant.ends c.reading.invariant.quiets (c.in-End.ensures.whole refl)
+pub returns-in-Ok-finish-clause-ends : goal.returns-in-Ok-finish-clause-ends
+returns-in-Ok-finish-clause-ends g c = ends_done _ _ _ _ _ _ _
+    (ended_later _ _ _ _ _ _ c.reading.invariant.ends c.reading.invariant.quiets (c.in-End.ensures.whole refl))
+    (omega (arith, c.in-End.ensures.failed.later, c.reading.invariant.input)) (omega (arith, c.in-Ok-finish.ensures.later, c.reading.invariant.out)) c.reading.invariant.err
 
 pub returns-in-Err-finish-clause-report : goal.returns-in-Err-finish-clause-report
 returns-in-Err-finish-clause-report g c =
-    let told = subst (λ (z : Option (List ℕ)). Tells c.in-Err-finish.stop c.tell-in-Err-finish.result (refusal_told c.args.explains c.finish.new.self.number c.finish.new.self.line) c.finish.new.self.pending (g.K.Sink.held c.finish.new.out) (g.K.Sink.held c.tell-in-Err-finish.new.out) z (g.E.Sink.held c.tell-in-Err-finish.new.err))
+    let told = subst (λ (z : Option (List ℕ)). Tells c.in-Err-finish.stop c.tell-in-Err-finish.result (refusal_told c.args.options.explain c.finish.new.self.number c.finish.new.self.line) c.finish.new.self.pending (g.K.Sink.held c.finish.new.out) (g.K.Sink.held c.tell-in-Err-finish.new.out) z (g.E.Sink.held c.tell-in-Err-finish.new.err))
     c.reading.invariant.err_same c.tell-in-Err-finish.ensures.tells in
-    not_done c.args.explains _ _ _ _ _ _ _ _ _ c.tell-in-Err-finish.ensures.stops
-    (stops_at_end c.args.explains (IsReadToEnd (g.S.Source.ends c.args.input.now) (g.S.Source.ends c.next_piece.new.input) (g.S.Source.quiets c.args.input.now) (g.S.Source.quiets c.next_piece.new.input))
+    not_done c.args.options.explain _ _ _ _ _ _ _ _ _ c.tell-in-Err-finish.ensures.stops
+    (stops_at_end c.args.options.explain (IsReadToEnd (g.S.Source.ends c.args.input.now) (g.S.Source.ends c.next_piece.new.input) (g.S.Source.quiets c.args.input.now) (g.S.Source.quiets c.next_piece.new.input))
     _ _ c.reading.total c.reading.runner c.finish.new.self _ _ _ _ _ _ c.in-Err-finish.stop c.tell-in-Err-finish.result
     (ended_later _ _ _ _ _ _ c.reading.invariant.ends c.reading.invariant.quiets (c.in-End.ensures.whole refl))
     (still_after _ _ _ _ _ _ _ c.reading.invariant.read c.in-End.ensures.bytes) c.reading.invariant.most
@@ -104,5 +106,5 @@ returns-in-Err-finish-clause-report g c =
 
 pub returns-in-Failed-clause-report : goal.returns-in-Failed-clause-report
 returns-in-Failed-clause-report g c =
-    not_done c.args.explains _ _ _ _ _ _ _ _ _ fault_not_done
-    (fails_reading c.args.explains _ _ _ _ c.reading.total c.reading.runner _ _ _ _ c.reading.invariant.read c.in-Failed.ensures.bytes c.reading.invariant.most c.reading.invariant.err_same)
+    not_done c.args.options.explain _ _ _ _ _ _ _ _ _ fault_not_done
+    (fails_reading c.args.options.explain _ _ _ _ c.reading.total c.reading.runner _ _ _ _ c.reading.invariant.read c.in-Failed.ensures.bytes c.reading.invariant.most c.reading.invariant.err_same)

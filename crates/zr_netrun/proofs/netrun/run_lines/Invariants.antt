@@ -1,7 +1,7 @@
 -- While it is read: what was kept is the run of what was read, all of its report was written, and the counts tell what happened.
 use Rattle.std.proofs.Common.{◌≡◌, ◌-◌, ◌≤◌, false, length}
-use Rattle.zr_runner.specs.Kept.{fresh, seen, writes}
-use Rattle.zr_runner.specs.Possible.{StepsGo}
+use Rattle.zr_netrun_lines.specs.Kept.{fresh, seen, writes}
+use Rattle.zr_netrun_lines.specs.Possible.{StepsGo}
 use Rattle.zr_netrun.specs.Clauses.{OfRead}
 use Rattle.zr_netrun.proofs.Reading.{IsAfter}
 use Rattle.zr_netrun.proofs.netrun.run_lines.Given as goal

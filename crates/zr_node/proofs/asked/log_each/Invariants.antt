@@ -1,6 +1,6 @@
 -- What is left to be logged leads to what all of it leads to, and the log is of the same router.
 use Rattle.std.proofs.Common.{◌≡◌, drop}
-use Rattle.zr_routing.specs.Changes.{after_changes}
+use Rattle.zr_node_spec.specs.Changes.{after_changes}
 use Rattle.zr_node.proofs.Logged.{alike}
 use Rattle.zr_node.proofs.asked.log_each.Given as goal
 

@@ -1,7 +1,7 @@
 use Rattle.std.proofs.Common.{◌≡◌, ℕ, List, Option, Some, sym, ap, ◌∙◌}
 use Rattle.zr_msg.specs.declared.peer.LinkPeer.{LinkPeer}
-use Rattle.zr_routing.specs.Samples.{tree_of}
-use Rattle.zr_routing.specs.Tables.{TableState, link_at}
+use Rattle.zr_node_spec.specs.Samples.{tree_of}
+use Rattle.zr_node_spec.specs.Tables.{TableState, link_at}
 use Rattle.zr_node.proofs.asking.ask.Goals as goal
 
 -- the tree that was found for the link is that of the link of the number

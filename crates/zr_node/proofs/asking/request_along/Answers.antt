@@ -2,19 +2,19 @@ use Rattle.std.proofs.Common.{◌≡◌, ℕ, List, Option, Some, Err, sym, ap, 
 use Rattle.std.proofs.lemmas.Result.{err_from_is_err_and}
 use Rattle.zr_msg.specs.declared.msg.Target.{Target}
 use Rattle.zr_push.specs.Route.{route_of}
-use Rattle.zr_sought.specs.Sought.{sought_by}
-use Rattle.zr_push.specs.declared.route.Stop.{Stop}
-use Rattle.zr_sought.specs.declared.sought.Sought.{Sought}
+use Rattle.zr_push_sought.specs.Sought.{sought_by}
+use Rattle.zr_push.specs.declared.route.RouteLink.{RouteLink}
+use Rattle.zr_push_sought.specs.declared.sought.Sought.{Sought}
 use Rattle.zr_query.specs.Asking.{IsRouteOf}
-use Rattle.zr_routing.specs.Samples.{tree_of}
-use Rattle.zr_routing.specs.Tables.{TableState, AreNumbered, link_at}
+use Rattle.zr_node_spec.specs.Samples.{tree_of}
+use Rattle.zr_node_spec.specs.Tables.{TableState, AreNumbered, link_at}
 use Rattle.zr_node.proofs.Retold.{nothing_told, all_told}
 use Rattle.zr_query.proofs.OnRoute.{route_differs}
 use Rattle.zr_node.proofs.Requests.{is_route}
 use Rattle.zr_node.proofs.asking.request_along.Goals as goal
 
 -- the route of what a request seeks is its route, in the tree that it stays in
-is_route_of : (t : TableState) (from : ℕ) (named : Option (List ℕ)) (tree : List ℕ) (target : Target) (sought : Sought) (key own_key : List ℕ) (stops : List Stop) → AreNumbered t.links
+is_route_of : (t : TableState) (from : ℕ) (named : Option (List ℕ)) (tree : List ℕ) (target : Target) (sought : Sought) (key own_key : List ℕ) (stops : List RouteLink) → AreNumbered t.links
     → tree_of t (link_at t.links from) named ≡ Some tree → stops ≡ route_of t tree sought key → sought ≡ sought_by target → key ≡ own_key → IsRouteOf t from named tree target own_key stops
 is_route_of t from named tree target sought key own_key stops up at e f g = record { numbered = up; stays = at; stops_are = is_route t tree target sought key own_key stops e f g }
 

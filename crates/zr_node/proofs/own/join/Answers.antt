@@ -1,9 +1,9 @@
 use Rattle.std.proofs.Common.{◌≡◌, ℕ, ◌<◌, List, OnOk, length, sym, ap, subst, ◌∙◌}
 use Rattle.std.proofs.lemmas.Bool.{leb-false}
 use Rattle.zr_graph.specs.Base.{relinked}
-use Rattle.zr_table.specs.Table.{with_name, own_links}
-use Rattle.zr_table.proofs.AreLinks.{named_back}
-use Rattle.zr_table.proofs.OwnLinks.{are_links-with_name}
+use Rattle.zr_node_spec.specs.Table.{with_name, own_links}
+use Rattle.zr_node_spec.proofs.AreLinks.{named_back}
+use Rattle.zr_node_spec.proofs.OwnLinks.{are_links-with_name}
 use Rattle.zr_node.proofs.Answers.{not_refused}
 use Rattle.zr_node.proofs.own.join.Goals as goal
 

@@ -2,7 +2,7 @@ use Rattle.std.proofs.Common.{◌≡◌, true, sym, subst}
 use Rattle.zr_id.specs.Record.{are_links}
 use Rattle.zr_id.specs.Zid.{is_named}
 use Rattle.zr_graph.proofs.Names.{same_is}
-use Rattle.zr_table.proofs.Links.{find_passes}
+use Rattle.zr_node_spec.proofs.Links.{find_passes}
 use Rattle.zr_node.proofs.own.own_links.Goals as goal
 
 pub returns-in-Some-clause-in_order : goal.returns-in-Some-clause-in_order

@@ -1,5 +1,5 @@
 use Rattle.std.proofs.Common.{sym, ◌∙◌}
-use Rattle.zr_table.proofs.OwnLinks.{are_links-without_name}
+use Rattle.zr_node_spec.proofs.OwnLinks.{are_links-without_name}
 use Rattle.zr_node.proofs.Answers.{not_refused}
 use Rattle.zr_node.proofs.own.part.Goals as goal
 

@@ -1,6 +1,6 @@
 use Rattle.std.proofs.Common.{◌≡◌, ℕ, not, Bool, true, false, List, [], ◌∷◌, ◌++◌, sym, ap, subst, ◌∙◌, arith}
 use Rattle.zr_id.specs.Zid.{is_named}
-use Rattle.zr_tell.proofs.Kept.{kept_more, kept_past}
+use Rattle.zr_node_spec.proofs.Kept.{kept_more, kept_past}
 use Rattle.zr_node.proofs.own.without_name.Goals.{then-is_other+in_ok-push, else-is_other}
 use Rattle.zr_node.proofs.own.without_name.Goals as goal
 

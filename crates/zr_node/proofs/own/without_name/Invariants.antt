@@ -1,7 +1,7 @@
 -- The names that are left are left to be added.
 use Rattle.std.proofs.Common.{[], drop}
-use Rattle.zr_table.specs.Table.{without_name}
-use Rattle.zr_table.proofs.Prefixes.{IsSoFar}
+use Rattle.zr_node_spec.specs.Table.{without_name}
+use Rattle.zr_lists.proofs.Prefixes.{IsSoFar}
 use Rattle.zr_node.proofs.own.without_name.Given as goal
 
 abbrev pub invariant-loop-name : goal.invariant-loop-name

@@ -1,4 +1,4 @@
-use Rattle.zr_format.proofs.Follows.{one_reading_anywhere}
+use Rattle.zr_format_spec.proofs.Follows.{one_reading_anywhere}
 use Rattle.zr_oam.proofs.Messages.{follows_oam}
 use Rattle.zr_oam.proofs.laws.oam_has_one_reading.Goals as goal
 

@@ -1,4 +1,4 @@
-use Rattle.zr_format.proofs.Follows.{format_is_read}
+use Rattle.zr_format_spec.proofs.Follows.{format_is_read}
 use Rattle.zr_oam.proofs.Messages.{follows_oam}
 use Rattle.zr_oam.proofs.laws.oam_is_read.Goals as goal
 

@@ -1,5 +1,5 @@
 use Rattle.std.proofs.Common.{Some}
-use Rattle.zr_format.proofs.Follows.{written_is_read}
+use Rattle.zr_format_spec.proofs.Follows.{written_is_read}
 use Rattle.zr_oam.specs.Writing.{writes_oam, CanBeWritten}
 use Rattle.zr_oam.proofs.Messages.{follows_oam}
 use Rattle.zr_oam.proofs.Written.{message_spelled}

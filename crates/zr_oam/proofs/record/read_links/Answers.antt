@@ -1,6 +1,6 @@
 use Rattle.std.proofs.Common.{arith}
 use Rattle.std.proofs.lemmas.Result.{err_from_is_err_and}
-use Rattle.zr_format.proofs.Series.{series_begins, series_more, series_fails, series_over}
+use Rattle.zr_format_spec.proofs.Series.{series_begins, series_more, series_fails, series_over}
 use Rattle.zr_oam.proofs.Messages.{links_are_links}
 use Rattle.zr_oam.proofs.record.read_links.Goals as goal
 

@@ -1,6 +1,6 @@
 use Rattle.std.proofs.Common.{◌≡◌, ◌-◌, None}
-use Rattle.zr_format.specs.Reading.{last_of, series_of}
-use Rattle.zr_format.proofs.Series.{behind}
+use Rattle.zr_format_spec.specs.Reading.{last_of, series_of}
+use Rattle.zr_format_spec.proofs.Series.{behind}
 use Rattle.zr_oam.specs.Reading.{link_of}
 use Rattle.zr_oam.proofs.record.read_links.Given as goal
 

@@ -1,6 +1,6 @@
 -- The stops that are left are left to be added.
 use Rattle.std.proofs.Common.{[], drop}
-use Rattle.zr_table.proofs.Prefixes.{IsSoFar}
+use Rattle.zr_lists.proofs.Prefixes.{IsSoFar}
 use Rattle.zr_push.specs.Route.{stops_from}
 use Rattle.zr_push.proofs.route.stops_from.Given as goal
 

@@ -1,7 +1,7 @@
 use Rattle.std.proofs.Common.{Bool, List, [], filter, map, refl, ap, ◌∙◌, sym, arith}
 use Rattle.zr_msg.specs.declared.peer.LinkPeer.{LinkPeer}
-use Rattle.zr_table.proofs.Prefixes.{along_picked, along_passed}
-use Rattle.zr_push.specs.declared.route.Stop.{Stop}
+use Rattle.zr_lists.proofs.Prefixes.{along_picked, along_passed}
+use Rattle.zr_push.specs.declared.route.RouteLink.{RouteLink}
 use Rattle.zr_push.specs.Route.{is_stop, stop_at}
 use Rattle.zr_push.proofs.route.stops_on.Goals.{then-is_stop+in_ok-push, else-is_stop}
 use Rattle.zr_push.proofs.route.stops_on.Goals as goal
@@ -9,9 +9,9 @@ use Rattle.zr_push.proofs.route.stops_on.Goals as goal
 pub loop-link-preserved : goal.loop-link-preserved
 loop-link-preserved c =
     let test : LinkPeer → Bool = λ l. is_stop c.args.tables.now c.args.hops.now c.args.sought c.args.key.now l l.peer.role in
-    let said_of : LinkPeer → Stop = λ l. stop_at l in
+    let said_of : LinkPeer → RouteLink = λ l. stop_at l in
     let links : List LinkPeer = c.links-links.result.now in
-    let said : List Stop = map said_of (filter test links) in
+    let said : List RouteLink = map said_of (filter test links) in
     let is = c.is_stop.ensures.stop c.args.tables.now c.loop-link.invariant.rows in
     record {
       rows = c.is_stop.ensures.kept ∙ c.loop-link.invariant.rows;

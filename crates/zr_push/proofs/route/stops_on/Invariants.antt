@@ -1,6 +1,6 @@
 -- The stops of the links that are left are left to be added.
 use Rattle.std.proofs.Common.{◌≡◌, [], drop, filter, map}
-use Rattle.zr_table.proofs.Prefixes.{IsSoFar}
+use Rattle.zr_lists.proofs.Prefixes.{IsSoFar}
 use Rattle.zr_push.specs.Route.{is_stop, stop_at}
 use Rattle.zr_push.proofs.route.stops_on.Given as goal
 

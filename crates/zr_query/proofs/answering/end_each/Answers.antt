@@ -1,6 +1,6 @@
 use Rattle.std.proofs.Common.{◌≡◌, ◌++◌, map, OnOk, OnErr, subst, ◌∙◌}
 use Rattle.zr_msg.specs.declared.extras.Extras.{Extras}
-use Rattle.zr_table.specs.Prefix.{IsPrefixBehind}
+use Rattle.zr_lists.specs.Prefix.{IsPrefixBehind}
 use Rattle.zr_query.specs.Answering.{final_sent}
 use Rattle.zr_query.proofs.answering.end_each.Goals as goal
 

@@ -5,7 +5,7 @@ use Rattle.zr_id.specs.declared.link.LinkNo.{LinkNo}
 use Rattle.zr_msg.specs.declared.extras.Extras.{Extras}
 use Rattle.zr_msg.specs.declared.msg.Msg.{Msg}
 use Rattle.zr_pend.specs.declared.branch.Asker.{Asker}
-use Rattle.zr_table.proofs.Prefixes.{IsSoFar, so_far_one, so_far_prefix}
+use Rattle.zr_lists.proofs.Prefixes.{IsSoFar, so_far_one, so_far_prefix}
 use Rattle.zr_query.specs.Answering.{final_sent}
 use Rattle.zr_query.proofs.answering.end_with.Goals as goal
 

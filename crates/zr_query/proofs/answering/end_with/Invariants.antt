@@ -1,6 +1,6 @@
 -- What the askers that are left get is left to be said.
 use Rattle.std.proofs.Common.{drop, map}
-use Rattle.zr_table.proofs.Prefixes.{IsSoFar}
+use Rattle.zr_lists.proofs.Prefixes.{IsSoFar}
 use Rattle.zr_query.specs.Answering.{final_sent}
 use Rattle.zr_query.proofs.answering.end_with.Given as goal
 

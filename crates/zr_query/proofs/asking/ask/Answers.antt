@@ -2,7 +2,7 @@ use Rattle.std.proofs.Common.{◌≡◌, ◌++◌, List, ap, subst, ◌∙◌}
 use Rattle.std.proofs.lemmas.Result.{err_from_is_err_and}
 use Rattle.zr_id.specs.declared.link.LinkNo.{LinkNo}
 use Rattle.zr_msg.specs.declared.msg.Msg.{Msg}
-use Rattle.zr_table.specs.Prefix.{IsPrefixBehind}
+use Rattle.zr_lists.specs.Prefix.{IsPrefixBehind}
 use Rattle.zr_query.specs.Asking.{all_asked, each_asked}
 use Rattle.zr_query.proofs.OnRoute.{asked_all}
 use Rattle.zr_query.proofs.asking.ask.Goals as goal

@@ -5,8 +5,8 @@ use Rattle.zr_id.specs.declared.link.LinkNo.{LinkNo}
 use Rattle.zr_msg.specs.declared.content.Parts.{Parts}
 use Rattle.zr_msg.specs.declared.msg.Msg.{Msg}
 use Rattle.zr_msg.specs.declared.msg.Target.{Target}
-use Rattle.zr_push.specs.declared.route.Stop.{Stop}
-use Rattle.zr_table.proofs.Prefixes.{IsSoFar, so_far_one, so_far_prefix}
+use Rattle.zr_push.specs.declared.route.RouteLink.{RouteLink}
+use Rattle.zr_lists.proofs.Prefixes.{IsSoFar, so_far_one, so_far_prefix}
 use Rattle.zr_query.specs.Asking.{each_asked, request_for}
 use Rattle.zr_query.proofs.asking.ask_each.Goals as goal
 
@@ -16,12 +16,12 @@ returns-in_err-ask_at-clause-err c =
     rw (p.1, c.in_err-ask_at.ensures.err) (so_far_prefix _ _ _ _ c.loop-i.invariant)
 
 -- one more stop was asked
-asked_more : (tree : List ℕ) (target : Target) (content : Parts) (stops : List Stop) (numbers : List ℕ) (i : ℕ) (d : Stop) (e : ℕ) (before now next : List (LinkNo × Msg))
+asked_more : (tree : List ℕ) (target : Target) (content : Parts) (stops : List RouteLink) (numbers : List ℕ) (i : ℕ) (d : RouteLink) (e : ℕ) (before now next : List (LinkNo × Msg))
     → i < length stops → length numbers ≡ length stops → next ≡ now ++ request_for tree target content (get_or stops i d) (get_or numbers i e) ∷ []
     → IsSoFar before (each_asked tree target content stops numbers) now (each_asked tree target content (drop i stops) (drop i numbers))
     → IsSoFar before (each_asked tree target content stops numbers) next (each_asked tree target content (drop (i + 1) stops) (drop (i + 1) numbers))
 asked_more tree target content stops numbers i d e before now next less same said h =
-    let stop : Stop = get_or stops i d in
+    let stop : RouteLink = get_or stops i d in
     let number : ℕ = get_or numbers i e in
     let rest : List (LinkNo × Msg) = each_asked tree target content (drop (i + 1) stops) (drop (i + 1) numbers) in
     let one : each_asked tree target content (drop i stops) (drop i numbers) ≡ request_for tree target content stop number ∷ rest =

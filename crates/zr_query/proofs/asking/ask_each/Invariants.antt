@@ -1,6 +1,6 @@
 -- What the stops that are left are asked is left to be said.
 use Rattle.std.proofs.Common.{drop}
-use Rattle.zr_table.proofs.Prefixes.{IsSoFar}
+use Rattle.zr_lists.proofs.Prefixes.{IsSoFar}
 use Rattle.zr_query.specs.Asking.{each_asked}
 use Rattle.zr_query.proofs.asking.ask_each.Given as goal
 

@@ -1,5 +1,5 @@
 use Rattle.std.proofs.lemmas.Result.{on_ok_weaker}
-use Rattle.zr_table.proofs.Told.{tells_list}
+use Rattle.zr_node_spec.proofs.Told.{tells_list}
 use Rattle.zr_query.proofs.Told.{refused_is}
 use Rattle.zr_query.proofs.asking.refuse.Goals as goal
 

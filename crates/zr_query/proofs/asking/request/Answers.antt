@@ -1,6 +1,6 @@
 use Rattle.std.proofs.Common.{◌≡◌, List, true, false, ◌∙◌}
 use Rattle.std.proofs.lemmas.Result.{on_ok_weaker, on_err_weaker}
-use Rattle.zr_push.specs.declared.route.Stop.{Stop}
+use Rattle.zr_push.specs.declared.route.RouteLink.{RouteLink}
 use Rattle.zr_push.specs.Route.{stops_from}
 use Rattle.zr_query.proofs.OnRoute.{request_told, request_prefix, pending_is, room_is}
 use Rattle.zr_query.proofs.Told.{nothing_yet}

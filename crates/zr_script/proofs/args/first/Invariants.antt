@@ -1,6 +1,6 @@
 -- The words of what is left are those of the text.
 use Rattle.std.specs.Prelude.{◌≡◌, length}
-use Rattle.zr_language.specs.Words.{words}
+use Rattle.zr_script_spec.specs.Words.{words}
 use Rattle.zr_script.proofs.args.first.Given as goal
 
 abbrev pub invariant-loop-rest : goal.invariant-loop-rest

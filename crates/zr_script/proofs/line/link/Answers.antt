@@ -2,10 +2,10 @@ use Rattle.std.proofs.Common.{rules, Ok, Err, ◌∙◌}
 use Rattle.std.specs.Prelude.{if◌then◌else◌}
 use Rattle.std.proofs.lemmas.Result.{err_from_is_err_and}
 use Rattle.zr_id.specs.Zid.{is_named}
-use Rattle.zr_command.specs.declared.command.Act.TheVariants.{Link}
-use Rattle.zr_command.specs.declared.command.Command.TheVariants.{Act}
-use Rattle.zr_command.specs.declared.error.ScriptError.TheVariants.{BadWords}
-use Rattle.zr_language.specs.Command.{link_line}
+use Rattle.zr_script_spec.specs.declared.command.Act.TheVariants.{Link}
+use Rattle.zr_script_spec.specs.declared.command.Command.TheVariants.{Act}
+use Rattle.zr_script_spec.specs.declared.error.ScriptError.TheVariants.{BadWords}
+use Rattle.zr_script_spec.specs.Command.{link_line}
 use Rattle.zr_script.proofs.line.link.Goals as goal
 
 pub returns : goal.returns

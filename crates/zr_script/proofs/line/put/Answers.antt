@@ -1,4 +1,4 @@
-use Rattle.zr_language.specs.Words.{words}
+use Rattle.zr_script_spec.specs.Words.{words}
 use Rattle.zr_script.proofs.Words.{third_short}
 use Rattle.zr_script.proofs.line.put.Goals as goal
 

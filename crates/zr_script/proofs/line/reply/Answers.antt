@@ -1,6 +1,6 @@
 -- The words are read one behind the other, and the payload is that of a short word.
 use Rattle.std.proofs.lemmas.Result.{err_from_is_err_and}
-use Rattle.zr_language.specs.Words.{words}
+use Rattle.zr_script_spec.specs.Words.{words}
 use Rattle.zr_script.proofs.Lines.{reply_words, reply_stays, reply_stays_key, reply_leads}
 use Rattle.zr_script.proofs.Words.{fourth_short}
 use Rattle.zr_script.proofs.line.reply.Goals as goal

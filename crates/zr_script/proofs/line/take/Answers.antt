@@ -1,8 +1,8 @@
 use Rattle.std.proofs.Common.{Ok}
 use Rattle.std.proofs.lemmas.Result.{err_from_is_err_and}
-use Rattle.zr_command.specs.declared.command.Act.TheVariants.{Take}
-use Rattle.zr_command.specs.declared.command.Command.TheVariants.{Act}
-use Rattle.zr_language.specs.Command.{take_line}
+use Rattle.zr_script_spec.specs.declared.command.Act.TheVariants.{Take}
+use Rattle.zr_script_spec.specs.declared.command.Command.TheVariants.{Act}
+use Rattle.zr_script_spec.specs.Command.{take_line}
 use Rattle.zr_script.proofs.line.take.Goals as goal
 
 pub returns : goal.returns

@@ -1,6 +1,6 @@
 -- The mode, the kinds, and whether all is told as one.
 use Rattle.std.proofs.lemmas.Result.{err_from_is_err_and}
-use Rattle.zr_language.specs.Words.{words}
+use Rattle.zr_script_spec.specs.Words.{words}
 use Rattle.zr_script.proofs.Leading.{terms_stay, terms_stay_next, terms_stay_last, terms_lead}
 use Rattle.zr_script.proofs.line.terms.Goals as goal
 

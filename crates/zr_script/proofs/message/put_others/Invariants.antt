@@ -1,6 +1,6 @@
 use Rattle.std.proofs.Common.{◌≡◌, ◌++◌, ◌∷◌, drop}
 use Rattle.std.specs.List.{flat_map}
-use Rattle.zr_language.specs.Report.{id_text}
+use Rattle.zr_script_spec.specs.Report.{id_text}
 use Rattle.zr_script.proofs.message.put_others.Given as goal
 
 -- what was put, with what the others will put, is what all put

@@ -1,7 +1,7 @@
 -- The digits that are left, from the value so far, make the whole value.
 use Rattle.std.proofs.Common.{◌≡◌, ◌+◌, ◌-◌, ◌*◌, ◌<◌, ◌^◌, drop}
 use Rattle.std.specs.List.{fold}
-use Rattle.zr_language.specs.Words.{value_of}
+use Rattle.zr_script_spec.specs.Words.{value_of}
 use Rattle.zr_script.proofs.word.value.Given as goal
 
 abbrev pub invariant-loop-b : goal.invariant-loop-b

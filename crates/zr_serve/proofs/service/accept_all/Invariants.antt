@@ -1,5 +1,5 @@
 use Rattle.std.proofs.Common.{◌≤◌, ℕ, List, Option}
-use Rattle.zr_crew.specs.Crew.{crew_faults, crew_told}
+use Rattle.zr_outside_crew.specs.Crew.{crew_faults, crew_told}
 use Rattle.zr_serve.specs.Links.{links_of}
 use Rattle.zr_serve.specs.Moments.{moment}
 use Rattle.zr_serve.specs.Serving.{Goes}

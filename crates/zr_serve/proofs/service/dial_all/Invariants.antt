@@ -1,6 +1,6 @@
 use Rattle.std.proofs.Common.{◌≤◌, map}
 use Rattle.std.specs.String.{string_bytes}
-use Rattle.zr_crew.specs.Crew.{crew_faults, crew_told}
+use Rattle.zr_outside_crew.specs.Crew.{crew_faults, crew_told}
 use Rattle.zr_serve.specs.Links.{links_of}
 use Rattle.zr_serve.specs.Moments.{moment}
 use Rattle.zr_serve.specs.Serving.{Dials}

@@ -1,4 +1,4 @@
-use Rattle.zr_told.specs.Wanted.{wanted}
+use Rattle.zr_told_spec.specs.Wanted.{wanted}
 use Rattle.zr_told.proofs.Planned.{forgotten_gone}
 use Rattle.zr_told.proofs.laws.forgotten_is_kept.Goals as goal
 

@@ -1,7 +1,7 @@
-use Rattle.zr_told.specs.Wanted.{is_complete_at, wanted}
+use Rattle.zr_told_spec.specs.Wanted.{is_complete_at, wanted}
 use Rattle.zr_told.proofs.Planned.{gone_marked, fresh_marked}
-use Rattle.zr_told.proofs.Sorted.{wanted_ascends}
-use Rattle.zr_told.proofs.Wants.{wanted_by}
+use Rattle.zr_told_spec.proofs.Sorted.{wanted_ascends}
+use Rattle.zr_told_spec.proofs.Wants.{wanted_by}
 use Rattle.zr_told.proofs.laws.marks_decide.Goals as goal
 
 pub returns : goal.returns

@@ -1,7 +1,7 @@
 -- What was put and what is left make all.
 use Rattle.std.proofs.Common.{◌≡◌, ◌++◌, drop, filter}
 use Rattle.std.specs.List.{flat_map}
-use Rattle.zr_told.specs.Rows.{is_source}
+use Rattle.zr_told_spec.specs.Rows.{is_source}
 use Rattle.zr_told.proofs.others.put_logs.Given as goal
 
 abbrev pub invariant-loop-log : goal.invariant-loop-log

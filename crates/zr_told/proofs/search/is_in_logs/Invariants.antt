@@ -3,7 +3,7 @@ use Rattle.std.proofs.Common.{◌≡◌, drop, filter}
 use Rattle.std.specs.List.{list_any, flat_map}
 use Rattle.std.specs.Option.{option_copied}
 use Rattle.zr_told.specs.Plan.{is_sought}
-use Rattle.zr_told.specs.Rows.{is_source}
+use Rattle.zr_told_spec.specs.Rows.{is_source}
 use Rattle.zr_told.proofs.search.is_in_logs.Given as goal
 
 abbrev pub invariant-loop-log : goal.invariant-loop-log

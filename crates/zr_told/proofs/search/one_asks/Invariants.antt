@@ -1,7 +1,7 @@
 -- What was found so far is nothing, and what is left decides.
 use Rattle.std.proofs.Common.{◌≡◌, drop}
-use Rattle.zr_told.specs.Rows.{others}
-use Rattle.zr_told.specs.Wanted.{wants}
+use Rattle.zr_told_spec.specs.Rows.{others}
+use Rattle.zr_told_spec.specs.Wanted.{wants}
 use Rattle.zr_told.proofs.search.one_asks.Given as goal
 
 abbrev pub invariant-loop-interest : goal.invariant-loop-interest

@@ -1,8 +1,8 @@
 use Rattle.std.proofs.Common.{◌≡◌, [], ◌∷◌, cond}
 use Rattle.std.proofs.lemmas.Result.{err_from_is_err_and, on_err_weaker}
 use Rattle.zr_msg.specs.declared.msg.Msg.TheVariants.{ToldEnd}
-use Rattle.zr_table.specs.Prefix.{IsPrefixBehind}
-use Rattle.zr_told.specs.Rows.{once, sent_on, closing}
+use Rattle.zr_lists.specs.Prefix.{IsPrefixBehind}
+use Rattle.zr_told_spec.specs.Rows.{once, sent_on, closing}
 use Rattle.zr_told.proofs.Said.{in_first, after_first}
 use Rattle.zr_told.proofs.told.close.Goals as goal
 

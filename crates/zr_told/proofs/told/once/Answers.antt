@@ -1,7 +1,7 @@
 use Rattle.std.proofs.Common.{◌≡◌, ◌++◌, OnErr, OnOk, Some, map, subst, ◌∙◌}
-use Rattle.zr_table.specs.Prefix.{IsPrefixBehind}
-use Rattle.zr_told.specs.Rows.{sent_on}
-use Rattle.zr_told.specs.Told.{declares}
+use Rattle.zr_lists.specs.Prefix.{IsPrefixBehind}
+use Rattle.zr_told_spec.specs.Rows.{sent_on}
+use Rattle.zr_told_spec.specs.Told.{declares}
 use Rattle.zr_told.proofs.told.once.Goals as goal
 
 pub returns-clause-ok : goal.returns-clause-ok

@@ -1,8 +1,8 @@
 -- What is left to tell is left to be said.
 use Rattle.std.proofs.Common.{Some, drop, map}
-use Rattle.zr_table.proofs.Prefixes.{IsSoFar}
-use Rattle.zr_told.specs.Rows.{sent_on}
-use Rattle.zr_told.specs.Told.{declares}
+use Rattle.zr_lists.proofs.Prefixes.{IsSoFar}
+use Rattle.zr_told_spec.specs.Rows.{sent_on}
+use Rattle.zr_told_spec.specs.Told.{declares}
 use Rattle.zr_told.proofs.told.say_each.Given as goal
 
 abbrev pub invariant-loop-place : goal.invariant-loop-place

@@ -1,7 +1,7 @@
 use Rattle.std.proofs.Common.{◌+◌, ◌≤◌, drop, length, sym, ap, ◌∙◌, arith}
 use Rattle.std.specs.Prelude.{◌||◌}
 use Rattle.std.proofs.Math.ListN.{drop_of_length-le}
-use Rattle.zr_told.specs.Rows.{is_touched}
+use Rattle.zr_told_spec.specs.Rows.{is_touched}
 use Rattle.zr_told.proofs.Changed.{next_left}
 use Rattle.zr_told.proofs.touched.is_touched.Goals as goal
 

@@ -1,6 +1,6 @@
 -- What was found so far is nothing, and what is left decides.
 use Rattle.std.proofs.Common.{◌≡◌, drop}
-use Rattle.zr_told.specs.Rows.{is_touched}
+use Rattle.zr_told_spec.specs.Rows.{is_touched}
 use Rattle.zr_told.proofs.touched.is_touched.Given as goal
 
 abbrev pub invariant-loop-place : goal.invariant-loop-place

@@ -1,7 +1,7 @@
 -- What is left to mark leads to the same end.
 use Rattle.std.proofs.Common.{◌≡◌, [], drop}
 use Rattle.std.specs.List.{fold}
-use Rattle.zr_told.specs.Rows.{others}
+use Rattle.zr_told_spec.specs.Rows.{others}
 use Rattle.zr_told.specs.Plan.{mark_fitting}
 use Rattle.zr_told.proofs.touched.marks_at.Given as goal
 

@@ -2,7 +2,7 @@ use Rattle.std.proofs.Common.{◌+◌, ◌≤◌, drop, length, sym, ap, ◌∙�
 use Rattle.std.specs.Prelude.{◌||◌}
 use Rattle.std.specs.List.{list_any}
 use Rattle.std.proofs.Math.ListN.{drop_of_length-le}
-use Rattle.zr_told.specs.Wanted.{fits}
+use Rattle.zr_told_spec.specs.Wanted.{fits}
 use Rattle.zr_told.proofs.Changed.{next_left}
 use Rattle.zr_told.proofs.touched.one_fits.Goals as goal
 

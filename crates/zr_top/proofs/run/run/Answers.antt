@@ -4,7 +4,4 @@ use Rattle.zr_top.proofs.run.run.Goals as goal
 
 -- the lines that count lead to a moment, whichever they are
 pub returns-in-Some-clause-told : goal.returns-in-Some-clause-told
-returns-in-Some-clause-told g c is_net = of_read _ _ _ _ (c.run_explained.ensures.left) (λ read p to_end. (c.lines_are_moments.ensures (judged_lines to_end read)).1)
-
-pub returns-in-Some-net_of-clause-told : goal.returns-in-Some-net_of-clause-told
-returns-in-Some-net_of-clause-told g c is_net = of_read _ _ _ _ (c.run_script.ensures.left) (λ read p to_end. (c.lines_are_moments.ensures (judged_lines to_end read)).1)
+returns-in-Some-clause-told g c is_net = of_read _ _ _ _ (c.run_script.ensures.writes.read) (λ read p to_end. (c.lines_are_moments.ensures (judged_lines to_end read)).1)

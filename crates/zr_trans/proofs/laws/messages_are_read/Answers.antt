@@ -1,4 +1,4 @@
-use Rattle.zr_format.proofs.Follows.{format_is_read}
+use Rattle.zr_format_spec.proofs.Follows.{format_is_read}
 use Rattle.zr_trans.proofs.Messages.{follows_trans}
 use Rattle.zr_trans.proofs.laws.messages_are_read.Goals as goal
 

@@ -1,4 +1,4 @@
-use Rattle.zr_format.proofs.Follows.{written_is_read}
+use Rattle.zr_format_spec.proofs.Follows.{written_is_read}
 use Rattle.zr_trans.specs.Writing.{writes_trans, HasFields}
 use Rattle.zr_trans.proofs.Messages.{follows_trans}
 use Rattle.zr_trans.proofs.Written.{message_spelled, message_fits}

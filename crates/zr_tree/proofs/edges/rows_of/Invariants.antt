@@ -1,5 +1,5 @@
 use Rattle.std.proofs.Common.{◌≡◌, ℕ, ◌<◌, All, length, map}
-use Rattle.zr_climb.specs.Climb.{row}
+use Rattle.zr_tree_parents.specs.Climb.{row}
 use Rattle.zr_tree.specs.Index.{name}
 use Rattle.zr_tree.specs.Walk.{graph_of, near}
 use Rattle.zr_tree.proofs.edges.rows_of.Given as goal

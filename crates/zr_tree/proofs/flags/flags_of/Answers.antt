@@ -1,7 +1,7 @@
 use Rattle.std.proofs.Common.{◌≡◌, ℕ, List, [], get_or, length, sym, ap, ◌∙◌, arith}
 use Rattle.std.proofs.lemmas.List.{get_or_read}
 use Rattle.std.proofs.lemmas.Result.{IfOk-weaker}
-use Rattle.zr_climb.specs.Climb.{row}
+use Rattle.zr_tree_parents.specs.Climb.{row}
 use Rattle.zr_tree.proofs.OwnChildren.{none_flagged, passed_all}
 use Rattle.zr_tree.proofs.flags.flags_of.Goals as goal
 

@@ -2,7 +2,7 @@ use Rattle.std.proofs.Common.{◌≡◌, ℕ, ◌+◌, ◌-◌, ◌<◌, [], ◌
 use Rattle.std.proofs.lemmas.Bool.{eqb-true}
 use Rattle.std.proofs.lemmas.List.{take_at, length-replicate}
 use Rattle.std.proofs.lemmas.List.Elements.{All-append}
-use Rattle.zr_climb.specs.Climb.{row}
+use Rattle.zr_tree_parents.specs.Climb.{row}
 use Rattle.zr_tree.specs.Search.{Visits}
 use Rattle.zr_tree.proofs.Levels.{level_first, round, level_last, level_none}
 use Rattle.zr_tree.proofs.search.search_from.Goals as goal

@@ -1,5 +1,5 @@
 use Rattle.std.proofs.Common.{take, flat_map}
-use Rattle.zr_climb.specs.Climb.{row}
+use Rattle.zr_tree_parents.specs.Climb.{row}
 use Rattle.zr_tree.specs.Search.{Visits}
 use Rattle.zr_tree.proofs.search.spread.Given as goal
 

@@ -1,4 +1,4 @@
-use Rattle.zr_format.proofs.Follows.{format_is_read}
+use Rattle.zr_format_spec.proofs.Follows.{format_is_read}
 use Rattle.zr_wirekey.proofs.Keys.{follows_key}
 use Rattle.zr_wirekey.proofs.laws.keys_are_read.Goals as goal
 

@@ -1,5 +1,5 @@
 use Rattle.std.proofs.lemmas.Result.{on_ok_weaker, on_err_weaker}
-use Rattle.zr_table.proofs.Prefixes.{first_prefix, second_prefix, both_said}
+use Rattle.zr_lists.proofs.Prefixes.{first_prefix, second_prefix, both_said}
 use Rattle.zr_world.proofs.Show.{err_by}
 use Rattle.zr_world.proofs.marks.tell_base.Goals as goal
 

@@ -3,9 +3,9 @@ use Rattle.std.proofs.lemmas.Result.{on_ok_weaker, on_err_weaker}
 use Rattle.zr_graph.specs.Base.{BaseState}
 use Rattle.zr_log.specs.Known.{KnownState}
 use Rattle.zr_log.specs.declared.log.Log.{Log}
-use Rattle.zr_table.specs.Prefix.{IsPrefixBehind}
-use Rattle.zr_table.proofs.Prefixes.{first_prefix, second_prefix, both_said}
-use Rattle.zr_network.specs.Acts.{shown_base}
+use Rattle.zr_lists.specs.Prefix.{IsPrefixBehind}
+use Rattle.zr_lists.proofs.Prefixes.{first_prefix, second_prefix, both_said}
+use Rattle.zr_world_spec.specs.Acts.{shown_base}
 use Rattle.zr_world.specs.Show.{source_lines}
 use Rattle.zr_world.proofs.Show.{err_by}
 use Rattle.zr_world.proofs.marks.tell_tables.Goals as goal

@@ -1,4 +1,4 @@
-use Rattle.zr_network.specs.World.{sent}
+use Rattle.zr_world_spec.specs.World.{sent}
 use Rattle.zr_world.proofs.Passing.{changed_nowhere}
 use Rattle.zr_world.proofs.steps.pass_on.Goals as goal
 

@@ -1,8 +1,8 @@
 use Rattle.std.proofs.Common.{◌≡◌, List, [], refl, sym, ap, ◌∙◌}
 use Rattle.std.specs.Ordering.{nat_cmp}
-use Rattle.zr_set.specs.Ascending.{put, without}
-use Rattle.zr_set.specs.Place.{IsAt, IsGap}
-use Rattle.zr_set.proofs.Puts.{ascending_put, put_in}
+use Rattle.zr_lists.specs.Ascending.{put, without}
+use Rattle.zr_lists.specs.Place.{IsAt, IsGap}
+use Rattle.zr_lists.proofs.Puts.{ascending_put, put_in}
 use Rattle.zr_local.specs.Interests.{interest_id}
 use Rattle.zr_local.specs.Clients.{AreByLink, client_link, interests_on, kept, forgotten, clients_weight, weight_but}
 use Rattle.zr_local.specs.declared.interest.ClientInterests.{ClientInterests}

@@ -1,6 +1,6 @@
 use Rattle.std.proofs.Common.{◌≡◌, ◌+◌, ◌≤◌, List, sym, ap, arith}
 use Rattle.std.specs.Ordering.{nat_cmp}
-use Rattle.zr_set.specs.Place.{IsAt, IsGap}
+use Rattle.zr_lists.specs.Place.{IsAt, IsGap}
 use Rattle.zr_local.specs.Clients.{client_link, clients_weight}
 use Rattle.zr_local.specs.declared.interest.ClientInterests.{ClientInterests}
 use Rattle.zr_local.proofs.Live.{client_apart}

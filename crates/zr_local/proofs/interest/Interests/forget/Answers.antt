@@ -1,8 +1,8 @@
 use Rattle.std.specs.Ordering.{nat_cmp}
-use Rattle.zr_set.specs.Place.{IsAt}
-use Rattle.zr_set.proofs.Puts.{ascending_without, removed_at}
+use Rattle.zr_lists.specs.Place.{IsAt}
+use Rattle.zr_lists.proofs.Puts.{ascending_without, removed_at}
+use Rattle.zr_lists.proofs.Order.{nat_order}
 use Rattle.zr_local.specs.Interests.{interest_id}
-use Rattle.zr_local.proofs.Live.{nat_order}
 use Rattle.zr_local.proofs.interest.Interests.forget.Goals as goal
 
 pub invariant_of-self : goal.invariant_of-self

@@ -1,9 +1,9 @@
 use Rattle.std.proofs.Common.{◌∙◌}
 use Rattle.std.specs.Ordering.{nat_cmp}
-use Rattle.zr_set.specs.Place.{IsAt, IsGap}
-use Rattle.zr_set.proofs.Puts.{ascending_put, put_at, put_in}
+use Rattle.zr_lists.specs.Place.{IsAt, IsGap}
+use Rattle.zr_lists.proofs.Puts.{ascending_put, put_at, put_in}
+use Rattle.zr_lists.proofs.Order.{nat_order}
 use Rattle.zr_local.specs.Interests.{interest_id}
-use Rattle.zr_local.proofs.Live.{nat_order}
 use Rattle.zr_local.proofs.interest.Interests.keep.Goals as goal
 
 pub invariant_of-self : goal.invariant_of-self

@@ -1,7 +1,7 @@
 use Rattle.std.proofs.Common.{◌≡◌, ap, arith}
 use Rattle.std.specs.Ordering.{nat_cmp}
-use Rattle.zr_set.specs.Ascending.{without}
-use Rattle.zr_set.specs.Place.{IsAt, IsGap}
+use Rattle.zr_lists.specs.Ascending.{without}
+use Rattle.zr_lists.specs.Place.{IsAt, IsGap}
 use Rattle.zr_local.specs.Interests.{interest_id, interests_weight}
 use Rattle.zr_local.proofs.Live.{interest_apart}
 use Rattle.zr_local.proofs.interest.Interests.weight_of.Goals as goal

@@ -1,5 +1,5 @@
 use Rattle.std.proofs.Common.{◌≡◌, ◌+◌, List, sym, ap, ◌∙◌}
-use Rattle.zr_set.specs.Place.{IsAt}
+use Rattle.zr_lists.specs.Place.{IsAt}
 use Rattle.zr_local.specs.Clients.{clients_weight}
 use Rattle.zr_local.specs.declared.row.Row.{Row}
 use Rattle.zr_local.specs.State.{LocalState}

@@ -1,6 +1,6 @@
 use Rattle.std.proofs.Common.{◌≡◌, ap, ◌∙◌, arith}
 use Rattle.zr_local.specs.State.{LocalState}
-use Rattle.zr_set.specs.Place.{IsGap}
+use Rattle.zr_lists.specs.Place.{IsGap}
 use Rattle.zr_local.specs.Rows.{key_cmp, row_key}
 use Rattle.zr_local.proofs.Rows.{weight-insert}
 use Rattle.zr_local.proofs.Sound.{sound_insert}

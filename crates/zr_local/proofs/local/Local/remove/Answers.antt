@@ -1,5 +1,5 @@
 use Rattle.std.proofs.Common.{◌≡◌, List, ap, ◌∙◌, arith}
-use Rattle.zr_set.specs.Place.{IsAt}
+use Rattle.zr_lists.specs.Place.{IsAt}
 use Rattle.zr_local.specs.declared.row.Row.{Row}
 use Rattle.zr_local.specs.State.{LocalState}
 use Rattle.zr_local.specs.Rows.{Key, key_cmp, row_key}

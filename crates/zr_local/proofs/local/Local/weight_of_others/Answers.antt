@@ -1,5 +1,5 @@
 use Rattle.std.proofs.Common.{◌≡◌, ap, arith}
-use Rattle.zr_set.specs.Place.{IsAt}
+use Rattle.zr_lists.specs.Place.{IsAt}
 use Rattle.zr_local.specs.Rows.{key_cmp, row_key}
 use Rattle.zr_local.specs.State.{LocalState}
 use Rattle.zr_local.proofs.Steps.{others_weigh}

@@ -1,5 +1,5 @@
 use Rattle.zr_msg.specs.Decl.{decl_cmp}
-use Rattle.zr_set.specs.Place.{IsAt}
+use Rattle.zr_lists.specs.Place.{IsAt}
 use Rattle.zr_local.specs.declared.owners.Owned.{Owned}
 use Rattle.zr_local.specs.Owners.{owned_decl}
 use Rattle.zr_local.proofs.Counts.{ascending_less, lowered}

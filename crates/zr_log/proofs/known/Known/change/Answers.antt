@@ -1,7 +1,7 @@
 use Rattle.std.proofs.Common.{◌∙◌, List, [], sym, ap}
 use Rattle.std.specs.Cmp.Lexicographic.{slice_cmp}
 use Rattle.std.specs.Ordering.{nat_cmp}
-use Rattle.zr_set.specs.Place.{IsAt}
+use Rattle.zr_lists.specs.Place.{IsAt}
 use Rattle.zr_log.specs.declared.log.Log.{Log}
 use Rattle.zr_log.specs.Log.{Change}
 use Rattle.zr_log.specs.Known.{KnownState}

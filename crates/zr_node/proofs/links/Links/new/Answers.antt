@@ -1,5 +1,5 @@
 use Rattle.std.proofs.Common.{[], arith}
-use Rattle.zr_table.proofs.AreLinks.{no_links}
+use Rattle.zr_node_spec.proofs.AreLinks.{no_links}
 use Rattle.zr_node.proofs.links.Links.new.Goals as goal
 
 pub invariant_of-result : goal.invariant_of-result

@@ -2,12 +2,12 @@ use Rattle.std.proofs.Common.{◌≡◌, List, cond, refl, sym, ap, subst, ◌�
 use Rattle.zr_graph.specs.Base.{is_newer, after_record}
 use Rattle.zr_graph.specs.declared.base.Accepted.TheVariants.{Newer, Old}
 use Rattle.zr_id.specs.Record.{RecordState}
-use Rattle.zr_routing.specs.Snapshots.{sends_snapshots}
-use Rattle.zr_table.specs.Event.{AreLinks, Tells, TellsPrefix}
-use Rattle.zr_table.specs.State.{NodeState, tables}
-use Rattle.zr_table.specs.Table.{with_base, base_told}
+use Rattle.zr_node_spec.specs.Snapshots.{sends_snapshots}
+use Rattle.zr_node_spec.specs.Event.{AreLinks, Tells, TellsPrefix}
+use Rattle.zr_node_spec.specs.State.{NodeState, tables}
+use Rattle.zr_node_spec.specs.Table.{with_base, base_told}
 use Rattle.zr_node.specs.Steps.{told_part, news_to}
-use Rattle.zr_node.specs.declared.failure.Failure.TheVariants.{NoMemory}
+use Rattle.zr_node.specs.declared.failure.NodeFailure.TheVariants.{NoMemory}
 use Rattle.zr_node.proofs.Accepted.{told_by_client, told_again, told_newer, told_me, still_of, record_part, record_first, older_is, newer_is}
 use Rattle.zr_node.proofs.Done.{failed, nothing_sent, first_failed, then_prefix, then_told}
 use Rattle.zr_node.proofs.Ups.{news_told}

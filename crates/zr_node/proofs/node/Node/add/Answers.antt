@@ -1,7 +1,7 @@
-use Rattle.zr_table.specs.Event.{IsFresh}
-use Rattle.zr_table.specs.State.{NodeState}
+use Rattle.zr_node_spec.specs.Event.{IsFresh}
+use Rattle.zr_node_spec.specs.State.{NodeState}
 use Rattle.zr_node.proofs.Staying.{are_links_after}
-use Rattle.zr_routing.specs.Tables.{TableState}
+use Rattle.zr_node_spec.specs.Tables.{TableState}
 use Rattle.zr_node.proofs.node.Node.add.Goals as goal
 
 pub invariant_of-self : goal.invariant_of-self

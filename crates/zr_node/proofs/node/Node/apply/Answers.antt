@@ -1,4 +1,4 @@
-use Rattle.zr_routing.specs.Tables.{TableState}
+use Rattle.zr_node_spec.specs.Tables.{TableState}
 use Rattle.zr_node.proofs.node.Node.apply.Goals as goal
 
 pub invariant_of-self : goal.invariant_of-self

@@ -1,12 +1,12 @@
 use Rattle.std.proofs.Common.{◌≡◌, List, Option, None, sym, subst}
 use Rattle.std.specs.Prelude.{IfSome}
 use Rattle.zr_id.specs.Record.{RecordState}
-use Rattle.zr_routing.specs.Tables.{TableState, leads_to_client}
-use Rattle.zr_table.specs.State.{NodeState}
-use Rattle.zr_table.specs.Table.{with_pending}
+use Rattle.zr_node_spec.specs.Tables.{TableState, leads_to_client}
+use Rattle.zr_node_spec.specs.State.{NodeState}
+use Rattle.zr_node_spec.specs.Table.{with_pending}
 use Rattle.zr_node.specs.Done.{IsLeft, IsDone}
 use Rattle.zr_node.specs.Requests.{refuses_asker}
-use Rattle.zr_node.specs.Routes.{AreRoutes}
+use Rattle.zr_push.specs.Routes.{AreRoutes}
 use Rattle.zr_node.specs.Steps.{request_part}
 use Rattle.zr_node.proofs.Requests.{request_failed, request_left}
 use Rattle.zr_node.proofs.node.Node.ask.Goals as goal

@@ -1,8 +1,8 @@
 use Rattle.std.proofs.Common.{◌≡◌, ℕ, List, sym, ap, subst, ◌∙◌}
 use Rattle.zr_log.specs.Known.{position}
-use Rattle.zr_table.specs.State.{NodeState}
+use Rattle.zr_node_spec.specs.State.{NodeState}
 use Rattle.zr_node.specs.Steps.{asked_part}
-use Rattle.zr_node.specs.declared.failure.Failure.TheVariants.{NoMemory}
+use Rattle.zr_node.specs.declared.failure.NodeFailure.TheVariants.{NoMemory}
 use Rattle.zr_node.proofs.Done.{failed}
 use Rattle.zr_node.proofs.Rows.{asked_failed, judge_failed, rows_prefix, rows_told, rows_left, rows_allowed}
 use Rattle.zr_node.proofs.node.Node.change_rows.Goals as goal

@@ -1,6 +1,6 @@
 use Rattle.std.proofs.Common.{ℕ, List, sym, subst, ◌∙◌}
 use Rattle.zr_local.specs.declared.row.Row.{Row}
-use Rattle.zr_table.specs.Table.{row}
+use Rattle.zr_node_spec.specs.Table.{row}
 use Rattle.zr_node.specs.Done.{IsDone}
 use Rattle.zr_node.specs.Steps.{declare_part}
 use Rattle.zr_node.proofs.Parts.{declare_asked, declare_nothing}

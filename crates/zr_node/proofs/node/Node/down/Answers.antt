@@ -1,6 +1,6 @@
 use Rattle.std.proofs.Common.{◌≡◌, ℕ, ◌<◌, ◌^◌, List, sym, ap, subst, ◌∙◌}
 use Rattle.zr_log.specs.Known.{position}
-use Rattle.zr_table.specs.State.{NodeState}
+use Rattle.zr_node_spec.specs.State.{NodeState}
 use Rattle.zr_node.proofs.Downs.{client_gone, router_gone}
 use Rattle.zr_node.proofs.node.Node.down.Goals as goal
 

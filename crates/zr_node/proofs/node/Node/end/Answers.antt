@@ -1,7 +1,7 @@
 use Rattle.std.proofs.Common.{List, refl, ap, subst}
 use Rattle.zr_pend.specs.Row.{RowState}
-use Rattle.zr_table.specs.State.{NodeState}
-use Rattle.zr_table.specs.Table.{with_pending}
+use Rattle.zr_node_spec.specs.State.{NodeState}
+use Rattle.zr_node_spec.specs.Table.{with_pending}
 use Rattle.zr_node.specs.Done.{IsLeft, IsDone}
 use Rattle.zr_node.specs.Steps.{final_part}
 use Rattle.zr_node.proofs.Done.{nothing_sent}

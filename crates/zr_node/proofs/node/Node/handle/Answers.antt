@@ -1,6 +1,6 @@
 use Rattle.std.proofs.Common.{◌≡◌, false, sym, subst, ◌∙◌}
 use Rattle.std.proofs.lemmas.Bool.{true≢false}
-use Rattle.zr_table.specs.State.{NodeState}
+use Rattle.zr_node_spec.specs.State.{NodeState}
 use Rattle.zr_node.proofs.Handled.{refused_not_memory, refused_not_spent, memory_not_refused}
 use Rattle.zr_node.proofs.node.Node.handle.Goals as goal
 

@@ -1,6 +1,6 @@
 use Rattle.std.proofs.Common.{Option, refl, sym, subst, ◌∙◌}
 use Rattle.zr_local.specs.declared.interest.Interest.{Interest}
-use Rattle.zr_table.specs.Table.{live}
+use Rattle.zr_node_spec.specs.Table.{live}
 use Rattle.zr_node.specs.Done.{IsDone}
 use Rattle.zr_node.specs.Steps.{interest_part}
 use Rattle.zr_node.proofs.Done.{nothing_sent}

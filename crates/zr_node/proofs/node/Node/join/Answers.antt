@@ -1,11 +1,11 @@
 use Rattle.std.proofs.Common.{ap, subst}
 use Rattle.zr_flood.specs.Flood.{AreOf}
 use Rattle.zr_graph.specs.Base.{BaseState}
-use Rattle.zr_table.specs.State.{NodeState}
-use Rattle.zr_table.specs.Table.{with_base}
+use Rattle.zr_node_spec.specs.State.{NodeState}
+use Rattle.zr_node_spec.specs.Table.{with_base}
 use Rattle.zr_node.specs.Done.{IsLeft, IsDone}
 use Rattle.zr_node.specs.Steps.{join_part}
-use Rattle.zr_node.specs.declared.failure.Failure.TheVariants.{NoMemory}
+use Rattle.zr_node.specs.declared.failure.NodeFailure.TheVariants.{NoMemory}
 use Rattle.zr_node.proofs.Answers.{change_failed}
 use Rattle.zr_node.proofs.Done.{failed}
 use Rattle.zr_node.proofs.node.Node.join.Goals as goal

@@ -3,7 +3,7 @@ use Rattle.zr_id.specs.declared.link.LinkNo.{LinkNo}
 use Rattle.zr_msg.specs.declared.msg.Msg.{Msg}
 use Rattle.zr_node.specs.Done.{IsDone}
 use Rattle.zr_node.specs.Steps.{leave_part}
-use Rattle.zr_node.specs.declared.failure.Failure.TheVariants.{NoMemory}
+use Rattle.zr_node.specs.declared.failure.NodeFailure.TheVariants.{NoMemory}
 use Rattle.zr_node.proofs.Done.{failed}
 use Rattle.zr_node.proofs.Downs.{ending_failed, finals_told, client_left}
 use Rattle.zr_node.proofs.node.Node.leave.Goals as goal

@@ -1,5 +1,5 @@
 use Rattle.std.proofs.Common.{◌∙◌}
-use Rattle.zr_routing.specs.Tables.{TableState}
+use Rattle.zr_node_spec.specs.Tables.{TableState}
 use Rattle.zr_node.proofs.node.Node.log.Goals as goal
 
 pub invariant_of-self : goal.invariant_of-self

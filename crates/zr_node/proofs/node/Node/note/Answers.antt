@@ -1,4 +1,4 @@
-use Rattle.zr_routing.specs.Tables.{TableState}
+use Rattle.zr_node_spec.specs.Tables.{TableState}
 use Rattle.zr_node.proofs.Parts.{rows_kept}
 use Rattle.zr_node.proofs.Remembering.{routes_stay}
 use Rattle.zr_node.proofs.node.Node.note.Goals as goal

@@ -1,7 +1,7 @@
 use Rattle.std.proofs.Common.{inl, inr, refl, subst}
 use Rattle.zr_msg.specs.declared.decl.Decl.{Decl}
 use Rattle.zr_msg.specs.declared.decl.Kind.{Kind}
-use Rattle.zr_table.specs.Table.{row}
+use Rattle.zr_node_spec.specs.Table.{row}
 use Rattle.zr_node.specs.Done.{IsDone}
 use Rattle.zr_node.specs.Steps.{declare_part, step_part}
 use Rattle.zr_node.proofs.Parts.{message_done, at_message, ignored, end_allowed}

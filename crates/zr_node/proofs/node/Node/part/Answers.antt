@@ -3,12 +3,12 @@ use Rattle.zr_flood.specs.Flood.{AreOf}
 use Rattle.zr_graph.specs.Base.{BaseState}
 use Rattle.zr_msg.specs.declared.peer.Role.TheVariants.{Router}
 use Rattle.zr_pend.specs.Row.{RowState}
-use Rattle.zr_routing.specs.Queries.{sends_ends}
-use Rattle.zr_table.specs.State.{NodeState}
-use Rattle.zr_table.specs.Table.{parted, sends_parted, with_base, with_pending}
+use Rattle.zr_node_spec.specs.Queries.{sends_ends}
+use Rattle.zr_node_spec.specs.State.{NodeState}
+use Rattle.zr_node_spec.specs.Table.{parted, sends_parted, with_base, with_pending}
 use Rattle.zr_node.specs.Done.{IsLeft, IsDone}
 use Rattle.zr_node.specs.Steps.{parting_part}
-use Rattle.zr_node.specs.declared.failure.Failure.TheVariants.{NoMemory}
+use Rattle.zr_node.specs.declared.failure.NodeFailure.TheVariants.{NoMemory}
 use Rattle.zr_node.proofs.Answers.{change_failed}
 use Rattle.zr_node.proofs.Done.{failed}
 use Rattle.zr_node.proofs.Retold.{told_both, prefix_first, prefix_second}

@@ -1,7 +1,7 @@
 use Rattle.std.proofs.Common.{◌≡◌, Option, sym, ap, subst, ◌∙◌}
 use Rattle.std.specs.Prelude.{IfSome}
 use Rattle.zr_graph.specs.Base.{BaseState}
-use Rattle.zr_table.specs.State.{NodeState, tables}
+use Rattle.zr_node_spec.specs.State.{NodeState, tables}
 use Rattle.zr_node.proofs.Parts.{goes_by}
 use Rattle.zr_node.proofs.node.Node.pass_on.Goals as goal
 

@@ -1,8 +1,8 @@
 use Rattle.std.proofs.Common.{ℕ, List, sym, subst}
-use Rattle.zr_table.specs.Event.{AreLinks}
+use Rattle.zr_node_spec.specs.Event.{AreLinks}
 use Rattle.zr_msg.specs.declared.peer.LinkPeer.{LinkPeer}
-use Rattle.zr_table.proofs.AreLinks.{are_links_down}
-use Rattle.zr_routing.specs.Tables.{TableState}
+use Rattle.zr_node_spec.proofs.AreLinks.{are_links_down}
+use Rattle.zr_node_spec.specs.Tables.{TableState}
 use Rattle.zr_node.proofs.node.Node.remove.Goals as goal
 
 pub invariant_of-self : goal.invariant_of-self

@@ -1,12 +1,12 @@
 use Rattle.std.proofs.Common.{List, Err, refl, subst, ◌∙◌}
 use Rattle.zr_id.specs.Record.{RecordState}
 use Rattle.zr_msg.specs.declared.peer.Role.TheVariants.{Router}
-use Rattle.zr_routing.specs.Snapshots.{sends_snapshots}
-use Rattle.zr_table.specs.Event.{Tells, TellsPrefix}
-use Rattle.zr_table.specs.State.{NodeState, tables}
+use Rattle.zr_node_spec.specs.Snapshots.{sends_snapshots}
+use Rattle.zr_node_spec.specs.Event.{Tells, TellsPrefix}
+use Rattle.zr_node_spec.specs.State.{NodeState, tables}
 use Rattle.zr_node.specs.Done.{IsLeft, IsDone}
 use Rattle.zr_node.specs.Steps.{join_part, up_part, up_as, news_to}
-use Rattle.zr_node.specs.declared.failure.Failure.TheVariants.{NoMemory}
+use Rattle.zr_node.specs.declared.failure.NodeFailure.TheVariants.{NoMemory}
 use Rattle.zr_node.proofs.Done.{failed, first_failed, then_nothing, then_prefix, then_told}
 use Rattle.zr_node.proofs.Ups.{join_first, up_state, news_told}
 use Rattle.zr_node.proofs.node.Node.router_up.Goals as goal

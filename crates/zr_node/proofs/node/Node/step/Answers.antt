@@ -2,12 +2,12 @@ use Rattle.std.proofs.Common.{◌≡◌, true, refl, sym, ap, subst, ◌∙◌, 
 use Rattle.std.proofs.lemmas.Grind.{common_steps}
 use Rattle.zr_log.specs.Known.{KnownState, after_step, is_next, refuses_step}
 use Rattle.zr_msg.specs.declared.msg.Msg.TheVariants.{Step}
-use Rattle.zr_routing.specs.Tables.{TableState, HaveSameTrees, leads_to_router}
-use Rattle.zr_table.specs.State.{NodeState, tables}
-use Rattle.zr_table.specs.Table.{with_known}
+use Rattle.zr_node_spec.specs.Tables.{TableState, HaveSameTrees, leads_to_router}
+use Rattle.zr_node_spec.specs.State.{NodeState, tables}
+use Rattle.zr_node_spec.specs.Table.{with_known}
 use Rattle.zr_node.specs.Done.{IsLeft, IsDone}
 use Rattle.zr_node.specs.Steps.{step_part}
-use Rattle.zr_node.specs.declared.failure.Failure.TheVariants.{NoMemory}
+use Rattle.zr_node.specs.declared.failure.NodeFailure.TheVariants.{NoMemory}
 use Rattle.zr_node.proofs.Done.{failed}
 use Rattle.zr_node.proofs.News.{new_is, news_taken}
 use Rattle.zr_node.proofs.node.Node.step.Goals as goal

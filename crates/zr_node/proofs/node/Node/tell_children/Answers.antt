@@ -1,9 +1,9 @@
 use Rattle.std.proofs.Common.{◌≡◌, OnOk, OnErr, sym, subst}
 use Rattle.zr_flood.specs.Tell.{GoesBy}
 use Rattle.zr_log.specs.Known.{position}
-use Rattle.zr_routing.specs.Changes.{changes_of, sends_changes}
-use Rattle.zr_table.specs.Event.{Tells, TellsPrefix}
-use Rattle.zr_table.specs.State.{NodeState, tables}
+use Rattle.zr_node_spec.specs.Changes.{changes_of, sends_changes}
+use Rattle.zr_node_spec.specs.Event.{Tells, TellsPrefix}
+use Rattle.zr_node_spec.specs.State.{NodeState, tables}
 use Rattle.zr_node.proofs.node.Node.tell_children.Goals as goal
 
 pub returns-clause-sends : goal.returns-clause-sends

@@ -1,9 +1,9 @@
 use Rattle.std.proofs.Common.{◌≡◌, OnOk, OnErr, sym, ap, subst, ◌∙◌}
 use Rattle.zr_flood.specs.Tell.{GoesBy}
 use Rattle.zr_graph.specs.Base.{BaseState}
-use Rattle.zr_routing.specs.Snapshots.{sends_snapshots}
-use Rattle.zr_table.specs.Event.{Tells, TellsPrefix}
-use Rattle.zr_table.specs.State.{NodeState, tables}
+use Rattle.zr_node_spec.specs.Snapshots.{sends_snapshots}
+use Rattle.zr_node_spec.specs.Event.{Tells, TellsPrefix}
+use Rattle.zr_node_spec.specs.State.{NodeState, tables}
 use Rattle.zr_node.proofs.node.Node.tell_fresh_of.Goals as goal
 
 pub returns-clause-sends : goal.returns-clause-sends

@@ -4,7 +4,7 @@ use Rattle.zr_id.specs.declared.link.LinkNo.{LinkNo}
 use Rattle.zr_msg.specs.declared.event.Event.TheVariants.{From}
 use Rattle.zr_port.specs.Adding.{IsAdmitted, IsEntryOf, IsLeastFree}
 use Rattle.zr_port.specs.declared.error.DeliverError.TheVariants.{NoMemory}
-use Rattle.zr_queue.specs.Tables.{is_up}
+use Rattle.zr_router_queue.specs.Tables.{is_up}
 use Rattle.zr_router.specs.Refusals.{RefusesMessage}
 use Rattle.zr_router.proofs.Entered.{added_less, told_after, told_prefix}
 use Rattle.zr_router.proofs.router.RouterPort.deliver.Goals as goal

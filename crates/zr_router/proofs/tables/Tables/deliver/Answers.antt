@@ -2,11 +2,11 @@ use Rattle.std.proofs.Common.{◌≡◌, ◌<◌, true, false, List, [], ◌∷�
 use Rattle.zr_hist.specs.Words.{list_of, most_entries, seen}
 use Rattle.zr_msg.specs.declared.event.Event.TheVariants.{From}
 use Rattle.zr_port.specs.Adding.{IsAdmitted}
-use Rattle.zr_table.specs.Event.{on_link}
-use Rattle.zr_queue.specs.Ends.{EndState, GoesByRings, IsReplay}
+use Rattle.zr_node_spec.specs.Event.{on_link}
+use Rattle.zr_router_queue.specs.Ends.{EndState, GoesByRings, IsReplay}
 use Rattle.zr_router.specs.Before.{message_refusal}
 use Rattle.zr_port.specs.declared.error.DeliverError.TheVariants as deliver
-use Rattle.zr_told.specs.Hub.{hub_refuses}
+use Rattle.zr_told_spec.specs.Hub.{hub_refuses}
 use Rattle.zr_router.specs.Failures.{HasFailed}
 use Rattle.zr_router.specs.declared.failure.Failure.{Failure}
 use Rattle.zr_router.specs.declared.failure.Failure.TheVariants.{Refused}

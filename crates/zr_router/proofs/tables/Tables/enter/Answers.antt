@@ -1,12 +1,12 @@
 use Rattle.std.proofs.Common.{◌≡◌, true, List, map, sym, subst, ◌∙◌, arith}
 use Rattle.std.specs.List.{AllZip}
 use Rattle.zr_hist.specs.Words.{list_of}
-use Rattle.zr_table.specs.Event.{on_link}
-use Rattle.zr_queue.specs.Ends.{EndState, GoesByRings, IsAsked, IsPlannedFor, IsReplay, MayEnter}
-use Rattle.zr_queue.specs.History.{is_legal}
-use Rattle.zr_queue.specs.Tables.{open_queues, queued_by, replay}
-use Rattle.zr_queue.proofs.Rings.{goes_by_rings}
-use Rattle.zr_queue.proofs.Stepped.{zip_so}
+use Rattle.zr_node_spec.specs.Event.{on_link}
+use Rattle.zr_router_queue.specs.Ends.{EndState, GoesByRings, IsAsked, IsPlannedFor, IsReplay, MayEnter}
+use Rattle.zr_router_queue.specs.History.{is_legal}
+use Rattle.zr_router_queue.specs.Tables.{open_queues, queued_by, replay}
+use Rattle.zr_router_queue.proofs.Rings.{goes_by_rings}
+use Rattle.zr_router_queue.proofs.Stepped.{zip_so}
 use Rattle.zr_router.proofs.Entered.{entered, may_enter, written_over}
 use Rattle.zr_router.proofs.tables.Tables.enter.Goals as goal
 

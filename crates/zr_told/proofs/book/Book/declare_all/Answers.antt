@@ -2,10 +2,10 @@ use Rattle.std.proofs.lemmas.Result.{err_from_is_err_and}
 use Rattle.std.proofs.Common.{◌+◌, ◌≤◌, drop, length, subst, sym, ap, ◌∙◌, arith}
 use Rattle.std.proofs.Math.ListN.{drop_of_length-le}
 use Rattle.std.specs.List.{fold}
-use Rattle.zr_table.proofs.Prefixes.{IsSoFar, so_far_all, so_far_prefix}
+use Rattle.zr_lists.proofs.Prefixes.{IsSoFar, so_far_all, so_far_prefix}
 use Rattle.zr_told.specs.Plan.{fit}
-use Rattle.zr_told.specs.Rows.{most_id, sent_on}
-use Rattle.zr_told.specs.Told.{declared, entered}
+use Rattle.zr_told_spec.specs.Rows.{most_id, sent_on}
+use Rattle.zr_told_spec.specs.Told.{declared, entered}
 use Rattle.zr_told.proofs.Changed.{next_left}
 use Rattle.zr_told.proofs.Said.{declared_more}
 use Rattle.zr_told.proofs.book.Book.declare_all.Goals as goal

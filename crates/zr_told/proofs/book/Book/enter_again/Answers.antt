@@ -1,5 +1,5 @@
 use Rattle.std.proofs.Common.{ap, ◌∙◌, refl}
-use Rattle.zr_told.specs.Told.{ToldMap, at}
+use Rattle.zr_told_spec.specs.Told.{ToldMap, at}
 use Rattle.zr_told.proofs.Numbers.{numbered_again}
 use Rattle.zr_told.proofs.book.Book.enter_again.Goals as goal
 

@@ -1,8 +1,8 @@
 use Rattle.std.proofs.Common.{◌≡◌, ℕ, ◌-◌, ◌^◌, ◌≤◌, subst, ap, ◌∙◌, sym, arith}
 use Rattle.std.specs.Option.{option_map_or}
 use Rattle.std.specs.BTreeMap.{insert_entry}
-use Rattle.zr_told.specs.Place.{place_cmp}
-use Rattle.zr_told.specs.Told.{ToldMap, at, free_id, id_for}
+use Rattle.zr_told_spec.specs.Place.{place_cmp}
+use Rattle.zr_told_spec.specs.Told.{ToldMap, at, free_id, id_for}
 use Rattle.zr_told.proofs.Numbers.{numbered_put, least_id}
 use Rattle.zr_told.proofs.book.Book.enter_new.Goals as goal
 

@@ -1,8 +1,8 @@
 use Rattle.std.proofs.Common.{subst, ap, ◌∙◌, sym}
 use Rattle.std.specs.Map.{remove_entry}
-use Rattle.zr_told.specs.Place.{Ascends, same}
-use Rattle.zr_told.specs.Told.{ToldMap, at}
-use Rattle.zr_told.proofs.Agree.{found_used}
+use Rattle.zr_told_spec.specs.Place.{Ascends, same}
+use Rattle.zr_told_spec.specs.Told.{ToldMap, at}
+use Rattle.zr_told_spec.proofs.Agree.{found_used}
 use Rattle.zr_told.proofs.Numbers.{numbered_without, nothing_without}
 use Rattle.zr_told.proofs.book.Book.forget.Goals as goal
 

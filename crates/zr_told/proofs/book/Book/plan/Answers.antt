@@ -1,6 +1,6 @@
 use Rattle.std.proofs.Common.{◌≡◌, ap, ◌∙◌, arith}
-use Rattle.zr_told.specs.Told.{ToldMap, at}
-use Rattle.zr_told.proofs.Agree.{found_used}
+use Rattle.zr_told_spec.specs.Told.{ToldMap, at}
+use Rattle.zr_told_spec.proofs.Agree.{found_used}
 use Rattle.zr_told.proofs.book.Book.plan.Goals as goal
 
 pub returns-clause-small : goal.returns-clause-small

@@ -2,10 +2,10 @@ use Rattle.std.proofs.Common.{◌++◌, List, ap, subst, ◌∙◌}
 use Rattle.std.proofs.lemmas.Result.{err_from_is_err_and, on_err_weaker}
 use Rattle.zr_id.specs.declared.link.LinkNo.{LinkNo}
 use Rattle.zr_msg.specs.declared.msg.Msg.{Msg}
-use Rattle.zr_table.specs.Prefix.{IsPrefixBehind}
+use Rattle.zr_lists.specs.Prefix.{IsPrefixBehind}
 use Rattle.zr_told.specs.Plan.{forgotten}
-use Rattle.zr_told.specs.Rows.{sent_on}
-use Rattle.zr_told.specs.Told.{declared, undeclared}
+use Rattle.zr_told_spec.specs.Rows.{sent_on}
+use Rattle.zr_told_spec.specs.Told.{declared, undeclared}
 use Rattle.zr_told.proofs.Said.{in_first, after_first, in_second}
 use Rattle.zr_told.proofs.book.Book.tell.Goals as goal
 

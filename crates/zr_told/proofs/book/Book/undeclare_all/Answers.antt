@@ -1,9 +1,9 @@
 use Rattle.std.proofs.Common.{◌+◌, ◌≤◌, [], ◌∷◌, ◌++◌, drop, length, subst, ap, ◌∙◌, arith}
 use Rattle.std.proofs.Math.ListN.{drop_of_length-le}
 use Rattle.std.proofs.lemmas.Result.{err_from_is_err_and}
-use Rattle.zr_table.proofs.Prefixes.{IsSoFar, so_far_all, so_far_one, so_far_prefix}
-use Rattle.zr_told.specs.Rows.{sent_on}
-use Rattle.zr_told.specs.Told.{id_at, undeclared, undeclares}
+use Rattle.zr_lists.proofs.Prefixes.{IsSoFar, so_far_all, so_far_one, so_far_prefix}
+use Rattle.zr_told_spec.specs.Rows.{sent_on}
+use Rattle.zr_told_spec.specs.Told.{id_at, undeclared, undeclares}
 use Rattle.zr_told.proofs.Changed.{next_left}
 use Rattle.zr_told.proofs.book.Book.undeclare_all.Goals as goal
 

@@ -1,8 +1,8 @@
 -- What the places that are left are told is left to be said.
 use Rattle.std.proofs.Common.{drop}
-use Rattle.zr_table.proofs.Prefixes.{IsSoFar}
-use Rattle.zr_told.specs.Rows.{sent_on}
-use Rattle.zr_told.specs.Told.{undeclared}
+use Rattle.zr_lists.proofs.Prefixes.{IsSoFar}
+use Rattle.zr_told_spec.specs.Rows.{sent_on}
+use Rattle.zr_told_spec.specs.Told.{undeclared}
 use Rattle.zr_told.proofs.book.Book.undeclare_all.Given as goal
 
 abbrev pub invariant-loop-place : goal.invariant-loop-place

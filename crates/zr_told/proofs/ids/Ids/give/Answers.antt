@@ -1,5 +1,6 @@
 use Rattle.std.proofs.Common.{◌≡◌, ◌==◌, ◌||◌, [], sym, subst, ap, ◌∙◌, arith}
-use Rattle.zr_told.specs.Ids.{IdsState, IsLeast, is_given}
+use Rattle.zr_told_spec.specs.Ids.{IsLeast}
+use Rattle.zr_told.specs.Ids.{IdsState, is_given}
 use Rattle.zr_told.proofs.Freed.{none_freed, least_next, given_first}
 use Rattle.zr_told.proofs.ids.Ids.give.Goals as goal
 

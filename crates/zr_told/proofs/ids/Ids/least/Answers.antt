@@ -1,5 +1,6 @@
 use Rattle.std.proofs.Common.{◌≡◌, [], subst, arith}
-use Rattle.zr_told.specs.Ids.{IdsState, IsLeast, is_given}
+use Rattle.zr_told_spec.specs.Ids.{IsLeast}
+use Rattle.zr_told.specs.Ids.{IdsState, is_given}
 use Rattle.zr_told.proofs.Freed.{none_freed, least_next, least_first}
 use Rattle.zr_told.proofs.ids.Ids.least.Goals as goal
 

@@ -1,8 +1,8 @@
 use Rattle.std.proofs.Common.{◌==◌, ◌++◌, cond, false, None, ap, subst, ◌∙◌}
 use Rattle.std.proofs.lemmas.Result.{err_from_is_err_and}
-use Rattle.zr_table.specs.Prefix.{IsPrefixBehind}
-use Rattle.zr_told.specs.Rows.{map_on, others, sent_on}
-use Rattle.zr_told.specs.Wanted.{wanted}
+use Rattle.zr_lists.specs.Prefix.{IsPrefixBehind}
+use Rattle.zr_told_spec.specs.Rows.{map_on, others, sent_on}
+use Rattle.zr_told_spec.specs.Wanted.{wanted}
 use Rattle.zr_told.proofs.Plans.{plan_told, plan_tells}
 use Rattle.zr_told.proofs.told.Told.changed.Goals as goal
 

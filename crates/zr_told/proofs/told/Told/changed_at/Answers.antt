@@ -1,7 +1,7 @@
 use Rattle.std.proofs.Common.{◌++◌, subst, ap, ◌∙◌}
 use Rattle.std.specs.List.{flat_map}
 use Rattle.std.proofs.lemmas.Result.{err_from_is_err_and}
-use Rattle.zr_table.specs.Prefix.{IsPrefixBehind}
+use Rattle.zr_lists.specs.Prefix.{IsPrefixBehind}
 use Rattle.zr_told.specs.Plan.{tells_plan, told_plans}
 use Rattle.zr_told.proofs.told.Told.changed_at.Goals as goal
 

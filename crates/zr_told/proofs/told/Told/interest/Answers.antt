@@ -1,6 +1,6 @@
 use Rattle.std.proofs.Common.{◌≡◌, ℕ, ◌==◌, ◌++◌, true, false, cond, Err, OnOk, OnErr, subst, ◌∙◌}
-use Rattle.zr_table.specs.Prefix.{IsPrefixBehind}
-use Rattle.zr_told.specs.Rows.{map_on, lacks_ids, sent_on, tells_interest, told_interest}
+use Rattle.zr_lists.specs.Prefix.{IsPrefixBehind}
+use Rattle.zr_told_spec.specs.Rows.{map_on, lacks_ids, sent_on, tells_interest, told_interest}
 use Rattle.zr_told.specs.declared.error.ToldError.TheVariants.{Worn}
 use Rattle.zr_told.proofs.told.Told.interest.Goals as goal
 

@@ -1,9 +1,9 @@
 use Rattle.std.proofs.Common.{◌==◌, ◌++◌, None, cond, refl, ap, subst, ◌∙◌}
 use Rattle.std.proofs.lemmas.Result.{err_from_is_err_and}
-use Rattle.zr_table.specs.Prefix.{IsPrefixBehind}
-use Rattle.zr_told.specs.Rows.{map_on, sent_on, answered, closing, is_again}
-use Rattle.zr_told.specs.Told.{retell}
-use Rattle.zr_told.specs.Wanted.{wanted}
+use Rattle.zr_lists.specs.Prefix.{IsPrefixBehind}
+use Rattle.zr_told_spec.specs.Rows.{map_on, sent_on, answered, closing, is_again}
+use Rattle.zr_told_spec.specs.Told.{retell}
+use Rattle.zr_told_spec.specs.Wanted.{wanted}
 use Rattle.zr_told.proofs.Plans.{interest_told, interest_tells, said_after}
 use Rattle.zr_told.proofs.Said.{in_first, in_second}
 use Rattle.zr_told.proofs.told.Told.interest_among.Goals as goal

@@ -1,5 +1,5 @@
 use Rattle.std.proofs.Common.{◌==◌, cond, [], ap, ◌∙◌}
-use Rattle.zr_told.specs.Rows.{Maps, map_on}
+use Rattle.zr_told_spec.specs.Rows.{Maps, map_on}
 use Rattle.zr_told.proofs.Links.{few_without, without_link}
 use Rattle.zr_told.proofs.told.Told.leave.Goals as goal
 

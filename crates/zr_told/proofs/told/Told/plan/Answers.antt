@@ -1,7 +1,7 @@
 use Rattle.std.proofs.Common.{IfOk, subst}
 use Rattle.std.specs.Option.{option_copied}
 use Rattle.zr_told.specs.Plan.{IsPlan, is_answered}
-use Rattle.zr_told.specs.Wanted.{wanted}
+use Rattle.zr_told_spec.specs.Wanted.{wanted}
 use Rattle.zr_told.proofs.Links.{book_on, no_book_on}
 use Rattle.zr_told.proofs.told.Told.plan.Goals as goal
 

@@ -1,7 +1,7 @@
 use Rattle.std.proofs.Common.{IfOk, false, subst}
 use Rattle.zr_told.specs.Plan.{IsPlan}
-use Rattle.zr_told.specs.Rows.{map_on, others}
-use Rattle.zr_told.specs.Wanted.{wanted}
+use Rattle.zr_told_spec.specs.Rows.{map_on, others}
+use Rattle.zr_told_spec.specs.Wanted.{wanted}
 use Rattle.zr_told.proofs.told.Told.plan_all.Goals as goal
 
 pub returns-clause-plan : goal.returns-clause-plan

@@ -1,5 +1,5 @@
 use Rattle.std.proofs.Common.{subst, sym}
-use Rattle.zr_told.specs.Rows.{IsAsWantedBut, others}
+use Rattle.zr_told_spec.specs.Rows.{IsAsWantedBut, others}
 use Rattle.zr_told.proofs.Links.{book_on}
 use Rattle.zr_told.proofs.told.Told.plan_at.Goals as goal
 

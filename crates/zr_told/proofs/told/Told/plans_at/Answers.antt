@@ -1,7 +1,7 @@
 use Rattle.std.proofs.Common.{◌+◌, ◌≤◌, drop, length, Err, arith, sym, ap, subst, ◌∙◌}
 use Rattle.std.proofs.Math.ListN.{drop_of_length-le}
 use Rattle.std.proofs.lemmas.Result.{err_from_is_err_and}
-use Rattle.zr_told.specs.Rows.{AreFew, is_touched}
+use Rattle.zr_told_spec.specs.Rows.{AreFew, is_touched}
 use Rattle.zr_told.specs.declared.error.ToldError.TheVariants.{Worn}
 use Rattle.std.specs.Option.{option_map_or}
 use Rattle.zr_told.specs.Plan.{plan_on, told_plan}

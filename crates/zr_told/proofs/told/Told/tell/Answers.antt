@@ -1,11 +1,11 @@
 use Rattle.std.proofs.Common.{◌==◌, ◌≤◌, ◌++◌, length, cond, [], ap, sym, subst, ◌∙◌}
 use Rattle.std.proofs.lemmas.Result.{err_from_is_err_and}
-use Rattle.zr_table.specs.Prefix.{IsPrefixBehind}
-use Rattle.zr_table.proofs.Prefixes.{all_said}
+use Rattle.zr_lists.specs.Prefix.{IsPrefixBehind}
+use Rattle.zr_lists.proofs.Prefixes.{all_said}
 use Rattle.std.specs.List.{fold}
 use Rattle.zr_told.specs.Plan.{forgotten}
-use Rattle.zr_told.specs.Rows.{Maps, map_on, most_id, sent_on}
-use Rattle.zr_told.specs.Told.{ToldMap, declared, entered, undeclared}
+use Rattle.zr_told_spec.specs.Rows.{Maps, map_on, most_id, sent_on}
+use Rattle.zr_told_spec.specs.Told.{ToldMap, declared, entered, undeclared}
 use Rattle.zr_told.proofs.Links.{few_with, put_back}
 use Rattle.zr_told.proofs.told.Told.tell.Goals as goal
 

@@ -1,7 +1,7 @@
 -- What is left to tell is left to be said and leads to the same end.
 use Rattle.std.proofs.Common.{◌≡◌, ℕ, drop}
 use Rattle.std.specs.List.{flat_map}
-use Rattle.zr_table.proofs.Prefixes.{IsSoFar}
+use Rattle.zr_lists.proofs.Prefixes.{IsSoFar}
 use Rattle.zr_told.specs.Plan.{PlansAscend, ids_last, tells_plan, told_plans}
 use Rattle.zr_told.proofs.told.Told.tell_all.Given as goal
 

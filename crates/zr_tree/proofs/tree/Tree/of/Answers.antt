@@ -1,8 +1,8 @@
 use Rattle.std.proofs.Common.{◌≡◌, ℕ, ◌+◌, ◌<◌, [], length, map, refl, ap, ◌∙◌, arith}
 use Rattle.std.specs.List.{filter}
 use Rattle.std.proofs.lemmas.List.{get_or_read, length_push}
-use Rattle.zr_climb.specs.Children.{is_child_index, children_by}
-use Rattle.zr_climb.specs.Climb.{row}
+use Rattle.zr_tree_parents.specs.Children.{is_child_index, children_by}
+use Rattle.zr_tree_parents.specs.Climb.{row}
 use Rattle.zr_tree.specs.Hop.{IsHop}
 use Rattle.zr_tree.specs.Index.{name}
 use Rattle.zr_tree.proofs.Ways.{hop_from, hops_more}

@@ -1,7 +1,7 @@
 use Rattle.std.proofs.Common.{sym, ap, ◌∙◌, subst}
 use Rattle.std.specs.Prelude.{IfSome}
 use Rattle.zr_world.specs.State.{state_of}
-use Rattle.zr_network.specs.Sound.{IsSound, AllAreTaken}
+use Rattle.zr_world_spec.specs.Sound.{IsSound, AllAreTaken}
 use Rattle.zr_world.specs.Living.{Living, IsPossible}
 use Rattle.zr_world.proofs.Possible.{next_possible}
 use Rattle.zr_world.proofs.world.World.next.Goals as goal

@@ -1,5 +1,0 @@
-use Rattle.zr_answers.proofs.Every as law
-use Rattle.zr_answers.proofs.answers_always_hold.Goals as goal
-
-pub returns : goal.returns
-returns c = law.answers_always_hold

@@ -1,6 +1,0 @@
-use Rattle.zr_laws.proofs.Settled.{tables_are_settled}
-use Rattle.zr_answers.proofs.Refined as law
-use Rattle.zr_answers.proofs.lines_refine.Goals as goal
-
-pub returns : goal.returns
-returns c = law.lines_refine tables_are_settled

@@ -1,6 +1,0 @@
-use Rattle.std.proofs.Common.{take}
-use Rattle.zr_climb.proofs.FirstChildren.{AreFirst}
-use Rattle.zr_climb.proofs.children.are_children.Given as goal
-
-abbrev pub invariant-loop-y : goal.invariant-loop-y
-invariant-loop-y l = AreFirst l.list l.names l.parents l.x (take l.y-index l.neighbours) l.count

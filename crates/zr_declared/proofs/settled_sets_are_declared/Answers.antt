@@ -1,5 +1,0 @@
-use Rattle.zr_declared.proofs.AtRest as law
-use Rattle.zr_declared.proofs.settled_sets_are_declared.Goals as goal
-
-pub returns : goal.returns
-returns c = law.sets_are_declared

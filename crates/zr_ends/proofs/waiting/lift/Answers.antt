@@ -1,7 +1,0 @@
-use Rattle.zr_ends.proofs.Index.{both_changed}
-use Rattle.zr_ends.proofs.waiting.lift.Goals as goal
-
-pub returns-clause-index : goal.returns-clause-index
-returns-clause-index c = λ x.
-    both_changed c.args.ends.now c.args.to_handle.now c.mark.new.to_handle c.args.to_take.now c.in-Some.place _ c.lift.new.self c.in-Some.ensures.there.within c.mark.new.to_take
-    c.mark.ensures.handles c.mark.ensures.handle_room c.mark.ensures.takes c.mark.ensures.take_room x

@@ -1,0 +1,144 @@
+//! What came of the next batch.
+
+ghost use Rattle.std.specs.Prelude.{◌≡◌, ◌<◌, ◌≤◌, ◌++◌, [], length, IfSome, IfOk, OnErr};
+ghost use Rattle.std.specs.Prelude.{None, true, ◌+◌, ◌*◌};
+ghost use Rattle.zr_frame_batch.specs.Framing.{IsFramed, BeginsWith, lacks, is_within_one};
+
+use std::alloc::{AllocError, Global};
+use std::marker::Model;
+
+/// Contracts see the bytes that came, with those of the length. They never go further than the end of the batch, and
+/// memory is taken for bytes that came alone.
+#[derive(Drop)]
+pub struct Incoming {
+    alloc: Global,
+    bytes: Vec<u8>,
+}
+
+/// How many bytes are kept taken between two batches, at most.
+pub const MOST_IDLE: usize = 1024;
+
+impl Model for Incoming {
+    ghost use Rattle.std.specs.Prelude.{◌≡◌, List, ℕ, true};
+    ghost use Rattle.zr_frame_batch.specs.Framing.{is_within_one};
+
+    ghost Value = { List ℕ };
+
+    ghost view = { λ i. i.bytes.items };
+
+    ghost invariant = { λ i. is_within_one i.bytes.items ≡ true };
+}
+
+impl Incoming {
+    /// Nothing came yet.
+    pub fn new(alloc: Global) -> Incoming
+        ensures { result ≡ [] }
+    {
+        Incoming {
+            alloc,
+            bytes: Vec::new(alloc),
+        }
+    }
+
+    /// Takes bytes of a piece, as many as are wanted before anything can be read, and gives the others.
+    pub fn take<'a>(&mut self, piece: &'a [u8]) -> Result<&'a [u8], AllocError>
+        ensures parts { IfOk result (λ rest. self.new ++ rest.now ≡ self.old ++ piece.now) }
+        ensures shorter { IfOk result (λ rest. 0 < lacks self.old → 0 < length piece.now → length rest.now < length piece.now) }
+        ensures err { OnErr result (self.new ≡ self.old) }
+    {
+        let (front, rest) = cut(piece, lacks(&self.bytes));
+        self.bytes.extend_from_slice(front)?;
+        Ok(rest)
+    }
+
+    /// The batch, where it is whole.
+    pub fn batch(&self) -> Option<&[u8]>
+        ensures some { IfSome result (λ batch. IsFramed self.now batch.now) }
+        ensures none { result ≡ None → 0 < lacks self.now }
+    {
+        whole(&self.bytes)
+    }
+
+    /// Whether nothing came of the next batch.
+    pub fn is_empty(&self) -> bool
+        ensures { result ≡ true → self.now ≡ [] }
+    {
+        self.bytes.is_empty()
+    }
+
+    /// The batch was read. The memory of a long one is given back.
+    pub fn clear(&mut self)
+        ensures { self.new ≡ [] }
+    {
+        if self.bytes.capacity() > MOST_IDLE {
+            self.bytes = Vec::new(self.alloc);
+        } else {
+            self.bytes.clear();
+        }
+    }
+}
+
+/// The batch at the front of a piece where it is whole, and the bytes behind it: nothing is copied.
+pub fn split_batch(piece: &[u8]) -> Option<(&[u8], &[u8])>
+    ensures some { IfSome result (λ x. BeginsWith piece.now x.0.now x.1.now) }
+    ensures none { result ≡ None → 0 < lacks piece.now }
+{
+    let [low, high, bytes @ ..] = piece else {
+        return None;
+    };
+    split(bytes, length_of(*low, *high))
+}
+
+/// So many bytes, where there are as many, and the others.
+fn split(bytes: &[u8], size: usize) -> Option<(&[u8], &[u8])>
+    ensures some { IfSome result (λ x. (bytes.now ≡ x.0.now ++ x.1.now) × (length x.0.now ≡ size)) }
+    ensures none { result ≡ None → length bytes.now < size }
+{
+    if bytes.len() < size {
+        return None;
+    }
+    Some(bytes.split_at(size))
+}
+
+/// How many bytes are wanted before a batch can be read.
+fn lacks(bytes: &[u8]) -> usize
+    ensures { result ≡ lacks bytes.now }
+{
+    match bytes {
+        [] => 2,
+        [_] => 1,
+        [low, high, batch @ ..] => length_of(*low, *high).saturating_sub(batch.len()),
+    }
+}
+
+/// The length that two bytes tell, the low one first.
+fn length_of(low: u8, high: u8) -> usize
+    ensures { result ≡ low + 256 * high }
+{
+    usize::from(low) + 256 * usize::from(high)
+}
+
+/// So many bytes, or all where there are fewer, and the others.
+fn cut(bytes: &[u8], most: usize) -> (&[u8], &[u8])
+    ensures parts { bytes.now ≡ result.0.now ++ result.1.now }
+    ensures few { length result.0.now ≤ most }
+    ensures shorter { 0 < most → 0 < length bytes.now → length result.1.now < length bytes.now }
+{
+    if most < bytes.len() {
+        bytes.split_at(most)
+    } else {
+        bytes.split_at(bytes.len())
+    }
+}
+
+/// The batch behind its length, where it is whole.
+fn whole(bytes: &[u8]) -> Option<&[u8]>
+    requires { is_within_one bytes.now ≡ true }
+    ensures some { IfSome result (λ batch. IsFramed bytes.now batch.now) }
+    ensures none { result ≡ None → 0 < lacks bytes.now }
+{
+    match bytes {
+        [low, high, batch @ ..] if batch.len() == length_of(*low, *high) => Some(batch),
+        _ => None,
+    }
+}

@@ -1,5 +1,0 @@
-pub mod Step
-pub mod Lines
-pub mod Words
-pub mod Command
-pub mod Report

@@ -1,0 +1,11 @@
+pub mod Folds
+pub mod Told
+pub mod Flows
+pub mod Hearing
+pub mod Homes
+pub mod Said
+pub mod Ordered
+pub mod Spoken
+pub mod FlowActs
+pub mod AtRest
+pub mod Logged

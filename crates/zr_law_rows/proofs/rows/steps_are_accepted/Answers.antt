@@ -1,0 +1,7 @@
+use Rattle.std.proofs.Common.{refl}
+use Rattle.zr_law_rows.proofs.OnLiterals.{scripts_on_literals}
+use Rattle.zr_law_rows.proofs.rows.steps_are_accepted.Goals as goal
+
+pub returns : goal.returns
+unfolding scripts_on_literals
+returns c = refl

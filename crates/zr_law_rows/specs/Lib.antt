@@ -1,0 +1,4 @@
+pub mod Rows
+pub mod Networks
+pub mod Queries
+pub mod Texts

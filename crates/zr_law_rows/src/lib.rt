@@ -1,0 +1,8 @@
+//! Worked scripts: whole scripts, of several routers and with queries too, and the texts of all messages, each worked out as a law:
+//! the `ensures` of a function without parameters and with an empty body.
+#![tactic(auto)]
+
+pub mod networks;
+pub mod queries;
+pub mod rows;
+pub mod texts;

@@ -1,0 +1,110 @@
+-- A request, what answers it, and the end of a link send nothing else of queries than requests, replies and finals. So what holds of each of
+-- these holds of all that is sent (`request_all`, `reply_all`, `final_all`, `ends_all`), and a reading that they tell nothing finds nothing
+-- in it (`request_silent` and the others).
+use Rattle.std.proofs.Common.{◌≡◌, ℕ, Bool, true, false, cond, List, [], ◌∷◌, ◌++◌, Option, Some, None, refl, ap, ◌∙◌}
+use Rattle.std.specs.Prelude.{◌==◌, flat_map}
+use Rattle.std.specs.List.{AllByRecursion}
+use Rattle.std.specs.Option.{option_map_or}
+use Rattle.std.proofs.lemmas.Grind.{flat_map-append}
+use Rattle.zr_id.specs.declared.link.LinkNo.{LinkNo}
+use Rattle.zr_msg.specs.declared.content.Parts.{Parts}
+use Rattle.zr_msg.specs.declared.extras.Extras.{Extras}
+use Rattle.zr_msg.specs.Extras.{no_extras}
+use Rattle.zr_msg.specs.declared.msg.Msg.{Msg}
+use Rattle.zr_msg.specs.declared.msg.Msg.TheVariants.{Request, Response, Final}
+use Rattle.zr_msg.specs.declared.msg.Target.{Target}
+use Rattle.zr_msg.specs.declared.peer.LinkPeer.{LinkPeer}
+use Rattle.zr_pend.specs.declared.branch.Asker.{Asker}
+use Rattle.zr_pend.specs.Row.{RowState}
+use Rattle.zr_pend.specs.Pending.{branch, asker_of, free_number, final_to, finals_of_drop}
+use Rattle.zr_node_spec.specs.Tables.{TableState, link_at}
+use Rattle.zr_node_spec.specs.Samples.{tree_of}
+use Rattle.zr_node_spec.specs.Queries.{is_asked, asked_links, link_no, tree_for, request_to, request_along, final_at_once, reply_to, final_for, sends_request, sends_reply, sends_final, sends_ends}
+use Rattle.zr_lists.proofs.Each.{All-append}
+
+-- ---- what holds of requests, replies and finals
+
+module _ (P : Msg → Type 0) where
+  one_if : (t : Bool) (m : Msg) → P m → AllByRecursion P (cond t (m ∷ []) [])
+  one_if true m p = (p, tt)
+  one_if false m p = tt
+
+  pub reply_all : ((number : ℕ) (content : Parts) → P (Response number content)) → (pending : List RowState) (from number : ℕ) (content : Parts) (to : ℕ) →
+      AllByRecursion P (sends_reply pending from number content to)
+  reply_all replies pending from number content to = by (asker_of (branch (link_no from) number) pending)
+    where
+      by : (o : Option Asker) → AllByRecursion P (option_map_or (λ a. reply_to content to a) o [])
+      by None = tt
+      by (Some a) = one_if (to == a.link.0) (Response a.number content) (replies a.number content)
+
+  module _ (ends : (number : ℕ) (extras : Extras) → P (Final number extras)) where
+    for_all : (extras : Extras) (to : ℕ) (a : Asker) → AllByRecursion P (final_for extras to a)
+    for_all extras to a = one_if (to == a.link.0) (Final a.number extras) (ends a.number extras)
+
+    pub final_all : (pending : List RowState) (from number : ℕ) (extras : Extras) (to : ℕ) → AllByRecursion P (sends_final pending from number extras to)
+    final_all pending from number extras to = by (final_to pending (branch (link_no from) number))
+      where
+        by : (o : Option Asker) → AllByRecursion P (option_map_or (λ a. final_for extras to a) o [])
+        by None = tt
+        by (Some a) = for_all extras to a
+
+    pub ends_all : (pending : List RowState) (link to : ℕ) → AllByRecursion P (sends_ends pending link to)
+    ends_all pending link to = each (finals_of_drop (link_no link) pending)
+      where
+        each : (askers : List Asker) → AllByRecursion P (flat_map (λ a. final_for no_extras to a) askers)
+        each [] = tt
+        each (a ∷ askers) = All-append P (final_for no_extras to a) (flat_map (λ a. final_for no_extras to a) askers) (for_all no_extras to a) (each askers)
+
+    pub at_once_all : (from number : ℕ) (links : List LinkNo) (to : ℕ) → AllByRecursion P (final_at_once from number links to)
+    at_once_all from number [] to = one_if (to == from) (Final number no_extras) (ends number no_extras)
+    at_once_all from number (l ∷ links) to = tt
+
+    pub request_all : ((tree : Option (List ℕ)) (number : ℕ) (target : Target) (content : Parts) → P (Request tree number target content)) →
+        (t : TableState) (pending : List RowState) (from : ℕ) (tree : Option (List ℕ)) (number : ℕ) (target : Target) (content : Parts) (to : ℕ) →
+        AllByRecursion P (sends_request t pending from tree number target content to)
+    request_all asks t pending from named number target content to =
+        All-append P (final_at_once from number (asked_links t from named target content.key) to) (request_along t pending from (tree_of t (link_at t.links from) named) target content to)
+        (at_once_all from number (asked_links t from named target content.key) to) (along (tree_of t (link_at t.links from) named))
+      where
+        on : (tree : List ℕ) (o : Option LinkPeer) → AllByRecursion P (option_map_or (λ l. request_to t pending from tree target content l) o [])
+        on tree None = tt
+        on tree (Some l) = one_if (is_asked t from tree target content.key l l.peer.role) (Request (tree_for tree l.peer.role) (free_number l.link pending) target content)
+            (asks (tree_for tree l.peer.role) (free_number l.link pending) target content)
+
+        along : (o : Option (List ℕ)) → AllByRecursion P (request_along t pending from o target content to)
+        along None = tt
+        along (Some tree) = on tree (link_at t.links to)
+
+-- ---- readings
+
+-- a reading that requests, replies and finals tell nothing
+pub record TellsNothing {X : Type 0} (tells : Msg → List X) : Type 0 where
+  pub asks : (tree : Option (List ℕ)) (number : ℕ) (target : Target) (content : Parts) → tells (Request tree number target content) ≡ []
+  pub replies : (number : ℕ) (content : Parts) → tells (Response number content) ≡ []
+  pub ends : (number : ℕ) (extras : Extras) → tells (Final number extras) ≡ []
+
+module _ {X : Type 0} (tells : Msg → List X) (nothing : TellsNothing tells) where
+  none_told : (ms : List Msg) → AllByRecursion (λ m. tells m ≡ []) ms → flat_map tells ms ≡ []
+  none_told [] h = refl
+  none_told (m ∷ ms) h = ap (λ z. z ++ flat_map tells ms) h.0 ∙ none_told ms h.1
+
+  pub request_silent : (t : TableState) (pending : List RowState) (from : ℕ) (tree : Option (List ℕ)) (number : ℕ) (target : Target) (content : Parts) (to : ℕ) →
+      flat_map tells (sends_request t pending from tree number target content to) ≡ []
+  request_silent t pending from tree number target content to =
+      none_told (sends_request t pending from tree number target content to) (request_all (λ m. tells m ≡ []) nothing.ends nothing.asks t pending from tree number target content to)
+
+  pub reply_silent : (pending : List RowState) (from number : ℕ) (content : Parts) (to : ℕ) → flat_map tells (sends_reply pending from number content to) ≡ []
+  reply_silent pending from number content to =
+      none_told (sends_reply pending from number content to) (reply_all (λ m. tells m ≡ []) nothing.replies pending from number content to)
+
+  pub final_silent : (pending : List RowState) (from number : ℕ) (extras : Extras) (to : ℕ) → flat_map tells (sends_final pending from number extras to) ≡ []
+  final_silent pending from number extras to =
+      none_told (sends_final pending from number extras to) (final_all (λ m. tells m ≡ []) nothing.ends pending from number extras to)
+
+  pub ends_silent : (pending : List RowState) (link to : ℕ) → flat_map tells (sends_ends pending link to) ≡ []
+  ends_silent pending link to =
+      none_told (sends_ends pending link to) (ends_all (λ m. tells m ≡ []) nothing.ends pending link to)
+
+  -- so a link that goes down tells what is sent behind the finals
+  pub behind_ends : (pending : List RowState) (link to : ℕ) (rest : List Msg) → flat_map tells (sends_ends pending link to ++ rest) ≡ flat_map tells rest
+  behind_ends pending link to rest = flat_map-append tells (sends_ends pending link to) rest ∙ ap (λ z. z ++ flat_map tells rest) (ends_silent pending link to)

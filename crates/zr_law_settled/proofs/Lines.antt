@@ -1,0 +1,266 @@
+-- What is bounded by how many lines were read: each router's own number (`lines_bounded`); and how many routers there are is bounded at all.
+use Rattle.std.proofs.Common.{◌≡◌, ◌≤◌, ◌<◌, ◌+◌, ℕ, suc, Bool, true, false, cond, List, [], ◌∷◌, ◌++◌, length, Option, Some, None, is_some, Result, Ok, Err, Ordering, Less, Equal, Greater, sym, ap, ◌∙◌, subst, arith}
+use Rattle.std.specs.Prelude.{nat_le, IfSome, IfOk, is_none, unwrap_or}
+use Rattle.std.specs.List.{fold, list_all}
+use Rattle.std.specs.BTreeMap.{insert_entry}
+use Rattle.std.specs.Ordering.{nat_cmp, match_ordering}
+use Rattle.std.specs.Cmp.Lexicographic.{slice_cmp}
+use Rattle.std.proofs.lemmas.Bool.{and_parts, leb-false}
+use Rattle.std.proofs.lemmas.List.{length-map}
+use Rattle.std.proofs.lemmas.Map.{length-set_value}
+use Rattle.zr_lists.proofs.Options.{not_there}
+use Rattle.zr_id.specs.Zid.{is_named}
+use Rattle.zr_msg.specs.declared.decl.Kind.TheVariants as k
+use Rattle.zr_msg.specs.declared.msg.Msg.TheVariants as m
+use Rattle.zr_msg.specs.declared.event.Event.{Event}
+use Rattle.zr_msg.specs.declared.event.Event.TheVariants.{Down, From}
+use Rattle.zr_msg.specs.declared.peer.Role.TheVariants.{Client}
+use Rattle.zr_script_spec.specs.declared.error.ScriptError.{ScriptError}
+use Rattle.zr_script_spec.specs.declared.error.ScriptError.TheVariants.{Limit}
+use Rattle.zr_script_spec.specs.declared.command.Act.{Act}
+use Rattle.zr_script_spec.specs.declared.command.Act.TheVariants as a
+use Rattle.zr_script_spec.specs.declared.command.Command.{Command}
+use Rattle.zr_script_spec.specs.declared.command.Command.TheVariants as c
+use Rattle.zr_script_spec.specs.declared.report.ReportLine.{ReportLine}
+use Rattle.zr_script_spec.specs.declared.report.ReportLine.TheVariants.{Ran}
+use Rattle.zr_script_spec.specs.Step.{◌>>=◌}
+use Rattle.zr_script_spec.specs.Command.{command_of}
+use Rattle.zr_node_spec.specs.Table.{able_kind, after}
+use Rattle.zr_world_spec.specs.World.{RouterState, Routers, WorldState, router_of, with_router, new_router, most_routers, most_steps}
+use Rattle.zr_world_spec.specs.Acts.{Outcome, outcome, hearing, weighing, up_event, peer_of}
+use Rattle.zr_world_spec.specs.Next.{Done, next, run_steps, all_done, booking, book_step, run_done, applied}
+use Rattle.zr_world_spec.specs.Moments.{Moment, is_step, went}
+use Rattle.zr_world_spec.specs.Run.{Run, start, stepped, commanded, on_line, run_lines}
+use Rattle.zr_world_spec.proofs.Names.{value_new, read_after}
+use Rattle.zr_world_spec.proofs.Cases.{free_name, for_router, for_link, for_break, for_declare, for_undeclare, publish_says, get_says, reply_says, end_says, for_take, for_mark, for_show, interest_says, uninterest_says}
+use Rattle.zr_world_spec.proofs.Lines.{all_steps}
+use Rattle.zr_law_settled.proofs.Told.{IsTold, of_each, for_client, for_up, for_down, for_handle}
+use Rattle.zr_law_settled.proofs.Spreading.{Name}
+use Rattle.zr_law_settled.proofs.Bounds.{IsBounded, cost, bounded_after, bounded_fresh, bounded_later}
+
+-- routers are few, and the own record of each is bounded
+pub record AreBounded (n : ℕ) (routers : Routers) : Type 0 where
+  pub few : length routers ≤ most_routers
+  pub each : (x : Name) (r : RouterState) → router_of routers x ≡ Some r → IsBounded n r.node.base
+
+later : (n m : ℕ) (routers : Routers) → n ≤ m → AreBounded n routers → AreBounded m routers
+later n m routers le h = record { few = h.few; each = λ x r found. bounded_later n m r.node.base le (h.each x r found) }
+
+-- one router has another state
+bounded_set : (n m : ℕ) (routers : Routers) (x : Name) (r r' : RouterState) → router_of routers x ≡ Some r → n ≤ m → AreBounded n routers → IsBounded m r'.node.base → AreBounded m (with_router routers x r')
+bounded_set n m routers x r r' found le h new = record {
+  few = let e = length-set_value (is_named x) routers r' in omega (arith, e, h.few);
+  each = λ y q there. by y q (is_named x y) (sym (read_after (λ o. o) routers x y r r' found) ∙ there);
+}
+  where
+    by : (y : Name) (q : RouterState) (t : Bool) → cond t (Some r') (router_of routers y) ≡ Some q → IsBounded m q.node.base
+    by y q true k = let one : r' ≡ q = cc in subst (λ (s : RouterState). IsBounded m s.node.base) one new
+    by y q false k = bounded_later n m q.node.base le (h.each y q k)
+
+-- one more router
+length_inserted : {X : Type 0} (es : List (Name × X)) (k : Name) (v : X) → length (insert_entry (slice_cmp nat_cmp) es k v) ≤ length es + 1
+length_inserted [] k v = omega arith
+length_inserted (e ∷ es) k v = by (slice_cmp nat_cmp k e.0) (length_inserted es k v)
+  where
+    by : (o : Ordering) → length (insert_entry (slice_cmp nat_cmp) es k v) ≤ length es + 1 →
+        length (match_ordering o ((k, v) ∷ e ∷ es) ((e.0, v) ∷ es) (e ∷ insert_entry (slice_cmp nat_cmp) es k v)) ≤ suc (length es) + 1
+    by Less ih = omega arith
+    by Equal ih = omega arith
+    by Greater ih = omega (arith, ih)
+
+bounded_new : (n : ℕ) (routers : Routers) (id : Name) → router_of routers id ≡ None → length routers < most_routers → AreBounded n routers →
+    AreBounded n (insert_entry (slice_cmp nat_cmp) routers id (new_router id))
+bounded_new n routers id free room h = record {
+  few = omega (arith, length_inserted routers id (new_router id), room);
+  each = λ y q there. by y q (is_named y id) (sym (value_new routers id y (new_router id) free) ∙ there);
+}
+  where
+    by : (y : Name) (q : RouterState) (t : Bool) → cond t (Some (new_router id)) (router_of routers y) ≡ Some q → IsBounded n q.node.base
+    by y q true k = let one : new_router id ≡ q = cc in subst (λ (s : RouterState). IsBounded n s.node.base) one (bounded_fresh n id)
+    by y q false k = h.each y q k
+
+-- clients are told
+told_bounded : (n : ℕ) (w v : WorldState) → IsTold w v → AreBounded n w.routers → AreBounded n v.routers
+told_bounded n w v t h = record {
+  few = let e : length v.routers ≡ length w.routers = sym (length-map v.routers (λ e. e.0)) ∙ ap length t.names ∙ length-map w.routers (λ e. e.0) in omega (arith, e, h.few);
+  each = of_each w v t (λ x b. IsBounded n b.base) h.each;
+}
+
+-- ---- acts
+
+-- what an act may add
+abbrev weight : Act → ℕ
+weight act = cond (is_step act) 0 1
+
+module _ (n : ℕ) (now : Moment) (h : AreBounded n now.world.routers) where
+  abbrev w : WorldState
+  w = now.world
+
+  hears : (m : ℕ) (x : Name) (r : RouterState) → router_of w.routers x ≡ Some r → (event : Event) → n + cost event ≤ m → AreBounded m (with_router w.routers x (hearing r event))
+  hears m x r found event le = bounded_set n m w.routers x r (hearing r event) found (omega (arith, le)) h
+      (bounded_later (n + cost event) m (after r.node event).base le (bounded_after n r.node (h.each x r found) event))
+
+  abbrev Bound : ℕ → Moment → Type 0
+  Bound m next = AreBounded m next.world.routers
+
+  bounded_told : (m : ℕ) (u v : WorldState) (report : List ReportLine) → IsTold u v → AreBounded m u.routers → AreBounded m v.routers
+  bounded_told m u v report t k = told_bounded m u v t k
+
+  stays : AreBounded (n + 1) w.routers
+  stays = later n (n + 1) w.routers (omega arith) h
+
+  heavier : (x : Name) (key : List ℕ) (r : RouterState) → router_of w.routers x ≡ Some r → AreBounded (n + 1) (with_router w.routers x (weighing r key))
+  heavier x key r there = bounded_set n (n + 1) w.routers x r (weighing r key) there (omega arith) h (bounded_later n (n + 1) r.node.base (omega arith) (h.each x r there))
+
+  rests : AreBounded (n + 0) w.routers
+  rests = later n (n + 0) w.routers (omega arith) h
+
+  pub act_bounded : (line : ℕ) (act : Act) → IfSome (went now (outcome w line act)) (Bound (n + weight act))
+  unfolding outcome
+  act_bounded line (a.Router id) = for_router now (Bound (n + 1)) id (λ free room.
+      let lt : length w.routers < most_routers = leb-false most_routers (length w.routers) room in
+      later n (n + 1) _ (omega arith) (bounded_new n w.routers id (not_there (router_of w.routers id) (free_name w id free).0) lt h))
+  act_bounded line (a.Client id router) = for_client now (Bound (n + 1)) (bounded_told (n + 1)) line id router (λ r found free room taken. hears (n + 1) router r found (up_event r (record { id = id; role = Client })) (omega arith))
+  act_bounded line (a.Link one other) = for_link now (Bound (n + 1)) one other (λ apart r found q found' new room. stays)
+  act_bounded line (a.Up router name) = for_up now (Bound (n + 1)) (bounded_told (n + 1)) line router name (λ r found there s at_end unbroken down taken. hears (n + 1) router r found (up_event r (peer_of w name)) (omega arith))
+  act_bounded line (a.Break router name) = for_break now (Bound (n + 1)) router name (λ r found there s at_end unbroken. stays)
+  act_bounded line (a.Down router name) = for_down now (Bound (n + 1)) (bounded_told (n + 1)) line router name (λ r found there s at_end up cut l number taken. hears (n + 1) router r found (Down l) (omega arith))
+  act_bounded line (a.Sub client id key) = for_declare now (Bound (n + 1)) line client k.Sub id key (m.Sub id key) (λ s found fresh e at_end unbroken r there weighs. heavier s.router key r there)
+  act_bounded line (a.Unsub client id) = for_undeclare now (Bound (n + 1)) line client k.Sub id (m.Unsub id) (λ s found known e at_end unbroken. stays)
+  act_bounded line (a.Able client id key complete) = for_declare now (Bound (n + 1)) line client (able_kind complete) id key (m.Able id key complete) (λ s found fresh e at_end unbroken r there weighs. heavier s.router key r there)
+  act_bounded line (a.Unable client id) = for_undeclare now (Bound (n + 1)) line client k.Able id (m.Unable id) (λ s found known e at_end unbroken. stays)
+  act_bounded line (a.Interest client id mode kinds key aggregate) = interest_says now (Bound (n + 1)) line client id mode kinds key aggregate (λ s found e at_end unbroken clients same. stays)
+      (λ s found e at_end unbroken r there room clients same. heavier s.router (unwrap_or key []) r there)
+  act_bounded line (a.Uninterest client id) = uninterest_says now (Bound (n + 1)) line client id (λ s found e at_end unbroken clients same. stays)
+  act_bounded line (a.Publish client content) = publish_says now (Bound (n + 1)) line client content (λ s found e at_end unbroken clients same. stays)
+  act_bounded line (a.Get client number target content) = get_says now (Bound (n + 1)) line client number target content (λ s found e at_end unbroken clients same. stays)
+  act_bounded line (a.Reply client number content) = reply_says now (Bound (n + 1)) line client number content (λ s found e at_end unbroken clients same. stays)
+  act_bounded line (a.End client number) = end_says now (Bound (n + 1)) line client number (λ s found e at_end unbroken clients same. stays)
+  act_bounded line (a.Handle router from) = for_handle now (Bound (n + 0)) (bounded_told (n + 0)) router from (λ r found there s at_end up msg tag xs front l number taken. hears (n + 0) router r found (From l msg) (omega arith))
+  act_bounded line (a.Take router to) = for_take now (Bound (n + 0)) router to (λ r found there s at_end up unbroken msg tag xs front. rests)
+  act_bounded line a.Mark = for_mark now (Bound (n + 1)) line (λ settled joined. stays)
+  act_bounded line (a.Show router) = for_show now (Bound (n + 1)) router (λ r found. stays)
+
+-- ---- commands
+
+act_of : (n : ℕ) (w : WorldState) (line : ℕ) (act : Act) → AreBounded n w.routers → IfOk (outcome w line act) (λ x. AreBounded (n + weight act) x.1.routers)
+act_of n w line act h = by (outcome w line act) (act_bounded n (record { world = w; report = [] }) h line act)
+  where
+    by : (o : Outcome) → IfSome (went (record { world = w; report = [] }) o) (λ next. AreBounded (n + weight act) next.world.routers) → IfOk o (λ x. AreBounded (n + weight act) x.1.routers)
+    by (Ok x) k = k
+    by (Err e) k = tt
+
+-- steps change no own record
+step_of : (n : ℕ) (w : WorldState) (line : ℕ) (act : Act) → is_step act ≡ true → AreBounded n w.routers → IfOk (outcome w line act) (λ x. AreBounded n x.1.routers)
+step_of n w line act step h = by (outcome w line act) (act_of n w line act h)
+  where
+    none : n + weight act ≡ n
+    none = ap (λ t. n + cond t 0 1) step ∙ omega arith
+
+    by : (o : Outcome) → IfOk o (λ x. AreBounded (n + weight act) x.1.routers) → IfOk o (λ x. AreBounded n x.1.routers)
+    by (Ok x) k = subst (λ m. AreBounded m x.1.routers) none k
+    by (Err e) k = tt
+
+-- what was said first, and then the rest
+abbrev said_first : List ReportLine → List ReportLine × WorldState → Done
+said_first said y = Ok (said ++ y.0, y.1)
+
+steps_of : (n line : ℕ) (several : List Act) (w : WorldState) → list_all is_step several ≡ true → AreBounded n w.routers → IfOk (all_done w line several) (λ x. AreBounded n x.1.routers)
+steps_of n line [] w steps h = h
+steps_of n line (act ∷ more) w steps h =
+    let parts = and_parts (is_step act) (list_all is_step more) steps in
+    by (outcome w line act) (step_of n w line act parts.0 h) (λ v k. steps_of n line more v parts.1 k)
+  where
+    by : (o : Outcome) → IfOk o (λ x. AreBounded n x.1.routers) → ((v : WorldState) → AreBounded n v.routers → IfOk (all_done v line more) (λ x. AreBounded n x.1.routers)) →
+        IfOk (o >>= (λ x. all_done x.1 line more >>= (said_first x.0))) (λ x. AreBounded n x.1.routers)
+    by (Err e) k ih = tt
+    by (Ok x) k ih = at (all_done x.1 line more) (ih x.1 k)
+      where
+        at : (d : Done) → IfOk d (λ x. AreBounded n x.1.routers) → IfOk (d >>= (said_first x.0)) (λ x. AreBounded n x.1.routers)
+        at (Err e) m = tt
+        at (Ok y) m = m
+
+run_of : (n : ℕ) (w : WorldState) (line steps : ℕ) → AreBounded n w.routers → IfOk (run_done line steps w) (λ x. AreBounded n x.1.routers)
+unfolding run_done
+run_of n w line steps h = by (all_done w line (run_steps line steps w)) (steps_of n line (run_steps line steps w) w (all_steps line steps w) h)
+  where
+    closes : List ReportLine × WorldState → Done
+    closes x = Ok (x.0 ++ Ran (length (run_steps line steps w)) (is_none (next x.1)) ∷ [], x.1)
+
+    by : (d : Done) → IfOk d (λ x. AreBounded n x.1.routers) → IfOk (d >>= closes) (λ x. AreBounded n x.1.routers)
+    by (Err e) m = tt
+    by (Ok y) m = m
+
+command_of_line : (n : ℕ) (w : WorldState) (line : ℕ) (command : Command) → AreBounded n w.routers → IfOk (applied w line command) (λ x. AreBounded (n + 1) x.1.routers)
+unfolding applied book_step
+command_of_line n w line (c.Act act) h = by (outcome w line act) (act_of n w line act h)
+  where
+    most : n + weight act ≤ n + 1
+    most = at (is_step act)
+      where
+        at : (t : Bool) → n + cond t 0 1 ≤ n + 1
+        at true = omega arith
+        at false = omega arith
+
+    by : (o : Outcome) → IfOk o (λ x. AreBounded (n + weight act) x.1.routers) → IfOk o (λ x. AreBounded (n + 1) x.1.routers)
+    by (Err e) k = tt
+    by (Ok x) k = later (n + weight act) (n + 1) x.1.routers most k
+command_of_line n w line (c.Run steps) h = by (nat_le (w.booked + steps) most_steps)
+  where
+    end : (d : Done) → IfOk d (λ x. AreBounded n x.1.routers) → IfOk d (λ x. AreBounded (n + 1) x.1.routers)
+    end (Err e) k = tt
+    end (Ok x) k = later n (n + 1) x.1.routers (omega arith) k
+
+    by : (b : Bool) → IfOk (cond b (Ok (booking w steps)) (Err Limit) >>= run_done line steps) (λ x. AreBounded (n + 1) x.1.routers)
+    by true = end (run_done line steps (booking w steps)) (run_of n (booking w steps) line steps h)
+    by false = tt
+
+-- ---- lines
+
+line_bounded : (r : Run) (line : List ℕ) → AreBounded r.number r.world.routers → AreBounded (on_line r line).number (on_line r line).world.routers
+line_bounded r line h = by (is_some r.refusal)
+  where
+    more : AreBounded (r.number + 1) r.world.routers
+    more = later r.number (r.number + 1) r.world.routers (omega arith) h
+
+    done : (d : Done) → IfOk d (λ x. AreBounded (r.number + 1) x.1.routers) → AreBounded (stepped r d).number (stepped r d).world.routers
+    done (Ok x) k = k
+    done (Err e) k = more
+
+    asked : (a : Result (Option Command) ScriptError) → AreBounded (commanded r a).number (commanded r a).world.routers
+    asked (Ok None) = more
+    asked (Ok (Some command)) = done (applied r.world (r.number + 1) command) (command_of_line r.number r.world (r.number + 1) command h)
+    asked (Err e) = more
+
+    by : (b : Bool) → AreBounded (cond b r (commanded r (command_of line))).number (cond b r (commanded r (command_of line))).world.routers
+    by true = h
+    by false = asked (command_of line)
+
+lines_from : (ls : List (List ℕ)) (r : Run) → AreBounded r.number r.world.routers → AreBounded (fold on_line r ls).number (fold on_line r ls).world.routers
+lines_from [] r h = h
+lines_from (l ∷ ls) r h = lines_from ls (on_line r l) (line_bounded r l h)
+
+-- a line counts one at most
+one_line : (r : Run) (line : List ℕ) → (on_line r line).number ≤ r.number + 1
+one_line r line = by (is_some r.refusal)
+  where
+    done : (d : Done) → (stepped r d).number ≤ r.number + 1
+    done (Ok x) = omega arith
+    done (Err e) = omega arith
+
+    asked : (a : Result (Option Command) ScriptError) → (commanded r a).number ≤ r.number + 1
+    asked (Ok None) = omega arith
+    asked (Ok (Some command)) = done (applied r.world (r.number + 1) command)
+    asked (Err e) = omega arith
+
+    by : (b : Bool) → (cond b r (commanded r (command_of line))).number ≤ r.number + 1
+    by true = omega arith
+    by false = asked (command_of line)
+
+lines_count : (ls : List (List ℕ)) (r : Run) → (fold on_line r ls).number ≤ r.number + length ls
+lines_count [] r = omega arith
+lines_count (l ∷ ls) r = let ih = lines_count ls (on_line r l) in let one = one_line r l in omega (arith, ih, one)
+
+-- behind some lines each own number is at most how many they are
+pub lines_bounded : (ls : List (List ℕ)) → AreBounded (length ls) (run_lines ls).world.routers
+lines_bounded ls = later (run_lines ls).number (length ls) (run_lines ls).world.routers (omega (arith, lines_count ls start)) (lines_from ls start (record { few = omega arith; each = λ x r found. absurd (cc) }))

@@ -1,7 +1,0 @@
-use Rattle.std.proofs.Common.{refl}
-use Rattle.zr_laws.proofs.OnLiterals.{scripts_on_literals}
-use Rattle.zr_laws.proofs.networks.down_is_told.Goals as goal
-
-pub returns : goal.returns
-unfolding scripts_on_literals
-returns c = record { report_is = refl; number_is = refl; refusal_is = refl }

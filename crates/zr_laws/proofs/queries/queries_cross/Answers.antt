@@ -1,7 +1,0 @@
-use Rattle.std.proofs.Common.{refl}
-use Rattle.zr_laws.proofs.OnLiterals.{scripts_on_literals}
-use Rattle.zr_laws.proofs.queries.queries_cross.Goals as goal
-
-pub returns : goal.returns
-unfolding scripts_on_literals
-returns c = refl

@@ -1,7 +1,0 @@
-use Rattle.std.proofs.Common.{refl}
-use Rattle.zr_laws.proofs.OnLiterals.{scripts_on_literals}
-use Rattle.zr_laws.proofs.rows.steps_are_accepted.Goals as goal
-
-pub returns : goal.returns
-unfolding scripts_on_literals
-returns c = refl

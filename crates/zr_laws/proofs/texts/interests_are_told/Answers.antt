@@ -1,7 +1,0 @@
-use Rattle.std.proofs.Common.{refl}
-use Rattle.zr_laws.proofs.OnLiterals.{scripts_on_literals}
-use Rattle.zr_laws.proofs.texts.interests_are_told.Goals as goal
-
-pub returns : goal.returns
-unfolding scripts_on_literals
-returns c = record { now = refl; later = refl; both = refl; ended = refl; told_sub = refl; told_able = refl; told_full = refl; told_unsub = refl; told_unable = refl; told_end = refl }

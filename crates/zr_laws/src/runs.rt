@@ -1,8 +1,0 @@
-//! What holds of each run: what it says at its end is so.
-
-ghost use Rattle.zr_laws.specs.Runs.{RestIsQuiet};
-
-/// A run that ends with `quiet` has left nothing under way, and one that ends with `more` has.
-pub fn rest_is_quiet()
-    ensures { RestIsQuiet }
-{}

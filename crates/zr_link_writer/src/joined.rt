@@ -1,0 +1,196 @@
+//! Parcels that are joined until they are written.
+
+ghost use Rattle.std.specs.Prelude.{◌≡◌, ◌≤◌, ◌<◌, ◌+◌, ◌++◌, ◌⊎◌, ◌^◌, [], Some, length, OnOk, OnErr, IfErr, Err};
+ghost use Rattle.zr_frame_batch.specs.Framing.{framed};
+ghost use Rattle.zr_outside.specs.Counts.{Rose};
+ghost use Rattle.zr_outside.specs.Told.{Appends, AppendsPrefix};
+ghost use Rattle.zr_link_writer.specs.Parts.{keep_alive_bytes, close_bytes};
+ghost use Rattle.zr_link_writer.specs.Writing.{Carries, Rests, Fails, most_joined};
+ghost use Rattle.zr_link_writer.specs.declared.end.Stop.TheVariants.{Fault};
+
+use crate::close::close_batch;
+use crate::end::Stop;
+use std::alloc::Global;
+use zr_frame_batch::put_batch;
+use zr_outside::clock::Clock;
+use zr_outside::sink::{Sink, write_all};
+
+/// The most bytes that are joined into one write: as many as the longest batch has with its length.
+const MOST_JOINED: usize = 65_537;
+
+/// How many bytes the length before a batch has.
+const LENGTH_BYTES: usize = 2;
+
+/// Milliseconds without a write after which a KEEP_ALIVE is written, a quarter of the lease that this router tells.
+const KEEP_ALIVE_MS: u64 = 2_500;
+
+/// A KEEP_ALIVE as a batch behind its length (Zenoh protocol 1.0, "KEEP_ALIVE").
+const KEEP_ALIVE: [u8; 3] = [0x01, 0x00, 0x04];
+
+/// Batches that wait to be written together, and the moment of the last write.
+#[derive(Drop)]
+pub(crate) struct Joined {
+    pub(crate) bytes: Vec<u8>,
+    pub(crate) moment: u64,
+    ghost short: { length bytes.items ≤ most_joined },
+}
+
+impl Joined {
+    /// Nothing waits, and the time to a KEEP_ALIVE begins now.
+    pub(crate) fn new<C: Clock>(alloc: Global, clock: &mut C) -> Joined
+        ensures empty { result.bytes.items ≡ [] }
+        ensures now { (C.last clock.old ≤ result.moment) × (result.moment ≡ C.last clock.new) }
+    {
+        Joined {
+            bytes: Vec::new(alloc),
+            moment: clock.now(),
+        }
+    }
+
+    /// Joins a parcel as one batch behind its length. What waits is written first where both are too much for one write.
+    #[tactic(auto, using(crate::proofs::Carrying::carries_written, crate::proofs::Carrying::carries_joined, crate::proofs::Carrying::prefix_more, crate::proofs::Carrying::prefix_written, crate::proofs::Carrying::prefix_none, crate::proofs::Waiting::waits_joined))]
+    pub(crate) fn add<K: Sink, C: Clock>(
+        &mut self,
+        sink: &mut K,
+        clock: &mut C,
+        parcel: &[u8],
+    ) -> Result<(), Stop>
+        requires short { length parcel.now < 2 ^ 16 }
+        requires past { self.old.moment ≤ C.last clock.old }
+        ensures joined { OnOk result (Carries (K.held sink.old) (K.held sink.new) self.new.bytes.items (self.old.bytes.items ++ framed parcel.now)) }
+        ensures part { OnErr result (AppendsPrefix (self.old.bytes.items ++ framed parcel.now) (K.held sink.old) (K.held sink.new)) }
+        ensures cause { result ≡ Err Fault → Rose (K.faults sink.old) (K.faults sink.new) }
+        ensures later { K.faults sink.old ≤ K.faults sink.new }
+        ensures moment { (self.old.moment ≤ self.new.moment) × (self.new.moment ≤ C.last clock.new) }
+        ensures clock { C.last clock.old ≤ C.last clock.new }
+    {
+        if parcel.len() + LENGTH_BYTES > MOST_JOINED.saturating_sub(self.bytes.len()) {
+            self.flush(sink, clock)?;
+        }
+        match put_batch(&mut self.bytes, parcel) {
+            Ok(()) => Ok(()),
+            Err(_) => Err(Stop::NoMemory),
+        }
+    }
+
+    /// Nothing is to be had: writes what waits, or a KEEP_ALIVE where nothing was written for a while, and rests once.
+    pub(crate) fn rest<K: Sink, C: Clock>(
+        &mut self,
+        sink: &mut K,
+        clock: &mut C,
+    ) -> Result<(), Stop>
+        requires past { self.old.moment ≤ C.last clock.old }
+        ensures empty { OnOk result (self.new.bytes.items ≡ []) }
+        ensures wrote { OnOk result (Rests self.old.bytes.items self.old.moment self.new.moment (K.held sink.old) (K.held sink.new)) }
+        ensures part { OnErr result (Fails self.old.bytes.items self.old.moment (C.last clock.new) (K.held sink.old) (K.held sink.new)) }
+        ensures cause { OnErr result (Rose (K.faults sink.old) (K.faults sink.new)) }
+        ensures fault { IfErr result (λ e. e ≡ Fault) }
+        ensures later { K.faults sink.old ≤ K.faults sink.new }
+        ensures moment { (self.old.moment ≤ self.new.moment) × (self.new.moment ≤ C.last clock.new) }
+        ensures clock { C.last clock.old ≤ C.last clock.new }
+    {
+        self.catch_up(sink, clock)?;
+        clock.pause();
+        Ok(())
+    }
+
+    // Writes what waits, or a KEEP_ALIVE where nothing was written for a while.
+    #[tactic(auto, using(crate::proofs::Carrying::appends_none))]
+    fn catch_up<K: Sink, C: Clock>(&mut self, sink: &mut K, clock: &mut C) -> Result<(), Stop>
+        requires past { self.old.moment ≤ C.last clock.old }
+        ensures empty { OnOk result (self.new.bytes.items ≡ []) }
+        ensures wrote { OnOk result (Rests self.old.bytes.items self.old.moment self.new.moment (K.held sink.old) (K.held sink.new)) }
+        ensures part { OnErr result (Fails self.old.bytes.items self.old.moment (C.last clock.new) (K.held sink.old) (K.held sink.new)) }
+        ensures cause { OnErr result (Rose (K.faults sink.old) (K.faults sink.new)) }
+        ensures fault { IfErr result (λ e. e ≡ Fault) }
+        ensures later { K.faults sink.old ≤ K.faults sink.new }
+        ensures moment { (self.old.moment ≤ self.new.moment) × (self.new.moment ≤ C.last clock.new) }
+        ensures clock { C.last clock.old ≤ C.last clock.new }
+    {
+        if !self.bytes.is_empty() {
+            self.flush(sink, clock)?;
+            return Ok(());
+        }
+        if clock.now().saturating_sub(self.moment) >= KEEP_ALIVE_MS {
+            self.send(sink, clock, &KEEP_ALIVE)?;
+            return Ok(());
+        }
+        Ok(())
+    }
+
+    /// The ring has ended: writes what waits, and a CLOSE where there is a reason.
+    #[tactic(auto, using(crate::proofs::Carrying::appends_both, crate::proofs::Carrying::prefix_behind, crate::proofs::Carrying::appends_nothing_more, crate::proofs::Carrying::prefix_more, crate::proofs::Carrying::prefix_written))]
+    pub(crate) fn finish<K: Sink, C: Clock>(
+        &mut self,
+        sink: &mut K,
+        clock: &mut C,
+        reason: Option<u8>,
+    ) -> Result<(), Stop>
+        requires past { self.old.moment ≤ C.last clock.old }
+        ensures wrote { OnOk result (Appends (self.old.bytes.items ++ close_bytes (Some reason)) (K.held sink.old) (K.held sink.new)) }
+        ensures part { OnErr result (AppendsPrefix (self.old.bytes.items ++ close_bytes (Some reason)) (K.held sink.old) (K.held sink.new)) }
+        ensures cause { OnErr result (Rose (K.faults sink.old) (K.faults sink.new)) }
+        ensures fault { IfErr result (λ e. e ≡ Fault) }
+        ensures later { K.faults sink.old ≤ K.faults sink.new }
+        ensures clock { C.last clock.old ≤ C.last clock.new }
+    {
+        self.flush(sink, clock)?;
+        match reason {
+            Some(reason) => self.send(sink, clock, &close_batch(reason)),
+            None => Ok(()),
+        }
+    }
+
+    /// Writes what waits, all in one.
+    #[tactic(auto, using(crate::proofs::Carrying::appends_none))]
+    pub(crate) fn flush<K: Sink, C: Clock>(
+        &mut self,
+        sink: &mut K,
+        clock: &mut C,
+    ) -> Result<(), Stop>
+        requires past { self.old.moment ≤ C.last clock.old }
+        ensures wrote { OnOk result (Appends self.old.bytes.items (K.held sink.old) (K.held sink.new)) }
+        ensures empty { OnOk result (self.new.bytes.items ≡ []) }
+        ensures part { OnErr result (AppendsPrefix self.old.bytes.items (K.held sink.old) (K.held sink.new)) }
+        ensures cause { OnErr result (Rose (K.faults sink.old) (K.faults sink.new)) }
+        ensures fault { IfErr result (λ e. e ≡ Fault) }
+        ensures later { K.faults sink.old ≤ K.faults sink.new }
+        ensures moment { (self.old.moment ≤ self.new.moment) × (self.new.moment ≤ C.last clock.new) }
+        ensures clock { C.last clock.old ≤ C.last clock.new }
+    {
+        if self.bytes.is_empty() {
+            return Ok(());
+        }
+        if write_all(sink, self.bytes.as_slice()).is_err() {
+            return Err(Stop::Fault);
+        }
+        self.bytes.clear();
+        self.moment = clock.now();
+        Ok(())
+    }
+
+    // Writes a batch of the writer's own.
+    fn send<K: Sink, C: Clock>(
+        &mut self,
+        sink: &mut K,
+        clock: &mut C,
+        batch: &[u8],
+    ) -> Result<(), Stop>
+        requires past { self.old.moment ≤ C.last clock.old }
+        ensures wrote { OnOk result (Appends batch.now (K.held sink.old) (K.held sink.new)) }
+        ensures part { OnErr result (AppendsPrefix batch.now (K.held sink.old) (K.held sink.new)) }
+        ensures cause { OnErr result (Rose (K.faults sink.old) (K.faults sink.new)) }
+        ensures fault { IfErr result (λ e. e ≡ Fault) }
+        ensures later { K.faults sink.old ≤ K.faults sink.new }
+        ensures same { self.new.bytes ≡ self.old.bytes }
+        ensures now { OnOk result ((C.last clock.old ≤ self.new.moment) × (self.new.moment ≡ C.last clock.new)) }
+        ensures moment { (self.old.moment ≤ self.new.moment) × (self.new.moment ≤ C.last clock.new) }
+        ensures clock { C.last clock.old ≤ C.last clock.new }
+    {
+        if write_all(sink, batch).is_err() {
+            return Err(Stop::Fault);
+        }
+        self.moment = clock.now();
+        Ok(())
+    }
+}

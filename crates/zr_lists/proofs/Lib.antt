@@ -1,0 +1,15 @@
+pub mod Cutting
+pub mod Each
+pub mod Elements
+pub mod Filters
+pub mod Finds
+pub mod Numbers
+pub mod Options
+pub mod Order
+pub mod Places
+pub mod Prefixes
+pub mod Puts
+pub mod Same
+pub mod Sorted
+pub mod Tests
+pub mod Truths

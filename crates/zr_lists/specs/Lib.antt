@@ -1,0 +1,4 @@
+pub mod Ascending
+pub mod Cut
+pub mod Place
+pub mod Prefix

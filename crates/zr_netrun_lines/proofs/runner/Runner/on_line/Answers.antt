@@ -1,0 +1,49 @@
+use Rattle.std.proofs.Common.{◌≡◌, ◌≤◌, ◌+◌, [], Some, None, Ok, sym, rules, arith, subst}
+use Rattle.std.proofs.lemmas.Result.{err_from_is_err_and}
+use Rattle.zr_script_spec.specs.declared.command.Command.TheVariants as k
+use Rattle.zr_script_spec.specs.Command.{command_of}
+use Rattle.zr_script_spec.specs.Lines.{most_bytes}
+use Rattle.zr_netrun_lines.specs.Kept.{Kept}
+use Rattle.zr_netrun_lines.specs.Possible.{RunsGo}
+use Rattle.zr_netrun_lines.proofs.Stepping.{reading_stops, act_line_turns, line_turns}
+use Rattle.zr_netrun_lines.proofs.Counting.{silent_counts, line_counts_if}
+use Rattle.zr_netrun_lines.proofs.runner.Runner.on_line.Goals as goal
+
+pub returns-in_err-read_line-clause-turn : goal.returns-in_err-read_line-clause-turn
+returns-in_err-read_line-clause-turn g c =
+    let p = err_from_is_err_and c.from_residual.result c.from_residual.ensures.1 in
+    rw (p.1, p.2) (reading_stops c.args.self.now c.count_line.new.self c.args.line.now c.args.self.now.line _ c.in_err-read_line.field-0.0 c.in_err-read_line.ensures c.count_line.ensures)
+
+pub returns-in-None-clause-counts : goal.returns-in-None-clause-counts
+returns-in-None-clause-counts g c =
+    let silent : command_of c.args.line.now ≡ Ok None = search rules in
+    silent_counts c.args.self.now c.count_line.new.self c.args.line.now silent c.count_line.ensures
+
+pub returns-in-Some-Act-clause-turn : goal.returns-in-Some-Act-clause-turn
+returns-in-Some-Act-clause-turn g c =
+    let asks : command_of c.args.line.now ≡ Ok (Some (k.Act c.in-Some-Act.act)) = search rules in
+    act_line_turns c.args.self.now c.count_line.new.self c.do_act.new.self c.args.line.now c.in-Some-Act.act _ _ c.do_act.result asks c.count_line.ensures c.do_act.ensures.turn
+
+pub returns-in-Some-Act-clause-counts : goal.returns-in-Some-Act-clause-counts
+returns-in-Some-Act-clause-counts g c =
+    let asks : command_of c.args.line.now ≡ Ok (Some (k.Act c.in-Some-Act.act)) = search rules in
+    line_counts_if c.args.self.now c.count_line.new.self c.do_act.new.self c.args.line.now _ _ (k.Act c.in-Some-Act.act) _ _ c.do_act.result asks c.count_line.ensures
+    (act_line_turns c.args.self.now c.count_line.new.self c.do_act.new.self c.args.line.now c.in-Some-Act.act (g.K.Sink.held c.args.out.now) (g.K.Sink.held c.do_act.new.out) c.do_act.result asks c.count_line.ensures c.do_act.ensures.turn)
+    c.do_act.ensures.counts
+
+pub run-requires-clause-goes : goal.run-requires-clause-goes
+run-requires-clause-goes g c =
+    let room : c.args.self.now.number + 0 ≤ most_bytes = omega (arith, c.requires.room) in
+    subst (λ (z : Kept). RunsGo z.world.state) (sym c.count_line.ensures) (c.requires.goes [] room)
+
+pub returns-in-Some-Run-clause-turn : goal.returns-in-Some-Run-clause-turn
+returns-in-Some-Run-clause-turn g c =
+    let asks : command_of c.args.line.now ≡ Ok (Some (k.Run c.in-Some-Run.steps)) = search rules in
+    line_turns c.args.self.now c.count_line.new.self c.run.new.self c.args.line.now (k.Run c.in-Some-Run.steps) _ _ c.run.result asks c.count_line.ensures c.run.ensures.turn
+
+pub returns-in-Some-Run-clause-counts : goal.returns-in-Some-Run-clause-counts
+returns-in-Some-Run-clause-counts g c =
+    let asks : command_of c.args.line.now ≡ Ok (Some (k.Run c.in-Some-Run.steps)) = search rules in
+    line_counts_if c.args.self.now c.count_line.new.self c.run.new.self c.args.line.now _ _ (k.Run c.in-Some-Run.steps) _ _ c.run.result asks c.count_line.ensures
+    (line_turns c.args.self.now c.count_line.new.self c.run.new.self c.args.line.now (k.Run c.in-Some-Run.steps) (g.K.Sink.held c.args.out.now) (g.K.Sink.held c.run.new.out) c.run.result asks c.count_line.ensures c.run.ensures.turn)
+    c.run.ensures.counts

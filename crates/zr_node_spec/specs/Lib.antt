@@ -1,0 +1,9 @@
+pub mod Tables
+pub mod Changes
+pub mod Samples
+pub mod Queries
+pub mod Snapshots
+pub mod State
+pub mod Table
+pub mod Event
+pub mod Each

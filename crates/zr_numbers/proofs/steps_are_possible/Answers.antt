@@ -1,5 +1,0 @@
-use Rattle.zr_numbers.proofs.EveryWorld as law
-use Rattle.zr_numbers.proofs.steps_are_possible.Goals as goal
-
-pub returns : goal.returns
-returns c = law.steps_go

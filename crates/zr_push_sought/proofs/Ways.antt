@@ -1,0 +1,63 @@
+-- The neighbours on the way to what is sought, as they are collected.
+use Rattle.std.proofs.Common.{◌≡◌, ℕ, ◌||◌, ◌&&◌, Bool, true, false, List, [], Option, Some, None, IsSome, Result, is_ok, set, refl, sym, ap, ◌∙◌}
+use Rattle.std.specs.Cmp.Lexicographic.{slice_cmp}
+use Rattle.std.specs.List.{insert}
+use Rattle.std.specs.List.Sorted.{IsStrictlySortedBy}
+use Rattle.std.specs.Option.{option_map_or}
+use Rattle.std.specs.Ordering.{nat_cmp}
+use Rattle.std.proofs.lemmas.List.{set-get_or}
+use Rattle.zr_graph.specs.Record.{has, IsAscending}
+use Rattle.zr_id.specs.Zid.{is_named}
+use Rattle.zr_log.specs.declared.log.Log.{Log}
+use Rattle.zr_lists.proofs.Order.{name_order}
+use Rattle.zr_push_sought.specs.declared.sought.Sought.{Sought}
+use Rattle.zr_push_sought.specs.Hops.{is_way_to}
+use Rattle.zr_push_sought.specs.Sought.{is_in_log}
+use Rattle.zr_node_spec.specs.Tables.{TableState, graph}
+use Rattle.zr_tree.specs.Tree.{reached, toward}
+use Rattle.zr_lists.specs.Ascending.{put}
+use Rattle.zr_lists.specs.Place.{IsAt, IsGap, IsPlace}
+use Rattle.zr_lists.proofs.Puts.{put_at, put_in, has-put, place_has, ascending_put}
+
+abbrev itself : List ℕ → List ℕ
+itself n = n
+
+pub none_ascends : IsAscending []
+unfolding IsStrictlySortedBy
+none_ascends = tt
+
+pub put_ascends : (names : List (List ℕ)) (name : List ℕ) → IsAscending names → IsAscending (put (slice_cmp nat_cmp) (λ n. n) names name)
+put_ascends names name up = ascending_put (slice_cmp nat_cmp) itself name_order names name up
+
+pub has_put : (names : List (List ℕ)) (name other : List ℕ) → has (put (slice_cmp nat_cmp) (λ n. n) names name) other ≡ (is_named name other || has names other)
+has_put names name other = has-put (slice_cmp nat_cmp) itself name_order names name other
+
+pub place_tells : (names : List (List ℕ)) (name : List ℕ) (r : Result ℕ ℕ) → IsPlace (slice_cmp nat_cmp) (λ n. n) names name r → is_ok r ≡ has names name
+place_tells names name r h = place_has (slice_cmp nat_cmp) itself name_order names name r h
+
+pub regroup : (n h w r all : Bool) → n ≡ w → (h || (w || r)) ≡ all → ((n || h) || r) ≡ all
+regroup n h true r all e k = rw e (top h ∙ k)
+  where
+    top : (h : Bool) → true ≡ (h || true)
+    top true = refl
+    top false = refl
+regroup n h false r all e k = rw e k
+
+-- the next step to the router of a log tells which neighbour is on the way there
+pub hop_is : (t : TableState) (tree : List ℕ) (sought : Sought) (key name : List ℕ) (log : Log) (hop : Option (List ℕ)) → is_in_log sought key log ≡ true → hop ≡ toward (graph t) tree t.base.me log.source
+    → (IsSome hop → reached (graph t) t.base.me log.source ≡ true) → option_map_or (λ y. is_named y name) hop false ≡ is_way_to t tree sought key name log
+hop_is t tree sought key name log None in_log to there = rw (in_log, ← to) (none (reached (graph t) t.base.me log.source))
+  where
+    none : (b : Bool) → false ≡ (b && false)
+    none true = refl
+    none false = refl
+hop_is t tree sought key name log (Some y) in_log to there = rw (in_log, ← to, there refl) refl
+
+pub put_there : (names : List (List ℕ)) (name : List ℕ) (i : ℕ) → IsAt (slice_cmp nat_cmp) (λ n. n) names name i → put (slice_cmp nat_cmp) (λ n. n) names name ≡ names
+put_there names name i h =
+    sym (put_at (slice_cmp nat_cmp) itself name_order names name i h)
+    ∙ ap (λ (n : List ℕ). set names i n) (sym (h.key_is name))
+    ∙ set-get_or names i name
+
+pub put_inside : (names : List (List ℕ)) (name : List ℕ) (i : ℕ) → IsGap (slice_cmp nat_cmp) (λ n. n) names name i → insert names i name ≡ put (slice_cmp nat_cmp) (λ n. n) names name
+put_inside names name i h = put_in (slice_cmp nat_cmp) itself name_order names name i h

@@ -1,0 +1,15 @@
+use Rattle.std.proofs.Common.{List, ap, sym, ◌∙◌}
+use Rattle.zr_local.specs.declared.interest.ClientInterests.{ClientInterests}
+use Rattle.zr_router_core.specs.Ready.{tells_nobody}
+use Rattle.zr_router_core.proofs.Joined.{nobody_done, nobody_stays}
+use Rattle.zr_router_core.proofs.whole.on_event.Goals as goal
+
+pub returns-then-tells_nobody-clause-done : goal.returns-then-tells_nobody-clause-done
+returns-then-tells_nobody-clause-done c =
+    nobody_done c.args.node.now c.args.told.now c.args.event.now c.requires.sound (ap (λ (cs : List ClientInterests). tells_nobody cs c.args.event.now) (sym c.clients.ensures.value) ∙ sym c.tells_nobody.ensures ∙ c.if-tells_nobody.true)
+    c.handle.result c.handle.new.node c.args.out.now.items c.handle.new.out.items c.handle.ensures
+
+pub returns-then-tells_nobody-clause-sound : goal.returns-then-tells_nobody-clause-sound
+returns-then-tells_nobody-clause-sound c =
+    nobody_stays c.args.node.now c.args.told.now c.args.event.now c.requires.sound (ap (λ (cs : List ClientInterests). tells_nobody cs c.args.event.now) (sym c.clients.ensures.value) ∙ sym c.tells_nobody.ensures ∙ c.if-tells_nobody.true)
+    c.handle.result c.handle.new.node c.args.out.now.items c.handle.new.out.items c.handle.ensures

@@ -1,0 +1,19 @@
+use Rattle.std.proofs.Common.{◌≡◌, ◌<◌, length, get_or, subst, arith}
+use Rattle.zr_node_spec.specs.Event.{on_link}
+use Rattle.zr_router_queue.specs.Ends.{EndState, IsPlannedAnew}
+use Rattle.zr_router_queue.proofs.Stepped.{IsStepped, stepped_all, stepped_more, stepped_next}
+use Rattle.zr_router_queue.proofs.event.plan_all.Goals as goal
+
+pub loop-end-preserved : goal.loop-end-preserved
+loop-end-preserved c =
+    let R = λ (old new : EndState). IsPlannedAnew (on_link old.queue.link c.args.sent.now) old new in
+    let same = stepped_next R c.loop-end.end-index c.args.ends.now c.loop-end.ends c.end-item.result c.loop-end.invariant in
+    let within : c.loop-end.end-index < length c.loop-end.ends = omega arith in
+    let planned : R (get_or c.loop-end.ends c.loop-end.end-index c.end-item.result) c.plan.new.self = (c.in_ok-plan.ensures.queue, c.in_ok-plan.ensures.planned, c.in_ok-plan.ensures.asked) in
+    stepped_more R c.loop-end.end-index c.args.ends.now c.loop-end.ends c.end-item.result c.plan.new.self within c.loop-end.invariant (subst (λ old. R old c.plan.new.self) same planned)
+
+pub returns : goal.returns
+returns c =
+    let R = λ (old new : EndState). IsPlannedAnew (on_link old.queue.link c.args.sent.now) old new in
+    let all : c.loop-end.end-index ≡ length c.args.ends.now = omega arith in
+    stepped_all R c.args.ends.now c.loop-end.ends (subst (λ n. IsStepped R n c.args.ends.now c.loop-end.ends) all c.loop-end.invariant)

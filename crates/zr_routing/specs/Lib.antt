@@ -1,5 +1,0 @@
-pub mod Tables
-pub mod Changes
-pub mod Samples
-pub mod Queries
-pub mod Snapshots

@@ -1,0 +1,108 @@
+//! A router is made and served. Its name, of which its type keeps facts, is picked here.
+
+ghost use Rattle.std.specs.Prelude.{◌≡◌, ◌≤◌, ◌⊎◌, [], map};
+ghost use Rattle.std.specs.String.{string_bytes};
+ghost use Rattle.zr_outside_crew.specs.Crew.{crew_faults, crew_told};
+ghost use Rattle.zr_hist.specs.Words.{kept_name, list_of, name, pass_name};
+ghost use Rattle.zr_outside.specs.Counts.{Rose};
+ghost use Rattle.zr_serve.specs.Serving.{IsServed, outputs};
+
+use std::alloc::Global;
+use std::marker::Brand;
+use std::sync::{Arc, Wait};
+use std::thread::Threads;
+use zr_hist::{History, Kept, Pass};
+use zr_link_job::LinkJob;
+use zr_outside::host::Host;
+use zr_outside::sink::Sink;
+use zr_outside_crew::Crew;
+use zr_port::{Entry, Naming};
+use zr_router::Router;
+use zr_serve::{ServeEnd, ServePlan, Serving, serve};
+
+/// Makes the router of a plan, and serves it.
+#[tactic(auto, using(zr_serve::proofs::Served::not_begun))]
+pub fn serve_router<
+    K: Sink,
+    E: Sink,
+    H: Host,
+    R: Threads + Wait + Copy + Send + Sync + Drop + 'static,
+>(
+    rt: R,
+    alloc: Global,
+    plan: &ServePlan,
+    out: &mut K,
+    err: &mut E,
+    host: &mut H,
+    crew: &mut Crew<R, LinkJob>,
+) -> ServeEnd
+where
+    H::In: 'static,
+    H::Out: 'static,
+    H::Time: 'static,
+    H::Log: 'static,
+    ensures served { IsServed result plan.now.id plan.now.log (string_bytes plan.now.listen) (map string_bytes plan.now.dials.items) (H.calls host.old) (H.calls host.new) (crew_told crew.old) (crew_told crew.new) (crew_faults crew.old) (crew_faults crew.new) (outputs (K.held out.old) (E.held err.old) (E.faults err.old)) (outputs (K.held out.new) (E.held err.new) (E.faults err.new)) }
+    ensures done { result ≡ ServeEnd.Done → Rose (H.ends host.old) (H.ends host.new) }
+    ensures host { result ≡ ServeEnd.HostFault → Rose (H.faults host.old) (H.faults host.new) }
+    ensures write { result ≡ ServeEnd.WriteFault → Rose (K.faults out.old) (K.faults out.new) ⊎ Rose (E.faults err.old) (E.faults err.new) }
+    ensures later { (K.faults out.old ≤ K.faults out.new) × (E.faults err.old ≤ E.faults err.new) }
+{
+    match History::new(alloc) {
+        Ok((history, kept, pass)) => {
+            serve_named::<K, E, H, R, Brand>(
+                rt, alloc, plan, out, err, host, crew, history, kept, pass,
+            )
+        }
+        Err(_) => ServeEnd::NoMemory,
+    }
+}
+
+// The same under a name, which is that of the history and of the plan's identifier.
+#[tactic(auto, using(zr_serve::proofs::Served::not_begun))]
+fn serve_named<
+    K: Sink,
+    E: Sink,
+    H: Host,
+    R: Threads + Wait + Copy + Send + Sync + Drop + 'static,
+    B: Naming + Send + Sync + 'static,
+>(
+    rt: R,
+    alloc: Global,
+    plan: &ServePlan,
+    out: &mut K,
+    err: &mut E,
+    host: &mut H,
+    crew: &mut Crew<R, LinkJob>,
+    history: History<Entry>,
+    kept: Kept<Entry>,
+    pass: Pass<Entry>,
+) -> ServeEnd
+where
+    H::In: 'static,
+    H::Out: 'static,
+    H::Time: 'static,
+    H::Log: 'static,
+    requires history { name history ≡ B.history }
+    requires kept { (kept_name kept ≡ B.history) × (list_of kept ≡ []) }
+    requires pass { pass_name pass ≡ B.history }
+    requires own { plan.now.id ≡ B.me }
+    ensures served { IsServed result plan.now.id plan.now.log (string_bytes plan.now.listen) (map string_bytes plan.now.dials.items) (H.calls host.old) (H.calls host.new) (crew_told crew.old) (crew_told crew.new) (crew_faults crew.old) (crew_faults crew.new) (outputs (K.held out.old) (E.held err.old) (E.faults err.old)) (outputs (K.held out.new) (E.held err.new) (E.faults err.new)) }
+    ensures done { result ≡ ServeEnd.Done → Rose (H.ends host.old) (H.ends host.new) }
+    ensures host { result ≡ ServeEnd.HostFault → Rose (H.faults host.old) (H.faults host.new) }
+    ensures write { result ≡ ServeEnd.WriteFault → Rose (K.faults out.old) (K.faults out.new) ⊎ Rose (E.faults err.old) (E.faults err.new) }
+    ensures later { (K.faults out.old ≤ K.faults out.new) × (E.faults err.old ≤ E.faults err.new) }
+{
+    let Ok(router) = Router::<B, R>::new(rt, alloc, plan.id, history, kept) else {
+        return ServeEnd::NoMemory;
+    };
+    let Ok(port) = Arc::new(alloc, router) else {
+        return ServeEnd::NoMemory;
+    };
+    let mut serving = Serving {
+        rt,
+        alloc,
+        port,
+        pass,
+    };
+    serve(&mut serving, plan, out, err, host, crew)
+}

@@ -1,5 +1,0 @@
-use Rattle.zr_set.proofs.Decls.{has_less}
-use Rattle.zr_set.proofs.laws.sets_have_less.Goals as goal
-
-pub returns : goal.returns
-returns c = has_less

@@ -1,5 +1,0 @@
-use Rattle.zr_set.proofs.Decls.{set_all, has_all}
-use Rattle.zr_set.proofs.laws.sets_of_all.Goals as goal
-
-pub returns : goal.returns
-returns c = λ ds. (set_all ds, has_all ds)

@@ -1,4 +1,0 @@
-pub mod Ascending
-pub mod Place
-pub mod Decls
-pub mod Laws

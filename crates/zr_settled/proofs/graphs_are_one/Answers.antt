@@ -1,5 +1,0 @@
-use Rattle.zr_settled.proofs.Graphs as law
-use Rattle.zr_settled.proofs.graphs_are_one.Goals as goal
-
-pub returns : goal.returns
-returns c = law.graphs_are_one

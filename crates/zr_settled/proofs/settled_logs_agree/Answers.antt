@@ -1,5 +1,0 @@
-use Rattle.zr_settled.proofs.Agreeing as law
-use Rattle.zr_settled.proofs.settled_logs_agree.Goals as goal
-
-pub returns : goal.returns
-returns c = law.logs_agree

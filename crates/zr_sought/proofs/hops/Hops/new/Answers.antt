@@ -1,5 +1,0 @@
-use Rattle.zr_sought.proofs.Ways.{none_ascends}
-use Rattle.zr_sought.proofs.hops.Hops.new.Goals as goal
-
-pub invariant_of-result : goal.invariant_of-result
-invariant_of-result c = rw c.new.ensures.items none_ascends

@@ -1,4 +1,0 @@
-pub mod Prefix
-pub mod State
-pub mod Table
-pub mod Event

@@ -1,0 +1,61 @@
+//! The note of the tests' parcels, which says nothing, and a link for which lists queue.
+ghost use Rattle.std.specs.Prelude.{◌≡◌, ◌+◌, ◌^◌, ◌<◌, IfOk, length};
+ghost use Rattle.zr_ring.specs.Items.{GoOnFrom};
+
+use std::alloc::{AllocError, Global};
+use zr_ring::{Note, Parcel, Queue};
+
+/// It vouches for everything.
+#[derive(Drop)]
+pub struct Anything;
+
+impl Note for Anything {
+    ghost use Rattle.std.specs.Coded.{Unit-prop};
+
+    ghost vouches = { λ _ _ _. Unit {0} };
+
+    ghost is_fact = { λ _ _ _. Unit-prop };
+}
+
+/// A link, for which a list of numbers queues those of its parity.
+#[derive(Clone, Copy)]
+pub struct Link(pub u32);
+
+impl Queue<u64> for Link {
+    ghost use Rattle.std.specs.Prelude.{false};
+    ghost use Rattle.zr_tests_serve.specs.Queue.{queued, queued-grows};
+
+    ghost legal = { λ _ _. Unit {0} };
+
+    ghost renews = { λ _ _. false };
+
+    ghost queued = { λ link list. queued link.0 list };
+
+    ghost grows = { λ link list more _ _. queued-grows link.0 list more };
+}
+
+fn parcel(alloc: Global, place: u64) -> Result<Parcel<Anything>, AllocError>
+    ensures { IfOk result (λ p. p.place ≡ place) }
+{
+    let bytes = Vec::from_elem(alloc, (place % 256) as u8, 1)?;
+    Ok(Parcel {
+        place,
+        bytes,
+        note: Anything,
+    })
+}
+
+/// So many parcels, whose places go on from this one.
+#[tactic(auto, using(zr_ring::proofs::Items::go_on_more))]
+pub fn parcels(alloc: Global, from: u64, count: u64) -> Result<Vec<Parcel<Anything>>, AllocError>
+    requires { from + count < 2 ^ 64 }
+    ensures places { IfOk result (λ v. GoOnFrom from v.items) }
+    ensures count { IfOk result (λ v. length v.items ≡ count) }
+{
+    let mut all = Vec::new(alloc);
+    'each: while (all.len() as u64) < count {
+        let place = from + all.len() as u64;
+        all.push(parcel(alloc, place)?)?;
+    }
+    Ok(all)
+}

@@ -1,5 +1,0 @@
-use Rattle.zr_told.proofs.Few.{few_are_wanted}
-use Rattle.zr_told.proofs.laws.few_are_wanted.Goals as goal
-
-pub returns : goal.returns
-returns c = few_are_wanted

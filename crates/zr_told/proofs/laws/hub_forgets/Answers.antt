@@ -1,5 +1,0 @@
-use Rattle.zr_told.proofs.Hubs.{hub_forgets}
-use Rattle.zr_told.proofs.laws.hub_forgets.Goals as goal
-
-pub returns : goal.returns
-returns c = hub_forgets

@@ -1,5 +1,0 @@
-use Rattle.zr_told.proofs.Hubs.{hub_is_as_wanted}
-use Rattle.zr_told.proofs.laws.hub_is_as_wanted.Goals as goal
-
-pub returns : goal.returns
-returns c = hub_is_as_wanted

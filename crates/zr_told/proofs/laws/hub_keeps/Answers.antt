@@ -1,5 +1,0 @@
-use Rattle.zr_told.proofs.Hubs.{hub_keeps}
-use Rattle.zr_told.proofs.laws.hub_keeps.Goals as goal
-
-pub returns : goal.returns
-returns c = hub_keeps

@@ -1,5 +1,0 @@
-use Rattle.zr_told.proofs.Own.{its_own_is_told}
-use Rattle.zr_told.proofs.laws.its_own_is_told.Goals as goal
-
-pub returns : goal.returns
-returns c = its_own_is_told

@@ -1,5 +1,0 @@
-use Rattle.zr_told.proofs.Hubs.{noted_is_live}
-use Rattle.zr_told.proofs.laws.noted_is_live.Goals as goal
-
-pub returns : goal.returns
-returns c = noted_is_live

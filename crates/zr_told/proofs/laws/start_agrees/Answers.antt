@@ -1,5 +1,0 @@
-use Rattle.zr_told.proofs.Hubs.{start_agrees}
-use Rattle.zr_told.proofs.laws.start_agrees.Goals as goal
-
-pub returns : goal.returns
-returns c = start_agrees

@@ -1,5 +1,0 @@
-use Rattle.zr_told.proofs.Events.{told_is_wanted}
-use Rattle.zr_told.proofs.laws.told_is_wanted.Goals as goal
-
-pub returns : goal.returns
-returns c = told_is_wanted

@@ -1,5 +1,0 @@
-use Rattle.zr_told.proofs.Events.{wanted_is_listed}
-use Rattle.zr_told.proofs.laws.wanted_is_listed.Goals as goal
-
-pub returns : goal.returns
-returns c = wanted_is_listed

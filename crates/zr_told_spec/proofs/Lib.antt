@@ -1,0 +1,12 @@
+pub mod Places
+pub mod Free
+pub mod Agree
+pub mod Wants
+pub mod Sorted
+pub mod Events
+pub mod Touching
+pub mod Itself
+pub mod Own
+pub mod Unheard
+pub mod Hubs
+pub mod Few

@@ -1,0 +1,13 @@
+pub mod Keyed
+pub mod Names
+pub mod Ends
+pub mod Clients
+pub mod Cases
+pub mod Next
+pub mod Links
+pub mod Nodes
+pub mod Fits
+pub mod Telling
+pub mod Sound
+pub mod Counting
+pub mod Lines
