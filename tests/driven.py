@@ -1,4 +1,4 @@
-"""A running router and its clients over real sockets, and what was seen of them. `bench/serve` has the cases."""
+"""A running router and its clients over real sockets, and what was seen of them. `tests/serve` has the cases."""
 import contextlib
 import importlib.machinery
 import importlib.util
@@ -18,6 +18,7 @@ loader.exec_module(pubsub)
 Session, Ended, Reader, Sample, Answer, Told = pubsub.Session, pubsub.Ended, pubsub.Reader, pubsub.Sample, pubsub.Answer, pubsub.Told
 
 MOST_WAIT = 10  # seconds
+MOST_AHEAD = 128  # samples that a publisher is ahead of the slowest subscriber: a ring has twice as many slots
 SILENCE = 0.3  # seconds for which nothing comes
 PROBE = "settle/"  # the keys by which a client learns that its subscription is seen
 SPEAKS_RECORDS = bytes([0x29, 0x01])  # the extension of INIT that a router of this kind sends
@@ -53,9 +54,9 @@ class Router:
 
     program = []
 
-    def __init__(self, ident, *dials, options=()):
+    def __init__(self, ident, *dials, options=(), port=None):
         self.ident = ident
-        self.port = free_port()
+        self.port = port or free_port()
         self.address = ("127.0.0.1", self.port)
         words = ["serve", "--id", ident, "--listen", f"127.0.0.1:{self.port}", *options]
         words += [f"127.0.0.1:{d.port if isinstance(d, Router) else d}" for d in dials]
@@ -203,13 +204,14 @@ def told(session, *messages):
 def program(router, *words):
     """The small client as a program of its own, which is killed at the end."""
     words = [sys.executable, str(PUBSUB), "--router", f"127.0.0.1:{router.port}", *words]
-    process = subprocess.Popen(words, stdout=subprocess.PIPE, text=True)
+    process = subprocess.Popen(words, stdin=subprocess.DEVNULL, stdout=subprocess.PIPE, stderr=subprocess.PIPE, text=True)
     try:
         yield process
     finally:
         process.kill()
         process.wait()
         process.stdout.close()
+        process.stderr.close()
 
 
 def ending(act, what):
@@ -237,6 +239,7 @@ def settle(*clients):
         probe.close()
         client.unsubscribe(subscription)
 
+
 def takes(router, ident):
     try:
         router.client(ident).close()
@@ -263,3 +266,24 @@ def clients_hear_each_other(router):
     must(received(subscriber, 1), [Sample("x", b"y")], "a sample among clients of one router")
     subscriber.close()
     publisher.close()
+
+
+def choose_program(path):
+    """The program that routers are: this one, or the launcher, which proves and builds it first."""
+    if path:
+        Router.program = [path]
+        return
+    launcher = HERE.parent / "zrd"
+    subprocess.run([launcher, "--prove"], check=True)
+    Router.program = [str(launcher)]
+
+
+def judge(name, act):
+    began = time.monotonic()
+    try:
+        act()
+    except (Wrong, Ended, OSError, subprocess.TimeoutExpired) as e:
+        print(f"FAIL {name}: {e}", flush=True)
+        return False
+    print(f"ok {name} ({time.monotonic() - began:.1f} s)", flush=True)
+    return True
