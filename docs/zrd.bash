@@ -1,22 +1,24 @@
-# Completion of the words of `zrd` for bash: source this file. Each word is offered at the place where it is taken.
+# Completion of the words of `zrd` for bash: source this file. An option is offered behind its command until it stands there, and none where its value is wanted.
 
 _zrd() {
     # words are counted by spaces, since bash parts an address at its colon
-    local line=${COMP_LINE:0:COMP_POINT} before words
+    local line=${COMP_LINE:0:COMP_POINT} before words word
     read -ra before <<<"${line% *}"
-    case ${before[1]-},${#before[@]} in
-    ,1) words='net serve make --help --version' ;;
-    net,2) words='--summary --explain --help' ;;
-    net,3) words='--summary --explain' ;;
-    serve,2) words='--id --help' ;;
-    serve,4) words='--listen' ;;
-    serve,6) words='--log' ;;
-    make,2) words='--number --help' ;;
-    make,4) words='--routers' ;;
-    make,6) words='--clients' ;;
-    make,8) words='--messages' ;;
+    case ${before[1]-} in
+    '') words=' net serve make help --help --version ' ;;
+    net) words=' --summary --explain --help ' ;;
+    serve) words=' --id --listen --log --help ' ;;
+    make) words=' --number --routers --clients --messages --help ' ;;
+    help) words=' net serve make ' ;;
     *) words= ;;
     esac
+    case ${before[-1]-} in
+    --id | --listen | --number | --routers | --clients | --messages) words= ;;
+    esac
+    for word in "${before[@]:2}"; do
+        words=${words/ ${word%%=*} / }
+        if [[ $word == -- ]]; then words=; fi
+    done
     mapfile -t COMPREPLY < <(compgen -W "$words" -- "${line##* }")
 }
 

@@ -5,3 +5,4 @@ pub mod Ended
 pub mod Replayed
 pub mod Words
 pub mod Failures
+pub mod Runs

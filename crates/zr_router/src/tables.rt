@@ -22,6 +22,7 @@ ghost use Rattle.zr_router.specs.Failures.{HasFailed};
 ghost use Rattle.zr_router.specs.Handled.{IsHandled};
 ghost use Rattle.zr_router.specs.Ended.{HasEnded};
 ghost use Rattle.zr_router.specs.Replayed.{IsReplay-prop};
+ghost use Rattle.zr_router.specs.Runs.{RunsUpTo};
 ghost use Rattle.zr_router.specs.Refusals.{RefusesDown, RefusesMessage, RefusesUp, is_worn, most_sessions};
 
 use crate::admit::{MOST_SESSIONS, refuses_down, refuses_message, refuses_peer};
@@ -44,6 +45,10 @@ use zr_router_queue::{LinkSender, Queued, enter, prepare};
 
 /// How many entries a history has at most.
 const MOST_ENTRIES: u64 = u64::MAX;
+
+/// For how long at most who reads from another router rests for all that one read gave, in milliseconds: that router closes a link on which it can't
+/// write for ten seconds, and many clients are behind it.
+const MOST_ROUTER_REST_MS: u64 = 100;
 
 /// How many messages are delivered at most while the tables are locked once.
 const MOST_HELD: u32 = 64;
@@ -204,11 +209,18 @@ impl<B: Naming> Tables<B> {
         requires counted { into_iter_len messages.old ≡ length (into_iter_items messages.old) }
         requires some { 0 < into_iter_len messages.old }
         ensures same { IsSamePass pass.old pass.new }
+        ensures prefix { IsPrefix (seen pass.old) (entries self.old) }
+        ensures seen { seen pass.new ≡ entries self.new }
         ensures legal { is_legal B.me (seen pass.new) ≡ true }
+        ensures own { (own : List Entry) × (entries self.new ≡ entries self.old ++ own) × (mine pass.new ≡ mine pass.old ++ own) }
+        ensures run { OnOk result (RunsUpTo B.me link (into_iter_items messages.old) (into_iter_items messages.new) (entries self.old) (open_links self.old) (entries self.new) (open_links self.new)) }
+        ensures run_so_far { IfErr result (λ r. r ≢ DeliverError.NoMemory → (msg : Msg) × RunsUpTo B.me link (into_iter_items messages.old) (msg ∷ into_iter_items messages.new) (entries self.old) (open_links self.old) (entries self.new) (open_links self.new)) }
         ensures delivered { OnOk result (DeliversUpTo (λ h m e. RefusesMessage B.me h link m e) link (into_iter_items messages.old) (into_iter_items messages.new) pass.old pass.new) }
         ensures left { OnOk result (AllByRecursion IsSpelled (into_iter_items messages.new) × (into_iter_len messages.new ≡ length (into_iter_items messages.new))) }
         ensures fewer { OnOk result (into_iter_len messages.new < into_iter_len messages.old) }
         ensures stopped { IfErr result (λ e. (rest : List Msg) × DeliversUpTo (λ h m x. RefusesMessage B.me h link m x) link (into_iter_items messages.old) rest pass.old pass.new × StopsAt (λ m x. RefusesMessage B.me (seen pass.new) link m x) rest e) }
+        ensures spent { (result ≡ Err DeliverError.NoMemory) ↔ (is_spent self.new ≡ true) }
+        ensures stays { is_spent self.old ≡ true → is_spent self.new ≡ true }
     {
         for _ in 0..MOST_HELD {
             let Some(msg) = messages.next() else {
@@ -484,11 +496,11 @@ impl<B: Naming> Tables<B> {
 }
 
 // For how long at most who reads from a link to a peer of that role rests for all that one read gave, in milliseconds. A client waits as long as its
-// messages ask for, and nobody else does. What another router sends is of many clients, and it closes a link on which it can't write for ten seconds.
+// messages ask for, and nobody else does.
 fn most_rest_ms(role: Role) -> u64 {
     match role {
         Role::Client => u64::MAX,
-        Role::Router => 100,
+        Role::Router => MOST_ROUTER_REST_MS,
     }
 }
 

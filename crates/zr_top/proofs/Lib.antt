@@ -1,4 +1,2 @@
 pub mod Cases
-pub mod Digits
-pub mod Forms
-pub mod Nine
+pub mod Branches

@@ -1,6 +1,5 @@
--- What the words `serve ..` ask for, and what is said of the router that is served.
-use Rattle.std.specs.Prelude.{◌≡◌, ℕ, List, map, Option, Some, None}
-use Rattle.std.specs.String.{string_bytes}
+-- What is said of the router that the words `serve ..` ask for.
+use Rattle.std.specs.Prelude.{◌≡◌, ℕ, List, Option}
 use Rattle.zr_link_job.specs.declared.job.LinkJob.{LinkJob}
 use Rattle.zr_netrun.specs.declared.status.Status.{Status}
 use Rattle.zr_netrun.specs.declared.status.Status.TheVariants as status
@@ -8,12 +7,7 @@ use Rattle.zr_outside.specs.declared.host.Call.{Call}
 use Rattle.zr_serve.specs.declared.end.ServeEnd.{ServeEnd}
 use Rattle.zr_serve.specs.declared.end.ServeEnd.TheVariants as end
 use Rattle.zr_serve.specs.Serving.{Outputs, IsServed}
-use Rattle.zr_serve.specs.declared.plan.ServePlan.{ServePlan}
-use Rattle.zr_top.specs.Words.{Served}
-
-abbrev pub served_by : Option ServePlan → Option Served
-served_by None = None
-served_by (Some plan) = Some (record { id = plan.id; listen = string_bytes plan.listen; log = plan.log; dials = map string_bytes plan.dials.items })
+use Rattle.zr_top_words.specs.Asked.{Served}
 
 abbrev pub status_of : ServeEnd → Status
 status_of end.Done = status.Done

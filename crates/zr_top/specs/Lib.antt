@@ -1,5 +1,4 @@
 pub mod Words
 pub mod Asked
 pub mod Means
-pub mod Help
 pub mod Told

@@ -4,6 +4,7 @@ use Rattle.zr_netrun.specs.declared.status.Status.{Status}
 use Rattle.zr_netrun.specs.declared.status.Status.TheVariants.{Done, Refused, Words, NoMemory, ReadFault, WriteFault, HostFault}
 use Rattle.zr_outside.specs.Counts.{Rose}
 use Rattle.zr_outside.specs.Told.{Appends, AppendsPrefix}
+use Rattle.zr_script_spec.specs.Report.{usage_text}
 
 -- A text was written: all of it, or a prefix where memory ran out or a write failed. It ends in no other way.
 abbrev pub IsWritten : Status → List ℕ → Option (List ℕ) → Option (List ℕ) → ℕ → ℕ → Type 0
@@ -18,6 +19,14 @@ IsWritten HostFault text out out' faults faults' = ⊥
 -- a text was written whole, or a prefix of it and a write has failed
 abbrev pub Says : List ℕ → Option (List ℕ) → Option (List ℕ) → ℕ → ℕ → Type 0
 Says text err err' faults faults' = Appends text err err' ⊎ (AppendsPrefix text err err' × Rose faults faults')
+
+-- some text was written, as above: `clap` makes it
+abbrev pub IsTold : Status → Option (List ℕ) → Option (List ℕ) → ℕ → ℕ → Type 0
+IsTold status out out' faults faults' = (text : List ℕ) × IsWritten status text out out' faults faults'
+
+-- the usage line was written, or a prefix of it and a write has failed
+abbrev pub TellsUsage : Option (List ℕ) → Option (List ℕ) → ℕ → ℕ → Type 0
+TellsUsage err err' faults faults' = Says usage_text err err' faults faults'
 
 -- what is said where the program could not do its work, and nothing where it has or where `run` has told why
 abbrev pub trouble_text : Status → List ℕ

@@ -1,6 +1,6 @@
 //! What `main` does between the system and `run`: the program's words are collected, what went wrong is told, and the status becomes the process's.
 
-ghost use Rattle.std.specs.Prelude.{◌≡◌, IfOk, length, drop};
+ghost use Rattle.std.specs.Prelude.{◌≡◌, ◌≤◌, IfOk, drop};
 ghost use Rattle.std.specs.Iterator.{IsFinite};
 ghost use Rattle.std.specs.Iterator.Runs.{WholeRun};
 ghost use Rattle.std.specs.Process.{exit_status};
@@ -11,6 +11,7 @@ use std::alloc::{AllocError, Global};
 use std::process::ExitCode;
 use zr_netrun::status::Status;
 use zr_outside::sink::{Sink, write_all};
+use zr_top_words::wrong::what_is_wrong;
 
 /// All words that come, in order.
 pub fn collect_words<I: Iterator<Item = String>>(
@@ -29,6 +30,18 @@ pub fn without_name(words: &[String]) -> &[String]
     ensures { result.now ≡ drop 1 words.now }
 {
     words.get(1..).unwrap_or(&[])
+}
+
+/// Tells behind the usage line what is wrong with the words, a line for each fault: they stand with the program's name, and where there are none one was
+/// not UTF-8. Where memory runs out nothing more is told.
+pub fn explain_words<E: Sink>(alloc: Global, words: &[String], err: &mut E)
+    ensures { E.faults err.old ≤ E.faults err.new }
+{
+    if words.is_empty() {
+        let _ = write_all(err, b"a word is not UTF-8\n");
+    } else if let Ok(told) = what_is_wrong(alloc, without_name(words)) {
+        let _ = write_all(err, told.as_bytes());
+    }
 }
 
 /// Tells what went wrong, if anything did, and ends the process with the number of the status: nobody is left without a word.

@@ -2,15 +2,12 @@
 //! What it promises stands at `run`.
 #![tactic(auto)]
 
-mod beside;
-mod command_line;
+mod answer;
+mod asked;
 mod edge;
-mod number;
-mod other;
 mod run;
-mod topic;
 
-use crate::edge::{collect_words, end, without_name};
+use crate::edge::{collect_words, end, explain_words, without_name};
 use crate::run::run;
 use std::alloc::AllocError;
 use std::process::ExitCode;
@@ -44,10 +41,13 @@ fn main(rt: HostRuntime) -> ExitCode {
         &mut host,
         &mut crew,
     );
+    if status == Status::Words {
+        explain_words(alloc, &words, &mut err);
+    }
     end(status, &mut err)
 }
 
-// The program's words, its name the first of them. One that is not UTF-8 is none that the program takes: then there are none.
+// The program's words, its name the first of them. One that is not UTF-8 is none that the program takes: then there are none, not even the name.
 fn words(rt: &HostRuntime) -> Result<Vec<String>, AllocError> {
     match env::args(rt) {
         Ok(words) => collect_words(rt.alloc(), words),

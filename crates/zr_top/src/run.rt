@@ -1,6 +1,6 @@
 //! `run`: the whole program over the sources and sinks that it is given.
 
-ghost use Rattle.std.specs.Prelude.{◌≡◌, ◌≤◌, ◌⊎◌, ◌↔◌, true, false, is_some, map, Some, IfSome, IsTrue};
+ghost use Rattle.std.specs.Prelude.{◌≡◌, ◌≤◌, ◌⊎◌, true, false, is_some, map, Some, IfSome, IsTrue};
 ghost use Rattle.std.specs.String.{string_bytes};
 ghost use Rattle.zr_outside.specs.Counts.{Rose};
 ghost use Rattle.zr_outside.specs.Piece.{IsReadToEnd};
@@ -20,12 +20,13 @@ ghost use Rattle.zr_outside_crew.specs.Crew.{crew_faults, crew_told};
 ghost use Rattle.zr_serve.specs.Serving.{outputs};
 ghost use Rattle.zr_top.specs.Asked.{IsServing};
 ghost use Rattle.zr_make.specs.Script.{script, text_of};
-ghost use Rattle.zr_top.specs.Help.{help_text};
-ghost use Rattle.zr_top.specs.Told.{IsWritten};
-ghost use Rattle.zr_top.specs.Words.{is_net, net_of, is_taken, made_of, served_of, topic_of, TellsUsage};
+ghost use Rattle.zr_top.specs.Told.{IsTold, IsWritten, TellsUsage};
+ghost use Rattle.zr_top.specs.Words.{is_net, options_by};
+ghost use Rattle.zr_top_words.specs.Asked.{made_of, net_of, served_of};
+ghost use Rattle.zr_top_words.specs.Forms.{FormsAreTaken};
+ghost use Rattle.zr_top_words.specs.Read.{may_answer, IsRefused, IsWrong};
 
-use crate::beside::run_beside_net;
-use crate::command_line::net_of;
+use crate::asked::run_asked;
 use std::alloc::Global;
 use std::sync::Wait;
 use std::thread::Threads;
@@ -42,20 +43,23 @@ use zr_law_samples::runs::rest_is_quiet;
 use zr_law_settled::{settled_logs_agree, settled_tables_agree};
 use zr_law_told::lines_tell_clients;
 use zr_link_job::LinkJob;
-use zr_netrun::netrun::run_script;
 use zr_netrun::status::Status;
 use zr_outside::host::Host;
 use zr_outside::sink::Sink;
 use zr_outside::source::Source;
 use zr_outside_crew::Crew;
+use zr_top_words::forms::forms_are_taken;
 
-/// The whole program. Its words, without its name, ask for one of four things. `net` reads a script from `input`, and writes the report to `out`;
-/// `net --summary` writes, at the script's end, four counts of the report in its place. With `--explain` beside these words `err` has the explanation
+/// The whole program. Its words, without its name, are read by `clap`, and ask for one of four things. `net` reads a script from `input`, and writes the
+/// report to `out`; with `--summary` it writes, at the script's end, four counts of the report in its place. With `--explain` `err` has the explanation
 /// of a refused line behind the line that tells its refusal, and all else is the same.
 /// `serve --id ID --listen ADDRESS [--log] [DIAL]...` runs a router of that identifier, which listens at the address and dials each of the others once,
-/// until the host gives no more links: the crew starts the reader of each link, with a log where the words say so. No address begins with a hyphen.
-/// `make --number N --routers R --clients C --messages M` writes a script that is made from the number. `--help`, a command with `--help`, and
-/// `--version` are told to `out`. With other words, or a value out of range, the status is `Words`, and `err` has the usage line.
+/// until the host gives no more links: the crew starts the reader of each link, with a log where the words say so.
+/// `make --number N --routers R --clients C --messages M` writes a script that is made from the number. Help and the version are told to `out`.
+///
+/// The status is `Words` only where the words are none that `clap` promises to take, and it refuses them for another cause than memory, or where a value is
+/// out of range; and there it is `Words` or, where memory ran out, `NoMemory` (`words`). So `err` has the usage line (`usage`). Words in a form of that line,
+/// with values in range, are taken for what they say (`forms`).
 ///
 /// The clause `headline` says what clients were sent, and `told` that the report, of which `report` speaks, tells just this: the accepted
 /// acts of the lines that were read lead to the moment that the report tells. Beside them stands what the headline's words mean: the keys
@@ -74,10 +78,10 @@ use zr_outside_crew::Crew;
 /// it is free, or asked, or kept with some replies on their way back, or ended with the final behind them; and each reply and each final that a client was sent
 /// is that of its query of that turn (`answers`).
 ///
-/// The clause `served` says what was called of the host, which jobs the crew started, and what was written, where a router was served. The clauses
-/// `made` and `helped` say which text was written, where a script was made or something was told: all of it at `Done`, and else a prefix.
+/// The clause `served` says what was called of the host, which jobs the crew started, and what was written, where a router was served. The clause
+/// `made` says which text was written, where a script was made: all of it at `Done`, and else a prefix. Where `clap` may answer with help or the version,
+/// that is told whole, or else in part, or the words are wrong (`helped`).
 /// With all other words than those of `serve` the host and the crew are as they were (`unserved`), and with all other words than those of `net` the input is (`unread`).
-#[tactic(auto, using(crate::proofs::Cases::of_some, crate::proofs::Forms::none_of, crate::proofs::Forms::net_not_served, crate::proofs::Forms::net_not_made, crate::proofs::Forms::net_not_told, crate::proofs::Forms::net_is_taken, crate::proofs::Forms::others_are_taken))]
 pub fn run<
     S: Source,
     K: Sink,
@@ -99,7 +103,7 @@ where
     H::Out: 'static,
     H::Time: 'static,
     H::Log: 'static,
-    ensures report { IfSome (net_of (map string_bytes words.now)) (λ options. WritesAsAsked options (S.left input.old) (S.left input.new) (IsReadToEnd (S.ends input.old) (S.ends input.new) (S.quiets input.old) (S.quiets input.new)) result (K.held out.old) (K.held out.new) (E.held err.old) (E.held err.new)) }
+    ensures report { IfSome (net_of (map string_bytes words.now)) (λ plan. WritesAsAsked (options_by plan) (S.left input.old) (S.left input.new) (IsReadToEnd (S.ends input.old) (S.ends input.new) (S.quiets input.old) (S.quiets input.new)) result (K.held out.old) (K.held out.new) (E.held err.old) (E.held err.new)) }
     ensures headline { is_net (map string_bytes words.now) ≡ true → OfLines (S.left input.old) (S.left input.new) IsRefined }
     ensures interests { is_net (map string_bytes words.now) ≡ true → OfLines (S.left input.old) (S.left input.new) TellsClients }
     ensures told { is_net (map string_bytes words.now) ≡ true → OfLines (S.left input.old) (S.left input.new) LeadToTheirReport }
@@ -121,13 +125,14 @@ where
     ensures unread { is_net (map string_bytes words.now) ≡ false → input.new ≡ input.old }
     ensures whole { is_net (map string_bytes words.now) ≡ true → result ≡ Status.Done → IsReadToEnd (S.ends input.old) (S.ends input.new) (S.quiets input.old) (S.quiets input.new) }
     ensures made { IfSome (made_of (map string_bytes words.now)) (λ plan. IsWritten result (text_of (script plan)) (K.held out.old) (K.held out.new) (K.faults out.old) (K.faults out.new) × (E.held err.new ≡ E.held err.old) × (S.left input.new ≡ S.left input.old)) }
-    ensures helped { IfSome (topic_of (map string_bytes words.now)) (λ topic. IsWritten result (help_text topic) (K.held out.old) (K.held out.new) (K.faults out.old) (K.faults out.new) × (E.held err.new ≡ E.held err.old) × (S.left input.new ≡ S.left input.old) × (result ≡ Status.NoMemory → ⊥)) }
+    ensures helped { may_answer (map string_bytes words.now) ≡ true → (result ≡ Status.Words) ⊎ (IsTold result (K.held out.old) (K.held out.new) (K.faults out.old) (K.faults out.new) × (E.held err.new ≡ E.held err.old) × (S.left input.new ≡ S.left input.old)) }
     ensures ended { is_some (served_of (map string_bytes words.now)) ≡ true → result ≡ Status.Done → Rose (H.ends host.old) (H.ends host.new) }
     ensures host { result ≡ Status.HostFault → Rose (H.faults host.old) (H.faults host.new) }
     ensures refused { result ≡ Status.Refused → is_net (map string_bytes words.now) ≡ true }
     ensures read { result ≡ Status.ReadFault → Rose (S.faults input.old) (S.faults input.new) }
     ensures write { result ≡ Status.WriteFault → Rose (K.faults out.old) (K.faults out.new) ⊎ Rose (E.faults err.old) (E.faults err.new) }
-    ensures words { (result ≡ Status.Words) ↔ (is_taken (map string_bytes words.now) ≡ false) }
+    ensures words { (result ≡ Status.Words → IsWrong (map string_bytes words.now)) × (IsRefused (map string_bytes words.now) → (result ≡ Status.Words) ⊎ (result ≡ Status.NoMemory)) }
+    ensures forms { FormsAreTaken }
     ensures input_later { S.faults input.old ≤ S.faults input.new }
     ensures out_later { K.faults out.old ≤ K.faults out.new }
     ensures err_later { E.faults err.old ≤ E.faults err.new }
@@ -150,8 +155,6 @@ where
     lines_are_moments();
     keys_are_texts();
     settled_tables_agree();
-    match net_of(words) {
-        Some(options) => run_script(alloc, options, input, out, err),
-        None => run_beside_net(rt, alloc, words, out, err, host, crew),
-    }
+    forms_are_taken();
+    run_asked(rt, alloc, words, input, out, err, host, crew)
 }

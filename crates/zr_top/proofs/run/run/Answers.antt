@@ -3,5 +3,5 @@ use Rattle.zr_netrun.proofs.Telling.{of_read}
 use Rattle.zr_top.proofs.run.run.Goals as goal
 
 -- the lines that count lead to a moment, whichever they are
-pub returns-in-Some-clause-told : goal.returns-in-Some-clause-told
-returns-in-Some-clause-told g c is_net = of_read _ _ _ _ (c.run_script.ensures.writes.read) (λ read p to_end. (c.lines_are_moments.ensures (judged_lines to_end read)).1)
+pub returns-clause-told : goal.returns-clause-told
+returns-clause-told g c is_net = of_read _ _ _ _ (c.run_asked.ensures.read_part is_net) (λ read p to_end. (c.lines_are_moments.ensures (judged_lines to_end read)).1)

@@ -1,0 +1,306 @@
+-- Words in the forms of the usage line are taken for what they say.
+use Rattle.std.proofs.Common.{◌≡◌, ◌∙◌, ◌&&◌, ◌^◌, ℕ, Bool, cond, not, true, false, refl, sym, ap, List, [], ◌∷◌, ◌++◌, Option, Some, None, true≢false, append_assoc, arith}
+use Rattle.std.specs.Prelude.{◌==◌, codes, length, nat_le, option_and_then}
+use Rattle.std.proofs.lemmas.Bool.Decides.{nat_tests}
+use Rattle.std.specs.List.{list_all}
+use Rattle.std.specs.Option.{option_map}
+use Rattle.hex.specs.Hex.{decode_of}
+use Rattle.clap.proofs.OnLiterals.{clap_on_literals}
+use Rattle.clap.specs.declared.builder.value_parser.Reading.TheVariants.{AsWritten}
+use Rattle.clap.specs.declared.parser.matches.ValueSource.TheVariants.{CommandLine}
+use Rattle.clap.specs.Walk.{Held, Row, Text, Walk, finished, idle, nothing_held, option, positional, walk_from, walked}
+use Rattle.clap.specs.Simple.{Shape, built_leaf, inherited, marked_built, with_leaf_noted}
+use Rattle.clap.specs.Faults.{turn_fault}
+use Rattle.zr_make.specs.declared.plan.MakePlan.{MakePlan}
+use Rattle.zr_id.specs.Zid.{is_lower_hex, valid_zid, zid_of_hex}
+use Rattle.zr_script_spec.specs.Words.{is_digit, is_number}
+use Rattle.zr_top_words.specs.App.{app, make, serve, top}
+use Rattle.zr_top_words.specs.Asked.{asked_by, asked_of, faults, found, make as asks_make, plan_in_range, serve as asks_serve, served_at, number_below}
+use Rattle.zr_top_words.specs.Forms.{is_plain, FormsAreTaken, MakeIsTaken, NetIsTaken, ServeIsTaken}
+use Rattle.zr_top_words.proofs.Steps.{Goes, between, fault_behind, goes_on, idle_fault, idle_walked, more_fault, more_walked, stays, value_passes, value_walked}
+use Rattle.zr_top_words.proofs.Entering.{Enters, asked_is}
+
+-- ---- `net`
+
+net_taken : NetIsTaken
+unfolding clap_on_literals app faults found asked_of
+net_taken = (refl, refl)
+
+-- ---- words that are no options
+
+both_hold : (a b : Bool) → (a && b) ≡ true → (a ≡ true) × (b ≡ true)
+both_hold true b h = (refl, h)
+both_hold false b h = absurd (true≢false (sym h))
+
+chosen : {A : Type 0} (b : Bool) (x : Option A) (y : A) → cond b x None ≡ Some y → b ≡ true
+chosen true x y h = refl
+chosen false x y h = absurd (cc)
+
+digit_plain : (b : ℕ) → is_digit b ≡ true → not (b == 45) ≡ true
+digit_plain b h = grind (arith, nat_tests)
+
+number_plain : (word : Text) → is_number word ≡ true → is_plain word ≡ true
+number_plain [] h = refl
+number_plain (d ∷ []) h = digit_plain d h
+number_plain (d ∷ e ∷ more) h =
+    let digits = both_hold (not (d == 48)) (list_all is_digit (d ∷ e ∷ more)) h in
+    digit_plain d (both_hold (is_digit d) (list_all is_digit (e ∷ more)) digits.1).0
+
+below_plain : (limit : ℕ) (word : Text) (n : ℕ) → number_below limit word ≡ Some n → is_plain word ≡ true
+below_plain limit word n h = number_plain word (chosen (is_number word) _ n h)
+
+hex_plain : (b : ℕ) → is_lower_hex b ≡ true → not (b == 45) ≡ true
+hex_plain b h = grind (arith, nat_tests)
+
+all_hex_plain : (word : Text) → list_all is_lower_hex word ≡ true → is_plain word ≡ true
+all_hex_plain [] h = refl
+all_hex_plain (c ∷ cs) h = hex_plain c (both_hold (is_lower_hex c) (list_all is_lower_hex cs) h).0
+
+zid_plain : (word zid : Text) → zid_of_hex word ≡ Some zid → is_plain word ≡ true
+zid_plain word zid h =
+    all_hex_plain word (both_hold (nat_le (length word) 32) (list_all is_lower_hex word) (chosen _ (valid_zid (decode_of word)) zid h)).1
+
+-- ---- options with values
+
+-- a command as it is built
+abbrev as_built : Shape → Shape
+as_built s = built_leaf (inherited (with_leaf_noted (marked_built top)) s)
+
+-- what was found of an option that stands among the words
+abbrev given : Text → List Text → Row
+given id values = record { id = id; values = values; count = None; source = Some CommandLine; reading = AsWritten }
+
+-- these were found, and a use with these values is not done yet
+abbrev holding : List Row → Text → List Text → Held
+holding rows id values = record { rows = rows; pending = Some (id, values); skip = 0 }
+
+-- an option is named, and its value follows
+valued : (s : Shape) (h : Held) (rows : List Row) (word id value : Text) (rest : List Text) (end : Walk)
+    → walked s.rules [] (between h idle) word ≡ between (holding rows id []) (option id) → turn_fault s [] (between h idle) word ≡ []
+    → walked s.rules [] (between (holding rows id []) (option id)) value ≡ between (holding rows id (value ∷ [])) idle → is_plain value ≡ true
+    → Goes s (between (holding rows id (value ∷ [])) idle) rest end → Goes s (between h idle) (word ∷ value ∷ rest) end
+valued s h rows word id value rest end named fine read plain go =
+    goes_on s _ _ word _ end named fine (goes_on s _ _ value rest end read (value_passes s (holding rows id []) id value plain) go)
+
+-- ---- `make`
+
+abbrev make_built : Shape
+make_built = as_built make
+
+module _ (n r c m : Text) (pn : is_plain n ≡ true) (pr : is_plain r ≡ true) (pc : is_plain c ≡ true) (pm : is_plain m ≡ true) where
+  abbrev n_found : List Row
+  n_found = given (codes "number") (n ∷ []) ∷ []
+
+  abbrev r_found : List Row
+  r_found = given (codes "number") (n ∷ []) ∷ given (codes "routers") (r ∷ []) ∷ []
+
+  abbrev c_found : List Row
+  c_found = given (codes "number") (n ∷ []) ∷ given (codes "routers") (r ∷ []) ∷ given (codes "clients") (c ∷ []) ∷ []
+
+  abbrev make_end : Walk
+  make_end = between (holding c_found (codes "messages") (m ∷ [])) idle
+
+  n_named : walked make_built.rules [] (between nothing_held idle) (codes "--number") ≡ between (holding [] (codes "number") []) (option (codes "number"))
+  unfolding clap_on_literals
+  n_named = refl
+
+  n_fine : turn_fault make_built [] (between nothing_held idle) (codes "--number") ≡ []
+  unfolding clap_on_literals
+  n_fine = refl
+
+  r_named : walked make_built.rules [] (between (holding [] (codes "number") (n ∷ [])) idle) (codes "--routers")
+      ≡ between (holding n_found (codes "routers") []) (option (codes "routers"))
+  unfolding clap_on_literals
+  r_named = refl
+
+  r_fine : turn_fault make_built [] (between (holding [] (codes "number") (n ∷ [])) idle) (codes "--routers") ≡ []
+  unfolding clap_on_literals
+  r_fine = refl
+
+  c_named : walked make_built.rules [] (between (holding n_found (codes "routers") (r ∷ [])) idle) (codes "--clients")
+      ≡ between (holding r_found (codes "clients") []) (option (codes "clients"))
+  unfolding clap_on_literals
+  c_named = refl
+
+  c_fine : turn_fault make_built [] (between (holding n_found (codes "routers") (r ∷ [])) idle) (codes "--clients") ≡ []
+  unfolding clap_on_literals
+  c_fine = refl
+
+  m_named : walked make_built.rules [] (between (holding r_found (codes "clients") (c ∷ [])) idle) (codes "--messages")
+      ≡ between (holding c_found (codes "messages") []) (option (codes "messages"))
+  unfolding clap_on_literals
+  m_named = refl
+
+  m_fine : turn_fault make_built [] (between (holding r_found (codes "clients") (c ∷ [])) idle) (codes "--messages") ≡ []
+  unfolding clap_on_literals
+  m_fine = refl
+
+  make_goes : Goes make_built (walk_from nothing_held)
+      (codes "--number" ∷ n ∷ codes "--routers" ∷ r ∷ codes "--clients" ∷ c ∷ codes "--messages" ∷ m ∷ []) make_end
+  make_goes =
+      valued make_built _ [] _ (codes "number") n _ make_end n_named n_fine (value_walked make_built (holding [] (codes "number") []) (codes "number") n pn) pn
+      (valued make_built _ n_found _ (codes "routers") r _ make_end r_named r_fine (value_walked make_built (holding n_found (codes "routers") []) (codes "routers") r pr) pr
+      (valued make_built _ r_found _ (codes "clients") c _ make_end c_named c_fine (value_walked make_built (holding r_found (codes "clients") []) (codes "clients") c pc) pc
+      (valued make_built _ c_found _ (codes "messages") m _ make_end m_named m_fine (value_walked make_built (holding c_found (codes "messages") []) (codes "messages") m pm) pm
+      (stays make_built make_end))))
+
+  make_fine : fault_behind make_built make_end ≡ []
+  unfolding clap_on_literals
+  make_fine = refl
+
+make_enters : Enters (codes "make") (codes "make") make_built
+unfolding clap_on_literals app
+make_enters = record { halts = refl; passes = refl; names_it = refl }
+
+-- the plan of four numbers
+abbrev made : Option ℕ → Option ℕ → Option ℕ → Option ℕ → Option MakePlan
+made n r c m = option_and_then (λ w. option_and_then (λ x. option_and_then (λ y. option_and_then (λ z. plan_in_range w x y z) m) c) r) n
+
+make_taken : MakeIsTaken
+make_taken nw rw cw mw n r c m hn hr hc hm range =
+    let pn = below_plain (2 ^ 64) nw n hn in
+    let pr = below_plain (2 ^ 32) rw r hr in
+    let pc = below_plain (2 ^ 32) cw c hc in
+    let pm = below_plain (2 ^ 32) mw m hm in
+    let plan : MakePlan = record { number = n; routers = r; clients = c; messages = m } in
+    asked_is (codes "make") (codes "make") make_built _ make_enters _ (make_goes nw rw cw mw pn pr pc pm) (make_fine nw rw cw mw pn pr pc pm)
+    ∙ ap (λ (x : Option MakePlan). option_map asks_make x)
+    (ap (λ (x : Option ℕ). made x (number_below (2 ^ 32) rw) (number_below (2 ^ 32) cw) (number_below (2 ^ 32) mw)) hn
+    ∙ ap (λ (x : Option ℕ). made (Some n) x (number_below (2 ^ 32) cw) (number_below (2 ^ 32) mw)) hr
+    ∙ ap (λ (x : Option ℕ). made (Some n) (Some r) x (number_below (2 ^ 32) mw)) hc
+    ∙ ap (λ (x : Option ℕ). made (Some n) (Some r) (Some c) x) hm
+    ∙ ap (λ (b : Bool). cond b (Some plan) None) range)
+
+-- ---- `serve`
+
+abbrev serve_built : Shape
+serve_built = as_built serve
+
+serve_enters : Enters (codes "serve") (codes "serve") serve_built
+unfolding clap_on_literals app
+serve_enters = record { halts = refl; passes = refl; names_it = refl }
+
+-- what was found of the words that are no options
+abbrev dialled : List Text → List Row
+dialled [] = []
+dialled (v ∷ vs) = given (codes "dial") (v ∷ vs) ∷ []
+
+module _ (id listen : Text) (pid : is_plain id ≡ true) (plisten : is_plain listen ≡ true) where
+  abbrev id_found : List Row
+  id_found = given (codes "id") (id ∷ []) ∷ []
+
+  abbrev both_found : List Text → List Row
+  both_found vs = given (codes "id") (id ∷ []) ∷ given (codes "listen") (listen ∷ []) ∷ dialled vs
+
+  -- the walk behind the address
+  abbrev listening : Walk
+  listening = between (holding id_found (codes "listen") (listen ∷ [])) idle
+
+  -- the walk behind some addresses to dial, of which the last is not noted yet
+  abbrev dialling : List Text → Text → Walk
+  dialling vs last = between (holding (both_found vs) (codes "dial") (last ∷ [])) positional
+
+  id_named : walked serve_built.rules [] (between nothing_held idle) (codes "--id") ≡ between (holding [] (codes "id") []) (option (codes "id"))
+  unfolding clap_on_literals
+  id_named = refl
+
+  id_fine : turn_fault serve_built [] (between nothing_held idle) (codes "--id") ≡ []
+  unfolding clap_on_literals
+  id_fine = refl
+
+  listen_named : walked serve_built.rules [] (between (holding [] (codes "id") (id ∷ [])) idle) (codes "--listen")
+      ≡ between (holding id_found (codes "listen") []) (option (codes "listen"))
+  unfolding clap_on_literals
+  listen_named = refl
+
+  listen_fine : turn_fault serve_built [] (between (holding [] (codes "id") (id ∷ [])) idle) (codes "--listen") ≡ []
+  unfolding clap_on_literals
+  listen_fine = refl
+
+  starts : (rest : List Text) (end : Walk) → Goes serve_built listening rest end
+      → Goes serve_built (walk_from nothing_held) (codes "--id" ∷ id ∷ codes "--listen" ∷ listen ∷ rest) end
+  starts rest end go =
+      valued serve_built _ [] _ (codes "id") id _ end id_named id_fine (value_walked serve_built (holding [] (codes "id") []) (codes "id") id pid) pid
+      (valued serve_built _ id_found _ (codes "listen") listen _ end listen_named listen_fine
+      (value_walked serve_built (holding id_found (codes "listen") []) (codes "listen") listen plisten) plisten go)
+
+  -- one address more
+  notes : (vs : List Text) (last word : Text) → is_plain word ≡ true → walked serve_built.rules [] (dialling vs last) word ≡ dialling (vs ++ last ∷ []) word
+  notes [] last word p = more_walked serve_built (holding (both_found []) (codes "dial") (last ∷ [])) word p
+  notes (v ∷ vs) last word p = more_walked serve_built (holding (both_found (v ∷ vs)) (codes "dial") (last ∷ [])) word p
+
+  notes_fine : (vs : List Text) (last word : Text) → is_plain word ≡ true → turn_fault serve_built [] (dialling vs last) word ≡ []
+  notes_fine [] last word p = more_fault serve_built (holding (both_found []) (codes "dial") (last ∷ [])) word p
+  notes_fine (v ∷ vs) last word p = more_fault serve_built (holding (both_found (v ∷ vs)) (codes "dial") (last ∷ [])) word p
+
+  -- all addresses: of those noted and the last one, and those behind them, the last is not noted in the end
+  record Dials (vs : List Text) (last : Text) (rest : List Text) : Type 0 where
+    noted : List Text
+    final : Text
+    all : noted ++ final ∷ [] ≡ vs ++ last ∷ rest
+    goes : Goes serve_built (dialling vs last) rest (dialling noted final)
+
+  dials : (vs : List Text) (last : Text) (rest : List Text) → list_all is_plain rest ≡ true → Dials vs last rest
+  dials vs last [] p = record { noted = vs; final = last; all = refl; goes = stays serve_built (dialling vs last) }
+  dials vs last (word ∷ rest) p =
+      let h = both_hold (is_plain word) (list_all is_plain rest) p in
+      let more = dials (vs ++ last ∷ []) word rest h.1 in
+      record {
+        noted = more.noted;
+        final = more.final;
+        all = more.all ∙ append_assoc vs (last ∷ []) (word ∷ rest);
+        goes = goes_on serve_built (dialling vs last) (dialling (vs ++ last ∷ []) word) word rest (dialling more.noted more.final)
+            (notes vs last word h.0) (notes_fine vs last word h.0) more.goes;
+      }
+
+  first_dial : (word : Text) → is_plain word ≡ true → walked serve_built.rules [] listening word ≡ dialling [] word
+  first_dial word p = idle_walked serve_built (holding id_found (codes "listen") (listen ∷ [])) word p
+
+  first_fine : (word : Text) → is_plain word ≡ true → turn_fault serve_built [] listening word ≡ []
+  first_fine word p = idle_fault serve_built (holding id_found (codes "listen") (listen ∷ [])) word p
+
+  -- where the walk ends: behind the address, or behind the addresses to dial
+  listening_fine : fault_behind serve_built listening ≡ []
+  unfolding clap_on_literals
+  listening_fine = refl
+
+  dialling_fine : (vs : List Text) (last : Text) → fault_behind serve_built (dialling vs last) ≡ []
+  unfolding clap_on_literals
+  dialling_fine [] last = refl
+  dialling_fine (v ∷ vs) last = refl
+
+  -- what is asked for at those ends
+  asks_none : (zid : Text) → zid_of_hex id ≡ Some zid
+      → asked_by (serve_built.name, finished serve_built.rules listening.held)
+      ≡ Some (asks_serve (record { id = zid; listen = listen; log = false; dials = [] }))
+  asks_none zid is = ap (λ (z : Option Text). option_map asks_serve (option_map (served_at (finished serve_built.rules listening.held) listen) z)) is
+
+  asks_dials : (vs : List Text) (last zid : Text) → zid_of_hex id ≡ Some zid
+      → asked_by (serve_built.name, finished serve_built.rules (dialling vs last).held)
+      ≡ Some (asks_serve (record { id = zid; listen = listen; log = false; dials = vs ++ last ∷ [] }))
+  asks_dials [] last zid is =
+      ap (λ (z : Option Text). option_map asks_serve (option_map (served_at (finished serve_built.rules (dialling [] last).held) listen) z)) is
+  asks_dials (v ∷ vs) last zid is =
+      ap (λ (z : Option Text). option_map asks_serve (option_map (served_at (finished serve_built.rules (dialling (v ∷ vs) last).held) listen) z)) is
+
+  serves : (zid : Text) (words : List Text) → zid_of_hex id ≡ Some zid → list_all is_plain words ≡ true
+      → asked_of (codes "serve" ∷ codes "--id" ∷ id ∷ codes "--listen" ∷ listen ∷ words)
+      ≡ Some (asks_serve (record { id = zid; listen = listen; log = false; dials = words }))
+  serves zid [] is p =
+      asked_is (codes "serve") (codes "serve") serve_built _ serve_enters listening (starts [] listening (stays serve_built listening)) listening_fine
+      ∙ asks_none zid is
+  serves zid (word ∷ rest) is p =
+      let h = both_hold (is_plain word) (list_all is_plain rest) p in
+      let d = dials [] word rest h.1 in
+      let end = dialling d.noted d.final in
+      asked_is (codes "serve") (codes "serve") serve_built _ serve_enters end
+      (starts (word ∷ rest) end (goes_on serve_built listening (dialling [] word) word rest end (first_dial word h.0) (first_fine word h.0) d.goes))
+      (dialling_fine d.noted d.final)
+      ∙ asks_dials d.noted d.final zid is
+      ∙ ap (λ (ds : List Text). Some (asks_serve (record { id = zid; listen = listen; log = false; dials = ds }))) d.all
+
+serve_taken : ServeIsTaken
+serve_taken id zid listen words is plain plains = serves id listen (zid_plain id zid is) plain zid words is plains
+
+pub forms_taken : FormsAreTaken
+forms_taken = (net_taken, serve_taken, make_taken)

@@ -1,0 +1,13 @@
+use Rattle.std.proofs.Common.{◌∙◌, ap}
+use Rattle.std.proofs.lemmas.Result.{IfOk-weaker}
+use Rattle.clap.specs.Simple.{App, app_of_fields}
+use Rattle.zr_top_words.proofs.Rows.{adds}
+use Rattle.zr_top_words.proofs.commands.serve.Goals as goal
+
+pub returns : goal.returns
+returns c =
+    let none = ap app_of_fields c.about.ensures ∙ c.new.ensures.app in
+    let one = adds c.in_ok-arg.ensures c.wanted.ensures.local none c.wanted.ensures.rule in
+    let two = adds c.in_ok-arg-2.ensures c.wanted-2.ensures.local one c.wanted-2.ensures.rule in
+    let three = adds c.in_ok-arg-3.ensures c.flag.ensures.local two c.flag.ensures.rule in
+    IfOk-weaker c.arg-4.result _ _ (λ r h. ap (λ (a : App). a.top) (adds h c.words_beside.ensures.local three c.words_beside.ensures.rule)) c.arg-4.ensures

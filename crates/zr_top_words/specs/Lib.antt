@@ -1,0 +1,4 @@
+pub mod App
+pub mod Asked
+pub mod Forms
+pub mod Read
