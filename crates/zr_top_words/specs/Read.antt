@@ -44,7 +44,7 @@ IsOutOfRange words = (faults words ≡ []) × (asked_of words ≡ None)
 abbrev pub IsWrong : List (List ℕ) → Type 0
 IsWrong words = ((is_promised words ≡ false) × (may_refuse words ≡ true)) ⊎ IsOutOfRange words
 
--- why words gave no plan; want of memory has no cause
+-- why words gave no plan; running out of memory has no cause
 abbrev pub IsCause : WordsError → List (List ℕ) → Type 0
 IsCause (error.Told text) words = may_answer words ≡ true
 IsCause error.Wrong words = IsWrong words
