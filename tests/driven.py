@@ -2,6 +2,7 @@
 import contextlib
 import importlib.machinery
 import importlib.util
+import itertools
 import os
 import pathlib
 import socket
@@ -21,8 +22,8 @@ MOST_WAIT = 10  # seconds
 MOST_AHEAD = 128  # samples that a publisher is ahead of the slowest subscriber: a ring has twice as many slots
 SILENCE = 0.3  # seconds for which nothing comes
 PROBE = "settle/"  # the keys by which a client learns that its subscription is seen
-SPEAKS_RECORDS = bytes([0x29, 0x01])  # the extension of INIT that a router of this kind sends
-RECORD, DECLARATIONS = 0x5A01, 0x5A02  # messages between routers
+SPEAKS_RECORDS = bytes([0x29, 0x02])  # the extension of INIT that a router of this kind sends
+RECORD, DECLARATIONS, WEIGHTED_RECORD = 0x5A01, 0x5A02, 0x5A03  # messages between routers
 
 
 class Wrong(Exception):
@@ -54,12 +55,13 @@ class Router:
 
     program = []
 
-    def __init__(self, ident, *dials, options=(), port=None):
+    def __init__(self, ident, *dials, weights=(), options=(), port=None):
         self.ident = ident
         self.port = port or free_port()
         self.address = ("127.0.0.1", self.port)
         words = ["serve", "--id", ident, "--listen", f"127.0.0.1:{self.port}", *options]
-        words += [f"127.0.0.1:{d.port if isinstance(d, Router) else d}" for d in dials]
+        dialled = [f"127.0.0.1:{d.port if isinstance(d, Router) else d}" for d in dials]
+        words += [f"{it},{weight}" if weight else it for it, weight in itertools.zip_longest(dialled, weights)]
         self.process = subprocess.Popen(
             self.program + words, stdin=subprocess.DEVNULL, stdout=subprocess.PIPE, stderr=subprocess.PIPE, text=True
         )
@@ -139,14 +141,20 @@ class Watcher(Session):
             kind = reader.number()
             reader.extensions(header)
             content = Reader(reader.string())
-            if kind == RECORD:
-                self.read_record(content)
+            if kind in (RECORD, WEIGHTED_RECORD):
+                self.read_record(content, kind == WEIGHTED_RECORD)
 
-    def read_record(self, content):
+    def read_record(self, content, is_weighted):
         ident = content.string().hex()
         count = content.number()
-        links = [content.string().hex() for _ in range(content.number())]
+        links = [self.read_link(content, is_weighted) for _ in range(content.number())]
         self.records[ident] = (count, links)
+
+    def read_link(self, content, is_weighted):
+        """The router of a link, with `:W` behind it where it has a weight other than 1."""
+        ident = content.string().hex()
+        weight = content.number() if is_weighted else 1
+        return ident if weight == 1 else f"{ident}:{weight}"
 
     def links(self):
         """The links of each router of which it was told."""

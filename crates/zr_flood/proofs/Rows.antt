@@ -10,12 +10,12 @@ use Rattle.zr_graph.specs.Record.{record_of}
 use Rattle.zr_msg.specs.declared.msg.Msg.{Msg}
 use Rattle.zr_msg.specs.declared.msg.Msg.TheVariants.{State}
 use Rattle.zr_msg.specs.declared.peer.LinkPeer.{LinkPeer}
-use Rattle.zr_msg.specs.declared.peer.Peer.{Peer}
+use Rattle.zr_msg.specs.Peer.{PeerState}
 use Rattle.zr_msg.specs.declared.peer.Role.TheVariants.{Router}
 use Rattle.zr_node_spec.specs.Event.{on_link}
 use Rattle.zr_node_spec.specs.Tables.{is_router, leads_to_router}
 use Rattle.zr_node_spec.specs.State.{NodeState}
-use Rattle.zr_node_spec.specs.Table.{joined, parted, is_other_router, all_records, sends_own, sends_up, sends_parted, sends_state}
+use Rattle.zr_node_spec.specs.Table.{joined, own_link, parted, is_other_router, all_records, sends_own, sends_up, sends_parted, sends_state}
 use Rattle.zr_node_spec.proofs.Links.{asked_of_number}
 use Rattle.zr_node_spec.proofs.Told.{on_link-append, on_picked}
 use Rattle.zr_flood.specs.Flood.{AreOf, to_others, own_to_others, all_to}
@@ -59,7 +59,7 @@ on_all (r ∷ records) up to = by (up.0 == to.0) refl (on_all records up to)
     by false e ih = rw e (rw e at ih)
 
 -- all of it, once a link to a router has come up
-pub on_up : (node : NodeState) (links : List LinkPeer) (peer : Peer) (b : BaseState) → AreOf node links → b ≡ joined node.base peer.id → (up to : LinkNo)
+pub on_up : (node : NodeState) (links : List LinkPeer) (peer : PeerState) (b : BaseState) → AreOf node links → b ≡ joined node.base (own_link peer) → (up to : LinkNo)
     → on_link to (all_to b up ++ own_to_others b links up.0) ≡ sends_up node up.0 peer Router to.0
 on_up node links peer b of e up to =
     on_link-append to (all_to b up) (own_to_others b links up.0)
@@ -77,7 +77,7 @@ on_up node links peer b of e up to =
         rw other refl
 
 -- once a link to a router has gone down
-pub on_down : (node : NodeState) (links : List LinkPeer) (peer : Peer) (b : BaseState) → AreOf node links → b ≡ parted node.base peer.id → (down to : LinkNo)
+pub on_down : (node : NodeState) (links : List LinkPeer) (peer : PeerState) (b : BaseState) → AreOf node links → b ≡ parted node.base peer.id → (down to : LinkNo)
     → on_link to (own_to_others b links down.0) ≡ sends_parted node down.0 peer Router to.0
 on_down node links peer b of e down to = on_own node links of down.0 b to ∙ ap (λ z. sends_own node down.0 z to.0) e
 

@@ -4,11 +4,12 @@ ghost use Rattle.std.specs.Prelude.{◌≡◌, ◌==◌, ◌&&◌, ◌++◌, ◌
 ghost use Rattle.std.specs.Option.{option_copied};
 ghost use Rattle.zr_graph.specs.Base.{is_newer};
 ghost use Rattle.zr_graph.specs.Record.{record_of};
+ghost use Rattle.zr_msg.specs.Peer.{PeerState};
 ghost use Rattle.zr_node_spec.specs.Event.{Tells, TellsPrefix};
 ghost use Rattle.zr_lists.specs.Prefix.{IsPrefixBehind};
 ghost use Rattle.zr_node_spec.specs.Tables.{is_router, leads_to_router};
 ghost use Rattle.zr_node_spec.specs.State.{NodeState};
-ghost use Rattle.zr_node_spec.specs.Table.{joined, parted, sends_up, sends_parted, sends_state};
+ghost use Rattle.zr_node_spec.specs.Table.{joined, own_link, parted, sends_up, sends_parted, sends_state};
 ghost use Rattle.zr_flood.specs.Flood.{AreOf, all_to, own_to_others, to_others};
 
 use std::alloc::{AllocError, Global};
@@ -17,7 +18,7 @@ use zr_id::link::LinkNo;
 use zr_id::record::LinkRecord;
 use zr_id::zid::Zid;
 use zr_msg::msg::Msg;
-use zr_msg::peer::{LinkPeer, Peer, Role};
+use zr_msg::peer::{LinkPeer, Role};
 use zr_msg::shared::Shared;
 use zr_node_spec::tell::tell;
 use zr_tree::same::find_record;
@@ -32,8 +33,8 @@ pub fn flood_up(
     up: LinkNo,
     out: &mut Vec<(LinkNo, Msg)>,
 ) -> Result<(), AllocError>
-    ensures ok { (node : NodeState) (peer : Peer) → AreOf node links.now → base.now ≡ joined node.base peer.id → OnOk result (Tells (sends_up node up.0 peer Role.Router) out.old.items out.new.items) }
-    ensures err { (node : NodeState) (peer : Peer) → AreOf node links.now → base.now ≡ joined node.base peer.id → OnErr result (TellsPrefix (sends_up node up.0 peer Role.Router) out.old.items out.new.items) }
+    ensures ok { (node : NodeState) (peer : PeerState) → AreOf node links.now → base.now ≡ joined node.base (own_link peer) → OnOk result (Tells (sends_up node up.0 peer Role.Router) out.old.items out.new.items) }
+    ensures err { (node : NodeState) (peer : PeerState) → AreOf node links.now → base.now ≡ joined node.base (own_link peer) → OnErr result (TellsPrefix (sends_up node up.0 peer Role.Router) out.old.items out.new.items) }
 {
     tell_all(alloc, base, up, out)?;
     tell_own(alloc, base, links, up, out)
@@ -49,8 +50,8 @@ pub fn flood_down(
     down: LinkNo,
     out: &mut Vec<(LinkNo, Msg)>,
 ) -> Result<(), AllocError>
-    ensures ok { (node : NodeState) (peer : Peer) → AreOf node links.now → base.now ≡ parted node.base peer.id → OnOk result (Tells (sends_parted node down.0 peer Role.Router) out.old.items out.new.items) }
-    ensures err { (node : NodeState) (peer : Peer) → AreOf node links.now → base.now ≡ parted node.base peer.id → OnErr result (TellsPrefix (sends_parted node down.0 peer Role.Router) out.old.items out.new.items) }
+    ensures ok { (node : NodeState) (peer : PeerState) → AreOf node links.now → base.now ≡ parted node.base peer.id → OnOk result (Tells (sends_parted node down.0 peer Role.Router) out.old.items out.new.items) }
+    ensures err { (node : NodeState) (peer : PeerState) → AreOf node links.now → base.now ≡ parted node.base peer.id → OnErr result (TellsPrefix (sends_parted node down.0 peer Role.Router) out.old.items out.new.items) }
 {
     tell_own(alloc, base, links, down, out)
 }

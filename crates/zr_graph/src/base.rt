@@ -1,7 +1,7 @@
 //! The base of a router: which records it keeps, and how its own record changes.
 
 ghost use Rattle.std.specs.Prelude.{◌≡◌, ◌-◌, ◌^◌, ◌↔◌, true, nat_lt, IfOk, OnOk, OnErr, if◌then◌else◌};
-ghost use Rattle.zr_id.specs.Record.{are_links};
+ghost use Rattle.zr_id.specs.Record.{are_links, linked_ids};
 ghost use Rattle.zr_id.specs.Zid.{is_named};
 ghost use Rattle.std.specs.Option.{option_copied};
 ghost use Rattle.zr_graph.specs.Record.{has, has_edge, lists, record_of};
@@ -11,7 +11,7 @@ use crate::place::{place_of, put};
 use std::alloc::{AllocError, AllocFailed, Global};
 use std::marker::Model;
 use thiserror::Error;
-use zr_id::record::LinkRecord;
+use zr_id::record::{LinkRecord, Linked};
 use zr_id::zid::Zid;
 
 /// What became of a record that a base was given.
@@ -103,8 +103,8 @@ impl Base {
         Ok(Accepted::Newer)
     }
 
-    /// Gives the own record its next number and these links, which are strictly ascending and without this router, as in each record.
-    pub fn change(&mut self, links: &[Zid]) -> Result<(), ChangeError>
+    /// Gives the own record its next number and these links, which go to strictly ascending routers and not to this one, as in each record.
+    pub fn change(&mut self, links: &[Linked]) -> Result<(), ChangeError>
         requires { are_links self.old.me links.now ≡ true }
         ensures ok { OnOk result (self.new ≡ relinked self.old links.now) }
         ensures worn { (result ≡ Err ChangeError.Worn) ↔ (own_seq self.old ≡ 2 ^ 64 - 1) }
@@ -190,10 +190,16 @@ impl Base {
     }
 }
 
-fn has_link(r: &LinkRecord, to: &Zid) -> bool
-    ensures { result ≡ has r.now.links to.now }
+/// Whether a record lists a router.
+pub fn has_link(r: &LinkRecord, to: &Zid) -> bool
+    ensures { result ≡ has (linked_ids r.now.links) to.now }
 {
-    r.links().contains(to)
+    for l in r.links() {
+        if l.id == *to {
+            return true;
+        }
+    }
+    false
 }
 
 fn is_of(r: &LinkRecord, id: &Zid) -> bool

@@ -86,7 +86,7 @@ declaring d = record change { declares = Some d }
 abbrev pub meaning : Act → Meaning
 meaning (a.Router id) = record change { router = Some id }
 meaning (a.Client id router) = record change { client = Some (id, router) }
-meaning (a.Link one other) = change
+meaning (a.Link one other weight) = change
 meaning (a.Up router neighbour) = change
 meaning (a.Break router neighbour) = record change { broken = Some neighbour }
 meaning (a.Down router neighbour) = change

@@ -15,13 +15,37 @@ pub struct Zids {
     items: Vec<Zid>,
 }
 
+/// A router that a link leads to, and the weight of the link, at least 1.
+#[derive(Clone, Copy, Debug, PartialEq, Eq)]
+pub struct Linked {
+    /// The router.
+    pub id: Zid,
+    /// What the link weighs, 1 to 65,535. Walks of a tree go by the least sum of weights.
+    pub weight: u16,
+}
+
+impl Model for Linked {
+    ghost use Rattle.std.specs.Prelude.{◌<◌, refl};
+    ghost use Rattle.zr_id.specs.Record.{LinkedState};
+
+    ghost Value = { LinkedState };
+
+    ghost view = { λ l. record { id = l.id; weight = l.weight } };
+
+    ghost invariant = { λ l. 0 < l.weight };
+
+    ghost inverse = { λ l. record { id = l.id; weight = l.weight } };
+
+    ghost inverse_ok = { λ l h. refl };
+}
+
 /// The links of one router, as it told them under a number that goes up with each change: at most 65,535 of them, strictly ascending
 /// and without the router itself.
 #[derive(Debug)]
 pub struct LinkRecord {
     id: Zid,
     seq: u64,
-    links: Vec<Zid>,
+    links: Vec<Linked>,
 }
 
 // Written out, so that it is proved here, and not by each crate that lets one go.
@@ -89,7 +113,7 @@ impl Zids {
 
 impl LinkRecord {
     /// A record of these links, for which [`are_links`] is true.
-    pub fn new(id: Zid, seq: u64, links: Vec<Zid>) -> LinkRecord
+    pub fn new(id: Zid, seq: u64, links: Vec<Linked>) -> LinkRecord
         requires { are_links id links.items ≡ true }
         ensures { result ≡ record { id = id; seq = seq; links = links.items } }
     {
@@ -110,8 +134,8 @@ impl LinkRecord {
         self.seq
     }
 
-    /// The routers that the links lead to.
-    pub fn links(&self) -> &[Zid]
+    /// The links, in ascending order of the routers that they lead to.
+    pub fn links(&self) -> &[Linked]
         ensures value { result.now ≡ self.now.links }
         ensures in_order { are_links self.now.id self.now.links ≡ true }
     {
@@ -133,22 +157,22 @@ impl LinkRecord {
 /// How many links a record has at most: their number is 16 bits on the wire.
 pub const MOST_LINKS: usize = 65_535;
 
-/// Whether these are links of a record of this router: not too many, strictly ascending, and the router itself is none of them.
-pub fn are_links(id: &Zid, links: &[Zid]) -> bool
+/// Whether these are links of a record of this router: not too many, to strictly ascending routers, and the router itself is none of them.
+pub fn are_links(id: &Zid, links: &[Linked]) -> bool
     ensures { result ≡ are_links id.now links.now }
 {
     links.len() <= MOST_LINKS && are_in_order(id, links)
 }
 
-fn are_in_order(id: &Zid, links: &[Zid]) -> bool
+fn are_in_order(id: &Zid, links: &[Linked]) -> bool
     ensures { result ≡ are_in_order id.now None links.now }
 {
     let mut last = None;
     for link in links {
-        if !may_follow(id, last, link) {
+        if !may_follow(id, last, &link.id) {
             return false;
         }
-        last = Some(*link);
+        last = Some(link.id);
     }
     true
 }

@@ -67,8 +67,8 @@ module _ (acts : List Numbered) (now : Moment) (sound : IsSound now.world) (h : 
   flows_keep n (a.Router id) = for_router now (FlowsThen n (a.Router id)) id (λ free room. router_flows acts w sound h f n (a.Router id) (λ c kind i so_far. refl) id free)
   flows_keep n (a.Client id router) = for_client now (FlowsThen n (a.Client id router)) n id router (λ r found free room taken.
       client_flows acts w sound h f router r found n (a.Client id router) (λ c kind i so_far. refl) id free)
-  flows_keep n (a.Link one other) = for_link now (FlowsThen n (a.Link one other)) one other (λ apart r found q found' new room.
-      by_ends acts w sound h f n (a.Link one other) (λ c kind i so_far. refl) _ (linked_stay w h one other (ap is_some found) (ap is_some found')))
+  flows_keep n (a.Link one other weight) = for_link now (FlowsThen n (a.Link one other weight)) one other weight (λ apart r found q found' new room.
+      by_ends acts w sound h f n (a.Link one other weight) (λ c kind i so_far. refl) _ (linked_stay w h one other weight (ap is_some found) (ap is_some found')))
   flows_keep n (a.Up router name) = for_up now (FlowsThen n (a.Up router name)) n router name (λ r found there s at_end unbroken down taken.
       up_flows acts w sound h f router r found n (a.Up router name) (λ c kind i so_far. refl) name s at_end down)
   flows_keep n (a.Break router name) = for_break now (FlowsThen n (a.Break router name)) router name (λ r found there s at_end unbroken.

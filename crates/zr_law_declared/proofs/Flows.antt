@@ -146,7 +146,7 @@ module _ (acts : List Numbered) (w : WorldState) (sound : IsSound w) (h : Client
         up_world = w_up w n a name r s
 
         abbrev up_link : LinkPeer
-        up_link = new_link (record { 0 = free_link r.node.links }) (peer_of w name)
+        up_link = new_link (record { 0 = free_link r.node.links }) (peer_of w name s.weight)
 
         no_link : link_to r.node.links name ≡ None
         no_link = not_there (link_to r.node.links name) (sound.links a name r found ∙ ap up_at at_end ∙ down)
@@ -280,10 +280,10 @@ module _ (acts : List Numbered) (w : WorldState) (sound : IsSound w) (h : Client
       with_client_world = w_client w n name a r
 
       abbrev its_link : LinkPeer
-      its_link = new_link (record { 0 = free_link r.node.links }) (record { id = name; role = Client })
+      its_link = new_link (record { 0 = free_link r.node.links }) (record { id = name; role = Client; weight = 1 })
 
       abbrev more : Ends
-      more = put_end w.ends (a, name) (lifted new_end)
+      more = put_end w.ends (a, name) (lifted (new_end 1))
 
       is_new : client_of w.clients name ≡ None
       is_new = not_there (client_of w.clients name) (free_name w name free).1
@@ -296,10 +296,10 @@ module _ (acts : List Numbered) (w : WorldState) (sound : IsSound w) (h : Client
       links_then c = link_to_with r.node.links its_link (sound.unique a r found) (free_is_free r.node.links) none_before c
 
       whole_with : (q : End) → is_unbroken with_client_world.ends q ≡ cond (is_end (a, name) q) true (is_unbroken w.ends q)
-      whole_with q = keep_heard more a r (Up its_link.link its_link.peer) n unbroken_at q (λ e ws. refl) ∙ read_put_end w.ends (a, name) (lifted new_end) unbroken_at q
+      whole_with q = keep_heard more a r (Up its_link.link its_link.peer) n unbroken_at q (λ e ws. refl) ∙ read_put_end w.ends (a, name) (lifted (new_end 1)) unbroken_at q
 
       wire_with : (q : End) → wire_at (end_of with_client_world.ends q) ≡ cond (is_end (a, name) q) [] (wire_at (end_of w.ends q))
-      wire_with q = keep_heard more a r (Up its_link.link its_link.peer) n wire_at q (λ e ws. refl) ∙ read_put_end w.ends (a, name) (lifted new_end) wire_at q
+      wire_with q = keep_heard more a r (Up its_link.link its_link.peer) n wire_at q (λ e ws. refl) ∙ read_put_end w.ends (a, name) (lifted (new_end 1)) wire_at q
 
       clients_with : (c : Name) → client_of with_client_world.clients c ≡ cond (is_named c name) (Some (new_client a)) (client_of w.clients c)
       clients_with c = value_new w.clients name c (new_client a) is_new

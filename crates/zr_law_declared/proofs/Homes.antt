@@ -72,7 +72,7 @@ module _ (acts : List Numbered) (now : Moment) (h : Homed acts now.world) where
   homes_keep n (a.Router id) = for_router now (HomedThen n (a.Router id)) id (λ free room c. home_more acts n (a.Router id) c ∙ h c)
   homes_keep n (a.Client id router) = for_client now (HomedThen n (a.Client id router)) n id router (λ r found free room taken c.
       comes n id router free c ∙ sym (ap router_at (value_new w.clients id c (new_client router) (not_there (client_of w.clients id) (free_name w id free).1))))
-  homes_keep n (a.Link one other) = for_link now (HomedThen n (a.Link one other)) one other (λ apart r found q found' new room c. home_more acts n (a.Link one other) c ∙ h c)
+  homes_keep n (a.Link one other weight) = for_link now (HomedThen n (a.Link one other weight)) one other weight (λ apart r found q found' new room c. home_more acts n (a.Link one other weight) c ∙ h c)
   homes_keep n (a.Up router name) = for_up now (HomedThen n (a.Up router name)) n router name (λ r found there s at_end unbroken down taken c. home_more acts n (a.Up router name) c ∙ h c)
   homes_keep n (a.Break router name) = for_break now (HomedThen n (a.Break router name)) router name (λ r found there s at_end unbroken c. home_more acts n (a.Break router name) c ∙ h c)
   homes_keep n (a.Down router name) = for_down now (HomedThen n (a.Down router name)) n router name (λ r found there s at_end up cut link number taken c. home_more acts n (a.Down router name) c ∙ h c)

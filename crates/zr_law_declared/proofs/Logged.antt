@@ -176,9 +176,9 @@ module _ (now : Moment) (own_name : (x : Name) (r : RouterState) → router_of n
   pub acts_count : (n : ℕ) (act : Act) → IfSome (went now (outcome w n act)) CountsOn
   unfolding outcome
   acts_count n (a.Router id) = for_router now CountsOn id (λ free room. comes id free)
-  acts_count n (a.Client id router) = for_client now CountsOn n id router (λ r found free room taken. hears router r found (up_event r (record { id = id; role = role.Client })))
-  acts_count n (a.Link one other) = for_link now CountsOn one other (λ apart r found q found' new room. stays)
-  acts_count n (a.Up router name) = for_up now CountsOn n router name (λ r found there s at_end unbroken down taken. hears router r found (up_event r (peer_of w name)))
+  acts_count n (a.Client id router) = for_client now CountsOn n id router (λ r found free room taken. hears router r found (up_event r (record { id = id; role = role.Client; weight = 1 })))
+  acts_count n (a.Link one other weight) = for_link now CountsOn one other weight (λ apart r found q found' new room. stays)
+  acts_count n (a.Up router name) = for_up now CountsOn n router name (λ r found there s at_end unbroken down taken. hears router r found (up_event r (peer_of w name s.weight)))
   acts_count n (a.Break router name) = for_break now CountsOn router name (λ r found there s at_end unbroken. stays)
   acts_count n (a.Down router name) = for_down now CountsOn n router name (λ r found there s at_end up cut link number taken. hears router r found (Down link))
   acts_count n (a.Sub client id key) = for_declare now CountsOn n client k.Sub id key (m.Sub id key) (λ s found fresh e at_end unbroken r there room. weighs s.router r there key)

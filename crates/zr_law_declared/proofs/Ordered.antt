@@ -128,9 +128,9 @@ module _ (now : Moment) (h : RowsAscend now.world) where
   pub ascend_keep : (n : ℕ) (act : Act) → IfSome (went now (outcome w n act)) AscendThen
   unfolding outcome
   ascend_keep n (a.Router id) = for_router now AscendThen id (λ free room. router_comes id free)
-  ascend_keep n (a.Client id router) = for_client now AscendThen n id router (λ r found free room taken. heard_ordered router r (up_event r (record { id = id; role = Client })) found)
-  ascend_keep n (a.Link one other) = for_link now AscendThen one other (λ apart r found q found' new room. h)
-  ascend_keep n (a.Up router name) = for_up now AscendThen n router name (λ r found there s at_end unbroken down taken. heard_ordered router r (up_event r (peer_of w name)) found)
+  ascend_keep n (a.Client id router) = for_client now AscendThen n id router (λ r found free room taken. heard_ordered router r (up_event r (record { id = id; role = Client; weight = 1 })) found)
+  ascend_keep n (a.Link one other weight) = for_link now AscendThen one other weight (λ apart r found q found' new room. h)
+  ascend_keep n (a.Up router name) = for_up now AscendThen n router name (λ r found there s at_end unbroken down taken. heard_ordered router r (up_event r (peer_of w name s.weight)) found)
   ascend_keep n (a.Break router name) = for_break now AscendThen router name (λ r found there s at_end unbroken. h)
   ascend_keep n (a.Down router name) = for_down now AscendThen n router name (λ r found there s at_end up cut link number taken. heard_ordered router r (Down link) found)
   ascend_keep n (a.Sub client id key) = for_declare now AscendThen n client k.Sub id key (m.Sub id key) (λ s found fresh e at_end unbroken r there room. with_ordered s.router r (weighing r key) there (h s.router r there))

@@ -180,13 +180,13 @@ module _ (acts : List Numbered) (now : Moment) (clients : ClientsHold now.world)
 
   -- ---- a link between two routers
 
-  linked : (n : ℕ) (one other : Name) (r q : RouterState) → router_of w.routers one ≡ Some r → router_of w.routers other ≡ Some q → Spoken (acts ++ (n, a.Link one other) ∷ []) (on_link now one other).world
-  linked n one other r q found found' = still n (a.Link one other) (on_link now one other).world
+  linked : (n : ℕ) (one other : Name) (weight : ℕ) (r q : RouterState) → router_of w.routers one ≡ Some r → router_of w.routers other ≡ Some q → Spoken (acts ++ (n, a.Link one other weight) ∷ []) (on_link now one other weight).world
+  linked n one other weight r q found found' = still n (a.Link one other weight) (on_link now one other weight).world
       (λ c. record { attached = λ so_far. refl; declares = refl }) (same_clients w.clients)
       (λ c s client.
-      read_put_end (put_end w.ends (one, other) new_end) (other, one) new_end unbroken_at (s.router, c)
-      ∙ ap (λ b. cond b true (is_unbroken (put_end w.ends (one, other) new_end) (s.router, c))) (other_end other s.router one c (no_client one (ap is_some found) c s client))
-      ∙ read_put_end w.ends (one, other) new_end unbroken_at (s.router, c)
+      read_put_end (put_end w.ends (one, other) (new_end weight)) (other, one) (new_end weight) unbroken_at (s.router, c)
+      ∙ ap (λ b. cond b true (is_unbroken (put_end w.ends (one, other) (new_end weight)) (s.router, c))) (other_end other s.router one c (no_client one (ap is_some found) c s client))
+      ∙ read_put_end w.ends (one, other) (new_end weight) unbroken_at (s.router, c)
       ∙ ap (λ b. cond b true (is_unbroken w.ends (s.router, c))) (other_end one s.router other c (no_client other (ap is_some found') c s client)))
 
   -- ---- a client comes
@@ -213,8 +213,8 @@ module _ (acts : List Numbered) (now : Moment) (clients : ClientsHold now.world)
       clients_are c = value_new w.clients id c (new_client router) is_new
 
       whole : (q : End) → is_unbroken v.ends q ≡ cond (is_end (router, id) q) true (is_unbroken w.ends q)
-      whole q = keep_heard (put_end w.ends (router, id) (lifted new_end)) router r (up_event r (record { id = id; role = Client })) n unbroken_at q (λ e ws. refl)
-          ∙ read_put_end w.ends (router, id) (lifted new_end) unbroken_at q
+      whole q = keep_heard (put_end w.ends (router, id) (lifted (new_end 1))) router r (up_event r (record { id = id; role = Client; weight = 1 })) n unbroken_at q (λ e ws. refl)
+          ∙ read_put_end w.ends (router, id) (lifted (new_end 1)) unbroken_at q
 
       quiet : (c : Name) → is_named c id ≡ false → IsNoNews act c
       quiet c other = record {
@@ -405,11 +405,11 @@ module _ (acts : List Numbered) (now : Moment) (clients : ClientsHold now.world)
       still n (a.Router id) (on_router now id).world
       (λ c. record { attached = λ so_far. refl; declares = refl }) (same_clients w.clients) (λ c s there. refl))
   spoken_keep n (a.Client id router) = for_client now (SpokenThen n (a.Client id router)) n id router (λ r found free room taken. comes n id router r found free)
-  spoken_keep n (a.Link one other) = for_link now (SpokenThen n (a.Link one other)) one other (λ apart r found q found' new room. linked n one other r q found found')
+  spoken_keep n (a.Link one other weight) = for_link now (SpokenThen n (a.Link one other weight)) one other weight (λ apart r found q found' new room. linked n one other weight r q found found')
   spoken_keep n (a.Up router name) = for_up now (SpokenThen n (a.Up router name)) n router name (λ r found there s at_end unbroken down taken.
       still n (a.Up router name) (on_up now n router name r s).world
       (λ c. record { attached = λ so_far. refl; declares = refl })
-      (same_clients w.clients) (λ c t client. keep_heard (with_end w.ends (router, name) (lifted s)) router r (up_event r (peer_of w name)) n unbroken_at (t.router, c) (λ e ws. refl)
+      (same_clients w.clients) (λ c t client. keep_heard (with_end w.ends (router, name) (lifted s)) router r (up_event r (peer_of w name s.weight)) n unbroken_at (t.router, c) (λ e ws. refl)
       ∙ keep_with_end w.ends (router, name) (lifted s) unbroken_at (t.router, c) s at_end refl))
   spoken_keep n (a.Break router name) = for_break now (SpokenThen n (a.Break router name)) router name (λ r found there s at_end unbroken. breaks n router name r found s at_end)
   spoken_keep n (a.Down router name) = for_down now (SpokenThen n (a.Down router name)) n router name (λ r found there s at_end up cut link number taken.

@@ -10,7 +10,7 @@ use Rattle.zr_graph.proofs.Names.{same_is, same_refl}
 use Rattle.zr_msg.specs.declared.msg.Msg.{Msg}
 use Rattle.zr_msg.specs.declared.event.Event.{Event}
 use Rattle.zr_msg.specs.declared.event.Event.TheVariants.{Up, Down, From}
-use Rattle.zr_msg.specs.declared.peer.Peer.{Peer}
+use Rattle.zr_msg.specs.Peer.{PeerState}
 use Rattle.zr_msg.specs.declared.peer.Role.TheVariants as role
 use Rattle.zr_msg.specs.declared.peer.LinkPeer.{LinkPeer}
 use Rattle.zr_node_spec.specs.Tables.{link_to, free_link}
@@ -43,7 +43,7 @@ there_of : (es ends : Ends) (q : End) (b : Bool) → b ≡ true → b ≡ is_up 
 there_of es ends q b e up same = sym same ∙ passes_there (λ s. s.up) ends q (sym up ∙ e)
 
 -- nothing is handled where a link comes up or goes down
-up_handles : (link : LinkNo) (peer : Peer) (o : Option LinkPeer) → handles_by (Up link peer) o ≡ []
+up_handles : (link : LinkNo) (peer : PeerState) (o : Option LinkPeer) → handles_by (Up link peer) o ≡ []
 up_handles link peer None = refl
 up_handles link peer (Some l) = refl
 
@@ -109,7 +109,7 @@ module _ (w : WorldState) (sound : IsSound w) (orderly : Orderly w) (a : List �
 
   -- ---- an end comes up
 
-  module _ (link : LinkNo) (peer : Peer) (may : MayCome r.node (Up link peer)) (done : EventIsDone r.node (Up link peer)) (tag : ℕ) (es : Ends) (queues : (e : End) → queue_at es e ≡ queue_at w.ends e)
+  module _ (link : LinkNo) (peer : PeerState) (may : MayCome r.node (Up link peer)) (done : EventIsDone r.node (Up link peer)) (tag : ℕ) (es : Ends) (queues : (e : End) → queue_at es e ≡ queue_at w.ends e)
       (wires : (e : End) → wire_at es e ≡ wire_at w.ends e) where
     abbrev w_lifted : WorldState
     w_lifted = sending (with_ends w es) a r (Up link peer) tag
@@ -129,36 +129,36 @@ module _ (w : WorldState) (sound : IsSound w) (orderly : Orderly w) (a : List �
           there = λ y e. there_of es w_lifted.ends (a, y) (is_some (link_to (after r.node (Up link peer)).links y)) e (ups y) (some_heard (with_ends w es) a r found (Up link peer) tag (a, y));
         }
 
-  module _ (name : List ℕ) (s : EndState) (at : end_of w.ends (a, name) ≡ Some s) (n : ℕ) (may : MayCome r.node (up_event r (peer_of w name))) (done : EventIsDone r.node (up_event r (peer_of w name))) where
+  module _ (name : List ℕ) (s : EndState) (at : end_of w.ends (a, name) ≡ Some s) (n : ℕ) (may : MayCome r.node (up_event r (peer_of w name s.weight))) (done : EventIsDone r.node (up_event r (peer_of w name s.weight))) where
     abbrev es_up : Ends
     es_up = with_end w.ends (a, name) (lifted s)
 
     abbrev w_then : WorldState
     w_then = w_up w n a name r s
 
-    pub up_links : (above below : List ℕ → List ℕ → Deed → Type 0) → Fits above below a r.node (up_event r (peer_of w name)) n → IsSound w_then → LinksGo above below w w_then
+    pub up_links : (above below : List ℕ → List ℕ → Deed → Type 0) → Fits above below a r.node (up_event r (peer_of w name s.weight)) n → IsSound w_then → LinksGo above below w w_then
     up_links above below fits sound' x y whole =
         let was : is_whole w x y ≡ true = whole_same w w_then unbroken x y whole in (
           inl was,
-          up_moves (record { 0 = free_link r.node.links }) (peer_of w name) may done n es_up
+          up_moves (record { 0 = free_link r.node.links }) (peer_of w name s.weight) may done n es_up
               (λ e. keep_with_end w.ends (a, name) (lifted s) queue_of e s at refl) (λ e. keep_with_end w.ends (a, name) (lifted s) wire_of e s at refl) above below fits
-              (λ y. sound'.links a y (hearing r (up_event r (peer_of w name))) router) (sound'.unique a (hearing r (up_event r (peer_of w name))) router) x y (whole_apart w sound x y was),
+              (λ y. sound'.links a y (hearing r (up_event r (peer_of w name s.weight))) router) (sound'.unique a (hearing r (up_event r (peer_of w name s.weight))) router) x y (whole_apart w sound x y was),
         )
       where
         unbroken : (q : End) → is_unbroken w_then.ends q ≡ is_unbroken w.ends q
-        unbroken q = unbroken_heard (with_ends w es_up) a r found (up_event r (peer_of w name)) n q ∙ keep_with_end w.ends (a, name) (lifted s) unbroken_at q s at refl
+        unbroken q = unbroken_heard (with_ends w es_up) a r found (up_event r (peer_of w name s.weight)) n q ∙ keep_with_end w.ends (a, name) (lifted s) unbroken_at q s at refl
 
-        router : router_of w_then.routers a ≡ Some (hearing r (up_event r (peer_of w name)))
-        router = router_heard (with_ends w es_up) a r found (up_event r (peer_of w name)) n
+        router : router_of w_then.routers a ≡ Some (hearing r (up_event r (peer_of w name s.weight)))
+        router = router_heard (with_ends w es_up) a r found (up_event r (peer_of w name s.weight)) n
 
   -- ---- a client comes
 
-  module _ (id : List ℕ) (free : is_taken w id ≡ false) (n : ℕ) (may : MayCome r.node (up_event r (record { id = id; role = role.Client }))) (done : EventIsDone r.node (up_event r (record { id = id; role = role.Client }))) where
+  module _ (id : List ℕ) (free : is_taken w id ≡ false) (n : ℕ) (may : MayCome r.node (up_event r (record { id = id; role = role.Client; weight = 1 }))) (done : EventIsDone r.node (up_event r (record { id = id; role = role.Client; weight = 1 }))) where
     abbrev event_came : Event
-    event_came = up_event r (record { id = id; role = role.Client })
+    event_came = up_event r (record { id = id; role = role.Client; weight = 1 })
 
     abbrev es_came : Ends
-    es_came = put_end w.ends (a, id) (lifted new_end)
+    es_came = put_end w.ends (a, id) (lifted (new_end 1))
 
     abbrev w_met : WorldState
     w_met = sending (with_ends w es_came) a r event_came n
@@ -213,7 +213,7 @@ module _ (w : WorldState) (sound : IsSound w) (orderly : Orderly w) (a : List �
     client_links above below fits sound' x y whole = (by (whole_more w w_came (λ q. is_end (a, id) q) unbroken x y whole), moves)
       where
         unbroken : (q : End) → is_unbroken w_came.ends q ≡ cond (is_end (a, id) q) true (is_unbroken w.ends q)
-        unbroken q = unbroken_heard (with_ends w es_came) a r found event_came n q ∙ read_put_end w.ends (a, id) (lifted new_end) unbroken_at q
+        unbroken q = unbroken_heard (with_ends w es_came) a r found event_came n q ∙ read_put_end w.ends (a, id) (lifted (new_end 1)) unbroken_at q
 
         router : router_of w_came.routers a ≡ Some (hearing r event_came)
         router = router_heard (with_ends w es_came) a r found event_came n
@@ -223,8 +223,8 @@ module _ (w : WorldState) (sound : IsSound w) (orderly : Orderly w) (a : List �
 
         moves : Moves (above x y) (below x y) (link_of w x y) (link_of w_came x y)
         moves = moved (above x y) (below x y) (link_of w x y) (link_of w_met x y) (link_of w_came x y)
-            (up_moves (record { 0 = free_link r.node.links }) (record { id = id; role = role.Client }) may done n es_came
-            (λ e. keep_put_end w.ends (a, id) (lifted new_end) queue_of e (sym (ap queue_of at_id))) (λ e. keep_put_end w.ends (a, id) (lifted new_end) wire_of e (sym (ap wire_of at_id))) above below fits
+            (up_moves (record { 0 = free_link r.node.links }) (record { id = id; role = role.Client; weight = 1 }) may done n es_came
+            (λ e. keep_put_end w.ends (a, id) (lifted (new_end 1)) queue_of e (sym (ap queue_of at_id))) (λ e. keep_put_end w.ends (a, id) (lifted (new_end 1)) wire_of e (sym (ap wire_of at_id))) above below fits
             (λ z. sound'.links a z (hearing r event_came) router) (sound'.unique a (hearing r event_came) router) x y apart)
             (link_same w_met w_came x y refl refl (new_keeps x y) (new_back x y))
 

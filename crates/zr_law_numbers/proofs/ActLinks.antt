@@ -75,14 +75,14 @@ module _ (w : WorldState) (id : List ℕ) (free : is_taken w id ≡ false) where
 
 -- ---- a link comes
 
-module _ (w : WorldState) (sound : IsSound w) (orderly : Orderly w) (one other : List ℕ) (r q : RouterState) (er : router_of w.routers one ≡ Some r) (eq : router_of w.routers other ≡ Some q)
+module _ (w : WorldState) (sound : IsSound w) (orderly : Orderly w) (one other : List ℕ) (weight : ℕ) (r q : RouterState) (er : router_of w.routers one ≡ Some r) (eq : router_of w.routers other ≡ Some q)
     (new : is_in_place w.ends (one, other) ≡ false) where
   abbrev w_new : WorldState
-  w_new = w_link w one other
+  w_new = w_link w one other weight
 
-  reads : {Y : Type 0} (f : Option EndState → Y) (e : End) → f (end_of w_new.ends e) ≡ cond (is_end (other, one) e) (f (Some new_end)) (cond (is_end (one, other) e) (f (Some new_end)) (f (end_of w.ends e)))
-  reads f e = read_put_end (put_end w.ends (one, other) new_end) (other, one) new_end f e
-      ∙ ap (λ z. cond (is_end (other, one) e) (f (Some new_end)) z) (read_put_end w.ends (one, other) new_end f e)
+  reads : {Y : Type 0} (f : Option EndState → Y) (e : End) → f (end_of w_new.ends e) ≡ cond (is_end (other, one) e) (f (Some (new_end weight))) (cond (is_end (one, other) e) (f (Some (new_end weight))) (f (end_of w.ends e)))
+  reads f e = read_put_end (put_end w.ends (one, other) (new_end weight)) (other, one) (new_end weight) f e
+      ∙ ap (λ z. cond (is_end (other, one) e) (f (Some (new_end weight))) z) (read_put_end w.ends (one, other) (new_end weight) f e)
 
   cut : (is_unbroken w.ends (one, other) ≡ false) × (is_up w.ends (one, other) ≡ false) × (is_up w.ends (other, one) ≡ false)
   cut =

@@ -9,7 +9,7 @@ use Rattle.zr_msg.specs.declared.event.Event.TheVariants.{Up, From}
 use Rattle.zr_msg.specs.declared.msg.Msg.{Msg}
 use Rattle.zr_msg.specs.declared.msg.Msg.TheVariants.{Sub, Unsub, Able, Unable, Interest, EndInterest, ToldSub, ToldAble, ToldUnsub, ToldUnable, ToldEnd, Push, Request, Response, Final, State, Step, Snap}
 use Rattle.zr_msg.specs.declared.peer.LinkPeer.{LinkPeer}
-use Rattle.zr_msg.specs.declared.peer.Peer.{Peer}
+use Rattle.zr_msg.specs.Peer.{PeerState}
 use Rattle.zr_pend.specs.declared.branch.Asker.{Asker}
 use Rattle.zr_pend.specs.Pending.{branch}
 use Rattle.zr_pend.specs.Readings.{back}
@@ -87,7 +87,7 @@ links_stay node from (Snap source number decls) = refl
 
 -- ---- a link comes up
 
-module _ (node : NodeState) (link : LinkNo) (peer : Peer) (fresh : IsFresh node link peer) (h : AreOfLinks node) where
+module _ (node : NodeState) (link : LinkNo) (peer : PeerState) (fresh : IsFresh node link peer) (h : AreOfLinks node) where
   -- who asked is named as before
   places : (o : Option (Option Asker)) → ((a : Asker) → o ≡ Some (Some a) → IsUp node.links a.link.0) →
       option_map (λ q. option_and_then (λ a. place_in (after node (Up link peer)) a) q) o ≡ option_map (λ q. option_and_then (λ a. place_in node a) q) o

@@ -182,9 +182,9 @@ module _ (n : ℕ) (now : Moment) (tables : (x : Name) (r : RouterState) → rou
   pub act_few : (line : ℕ) (act : Act) → IfSome (went now (outcome w line act)) Few
   unfolding outcome
   act_few line (a.Router id) = for_router now Few id (λ free room. comes id (not_there (router_of w.routers id) (free_name w id free).0))
-  act_few line (a.Client id router) = for_client now Few (λ u v report t k. of_each u v t (λ x b. AreFew (n + 1) b) k) line id router (λ r found free room taken. hears router r found (up_event r (record { id = id; role = Client })))
-  act_few line (a.Link one other) = for_link now Few one other (λ apart r found q found' new room. stays)
-  act_few line (a.Up router name) = for_up now Few (λ u v report t k. of_each u v t (λ x b. AreFew (n + 1) b) k) line router name (λ r found there s at_end unbroken down taken. hears router r found (up_event r (peer_of w name)))
+  act_few line (a.Client id router) = for_client now Few (λ u v report t k. of_each u v t (λ x b. AreFew (n + 1) b) k) line id router (λ r found free room taken. hears router r found (up_event r (record { id = id; role = Client; weight = 1 })))
+  act_few line (a.Link one other weight) = for_link now Few one other weight (λ apart r found q found' new room. stays)
+  act_few line (a.Up router name) = for_up now Few (λ u v report t k. of_each u v t (λ x b. AreFew (n + 1) b) k) line router name (λ r found there s at_end unbroken down taken. hears router r found (up_event r (peer_of w name s.weight)))
   act_few line (a.Break router name) = for_break now Few router name (λ r found there s at_end unbroken. stays)
   act_few line (a.Down router name) = for_down now Few (λ u v report t k. of_each u v t (λ x b. AreFew (n + 1) b) k) line router name (λ r found there s at_end up cut l number taken. hears router r found (Down l))
   act_few line (a.Sub client id key) = for_declare now Few line client k.Sub id key (Sub id key) (λ s found fresh e at_end unbroken r there weighs. heavier s.router key r there)

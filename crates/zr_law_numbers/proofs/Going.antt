@@ -196,26 +196,26 @@ module _ (now : Moment) (g : Goes now.world) (h : NumbersGo now.world) where
       clients = h.clients;
     }
 
-    upped : (n : ℕ) (name : List ℕ) (s : EndState) → end_of w.ends (a, name) ≡ Some s → s.up ≡ false → refuses r.node (up_event r (peer_of w name)) ≡ None → IsSound (w_up w n a name r s) → NumbersGo (w_up w n a name r s)
+    upped : (n : ℕ) (name : List ℕ) (s : EndState) → end_of w.ends (a, name) ≡ Some s → s.up ≡ false → refuses r.node (up_event r (peer_of w name s.weight)) ≡ None → IsSound (w_up w n a name r s) → NumbersGo (w_up w n a name r s)
     upped n name s es down taken sound' = record {
-      shown = shown_then w (w_up w n a name r s) h.shown (up_links w g.sound g.orderly a r er name s es n may (done (up_event r (peer_of w name)) may taken) AnyDeed AnyDeed (any_fits a r.node (up_event r (peer_of w name)) n) sound');
-      nodes = rows_then (up_event r (peer_of w name)) may taken;
+      shown = shown_then w (w_up w n a name r s) h.shown (up_links w g.sound g.orderly a r er name s es n may (done (up_event r (peer_of w name s.weight)) may taken) AnyDeed AnyDeed (any_fits a r.node (up_event r (peer_of w name s.weight)) n) sound');
+      nodes = rows_then (up_event r (peer_of w name s.weight)) may taken;
       clients = h.clients;
     }
       where
-        may : MayCome r.node (up_event r (peer_of w name))
+        may : MayCome r.node (up_event r (peer_of w name s.weight))
         may = up_may_come w g.sound a name r er s es down
 
-    client_came : (n : ℕ) (id : List ℕ) → is_taken w id ≡ false → refuses r.node (up_event r (record { id = id; role = role.Client })) ≡ None → IsSound (w_client w n id a r) → NumbersGo (w_client w n id a r)
+    client_came : (n : ℕ) (id : List ℕ) → is_taken w id ≡ false → refuses r.node (up_event r (record { id = id; role = role.Client; weight = 1 })) ≡ None → IsSound (w_client w n id a r) → NumbersGo (w_client w n id a r)
     client_came n id free taken sound' = record {
-      shown = shown_then w (w_client w n id a r) h.shown (client_links w g.sound g.orderly a r er id free n may (done (up_event r (record { id = id; role = role.Client })) may taken) AnyDeed AnyDeed
-          (any_fits a r.node (up_event r (record { id = id; role = role.Client })) n) sound');
-      nodes = rows_then (up_event r (record { id = id; role = role.Client })) may taken;
+      shown = shown_then w (w_client w n id a r) h.shown (client_links w g.sound g.orderly a r er id free n may (done (up_event r (record { id = id; role = role.Client; weight = 1 })) may taken) AnyDeed AnyDeed
+          (any_fits a r.node (up_event r (record { id = id; role = role.Client; weight = 1 })) n) sound');
+      nodes = rows_then (up_event r (record { id = id; role = role.Client; weight = 1 })) may taken;
       clients = λ q s found. each_then IsApart (is_named q id) (new_client a) (client_of w.clients q) s (new_is_apart a) (h.clients q)
           (sym (value_new w.clients id q (new_client a) (not_there (client_of w.clients id) (free_name w id free).1)) ∙ found);
     }
       where
-        may : MayCome r.node (up_event r (record { id = id; role = role.Client }))
+        may : MayCome r.node (up_event r (record { id = id; role = role.Client; weight = 1 }))
         may = client_may_come w g.sound a id r er free
 
     downed : (n : ℕ) (name : List ℕ) (s : EndState) → end_of w.ends (a, name) ≡ Some s → s.unbroken ≡ false → (k : LinkPeer) → link_to r.node.links name ≡ Some k → MayCome r.node (Down k.link) →
@@ -362,8 +362,8 @@ module _ (now : Moment) (g : Goes now.world) (h : NumbersGo now.world) where
     clients = h.clients;
   })
   act_numbers n (c.Client id router) = and_goes _ (for_client now Kept (if_sound NumbersGo (λ u v t s. numbers_told u v t)) n id router (λ r er free room taken. client_came router r er n id free taken))
-  act_numbers n (c.Link one other) = for_link now IsKept one other (λ apart r er q eq new room g'. record {
-    shown = shown_then w (w_link w one other) h.shown (links_stay AnyDeed AnyDeed w (w_link w one other) (link_links w g.sound g.orderly one other r q er eq new));
+  act_numbers n (c.Link one other weight) = for_link now IsKept one other weight (λ apart r er q eq new room g'. record {
+    shown = shown_then w (w_link w one other weight) h.shown (links_stay AnyDeed AnyDeed w (w_link w one other weight) (link_links w g.sound g.orderly one other weight r q er eq new));
     nodes = h.nodes;
     clients = h.clients;
   })

@@ -10,7 +10,7 @@ use Rattle.zr_graph.proofs.Names.{same_is, same_refl}
 use Rattle.zr_msg.specs.declared.msg.Msg.{Msg}
 use Rattle.zr_msg.specs.declared.event.Event.{Event}
 use Rattle.zr_msg.specs.declared.event.Event.TheVariants.{Up, Down, From}
-use Rattle.zr_msg.specs.declared.peer.Peer.{Peer}
+use Rattle.zr_msg.specs.Peer.{PeerState}
 use Rattle.zr_msg.specs.declared.peer.LinkPeer.{LinkPeer}
 use Rattle.zr_node_spec.specs.Tables.{link_at, link_to}
 use Rattle.zr_node_spec.specs.State.{NodeState, new_link}
@@ -53,7 +53,7 @@ stays_from node link msg name = record {
 }
 
 module _ (node : NodeState) (unique : AreUnique node.links) where
-  pub stays_up : (link : LinkNo) (peer : Peer) (name : List ℕ) → link_at node.links link.0 ≡ None → link_to node.links peer.id ≡ None → StaysTo node (Up link peer) name
+  pub stays_up : (link : LinkNo) (peer : PeerState) (name : List ℕ) → link_at node.links link.0 ≡ None → link_to node.links peer.id ≡ None → StaysTo node (Up link peer) name
   stays_up link peer name number free = record {
     old = λ l found. more ∙ ap (λ b. cond b (Some (new_link link peer)) (link_to node.links name)) (other l found) ∙ found;
     new = λ l none found. by l none (is_named peer.id name) (sym more ∙ found);

@@ -10,7 +10,7 @@ use Rattle.zr_msg.specs.declared.event.Event.TheVariants.{Up, Down}
 use Rattle.zr_msg.specs.declared.extras.Extras.{Extras}
 use Rattle.zr_msg.specs.declared.msg.Target.{Target}
 use Rattle.zr_msg.specs.declared.peer.LinkPeer.{LinkPeer}
-use Rattle.zr_msg.specs.declared.peer.Peer.{Peer}
+use Rattle.zr_msg.specs.Peer.{PeerState}
 use Rattle.zr_pend.specs.declared.branch.Asker.{Asker}
 use Rattle.zr_pend.specs.declared.branch.Branch.{Branch}
 use Rattle.zr_pend.specs.Row.{RowState}
@@ -123,7 +123,7 @@ up_stays links l up none n p = ap is_some (at_with_link links l n up none) ∙ b
     by true = refl
     by false = p
 
-pub up_keeps : (node : NodeState) (link : LinkNo) (peer : Peer) → IsFresh node link peer → AreOfLinks node → AreOfLinks (after node (Up link peer))
+pub up_keeps : (node : NodeState) (link : LinkNo) (peer : PeerState) → IsFresh node link peer → AreOfLinks node → AreOfLinks (after node (Up link peer))
 up_keeps node link peer fresh h =
     let l : LinkPeer = new_link link peer in
     record {

@@ -114,7 +114,7 @@ module _ (now : Moment) (h : AreOpen now.world.clients) where
   unfolding outcome
   act_open line (a.Router id) = for_router now Open id (λ free room. h)
   act_open line (a.Client id router) = for_client now Open line id router (λ r found free room taken. comes id router (not_there (client_of w.clients id) (free_name w id free).1))
-  act_open line (a.Link one other) = for_link now Open one other (λ apart r found q found' new room. h)
+  act_open line (a.Link one other weight) = for_link now Open one other weight (λ apart r found q found' new room. h)
   act_open line (a.Up router name) = for_up now Open line router name (λ r found there s at_end unbroken down taken. h)
   act_open line (a.Break router name) = for_break now Open router name (λ r found there s at_end unbroken. h)
   act_open line (a.Down router name) = for_down now Open line router name (λ r found there s at_end up cut l number taken. h)

@@ -14,7 +14,7 @@ use Rattle.zr_msg.specs.declared.msg.Msg.TheVariants.{Sub, Unsub, Able, Unable, 
 use Rattle.zr_msg.specs.declared.event.Event.{Event}
 use Rattle.zr_msg.specs.declared.event.Event.TheVariants.{Down}
 use Rattle.zr_msg.specs.declared.peer.LinkPeer.{LinkPeer}
-use Rattle.zr_msg.specs.declared.peer.Peer.{Peer}
+use Rattle.zr_msg.specs.Peer.{PeerState}
 use Rattle.zr_msg.specs.declared.peer.Role.{Role}
 use Rattle.zr_msg.specs.declared.peer.Role.TheVariants.{Client, Router}
 use Rattle.zr_local.specs.declared.row.Row.{Row}
@@ -27,7 +27,7 @@ use Rattle.zr_node_spec.specs.Samples.{subscribes, leads_to_subscriber, tree_of,
 use Rattle.zr_node_spec.specs.Snapshots.{is_new_child, snapshot, snapshots_on, sends_snapshots}
 use Rattle.zr_node_spec.specs.Queries.{sends_ends}
 use Rattle.zr_node_spec.specs.State.{NodeState, tables}
-use Rattle.zr_node_spec.specs.Table.{is_other_router, own_record, joined, parted, all_records, rows_left, sends_rows, sends_own, sends_up, sends_parted, sends_down, sends_from, sends_first, sends, after}
+use Rattle.zr_node_spec.specs.Table.{own_link, is_other_router, own_record, joined, parted, all_records, rows_left, sends_rows, sends_own, sends_up, sends_parted, sends_down, sends_from, sends_first, sends, after}
 use Rattle.zr_law_numbers.specs.Deeds.{handles_msg}
 
 -- a reading of messages that finds nothing in records, samples, changes and snapshots
@@ -99,15 +99,15 @@ module _ {X : Type 0} (tells : Msg → List X) (none : IsOfQueries tells) where
     records_silent [] = refl
     records_silent (r ∷ rs) = ap (λ z. z ++ flat_map tells (map (λ x. State x) rs)) (none.state r) ∙ records_silent rs
 
-    pub up_silent : (link : ℕ) (peer : Peer) (role : Role) (to : ℕ) → flat_map tells (sends_up n link peer role to) ≡ []
+    pub up_silent : (link : ℕ) (peer : PeerState) (role : Role) (to : ℕ) → flat_map tells (sends_up n link peer role to) ≡ []
     up_silent link peer Client to = refl
     up_silent link peer Router to = by (to == link)
       where
-        by : (t : Bool) → flat_map tells (cond t (all_records (joined n.base peer.id)) (sends_own n link (joined n.base peer.id) to)) ≡ []
-        by true = records_silent (joined n.base peer.id).records
-        by false = own_silent link (joined n.base peer.id) to
+        by : (t : Bool) → flat_map tells (cond t (all_records (joined n.base (own_link peer))) (sends_own n link (joined n.base (own_link peer)) to)) ≡ []
+        by true = records_silent (joined n.base (own_link peer)).records
+        by false = own_silent link (joined n.base (own_link peer)) to
 
-    parted_silent : (link : ℕ) (peer : Peer) (role : Role) (to : ℕ) → flat_map tells (sends_parted n link peer role to) ≡ []
+    parted_silent : (link : ℕ) (peer : PeerState) (role : Role) (to : ℕ) → flat_map tells (sends_parted n link peer role to) ≡ []
     parted_silent link peer Client to = refl
     parted_silent link peer Router to = own_silent link (parted n.base peer.id) to
 

@@ -40,7 +40,7 @@ asks_publishes line (c.Get client number target content) q e =
     ap (λ (z : Asked). Some (record { client = z.client; carried = Query z.target z.content })) one
 asks_publishes line (c.Router id) q e = absurd (none-some q e)
 asks_publishes line (c.Client id router) q e = absurd (none-some q e)
-asks_publishes line (c.Link one other) q e = absurd (none-some q e)
+asks_publishes line (c.Link one other weight) q e = absurd (none-some q e)
 asks_publishes line (c.Up router neighbour) q e = absurd (none-some q e)
 asks_publishes line (c.Break router neighbour) q e = absurd (none-some q e)
 asks_publishes line (c.Down router neighbour) q e = absurd (none-some q e)
@@ -100,7 +100,7 @@ attached_came name acts h = by (any acts false h)
     more : (b : Bool) (act : Act) → attached_by name b act ≡ true → (b ≡ true) ⊎ (option_map_or (λ x. is_named name x) (client_in act) false ≡ true)
     more b (c.Router id) e = inl e
     more b (c.Client id router) e = or_cases b (is_named name id) e
-    more b (c.Link one other) e = inl e
+    more b (c.Link one other weight) e = inl e
     more b (c.Up router neighbour) e = inl e
     more b (c.Break router neighbour) e = inl (and_parts b (not (is_named name neighbour)) e).0
     more b (c.Down router neighbour) e = inl e

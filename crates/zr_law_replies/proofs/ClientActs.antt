@@ -67,13 +67,13 @@ module _ (acts : List Numbered) (m : Moment) (x : Numbered) (before : Earlier ac
     client_kept quiet n id router = for_client m IsKept n id router (λ r er free room taken g' shows'.
         let v : WorldState = w_client w n id router r in
         let u : WorldState = told.w_client w n id router r in
-        let event : Event = up_event r (record { id = id; role = role.Client }) in
-        let tells : IsTold u v = telling_told u router r event n (router_heard (with_ends w (put_end w.ends (router, id) (lifted new_end))) router r er event n) in
-        let may : MayCome r.node (up_event r (record { id = id; role = role.Client })) = client_may_come w g.sound router id r er free in
-        let goes : Fine v = links_then u v tells (FineAsk acts' w v lines) (FineSay acts' report' v lines) w (client_links w g.sound g.orderly router r er id free n may (events_are_done r.node (up_event r (record { id = id; role = role.Client })) may taken (rows router r er))
-        (FineAsk acts' w v lines) (FineSay acts' report' v lines) (quiet_fits acts' report' w v lines router r.node (up_event r (record { id = id; role = role.Client })) n refl) (sound_back u v tells g'.sound)) in
-        came r er free v g' shows' goes (λ q. heard_router is_some w.routers router q r (up_event r (record { id = id; role = role.Client }))
-        ∙ read_kept is_some w.routers router q r (having_told r (up_event r (record { id = id; role = role.Client }))) er refl)
+        let event : Event = up_event r (record { id = id; role = role.Client; weight = 1 }) in
+        let tells : IsTold u v = telling_told u router r event n (router_heard (with_ends w (put_end w.ends (router, id) (lifted (new_end 1)))) router r er event n) in
+        let may : MayCome r.node (up_event r (record { id = id; role = role.Client; weight = 1 })) = client_may_come w g.sound router id r er free in
+        let goes : Fine v = links_then u v tells (FineAsk acts' w v lines) (FineSay acts' report' v lines) w (client_links w g.sound g.orderly router r er id free n may (events_are_done r.node (up_event r (record { id = id; role = role.Client; weight = 1 })) may taken (rows router r er))
+        (FineAsk acts' w v lines) (FineSay acts' report' v lines) (quiet_fits acts' report' w v lines router r.node (up_event r (record { id = id; role = role.Client; weight = 1 })) n refl) (sound_back u v tells g'.sound)) in
+        came r er free v g' shows' goes (λ q. heard_router is_some w.routers router q r (up_event r (record { id = id; role = role.Client; weight = 1 }))
+        ∙ read_kept is_some w.routers router q r (having_told r (up_event r (record { id = id; role = role.Client; weight = 1 }))) er refl)
         (λ d. value_new w.clients id d (new_client router) (not_there (client_of w.clients id) (free_name w id free).1)))
       where
         came : (r : RouterState) → router_of w.routers router ≡ Some r → is_taken w id ≡ false → (v : WorldState) (g' : Goes v) (shows' : AllShow v) → Fine v →

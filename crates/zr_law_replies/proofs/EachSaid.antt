@@ -75,7 +75,7 @@ module _ (acts : List Numbered) (m : Moment) (lines : Lines) (h : Stands acts m 
   unfolding outcome
   queries_kept n (c.Router id) before = quiet acts m lines h n (c.Router id) before all refl (outcome m.world n (c.Router id))
   queries_kept n (c.Client id router) before = quiet acts m lines h n (c.Client id router) before all refl (outcome m.world n (c.Client id router))
-  queries_kept n (c.Link one other) before = quiet acts m lines h n (c.Link one other) before all refl (outcome m.world n (c.Link one other))
+  queries_kept n (c.Link one other weight) before = quiet acts m lines h n (c.Link one other weight) before all refl (outcome m.world n (c.Link one other weight))
   queries_kept n (c.Up router name) before = quiet acts m lines h n (c.Up router name) before all refl (outcome m.world n (c.Up router name))
   queries_kept n (c.Break router name) before = quiet acts m lines h n (c.Break router name) before all refl (outcome m.world n (c.Break router name))
   queries_kept n (c.Down router name) before = quiet acts m lines h n (c.Down router name) before all refl (outcome m.world n (c.Down router name))

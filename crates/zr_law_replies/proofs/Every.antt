@@ -73,7 +73,7 @@ module _ (acts : List Numbered) (m : Moment) (h : Holds acts m) where
   kept n (c.Router id) before = routers.router_kept acts m (n, c.Router id) before h.lines h.go.0 (shows_of m h.go) h.stands (λ d k. record { ended = refl; asked = refl }) id
   kept n (c.Client id router) before =
       clients.client_kept acts m (n, c.Client id router) before h.lines h.go.0 (shows_of m h.go) h.stands h.go.1.1.tables (λ d k. record { ended = refl; asked = refl }) n id router
-  kept n (c.Link one other) before = routers.link_kept acts m (n, c.Link one other) before h.lines h.go.0 (shows_of m h.go) h.stands (λ d k. record { ended = refl; asked = refl }) one other
+  kept n (c.Link one other weight) before = routers.link_kept acts m (n, c.Link one other weight) before h.lines h.go.0 (shows_of m h.go) h.stands (λ d k. record { ended = refl; asked = refl }) one other weight
   kept n (c.Up router name) before =
       routers.up_kept acts m (n, c.Up router name) before h.lines h.go.0 (shows_of m h.go) h.stands h.go.1.1.tables (λ d k. record { ended = refl; asked = refl }) n router name
   kept n (c.Break router name) before = routers.break_kept acts m (n, c.Break router name) before h.lines h.go.0 (shows_of m h.go) h.stands (λ d k. record { ended = refl; asked = refl }) router name

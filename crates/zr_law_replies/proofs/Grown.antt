@@ -61,7 +61,7 @@ earlier last (y ∷ acts) x rest h =
 asked_line : (line : ℕ) (act : Act) → IfSome (asked_in line act) (λ q. (q.line ≡ line) × (is_step act ≡ false))
 asked_line line (a.Router id) = tt
 asked_line line (a.Client id router) = tt
-asked_line line (a.Link one other) = tt
+asked_line line (a.Link one other weight) = tt
 asked_line line (a.Up router neighbour) = tt
 asked_line line (a.Break router neighbour) = tt
 asked_line line (a.Down router neighbour) = tt
@@ -84,7 +84,7 @@ asked_line line (a.Show router) = tt
 saying_line : (line : ℕ) (act : Act) → IfSome (saying_in line act) (λ s. (s.line ≡ line) × (is_step act ≡ false))
 saying_line line (a.Router id) = tt
 saying_line line (a.Client id router) = tt
-saying_line line (a.Link one other) = tt
+saying_line line (a.Link one other weight) = tt
 saying_line line (a.Up router neighbour) = tt
 saying_line line (a.Break router neighbour) = tt
 saying_line line (a.Down router neighbour) = tt

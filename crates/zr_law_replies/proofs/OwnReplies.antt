@@ -53,7 +53,7 @@ may_come_same acts acts' report client r asked said =
 phase_brings : (name : List ℕ) (act : Act) → stays act ≡ true → brings_router name act ≡ false
 phase_brings name (c.Router id) e = absurd (false≢true e)
 phase_brings name (c.Client id router) e = refl
-phase_brings name (c.Link one other) e = refl
+phase_brings name (c.Link one other weight) e = refl
 phase_brings name (c.Up router neighbour) e = refl
 phase_brings name (c.Break router neighbour) e = refl
 phase_brings name (c.Down router neighbour) e = refl

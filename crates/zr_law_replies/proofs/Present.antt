@@ -93,10 +93,10 @@ module _ (acts : List Numbered) (now : Moment) (h : Present acts now) where
   unfolding outcome
   act_present n (c.Router id) = for_router now (Then n (c.Router id)) id (λ free room. comes n id (free_name now.world id free).0)
   act_present n (c.Client id router) = for_client now (Then n (c.Client id router)) n id router
-      (λ r er free room taken. same n (c.Client id router) (on_client now n id router r) (heard router r (up_event r (record { id = id; role = role.Client })) er) (λ x. refl))
-  act_present n (c.Link one other) = for_link now (Then n (c.Link one other)) one other (λ apart r er q eq free room. same n (c.Link one other) (on_link now one other) (λ x. refl) (λ x. refl))
+      (λ r er free room taken. same n (c.Client id router) (on_client now n id router r) (heard router r (up_event r (record { id = id; role = role.Client; weight = 1 })) er) (λ x. refl))
+  act_present n (c.Link one other weight) = for_link now (Then n (c.Link one other weight)) one other weight (λ apart r er q eq free room. same n (c.Link one other weight) (on_link now one other weight) (λ x. refl) (λ x. refl))
   act_present n (c.Up router name) = for_up now (Then n (c.Up router name)) n router name
-      (λ r er there s es unbroken down taken. same n (c.Up router name) (on_up now n router name r s) (heard router r (up_event r (peer_of now.world name)) er) (λ x. refl))
+      (λ r er there s es unbroken down taken. same n (c.Up router name) (on_up now n router name r s) (heard router r (up_event r (peer_of now.world name s.weight)) er) (λ x. refl))
   act_present n (c.Break router name) = for_break now (Then n (c.Break router name)) router name (λ r er there s es unbroken. same n (c.Break router name) (on_break now router name) (λ x. refl) (λ x. refl))
   act_present n (c.Down router name) = for_down now (Then n (c.Down router name)) n router name
       (λ r er there s es up cut l el taken. same n (c.Down router name) (on_down now n router name r l) (heard router r (Down l) er) (λ x. refl))
@@ -146,7 +146,7 @@ home_stays acts x name h = ap is_some (fold-append (λ (so_far : Option (List �
         at : (b : Bool) → is_some (cond b (Some router) (home acts name)) ≡ true
         at true = refl
         at false = h
-    by (c.Link one other) = h
+    by (c.Link one other weight) = h
     by (c.Up router neighbour) = h
     by (c.Break router neighbour) = h
     by (c.Down router neighbour) = h
@@ -191,7 +191,7 @@ module _ (acts : List Numbered) (now : Moment) (g : GoesDeclared acts now) (h : 
       (λ s es e ee unbroken clients same. more (n, c.End client number) (home_stays acts (n, c.End client number) client (there client s es), tt))
   act_says n (c.Router id) = none n (c.Router id) refl (went now (outcome now.world n (c.Router id)))
   act_says n (c.Client id router) = none n (c.Client id router) refl (went now (outcome now.world n (c.Client id router)))
-  act_says n (c.Link one other) = none n (c.Link one other) refl (went now (outcome now.world n (c.Link one other)))
+  act_says n (c.Link one other weight) = none n (c.Link one other weight) refl (went now (outcome now.world n (c.Link one other weight)))
   act_says n (c.Up router name) = none n (c.Up router name) refl (went now (outcome now.world n (c.Up router name)))
   act_says n (c.Break router name) = none n (c.Break router name) refl (went now (outcome now.world n (c.Break router name)))
   act_says n (c.Down router name) = none n (c.Down router name) refl (went now (outcome now.world n (c.Down router name)))

@@ -109,11 +109,11 @@ module _ (acts : List Numbered) (m : Moment) (x : Numbered) (before : Earlier ac
           by true f k = absurd (true≢false (sym (ap (λ t. is_some (cond t (Some (new_router id)) (router_of w.routers d)) || is_some (client_of w.clients d)) f) ∙ k))
           by false f k = sym (ap (λ t. is_some (cond t (Some (new_router id)) (router_of w.routers d)) || is_some (client_of w.clients d)) f) ∙ k
 
-  pub link_kept : Quiet → (one other : List ℕ) → IfSome (went m (link_step w one other)) IsKept
-  link_kept quiet one other = for_link m IsKept one other (λ apart r er q eq new room g' shows'.
-      let v : WorldState = w_link w one other in
+  pub link_kept : Quiet → (one other : List ℕ) (weight : ℕ) → IfSome (went m (link_step w one other weight)) IsKept
+  link_kept quiet one other weight = for_link m IsKept one other weight (λ apart r er q eq new room g' shows'.
+      let v : WorldState = w_link w one other weight in
       unchanged quiet [] v g' shows'
-      (links_stay (FineAsk (acts ++ x ∷ []) w v lines) (FineSay (acts ++ x ∷ []) (m.report ++ []) v lines) w v (link_links w g.sound g.orderly one other r q er eq new)) (λ z. refl) (λ z. refl) (λ z. refl))
+      (links_stay (FineAsk (acts ++ x ∷ []) w v lines) (FineSay (acts ++ x ∷ []) (m.report ++ []) v lines) w v (link_links w g.sound g.orderly one other weight r q er eq new)) (λ z. refl) (λ z. refl) (λ z. refl))
 
   pub break_kept : Quiet → (router name : List ℕ) → IfSome (went m (break_step w router name)) IsKept
   break_kept quiet router name = for_break m IsKept router name (λ r er there s es unbroken g' shows'.
@@ -142,15 +142,15 @@ module _ (acts : List Numbered) (m : Moment) (x : Numbered) (before : Earlier ac
     up_kept quiet n router name = for_up m IsKept n router name (λ r er there s es unbroken down taken g' shows'.
         let v : WorldState = w_up w n router name r s in
         let u : WorldState = told.w_up w n router name r s in
-        let event : Event = up_event r (peer_of w name) in
+        let event : Event = up_event r (peer_of w name s.weight) in
         let tells : IsTold u v = telling_told u router r event n (router_heard (with_ends w (with_end w.ends (router, name) (lifted s))) router r er event n) in
-        let may : MayCome r.node (up_event r (peer_of w name)) = up_may_come w g.sound router name r er s es down in
+        let may : MayCome r.node (up_event r (peer_of w name s.weight)) = up_may_come w g.sound router name r er s es down in
         unchanged quiet [] v g' shows'
         (links_then u v tells (FineAsk (acts ++ x ∷ []) w v lines) (FineSay (acts ++ x ∷ []) (m.report ++ []) v lines) w
-        (up_links w g.sound g.orderly router r er name s es n may (done router r er (up_event r (peer_of w name)) may taken)
+        (up_links w g.sound g.orderly router r er name s es n may (done router r er (up_event r (peer_of w name s.weight)) may taken)
         (FineAsk (acts ++ x ∷ []) w v lines) (FineSay (acts ++ x ∷ []) (m.report ++ []) v lines)
-        (quiet_fits (acts ++ x ∷ []) (m.report ++ []) w v lines router r.node (up_event r (peer_of w name)) n refl) (sound_back u v tells g'.sound)))
-        (λ z. heard_router is_some w.routers router z r (up_event r (peer_of w name)) ∙ read_kept is_some w.routers router z r (having_told r (up_event r (peer_of w name))) er refl) (λ z. refl) (λ z. refl))
+        (quiet_fits (acts ++ x ∷ []) (m.report ++ []) w v lines router r.node (up_event r (peer_of w name s.weight)) n refl) (sound_back u v tells g'.sound)))
+        (λ z. heard_router is_some w.routers router z r (up_event r (peer_of w name s.weight)) ∙ read_kept is_some w.routers router z r (having_told r (up_event r (peer_of w name s.weight))) er refl) (λ z. refl) (λ z. refl))
 
     pub down_kept : Quiet → (n : ℕ) (router name : List ℕ) → IfSome (went m (down_step w n router name)) IsKept
     down_kept quiet n router name = for_down m IsKept n router name (λ r er there s es up cut l el taken.

@@ -45,7 +45,7 @@ module _ (before : List Numbered) (mark : ℕ) (start : Moment) (q : Asked) (b :
   unfolding outcome
   stands_at n (c.Router id) earlier st fits = absurd (false≢true st)
   stands_at n (c.Client id router) earlier st fits = absurd (false≢true st)
-  stands_at n (c.Link one other) earlier st fits = absurd (false≢true st)
+  stands_at n (c.Link one other weight) earlier st fits = absurd (false≢true st)
   stands_at n (c.Up router name) earlier st fits = absurd (false≢true st)
   stands_at n (c.Break router name) earlier st fits = absurd (false≢true st)
   stands_at n (c.Down router name) earlier st fits = absurd (false≢true st)

@@ -90,7 +90,7 @@ get_linked m n (c.Get client number target content) q e =
     (record { client = s; found = es; end = z; at = ez; unbroken = unbroken }))
 get_linked m n (c.Router id) q e = absurd (none-some q e)
 get_linked m n (c.Client id router) q e = absurd (none-some q e)
-get_linked m n (c.Link one other) q e = absurd (none-some q e)
+get_linked m n (c.Link one other weight) q e = absurd (none-some q e)
 get_linked m n (c.Up router neighbour) q e = absurd (none-some q e)
 get_linked m n (c.Break router neighbour) q e = absurd (none-some q e)
 get_linked m n (c.Down router neighbour) q e = absurd (none-some q e)

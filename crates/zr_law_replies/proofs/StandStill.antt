@@ -47,7 +47,7 @@ module _ (es : Ends) where
     unfolding outcome
     act_ends n (c.Router id) st = absurd (false≢true st)
     act_ends n (c.Client id router) st = absurd (false≢true st)
-    act_ends n (c.Link one other) st = absurd (false≢true st)
+    act_ends n (c.Link one other weight) st = absurd (false≢true st)
     act_ends n (c.Up router name) st = absurd (false≢true st)
     act_ends n (c.Break router name) st = absurd (false≢true st)
     act_ends n (c.Down router name) st = absurd (false≢true st)

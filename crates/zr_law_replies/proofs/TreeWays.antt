@@ -1,12 +1,12 @@
 -- The clients at the ends of a query's tree are those that the query asks: a chain of nodes leads to each, and nobody else is there (`is_tree_of`).
-use Rattle.std.proofs.Common.{◌≡◌, ℕ, zero, suc, Bool, true, false, List, [], ◌∷◌, Some, inl, inr, length, unwrap_or, refl, sym, ap, ◌∙◌, subst}
+use Rattle.std.proofs.Common.{◌≡◌, ℕ, zero, suc, Bool, true, false, List, [], ◌∷◌, Some, inl, inr, unwrap_or, refl, sym, ap, ◌∙◌, subst}
 use Rattle.std.specs.Prelude.{◌==◌, ◌&&◌, not, is_some}
 use Rattle.std.specs.List.{list_any}
 use Rattle.std.proofs.lemmas.Bool.{false≢true, true≢false, and_parts, and_from, not-true, or_left, or_right, or_parts, or_from, eqb-true}
 use Rattle.zr_id.specs.Zid.{is_named}
 use Rattle.zr_tree.specs.Walk.{Graph}
-use Rattle.zr_tree.specs.Tree.{dist, reached, parent, below, toward}
-use Rattle.zr_tree.proofs.Distances.{zero_is_root}
+use Rattle.zr_tree.specs.Tree.{tree_depth, reached, parent, below, toward}
+use Rattle.zr_tree.proofs.Depths.{reached_depth, zero_is_root}
 use Rattle.zr_tree.proofs.Branches.{has_parent, parent_is, below_itself, below_parent, below_trans}
 use Rattle.zr_msg.specs.declared.peer.LinkPeer.{LinkPeer}
 use Rattle.zr_log.specs.Known.{decls}
@@ -121,11 +121,12 @@ module _ (before : List Numbered) (mark : ℕ) (now : Moment) (m : Marked before
             }
         by false other = by_far far.0 far.1
           where
-            far : (n : ℕ) × (dist (graph w) (home_of w q.client) x ≡ Some n)
-            far = there (dist (graph w) (home_of w q.client) x) (h.reaches (home_of w q.client) x (home_there before w h q s e) x_there)
+            far : (n : ℕ) × (tree_depth (graph w) (home_of w q.client) x ≡ Some n)
+            far = there (tree_depth (graph w) (home_of w q.client) x)
+                (sym (reached_depth (graph w) (home_of w q.client) x) ∙ h.reaches (home_of w q.client) x (home_there before w h q s e) x_there)
 
-            by_far : (n : ℕ) → dist (graph w) (home_of w q.client) x ≡ Some n → Comes x r
-            by_far zero d = absurd (true≢false (sym (names.refl (home_of w q.client)) ∙ ap (is_named (home_of w q.client)) (zero_is_root (graph w) (home_of w q.client) (suc (length (graph w).names)) x d) ∙ other))
+            by_far : (n : ℕ) → tree_depth (graph w) (home_of w q.client) x ≡ Some n → Comes x r
+            by_far zero d = absurd (true≢false (sym (names.refl (home_of w q.client)) ∙ ap (is_named (home_of w q.client)) (zero_is_root (graph w) (home_of w q.client) x d) ∙ other))
             by_far (suc n) d =
                 let p = has_parent (graph w) (home_of w q.client) x n d in
                 let asker : parent_of w q.client x ≡ p.0 = asks_router before w h q s e x x_there other ∙ ap (λ o. unwrap_or o x) p.1 in
@@ -188,8 +189,9 @@ module _ (before : List Numbered) (mark : ℕ) (now : Moment) (m : Marked before
       known : (x : List ℕ) (r : RouterState) → router_of w.routers x ≡ Some r → list_any (λ z. takes_it query z) (decls r.node.known sd.router) ≡ true
       known x r er = ap (list_any (λ z. takes_it query z)) (h.logs x sd.router r dest.0 er dest.1) ∙ set_asks (takes_it query) dest.0.node.rows link.0.link.0 rows_ask
 
-      far : (n : ℕ) × (dist (graph w) (home_of w q.client) sd.router ≡ Some n)
-      far = there (dist (graph w) (home_of w q.client) sd.router) (h.reaches (home_of w q.client) sd.router (home_there before w h q s e) dest_there)
+      far : (n : ℕ) × (tree_depth (graph w) (home_of w q.client) sd.router ≡ Some n)
+      far = there (tree_depth (graph w) (home_of w q.client) sd.router)
+          (sym (reached_depth (graph w) (home_of w q.client) sd.router) ∙ h.reaches (home_of w q.client) sd.router (home_there before w h q s e) dest_there)
 
       -- the next router toward it is a child
       next_child : (x p : List ℕ) → parent (graph w) (home_of w q.client) x ≡ Some p → below (graph w) (home_of w q.client) x sd.router ≡ true → tree.is_child t p x ≡ true
@@ -218,9 +220,9 @@ module _ (before : List Numbered) (mark : ℕ) (now : Moment) (m : Marked before
           k : (k : LinkPeer) × (link_to r.0.node.links x ≡ Some k)
           k = there (link_to r.0.node.links x) (h.sound.links p x r.0 r.1 ∙ ups.1)
 
-      from_home : (n : ℕ) (x : List ℕ) (ys : List (List ℕ)) → dist (graph w) (home_of w q.client) x ≡ Some n → below (graph w) (home_of w q.client) x sd.router ≡ true → Chain t x ys d →
+      from_home : (n : ℕ) (x : List ℕ) (ys : List (List ℕ)) → tree_depth (graph w) (home_of w q.client) x ≡ Some n → below (graph w) (home_of w q.client) x sd.router ≡ true → Chain t x ys d →
           (zs : List (List ℕ)) × Chain t (home_of w q.client) zs d
-      from_home zero x ys dx b c = (ys, subst (λ (z : List ℕ). Chain t z ys d) (sym (zero_is_root (graph w) (home_of w q.client) (suc (length (graph w).names)) x dx)) c)
+      from_home zero x ys dx b c = (ys, subst (λ (z : List ℕ). Chain t z ys d) (sym (zero_is_root (graph w) (home_of w q.client) x dx)) c)
       from_home (suc n) x ys dx b c =
           let p = has_parent (graph w) (home_of w q.client) x n dx in
           let f = parent_is (graph w) (home_of w q.client) x p.0 p.1 in

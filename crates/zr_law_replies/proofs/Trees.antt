@@ -1,13 +1,13 @@
 -- The tree of a query is one, where a mark is accepted: what each child of a node is, and that its parent is that node (`is_tree`).
-use Rattle.std.proofs.Common.{◌≡◌, ℕ, ◌-◌, ◌<◌, suc, Bool, true, false, cond, List, [], ◌∷◌, Option, Some, None, ◌⊎◌, inl, inr, length, unwrap_or, refl, sym, ap, ◌∙◌, arith}
+use Rattle.std.proofs.Common.{◌≡◌, ◌≤◌, ℕ, ◌-◌, ◌<◌, suc, Bool, true, false, cond, List, [], ◌∷◌, Option, Some, None, ◌⊎◌, inl, inr, length, unwrap_or, refl, sym, ap, ◌∙◌, arith}
 use Rattle.std.specs.Prelude.{◌==◌, ◌&&◌, ◌||◌, not, is_some}
 use Rattle.std.specs.List.{list_any}
 use Rattle.std.specs.Option.{option_map_or}
 use Rattle.std.proofs.lemmas.Bool.{false≢true, true≢false, and_parts, eq-eqb}
 use Rattle.zr_id.specs.Zid.{is_named}
 use Rattle.zr_tree.specs.Walk.{Graph}
-use Rattle.zr_tree.specs.Tree.{dist, parent, is_child, leads}
-use Rattle.zr_tree.proofs.Distances.{root_at_zero, least_some}
+use Rattle.zr_tree.specs.Tree.{tree_depth, parent, is_child}
+use Rattle.zr_tree.proofs.Depths.{depth_bounded, reached_depth, root_depth}
 use Rattle.zr_lists.proofs.Finds.{in_filter}
 use Rattle.zr_tree.proofs.Branches.{parent_is, child_is}
 use Rattle.zr_msg.specs.declared.msg.Target.{Target}
@@ -303,14 +303,14 @@ module _ (before : List Numbered) (w : WorldState) (h : AreReady before w) (q : 
 
     -- ---- heights
 
-    far : (n : ℕ) × (dist (graph w) (home_of w q.client) x ≡ Some n)
-    far = there (dist (graph w) (home_of w q.client) x) (h.reaches (home_of w q.client) x home_there x_is_router)
+    far : (n : ℕ) × (tree_depth (graph w) (home_of w q.client) x ≡ Some n)
+    far = there (tree_depth (graph w) (home_of w q.client) x) (sym (reached_depth (graph w) (home_of w q.client) x) ∙ h.reaches (home_of w q.client) x home_there x_is_router)
 
     height_x : height_at w q.client x ≡ suc (length (graph w).names) - far.0
     height_x = rw (differ q.client x client_apart x_is_router, x_is_router, far.1) refl
 
     near_x : far.0 < suc (length (graph w).names)
-    near_x = (least_some (λ n. leads (graph w) n (home_of w q.client) x) (suc (length (graph w).names)) far.0 far.1).below
+    near_x = let few = depth_bounded (graph w) (home_of w q.client) x far.0 far.1 in omega (arith, few)
 
     pub passed_falls : height_at w q.client y < height_at w q.client x
     passed_falls = by (has_router w y) refl
@@ -326,8 +326,7 @@ module _ (before : List Numbered) (w : WorldState) (h : AreReady before w) (q : 
             let both : Some far.0 ≡ Some f.0 = sym far.1 ∙ f.1.from_parent in
             let same : far.0 ≡ f.0 = cc in
             let at_y : height_at w q.client y ≡ suc (length (graph w).names) - suc f.0 = rw (not_to_client, routes, f.1.to_child) refl in
-            let lt : suc f.0 < suc (length (graph w).names) =
-            (least_some (λ n. leads (graph w) n (home_of w q.client) y) (suc (length (graph w).names)) (suc f.0) f.1.to_child).below in
+            let lt : suc f.0 ≤ length (graph w).names = depth_bounded (graph w) (home_of w q.client) y (suc f.0) f.1.to_child in
             let at : height_at w q.client x ≡ suc (length (graph w).names) - far.0 = height_x in
             omega (arith, lt, at, at_y, same)
 
@@ -344,7 +343,7 @@ module _ (before : List Numbered) (w : WorldState) (h : AreReady before w) (q : 
   home_height : height_at w q.client (home_of w q.client) < height_at w q.client q.client
   home_height =
       let at_home : height_at w q.client (home_of w q.client) ≡ suc (length (graph w).names) =
-      rw (differ q.client (home_of w q.client) client_apart home_there, home_there, root_at_zero (graph w) (home_of w q.client) (length (graph w).names)) (omega arith) in
+      rw (differ q.client (home_of w q.client) client_apart home_there, home_there, root_depth (graph w) (home_of w q.client)) (omega arith) in
       let at_root : height_at w q.client q.client ≡ suc (suc (length (graph w).names)) = rw (names.refl q.client) refl in
       omega (arith, at_home, at_root)
 

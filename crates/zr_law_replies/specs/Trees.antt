@@ -5,7 +5,7 @@ use Rattle.std.specs.Prelude.{◌≡◌, ℕ, ◌-◌, ◌||◌, suc, Bool, true
 use Rattle.std.specs.Option.{option_map, option_map_or}
 use Rattle.zr_id.specs.Zid.{is_named}
 use Rattle.zr_id.specs.declared.link.LinkNo.{LinkNo}
-use Rattle.zr_tree.specs.Tree.{dist, parent}
+use Rattle.zr_tree.specs.Tree.{tree_depth, parent}
 use Rattle.zr_msg.specs.declared.msg.Target.{Target}
 use Rattle.zr_msg.specs.declared.peer.LinkPeer.{LinkPeer}
 use Rattle.zr_node_spec.specs.Tables.{link_at, link_to}
@@ -42,11 +42,11 @@ module _ (w : WorldState) (client : List ℕ) where
   abbrev pub passes_at : List ℕ → Bool
   passes_at x = is_named client x || has_router w x
 
-  -- how far it is at most from a node to the clients that are asked
+  -- how many links it is at most from a node to the clients that are asked
   abbrev pub height_at : List ℕ → ℕ
   height_at x =
       if is_named client x then suc (suc (length (graph w).names))
-      else if has_router w x then option_map_or (λ n. suc (length (graph w).names) - n) (dist (graph w) (home_of w client) x) 0
+      else if has_router w x then option_map_or (λ n. suc (length (graph w).names) - n) (tree_depth (graph w) (home_of w client) x) 0
       else 0
 
 -- the neighbours of some links

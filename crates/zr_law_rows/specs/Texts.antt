@@ -72,7 +72,8 @@ pub record ContentsAreTold : Type 0 where
 
 -- what routers tell each other
 pub record RoutersAreTold : Type 0 where
-  pub state : msg_text (State (record { id = two; seq = 2; links = one ∷ three ∷ [] })) ≡ codes "record 02 2 01,03"
+  pub state : msg_text (State (record { id = two; seq = 2; links = record { id = one; weight = 1 } ∷ record { id = three; weight = 1 } ∷ [] })) ≡ codes "record 02 2 01,03"
+  pub weighted : msg_text (State (record { id = two; seq = 2; links = record { id = one; weight = 5 } ∷ record { id = three; weight = 1 } ∷ [] })) ≡ codes "record 02 2 01:5,03"
   pub alone : msg_text (State (record { id = two; seq = 0; links = [] })) ≡ codes "record 02 0 -"
   pub added : msg_text (Step two 1 true sub_a) ≡ codes "entry 02 1 + sub a"
   pub removed : msg_text (Step two 2 false full_ab) ≡ codes "entry 02 2 - full a/b"

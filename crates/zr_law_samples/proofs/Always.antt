@@ -77,10 +77,10 @@ module _ (acts : List Numbered) (now : Moment) (h : Named acts now) where
   unfolding outcome
   act_named n (c.Router id) = for_router now (NamedBy n (c.Router id)) id (λ free room. router_named n id (free_name now.world id free).0)
   act_named n (c.Client id router) = for_client now (NamedBy n (c.Client id router)) n id router
-      (λ r er free room taken. same_names n (c.Client id router) (on_client now n id router r) (heard_names router r (up_event r (record { id = id; role = role.Client })) er))
-  act_named n (c.Link one other) = for_link now (NamedBy n (c.Link one other)) one other (λ apart r er q eq free room. same_names n (c.Link one other) (on_link now one other) (λ x. refl))
+      (λ r er free room taken. same_names n (c.Client id router) (on_client now n id router r) (heard_names router r (up_event r (record { id = id; role = role.Client; weight = 1 })) er))
+  act_named n (c.Link one other weight) = for_link now (NamedBy n (c.Link one other weight)) one other weight (λ apart r er q eq free room. same_names n (c.Link one other weight) (on_link now one other weight) (λ x. refl))
   act_named n (c.Up router name) = for_up now (NamedBy n (c.Up router name)) n router name
-      (λ r er there s es unbroken down taken. same_names n (c.Up router name) (on_up now n router name r s) (heard_names router r (up_event r (peer_of now.world name)) er))
+      (λ r er there s es unbroken down taken. same_names n (c.Up router name) (on_up now n router name r s) (heard_names router r (up_event r (peer_of now.world name s.weight)) er))
   act_named n (c.Break router name) = for_break now (NamedBy n (c.Break router name)) router name (λ r er there s es unbroken. same_names n (c.Break router name) (on_break now router name) (λ x. refl))
   act_named n (c.Down router name) = for_down now (NamedBy n (c.Down router name)) n router name
       (λ r er there s es up cut l el taken. same_names n (c.Down router name) (on_down now n router name r l) (heard_names router r (Down l) er))

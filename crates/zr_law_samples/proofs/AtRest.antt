@@ -126,7 +126,7 @@ act_met : (now : Moment) → IsMet now.world → (n : ℕ) (act : Act) → stays
 unfolding outcome
 act_met now h n (c.Router id) st = absurd (false≢true st)
 act_met now h n (c.Client id router) st = absurd (false≢true st)
-act_met now h n (c.Link one other) st = absurd (false≢true st)
+act_met now h n (c.Link one other weight) st = absurd (false≢true st)
 act_met now h n (c.Up router name) st = absurd (false≢true st)
 act_met now h n (c.Break router name) st = absurd (false≢true st)
 act_met now h n (c.Down router name) st = absurd (false≢true st)

@@ -18,7 +18,7 @@ use Rattle.zr_script_spec.specs.declared.command.Act.TheVariants as c
 use Rattle.zr_script_spec.specs.declared.command.Command.{Command}
 use Rattle.zr_script_spec.specs.declared.command.Command.TheVariants as command
 use Rattle.zr_script_spec.specs.Lines.{most_line}
-use Rattle.zr_script_spec.specs.Words.{words, is_word, is_clean, one_of, two_of, three_of, four_of, five_of, zid_at, number_at, target_at, mode_at, kinds_at, aggregate_at, key_of_word, key_at, optional_key_at}
+use Rattle.zr_script_spec.specs.Words.{words, is_word, is_clean, one_of, two_of, some_two_of, three_of, four_of, five_of, zid_at, number_at, link_weight_at, target_at, mode_at, kinds_at, aggregate_at, key_of_word, key_at, optional_key_at}
 use Rattle.zr_script_spec.specs.Command.{router_line, client_line, link_line, up_line, break_line, down_line, sub_line, unsub_line, able_line, unable_line, interest_line, uninterest_line, put_line, del_line, get_line, reply_line, end_line, handle_line, take_line, run_line, mark_line, show_line, is_command, by_name, by_later_name, by_last_name, by_words, is_silent, command_of}
 use Rattle.zr_script_spec.specs.Step.{◌>>=◌}
 use Rattle.zr_world_spec.specs.World.{End, WorldState}
@@ -114,11 +114,12 @@ client_text args =
 
 link_text : (args : List (List ℕ)) → IfOk (link_line args) AsksKeyText
 unfolding link_line
-link_text args = for_bind AsksKeyText (two_of args) _ (λ w ew. for_bind AsksKeyText (zid_at w.0) _ (λ one e. for_bind AsksKeyText (zid_at w.1) _ (λ other eo. by one other (is_named one other))))
+link_text args = for_bind AsksKeyText (some_two_of args) _ (λ w ew. for_bind AsksKeyText (zid_at w.0) _ (λ one e. for_bind AsksKeyText (zid_at w.1) _ (λ other eo.
+    for_bind AsksKeyText (link_weight_at w.2) _ (λ weight ev. by one other weight (is_named one other)))))
   where
-    by : (one other : List ℕ) (b : Bool) → IfOk (cond b (Err BadWords) (Ok (command.Act (c.Link one other)))) AsksKeyText
-    by one other true = tt
-    by one other false = tt
+    by : (one other : List ℕ) (weight : ℕ) (b : Bool) → IfOk (cond b (Err BadWords) (Ok (command.Act (c.Link one other weight)))) AsksKeyText
+    by one other weight true = tt
+    by one other weight false = tt
 
 up_text : (args : List (List ℕ)) → IfOk (up_line args) AsksKeyText
 unfolding up_line

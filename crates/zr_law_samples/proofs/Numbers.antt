@@ -113,7 +113,7 @@ agrees_from p (x ∷ xs) done last tags below h = (
 abbrev pub writes : Act → Bool
 writes (c.Router id) = false
 writes (c.Client id router) = true
-writes (c.Link one other) = false
+writes (c.Link one other weight) = false
 writes (c.Up router neighbour) = true
 writes (c.Break router neighbour) = false
 writes (c.Down router neighbour) = true

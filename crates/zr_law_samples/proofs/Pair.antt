@@ -160,7 +160,7 @@ pub record IsRouted (p : Pair) : Type 0 where
 abbrev pub Agrees : Pair → ℕ → Act → Type 0
 Agrees p n (c.Router id) = Unit {0}
 Agrees p n (c.Client id router) = Unit {0}
-Agrees p n (c.Link one other) = Unit {0}
+Agrees p n (c.Link one other weight) = Unit {0}
 Agrees p n (c.Up router neighbour) = Unit {0}
 Agrees p n (c.Break router neighbour) = Unit {0}
 Agrees p n (c.Down router neighbour) = Unit {0}

@@ -31,7 +31,7 @@ module _ (p : Pair) (routed : IsRouted p) where
   unfolding outcome
   act_flows done now h n (c.Router id) st ag = absurd (false≢true st)
   act_flows done now h n (c.Client id router) st ag = absurd (false≢true st)
-  act_flows done now h n (c.Link one other) st ag = absurd (false≢true st)
+  act_flows done now h n (c.Link one other weight) st ag = absurd (false≢true st)
   act_flows done now h n (c.Up router name) st ag = absurd (false≢true st)
   act_flows done now h n (c.Break router name) st ag = absurd (false≢true st)
   act_flows done now h n (c.Down router name) st ag = absurd (false≢true st)

@@ -10,8 +10,9 @@ use Rattle.zr_id.specs.Zid.{is_named}
 use Rattle.zr_id.specs.declared.link.LinkNo.{LinkNo}
 use Rattle.zr_tree.specs.Laws.{IsGraph}
 use Rattle.zr_tree.specs.Walk.{Graph, graph_of}
-use Rattle.zr_tree.specs.Tree.{dist, reached, parent, is_child, below, toward}
+use Rattle.zr_tree.specs.Tree.{tree_depth, reached, parent, is_child, below, toward}
 use Rattle.zr_lists.proofs.Finds.{in_filter}
+use Rattle.zr_tree.proofs.Depths.{reached_depth}
 use Rattle.zr_tree.proofs.Branches.{parent_is, child_is, child_from}
 use Rattle.zr_msg.specs.declared.msg.Msg.{Msg}
 use Rattle.zr_msg.specs.declared.event.Event.TheVariants.{From}
@@ -85,8 +86,8 @@ module _ (before phase : List Numbered) (w : WorldState) (h : AreReady before w)
   receiver_apart : is_there receiver ≡ false
   receiver_apart = h.apart receiver (ap is_some ed)
 
-  pub far : (n : ℕ) × (dist (graph w) sa.router sd.router ≡ Some n)
-  far = there (dist (graph w) sa.router sd.router) (h.reaches sa.router sd.router root_there dest_there)
+  pub far : (n : ℕ) × (tree_depth (graph w) sa.router sd.router ≡ Some n)
+  far = there (tree_depth (graph w) sa.router sd.router) (sym (reached_depth (graph w) sa.router sd.router) ∙ h.reaches sa.router sd.router root_there dest_there)
 
   abbrev pub pair_of : Pair
   pair_of = record {

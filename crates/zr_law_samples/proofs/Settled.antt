@@ -4,8 +4,7 @@ use Rattle.std.specs.Prelude.{is_some}
 use Rattle.std.specs.Map.{keys_of}
 use Rattle.zr_graph.specs.Record.{IsAscending}
 use Rattle.zr_tree.specs.Laws.{IsGraph}
-use Rattle.zr_tree.specs.Walk.{walk_length}
-use Rattle.zr_tree.proofs.Paths.{bounded, walk_leads}
+use Rattle.zr_tree.proofs.Paths.{walk_reaches}
 use Rattle.zr_world_spec.specs.Joined.{graph}
 use Rattle.zr_world_spec.specs.Moments as moments
 use Rattle.zr_world_spec.proofs.Lines.{at_some}
@@ -22,7 +21,7 @@ tables_are_settled acts m is settled joined = record {
   is_graph = g;
   reaches = λ x z here other.
       let walk = walk_to m.world stands.sound stands.holds settled joined ascend x z here other in
-      ap is_some (bounded (graph m.world) g (walk_length (graph m.world) x walk.0) x z (walk_leads (graph m.world) g x z walk.0 walk.1)).2;
+      ap is_some (walk_reaches (graph m.world) g x z walk.0 walk.1).2;
   graphs = λ x r found. graphs_are_one acts m x r is settled joined found;
   logs = λ x z rx rz ex ez.
       let walk = walk_to m.world stands.sound stands.holds settled joined ascend x z (ap is_some ex) (ap is_some ez) in

@@ -63,7 +63,7 @@ module _ (publisher : List ℕ) (clients : Clients) (none : client_of clients pu
   unfolding outcome
   act_mute done now h n (c.Router id) st = absurd (false≢true st)
   act_mute done now h n (c.Client id router) st = absurd (false≢true st)
-  act_mute done now h n (c.Link one other) st = absurd (false≢true st)
+  act_mute done now h n (c.Link one other weight) st = absurd (false≢true st)
   act_mute done now h n (c.Up router name) st = absurd (false≢true st)
   act_mute done now h n (c.Break router name) st = absurd (false≢true st)
   act_mute done now h n (c.Down router name) st = absurd (false≢true st)
@@ -171,7 +171,7 @@ module _ (receiver : List ℕ) (by_line : ℕ → Bool) where
   unfolding outcome
   act_unheard done now h n (c.Router id) st = absurd (false≢true st)
   act_unheard done now h n (c.Client id router) st = absurd (false≢true st)
-  act_unheard done now h n (c.Link one other) st = absurd (false≢true st)
+  act_unheard done now h n (c.Link one other weight) st = absurd (false≢true st)
   act_unheard done now h n (c.Up router name) st = absurd (false≢true st)
   act_unheard done now h n (c.Break router name) st = absurd (false≢true st)
   act_unheard done now h n (c.Down router name) st = absurd (false≢true st)

@@ -53,7 +53,7 @@ item_tag t msg tag h = carried_tag t msg tag (or_right (is_none (carried_by msg)
 allowed : (t : ℕ → Bool) (n : ℕ) (act : Act) → (not (writes act) || t n) ≡ true → Allows (λ x. t x.tag) n act
 allowed t n (c.Router id) k = tt
 allowed t n (c.Client id router) k = λ r peer. any_event t n k r.node (up_event r peer)
-allowed t n (c.Link one other) k = tt
+allowed t n (c.Link one other weight) k = tt
 allowed t n (c.Up router neighbour) k = λ r peer. any_event t n k r.node (up_event r peer)
 allowed t n (c.Break router neighbour) k = tt
 allowed t n (c.Down router neighbour) k = λ node link. any_event t n k node (Down link)
@@ -106,7 +106,7 @@ goes_tagged t node link msg tag h = ((λ to. by to (carried_by msg) refl h), λ 
 carried_allowed : (t : ℕ → Bool) (n : ℕ) (act : Act) → stays act ≡ true → (not (publishes act) || t n) ≡ true → Allows (λ x. is_none (carried_by x.msg) || t x.tag) n act
 carried_allowed t n (c.Router id) st k = absurd (false≢true st)
 carried_allowed t n (c.Client id router) st k = absurd (false≢true st)
-carried_allowed t n (c.Link one other) st k = tt
+carried_allowed t n (c.Link one other weight) st k = tt
 carried_allowed t n (c.Up router neighbour) st k = absurd (false≢true st)
 carried_allowed t n (c.Break router neighbour) st k = tt
 carried_allowed t n (c.Down router neighbour) st k = absurd (false≢true st)

@@ -18,7 +18,7 @@ use Rattle.zr_msg.specs.declared.msg.Msg.{Msg}
 use Rattle.zr_msg.specs.declared.msg.Msg.TheVariants as m
 use Rattle.zr_msg.specs.declared.event.Event.{Event}
 use Rattle.zr_msg.specs.declared.event.Event.TheVariants.{Down, From}
-use Rattle.zr_msg.specs.declared.peer.Peer.{Peer}
+use Rattle.zr_msg.specs.Peer.{PeerState}
 use Rattle.zr_msg.specs.declared.peer.Role.TheVariants as role
 use Rattle.zr_script_spec.specs.declared.command.Act.{Act}
 use Rattle.zr_script_spec.specs.declared.command.Act.TheVariants as c
@@ -58,9 +58,9 @@ AllPass t tag node event =
 -- what an act puts on its way passes
 abbrev pub Allows : (Tagged → Bool) → ℕ → Act → Type 0
 Allows t n (c.Router id) = Unit {0}
-Allows t n (c.Client id router) = (r : RouterState) (peer : Peer) → AllPass t n r.node (up_event r peer)
-Allows t n (c.Link one other) = Unit {0}
-Allows t n (c.Up router neighbour) = (r : RouterState) (peer : Peer) → AllPass t n r.node (up_event r peer)
+Allows t n (c.Client id router) = (r : RouterState) (peer : PeerState) → AllPass t n r.node (up_event r peer)
+Allows t n (c.Link one other weight) = Unit {0}
+Allows t n (c.Up router neighbour) = (r : RouterState) (peer : PeerState) → AllPass t n r.node (up_event r peer)
 Allows t n (c.Break router neighbour) = Unit {0}
 Allows t n (c.Down router neighbour) = (node : NodeState) (link : LinkNo) → AllPass t n node (Down link)
 Allows t n (c.Sub client id key) = t (record { msg = m.Sub id key; tag = n }) ≡ true
@@ -177,17 +177,17 @@ module _ (t : Tagged → Bool) (i : Item → Bool) (carried : (msg : Msg) (tag :
     act_watched n (c.Router id) k = for_router now (Watched t i) id (λ free room. record { waits = h.waits; sends_only = more [] (λ q. refl) })
     act_watched n (c.Client id router) k = for_client now (Watched t i) n id router
         (λ r er free room taken. record {
-          waits = hearing_passes t (put_end es (router, id) (lifted new_end)) router r (up_event r (record { id = id; role = role.Client })) n (k r (record { id = id; role = role.Client })) (put_end_all (Passes t) es h.waits (router, id) (lifted new_end) (refl, refl));
+          waits = hearing_passes t (put_end es (router, id) (lifted (new_end 1))) router r (up_event r (record { id = id; role = role.Client; weight = 1 })) n (k r (record { id = id; role = role.Client; weight = 1 })) (put_end_all (Passes t) es h.waits (router, id) (lifted (new_end 1)) (refl, refl));
           sends_only = more [] (λ q. refl);
         })
-    act_watched n (c.Link one other) k = for_link now (Watched t i) one other
+    act_watched n (c.Link one other weight) k = for_link now (Watched t i) one other weight
         (λ apart r er q eq free room. record {
-          waits = put_end_all (Passes t) (put_end es (one, other) new_end) (put_end_all (Passes t) es h.waits (one, other) new_end (refl, refl)) (other, one) new_end (refl, refl);
+          waits = put_end_all (Passes t) (put_end es (one, other) (new_end weight)) (put_end_all (Passes t) es h.waits (one, other) (new_end weight) (refl, refl)) (other, one) (new_end weight) (refl, refl);
           sends_only = more [] (λ q. refl);
         })
     act_watched n (c.Up router name) k = for_up now (Watched t i) n router name
         (λ r er there s es_ unbroken down taken. record {
-          waits = hearing_passes t (with_end es (router, name) (lifted s)) router r (up_event r (peer_of now.world name)) n (k r (peer_of now.world name))
+          waits = hearing_passes t (with_end es (router, name) (lifted s)) router r (up_event r (peer_of now.world name s.weight)) n (k r (peer_of now.world name s.weight))
               (with_end_all (Passes t) es h.waits (router, name) (lifted s) (ap is_some es_) (of_found (Passes t) (end_of es (router, name)) s es_ (h.waits (router, name))));
           sends_only = more [] (λ q. refl);
         })

@@ -16,7 +16,7 @@ use Rattle.zr_guarantee.specs.Broker.{asks_for, can_answer}
 abbrev pub HasKeyText : Act → Type 0
 HasKeyText (a.Router id) = Unit {0}
 HasKeyText (a.Client id router) = Unit {0}
-HasKeyText (a.Link one other) = Unit {0}
+HasKeyText (a.Link one other weight) = Unit {0}
 HasKeyText (a.Up router neighbour) = Unit {0}
 HasKeyText (a.Break router neighbour) = Unit {0}
 HasKeyText (a.Down router neighbour) = Unit {0}

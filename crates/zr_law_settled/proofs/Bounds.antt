@@ -2,12 +2,8 @@
 -- own record (`lines_bounded`); and its own links are names of routers that are there, none of them twice, which are 64 at most.
 use Rattle.std.proofs.Common.{◌≡◌, ◌≤◌, ◌+◌, ℕ, Bool, true, false, cond, [], ◌∷◌, Option, Some, None, refl, sym, ap, ◌∙◌, subst, arith}
 use Rattle.std.specs.List.Sorted.{IsStrictlySortedBy}
-use Rattle.std.specs.Cmp.Lexicographic.{slice_cmp, nat_list_cmp_total}
-use Rattle.std.specs.Ordering.{nat_cmp}
 use Rattle.std.specs.Option.{option_map_or}
-use Rattle.std.proofs.lemmas.List.Kept.{IsStrictlySortedBy-filter}
-use Rattle.zr_lists.proofs.Sorted.{sorted_inserted}
-use Rattle.zr_id.specs.Record.{RecordState}
+use Rattle.zr_id.specs.Record.{RecordState, linked_ids}
 use Rattle.zr_id.specs.declared.link.LinkNo.{LinkNo}
 use Rattle.zr_graph.specs.Record.{record_of, IsAscending}
 use Rattle.zr_graph.specs.Base.{BaseState, own_seq, is_newer, kept, relinked, fresh}
@@ -17,13 +13,14 @@ use Rattle.zr_msg.specs.declared.msg.Msg.{Msg}
 use Rattle.zr_msg.specs.declared.msg.Msg.TheVariants.{Sub, Unsub, Able, Unable, Interest, EndInterest, ToldSub, ToldAble, ToldUnsub, ToldUnable, ToldEnd, Push, Request, Response, Final, State, Step, Snap}
 use Rattle.zr_msg.specs.declared.event.Event.{Event}
 use Rattle.zr_msg.specs.declared.event.Event.TheVariants.{Up, Down, From}
-use Rattle.zr_msg.specs.declared.peer.Peer.{Peer}
+use Rattle.zr_msg.specs.Peer.{PeerState}
 use Rattle.zr_msg.specs.declared.peer.Role.{Role}
 use Rattle.zr_msg.specs.declared.peer.Role.TheVariants.{Client, Router}
+use Rattle.zr_node_spec.proofs.OwnLinks.{ascending_with, ascending_without}
 use Rattle.zr_node_spec.specs.Tables.{link_at, leads_to_router}
 use Rattle.zr_node_spec.specs.State.{NodeState}
 use Rattle.zr_msg.specs.declared.peer.LinkPeer.{LinkPeer}
-use Rattle.zr_node_spec.specs.Table.{with_name, without_name, own_links, base_up, base_down, base_parted, base_told, after}
+use Rattle.zr_node_spec.specs.Table.{with_linked, without_linked, own_link, own_links, base_up, base_down, base_parted, base_told, after}
 use Rattle.zr_law_settled.proofs.Spreading.{Name}
 use Rattle.zr_law_settled.proofs.Records.{Links, newer_is}
 
@@ -32,15 +29,15 @@ use Rattle.zr_law_settled.proofs.Records.{Links, newer_is}
 -- a base's own number is at most so high, and its own links ascend
 pub record IsBounded (n : ℕ) (b : BaseState) : Type 0 where
   pub number : own_seq b ≤ n
-  pub ascend : IsAscending (own_links b)
+  pub ascend : IsAscending (linked_ids (own_links b))
 
 pub bounded_later : (n m : ℕ) (b : BaseState) → n ≤ m → IsBounded n b → IsBounded m b
 bounded_later n m b le h = record { number = omega (arith, h.number, le); ascend = h.ascend }
 
-bounded_relinked : (n : ℕ) (b : BaseState) (links : Links) → IsBounded n b → IsAscending links → IsBounded (n + 1) (relinked b links)
+bounded_relinked : (n : ℕ) (b : BaseState) (links : Links) → IsBounded n b → IsAscending (linked_ids links) → IsBounded (n + 1) (relinked b links)
 bounded_relinked n b links h up = record {
   number = let e : own_seq (relinked b links) ≡ own_seq b + 1 = ap (λ (o : Option RecordState). option_map_or (λ r. r.seq) o 0) now in omega (arith, e, h.number);
-  ascend = subst IsAscending (sym (ap (λ (o : Option RecordState). option_map_or (λ r. r.links) o []) now)) up;
+  ascend = subst IsAscending (sym (ap (λ (o : Option RecordState). linked_ids (option_map_or (λ r. r.links) o [])) now)) up;
 }
   where
     new : RecordState
@@ -52,7 +49,7 @@ bounded_relinked n b links h up = record {
 bounded_kept : (n : ℕ) (b : BaseState) (r : RecordState) → is_newer b r ≡ true → IsBounded n b → IsBounded n (kept b r)
 bounded_kept n b r newer h = record {
   number = let e : own_seq (kept b r) ≡ own_seq b = ap (λ (o : Option RecordState). option_map_or (λ q. q.seq) o 0) same in omega (arith, e, h.number);
-  ascend = subst IsAscending (sym (ap (λ (o : Option RecordState). option_map_or (λ q. q.links) o []) same)) h.ascend;
+  ascend = subst IsAscending (sym (ap (λ (o : Option RecordState). linked_ids (option_map_or (λ q. q.links) o [])) same)) h.ascend;
 }
   where
     same : record_of (kept b r).records b.me ≡ record_of b.records b.me
@@ -65,13 +62,13 @@ cost (Down link) = 1
 cost (From link msg) = 0
 
 module _ (n : ℕ) (node : NodeState) (h : IsBounded n node.base) where
-  bounded_up : (peer : Peer) (role : Role) → IsBounded (n + 1) (base_up node.base peer role)
+  bounded_up : (peer : PeerState) (role : Role) → IsBounded (n + 1) (base_up node.base peer role)
   bounded_up peer Client = bounded_later n (n + 1) node.base (omega arith) h
-  bounded_up peer Router = bounded_relinked n node.base (with_name (own_links node.base) peer.id) h (sorted_inserted (slice_cmp nat_cmp) nat_list_cmp_total peer.id (own_links node.base) h.ascend)
+  bounded_up peer Router = bounded_relinked n node.base (with_linked (own_links node.base) (own_link peer)) h (ascending_with (own_links node.base) (own_link peer) h.ascend)
 
-  bounded_parted : (peer : Peer) (role : Role) → IsBounded (n + 1) (base_parted node.base peer role)
+  bounded_parted : (peer : PeerState) (role : Role) → IsBounded (n + 1) (base_parted node.base peer role)
   bounded_parted peer Client = bounded_later n (n + 1) node.base (omega arith) h
-  bounded_parted peer Router = bounded_relinked n node.base (without_name (own_links node.base) peer.id) h (IsStrictlySortedBy-filter _ _ (own_links node.base) h.ascend)
+  bounded_parted peer Router = bounded_relinked n node.base (without_linked (own_links node.base) peer.id) h (ascending_without (own_links node.base) peer.id h.ascend)
 
   bounded_down : (o : Option LinkPeer) → IsBounded (n + 1) (base_down node.base o)
   bounded_down None = bounded_later n (n + 1) node.base (omega arith) h
@@ -115,7 +112,7 @@ pub bounded_fresh : (n : ℕ) (id : Name) → IsBounded n (fresh id)
 unfolding IsStrictlySortedBy
 bounded_fresh n id = record {
   number = let none : own_seq (fresh id) ≡ 0 = ap (λ (o : Option RecordState). option_map_or (λ r. r.seq) o 0) found in omega (arith, none);
-  ascend = subst IsAscending (sym (ap (λ (o : Option RecordState). option_map_or (λ r. r.links) o []) found)) tt;
+  ascend = subst IsAscending (sym (ap (λ (o : Option RecordState). linked_ids (option_map_or (λ r. r.links) o [])) found)) tt;
 }
   where
     own : RecordState

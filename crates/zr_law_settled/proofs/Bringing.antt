@@ -18,7 +18,7 @@ use Rattle.zr_msg.specs.declared.msg.Msg.{Msg}
 use Rattle.zr_msg.specs.declared.msg.Msg.TheVariants.{Sub, Unsub, Able, Unable, Interest, EndInterest, ToldSub, ToldAble, ToldUnsub, ToldUnable, ToldEnd, Push, Request, Response, Final, State, Step, Snap}
 use Rattle.zr_msg.specs.declared.event.Event.{Event}
 use Rattle.zr_msg.specs.declared.event.Event.TheVariants.{Up, Down, From}
-use Rattle.zr_msg.specs.declared.peer.Peer.{Peer}
+use Rattle.zr_msg.specs.Peer.{PeerState}
 use Rattle.zr_msg.specs.declared.peer.LinkPeer.{LinkPeer}
 use Rattle.zr_msg.specs.declared.peer.Role.{Role}
 use Rattle.zr_msg.specs.declared.peer.Role.TheVariants.{Client, Router}
@@ -33,7 +33,7 @@ use Rattle.zr_node_spec.specs.Changes.{changes, steps}
 use Rattle.zr_node_spec.specs.Samples.{tree_of}
 use Rattle.zr_node_spec.specs.Snapshots.{snapshots_for, snapshots_on, sends_snapshots}
 use Rattle.zr_node_spec.specs.State.{NodeState, tables}
-use Rattle.zr_node_spec.specs.Table.{joined, parted, own_record, all_records, is_other_router, sends_own, sends_up, sends_parted, sends_down, sends_rows, sends_first, sends, rows_declared, rows_undeclared, rows_left, with_rows, row, key_of, able_kind, known_step, known_snap, after}
+use Rattle.zr_node_spec.specs.Table.{own_link, joined, parted, own_record, all_records, is_other_router, sends_own, sends_up, sends_parted, sends_down, sends_rows, sends_first, sends, rows_declared, rows_undeclared, rows_left, with_rows, row, key_of, able_kind, known_step, known_snap, after}
 use Rattle.zr_law_settled.proofs.Answering.{request_silent, reply_silent, final_silent, behind_ends}
 use Rattle.zr_law_settled.proofs.Spreading.{Name}
 use Rattle.zr_law_settled.proofs.Silent.{silent_if, push_silent}
@@ -88,15 +88,15 @@ module _ (n : NodeState) where
   others_silent : (from : ℕ) (b : BaseState) (to : ℕ) → flat_map brings (sends_own n from b to) ≡ []
   others_silent from b to = silent_if brings (is_other_router n from to) (own_record b) (own_silent b)
 
-  pub up_silent : (link : ℕ) (peer : Peer) (role : Role) (to : ℕ) → flat_map brings (sends_up n link peer role to) ≡ []
+  pub up_silent : (link : ℕ) (peer : PeerState) (role : Role) (to : ℕ) → flat_map brings (sends_up n link peer role to) ≡ []
   up_silent link peer Client to = refl
   up_silent link peer Router to = by (to == link)
     where
-      by : (t : Bool) → flat_map brings (cond t (all_records (joined n.base peer.id)) (sends_own n link (joined n.base peer.id) to)) ≡ []
-      by true = records_silent (joined n.base peer.id).records
-      by false = others_silent link (joined n.base peer.id) to
+      by : (t : Bool) → flat_map brings (cond t (all_records (joined n.base (own_link peer))) (sends_own n link (joined n.base (own_link peer)) to)) ≡ []
+      by true = records_silent (joined n.base (own_link peer)).records
+      by false = others_silent link (joined n.base (own_link peer)) to
 
-  parted_silent : (link : ℕ) (peer : Peer) (role : Role) (to : ℕ) → flat_map brings (sends_parted n link peer role to) ≡ []
+  parted_silent : (link : ℕ) (peer : PeerState) (role : Role) (to : ℕ) → flat_map brings (sends_parted n link peer role to) ≡ []
   parted_silent link peer Client to = refl
   parted_silent link peer Router to = others_silent link (parted n.base peer.id) to
 
@@ -250,7 +250,7 @@ module _ (n : NodeState) where
     from_brings sets link (Step source number added decl) came = step_brings link source number added decl came
     from_brings sets link (Snap source number ds) came = snap_brings link source number ds sets came
 
-    pub up_brings : (link : LinkNo) (peer : Peer) → Brings n (Up link peer) made most
+    pub up_brings : (link : LinkNo) (peer : PeerState) → Brings n (Up link peer) made most
     up_brings link peer = keeps (Up link peer) refl refl (λ to. up_silent link.0 peer peer.role to.0)
 
     pub down_brings : (link : LinkNo) → Brings n (Down link) made most

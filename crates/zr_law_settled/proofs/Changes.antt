@@ -4,19 +4,21 @@ use Rattle.std.specs.Prelude.{◌&&◌}
 use Rattle.std.proofs.lemmas.Bool.{true≢false, false≢true, and_parts, and_from}
 use Rattle.zr_id.specs.Zid.{is_named}
 use Rattle.zr_id.specs.declared.link.LinkNo.{LinkNo}
-use Rattle.zr_graph.specs.Record.{has}
+use Rattle.zr_id.specs.Record.{linked_ids}
+use Rattle.zr_graph.specs.Record.{has, weight_to}
 use Rattle.zr_graph.specs.Base.{relinked}
 use Rattle.zr_graph.proofs.Names.{same_is, same_refl}
 use Rattle.zr_lists.proofs.Finds.{In}
 use Rattle.zr_lists.proofs.Elements.{each_in}
 use Rattle.zr_msg.specs.declared.event.Event.{Event}
 use Rattle.zr_msg.specs.declared.event.Event.TheVariants.{Up, Down}
-use Rattle.zr_msg.specs.declared.peer.Peer.{Peer}
+use Rattle.zr_msg.specs.Peer.{PeerState}
 use Rattle.zr_msg.specs.declared.peer.Role.{Role}
 use Rattle.zr_msg.specs.declared.peer.Role.TheVariants.{Client, Router}
+use Rattle.zr_node_spec.proofs.OwnLinks.{has_with, has_without, weight_with, weight_without}
 use Rattle.zr_node_spec.specs.Tables.{link_at, link_to, is_router}
 use Rattle.zr_msg.specs.declared.peer.LinkPeer.{LinkPeer}
-use Rattle.zr_node_spec.specs.Table.{with_name, without_name, own_links, base_up, base_down, base_parted, own_record, all_records, after}
+use Rattle.zr_node_spec.specs.Table.{with_linked, without_linked, own_link, own_links, base_up, base_down, base_parted, own_record, all_records, after}
 use Rattle.zr_world_spec.specs.World.{RouterState, EndState, End, Ends, WorldState, with_ends, router_of, end_of, is_end, is_up, is_unbroken, with_end, changed, lifted, lowered}
 use Rattle.zr_world_spec.specs.Acts.{sends_to, hearing, sending}
 use Rattle.zr_world_spec.specs.Sound.{IsSound}
@@ -26,11 +28,10 @@ use Rattle.zr_law_settled.proofs.Telling.{more, tells_anew_kept}
 use Rattle.zr_law_settled.proofs.Links.{AreKnown, linked_to, is_at}
 use Rattle.zr_law_settled.proofs.Records.{Links, known_of, told, known_relinked, own_links_is, all_tell, own_told, notes_in}
 use Rattle.zr_law_settled.proofs.Hearing.{order_after, up_tells, down_tells}
-use Rattle.zr_law_settled.proofs.Worlds.{there_in, knows, table_of, way_of, lane_of, feeds_of, Holds, there_heard, router_heard, sent_at, way_sent, way_other, table_here, table_other, of_table, order_heard, up_heard, unbroken_heard, some_heard, sent_there}
-use Rattle.zr_law_settled.proofs.OwnLinks.{has_with, has_without}
+use Rattle.zr_law_settled.proofs.Worlds.{there_in, knows, table_of, way_of, lane_of, feeds_of, up_weight_at, up_weight, Holds, there_heard, router_heard, sent_at, way_sent, way_other, table_here, table_other, of_table, order_heard, up_heard, up_weight_heard, unbroken_heard, some_heard, sent_there}
 use Rattle.zr_law_settled.proofs.Quiet.{passes_there}
 use Rattle.zr_law_settled.proofs.Moving.{up_at, unbroken_at, lifted_way}
-use Rattle.zr_law_settled.proofs.Passing.{emptied_part, emptied_same, emptied_up, keep_emptied}
+use Rattle.zr_law_settled.proofs.Passing.{emptied_part, emptied_same, emptied_up, emptied_weight, keep_emptied}
 
 -- ---- a router's links changed
 
@@ -88,9 +89,16 @@ module _ (w : WorldState) (h : Holds w) (sound : IsSound w) (a : Name) (r : Rout
   anew_lists = anew_table a ∙ ap (λ b. cond b (record { number = own (lane_of w) a + 1; value = links }) (table_of w a a)) (same_refl a)
 
 -- what the own record listed
-pub listed : (w : WorldState) → Holds w → IsSound w → (a : Name) (r : RouterState) → router_of w.routers a ≡ Some r → (y : Name) → has (own_links r.node.base) y ≡ (there_in w y && is_up w.ends (a, y))
+pub listed : (w : WorldState) → Holds w → IsSound w → (a : Name) (r : RouterState) → router_of w.routers a ≡ Some r → (y : Name) →
+    has (linked_ids (own_links r.node.base)) y ≡ (there_in w y && is_up w.ends (a, y))
 listed w h sound a r found y =
-    ap (λ ls. has ls y) (own_links_is r.node.base ∙ ap (λ m. (known_of r.node.base m).value) (sound.own a r found) ∙ ap (λ o. (knows o a).value) (sym found)) ∙ h.lists a y
+    ap (λ ls. has (linked_ids ls) y) (own_links_is r.node.base ∙ ap (λ m. (known_of r.node.base m).value) (sound.own a r found) ∙ ap (λ o. (knows o a).value) (sym found)) ∙ h.lists a y
+
+-- and with which weights
+pub weighed : (w : WorldState) → Holds w → IsSound w → (a : Name) (r : RouterState) → router_of w.routers a ≡ Some r → (y : Name) →
+    weight_to (own_links r.node.base) y ≡ cond (there_in w y) (up_weight w.ends (a, y)) 0
+weighed w h sound a r found y =
+    ap (λ ls. weight_to ls y) (own_links_is r.node.base ∙ ap (λ m. (known_of r.node.base m).value) (sound.own a r found) ∙ ap (λ o. (knows o a).value) (sym found)) ∙ h.weighs a y
 
 -- what is known of links
 pub links_known : (w : WorldState) → IsSound w → (a : Name) (r : RouterState) → router_of w.routers a ≡ Some r → AreKnown (there_in w) r.node.links
@@ -116,7 +124,7 @@ own_end a b y = end_parts (a, b) (a, y) ∙ ap (λ t. t && is_named b y) (same_r
 module _ (w : WorldState) (h : Holds w) (sound : IsSound w) (a : Name) (r : RouterState) (found : router_of w.routers a ≡ Some r) where
   -- ---- an end to a router comes up
 
-  module _ (link : LinkNo) (peer : Peer) (role : peer.role ≡ Router) (router : there_in w peer.id ≡ true) (s : EndState) (at_end : end_of w.ends (a, peer.id) ≡ Some s) (n : ℕ) where
+  module _ (link : LinkNo) (peer : PeerState) (role : peer.role ≡ Router) (router : there_in w peer.id ≡ true) (s : EndState) (at_end : end_of w.ends (a, peer.id) ≡ Some s) (heavy : peer.weight ≡ s.weight) (n : ℕ) where
     abbrev up_ends : Ends
     up_ends = with_end w.ends (a, peer.id) (lifted s)
 
@@ -127,7 +135,8 @@ module _ (w : WorldState) (h : Holds w) (sound : IsSound w) (a : Name) (r : Rout
     up_kept sound' = record {
       made = more h.made a (own (lane_of w) a) links;
       spreads = anew w h sound a r found (Up link peer) n up_ends ways links base_is (feeds_of up_world) tells less;
-      lists = λ z y. at_name a (λ q. has (table_of up_world q q).value y ≡ (there_in up_world y && is_up up_world.ends (q, y))) (lists_here y) (λ q other. lists_other q y other) z;
+      lists = λ z y. at_name a (λ q. has (linked_ids (table_of up_world q q).value) y ≡ (there_in up_world y && is_up up_world.ends (q, y))) (lists_here y) (λ q other. lists_other q y other) z;
+      weighs = λ z y. at_name a (λ q. weight_to (table_of up_world q q).value y ≡ cond (there_in up_world y) (up_weight up_world.ends (q, y)) 0) (weighs_here y) (λ q other. weighs_other q y other) z;
       in_order = order_heard (with_ends w up_ends) a r found (Up link peer) n h.in_order;
       twins = λ x y some there. some_is (y, x) ∙ h.twins x y (sym (some_is (x, y)) ∙ some) (sym (there_is y) ∙ there);
     }
@@ -136,7 +145,7 @@ module _ (w : WorldState) (h : Holds w) (sound : IsSound w) (a : Name) (r : Rout
         b = peer.id
 
         links : Links
-        links = with_name (own_links r.node.base) b
+        links = with_linked (own_links r.node.base) (own_link peer)
 
         keep : {Y : Type 0} (f : Option EndState → Y) → f (Some (lifted s)) ≡ f (Some s) → (q : End) → f (end_of up_ends q) ≡ f (end_of w.ends q)
         keep f same q = keep_with_end w.ends (a, b) (lifted s) f q s at_end same
@@ -155,6 +164,9 @@ module _ (w : WorldState) (h : Holds w) (sound : IsSound w) (a : Name) (r : Rout
 
         up_is : (q : End) → is_up up_world.ends q ≡ cond (is_end (a, b) q) true (is_up w.ends q)
         up_is q = up_heard (with_ends w up_ends) a r found (Up link peer) n q ∙ read_with_end w.ends (a, b) (lifted s) up_at q (ap is_some at_end)
+
+        weight_is : (q : End) → up_weight up_world.ends q ≡ cond (is_end (a, b) q) s.weight (up_weight w.ends q)
+        weight_is q = up_weight_heard (with_ends w up_ends) a r found (Up link peer) n q ∙ read_with_end w.ends (a, b) (lifted s) up_weight_at q (ap is_some at_end)
 
         unbroken_is : (q : End) → is_unbroken up_world.ends q ≡ is_unbroken w.ends q
         unbroken_is q = unbroken_heard (with_ends w up_ends) a r found (Up link peer) n q ∙ keep unbroken_at refl q
@@ -192,10 +204,10 @@ module _ (w : WorldState) (h : Holds w) (sound : IsSound w) (a : Name) (r : Rout
             by (inl e) = inl (sent_is ∙ e)
             by (inr p) = inr (feeds_from a y z f (sym (sound.links a y r found) ∙ p.0), sent_is ∙ p.1)
 
-        lists_here : (y : Name) → has (table_of up_world a a).value y ≡ (there_in up_world y && is_up up_world.ends (a, y))
+        lists_here : (y : Name) → has (linked_ids (table_of up_world a a).value) y ≡ (there_in up_world y && is_up up_world.ends (a, y))
         lists_here y =
-            ap (λ (k : Known Links). has k.value y) (anew_lists w h sound a r found (Up link peer) n up_ends ways links base_is)
-            ∙ has_with (own_links r.node.base) b y
+            ap (λ (k : Known Links). has (linked_ids k.value) y) (anew_lists w h sound a r found (Up link peer) n up_ends ways links base_is)
+            ∙ has_with (own_links r.node.base) (own_link peer) y
             ∙ ap (λ t. cond (is_named b y) true t) (listed w h sound a r found y)
             ∙ by (is_named b y) refl
             ∙ ap (λ t. there_in w y && cond t true (is_up w.ends (a, y))) (sym (own_end a b y))
@@ -206,12 +218,34 @@ module _ (w : WorldState) (h : Holds w) (sound : IsSound w) (a : Name) (r : Rout
             by true e = sym (ap (λ t. t && true) (ap (λ q. there_in w q) (sym (same_is b y e)) ∙ router))
             by false e = refl
 
-        lists_other : (q y : Name) → is_named a q ≡ false → has (table_of up_world q q).value y ≡ (there_in up_world y && is_up up_world.ends (q, y))
+        lists_other : (q y : Name) → is_named a q ≡ false → has (linked_ids (table_of up_world q q).value) y ≡ (there_in up_world y && is_up up_world.ends (q, y))
         lists_other q y other =
-            ap (λ (k : Known Links). has k.value y) (table_other (with_ends w up_ends) a r found (Up link peer) n q q other)
+            ap (λ (k : Known Links). has (linked_ids k.value) y) (table_other (with_ends w up_ends) a r found (Up link peer) n q q other)
             ∙ h.lists q y
             ∙ ap (λ t. there_in w y && t) (sym (up_is (q, y) ∙ ap (λ t. cond t true (is_up w.ends (q, y))) (other_end a b q y other)))
             ∙ ap (λ t. t && is_up up_world.ends (q, y)) (sym (there_is y))
+
+        weighs_here : (y : Name) → weight_to (table_of up_world a a).value y ≡ cond (there_in up_world y) (up_weight up_world.ends (a, y)) 0
+        weighs_here y =
+            ap (λ (k : Known Links). weight_to k.value y) (anew_lists w h sound a r found (Up link peer) n up_ends ways links base_is)
+            ∙ weight_with (own_links r.node.base) (own_link peer) y
+            ∙ ap (λ m. cond (is_named b y) m (weight_to (own_links r.node.base) y)) heavy
+            ∙ ap (λ m. cond (is_named b y) s.weight m) (weighed w h sound a r found y)
+            ∙ by (is_named b y) refl
+            ∙ ap (λ t. cond (there_in w y) (cond t s.weight (up_weight w.ends (a, y))) 0) (sym (own_end a b y))
+            ∙ ap (λ m. cond (there_in w y) m 0) (sym (weight_is (a, y)))
+            ∙ ap (λ t. cond t (up_weight up_world.ends (a, y)) 0) (sym (there_is y))
+          where
+            by : (t : Bool) → is_named b y ≡ t → cond t s.weight (cond (there_in w y) (up_weight w.ends (a, y)) 0) ≡ cond (there_in w y) (cond t s.weight (up_weight w.ends (a, y))) 0
+            by true e = sym (ap (λ t. cond t s.weight 0) (ap (λ q. there_in w q) (sym (same_is b y e)) ∙ router))
+            by false e = refl
+
+        weighs_other : (q y : Name) → is_named a q ≡ false → weight_to (table_of up_world q q).value y ≡ cond (there_in up_world y) (up_weight up_world.ends (q, y)) 0
+        weighs_other q y other =
+            ap (λ (k : Known Links). weight_to k.value y) (table_other (with_ends w up_ends) a r found (Up link peer) n q q other)
+            ∙ h.weighs q y
+            ∙ ap (λ m. cond (there_in w y) m 0) (sym (weight_is (q, y) ∙ ap (λ t. cond t s.weight (up_weight w.ends (q, y))) (other_end a b q y other)))
+            ∙ ap (λ t. cond t (up_weight up_world.ends (q, y)) 0) (sym (there_is y))
 
   -- ---- an end to a router goes down
 
@@ -228,7 +262,8 @@ module _ (w : WorldState) (h : Holds w) (sound : IsSound w) (a : Name) (r : Rout
       spreads = drops_kept (more h.made a (own (lane_of w) a) links) (feeds_of down_world) (feeds_of down_world) (lane_of part_world) (lane_of down_world)
           (anew w h sound a r found (Down k.link) n w.ends (λ x y. refl) links base_is (feeds_of down_world) tells less)
           (record { tables = λ x z. refl; part = emptied_part notes_in part_world.ends a b; dropped = λ x y z f. (f, kept x y z f (is_end (a, b) (x, y)) refl) });
-      lists = λ z y. at_name a (λ q. has (table_of down_world q q).value y ≡ (there_in down_world y && is_up down_world.ends (q, y))) (lists_here y) (λ q other. lists_other q y other) z;
+      lists = λ z y. at_name a (λ q. has (linked_ids (table_of down_world q q).value) y ≡ (there_in down_world y && is_up down_world.ends (q, y))) (lists_here y) (λ q other. lists_other q y other) z;
+      weighs = λ z y. at_name a (λ q. weight_to (table_of down_world q q).value y ≡ cond (there_in down_world y) (up_weight down_world.ends (q, y)) 0) (weighs_here y) (λ q other. weighs_other q y other) z;
       in_order = order_heard w a r found (Down k.link) n h.in_order;
       twins = λ x y some there. some_is (y, x) ∙ h.twins x y (sym (some_is (x, y)) ∙ some) (sym (there_is y) ∙ there);
     }
@@ -240,7 +275,7 @@ module _ (w : WorldState) (h : Holds w) (sound : IsSound w) (a : Name) (r : Rout
         known_links = links_known w sound a r found
 
         links : Links
-        links = without_name (own_links r.node.base) k.peer.id
+        links = without_linked (own_links r.node.base) k.peer.id
 
         role : k.peer.role ≡ Router
         role = role_is k.peer.role (known_links.roles k it.0 ∙ ap (there_in w) it.1 ∙ router)
@@ -256,6 +291,9 @@ module _ (w : WorldState) (h : Holds w) (sound : IsSound w) (a : Name) (r : Rout
 
         up_is : (q : End) → is_up down_world.ends q ≡ cond (is_end (a, b) q) false (is_up w.ends q)
         up_is q = emptied_up part_world.ends a b q ∙ ap (λ t. cond (is_end (a, b) q) false t) (up_heard w a r found (Down k.link) n q)
+
+        weight_is : (q : End) → up_weight down_world.ends q ≡ cond (is_end (a, b) q) 0 (up_weight w.ends q)
+        weight_is q = emptied_weight part_world.ends a b q ∙ ap (λ m. cond (is_end (a, b) q) 0 m) (up_weight_heard w a r found (Down k.link) n q)
 
         unbroken_is : (q : End) → is_unbroken down_world.ends q ≡ is_unbroken w.ends q
         unbroken_is q = keep_emptied part_world.ends a b unbroken_at (λ s. refl) q ∙ unbroken_heard w a r found (Down k.link) n q
@@ -299,11 +337,11 @@ module _ (w : WorldState) (h : Holds w) (sound : IsSound w) (a : Name) (r : Rout
                   (sound'.links a y (hearing r (Down k.link)) (router_heard w a r found (Down k.link) n) ∙ up.1) up.0),
             )
 
-        lists_here : (y : Name) → has (table_of down_world a a).value y ≡ (there_in down_world y && is_up down_world.ends (a, y))
+        lists_here : (y : Name) → has (linked_ids (table_of down_world a a).value) y ≡ (there_in down_world y && is_up down_world.ends (a, y))
         lists_here y =
-            ap (λ (m : Known Links). has m.value y) (anew_lists w h sound a r found (Down k.link) n w.ends (λ x y. refl) links base_is)
+            ap (λ (m : Known Links). has (linked_ids m.value) y) (anew_lists w h sound a r found (Down k.link) n w.ends (λ x y. refl) links base_is)
             ∙ has_without (own_links r.node.base) k.peer.id y
-            ∙ ap (λ q. cond (is_named q y) false (has (own_links r.node.base) y)) it.1
+            ∙ ap (λ q. cond (is_named q y) false (has (linked_ids (own_links r.node.base)) y)) it.1
             ∙ ap (λ t. cond (is_named b y) false t) (listed w h sound a r found y)
             ∙ by (is_named b y) (there_in w y)
             ∙ ap (λ t. there_in w y && cond t false (is_up w.ends (a, y))) (sym (own_end a b y))
@@ -315,9 +353,32 @@ module _ (w : WorldState) (h : Holds w) (sound : IsSound w) (a : Name) (r : Rout
             by true false = refl
             by false p = refl
 
-        lists_other : (q y : Name) → is_named a q ≡ false → has (table_of down_world q q).value y ≡ (there_in down_world y && is_up down_world.ends (q, y))
+        lists_other : (q y : Name) → is_named a q ≡ false → has (linked_ids (table_of down_world q q).value) y ≡ (there_in down_world y && is_up down_world.ends (q, y))
         lists_other q y other =
-            ap (λ (m : Known Links). has m.value y) (table_other w a r found (Down k.link) n q q other)
+            ap (λ (m : Known Links). has (linked_ids m.value) y) (table_other w a r found (Down k.link) n q q other)
             ∙ h.lists q y
             ∙ ap (λ t. there_in w y && t) (sym (up_is (q, y) ∙ ap (λ t. cond t false (is_up w.ends (q, y))) (other_end a b q y other)))
             ∙ ap (λ t. t && is_up down_world.ends (q, y)) (sym (there_is y))
+
+        weighs_here : (y : Name) → weight_to (table_of down_world a a).value y ≡ cond (there_in down_world y) (up_weight down_world.ends (a, y)) 0
+        weighs_here y =
+            ap (λ (m : Known Links). weight_to m.value y) (anew_lists w h sound a r found (Down k.link) n w.ends (λ x y. refl) links base_is)
+            ∙ weight_without (own_links r.node.base) k.peer.id y
+            ∙ ap (λ q. cond (is_named q y) 0 (weight_to (own_links r.node.base) y)) it.1
+            ∙ ap (λ m. cond (is_named b y) 0 m) (weighed w h sound a r found y)
+            ∙ by (is_named b y) (there_in w y)
+            ∙ ap (λ t. cond (there_in w y) (cond t 0 (up_weight w.ends (a, y))) 0) (sym (own_end a b y))
+            ∙ ap (λ m. cond (there_in w y) m 0) (sym (weight_is (a, y)))
+            ∙ ap (λ t. cond t (up_weight down_world.ends (a, y)) 0) (sym (there_is y))
+          where
+            by : (t p : Bool) → cond t 0 (cond p (up_weight w.ends (a, y)) 0) ≡ cond p (cond t 0 (up_weight w.ends (a, y))) 0
+            by true true = refl
+            by true false = refl
+            by false p = refl
+
+        weighs_other : (q y : Name) → is_named a q ≡ false → weight_to (table_of down_world q q).value y ≡ cond (there_in down_world y) (up_weight down_world.ends (q, y)) 0
+        weighs_other q y other =
+            ap (λ (m : Known Links). weight_to m.value y) (table_other w a r found (Down k.link) n q q other)
+            ∙ h.weighs q y
+            ∙ ap (λ m. cond (there_in w y) m 0) (sym (weight_is (q, y) ∙ ap (λ t. cond t 0 (up_weight w.ends (q, y))) (other_end a b q y other)))
+            ∙ ap (λ t. cond t (up_weight down_world.ends (q, y)) 0) (sym (there_is y))

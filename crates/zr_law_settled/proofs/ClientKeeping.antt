@@ -16,7 +16,7 @@ use Rattle.zr_msg.specs.declared.msg.Msg.TheVariants as m
 use Rattle.zr_msg.specs.Extras.{no_extras}
 use Rattle.zr_msg.specs.declared.event.Event.TheVariants.{Up, Down}
 use Rattle.zr_msg.specs.declared.peer.LinkPeer.{LinkPeer}
-use Rattle.zr_msg.specs.declared.peer.Peer.{Peer}
+use Rattle.zr_msg.specs.Peer.{PeerState}
 use Rattle.zr_msg.specs.declared.peer.Role.TheVariants.{Client}
 use Rattle.zr_script_spec.specs.declared.command.Act.{Act}
 use Rattle.zr_script_spec.specs.Mode.{is_current, is_future}
@@ -154,11 +154,11 @@ module _ (now : Moment) (sound : IsSound now.world) (h : ClientsHold now.world) 
       link : LinkNo
       link = record { 0 = free_link r.node.links }
 
-      peer : Peer
-      peer = record { id = id; role = Client }
+      peer : PeerState
+      peer = record { id = id; role = Client; weight = 1 }
 
       es : Ends
-      es = put_end w.ends (router, id) (lifted new_end)
+      es = put_end w.ends (router, id) (lifted (new_end 1))
 
       v : WorldState
       v = sending (with_ends w es) router r (Up link peer) n
@@ -175,8 +175,8 @@ module _ (now : Moment) (sound : IsSound now.world) (h : ClientsHold now.world) 
       other : (c : Name) (s : ClientState) → client_of w.clients c ≡ Some s → is_named c id ≡ false
       other c s client = false_from_ne_true (is_named c id) (λ e. true≢false (sym (ap is_some client) ∙ ap (λ q. is_some (client_of w.clients q)) (same_is c id e) ∙ ap is_some none.1))
 
-      read : {Y : Type 0} (f : Option EndState → Y) (q : End) → f (end_of es q) ≡ cond (is_end (router, id) q) (f (Some (lifted new_end))) (f (end_of w.ends q))
-      read f q = read_put_end w.ends (router, id) (lifted new_end) f q
+      read : {Y : Type 0} (f : Option EndState → Y) (q : End) → f (end_of es q) ≡ cond (is_end (router, id) q) (f (Some (lifted (new_end 1)))) (f (end_of w.ends q))
+      read f q = read_put_end w.ends (router, id) (lifted (new_end 1)) f q
 
       apart : (x c : Name) (s : ClientState) → client_of w.clients c ≡ Some s → is_end (router, id) (x, c) ≡ false
       apart x c s client = end_parts (router, id) (x, c) ∙ ap (λ t. is_named router x && t) (names.symm id c ∙ other c s client) ∙ no (is_named router x)
@@ -186,7 +186,7 @@ module _ (now : Moment) (sound : IsSound now.world) (h : ClientsHold now.world) 
           no false = refl
 
       same : {Y : Type 0} (f : Option EndState → Y) (x c : Name) (s : ClientState) → client_of w.clients c ≡ Some s → f (end_of es (x, c)) ≡ f (end_of w.ends (x, c))
-      same f x c s client = read f (x, c) ∙ ap (λ t. cond t (f (Some (lifted new_end))) (f (end_of w.ends (x, c)))) (apart x c s client)
+      same f x c s client = read f (x, c) ∙ ap (λ t. cond t (f (Some (lifted (new_end 1)))) (f (end_of w.ends (x, c)))) (apart x c s client)
 
       stay : EndsStay w es
       stay = reads_same w es (λ x c s client. (same is_some x c s client, same unbroken_at x c s client, same up_at x c s client, same wire_at x c s client))
@@ -239,9 +239,9 @@ module _ (now : Moment) (sound : IsSound now.world) (h : ClientsHold now.world) 
 
   -- an end comes up
   end_comes_up : (n : ℕ) (router name : List ℕ) (r : RouterState) → router_of w.routers router ≡ Some r → (s : EndState) → end_of w.ends (router, name) ≡ Some s → s.up ≡ false →
-      ClientsHold (sending (with_ends w (with_end w.ends (router, name) (lifted s))) router r (Up (record { 0 = free_link r.node.links }) (peer_of w name)) n)
+      ClientsHold (sending (with_ends w (with_end w.ends (router, name) (lifted s))) router r (Up (record { 0 = free_link r.node.links }) (peer_of w name s.weight)) n)
   end_comes_up n router name r found s at_end down =
-      up_clients w sound h router r found (record { 0 = free_link r.node.links }) (peer_of w name) (free_is_free r.node.links) no_link n (with_end w.ends (router, name) (lifted s)) stay other
+      up_clients w sound h router r found (record { 0 = free_link r.node.links }) (peer_of w name s.weight) (free_is_free r.node.links) no_link n (with_end w.ends (router, name) (lifted s)) stay other
     where
       es : Ends
       es = with_end w.ends (router, name) (lifted s)
@@ -309,7 +309,7 @@ module _ (now : Moment) (sound : IsSound now.world) (h : ClientsHold now.world) 
   unfolding outcome
   clients_keep n (a.Router id) = for_router now KeptClients id (λ free room. router_clients w h id free)
   clients_keep n (a.Client id router) = for_client now KeptClients (λ w v report t. clients_told w v t) n id router (λ r found free room taken. client_comes n id router r found free)
-  clients_keep n (a.Link one other) = for_link now KeptClients one other (λ apart r found q found' new room. ends_kept w _ h (linked_stay w h one other (ap is_some found) (ap is_some found')))
+  clients_keep n (a.Link one other weight) = for_link now KeptClients one other weight (λ apart r found q found' new room. ends_kept w _ h (linked_stay w h one other weight (ap is_some found) (ap is_some found')))
   clients_keep n (a.Up router name) = for_up now KeptClients (λ w v report t. clients_told w v t) n router name (λ r found there s at_end unbroken down taken. end_comes_up n router name r found s at_end down)
   clients_keep n (a.Break router name) = for_break now KeptClients router name (λ r found there s at_end unbroken. ends_kept w _ h (broken_stay w h router name))
   clients_keep n (a.Down router name) = for_down now KeptClients (λ w v report t. clients_told w v t) n router name (λ r found there s at_end up cut link number taken.

@@ -17,7 +17,7 @@ use Rattle.zr_msg.specs.declared.msg.Msg.{Msg}
 use Rattle.zr_msg.specs.declared.event.Event.{Event}
 use Rattle.zr_msg.specs.declared.event.Event.TheVariants.{Up, Down, From}
 use Rattle.zr_msg.specs.declared.peer.LinkPeer.{LinkPeer}
-use Rattle.zr_msg.specs.declared.peer.Peer.{Peer}
+use Rattle.zr_msg.specs.Peer.{PeerState}
 use Rattle.zr_local.specs.Rows.{left}
 use Rattle.zr_local.specs.declared.row.Row.{Row}
 use Rattle.zr_node_spec.specs.Tables.{is_link, link_at, link_to, is_router, leads_to_client}
@@ -121,16 +121,16 @@ reads_same w es same = record {
 }
 
 module _ (w : WorldState) (h : ClientsHold w) where
-  pub linked_stay : (a b : Name) → there_in w a ≡ true → there_in w b ≡ true → EndsStay w (put_end (put_end w.ends (a, b) new_end) (b, a) new_end)
-  linked_stay a b here there = reads_same w (put_end (put_end w.ends (a, b) new_end) (b, a) new_end) (λ x c s client.
+  pub linked_stay : (a b : Name) (weight : ℕ) → there_in w a ≡ true → there_in w b ≡ true → EndsStay w (put_end (put_end w.ends (a, b) (new_end weight)) (b, a) (new_end weight))
+  linked_stay a b weight here there = reads_same w (put_end (put_end w.ends (a, b) (new_end weight)) (b, a) (new_end weight)) (λ x c s client.
       (same is_some x c s client, same unbroken_at x c s client, same up_at x c s client, same wire_at x c s client))
     where
-      same : {Y : Type 0} (f : Option EndState → Y) (x c : Name) (s : ClientState) → client_of w.clients c ≡ Some s → f (end_of (put_end (put_end w.ends (a, b) new_end) (b, a) new_end) (x, c)) ≡ f (end_of w.ends (x, c))
+      same : {Y : Type 0} (f : Option EndState → Y) (x c : Name) (s : ClientState) → client_of w.clients c ≡ Some s → f (end_of (put_end (put_end w.ends (a, b) (new_end weight)) (b, a) (new_end weight)) (x, c)) ≡ f (end_of w.ends (x, c))
       same f x c s client =
-          read_put_end (put_end w.ends (a, b) new_end) (b, a) new_end f (x, c)
-          ∙ ap (λ t. cond t (f (Some new_end)) (f (end_of (put_end w.ends (a, b) new_end) (x, c)))) (not_to w h b a x c s here client)
-          ∙ read_put_end w.ends (a, b) new_end f (x, c)
-          ∙ ap (λ t. cond t (f (Some new_end)) (f (end_of w.ends (x, c)))) (not_to w h a b x c s there client)
+          read_put_end (put_end w.ends (a, b) (new_end weight)) (b, a) (new_end weight) f (x, c)
+          ∙ ap (λ t. cond t (f (Some (new_end weight))) (f (end_of (put_end w.ends (a, b) (new_end weight)) (x, c)))) (not_to w h b a x c s here client)
+          ∙ read_put_end w.ends (a, b) (new_end weight) f (x, c)
+          ∙ ap (λ t. cond t (f (Some (new_end weight))) (f (end_of w.ends (x, c)))) (not_to w h a b x c s there client)
 
   pub taken_stay : (a b : Name) (s : EndState) → end_of w.ends (a, b) ≡ Some s → there_in w a ≡ true → (msg : Msg) (tag : ℕ) (xs : List Tagged) →
       EndsStay w (changed (with_end w.ends (a, b) (with_queue s xs)) (b, a) (λ e. sent e msg tag))
@@ -351,7 +351,7 @@ all_of P Q (q ∷ rows) f h = (f q.link.0 h.0, all_of P Q rows f h.1)
 module _ (w : WorldState) (sound : IsSound w) (h : ClientsHold w) (a : Name) (r : RouterState) (found : router_of w.routers a ≡ Some r) where
   -- ---- an end comes up
 
-  module _ (link : LinkNo) (peer : Peer) (free : link_at r.node.links link.0 ≡ None) (new : link_to r.node.links peer.id ≡ None) (tag : ℕ) (es : Ends) (e : EndsStay w es)
+  module _ (link : LinkNo) (peer : PeerState) (free : link_at r.node.links link.0 ≡ None) (new : link_to r.node.links peer.id ≡ None) (tag : ℕ) (es : Ends) (e : EndsStay w es)
       (other : (c : Name) (s : ClientState) → client_of w.clients c ≡ Some s → is_unbroken es (a, c) ≡ true → is_named peer.id c ≡ false) where
     up_links : (number : ℕ) → leads_to_client r.node.links number ≡ true → leads_to_client (with_link r.node.links (new_link link peer)) number ≡ true
     up_links number leads =

@@ -4,8 +4,10 @@ use Rattle.std.specs.Prelude.{◌-◌, ◌^◌}
 use Rattle.std.specs.Cmp.Lexicographic.{slice_cmp}
 use Rattle.std.specs.Ordering.{nat_cmp}
 use Rattle.std.proofs.lemmas.Bool.{and_parts, or_from, ne_eqb, lt-leb}
+use Rattle.std.proofs.lemmas.List.{length-map}
 use Rattle.std.proofs.lemmas.Map.Keys.{IsDistinct-from_sorted}
 use Rattle.std.proofs.lemmas.Map.Steps.{length-le_from_keys}
+use Rattle.zr_id.specs.Record.{LinkedState, linked_ids}
 use Rattle.zr_id.specs.Zid.{is_named}
 use Rattle.zr_graph.specs.Base.{BaseState, own_seq}
 use Rattle.zr_lists.proofs.Finds.{same_any}
@@ -31,8 +33,9 @@ use Rattle.zr_law_settled.proofs.Lines.{AreBounded, lines_bounded}
 -- own links are routers that are there, each once
 links_few : (m : Moment) → Stands m → (x : Name) (r : RouterState) → router_of m.world.routers x ≡ Some r → (n : ℕ) → IsBounded n r.node.base → length (own_links r.node.base) ≤ length m.world.routers
 links_few m stands x r found n bounded =
-    length-le_from_keys names (own_links r.node.base) m.world.routers (IsDistinct-from_sorted (slice_cmp nat_cmp) (own_links r.node.base) bounded.ascend) (λ q t.
-    (and_parts (there_in m.world q) _ (sym (listed m.world stands.holds stands.sound x r found q) ∙ same_any (λ y. is_named y q) (is_named q) (own_links r.node.base) (λ y i. names.symm y q) ∙ t)).0)
+    let few = length-le_from_keys names (linked_ids (own_links r.node.base)) m.world.routers (IsDistinct-from_sorted (slice_cmp nat_cmp) (linked_ids (own_links r.node.base)) bounded.ascend) (λ q t.
+    (and_parts (there_in m.world q) _ (sym (listed m.world stands.holds stands.sound x r found q) ∙ same_any (λ y. is_named y q) (is_named q) (linked_ids (own_links r.node.base)) (λ y i. names.symm y q) ∙ t)).0) in
+    omega (arith, few, length-map (own_links r.node.base) (λ (l : LinkedState). l.id))
 
 -- a base with room for one more change takes each event
 module _ (b : BaseState) (fresh : is_worn b ≡ false) (room : is_full b ≡ false) where

@@ -13,7 +13,7 @@ use Rattle.zr_msg.specs.declared.msg.Msg.TheVariants.{Sub, Unsub, Able, Unable, 
 use Rattle.zr_msg.specs.declared.decl.Kind.TheVariants as kind
 use Rattle.zr_msg.specs.declared.event.Event.{Event}
 use Rattle.zr_msg.specs.declared.event.Event.TheVariants.{Up, Down, From}
-use Rattle.zr_msg.specs.declared.peer.Peer.{Peer}
+use Rattle.zr_msg.specs.Peer.{PeerState}
 use Rattle.zr_msg.specs.declared.peer.LinkPeer.{LinkPeer}
 use Rattle.zr_msg.specs.declared.peer.Role.{Role}
 use Rattle.zr_msg.specs.declared.peer.Role.TheVariants.{Client, Router}
@@ -32,7 +32,7 @@ use Rattle.zr_node_spec.specs.Tables.{link_at, is_router, leads_to_router, leads
 use Rattle.zr_node_spec.specs.Changes.{changes, after_changes, steps, sends_changes}
 use Rattle.zr_node_spec.specs.Samples.{tree_of}
 use Rattle.zr_node_spec.specs.State.{NodeState, tables}
-use Rattle.zr_node_spec.specs.Table.{joined, parted, own_record, all_records, is_other_router, sends_own, sends_up, sends_parted, sends_down, sends_rows, sends_first, rows_declared, rows_undeclared, rows_left, with_rows, row, key_of, able_kind, known_step, known_snap, after}
+use Rattle.zr_node_spec.specs.Table.{own_link, joined, parted, own_record, all_records, is_other_router, sends_own, sends_up, sends_parted, sends_down, sends_rows, sends_first, rows_declared, rows_undeclared, rows_left, with_rows, row, key_of, able_kind, known_step, known_snap, after}
 use Rattle.zr_law_settled.proofs.Answering.{request_silent, reply_silent, final_silent, behind_ends}
 use Rattle.zr_law_settled.proofs.Spreading.{Name, best}
 use Rattle.zr_law_settled.proofs.Silent.{silent_if, push_silent}
@@ -86,15 +86,15 @@ module _ (n : NodeState) where
   others_silent : (from : ℕ) (b : BaseState) (to : ℕ) → places (sends_own n from b to) ≡ []
   others_silent from b to = silent_if places_in (is_other_router n from to) (own_record b) (own_silent b)
 
-  up_silent : (link : ℕ) (peer : Peer) (role : Role) (to : ℕ) → places (sends_up n link peer role to) ≡ []
+  up_silent : (link : ℕ) (peer : PeerState) (role : Role) (to : ℕ) → places (sends_up n link peer role to) ≡ []
   up_silent link peer Client to = refl
   up_silent link peer Router to = by (to == link)
     where
-      by : (t : Bool) → places (cond t (all_records (joined n.base peer.id)) (sends_own n link (joined n.base peer.id) to)) ≡ []
-      by true = records_silent (joined n.base peer.id).records
-      by false = others_silent link (joined n.base peer.id) to
+      by : (t : Bool) → places (cond t (all_records (joined n.base (own_link peer))) (sends_own n link (joined n.base (own_link peer)) to)) ≡ []
+      by true = records_silent (joined n.base (own_link peer)).records
+      by false = others_silent link (joined n.base (own_link peer)) to
 
-  parted_silent : (link : ℕ) (peer : Peer) (role : Role) (to : ℕ) → places (sends_parted n link peer role to) ≡ []
+  parted_silent : (link : ℕ) (peer : PeerState) (role : Role) (to : ℕ) → places (sends_parted n link peer role to) ≡ []
   parted_silent link peer Client to = refl
   parted_silent link peer Router to = others_silent link (parted n.base peer.id) to
 
@@ -259,5 +259,5 @@ module _ (n : NodeState) where
           ∙ ap (λ cs. places (sends_changes (tables n) cs to.0)) (no_changes n.rows)
           ∙ nothing (is_to_child (tables n) n.base.me to.0)
 
-  pub up_follows : (link : LinkNo) (peer : Peer) → Follows n (Up link peer)
+  pub up_follows : (link : LinkNo) (peer : PeerState) → Follows n (Up link peer)
   up_follows link peer = keeps (Up link peer) refl (λ to. up_silent link.0 peer peer.role to.0)

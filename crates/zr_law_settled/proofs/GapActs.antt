@@ -16,7 +16,7 @@ use Rattle.zr_msg.specs.declared.msg.Msg.TheVariants as m
 use Rattle.zr_msg.specs.Extras.{no_extras}
 use Rattle.zr_msg.specs.declared.event.Event.TheVariants.{Up, Down, From}
 use Rattle.zr_msg.specs.declared.peer.LinkPeer.{LinkPeer}
-use Rattle.zr_msg.specs.declared.peer.Peer.{Peer}
+use Rattle.zr_msg.specs.Peer.{PeerState}
 use Rattle.zr_msg.specs.declared.peer.Role.TheVariants.{Client}
 use Rattle.zr_script_spec.specs.declared.command.Act.{Act}
 use Rattle.zr_script_spec.specs.Mode.{is_current, is_future}
@@ -73,32 +73,32 @@ module _ (w : WorldState) (g : GapsHold w) (a b : Name) where
       more : notes brings (s.wire ++ record { msg = msg; tag = tag } ∷ []) ≡ notes brings s.wire
       more = notes-append brings s.wire (record { msg = msg; tag = tag } ∷ []) ∙ ap (λ z. notes brings s.wire ++ (z ++ [])) silent ∙ append-nil (notes brings s.wire)
 
-  joined_gaps : end_of w.ends (a, b) ≡ None → there_in w b ≡ false → GapsHold (with_ends w (put_end w.ends (a, b) (lifted new_end)))
+  joined_gaps : end_of w.ends (a, b) ≡ None → there_in w b ≡ false → GapsHold (with_ends w (put_end w.ends (a, b) (lifted (new_end 1))))
   joined_gaps free none = ends_gaps w es g (λ x y here router whole. inr (
-    sym (read_put_end w.ends (a, b) (lifted new_end) unbroken_at (x, y) ∙ ap (λ t. cond t true (is_unbroken w.ends (x, y))) (apart x y router)) ∙ whole,
+    sym (read_put_end w.ends (a, b) (lifted (new_end 1)) unbroken_at (x, y) ∙ ap (λ t. cond t true (is_unbroken w.ends (x, y))) (apart x y router)) ∙ whole,
     way_reads es w.ends x y (keep wire_at refl (y, x)) (keep queue_at refl (x, y)),
   ))
     where
       es : Ends
-      es = put_end w.ends (a, b) (lifted new_end)
+      es = put_end w.ends (a, b) (lifted (new_end 1))
 
-      keep : {Y : Type 0} (f : Option EndState → Y) → f (Some (lifted new_end)) ≡ f None → (q : End) → f (end_of es q) ≡ f (end_of w.ends q)
-      keep f same q = keep_put_end w.ends (a, b) (lifted new_end) f q (same ∙ ap f (sym free))
+      keep : {Y : Type 0} (f : Option EndState → Y) → f (Some (lifted (new_end 1))) ≡ f None → (q : End) → f (end_of es q) ≡ f (end_of w.ends q)
+      keep f same q = keep_put_end w.ends (a, b) (lifted (new_end 1)) f q (same ∙ ap f (sym free))
 
       apart : (x y : Name) → there_in w y ≡ true → is_end (a, b) (x, y) ≡ false
       apart x y router = false_from_ne_true (is_end (a, b) (x, y)) (λ e. true≢false (sym router ∙ ap (λ (q : End). there_in w q.1) (sym (same_end (a, b) (x, y) e)) ∙ none))
 
-  linked_gaps : GapsHold (with_ends w (put_end (put_end w.ends (a, b) new_end) (b, a) new_end))
-  linked_gaps = ends_gaps w es g (λ x y here router whole. by x y whole (is_end (a, b) (x, y)) refl (is_end (b, a) (x, y)) refl)
+  linked_gaps : (weight : ℕ) → GapsHold (with_ends w (put_end (put_end w.ends (a, b) (new_end weight)) (b, a) (new_end weight)))
+  linked_gaps weight = ends_gaps w es g (λ x y here router whole. by x y whole (is_end (a, b) (x, y)) refl (is_end (b, a) (x, y)) refl)
     where
       es : Ends
-      es = put_end (put_end w.ends (a, b) new_end) (b, a) new_end
+      es = put_end (put_end w.ends (a, b) (new_end weight)) (b, a) (new_end weight)
 
-      read : {Y : Type 0} (f : Option EndState → Y) (q : End) (s t : Bool) → is_end (a, b) q ≡ s → is_end (b, a) q ≡ t → f (end_of es q) ≡ cond t (f (Some new_end)) (cond s (f (Some new_end)) (f (end_of w.ends q)))
+      read : {Y : Type 0} (f : Option EndState → Y) (q : End) (s t : Bool) → is_end (a, b) q ≡ s → is_end (b, a) q ≡ t → f (end_of es q) ≡ cond t (f (Some (new_end weight))) (cond s (f (Some (new_end weight))) (f (end_of w.ends q)))
       read f q s t e d =
-          read_put_end (put_end w.ends (a, b) new_end) (b, a) new_end f q
-          ∙ ap (λ u. cond u (f (Some new_end)) (f (end_of (put_end w.ends (a, b) new_end) q))) d
-          ∙ ap (λ z. cond t (f (Some new_end)) z) (read_put_end w.ends (a, b) new_end f q ∙ ap (λ u. cond u (f (Some new_end)) (f (end_of w.ends q))) e)
+          read_put_end (put_end w.ends (a, b) (new_end weight)) (b, a) (new_end weight) f q
+          ∙ ap (λ u. cond u (f (Some (new_end weight))) (f (end_of (put_end w.ends (a, b) (new_end weight)) q))) d
+          ∙ ap (λ z. cond t (f (Some (new_end weight))) z) (read_put_end w.ends (a, b) (new_end weight) f q ∙ ap (λ u. cond u (f (Some (new_end weight))) (f (end_of w.ends q))) e)
 
       way : (x y : Name) (s t : Bool) → is_end (a, b) (x, y) ≡ s → is_end (b, a) (x, y) ≡ t →
           way_of brings es x y ≡ notes brings (cond s [] (cond t [] (wire_at (end_of w.ends (y, x))))) ++ notes brings (cond t [] (cond s [] (queue_at (end_of w.ends (x, y)))))
@@ -179,7 +179,7 @@ weighed_gaps w g a r key found = record {
 
 module _ (w : WorldState) (h : Holds w) (l : LogsHold w) (g : GapsHold w) (sound_links : (x : Name) (r : RouterState) → router_of w.routers x ≡ Some r → AreUnique r.node.links) (a : Name) (r : RouterState)
     (found : router_of w.routers a ≡ Some r) (me : r.node.base.me ≡ a) where
-  up_gaps : (link : LinkNo) (peer : Peer) → link_at r.node.links link.0 ≡ None → link_to r.node.links peer.id ≡ None → (tag : ℕ) (es : Ends) → ((q : End) → is_unbroken es q ≡ is_unbroken w.ends q) →
+  up_gaps : (link : LinkNo) (peer : PeerState) → link_at r.node.links link.0 ≡ None → link_to r.node.links peer.id ≡ None → (tag : ℕ) (es : Ends) → ((q : End) → is_unbroken es q ≡ is_unbroken w.ends q) →
       ((x y : Name) → way_of brings es x y ≡ way_of brings w.ends x y) → GapsHold (sending (with_ends w es) a r (Up link peer) tag)
   up_gaps link peer free new tag es whole ways = gaps_heard w h l a r found me (Up link peer) tag es whole grows
       (λ x y z here router unbroken. subst (λ ms. Gapless z (logs_of (sending (with_ends w es) a r (Up link peer) tag) y z).number ms) (sym (ways x y))
@@ -264,12 +264,12 @@ module _ (now : Moment) (sound : IsSound now.world) (h : Holds now.world) (l : L
   client_comes n id router r found free =
       let no_router = (free_name w id free).0 in
       let none = not_there (end_of w.ends (router, id)) (false_from_ne_true _ (no_end w sound id free router)) in
-      let came : GapsHold (sending (with_ends w (put_end w.ends (router, id) (lifted new_end))) router r (Up (record { 0 = free_link r.node.links }) (record { id = id; role = Client })) n) =
-      up_gaps (with_ends w (put_end w.ends (router, id) (lifted new_end))) (moves_kept w _ h (joined_moves notes_in (table_of w) w h.twins router id none no_router))
+      let came : GapsHold (sending (with_ends w (put_end w.ends (router, id) (lifted (new_end 1)))) router r (Up (record { 0 = free_link r.node.links }) (record { id = id; role = Client; weight = 1 })) n) =
+      up_gaps (with_ends w (put_end w.ends (router, id) (lifted (new_end 1)))) (moves_kept w _ h (joined_moves notes_in (table_of w) w h.twins router id none no_router))
       (logs_moved w _ l (joined_moves places_in (logs_of w) w h.twins router id none no_router)) (joined_gaps w g router id none no_router) sound.unique router r found (sound.own router r found)
-      (record { 0 = free_link r.node.links }) (record { id = id; role = Client }) (free_is_free r.node.links)
+      (record { 0 = free_link r.node.links }) (record { id = id; role = Client; weight = 1 }) (free_is_free r.node.links)
       (no_link router id r found (false_from_ne_true (is_up w.ends (router, id)) (λ u. no_end w sound id free router (passes_there (λ q. q.up) w.ends (router, id) u))))
-      n (put_end w.ends (router, id) (lifted new_end)) (λ q. refl) (λ x y. refl) in
+      n (put_end w.ends (router, id) (lifted (new_end 1))) (λ q. refl) (λ x y. refl) in
       record { gapless = came.gapless }
 
   -- a client says something that brings nothing of logs
@@ -285,9 +285,9 @@ module _ (now : Moment) (sound : IsSound now.world) (h : Holds now.world) (l : L
   unfolding outcome
   gaps_keep n (a.Router id) = for_router now KeptGaps id (λ free room. router_gaps w sound g id free)
   gaps_keep n (a.Client id router) = for_client now KeptGaps (λ w v report t. gaps_told w v t) n id router (λ r found free room taken. client_comes n id router r found free)
-  gaps_keep n (a.Link one other) = for_link now KeptGaps one other (λ apart r found q found' new room. linked_gaps w g one other)
+  gaps_keep n (a.Link one other weight) = for_link now KeptGaps one other weight (λ apart r found q found' new room. linked_gaps w g one other weight)
   gaps_keep n (a.Up router name) = for_up now KeptGaps (λ w v report t. gaps_told w v t) n router name (λ r found there s at_end unbroken down taken.
-      up_gaps w h l g sound.unique router r found (sound.own router r found) (record { 0 = free_link r.node.links }) (peer_of w name) (free_is_free r.node.links) (no_link router name r found (ap up_at at_end ∙ down)) n _
+      up_gaps w h l g sound.unique router r found (sound.own router r found) (record { 0 = free_link r.node.links }) (peer_of w name s.weight) (free_is_free r.node.links) (no_link router name r found (ap up_at at_end ∙ down)) n _
       (λ q. keep_with_end w.ends (router, name) (lifted s) unbroken_at q s at_end refl) (lifted_way brings w.ends router name s at_end))
   gaps_keep n (a.Break router name) = for_break now KeptGaps router name (λ r found there s at_end unbroken. broken_gaps w g router name)
   gaps_keep n (a.Down router name) = for_down now KeptGaps (λ w v report t. gaps_told w v t) n router name (λ r found there s at_end up cut link number taken.

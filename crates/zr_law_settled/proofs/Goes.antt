@@ -105,7 +105,7 @@ goes_counted w booked g = record {
     links = g.sound.links;
     roles = g.sound.roles;
   };
-  holds = record { made = g.holds.made; spreads = g.holds.spreads; lists = g.holds.lists; in_order = g.holds.in_order; twins = g.holds.twins };
+  holds = record { made = g.holds.made; spreads = g.holds.spreads; lists = g.holds.lists; weighs = g.holds.weighs; in_order = g.holds.in_order; twins = g.holds.twins };
   logs = record { spreads = g.logs.spreads; in_order = g.logs.in_order; own_name = g.logs.own_name };
   sets = record { made = g.sets.made; sets = g.sets.sets; none = g.sets.none; known = g.sets.known; way = g.sets.way; rows = g.sets.rows };
   clients = record {

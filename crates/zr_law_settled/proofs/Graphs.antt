@@ -1,6 +1,6 @@
 -- Where a world is settled and its routers are joined, the graph of each router is that of the world: each has the records of all routers
 -- and of no other, and their edges are the links that are up at both ends.
-use Rattle.std.proofs.Common.{◌≡◌, ◌≤◌, ◌+◌, Bool, true, false, cond, List, [], ◌∷◌, Option, Some, None, is_some, refl, sym, ap, ◌∙◌, arith}
+use Rattle.std.proofs.Common.{◌≡◌, ◌≤◌, ◌+◌, max, Bool, true, false, cond, List, [], ◌∷◌, Option, Some, None, is_some, refl, sym, ap, ◌∙◌, arith}
 use Rattle.std.specs.Prelude.{◌&&◌, ◌||◌}
 use Rattle.std.specs.List.{list_all}
 use Rattle.std.specs.Option.{option_map_or}
@@ -9,8 +9,8 @@ use Rattle.std.specs.Cmp.Lexicographic.{slice_cmp}
 use Rattle.std.specs.Ordering.{nat_cmp}
 use Rattle.std.proofs.lemmas.Bool.{true≢false, false≢true, and_parts, and_from}
 use Rattle.zr_id.specs.Zid.{is_named}
-use Rattle.zr_id.specs.Record.{RecordState}
-use Rattle.zr_graph.specs.Record.{ids, has, record_of, lists, has_edge, IsAscending}
+use Rattle.zr_id.specs.Record.{RecordState, linked_ids}
+use Rattle.zr_graph.specs.Record.{ids, has, record_of, lists, has_edge, edge_weight, weight_given, IsAscending}
 use Rattle.zr_graph.proofs.Names.{same_is}
 use Rattle.zr_tree.specs.Walk.{IsWalk, graph_of}
 use Rattle.zr_tree.specs.Tree.{dist, reached}
@@ -20,8 +20,8 @@ use Rattle.zr_lists.specs.Ascending.{at_key}
 use Rattle.zr_lists.proofs.Same.{same}
 use Rattle.zr_lists.proofs.Options.{not_there}
 use Rattle.zr_lists.proofs.Order.{name_order}
-use Rattle.zr_world_spec.specs.World.{RouterState, WorldState, router_of, is_up, is_linked, is_settled}
-use Rattle.zr_world_spec.specs.Joined.{graph, is_joined}
+use Rattle.zr_world_spec.specs.World.{RouterState, Ends, WorldState, end_weight, router_of, is_up, is_linked, is_settled}
+use Rattle.zr_world_spec.specs.Joined.{linked_weight, graph, is_joined}
 use Rattle.zr_world_spec.specs.Moments as moments
 use Rattle.zr_world_spec.specs.Sound.{IsSound}
 use Rattle.zr_world_spec.proofs.Keyed.{there}
@@ -32,7 +32,7 @@ use Rattle.zr_law_settled.proofs.Spreading.{Name, own}
 use Rattle.zr_law_settled.proofs.Records.{known}
 use Rattle.zr_law_settled.proofs.Worlds.{there_in, knows, table_of, lane_of, Holds}
 use Rattle.zr_law_settled.proofs.Keeping.{Stands, moments_hold}
-use Rattle.zr_law_settled.proofs.Rest.{router_of_end, records_are, edges_are}
+use Rattle.zr_law_settled.proofs.Rest.{router_of_end, records_are, edges_are, weights_are}
 use Rattle.zr_law_settled.proofs.Order.{Ascend, routers_ascend}
 
 -- ---- names
@@ -76,6 +76,16 @@ each_passes p (y ∷ ys) x all h = let parts = and_parts (p y) (list_all p ys) a
 
 -- ---- a settled world, and one whose routers are joined
 
+-- the weight of a link has no direction
+weight_back : (ends : Ends) (x y : Name) → linked_weight ends x y ≡ linked_weight ends y x
+weight_back ends x y = by (is_up ends (x, y)) (is_up ends (y, x))
+  where
+    by : (s t : Bool) → cond (s && t) (max (end_weight ends (x, y)) (end_weight ends (y, x))) 0 ≡ cond (t && s) (max (end_weight ends (y, x)) (end_weight ends (x, y))) 0
+    by true true = omega arith
+    by true false = refl
+    by false true = refl
+    by false false = refl
+
 -- the routers of a settled world and the links between them are a graph
 module _ (w : WorldState) (sound : IsSound w) (h : Holds w) (settled : is_settled w ≡ true) (ascend : IsAscending (keys_of w.routers)) where
   pub is_graph : IsGraph (graph w)
@@ -83,6 +93,7 @@ module _ (w : WorldState) (sound : IsSound w) (h : Holds w) (settled : is_settle
     ascending = ascend;
     known = λ x y linked. key_there w.routers x ∙ router_of_end w sound h settled x y (and_parts (is_up w.ends (x, y)) (is_up w.ends (y, x)) linked).0;
     both_ways = λ x y linked. let ups = and_parts (is_up w.ends (x, y)) (is_up w.ends (y, x)) linked in and_from (is_up w.ends (y, x)) (is_up w.ends (x, y)) ups.1 ups.0;
+    as_long = λ x y. ap (λ n. max 1 n) (weight_back w.ends x y);
   }
 
 module _ (w : WorldState) (sound : IsSound w) (h : Holds w) (settled : is_settled w ≡ true) (joined : is_joined w ≡ true) (ascend : IsAscending (keys_of w.routers)) where
@@ -133,14 +144,27 @@ module _ (w : WorldState) (sound : IsSound w) (h : Holds w) (settled : is_settle
       where
         by : (t : Bool) → there_in w y ≡ t → has_edge r.node.base.records y z ≡ is_linked w.ends y z
         by true other = let walk = walk_to x y here other in edges_are w sound h settled walk.0 x y z r found walk.1
-        by false none = ap (λ o. option_map_or (λ q. has q.links z) o false && lists r.node.base.records z y) (no_record y none) ∙ down (is_up w.ends (y, z)) refl
+        by false none = ap (λ o. option_map_or (λ q. has (linked_ids q.links) z) o false && lists r.node.base.records z y) (no_record y none) ∙ down (is_up w.ends (y, z)) refl
           where
             down : (t : Bool) → is_up w.ends (y, z) ≡ t → false ≡ (t && is_up w.ends (z, y))
             down true up = absurd (true≢false (sym (router_of_end w sound h settled y z up) ∙ none))
             down false up = refl
 
+    weights_one : (y z : Name) → edge_weight r.node.base.records y z ≡ linked_weight w.ends y z
+    weights_one y z = by (there_in w y) refl
+      where
+        by : (t : Bool) → there_in w y ≡ t → edge_weight r.node.base.records y z ≡ linked_weight w.ends y z
+        by true other = let walk = walk_to x y here other in weights_are w sound h settled walk.0 x y z r found walk.1
+        by false none =
+            ap (λ t. cond t (max (weight_given r.node.base.records y z) (weight_given r.node.base.records z y)) 0) (edges_one y z ∙ down (is_up w.ends (y, z)) refl)
+            ∙ sym (ap (λ t. cond t (max (end_weight w.ends (y, z)) (end_weight w.ends (z, y))) 0) (down (is_up w.ends (y, z)) refl))
+          where
+            down : (t : Bool) → is_up w.ends (y, z) ≡ t → (t && is_up w.ends (z, y)) ≡ false
+            down true up = absurd (true≢false (sym (router_of_end w sound h settled y z up) ∙ none))
+            down false up = refl
+
     pub graph_is_one : graph_of r.node.base.records ≡ graph w
-    graph_is_one = λ i. record { names = names_are i; joined = λ y z. edges_one y z i }
+    graph_is_one = λ i. record { names = names_are i; joined = λ y z. edges_one y z i; weight = λ y z. weights_one y z i }
 
 pub graphs_are_one : GraphsAreOne
 graphs_are_one acts m x r is settled joined found =

@@ -6,9 +6,9 @@ use Rattle.std.specs.List.{AllByRecursion}
 use Rattle.std.specs.Option.{option_map_or}
 use Rattle.std.proofs.lemmas.Bool.{true≢false, and_parts}
 use Rattle.zr_id.specs.Zid.{is_named}
-use Rattle.zr_id.specs.Record.{RecordState}
+use Rattle.zr_id.specs.Record.{RecordState, linked_ids}
 use Rattle.zr_id.specs.declared.link.LinkNo.{LinkNo}
-use Rattle.zr_graph.specs.Record.{has}
+use Rattle.zr_graph.specs.Record.{has, weight_to}
 use Rattle.zr_graph.specs.Base.{BaseState, is_newer, kept}
 use Rattle.zr_graph.proofs.Names.{same_is}
 use Rattle.zr_lists.proofs.Finds.{In}
@@ -31,7 +31,7 @@ use Rattle.zr_law_settled.proofs.Links.{AreKnown, linked_to, leads_is}
 use Rattle.zr_law_settled.proofs.Records.{Links, known_of, note_of, notes_in, told, known_kept, newer_is, older_is}
 use Rattle.zr_law_settled.proofs.Silent.{from_silent, base_silent, first_tells}
 use Rattle.zr_law_settled.proofs.Hearing.{order_after, state_tells}
-use Rattle.zr_law_settled.proofs.Worlds.{there_in, knows, table_of, way_of, lane_of, feeds_of, Holds, there_heard, table_heard, sent_at, way_sent, way_other, table_here, table_other, of_table, order_heard, up_heard, unbroken_heard, some_heard, sent_there}
+use Rattle.zr_law_settled.proofs.Worlds.{there_in, knows, table_of, way_of, lane_of, feeds_of, up_weight_at, up_weight, Holds, there_heard, table_heard, sent_at, way_sent, way_other, table_here, table_other, of_table, order_heard, up_heard, up_weight_heard, unbroken_heard, some_heard, sent_there}
 use Rattle.zr_law_settled.proofs.Quiet.{silent_kept, passes_there}
 use Rattle.zr_law_settled.proofs.Moving.{up_at, unbroken_at, moves_kept}
 use Rattle.zr_law_settled.proofs.Passing.{popped_way, keep_popped, popped_moves, handled_way}
@@ -209,7 +209,8 @@ module _ (w : WorldState) (h : Holds w) (sound : IsSound w) (a : Name) (r : Rout
         part = λ x y. record { before = cond (is_end (a, b) (y, x)) (note_of m ∷ []) []; after = []; whole = way x y ∙ ap (λ z. cond (is_end (a, b) (y, x)) (note_of m ∷ []) [] ++ z) (sym (append-nil (way_of notes_in handled_world.ends x y))) };
         dropped = λ x y z f. (sym (feeds x y z) ∙ f, dropped x y z);
       });
-      lists = λ z y. ap (λ (q : Known Links). has q.value y) (own_is z) ∙ h.lists z y ∙ sym (ap (λ t. t && is_up handled_world.ends (z, y)) (there_is y) ∙ ap (λ t. there_in w y && t) (up_is (z, y)));
+      lists = λ z y. ap (λ (q : Known Links). has (linked_ids q.value) y) (own_is z) ∙ h.lists z y ∙ sym (ap (λ t. t && is_up handled_world.ends (z, y)) (there_is y) ∙ ap (λ t. there_in w y && t) (up_is (z, y)));
+      weighs = λ z y. ap (λ (q : Known Links). weight_to q.value y) (own_is z) ∙ h.weighs z y ∙ sym (ap (λ t. cond t (up_weight handled_world.ends (z, y)) 0) (there_is y) ∙ ap (λ n. cond (there_in w y) n 0) (weight_is (z, y)));
       in_order = order_heard (with_ends w after_pop) a r found (From k.link (State m)) tag h.in_order;
       twins = λ x y some there. some_is (y, x) ∙ h.twins x y (sym (some_is (x, y)) ∙ some) (sym (there_is y) ∙ there);
     }
@@ -219,6 +220,9 @@ module _ (w : WorldState) (h : Holds w) (sound : IsSound w) (a : Name) (r : Rout
 
         up_is : (q : End) → is_up handled_world.ends q ≡ is_up w.ends q
         up_is q = up_heard (with_ends w after_pop) a r found (From k.link (State m)) tag q ∙ keep_popped w.ends a b s at_end (State m) tag xs up_at refl q
+
+        weight_is : (q : End) → up_weight handled_world.ends q ≡ up_weight w.ends q
+        weight_is q = up_weight_heard (with_ends w after_pop) a r found (From k.link (State m)) tag q ∙ keep_popped w.ends a b s at_end (State m) tag xs up_weight_at refl q
 
         unbroken_is : (q : End) → is_unbroken handled_world.ends q ≡ is_unbroken w.ends q
         unbroken_is q = unbroken_heard (with_ends w after_pop) a r found (From k.link (State m)) tag q ∙ keep_popped w.ends a b s at_end (State m) tag xs unbroken_at refl q

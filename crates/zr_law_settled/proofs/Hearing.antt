@@ -15,13 +15,13 @@ use Rattle.zr_msg.specs.declared.msg.Msg.{Msg}
 use Rattle.zr_msg.specs.declared.msg.Msg.TheVariants.{Sub, Unsub, Able, Unable, Interest, EndInterest, ToldSub, ToldAble, ToldUnsub, ToldUnable, ToldEnd, Push, Request, Response, Final, State, Step, Snap}
 use Rattle.zr_msg.specs.declared.event.Event.{Event}
 use Rattle.zr_msg.specs.declared.event.Event.TheVariants.{Up, Down, From}
-use Rattle.zr_msg.specs.declared.peer.Peer.{Peer}
+use Rattle.zr_msg.specs.Peer.{PeerState}
 use Rattle.zr_msg.specs.declared.peer.Role.{Role}
 use Rattle.zr_msg.specs.declared.peer.Role.TheVariants.{Client, Router}
 use Rattle.zr_node_spec.specs.Tables.{link_at, link_to, leads_to_router}
 use Rattle.zr_node_spec.specs.State.{NodeState, new_link}
 use Rattle.zr_msg.specs.declared.peer.LinkPeer.{LinkPeer}
-use Rattle.zr_node_spec.specs.Table.{joined, parted, own_record, all_records, is_other_router, sends_own, sends_up, sends_parted, sends_down, sends_state, sends_first, sends, with_link, base_up, base_down, base_parted, base_told, after}
+use Rattle.zr_node_spec.specs.Table.{own_link, joined, parted, own_record, all_records, is_other_router, sends_own, sends_up, sends_parted, sends_down, sends_state, sends_first, sends, with_link, base_up, base_down, base_parted, base_told, after}
 use Rattle.zr_world_spec.specs.Acts.{sends_to}
 use Rattle.zr_law_settled.proofs.Spreading.{Name, Known, AllOf}
 use Rattle.zr_law_settled.proofs.Links.{AreKnown, linked_to, is_at, leads_is, in_with, in_without}
@@ -38,15 +38,15 @@ module _ (n : NodeState) where
   own_of : (link : ℕ) (b : BaseState) (to : ℕ) → AllOf (known_of b) (told (sends_own n link b to))
   own_of link b to = of_cond (known_of b) (is_other_router n link to) (own_record b) (own_tells b)
 
-  up_of : (link : ℕ) (peer : Peer) (role : Role) (to : ℕ) → IsInOrder (base_up n.base peer role) → AllOf (known_of (base_up n.base peer role)) (told (sends_up n link peer role to))
+  up_of : (link : ℕ) (peer : PeerState) (role : Role) (to : ℕ) → IsInOrder (base_up n.base peer role) → AllOf (known_of (base_up n.base peer role)) (told (sends_up n link peer role to))
   up_of link peer Client to h = tt
   up_of link peer Router to h = by (to == link)
     where
-      by : (b : Bool) → AllOf (known_of (joined n.base peer.id)) (told (cond b (all_records (joined n.base peer.id)) (sends_own n link (joined n.base peer.id) to)))
-      by true = base_tells (joined n.base peer.id) h
-      by false = own_of link (joined n.base peer.id) to
+      by : (b : Bool) → AllOf (known_of (joined n.base (own_link peer))) (told (cond b (all_records (joined n.base (own_link peer))) (sends_own n link (joined n.base (own_link peer)) to)))
+      by true = base_tells (joined n.base (own_link peer)) h
+      by false = own_of link (joined n.base (own_link peer)) to
 
-  parted_of : (link : ℕ) (peer : Peer) (role : Role) (to : ℕ) → AllOf (known_of (base_parted n.base peer role)) (told (sends_parted n link peer role to))
+  parted_of : (link : ℕ) (peer : PeerState) (role : Role) (to : ℕ) → AllOf (known_of (base_parted n.base peer role)) (told (sends_parted n link peer role to))
   parted_of link peer Client to = tt
   parted_of link peer Router to = own_of link (parted n.base peer.id) to
 
@@ -103,7 +103,7 @@ module _ (n : NodeState) where
 
   -- ---- the base stays in order
 
-  order_up : (peer : Peer) (role : Role) → IsInOrder n.base → IsInOrder (base_up n.base peer role)
+  order_up : (peer : PeerState) (role : Role) → IsInOrder n.base → IsInOrder (base_up n.base peer role)
   order_up peer Client h = h
   order_up peer Router h = in_order_put n.base _ h
 
@@ -159,36 +159,36 @@ module _ (n : NodeState) where
         (leads_is there n.links h l i ∙ router)
 
     -- a router that has come up is told all records; any other one, which was linked before, is told the own record
-    pub up_tells : AreKnown there n.links → (link : LinkNo) (peer : Peer) → peer.role ≡ Router → (y : Name) → is_some (link_to (after n (Up link peer)).links y) ≡ true → there y ≡ true →
-        (told (sends_to n (Up link peer) y) ≡ told (all_records (joined n.base peer.id)))
-        ⊎ ((is_some (link_to n.links y) ≡ true) × (told (sends_to n (Up link peer) y) ≡ told (own_record (joined n.base peer.id))))
+    pub up_tells : AreKnown there n.links → (link : LinkNo) (peer : PeerState) → peer.role ≡ Router → (y : Name) → is_some (link_to (after n (Up link peer)).links y) ≡ true → there y ≡ true →
+        (told (sends_to n (Up link peer) y) ≡ told (all_records (joined n.base (own_link peer))))
+        ⊎ ((is_some (link_to n.links y) ≡ true) × (told (sends_to n (Up link peer) y) ≡ told (own_record (joined n.base (own_link peer)))))
     up_tells h link peer role y linked router = by (link_to (with_link n.links (new_link link peer)) y) refl linked
       where
         by : (o : Option LinkPeer) → link_to (with_link n.links (new_link link peer)) y ≡ o → is_some o ≡ true →
-            (told (option_map_or (λ l. sends n (Up link peer) l.link) o []) ≡ told (all_records (joined n.base peer.id)))
-            ⊎ ((is_some (link_to n.links y) ≡ true) × (told (option_map_or (λ l. sends n (Up link peer) l.link) o []) ≡ told (own_record (joined n.base peer.id))))
+            (told (option_map_or (λ l. sends n (Up link peer) l.link) o []) ≡ told (all_records (joined n.base (own_link peer))))
+            ⊎ ((is_some (link_to n.links y) ≡ true) × (told (option_map_or (λ l. sends n (Up link peer) l.link) o []) ≡ told (own_record (joined n.base (own_link peer)))))
         by None e k = absurd (false≢true k)
         by (Some l) e k = at (l.link.0 == link.0) refl
           where
             at : (t : Bool) → (l.link.0 == link.0) ≡ t →
-                (told (sends n (Up link peer) l.link) ≡ told (all_records (joined n.base peer.id)))
-                ⊎ ((is_some (link_to n.links y) ≡ true) × (told (sends n (Up link peer) l.link) ≡ told (own_record (joined n.base peer.id))))
+                (told (sends n (Up link peer) l.link) ≡ told (all_records (joined n.base (own_link peer))))
+                ⊎ ((is_some (link_to n.links y) ≡ true) × (told (sends n (Up link peer) l.link) ≡ told (own_record (joined n.base (own_link peer)))))
             at true s = inl (first_tells n (Up link peer) l.link
-                ∙ ap told (ap (λ r. sends_up n link.0 peer r l.link.0) role ∙ ap (λ t. cond t (all_records (joined n.base peer.id)) (sends_own n link.0 (joined n.base peer.id) l.link.0)) s))
+                ∙ ap told (ap (λ r. sends_up n link.0 peer r l.link.0) role ∙ ap (λ t. cond t (all_records (joined n.base (own_link peer))) (sends_own n link.0 (joined n.base (own_link peer)) l.link.0)) s))
             at false s = inr (old (in_with there n.links (new_link link peer) l found.0))
               where
                 found : In l (with_link n.links (new_link link peer)) × (l.peer.id ≡ y)
                 found = linked_to (with_link n.links (new_link link peer)) y l e
 
                 old : (l ≡ new_link link peer) ⊎ (In l n.links × (l.link.0 ≡ link.0 → ⊥)) →
-                    (is_some (link_to n.links y) ≡ true) × (told (sends n (Up link peer) l.link) ≡ told (own_record (joined n.base peer.id)))
+                    (is_some (link_to n.links y) ≡ true) × (told (sends n (Up link peer) l.link) ≡ told (own_record (joined n.base (own_link peer))))
                 old (inl d) = absurd (eqb-false l.link.0 link.0 s (ap (λ (x : LinkPeer). x.link.0) d))
                 old (inr p) = (
                   some_found y l p.0 found.1,
                   first_tells n (Up link peer) l.link
                       ∙ ap told (ap (λ r. sends_up n link.0 peer r l.link.0) role
-                      ∙ ap (λ t. cond t (all_records (joined n.base peer.id)) (sends_own n link.0 (joined n.base peer.id) l.link.0)) s
-                      ∙ ap (λ t. cond t (own_record (joined n.base peer.id)) []) (other_is h link.0 l p.0 p.1 (ap there found.1 ∙ router))),
+                      ∙ ap (λ t. cond t (all_records (joined n.base (own_link peer))) (sends_own n link.0 (joined n.base (own_link peer)) l.link.0)) s
+                      ∙ ap (λ t. cond t (own_record (joined n.base (own_link peer))) []) (other_is h link.0 l p.0 p.1 (ap there found.1 ∙ router))),
                 )
                   where
                     some_found : (y : Name) (l : LinkPeer) → In l n.links → l.peer.id ≡ y → is_some (link_to n.links y) ≡ true

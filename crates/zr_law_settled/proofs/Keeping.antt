@@ -14,7 +14,7 @@ use Rattle.zr_msg.specs.declared.decl.Kind.TheVariants as k
 use Rattle.zr_msg.specs.declared.msg.Msg.TheVariants as m
 use Rattle.zr_msg.specs.Extras.{no_extras}
 use Rattle.zr_msg.specs.declared.event.Event.TheVariants.{Up, Down}
-use Rattle.zr_msg.specs.declared.peer.Peer.{Peer}
+use Rattle.zr_msg.specs.Peer.{PeerState}
 use Rattle.zr_msg.specs.declared.peer.Role.{Role}
 use Rattle.zr_msg.specs.declared.peer.Role.TheVariants.{Client, Router}
 use Rattle.zr_script_spec.specs.declared.command.Act.{Act}
@@ -31,7 +31,7 @@ use Rattle.zr_world_spec.specs.Sound.{IsSound}
 use Rattle.zr_world_spec.proofs.Cases.{w_sent, w_declare, free_name, number_found, for_router, for_link, for_break, for_declare, for_undeclare, Says, publish_says, get_says, reply_says, end_says, for_take, for_mark, for_show, Weighs, interest_says, uninterest_says}
 use Rattle.zr_world_spec.proofs.Telling.{is_told}
 use Rattle.zr_world_spec.proofs.Sound.{act_keeps, empty_sound}
-use Rattle.zr_law_settled.proofs.Told.{IsTold, by_told, if_sound, reads, told_there, told_some, told_up, told_feeds, of_each, told_way, w_client, w_up, w_down, w_handle, for_client, for_up, for_down, for_handle}
+use Rattle.zr_law_settled.proofs.Told.{IsTold, by_told, if_sound, reads, told_there, told_some, told_up, told_weight, told_feeds, of_each, told_way, w_client, w_up, w_down, w_handle, for_client, for_up, for_down, for_handle}
 use Rattle.zr_law_settled.proofs.Spreading.{Name, is_all}
 use Rattle.zr_law_settled.proofs.Moments.{at_moments}
 use Rattle.zr_law_settled.proofs.Links.{AreKnown, linked_to, is_at}
@@ -46,10 +46,10 @@ use Rattle.zr_law_settled.proofs.Handling.{by_news, silent_handled, news_handled
 
 -- ---- clients' ends tell nothing of links
 
-client_up_base : (n : NodeState) (link : LinkNo) (peer : Peer) → peer.role ≡ Client → (after n (Up link peer)).base ≡ n.base
+client_up_base : (n : NodeState) (link : LinkNo) (peer : PeerState) → peer.role ≡ Client → (after n (Up link peer)).base ≡ n.base
 client_up_base n link peer role = ap (λ ρ. base_up n.base peer ρ) role
 
-client_up_silent : (n : NodeState) (link : LinkNo) (peer : Peer) → peer.role ≡ Client → (y : Name) → told (sends_to n (Up link peer) y) ≡ []
+client_up_silent : (n : NodeState) (link : LinkNo) (peer : PeerState) → peer.role ≡ Client → (y : Name) → told (sends_to n (Up link peer) y) ≡ []
 client_up_silent n link peer role y = by (link_to (after n (Up link peer)).links y)
   where
     by : (o : Option LinkPeer) → told (option_map_or (λ l. sends n (Up link peer) l.link) o []) ≡ []
@@ -73,7 +73,7 @@ client_is Router e = absurd (true≢false e)
 -- ---- clients tell nothing
 
 clients_kept : (w : WorldState) (clients : Clients) → Holds w → Holds (with_clients w clients)
-clients_kept w clients h = record { made = h.made; spreads = h.spreads; lists = h.lists; in_order = h.in_order; twins = h.twins }
+clients_kept w clients h = record { made = h.made; spreads = h.spreads; lists = h.lists; weighs = h.weighs; in_order = h.in_order; twins = h.twins }
 
 -- ---- clients are told
 
@@ -86,6 +86,7 @@ holds_told w v t h = quiet_kept w v h (record {
   part = λ x y. is_all (way_of notes_in v.ends x y) (way_of notes_in w.ends x y) (sym (ways x y));
   dropped = λ x y z f. (sym (told_feeds w v t x y z) ∙ f, same_way z (table_of w y z).number (way_of notes_in v.ends x y) (way_of notes_in w.ends x y) (ways x y));
   lists = λ z y. (λ i. told_there w v t y i && told_up w v t (z, y) i);
+  weighs = λ z y. (λ i. cond (told_there w v t y i) (told_weight w v t (z, y) i) 0);
   in_order = of_each w v t (λ x n. IsInOrder n.base) h.in_order;
   twins = λ x y some router. told_some w v t (y, x) ∙ h.twins x y (sym (told_some w v t (x, y)) ∙ some) (sym (told_there w v t y) ∙ router);
 })
@@ -125,8 +126,8 @@ module _ (now : Moment) (sound : IsSound now.world) (h : Holds now.world) where
   client_comes n id router r found free =
       let no_router = (free_name w id free).0 in
       let none = not_there (end_of w.ends (router, id)) (false_from_ne_true _ (no_end w sound id free router)) in
-      clients_kept _ _ (silent_kept _ router r found (up_event r (record { id = id; role = Client })) n (moves_kept w _ h (joined_moves notes_in (table_of w) w h.twins router id none no_router)) refl
-      (client_up_silent r.node _ (record { id = id; role = Client }) refl))
+      clients_kept _ _ (silent_kept _ router r found (up_event r (record { id = id; role = Client; weight = 1 })) n (moves_kept w _ h (joined_moves notes_in (table_of w) w h.twins router id none no_router)) refl
+      (client_up_silent r.node _ (record { id = id; role = Client; weight = 1 }) refl))
 
   end_comes_up : (n : ℕ) (router name : List ℕ) (r : RouterState) → router_of w.routers router ≡ Some r → (s : EndState) → end_of w.ends (router, name) ≡ Some s →
       IsSound (w_up w n router name r s) → Holds (w_up w n router name r s)
@@ -136,10 +137,10 @@ module _ (now : Moment) (sound : IsSound now.world) (h : Holds now.world) where
       link = record { 0 = free_link r.node.links }
 
       by : (t : Bool) → there_in w name ≡ t → Holds (w_up w n router name r s)
-      by true e = up_kept w h sound router r found link (peer_of w name) (ap (λ t. cond t Router Client) e) e s at_end n sound'
+      by true e = up_kept w h sound router r found link (peer_of w name s.weight) (ap (λ t. cond t Router Client) e) e s at_end refl n sound'
       by false e =
-          let role : (peer_of w name).role ≡ Client = ap (λ t. cond t Router Client) e in
-          silent_kept (with_ends w (with_end w.ends (router, name) (lifted s))) router r found (up_event r (peer_of w name)) n (moves_kept w _ h (lifted_moves notes_in (table_of w) w h.twins router name s at_end e)) (client_up_base r.node link (peer_of w name) role) (client_up_silent r.node link (peer_of w name) role)
+          let role : (peer_of w name s.weight).role ≡ Client = ap (λ t. cond t Router Client) e in
+          silent_kept (with_ends w (with_end w.ends (router, name) (lifted s))) router r found (up_event r (peer_of w name s.weight)) n (moves_kept w _ h (lifted_moves notes_in (table_of w) w h.twins router name s at_end e)) (client_up_base r.node link (peer_of w name s.weight) role) (client_up_silent r.node link (peer_of w name s.weight) role)
 
   end_goes_down : (n : ℕ) (router name : List ℕ) (r : RouterState) → router_of w.routers router ≡ Some r → (k : LinkPeer) → link_to r.node.links name ≡ Some k →
       IsSound (w_down w n router name r k.link) → Holds (w_down w n router name r k.link)
@@ -172,7 +173,7 @@ module _ (now : Moment) (sound : IsSound now.world) (h : Holds now.world) where
   unfolding outcome
   acts_keep n (a.Router id) = for_router now Kept id (λ free room sound'. router_kept w sound h id free)
   acts_keep n (a.Client id router) = for_client now Kept (if_sound Holds (λ w v t s. holds_told w v t)) n id router (λ r found free room taken sound'. client_comes n id router r found free)
-  acts_keep n (a.Link one other) = for_link now Kept one other (λ apart r found q found' new room sound'. moves_kept w _ h (linked_moves notes_in (table_of w) w h.twins one other (ap is_some found) (ap is_some found') new))
+  acts_keep n (a.Link one other weight) = for_link now Kept one other weight (λ apart r found q found' new room sound'. moves_kept w _ h (linked_moves notes_in (table_of w) w h.twins one other weight (ap is_some found) (ap is_some found') new))
   acts_keep n (a.Up router name) = for_up now Kept (if_sound Holds (λ w v t s. holds_told w v t)) n router name (λ r found there s at_end unbroken down taken sound'. end_comes_up n router name r found s at_end sound')
   acts_keep n (a.Break router name) = for_break now Kept router name (λ r found there s at_end unbroken sound'. moves_kept w _ h (broken_moves notes_in (table_of w) w h.twins router name))
   acts_keep n (a.Down router name) = for_down now Kept (if_sound Holds (λ w v t s. holds_told w v t)) n router name (λ r found there s at_end up cut l number taken.
@@ -211,6 +212,7 @@ empty_holds = record {
     told = λ x y z f. absurd (false≢true f);
   };
   lists = λ z y. refl;
+  weighs = λ z y. refl;
   in_order = λ x r found. absurd (cc);
   twins = λ x y some router. absurd (false≢true some);
 }

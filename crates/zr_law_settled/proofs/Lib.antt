@@ -13,7 +13,6 @@ pub mod Moving
 pub mod Told
 pub mod Passing
 pub mod Orderly
-pub mod OwnLinks
 pub mod Changes
 pub mod Handling
 pub mod Keeping

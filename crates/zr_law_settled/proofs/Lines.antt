@@ -120,9 +120,9 @@ module _ (n : ℕ) (now : Moment) (h : AreBounded n now.world.routers) where
   act_bounded line (a.Router id) = for_router now (Bound (n + 1)) id (λ free room.
       let lt : length w.routers < most_routers = leb-false most_routers (length w.routers) room in
       later n (n + 1) _ (omega arith) (bounded_new n w.routers id (not_there (router_of w.routers id) (free_name w id free).0) lt h))
-  act_bounded line (a.Client id router) = for_client now (Bound (n + 1)) (bounded_told (n + 1)) line id router (λ r found free room taken. hears (n + 1) router r found (up_event r (record { id = id; role = Client })) (omega arith))
-  act_bounded line (a.Link one other) = for_link now (Bound (n + 1)) one other (λ apart r found q found' new room. stays)
-  act_bounded line (a.Up router name) = for_up now (Bound (n + 1)) (bounded_told (n + 1)) line router name (λ r found there s at_end unbroken down taken. hears (n + 1) router r found (up_event r (peer_of w name)) (omega arith))
+  act_bounded line (a.Client id router) = for_client now (Bound (n + 1)) (bounded_told (n + 1)) line id router (λ r found free room taken. hears (n + 1) router r found (up_event r (record { id = id; role = Client; weight = 1 })) (omega arith))
+  act_bounded line (a.Link one other weight) = for_link now (Bound (n + 1)) one other weight (λ apart r found q found' new room. stays)
+  act_bounded line (a.Up router name) = for_up now (Bound (n + 1)) (bounded_told (n + 1)) line router name (λ r found there s at_end unbroken down taken. hears (n + 1) router r found (up_event r (peer_of w name s.weight)) (omega arith))
   act_bounded line (a.Break router name) = for_break now (Bound (n + 1)) router name (λ r found there s at_end unbroken. stays)
   act_bounded line (a.Down router name) = for_down now (Bound (n + 1)) (bounded_told (n + 1)) line router name (λ r found there s at_end up cut l number taken. hears (n + 1) router r found (Down l) (omega arith))
   act_bounded line (a.Sub client id key) = for_declare now (Bound (n + 1)) line client k.Sub id key (m.Sub id key) (λ s found fresh e at_end unbroken r there weighs. heavier s.router key r there)

@@ -11,7 +11,7 @@ use Rattle.zr_lists.proofs.Finds.{In}
 use Rattle.zr_msg.specs.declared.msg.Msg.{Msg}
 use Rattle.zr_msg.specs.declared.event.Event.{Event}
 use Rattle.zr_msg.specs.declared.event.Event.TheVariants.{Up, Down, From}
-use Rattle.zr_msg.specs.declared.peer.Peer.{Peer}
+use Rattle.zr_msg.specs.Peer.{PeerState}
 use Rattle.zr_msg.specs.declared.peer.LinkPeer.{LinkPeer}
 use Rattle.zr_log.specs.Known.{AreInOrder, position}
 use Rattle.zr_node_spec.specs.Tables.{is_link, link_at, link_to, is_router, leads_to_router, leads_to_client}
@@ -128,7 +128,7 @@ module _ (w : WorldState) (h : Holds w) (l : LogsHold w) (a : Name) (r : RouterS
 
   -- ---- an end comes up
 
-  pub logs_up : (b : Name) (s : EndState) → end_of w.ends (a, b) ≡ Some s → (link : LinkNo) (peer : Peer) (tag : ℕ) → IsSound (sending (with_ends w (with_end w.ends (a, b) (lifted s))) a r (Up link peer) tag) →
+  pub logs_up : (b : Name) (s : EndState) → end_of w.ends (a, b) ≡ Some s → (link : LinkNo) (peer : PeerState) (tag : ℕ) → IsSound (sending (with_ends w (with_end w.ends (a, b) (lifted s))) a r (Up link peer) tag) →
       LogsHold (sending (with_ends w (with_end w.ends (a, b) (lifted s))) a r (Up link peer) tag)
   logs_up b s at_end link peer tag sound' =
       logs_then (Up link peer) tag es (lifted_way places_in w.ends a b s at_end) final becomes (up_follows r.node link peer) (λ z. omega arith) (λ k at. inr refl)
@@ -154,7 +154,7 @@ module _ (w : WorldState) (h : Holds w) (l : LogsHold w) (a : Name) (r : RouterS
 
   -- ---- a client's end is up, and its router hears of it
 
-  pub logs_joined : (link : LinkNo) (peer : Peer) (tag : ℕ) (final : WorldState) → final.routers ≡ (sending w a r (Up link peer) tag).routers → final.ends ≡ (sending w a r (Up link peer) tag).ends → IsSound final → LogsHold final
+  pub logs_joined : (link : LinkNo) (peer : PeerState) (tag : ℕ) (final : WorldState) → final.routers ≡ (sending w a r (Up link peer) tag).routers → final.ends ≡ (sending w a r (Up link peer) tag).ends → IsSound final → LogsHold final
   logs_joined link peer tag final same_routers same_ends sound' =
       logs_then (Up link peer) tag w.ends (λ x y. refl) final becomes (up_follows r.node link peer) (λ z. omega arith) (λ k at. inr refl)
       (subst (λ (e : Ends). Spreads none_made (feeds_logs final) (record { table = λ x z. knows_logs (router_of final.routers x) z; way = way_of places_in e })) (sym same_ends)

@@ -177,17 +177,17 @@ module _ (now : Moment) (sound : IsSound now.world) (h : Holds now.world) (l : L
   client_comes n id router r found free sound' =
       let no_router = (free_name w id free).0 in
       let none = not_there (end_of w.ends (router, id)) (false_from_ne_true _ (no_end w sound id free router)) in
-      logs_joined (with_ends w (put_end w.ends (router, id) (lifted new_end))) (moves_kept w _ h (joined_moves notes_in (table_of w) w h.twins router id none no_router))
+      logs_joined (with_ends w (put_end w.ends (router, id) (lifted (new_end 1)))) (moves_kept w _ h (joined_moves notes_in (table_of w) w h.twins router id none no_router))
       (logs_moved w _ l (joined_moves places_in (logs_of w) w h.twins router id none no_router)) router r found (sound.own router r found)
-      (record { 0 = free_link r.node.links }) (record { id = id; role = Client }) n (w_client w n id router r) refl refl sound'
+      (record { 0 = free_link r.node.links }) (record { id = id; role = Client; weight = 1 }) n (w_client w n id router r) refl refl sound'
 
   pub logs_keep : (n : ℕ) (act : Act) → IfSome (went now (outcome w n act)) KeptLogs
   unfolding outcome
   logs_keep n (a.Router id) = for_router now KeptLogs id (λ free room sound'. router_logs w sound l id free)
   logs_keep n (a.Client id router) = for_client now KeptLogs (if_sound LogsHold (λ w v t s. logs_told w v t)) n id router (λ r found free room taken sound'. client_comes n id router r found free sound')
-  logs_keep n (a.Link one other) = for_link now KeptLogs one other (λ apart r found q found' new room sound'. logs_moved w _ l (linked_moves places_in (logs_of w) w h.twins one other (ap is_some found) (ap is_some found') new))
+  logs_keep n (a.Link one other weight) = for_link now KeptLogs one other weight (λ apart r found q found' new room sound'. logs_moved w _ l (linked_moves places_in (logs_of w) w h.twins one other weight (ap is_some found) (ap is_some found') new))
   logs_keep n (a.Up router name) = for_up now KeptLogs (if_sound LogsHold (λ w v t s. logs_told w v t)) n router name (λ r found there s at_end unbroken down taken sound'.
-      logs_up w h l router r found (sound.own router r found) name s at_end (record { 0 = free_link r.node.links }) (peer_of w name) n sound')
+      logs_up w h l router r found (sound.own router r found) name s at_end (record { 0 = free_link r.node.links }) (peer_of w name s.weight) n sound')
   logs_keep n (a.Break router name) = for_break now KeptLogs router name (λ r found there s at_end unbroken sound'. logs_moved w _ l (broken_moves places_in (logs_of w) w h.twins router name))
   logs_keep n (a.Down router name) = for_down now KeptLogs (if_sound LogsHold (λ w v t s. logs_told w v t)) n router name (λ r found there s at_end up cut link number taken.
       let k = number_found r name link number in

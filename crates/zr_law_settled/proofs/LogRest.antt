@@ -1,20 +1,20 @@
 -- Where a world is settled, routers know of the log of each that they reach as much as its router made. Routers that a walk joins have one graph
 -- (`graph_level`), so they have one tree of each root; and each router in the tree of a root knows what its parent there knows (`climb`).
-use Rattle.std.proofs.Common.{◌≡◌, ◌≤◌, ℕ, zero, suc, true, false, cond, List, [], ◌∷◌, ◌++◌, length, Option, Some, None, is_some, refl, sym, ap, ◌∙◌, subst, arith}
+use Rattle.std.proofs.Common.{◌≡◌, ◌≤◌, ℕ, max, zero, suc, true, false, cond, List, [], ◌∷◌, ◌++◌, Option, Some, None, is_some, refl, sym, ap, ◌∙◌, subst, arith}
 use Rattle.std.specs.Prelude.{◌&&◌, not}
 use Rattle.std.specs.Map.{keys_of}
 use Rattle.std.specs.Option.{option_map_or}
 use Rattle.std.specs.Cmp.Lexicographic.{slice_cmp}
 use Rattle.std.specs.Ordering.{nat_cmp}
 use Rattle.std.proofs.lemmas.Bool.{false≢true, and_parts, and_from}
-use Rattle.zr_id.specs.Record.{RecordState}
-use Rattle.zr_graph.specs.Record.{ids, has, record_of, lists, has_edge, IsAscending}
-use Rattle.zr_tree.specs.Walk.{Graph, IsWalk, graph_of, walk_length}
-use Rattle.zr_tree.specs.Tree.{dist, parent, is_child}
+use Rattle.zr_id.specs.Record.{RecordState, linked_ids}
+use Rattle.zr_graph.specs.Record.{ids, has, record_of, lists, has_edge, edge_weight, weight_given, weight_to, IsAscending}
+use Rattle.zr_tree.specs.Walk.{Graph, IsWalk, graph_of}
+use Rattle.zr_tree.specs.Tree.{tree_depth, parent, is_child}
 use Rattle.zr_tree.specs.Laws.{IsGraph}
 use Rattle.zr_lists.proofs.Finds.{in_filter}
-use Rattle.zr_tree.proofs.Paths.{graph_is, walk_push, walk_back, walk_leads, bounded}
-use Rattle.zr_tree.proofs.Distances.{zero_is_root}
+use Rattle.zr_tree.proofs.Paths.{graph_is, walk_push, walk_back, walk_reaches}
+use Rattle.zr_tree.proofs.Depths.{distance_depth, zero_is_root}
 use Rattle.zr_tree.proofs.Branches.{parent_is, has_parent, child_from}
 use Rattle.zr_lists.proofs.Same.{same}
 use Rattle.zr_lists.proofs.Order.{name_order}
@@ -70,11 +70,17 @@ module _ (w : WorldState) (sound : IsSound w) (h : Holds w) (l : LogsHold w) (se
 
     one_edge : (s t : Name) → has_edge rx.node.base.records s t ≡ has_edge rz.node.base.records s t
     one_edge s t =
-        ap (λ (o : Option RecordState). option_map_or (λ r. has r.links t) o false && lists rx.node.base.records t s) (one_record s)
-        ∙ ap (λ (o : Option RecordState). lists rz.node.base.records s t && option_map_or (λ r. has r.links s) o false) (one_record t)
+        ap (λ (o : Option RecordState). option_map_or (λ r. has (linked_ids r.links) t) o false && lists rx.node.base.records t s) (one_record s)
+        ∙ ap (λ (o : Option RecordState). lists rz.node.base.records s t && option_map_or (λ r. has (linked_ids r.links) s) o false) (one_record t)
+
+    one_weight : (s t : Name) → edge_weight rx.node.base.records s t ≡ edge_weight rz.node.base.records s t
+    one_weight s t =
+        ap (λ b. cond b (max (weight_given rx.node.base.records s t) (weight_given rx.node.base.records t s)) 0) (one_edge s t)
+        ∙ ap (λ (o : Option RecordState). cond (has_edge rz.node.base.records s t) (max (option_map_or (λ r. weight_to r.links t) o 0) (weight_given rx.node.base.records t s)) 0) (one_record s)
+        ∙ ap (λ (o : Option RecordState). cond (has_edge rz.node.base.records s t) (max (weight_given rz.node.base.records s t) (option_map_or (λ r. weight_to r.links s) o 0)) 0) (one_record t)
 
     pub graph_level : graph_of rx.node.base.records ≡ graph_of rz.node.base.records
-    graph_level = λ i. record { names = one_ids i; joined = λ s t. one_edge s t i }
+    graph_level = λ i. record { names = one_ids i; joined = λ s t. one_edge s t i; weight = λ s t. one_weight s t i }
 
   -- ---- up the tree of a root
 
@@ -91,12 +97,12 @@ module _ (w : WorldState) (sound : IsSound w) (h : Holds w) (l : LogsHold w) (se
     over u before b (v ∷ path) x e =
         (edges_are w sound h settled before z u v rz fz b ∙ e.0, over v (before ++ v ∷ []) (walk_push (graph w) z u v before b e.0) path x e.1)
 
-    -- where a walk leads to the root, the router is so far from it
-    far : (x : Name) (path : List Name) → IsWalk (graph w) x path z → (n : ℕ) × (dist g z x ≡ Some n)
+    -- where a walk leads to the root, the router is so deep in its tree
+    far : (x : Name) (path : List Name) → IsWalk (graph w) x path z → (n : ℕ) × (tree_depth g z x ≡ Some n)
     far x path walk =
         let back = walk_back (graph w) (is_graph w sound h settled ascend) x z path walk in
-        let k = bounded g is_g (walk_length g z back.0) z x (walk_leads g is_g z x back.0 (over z [] refl back.0 x back.1)) in
-        (k.0, k.2)
+        let k = walk_reaches g is_g z x back.0 (over z [] refl back.0 x back.1) in
+        distance_depth g z x k.0 k.2
 
     -- what the parent knows its child knows
     told : (x : Name) (path : List Name) → IsWalk (graph w) x path z → (p : Name) → parent g z x ≡ Some p → is_up w.ends (x, p) ≡ true → is_up w.ends (p, x) ≡ true →
@@ -120,9 +126,9 @@ module _ (w : WorldState) (sound : IsSound w) (h : Holds w) (l : LogsHold w) (se
             (and_from (there_in w x) (is_up w.ends (p, x) && is_unbroken w.ends (p, x)) (router_of_end w sound h settled x p here)
             (and_from (is_up w.ends (p, x)) (is_unbroken w.ends (p, x)) back (met w sound h settled p x back).0)) child
 
-    -- a parent is linked, and one nearer
-    nearer : (m : ℕ) (x : Name) (path : List Name) → IsWalk (graph w) x path z → dist g z x ≡ Some (suc m) →
-        (p : Name) × (parent g z x ≡ Some p) × (dist g z p ≡ Some m) × (is_up w.ends (x, p) ≡ true) × (is_up w.ends (p, x) ≡ true)
+    -- a parent is linked, and one less deep
+    nearer : (m : ℕ) (x : Name) (path : List Name) → IsWalk (graph w) x path z → tree_depth g z x ≡ Some (suc m) →
+        (p : Name) × (parent g z x ≡ Some p) × (tree_depth g z p ≡ Some m) × (is_up w.ends (x, p) ≡ true) × (is_up w.ends (p, x) ≡ true)
     nearer m x path walk d =
         let found = has_parent g z x m d in
         let is = parent_is g z x found.0 found.1 in
@@ -133,10 +139,10 @@ module _ (w : WorldState) (sound : IsSound w) (h : Holds w) (l : LogsHold w) (se
         let linked : is_linked w.ends x found.0 ≡ true =
         sym (edges_are w sound h settled back.0 z x found.0 rz fz back.1) ∙ (in_filter (λ q. has_edge rz.node.base.records x q) (ids rz.node.base.records) found.0 is.1.neighbour).1 in
         let ups = and_parts (is_up w.ends (x, found.0)) (is_up w.ends (found.0, x)) linked in
-        (found.0, found.1, subst (λ k. dist g z found.0 ≡ Some k) m_is is.1.from_parent, ups.0, ups.1)
+        (found.0, found.1, subst (λ k. tree_depth g z found.0 ≡ Some k) m_is is.1.from_parent, ups.0, ups.1)
 
-    climb : (n : ℕ) (x : Name) (path : List Name) → IsWalk (graph w) x path z → dist g z x ≡ Some n → (logs_of w x z).number ≡ own (log_lane w) z
-    climb zero x path walk d = ap (λ q. (logs_of w q z).number) (sym (zero_is_root g z (suc (length g.names)) x d))
+    climb : (n : ℕ) (x : Name) (path : List Name) → IsWalk (graph w) x path z → tree_depth g z x ≡ Some n → (logs_of w x z).number ≡ own (log_lane w) z
+    climb zero x path walk d = ap (λ q. (logs_of w q z).number) (sym (zero_is_root g z x d))
     climb (suc m) x path walk d =
         let p = nearer m x path walk d in
         omega (

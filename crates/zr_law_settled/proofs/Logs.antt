@@ -6,13 +6,12 @@ use Rattle.std.specs.Prelude.{◌&&◌}
 use Rattle.std.specs.Option.{option_map_or}
 use Rattle.std.proofs.lemmas.Bool.{and_parts, and_from}
 use Rattle.zr_id.specs.Zid.{is_named}
+use Rattle.zr_id.specs.Record.{linked_ids}
 use Rattle.zr_graph.specs.Record.{has, lists, has_edge}
 use Rattle.zr_graph.proofs.Names.{same_refl}
-use Rattle.zr_tree_parents.specs.Distance.{is_sum}
-use Rattle.zr_tree.specs.Walk.{graph_of, near}
-use Rattle.zr_tree.specs.Tree.{dist}
-use Rattle.zr_lists.proofs.Finds.{find_in, in_filter}
-use Rattle.zr_tree.proofs.Branches.{child_is}
+use Rattle.zr_tree.specs.Walk.{graph_of}
+use Rattle.zr_lists.proofs.Finds.{in_filter}
+use Rattle.zr_tree.proofs.Branches.{child_is, parent_is}
 use Rattle.zr_msg.specs.declared.event.Event.{Event}
 use Rattle.zr_msg.specs.declared.peer.LinkPeer.{LinkPeer}
 use Rattle.zr_log.specs.Known.{AreInOrder, position}
@@ -94,11 +93,10 @@ logs_moved w es l m = record {
 -- who is a child by the records of a router is a neighbour to which its end is up
 pub child_up : (w : WorldState) → Holds w → (a : Name) (r : RouterState) → router_of w.routers a ≡ Some r → (z y : Name) → child_by r.node.base.records z a y ≡ true → is_up w.ends (a, y) ≡ true
 child_up w h a r found z y child =
-    let among = find_in (λ q. is_sum (dist (graph_of r.node.base.records) z q) 1 (dist (graph_of r.node.base.records) z y)) (near (graph_of r.node.base.records) y) a
-    (child_is (graph_of r.node.base.records) z a y child) in
-    let edge : has_edge r.node.base.records y a ≡ true = (in_filter (λ q. has_edge r.node.base.records y q) _ a among.0).1 in
+    let among = (parent_is (graph_of r.node.base.records) z y a (child_is (graph_of r.node.base.records) z a y child)).1.neighbour in
+    let edge : has_edge r.node.base.records y a ≡ true = (in_filter (λ q. has_edge r.node.base.records y q) _ a among).1 in
     let listed : lists r.node.base.records a y ≡ true = (and_parts (lists r.node.base.records y a) (lists r.node.base.records a y) edge).1 in
-    let mine : has (table_of w a a).value y ≡ true = ap (λ o. has (knows o a).value y) found ∙ sym (lists_known r.node.base.records a y) ∙ listed in
+    let mine : has (linked_ids (table_of w a a).value) y ≡ true = ap (λ o. has (linked_ids (knows o a).value) y) found ∙ sym (lists_known r.node.base.records a y) ∙ listed in
     (and_parts (there_in w y) (is_up w.ends (a, y)) (sym (h.lists a y) ∙ mine)).1
 
 -- ---- a router hears of an event

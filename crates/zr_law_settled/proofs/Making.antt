@@ -19,7 +19,7 @@ use Rattle.zr_msg.specs.Extras.{no_extras}
 use Rattle.zr_msg.specs.declared.event.Event.{Event}
 use Rattle.zr_msg.specs.declared.event.Event.TheVariants.{Up, Down, From}
 use Rattle.zr_msg.specs.declared.peer.LinkPeer.{LinkPeer}
-use Rattle.zr_msg.specs.declared.peer.Peer.{Peer}
+use Rattle.zr_msg.specs.Peer.{PeerState}
 use Rattle.zr_msg.specs.declared.peer.Role.TheVariants.{Client}
 use Rattle.zr_script_spec.specs.declared.command.Act.{Act}
 use Rattle.zr_script_spec.specs.Mode.{is_current, is_future}
@@ -286,7 +286,7 @@ module _ (now : Moment) (sound : IsSound now.world) (h : Holds now.world) (l : L
   known_before : (a : Name) (r : RouterState) → router_of w.routers a ≡ Some r → (z : Name) → position r.node.known z ≤ own (log_lane w) z
   known_before a r found z = let e : (logs_of w a z).number ≡ position r.node.known z = ap (λ o. (knows_logs o z).number) found in omega (arith, e, (l.spreads.fits a z).0)
 
-  hears_up : (a : Name) (r : RouterState) → router_of w.routers a ≡ Some r → (link : LinkNo) (peer : Peer) (tag : ℕ) (es : Ends) → ((x y : Name) → AllMade s.made (own (log_lane w)) (way_of brings es x y)) →
+  hears_up : (a : Name) (r : RouterState) → router_of w.routers a ≡ Some r → (link : LinkNo) (peer : PeerState) (tag : ℕ) (es : Ends) → ((x y : Name) → AllMade s.made (own (log_lane w)) (way_of brings es x y)) →
       SetsHold (sending (with_ends w es) a r (Up link peer) tag)
   hears_up a r found link peer tag es ways =
       sets_heard w l s a r found (Up link peer) tag es ways (λ z. let e : position (after r.node (Up link peer)).known z ≡ position r.node.known z = refl in omega (arith, e)) (λ z e. known_before a r found z) (up_brings r.node s.made (own (log_lane w)) (knows a r found) (me_is a r found) link peer)
@@ -323,11 +323,11 @@ module _ (now : Moment) (sound : IsSound now.world) (h : Holds now.world) (l : L
   sets_keep n (a.Client id router) = for_client now KeptSets (λ w v report t. sets_told w v t) n id router (λ r found free room taken.
       let no_router = (free_name w id free).0 in
       let none = not_there (end_of w.ends (router, id)) (false_from_ne_true _ (no_end w sound id free router)) in
-      clients_sets _ _ (hears_up router r found (record { 0 = free_link r.node.links }) (record { id = id; role = Client }) n (put_end w.ends (router, id) (lifted new_end))
+      clients_sets _ _ (hears_up router r found (record { 0 = free_link r.node.links }) (record { id = id; role = Client; weight = 1 }) n (put_end w.ends (router, id) (lifted (new_end 1)))
       (sets_moved w _ s ((joined_moves brings no_table w h.twins router id none no_router).part)).way))
-  sets_keep n (a.Link one other) = for_link now KeptSets one other (λ apart r found q found' new room. sets_moved w _ s ((linked_moves brings no_table w h.twins one other (ap is_some found) (ap is_some found') new).part))
+  sets_keep n (a.Link one other weight) = for_link now KeptSets one other weight (λ apart r found q found' new room. sets_moved w _ s ((linked_moves brings no_table w h.twins one other weight (ap is_some found) (ap is_some found') new).part))
   sets_keep n (a.Up router name) = for_up now KeptSets (λ w v report t. sets_told w v t) n router name (λ r found there at at_end unbroken down taken.
-      hears_up router r found (record { 0 = free_link r.node.links }) (peer_of w name) n _ (λ x y. subst (λ ms. AllMade s.made (own (log_lane w)) ms) (sym (lifted_way brings w.ends router name at at_end x y)) (s.way x y)))
+      hears_up router r found (record { 0 = free_link r.node.links }) (peer_of w name at.weight) n _ (λ x y. subst (λ ms. AllMade s.made (own (log_lane w)) ms) (sym (lifted_way brings w.ends router name at at_end x y)) (s.way x y)))
   sets_keep n (a.Break router name) = for_break now KeptSets router name (λ r found there at at_end unbroken. sets_moved w _ s ((broken_moves brings no_table w h.twins router name).part))
   sets_keep n (a.Down router name) = for_down now KeptSets (λ w v report t. sets_told w v t) n router name (λ r found there at at_end up cut link number taken.
       let part : SetsHold (sending w router r (Down link) n) = sets_heard w l s router r found (Down link) n w.ends s.way (rows_grow r.node (me_is router r found) (rows_left r.node link.0))

@@ -8,7 +8,7 @@ use Rattle.zr_world_spec.specs.World.{EndState, End, Ends, WorldState, with_ends
 use Rattle.zr_world_spec.proofs.Ends.{same_end, read_with_end, keep_with_end, read_put_end, keep_put_end, read_changed, keep_changed}
 use Rattle.zr_law_settled.proofs.Spreading.{Name, Known, Note, best, IsPart, is_all}
 use Rattle.zr_law_settled.proofs.Records.{notes_in}
-use Rattle.zr_law_settled.proofs.Worlds.{there_in, table_of, queue_at, wire_at, notes, way_of, feeds_of, HasTwins, Holds, notes-append}
+use Rattle.zr_law_settled.proofs.Worlds.{there_in, table_of, queue_at, wire_at, notes, way_of, feeds_of, up_weight_at, up_weight, HasTwins, Holds, notes-append}
 use Rattle.zr_law_settled.proofs.Quiet.{quiet_kept, turned_is, same_way}
 
 -- readings of one end
@@ -18,10 +18,19 @@ up_at o = option_map_or (λ s. s.up) o false
 abbrev pub unbroken_at : Option EndState → Bool
 unbroken_at o = option_map_or (λ s. s.unbroken) o false
 
--- What is on the way is a part, no link to a router comes up, and what is gone can't be missed.
+-- an end that is not up weighs nothing
+none_up : (ends : Ends) (e : End) → is_up ends e ≡ false → up_weight ends e ≡ 0
+none_up ends e down = by (end_of ends e) down
+  where
+    by : (o : Option EndState) → up_at o ≡ false → up_weight_at o ≡ 0
+    by None k = refl
+    by (Some s) k = ap (λ t. cond t s.weight 0) k
+
+-- What is on the way is a part, no link to a router comes up or has another weight, and what is gone can't be missed.
 pub record Moves {V : Type 0} (tells : Msg → List (Note V)) (table : Name → Name → Known V) (w : WorldState) (es : Ends) : Type 0 where
   pub part : (x y : Name) → IsPart (way_of tells es x y) (way_of tells w.ends x y)
   pub up : (x y : Name) → there_in w y ≡ true → is_up es (x, y) ≡ is_up w.ends (x, y)
+  pub weight : (x y : Name) → there_in w y ≡ true → up_weight es (x, y) ≡ up_weight w.ends (x, y)
   pub dropped : (x y z : Name) → there_in w y ≡ true → is_up es (x, y) ≡ true → is_unbroken es (x, y) ≡ true →
       (is_unbroken w.ends (x, y) ≡ true) × (best z (way_of tells w.ends x y) ≤ max (table y z).number (best z (way_of tells es x y)))
   pub twins : (x y : Name) → is_some (end_of es (x, y)) ≡ true → there_in w y ≡ true → is_some (end_of es (y, x)) ≡ true
@@ -44,6 +53,7 @@ moves_kept w es h m = quiet_kept w (with_ends w es) h (record {
   part = m.part;
   dropped = λ x y z f. fed_before notes_in (table_of w) w es m x y z f;
   lists = λ z y. at z y (there_in w y) refl;
+  weighs = λ z y. weight_at z y (there_in w y) refl;
   in_order = h.in_order;
   twins = m.twins;
 })
@@ -51,6 +61,10 @@ moves_kept w es h m = quiet_kept w (with_ends w es) h (record {
     at : (z y : Name) (b : Bool) → there_in w y ≡ b → (b && is_up es (z, y)) ≡ (b && is_up w.ends (z, y))
     at z y true e = m.up z y e
     at z y false e = refl
+
+    weight_at : (z y : Name) (b : Bool) → there_in w y ≡ b → cond b (up_weight es (z, y)) 0 ≡ cond b (up_weight w.ends (z, y)) 0
+    weight_at z y true e = m.weight z y e
+    weight_at z y false e = refl
 
 pub both_ways : {X : Type 0} (wire wire' queue queue' : List X) → wire ≡ wire' → queue ≡ queue' → wire ++ queue ≡ wire' ++ queue'
 both_ways wire wire' queue queue' e f = ap (λ z. z ++ queue) e ∙ ap (λ z. wire' ++ z) f
@@ -64,11 +78,12 @@ lifted_way tells es a b s found x y =
 module _ {V : Type 0} (tells : Msg → List (Note V)) (table : Name → Name → Known V) (w : WorldState) (pairs : HasTwins w) where
   -- where the same is on the way, and each link to a router is up and unbroken as before
   alike : (es : Ends) → ((x y : Name) → way_of tells es x y ≡ way_of tells w.ends x y) → ((x y : Name) → there_in w y ≡ true → is_up es (x, y) ≡ is_up w.ends (x, y)) →
-      ((x y : Name) → there_in w y ≡ true → is_unbroken es (x, y) ≡ is_unbroken w.ends (x, y)) →
+      ((x y : Name) → there_in w y ≡ true → up_weight es (x, y) ≡ up_weight w.ends (x, y)) → ((x y : Name) → there_in w y ≡ true → is_unbroken es (x, y) ≡ is_unbroken w.ends (x, y)) →
       ((x y : Name) → is_some (end_of es (x, y)) ≡ true → there_in w y ≡ true → is_some (end_of es (y, x)) ≡ true) → Moves tells table w es
-  alike es way up unbroken twins = record {
+  alike es way up weight unbroken twins = record {
     part = λ x y. is_all (way_of tells es x y) (way_of tells w.ends x y) (sym (way x y));
     up = up;
+    weight = weight;
     dropped = λ x y z router is_up is_unbroken. (sym (unbroken x y router) ∙ is_unbroken, same_way z (table y z).number (way_of tells es x y) (way_of tells w.ends x y) (way x y));
     twins = twins;
   }
@@ -88,7 +103,7 @@ module _ {V : Type 0} (tells : Msg → List (Note V)) (table : Name → Name →
     sent_moves s found msg tag silent = alike es
         (λ x y. both_ways (notes tells (wire_at (end_of es (y, x)))) (notes tells (wire_at (end_of w.ends (y, x)))) (notes tells (queue_at (end_of es (x, y)))) (notes tells (queue_at (end_of w.ends (x, y))))
         (keep (λ o. notes tells (wire_at o)) more (y, x)) (keep (λ o. notes tells (queue_at o)) refl (x, y)))
-        (λ x y router. keep up_at refl (x, y)) (λ x y router. keep unbroken_at refl (x, y))
+        (λ x y router. keep up_at refl (x, y)) (λ x y router. keep up_weight_at refl (x, y)) (λ x y router. keep unbroken_at refl (x, y))
         (λ x y some router. keep is_some refl (y, x) ∙ pairs x y (sym (keep is_some refl (x, y)) ∙ some) router)
       where
         es : Ends
@@ -105,6 +120,7 @@ module _ {V : Type 0} (tells : Msg → List (Note V)) (table : Name → Name →
     pub lifted_moves : (s : EndState) → end_of w.ends (a, b) ≡ Some s → there_in w b ≡ false → Moves tells table w (with_end w.ends (a, b) (lifted s))
     lifted_moves s found none = alike es (lifted_way tells w.ends a b s found)
         (λ x y router. read_with_end w.ends (a, b) (lifted s) up_at (x, y) (ap is_some found) ∙ ap (λ t. cond t true (is_up w.ends (x, y))) (apart none x y router))
+        (λ x y router. read_with_end w.ends (a, b) (lifted s) up_weight_at (x, y) (ap is_some found) ∙ ap (λ t. cond t s.weight (up_weight w.ends (x, y))) (apart none x y router))
         (λ x y router. keep unbroken_at refl (x, y))
         (λ x y some router. keep is_some refl (y, x) ∙ pairs x y (sym (keep is_some refl (x, y)) ∙ some) router)
       where
@@ -116,22 +132,23 @@ module _ {V : Type 0} (tells : Msg → List (Note V)) (table : Name → Name →
 
     -- ---- a new end that leads to no router, and is up at once
 
-    pub joined_moves : end_of w.ends (a, b) ≡ None → there_in w b ≡ false → Moves tells table w (put_end w.ends (a, b) (lifted new_end))
+    pub joined_moves : end_of w.ends (a, b) ≡ None → there_in w b ≡ false → Moves tells table w (put_end w.ends (a, b) (lifted (new_end 1)))
     joined_moves free none = alike es
         (λ x y. both_ways (notes tells (wire_at (end_of es (y, x)))) (notes tells (wire_at (end_of w.ends (y, x)))) (notes tells (queue_at (end_of es (x, y)))) (notes tells (queue_at (end_of w.ends (x, y))))
         (keep (λ o. notes tells (wire_at o)) refl (y, x)) (keep (λ o. notes tells (queue_at o)) refl (x, y)))
         (λ x y router. read up_at (x, y) ∙ ap (λ t. cond t true (is_up w.ends (x, y))) (apart none x y router))
+        (λ x y router. read up_weight_at (x, y) ∙ ap (λ t. cond t 1 (up_weight w.ends (x, y))) (apart none x y router))
         (λ x y router. read unbroken_at (x, y) ∙ ap (λ t. cond t true (is_unbroken w.ends (x, y))) (apart none x y router))
         (λ x y some router. kept_some (y, x) (pairs x y (sym (read is_some (x, y) ∙ ap (λ t. cond t true (is_some (end_of w.ends (x, y)))) (apart none x y router)) ∙ some) router))
       where
         es : Ends
-        es = put_end w.ends (a, b) (lifted new_end)
+        es = put_end w.ends (a, b) (lifted (new_end 1))
 
-        read : {Y : Type 0} (f : Option EndState → Y) (q : End) → f (end_of es q) ≡ cond (is_end (a, b) q) (f (Some (lifted new_end))) (f (end_of w.ends q))
-        read f q = read_put_end w.ends (a, b) (lifted new_end) f q
+        read : {Y : Type 0} (f : Option EndState → Y) (q : End) → f (end_of es q) ≡ cond (is_end (a, b) q) (f (Some (lifted (new_end 1)))) (f (end_of w.ends q))
+        read f q = read_put_end w.ends (a, b) (lifted (new_end 1)) f q
 
-        keep : {Y : Type 0} (f : Option EndState → Y) → f (Some (lifted new_end)) ≡ f None → (q : End) → f (end_of es q) ≡ f (end_of w.ends q)
-        keep f same q = keep_put_end w.ends (a, b) (lifted new_end) f q (same ∙ ap f (sym free))
+        keep : {Y : Type 0} (f : Option EndState → Y) → f (Some (lifted (new_end 1))) ≡ f None → (q : End) → f (end_of es q) ≡ f (end_of w.ends q)
+        keep f same q = keep_put_end w.ends (a, b) (lifted (new_end 1)) f q (same ∙ ap f (sym free))
 
         kept_some : (q : End) → is_some (end_of w.ends q) ≡ true → is_some (end_of es q) ≡ true
         kept_some q k = read is_some q ∙ by (is_end (a, b) q)
@@ -142,25 +159,26 @@ module _ {V : Type 0} (tells : Msg → List (Note V)) (table : Name → Name →
 
     -- ---- a link is made
 
-    pub linked_moves : there_in w a ≡ true → there_in w b ≡ true → is_in_place w.ends (a, b) ≡ false → Moves tells table w (put_end (put_end w.ends (a, b) new_end) (b, a) new_end)
-    linked_moves here there new = record {
+    pub linked_moves : (weight : ℕ) → there_in w a ≡ true → there_in w b ≡ true → is_in_place w.ends (a, b) ≡ false → Moves tells table w (put_end (put_end w.ends (a, b) (new_end weight)) (b, a) (new_end weight))
+    linked_moves weight here there new = record {
       part = λ x y. part x y (is_end (a, b) (x, y)) refl (is_end (b, a) (x, y)) refl;
       up = λ x y router. up x y;
+      weight = λ x y router. weights x y;
       dropped = λ x y z router is_up is_unbroken. dropped x y z (is_end (a, b) (x, y)) refl (is_end (b, a) (x, y)) refl is_up is_unbroken;
       twins = λ x y some router. twins x y some router (is_end (a, b) (x, y)) refl (is_end (b, a) (x, y)) refl;
     }
       where
         es : Ends
-        es = put_end (put_end w.ends (a, b) new_end) (b, a) new_end
+        es = put_end (put_end w.ends (a, b) (new_end weight)) (b, a) (new_end weight)
 
-        read : {Y : Type 0} (f : Option EndState → Y) (q : End) → f (end_of es q) ≡ cond (is_end (b, a) q) (f (Some new_end)) (cond (is_end (a, b) q) (f (Some new_end)) (f (end_of w.ends q)))
-        read f q = read_put_end (put_end w.ends (a, b) new_end) (b, a) new_end f q
-            ∙ ap (λ z. cond (is_end (b, a) q) (f (Some new_end)) z) (read_put_end w.ends (a, b) new_end f q)
+        read : {Y : Type 0} (f : Option EndState → Y) (q : End) → f (end_of es q) ≡ cond (is_end (b, a) q) (f (Some (new_end weight))) (cond (is_end (a, b) q) (f (Some (new_end weight))) (f (end_of w.ends q)))
+        read f q = read_put_end (put_end w.ends (a, b) (new_end weight)) (b, a) (new_end weight) f q
+            ∙ ap (λ z. cond (is_end (b, a) q) (f (Some (new_end weight))) z) (read_put_end w.ends (a, b) (new_end weight) f q)
 
         -- what an end says, by whether it is one of the two
-        read_at : {Y : Type 0} (f : Option EndState → Y) (q : End) (s t : Bool) → is_end (a, b) q ≡ s → is_end (b, a) q ≡ t → f (end_of es q) ≡ cond t (f (Some new_end)) (cond s (f (Some new_end)) (f (end_of w.ends q)))
-        read_at f q s t e d = read f q ∙ ap (λ u. cond u (f (Some new_end)) (cond (is_end (a, b) q) (f (Some new_end)) (f (end_of w.ends q)))) d
-            ∙ ap (λ u. cond t (f (Some new_end)) (cond u (f (Some new_end)) (f (end_of w.ends q)))) e
+        read_at : {Y : Type 0} (f : Option EndState → Y) (q : End) (s t : Bool) → is_end (a, b) q ≡ s → is_end (b, a) q ≡ t → f (end_of es q) ≡ cond t (f (Some (new_end weight))) (cond s (f (Some (new_end weight))) (f (end_of w.ends q)))
+        read_at f q s t e d = read f q ∙ ap (λ u. cond u (f (Some (new_end weight))) (cond (is_end (a, b) q) (f (Some (new_end weight))) (f (end_of w.ends q)))) d
+            ∙ ap (λ u. cond t (f (Some (new_end weight))) (cond u (f (Some (new_end weight))) (f (end_of w.ends q)))) e
 
         way_at : (x y : Name) (s t : Bool) → is_end (a, b) (x, y) ≡ s → is_end (b, a) (x, y) ≡ t →
             way_of tells es x y ≡ cond s [] (cond t [] (notes tells (wire_at (end_of w.ends (y, x))))) ++ cond t [] (cond s [] (notes tells (queue_at (end_of w.ends (x, y)))))
@@ -194,6 +212,22 @@ module _ {V : Type 0} (tells : Msg → List (Note V)) (table : Name → Name →
             let ups = or_parts (is_unbroken w.ends (a, b) || is_up w.ends (a, b)) (is_up w.ends (b, a)) new in
             down (x, y) (or_parts (is_unbroken w.ends (a, b)) (is_up w.ends (a, b)) ups.0).1 ups.1
 
+        down_weight : (q : End) → is_up w.ends (a, b) ≡ false → is_up w.ends (b, a) ≡ false → up_weight es q ≡ up_weight w.ends q
+        down_weight q one other = read up_weight_at q ∙ by (is_end (b, a) q) refl (is_end (a, b) q) refl
+          where
+            was : (e : End) → is_up w.ends e ≡ false → is_end e q ≡ true → 0 ≡ up_weight w.ends q
+            was e d k = sym (none_up w.ends e d) ∙ ap (λ z. up_weight w.ends z) (same_end e q k)
+
+            by : (s : Bool) → is_end (b, a) q ≡ s → (t : Bool) → is_end (a, b) q ≡ t → cond s 0 (cond t 0 (up_weight w.ends q)) ≡ up_weight w.ends q
+            by true k t l = was (b, a) other k
+            by false k true l = was (a, b) one l
+            by false k false l = refl
+
+        weights : (x y : Name) → up_weight es (x, y) ≡ up_weight w.ends (x, y)
+        weights x y =
+            let ups = or_parts (is_unbroken w.ends (a, b) || is_up w.ends (a, b)) (is_up w.ends (b, a)) new in
+            down_weight (x, y) (or_parts (is_unbroken w.ends (a, b)) (is_up w.ends (a, b)) ups.0).1 ups.1
+
         dropped : (x y z : Name) (s : Bool) → is_end (a, b) (x, y) ≡ s → (t : Bool) → is_end (b, a) (x, y) ≡ t → is_up es (x, y) ≡ true → is_unbroken es (x, y) ≡ true →
             (is_unbroken w.ends (x, y) ≡ true) × (best z (way_of tells w.ends x y) ≤ max (table y z).number (best z (way_of tells es x y)))
         dropped x y z true e true d u k = absurd (false≢true (sym (read_at up_at (x, y) true true e d) ∙ u))
@@ -213,6 +247,7 @@ module _ {V : Type 0} (tells : Msg → List (Note V)) (table : Name → Name →
     broken_moves = record {
       part = λ x y. subst (λ ms. IsPart ms (way_of tells w.ends x y)) (sym (way x y)) (part x y (is_end (a, b) (x, y)) (is_end (b, a) (x, y)));
       up = λ x y router. keep up_at (λ s. refl) (x, y);
+      weight = λ x y router. keep up_weight_at (λ s. refl) (x, y);
       dropped = λ x y z router is_up is_unbroken. dropped x y z (is_end (a, b) (x, y)) refl (is_end (b, a) (x, y)) refl (sym (cut (x, y)) ∙ is_unbroken);
       twins = λ x y some router. keep is_some (λ s. refl) (y, x) ∙ pairs x y (sym (keep is_some (λ s. refl) (x, y)) ∙ some) router;
     }

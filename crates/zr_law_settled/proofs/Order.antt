@@ -35,7 +35,7 @@ act_ascends : (now : Moment) → Ascend now → (n : ℕ) (act : Act) → IfSome
 unfolding outcome
 act_ascends now h n (a.Router id) = for_router now Ascend id (λ free room. sorted_insert nat_list_cmp_total now.world.routers id (new_router id) h)
 act_ascends now h n (a.Client id router) = for_client now Ascend ascend_told n id router (λ r found free room taken. same_keys now.world.routers router _ h)
-act_ascends now h n (a.Link one other) = for_link now Ascend one other (λ apart r found q found' new room. h)
+act_ascends now h n (a.Link one other weight) = for_link now Ascend one other weight (λ apart r found q found' new room. h)
 act_ascends now h n (a.Up router name) = for_up now Ascend ascend_told n router name (λ r found there s at_end unbroken down taken. same_keys now.world.routers router _ h)
 act_ascends now h n (a.Break router name) = for_break now Ascend router name (λ r found there s at_end unbroken. h)
 act_ascends now h n (a.Down router name) = for_down now Ascend ascend_told n router name (λ r found there s at_end up cut l number taken. same_keys now.world.routers router _ h)

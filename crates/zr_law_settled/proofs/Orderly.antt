@@ -306,14 +306,14 @@ module _ (now : Moment) (sound : IsSound now.world) (h : Orderly now.world) wher
       w' = (on_client now n id router r).world
 
       event : Event
-      event = up_event r (record { id = id; role = role.Client })
+      event = up_event r (record { id = id; role = role.Client; weight = 1 })
 
       half : Ends
-      half = put_end w.ends (router, id) (lifted new_end)
+      half = put_end w.ends (router, id) (lifted (new_end 1))
 
       reads : {Y : Type 0} (f : Option EndState → Y) → ((z : EndState) (ms : List Msg) → f (Some (queued z ms n)) ≡ f (Some z)) → (e : End) →
-          f (end_of w'.ends e) ≡ cond (is_end (router, id) e) (f (Some (lifted new_end))) (f (end_of w.ends e))
-      reads f same e = keep_all_queued half router r.node event n f e (λ z. same z (sends_to r.node event e.1)) ∙ read_put_end w.ends (router, id) (lifted new_end) f e
+          f (end_of w'.ends e) ≡ cond (is_end (router, id) e) (f (Some (lifted (new_end 1)))) (f (end_of w.ends e))
+      reads f same e = keep_all_queued half router r.node event n f e (λ z. same z (sends_to r.node event e.1)) ∙ read_put_end w.ends (router, id) (lifted (new_end 1)) f e
 
       up_is : (e : End) → up_of (end_of w'.ends e) ≡ cond (is_end (router, id) e) true (up_of (end_of w.ends e))
       up_is e = reads up_of (λ z ms. refl) e
@@ -325,7 +325,7 @@ module _ (now : Moment) (sound : IsSound now.world) (h : Orderly now.world) wher
       wire_is e = reads has_wire (λ z ms. refl) e
 
       queue_is : (e : End) → up_of (end_of w'.ends e) ≡ false → has_queue (end_of w'.ends e) ≡ cond (is_end (router, id) e) false (has_queue (end_of w.ends e))
-      queue_is e down = queue_after half router r.node event n e (unsent router r er event w' refl sound' e down) ∙ read_put_end w.ends (router, id) (lifted new_end) has_queue e
+      queue_is e down = queue_after half router r.node event n e (unsent router r er event w' refl sound' e down) ∙ read_put_end w.ends (router, id) (lifted (new_end 1)) has_queue e
 
       routers_are : (x : List ℕ) → there_in w' x ≡ there_in w x
       routers_are x = read_kept is_some w.routers router x r (hearing r event) er refl
@@ -369,8 +369,8 @@ module _ (now : Moment) (sound : IsSound now.world) (h : Orderly now.world) wher
 
   -- ---- links that come and go
 
-  linked : (one other : List ℕ) (r q : RouterState) → router_of w.routers one ≡ Some r → router_of w.routers other ≡ Some q → Orderly (on_link now one other).world
-  linked one other r q er eq = record {
+  linked : (one other : List ℕ) (weight : ℕ) (r q : RouterState) → router_of w.routers one ≡ Some r → router_of w.routers other ≡ Some q → Orderly (on_link now one other weight).world
+  linked one other weight r q er eq = record {
     down_ends = λ e k. reads has_queue e ∙ empty e (is_end (other, one) e) (is_end (one, other) e) (sym (reads up_of e) ∙ k);
     broken_links = λ e k. reads has_wire e ∙ silent e (is_end (other, one) e) (is_end (one, other) e) (sym (reads unbroken_at e) ∙ k);
     senders = λ e k t. reads up_of (turned e)
@@ -386,10 +386,10 @@ module _ (now : Moment) (sound : IsSound now.world) (h : Orderly now.world) wher
     apart = h.apart;
   }
     where
-      reads : {Y : Type 0} (f : Option EndState → Y) (e : End) → f (end_of (on_link now one other).world.ends e)
-          ≡ cond (is_end (other, one) e) (f (Some new_end)) (cond (is_end (one, other) e) (f (Some new_end)) (f (end_of w.ends e)))
-      reads f e = read_put_end (put_end w.ends (one, other) new_end) (other, one) new_end f e
-          ∙ ap (λ z. cond (is_end (other, one) e) (f (Some new_end)) z) (read_put_end w.ends (one, other) new_end f e)
+      reads : {Y : Type 0} (f : Option EndState → Y) (e : End) → f (end_of (on_link now one other weight).world.ends e)
+          ≡ cond (is_end (other, one) e) (f (Some (new_end weight))) (cond (is_end (one, other) e) (f (Some (new_end weight))) (f (end_of w.ends e)))
+      reads f e = read_put_end (put_end w.ends (one, other) (new_end weight)) (other, one) (new_end weight) f e
+          ∙ ap (λ z. cond (is_end (other, one) e) (f (Some (new_end weight))) z) (read_put_end w.ends (one, other) (new_end weight) f e)
 
       empty : (e : End) (b d : Bool) → cond b false (cond d false (up_of (end_of w.ends e))) ≡ false → cond b false (cond d false (has_queue (end_of w.ends e))) ≡ false
       empty e true d k = refl
@@ -435,7 +435,7 @@ module _ (now : Moment) (sound : IsSound now.world) (h : Orderly now.world) wher
       w' = (on_up now n router name r s).world
 
       event : Event
-      event = up_event r (peer_of w name)
+      event = up_event r (peer_of w name s.weight)
 
       half : Ends
       half = with_end w.ends (router, name) (lifted s)
@@ -593,7 +593,7 @@ module _ (now : Moment) (sound : IsSound now.world) (h : Orderly now.world) wher
   unfolding outcome
   act_orderly n (c.Router id) = for_router now IsKept id (λ free room sound'. router_came id free)
   act_orderly n (c.Client id router) = for_client now IsKept (if_sound Orderly orderly_told) n id router (λ r er free room taken. client_came n id router r er free)
-  act_orderly n (c.Link one other) = for_link now IsKept one other (λ apart r er q eq free room sound'. linked one other r q er eq)
+  act_orderly n (c.Link one other weight) = for_link now IsKept one other weight (λ apart r er q eq free room sound'. linked one other weight r q er eq)
   act_orderly n (c.Up router name) = for_up now IsKept (if_sound Orderly orderly_told) n router name (λ r er there s es unbroken down taken. came_up n router name r er s es)
   act_orderly n (c.Break router name) = for_break now IsKept router name (λ r er there s es unbroken sound'. broke router name)
   act_orderly n (c.Down router name) = for_down now IsKept (if_sound Orderly orderly_told) n router name (λ r er there s es up cut l el taken. went_down n router name r er s es cut l)

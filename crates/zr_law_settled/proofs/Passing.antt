@@ -14,7 +14,7 @@ use Rattle.zr_world_spec.proofs.Names.{read_kept, read_after}
 use Rattle.zr_world_spec.proofs.Ends.{same_end, read_with_end, keep_with_end, read_changed, keep_changed}
 use Rattle.zr_law_settled.proofs.Spreading.{at_name, Name, Known, Note, best, IsPart, is_all, best_append}
 use Rattle.zr_law_settled.proofs.Records.{notes_in}
-use Rattle.zr_law_settled.proofs.Worlds.{there_in, knows, table_of, queue_at, wire_at, notes, way_of, HasTwins, Holds, notes-append, sent_at, way_sent, way_other}
+use Rattle.zr_law_settled.proofs.Worlds.{there_in, knows, table_of, queue_at, wire_at, notes, way_of, up_weight_at, up_weight, HasTwins, Holds, notes-append, sent_at, way_sent, way_other}
 use Rattle.zr_law_settled.proofs.Quiet.{quiet_kept, turned_is, same_way}
 use Rattle.zr_law_settled.proofs.Moving.{up_at, unbroken_at, Moves, both_ways}
 
@@ -54,6 +54,14 @@ module _ (ends : Ends) (a b : Name) where
   emptied_up q = read_changed ends (a, b) lowered up_at q ∙ ap (λ z. cond (is_end (a, b) q) z (is_up ends q)) (down (end_of ends q))
     where
       down : (o : Option EndState) → up_at (option_map lowered o) ≡ false
+      down None = refl
+      down (Some s) = refl
+
+  -- and weighs nothing
+  pub emptied_weight : (q : End) → up_weight emptied q ≡ cond (is_end (a, b) q) 0 (up_weight ends q)
+  emptied_weight q = read_changed ends (a, b) lowered up_weight_at q ∙ ap (λ z. cond (is_end (a, b) q) z (up_weight ends q)) (down (end_of ends q))
+    where
+      down : (o : Option EndState) → up_weight_at (option_map lowered o) ≡ 0
       down None = refl
       down (Some s) = refl
 
@@ -195,6 +203,7 @@ module _ {V : Type 0} (tells : Msg → List (Note V)) (table : Name → Name →
   taken_moves s found msg tag xs front = record {
     part = taken_part tells w.ends a b s found msg tag xs front;
     up = λ x y router. keep_taken w.ends a b s found msg tag xs up_at refl (λ e. refl) (x, y);
+    weight = λ x y router. keep_taken w.ends a b s found msg tag xs up_weight_at refl (λ e. refl) (x, y);
     dropped = λ x y z router up unbroken. (
       sym (keep_taken w.ends a b s found msg tag xs unbroken_at refl (λ e. refl) (x, y)) ∙ unbroken,
       same_way z (table y z).number (way_of tells es x y) (way_of tells w.ends x y) (taken_same tells w.ends a b s found msg tag xs front x y (is_end (a, b) (x, y)) refl (λ t. pairs x y (says w.ends a b s found is_some (x, y) t) router)),
@@ -212,6 +221,7 @@ module _ {V : Type 0} (tells : Msg → List (Note V)) (table : Name → Name →
   popped_moves s found msg tag xs front known = record {
     part = λ x y. record { before = cond (is_end (a, b) (y, x)) (tells msg) []; after = []; whole = way x y ∙ ap (λ z. cond (is_end (a, b) (y, x)) (tells msg) [] ++ z) (sym (append-nil (way_of tells es x y))) };
     up = λ x y router. keep_popped w.ends a b s found msg tag xs up_at refl (x, y);
+    weight = λ x y router. keep_popped w.ends a b s found msg tag xs up_weight_at refl (x, y);
     dropped = λ x y z router up unbroken. (
       sym (keep_popped w.ends a b s found msg tag xs unbroken_at refl (x, y)) ∙ unbroken,
       (let e : best z (way_of tells w.ends x y) ≡ max (best z (cond (is_end (a, b) (y, x)) (tells msg) [])) (best z (way_of tells es x y)) = ap (best z) (way x y) ∙ best_append z (cond (is_end (a, b) (y, x)) (tells msg) []) (way_of tells es x y) in
@@ -236,6 +246,7 @@ module _ {V : Type 0} (tells : Msg → List (Note V)) (table : Name → Name →
   lowered_moves none = record {
     part = emptied_part tells w.ends a b;
     up = λ x y router. emptied_up w.ends a b (x, y) ∙ ap (λ t. cond t false (is_up w.ends (x, y))) (apart x y router);
+    weight = λ x y router. emptied_weight w.ends a b (x, y) ∙ ap (λ t. cond t 0 (up_weight w.ends (x, y))) (apart x y router);
     dropped = λ x y z router up unbroken.
         (sym (keep_emptied w.ends a b unbroken_at (λ s. refl) (x, y)) ∙ unbroken, same_way z (table y z).number (way_of tells es x y) (way_of tells w.ends x y) (emptied_same tells w.ends a b x y (apart x y router)));
     twins = λ x y some router. keep_emptied w.ends a b is_some (λ s. refl) (y, x) ∙ pairs x y (sym (keep_emptied w.ends a b is_some (λ s. refl) (x, y)) ∙ some) router;
@@ -259,6 +270,7 @@ module _ (w : WorldState) (h : Holds w) (a : Name) where
     part = λ x y. is_all (way_of notes_in v.ends x y) (way_of notes_in w.ends x y) refl;
     dropped = λ x y z f. (sym (ap (λ t. t && (is_up w.ends (x, y) && is_unbroken w.ends (x, y))) (keep is_some refl y)) ∙ f, same_way z (table_of w y z).number (way_of notes_in v.ends x y) (way_of notes_in w.ends x y) refl);
     lists = λ z y. ap (λ t. t && is_up w.ends (z, y)) (keep is_some refl y);
+    weighs = λ z y. ap (λ t. cond t (up_weight w.ends (z, y)) 0) (keep is_some refl y);
     in_order = λ x q e. at x q (is_named a x) (sym (read_after (λ o. o) w.routers a x r (weighing r key) found) ∙ e);
     twins = λ x y some router. h.twins x y some (sym (keep is_some refl y) ∙ router);
   })

@@ -10,7 +10,8 @@ use Rattle.std.specs.Option.{option_map_or}
 use Rattle.std.proofs.lemmas.Bool.{true≢false, false≢true, and_parts, or_parts}
 use Rattle.zr_lists.proofs.Options.{not_there}
 use Rattle.zr_id.specs.Zid.{is_named}
-use Rattle.zr_graph.specs.Record.{has}
+use Rattle.zr_id.specs.Record.{linked_ids}
+use Rattle.zr_graph.specs.Record.{has, weight_to}
 use Rattle.zr_graph.specs.Base.{IsInOrder}
 use Rattle.zr_graph.proofs.Names.{same_is, same_refl}
 use Rattle.zr_graph.proofs.Ascending.{in_order_alone}
@@ -24,7 +25,7 @@ use Rattle.zr_world_spec.proofs.Ends.{end_parts}
 use Rattle.zr_law_settled.proofs.Spreading.{at_name, Name, Known, Note, own, best, IsPart, is_all, drops_kept}
 use Rattle.zr_law_settled.proofs.Telling.{more, tells_anew_kept}
 use Rattle.zr_law_settled.proofs.Records.{Links, known, known_of, notes_in, told}
-use Rattle.zr_law_settled.proofs.Worlds.{there_in, knows, table_of, way_of, lane_of, feeds_of, Holds, there_heard, table_heard, way_sent, way_other, order_heard, up_heard, unbroken_heard, some_heard}
+use Rattle.zr_law_settled.proofs.Worlds.{there_in, knows, table_of, way_of, lane_of, feeds_of, up_weight_at, up_weight, Holds, there_heard, table_heard, way_sent, way_other, order_heard, up_heard, up_weight_heard, unbroken_heard, some_heard}
 
 -- What no router learns anything by.
 pub record Quiet (w w' : WorldState) : Type 0 where
@@ -32,6 +33,7 @@ pub record Quiet (w w' : WorldState) : Type 0 where
   pub part : (x y : Name) → IsPart (way_of notes_in w'.ends x y) (way_of notes_in w.ends x y)
   pub dropped : (x y z : Name) → feeds_of w' z x y ≡ true → (feeds_of w z x y ≡ true) × (best z (way_of notes_in w.ends x y) ≤ max (table_of w y z).number (best z (way_of notes_in w'.ends x y)))
   pub lists : (z y : Name) → (there_in w' y && is_up w'.ends (z, y)) ≡ (there_in w y && is_up w.ends (z, y))
+  pub weighs : (z y : Name) → cond (there_in w' y) (up_weight w'.ends (z, y)) 0 ≡ cond (there_in w y) (up_weight w.ends (z, y)) 0
   pub in_order : (x : Name) (r : RouterState) → router_of w'.routers x ≡ Some r → IsInOrder r.node.base
   pub twins : (x y : Name) → is_some (end_of w'.ends (x, y)) ≡ true → there_in w' y ≡ true → is_some (end_of w'.ends (y, x)) ≡ true
 
@@ -39,7 +41,8 @@ pub quiet_kept : (w w' : WorldState) → Holds w → Quiet w w' → Holds w'
 quiet_kept w w' h q = record {
   made = h.made;
   spreads = drops_kept h.made (feeds_of w) (feeds_of w') (lane_of w) (lane_of w') h.spreads (record { tables = q.tables; part = q.part; dropped = q.dropped });
-  lists = λ z y. ap (λ (k : Known Links). has k.value y) (q.tables z z) ∙ h.lists z y ∙ sym (q.lists z y);
+  lists = λ z y. ap (λ (k : Known Links). has (linked_ids k.value) y) (q.tables z z) ∙ h.lists z y ∙ sym (q.lists z y);
+  weighs = λ z y. ap (λ (k : Known Links). weight_to k.value y) (q.tables z z) ∙ h.weighs z y ∙ sym (q.weighs z y);
   in_order = q.in_order;
   twins = q.twins;
 }
@@ -83,6 +86,7 @@ silent_kept w a r found event tag h same silent = quiet_kept w v h (record {
   part = λ x y. is_all (way_of notes_in v.ends x y) (way_of notes_in w.ends x y) (sym (ways x y));
   dropped = λ x y z f. (sym (feeds x y z) ∙ f, same_way z (table_of w y z).number (way_of notes_in v.ends x y) (way_of notes_in w.ends x y) (ways x y));
   lists = λ z y. ap (λ b. b && is_up v.ends (z, y)) (there_heard w a r found event tag y) ∙ ap (λ b. there_in w y && b) (up_heard w a r found event tag (z, y));
+  weighs = λ z y. ap (λ b. cond b (up_weight v.ends (z, y)) 0) (there_heard w a r found event tag y) ∙ ap (λ n. cond (there_in w y) n 0) (up_weight_heard w a r found event tag (z, y));
   in_order = order_heard w a r found event tag h.in_order;
   twins = λ x y there router. some_heard w a r found event tag (y, x) ∙ h.twins x y (sym (some_heard w a r found event tag (x, y)) ∙ there) (sym (there_heard w a r found event tag y) ∙ router);
 })
@@ -128,7 +132,8 @@ router_kept w s h id free = record {
     tells = λ y z f. absurd (no_feed y z f);
     feeds_less = λ x y z other f. feeds x y (is_named y id) refl (sym (ap (λ b. b && (is_up w.ends (x, y) && is_unbroken w.ends (x, y))) (there y)) ∙ f);
   });
-  lists = λ z y. ap (λ ls. has ls y) (values z) ∙ h.lists z y ∙ sym (ap (λ b. b && is_up w.ends (z, y)) (there y) ∙ lists z y (is_named y id) refl);
+  lists = λ z y. ap (λ ls. has (linked_ids ls) y) (values z) ∙ h.lists z y ∙ sym (ap (λ b. b && is_up w.ends (z, y)) (there y) ∙ lists z y (is_named y id) refl);
+  weighs = λ z y. ap (λ ls. weight_to ls y) (values z) ∙ h.weighs z y ∙ sym (ap (λ b. cond b (up_weight w.ends (z, y)) 0) (there y) ∙ weighs z y (is_named y id) refl);
   in_order = in_order;
   twins = λ x y some router. twins x y some (is_named y id) refl (sym (there y) ∙ router);
 }
@@ -203,6 +208,15 @@ router_kept w s h id free = record {
             no : (b : Bool) → false ≡ (b && false)
             no true = refl
             no false = refl
+
+    weighs : (x y : Name) (b : Bool) → is_named y id ≡ b → cond (cond b true (there_in w y)) (up_weight w.ends (x, y)) 0 ≡ cond (there_in w y) (up_weight w.ends (x, y)) 0
+    weighs x y false e = refl
+    weighs x y true e = at (end_of w.ends (x, y)) refl (there_in w y)
+      where
+        at : (o : Option EndState) → end_of w.ends (x, y) ≡ o → (b : Bool) → up_weight_at o ≡ cond b (up_weight_at o) 0
+        at (Some s) k b = absurd (none x y e (ap is_some k))
+        at None k true = refl
+        at None k false = refl
 
     in_order : (x : Name) (r : RouterState) → router_of v.routers x ≡ Some r → IsInOrder r.node.base
     in_order x r e = by (is_named x id) (sym (routers x) ∙ e)

@@ -9,7 +9,7 @@ use Rattle.std.specs.Cmp.Lexicographic.{slice_cmp}
 use Rattle.std.specs.Ordering.{nat_cmp}
 use Rattle.std.specs.declared.cmp.Ordering.TheVariants.{Less}
 use Rattle.std.proofs.lemmas.Bool.{false≢true, and_parts, ltb-true, ltb-false}
-use Rattle.zr_id.specs.Record.{RecordState}
+use Rattle.zr_id.specs.Record.{LinkedState, RecordState}
 use Rattle.zr_id.specs.Zid.{is_named}
 use Rattle.zr_graph.specs.Record.{ids, record_of, IsAscending}
 use Rattle.zr_graph.specs.Base.{BaseState, IsInOrder, own_seq, is_newer, kept, relinked}
@@ -25,7 +25,7 @@ use Rattle.zr_law_settled.proofs.Spreading.{Name, Known, Note, best, AllOf}
 -- ---- readings
 
 abbrev pub Links : Type 0
-Links = List Name
+Links = List LinkedState
 
 -- what a record tells; one that is not there tells nothing
 abbrev pub known : Option RecordState → Known Links

@@ -1,27 +1,27 @@
 -- Where a world is settled, tables agree. Nothing is on the way, and each link that is up at both ends feeds both ways: so its two routers
 -- know the same (`linked_level`), and a router knows of each that it reaches what that one knows (`walk_level`). What a router's own record
--- lists are its ends, so edges are links (`edges_are`).
-use Rattle.std.proofs.Common.{◌≡◌, ◌+◌, Bool, true, false, not, List, [], ◌∷◌, ◌++◌, Option, Some, None, refl, sym, ap, ◌∙◌, arith}
+-- lists are its ends, so edges are links (`edges_are`), and weigh what those weigh (`weights_are`).
+use Rattle.std.proofs.Common.{◌≡◌, ◌+◌, max, cond, Bool, true, false, not, List, [], ◌∷◌, ◌++◌, Option, Some, None, refl, sym, ap, ◌∙◌, arith}
 use Rattle.std.specs.Prelude.{◌&&◌, ◌||◌}
 use Rattle.std.specs.List.{list_all}
 use Rattle.std.specs.Option.{option_map_or}
 use Rattle.std.proofs.lemmas.Bool.{true≢false, false≢true, and_parts, and_from}
-use Rattle.zr_id.specs.Record.{RecordState}
+use Rattle.zr_id.specs.Record.{RecordState, linked_ids}
 use Rattle.zr_id.specs.Zid.{is_named}
-use Rattle.zr_graph.specs.Record.{has, record_of, lists, has_edge}
+use Rattle.zr_graph.specs.Record.{has, record_of, lists, has_edge, edge_weight, weight_given, weight_to}
 use Rattle.zr_graph.proofs.Names.{same_is}
 use Rattle.zr_tree.specs.Walk.{IsWalk}
 use Rattle.zr_lists.proofs.Finds.{find_in}
 use Rattle.zr_msg.specs.declared.msg.Msg.{Msg}
 use Rattle.zr_msg.specs.declared.msg.Msg.TheVariants.{Sub, Unsub, Able, Unable, Interest, EndInterest, ToldSub, ToldAble, ToldUnsub, ToldUnable, ToldEnd, Push, Request, Response, Final, State, Step, Snap}
-use Rattle.zr_world_spec.specs.World.{Tagged, RouterState, EndState, End, WorldState, router_of, end_of, is_up, is_unbroken, is_linked, unsettles, is_calm, is_calm_end, is_met, is_settled}
-use Rattle.zr_world_spec.specs.Joined.{graph}
+use Rattle.zr_world_spec.specs.World.{Tagged, RouterState, EndState, End, Ends, WorldState, end_weight, router_of, end_of, is_up, is_unbroken, is_linked, unsettles, is_calm, is_calm_end, is_met, is_settled}
+use Rattle.zr_world_spec.specs.Joined.{linked_weight, graph}
 use Rattle.zr_world_spec.specs.Sound.{IsSound}
 use Rattle.zr_world_spec.proofs.Ends.{end_passes}
 use Rattle.zr_law_settled.specs.Tables.{TablesAgree}
 use Rattle.zr_law_settled.proofs.Spreading.{Name, Known, Note, level}
 use Rattle.zr_law_settled.proofs.Records.{Links, known, known_of, notes_in}
-use Rattle.zr_law_settled.proofs.Worlds.{there_in, knows, table_of, queue_at, wire_at, notes, way_of, lane_of, feeds_of, Holds}
+use Rattle.zr_law_settled.proofs.Worlds.{there_in, knows, table_of, queue_at, wire_at, notes, way_of, lane_of, feeds_of, up_weight_at, up_weight, Holds}
 use Rattle.zr_law_settled.proofs.Quiet.{passes_there}
 
 -- ---- nothing is told
@@ -58,12 +58,27 @@ no_notes tells calm (x ∷ xs) h =
 
 -- ---- records and edges
 
-pub lists_known : (records : List RecordState) (x y : Name) → lists records x y ≡ has (known (record_of records x)).value y
+pub lists_known : (records : List RecordState) (x y : Name) → lists records x y ≡ has (linked_ids (known (record_of records x)).value) y
 lists_known records x y = by (record_of records x)
   where
-    by : (o : Option RecordState) → option_map_or (λ r. has r.links y) o false ≡ has (known o).value y
+    by : (o : Option RecordState) → option_map_or (λ r. has (linked_ids r.links) y) o false ≡ has (linked_ids (known o).value) y
     by None = refl
     by (Some r) = refl
+
+weights_known : (records : List RecordState) (x y : Name) → weight_given records x y ≡ weight_to (known (record_of records x)).value y
+weights_known records x y = by (record_of records x)
+  where
+    by : (o : Option RecordState) → option_map_or (λ r. weight_to r.links y) o 0 ≡ weight_to (known o).value y
+    by None = refl
+    by (Some r) = refl
+
+-- at an end that is up the link weighs what it weighs
+up_weighs : (ends : Ends) (e : End) → is_up ends e ≡ true → up_weight ends e ≡ end_weight ends e
+up_weighs ends e up = by (end_of ends e) up
+  where
+    by : (o : Option EndState) → option_map_or (λ s. s.up) o false ≡ true → up_weight_at o ≡ option_map_or (λ s. s.weight) o 0
+    by None k = absurd (false≢true k)
+    by (Some s) k = ap (λ t. cond t s.weight 0) k
 
 -- two records of one router that tell the same are the same
 pub same_record : (z : Name) (o p : Option RecordState) → ((r : RecordState) → o ≡ Some r → r.id ≡ z) → ((r : RecordState) → p ≡ Some r → r.id ≡ z) → known o ≡ known p → o ≡ p
@@ -146,30 +161,51 @@ module _ (w : WorldState) (sound : IsSound w) (h : Holds w) (settled : is_settle
   walk_level (y ∷ path) x z s walk = linked_level x y s walk.0 ∙ walk_level path y z s walk.1
 
   -- what a router's own record lists, where its end to a router is up
-  pub own_lists : (z u : Name) → is_up w.ends (z, u) ≡ true → there_in w u ≡ true → has (table_of w z z).value u ≡ true
+  pub own_lists : (z u : Name) → is_up w.ends (z, u) ≡ true → there_in w u ≡ true → has (linked_ids (table_of w z z).value) u ≡ true
   own_lists z u up router = h.lists z u ∙ and_from (there_in w u) (is_up w.ends (z, u)) router up
+
+  -- and with which weight
+  own_weighs : (z u : Name) → is_up w.ends (z, u) ≡ true → there_in w u ≡ true → weight_to (table_of w z z).value u ≡ end_weight w.ends (z, u)
+  own_weighs z u up router = h.weighs z u ∙ ap (λ t. cond t (up_weight w.ends (z, u)) 0) router ∙ up_weighs w.ends (z, u) up
 
   pub table_is : (x z : Name) (r : RouterState) → router_of w.routers x ≡ Some r → table_of w x z ≡ known_of r.node.base z
   table_is x z r found = ap (λ o. knows o z) found
 
   pub edges_are : (path : List Name) (x z y : Name) (r : RouterState) → router_of w.routers x ≡ Some r → IsWalk (graph w) x path z → has_edge r.node.base.records z y ≡ is_linked w.ends z y
   edges_are path x z y r found walk =
-      ap (λ t. t && lists r.node.base.records y z) (lists_known r.node.base.records z y ∙ ap (λ (k : Known Links). has k.value y) (sym (table_is x z r found) ∙ walk_level path x z z walk) ∙ h.lists z y)
-      ∙ ap (λ t. (there_in w y && is_up w.ends (z, y)) && t) (lists_known r.node.base.records y z ∙ ap (λ (k : Known Links). has k.value z) (sym (table_is x y r found) ∙ walk_level path x z y walk))
+      ap (λ t. t && lists r.node.base.records y z) (lists_known r.node.base.records z y ∙ ap (λ (k : Known Links). has (linked_ids k.value) y) (sym (table_is x z r found) ∙ walk_level path x z z walk) ∙ h.lists z y)
+      ∙ ap (λ t. (there_in w y && is_up w.ends (z, y)) && t) (lists_known r.node.base.records y z ∙ ap (λ (k : Known Links). has (linked_ids k.value) z) (sym (table_is x y r found) ∙ walk_level path x z y walk))
       ∙ by (there_in w y && is_up w.ends (z, y)) refl
     where
-      by : (t : Bool) → (there_in w y && is_up w.ends (z, y)) ≡ t → (t && has (table_of w z y).value z) ≡ is_linked w.ends z y
+      by : (t : Bool) → (there_in w y && is_up w.ends (z, y)) ≡ t → (t && has (linked_ids (table_of w z y).value) z) ≡ is_linked w.ends z y
       by true e =
           let parts = and_parts (there_in w y) (is_up w.ends (z, y)) e in
           let back = (met z y parts.1).1 parts.0 in
           let linked : is_linked w.ends z y ≡ true = and_from (is_up w.ends (z, y)) (is_up w.ends (y, z)) parts.1 back in
-          ap (λ (k : Known Links). has k.value z) (linked_level z y y linked) ∙ own_lists y z back (router_of_end z y parts.1) ∙ sym linked
+          ap (λ (k : Known Links). has (linked_ids k.value) z) (linked_level z y y linked) ∙ own_lists y z back (router_of_end z y parts.1) ∙ sym linked
       by false e = at (is_up w.ends (z, y)) refl (is_up w.ends (y, z)) refl
         where
           at : (s : Bool) → is_up w.ends (z, y) ≡ s → (t : Bool) → is_up w.ends (y, z) ≡ t → false ≡ (s && t)
           at true k true l = absurd (true≢false (sym (and_from (there_in w y) (is_up w.ends (z, y)) (router_of_end y z l) k) ∙ e))
           at true k false l = refl
           at false k t l = refl
+
+  pub weights_are : (path : List Name) (x z y : Name) (r : RouterState) → router_of w.routers x ≡ Some r → IsWalk (graph w) x path z → edge_weight r.node.base.records z y ≡ linked_weight w.ends z y
+  weights_are path x z y r found walk =
+      ap (λ t. cond t (max (weight_given r.node.base.records z y) (weight_given r.node.base.records y z)) 0) (edges_are path x z y r found walk) ∙ by (is_linked w.ends z y) refl
+    where
+      by : (t : Bool) → is_linked w.ends z y ≡ t →
+          cond t (max (weight_given r.node.base.records z y) (weight_given r.node.base.records y z)) 0 ≡ cond t (max (end_weight w.ends (z, y)) (end_weight w.ends (y, z))) 0
+      by false e = refl
+      by true e =
+          let ups = and_parts (is_up w.ends (z, y)) (is_up w.ends (y, z)) e in
+          let mine : weight_given r.node.base.records z y ≡ end_weight w.ends (z, y) =
+          weights_known r.node.base.records z y ∙ ap (λ (k : Known Links). weight_to k.value y) (sym (table_is x z r found) ∙ walk_level path x z z walk)
+          ∙ own_weighs z y ups.0 (router_of_end y z ups.1) in
+          let other : weight_given r.node.base.records y z ≡ end_weight w.ends (y, z) =
+          weights_known r.node.base.records y z ∙ ap (λ (k : Known Links). weight_to k.value z) (sym (table_is x y r found) ∙ walk_level path x z y walk ∙ linked_level z y y e)
+          ∙ own_weighs y z ups.1 (router_of_end z y ups.0) in
+          ap (λ n. max n (weight_given r.node.base.records y z)) mine ∙ ap (λ n. max (end_weight w.ends (z, y)) n) other
 
   pub records_are : (path : List Name) (x z : Name) (rx rz : RouterState) → router_of w.routers x ≡ Some rx → router_of w.routers z ≡ Some rz → IsWalk (graph w) x path z →
       record_of rx.node.base.records z ≡ record_of rz.node.base.records z
@@ -178,4 +214,4 @@ module _ (w : WorldState) (sound : IsSound w) (h : Holds w) (settled : is_settle
       (sym (table_is x z rx fx) ∙ walk_level path x z z walk ∙ table_is z z rz fz)
 
   pub tables_agree : TablesAgree w
-  tables_agree x z path rx rz fx fz walk = record { record_is = records_are path x z rx rz fx fz walk; edges_are = λ y. edges_are path x z y rx fx walk }
+  tables_agree x z path rx rz fx fz walk = record { record_is = records_are path x z rx rz fx fz walk; edges_are = λ y. edges_are path x z y rx fx walk; weights_are = λ y. weights_are path x z y rx fx walk }

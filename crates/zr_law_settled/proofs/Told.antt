@@ -39,7 +39,7 @@ use Rattle.zr_world_spec.proofs.Fits.{up_of, alike_sound}
 use Rattle.zr_world_spec.proofs.Telling.{is_told, told_alone, same_names_told, same_node}
 use Rattle.zr_world_spec.proofs.Cases as cases
 use Rattle.zr_law_settled.proofs.Spreading.{Name, Note}
-use Rattle.zr_law_settled.proofs.Worlds.{there_in, feeds_of, queue_at, wire_at, notes, way_of, notes-append}
+use Rattle.zr_law_settled.proofs.Worlds.{there_in, feeds_of, queue_at, wire_at, notes, way_of, up_weight_at, up_weight, notes-append}
 use Rattle.zr_law_settled.proofs.Moving.{up_at, unbroken_at, both_ways}
 
 -- ---- told messages
@@ -77,7 +77,7 @@ abbrev pub untold : RouterState → RouterState
 untold r = record { node = r.node; told = []; weight = r.weight }
 
 abbrev pub unqueued : EndState → EndState
-unqueued s = record { up = s.up; unbroken = s.unbroken; queue = []; wire = s.wire }
+unqueued s = record { up = s.up; unbroken = s.unbroken; queue = []; wire = s.wire; weight = s.weight }
 
 abbrev pub unqueued_ends : Ends → Ends
 unqueued_ends es = map (λ q. (q.0, unqueued q.1)) es
@@ -129,6 +129,9 @@ module _ (w v : WorldState) (t : IsTold w v) where
 
   pub told_up : (e : End) → is_up v.ends e ≡ is_up w.ends e
   told_up e = end_reads up_at (λ s. refl) e
+
+  pub told_weight : (e : End) → up_weight v.ends e ≡ up_weight w.ends e
+  told_weight e = end_reads up_weight_at (λ s. refl) e
 
   pub told_unbroken : (e : End) → is_unbroken v.ends e ≡ is_unbroken w.ends e
   told_unbroken e = end_reads unbroken_at (λ s. refl) e
@@ -291,11 +294,11 @@ if_sound P keeps w v report t k sound = let was = sound_back w v t sound in keep
 
 abbrev pub w_client : WorldState → ℕ → List ℕ → List ℕ → RouterState → WorldState
 w_client w n id router r =
-    let v : WorldState = sending (with_ends w (put_end w.ends (router, id) (lifted new_end))) router r (up_event r (record { id = id; role = role.Client })) n in
+    let v : WorldState = sending (with_ends w (put_end w.ends (router, id) (lifted (new_end 1)))) router r (up_event r (record { id = id; role = role.Client; weight = 1 })) n in
     with_clients v (insert_entry (slice_cmp nat_cmp) w.clients id (new_client router))
 
 abbrev pub w_up : WorldState → ℕ → List ℕ → List ℕ → RouterState → EndState → WorldState
-w_up w n router name r s = sending (with_ends w (with_end w.ends (router, name) (lifted s))) router r (up_event r (peer_of w name)) n
+w_up w n router name r s = sending (with_ends w (with_end w.ends (router, name) (lifted s))) router r (up_event r (peer_of w name s.weight)) n
 
 abbrev pub w_down : WorldState → ℕ → List ℕ → List ℕ → RouterState → LinkNo → WorldState
 w_down w n router name r l = let v : WorldState = sending w router r (Down l) n in with_ends v (changed v.ends (router, name) lowered)
@@ -327,18 +330,18 @@ module _ (now : Moment) (Q : Moment → Type 0) (stays : (w v : WorldState) (rep
 
   pub for_client : (n : ℕ) (id router : List ℕ) →
       ((r : RouterState) → router_of w.routers router ≡ Some r → is_taken w id ≡ false → nat_le most_clients (length w.clients) ≡ false →
-      refuses r.node (up_event r (record { id = id; role = role.Client })) ≡ None → Q (on_client now n id router r)) →
+      refuses r.node (up_event r (record { id = id; role = role.Client; weight = 1 })) ≡ None → Q (on_client now n id router r)) →
       IfSome (went now (client_step w n id router)) Q
   for_client n id router step = cases.for_client now Q n id router (λ r found free room taken.
-      let event : Event = up_event r (record { id = id; role = role.Client }) in
+      let event : Event = up_event r (record { id = id; role = role.Client; weight = 1 }) in
       stays (w_client w n id router r) _ _ (telling_told (w_client w n id router r) router r event n (heard_of router r event found)) (step r found free room taken))
 
   pub for_up : (n : ℕ) (router name : List ℕ) →
       ((r : RouterState) → router_of w.routers router ≡ Some r → is_taken w name ≡ true → (s : EndState) → end_of w.ends (router, name) ≡ Some s → s.unbroken ≡ true → s.up ≡ false →
-      refuses r.node (up_event r (peer_of w name)) ≡ None → Q (on_up now n router name r s)) →
+      refuses r.node (up_event r (peer_of w name s.weight)) ≡ None → Q (on_up now n router name r s)) →
       IfSome (went now (up_step w n router name)) Q
   for_up n router name step = cases.for_up now Q n router name (λ r found there s at_end unbroken down taken.
-      let event : Event = up_event r (peer_of w name) in
+      let event : Event = up_event r (peer_of w name s.weight) in
       stays (w_up w n router name r s) _ _ (telling_told (w_up w n router name r s) router r event n (heard_of router r event found)) (step r found there s at_end unbroken down taken))
 
   pub for_down : (n : ℕ) (router name : List ℕ) →

@@ -18,7 +18,7 @@ use Rattle.zr_msg.specs.declared.msg.Msg.{Msg}
 use Rattle.zr_msg.specs.declared.msg.Msg.TheVariants as m
 use Rattle.zr_msg.specs.Extras.{no_extras}
 use Rattle.zr_msg.specs.declared.event.Event.TheVariants.{Up, Down, From}
-use Rattle.zr_msg.specs.declared.peer.Peer.{Peer}
+use Rattle.zr_msg.specs.Peer.{PeerState}
 use Rattle.zr_msg.specs.declared.peer.Role.TheVariants.{Client}
 use Rattle.zr_script_spec.specs.declared.command.Act.{Act}
 use Rattle.zr_script_spec.specs.Mode.{is_current, is_future}
@@ -62,8 +62,8 @@ weights_counted w booked h = record { ever = h.ever; most = h.most; held = h.hel
 -- ---- acts
 
 -- an end at which nothing waits
-nothing_waits : (ever : Ever) (up : Bool) → IsUnderWay ever (record { up = up; unbroken = true; queue = []; wire = [] })
-nothing_waits ever up = record { wire = tt; queue = tt }
+nothing_waits : (ever : Ever) (up : Bool) (weight : ℕ) → IsUnderWay ever (record { up = up; unbroken = true; queue = []; wire = []; weight = weight })
+nothing_waits ever up weight = record { wire = tt; queue = tt }
 
 module _ (w : WorldState) (h : WeightsHold w) where
   -- what a message adds to its end's wire
@@ -75,10 +75,10 @@ module _ (w : WorldState) (h : WeightsHold w) where
 
   -- ---- ends
 
-  link_holds : (one other : Name) → WeightsHold (w_link w one other)
-  link_holds one other = ends_hold w h (put_end (put_end w.ends (one, other) new_end) (other, one) new_end)
-      (λ x. omega (arith, waiting_put (put_end w.ends (one, other) new_end) (other, one) new_end x refl, waiting_put w.ends (one, other) new_end x refl))
-      (put_end_all (IsUnderWay h.ever) (put_end w.ends (one, other) new_end) (put_end_all (IsUnderWay h.ever) w.ends h.way (one, other) new_end (nothing_waits h.ever false)) (other, one) new_end (nothing_waits h.ever false))
+  link_holds : (one other : Name) (weight : ℕ) → WeightsHold (w_link w one other weight)
+  link_holds one other weight = ends_hold w h (put_end (put_end w.ends (one, other) (new_end weight)) (other, one) (new_end weight))
+      (λ x. omega (arith, waiting_put (put_end w.ends (one, other) (new_end weight)) (other, one) (new_end weight) x refl, waiting_put w.ends (one, other) (new_end weight) x refl))
+      (put_end_all (IsUnderWay h.ever) (put_end w.ends (one, other) (new_end weight)) (put_end_all (IsUnderWay h.ever) w.ends h.way (one, other) (new_end weight) (nothing_waits h.ever false weight)) (other, one) (new_end weight) (nothing_waits h.ever false weight))
 
   break_holds : (router name : Name) → WeightsHold (w_break w router name)
   break_holds router name = ends_hold w h (changed (changed w.ends (router, name) broken) (name, router) broken)
@@ -151,7 +151,7 @@ module _ (w : WorldState) (h : WeightsHold w) where
   same_ever : GoesOn h.ever h.ever
   same_ever = record { stays = λ z d there. there }
 
-  pub up_holds : (router : Name) (r : RouterState) → router_of w.routers router ≡ Some r → (link : LinkNo) (peer : Peer) (tag : ℕ) (es : Ends) → ((x : Name) → waiting es x ≤ waiting w.ends x) → AtEnds (IsUnderWay h.ever) es →
+  pub up_holds : (router : Name) (r : RouterState) → router_of w.routers router ≡ Some r → (link : LinkNo) (peer : PeerState) (tag : ℕ) (es : Ends) → ((x : Name) → waiting es x ≤ waiting w.ends x) → AtEnds (IsUnderWay h.ever) es →
       WeightsHold (sending (with_ends w es) router r (Up link peer) tag)
   up_holds router r found link peer tag es less way =
       heard_hold w h router r found (Up link peer) tag es h.ever 0 same_ever (λ z e. refl) (omega arith) (omega (arith, less router)) (λ z e. less z) way (up_weighs h.ever router r.node (h.within router r found) link peer)
@@ -159,12 +159,12 @@ module _ (w : WorldState) (h : WeightsHold w) where
   client_holds : (n : ℕ) (id router : Name) (r : RouterState) → router_of w.routers router ≡ Some r → WeightsHold (w_client w n id router r)
   client_holds n id router r found =
       clients_hold _ (insert_entry (slice_cmp nat_cmp) w.clients id (new_client router))
-      (up_holds router r found (record { 0 = free_link r.node.links }) (record { id = id; role = Client }) n (put_end w.ends (router, id) (lifted new_end))
-      (λ x. waiting_put w.ends (router, id) (lifted new_end) x refl) (put_end_all (IsUnderWay h.ever) w.ends h.way (router, id) (lifted new_end) (nothing_waits h.ever true)))
+      (up_holds router r found (record { 0 = free_link r.node.links }) (record { id = id; role = Client; weight = 1 }) n (put_end w.ends (router, id) (lifted (new_end 1)))
+      (λ x. waiting_put w.ends (router, id) (lifted (new_end 1)) x refl) (put_end_all (IsUnderWay h.ever) w.ends h.way (router, id) (lifted (new_end 1)) (nothing_waits h.ever true 1)))
 
   comes_up_holds : (n : ℕ) (router name : Name) (r : RouterState) → router_of w.routers router ≡ Some r → (s : EndState) → end_of w.ends (router, name) ≡ Some s → WeightsHold (w_up w n router name r s)
   comes_up_holds n router name r found s there =
-      up_holds router r found (record { 0 = free_link r.node.links }) (peer_of w name) n (with_end w.ends (router, name) (lifted s))
+      up_holds router r found (record { 0 = free_link r.node.links }) (peer_of w name s.weight) n (with_end w.ends (router, name) (lifted s))
       (λ x. let same = waiting_same w.ends (router, name) s there (m.EndInterest 0) n x (lifted s) refl in omega (arith, same))
       (with_end_all (IsUnderWay h.ever) w.ends h.way (router, name) (lifted s) (ap is_some there) (record { wire = (at_end (router, name) s there).wire; queue = (at_end (router, name) s there).queue }))
 
@@ -239,7 +239,7 @@ module _ (now : Moment) (h : WeightsHold now.world) where
   unfolding outcome
   weights_kept n (a.Router id) = for_router now KeptWeights id (λ free room. router_holds w h id free)
   weights_kept n (a.Client id router) = for_client now KeptWeights (λ w v report t. weights_told w v t) n id router (λ r found free room taken. client_holds w h n id router r found)
-  weights_kept n (a.Link one other) = for_link now KeptWeights one other (λ apart r found q found' new room. link_holds w h one other)
+  weights_kept n (a.Link one other weight) = for_link now KeptWeights one other weight (λ apart r found q found' new room. link_holds w h one other weight)
   weights_kept n (a.Up router name) = for_up now KeptWeights (λ w v report t. weights_told w v t) n router name (λ r found there s at unbroken down taken. comes_up_holds w h n router name r found s at)
   weights_kept n (a.Break router name) = for_break now KeptWeights router name (λ r found there s at unbroken. break_holds w h router name)
   weights_kept n (a.Down router name) = for_down now KeptWeights (λ w v report t. weights_told w v t) n router name (λ r found there s at up cut link number taken. lowered_holds _ (hears_down w h n router r found link) router name)

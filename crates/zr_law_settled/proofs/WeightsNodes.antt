@@ -19,7 +19,7 @@ use Rattle.zr_msg.specs.declared.error.NodeError.{NodeError}
 use Rattle.zr_msg.specs.declared.error.NodeError.TheVariants as e
 use Rattle.zr_msg.specs.declared.event.Event.{Event}
 use Rattle.zr_msg.specs.declared.event.Event.TheVariants.{Up, Down, From}
-use Rattle.zr_msg.specs.declared.peer.Peer.{Peer}
+use Rattle.zr_msg.specs.Peer.{PeerState}
 use Rattle.zr_log_set.specs.Decls.{has, decl_weight, weight}
 use Rattle.zr_lists.proofs.Order.{is_itself}
 use Rattle.zr_lists.proofs.Puts.{All-put}
@@ -157,7 +157,7 @@ module _ (ever : Ever) (x : Name) (n : NodeState) (h : IsWithin ever x n) where
   quiet_weigh : (event : Event) → (after n event).rows ≡ n.rows → (after n event).clients ≡ n.clients → (after n event).known ≡ n.known → ((to : LinkNo) → AreSent ever (sends_first n event to)) → Weighs ever x n event 0
   quiet_weigh event rows_is clients_is known_is first = heavier_weigh event 0 rows_is (let e = ap clients_weight clients_is in omega (arith, e)) known_is first
 
-  pub up_weighs : (link : LinkNo) (peer : Peer) → Weighs ever x n (Up link peer) 0
+  pub up_weighs : (link : LinkNo) (peer : PeerState) → Weighs ever x n (Up link peer) 0
   up_weighs link peer = quiet_weigh (Up link peer) refl refl refl (λ to. up_sent ever n link.0 peer peer.role to.0)
 
   pub down_weighs : (link : LinkNo) → Weighs ever x n (Down link) 0

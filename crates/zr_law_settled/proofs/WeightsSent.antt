@@ -11,7 +11,7 @@ use Rattle.zr_msg.specs.declared.content.Parts.{Parts}
 use Rattle.zr_msg.specs.declared.msg.Msg.{Msg}
 use Rattle.zr_msg.specs.declared.msg.Msg.TheVariants.{Push, State}
 use Rattle.zr_msg.specs.declared.event.Event.{Event}
-use Rattle.zr_msg.specs.declared.peer.Peer.{Peer}
+use Rattle.zr_msg.specs.Peer.{PeerState}
 use Rattle.zr_msg.specs.declared.peer.LinkPeer.{LinkPeer}
 use Rattle.zr_msg.specs.declared.peer.Role.{Role}
 use Rattle.zr_msg.specs.declared.peer.Role.TheVariants.{Client, Router}
@@ -24,7 +24,7 @@ use Rattle.zr_node_spec.specs.Changes.{changes, steps}
 use Rattle.zr_node_spec.specs.Samples.{subscribes, leads_to_subscriber, push_to, push_on, push_along}
 use Rattle.zr_node_spec.specs.Snapshots.{is_new_child, snapshot, snapshots_on, snapshots_for, sends_snapshots}
 use Rattle.zr_node_spec.specs.State.{NodeState, tables}
-use Rattle.zr_node_spec.specs.Table.{joined, parted, own_record, all_records, is_other_router, sends_own, sends_up, sends_parted, sends_down, sends_rows, sends_first, sends, after}
+use Rattle.zr_node_spec.specs.Table.{own_link, joined, parted, own_record, all_records, is_other_router, sends_own, sends_up, sends_parted, sends_down, sends_rows, sends_first, sends, after}
 use Rattle.zr_lists.proofs.Each.{All-append}
 use Rattle.zr_law_settled.proofs.Spreading.{Name}
 use Rattle.zr_law_settled.proofs.WeightsRows.{IsAdded}
@@ -70,15 +70,15 @@ module _ (ever : Ever) where
     others_sent : (from : ℕ) (b : BaseState) (to : ℕ) → AreSent (sends_own n from b to)
     others_sent from b to = sent_if (is_other_router n from to) (own_record b) (own_sent b)
 
-    pub up_sent : (link : ℕ) (peer : Peer) (role : Role) (to : ℕ) → AreSent (sends_up n link peer role to)
+    pub up_sent : (link : ℕ) (peer : PeerState) (role : Role) (to : ℕ) → AreSent (sends_up n link peer role to)
     up_sent link peer Client to = tt
     up_sent link peer Router to = by (to == link)
       where
-        by : (t : Bool) → AreSent (cond t (all_records (joined n.base peer.id)) (sends_own n link (joined n.base peer.id) to))
-        by true = records_sent (joined n.base peer.id).records
-        by false = others_sent link (joined n.base peer.id) to
+        by : (t : Bool) → AreSent (cond t (all_records (joined n.base (own_link peer))) (sends_own n link (joined n.base (own_link peer)) to))
+        by true = records_sent (joined n.base (own_link peer)).records
+        by false = others_sent link (joined n.base (own_link peer)) to
 
-    parted_sent : (link : ℕ) (peer : Peer) (role : Role) (to : ℕ) → AreSent (sends_parted n link peer role to)
+    parted_sent : (link : ℕ) (peer : PeerState) (role : Role) (to : ℕ) → AreSent (sends_parted n link peer role to)
     parted_sent link peer Client to = tt
     parted_sent link peer Router to = others_sent link (parted n.base peer.id) to
 

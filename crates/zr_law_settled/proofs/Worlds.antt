@@ -6,7 +6,8 @@ use Rattle.std.specs.Prelude.{◌&&◌, flat_map}
 use Rattle.std.specs.Option.{option_map, option_map_or}
 use Rattle.std.proofs.lemmas.Grind.{flat_map-append}
 use Rattle.zr_id.specs.Zid.{is_named}
-use Rattle.zr_graph.specs.Record.{has}
+use Rattle.zr_id.specs.Record.{linked_ids}
+use Rattle.zr_graph.specs.Record.{has, weight_to}
 use Rattle.zr_graph.specs.Base.{IsInOrder}
 use Rattle.zr_graph.proofs.Names.{same_is, same_refl}
 use Rattle.zr_msg.specs.declared.msg.Msg.{Msg}
@@ -43,6 +44,13 @@ abbrev pub wire_at : Option EndState → List Tagged
 wire_at None = []
 wire_at (Some s) = s.wire
 
+-- what its link weighs at an end that is up, and nothing at another one
+abbrev pub up_weight_at : Option EndState → ℕ
+up_weight_at o = option_map_or (λ s. cond s.up s.weight 0) o 0
+
+abbrev pub up_weight : Ends → End → ℕ
+up_weight ends e = up_weight_at (end_of ends e)
+
 module _ {V : Type 0} (tells : Msg → List (Note V)) where
   -- what waiting messages tell, in order
   abbrev pub notes : List Tagged → List (Note V)
@@ -72,11 +80,12 @@ abbrev pub HasTwins : WorldState → Type 0
 HasTwins w = (x y : Name) → is_some (end_of w.ends (x, y)) ≡ true → there_in w y ≡ true → is_some (end_of w.ends (y, x)) ≡ true
 
 -- What holds of each world of a script. Records spread, whatever was made under each number; and of each router: its own record lists the
--- routers to which its ends are up, its records are in order, and a link to another router has two ends.
+-- routers to which its ends are up, each with the weight of its end, its records are in order, and a link to another router has two ends.
 pub record Holds (w : WorldState) : Type 0 where
   pub made : Made Links
   pub spreads : Spreads made (feeds_of w) (lane_of w)
-  pub lists : (z y : Name) → has (table_of w z z).value y ≡ (there_in w y && is_up w.ends (z, y))
+  pub lists : (z y : Name) → has (linked_ids (table_of w z z).value) y ≡ (there_in w y && is_up w.ends (z, y))
+  pub weighs : (z y : Name) → weight_to (table_of w z z).value y ≡ cond (there_in w y) (up_weight w.ends (z, y)) 0
   pub in_order : (x : Name) (r : RouterState) → router_of w.routers x ≡ Some r → IsInOrder r.node.base
   pub twins : HasTwins w
 
@@ -176,6 +185,9 @@ module _ (w : WorldState) (a : Name) (r : RouterState) (found : router_of w.rout
   -- ends are there, up and unbroken as they were
   pub up_heard : (q : End) → is_up v.ends q ≡ is_up w.ends q
   up_heard q = end_heard (λ o. option_map_or (λ s. s.up) o false) (λ s msgs. refl) q
+
+  pub up_weight_heard : (q : End) → up_weight v.ends q ≡ up_weight w.ends q
+  up_weight_heard q = end_heard up_weight_at (λ s msgs. refl) q
 
   pub unbroken_heard : (q : End) → is_unbroken v.ends q ≡ is_unbroken w.ends q
   unbroken_heard q = end_heard (λ o. option_map_or (λ s. s.unbroken) o false) (λ s msgs. refl) q

@@ -1,20 +1,21 @@
 -- Settled tables agree: in each settled moment of each script each router sees the links that are up, as far as it reaches, and knows what
 -- the clients of each router that it reaches have declared.
 use Rattle.std.specs.Prelude.{◌≡◌, ℕ, true, List, ◌++◌, Some}
-use Rattle.zr_graph.specs.Record.{record_of, has_edge}
+use Rattle.zr_graph.specs.Record.{record_of, has_edge, edge_weight}
 use Rattle.zr_tree.specs.Walk.{IsWalk, graph_of}
 use Rattle.zr_local.specs.Rows.{declared_set}
 use Rattle.zr_log.specs.Known.{position, decls}
 use Rattle.zr_world_spec.specs.World.{RouterState, WorldState, router_of, is_linked, is_settled}
-use Rattle.zr_world_spec.specs.Joined.{graph, is_joined}
+use Rattle.zr_world_spec.specs.Joined.{linked_weight, graph, is_joined}
 use Rattle.zr_world_spec.specs.Moments.{Numbered, Moment, reached}
 use Rattle.zr_world_spec.specs.Accepted.{accepted}
 
 -- Router x sees router z, to which links lead that are up at both ends: it has the record that z has of itself, and an edge of z and y by
--- its records is a link of z and y that is up at both ends.
+-- its records is a link of z and y that is up at both ends, and weighs what that link weighs.
 pub record Sees (w : WorldState) (rx rz : RouterState) (z : List ℕ) : Type 0 where
   pub record_is : record_of rx.node.base.records z ≡ record_of rz.node.base.records z
   pub edges_are : (y : List ℕ) → has_edge rx.node.base.records z y ≡ is_linked w.ends z y
+  pub weights_are : (y : List ℕ) → edge_weight rx.node.base.records z y ≡ linked_weight w.ends z y
 
 -- each router sees each one that it reaches
 abbrev pub TablesAgree : WorldState → Type 0

@@ -13,10 +13,10 @@ use Rattle.zr_id.specs.Zid.{is_named}
 use Rattle.zr_graph.specs.Record.{IsAscending}
 use Rattle.zr_graph.proofs.Names.{same_is, same_refl}
 use Rattle.zr_tree.specs.Laws.{IsGraph}
-use Rattle.zr_tree.specs.Walk.{IsWalk, walk_length, graph_of}
+use Rattle.zr_tree.specs.Walk.{IsWalk, graph_of}
 use Rattle.zr_tree.specs.Tree.{reached, dist}
 use Rattle.zr_lists.proofs.Finds.{In, same_any, find_in, in_filter, filter_in, map_in, in_map, any_in, in_any}
-use Rattle.zr_tree.proofs.Paths.{exact, bounded, walk_leads}
+use Rattle.zr_tree.proofs.Paths.{exact, walk_reaches}
 use Rattle.zr_msg.specs.Decl.{decl_cmp}
 use Rattle.zr_msg.specs.declared.decl.Decl.{Decl}
 use Rattle.zr_msg.specs.declared.decl.Kind.{Kind}
@@ -285,7 +285,7 @@ module _ (acts : List Numbered) (m : Moment) (is : moments.reached acts ≡ Some
           known = (sets_are_declared acts m sn.router s.router walk.0 ry.0 r d is settled ry.1 found walk.1).1 (record { name = n; client = its_home n on sn there_n; kind = kind; id = id; standing = standing })
 
           reaches : reached (graph w) s.router sn.router ≡ true
-          reaches = ap is_some (bounded (graph w) net (walk_length (graph w) s.router walk.0) s.router sn.router (walk_leads (graph w) net s.router sn.router walk.0 walk.1)).2
+          reaches = ap is_some (walk_reaches (graph w) net s.router sn.router walk.0 walk.1).2
 
           by : (o : Option Log) → log_of r.node.known sn.router ≡ o → has (option_map_or (λ z. z.decls) o []) d ≡ true → In d (flat_map (λ log. log.decls) sources)
           by None e h = absurd (false≢true h)

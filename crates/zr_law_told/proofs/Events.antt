@@ -11,7 +11,7 @@ use Rattle.zr_graph.proofs.Names.{same_is, same_refl}
 use Rattle.zr_msg.specs.declared.msg.Msg.{Msg}
 use Rattle.zr_msg.specs.declared.event.Event.TheVariants.{Down, From}
 use Rattle.zr_msg.specs.declared.peer.LinkPeer.{LinkPeer}
-use Rattle.zr_msg.specs.declared.peer.Peer.{Peer}
+use Rattle.zr_msg.specs.Peer.{PeerState}
 use Rattle.zr_node_spec.specs.Tables.{is_router, link_at, link_to, free_link, leads_to_client}
 use Rattle.zr_node_spec.specs.State.{new_link}
 use Rattle.zr_node_spec.specs.Table.{after}
@@ -71,7 +71,7 @@ module _ (w : WorldState) (sound : IsSound w) (h : ClientsHold w) (a : Name) (r 
 
   -- ---- the links then
 
-  module _ (peer : Peer) (none : link_to r.node.links peer.id ≡ None) where
+  module _ (peer : PeerState) (none : link_to r.node.links peer.id ≡ None) where
     pub up_links : (c : Name) → link_to (after r.node (up_event r peer)).links c ≡ cond (is_named peer.id c) (Some (new_link (record { 0 = free_link r.node.links }) peer)) (link_to r.node.links c)
     up_links c = link_to_with r.node.links (new_link (record { 0 = free_link r.node.links }) peer) (sound.unique a r found) (free_is_free r.node.links) none c
 

@@ -8,7 +8,7 @@ use Rattle.zr_lists.proofs.Finds.{find_in}
 use Rattle.zr_msg.specs.declared.event.Event.TheVariants.{Down, From}
 use Rattle.zr_msg.specs.declared.msg.Msg.{Msg}
 use Rattle.zr_msg.specs.declared.peer.LinkPeer.{LinkPeer}
-use Rattle.zr_msg.specs.declared.peer.Peer.{Peer}
+use Rattle.zr_msg.specs.Peer.{PeerState}
 use Rattle.zr_local.specs.Clients.{interests_on}
 use Rattle.zr_node_spec.specs.Tables.{is_link, is_router, link_at, link_to, free_link, leads_to_client}
 use Rattle.zr_node_spec.specs.State.{NodeState, new_link}
@@ -27,7 +27,7 @@ abbrev pub AreKept : NodeState → Type 0
 AreKept n = (k : ℕ) → leads_to_client n.links k ≡ false → interests_on n.clients k ≡ []
 
 module _ (r : RouterState) (unique : AreUnique r.node.links) (h : AreKept r.node) where
-  pub up_kept : (peer : Peer) → link_to r.node.links peer.id ≡ None → AreKept (after r.node (up_event r peer))
+  pub up_kept : (peer : PeerState) → link_to r.node.links peer.id ≡ None → AreKept (after r.node (up_event r peer))
   up_kept peer none k away = by (link.link.0 == k) refl
     where
       link : LinkPeer

@@ -42,7 +42,7 @@ client_found n (x ∷ acts) b none h = by x.1 h (client_found n acts)
         at : (t : Bool) → is_named n id ≡ t → In n (id ∷ clients acts)
         at true e = inl (same_is n id e)
         at false e = inr (ih (b || is_named n id) (ap (λ z. z || is_named n id) none ∙ e) k)
-    by (a.Link one other) k ih = ih b none k
+    by (a.Link one other weight) k ih = ih b none k
     by (a.Up router neighbour) k ih = ih b none k
     by (a.Break router neighbour) k ih = ih (b && not (is_named n neighbour)) (ap (λ z. z && not (is_named n neighbour)) none) k
     by (a.Down router neighbour) k ih = ih b none k

@@ -22,7 +22,7 @@ use Rattle.zr_msg.specs.declared.msg.Msg.TheVariants as m
 use Rattle.zr_msg.specs.declared.event.Event.{Event}
 use Rattle.zr_msg.specs.declared.event.Event.TheVariants.{Down, From}
 use Rattle.zr_msg.specs.declared.peer.LinkPeer.{LinkPeer}
-use Rattle.zr_msg.specs.declared.peer.Peer.{Peer}
+use Rattle.zr_msg.specs.Peer.{PeerState}
 use Rattle.zr_msg.specs.declared.peer.Role.TheVariants.{Client}
 use Rattle.zr_script_spec.specs.declared.command.Act.{Act}
 use Rattle.zr_script_spec.specs.declared.command.Act.TheVariants as a
@@ -130,19 +130,19 @@ module _ (now : Moment) (sound : IsSound now.world) (h : ClientsHold now.world) 
 
   -- ---- ends alone
 
-  linked : (one other : Name) → there_in w one ≡ true → there_in w other ≡ true → AreTold (with_ends w (put_end (put_end w.ends (one, other) new_end) (other, one) new_end)) now.report
-  linked one other here there = still w now.report t (with_ends w es) now.report t.routers (λ c e. e) (λ c. refl) (λ c. refl)
+  linked : (one other : Name) (weight : ℕ) → there_in w one ≡ true → there_in w other ≡ true → AreTold (with_ends w (put_end (put_end w.ends (one, other) (new_end weight)) (other, one) (new_end weight))) now.report
+  linked one other weight here there = still w now.report t (with_ends w es) now.report t.routers (λ c e. e) (λ c. refl) (λ c. refl)
       (λ c s client whole. record { whole = sym (same unbroken_at s.router c s client) ∙ whole; told = refl; waiting = same waiting_at s.router c s client })
     where
       es : Ends
-      es = put_end (put_end w.ends (one, other) new_end) (other, one) new_end
+      es = put_end (put_end w.ends (one, other) (new_end weight)) (other, one) (new_end weight)
 
       same : {Y : Type 0} (f : Option EndState → Y) (x c : Name) (s : ClientState) → client_of w.clients c ≡ Some s → f (end_of es (x, c)) ≡ f (end_of w.ends (x, c))
       same f x c s client =
-          read_put_end (put_end w.ends (one, other) new_end) (other, one) new_end f (x, c)
-          ∙ ap (λ b. cond b (f (Some new_end)) (f (end_of (put_end w.ends (one, other) new_end) (x, c)))) (to_router w h other one x c s here client)
-          ∙ read_put_end w.ends (one, other) new_end f (x, c)
-          ∙ ap (λ b. cond b (f (Some new_end)) (f (end_of w.ends (x, c)))) (to_router w h one other x c s there client)
+          read_put_end (put_end w.ends (one, other) (new_end weight)) (other, one) (new_end weight) f (x, c)
+          ∙ ap (λ b. cond b (f (Some (new_end weight))) (f (end_of (put_end w.ends (one, other) (new_end weight)) (x, c)))) (to_router w h other one x c s here client)
+          ∙ read_put_end w.ends (one, other) (new_end weight) f (x, c)
+          ∙ ap (λ b. cond b (f (Some (new_end weight))) (f (end_of w.ends (x, c)))) (to_router w h one other x c s there client)
 
   -- an end whose link is unbroken then isn't the one that breaks
   unbroken_stays : {Y : Type 0} (f : Option EndState → Y) (es : Ends) (x y : Name) (q : End) → is_unbroken (changed es (x, y) broken) q ≡ true → f (end_of (changed es (x, y) broken) q) ≡ f (end_of es q)
@@ -212,14 +212,14 @@ module _ (now : Moment) (sound : IsSound now.world) (h : ClientsHold now.world) 
 
   module _ (router : Name) (r : RouterState) (found : router_of w.routers router ≡ Some r) where
     up_told : (n : ℕ) (name : Name) (s : EndState) → end_of w.ends (router, name) ≡ Some s → s.up ≡ false → AreTold (w_up w n router name r s) now.report
-    up_told n name s at_end down = heard_told w now.report t sound h router r found (up_event r (peer_of w name)) n es (up_unique w sound h router r found (peer_of w name) none)
+    up_told n name s at_end down = heard_told w now.report t sound h router r found (up_event r (peer_of w name s.weight)) n es (up_unique w sound h router r found (peer_of w name s.weight) none)
         (λ c q client whole.
-        let was : is_unbroken w.ends (q.router, c) ≡ true = sym (keep_heard es router r (up_event r (peer_of w name)) n unbroken_at (q.router, c) (λ e ws. refl)
+        let was : is_unbroken w.ends (q.router, c) ≡ true = sym (keep_heard es router r (up_event r (peer_of w name s.weight)) n unbroken_at (q.router, c) (λ e ws. refl)
         ∙ keep_with_end w.ends (router, name) (lifted s) unbroken_at (q.router, c) s at_end refl) ∙ whole in
         record {
           whole = was;
-          links = up_links w sound h router r found (peer_of w name) none c
-              ∙ ap (λ b. cond b (Some (new_link (record { 0 = free_link r.node.links }) (peer_of w name))) (link_to r.node.links c)) (not_down w sound h router r found name s at_end down c q client was);
+          links = up_links w sound h router r found (peer_of w name s.weight) none c
+              ∙ ap (λ b. cond b (Some (new_link (record { 0 = free_link r.node.links }) (peer_of w name s.weight))) (link_to r.node.links c)) (not_down w sound h router r found name s at_end down c q client was);
           waiting = keep_with_end w.ends (router, name) (lifted s) waiting_at (q.router, c) s at_end refl;
         })
       where
@@ -278,14 +278,14 @@ module _ (now : Moment) (sound : IsSound now.world) (h : ClientsHold now.world) 
       agrees = λ c q client whole m is. agrees c q m whole is (is_named c name) refl (sym (clients c) ∙ client);
     }
       where
-        peer : Peer
-        peer = record { id = name; role = Client }
+        peer : PeerState
+        peer = record { id = name; role = Client; weight = 1 }
 
         event : Event
         event = up_event r peer
 
         es : Ends
-        es = put_end w.ends (router, name) (lifted new_end)
+        es = put_end w.ends (router, name) (lifted (new_end 1))
 
         v : WorldState
         v = w_client w n name router r
@@ -312,7 +312,7 @@ module _ (now : Moment) (sound : IsSound now.world) (h : ClientsHold now.world) 
             ∙ none_before (is_named c name) (new_client router) (client_of w.clients c) (ap is_some (sym (clients c)) ∙ parts.1)
 
         whole_then : (q : End) → is_unbroken v.ends q ≡ cond (is_end (router, name) q) true (is_unbroken w.ends q)
-        whole_then q = keep_heard es router r event n unbroken_at q (λ e ws. refl) ∙ read_put_end w.ends (router, name) (lifted new_end) unbroken_at q
+        whole_then q = keep_heard es router r event n unbroken_at q (λ e ws. refl) ∙ read_put_end w.ends (router, name) (lifted (new_end 1)) unbroken_at q
 
         its_links : link_to (after r.node event).links name ≡ Some link
         its_links = up_links w sound h router r found peer no_link name ∙ ap (λ b. cond b (Some link) (link_to r.node.links name)) (same_refl name)
@@ -336,8 +336,8 @@ module _ (now : Moment) (sound : IsSound now.world) (h : ClientsHold now.world) 
             map_is : map_on (having_told r event).told link.link.0 ≡ m
             map_is = let e : Some (map_on (having_told r event).told link.link.0) ≡ Some m = sym told_is ∙ is in cc
 
-            end_is : end_of es (router, name) ≡ Some (lifted new_end)
-            end_is = read_put_end w.ends (router, name) (lifted new_end) (λ o. o) (router, name) ∙ ap (λ b. cond b (Some (lifted new_end)) (end_of w.ends (router, name))) (ends.refl (router, name))
+            end_is : end_of es (router, name) ≡ Some (lifted (new_end 1))
+            end_is = read_put_end w.ends (router, name) (lifted (new_end 1)) (λ o. o) (router, name) ∙ ap (λ b. cond b (Some (lifted (new_end 1))) (end_of w.ends (router, name))) (ends.refl (router, name))
 
             sent_is : told_by now.report name ++ waits v.ends router name ≡ sends_to r.node event name ++ tells_to r event name
             sent_is = ap (λ z. z ++ waits v.ends router name) (t.fresh name free)
@@ -355,7 +355,7 @@ module _ (now : Moment) (sound : IsSound now.world) (h : ClientsHold now.world) 
             (record {
               whole = sym (whole_then (q.router, c) ∙ ap (λ b. cond b true (is_unbroken w.ends (q.router, c))) away) ∙ whole;
               links = up_links w sound h router r found peer no_link c ∙ ap (λ b. cond b (Some link) (link_to r.node.links c)) other;
-              waiting = read_put_end w.ends (router, name) (lifted new_end) waiting_at (q.router, c) ∙ ap (λ b. cond b [] (waits w.ends q.router c)) away;
+              waiting = read_put_end w.ends (router, name) (lifted (new_end 1)) waiting_at (q.router, c) ∙ ap (λ b. cond b [] (waits w.ends q.router c)) away;
             }) m is
           where
             other : is_named name c ≡ false
@@ -434,7 +434,7 @@ module _ (now : Moment) (sound : IsSound now.world) (h : ClientsHold now.world) 
   unfolding outcome
   tells_keep n (a.Router id) = for_router now TellsThen id (λ free room. alone _ (router_comes id free))
   tells_keep n (a.Client id router) = for_client now TellsThen n id router (λ r found free room taken. alone _ (client_comes router r found n id free))
-  tells_keep n (a.Link one other) = for_link now TellsThen one other (λ apart r found q found' new room. alone _ (linked one other (ap is_some found) (ap is_some found')))
+  tells_keep n (a.Link one other weight) = for_link now TellsThen one other weight (λ apart r found q found' new room. alone _ (linked one other weight (ap is_some found) (ap is_some found')))
   tells_keep n (a.Up router name) = for_up now TellsThen n router name (λ r found there s at_end unbroken down taken. alone _ (up_told router r found n name s at_end down))
   tells_keep n (a.Break router name) = for_break now TellsThen router name (λ r found there s at_end unbroken. alone _ (breaks router name))
   tells_keep n (a.Down router name) = for_down now TellsThen n router name (λ r found there s at_end up cut link number taken.

@@ -198,8 +198,8 @@ module _ (acts : List Numbered) (now : Moment) (sound : IsSound now.world) (h : 
   wants_keep n (a.Router id) = for_router now (WantsThen n (a.Router id)) id (λ free room. router_wants acts w f n (a.Router id) (λ c so_far. refl) id free)
   wants_keep n (a.Client id router) = for_client now (WantsThen n (a.Client id router)) n id router (λ r found free room taken.
       client_wants acts w f sound h router r found n (a.Client id router) (λ c so_far. refl) id free)
-  wants_keep n (a.Link one other) = for_link now (WantsThen n (a.Link one other)) one other (λ apart r found q found' new room.
-      by_ends acts w f n (a.Link one other) (λ c so_far. refl) _ (linked_stay w h one other (ap is_some found) (ap is_some found')))
+  wants_keep n (a.Link one other weight) = for_link now (WantsThen n (a.Link one other weight)) one other weight (λ apart r found q found' new room.
+      by_ends acts w f n (a.Link one other weight) (λ c so_far. refl) _ (linked_stay w h one other weight (ap is_some found) (ap is_some found')))
   wants_keep n (a.Up router name) = for_up now (WantsThen n (a.Up router name)) n router name (λ r found there s at_end unbroken down taken.
       up_wants acts w f sound h router r found n (a.Up router name) (λ c so_far. refl) name s at_end down)
   wants_keep n (a.Break router name) = for_break now (WantsThen n (a.Break router name)) router name (λ r found there s at_end unbroken.

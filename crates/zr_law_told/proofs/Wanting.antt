@@ -16,7 +16,7 @@ use Rattle.zr_msg.specs.declared.event.Event.{Event}
 use Rattle.zr_msg.specs.declared.event.Event.TheVariants.{Down, From}
 use Rattle.zr_msg.specs.declared.msg.Msg.{Msg}
 use Rattle.zr_msg.specs.declared.peer.LinkPeer.{LinkPeer}
-use Rattle.zr_msg.specs.declared.peer.Peer.{Peer}
+use Rattle.zr_msg.specs.Peer.{PeerState}
 use Rattle.zr_msg.specs.declared.peer.Role.TheVariants.{Client}
 use Rattle.zr_local.specs.Clients.{interests_on}
 use Rattle.zr_local.specs.declared.interest.Interest.{Interest}
@@ -218,7 +218,7 @@ module _ (acts : List Numbered) (w : WorldState) (f : Wanting acts w) where
 
         pub up_wants : Wanting (acts ++ (n, act) ∷ []) (w_up w n a name r s)
         up_wants = no_news n act quiet (w_up w n a name r s)
-            (kept_then event (w_up w n a name r s).routers (routers_then event n up_ends) (up_kept r (sound.unique a r found) (f.kept a r found) (peer_of w name) no_link))
+            (kept_then event (w_up w n a name r s).routers (routers_then event n up_ends) (up_kept r (sound.unique a r found) (f.kept a r found) (peer_of w name s.weight) no_link))
             (λ c none. none) as_they_are
             (λ c t client whole.
             let was : is_unbroken w.ends (t.router, c) ≡ true =
@@ -230,11 +230,11 @@ module _ (acts : List Numbered) (w : WorldState) (f : Wanting acts w) where
             ))
           where
             event : Event
-            event = up_event r (peer_of w name)
+            event = up_event r (peer_of w name s.weight)
 
             others_want : (c : Name) → is_named name c ≡ false → wants_of (Some (having_told r event)) c ≡ wants_of (Some r) c
-            others_want c other = ap (λ (o : Option LinkPeer). option_map_or (λ l. interests_on r.node.clients l.link.0) o []) (up_links w sound h a r found (peer_of w name) no_link c
-                ∙ ap (λ b. cond b (Some (new_link (record { 0 = free_link r.node.links }) (peer_of w name))) (link_to r.node.links c)) other)
+            others_want c other = ap (λ (o : Option LinkPeer). option_map_or (λ l. interests_on r.node.clients l.link.0) o []) (up_links w sound h a r found (peer_of w name s.weight) no_link c
+                ∙ ap (λ b. cond b (Some (new_link (record { 0 = free_link r.node.links }) (peer_of w name s.weight))) (link_to r.node.links c)) other)
 
       -- an end goes down, of a link that is broken
       module _ (cut : s.unbroken ≡ false) (j : LinkPeer) (linked : link_to r.node.links name ≡ Some j) where
@@ -323,8 +323,8 @@ module _ (acts : List Numbered) (w : WorldState) (f : Wanting acts w) where
 
     -- a client comes: it wants nothing
     module _ (n : ℕ) (act : Act) (quiet : IsQuiet act) (name : Name) (free : is_taken w name ≡ false) where
-      abbrev peer : Peer
-      peer = record { id = name; role = Client }
+      abbrev peer : PeerState
+      peer = record { id = name; role = Client; weight = 1 }
 
       abbrev its_link : LinkPeer
       its_link = new_link (record { 0 = free_link r.node.links }) peer
@@ -333,7 +333,7 @@ module _ (acts : List Numbered) (w : WorldState) (f : Wanting acts w) where
       v = w_client w n name a r
 
       abbrev more : Ends
-      more = put_end w.ends (a, name) (lifted new_end)
+      more = put_end w.ends (a, name) (lifted (new_end 1))
 
       is_new : client_of w.clients name ≡ None
       is_new = not_there (client_of w.clients name) (free_name w name free).1
@@ -345,10 +345,10 @@ module _ (acts : List Numbered) (w : WorldState) (f : Wanting acts w) where
       links_then c = up_links w sound h a r found peer none_yet c
 
       whole_with : (q : End) → is_unbroken v.ends q ≡ cond (is_end (a, name) q) true (is_unbroken w.ends q)
-      whole_with q = keep_heard more a r (up_event r peer) n unbroken_at q (λ e ws. refl) ∙ read_put_end w.ends (a, name) (lifted new_end) unbroken_at q
+      whole_with q = keep_heard more a r (up_event r peer) n unbroken_at q (λ e ws. refl) ∙ read_put_end w.ends (a, name) (lifted (new_end 1)) unbroken_at q
 
       wire_with : (q : End) → wire_at (end_of v.ends q) ≡ cond (is_end (a, name) q) [] (wire_at (end_of w.ends q))
-      wire_with q = keep_heard more a r (up_event r peer) n wire_at q (λ e ws. refl) ∙ read_put_end w.ends (a, name) (lifted new_end) wire_at q
+      wire_with q = keep_heard more a r (up_event r peer) n wire_at q (λ e ws. refl) ∙ read_put_end w.ends (a, name) (lifted (new_end 1)) wire_at q
 
       clients_with : (c : Name) → client_of v.clients c ≡ cond (is_named c name) (Some (new_client a)) (client_of w.clients c)
       clients_with c = value_new w.clients name c (new_client a) is_new

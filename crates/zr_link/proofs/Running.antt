@@ -6,7 +6,7 @@ use Rattle.zr_id.specs.declared.link.LinkNo.{LinkNo}
 use Rattle.zr_frame.specs.Outbox.{OutboxState}
 use Rattle.zr_msg.specs.declared.event.Event.TheVariants as event
 use Rattle.zr_msg.specs.declared.msg.Msg.{Msg}
-use Rattle.zr_msg.specs.declared.peer.Peer.{Peer}
+use Rattle.zr_msg.specs.Peer.{PeerState}
 use Rattle.zr_open.specs.declared.error.Reason.{Reason}
 use Rattle.zr_open.specs.declared.expected.Expected.{Expected}
 use Rattle.zr_open.specs.declared.expected.Expected.TheVariants.{Init, InitAnswer}
@@ -109,8 +109,8 @@ later_follows link msgs s waiting f e before after L refuses sees later p h firs
     (x.0, x.1, x.2, x.3, ends_map e x.2.course x.1 ⊥ ⊥ L L _ _ (λ k. k) (λ q k. k) (λ reason k. refuses_later (λ z m y. refuses z link m y) sees later x.1 reason p k) x.4)
 
 -- it went on until it went down
-pub enters_followed : (peer : Peer) (outbox : OutboxState) (s : SessionState) (waiting : List SessionEvent) (f : Fate) (e : LinkEnd) (before after : Option (List ℕ)) (L : Phase → Type 0) (W : List ℕ → Type 0) (N : Type 0)
-    (refuses_up : List Entry → Peer → UpError → Type 0) (refuses : List Entry → LinkNo → Msg → DeliverError → Type 0) (refuses_down : List Entry → LinkNo → DownError → Type 0)
+pub enters_followed : (peer : PeerState) (outbox : OutboxState) (s : SessionState) (waiting : List SessionEvent) (f : Fate) (e : LinkEnd) (before after : Option (List ℕ)) (L : Phase → Type 0) (W : List ℕ → Type 0) (N : Type 0)
+    (refuses_up : List Entry → PeerState → UpError → Type 0) (refuses : List Entry → LinkNo → Msg → DeliverError → Type 0) (refuses_down : List Entry → LinkNo → DownError → Type 0)
     (old mid last new : Pass Entry) (link : LinkNo) → Does (up link peer outbox ∷ []) (mine old) (mine mid) → Followed link s waiting f e before after L refuses (seen last) (mine mid) (mine last)
     → IsPrefix (seen last) (seen new) → (downs : List Act) → GoesDown link e (λ x. refuses_down (seen new) link x) downs → Does downs (mine last) (mine new)
     → N → Enters peer outbox s waiting f e before after L W N refuses_up refuses refuses_down old new
@@ -126,8 +126,8 @@ enters_followed peer outbox s waiting f e before after L W N refuses_up refuses 
     ))
 
 -- its writer wasn't started. Of what was given to be written the CLOSE was left out
-pub enters_early : (peer : Peer) (outbox : OutboxState) (s : SessionState) (waiting : List SessionEvent) (f : Fate) (e : LinkEnd) (before : Option (List ℕ)) (L : Phase → Type 0) (N : Type 0)
-    (refuses_up : List Entry → Peer → UpError → Type 0) (refuses : List Entry → LinkNo → Msg → DeliverError → Type 0) (refuses_down : List Entry → LinkNo → DownError → Type 0)
+pub enters_early : (peer : PeerState) (outbox : OutboxState) (s : SessionState) (waiting : List SessionEvent) (f : Fate) (e : LinkEnd) (before : Option (List ℕ)) (L : Phase → Type 0) (N : Type 0)
+    (refuses_up : List Entry → PeerState → UpError → Type 0) (refuses : List Entry → LinkNo → Msg → DeliverError → Type 0) (refuses_down : List Entry → LinkNo → DownError → Type 0)
     (old mid new : Pass Entry) (link : LinkNo) (fed left : List ℕ) (held now : Option (List ℕ)) (F : Type 0) → Does (up link peer outbox ∷ []) (mine old) (mine mid) → IsEarly e
     → (downs : List Act) → GoesDown link e (λ x. refuses_down (seen new) link x) downs → Does downs (mine mid) (mine new)
     → ((answers : List ℕ) → fed ≡ answers ++ close_with f → left ≡ answers) → IsWritten e (left ++ owed_bytes s) held now F
@@ -162,7 +162,7 @@ early_map e c events L M R late is h = subst (λ z. EarlyEnds e c z M R) (sym is
 
 -- it ended before the session opened
 pub runs_early : (s : SessionState) (text : List ℕ) (e : LinkEnd) (before after held now : Option (List ℕ)) (L : Phase → Type 0) (W : List ℕ → Type 0) (F : Type 0)
-    (refuses_up : List Entry → Peer → UpError → Type 0) (refuses : List Entry → LinkNo → Msg → DeliverError → Type 0) (refuses_down : List Entry → LinkNo → DownError → Type 0) (pass : Pass Entry)
+    (refuses_up : List Entry → PeerState → UpError → Type 0) (refuses : List Entry → LinkNo → Msg → DeliverError → Type 0) (refuses_down : List Entry → LinkNo → DownError → Type 0) (pass : Pass Entry)
     → IsBegun s text → HearsSomeOn s before after (λ c d events. EarlyEnds e d events L (λ r. ⊥) × WroteAnswers e c d held now F) → ((answers : List ℕ) → IsWritten e answers held now F → W answers)
     → Runs s e before after L W refuses_up refuses refuses_down pass pass
 runs_early s text e before after held now L W F refuses_up refuses refuses_down pass begins h writes =
@@ -185,7 +185,7 @@ early_not_refused s text e before after held now L R F begins h is =
 
 -- nothing was read
 pub runs_nothing : (s : SessionState) (text : List ℕ) (e : LinkEnd) (before : Option (List ℕ)) (L : Phase → Type 0) (W : List ℕ → Type 0)
-    (refuses_up : List Entry → Peer → UpError → Type 0) (refuses : List Entry → LinkNo → Msg → DeliverError → Type 0) (refuses_down : List Entry → LinkNo → DownError → Type 0) (pass : Pass Entry)
+    (refuses_up : List Entry → PeerState → UpError → Type 0) (refuses : List Entry → LinkNo → Msg → DeliverError → Type 0) (refuses_down : List Entry → LinkNo → DownError → Type 0) (pass : Pass Entry)
     → IsBegun s text → EarlyEnds e (going (Opening (first_of s.state))) [] L (λ r. NotTaken refuses_up (seen pass) [] r) → W [] → Runs s e before before L W refuses_up refuses refuses_down pass pass
 runs_nothing s text e before L W refuses_up refuses refuses_down pass begins why writes = record {
   bytes = [];
@@ -196,7 +196,7 @@ runs_nothing s text e before L W refuses_up refuses refuses_down pass begins why
   made = inl (record { does = refl; why = why; writes = writes });
 }
 
-not_taken : (error : UpError) (c : Course) (peer : Peer) (outbox : OutboxState) (ms : List Msg) (L : Phase → Type 0) (refuses_up : List Entry → Peer → UpError → Type 0) (sees : List Entry)
+not_taken : (error : UpError) (c : Course) (peer : PeerState) (outbox : OutboxState) (ms : List Msg) (L : Phase → Type 0) (refuses_up : List Entry → PeerState → UpError → Type 0) (sees : List Entry)
     → c.events ≡ Opened peer outbox ∷ messages ms → (error ≢ up_error.NoMemory → refuses_up sees peer error) → EarlyEnds (end_of_up error) c c.events L (λ r. NotTaken refuses_up sees c.events r)
 not_taken (up_error.Full sessions routers) c peer outbox ms L refuses_up sees is r =
     inr (record { peer = peer; outbox = outbox; msgs = ms; error = up_error.Full sessions routers; opens = is; refused = r (λ e. absurd cc); ends = refl })
@@ -211,8 +211,8 @@ answers_are : (c m d : Course) (xs ys : List ℕ) → c.bytes ≡ [] → m.bytes
 answers_are c m d xs ys none a b = sym (b ∙ ap (λ z. z ++ ys) (a ∙ ap (λ z. z ++ xs) none))
 
 -- the session opened
-pub runs_entered : (s t : SessionState) (text fed : List ℕ) (peer : Peer) (outbox : OutboxState) (waiting : List SessionEvent) (f : Fate) (e : LinkEnd) (before mid after held now : Option (List ℕ)) (L M : Phase → Type 0) (V W : List ℕ → Type 0) (N : Type 0)
-    (refuses_up : List Entry → Peer → UpError → Type 0) (refuses : List Entry → LinkNo → Msg → DeliverError → Type 0) (refuses_down : List Entry → LinkNo → DownError → Type 0) (old new : Pass Entry)
+pub runs_entered : (s t : SessionState) (text fed : List ℕ) (peer : PeerState) (outbox : OutboxState) (waiting : List SessionEvent) (f : Fate) (e : LinkEnd) (before mid after held now : Option (List ℕ)) (L M : Phase → Type 0) (V W : List ℕ → Type 0) (N : Type 0)
+    (refuses_up : List Entry → PeerState → UpError → Type 0) (refuses : List Entry → LinkNo → Msg → DeliverError → Type 0) (refuses_down : List Entry → LinkNo → DownError → Type 0) (old new : Pass Entry)
     → IsBegun s text → t.opening ≡ s.opening → t.confirmed ≡ s.confirmed → ((p : Phase) → L p → M p) → AreMessages IsSpelled waiting
     → HearsOn s (Opened peer outbox ∷ waiting) before mid (λ first bytes c d. IsOpen d.phase × ((m : Course) × Answered c m held now × Gives f t fed (λ p. ⊥) first bytes m d))
     → ((xs ys owed : List ℕ) → Appends xs held now → fed ≡ ys ++ close_with f → V owed → W ((xs ++ ys) ++ owed)) → (N → (all : List ℕ) → W all)

@@ -4,7 +4,7 @@ use mathlib.Core.List.{IsPrefix}
 use Rattle.zr_id.specs.declared.link.LinkNo.{LinkNo}
 use Rattle.zr_frame.specs.Outbox.{OutboxState}
 use Rattle.zr_msg.specs.declared.msg.Msg.{Msg}
-use Rattle.zr_msg.specs.declared.peer.Peer.{Peer}
+use Rattle.zr_msg.specs.Peer.{PeerState}
 use Rattle.zr_open.specs.declared.error.Reason.{Reason}
 use Rattle.zr_outside_crew.specs.Told.{with_last}
 use Rattle.zr_hist.specs.declared.pass.Pass.{Pass}
@@ -103,8 +103,8 @@ EarlyEnds end.Turns c events Late Refused = (c.ends ≡ None) × (events ≡ [])
 EarlyEnds end.NoMemory c events Late Refused = Unit {0}
 
 -- The session opened with a peer that the port refused
-pub record NotTaken (refuses : List Entry → Peer → UpError → Type 0) (seen : List Entry) (events : List SessionEvent) (reason : Reason) : Type 0 where
-  pub peer : Peer
+pub record NotTaken (refuses : List Entry → PeerState → UpError → Type 0) (seen : List Entry) (events : List SessionEvent) (reason : Reason) : Type 0 where
+  pub peer : PeerState
   pub outbox : OutboxState
   pub msgs : List Msg
   pub error : UpError
@@ -113,7 +113,7 @@ pub record NotTaken (refuses : List Entry → Peer → UpError → Type 0) (seen
   pub ends : end_of_up error ≡ end.Closed reason
 
 -- the link never came up: nothing was added, and what the session answered at once was written
-pub record StaysDown (end : LinkEnd) (c : Course) (Late : Phase → Type 0) (Writes : List ℕ → Type 0) (refuses : List Entry → Peer → UpError → Type 0) (old new : Pass Entry) : Type 0 where
+pub record StaysDown (end : LinkEnd) (c : Course) (Late : Phase → Type 0) (Writes : List ℕ → Type 0) (refuses : List Entry → PeerState → UpError → Type 0) (old new : Pass Entry) : Type 0 where
   pub does : mine new ≡ mine old
   pub why : EarlyEnds end c c.events Late (λ reason. NotTaken refuses (seen new) c.events reason)
   pub writes : Writes c.bytes
@@ -126,7 +126,7 @@ GoesDown link end refuses downs = (downs ≡ down link (reason_of end) ∷ []) �
 -- answer to OPEN was written behind what the session answered at once
 pub record ComesUp (end : LinkEnd) (c : Course) (Late : Phase → Type 0) (Writes : List ℕ → Type 0) (refuses : List Entry → LinkNo → Msg → DeliverError → Type 0) (refuses_down : List Entry → LinkNo → DownError → Type 0) (old new : Pass Entry) : Type 0 where
   pub link : LinkNo
-  pub peer : Peer
+  pub peer : PeerState
   pub outbox : OutboxState
   pub msgs : List Msg
   pub others : List Msg
@@ -141,36 +141,36 @@ pub record ComesUp (end : LinkEnd) (c : Course) (Late : Phase → Type 0) (Write
 abbrev pub Starts : {K : Type 0} → Option K → Option (List LinkNo) → Option (List LinkNo) → List Entry → List Entry → Type 0
 Starts (Some sink) told told_now old new = told_now ≡ told
 Starts None told told_now old new =
-    (link : LinkNo) × (peer : Peer) × (outbox : OutboxState) × (acts : List Act) × Does (up link peer outbox ∷ acts) old new × (told_now ≡ with_last link told)
+    (link : LinkNo) × (peer : PeerState) × (outbox : OutboxState) × (acts : List Act) × Does (up link peer outbox ∷ acts) old new × (told_now ≡ with_last link told)
 
 -- The session has opened, and the port refuses the peer
-abbrev pub EndsRefused : Peer → LinkEnd → Option (List ℕ) → Option (List ℕ) → (List ℕ → Type 0) → (List Entry → Peer → UpError → Type 0) → Pass Entry → Pass Entry → Type 0
+abbrev pub EndsRefused : PeerState → LinkEnd → Option (List ℕ) → Option (List ℕ) → (List ℕ → Type 0) → (List Entry → PeerState → UpError → Type 0) → Pass Entry → Pass Entry → Type 0
 EndsRefused peer end before after Writes refuses_up old new =
     (mine new ≡ mine old) × (after ≡ before) × ((error : UpError) × (error ≢ up_error.NoMemory → refuses_up (seen new) peer error) × (end ≡ end_of_up error)) × Writes []
 
 -- The port takes it, and no writer is started: the answer to OPEN is written, and the link goes down
-abbrev pub EndsEarly : Peer → OutboxState → SessionState → LinkEnd → Option (List ℕ) → Option (List ℕ) → (List ℕ → Type 0) → (List Entry → LinkNo → DownError → Type 0) → Pass Entry → Pass Entry → Type 0
+abbrev pub EndsEarly : PeerState → OutboxState → SessionState → LinkEnd → Option (List ℕ) → Option (List ℕ) → (List ℕ → Type 0) → (List Entry → LinkNo → DownError → Type 0) → Pass Entry → Pass Entry → Type 0
 EndsEarly peer outbox s end before after Writes refuses_down old new =
     (link : LinkNo) × (downs : List Act) × Does (up link peer outbox ∷ downs) (mine old) (mine new) × GoesDown link end (λ e. refuses_down (seen new) link e) downs
     × IsEarly end × (after ≡ before) × Writes (owed_bytes s)
 
 -- The port takes it, and its writer is started: messages are delivered, and the link goes down. The sink is handed on
-abbrev pub EndsStarted : Peer → OutboxState → SessionState → List SessionEvent → Fate → LinkEnd → Option (List ℕ) → Option (List ℕ) → (Phase → Type 0) → Type 0
+abbrev pub EndsStarted : PeerState → OutboxState → SessionState → List SessionEvent → Fate → LinkEnd → Option (List ℕ) → Option (List ℕ) → (Phase → Type 0) → Type 0
     → (List Entry → LinkNo → Msg → DeliverError → Type 0) → (List Entry → LinkNo → DownError → Type 0) → Pass Entry → Pass Entry → Type 0
 EndsStarted peer outbox s waiting f end before after Late IsHandedOn refuses refuses_down old new =
     (link : LinkNo) × (msgs : List Msg) × (downs : List Act) × Does (up link peer outbox ∷ (froms link msgs ++ downs)) (mine old) (mine new)
     × GoesDown link end (λ e. refuses_down (seen new) link e) downs × Follows link msgs s waiting f end before after Late refuses (seen new) × IsHandedOn
 
 -- The session has opened, and the port takes the peer or not. `Writes` is told of the answer to OPEN, where it is written
-abbrev pub Enters : Peer → OutboxState → SessionState → List SessionEvent → Fate → LinkEnd → Option (List ℕ) → Option (List ℕ) → (Phase → Type 0) → (List ℕ → Type 0) → Type 0
-    → (List Entry → Peer → UpError → Type 0) → (List Entry → LinkNo → Msg → DeliverError → Type 0) → (List Entry → LinkNo → DownError → Type 0) → Pass Entry → Pass Entry → Type 0
+abbrev pub Enters : PeerState → OutboxState → SessionState → List SessionEvent → Fate → LinkEnd → Option (List ℕ) → Option (List ℕ) → (Phase → Type 0) → (List ℕ → Type 0) → Type 0
+    → (List Entry → PeerState → UpError → Type 0) → (List Entry → LinkNo → Msg → DeliverError → Type 0) → (List Entry → LinkNo → DownError → Type 0) → Pass Entry → Pass Entry → Type 0
 Enters peer outbox s waiting f end before after Late Writes IsHandedOn refuses_up refuses refuses_down old new =
     EndsRefused peer end before after Writes refuses_up old new
     ⊎ (EndsEarly peer outbox s end before after Writes refuses_down old new
     ⊎ EndsStarted peer outbox s waiting f end before after Late IsHandedOn refuses refuses_down old new)
 
 -- All that a reader read, the course to which it comes, and what it made of the link. `Writes` is told of what it answered
-pub record Runs (s : SessionState) (end : LinkEnd) (before after : Option (List ℕ)) (Late : Phase → Type 0) (Writes : List ℕ → Type 0) (refuses_up : List Entry → Peer → UpError → Type 0) (refuses : List Entry → LinkNo → Msg → DeliverError → Type 0) (refuses_down : List Entry → LinkNo → DownError → Type 0) (old new : Pass Entry) : Type 0 where
+pub record Runs (s : SessionState) (end : LinkEnd) (before after : Option (List ℕ)) (Late : Phase → Type 0) (Writes : List ℕ → Type 0) (refuses_up : List Entry → PeerState → UpError → Type 0) (refuses : List Entry → LinkNo → Msg → DeliverError → Type 0) (refuses_down : List Entry → LinkNo → DownError → Type 0) (old new : Pass Entry) : Type 0 where
   pub bytes : List ℕ
   pub course : Course
   pub rest : List ℕ

@@ -9,7 +9,7 @@ use Rattle.zr_link_job.specs.declared.job.Side.{Side}
 use Rattle.zr_link_job.specs.declared.job.Side.TheVariants.{Accepting, Dialling}
 
 abbrev pub opening_of : LinkJob → OpeningState
-opening_of job = record { me = job.me; secret = job.secret; number = job.number; word = job.word }
+opening_of job = record { me = job.me; secret = job.secret; number = job.number; word = job.word; weight = job.weight }
 
 -- the message that is expected first: who has dialled begins
 abbrev pub expects : Side → Expected

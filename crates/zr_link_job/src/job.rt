@@ -3,6 +3,7 @@
 ghost use Rattle.std.specs.Prelude.{◌≡◌};
 
 use zr_id::zid::Zid;
+use zr_msg::peer::Weight;
 
 /// Which end of a link the router is.
 #[derive(Clone, Copy)]
@@ -14,7 +15,8 @@ pub enum Side {
 }
 
 /// What the reader of a link begins with: which end it is, the link's number, counted from 0 in the order in which the links came, the router's
-/// identifier, the secret of its cookies, the link's random word, how often it reads at most, and whether the link has a log.
+/// identifier, the secret of its cookies, the link's random word, what the link weighs if the peer is a router, how often it reads at most, and whether
+/// the link has a log.
 #[derive(Drop)]
 pub struct LinkJob {
     pub side: Side,
@@ -22,6 +24,7 @@ pub struct LinkJob {
     pub me: Zid,
     pub secret: [u8; 32],
     pub word: u64,
+    pub weight: Weight,
     pub turns: u64,
     pub log: bool,
 }
@@ -37,6 +40,7 @@ impl LinkJob {
             me: self.me,
             secret: self.secret,
             word: self.word,
+            weight: self.weight,
             turns: self.turns,
             log: self.log,
         }

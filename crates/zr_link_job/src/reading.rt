@@ -167,7 +167,7 @@ fn begin(alloc: Global, job: &LinkJob, now: u64) -> Result<(Session, Vec<u8>), A
     ensures session { IfOk result (λ r. r.0 ≡ begun (expects job.now.side) (opening_of job.now) now) }
     ensures first { IfOk result (λ r. r.1.items ≡ greets job.now.side (opening_of job.now)) }
 {
-    let opening = Opening::new(job.me, &job.secret, job.number, job.word);
+    let opening = Opening::new(job.me, &job.secret, job.number, job.word, job.weight.get());
     let mut first = Vec::new(alloc);
     match job.side {
         Side::Accepting => Ok((Session::accepting(alloc, opening, now), first)),

@@ -186,14 +186,14 @@ act_keeps m n act = by act
       taken = λ q there. ap (λ b. b || is_some (client_of w.clients q)) (router_comes w id q free there) ∙ there;
     }) refl (omega arith))
     by (c.Client id router) = for_client m (Goes m) n id router (λ r er free room taken.
-        let event : Event = up_event r (record { id = id; role = role.Client }) in
+        let event : Event = up_event r (record { id = id; role = role.Client; weight = 1 }) in
         goes (w_client w n id router r) [] (record {
           routers = λ q there. same_heard w.routers router r event er q;
           taken = λ q there. (λ i. same_heard w.routers router r event er q i || client_comes w id router q free there i) ∙ there;
         }) refl (omega arith))
-    by (c.Link one other) = for_link m (Goes m) one other (λ apart r er q eq new room. still (w_link w one other) (λ q. refl) (λ q. refl))
+    by (c.Link one other weight) = for_link m (Goes m) one other weight (λ apart r er q eq new room. still (w_link w one other weight) (λ q. refl) (λ q. refl))
     by (c.Up router name) = for_up m (Goes m) n router name (λ r er there s es unbroken down taken.
-        still (w_up w n router name r s) (same_heard w.routers router r (up_event r (peer_of w name)) er) (λ q. refl))
+        still (w_up w n router name r s) (same_heard w.routers router r (up_event r (peer_of w name s.weight)) er) (λ q. refl))
     by (c.Break router name) = for_break m (Goes m) router name (λ r er there s es unbroken. still (w_break w router name) (λ q. refl) (λ q. refl))
     by (c.Down router name) = for_down m (Goes m) n router name (λ r er there s es up cut l el taken.
         still (w_down w n router name r l) (same_heard w.routers router r (Down l) er) (λ q. refl))

@@ -12,7 +12,7 @@ use Rattle.zr_msg.specs.declared.error.NodeError.{NodeError}
 use Rattle.zr_msg.specs.declared.event.Event.TheVariants.{Down}
 use Rattle.zr_msg.specs.declared.msg.Msg.{Msg}
 use Rattle.zr_msg.specs.declared.peer.LinkPeer.{LinkPeer}
-use Rattle.zr_msg.specs.declared.peer.Peer.{Peer}
+use Rattle.zr_msg.specs.Peer.{PeerState}
 use Rattle.zr_msg.specs.declared.peer.Role.{Role}
 use Rattle.zr_msg.specs.declared.peer.Role.TheVariants.{Client, Router}
 use Rattle.zr_pend.specs.Pending.{dropped}
@@ -44,7 +44,7 @@ module _ (n : NodeState) (link : LinkNo) where
   abbrev clients_by : Role → List ClientInterests
   clients_by role = cond (not (is_router role)) (clients_left n.clients link.0) n.clients
 
-  abbrev left_by : Peer → Role → NodeState
+  abbrev left_by : PeerState → Role → NodeState
   left_by peer role =
       record {
         links = without_link n.links link.0;
@@ -56,7 +56,7 @@ module _ (n : NodeState) (link : LinkNo) where
         spent = n.spent;
       }
 
-  abbrev down_by : Peer → Role → Part
+  abbrev down_by : PeerState → Role → Part
   down_by peer role =
       record {
         before = n;
@@ -95,7 +95,7 @@ module _ (n : NodeState) (link : LinkNo) where
 
   module _ (r : Result (Unit {0}) NodeFailure) (now : NodeState) (said all : List (LinkNo × Msg)) where
     -- the peer is that of the link
-    of_link : (peer : Peer) (role : Role) → Some peer ≡ option_map (λ l. l.peer) (link_at n.links link.0) → peer.role ≡ role → IsDone (down_by peer role) r now said all
+    of_link : (peer : PeerState) (role : Role) → Some peer ≡ option_map (λ l. l.peer) (link_at n.links link.0) → peer.role ≡ role → IsDone (down_by peer role) r now said all
         → IsDone (event_part n (Down link)) r now said all
     of_link peer role at is h = by (link_at n.links link.0) refl at
       where
@@ -104,15 +104,15 @@ module _ (n : NodeState) (link : LinkNo) where
         by (Some l) e f =
             let same : peer ≡ l.peer = cc in
             subst (λ (o : Option LinkPeer). IsDone (down_of o) r now said all) (sym e)
-            (subst (λ (p : Peer). IsDone (down_by p p.role) r now said all) same (subst (λ (x : Role). IsDone (down_by peer x) r now said all) (sym is) h))
+            (subst (λ (p : PeerState). IsDone (down_by p p.role) r now said all) same (subst (λ (x : Role). IsDone (down_by peer x) r now said all) (sym is) h))
 
-    pub client_gone : (peer : Peer) → Some peer ≡ option_map (λ l. l.peer) (link_at n.links link.0) → peer.role ≡ Client → IsDone (leave_part n link) r now said all
+    pub client_gone : (peer : PeerState) → Some peer ≡ option_map (λ l. l.peer) (link_at n.links link.0) → peer.role ≡ Client → IsDone (leave_part n link) r now said all
         → IsDone (event_part n (Down link)) r now said all
     client_gone peer at is h =
         of_link peer Client at is
         (redone (leave_part n link) (down_by peer Client) r now said all refl refl (λ to. nothing_more (tables (left_by peer Client)) n.base.records (sends_ends n.pending link.0 to ++ sends_rows n (left n.rows link.0) to) refl to) refl h)
 
-    pub router_gone : (peer : Peer) → Some peer ≡ option_map (λ l. l.peer) (link_at n.links link.0) → peer.role ≡ Router → position n.known n.known.me < 2 ^ 64
+    pub router_gone : (peer : PeerState) → Some peer ≡ option_map (λ l. l.peer) (link_at n.links link.0) → peer.role ≡ Router → position n.known n.known.me < 2 ^ 64
         → IsDone (down_part n link.0 peer) r now said all → IsDone (event_part n (Down link)) r now said all
     router_gone peer at is fits h =
         let last : NodeState = parted_from n link.0 peer in

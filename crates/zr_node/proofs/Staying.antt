@@ -3,7 +3,7 @@ use Rattle.std.proofs.Common.{◌≡◌, ℕ, ◌+◌, ◌<◌, ◌^◌, not, Li
 use Rattle.std.specs.List.{insert}
 use Rattle.std.specs.Ordering.{nat_cmp}
 use Rattle.zr_id.specs.declared.link.LinkNo.{LinkNo}
-use Rattle.zr_msg.specs.declared.peer.Peer.{Peer}
+use Rattle.zr_msg.specs.Peer.{PeerState}
 use Rattle.zr_node_spec.specs.Event.{AreLinks, IsFresh}
 use Rattle.zr_msg.specs.declared.peer.LinkPeer.{LinkPeer}
 use Rattle.zr_node_spec.specs.Tables.{AreNumbered, is_link}
@@ -31,7 +31,7 @@ kept_up links l i h gap few =
     let long : length (insert links i l) ≡ length links + 1 = length-append (take i links) (l ∷ drop i links) ∙ omega (arith, length-take-le i links within, length-drop i links) in
     ((subst (λ ls. AreNumbered ls) (sym same) (ascending_up links l h.0), omega arith), same)
 
-pub are_links_after : {T E : Type 0} (r : Result T E) (node : NodeState) (link : LinkNo) (peer : Peer) (new : List LinkPeer) → IsFresh node link peer → AreLinks node.base.me node.links
+pub are_links_after : {T E : Type 0} (r : Result T E) (node : NodeState) (link : LinkNo) (peer : PeerState) (new : List LinkPeer) → IsFresh node link peer → AreLinks node.base.me node.links
     → OnOk r (new ≡ with_link node.links (new_link link peer)) → OnErr r (new ≡ node.links) → AreLinks node.base.me new
 are_links_after (Ok x) node link peer new fresh h e f = subst (λ ls. AreLinks node.base.me ls) (sym e) (are_links_up node link peer fresh h)
 are_links_after (Err x) node link peer new fresh h e f = subst (λ ls. AreLinks node.base.me ls) (sym f) h

@@ -6,13 +6,13 @@ use Rattle.zr_id.specs.Record.{RecordState}
 use Rattle.zr_id.specs.declared.link.LinkNo.{LinkNo}
 use Rattle.zr_log.specs.Known.{KnownState}
 use Rattle.zr_msg.specs.declared.msg.Msg.{Msg}
-use Rattle.zr_msg.specs.declared.peer.Peer.{Peer}
+use Rattle.zr_msg.specs.Peer.{PeerState}
 use Rattle.zr_msg.specs.declared.peer.Role.{Role}
 use Rattle.zr_msg.specs.declared.peer.Role.TheVariants.{Client, Router}
 use Rattle.zr_node_spec.specs.State.{NodeState, new_link, tables}
 use Rattle.zr_pend.specs.Pending.{dropped}
 use Rattle.zr_node_spec.specs.Queries.{link_no}
-use Rattle.zr_node_spec.specs.Table.{with_base, with_pending, with_link, without_link, joined, parted}
+use Rattle.zr_node_spec.specs.Table.{with_base, with_pending, with_link, without_link, joined, own_link, parted}
 use Rattle.zr_node.specs.Done.{IsLeft}
 use Rattle.zr_node.specs.Steps.{with_links, up_as, up_part, join_part, parted_from, parting_part, down_part, news_to}
 use Rattle.zr_node.proofs.Done.{IsFirst}
@@ -20,17 +20,17 @@ use Rattle.zr_node.proofs.Quiet.{no_new_children}
 use Rattle.zr_node.proofs.Retold.{silent}
 
 -- a client has come: nothing is sent
-pub client_up : (n : NodeState) (link : LinkNo) (peer : Peer) (now : NodeState) (said : List (LinkNo × Msg)) → peer.role ≡ Client → now ≡ with_links n (with_link n.links (new_link link peer))
+pub client_up : (n : NodeState) (link : LinkNo) (peer : PeerState) (now : NodeState) (said : List (LinkNo × Msg)) → peer.role ≡ Client → now ≡ with_links n (with_link n.links (new_link link peer))
     → IsLeft (up_part n link peer peer.role) now said said
 client_up n link peer now said is e =
     subst (λ (role : Role). IsLeft (up_part n link peer role) now said said) (sym is)
     (record { allowed = refl; state = e; sends = silent (up_part n link peer Client).sends said (λ to. no_new_children (tables (up_as n link peer Client)) n.base.records refl to) })
 
 -- the records go first, and then the snapshots for new children
-pub join_first : (n : NodeState) (link : LinkNo) (peer : Peer) → IsFirst (join_part n link peer) (up_part n link peer Router) (λ to. news_to n (up_as n link peer Router) to)
+pub join_first : (n : NodeState) (link : LinkNo) (peer : PeerState) → IsFirst (join_part n link peer) (up_part n link peer Router) (λ to. news_to n (up_as n link peer Router) to)
 join_first n link peer = record { before = refl; refused = refl; sends = λ to. refl }
 
-pub part_first : (n : NodeState) (link : LinkNo) (peer : Peer) → IsFirst (parting_part n link.0 peer) (down_part n link.0 peer) (λ to. news_to n (parted_from n link.0 peer) to)
+pub part_first : (n : NodeState) (link : LinkNo) (peer : PeerState) → IsFirst (parting_part n link.0 peer) (down_part n link.0 peer) (λ to. news_to n (parted_from n link.0 peer) to)
 part_first n link peer = record { before = refl; refused = refl; sends = λ to. refl }
 
 if_none : {X : Type 0} (o : Option X) (P Q : Type 0) → (P → Q) → IfNone o P → IfNone o Q
@@ -47,12 +47,12 @@ news_told P n now left before e same some none me h =
     (if_none before (n.known.logs ≡ []) (now.known.logs ≡ []) (λ k. ap (λ (m : NodeState). m.known.logs) e ∙ ap (λ (l : KnownState). l.logs) same ∙ k) none))
 
 -- what is left of a router by the two steps of the Up of a router, and of its Down
-pub up_state : (n first second last : NodeState) (link : LinkNo) (peer : Peer) → first ≡ n → second ≡ with_base first (joined first.base peer.id)
+pub up_state : (n first second last : NodeState) (link : LinkNo) (peer : PeerState) → first ≡ n → second ≡ with_base first (joined first.base (own_link peer))
     → last ≡ with_links second (with_link second.links (new_link link peer)) → last ≡ up_as n link peer Router
 up_state n first second last link peer e f g =
-    g ∙ ap (λ (m : NodeState). with_links m (with_link m.links (new_link link peer))) (f ∙ ap (λ (m : NodeState). with_base m (joined m.base peer.id)) e)
+    g ∙ ap (λ (m : NodeState). with_links m (with_link m.links (new_link link peer))) (f ∙ ap (λ (m : NodeState). with_base m (joined m.base (own_link peer))) e)
 
-pub down_state : (n first second last : NodeState) (link : ℕ) (peer : Peer) → first ≡ n → second ≡ with_pending (with_base first (parted first.base peer.id)) (dropped (link_no link) first.pending)
+pub down_state : (n first second last : NodeState) (link : ℕ) (peer : PeerState) → first ≡ n → second ≡ with_pending (with_base first (parted first.base peer.id)) (dropped (link_no link) first.pending)
     → last ≡ with_links second (without_link second.links link) → last ≡ parted_from n link peer
 down_state n first second last link peer e f g =
     g ∙ ap (λ (m : NodeState). with_links m (without_link m.links link)) (f ∙ ap (λ (m : NodeState). with_pending (with_base m (parted m.base peer.id)) (dropped (link_no link) m.pending)) e)

@@ -13,7 +13,7 @@ use Rattle.zr_msg.specs.declared.event.Event.{Event}
 use Rattle.zr_msg.specs.declared.extras.Extras.{Extras}
 use Rattle.zr_msg.specs.declared.msg.Msg.{Msg}
 use Rattle.zr_msg.specs.declared.msg.Target.{Target}
-use Rattle.zr_msg.specs.declared.peer.Peer.{Peer}
+use Rattle.zr_msg.specs.Peer.{PeerState}
 use Rattle.zr_msg.specs.declared.peer.Role.{Role}
 use Rattle.zr_msg.specs.declared.peer.Role.TheVariants.{Router}
 use Rattle.zr_msg.specs.declared.peer.LinkPeer.{LinkPeer}
@@ -22,7 +22,7 @@ use Rattle.zr_node_spec.specs.Queries.{link_no, asked_links, sends_request, send
 use Rattle.zr_node_spec.specs.Samples.{sends_push}
 use Rattle.zr_node_spec.specs.Snapshots.{sends_step, sends_snap, sends_snapshots}
 use Rattle.zr_node_spec.specs.State.{NodeState, new_link, tables}
-use Rattle.zr_node_spec.specs.Table.{after, sends, refuses, base_up, base_told, joined, parted, with_base, with_clients, with_pending, with_link, without_link, with_known, with_rows, clients_noted, refuses_noted, known_step, known_snap, rows_declared, rows_undeclared, sends_up, sends_parted, sends_state, sends_from, sends_rows, after_from, refuses_up, refuses_parting, refuses_from, refuses_request, refuses_declared, refuses_undeclared, refuses_step_from, refuses_snap_from}
+use Rattle.zr_node_spec.specs.Table.{after, sends, refuses, base_up, base_told, joined, own_link, parted, with_base, with_clients, with_pending, with_link, without_link, with_known, with_rows, clients_noted, refuses_noted, known_step, known_snap, rows_declared, rows_undeclared, sends_up, sends_parted, sends_state, sends_from, sends_rows, after_from, refuses_up, refuses_parting, refuses_from, refuses_request, refuses_declared, refuses_undeclared, refuses_step_from, refuses_snap_from}
 use Rattle.zr_node.specs.Asked.{rows_after, clients_after, refuses_change}
 use Rattle.zr_node.specs.Done.{Part}
 use Rattle.zr_node.specs.declared.asked.Asked.{Asked}
@@ -48,10 +48,10 @@ abbrev pub event_part : NodeState → Event → Part
 event_part node event = record { before = node; left = after node event; sends = λ to. sends node event (record { 0 = to }); refused = refuses node event }
 
 -- the Up of a peer of this role
-abbrev pub up_as : NodeState → LinkNo → Peer → Role → NodeState
+abbrev pub up_as : NodeState → LinkNo → PeerState → Role → NodeState
 up_as node link peer role = with_links (with_base node (base_up node.base peer role)) (with_link node.links (new_link link peer))
 
-abbrev pub up_part : NodeState → LinkNo → Peer → Role → Part
+abbrev pub up_part : NodeState → LinkNo → PeerState → Role → Part
 up_part node link peer role =
     record {
       before = node;
@@ -61,15 +61,15 @@ up_part node link peer role =
     }
 
 -- the records of the Up of a router, whose link isn't there yet
-abbrev pub join_part : NodeState → LinkNo → Peer → Part
+abbrev pub join_part : NodeState → LinkNo → PeerState → Part
 join_part node link peer =
-    record { before = node; left = with_base node (joined node.base peer.id); sends = λ to. sends_up node link.0 peer Router to; refused = refuses_up node.base Router }
+    record { before = node; left = with_base node (joined node.base (own_link peer)); sends = λ to. sends_up node link.0 peer Router to; refused = refuses_up node.base Router }
 
 -- the Down of a link to a router
-abbrev pub parted_from : NodeState → ℕ → Peer → NodeState
+abbrev pub parted_from : NodeState → ℕ → PeerState → NodeState
 parted_from node link peer = with_links (with_pending (with_base node (parted node.base peer.id)) (dropped (link_no link) node.pending)) (without_link node.links link)
 
-abbrev pub down_part : NodeState → ℕ → Peer → Part
+abbrev pub down_part : NodeState → ℕ → PeerState → Part
 down_part node link peer =
     record {
       before = node;
@@ -79,7 +79,7 @@ down_part node link peer =
     }
 
 -- the finals and the records of the Down of a router, whose link is still there
-abbrev pub parting_part : NodeState → ℕ → Peer → Part
+abbrev pub parting_part : NodeState → ℕ → PeerState → Part
 parting_part node link peer =
     record {
       before = node;

@@ -184,7 +184,8 @@ fn forget_hint(numbers: &mut BTreeMap<Zid, LinkNo>, links: &[LinkPeer], gone: Li
     requires { AreNumbered links.now }
 {
     if let Ok(at) = place_of(links, gone) {
-        numbers.remove(&links[at].peer.id);
+        let peer = links[at].peer;
+        numbers.remove(&peer.id);
     }
 }
 

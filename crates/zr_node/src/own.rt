@@ -3,27 +3,27 @@
 ghost use Rattle.std.specs.Prelude.{◌≡◌, ◌++◌, filter, not, true, false, IfOk, OnOk, OnErr};
 ghost use Rattle.zr_id.specs.Record.{are_links, is_before};
 ghost use Rattle.zr_id.specs.Zid.{is_named};
-ghost use Rattle.zr_node_spec.specs.Table.{own_links, with_name, without_name, joined, parted, is_worn, is_full, refuses_up, refuses_parting};
+ghost use Rattle.zr_node_spec.specs.Table.{own_links, with_linked, without_linked, joined, parted, is_worn, is_full, refuses_up, refuses_parting};
 ghost use Rattle.zr_node.specs.Answer.{refusal};
 
 use std::alloc::{AllocError, Global};
 use zr_flood::flood::own_record;
 use zr_graph::base::{Base, ChangeError};
-use zr_id::record::MOST_LINKS;
+use zr_id::record::{Linked, MOST_LINKS};
 use zr_id::zid::Zid;
 use zr_msg::peer::Role;
 
-/// The own record lists one more router, under its next number.
-pub fn join(alloc: Global, base: &mut Base, id: &Zid) -> Result<(), ChangeError>
-    requires { is_named id.now base.old.me ≡ false }
-    ensures ok { OnOk result (base.new ≡ joined base.old id.now) }
+/// The own record lists one more link, under its next number.
+pub fn join(alloc: Global, base: &mut Base, link: &Linked) -> Result<(), ChangeError>
+    requires { is_named link.now.id base.old.me ≡ false }
+    ensures ok { OnOk result (base.new ≡ joined base.old link.now) }
     ensures worn { refuses_up base.old Role.Router ≡ refusal result }
     ensures unchanged { OnErr result (base.new ≡ base.old) }
 {
     if is_worn(base) || is_full(base) {
         return Err(ChangeError::Worn);
     }
-    let links = with_name(alloc, own_links(base), id)?;
+    let links = with_linked(alloc, own_links(base), link)?;
     base.change(links.as_slice())
 }
 
@@ -36,7 +36,7 @@ pub fn part(alloc: Global, base: &mut Base, id: &Zid) -> Result<(), ChangeError>
     if is_worn(base) {
         return Err(ChangeError::Worn);
     }
-    let links = without_name(alloc, own_links(base), id)?;
+    let links = without_linked(alloc, own_links(base), id)?;
     base.change(links.as_slice())
 }
 
@@ -55,8 +55,8 @@ fn is_full(base: &Base) -> bool
     own_links(base).len() >= MOST_LINKS
 }
 
-// The routers to which the own record lists links.
-fn own_links(base: &Base) -> &[Zid]
+// The links that the own record lists.
+fn own_links(base: &Base) -> &[Linked]
     ensures value { result.now ≡ own_links base.now }
     ensures in_order { are_links base.now.me result.now ≡ true }
 {
@@ -66,34 +66,34 @@ fn own_links(base: &Base) -> &[Zid]
     }
 }
 
-// The identifiers with one more in its place.
-fn with_name(alloc: Global, names: &[Zid], id: &Zid) -> Result<Vec<Zid>, AllocError>
-    ensures { IfOk result (λ all. all.items ≡ with_name names.now id.now) }
+// The links with one more in its place.
+fn with_linked(alloc: Global, links: &[Linked], link: &Linked) -> Result<Vec<Linked>, AllocError>
+    ensures { IfOk result (λ all. all.items ≡ with_linked links.now link.now) }
 {
     let mut all = Vec::new(alloc);
-    push_below(&mut all, names, id)?;
-    all.push(*id)?;
-    push_above(&mut all, names, id)?;
+    push_below(&mut all, links, &link.id)?;
+    all.push(*link)?;
+    push_above(&mut all, links, &link.id)?;
     Ok(all)
 }
 
-fn push_below(all: &mut Vec<Zid>, names: &[Zid], id: &Zid) -> Result<(), AllocError>
-    ensures { OnOk result (all.new.items ≡ all.old.items ++ filter (λ y. is_before y id.now) names.now) }
+fn push_below(all: &mut Vec<Linked>, links: &[Linked], id: &Zid) -> Result<(), AllocError>
+    ensures { OnOk result (all.new.items ≡ all.old.items ++ filter (λ k. is_before k.id id.now) links.now) }
 {
-    for name in names {
-        if is_before(name, id) {
-            all.push(*name)?;
+    for link in links {
+        if is_before(&link.id, id) {
+            all.push(*link)?;
         }
     }
     Ok(())
 }
 
-fn push_above(all: &mut Vec<Zid>, names: &[Zid], id: &Zid) -> Result<(), AllocError>
-    ensures { OnOk result (all.new.items ≡ all.old.items ++ filter (λ y. is_before id.now y) names.now) }
+fn push_above(all: &mut Vec<Linked>, links: &[Linked], id: &Zid) -> Result<(), AllocError>
+    ensures { OnOk result (all.new.items ≡ all.old.items ++ filter (λ k. is_before id.now k.id) links.now) }
 {
-    for name in names {
-        if is_before(id, name) {
-            all.push(*name)?;
+    for link in links {
+        if is_before(id, &link.id) {
+            all.push(*link)?;
         }
     }
     Ok(())
@@ -105,13 +105,13 @@ fn is_before(first: &Zid, second: &Zid) -> bool
     *first < *second
 }
 
-fn without_name(alloc: Global, names: &[Zid], id: &Zid) -> Result<Vec<Zid>, AllocError>
-    ensures { IfOk result (λ rest. rest.items ≡ without_name names.now id.now) }
+fn without_linked(alloc: Global, links: &[Linked], id: &Zid) -> Result<Vec<Linked>, AllocError>
+    ensures { IfOk result (λ rest. rest.items ≡ without_linked links.now id.now) }
 {
     let mut rest = Vec::new(alloc);
-    for name in names {
-        if is_other(name, id) {
-            rest.push(*name)?;
+    for link in links {
+        if is_other(&link.id, id) {
+            rest.push(*link)?;
         }
     }
     Ok(rest)

@@ -9,7 +9,7 @@ use Rattle.std.proofs.lemmas.List.Kept.{IsStrictlySortedBy-filter}
 use Rattle.zr_id.specs.Zid.{is_named}
 use Rattle.zr_id.specs.declared.link.LinkNo.{LinkNo}
 use Rattle.zr_graph.proofs.Names.{same_is, same_refl}
-use Rattle.zr_msg.specs.declared.peer.Peer.{Peer}
+use Rattle.zr_msg.specs.Peer.{PeerState}
 use Rattle.std.proofs.lemmas.Bool.{false_from_ne_true, true≢false}
 use Rattle.zr_node_spec.specs.Event.{AreLinks, IsFresh}
 use Rattle.zr_node_spec.specs.Tables.{link_to, is_link}
@@ -78,7 +78,7 @@ names_up front back l none names =
     both [] s h = tt
     both (k ∷ ks) s h = (find_beside (λ j. is_named j.peer.id k.peer.id) front l back (named_back k.peer.id l.peer.id s.0) ∙ h.0, both ks s.1 h.1)
 
-pub are_links_up : (node : NodeState) (link : LinkNo) (peer : Peer) → IsFresh node link peer → AreLinks node.base.me node.links → AreLinks node.base.me (with_link node.links (new_link link peer))
+pub are_links_up : (node : NodeState) (link : LinkNo) (peer : PeerState) → IsFresh node link peer → AreLinks node.base.me node.links → AreLinks node.base.me (with_link node.links (new_link link peer))
 are_links_up node link peer fresh h =
     let links : List LinkPeer = node.links in
     let l : LinkPeer = new_link link peer in

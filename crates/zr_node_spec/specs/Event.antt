@@ -8,7 +8,7 @@ use Rattle.zr_id.specs.declared.link.LinkNo.{LinkNo}
 use Rattle.zr_msg.specs.declared.msg.Msg.{Msg}
 use Rattle.zr_msg.specs.declared.event.Event.{Event}
 use Rattle.zr_msg.specs.declared.event.Event.TheVariants.{Up, Down, From}
-use Rattle.zr_msg.specs.declared.peer.Peer.{Peer}
+use Rattle.zr_msg.specs.Peer.{PeerState}
 use Rattle.zr_lists.specs.Prefix.{IsPrefixOf}
 use Rattle.zr_msg.specs.declared.peer.LinkPeer.{LinkPeer}
 use Rattle.zr_node_spec.specs.Tables.{link_at, link_to}
@@ -27,7 +27,7 @@ pub record AreLinks (me : List ℕ) (links : List LinkPeer) : Type 0 where
   pub others : AllByRecursion (λ l. is_named l.peer.id me ≡ false) links
 
 -- a link may come up where none has its number, none leads to its peer, and the peer is another than the router
-pub record IsFresh (node : NodeState) (link : LinkNo) (peer : Peer) : Type 0 where
+pub record IsFresh (node : NodeState) (link : LinkNo) (peer : PeerState) : Type 0 where
   pub number : link_at node.links link.0 ≡ None
   pub name : link_to node.links peer.id ≡ None
   pub other : is_named peer.id node.base.me ≡ false

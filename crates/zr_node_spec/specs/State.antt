@@ -2,7 +2,7 @@
 use Rattle.std.specs.Prelude.{Bool, false, List, [], ℕ}
 use Rattle.zr_id.specs.declared.link.LinkNo.{LinkNo}
 use Rattle.zr_graph.specs.Base.{BaseState, fresh}
-use Rattle.zr_msg.specs.declared.peer.Peer.{Peer}
+use Rattle.zr_msg.specs.Peer.{PeerState}
 use Rattle.zr_msg.specs.declared.peer.LinkPeer.{LinkPeer}
 use Rattle.zr_local.specs.declared.interest.ClientInterests.{ClientInterests}
 use Rattle.zr_local.specs.declared.row.Row.{Row}
@@ -29,7 +29,7 @@ abbrev pub new_node : List ℕ → NodeState
 new_node me = record { links = []; base = fresh me; rows = []; clients = []; known = nothing_known me; pending = []; spent = false }
 
 -- a link that has come up
-abbrev pub new_link : LinkNo → Peer → LinkPeer
+abbrev pub new_link : LinkNo → PeerState → LinkPeer
 new_link link peer = record { link = link; peer = peer }
 
 -- what a router goes by

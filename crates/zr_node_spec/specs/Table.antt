@@ -1,9 +1,11 @@
 -- The table of a router: what each event sends on each link, the state that it leaves, and the events that are refused. The order in which
 -- the messages for different links are sent is free; those for one link are sent in the order of its list.
 use Rattle.std.specs.Prelude.{ℕ, ◌-◌, ◌^◌, ◌==◌, ◌&&◌, ◌||◌, nat_lt, nat_le, not, Bool, if◌then◌else◌, List, [], ◌∷◌, ◌++◌, length, map, filter, Option, Some, None}
+use Rattle.std.specs.Cmp.Lexicographic.{slice_cmp}
 use Rattle.std.specs.Option.{option_map_or, option_or, option_map}
-use Rattle.zr_id.specs.Record.{RecordState, is_before}
-use Rattle.zr_id.specs.Zid.{is_named}
+use Rattle.std.specs.Ordering.{nat_cmp}
+use Rattle.zr_lists.specs.Ascending.{put, without}
+use Rattle.zr_id.specs.Record.{LinkedState, RecordState}
 use Rattle.zr_id.specs.declared.link.LinkNo.{LinkNo}
 use Rattle.zr_graph.specs.Record.{record_of}
 use Rattle.zr_graph.specs.Base.{BaseState, own_seq, is_newer, after_record, relinked}
@@ -16,7 +18,7 @@ use Rattle.zr_msg.specs.declared.error.NodeError.{NodeError}
 use Rattle.zr_msg.specs.declared.error.NodeError.TheVariants as e
 use Rattle.zr_msg.specs.declared.event.Event.{Event}
 use Rattle.zr_msg.specs.declared.event.Event.TheVariants.{Up, Down, From}
-use Rattle.zr_msg.specs.declared.peer.Peer.{Peer}
+use Rattle.zr_msg.specs.Peer.{PeerState}
 use Rattle.zr_msg.specs.declared.peer.LinkPeer.{LinkPeer}
 use Rattle.zr_msg.specs.declared.peer.Role.{Role}
 use Rattle.zr_msg.specs.declared.peer.Role.TheVariants.{Client, Router}
@@ -47,32 +49,36 @@ use Rattle.zr_node_spec.specs.State.{NodeState, new_link, tables, local_state}
 abbrev pub most_links : ℕ
 most_links = 65535
 
--- identifiers in ascending order with one more among them, and without one
-abbrev pub with_name : List (List ℕ) → List ℕ → List (List ℕ)
-with_name names id = filter (λ y. is_before y id) names ++ id ∷ filter (λ y. is_before id y) names
+-- links in ascending order of their routers with one more among them, and without that to a router
+abbrev pub with_linked : List LinkedState → LinkedState → List LinkedState
+with_linked links l = put (slice_cmp nat_cmp) (λ k. k.id) links l
 
-abbrev pub without_name : List (List ℕ) → List ℕ → List (List ℕ)
-without_name names id = filter (λ y. not (is_named y id)) names
+abbrev pub without_linked : List LinkedState → List ℕ → List LinkedState
+without_linked links id = without (slice_cmp nat_cmp) (λ k. k.id) links id
 
--- the routers to which the own record lists links
-abbrev pub own_links : BaseState → List (List ℕ)
+-- the links that the own record lists
+abbrev pub own_links : BaseState → List LinkedState
 own_links b = option_map_or (λ r. r.links) (record_of b.records b.me) []
 
--- the base once a link to a router has come up: the own record has its next number and lists that router
-abbrev pub joined : BaseState → List ℕ → BaseState
-joined b id = relinked b (with_name (own_links b) id)
+-- the own link to a peer, which weighs what the peer's link weighs
+abbrev pub own_link : PeerState → LinkedState
+own_link peer = record { id = peer.id; weight = peer.weight }
+
+-- the base once a link to a router has come up: the own record has its next number and lists that router with the link's weight
+abbrev pub joined : BaseState → LinkedState → BaseState
+joined b l = relinked b (with_linked (own_links b) l)
 
 -- the base once a link to a router has gone down: the own record has its next number and lists that router no more
 abbrev pub parted : BaseState → List ℕ → BaseState
-parted b id = relinked b (without_name (own_links b) id)
+parted b id = relinked b (without_linked (own_links b) id)
 
 -- the base that the Up of a peer leaves: that of a client changes nothing
-abbrev pub base_up : BaseState → Peer → Role → BaseState
+abbrev pub base_up : BaseState → PeerState → Role → BaseState
 base_up b peer Client = b
-base_up b peer Router = joined b peer.id
+base_up b peer Router = joined b (own_link peer)
 
 -- the base that the Down of a link leaves, if the link is up
-abbrev pub base_parted : BaseState → Peer → Role → BaseState
+abbrev pub base_parted : BaseState → PeerState → Role → BaseState
 base_parted b peer Client = b
 base_parted b peer Router = parted b peer.id
 
@@ -162,13 +168,13 @@ abbrev pub sends_own : NodeState → ℕ → BaseState → ℕ → List Msg
 sends_own node from b to = if is_other_router node from to then own_record b else []
 
 -- the Up of a client sends no record; that of a router sends every record to the new link, and the own one to every other router
-abbrev pub sends_up : NodeState → ℕ → Peer → Role → ℕ → List Msg
+abbrev pub sends_up : NodeState → ℕ → PeerState → Role → ℕ → List Msg
 sends_up node link peer Client to = []
 sends_up node link peer Router to =
-    if to == link then all_records (joined node.base peer.id) else sends_own node link (joined node.base peer.id) to
+    if to == link then all_records (joined node.base (own_link peer)) else sends_own node link (joined node.base (own_link peer)) to
 
 -- the Down of a router sends the own record to every other router
-abbrev pub sends_parted : NodeState → ℕ → Peer → Role → ℕ → List Msg
+abbrev pub sends_parted : NodeState → ℕ → PeerState → Role → ℕ → List Msg
 sends_parted node link peer Client to = []
 sends_parted node link peer Router to = sends_own node link (parted node.base peer.id) to
 
@@ -262,7 +268,7 @@ after_from node from (Step source number added decl) = with_known node (known_st
 after_from node from (Snap source number decls) = with_known node (known_snap node from source number decls)
 
 -- the state that the Up of a link leaves
-abbrev pub after_up : NodeState → LinkNo → Peer → NodeState
+abbrev pub after_up : NodeState → LinkNo → PeerState → NodeState
 after_up node link peer =
     record {
       links = with_link node.links (new_link link peer);

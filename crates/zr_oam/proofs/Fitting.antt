@@ -1,7 +1,7 @@
 -- Each message that bytes spell can be written. What is written of a part is no longer than any bytes that spell it, so the content of what is
 -- written has a length that can be told.
 use Rattle.std.proofs.Common.{◌≡◌, ℕ, zero, suc, ◌+◌, ◌-◌, ◌^◌, ◌<◌, ◌≤◌, Bool, true, false, List, [], ◌∷◌, ◌++◌, length, get_or, Option, Some, None, Ok, refl, sym, ap, subst, ◌∙◌, arith, eqb, ltb}
-use Rattle.std.specs.Prelude.{bit_and}
+use Rattle.std.specs.Prelude.{bit_and, ◌&&◌}
 use Rattle.std.specs.List.{AllByRecursion, flat_map, list_all}
 use Rattle.std.specs.Option.{IfSome}
 use Rattle.std.proofs.lemmas.Bool.{ltb-true, lt-ltb}
@@ -13,18 +13,18 @@ use Rattle.zr_bytes.specs.Text.{SpellsText, writes_text}
 use Rattle.zr_bytes.proofs.Numbers.{written_shortest}
 use Rattle.zr_ext.specs.declared.ext.Form.{Form}
 use Rattle.zr_ext.specs.Reading.{form_at}
-use Rattle.zr_format_spec.specs.Format.{Format, gives, fails, unknown, choose, ◌then◌, series, is_whole, byte, number, text}
+use Rattle.zr_format_spec.specs.Format.{Format, gives, fails, unknown, choose, ◌then◌, series, is_whole, byte, number, below, text}
 use Rattle.zr_format_spec.proofs.Spelled.{spelled_allows, spelled_checked}
 use Rattle.zr_format_spec.proofs.Series.{spelled_series}
 use Rattle.zr_id.specs.Zid.{is_zid}
-use Rattle.zr_id.specs.Record.{RecordState, may_follow, are_in_order}
+use Rattle.zr_id.specs.Record.{LinkedState, RecordState, may_follow, are_in_order}
 use Rattle.zr_msg.specs.declared.decl.Decl.{Decl}
 use Rattle.zr_msg.specs.declared.msg.Msg.{Msg}
 use Rattle.zr_msg.specs.declared.msg.Msg.TheVariants.{State, Step, Snap}
-use Rattle.zr_oam.specs.Oam.{zid, kind_of, is_canonical, decl, decl_may_follow, link, next_decl, snapshot, change, declarations, own, state, other, or_bad_text, behind, oam_format}
+use Rattle.zr_oam.specs.Oam.{zid, kind_of, is_canonical, decl, decl_may_follow, last_id, weight, link, next_decl, snapshot, change, declarations, own, state, other, or_bad_text, behind, oam_format}
 use Rattle.zr_oam.specs.Reading.{oam_of}
-use Rattle.zr_oam.proofs.Messages.{follows_oam}
-use Rattle.zr_oam.specs.Writing.{writes_decl, writes_snap, decls_in_order, is_decl, Fits, IsMade, CanBeWritten}
+use Rattle.zr_oam.proofs.Messages.{follows_oam, link_follows}
+use Rattle.zr_oam.specs.Writing.{writes_decl, writes_snap, decls_in_order, is_decl, is_linked, Fits, IsMade, CanBeWritten}
 
 abbrev pub AreBytes : List ℕ → Type 0
 AreBytes bytes = AllByRecursion (λ b. b < 256) bytes
@@ -134,23 +134,39 @@ declarations_hold m content h long s =
     by source n true added bytes named positive b head short total t = snap_holds source n m head bytes named positive b short total t
     by source n false added bytes named positive b head short total t = change_holds source n added m bytes named positive b t
 
-state_holds : (m : Msg) (content : List ℕ) → AreBytes content → length content ≤ 2 ^ 32 - 1 → state.spelled m content → CanBeWritten m
-state_holds m content h long s =
+-- a weight that bytes spell is one
+weight_holds : (weighted : Bool) (w : ℕ) (bytes : List ℕ) → (weight weighted).spelled w bytes → (ltb 0 w && ltb w (2 ^ 16)) ≡ true
+weight_holds true w bytes s =
+    let heavy = spelled_checked (below (2 ^ 16)) (λ w. ltb 0 w) BadText w bytes s in
+    let small : ltb w (2 ^ 16) ≡ true = lt-ltb w (2 ^ 16) heavy.0.0 in
+    rw (heavy.1, small) refl
+weight_holds false w bytes s = ap (λ (n : ℕ). ltb 0 n && ltb n (2 ^ 16)) s.0
+
+link_holds : (weighted : Bool) (own : List ℕ) (last : Option LinkedState) (x : LinkedState) (bytes : List ℕ) → (link weighted own last).spelled x bytes → is_linked x ≡ true
+link_holds weighted own last x bytes s =
+    let named = (link_follows weighted own last x bytes s).1 in
+    let heavy = weight_holds weighted s.5.0 s.5.1 s.5.4 in
+    let weighs : (ltb 0 x.weight && ltb x.weight (2 ^ 16)) ≡ true = ap (λ (l : LinkedState). ltb 0 l.weight && ltb l.weight (2 ^ 16)) s.5.5.0 ∙ heavy in
+    rw (named, weighs) refl
+
+state_holds : (weighted : Bool) (m : Msg) (content : List ℕ) → AreBytes content → length content ≤ 2 ^ 32 - 1 → (state weighted).spelled m content → CanBeWritten m
+state_holds weighted m content h long s =
     let r = s.4 in
     let id = spelled_checked (text 255) is_zid BadText r.0 r.1 r.4 in
     let count = r.5.5 in
     let links = count.5 in
-    let all = spelled_series (link r.0) (λ last xs. (are_in_order r.0 last xs ≡ true) × (list_all is_zid xs ≡ true)) (λ last. (refl, refl)) step None count.0 links.0 links.1 links.4 in
+    let all = spelled_series (link weighted r.0) (λ last xs. (are_in_order r.0 (last_id last) xs ≡ true) × (list_all is_linked xs ≡ true)) (λ last. (refl, refl)) step None count.0 links.0 links.1 links.4 in
     let few : ltb (length links.0) (2 ^ 16) ≡ true = lt-ltb (length links.0) (2 ^ 16) (omega (arith, all.1, count.4.0)) in
     let made : IsMade (State (record { id = r.0; seq = r.5.0; links = links.0 })) = (id.1, rw (few, all.0.0) refl, all.0.1) in
     let same : State s.0 ≡ State (record { id = r.0; seq = r.5.0; links = links.0 }) = ap (λ (x : RecordState). State x) links.5.0 in
     subst CanBeWritten (sym (s.5.0 ∙ same)) (tt, made)
   where
-    step : (last : Option (List ℕ)) (x : List ℕ) (xs : List (List ℕ)) (b : List ℕ) → (link s.4.0 last).spelled x b → (are_in_order s.4.0 (Some x) xs ≡ true) × (list_all is_zid xs ≡ true) → (are_in_order s.4.0 last (x ∷ xs) ≡ true) × (list_all is_zid (x ∷ xs) ≡ true)
+    step : (last : Option LinkedState) (x : LinkedState) (xs : List LinkedState) (b : List ℕ) → (link weighted s.4.0 last).spelled x b → (are_in_order s.4.0 (Some x.id) xs ≡ true) × (list_all is_linked xs ≡ true)
+        → (are_in_order s.4.0 (last_id last) (x ∷ xs) ≡ true) × (list_all is_linked (x ∷ xs) ≡ true)
     step last x xs b t ih =
-        let follows = spelled_checked zid (may_follow s.4.0 last) BadText x b t in
-        let named = (spelled_checked (text 255) is_zid BadText x b follows.0).1 in
-        (rw (follows.1, ih.0) refl, rw (named, ih.1) refl)
+        let follows = (link_follows weighted s.4.0 last x b t).0 in
+        let linked = link_holds weighted s.4.0 last x b t in
+        (rw (follows, ih.0) refl, rw (linked, ih.1) refl)
 
 abbrev Holds : Option Msg → Type 0
 Holds None = Unit {0}
@@ -171,12 +187,14 @@ behind_holds : (header : ℕ) (o : Option Msg) (bytes : List ℕ) → AreBytes b
 behind_holds header o bytes h s =
     let judged = spelled_allows (or_bad_text (form_at (bit_and header 0x60))) _ o bytes s in
     let id = judged.2 in
-    by judged.0 (eqb id.0 0x5A01) (eqb id.0 0x5A02) id.2 (parts bytes id.1 id.2 id.3 h).1 id.5
+    by judged.0 (eqb id.0 0x5A01) (eqb id.0 0x5A03) (eqb id.0 0x5A02) id.2 (parts bytes id.1 id.2 id.3 h).1 id.5
   where
-    by : (form : Form) (record_id entry_id : Bool) (bytes : List ℕ) → AreBytes bytes → (choose record_id (own state header) (choose entry_id (own declarations header) (other header form))).spelled o bytes → Holds o
-    by form true e bytes b t = own_holds state state_holds (eqb header 0x5F) o bytes b t
-    by form false true bytes b t = own_holds declarations declarations_hold (eqb header 0x5F) o bytes b t
-    by form false false bytes b t = other_holds header form o bytes t
+    by : (form : Form) (record_id weighted_id entry_id : Bool) (bytes : List ℕ) → AreBytes bytes
+        → (choose record_id (own (state false) header) (choose weighted_id (own (state true) header) (choose entry_id (own declarations header) (other header form)))).spelled o bytes → Holds o
+    by form true w e bytes b t = own_holds (state false) (state_holds false) (eqb header 0x5F) o bytes b t
+    by form false true e bytes b t = own_holds (state true) (state_holds true) (eqb header 0x5F) o bytes b t
+    by form false false true bytes b t = own_holds declarations declarations_hold (eqb header 0x5F) o bytes b t
+    by form false false false bytes b t = other_holds header form o bytes t
 
 pub spelled_holds : (m : Msg) (bytes : List ℕ) → AreBytes bytes → oam_format.spelled (Some m) bytes → CanBeWritten m
 spelled_holds m bytes h s = by (has_id s.0 0x1F) s.5

@@ -1,5 +1,5 @@
 -- The reader of messages between routers follows their format, put together part by part.
-use Rattle.std.proofs.Common.{◌≡◌, ℕ, ◌-◌, ◌^◌, ◌<◌, Bool, true, List, [], ◌∷◌, Option, Some, None, length, eqb, ltb, Ok, refl, arith}
+use Rattle.std.proofs.Common.{◌≡◌, ℕ, ◌-◌, ◌^◌, ◌<◌, Bool, true, false, List, [], ◌∷◌, Option, Some, None, length, eqb, ltb, Ok, refl, ap, ◌∙◌, arith}
 use Rattle.std.specs.Prelude.{bit_and}
 use Rattle.std.proofs.lemmas.Bool.{lt-ltb}
 use Rattle.zr_bytes.specs.declared.read_error.ReadError.TheVariants.{BadText}
@@ -15,12 +15,12 @@ use Rattle.zr_format_spec.proofs.Follows.{Follows, follows_gives, follows_fails,
 use Rattle.zr_format_spec.proofs.Spelled.{spelled_checked}
 use Rattle.zr_format_spec.proofs.Series.{spelled_series}
 use Rattle.zr_id.specs.Zid.{is_zid}
-use Rattle.zr_id.specs.Record.{may_follow, are_in_order, are_links}
+use Rattle.zr_id.specs.Record.{LinkedState, may_follow, are_in_order, are_links}
 use Rattle.zr_msg.specs.declared.decl.Decl.{Decl}
 use Rattle.zr_msg.specs.declared.msg.Msg.{Msg}
 use Rattle.zr_msg.specs.declared.msg.Msg.TheVariants.{State, Step, Snap}
-use Rattle.zr_oam.specs.Oam.{zid, kind_of, is_canonical, decl, decl_may_follow, link, record_format, next_decl, snapshot, change, declarations, own, state, other, or_bad_text, behind, oam_format}
-use Rattle.zr_oam.specs.Reading.{zid_of, key_of, decl_of, link_of, record_of, state_of, next_decl_of, snapshot_of, change_of, form_of, entry_number_of, declarations_of, own_of, other_of, behind_of, oam_of}
+use Rattle.zr_oam.specs.Oam.{zid, kind_of, is_canonical, decl, decl_may_follow, last_id, weight, link, record_format, next_decl, snapshot, change, declarations, own, state, other, or_bad_text, behind, oam_format}
+use Rattle.zr_oam.specs.Reading.{zid_of, key_of, decl_of, weight_of, neighbour_of, link_of, record_of, state_of, next_decl_of, snapshot_of, change_of, form_of, entry_number_of, declarations_of, own_of, other_of, behind_of, oam_of}
 
 follows_zid : Follows anywhere zid zid_of
 unfolding zid_of
@@ -38,22 +38,34 @@ follows_decl =
     follows_then anywhere _ _ key_of _ follows_key (λ key.
     follows_gives anywhere (record { kind = kind; key = key }) (λ rest. tt))))
 
-follows_link : (own : List ℕ) (last : Option (List ℕ)) → Follows anywhere (link own last) (link_of own last)
-unfolding link_of
-follows_link own last = follows_checked zid zid_of (may_follow own last) BadText follows_zid
+follows_weight : (weighted : Bool) → Follows anywhere (weight weighted) (weight_of weighted)
+unfolding weight_of
+follows_weight weighted =
+    follows_choose anywhere weighted _ _ _ _ (follows_checked (below (2 ^ 16)) (number_below (2 ^ 16)) (λ w. ltb 0 w) BadText (follows_below (2 ^ 16))) (follows_gives anywhere 1 (λ rest. tt))
 
-follows_record : Follows anywhere record_format record_of
+follows_neighbour : (own : List ℕ) (last : Option LinkedState) → Follows anywhere (checked zid (may_follow own (last_id last)) BadText) (neighbour_of own last)
+unfolding neighbour_of
+follows_neighbour own last = follows_checked zid zid_of (may_follow own (last_id last)) BadText follows_zid
+
+follows_link : (weighted : Bool) (own : List ℕ) (last : Option LinkedState) → Follows anywhere (link weighted own last) (link_of weighted own last)
+unfolding link_of
+follows_link weighted own last =
+    follows_then anywhere _ _ (neighbour_of own last) _ (follows_neighbour own last) (λ id.
+    follows_then anywhere (weight weighted) _ (weight_of weighted) _ (follows_weight weighted) (λ w.
+    follows_gives anywhere (record { id = id; weight = w }) (λ rest. tt)))
+
+follows_record : (weighted : Bool) → Follows anywhere (record_format weighted) (record_of weighted)
 unfolding record_of
-follows_record =
+follows_record weighted =
     follows_then anywhere zid _ zid_of _ follows_zid (λ id.
     follows_then anywhere number _ number_of _ follows_number (λ seq.
     follows_then anywhere (below (2 ^ 16)) _ (number_below (2 ^ 16)) _ (follows_below (2 ^ 16)) (λ count.
-    follows_then anywhere (series (link id) None count) _ (series_of (link_of id) None count) _ (follows_series (link id) (link_of id) (follows_link id) None count) (λ links.
+    follows_then anywhere (series (link weighted id) None count) _ (series_of (link_of weighted id) None count) _ (follows_series (link weighted id) (link_of weighted id) (follows_link weighted id) None count) (λ links.
     follows_gives anywhere (record { id = id; seq = seq; links = links }) (λ rest. tt)))))
 
-follows_state : Follows anywhere state state_of
+follows_state : (weighted : Bool) → Follows anywhere (state weighted) (state_of weighted)
 unfolding state_of
-follows_state = follows_then anywhere record_format _ record_of _ follows_record (λ r. follows_gives anywhere (State r) (λ rest. tt))
+follows_state weighted = follows_then anywhere (record_format weighted) _ (record_of weighted) _ (follows_record weighted) (λ r. follows_gives anywhere (State r) (λ rest. tt))
 
 follows_next : (last : Option Decl) → Follows anywhere (next_decl last) (next_decl_of last)
 unfolding next_decl_of
@@ -106,8 +118,9 @@ unfolding behind_of
 follows_behind header =
     follows_allows anywhere (or_bad_text (form_at (bit_and header 0x60))) _ _ (λ form.
     follows_then anywhere (below (2 ^ 16)) _ (number_below (2 ^ 16)) _ (follows_below (2 ^ 16)) (λ id.
-    follows_choose anywhere (eqb id 0x5A01) _ _ _ _ (follows_own state state_of follows_state header)
-    (follows_choose anywhere (eqb id 0x5A02) _ _ _ _ (follows_own declarations declarations_of follows_declarations header) (follows_other header form))))
+    follows_choose anywhere (eqb id 0x5A01) _ _ _ _ (follows_own (state false) (state_of false) (follows_state false) header)
+    (follows_choose anywhere (eqb id 0x5A03) _ _ _ _ (follows_own (state true) (state_of true) (follows_state true) header)
+    (follows_choose anywhere (eqb id 0x5A02) _ _ _ _ (follows_own declarations declarations_of follows_declarations header) (follows_other header form)))))
 
 pub follows_oam : Follows anywhere oam_format oam_of
 unfolding oam_of
@@ -117,12 +130,22 @@ follows_oam =
 
 -- ---- what was read is in order
 
-pub links_are_links : (own : List ℕ) (count : ℕ) (bytes rest : List ℕ) (ids : List (List ℕ)) → count < 2 ^ 16 → series_of (link_of own) None count bytes ≡ Ok (ids, rest) → are_links own ids ≡ true
-links_are_links own count bytes rest ids small read =
-    let begins = ((follows_series (link own) (link_of own) (follows_link own) None count).found bytes rest ids read).0 in
-    let ordered = spelled_series (link own) (λ last xs. are_in_order own last xs ≡ true) (λ last. refl) step None count ids begins.0 begins.1 in
-    let few : ltb (length ids) (2 ^ 16) ≡ true = lt-ltb (length ids) (2 ^ 16) (omega (arith, ordered.1)) in
+-- the router of a link that bytes spell may stand there, and is an identifier
+pub link_follows : (weighted : Bool) (own : List ℕ) (last : Option LinkedState) (link' : LinkedState) (bytes : List ℕ) → (link weighted own last).spelled link' bytes
+    → (may_follow own (last_id last) link'.id ≡ true) × (is_zid link'.id ≡ true)
+link_follows weighted own last link' bytes s =
+    let id = spelled_checked zid (may_follow own (last_id last)) BadText s.0 s.1 s.4 in
+    let named = (spelled_checked (text 255) is_zid BadText s.0 s.1 id.0).1 in
+    let same : link'.id ≡ s.0 = ap (λ (x : LinkedState). x.id) s.5.5.0 in
+    (ap (may_follow own (last_id last)) same ∙ id.1, ap is_zid same ∙ named)
+
+pub links_are_links : (weighted : Bool) (own : List ℕ) (count : ℕ) (bytes rest : List ℕ) (links : List LinkedState) → count < 2 ^ 16 → series_of (link_of weighted own) None count bytes ≡ Ok (links, rest)
+    → are_links own links ≡ true
+links_are_links weighted own count bytes rest links small read =
+    let begins = ((follows_series (link weighted own) (link_of weighted own) (follows_link weighted own) None count).found bytes rest links read).0 in
+    let ordered = spelled_series (link weighted own) (λ last xs. are_in_order own (last_id last) xs ≡ true) (λ last. refl) step None count links begins.0 begins.1 in
+    let few : ltb (length links) (2 ^ 16) ≡ true = lt-ltb (length links) (2 ^ 16) (omega (arith, ordered.1)) in
     rw (few, ordered.0) refl
   where
-    step : (last : Option (List ℕ)) (x : List ℕ) (xs : List (List ℕ)) (b : List ℕ) → (link own last).spelled x b → are_in_order own (Some x) xs ≡ true → are_in_order own last (x ∷ xs) ≡ true
-    step last x xs b s ih = let follows = (spelled_checked zid (may_follow own last) BadText x b s).1 in rw (follows, ih) refl
+    step : (last : Option LinkedState) (x : LinkedState) (xs : List LinkedState) (b : List ℕ) → (link weighted own last).spelled x b → are_in_order own (Some x.id) xs ≡ true → are_in_order own (last_id last) (x ∷ xs) ≡ true
+    step last x xs b s ih = let follows = (link_follows weighted own last x b s).0 in rw (follows, ih) refl

@@ -1,24 +1,25 @@
 -- What is written spells the message.
 use Rattle.std.proofs.Common.{◌≡◌, ℕ, ◌+◌, ◌-◌, ◌*◌, ◌^◌, ◌<◌, ◌≤◌, Bool, true, false, List, [], ◌∷◌, ◌++◌, length, Option, Some, None, Ok, refl, sym, ap, arith, append_assoc, ltb, eqb}
 use Rattle.std.specs.List.{flat_map, list_all}
-use Rattle.std.proofs.lemmas.Bool.{and_parts, lt-ltb, ltb-true}
+use Rattle.std.specs.Prelude.{◌&&◌, ◌||◌, ◌==◌, if◌then◌else◌}
+use Rattle.std.proofs.lemmas.Bool.{and_parts, lt-ltb, ltb-true, eqb-true}
 use Rattle.std.proofs.lemmas.List.{append-nil, length-append}
 use Rattle.zr_bytes.specs.declared.read_error.ReadError.TheVariants.{BadText}
 use Rattle.zr_bytes.specs.Number.{writes}
 use Rattle.zr_bytes.specs.Text.{writes_text}
 use Rattle.zr_bytes.proofs.Numbers.{written_spells, written_long}
-use Rattle.zr_format_spec.specs.Format.{Format, gives, choose, ◌then◌, checked, series, byte, number, text}
+use Rattle.zr_format_spec.specs.Format.{Format, gives, choose, ◌then◌, checked, series, byte, number, below, text}
 use Rattle.zr_format_spec.proofs.Spelled.{checked_spelled, allows_spelled}
 use Rattle.zr_format_spec.proofs.Series.{series_spelled}
 use Rattle.zr_id.specs.Zid.{is_zid}
-use Rattle.zr_id.specs.Record.{RecordState, may_follow, are_in_order, are_links}
+use Rattle.zr_id.specs.Record.{LinkedState, RecordState, may_follow, are_in_order, are_links}
 use Rattle.zr_msg.specs.declared.decl.Decl.{Decl}
 use Rattle.zr_msg.specs.declared.decl.Kind.{Kind}
 use Rattle.zr_msg.specs.declared.decl.Kind.TheVariants as kind
 use Rattle.zr_msg.specs.declared.msg.Msg.{Msg}
 use Rattle.zr_msg.specs.declared.msg.Msg.TheVariants.{Sub, Unsub, Able, Unable, Interest, EndInterest, ToldSub, ToldAble, ToldUnsub, ToldUnable, ToldEnd, Push, Request, Response, Final, State, Step, Snap}
-use Rattle.zr_oam.specs.Oam.{zid, kind_byte, kind_of, is_canonical, decl, decl_may_follow, link, record_format, next_decl, snapshot, change, declarations, own, state, oam_format}
-use Rattle.zr_oam.specs.Writing.{writes_decl, writes_record, writes_head, writes_step, writes_snap, writes_own, writes_oam, decls_in_order, is_decl, Fits, IsMade, CanBeWritten}
+use Rattle.zr_oam.specs.Oam.{zid, kind_byte, kind_of, is_canonical, decl, decl_may_follow, last_id, weight, link, record_format, next_decl, snapshot, change, declarations, own, state, oam_format}
+use Rattle.zr_oam.specs.Writing.{writes_decl, writes_linked, writes_record, weigh_one, is_linked, writes_head, writes_step, writes_snap, writes_own, writes_oam, decls_in_order, is_decl, Fits, IsMade, CanBeWritten}
 use Rattle.zr_oam.proofs.Keys.{zid_small, key_small}
 
 text_spelled : (limit : ℕ) (t : List ℕ) → length t ≤ limit → (text limit).spelled t (writes_text t)
@@ -42,21 +43,41 @@ decl_spelled d canonical =
 
 -- ---- the content of each
 
-links_spelled : (id : List ℕ) (links : List (List ℕ)) → are_links id links ≡ true → list_all is_zid links ≡ true → (series (link id) None (length links)).spelled links (flat_map (λ x. writes_text x) links)
-links_spelled id links ordered named =
-    let both = and_parts (ltb (length links) (2 ^ 16)) (are_in_order id None links) ordered in
-    series_spelled (link id) (λ x. writes_text x) (λ last xs. (are_in_order id last xs ≡ true) × (list_all is_zid xs ≡ true)) each None links (length links) refl (both.1, named)
-  where
-    each : (last : Option (List ℕ)) (x : List ℕ) (xs : List (List ℕ)) → (are_in_order id last (x ∷ xs) ≡ true) × (list_all is_zid (x ∷ xs) ≡ true) → (link id last).spelled x (writes_text x) × ((are_in_order id (Some x) xs ≡ true) × (list_all is_zid xs ≡ true))
-    each last x xs g =
-        let order = and_parts (may_follow id last x) (are_in_order id (Some x) xs) g.0 in
-        let names = and_parts (is_zid x) (list_all is_zid xs) g.1 in
-        (checked_spelled zid (may_follow id last) BadText x (writes_text x) (zid_spelled x names.0) order.0, (order.1, names.1))
+-- whether a record of this form tells the weight of a link
+abbrev tells : Bool → LinkedState → Bool
+tells weighted x = weighted || x.weight == 1
 
-record_spelled : (r : RecordState) → is_zid r.id ≡ true → are_links r.id r.links ≡ true → list_all is_zid r.links ≡ true → record_format.spelled r (writes_record r)
-record_spelled r named ordered links =
+weight_spelled : (weighted : Bool) (w : ℕ) → (ltb 0 w && ltb w (2 ^ 16)) ≡ true → (weighted || w == 1) ≡ true → (weight weighted).spelled w (if weighted then writes w else [])
+weight_spelled true w heavy told =
+    let both = and_parts (ltb 0 w) (ltb w (2 ^ 16)) heavy in
+    checked_spelled (below (2 ^ 16)) (λ k. ltb 0 k) BadText w (writes w) (ltb-true w (2 ^ 16) both.1, written_spells 8 w) both.0
+weight_spelled false w heavy told = (eqb-true w 1 told, refl)
+
+abbrev LinksGo : Bool → List ℕ → Option LinkedState → List LinkedState → Type 0
+LinksGo weighted id last xs = (are_in_order id (last_id last) xs ≡ true) × (list_all is_linked xs ≡ true) × (list_all (tells weighted) xs ≡ true)
+
+links_spelled : (weighted : Bool) (id : List ℕ) (links : List LinkedState) → are_links id links ≡ true → list_all is_linked links ≡ true → list_all (tells weighted) links ≡ true
+    → (series (link weighted id) None (length links)).spelled links (flat_map (λ x. writes_linked weighted x) links)
+links_spelled weighted id links ordered made told =
+    let both = and_parts (ltb (length links) (2 ^ 16)) (are_in_order id None links) ordered in
+    series_spelled (link weighted id) (λ x. writes_linked weighted x) (LinksGo weighted id) each None links (length links) refl (both.1, made, told)
+  where
+    each : (last : Option LinkedState) (x : LinkedState) (xs : List LinkedState) → LinksGo weighted id last (x ∷ xs) → (link weighted id last).spelled x (writes_linked weighted x) × LinksGo weighted id (Some x) xs
+    each last x xs g =
+        let order = and_parts (may_follow id (last_id last) x.id) (are_in_order id (Some x.id) xs) g.0 in
+        let these = and_parts (is_linked x) (list_all is_linked xs) g.1 in
+        let parts = and_parts (is_zid x.id) (ltb 0 x.weight && ltb x.weight (2 ^ 16)) these.0 in
+        let tell = and_parts (tells weighted x) (list_all (tells weighted) xs) g.2 in
+        let front = checked_spelled zid (may_follow id (last_id last)) BadText x.id (writes_text x.id) (zid_spelled x.id parts.0) order.0 in
+        let tail : List ℕ = if weighted then writes x.weight else [] in
+        let weighs = weight_spelled weighted x.weight parts.1 tell.0 in
+        ((x.id, writes_text x.id, tail, refl, front, (x.weight, tail, [], sym (append-nil tail), weighs, (refl, refl))), (order.1, these.1, tell.1))
+
+record_spelled : (weighted : Bool) (r : RecordState) → is_zid r.id ≡ true → are_links r.id r.links ≡ true → list_all is_linked r.links ≡ true → list_all (tells weighted) r.links ≡ true
+    → (record_format weighted).spelled r (writes_record weighted r)
+record_spelled weighted r named ordered links told =
     let few : length r.links < 2 ^ 16 = ltb-true (length r.links) (2 ^ 16) ((and_parts (ltb (length r.links) (2 ^ 16)) (are_in_order r.id None r.links) ordered).0) in
-    let ids : List ℕ = flat_map (λ x. writes_text x) r.links in
+    let ids : List ℕ = flat_map (λ x. writes_linked weighted x) r.links in
     let counted : List ℕ = writes (length r.links) ++ ids in (
       r.id,
       writes_text r.id,
@@ -75,13 +96,15 @@ record_spelled r named ordered links =
           ids,
           refl,
           (few, written_spells 8 (length r.links)),
-          (r.links, ids, [], sym (append-nil ids), links_spelled r.id r.links ordered links, (refl, refl)),
+          (r.links, ids, [], sym (append-nil ids), links_spelled weighted r.id r.links ordered links told, (refl, refl)),
         ),
       ),
     )
 
-state_spelled : (r : RecordState) → IsMade (State r) → state.spelled (State r) (writes_record r)
-state_spelled r made = (r, writes_record r, [], sym (append-nil (writes_record r)), record_spelled r made.0 made.1 made.2, (refl, refl))
+state_spelled : (weighted : Bool) (r : RecordState) → IsMade (State r) → list_all (tells weighted) r.links ≡ true → (state weighted).spelled (State r) (writes_record weighted r)
+state_spelled weighted r made told =
+    let bytes : List ℕ = writes_record weighted r in
+    (r, bytes, [], sym (append-nil bytes), record_spelled weighted r made.0 made.1 made.2 told, (refl, refl))
 
 -- ---- entries
 
@@ -131,17 +154,27 @@ snap_spelled source n decls positive few ordered made =
 text_long : (t : List ℕ) → length (writes_text t) ≤ length t + 9
 text_long t = omega (arith, length-append (writes (length t)) t, written_long 8 (length t))
 
-ids_long : (ids : List (List ℕ)) → list_all is_zid ids ≡ true → length (flat_map (λ x. writes_text x) ids) ≤ 264 * length ids
-ids_long [] named = omega arith
-ids_long (id ∷ ids) named =
-    let both = and_parts (is_zid id) (list_all is_zid ids) named in
-    omega (arith, length-append (writes_text id) (flat_map (λ x. writes_text x) ids), text_long id, zid_small id both.0, ids_long ids both.1)
+weight_long : (weighted : Bool) (w : ℕ) → length (if weighted then writes w else []) ≤ 9
+weight_long true w = written_long 8 w
+weight_long false w = omega arith
 
-record_long : (r : RecordState) → IsMade (State r) → length (writes_record r) ≤ 2 ^ 32 - 1
-record_long r made =
+linked_long : (weighted : Bool) (x : LinkedState) → is_linked x ≡ true → length (writes_linked weighted x) ≤ 273
+linked_long weighted x made =
+    let named = (and_parts (is_zid x.id) (ltb 0 x.weight && ltb x.weight (2 ^ 16)) made).0 in
+    let tail : List ℕ = if weighted then writes x.weight else [] in
+    omega (arith, length-append (writes_text x.id) tail, text_long x.id, zid_small x.id named, weight_long weighted x.weight)
+
+links_long : (weighted : Bool) (links : List LinkedState) → list_all is_linked links ≡ true → length (flat_map (λ x. writes_linked weighted x) links) ≤ 273 * length links
+links_long weighted [] made = omega arith
+links_long weighted (x ∷ links) made =
+    let both = and_parts (is_linked x) (list_all is_linked links) made in
+    omega (arith, length-append (writes_linked weighted x) (flat_map (λ x. writes_linked weighted x) links), linked_long weighted x both.0, links_long weighted links both.1)
+
+record_long : (weighted : Bool) (r : RecordState) → IsMade (State r) → length (writes_record weighted r) ≤ 2 ^ 32 - 1
+record_long weighted r made =
     let few : length r.links < 2 ^ 16 = ltb-true (length r.links) (2 ^ 16) ((and_parts (ltb (length r.links) (2 ^ 16)) (are_in_order r.id None r.links) made.1).0) in
-    let ids : List ℕ = flat_map (λ x. writes_text x) r.links in
-    let long : length ids ≤ 264 * length r.links = ids_long r.links made.2 in
+    let ids : List ℕ = flat_map (λ x. writes_linked weighted x) r.links in
+    let long : length ids ≤ 273 * length r.links = links_long weighted r.links made.2 in
     omega (
       arith,
       length-append (writes_text r.id) (writes r.seq ++ (writes (length r.links) ++ ids)),
@@ -165,14 +198,28 @@ step_long source n added d made =
 own_spelled : (message : Format Msg) (m : Msg) (text : List ℕ) → length text ≤ 2 ^ 32 - 1 → message.spelled m text → (own message 0x5F).spelled (Some m) (writes_text text)
 own_spelled message m text le s = (text, writes_text text, [], sym (append-nil (writes_text text)), text_spelled (2 ^ 32 - 1) text le, (m, [], [], refl, (s, refl), (refl, refl)))
 
-record_message : (m : Msg) (text : List ℕ) → (own state 0x5F).spelled (Some m) (writes_text text) → oam_format.spelled (Some m) (writes_own 0x5A01 text)
+record_message : (m : Msg) (text : List ℕ) → (own (state false) 0x5F).spelled (Some m) (writes_text text) → oam_format.spelled (Some m) (writes_own 0x5A01 text)
 record_message m text s = (0x5F, 0x5F ∷ [], writes 0x5A01 ++ writes_text text, refl, refl, (0x5A01, writes 0x5A01, writes_text text, refl, (omega arith, written_spells 8 0x5A01), s))
+
+weighted_message : (m : Msg) (text : List ℕ) → (own (state true) 0x5F).spelled (Some m) (writes_text text) → oam_format.spelled (Some m) (writes_own 0x5A03 text)
+weighted_message m text s = (0x5F, 0x5F ∷ [], writes 0x5A03 ++ writes_text text, refl, refl, (0x5A03, writes 0x5A03, writes_text text, refl, (omega arith, written_spells 8 0x5A03), s))
 
 entry_message : (m : Msg) (text : List ℕ) → (own declarations 0x5F).spelled (Some m) (writes_text text) → oam_format.spelled (Some m) (writes_own 0x5A02 text)
 entry_message m text s = (0x5F, 0x5F ∷ [], writes 0x5A02 ++ writes_text text, refl, refl, (0x5A02, writes 0x5A02, writes_text text, refl, (omega arith, written_spells 8 0x5A02), s))
 
+each_told : (links : List LinkedState) → list_all (tells true) links ≡ true
+each_told [] = refl
+each_told (x ∷ links) = each_told links
+
+record_said : (r : RecordState) (one : Bool) → IsMade (State r) → weigh_one r.links ≡ one
+    → oam_format.spelled (Some (State r)) (if one then writes_own 0x5A01 (writes_record false r) else writes_own 0x5A03 (writes_record true r))
+record_said r true made each =
+    record_message (State r) (writes_record false r) (own_spelled (state false) (State r) (writes_record false r) (record_long false r made) (state_spelled false r made each))
+record_said r false made each =
+    weighted_message (State r) (writes_record true r) (own_spelled (state true) (State r) (writes_record true r) (record_long true r made) (state_spelled true r made (each_told r.links)))
+
 said : (m : Msg) → Fits m → IsMade m → oam_format.spelled (Some m) (writes_oam m)
-said (State r) fits made = record_message (State r) (writes_record r) (own_spelled state (State r) (writes_record r) (record_long r made) (state_spelled r made))
+said (State r) fits made = record_said r (weigh_one r.links) made refl
 said (Step source n added d) fits made =
     entry_message (Step source n added d) (writes_step source n added d) (own_spelled declarations (Step source n added d) (writes_step source n added d) (step_long source n added d made) (step_spelled source n added d fits made))
 said (Snap source n decls) fits made =

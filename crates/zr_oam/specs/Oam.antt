@@ -1,5 +1,5 @@
 -- Messages between routers, this project's own. Each is an OAM message of the Zenoh protocol 1.0 ("OAM"): a header with the id 1F and
--- the form of the content at 0x60, the OAM id, extensions, the content. The project's two have header 5F: content of bytes, no extension.
+-- the form of the content at 0x60, the OAM id, extensions, the content. The project's three have header 5F: content of bytes, no extension.
 use Rattle.std.specs.Prelude.{ℕ, ◌-◌, ◌^◌, Bool, true, false, ◌==◌, ◌&&◌, ◌||◌, nat_lt, nat_eq, List, [], Option, Some, None, Result, Ok, Err, if◌then◌else◌, bit_and}
 use Rattle.std.specs.Cmp.Lexicographic.{pointwise, slice_cmp}
 use Rattle.std.specs.Ordering.{is_lt, nat_cmp}
@@ -10,7 +10,7 @@ use Rattle.zr_ext.specs.declared.ext.Form.{Form}
 use Rattle.zr_ext.specs.Reading.{form_at}
 use Rattle.zr_format_spec.specs.Format.{Format, gives, fails, unknown, choose, ◌then◌, ◌allows◌, checked, passed, series, is_whole, byte, number, below, text, content, extensions}
 use Rattle.zr_id.specs.Zid.{is_zid}
-use Rattle.zr_id.specs.Record.{RecordState, may_follow}
+use Rattle.zr_id.specs.Record.{LinkedState, RecordState, may_follow}
 use Rattle.zr_key.specs.declared.key.KeyError.{KeyError}
 use Rattle.zr_key.specs.Key.{read_key}
 use Rattle.zr_msg.specs.declared.decl.Decl.{Decl}
@@ -57,13 +57,22 @@ decl_may_follow (Some last) d = decl_before last d
 
 -- ---- messages
 
--- A record: the router, its number, and a count of links with the links, strictly ascending and without the router itself.
-abbrev pub link : List ℕ → Option (List ℕ) → Format (List ℕ)
-link own last = checked zid (may_follow own last) BadText
+-- A record: the router, its number, and a count of links with the links, strictly ascending and without the router itself. In a weighted
+-- record the weight stands behind each link, from 1 to 65,535. In the other one nothing stands there, and each link weighs 1.
+abbrev pub weight : Bool → Format ℕ
+weight weighted = choose weighted (checked (below (2 ^ 16)) (λ w. nat_lt 0 w) BadText) (gives 1)
 
-abbrev pub record_format : Format RecordState
-record_format =
-    zid then λ id. number then λ seq. below (2 ^ 16) then λ count. series (link id) None count then λ links.
+-- the router to which the link before leads, if there is one
+abbrev pub last_id : Option LinkedState → Option (List ℕ)
+last_id None = None
+last_id (Some last) = Some last.id
+
+abbrev pub link : Bool → List ℕ → Option LinkedState → Format LinkedState
+link weighted own last = checked zid (may_follow own (last_id last)) BadText then λ id. weight weighted then λ w. gives (record { id = id; weight = w })
+
+abbrev pub record_format : Bool → Format RecordState
+record_format weighted =
+    zid then λ id. number then λ seq. below (2 ^ 16) then λ count. series (link weighted id) None count then λ links.
     gives (record { id = id; seq = seq; links = links })
 
 -- Declarations: a form, the source, a number from 1 on. Then for form 0, a snapshot, a count of declarations with the declarations, strictly
@@ -87,8 +96,8 @@ abbrev pub own : Format Msg → ℕ → Format (Option Msg)
 own message header =
     choose (header == 0x5F) (text (2 ^ 32 - 1) then λ content. is_whole message content then λ m. gives (Some m)) (fails BadText)
 
-abbrev pub state : Format Msg
-state = record_format then λ r. gives (State r)
+abbrev pub state : Bool → Format Msg
+state weighted = record_format weighted then λ r. gives (State r)
 
 -- any other is read and ignored
 abbrev pub other : ℕ → Form → Format (Option Msg)
@@ -99,11 +108,12 @@ abbrev pub or_bad_text : Option Form → Result Form ReadError
 or_bad_text None = Err BadText
 or_bad_text (Some form) = Ok form
 
--- what follows a header; 0x5A01 is the id of records, and 0x5A02 that of declarations
+-- what follows a header; 0x5A01 is the id of records, 0x5A03 that of weighted ones, and 0x5A02 that of declarations
 abbrev pub behind : ℕ → Format (Option Msg)
 behind header =
     or_bad_text (form_at (bit_and header 0x60)) allows λ form. below (2 ^ 16) then λ id.
-    choose (id == 0x5A01) (own state header) (choose (id == 0x5A02) (own declarations header) (other header form))
+    choose (id == 0x5A01) (own (state false) header)
+    (choose (id == 0x5A03) (own (state true) header) (choose (id == 0x5A02) (own declarations header) (other header form)))
 
 -- An OAM message: one of the project's own, or nothing.
 abbrev pub oam_format : Format (Option Msg)

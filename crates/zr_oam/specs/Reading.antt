@@ -1,5 +1,5 @@
 -- What reading an OAM message answers, as a function of the bytes that are left. `Laws` ties it to the format.
-use Rattle.std.specs.Prelude.{ℕ, ◌-◌, ◌^◌, Bool, ◌==◌, nat_lt, List, [], Option, Some, None, Ok, Err, if◌then◌else◌, bit_and}
+use Rattle.std.specs.Prelude.{ℕ, ◌-◌, ◌^◌, Bool, true, false, ◌==◌, nat_lt, List, [], Option, Some, None, Ok, Err, if◌then◌else◌, bit_and}
 use Rattle.zr_bytes.specs.declared.read_error.ReadError.TheVariants.{UnknownId, BadText}
 use Rattle.zr_bytes.specs.Flag.{has_id}
 use Rattle.zr_bytes.specs.Reading.{◌>>=◌, byte_of, number_of, number_below, text_of}
@@ -8,11 +8,11 @@ use Rattle.zr_ext.specs.Reading.{form_at, content_of}
 use Rattle.zr_ext.specs.Finding.{without_value}
 use Rattle.zr_format_spec.specs.Reading.{Reader, checked_of, series_of, whole_of, exts_of}
 use Rattle.zr_id.specs.Zid.{is_zid}
-use Rattle.zr_id.specs.Record.{RecordState, may_follow}
+use Rattle.zr_id.specs.Record.{LinkedState, RecordState, may_follow}
 use Rattle.zr_msg.specs.declared.decl.Decl.{Decl}
 use Rattle.zr_msg.specs.declared.msg.Msg.{Msg}
 use Rattle.zr_msg.specs.declared.msg.Msg.TheVariants.{State, Step, Snap}
-use Rattle.zr_oam.specs.Oam.{kind_of, is_canonical, decl_may_follow, or_bad_text}
+use Rattle.zr_oam.specs.Oam.{kind_of, is_canonical, decl_may_follow, last_id, or_bad_text}
 
 unfoldable pub zid_of : Reader (List ℕ)
 zid_of bytes = checked_of (text_of 255) is_zid BadText bytes
@@ -27,20 +27,29 @@ decl_of bytes = do
   key ← key_of b.1
   Ok (record { kind = kind; key = key.0 }, key.1)
 
-unfoldable pub link_of : List ℕ → Option (List ℕ) → Reader (List ℕ)
-link_of own last bytes = checked_of zid_of (may_follow own last) BadText bytes
+unfoldable pub weight_of : Bool → Reader ℕ
+weight_of weighted bytes = if weighted then checked_of (number_below (2 ^ 16)) (λ w. nat_lt 0 w) BadText bytes else Ok (1, bytes)
 
-unfoldable pub record_of : Reader RecordState
-record_of bytes = do
+unfoldable pub neighbour_of : List ℕ → Option LinkedState → Reader (List ℕ)
+neighbour_of own last bytes = checked_of zid_of (may_follow own (last_id last)) BadText bytes
+
+unfoldable pub link_of : Bool → List ℕ → Option LinkedState → Reader LinkedState
+link_of weighted own last bytes = do
+  id ← neighbour_of own last bytes
+  w ← weight_of weighted id.1
+  Ok (record { id = id.0; weight = w.0 }, w.1)
+
+unfoldable pub record_of : Bool → Reader RecordState
+record_of weighted bytes = do
   id ← zid_of bytes
   seq ← number_of id.1
   count ← number_below (2 ^ 16) seq.1
-  links ← series_of (link_of id.0) None count.0 count.1
+  links ← series_of (link_of weighted id.0) None count.0 count.1
   Ok (record { id = id.0; seq = seq.0; links = links.0 }, links.1)
 
-unfoldable pub state_of : Reader Msg
-state_of bytes = do
-  r ← record_of bytes
+unfoldable pub state_of : Bool → Reader Msg
+state_of weighted bytes = do
+  r ← record_of weighted bytes
   Ok (State r.0, r.1)
 
 unfoldable pub next_decl_of : Option Decl → Reader Decl
@@ -84,8 +93,9 @@ unfoldable pub behind_of : ℕ → Reader (Option Msg)
 behind_of header bytes = do
   form ← or_bad_text (form_at (bit_and header 0x60))
   id ← number_below (2 ^ 16) bytes
-  if id.0 == 0x5A01 then own_of state_of header id.1
-      else (if id.0 == 0x5A02 then own_of declarations_of header id.1 else other_of header form id.1)
+  if id.0 == 0x5A01 then own_of (state_of false) header id.1
+      else (if id.0 == 0x5A03 then own_of (state_of true) header id.1
+      else (if id.0 == 0x5A02 then own_of declarations_of header id.1 else other_of header form id.1))
 
 unfoldable pub oam_of : Reader (Option Msg)
 oam_of bytes = do

@@ -1,10 +1,10 @@
 -- The one spelling of a message between routers that is written, and which of them have a spelling.
-use Rattle.std.specs.Prelude.{◌≡◌, ℕ, ◌<◌, ◌^◌, Bool, true, ◌&&◌, List, [], ◌∷◌, ◌++◌, length, Option, Some, None, if◌then◌else◌}
+use Rattle.std.specs.Prelude.{◌≡◌, ℕ, ◌<◌, ◌^◌, Bool, true, false, ◌==◌, ◌&&◌, nat_lt, List, [], ◌∷◌, ◌++◌, length, Option, Some, None, if◌then◌else◌}
 use Rattle.std.specs.List.{flat_map, list_all}
 use Rattle.zr_bytes.specs.Number.{writes}
 use Rattle.zr_bytes.specs.Text.{writes_text}
 use Rattle.zr_id.specs.Zid.{is_zid}
-use Rattle.zr_id.specs.Record.{RecordState, are_links}
+use Rattle.zr_id.specs.Record.{LinkedState, RecordState, are_links}
 use Rattle.zr_msg.specs.declared.decl.Decl.{Decl}
 use Rattle.zr_msg.specs.declared.msg.Msg.{Msg}
 use Rattle.zr_msg.specs.declared.msg.Msg.TheVariants.{Sub, Unsub, Able, Unable, Interest, EndInterest, ToldSub, ToldAble, ToldUnsub, ToldUnable, ToldEnd, Push, Request, Response, Final, State, Step, Snap}
@@ -13,8 +13,16 @@ use Rattle.zr_oam.specs.Oam.{kind_byte, is_canonical, decl_may_follow}
 abbrev pub writes_decl : Decl → List ℕ
 writes_decl d = kind_byte d.kind ∷ writes_text d.key
 
-abbrev pub writes_record : RecordState → List ℕ
-writes_record r = writes_text r.id ++ (writes r.seq ++ (writes (length r.links) ++ flat_map (λ id. writes_text id) r.links))
+-- a link, with its weight in a weighted record
+abbrev pub writes_linked : Bool → LinkedState → List ℕ
+writes_linked weighted link = writes_text link.id ++ (if weighted then writes link.weight else [])
+
+abbrev pub writes_record : Bool → RecordState → List ℕ
+writes_record weighted r = writes_text r.id ++ (writes r.seq ++ (writes (length r.links) ++ flat_map (λ link. writes_linked weighted link) r.links))
+
+-- whether each link weighs 1
+abbrev pub weigh_one : List LinkedState → Bool
+weigh_one links = list_all (λ link. link.weight == 1) links
 
 -- the form, the source and the number
 abbrev pub writes_head : ℕ → List ℕ → ℕ → List ℕ
@@ -32,7 +40,7 @@ writes_own id content = 0x5F ∷ (writes id ++ writes_text content)
 
 -- what is written of a message; other messages go elsewhere
 abbrev pub writes_oam : Msg → List ℕ
-writes_oam (State r) = writes_own 0x5A01 (writes_record r)
+writes_oam (State r) = if weigh_one r.links then writes_own 0x5A01 (writes_record false r) else writes_own 0x5A03 (writes_record true r)
 writes_oam (Step source n added d) = writes_own 0x5A02 (writes_step source n added d)
 writes_oam (Snap source n decls) = writes_own 0x5A02 (writes_snap source n decls)
 writes_oam (Sub _ _) = []
@@ -78,12 +86,15 @@ Fits (Request _ _ _ _) = ⊥
 Fits (Response _ _) = ⊥
 Fits (Final _ _) = ⊥
 
--- identifiers, records and canonical keys are such, as their types keep it
+-- identifiers, weights, records and canonical keys are such, as their types keep it
 abbrev pub is_decl : Decl → Bool
 is_decl d = is_canonical d.key
 
+abbrev pub is_linked : LinkedState → Bool
+is_linked link = is_zid link.id && (nat_lt 0 link.weight && nat_lt link.weight (2 ^ 16))
+
 abbrev pub IsMade : Msg → Type 0
-IsMade (State r) = (is_zid r.id ≡ true) × (are_links r.id r.links ≡ true) × (list_all is_zid r.links ≡ true)
+IsMade (State r) = (is_zid r.id ≡ true) × (are_links r.id r.links ≡ true) × (list_all is_linked r.links ≡ true)
 IsMade (Step source n added d) = (is_zid source ≡ true) × (is_decl d ≡ true)
 IsMade (Snap source n decls) = (is_zid source ≡ true) × (list_all is_decl decls ≡ true)
 IsMade (Sub _ _) = Unit {0}

@@ -9,6 +9,8 @@ pub(crate) const OWN: u8 = 0x5F;
 
 /// The OAM id of link records.
 pub(crate) const RECORD: u16 = 0x5A01;
+/// The OAM id of link records with weights.
+pub(crate) const WEIGHTED_RECORD: u16 = 0x5A03;
 /// The OAM id of declarations.
 pub(crate) const DECLARATIONS: u16 = 0x5A02;
 

@@ -11,7 +11,7 @@ ghost use Rattle.zr_oam.specs.Reading.{state_of, declarations_of, own_of, other_
 ghost use Rattle.zr_oam.specs.Writing.{Fits};
 
 use crate::decl::read_declarations;
-use crate::parts::{DECLARATIONS, ENCODING, MOST_CONTENT, OAM, OWN, RECORD};
+use crate::parts::{DECLARATIONS, ENCODING, MOST_CONTENT, OAM, OWN, RECORD, WEIGHTED_RECORD};
 use crate::record::read_record;
 use std::alloc::Global;
 use zr_bytes::{Cursor, ReadError};
@@ -24,7 +24,7 @@ use zr_msg::shared::Shared;
 /// The OAM message at the front (Zenoh protocol 1.0, "OAM"): a record or declarations of a router, or nothing where it is another one, which is
 /// read and ignored. `UnknownId` is for a header of another message, `Extra` for bytes behind the end of a router's content, and `BadText` for
 /// what breaks the rules of these: a header other than 5F, identifiers or declarations that don't ascend, a record that lists its own router, a
-/// number 0, a key that is not canonical. What was read can be written.
+/// weight 0, a number 0, a key that is not canonical. What was read can be written.
 pub fn read_oam(alloc: Global, c: &mut Cursor<'_>) -> Result<Option<Msg>, ReadError>
     ensures value { Keeps (λ m. m) result (oam_of c.old) c.old c.new }
     ensures fits { IfOk result (λ m. IfSome m (λ m. Fits m)) }
@@ -59,7 +59,8 @@ fn behind(alloc: Global, c: &mut Cursor<'_>, header: u8) -> Result<Option<Msg>, 
 {
     let form = form(header)?;
     match c.z16()? {
-        RECORD => read_state(alloc, c, header),
+        RECORD => read_state(alloc, c, header, false),
+        WEIGHTED_RECORD => read_state(alloc, c, header, true),
         DECLARATIONS => read_entries(alloc, c, header),
         _ => read_other(alloc, c, header, form),
     }
@@ -78,14 +79,19 @@ fn form(header: u8) -> Result<Form, ReadError>
 }
 
 #[tactic(auto, unfolding(crate::specs::Reading::own_of))]
-fn read_state(alloc: Global, c: &mut Cursor<'_>, header: u8) -> Result<Option<Msg>, ReadError>
-    ensures { Steps (λ m. m) result (own_of state_of header c.old) c.new }
+fn read_state(
+    alloc: Global,
+    c: &mut Cursor<'_>,
+    header: u8,
+    weighted: bool,
+) -> Result<Option<Msg>, ReadError>
+    ensures { Steps (λ m. m) result (own_of (state_of weighted) header c.old) c.new }
 {
     if header != OWN {
         return Err(ReadError::BadText);
     }
     let content = c.bytes(MOST_CONTENT)?;
-    let msg = whole_state(alloc, content)?;
+    let msg = whole_state(alloc, content, weighted)?;
     Ok(Some(msg))
 }
 
@@ -101,11 +107,11 @@ fn read_entries(alloc: Global, c: &mut Cursor<'_>, header: u8) -> Result<Option<
     Ok(Some(msg))
 }
 
-fn whole_state(alloc: Global, content: &[u8]) -> Result<Msg, ReadError>
-    ensures { Makes (λ m. m) result (whole_of state_of content.now) }
+fn whole_state(alloc: Global, content: &[u8], weighted: bool) -> Result<Msg, ReadError>
+    ensures { Makes (λ m. m) result (whole_of (state_of weighted) content.now) }
 {
     let mut c = Cursor::new(content);
-    let msg = state(alloc, &mut c)?;
+    let msg = state(alloc, &mut c, weighted)?;
     no_more(&c)?;
     Ok(msg)
 }
@@ -129,10 +135,10 @@ fn no_more(c: &Cursor<'_>) -> Result<(), ReadError>
 }
 
 #[tactic(auto, unfolding(crate::specs::Reading::state_of))]
-fn state(alloc: Global, c: &mut Cursor<'_>) -> Result<Msg, ReadError>
-    ensures { Steps (λ m. m) result (state_of c.old) c.new }
+fn state(alloc: Global, c: &mut Cursor<'_>, weighted: bool) -> Result<Msg, ReadError>
+    ensures { Steps (λ m. m) result (state_of weighted c.old) c.new }
 {
-    let record = read_record(alloc, c)?;
+    let record = read_record(alloc, c, weighted)?;
     Ok(Msg::State {
         links: Shared::new(alloc, record)?,
     })

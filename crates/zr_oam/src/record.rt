@@ -1,27 +1,32 @@
 //! Reading a link record.
 
-ghost use Rattle.std.specs.Prelude.{◌≡◌, ◌^◌, None, IfOk, true};
+ghost use Rattle.std.specs.Prelude.{◌≡◌, ◌<◌, ◌^◌, None, IfOk, true};
 ghost use Rattle.zr_bytes.specs.Reading.{Steps};
 ghost use Rattle.zr_format_spec.specs.Reading.{Makes, last_of, series_of, whole_of};
 ghost use Rattle.zr_id.specs.Record.{are_links};
-ghost use Rattle.zr_oam.specs.Reading.{zid_of, link_of, record_of};
+ghost use Rattle.zr_oam.specs.Oam.{last_id};
+ghost use Rattle.zr_oam.specs.Reading.{zid_of, weight_of, neighbour_of, link_of, record_of};
 
 use crate::parts::MOST_ID;
 use std::alloc::Global;
 use zr_bytes::{Cursor, ReadError};
-use zr_id::record::{LinkRecord, may_follow};
+use zr_id::record::{LinkRecord, Linked, may_follow};
 use zr_id::zid::Zid;
 
-/// A record: the router, its number, and a count of links with the links. A link that doesn't come after the one before it, or is the
-/// router itself, is refused where it stands.
+/// A record, weighted or not: the router, its number, and a count of links with the links. A link that doesn't come after the one before
+/// it, or is the router itself, is refused where it stands.
 #[tactic(auto, unfolding(crate::specs::Reading::record_of))]
-pub(crate) fn read_record(alloc: Global, c: &mut Cursor<'_>) -> Result<LinkRecord, ReadError>
-    ensures { Steps (λ r. r) result (record_of c.old) c.new }
+pub(crate) fn read_record(
+    alloc: Global,
+    c: &mut Cursor<'_>,
+    weighted: bool,
+) -> Result<LinkRecord, ReadError>
+    ensures { Steps (λ r. r) result (record_of weighted c.old) c.new }
 {
     let id = read_zid(c)?;
     let seq = c.zint()?;
     let count = c.z16()?;
-    let links = read_links(alloc, c, &id, count)?;
+    let links = read_links(alloc, c, &id, count, weighted)?;
     Ok(LinkRecord::new(id, seq, links))
 }
 
@@ -31,28 +36,69 @@ fn read_links(
     c: &mut Cursor<'_>,
     own: &Zid,
     count: u16,
-) -> Result<Vec<Zid>, ReadError>
-    ensures read { Steps (λ links. links.items) result (series_of (link_of own.now) None count c.old) c.new }
+    weighted: bool,
+) -> Result<Vec<Linked>, ReadError>
+    ensures read { Steps (λ links. links.items) result (series_of (link_of weighted own.now) None count c.old) c.new }
     ensures in_order { IfOk result (λ links. are_links own.now links.items ≡ true) }
 {
     let mut links = Vec::new(alloc);
     'links: for _ in 0..count {
-        let link = read_link(c, own, &links)?;
+        let link = read_link(c, own, &links, weighted)?;
         links.push(link)?;
     }
     Ok(links)
 }
 
-/// A link that may stand behind those before it.
+/// A link that may stand behind those before it, with its weight.
 #[tactic(auto, unfolding(crate::specs::Reading::link_of))]
-fn read_link(c: &mut Cursor<'_>, own: &Zid, before: &[Zid]) -> Result<Zid, ReadError>
-    ensures { Steps (λ id. id) result (link_of own.now (last_of before.now) c.old) c.new }
+fn read_link(
+    c: &mut Cursor<'_>,
+    own: &Zid,
+    before: &[Linked],
+    weighted: bool,
+) -> Result<Linked, ReadError>
+    ensures { Steps (λ link. link) result (link_of weighted own.now (last_of before.now) c.old) c.new }
 {
-    let link = read_zid(c)?;
-    if !may_follow(own, before.last().copied(), &link) {
+    let id = read_neighbour(c, own, before)?;
+    let weight = read_weight(c, weighted)?;
+    Ok(Linked { id, weight })
+}
+
+/// The router that a link leads to, which comes after those of the links before it.
+#[tactic(auto, unfolding(crate::specs::Reading::neighbour_of))]
+fn read_neighbour(c: &mut Cursor<'_>, own: &Zid, before: &[Linked]) -> Result<Zid, ReadError>
+    ensures { Steps (λ id. id) result (neighbour_of own.now (last_of before.now) c.old) c.new }
+{
+    let id = read_zid(c)?;
+    if !may_follow(own, last_id(before), &id) {
         return Err(ReadError::BadText);
     }
-    Ok(link)
+    Ok(id)
+}
+
+fn last_id(links: &[Linked]) -> Option<Zid>
+    ensures { result ≡ last_id (last_of links.now) }
+{
+    match links.last() {
+        Some(last) => Some(last.id),
+        None => None,
+    }
+}
+
+/// The weight that stands behind a link of a weighted record; in another one nothing stands there, and the link weighs 1.
+#[tactic(auto, unfolding(crate::specs::Reading::weight_of))]
+fn read_weight(c: &mut Cursor<'_>, weighted: bool) -> Result<u16, ReadError>
+    ensures read { Steps (λ w. w) result (weight_of weighted c.old) c.new }
+    ensures heavy { IfOk result (λ w. 0 < w) }
+{
+    if !weighted {
+        return Ok(1);
+    }
+    let weight = c.z16()?;
+    if weight == 0 {
+        return Err(ReadError::BadText);
+    }
+    Ok(weight)
 }
 
 /// An identifier behind its length.

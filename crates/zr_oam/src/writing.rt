@@ -5,13 +5,14 @@ ghost use Rattle.std.specs.List.{flat_map};
 ghost use Rattle.zr_bytes.specs.Number.{writes};
 ghost use Rattle.zr_bytes.specs.Text.{writes_text};
 ghost use Rattle.zr_bytes.specs.Writing.{KeepsFront};
-ghost use Rattle.zr_oam.specs.Writing.{Fits, writes_decl, writes_record, writes_head, writes_step, writes_snap, writes_own, writes_oam};
+ghost use Rattle.zr_msg.specs.declared.msg.Msg.TheVariants.{State};
+ghost use Rattle.zr_oam.specs.Writing.{Fits, writes_decl, writes_linked, writes_record, weigh_one, writes_head, writes_step, writes_snap, writes_own, writes_oam};
 
 use crate::decl::kind_byte;
-use crate::parts::{ADDED, DECLARATIONS, OWN, RECORD, REMOVED, SNAPSHOT};
+use crate::parts::{ADDED, DECLARATIONS, OWN, RECORD, REMOVED, SNAPSHOT, WEIGHTED_RECORD};
 use std::alloc::AllocError;
 use zr_bytes::{all_or_nothing, put_bytes, put_zint};
-use zr_id::record::LinkRecord;
+use zr_id::record::{LinkRecord, Linked};
 use zr_id::zid::Zid;
 use zr_msg::decl::Decl;
 use zr_msg::msg::Msg;
@@ -64,22 +65,76 @@ fn put_oam(out: &mut Vec<u8>, msg: &Msg) -> Result<(), AllocError>
 }
 
 fn put_state(out: &mut Vec<u8>, links: &LinkRecord) -> Result<(), AllocError>
-    ensures ok { OnOk result (out.new.items ≡ out.old.items ++ writes_own 0x5A01 (writes_record links.now)) }
+    ensures ok { OnOk result (out.new.items ≡ out.old.items ++ writes_oam (State links.now)) }
+    ensures err { OnErr result (KeepsFront out.old.items out.new.items) }
+{
+    if weigh_one(links.links()) {
+        put_record(out, RECORD, links, false)
+    } else {
+        put_record(out, WEIGHTED_RECORD, links, true)
+    }
+}
+
+/// Whether each link weighs 1, so that no weight needs to be written.
+fn weigh_one(links: &[Linked]) -> bool
+    ensures { result ≡ weigh_one links.now }
+{
+    links.iter().all(|link| link.weight == 1)
+}
+
+fn put_record(
+    out: &mut Vec<u8>,
+    id: u16,
+    links: &LinkRecord,
+    weighted: bool,
+) -> Result<(), AllocError>
+    ensures ok { OnOk result (out.new.items ≡ out.old.items ++ writes_own id (writes_record weighted links.now)) }
     ensures err { OnErr result (KeepsFront out.old.items out.new.items) }
 {
     let mut content = Vec::new(*out.allocator());
-    put_bytes(&mut content, links.id().bytes())?;
-    put_zint(&mut content, links.seq())?;
-    put_zint(&mut content, links.links().len() as u64)?;
-    put_links(&mut content, links.links())?;
-    put_own(out, RECORD, &content)
+    put_content(&mut content, links, weighted)?;
+    put_own(out, id, &content)
 }
 
-fn put_links(out: &mut Vec<u8>, links: &[Zid]) -> Result<(), AllocError>
-    ensures { OnOk result (out.new.items ≡ out.old.items ++ flat_map (λ id. writes_text id) links.now) }
+#[tactic(auto, using(crate::proofs::Contents::both_put))]
+fn put_content(content: &mut Vec<u8>, links: &LinkRecord, weighted: bool) -> Result<(), AllocError>
+    ensures { OnOk result (content.new.items ≡ content.old.items ++ writes_record weighted links.now) }
+{
+    put_name(content, &links.id(), links.seq())?;
+    put_counted(content, links.links(), weighted)
+}
+
+/// A router and a number.
+fn put_name(out: &mut Vec<u8>, id: &Zid, number: u64) -> Result<(), AllocError>
+    ensures { OnOk result (out.new.items ≡ out.old.items ++ (writes_text id.now ++ writes number)) }
+{
+    put_bytes(out, id.bytes())?;
+    put_zint(out, number)
+}
+
+/// The count of links, and the links.
+fn put_counted(out: &mut Vec<u8>, links: &[Linked], weighted: bool) -> Result<(), AllocError>
+    ensures { OnOk result (out.new.items ≡ out.old.items ++ (writes (length links.now) ++ flat_map (λ link. writes_linked weighted link) links.now)) }
+{
+    put_zint(out, links.len() as u64)?;
+    put_links(out, links, weighted)
+}
+
+fn put_links(out: &mut Vec<u8>, links: &[Linked], weighted: bool) -> Result<(), AllocError>
+    ensures { OnOk result (out.new.items ≡ out.old.items ++ flat_map (λ link. writes_linked weighted link) links.now) }
 {
     for link in links {
-        put_bytes(out, link.bytes())?;
+        put_link(out, link, weighted)?;
+    }
+    Ok(())
+}
+
+fn put_link(out: &mut Vec<u8>, link: &Linked, weighted: bool) -> Result<(), AllocError>
+    ensures { OnOk result (out.new.items ≡ out.old.items ++ writes_linked weighted link.now) }
+{
+    put_bytes(out, link.id.bytes())?;
+    if weighted {
+        put_zint(out, u64::from(link.weight))?;
     }
     Ok(())
 }
@@ -130,8 +185,7 @@ fn put_head(out: &mut Vec<u8>, form: u8, source: &Zid, number: u64) -> Result<()
     ensures { OnOk result (out.new.items ≡ out.old.items ++ writes_head form source.now number) }
 {
     out.push(form)?;
-    put_bytes(out, source.bytes())?;
-    put_zint(out, number)
+    put_name(out, source, number)
 }
 
 fn put_decl(out: &mut Vec<u8>, decl: &Decl) -> Result<(), AllocError>

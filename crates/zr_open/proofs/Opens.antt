@@ -25,20 +25,20 @@ word_below word = let below : word % modulus_of 2 < modulus_of 2 = mod-lt word (
 
 pub routers_open : (a d : OpeningState) → RoutersOpen a d
 routers_open a d = record {
-  init_answer = init_answer a (record { id = d.me; role = Router }) usual;
+  init_answer = init_answer a (record { id = d.me; role = Router; weight = a.weight }) usual;
   opening = Open false true 10 (d.word % modulus_of 2) (Some (cookie_of a d.me));
   opening_answer = Open true true 10 (a.word % modulus_of 2) None;
-  wants_opening = expects.Open (record { id = d.me; role = Router }) (outbox_of a usual);
-  wants_answer = expects.OpenAnswer (record { id = a.me; role = Router }) (outbox_of d usual);
+  wants_opening = expects.Open (record { id = d.me; role = Router; weight = a.weight }) (outbox_of a usual);
+  wants_answer = expects.OpenAnswer (record { id = a.me; role = Router; weight = d.weight }) (outbox_of d usual);
   accepted = record {
-    peer = record { id = d.me; role = Router };
+    peer = record { id = d.me; role = Router; weight = a.weight };
     outbox = outbox_of a usual;
     first = d.word % modulus_of 2;
     lease = 10000;
     answer = Some (Open true true 10 (a.word % modulus_of 2) None);
   };
   dialled = record {
-    peer = record { id = a.me; role = Router };
+    peer = record { id = a.me; role = Router; weight = d.weight };
     outbox = outbox_of d usual;
     first = a.word % modulus_of 2;
     lease = 10000;
@@ -71,7 +71,7 @@ told_again s = by (s.bits == 2 + 4 * 2) (s.batch == 65535) refl refl
 
 pub client_opens : (o : OpeningState) (id : List ℕ) (sizes : Option Sizes) → 64 ≤ (agreed (offered sizes)).batch → ClientOpens o id sizes
 client_opens o id sizes large = record {
-  wants_opening = expects.Open (record { id = id; role = Client }) (outbox_of o s);
+  wants_opening = expects.Open (record { id = id; role = Client; weight = 1 }) (outbox_of o s);
   told = told s;
   cookie = Some (cookie_of o id);
   on_init = rw enough refl;
@@ -81,7 +81,7 @@ client_opens o id sizes large = record {
       let in_range : nat_lt first (modulus_of (frame_bits s)) ≡ true =
       let b : first < modulus_of (frame_bits s) = rw (told_again s) at below in grind (arith, nat_tests, b) in (
         record {
-          peer = record { id = id; role = Client };
+          peer = record { id = id; role = Client; weight = 1 };
           outbox = outbox_of o s;
           first = first;
           lease = milliseconds seconds lease;

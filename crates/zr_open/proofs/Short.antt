@@ -13,8 +13,8 @@ opening_answer_short lease number =
     let none : length (writes number ++ []) ≡ length (writes number) = ap length (append-nil (writes number)) in
     omega (arith, a, b, all, none)
 
-pub greeting_short : (id : List ℕ) → length id ≤ 16 → length (writes_trans (Init false 9 0 id None None (Some 1))) < 2 ^ 16
+pub greeting_short : (id : List ℕ) → length id ≤ 16 → length (writes_trans (Init false 9 0 id None None (Some 2))) < 2 ^ 16
 greeting_short id h =
-    let a = length-writes 1 in
-    let all = length-append id (writes_speaks (Some 1)) in
+    let a = length-writes 2 in
+    let all = length-append id (writes_speaks (Some 2)) in
     omega (arith, a, all, h)

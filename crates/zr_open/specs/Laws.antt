@@ -27,9 +27,9 @@ pub record RoutersOpen (accepting dialling : OpeningState) : Type 0 where
   pub on_opening : received accepting wants_opening opening ≡ Ok (progress.Opened accepted)
   pub answers : accepted.answer ≡ Some opening_answer
   pub on_opening_answer : received dialling wants_answer opening_answer ≡ Ok (progress.Opened dialled)
-  -- each knows the other
-  pub accepts : accepted.peer ≡ record { id = dialling.me; role = Router }
-  pub dials : dialled.peer ≡ record { id = accepting.me; role = Router }
+  -- each knows the other, and weighs the link by its own opening
+  pub accepts : accepted.peer ≡ record { id = dialling.me; role = Router; weight = accepting.weight }
+  pub dials : dialled.peer ≡ record { id = accepting.me; role = Router; weight = dialling.weight }
   -- the batches and numbers that one sends are those that the other expects
   pub batch : accepted.outbox.batch ≡ dialled.outbox.batch
   pub bits : accepted.outbox.bits ≡ dialled.outbox.bits
@@ -48,7 +48,7 @@ pub record ClientOpens (o : OpeningState) (id : List ℕ) (sizes : Option Sizes)
   pub tells : offered told ≡ agreed (offered sizes)
   pub on_opening : (seconds : Bool) (lease first : ℕ) → 0 < lease → first < modulus_of (frame_bits (offered told)) →
       (opened : Opened) × (received o wants_opening (Open false seconds lease first cookie) ≡ Ok (progress.Opened opened))
-      × (opened.peer ≡ record { id = id; role = Client }) × (opened.first ≡ first) × (opened.lease ≡ milliseconds seconds lease)
+      × (opened.peer ≡ record { id = id; role = Client; weight = 1 }) × (opened.first ≡ first) × (opened.lease ≡ milliseconds seconds lease)
       × (opened.outbox.batch ≡ (offered told).batch) × (opened.outbox.bits ≡ frame_bits (offered told))
 
 -- So it is for each client that takes batches of 64 bytes at least.

@@ -63,7 +63,7 @@ impl Opening {
             return Err(unexpected(t));
         };
         let sizes = agreed(offered(*sizes));
-        let peer = match peer_in(*version, *role, *speaks, *id, sizes.batch) {
+        let peer = match peer_in(*version, *role, *speaks, *id, sizes.batch, self.weight) {
             Ok(peer) => peer,
             Err(e) => return Err(e),
         };
@@ -146,7 +146,7 @@ impl Opening {
             return Err(unexpected(t));
         };
         let sizes = offered(*sizes);
-        match peer_in(*version, *role, *speaks, *id, sizes.batch) {
+        match peer_in(*version, *role, *speaks, *id, sizes.batch, self.weight) {
             Ok(peer) => self.dialled(peer, sizes, copied(alloc, cookie)?),
             Err(e) => Err(e),
         }

@@ -5,7 +5,7 @@ ghost use mathlib.Core.List.{IsPrefix};
 ghost use Rattle.std.specs.List.{AllByRecursion};
 ghost use Rattle.atomic_table.specs.Seated.{TableId};
 ghost use Rattle.zr_id.specs.declared.link.LinkNo.{LinkNo};
-ghost use Rattle.zr_msg.specs.declared.peer.Peer.{Peer};
+ghost use Rattle.zr_msg.specs.Peer.{PeerState};
 ghost use Rattle.zr_msg.specs.declared.msg.Msg.{Msg};
 ghost use Rattle.zr_msg.specs.declared.event.Event.TheVariants as event;
 ghost use Rattle.zr_hist.specs.Rule.{longer};
@@ -43,7 +43,7 @@ pub trait Port {
     ghost is_up: { Self → List Entry → LinkNo → Bool };
 
     // after which lists of entries a call is refused, and why; where memory ran out nothing is said
-    ghost refuses_up: { Self → List Entry → Peer → UpError → Type 0 };
+    ghost refuses_up: { Self → List Entry → PeerState → UpError → Type 0 };
 
     ghost refuses_message: { Self → List Entry → LinkNo → Msg → DeliverError → Type 0 };
 

@@ -7,7 +7,7 @@ use Rattle.zr_id.specs.declared.link.LinkNo.{LinkNo}
 use Rattle.zr_msg.specs.declared.event.Event.TheVariants.{From}
 use Rattle.zr_msg.specs.declared.msg.Msg.{Msg}
 use Rattle.zr_msg.specs.declared.error.NodeError.{NodeError}
-use Rattle.zr_msg.specs.declared.peer.Peer.{Peer}
+use Rattle.zr_msg.specs.Peer.{PeerState}
 use Rattle.zr_msg.specs.declared.peer.Role.{Role}
 use Rattle.zr_node_spec.specs.Tables.{link_at}
 use Rattle.zr_msg.specs.declared.peer.LinkPeer.{LinkPeer}
@@ -24,7 +24,7 @@ use Rattle.zr_router.specs.Before.{message_refusal, open_refusal}
 use Rattle.zr_router.specs.Refusals.{IsClosed, RefusesAt, RefusesOn, RefusesMessage, closing_of, is_worn, refused_by, refuses_on}
 
 -- what is found under a number, where its peer is
-pub found_peer : (o : Option LinkPeer) (p : Peer) → option_map (λ l. l.peer) o ≡ Some p → (l : LinkPeer) × (o ≡ Some l) × (l.peer ≡ p)
+pub found_peer : (o : Option LinkPeer) (p : PeerState) → option_map (λ l. l.peer) o ≡ Some p → (l : LinkPeer) × (o ≡ Some l) × (l.peer ≡ p)
 found_peer None p e = cc
 found_peer (Some l) p e = (l, refl, (let same : l.peer ≡ p = cc in same))
 
@@ -80,7 +80,7 @@ module _ (me : List ℕ) (h : List Entry) (hub : HubState) (ends : List EndState
   none_more true true role x is = cc
   none_more true false role x is = (refl, refl)
 
-  pub message_refused : (p : Option Peer) (c : Option Closing) (e : DeliverError) → p ≡ option_map (λ l. l.peer) (link_at hub.node.links link.0) → asked c ≡ closed_at ends link →
+  pub message_refused : (p : Option PeerState) (c : Option Closing) (e : DeliverError) → p ≡ option_map (λ l. l.peer) (link_at hub.node.links link.0) → asked c ≡ closed_at ends link →
       message_refusal p c link msg (is_worn h) ≡ Some e → RefusesMessage me h link msg e
   message_refused None c e at shut is = not_up e (no_peer (link_at hub.node.links link.0) (sym at)) (let same : e ≡ deliver.NotUp link = cc in same)
   message_refused (Some q) (Some c) e at shut is =
@@ -92,7 +92,7 @@ module _ (me : List ℕ) (h : List Entry) (hub : HubState) (ends : List EndState
       (worn_more (admits f.0.peer.role msg) (is_worn h) f.0.peer.role (hub_refuses hub (From link msg)) e (subst (λ z. open_refusal z msg (is_worn h) ≡ Some e) (sym f.2) is))
 
   -- what follows where nothing of that refuses it
-  unshut : (p : Option Peer) (c : Option Closing) → p ≡ option_map (λ l. l.peer) (link_at hub.node.links link.0) → asked c ≡ closed_at ends link → message_refusal p c link msg (is_worn h) ≡ None →
+  unshut : (p : Option PeerState) (c : Option Closing) → p ≡ option_map (λ l. l.peer) (link_at hub.node.links link.0) → asked c ≡ closed_at ends link → message_refusal p c link msg (is_worn h) ≡ None →
       (l : LinkPeer) × (link_at hub.node.links link.0 ≡ Some l) × (closed_at ends link ≡ None) × (open_refusal l.peer msg (is_worn h) ≡ None)
   unshut None c at shut is = cc
   unshut (Some q) (Some c) at shut is = cc
@@ -100,7 +100,7 @@ module _ (me : List ℕ) (h : List Entry) (hub : HubState) (ends : List EndState
       let f = found_peer (link_at hub.node.links link.0) q (sym at) in
       (f.0, f.1, sym shut, subst (λ z. open_refusal z msg (is_worn h) ≡ None) (sym f.2) is)
 
-  module _ (p : Option Peer) (c : Option Closing) (at : p ≡ option_map (λ l. l.peer) (link_at hub.node.links link.0)) (shut : asked c ≡ closed_at ends link) (is : message_refusal p c link msg (is_worn h) ≡ None) where
+  module _ (p : Option PeerState) (c : Option Closing) (at : p ≡ option_map (λ l. l.peer) (link_at hub.node.links link.0)) (shut : asked c ≡ closed_at ends link) (is : message_refusal p c link msg (is_worn h) ≡ None) where
     pub message_comes : is_some (link_at hub.node.links link.0) ≡ true
     message_comes = ap is_some (unshut p c at shut is).1
 
@@ -124,7 +124,7 @@ module _ (me : List ℕ) (h : List Entry) (hub : HubState) (ends : List EndState
         cc
 
 -- out of memory is no cause of these
-pub never_memory : (p : Option Peer) (c : Option Closing) (link : LinkNo) (msg : Msg) (w : Bool) → message_refusal p c link msg w ≡ Some deliver.NoMemory → ⊥
+pub never_memory : (p : Option PeerState) (c : Option Closing) (link : LinkNo) (msg : Msg) (w : Bool) → message_refusal p c link msg w ≡ Some deliver.NoMemory → ⊥
 never_memory None c link msg w e = cc
 never_memory (Some q) (Some c) link msg w e = cc
 never_memory (Some q) None link msg w e = by (admits q.role msg) w e

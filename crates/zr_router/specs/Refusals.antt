@@ -6,7 +6,7 @@ use Rattle.zr_id.specs.declared.link.LinkNo.{LinkNo}
 use Rattle.zr_hist.specs.Words.{most_entries}
 use Rattle.zr_msg.specs.declared.error.NodeError.{NodeError}
 use Rattle.zr_msg.specs.declared.msg.Msg.{Msg}
-use Rattle.zr_msg.specs.declared.peer.Peer.{Peer}
+use Rattle.zr_msg.specs.Peer.{PeerState}
 use Rattle.zr_msg.specs.declared.peer.Role.{Role}
 use Rattle.zr_msg.specs.declared.event.Event.{Event}
 use Rattle.zr_msg.specs.declared.event.Event.TheVariants.{Up, Down, From}
@@ -43,15 +43,15 @@ routers node = length (filter (λ l. is_router l.peer.role) node.links)
 -- ---- a link that is to come up
 
 -- there is no room for one more session with such a peer
-abbrev pub is_full : NodeState → Peer → Bool
+abbrev pub is_full : NodeState → PeerState → Bool
 is_full node peer = nat_le most_sessions (sessions node) || (is_router peer.role && nat_le most_routers (routers node))
 
 -- a link of that identifier is up, or it is the router's own
-abbrev pub is_twice : NodeState → Peer → Bool
+abbrev pub is_twice : NodeState → PeerState → Bool
 is_twice node peer = is_some (link_to node.links peer.id) || is_named peer.id node.base.me
 
 -- the event that the call is
-abbrev pub up_event : NodeState → Peer → Event
+abbrev pub up_event : NodeState → PeerState → Event
 up_event node peer = Up (record { 0 = free_link node.links }) peer
 
 -- the history has room for one more entry, or has not
@@ -59,17 +59,17 @@ abbrev pub is_worn : List Entry → Bool
 is_worn h = length h == most_entries
 
 -- the refusal of a peer, if it is refused; `worn` says that a number that its Up needs has no room left
-abbrev pub peer_refusal : NodeState → Peer → Bool → Option UpError
+abbrev pub peer_refusal : NodeState → PeerState → Bool → Option UpError
 peer_refusal node peer worn =
     if is_full node peer then Some (up.Full (sessions node) (routers node))
     else if is_twice node peer then Some up.Twice
     else if worn then Some up.Worn
     else None
 
-abbrev pub refuses_peer : HubState → List Entry → Peer → Option UpError
+abbrev pub refuses_peer : HubState → List Entry → PeerState → Option UpError
 refuses_peer hub h peer = peer_refusal hub.node peer (is_worn h || is_some (hub_refuses hub (up_event hub.node peer)))
 
-abbrev pub RefusesUp : List ℕ → List Entry → Peer → UpError → Type 0
+abbrev pub RefusesUp : List ℕ → List Entry → PeerState → UpError → Type 0
 RefusesUp me h peer e = refuses_peer (replay me h).hub h peer ≡ Some e
 
 -- ---- a message

@@ -27,7 +27,7 @@ use Rattle.zr_msg.specs.declared.event.Event.TheVariants.{Up, Down, From}
 use Rattle.zr_msg.specs.declared.msg.Msg.{Msg}
 use Rattle.zr_msg.specs.declared.msg.Msg.TheVariants.{Sub, Unsub, Able, Unable, Interest, EndInterest, ToldSub, ToldAble, ToldUnsub, ToldUnable, ToldEnd, Push, Request, Response, Final, State, Step, Snap}
 use Rattle.zr_msg.specs.declared.peer.LinkPeer.{LinkPeer}
-use Rattle.zr_msg.specs.declared.peer.Peer.{Peer}
+use Rattle.zr_msg.specs.Peer.{PeerState}
 use Rattle.zr_msg.specs.declared.peer.Role.{Role}
 use Rattle.zr_msg.specs.declared.peer.Role.TheVariants.{Client, Router}
 use Rattle.zr_local.specs.Clients.{client_link, interests_on, with_interests, noted, clients_left}
@@ -138,11 +138,11 @@ snap_count me known source number ds = by (is_newer_log known source number)
 
 -- ---- the router itself stays who it is
 
-me_up : (b : BaseState) (peer : Peer) (role : Role) → (base_up b peer role).me ≡ b.me
+me_up : (b : BaseState) (peer : PeerState) (role : Role) → (base_up b peer role).me ≡ b.me
 me_up b peer Client = refl
 me_up b peer Router = refl
 
-me_parted : (b : BaseState) (peer : Peer) (role : Role) → (base_parted b peer role).me ≡ b.me
+me_parted : (b : BaseState) (peer : PeerState) (role : Role) → (base_parted b peer role).me ≡ b.me
 me_parted b peer Client = refl
 me_parted b peer Router = refl
 

@@ -18,7 +18,7 @@ use Rattle.zr_msg.specs.declared.event.Event.{Event}
 use Rattle.zr_msg.specs.declared.event.Event.TheVariants.{Up, Down, From}
 use Rattle.zr_msg.specs.declared.msg.Msg.{Msg}
 use Rattle.zr_msg.specs.declared.msg.Msg.TheVariants.{Sub, Unsub, Able, Unable, Interest, EndInterest, ToldSub, ToldAble, ToldUnsub, ToldUnable, ToldEnd, Push, Request, Response, Final, State, Step, Snap}
-use Rattle.zr_msg.specs.declared.peer.Peer.{Peer}
+use Rattle.zr_msg.specs.Peer.{PeerState}
 use Rattle.zr_msg.specs.declared.peer.LinkPeer.{LinkPeer}
 use Rattle.zr_msg.specs.declared.peer.Role.{Role}
 use Rattle.zr_msg.specs.declared.peer.Role.TheVariants.{Client, Router}
@@ -73,7 +73,7 @@ module _ (n : NodeState) (h : AreOrdered n) (k : ℕ) where
 
   -- ---- links
 
-  up_same : (link : LinkNo) (peer : Peer) (role : Role) (qs : List Place) → places_up role ≡ Some qs →
+  up_same : (link : LinkNo) (peer : PeerState) (role : Role) (qs : List Place) → places_up role ≡ Some qs →
       IsLeft qs (record { links = with_link n.links (new_link link peer); base = base_up n.base peer role; rows = n.rows; clients = n.clients; known = n.known })
   up_same link peer Client qs e = λ f. refl
   up_same link peer Router qs e = absurd (none-some qs e)
@@ -99,7 +99,7 @@ module _ (n : NodeState) (h : AreOrdered n) (k : ℕ) where
           let rows : List Row = cond (not (is_router role)) (left n.rows link) n.rows in
           record {
             links = without_link n.links link;
-            base = base_down n.base (Some (record { link = l.link; peer = record { id = l.peer.id; role = role } }));
+            base = base_down n.base (Some (record { link = l.link; peer = record { id = l.peer.id; role = role; weight = l.peer.weight } }));
             rows = rows;
             clients = (after n (Down (record { 0 = link }))).clients;
             known = after_changes n.known (changes n.rows rows);

@@ -19,7 +19,7 @@ use Rattle.zr_msg.specs.declared.event.Event.TheVariants.{Up, Down, From}
 use Rattle.zr_msg.specs.declared.msg.Msg.{Msg}
 use Rattle.zr_msg.specs.declared.msg.Msg.TheVariants.{Sub, Unsub, Able, Unable, Interest, EndInterest, ToldSub, ToldAble, ToldUnsub, ToldUnable, ToldEnd, Push, Request, Response, Final, State, Step, Snap}
 use Rattle.zr_msg.specs.declared.peer.LinkPeer.{LinkPeer}
-use Rattle.zr_msg.specs.declared.peer.Peer.{Peer}
+use Rattle.zr_msg.specs.Peer.{PeerState}
 use Rattle.zr_node_spec.specs.Queries.{link_no}
 use Rattle.zr_node_spec.specs.Tables.{is_link, is_router, link_at, leads_to_client}
 use Rattle.zr_node_spec.specs.Event.{AreLinks, IsFresh, MayCome}
@@ -86,7 +86,7 @@ without_itself links link k h =
     turned : (a b : ℕ) → (b == a) ≡ true → (a == b) ≡ true
     turned a b h = grind (arith, h)
 
-with_other : (n : NodeState) (link : LinkNo) (peer : Peer) (k : ℕ) → AreLinks n.base.me n.links → IsFresh n link peer → (link.0 == k) ≡ false →
+with_other : (n : NodeState) (link : LinkNo) (peer : PeerState) (k : ℕ) → AreLinks n.base.me n.links → IsFresh n link peer → (link.0 == k) ≡ false →
     leads_to_client (with_link n.links (new_link link peer)) k ≡ leads_to_client n.links k
 with_other n link peer k links fresh h =
     ap is_client
@@ -108,7 +108,7 @@ noted_home n from id o home k away = by (leads_to_client n.links from) refl
     by true e = other_noted n.clients (link_no from) id o k (differ e) ∙ home k away
     by false e = home k away
 
-up_home : (n : NodeState) (link : LinkNo) (peer : Peer) → AreLinks n.base.me n.links → IsFresh n link peer → AreHome n → (k : ℕ) → leads_to_client (with_link n.links (new_link link peer)) k ≡ false → interests_on n.clients k ≡ []
+up_home : (n : NodeState) (link : LinkNo) (peer : PeerState) → AreLinks n.base.me n.links → IsFresh n link peer → AreHome n → (k : ℕ) → leads_to_client (with_link n.links (new_link link peer)) k ≡ false → interests_on n.clients k ≡ []
 up_home n link peer links fresh home k away = by (link.0 == k) refl
   where
     by : (b : Bool) → (link.0 == k) ≡ b → interests_on n.clients k ≡ []

@@ -22,7 +22,7 @@ use Rattle.zr_msg.specs.declared.msg.Msg.TheVariants.{Sub, Unsub, Able, Unable, 
 use Rattle.zr_msg.specs.declared.event.Event.{Event}
 use Rattle.zr_msg.specs.declared.event.Event.TheVariants.{Up, Down, From}
 use Rattle.zr_msg.specs.declared.peer.LinkPeer.{LinkPeer}
-use Rattle.zr_msg.specs.declared.peer.Peer.{Peer}
+use Rattle.zr_msg.specs.Peer.{PeerState}
 use Rattle.zr_msg.specs.declared.peer.Role.{Role}
 use Rattle.zr_msg.specs.declared.peer.Role.TheVariants.{Client, Router}
 use Rattle.zr_msg.specs.Extras.{no_extras}
@@ -82,13 +82,13 @@ own_written b = by (record_of b.records b.me)
 told_written : (node : NodeState) (from : ℕ) (b : BaseState) (to : ℕ) → AreWritable (sends_own node from b to)
 told_written node from b to = either (is_other_router node from to) (own_record b) [] (own_written b) tt
 
-up_written : (node : NodeState) (link : ℕ) (peer : Peer) (role : Role) (to : ℕ) → AreWritable (sends_up node link peer role to)
+up_written : (node : NodeState) (link : ℕ) (peer : PeerState) (role : Role) (to : ℕ) → AreWritable (sends_up node link peer role to)
 up_written node link peer Client to = tt
 up_written node link peer Router to =
     either (to == link) (all_records (joined node.base peer.id)) (sends_own node link (joined node.base peer.id) to)
     (records_written (joined node.base peer.id).records) (told_written node link (joined node.base peer.id) to)
 
-parted_written : (node : NodeState) (link : ℕ) (peer : Peer) (role : Role) (to : ℕ) → AreWritable (sends_parted node link peer role to)
+parted_written : (node : NodeState) (link : ℕ) (peer : PeerState) (role : Role) (to : ℕ) → AreWritable (sends_parted node link peer role to)
 parted_written node link peer Client to = tt
 parted_written node link peer Router to = told_written node link (parted node.base peer.id) to
 

@@ -4,7 +4,7 @@ use Rattle.std.specs.List.{list_all}
 use Rattle.std.specs.Option.{option_map_or}
 use Rattle.zr_id.specs.Zid.{is_named}
 use Rattle.zr_id.specs.declared.link.LinkNo.{LinkNo}
-use Rattle.zr_msg.specs.declared.peer.Peer.{Peer}
+use Rattle.zr_msg.specs.Peer.{PeerState}
 use Rattle.zr_msg.specs.declared.event.Event.{Event}
 use Rattle.zr_msg.specs.declared.event.Event.TheVariants.{Up, Down, From}
 use Rattle.zr_node_spec.specs.Tables.{link_at, link_to}
@@ -16,7 +16,7 @@ use Rattle.std.specs.List.{find}
 use Rattle.std.specs.Prelude.{◌==◌}
 
 -- whether a link may come up: none has its number, none leads to its peer, and the peer is another than the router
-abbrev pub is_fresh : NodeState → LinkNo → Peer → Bool
+abbrev pub is_fresh : NodeState → LinkNo → PeerState → Bool
 is_fresh node link peer = is_none (link_at node.links link.0) && (is_none (link_to node.links peer.id) && not (is_named peer.id node.base.me))
 
 -- whether an event may come

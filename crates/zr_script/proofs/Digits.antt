@@ -5,6 +5,10 @@ use Rattle.std.specs.List.{fold}
 use Rattle.zr_lists.proofs.Numbers.{fold_grows}
 use Rattle.zr_script_spec.specs.Words.{value_of}
 
+-- a number of more than 32 bits has more than 16
+pub not_small : (n : ℕ) → nat_lt n (2 ^ 32) ≡ false → nat_lt n (2 ^ 16) ≡ false
+not_small n h = grind (arith, nat_tests, h)
+
 -- a number that has passed 32 bits at a digit has passed them at the end
 pub too_large : (n i : ℕ) (word : List ℕ) → i < length word → 2 ^ 32 ≤ n * 10 + (get_or word i 0 - 48) →
     fold (λ n b. n * 10 + (b - 48)) n (drop i word) ≡ value_of word → nat_lt (value_of word) (2 ^ 32) ≡ false

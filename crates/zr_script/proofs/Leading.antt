@@ -6,8 +6,8 @@ use Rattle.zr_script_spec.specs.declared.command.Mode.{Mode}
 use Rattle.zr_script_spec.specs.declared.error.ScriptError.{ScriptError}
 use Rattle.zr_script_spec.specs.declared.error.ScriptError.TheVariants.{UnknownCommand, BadWords, UnknownName, NameTaken, BadKey, NotLinked, AlreadyLinked, NothingThere, NotAsked, NotSettled, NotJoined, Limit, NoMemory}
 use Rattle.zr_script_spec.specs.Step.{◌>>=◌, IsSaid}
-use Rattle.zr_script_spec.specs.Words.{two_of, three_of, zid_at, number_at, key_at, mode_at, kinds_at, aggregate_at}
-use Rattle.zr_script.specs.Args.{LeadsOn, numbered_then, names_then, pair_then, keyed_then, terms_then}
+use Rattle.zr_script_spec.specs.Words.{two_of, some_two_of, three_of, zid_at, number_at, link_weight_at, key_at, mode_at, kinds_at, aggregate_at}
+use Rattle.zr_script.specs.Args.{LeadsOn, numbered_then, names_then, linked_then, pair_then, keyed_then, terms_then}
 
 -- a step that is refused, whatever would have come behind it
 pub stays : {A B : Type 0} (e : ScriptError) (m : Result A ScriptError) (k : A → Result B ScriptError) → IsSaid (Err e) m → IsSaid {X = B} (Err e) (m >>= k)
@@ -66,6 +66,35 @@ names_stay_last ws a b x e p q h = λ then.
 pub names_lead : (ws : List (List ℕ)) (a b x y : List ℕ) → ws ≡ a ∷ b ∷ [] → zid_at a ≡ Ok x → zid_at b ≡ Ok y → LeadsOn (Ok (x, y)) (names_then ws)
 names_lead ws a b x y e p q = λ then.
     ap (λ ws. names_then ws then) e ∙ ap (λ m. m >>= λ a. zid_at b >>= λ b. then (a, b)) p ∙ ap (λ m. m >>= λ b. then (x, b)) q
+
+-- ---- two names, and a weight
+
+abbrev linked_rest : List ℕ → List (List ℕ) → (List ℕ × List ℕ × ℕ → Result Command ScriptError) → List ℕ → Result Command ScriptError
+linked_rest b more then x = zid_at b >>= λ y. link_weight_at more >>= λ n. then (x, y, n)
+
+pub linked_words : (ws : List (List ℕ)) (e : ScriptError) → (e ≡ BadWords) × (some_two_of ws ≡ Err BadWords) → LeadsOn {X = List ℕ × List ℕ × ℕ} (Err e) (linked_then ws)
+linked_words ws e h = λ then. stay_words e (some_two_of ws) (λ w. zid_at w.0 >>= linked_rest w.1 w.2 then) h
+
+pub linked_stay : (ws more : List (List ℕ)) (a b : List ℕ) (e : ScriptError) → ws ≡ a ∷ b ∷ more → IsSaid {X = List ℕ} (Err e) (zid_at a) → LeadsOn {X = List ℕ × List ℕ × ℕ} (Err e) (linked_then ws)
+linked_stay ws more a b e p h = λ then.
+    subst (λ ws. IsSaid {X = Command} (Err e) (linked_then ws then)) (sym p) (stays e (zid_at a) (linked_rest b more then) h)
+
+pub linked_stay_next : (ws more : List (List ℕ)) (a b x : List ℕ) (e : ScriptError) → ws ≡ a ∷ b ∷ more → zid_at a ≡ Ok x → IsSaid {X = List ℕ} (Err e) (zid_at b)
+    → LeadsOn {X = List ℕ × List ℕ × ℕ} (Err e) (linked_then ws)
+linked_stay_next ws more a b x e p q h = λ then.
+    subst (λ ws. IsSaid {X = Command} (Err e) (linked_then ws then)) (sym p)
+    (subst (λ m. IsSaid {X = Command} (Err e) (m >>= linked_rest b more then)) (sym q) (stays e (zid_at b) (λ y. link_weight_at more >>= λ n. then (x, y, n)) h))
+
+pub linked_stay_last : (ws more : List (List ℕ)) (a b x y : List ℕ) (e : ScriptError) → ws ≡ a ∷ b ∷ more → zid_at a ≡ Ok x → zid_at b ≡ Ok y → IsSaid {X = ℕ} (Err e) (link_weight_at more)
+    → LeadsOn {X = List ℕ × List ℕ × ℕ} (Err e) (linked_then ws)
+linked_stay_last ws more a b x y e p q r h = λ then.
+    subst (λ ws. IsSaid {X = Command} (Err e) (linked_then ws then)) (sym p)
+    (subst (λ m. IsSaid {X = Command} (Err e) (m >>= linked_rest b more then)) (sym q)
+    (subst (λ m. IsSaid {X = Command} (Err e) (m >>= λ y. link_weight_at more >>= λ n. then (x, y, n))) (sym r) (stays e (link_weight_at more) (λ n. then (x, y, n)) h)))
+
+pub linked_lead : (ws more : List (List ℕ)) (a b x y : List ℕ) (n : ℕ) → ws ≡ a ∷ b ∷ more → zid_at a ≡ Ok x → zid_at b ≡ Ok y → link_weight_at more ≡ Ok n → LeadsOn (Ok (x, y, n)) (linked_then ws)
+linked_lead ws more a b x y n e p q r = λ then.
+    ap (λ ws. linked_then ws then) e ∙ ap (λ m. m >>= linked_rest b more then) p ∙ ap (λ m. m >>= λ y. link_weight_at more >>= λ n. then (x, y, n)) q ∙ ap (λ m. m >>= λ n. then (x, y, n)) r
 
 -- ---- a name, a number and a key
 

@@ -7,7 +7,7 @@ use Rattle.std.proofs.lemmas.List.Quantifiers.{position-Some}
 use Rattle.zr_lists.proofs.Cutting.{cut_some, none_cut}
 use Rattle.zr_script_spec.specs.Lines.{most_line}
 use Rattle.zr_script_spec.specs.declared.error.ScriptError.TheVariants.{BadWords}
-use Rattle.zr_script_spec.specs.Words.{words, one_of, two_of, three_of, four_of, five_of}
+use Rattle.zr_script_spec.specs.Words.{words, one_of, two_of, some_two_of, three_of, four_of, five_of}
 use Rattle.zr_script.specs.Args.{none_of}
 use Rattle.zr_script.specs.Short.{are_short}
 
@@ -54,6 +54,11 @@ four_more ws (b ∷ []) a e h = ap four_of e
 four_more ws (b ∷ c ∷ []) a e h = ap four_of e
 four_more ws (b ∷ c ∷ d ∷ []) a e h = absurd (cc)
 four_more ws (b ∷ c ∷ d ∷ f ∷ more) a e h = ap four_of e
+
+pub few_two : (ws : List (List ℕ)) → length ws < 2 → some_two_of ws ≡ Err BadWords
+few_two [] le = refl
+few_two (a ∷ []) le = refl
+few_two (a ∷ b ∷ more) le = absurd (omega arith)
 
 pub few_five : (ws : List (List ℕ)) → length ws < 5 → five_of ws ≡ Err BadWords
 few_five [] le = refl

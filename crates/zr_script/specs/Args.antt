@@ -6,7 +6,7 @@ use Rattle.zr_script_spec.specs.declared.command.Mode.{Mode}
 use Rattle.zr_script_spec.specs.declared.error.ScriptError.{ScriptError}
 use Rattle.zr_script_spec.specs.declared.error.ScriptError.TheVariants.{BadWords}
 use Rattle.zr_script_spec.specs.Step.{◌>>=◌, IsSaid}
-use Rattle.zr_script_spec.specs.Words.{two_of, three_of, zid_at, number_at, key_at, mode_at, kinds_at, aggregate_at}
+use Rattle.zr_script_spec.specs.Words.{two_of, some_two_of, three_of, zid_at, number_at, link_weight_at, key_at, mode_at, kinds_at, aggregate_at}
 
 -- that there are no words
 abbrev pub none_of : List (List ℕ) → Result (Unit {0}) ScriptError
@@ -37,6 +37,15 @@ names_then words then = do
   a ← zid_at w.0
   b ← zid_at w.1
   then (a, b)
+
+-- two words, which are names, and the words behind them, which may be a weight
+abbrev pub linked_then : List (List ℕ) → (List ℕ × List ℕ × ℕ → Result Command ScriptError) → Result Command ScriptError
+linked_then words then = do
+  w ← some_two_of words
+  a ← zid_at w.0
+  b ← zid_at w.1
+  weight ← link_weight_at w.2
+  then (a, b, weight)
 
 -- two words, a name and a number
 abbrev pub pair_then : List (List ℕ) → (List ℕ × ℕ → Result Command ScriptError) → Result Command ScriptError

@@ -2,10 +2,11 @@
 
 ghost use Rattle.std.specs.Prelude.{◌≡◌, ◌==◌, ◌<◌, ◌∷◌, [], length, nat_lt, position, MatchOption, if◌then◌else◌};
 ghost use Rattle.zr_script_spec.specs.Step.{IsSaid};
-ghost use Rattle.zr_script_spec.specs.Words.{words, aggregate_at, one_of, two_of, three_of, four_of, five_of};
+ghost use Rattle.zr_script_spec.specs.Words.{words, aggregate_at, link_weight_at, one_of, two_of, some_two_of, three_of, four_of, five_of};
 ghost use Rattle.zr_script.specs.Args.{Takes, none_of};
 
-use crate::word::is_word;
+use crate::word::{is_word, weight};
+use zr_msg::peer::Weight;
 use zr_script_spec::error::ScriptError;
 
 /// The first word of a text, and what is behind it.
@@ -66,6 +67,17 @@ pub fn two(text: &[u8]) -> Result<(&[u8], &[u8]), ScriptError>
     Ok((a, b))
 }
 
+/// The first two words and what is behind them, where there are two at least.
+#[tactic(auto, using(crate::proofs::Parting::few_two))]
+pub fn some_two(text: &[u8]) -> Result<(&[u8], &[u8], &[u8]), ScriptError>
+    ensures { Takes (λ x. x.0.now ∷ x.1.now ∷ words x.2.now) result (some_two_of (words text.now)) (words text.now) }
+{
+    match pair(text) {
+        Some(words) => Ok(words),
+        None => Err(ScriptError::BadWords),
+    }
+}
+
 /// The three words that there are.
 #[tactic(auto, using(crate::proofs::Parting::three_more))]
 pub fn three(text: &[u8]) -> Result<(&[u8], &[u8], &[u8]), ScriptError>
@@ -114,6 +126,17 @@ fn pair(text: &[u8]) -> Option<(&[u8], &[u8], &[u8])>
     let (a, rest) = first(text)?;
     let (b, rest) = first(rest)?;
     Some((a, b, rest))
+}
+
+/// The weight that the words behind a link's names spell: 1 where there is none.
+pub fn link_weight(text: &[u8]) -> Result<Weight, ScriptError>
+    ensures { IsSaid result (link_weight_at (words text.now)) }
+{
+    let Some((word, rest)) = first(text) else {
+        return Ok(Weight::one());
+    };
+    none(rest)?;
+    weight(word)
 }
 
 /// Whether the words behind an interest's key ask that all is told as one.

@@ -5,10 +5,10 @@ ghost use Rattle.zr_script_spec.specs.Lines.{most_line};
 ghost use Rattle.zr_script_spec.specs.Step.{IsSaid};
 ghost use Rattle.zr_script_spec.specs.Command.{command_of, by_words, by_name, by_later_name, by_last_name, is_command, is_later_command, is_last_command, is_silent, plain, query_body, reply_body, router_line, client_line, link_line, up_line, break_line, down_line, sub_line, unsub_line, able_line, unable_line, interest_line, uninterest_line, put_line, del_line, get_line, reply_line, end_line, handle_line, take_line, run_line, mark_line, show_line};
 ghost use Rattle.zr_script_spec.specs.Words.{words, is_clean};
-ghost use Rattle.zr_script.specs.Args.{LeadsOn, names_then, pair_then, numbered_then, keyed_then, terms_then};
+ghost use Rattle.zr_script.specs.Args.{LeadsOn, names_then, linked_then, pair_then, numbered_then, keyed_then, terms_then};
 ghost use Rattle.zr_script.specs.Short.{are_short};
 
-use crate::args::{aggregate, first, five, four, none, one, three, two};
+use crate::args::{aggregate, first, five, four, link_weight, none, one, some_two, three, two};
 use crate::body::{query_body, reply_body};
 use crate::word::{
     is_clean, is_word, key, kinds, mode, number, optional_key, payload, target, zid,
@@ -20,6 +20,7 @@ use zr_key::key::KeyExpr;
 use zr_msg::content::Content;
 use zr_msg::extras::Extras;
 use zr_msg::msg::{Kinds, Target};
+use zr_msg::peer::Weight;
 use zr_script_spec::command::{Act, Command, Mode};
 use zr_script_spec::error::ScriptError;
 
@@ -248,12 +249,23 @@ fn client(args: &[u8]) -> Result<Command, ScriptError>
 fn link(args: &[u8]) -> Result<Command, ScriptError>
     ensures { IsSaid result (link_line (words args.now)) }
 {
-    let (one, other) = names(args)?;
+    let (one, other, weight) = linked(args)?;
     if one == other {
         return Err(ScriptError::BadWords);
     }
-    let act = Act::Link { one, other };
+    let act = Act::Link { one, other, weight };
     Ok(Command::Act { act })
+}
+
+// Two names, and the weight of their link behind them, which is 1 where none stands there.
+fn linked(args: &[u8]) -> Result<(Zid, Zid, Weight), ScriptError>
+    ensures { LeadsOn result (linked_then (words args.now)) }
+{
+    let (one, other, behind) = some_two(args)?;
+    let one = zid(one)?;
+    let other = zid(other)?;
+    let weight = link_weight(behind)?;
+    Ok((one, other, weight))
 }
 
 #[tactic(auto, unfolding(zr_script_spec::specs::Command::up_line))]

@@ -4,7 +4,7 @@ ghost use Rattle.std.specs.Prelude.{◌≡◌, ◌++◌, ◌∷◌, codes, OnOk}
 ghost use Rattle.std.specs.Fmt.{decimal};
 ghost use Rattle.std.specs.List.{flat_map};
 ghost use Rattle.zr_body.specs.Payload.{payload_of};
-ghost use Rattle.zr_script_spec.specs.Report.{id_text, optional_id_text, payload_text, interest_text, kinds_text, key_text, if_so, target_text, sign_text, links_text, record_text, decl_text, msg_text};
+ghost use Rattle.zr_script_spec.specs.Report.{id_text, optional_id_text, payload_text, interest_text, kinds_text, key_text, if_so, target_text, sign_text, linked_text, links_text, record_text, decl_text, msg_text};
 
 use crate::part::{
     able_text, aggregate_text, kind_text, kinds_text, mode_text, put_id, put_interest, put_key,
@@ -12,7 +12,7 @@ use crate::part::{
     told_able_text,
 };
 use std::alloc::AllocError;
-use zr_id::record::LinkRecord;
+use zr_id::record::{LinkRecord, Linked};
 use zr_id::zid::Zid;
 use zr_key::key::KeyExpr;
 use zr_msg::content::Content;
@@ -204,26 +204,38 @@ pub fn put_record(state: &LinkRecord, out: &mut Vec<u8>) -> Result<(), AllocErro
     put_links(state.links(), out)
 }
 
-fn put_links(links: &[Zid], out: &mut Vec<u8>) -> Result<(), AllocError>
+fn put_links(links: &[Linked], out: &mut Vec<u8>) -> Result<(), AllocError>
     ensures { OnOk result (out.new.items ≡ out.old.items ++ links_text links.now) }
 {
     match links {
         [] => out.extend_from_slice(b"-"),
         [first, others @ ..] => {
-            put_id(first, out)?;
+            put_link(first, out)?;
             put_others(others, out)
         }
     }
 }
 
-fn put_others(links: &[Zid], out: &mut Vec<u8>) -> Result<(), AllocError>
-    ensures { OnOk result (out.new.items ≡ out.old.items ++ flat_map (λ id. 44 ∷ id_text id) links.now) }
+fn put_others(links: &[Linked], out: &mut Vec<u8>) -> Result<(), AllocError>
+    ensures { OnOk result (out.new.items ≡ out.old.items ++ flat_map (λ link. 44 ∷ linked_text link) links.now) }
 {
-    for id in links {
+    for link in links {
         out.extend_from_slice(b",")?;
-        put_id(id, out)?;
+        put_link(link, out)?;
     }
     Ok(())
+}
+
+// A link of a record, with its weight where that isn't 1.
+fn put_link(link: &Linked, out: &mut Vec<u8>) -> Result<(), AllocError>
+    ensures { OnOk result (out.new.items ≡ out.old.items ++ linked_text link.now) }
+{
+    put_id(&link.id, out)?;
+    if link.weight == 1 {
+        Ok(())
+    } else {
+        put_numbered(b":", u64::from(link.weight), out)
+    }
 }
 
 fn put_entry(

@@ -4,14 +4,18 @@ ghost use Rattle.std.specs.Prelude.{◌≡◌, ◌==◌, ◌&&◌, ◌+◌, ◌*
 ghost use Rattle.std.specs.List.{list_all};
 ghost use Rattle.std.specs.Option.{option_copied};
 ghost use Rattle.zr_script_spec.specs.Step.{IsSaid};
-ghost use Rattle.zr_script_spec.specs.Words.{words, is_word, is_clean, is_space, is_printable, is_digit, is_number, value_of, number_at, zid_at, target_at, mode_at, kinds_at, key_at, optional_key_at, payload_at};
+ghost use Rattle.zr_script_spec.specs.Words.{words, is_word, is_clean, is_space, is_printable, is_digit, is_number, value_of, number_at, weight_at, zid_at, target_at, mode_at, kinds_at, key_at, optional_key_at, payload_at};
 
 use std::alloc::{AllocError, Global};
 use zr_id::zid::Zid;
 use zr_key::key::{KeyError, KeyExpr};
 use zr_msg::msg::{Kinds, QUERYABLES, SUBSCRIBERS, Target};
+use zr_msg::peer::Weight;
 use zr_script_spec::command::Mode;
 use zr_script_spec::error::ScriptError;
+
+/// The most that a link weighs.
+const MOST_WEIGHT: u32 = 65_535;
 
 /// The words of a line, parted by one or more spaces.
 pub fn words_of(alloc: Global, line: &[u8]) -> Result<Vec<&[u8]>, AllocError>
@@ -57,6 +61,20 @@ pub fn number(word: &[u8]) -> Result<u32, ScriptError>
     match value(word) {
         Some(n) => Ok(n),
         None => Err(ScriptError::BadWords),
+    }
+}
+
+/// The weight that a word spells: a number from 1 to 65,535.
+#[tactic(auto, using(crate::proofs::Digits::not_small))]
+pub fn weight(word: &[u8]) -> Result<Weight, ScriptError>
+    ensures { IsSaid result (weight_at word.now) }
+{
+    if !is_number(word) {
+        return Err(ScriptError::BadWords);
+    }
+    match value(word) {
+        Some(n) if n > 0 && n <= MOST_WEIGHT => Ok(Weight::new(n as u16)),
+        _ => Err(ScriptError::BadWords),
     }
 }
 

@@ -10,7 +10,7 @@ use Rattle.zr_script_spec.specs.declared.error.ScriptError.TheVariants.{UnknownC
 use Rattle.zr_script_spec.specs.Lines.{most_line}
 use Rattle.zr_script_spec.specs.Words.{is_word, is_clean, is_printable, is_space}
 use Rattle.zr_script_explain.specs.Forms.{word_at, declares, undeclares, is_interest, ends_interest, is_of_client, is_numbered, key_number, form}
-use Rattle.zr_script_explain.specs.Places.{has_all, is_first_good, is_name, is_mode, is_kind, is_target_bad, is_interest_bad, odd_byte}
+use Rattle.zr_script_explain.specs.Places.{has_all, is_first_good, is_name, is_mode, is_kind, is_target_bad, is_interest_bad, is_weight_bad, odd_byte}
 
 -- ---- bytes as they are shown
 
@@ -78,9 +78,17 @@ interest_cause ws =
     else if not (is_kind (word_at 4 ws)) then told 4 ws ++ codes " is no kind, which is sub, able or all"
     else told 6 ws ++ codes " is not aggregate, which alone may stand behind the key"
 
+-- a word that must be a weight, and is none
+abbrev pub weight_cause : List (List ℕ) → List ℕ
+weight_cause ws = told 3 ws ++ codes " is no weight, which is a number from 1 to 65535"
+
 -- a word behind the first one is wrong
 abbrev pub later_cause : List (List ℕ) → List ℕ
-later_cause ws = if is_target_bad ws then target_cause ws else if is_interest_bad ws then interest_cause ws else second_cause ws
+later_cause ws =
+    if is_target_bad ws then target_cause ws
+    else if is_interest_bad ws then interest_cause ws
+    else if is_weight_bad ws then weight_cause ws
+    else second_cause ws
 
 -- there are too few words, or too many
 abbrev pub form_cause : List ℕ → List ℕ

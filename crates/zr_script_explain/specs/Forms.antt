@@ -30,6 +30,10 @@ is_interest name = is_word name (codes "interest")
 abbrev pub ends_interest : List ℕ → Bool
 ends_interest name = is_word name (codes "uninterest")
 
+-- the command that links two routers: `A B` stands behind it, and maybe a weight
+abbrev pub links : List ℕ → Bool
+links name = is_word name (codes "link")
+
 -- a command whose second word behind the name is a number
 abbrev pub is_numbered : List ℕ → Bool
 is_numbered name = declares name || undeclares name || is_interest name || ends_interest name || is_of_query name
@@ -62,7 +66,7 @@ words_behind name =
 
 -- and at most
 abbrev pub most_behind : List ℕ → ℕ
-most_behind name = if is_interest name then 6 else words_behind name
+most_behind name = if is_interest name then 6 else if links name then 3 else words_behind name
 
 -- which words a command takes that sends messages or lets them move on, or that stands behind these
 unfoldable pub last_form : List ℕ → List ℕ
@@ -95,7 +99,7 @@ unfoldable pub form : List ℕ → List ℕ
 form name =
     if is_word name (codes "router") then codes "router ID"
     else if is_word name (codes "client") then codes "client ID ROUTER"
-    else if is_word name (codes "link") then codes "link A B"
+    else if is_word name (codes "link") then codes "link A B [W]"
     else if is_word name (codes "up") then codes "up A B"
     else if is_word name (codes "break") then codes "break A B"
     else if is_word name (codes "down") then codes "down A B"

@@ -6,7 +6,7 @@ use Rattle.zr_script_spec.specs.declared.error.ScriptError.{ScriptError}
 use Rattle.zr_script_spec.specs.declared.error.ScriptError.TheVariants.{UnknownCommand, BadWords, BadKey, UnknownName, NameTaken, NotLinked, AlreadyLinked, NothingThere, NotAsked, NotSettled, NotJoined, Limit, NoMemory}
 use Rattle.zr_script_spec.specs.Lines.{most_line}
 use Rattle.zr_script_spec.specs.Words.{is_word, is_clean, is_printable, is_space, is_number, value_of}
-use Rattle.zr_script_explain.specs.Forms.{word_at, gives_number, is_interest, is_of_client, key_number, words_behind, most_behind}
+use Rattle.zr_script_explain.specs.Forms.{word_at, gives_number, is_interest, links, is_of_client, key_number, words_behind, most_behind}
 
 -- ---- words that have not their form
 
@@ -25,6 +25,10 @@ is_mode word = is_word word (codes "now") || is_word word (codes "later") || is_
 abbrev pub is_kind : List ℕ → Bool
 is_kind word = is_word word (codes "sub") || is_word word (codes "able") || is_word word (codes "all")
 
+-- a word that is a weight
+abbrev pub is_weight : List ℕ → Bool
+is_weight word = is_number word && nat_lt 0 (value_of word) && nat_lt (value_of word) (2 ^ 16)
+
 -- a line has as many words as its command takes
 abbrev pub has_all : List (List ℕ) → Bool
 has_all ws = nat_le (words_behind (word_at 0 ws) + 1) (length ws) && nat_le (length ws) (most_behind (word_at 0 ws) + 1)
@@ -41,13 +45,17 @@ is_target_bad ws = is_word (word_at 0 ws) (codes "get") && is_count (word_at 2 w
 abbrev pub is_interest_bad : List (List ℕ) → Bool
 is_interest_bad ws = is_interest (word_at 0 ws) && is_count (word_at 2 ws)
 
+-- where both routers of `link` are as they must be, a weight stands behind them that is none
+abbrev pub is_weight_bad : List (List ℕ) → Bool
+is_weight_bad ws = links (word_at 0 ws) && is_name (word_at 2 ws) && nat_lt 3 (length ws) && not (is_weight (word_at 3 ws))
+
 -- the mode, or the kinds, or what stands behind the key
 abbrev pub interest_word : List (List ℕ) → ℕ
 interest_word ws = if not (is_mode (word_at 3 ws)) then 3 else if not (is_kind (word_at 4 ws)) then 4 else 6
 
 -- the word that is wrong where the first one is good
 abbrev pub later_word : List (List ℕ) → ℕ
-later_word ws = if is_target_bad ws then 4 else if is_interest_bad ws then interest_word ws else 2
+later_word ws = if is_target_bad ws then 4 else if is_interest_bad ws then interest_word ws else if is_weight_bad ws then 3 else 2
 
 -- the first word that is not what its command takes there: one that is missing or too much comes before one that has not its form
 abbrev pub bad_word : List (List ℕ) → ℕ

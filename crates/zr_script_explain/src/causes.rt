@@ -3,7 +3,7 @@
 ghost use Rattle.std.specs.Prelude.{◌≡◌, ◌++◌, [], map, OnOk};
 ghost use Rattle.zr_key.specs.Key.{read_key};
 ghost use Rattle.zr_script_explain.specs.Places.{odd_byte};
-ghost use Rattle.zr_script_explain.specs.Causes.{already_cause, asked_cause, byte_cause, cause, command_cause, fault_cause, first_cause, form_cause, interest_cause, key_cause, later_cause, limit_cause, link_cause, name_cause, nothing_cause, number_cause, odd_cause, of_two, second_cause, space_cause, taken_cause, target_cause, told, unknown_cause, words_cause};
+ghost use Rattle.zr_script_explain.specs.Causes.{already_cause, asked_cause, byte_cause, cause, command_cause, fault_cause, first_cause, form_cause, interest_cause, key_cause, later_cause, limit_cause, link_cause, name_cause, nothing_cause, number_cause, odd_cause, of_two, second_cause, space_cause, taken_cause, target_cause, told, unknown_cause, weight_cause, words_cause};
 
 use crate::forms::{
     declares, ends_interest, form, is_interest, is_numbered, is_of_client, key_number, undeclares,
@@ -11,7 +11,7 @@ use crate::forms::{
 };
 use crate::places::{
     begins_with_space, has_all, is_first_good, is_interest_bad, is_kind, is_mode, is_name,
-    is_target_bad, odd_byte,
+    is_target_bad, is_weight_bad, odd_byte,
 };
 use crate::put::{put_one, put_shown, put_told, put_two};
 use std::alloc::{AllocError, Global};
@@ -143,6 +143,8 @@ fn put_later_cause(words: &[&[u8]], text: &mut Vec<u8>) -> Result<(), AllocError
         put_target_cause(words, text)
     } else if is_interest_bad(words) {
         put_interest_cause(words, text)
+    } else if is_weight_bad(words) {
+        put_weight_cause(words, text)
     } else {
         put_second_cause(words, text)
     }
@@ -184,6 +186,17 @@ fn put_target_cause(words: &[&[u8]], text: &mut Vec<u8>) -> Result<(), AllocErro
     put_word(
         4,
         b" is no target, which is best, all or complete",
+        words,
+        text,
+    )
+}
+
+fn put_weight_cause(words: &[&[u8]], text: &mut Vec<u8>) -> Result<(), AllocError>
+    ensures { OnOk result (text.new.items ≡ text.old.items ++ weight_cause (map (λ w. w.now) words.now)) }
+{
+    put_word(
+        3,
+        b" is no weight, which is a number from 1 to 65535",
         words,
         text,
     )

@@ -1,7 +1,7 @@
 //! What words a command takes.
 
 ghost use Rattle.std.specs.Prelude.{◌≡◌, ◌++◌, map, codes};
-ghost use Rattle.zr_script_explain.specs.Forms.{declares, ends_interest, form, later_form, last_form, gives_number, is_interest, is_numbered, is_of_client, is_of_query, is_single, key_number, most_behind, publishes, undeclares, word_at, words_behind};
+ghost use Rattle.zr_script_explain.specs.Forms.{declares, ends_interest, form, later_form, last_form, gives_number, is_interest, is_numbered, is_of_client, is_of_query, is_single, key_number, links, most_behind, publishes, undeclares, word_at, words_behind};
 
 use zr_script::word::is_word;
 
@@ -60,6 +60,13 @@ pub(crate) fn ends_interest(name: &[u8]) -> bool
     ensures { result ≡ ends_interest name.now }
 {
     is_word(name, b"uninterest")
+}
+
+/// Whether a command links two routers.
+pub(crate) fn links(name: &[u8]) -> bool
+    ensures { result ≡ links name.now }
+{
+    is_word(name, b"link")
 }
 
 /// Whether the second word behind a command's name is a number.
@@ -131,6 +138,8 @@ pub(crate) fn most_behind(name: &[u8]) -> usize
 {
     if is_interest(name) {
         6
+    } else if links(name) {
+        3
     } else {
         words_behind(name)
     }
@@ -146,7 +155,7 @@ pub(crate) fn form(name: &[u8]) -> &'static [u8]
     } else if is_word(name, b"client") {
         b"client ID ROUTER"
     } else if is_word(name, b"link") {
-        b"link A B"
+        b"link A B [W]"
     } else if is_word(name, b"up") {
         b"up A B"
     } else if is_word(name, b"break") {

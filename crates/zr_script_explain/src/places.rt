@@ -2,10 +2,10 @@
 
 ghost use Rattle.std.specs.Prelude.{◌≡◌, map, slice_get};
 ghost use Rattle.zr_script_spec.specs.Words.{is_space};
-ghost use Rattle.zr_script_explain.specs.Places.{bad_word, has_all, interest_word, is_count, is_first_good, is_interest_bad, is_kind, is_mode, is_name, is_target_bad, later_word, linked_word, odd_byte, place, place_of_byte, place_of_limit, place_of_space, place_of_word, taken_word, unknown_word};
+ghost use Rattle.zr_script_explain.specs.Places.{bad_word, has_all, interest_word, is_count, is_first_good, is_interest_bad, is_kind, is_mode, is_name, is_target_bad, is_weight, is_weight_bad, later_word, linked_word, odd_byte, place, place_of_byte, place_of_limit, place_of_space, place_of_word, taken_word, unknown_word};
 
 use crate::forms::{
-    gives_number, is_interest, is_of_client, key_number, most_behind, word_at, words_behind,
+    gives_number, is_interest, is_of_client, key_number, links, most_behind, word_at, words_behind,
 };
 use zr_id::zid::Zid;
 use zr_script::line::MOST_LINE;
@@ -92,6 +92,8 @@ fn later_word(words: &[&[u8]]) -> usize
         4
     } else if is_interest_bad(words) {
         interest_word(words)
+    } else if is_weight_bad(words) {
+        3
     } else {
         2
     }
@@ -122,6 +124,29 @@ pub(crate) fn is_interest_bad(words: &[&[u8]]) -> bool
     ensures { result ≡ is_interest_bad (map (λ w. w.now) words.now) }
 {
     is_interest(word_at(0, words)) && is_count(word_at(2, words))
+}
+
+/// Whether a weight stands behind the two routers of a `link` that is none.
+pub(crate) fn is_weight_bad(words: &[&[u8]]) -> bool
+    ensures { result ≡ is_weight_bad (map (λ w. w.now) words.now) }
+{
+    links(word_at(0, words))
+        && is_name(word_at(2, words))
+        && words.len() > 3
+        && !is_weight(word_at(3, words))
+}
+
+#[tactic(auto, using(zr_script::proofs::Digits::not_small))]
+fn is_weight(word: &[u8]) -> bool
+    ensures { result ≡ is_weight word.now }
+{
+    if !is_number(word) {
+        return false;
+    }
+    match value(word) {
+        Some(n) => n > 0 && n <= 65_535,
+        None => false,
+    }
 }
 
 /// Whether a word tells of which declarations an interest is to be told.

@@ -30,7 +30,7 @@ use Rattle.zr_script_spec.specs.declared.command.Command.{Command}
 use Rattle.zr_script_spec.specs.declared.command.Command.TheVariants.{Act, Run}
 use Rattle.zr_script_spec.specs.Step.{◌>>=◌}
 use Rattle.zr_script_spec.specs.Lines.{most_line}
-use Rattle.zr_script_spec.specs.Words.{words, is_word, is_clean, one_of, two_of, three_of, four_of, five_of, zid_at, number_at, target_at, mode_at, kinds_at, aggregate_at, key_at, optional_key_at, payload_at}
+use Rattle.zr_script_spec.specs.Words.{words, is_word, is_clean, one_of, two_of, some_two_of, three_of, four_of, five_of, zid_at, number_at, link_weight_at, target_at, mode_at, kinds_at, aggregate_at, key_at, optional_key_at, payload_at}
 
 -- ---- one command each, by the words behind its name
 
@@ -49,13 +49,14 @@ client_line args = do
   router ← zid_at w.1
   Ok (Act (Client id router))
 
--- link ONE OTHER: two routers, which differ
+-- link ONE OTHER, or with the weight behind the names: two routers, which differ
 unfoldable pub link_line : List (List ℕ) → Result Command ScriptError
 link_line args = do
-  w ← two_of args
+  w ← some_two_of args
   one ← zid_at w.0
   other ← zid_at w.1
-  if is_named one other then Err BadWords else Ok (Act (Link one other))
+  weight ← link_weight_at w.2
+  if is_named one other then Err BadWords else Ok (Act (Link one other weight))
 
 -- up ROUTER NEIGHBOUR
 unfoldable pub up_line : List (List ℕ) → Result Command ScriptError

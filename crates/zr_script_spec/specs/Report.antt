@@ -1,9 +1,9 @@
 -- The texts that are written: the lines of a report, the line that tells a refusal, and the usage line.
-use Rattle.std.specs.Prelude.{ℕ, Bool, true, false, if◌then◌else◌, List, [], ◌∷◌, ◌++◌, map, codes, Option, Some, None}
+use Rattle.std.specs.Prelude.{ℕ, ◌==◌, Bool, true, false, if◌then◌else◌, List, [], ◌∷◌, ◌++◌, map, codes, Option, Some, None}
 use Rattle.std.specs.Fmt.{decimal}
 use Rattle.std.specs.List.{flat_map, join_with_byte}
 use Rattle.hex.specs.Hex.{encode_lower}
-use Rattle.zr_id.specs.Record.{RecordState}
+use Rattle.zr_id.specs.Record.{LinkedState, RecordState}
 use Rattle.zr_body.specs.Payload.{payload_of, is_del}
 use Rattle.zr_msg.specs.Kinds.{in_subs, in_ables}
 use Rattle.zr_msg.specs.declared.decl.Kind.{Kind}
@@ -86,10 +86,14 @@ target_text t.Best = codes "best"
 target_text t.All = codes "all"
 target_text t.Complete = codes "complete"
 
--- the routers to which a link record lists links
-abbrev pub links_text : List (List ℕ) → List ℕ
+-- a link of a record: the router to which it leads, and its weight where that isn't 1
+abbrev pub linked_text : LinkedState → List ℕ
+linked_text link = if link.weight == 1 then id_text link.id else id_text link.id ++ codes ":" ++ decimal link.weight
+
+-- the links that a link record lists
+abbrev pub links_text : List LinkedState → List ℕ
 links_text [] = nothing_text
-links_text (id ∷ ids) = join_with_byte 44 (map id_text (id ∷ ids))
+links_text (link ∷ links) = join_with_byte 44 (map linked_text (link ∷ links))
 
 -- a link record
 abbrev pub record_text : RecordState → List ℕ

@@ -51,6 +51,12 @@ two_of (a ∷ []) = Err BadWords
 two_of (a ∷ b ∷ []) = Ok (a, b)
 two_of (a ∷ b ∷ c ∷ more) = Err BadWords
 
+-- two words, and those behind them
+abbrev pub some_two_of : List (List ℕ) → Result (List ℕ × List ℕ × List (List ℕ)) ScriptError
+some_two_of [] = Err BadWords
+some_two_of (a ∷ []) = Err BadWords
+some_two_of (a ∷ b ∷ more) = Ok (a, b, more)
+
 abbrev pub three_of : List (List ℕ) → Result (List ℕ × List ℕ × List ℕ) ScriptError
 three_of [] = Err BadWords
 three_of (a ∷ []) = Err BadWords
@@ -105,6 +111,17 @@ value_of digits = fold (λ n b. n * 10 + (b - 48)) 0 digits
 -- a number of at most 32 bits
 abbrev pub number_at : List ℕ → Result ℕ ScriptError
 number_at word = if is_number word && nat_lt (value_of word) (2 ^ 32) then Ok (value_of word) else Err BadWords
+
+-- a weight: a number from 1 to 65,535
+abbrev pub weight_at : List ℕ → Result ℕ ScriptError
+weight_at word =
+    if is_number word && nat_lt 0 (value_of word) && nat_lt (value_of word) (2 ^ 16) then Ok (value_of word) else Err BadWords
+
+-- the weight that the words behind a link's names spell: there is one word, or there is none and the weight is 1
+abbrev pub link_weight_at : List (List ℕ) → Result ℕ ScriptError
+link_weight_at [] = Ok 1
+link_weight_at (word ∷ []) = weight_at word
+link_weight_at (a ∷ b ∷ more) = Err BadWords
 
 -- ---- targets
 

@@ -7,6 +7,7 @@ use zr_id::zid::Zid;
 use zr_key::key::KeyExpr;
 use zr_msg::content::Content;
 use zr_msg::msg::{Kinds, Target};
+use zr_msg::peer::Weight;
 
 /// Of which declarations an interest is to be told.
 #[derive(Clone, Copy, Debug, PartialEq, Eq)]
@@ -40,10 +41,11 @@ pub enum Act {
         id: Zid,
         router: Zid,
     },
-    /// A link between two routers, up at neither end.
+    /// A link of some weight between two routers, up at neither end.
     Link {
         one: Zid,
         other: Zid,
+        weight: Weight,
     },
     /// A router's end of its link to a neighbour comes up.
     Up {

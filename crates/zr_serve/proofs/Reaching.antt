@@ -15,7 +15,8 @@ use Rattle.zr_link_writer.proofs.Carrying.{appends_none, appends_nothing_more, p
 use Rattle.zr_link_job.specs.Starts.{Starts}
 use Rattle.zr_link_job.specs.declared.job.LinkJob.{LinkJob}
 use Rattle.zr_link_job.specs.declared.job.Side.TheVariants.{Accepting, Dialling}
-use Rattle.zr_serve.specs.Calls.{Records, side_of, dials, accepts, IsGoing}
+use Rattle.zr_serve.specs.Calls.{Records, listen_call, dial_call, accept_call, link_of, dials, accepts, IsGoing}
+use Rattle.zr_dial.specs.Dial.{DialState}
 use Rattle.zr_serve.specs.Jobs.{LinksState, next_job, with_next}
 use Rattle.zr_serve.specs.Lines.{dial_text, serving_text, accept_text}
 use Rattle.zr_serve.specs.Moments.{Moment, moment, Serves, BreaksOff}
@@ -30,30 +31,30 @@ rose_later a b c le rose = omega arith
 
 -- ---- a dial
 
-pub dial_linked : (address : List ℕ) (is : Bool) (calls mid calls' : Option (List Call)) (told told' : Option (List LinkJob)) (faults faults' : ℕ) (held : Option (List ℕ)) (l l' : LinksState)
-    → host.Records (Dial address is) calls mid → is ≡ true → calls' ≡ mid → Starts (next_job l Dialling ∷ []) told told' faults faults' → l' ≡ with_next l
-    → (is_link : Bool) × Serves (Dial address is_link ∷ []) (moment calls told faults held l) (moment calls' told' faults' held l')
-dial_linked address false calls mid calls' told told' faults faults' held l l' recorded e same started links = absurd (false≢true e)
-dial_linked address true calls mid calls' told told' faults faults' held l l' recorded e same started links = (
+pub dial_linked : (d : DialState) (is : Bool) (calls mid calls' : Option (List Call)) (told told' : Option (List LinkJob)) (faults faults' : ℕ) (held : Option (List ℕ)) (l l' : LinksState)
+    → host.Records (Dial d.address is) calls mid → is ≡ true → calls' ≡ mid → Starts (next_job l (record { side = Dialling; weight = d.weight }) ∷ []) told told' faults faults' → l' ≡ with_next l
+    → (is_link : Bool) × Serves (dial_call d is_link ∷ []) (moment calls told faults held l) (moment calls' told' faults' held l')
+dial_linked d false calls mid calls' told told' faults faults' held l l' recorded e same started links = absurd (false≢true e)
+dial_linked d true calls mid calls' told told' faults faults' held l l' recorded e same started links = (
   true,
   record {
-    recorded = subst (λ z. Records (Dial address true ∷ []) calls z) (sym same) (records_one (Dial address true) calls mid recorded);
+    recorded = subst (λ z. Records (dial_call d true ∷ []) calls z) (sym same) (records_one (dial_call d true) calls mid recorded);
     started = started;
     links_are = links;
     complained = appends_none held;
   },
 )
 
-pub dial_unlinked : (address : List ℕ) (is : Bool) (calls mid calls' : Option (List Call)) (told told' : Option (List LinkJob)) (faults faults' : ℕ) (held : Option (List ℕ)) (l l' : LinksState)
-    → host.Records (Dial address is) calls mid → is ≡ true → calls' ≡ mid → told' ≡ told → faults' ≡ faults
-    → (is_link : Bool) × BreaksOff (Dial address is_link ∷ []) (moment calls told faults held l) (moment calls' told' faults' held l')
-dial_unlinked address false calls mid calls' told told' faults faults' held l l' recorded e same told_same faults_same = absurd (false≢true e)
-dial_unlinked address true calls mid calls' told told' faults faults' held l l' recorded e same told_same faults_same = (
+pub dial_unlinked : (d : DialState) (is : Bool) (calls mid calls' : Option (List Call)) (told told' : Option (List LinkJob)) (faults faults' : ℕ) (held : Option (List ℕ)) (l l' : LinksState)
+    → host.Records (Dial d.address is) calls mid → is ≡ true → calls' ≡ mid → told' ≡ told → faults' ≡ faults
+    → (is_link : Bool) × BreaksOff (dial_call d is_link ∷ []) (moment calls told faults held l) (moment calls' told' faults' held l')
+dial_unlinked d false calls mid calls' told told' faults faults' held l l' recorded e same told_same faults_same = absurd (false≢true e)
+dial_unlinked d true calls mid calls' told told' faults faults' held l l' recorded e same told_same faults_same = (
   true,
   record {
-    recorded = subst (λ z. Records (Dial address true ∷ []) calls z) (sym same) (records_one (Dial address true) calls mid recorded);
+    recorded = subst (λ z. Records (dial_call d true ∷ []) calls z) (sym same) (records_one (dial_call d true) calls mid recorded);
     jobs = [];
-    last = next_job l Dialling ∷ [];
+    last = next_job l (record { side = Dialling; weight = d.weight }) ∷ [];
     jobs_are = refl;
     one = omega arith;
     started = rw told_same (rw faults_same (starts_none told faults));
@@ -61,44 +62,44 @@ dial_unlinked address true calls mid calls' told told' faults faults' held l l' 
   },
 )
 
-pub dial_lost : (address : List ℕ) (is : Bool) (calls mid : Option (List Call)) (told : Option (List LinkJob)) (faults : ℕ) (held held' : Option (List ℕ)) (l : LinksState)
-    → host.Records (Dial address is) calls mid → is ≡ false → Appends (dial_text address) held held'
-    → (is_link : Bool) × Serves (Dial address is_link ∷ []) (moment calls told faults held l) (moment mid told faults held' l)
-dial_lost address true calls mid told faults held held' l recorded e said = absurd (true≢false e)
-dial_lost address false calls mid told faults held held' l recorded e said = (
+pub dial_lost : (d : DialState) (is : Bool) (calls mid : Option (List Call)) (told : Option (List LinkJob)) (faults : ℕ) (held held' : Option (List ℕ)) (l : LinksState)
+    → host.Records (Dial d.address is) calls mid → is ≡ false → Appends (dial_text d.address) held held'
+    → (is_link : Bool) × Serves (dial_call d is_link ∷ []) (moment calls told faults held l) (moment mid told faults held' l)
+dial_lost d true calls mid told faults held held' l recorded e said = absurd (true≢false e)
+dial_lost d false calls mid told faults held held' l recorded e said = (
   false,
   record {
-    recorded = records_one (Dial address false) calls mid recorded;
+    recorded = records_one (dial_call d false) calls mid recorded;
     started = starts_none told faults;
     links_are = refl;
-    complained = appends_nothing_more (dial_text address) held held' said;
+    complained = appends_nothing_more (dial_text d.address) held held' said;
   },
 )
 
-pub dial_untold : (address : List ℕ) (is : Bool) (calls mid : Option (List Call)) (told : Option (List LinkJob)) (faults : ℕ) (held held' : Option (List ℕ)) (l : LinksState)
-    → host.Records (Dial address is) calls mid → is ≡ false → AppendsPrefix (dial_text address) held held'
-    → (is_link : Bool) × BreaksOff (Dial address is_link ∷ []) (moment calls told faults held l) (moment mid told faults held' l)
-dial_untold address true calls mid told faults held held' l recorded e said = absurd (true≢false e)
-dial_untold address false calls mid told faults held held' l recorded e said = (
+pub dial_untold : (d : DialState) (is : Bool) (calls mid : Option (List Call)) (told : Option (List LinkJob)) (faults : ℕ) (held held' : Option (List ℕ)) (l : LinksState)
+    → host.Records (Dial d.address is) calls mid → is ≡ false → AppendsPrefix (dial_text d.address) held held'
+    → (is_link : Bool) × BreaksOff (dial_call d is_link ∷ []) (moment calls told faults held l) (moment mid told faults held' l)
+dial_untold d true calls mid told faults held held' l recorded e said = absurd (true≢false e)
+dial_untold d false calls mid told faults held held' l recorded e said = (
   false,
   record {
-    recorded = records_one (Dial address false) calls mid recorded;
+    recorded = records_one (dial_call d false) calls mid recorded;
     jobs = [];
     last = [];
     jobs_are = refl;
     one = omega arith;
     started = starts_none told faults;
-    complained = prefix_more (dial_text address) [] held held' said;
+    complained = prefix_more (dial_text d.address) [] held held' said;
   },
 )
 
 -- ---- an accept
 
 pub accept_linked : (calls mid calls' : Option (List Call)) (told told' : Option (List LinkJob)) (faults faults' : ℕ) (held : Option (List ℕ)) (l l' : LinksState)
-    → host.Records (Accept answer.Link) calls mid → calls' ≡ mid → Starts (next_job l Accepting ∷ []) told told' faults faults' → l' ≡ with_next l
+    → host.Records (Accept answer.Link) calls mid → calls' ≡ mid → Starts (next_job l (record { side = Accepting; weight = 1 }) ∷ []) told told' faults faults' → l' ≡ with_next l
     → Serves (accepts (answer.Link ∷ [])) (moment calls told faults held l) (moment calls' told' faults' held l')
 accept_linked calls mid calls' told told' faults faults' held l l' recorded same started links = record {
-  recorded = subst (λ z. Records (Accept answer.Link ∷ []) calls z) (sym same) (records_one (Accept answer.Link) calls mid recorded);
+  recorded = subst (λ z. Records (accept_call answer.Link ∷ []) calls z) (sym same) (records_one (accept_call answer.Link) calls mid recorded);
   started = started;
   links_are = links;
   complained = appends_none held;
@@ -108,9 +109,9 @@ pub accept_unlinked : (calls mid calls' : Option (List Call)) (told told' : Opti
     → host.Records (Accept answer.Link) calls mid → calls' ≡ mid → told' ≡ told → faults' ≡ faults
     → BreaksOff (accepts (answer.Link ∷ [])) (moment calls told faults held l) (moment calls' told' faults' held l')
 accept_unlinked calls mid calls' told told' faults faults' held l l' recorded same told_same faults_same = record {
-  recorded = subst (λ z. Records (Accept answer.Link ∷ []) calls z) (sym same) (records_one (Accept answer.Link) calls mid recorded);
+  recorded = subst (λ z. Records (accept_call answer.Link ∷ []) calls z) (sym same) (records_one (accept_call answer.Link) calls mid recorded);
   jobs = [];
-  last = next_job l Accepting ∷ [];
+  last = next_job l (record { side = Accepting; weight = 1 }) ∷ [];
   jobs_are = refl;
   one = omega arith;
   started = rw told_same (rw faults_same (starts_none told faults));
@@ -119,29 +120,29 @@ accept_unlinked calls mid calls' told told' faults faults' held l l' recorded sa
 
 -- an accept that gave no link
 pub accept_other : (a : Answer) (calls mid : Option (List Call)) (told : Option (List LinkJob)) (faults : ℕ) (held : Option (List ℕ)) (l : LinksState)
-    → side_of (Accept a) ≡ [] → host.Records (Accept a) calls mid
+    → link_of 1 (Accept a) ≡ [] → host.Records (Accept a) calls mid
     → Serves (accepts (a ∷ [])) (moment calls told faults held l) (moment mid told faults held l)
 accept_other answer.Link calls mid told faults held l none recorded = absurd (by none)
   where
     none_is_one : suc zero ≡ zero → ⊥
     none_is_one e = omega arith
 
-    by : Accepting ∷ [] ≡ [] → ⊥
+    by : record { side = Accepting; weight = 1 } ∷ [] ≡ [] → ⊥
     by e = none_is_one (ap (λ s. length s) e)
 accept_other answer.Quiet calls mid told faults held l none recorded = record {
-  recorded = records_one (Accept answer.Quiet) calls mid recorded;
+  recorded = records_one (accept_call answer.Quiet) calls mid recorded;
   started = starts_none told faults;
   links_are = refl;
   complained = appends_none held;
 }
 accept_other answer.End calls mid told faults held l none recorded = record {
-  recorded = records_one (Accept answer.End) calls mid recorded;
+  recorded = records_one (accept_call answer.End) calls mid recorded;
   started = starts_none told faults;
   links_are = refl;
   complained = appends_none held;
 }
 accept_other answer.Failed calls mid told faults held l none recorded = record {
-  recorded = records_one (Accept answer.Failed) calls mid recorded;
+  recorded = records_one (accept_call answer.Failed) calls mid recorded;
   started = starts_none told faults;
   links_are = refl;
   complained = appends_none held;
@@ -149,7 +150,7 @@ accept_other answer.Failed calls mid told faults held l none recorded = record {
 
 -- what an accept that lets serving go on is
 pub accept_gives : (a : Answer) (calls mid calls' : Option (List Call)) (told told' : Option (List LinkJob)) (faults faults' : ℕ) (held : Option (List ℕ)) (l l' : LinksState)
-    → host.Records (Accept a) calls mid → a ≡ answer.Link → calls' ≡ mid → Starts (next_job l Accepting ∷ []) told told' faults faults' → l' ≡ with_next l
+    → host.Records (Accept a) calls mid → a ≡ answer.Link → calls' ≡ mid → Starts (next_job l (record { side = Accepting; weight = 1 }) ∷ []) told told' faults faults' → l' ≡ with_next l
     → (x : Answer) × IsGoing x × Serves (accepts (x ∷ [])) (moment calls told faults held l) (moment calls' told' faults' held l')
 accept_gives a calls mid calls' told told' faults faults' held l l' recorded is same started links =
     (answer.Link, tt, accept_linked calls mid calls' told told' faults faults' held l l' (subst (λ z. host.Records (Accept z) calls mid) is recorded) same started links)
@@ -180,10 +181,10 @@ accept_fails a calls mid told faults held l recorded is =
 
 pub accepts_both : (xs ys : List Answer) → accepts (xs ++ ys) ≡ accepts xs ++ accepts ys
 accepts_both [] ys = refl
-accepts_both (x ∷ xs) ys = ap (λ z. Accept x ∷ z) (accepts_both xs ys)
+accepts_both (x ∷ xs) ys = ap (λ z. accept_call x ∷ z) (accepts_both xs ys)
 
 -- one more address was dialled, and others are behind it
-pub dials_next : (xs : List (List ℕ)) (x : List ℕ) (others : List (List ℕ)) (gave : List Bool) (is : Bool) → length gave ≡ length xs
+pub dials_next : (xs : List DialState) (x : DialState) (others : List DialState) (gave : List Bool) (is : Bool) → length gave ≡ length xs
     → dials (xs ++ x ∷ others) (gave ++ is ∷ []) ≡ dials xs gave ++ dials (x ∷ others) (is ∷ [])
 dials_next [] x others [] is e = refl
 dials_next [] x others (g ∷ gave) is e = absurd (by e)
@@ -194,10 +195,10 @@ dials_next (y ∷ xs) x others [] is e = absurd (by e)
   where
     by : 0 ≡ suc (length xs) → ⊥
     by e = omega arith
-dials_next (y ∷ xs) x others (g ∷ gave) is e = ap (λ z. Dial y g ∷ z) (dials_next xs x others gave is (omega arith))
+dials_next (y ∷ xs) x others (g ∷ gave) is e = ap (λ z. dial_call y g ∷ z) (dials_next xs x others gave is (omega arith))
 
 -- one dial, whatever else is to be dialled
-pub dials_one : (x : List ℕ) (others : List (List ℕ)) (is : Bool) → dials (x ∷ others) (is ∷ []) ≡ Dial x is ∷ []
+pub dials_one : (x : DialState) (others : List DialState) (is : Bool) → dials (x ∷ others) (is ∷ []) ≡ dial_call x is ∷ []
 dials_one x [] is = refl
 dials_one x (y ∷ others) is = refl
 
@@ -234,12 +235,12 @@ split_at [] i d lt = absurd (by lt)
 split_at (x ∷ xs) zero d lt = (xs, refl)
 split_at (x ∷ xs) (suc i) d lt = let r = split_at xs i d (omega arith) in (r.0, ap (λ z. x ∷ z) r.1)
 
-pub dials_none : (texts : List (List ℕ)) (a : Moment) → Dials texts 0 a a
+pub dials_none : (texts : List DialState) (a : Moment) → Dials texts 0 a a
 dials_none [] a = record { gave = []; all = refl; serves = serves_none a }
 dials_none (x ∷ texts) a = record { gave = []; all = refl; serves = serves_none a }
 
-pub dials_more : (texts : List (List ℕ)) (i : ℕ) (x : List ℕ) (a b c : Moment) → i < length texts → x ≡ get_or texts i [] → Dials texts i a b
-    → (is : Bool) × Serves (Dial x is ∷ []) b c → Dials texts (suc i) a c
+pub dials_more : (texts : List DialState) (i : ℕ) (x : DialState) (a b c : Moment) → i < length texts → x ≡ get_or texts i x → Dials texts i a b
+    → (is : Bool) × Serves (dial_call x is ∷ []) b c → Dials texts (suc i) a c
 dials_more texts i x a b c lt at p q = record {
   gave = p.gave ++ q.0 ∷ [];
   all = count;
@@ -252,59 +253,59 @@ dials_more texts i x a b c lt at p q = record {
     as_long : length p.gave ≡ length (take i texts)
     as_long = p.all ∙ sym (length-take-le i texts (omega arith))
 
-    made : dials (take (suc i) texts) (p.gave ++ q.0 ∷ []) ≡ dials (take i texts) p.gave ++ Dial x q.0 ∷ []
-    made = ap (λ z. dials z (p.gave ++ q.0 ∷ [])) (take-suc texts i [] lt ∙ ap (λ z. take i texts ++ z ∷ []) (sym at))
+    made : dials (take (suc i) texts) (p.gave ++ q.0 ∷ []) ≡ dials (take i texts) p.gave ++ dial_call x q.0 ∷ []
+    made = ap (λ z. dials z (p.gave ++ q.0 ∷ [])) (take-suc texts i x lt ∙ ap (λ z. take i texts ++ z ∷ []) (sym at))
         ∙ (dials_next (take i texts) x [] p.gave q.0 as_long ∙ ap (λ z. dials (take i texts) p.gave ++ z) (dials_one x [] q.0))
 
-pub dials_stop : (texts : List (List ℕ)) (i : ℕ) (x : List ℕ) (a b c : Moment) → i < length texts → x ≡ get_or texts i [] → Dials texts i a b
-    → (is : Bool) × BreaksOff (Dial x is ∷ []) b c → (gave : List Bool) × BreaksOff (dials texts gave) a c
+pub dials_stop : (texts : List DialState) (i : ℕ) (x : DialState) (a b c : Moment) → i < length texts → x ≡ get_or texts i x → Dials texts i a b
+    → (is : Bool) × BreaksOff (dial_call x is ∷ []) b c → (gave : List Bool) × BreaksOff (dials texts gave) a c
 dials_stop texts i x a b c lt at p q = (p.gave ++ q.0 ∷ [], subst (λ z. BreaksOff z a c) (sym made) (breaks_both _ _ a b c p.serves q.1))
   where
     as_long : length p.gave ≡ length (take i texts)
     as_long = p.all ∙ sym (length-take-le i texts (omega arith))
 
-    parts : (others : List (List ℕ)) × (texts ≡ take i texts ++ get_or texts i [] ∷ others)
-    parts = split_at texts i [] lt
+    parts : (others : List DialState) × (texts ≡ take i texts ++ get_or texts i x ∷ others)
+    parts = split_at texts i x lt
 
-    made : dials texts (p.gave ++ q.0 ∷ []) ≡ dials (take i texts) p.gave ++ Dial x q.0 ∷ []
+    made : dials texts (p.gave ++ q.0 ∷ []) ≡ dials (take i texts) p.gave ++ dial_call x q.0 ∷ []
     made = ap (λ z. dials z (p.gave ++ q.0 ∷ [])) (parts.1 ∙ ap (λ z. take i texts ++ z ∷ parts.0) (sym at))
         ∙ (dials_next (take i texts) x parts.0 p.gave q.0 as_long ∙ ap (λ z. dials (take i texts) p.gave ++ z) (dials_one x parts.0 q.0))
 
-pub dials_all : (texts : List (List ℕ)) (a b : Moment) → Dials texts (length texts) a b → (gave : List Bool) × (length gave ≡ length texts) × Serves (dials texts gave) a b
+pub dials_all : (texts : List DialState) (a b : Moment) → Dials texts (length texts) a b → (gave : List Bool) × (length gave ≡ length texts) × Serves (dials texts gave) a b
 dials_all texts a b p = (p.gave, p.all, subst (λ z. Serves (dials z p.gave) a b) (take-length texts) p.serves)
 
 -- ---- the whole
 
 pub listened : (address : List ℕ) (is : Bool) (calls mid : Option (List Call)) (told : Option (List LinkJob)) (faults : ℕ) (held : Option (List ℕ)) (l : LinksState)
-    → host.Records (Listen address is) calls mid → Serves (Listen address is ∷ []) (moment calls told faults held l) (moment mid told faults held l)
+    → host.Records (Listen address is) calls mid → Serves (listen_call address is ∷ []) (moment calls told faults held l) (moment mid told faults held l)
 listened address is calls mid told faults held l recorded = record {
-  recorded = records_one (Listen address is) calls mid recorded;
+  recorded = records_one (listen_call address is) calls mid recorded;
   started = starts_none told faults;
   links_are = refl;
   complained = appends_none held;
 }
 
-module _ (id address : List ℕ) (texts : List (List ℕ)) (a m n : Moment) (o p : Outputs) (listens : Serves (Listen address true ∷ []) a m) where
+module _ (id address : List ℕ) (texts : List DialState) (a m n : Moment) (o p : Outputs) (listens : Serves (listen_call address true ∷ []) a m) where
   pub cut_off_dialling : (gave : List Bool) × BreaksOff (dials texts gave) m n → AppendsPrefix (serving_text id) o.out p.out → CutsOff id address texts a n o p
   cut_off_dialling q said = record {
-    made = Listen address true ∷ dials texts q.0;
+    made = listen_call address true ∷ dials texts q.0;
     ends = inr (record {
       gave = q.0;
       answers = [];
       going = All-nil IsGoing;
       order = inl refl;
-      calls_are = ap (λ z. Listen address true ∷ z) (sym (append-nil (dials texts q.0)));
+      calls_are = ap (λ z. listen_call address true ∷ z) (sym (append-nil (dials texts q.0)));
     });
-    breaks = breaks_both (Listen address true ∷ []) (dials texts q.0) a m n listens q.1;
+    breaks = breaks_both (listen_call address true ∷ []) (dials texts q.0) a m n listens q.1;
     said = said;
   }
 
   module _ (b : Moment) (dialled : (gave : List Bool) × (length gave ≡ length texts) × Serves (dials texts gave) m n) where
     over : (answers : List Answer) → Serves (accepts answers) n b → Serves (listening address texts dialled.0 answers) a b
-    over answers q = serves_both (Listen address true ∷ []) _ a m b listens (serves_both (dials texts dialled.0) (accepts answers) m n b dialled.2 q)
+    over answers q = serves_both (listen_call address true ∷ []) _ a m b listens (serves_both (dials texts dialled.0) (accepts answers) m n b dialled.2 q)
 
     over_part : (answers : List Answer) → BreaksOff (accepts answers) n b → BreaksOff (listening address texts dialled.0 answers) a b
-    over_part answers q = breaks_both (Listen address true ∷ []) _ a m b listens (breaks_both (dials texts dialled.0) (accepts answers) m n b dialled.2 q)
+    over_part answers q = breaks_both (listen_call address true ∷ []) _ a m b listens (breaks_both (dials texts dialled.0) (accepts answers) m n b dialled.2 q)
 
     pub comes : (end : ServeEnd) → Accepts end n b → Appends (serving_text id) o.out p.out → (end ≡ e.HostFault → Says accept_text b.held p.err o.faults p.faults)
         → ((end ≡ e.HostFault → ⊥) → b.held ≡ p.err) → Comes end id address texts a b o p
@@ -345,20 +346,12 @@ module _ (id address : List ℕ) (texts : List (List ℕ)) (a m n : Moment) (o p
 
 -- ---- the same over a list of other things, each with its text
 
-text_at : {A : Type 0} (f : A → List ℕ) (xs : List A) (i : ℕ) (x : A) (t : List ℕ) → i < length xs → x ≡ get_or xs i x → t ≡ f x → t ≡ get_or (map f xs) i []
-text_at f xs i x t lt is e = e ∙ (ap f is ∙ sym (get_or-map f xs i x [] lt))
-
-pub dials_more_at : {A : Type 0} (f : A → List ℕ) (xs : List A) (i : ℕ) (x : A) (t : List ℕ) (a b c : Moment) → i < length xs → x ≡ get_or xs i x → t ≡ f x
-    → Dials (map f xs) i a b → (is : Bool) × Serves (Dial t is ∷ []) b c → Dials (map f xs) (i + 1) a c
-dials_more_at f xs i x t a b c lt is e p q =
+pub dials_more_at : (xs : List DialState) (i : ℕ) (x : DialState) (a b c : Moment) → i < length xs → x ≡ get_or xs i x
+    → Dials xs i a b → (is : Bool) × Serves (dial_call x is ∷ []) b c → Dials xs (i + 1) a c
+dials_more_at xs i x a b c lt is p q =
     let one : suc i ≡ i + 1 = omega arith in
-    subst (λ n. Dials (map f xs) n a c) one (dials_more (map f xs) i t a b c (omega (arith, length-map xs f)) (text_at f xs i x t lt is e) p q)
+    subst (λ n. Dials xs n a c) one (dials_more xs i x a b c lt is p q)
 
-pub dials_stop_at : {A : Type 0} (f : A → List ℕ) (xs : List A) (i : ℕ) (x : A) (t : List ℕ) (a b c : Moment) → i < length xs → x ≡ get_or xs i x → t ≡ f x
-    → Dials (map f xs) i a b → (is : Bool) × BreaksOff (Dial t is ∷ []) b c → (gave : List Bool) × BreaksOff (dials (map f xs) gave) a c
-dials_stop_at f xs i x t a b c lt is e p q = dials_stop (map f xs) i t a b c (omega (arith, length-map xs f)) (text_at f xs i x t lt is e) p q
-
-pub dials_all_at : {A : Type 0} (f : A → List ℕ) (xs : List A) (i : ℕ) (a b : Moment) → i ≡ length xs
-    → Dials (map f xs) i a b → (gave : List Bool) × (length gave ≡ length xs) × Serves (dials (map f xs) gave) a b
-dials_all_at f xs i a b e p =
-    let q = dials_all (map f xs) a b (subst (λ n. Dials (map f xs) n a b) (e ∙ sym (length-map xs f)) p) in (q.0, q.1 ∙ length-map xs f, q.2)
+pub dials_all_at : (xs : List DialState) (i : ℕ) (a b : Moment) → i ≡ length xs
+    → Dials xs i a b → (gave : List Bool) × (length gave ≡ length xs) × Serves (dials xs gave) a b
+dials_all_at xs i a b e p = dials_all xs a b (subst (λ n. Dials xs n a b) e p)

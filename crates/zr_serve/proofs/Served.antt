@@ -1,6 +1,6 @@
 -- Serving as a whole, return by return.
 use Rattle.std.proofs.Common.{arith, ◌≡◌, ℕ, ◌≤◌, Bool, true, false, List, [], ◌∷◌, ◌++◌, length, map, Option, refl, sym, ap, subst, ◌∙◌, inl, inr}
-use Rattle.std.proofs.lemmas.List.{append-nil, length-map}
+use Rattle.std.proofs.lemmas.List.{append-nil}
 use Rattle.std.proofs.lemmas.Bool.{false≢true, true≢false}
 use Rattle.std.proofs.lemmas.List.Elements.{All-nil}
 use Rattle.rand_core.specs.Stream.{Stream}
@@ -15,7 +15,8 @@ use Rattle.zr_serve.specs.declared.end.ServeEnd.TheVariants as e
 use Rattle.zr_link_job.specs.declared.job.LinkJob.{LinkJob}
 use Rattle.zr_serve.specs.declared.lines.Unsaid.{Unsaid}
 use Rattle.zr_serve.specs.declared.lines.Unsaid.TheVariants.{Fault, NoMemory}
-use Rattle.zr_serve.specs.Calls.{sides_of, dials, IsGoing}
+use Rattle.zr_serve.specs.Calls.{Made, listen_call, new_links, dials, IsGoing}
+use Rattle.zr_dial.specs.Dial.{DialState}
 use Rattle.zr_serve.specs.Jobs.{LinksState, first_links, jobs_of}
 use Rattle.zr_serve.specs.Lines.{serving_text, no_words_text, listen_text, accept_text}
 use Rattle.zr_serve.specs.Moments.{Moment, moment, Serves, BreaksOff}
@@ -40,22 +41,22 @@ no_stream : Stream
 no_stream = record { u32_after = λ calls. 0; u64_after = λ calls. 0; bytes_after = λ calls n. [] }
 
 -- what was served is cut off behind its last call
-whole_is_part : (made : List Call) (a b : Moment) → Serves made a b → BreaksOff made a b
+whole_is_part : (made : List Made) (a b : Moment) → Serves made a b → BreaksOff made a b
 whole_is_part made a b p = record {
   recorded = p.recorded;
-  jobs = jobs_of a.links (sides_of made);
+  jobs = jobs_of a.links (new_links made);
   last = [];
-  jobs_are = sym (append-nil (jobs_of a.links (sides_of made)));
+  jobs_are = sym (append-nil (jobs_of a.links (new_links made)));
   one = omega arith;
   started = p.started;
   complained = prefix_whole _ a.held b.held p.complained;
 }
 
-no_dials : (texts : List (List ℕ)) → dials texts [] ≡ []
+no_dials : (texts : List DialState) → dials texts [] ≡ []
 no_dials [] = refl
 no_dials (x ∷ texts) = refl
 
-module _ (id : List ℕ) (log : Bool) (address : List ℕ) (texts : List (List ℕ)) (calls calls' : Option (List Call)) (told : Option (List LinkJob)) (faults : ℕ) (out : Option (List ℕ)) where
+module _ (id : List ℕ) (log : Bool) (address : List ℕ) (texts : List DialState) (calls calls' : Option (List Call)) (told : Option (List LinkJob)) (faults : ℕ) (out : Option (List ℕ)) where
   pub without_words : (err err' : Option (List ℕ)) (errs errs' : ℕ) → calls' ≡ calls → Says no_words_text err err' errs errs'
       → IsServed e.HostFault id log address texts calls calls' told told faults faults (record { out = out; err = err; faults = errs }) (record { out = out; err = err'; faults = errs' })
   without_words err err' errs errs' same says = record {
@@ -83,7 +84,7 @@ module _ (id : List ℕ) (log : Bool) (address : List ℕ) (texts : List (List �
     held = err;
     links = first_links id log s;
     comes = record {
-      made = Listen address false ∷ [];
+      made = listen_call address false ∷ [];
       text = [];
       line = listen_text address;
       fails = inr (inl (refl, refl, refl));
@@ -96,13 +97,13 @@ module _ (id : List ℕ) (log : Bool) (address : List ℕ) (texts : List (List �
 -- it listens
 hears : (id : List ℕ) (log : Bool) (address : List ℕ) (s : Stream) (is : Bool) (calls mid calls' : Option (List Call)) (told : Option (List LinkJob)) (faults : ℕ) (err : Option (List ℕ)) (l : LinksState)
     → mid ≡ calls → host.Records (Listen address is) mid calls' → is ≡ true → l ≡ first_links id log s
-    → Serves (Listen address true ∷ []) (moment calls told faults err (first_links id log s)) (moment calls' told faults err l)
+    → Serves (listen_call address true ∷ []) (moment calls told faults err (first_links id log s)) (moment calls' told faults err l)
 hears id log address s false calls mid calls' told faults err l same recorded is links = absurd (false≢true is)
 hears id log address s true calls mid calls' told faults err l same recorded is links =
-    subst (λ z. Serves (Listen address true ∷ []) (moment calls told faults err (first_links id log s)) (moment calls' told faults err z)) (sym links)
+    subst (λ z. Serves (listen_call address true ∷ []) (moment calls told faults err (first_links id log s)) (moment calls' told faults err z)) (sym links)
     (listened address true calls calls' told faults err (first_links id log s) (subst (λ z. host.Records (Listen address true) z calls') same recorded))
 
-pub unsaid_serves : (u : Unsaid) (id : List ℕ) (log : Bool) (address : List ℕ) (texts : List (List ℕ)) (s : Stream) (is : Bool) (calls mid calls' : Option (List Call)) (told : Option (List LinkJob)) (faults : ℕ)
+pub unsaid_serves : (u : Unsaid) (id : List ℕ) (log : Bool) (address : List ℕ) (texts : List DialState) (s : Stream) (is : Bool) (calls mid calls' : Option (List Call)) (told : Option (List LinkJob)) (faults : ℕ)
     (out out' err : Option (List ℕ)) (errs : ℕ) → mid ≡ calls → host.Records (Listen address is) mid calls' → is ≡ true → AppendsPrefix (serving_text id) out out'
     → IsServed (end_of_unsaid u) id log address texts calls calls' told told faults faults (record { out = out; err = err; faults = errs }) (record { out = out'; err = err; faults = errs })
 unsaid_serves u id log address texts s is calls mid calls' told faults out out' err errs same recorded listens part = record {
@@ -120,15 +121,15 @@ unsaid_serves u id log address texts s is calls mid calls' told faults out out' 
 
     cut : CutsOff id address texts a b (record { out = out; err = err; faults = errs }) (record { out = out'; err = err; faults = errs })
     cut = record {
-      made = Listen address true ∷ [];
+      made = listen_call address true ∷ [];
       ends = inr (record {
         gave = [];
         answers = [];
         going = All-nil IsGoing;
         order = inl refl;
-        calls_are = ap (λ z. Listen address true ∷ (z ++ [])) (sym (no_dials texts));
+        calls_are = ap (λ z. listen_call address true ∷ (z ++ [])) (sym (no_dials texts));
       });
-      breaks = whole_is_part (Listen address true ∷ []) a b (hears id log address s is calls mid calls' told faults err (first_links id log s) same recorded listens refl);
+      breaks = whole_is_part (listen_call address true ∷ []) a b (hears id log address s is calls mid calls' told faults err (first_links id log s) same recorded listens refl);
       said = part;
     }
 
@@ -136,7 +137,7 @@ unsaid_serves u id log address texts s is calls mid calls' told faults out out' 
     by Fault = (cut, refl)
     by NoMemory = (cut, refl)
 
-cut_serves : (end : ServeEnd) (id : List ℕ) (log : Bool) (address : List ℕ) (texts : List (List ℕ)) (s : Stream) (is : Bool) (calls mid heard calls' : Option (List Call)) (told told' : Option (List LinkJob)) (faults faults' : ℕ)
+cut_serves : (end : ServeEnd) (id : List ℕ) (log : Bool) (address : List ℕ) (texts : List DialState) (s : Stream) (is : Bool) (calls mid heard calls' : Option (List Call)) (told told' : Option (List LinkJob)) (faults faults' : ℕ)
     (l l' : LinksState) (o p : Outputs) → mid ≡ calls → host.Records (Listen address is) mid heard → is ≡ true → l ≡ first_links id log s
     → (gave : List Bool) × BreaksOff (dials texts gave) (moment heard told faults o.err l) (moment calls' told' faults' p.err l')
     → Appends (serving_text id) o.out p.out → (end ≡ e.Done → ⊥) → (end ≡ e.HostFault → ⊥)
@@ -159,7 +160,7 @@ cut_serves end id log address texts s is calls mid heard calls' told told' fault
     by e.NoMemory d h = (cut, refl)
     by e.WriteFault d h = (cut, refl)
 
-whole_serves : (end : ServeEnd) (id : List ℕ) (log : Bool) (address : List ℕ) (texts : List (List ℕ)) (s : Stream) (is : Bool) (calls mid heard dialled calls' : Option (List Call)) (told told' told'' : Option (List LinkJob))
+whole_serves : (end : ServeEnd) (id : List ℕ) (log : Bool) (address : List ℕ) (texts : List DialState) (s : Stream) (is : Bool) (calls mid heard dialled calls' : Option (List Call)) (told told' told'' : Option (List LinkJob))
     (faults faults' faults'' : ℕ) (held : Option (List ℕ)) (errs : ℕ) (l l' l'' : LinksState) (o p : Outputs) → mid ≡ calls → host.Records (Listen address is) mid heard → is ≡ true → l ≡ first_links id log s
     → (gave : List Bool) × (length gave ≡ length texts) × Serves (dials texts gave) (moment heard told faults o.err l) (moment dialled told' faults' held l')
     → Accepts end (moment dialled told' faults' held l') (moment calls' told'' faults'' held l'')
@@ -173,39 +174,30 @@ whole_serves end id log address texts s is calls mid heard dialled calls' told t
       (λ it. says_later _ _ _ o.faults errs p.faults later (last it)) (λ not. sym (quiet not));
 }
 
--- ---- the same, where what is dialled is a list of other things, each with its text, and the address is at hand under another name
-
-named_dials : {A : Type 0} (f : A → List ℕ) (named xs : List A) (a b : Moment) → named ≡ xs
-    → (gave : List Bool) × (length gave ≡ length named) × Serves (dials (map f named) gave) a b
-    → (gave : List Bool) × (length gave ≡ length (map f xs)) × Serves (dials (map f xs) gave) a b
-named_dials f named xs a b e q = (q.0, q.1 ∙ (ap (λ z. length z) e ∙ sym (length-map xs f)), subst (λ z. Serves (dials (map f z) q.0) a b) e q.2)
-
-named_breaks : {A : Type 0} (f : A → List ℕ) (named xs : List A) (a b : Moment) → named ≡ xs → (gave : List Bool) × BreaksOff (dials (map f named) gave) a b
-    → (gave : List Bool) × BreaksOff (dials (map f xs) gave) a b
-named_breaks f named xs a b e q = (q.0, subst (λ z. BreaksOff (dials (map f z) q.0) a b) e q.1)
+-- ---- the same, where the address is at hand under another name, and what is dialled too
 
 named_listen : (shown address : List ℕ) (is : Bool) (a b : Option (List Call)) → shown ≡ address → host.Records (Listen shown is) a b → host.Records (Listen address is) a b
 named_listen shown address is a b e recorded = subst (λ z. host.Records (Listen z is) a b) e recorded
 
-pub cut_serves_at : {A : Type 0} (f : A → List ℕ) (named xs : List A) (shown address : List ℕ) (end : ServeEnd) (id : List ℕ) (log : Bool) (s : Stream) (is : Bool) (calls mid heard calls' : Option (List Call))
+pub cut_serves_at : (named xs : List DialState) (shown address : List ℕ) (end : ServeEnd) (id : List ℕ) (log : Bool) (s : Stream) (is : Bool) (calls mid heard calls' : Option (List Call))
     (told told' : Option (List LinkJob)) (faults faults' : ℕ) (l l' : LinksState) (o p : Outputs) → named ≡ xs → shown ≡ address → mid ≡ calls → host.Records (Listen shown is) mid heard → is ≡ true
-    → l ≡ first_links id log s → (gave : List Bool) × BreaksOff (dials (map f named) gave) (moment heard told faults o.err l) (moment calls' told' faults' p.err l')
+    → l ≡ first_links id log s → (gave : List Bool) × BreaksOff (dials named gave) (moment heard told faults o.err l) (moment calls' told' faults' p.err l')
     → Appends (serving_text id) o.out p.out → (end ≡ e.Done → ⊥) → (end ≡ e.HostFault → ⊥)
-    → IsServed end id log address (map f xs) calls calls' told told' faults faults' o p
-cut_serves_at f named xs shown address end id log s is calls mid heard calls' told told' faults faults' l l' o p names as_shown same recorded listens links broken said not_done not_host =
-    cut_serves end id log address (map f xs) s is calls mid heard calls' told told' faults faults' l l' o p same (named_listen shown address is mid heard as_shown recorded) listens links
-    (named_breaks f named xs (moment heard told faults o.err l) (moment calls' told' faults' p.err l') names broken) said not_done not_host
+    → IsServed end id log address xs calls calls' told told' faults faults' o p
+cut_serves_at named xs shown address end id log s is calls mid heard calls' told told' faults faults' l l' o p names as_shown same recorded listens links broken said not_done not_host =
+    cut_serves end id log address xs s is calls mid heard calls' told told' faults faults' l l' o p same (named_listen shown address is mid heard as_shown recorded) listens links
+    (subst (λ z. (gave : List Bool) × BreaksOff (dials z gave) (moment heard told faults o.err l) (moment calls' told' faults' p.err l')) names broken) said not_done not_host
 
-pub whole_serves_at : {A : Type 0} (f : A → List ℕ) (named xs : List A) (shown address : List ℕ) (end : ServeEnd) (id : List ℕ) (log : Bool) (s : Stream) (is : Bool) (calls mid heard dialled calls' : Option (List Call))
+pub whole_serves_at : (named xs : List DialState) (shown address : List ℕ) (end : ServeEnd) (id : List ℕ) (log : Bool) (s : Stream) (is : Bool) (calls mid heard dialled calls' : Option (List Call))
     (told told' told'' : Option (List LinkJob)) (faults faults' faults'' : ℕ) (held : Option (List ℕ)) (errs : ℕ) (l l' l'' : LinksState) (o p : Outputs) → named ≡ xs → shown ≡ address → mid ≡ calls
     → host.Records (Listen shown is) mid heard → is ≡ true → l ≡ first_links id log s
-    → (gave : List Bool) × (length gave ≡ length named) × Serves (dials (map f named) gave) (moment heard told faults o.err l) (moment dialled told' faults' held l')
+    → (gave : List Bool) × (length gave ≡ length named) × Serves (dials named gave) (moment heard told faults o.err l) (moment dialled told' faults' held l')
     → ((h : Option (List ℕ)) → Accepts end (moment dialled told' faults' h l') (moment calls' told'' faults'' h l''))
     → Appends (serving_text id) o.out p.out → o.faults ≤ errs → (end ≡ e.HostFault → Says accept_text held p.err errs p.faults) → ((end ≡ e.HostFault → ⊥) → p.err ≡ held)
-    → IsServed end id log address (map f xs) calls calls' told told'' faults faults'' o p
-whole_serves_at f named xs shown address end id log s is calls mid heard dialled calls' told told' told'' faults faults' faults'' held errs l l' l'' o p names as_shown same recorded listens links gave accepted said later last quiet =
-    whole_serves end id log address (map f xs) s is calls mid heard dialled calls' told told' told'' faults faults' faults'' held errs l l' l'' o p same (named_listen shown address is mid heard as_shown recorded) listens links
-    (named_dials f named xs (moment heard told faults o.err l) (moment dialled told' faults' held l') names gave) (accepted held) said later last quiet
+    → IsServed end id log address xs calls calls' told told'' faults faults'' o p
+whole_serves_at named xs shown address end id log s is calls mid heard dialled calls' told told' told'' faults faults' faults'' held errs l l' l'' o p names as_shown same recorded listens links gave accepted said later last quiet =
+    whole_serves end id log address xs s is calls mid heard dialled calls' told told' told'' faults faults' faults'' held errs l l' l'' o p same (named_listen shown address is mid heard as_shown recorded) listens links
+    (subst (λ z. (gave : List Bool) × (length gave ≡ length z) × Serves (dials z gave) (moment heard told faults o.err l) (moment dialled told' faults' held l')) names gave) (accepted held) said later last quiet
 
 pub no_write_fault : (end : ServeEnd) (a b : Moment) → Accepts end a b → end ≡ e.WriteFault → ⊥
 no_write_fault e.WriteFault a b h it = h
@@ -214,7 +206,7 @@ no_write_fault e.HostFault a b h it = cc it
 no_write_fault e.NoMemory a b h it = cc it
 
 -- memory ran out before anything was called
-pub not_begun : (id : List ℕ) (log : Bool) (address : List ℕ) (texts : List (List ℕ)) (calls : Option (List Call)) (told : Option (List LinkJob)) (faults : ℕ) (o : Outputs)
+pub not_begun : (id : List ℕ) (log : Bool) (address : List ℕ) (texts : List DialState) (calls : Option (List Call)) (told : Option (List LinkJob)) (faults : ℕ) (o : Outputs)
     → IsServed e.NoMemory id log address texts calls calls told told faults faults o o
 not_begun id log address texts calls told faults o = record {
   words = no_stream;

@@ -1,6 +1,6 @@
 -- Serving step by step: calls behind other calls, jobs behind other jobs.
 use Rattle.std.proofs.Common.{arith, suc, ◌≡◌, ℕ, ◌+◌, ◌-◌, ◌^◌, ◌≤◌, Bool, true, false, List, [], ◌∷◌, ◌++◌, length, Option, Some, None, refl, sym, ap, subst, ◌∙◌, append_assoc}
-use Rattle.std.proofs.lemmas.List.{append-nil, length-append}
+use Rattle.std.proofs.lemmas.List.{append-nil, length-append, map-append}
 use Rattle.std.specs.Prelude.{min}
 use Rattle.zr_outside.specs.Host as host
 use Rattle.zr_outside.specs.Told.{Appends, AppendsPrefix}
@@ -8,28 +8,27 @@ use Rattle.zr_outside.specs.declared.host.Call.{Call}
 use Rattle.zr_link_writer.proofs.Carrying.{appends_none, appends_both, prefix_behind}
 use Rattle.zr_link_job.specs.Starts.{marked, unmarked, Tells, Starts}
 use Rattle.zr_link_job.specs.declared.job.LinkJob.{LinkJob}
-use Rattle.zr_link_job.specs.declared.job.Side.{Side}
 use Rattle.zr_link_job.proofs.Starting.{tells_none}
-use Rattle.zr_serve.specs.Calls.{Records, side_of, sides_of}
-use Rattle.zr_serve.specs.Jobs.{LinksState, next_job, with_next, jobs_of, behind}
+use Rattle.zr_serve.specs.Calls.{Made, Records, calls_of, link_of, new_links}
+use Rattle.zr_serve.specs.Jobs.{LinksState, NewLink, next_job, with_next, jobs_of, behind}
 use Rattle.zr_serve.specs.Lines.{complaint, complaints}
 use Rattle.zr_serve.specs.Moments.{Moment, Serves, BreaksOff}
 
 -- ---- lists of calls and of links
 
-pub sides_both : (xs ys : List Call) → sides_of (xs ++ ys) ≡ sides_of xs ++ sides_of ys
-sides_both [] ys = refl
-sides_both (x ∷ xs) ys = ap (λ z. side_of x ++ z) (sides_both xs ys) ∙ sym (append_assoc (side_of x) (sides_of xs) (sides_of ys))
+pub links_both : (xs ys : List Made) → new_links (xs ++ ys) ≡ new_links xs ++ new_links ys
+links_both [] ys = refl
+links_both (x ∷ xs) ys = ap (λ z. link_of x.weight x.call ++ z) (links_both xs ys) ∙ sym (append_assoc (link_of x.weight x.call) (new_links xs) (new_links ys))
 
-pub complaints_both : (xs ys : List Call) → complaints (xs ++ ys) ≡ complaints xs ++ complaints ys
+pub complaints_both : (xs ys : List Made) → complaints (xs ++ ys) ≡ complaints xs ++ complaints ys
 complaints_both [] ys = refl
-complaints_both (x ∷ xs) ys = ap (λ z. complaint x ++ z) (complaints_both xs ys) ∙ sym (append_assoc (complaint x) (complaints xs) (complaints ys))
+complaints_both (x ∷ xs) ys = ap (λ z. complaint x.call ++ z) (complaints_both xs ys) ∙ sym (append_assoc (complaint x.call) (complaints xs) (complaints ys))
 
-pub jobs_both : (l : LinksState) (xs ys : List Side) → jobs_of l (xs ++ ys) ≡ jobs_of l xs ++ jobs_of (behind l xs) ys
+pub jobs_both : (l : LinksState) (xs ys : List NewLink) → jobs_of l (xs ++ ys) ≡ jobs_of l xs ++ jobs_of (behind l xs) ys
 jobs_both l [] ys = refl
 jobs_both l (x ∷ xs) ys = ap (λ z. next_job l x ∷ z) (jobs_both (with_next l) xs ys)
 
-pub behind_both : (l : LinksState) (xs ys : List Side) → behind l (xs ++ ys) ≡ behind (behind l xs) ys
+pub behind_both : (l : LinksState) (xs ys : List NewLink) → behind l (xs ++ ys) ≡ behind (behind l xs) ys
 behind_both l [] ys = refl
 behind_both l (x ∷ xs) ys = behind_both (with_next l) xs ys
 
@@ -39,20 +38,21 @@ pub records_none : (a : Option (List Call)) → Records [] a a
 records_none None = tt
 records_none (Some calls) = sym (append-nil calls)
 
-pub records_one : (c : Call) (a b : Option (List Call)) → host.Records c a b → Records (c ∷ []) a b
+pub records_one : (c : Made) (a b : Option (List Call)) → host.Records c.call a b → Records (c ∷ []) a b
 records_one c None None h = tt
 records_one c None (Some after) h = h
 records_one c (Some calls) None h = tt
 records_one c (Some calls) (Some after) h = h
 
-pub records_both : (xs ys : List Call) (a b c : Option (List Call)) → Records xs a b → Records ys b c → Records (xs ++ ys) a c
+pub records_both : (xs ys : List Made) (a b c : Option (List Call)) → Records xs a b → Records ys b c → Records (xs ++ ys) a c
 records_both xs ys None None None h k = tt
 records_both xs ys None None (Some z) h k = k
 records_both xs ys None (Some y) c h k = absurd h
 records_both xs ys (Some x) None None h k = tt
 records_both xs ys (Some x) None (Some z) h k = absurd k
 records_both xs ys (Some x) (Some y) None h k = tt
-records_both xs ys (Some x) (Some y) (Some z) h k = k ∙ ap (λ w. w ++ ys) h ∙ append_assoc x xs ys
+records_both xs ys (Some x) (Some y) (Some z) h k =
+    k ∙ ap (λ w. w ++ calls_of ys) h ∙ append_assoc x (calls_of xs) (calls_of ys) ∙ ap (λ w. x ++ w) (sym (map-append (λ (m : Made). m.call) xs ys))
 
 -- ---- the jobs that are started
 
@@ -105,28 +105,28 @@ serves_none a = record {
   complained = appends_none a.held;
 }
 
-pub serves_both : (xs ys : List Call) (a b c : Moment) → Serves xs a b → Serves ys b c → Serves (xs ++ ys) a c
+pub serves_both : (xs ys : List Made) (a b c : Moment) → Serves xs a b → Serves ys b c → Serves (xs ++ ys) a c
 serves_both xs ys a b c p q = record {
   recorded = records_both xs ys a.calls b.calls c.calls p.recorded q.recorded;
   started = subst (λ js. Starts js a.told c.told a.faults c.faults) (sym jobs_are)
       (starts_both _ _ a.told b.told c.told a.faults b.faults c.faults p.started q.started);
-  links_are = q.links_are ∙ (ap (λ l. behind l (sides_of ys)) p.links_are ∙ (sym (behind_both a.links (sides_of xs) (sides_of ys))
-      ∙ ap (λ s. behind a.links s) (sym (sides_both xs ys))));
+  links_are = q.links_are ∙ (ap (λ l. behind l (new_links ys)) p.links_are ∙ (sym (behind_both a.links (new_links xs) (new_links ys))
+      ∙ ap (λ s. behind a.links s) (sym (links_both xs ys))));
   complained = subst (λ t. Appends t a.held c.held) (sym (complaints_both xs ys)) (appends_both _ _ a.held b.held c.held p.complained q.complained);
 }
   where
-    jobs_are : jobs_of a.links (sides_of (xs ++ ys)) ≡ jobs_of a.links (sides_of xs) ++ jobs_of b.links (sides_of ys)
-    jobs_are = ap (λ s. jobs_of a.links s) (sides_both xs ys) ∙ (jobs_both a.links (sides_of xs) (sides_of ys)
-        ∙ ap (λ l. jobs_of a.links (sides_of xs) ++ jobs_of l (sides_of ys)) (sym p.links_are))
+    jobs_are : jobs_of a.links (new_links (xs ++ ys)) ≡ jobs_of a.links (new_links xs) ++ jobs_of b.links (new_links ys)
+    jobs_are = ap (λ s. jobs_of a.links s) (links_both xs ys) ∙ (jobs_both a.links (new_links xs) (new_links ys)
+        ∙ ap (λ l. jobs_of a.links (new_links xs) ++ jobs_of l (new_links ys)) (sym p.links_are))
 
-pub breaks_both : (xs ys : List Call) (a b c : Moment) → Serves xs a b → BreaksOff ys b c → BreaksOff (xs ++ ys) a c
+pub breaks_both : (xs ys : List Made) (a b c : Moment) → Serves xs a b → BreaksOff ys b c → BreaksOff (xs ++ ys) a c
 breaks_both xs ys a b c p q = record {
   recorded = records_both xs ys a.calls b.calls c.calls p.recorded q.recorded;
-  jobs = jobs_of a.links (sides_of xs) ++ q.jobs;
+  jobs = jobs_of a.links (new_links xs) ++ q.jobs;
   last = q.last;
-  jobs_are = ap (λ s. jobs_of a.links s) (sides_both xs ys) ∙ (jobs_both a.links (sides_of xs) (sides_of ys)
-      ∙ (ap (λ l. jobs_of a.links (sides_of xs) ++ jobs_of l (sides_of ys)) (sym p.links_are)
-      ∙ (ap (λ js. jobs_of a.links (sides_of xs) ++ js) q.jobs_are ∙ sym (append_assoc _ q.jobs q.last))));
+  jobs_are = ap (λ s. jobs_of a.links s) (links_both xs ys) ∙ (jobs_both a.links (new_links xs) (new_links ys)
+      ∙ (ap (λ l. jobs_of a.links (new_links xs) ++ jobs_of l (new_links ys)) (sym p.links_are)
+      ∙ (ap (λ js. jobs_of a.links (new_links xs) ++ js) q.jobs_are ∙ sym (append_assoc _ q.jobs q.last))));
   one = q.one;
   started = starts_both _ _ a.told b.told c.told a.faults b.faults c.faults p.started q.started;
   complained = subst (λ t. AppendsPrefix t a.held c.held) (sym (complaints_both xs ys)) (prefix_behind _ _ a.held b.held c.held p.complained q.complained);

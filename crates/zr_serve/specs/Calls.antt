@@ -4,40 +4,61 @@ use Rattle.zr_outside.specs.declared.host.Answer.{Answer}
 use Rattle.zr_outside.specs.declared.host.Answer.TheVariants as answer
 use Rattle.zr_outside.specs.declared.host.Call.{Call}
 use Rattle.zr_outside.specs.declared.host.Call.TheVariants.{Listen, Dial, Accept}
-use Rattle.zr_link_job.specs.declared.job.Side.{Side}
 use Rattle.zr_link_job.specs.declared.job.Side.TheVariants.{Accepting, Dialling}
+use Rattle.zr_dial.specs.Dial.{DialState}
+use Rattle.zr_serve.specs.Jobs.{NewLink}
+
+-- a call that was made, and what the link that it gives weighs if the peer is a router
+pub record Made : Type 0 where
+  pub call : Call
+  pub weight : ℕ
+
+-- to listen gives no link
+abbrev pub listen_call : List ℕ → Bool → Made
+listen_call address is_listening = record { call = Listen address is_listening; weight = 1 }
+
+-- a link that is dialled has the weight of its dial
+abbrev pub dial_call : DialState → Bool → Made
+dial_call d is_link = record { call = Dial d.address is_link; weight = d.weight }
+
+-- a link that is accepted has weight 1
+abbrev pub accept_call : Answer → Made
+accept_call answer = record { call = Accept answer; weight = 1 }
+
+abbrev pub calls_of : List Made → List Call
+calls_of made = map (λ m. m.call) made
 
 -- these calls were made, where the host tells them. A host may stop to tell them, and then tells none any more
-abbrev pub Records : List Call → Option (List Call) → Option (List Call) → Type 0
+abbrev pub Records : List Made → Option (List Call) → Option (List Call) → Type 0
 Records made None None = Unit {0}
 Records made None (Some after) = ⊥
 Records made (Some calls) None = Unit {0}
-Records made (Some calls) (Some after) = after ≡ calls ++ made
+Records made (Some calls) (Some after) = after ≡ calls ++ calls_of made
 
--- the link that a call gave, if it gave one, by its end that is the router's
-abbrev pub side_of : Call → List Side
-side_of (Listen address is_listening) = []
-side_of (Dial address true) = Dialling ∷ []
-side_of (Dial address false) = []
-side_of (Accept answer.Link) = Accepting ∷ []
-side_of (Accept answer.Quiet) = []
-side_of (Accept answer.End) = []
-side_of (Accept answer.Failed) = []
+-- the link that a call gave, if it gave one
+abbrev pub link_of : ℕ → Call → List NewLink
+link_of weight (Listen address is_listening) = []
+link_of weight (Dial address true) = record { side = Dialling; weight = weight } ∷ []
+link_of weight (Dial address false) = []
+link_of weight (Accept answer.Link) = record { side = Accepting; weight = weight } ∷ []
+link_of weight (Accept answer.Quiet) = []
+link_of weight (Accept answer.End) = []
+link_of weight (Accept answer.Failed) = []
 
 -- the links that some calls gave, in order
-abbrev pub sides_of : List Call → List Side
-sides_of [] = []
-sides_of (call ∷ calls) = side_of call ++ sides_of calls
+abbrev pub new_links : List Made → List NewLink
+new_links [] = []
+new_links (m ∷ made) = link_of m.weight m.call ++ new_links made
 
 -- some addresses are dialled in order, with what each dial gave
-abbrev pub dials : List (List ℕ) → List Bool → List Call
+abbrev pub dials : List DialState → List Bool → List Made
 dials [] [] = []
 dials [] (is_link ∷ gave) = []
-dials (address ∷ addresses) [] = []
-dials (address ∷ addresses) (is_link ∷ gave) = Dial address is_link ∷ dials addresses gave
+dials (d ∷ ds) [] = []
+dials (d ∷ ds) (is_link ∷ gave) = dial_call d is_link ∷ dials ds gave
 
-abbrev pub accepts : List Answer → List Call
-accepts answers = map (λ a. Accept a) answers
+abbrev pub accepts : List Answer → List Made
+accepts answers = map (λ a. accept_call a) answers
 
 -- accepting goes on behind that answer
 abbrev pub IsGoing : Answer → Type 0
@@ -47,5 +68,5 @@ IsGoing answer.End = ⊥
 IsGoing answer.Failed = ⊥
 
 -- Each address was dialled once, in order, and then these accepts were answered
-abbrev pub dials_and_accepts : List (List ℕ) → List Bool → List Answer → List Call
-dials_and_accepts addresses gave answers = dials addresses gave ++ accepts answers
+abbrev pub dials_and_accepts : List DialState → List Bool → List Answer → List Made
+dials_and_accepts ds gave answers = dials ds gave ++ accepts answers

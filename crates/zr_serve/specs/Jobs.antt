@@ -32,18 +32,24 @@ secret_of s = ((word_bytes s ++ word_bytes (rest s)) ++ word_bytes (rest (rest s
 abbrev pub first_links : List ℕ → Bool → Stream → LinksState
 first_links me log s = record { me = me; log = log; secret = secret_of s; words = rest (rest (rest (rest s))); count = 0 }
 
+-- a link that came: which end of it is the router's, and what it weighs if the peer is a router
+pub record NewLink : Type 0 where
+  pub side : Side
+  pub weight : ℕ
+
 -- the job of the next link, which takes one random word
-abbrev pub next_job : LinksState → Side → LinkJob
-next_job l side = record { side = side; number = l.count; me = l.me; secret = l.secret; word = word l.words; turns = 2 ^ 64 - 1; log = l.log }
+abbrev pub next_job : LinksState → NewLink → LinkJob
+next_job l link =
+    record { side = link.side; number = l.count; me = l.me; secret = l.secret; word = word l.words; weight = link.weight; turns = 2 ^ 64 - 1; log = l.log }
 
 abbrev pub with_next : LinksState → LinksState
 with_next l = record l { words = rest l.words; count = (l.count + 1) % 2 ^ 64 }
 
 -- the jobs of some links, in the order in which they came, and what is left behind them
-abbrev pub jobs_of : LinksState → List Side → List LinkJob
+abbrev pub jobs_of : LinksState → List NewLink → List LinkJob
 jobs_of l [] = []
-jobs_of l (side ∷ sides) = next_job l side ∷ jobs_of (with_next l) sides
+jobs_of l (link ∷ links) = next_job l link ∷ jobs_of (with_next l) links
 
-abbrev pub behind : LinksState → List Side → LinksState
+abbrev pub behind : LinksState → List NewLink → LinksState
 behind l [] = l
-behind l (side ∷ sides) = behind (with_next l) sides
+behind l (link ∷ links) = behind (with_next l) links

@@ -3,6 +3,7 @@ use Rattle.std.specs.Prelude.{ℕ, true, false, List, [], ◌∷◌, ◌++◌, c
 use Rattle.hex.specs.Hex.{encode_lower}
 use Rattle.zr_outside.specs.declared.host.Call.{Call}
 use Rattle.zr_outside.specs.declared.host.Call.TheVariants.{Listen, Dial, Accept}
+use Rattle.zr_serve.specs.Calls.{Made}
 
 -- `serving ID`
 abbrev pub serving_text : List ℕ → List ℕ
@@ -31,6 +32,6 @@ complaint (Dial address true) = []
 complaint (Dial address false) = dial_text address
 complaint (Accept answer) = []
 
-abbrev pub complaints : List Call → List ℕ
+abbrev pub complaints : List Made → List ℕ
 complaints [] = []
-complaints (call ∷ calls) = complaint call ++ complaints calls
+complaints (m ∷ made) = complaint m.call ++ complaints made

@@ -5,7 +5,7 @@ use Rattle.zr_link_job.specs.declared.job.LinkJob.{LinkJob}
 use Rattle.zr_outside.specs.Told.{Appends, AppendsPrefix}
 use Rattle.zr_outside.specs.declared.host.Call.{Call}
 use Rattle.zr_serve.specs.Jobs.{LinksState, jobs_of, behind}
-use Rattle.zr_serve.specs.Calls.{Records, sides_of}
+use Rattle.zr_serve.specs.Calls.{Made, Records, new_links}
 use Rattle.zr_serve.specs.Lines.{complaints}
 
 -- the calls of the host, the jobs that the crew started and how many starts failed, what the error output holds, and what the next links begin with
@@ -20,18 +20,18 @@ abbrev pub moment : Option (List Call) → Option (List LinkJob) → ℕ → Opt
 moment calls told faults held links = record { calls = calls; told = told; faults = faults; held = held; links = links }
 
 -- These calls were made: the job of each link that they gave was started, and what is to be told of them was written
-pub record Serves (made : List Call) (a b : Moment) : Type 0 where
+pub record Serves (made : List Made) (a b : Moment) : Type 0 where
   pub recorded : Records made a.calls b.calls
-  pub started : Starts (jobs_of a.links (sides_of made)) a.told b.told a.faults b.faults
-  pub links_are : b.links ≡ behind a.links (sides_of made)
+  pub started : Starts (jobs_of a.links (new_links made)) a.told b.told a.faults b.faults
+  pub links_are : b.links ≡ behind a.links (new_links made)
   pub complained : Appends (complaints made) a.held b.held
 
 -- The same, but a write failed or memory ran out in the last call: its link may not be started, and what is told is a prefix
-pub record BreaksOff (made : List Call) (a b : Moment) : Type 0 where
+pub record BreaksOff (made : List Made) (a b : Moment) : Type 0 where
   pub recorded : Records made a.calls b.calls
   pub jobs : List LinkJob
   pub last : List LinkJob
-  pub jobs_are : jobs_of a.links (sides_of made) ≡ jobs ++ last
+  pub jobs_are : jobs_of a.links (new_links made) ≡ jobs ++ last
   pub one : length last ≤ 1
   pub started : Starts jobs a.told b.told a.faults b.faults
   pub complained : AppendsPrefix (complaints made) a.held b.held

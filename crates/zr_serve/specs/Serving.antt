@@ -6,10 +6,10 @@ use Rattle.zr_outside.specs.Told.{Appends, AppendsPrefix}
 use Rattle.zr_outside.specs.declared.host.Answer.{Answer}
 use Rattle.zr_outside.specs.declared.host.Answer.TheVariants.{Link, End, Failed}
 use Rattle.zr_outside.specs.declared.host.Call.{Call}
-use Rattle.zr_outside.specs.declared.host.Call.TheVariants.{Listen}
 use Rattle.zr_serve.specs.declared.end.ServeEnd.{ServeEnd}
 use Rattle.zr_serve.specs.declared.end.ServeEnd.TheVariants.{Done, NoMemory, WriteFault, HostFault}
-use Rattle.zr_serve.specs.Calls.{dials, accepts, IsGoing}
+use Rattle.zr_serve.specs.Calls.{Made, listen_call, dials, accepts, IsGoing}
+use Rattle.zr_dial.specs.Dial.{DialState}
 use Rattle.zr_link_job.specs.declared.job.LinkJob.{LinkJob}
 use Rattle.zr_serve.specs.Jobs.{LinksState, first_links}
 use Rattle.zr_serve.specs.Lines.{serving_text, no_words_text, accept_text, listen_text}
@@ -20,28 +20,28 @@ abbrev pub Says : List ℕ → Option (List ℕ) → Option (List ℕ) → ℕ �
 Says line held held' faults faults' = Appends line held held' ⊎ (AppendsPrefix line held held' × Rose faults faults')
 
 -- It listened, dialled each address once, in order, and then accepted, with these answers
-abbrev pub listening : List ℕ → List (List ℕ) → List Bool → List Answer → List Call
-listening address addresses gave answers = Listen address true ∷ (dials addresses gave ++ accepts answers)
+abbrev pub listening : List ℕ → List DialState → List Bool → List Answer → List Made
+listening address ds gave answers = listen_call address true ∷ (dials ds gave ++ accepts answers)
 
 -- accepting came to this answer first that doesn't go on
-pub record Ends (last : Answer) (address : List ℕ) (addresses : List (List ℕ)) (made : List Call) : Type 0 where
+pub record Ends (last : Answer) (address : List ℕ) (ds : List DialState) (made : List Made) : Type 0 where
   pub gave : List Bool
   pub answers : List Answer
-  pub all : length gave ≡ length addresses
+  pub all : length gave ≡ length ds
   pub going : All IsGoing answers
-  pub calls_are : made ≡ listening address addresses gave (answers ++ last ∷ [])
+  pub calls_are : made ≡ listening address ds gave (answers ++ last ∷ [])
 
 -- a write failed or memory ran out, which ended it sooner: while it dialled, or while it accepted
-pub record EndsWithin (address : List ℕ) (addresses : List (List ℕ)) (made : List Call) : Type 0 where
+pub record EndsWithin (address : List ℕ) (ds : List DialState) (made : List Made) : Type 0 where
   pub gave : List Bool
   pub answers : List Answer
   pub going : All IsGoing answers
-  pub order : (answers ≡ []) ⊎ (length gave ≡ length addresses)
-  pub calls_are : made ≡ listening address addresses gave answers
+  pub order : (answers ≡ []) ⊎ (length gave ≡ length ds)
+  pub calls_are : made ≡ listening address ds gave answers
 
 -- the same, or before anything was called
-abbrev pub EndsSooner : List ℕ → List (List ℕ) → List Call → Type 0
-EndsSooner address addresses made = (made ≡ []) ⊎ EndsWithin address addresses made
+abbrev pub EndsSooner : List ℕ → List DialState → List Made → Type 0
+EndsSooner address ds made = (made ≡ []) ⊎ EndsWithin address ds made
 
 -- accepting goes on
 pub record Goes (a b : Moment) : Type 0 where
@@ -64,11 +64,11 @@ Accepts NoMemory a b = (answers : List Answer) × All IsGoing answers × BreaksO
 Accepts WriteFault a b = ⊥
 
 -- The host has no random words, can't listen, or can't accept any more: which calls were made, what was said before, and the line that tells why
-abbrev pub Fails : List ℕ → List ℕ → List (List ℕ) → List Call → List ℕ → List ℕ → Type 0
-Fails id address addresses made said line =
+abbrev pub Fails : List ℕ → List ℕ → List DialState → List Made → List ℕ → List ℕ → Type 0
+Fails id address ds made said line =
     ((made ≡ []) × (said ≡ []) × (line ≡ no_words_text))
-    ⊎ (((made ≡ Listen address false ∷ []) × (said ≡ []) × (line ≡ listen_text address))
-    ⊎ (Ends Failed address addresses made × (said ≡ serving_text id) × (line ≡ accept_text)))
+    ⊎ (((made ≡ listen_call address false ∷ []) × (said ≡ []) × (line ≡ listen_text address))
+    ⊎ (Ends Failed address ds made × (said ≡ serving_text id) × (line ≡ accept_text)))
 
 -- What the two outputs hold, and how often a write to the error output failed
 pub record Outputs : Type 0 where
@@ -80,46 +80,46 @@ abbrev pub outputs : Option (List ℕ) → Option (List ℕ) → ℕ → Outputs
 outputs out err faults = record { out = out; err = err; faults = faults }
 
 -- No more links come: all was called, started and told
-pub record Completes (id address : List ℕ) (addresses : List (List ℕ)) (a b : Moment) (o p : Outputs) : Type 0 where
-  pub made : List Call
-  pub ends : Ends End address addresses made
+pub record Completes (id address : List ℕ) (ds : List DialState) (a b : Moment) (o p : Outputs) : Type 0 where
+  pub made : List Made
+  pub ends : Ends End address ds made
   pub serves : Serves made a b
   pub said : Appends (serving_text id) o.out p.out
 
 -- The host failed
-pub record FailsAt (id address : List ℕ) (addresses : List (List ℕ)) (a b : Moment) (o p : Outputs) : Type 0 where
-  pub made : List Call
+pub record FailsAt (id address : List ℕ) (ds : List DialState) (a b : Moment) (o p : Outputs) : Type 0 where
+  pub made : List Made
   pub text : List ℕ
   pub line : List ℕ
-  pub fails : Fails id address addresses made text line
+  pub fails : Fails id address ds made text line
   pub serves : Serves made a b
   pub said : Appends text o.out p.out
   pub told : Says line b.held p.err o.faults p.faults
 
 -- A write failed, or memory ran out
-pub record CutsOff (id address : List ℕ) (addresses : List (List ℕ)) (a b : Moment) (o p : Outputs) : Type 0 where
-  pub made : List Call
-  pub ends : EndsSooner address addresses made
+pub record CutsOff (id address : List ℕ) (ds : List DialState) (a b : Moment) (o p : Outputs) : Type 0 where
+  pub made : List Made
+  pub ends : EndsSooner address ds made
   pub breaks : BreaksOff made a b
   pub said : AppendsPrefix (serving_text id) o.out p.out
 
-abbrev pub Comes : ServeEnd → List ℕ → List ℕ → List (List ℕ) → Moment → Moment → Outputs → Outputs → Type 0
-Comes Done id address addresses a b o p = Completes id address addresses a b o p × (b.held ≡ p.err)
-Comes HostFault id address addresses a b o p = FailsAt id address addresses a b o p
-Comes NoMemory id address addresses a b o p = CutsOff id address addresses a b o p × (b.held ≡ p.err)
-Comes WriteFault id address addresses a b o p = CutsOff id address addresses a b o p × (b.held ≡ p.err)
+abbrev pub Comes : ServeEnd → List ℕ → List ℕ → List DialState → Moment → Moment → Outputs → Outputs → Type 0
+Comes Done id address ds a b o p = Completes id address ds a b o p × (b.held ≡ p.err)
+Comes HostFault id address ds a b o p = FailsAt id address ds a b o p
+Comes NoMemory id address ds a b o p = CutsOff id address ds a b o p × (b.held ≡ p.err)
+Comes WriteFault id address ds a b o p = CutsOff id address ds a b o p × (b.held ≡ p.err)
 
 -- A router of this identifier was served at this address, its links with logs or without, and these were to be dialled: from the old calls of the host, jobs told and failed starts of
 -- the crew to the new ones, for some random words of the host
-pub record IsServed (end : ServeEnd) (id : List ℕ) (log : Bool) (address : List ℕ) (addresses : List (List ℕ)) (calls calls' : Option (List Call))
+pub record IsServed (end : ServeEnd) (id : List ℕ) (log : Bool) (address : List ℕ) (ds : List DialState) (calls calls' : Option (List Call))
     (told told' : Option (List LinkJob)) (faults faults' : ℕ) (o p : Outputs) : Type 0 where
   pub words : Stream
   pub held : Option (List ℕ)
   pub links : LinksState
-  pub comes : Comes end id address addresses (moment calls told faults o.err (first_links id log words)) (moment calls' told' faults' held links) o p
+  pub comes : Comes end id address ds (moment calls told faults o.err (first_links id log words)) (moment calls' told' faults' held links) o p
 
 -- so many of the addresses were dialled
-pub record Dials (addresses : List (List ℕ)) (count : ℕ) (a b : Moment) : Type 0 where
+pub record Dials (ds : List DialState) (count : ℕ) (a b : Moment) : Type 0 where
   pub gave : List Bool
   pub all : length gave ≡ count
-  pub serves : Serves (dials (take count addresses) gave) a b
+  pub serves : Serves (dials (take count ds) gave) a b

@@ -7,6 +7,7 @@ ghost use Rattle.zr_serve.specs.Links.{links_of};
 use rand_core::Rng;
 use zr_id::zid::Zid;
 use zr_link_job::{LinkJob, Side};
+use zr_msg::peer::Weight;
 
 /// How often a reader reads at most.
 const TURNS: u64 = u64::MAX;
@@ -39,9 +40,9 @@ impl<W: Rng + Drop> Links<W> {
         }
     }
 
-    /// The job of the next link.
-    pub(crate) fn next(&mut self, side: Side) -> LinkJob
-        ensures job { result ≡ next_job (links_of (λ w. W.stream w) self.old) side }
+    /// The job of the next link, which weighs so much if the peer is a router.
+    pub(crate) fn next(&mut self, side: Side, weight: Weight) -> LinkJob
+        ensures job { result ≡ next_job (links_of (λ w. W.stream w) self.old) (record { side = side; weight = weight }) }
         ensures next { links_of (λ w. W.stream w) self.new ≡ with_next (links_of (λ w. W.stream w) self.old) }
     {
         let number = self.count;
@@ -52,6 +53,7 @@ impl<W: Rng + Drop> Links<W> {
             me: self.me,
             secret: self.secret,
             word: self.words.next_u64(),
+            weight,
             turns: TURNS,
             log: self.log,
         }

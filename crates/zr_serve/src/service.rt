@@ -1,6 +1,6 @@
 //! `serve`: the loop that listens, dials and accepts.
 
-ghost use Rattle.std.specs.Prelude.{◌≡◌, ◌≤◌, ℕ, Option, ◌⊎◌, [], ◌∷◌, Bool, Err, IfErr, IfOk, List, OnErr, OnOk, is_some, length, map, true};
+ghost use Rattle.std.specs.Prelude.{◌≡◌, ◌≤◌, ℕ, Option, ◌⊎◌, [], ◌∷◌, Bool, Err, IfErr, IfOk, List, OnErr, OnOk, is_some, length, true};
 ghost use Rattle.std.specs.Arc.{arc_value};
 ghost use Rattle.std.specs.String.{string_bytes};
 ghost use Rattle.zr_outside_crew.specs.Crew.{crew_faults, crew_told};
@@ -8,8 +8,7 @@ ghost use Rattle.zr_hist.specs.Words.{pass_name};
 ghost use Rattle.zr_link_job.specs.Starts.{Starts};
 ghost use Rattle.zr_outside.specs.Counts.{Rose};
 ghost use Rattle.zr_outside.specs.declared.host.Answer.{Answer};
-ghost use Rattle.zr_outside.specs.declared.host.Call.TheVariants as call;
-ghost use Rattle.zr_serve.specs.Calls.{IsGoing, accepts, dials};
+ghost use Rattle.zr_serve.specs.Calls.{IsGoing, accepts, dial_call, dials};
 ghost use Rattle.zr_serve.specs.Jobs.{next_job, with_next};
 ghost use Rattle.zr_serve.specs.Lines.{accept_text};
 ghost use Rattle.zr_serve.specs.Links.{links_of};
@@ -23,9 +22,11 @@ use crate::plan::ServePlan;
 use std::alloc::{AllocError, Global};
 use std::sync::{Arc, Wait};
 use std::thread::Threads;
+use zr_dial::Dial;
 use zr_hist::Pass;
 use zr_id::link::LinkNo;
 use zr_link_job::{LinkJob, Reading, Side, hand_over};
+use zr_msg::peer::Weight;
 use zr_outside::host::{Accepted, Host};
 use zr_outside::sink::Sink;
 use zr_outside_crew::Crew;
@@ -65,7 +66,7 @@ where
     H::Time: 'static,
     H::Log: 'static,
     P::Note: Send + 'static,
-    ensures served { IsServed result plan.now.id plan.now.log (string_bytes plan.now.listen) (map string_bytes plan.now.dials.items) (H.calls host.old) (H.calls host.new) (crew_told crew.old) (crew_told crew.new) (crew_faults crew.old) (crew_faults crew.new) (outputs (K.held out.old) (E.held err.old) (E.faults err.old)) (outputs (K.held out.new) (E.held err.new) (E.faults err.new)) }
+    ensures served { IsServed result plan.now.id plan.now.log (string_bytes plan.now.listen) plan.now.dials.items (H.calls host.old) (H.calls host.new) (crew_told crew.old) (crew_told crew.new) (crew_faults crew.old) (crew_faults crew.new) (outputs (K.held out.old) (E.held err.old) (E.faults err.old)) (outputs (K.held out.new) (E.held err.new) (E.faults err.new)) }
     ensures done { result ≡ ServeEnd.Done → Rose (H.ends host.old) (H.ends host.new) }
     ensures host { result ≡ ServeEnd.HostFault → Rose (H.faults host.old) (H.faults host.new) }
     ensures write { result ≡ ServeEnd.WriteFault → Rose (K.faults out.old) (K.faults out.new) ⊎ Rose (E.faults err.old) (E.faults err.new) }
@@ -112,7 +113,7 @@ fn dial_all<
     R: Threads + Wait + Copy + Send + Sync + Drop + 'static,
 >(
     serving: &mut Serving<P, R>,
-    addresses: &[String],
+    targets: &[Dial],
     err: &mut E,
     host: &mut H,
     crew: &mut Crew<R, LinkJob>,
@@ -124,13 +125,13 @@ where
     H::Time: 'static,
     H::Log: 'static,
     P::Note: Send + 'static,
-    ensures dialled { OnOk result ((gave : List Bool) × (length gave ≡ length addresses.now) × Serves (dials (map string_bytes addresses.now) gave) (moment (H.calls host.old) (crew_told crew.old) (crew_faults crew.old) (E.held err.old) (links_of (λ w. H.Words.stream w) links.old)) (moment (H.calls host.new) (crew_told crew.new) (crew_faults crew.new) (E.held err.new) (links_of (λ w. H.Words.stream w) links.new))) }
-    ensures stopped { OnErr result ((gave : List Bool) × BreaksOff (dials (map string_bytes addresses.now) gave) (moment (H.calls host.old) (crew_told crew.old) (crew_faults crew.old) (E.held err.old) (links_of (λ w. H.Words.stream w) links.old)) (moment (H.calls host.new) (crew_told crew.new) (crew_faults crew.new) (E.held err.new) (links_of (λ w. H.Words.stream w) links.new))) }
+    ensures dialled { OnOk result ((gave : List Bool) × (length gave ≡ length targets.now) × Serves (dials targets.now gave) (moment (H.calls host.old) (crew_told crew.old) (crew_faults crew.old) (E.held err.old) (links_of (λ w. H.Words.stream w) links.old)) (moment (H.calls host.new) (crew_told crew.new) (crew_faults crew.new) (E.held err.new) (links_of (λ w. H.Words.stream w) links.new))) }
+    ensures stopped { OnErr result ((gave : List Bool) × BreaksOff (dials targets.now gave) (moment (H.calls host.old) (crew_told crew.old) (crew_faults crew.old) (E.held err.old) (links_of (λ w. H.Words.stream w) links.old)) (moment (H.calls host.new) (crew_told crew.new) (crew_faults crew.new) (E.held err.new) (links_of (λ w. H.Words.stream w) links.new))) }
     ensures cause { (result ≡ Err ServeEnd.Done → ⊥) × (result ≡ Err ServeEnd.HostFault → ⊥) × (result ≡ Err ServeEnd.WriteFault → Rose (E.faults err.old) (E.faults err.new)) }
     ensures later { (E.faults err.old ≤ E.faults err.new) × (H.faults host.old ≤ H.faults host.new) × (H.ends host.old ≤ H.ends host.new) }
 {
-    for address in addresses {
-        if let Err(end) = dial(serving, address.as_str(), err, host, crew, links) {
+    for target in targets {
+        if let Err(end) = dial(serving, target, err, host, crew, links) {
             return Err(end);
         }
     }
@@ -146,7 +147,7 @@ fn dial<
     R: Threads + Wait + Copy + Send + Sync + Drop + 'static,
 >(
     serving: &mut Serving<P, R>,
-    address: &str,
+    target: &Dial,
     err: &mut E,
     host: &mut H,
     crew: &mut Crew<R, LinkJob>,
@@ -158,14 +159,25 @@ where
     H::Time: 'static,
     H::Log: 'static,
     P::Note: Send + 'static,
-    ensures dialled { OnOk result ((is_link : Bool) × Serves (call.Dial address.now is_link ∷ []) (moment (H.calls host.old) (crew_told crew.old) (crew_faults crew.old) (E.held err.old) (links_of (λ w. H.Words.stream w) links.old)) (moment (H.calls host.new) (crew_told crew.new) (crew_faults crew.new) (E.held err.new) (links_of (λ w. H.Words.stream w) links.new))) }
-    ensures stopped { OnErr result ((is_link : Bool) × BreaksOff (call.Dial address.now is_link ∷ []) (moment (H.calls host.old) (crew_told crew.old) (crew_faults crew.old) (E.held err.old) (links_of (λ w. H.Words.stream w) links.old)) (moment (H.calls host.new) (crew_told crew.new) (crew_faults crew.new) (E.held err.new) (links_of (λ w. H.Words.stream w) links.new))) }
+    ensures dialled { OnOk result ((is_link : Bool) × Serves (dial_call target.now is_link ∷ []) (moment (H.calls host.old) (crew_told crew.old) (crew_faults crew.old) (E.held err.old) (links_of (λ w. H.Words.stream w) links.old)) (moment (H.calls host.new) (crew_told crew.new) (crew_faults crew.new) (E.held err.new) (links_of (λ w. H.Words.stream w) links.new))) }
+    ensures stopped { OnErr result ((is_link : Bool) × BreaksOff (dial_call target.now is_link ∷ []) (moment (H.calls host.old) (crew_told crew.old) (crew_faults crew.old) (E.held err.old) (links_of (λ w. H.Words.stream w) links.old)) (moment (H.calls host.new) (crew_told crew.new) (crew_faults crew.new) (E.held err.new) (links_of (λ w. H.Words.stream w) links.new))) }
     ensures cause { (result ≡ Err ServeEnd.Done → ⊥) × (result ≡ Err ServeEnd.HostFault → ⊥) × (result ≡ Err ServeEnd.WriteFault → Rose (E.faults err.old) (E.faults err.new)) }
     ensures later { (E.faults err.old ≤ E.faults err.new) × (H.faults host.old ≤ H.faults host.new) × (H.ends host.old ≤ H.ends host.new) }
 {
+    let address = target.address();
     match host.dial(address) {
         Some((source, sink)) => {
-            match start(serving, host, crew, links, Side::Dialling, source, sink) {
+            let weight = target.weight();
+            match start(
+                serving,
+                host,
+                crew,
+                links,
+                Side::Dialling,
+                weight,
+                source,
+                sink,
+            ) {
                 Ok(()) => Ok(()),
                 Err(_) => Err(ServeEnd::NoMemory),
             }
@@ -233,7 +245,17 @@ where
 {
     match host.accept() {
         Accepted::Link(source, sink) => {
-            match start(serving, host, crew, links, Side::Accepting, source, sink) {
+            let weight = Weight::one();
+            match start(
+                serving,
+                host,
+                crew,
+                links,
+                Side::Accepting,
+                weight,
+                source,
+                sink,
+            ) {
                 Ok(()) => Ok(()),
                 Err(_) => Err(ServeEnd::NoMemory),
             }
@@ -255,6 +277,7 @@ fn start<
     crew: &mut Crew<R, LinkJob>,
     links: &mut Links<H::Words>,
     side: Side,
+    weight: Weight,
     source: H::In,
     sink: H::Out,
 ) -> Result<(), AllocError>
@@ -264,13 +287,13 @@ where
     H::Time: 'static,
     H::Log: 'static,
     P::Note: Send + 'static,
-    ensures started { OnOk result (Starts (next_job (links_of (λ w. H.Words.stream w) links.old) side ∷ []) (crew_told crew.old) (crew_told crew.new) (crew_faults crew.old) (crew_faults crew.new)) }
+    ensures started { OnOk result (Starts (next_job (links_of (λ w. H.Words.stream w) links.old) (record { side = side; weight = weight }) ∷ []) (crew_told crew.old) (crew_told crew.new) (crew_faults crew.old) (crew_faults crew.new)) }
     ensures unstarted { OnErr result ((crew_told crew.new ≡ crew_told crew.old) × (crew_faults crew.new ≡ crew_faults crew.old)) }
     ensures links { links_of (λ w. H.Words.stream w) links.new ≡ with_next (links_of (λ w. H.Words.stream w) links.old) }
     ensures told { H.calls host.new ≡ H.calls host.old }
     ensures counts { (H.faults host.new ≡ H.faults host.old) × (H.ends host.new ≡ H.ends host.old) }
 {
-    let job = links.next(side);
+    let job = links.next(side, weight);
     // what may fail comes first, while there is little to be let go
     let (port, inner) = shared(serving)?;
     let clock = host.time();

@@ -1,6 +1,6 @@
 //! A router is made and served. Its name, of which its type keeps facts, is picked here.
 
-ghost use Rattle.std.specs.Prelude.{◌≡◌, ◌≤◌, ◌⊎◌, [], map};
+ghost use Rattle.std.specs.Prelude.{◌≡◌, ◌≤◌, ◌⊎◌, []};
 ghost use Rattle.std.specs.String.{string_bytes};
 ghost use Rattle.zr_outside_crew.specs.Crew.{crew_faults, crew_told};
 ghost use Rattle.zr_hist.specs.Words.{kept_name, list_of, name, pass_name};
@@ -41,7 +41,7 @@ where
     H::Out: 'static,
     H::Time: 'static,
     H::Log: 'static,
-    ensures served { IsServed result plan.now.id plan.now.log (string_bytes plan.now.listen) (map string_bytes plan.now.dials.items) (H.calls host.old) (H.calls host.new) (crew_told crew.old) (crew_told crew.new) (crew_faults crew.old) (crew_faults crew.new) (outputs (K.held out.old) (E.held err.old) (E.faults err.old)) (outputs (K.held out.new) (E.held err.new) (E.faults err.new)) }
+    ensures served { IsServed result plan.now.id plan.now.log (string_bytes plan.now.listen) plan.now.dials.items (H.calls host.old) (H.calls host.new) (crew_told crew.old) (crew_told crew.new) (crew_faults crew.old) (crew_faults crew.new) (outputs (K.held out.old) (E.held err.old) (E.faults err.old)) (outputs (K.held out.new) (E.held err.new) (E.faults err.new)) }
     ensures done { result ≡ ServeEnd.Done → Rose (H.ends host.old) (H.ends host.new) }
     ensures host { result ≡ ServeEnd.HostFault → Rose (H.faults host.old) (H.faults host.new) }
     ensures write { result ≡ ServeEnd.WriteFault → Rose (K.faults out.old) (K.faults out.new) ⊎ Rose (E.faults err.old) (E.faults err.new) }
@@ -86,7 +86,7 @@ where
     requires kept { (kept_name kept ≡ B.history) × (list_of kept ≡ []) }
     requires pass { pass_name pass ≡ B.history }
     requires own { plan.now.id ≡ B.me }
-    ensures served { IsServed result plan.now.id plan.now.log (string_bytes plan.now.listen) (map string_bytes plan.now.dials.items) (H.calls host.old) (H.calls host.new) (crew_told crew.old) (crew_told crew.new) (crew_faults crew.old) (crew_faults crew.new) (outputs (K.held out.old) (E.held err.old) (E.faults err.old)) (outputs (K.held out.new) (E.held err.new) (E.faults err.new)) }
+    ensures served { IsServed result plan.now.id plan.now.log (string_bytes plan.now.listen) plan.now.dials.items (H.calls host.old) (H.calls host.new) (crew_told crew.old) (crew_told crew.new) (crew_faults crew.old) (crew_faults crew.new) (outputs (K.held out.old) (E.held err.old) (E.faults err.old)) (outputs (K.held out.new) (E.held err.new) (E.faults err.new)) }
     ensures done { result ≡ ServeEnd.Done → Rose (H.ends host.old) (H.ends host.new) }
     ensures host { result ≡ ServeEnd.HostFault → Rose (H.faults host.old) (H.faults host.new) }
     ensures write { result ≡ ServeEnd.WriteFault → Rose (K.faults out.old) (K.faults out.new) ⊎ Rose (E.faults err.old) (E.faults err.new) }

@@ -1,6 +1,6 @@
 -- What is written of a message is read back within an established session, as the message that it gives.
 use Rattle.std.proofs.Common.{◌≡◌, ap, refl, ℕ, ◌<◌, Bool, true, false, List, [], ◌∷◌, ◌++◌, length, Option, Some, None, Ok, inl, arith}
-use Rattle.std.specs.Prelude.{nat_le, bit_and}
+use Rattle.std.specs.Prelude.{nat_le, bit_and, if◌then◌else◌}
 use Rattle.zr_bytes.specs.Flag.{has_id}
 use Rattle.zr_bytes.specs.Reading.{Read, ◌>>=◌, byte_of}
 use Rattle.zr_format_spec.specs.Writing.{writes_header}
@@ -17,6 +17,8 @@ use Rattle.zr_net.specs.Laws.{WrittenNetIsRead}
 use Rattle.zr_net.specs.Reading.{net_of, behind_of, declared_of, told_of}
 use Rattle.zr_net.specs.Writing as net
 use Rattle.zr_oam.specs.Laws.{WrittenOamIsRead}
+use Rattle.zr_id.specs.Record.{RecordState}
+use Rattle.zr_oam.specs.Writing.{writes_own, writes_record, weigh_one}
 use Rattle.zr_oam.specs.Reading.{oam_of}
 use Rattle.zr_wire.specs.Roles.{admits}
 use Rattle.zr_wire.specs.Writing.{writes_message}
@@ -179,6 +181,14 @@ client_heard law (State links) h = impossible h.admitted
 client_heard law (Step source number added decl) h = impossible h.admitted
 client_heard law (Snap source number decls) h = impossible h.admitted
 
+-- a record, written as its weights ask
+abbrev writes_state : Bool → RecordState → List ℕ
+writes_state one links = if one then writes_own 0x5A01 (writes_record false links) else writes_own 0x5A03 (writes_record true links)
+
+state_heard : (links : RecordState) (one : Bool) → ((rest : List ℕ) → oam_of (writes_state one links ++ rest) ≡ Ok (Some (State links), rest)) → IsHeard Router (State links) (writes_state one links)
+state_heard links true reads = between (State links) _ refl reads
+state_heard links false reads = between (State links) _ refl reads
+
 router_heard : AreRead → (m : Msg) → MayBeSent Router m → IsHeard Router m (writes_message m)
 router_heard law (Sub id key) h = impossible h.admitted
 router_heard law (Unsub id) h = impossible h.admitted
@@ -195,7 +205,7 @@ router_heard law (Push tree content) h = push_heard law Router tree content h
 router_heard law (Request tree id target content) h = request_heard law Router tree id target content h
 router_heard law (Response id content) h = response_heard law Router id content h
 router_heard law (Final id extras) h = final_heard law Router id extras h
-router_heard law (State links) h = between (State links) _ refl (λ rest. law.oam.again (State links) rest h.spelled tt)
+router_heard law (State links) h = state_heard links (weigh_one links.links) (λ rest. law.oam.again (State links) rest h.spelled tt)
 router_heard law (Step source number added decl) h = between (Step source number added decl) _ refl (λ rest. law.oam.again (Step source number added decl) rest h.spelled tt)
 router_heard law (Snap source number decls) h = between (Snap source number decls) _ refl (λ rest. law.oam.again (Snap source number decls) rest h.spelled tt)
 

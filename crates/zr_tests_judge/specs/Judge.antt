@@ -51,7 +51,7 @@ pair_holds j publisher receiver = is_router j.before receiver || is_right j publ
 abbrev pub holds_for_client : Judged → List ℕ → Act → Bool
 holds_for_client j publisher (a.Router id) = true
 holds_for_client j publisher (a.Client id router) = pair_holds j publisher id
-holds_for_client j publisher (a.Link one other) = true
+holds_for_client j publisher (a.Link one other weight) = true
 holds_for_client j publisher (a.Up router neighbour) = true
 holds_for_client j publisher (a.Break router neighbour) = true
 holds_for_client j publisher (a.Down router neighbour) = true

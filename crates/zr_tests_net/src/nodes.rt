@@ -199,7 +199,11 @@ fn peer(link: u32) -> Result<Peer, AllocError> {
     } else {
         Role::Client
     };
-    Ok(Peer { id, role })
+    Ok(Peer {
+        id,
+        role,
+        weight: 1,
+    })
 }
 
 fn event(alloc: Global, link: u32, step: Step, more: u32) -> Result<Event, AllocError> {

@@ -3,7 +3,7 @@
 use crate::row::{self, Fault, Steps};
 use std::alloc::Global;
 use zr_graph::base::{Accepted, Base};
-use zr_id::record::{LinkRecord, are_links};
+use zr_id::record::{LinkRecord, Linked, are_links};
 use zr_id::zid::Zid;
 
 /// The base of the router `02` takes the steps.
@@ -12,24 +12,37 @@ pub fn answer(alloc: Global, words: &[&str]) -> Result<String, Fault> {
     row::run(alloc, base, words)
 }
 
-// The identifiers that a word lists.
-fn ids(alloc: Global, word: &str) -> Result<Vec<Zid>, Fault> {
+// The links that a word lists, each `ID` of weight 1 or `ID*W`.
+fn links_in(alloc: Global, word: &str) -> Result<Vec<Linked>, Fault> {
     let texts = row::listed(alloc, word)?;
-    let mut ids = Vec::new(alloc);
+    let mut links = Vec::new(alloc);
     for text in &texts {
-        push_id(&mut ids, text)?;
+        push_link(alloc, &mut links, text)?;
     }
-    Ok(ids)
+    Ok(links)
 }
 
-fn push_id(ids: &mut Vec<Zid>, text: &str) -> Result<(), Fault> {
-    let id = Zid::from_text(text)?;
-    ids.push(id)?;
+fn push_link(alloc: Global, links: &mut Vec<Linked>, text: &str) -> Result<(), Fault> {
+    let parts = row::parts(alloc, text, '*')?;
+    let weight = if parts.len() > 1 {
+        row::parsed(&parts, 1)?
+    } else {
+        1
+    };
+    links.push(linked(row::id(&parts, 0)?, weight)?)?;
     Ok(())
 }
 
+/// A link of this weight.
+pub fn linked(id: Zid, weight: u16) -> Result<Linked, Fault> {
+    if weight == 0 {
+        return Err(Fault::Row);
+    }
+    Ok(Linked { id, weight })
+}
+
 /// The router whose base it is has these links from now on.
-pub fn relink(base: &mut Base, links: &[Zid]) -> Result<(), Fault> {
+pub fn relink(base: &mut Base, links: &[Linked]) -> Result<(), Fault> {
     let me = base.me();
     if !are_links(&me, links) {
         return Err(Fault::Row);
@@ -41,7 +54,7 @@ pub fn relink(base: &mut Base, links: &[Zid]) -> Result<(), Fault> {
 }
 
 /// A router's record.
-pub fn record(id: Zid, number: u64, links: Vec<Zid>) -> Result<LinkRecord, Fault> {
+pub fn record(id: Zid, number: u64, links: Vec<Linked>) -> Result<LinkRecord, Fault> {
     if !are_links(&id, &links) {
         return Err(Fault::Row);
     }
@@ -50,7 +63,7 @@ pub fn record(id: Zid, number: u64, links: Vec<Zid>) -> Result<LinkRecord, Fault
 
 fn accept(alloc: Global, base: &mut Base, parts: &[&str]) -> Result<String, Fault> {
     let (id, number) = (row::id(parts, 1)?, row::parsed(parts, 2)?);
-    let links = ids(alloc, row::word(parts, 3))?;
+    let links = links_in(alloc, row::word(parts, 3))?;
     let accepted = taken(base, record(id, number, links)?)?;
     row::text(alloc, &accepted)
 }
@@ -63,7 +76,7 @@ pub fn taken(base: &mut Base, record: LinkRecord) -> Result<Accepted, Fault> {
 }
 
 fn links(alloc: Global, base: &mut Base, parts: &[&str]) -> Result<String, Fault> {
-    let links = ids(alloc, row::word(parts, 1))?;
+    let links = links_in(alloc, row::word(parts, 1))?;
     relink(base, &links)?;
     Ok(String::new(alloc))
 }

@@ -76,6 +76,8 @@ fn of_state(alloc: Global, name: &str, words: &[&str]) -> Result<String, Fault> 
         "graph" => graphs::answer(alloc, words),
         "trees" => trees::answer(alloc, words),
         "family" => trees::children(alloc, words),
+        "weighted" => trees::weighted(alloc, words),
+        "weighted-family" => trees::weighted_children(alloc, words),
         "set" => sets::answer(alloc, words),
         "log" => logs::answer(alloc, words),
         "pending" => pending::answer(alloc, words),

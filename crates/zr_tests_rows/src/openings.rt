@@ -13,6 +13,9 @@ use zr_trans::{Trans, read_trans};
 /// What an end knows that nobody else does.
 pub const SECRET: [u8; 32] = [7; 32];
 
+/// What the link weighs at each end.
+const WEIGHT: u16 = 3;
+
 /// One end: what it starts from, and the message that it expects.
 #[derive(Drop)]
 struct End {
@@ -34,7 +37,7 @@ pub fn answer(alloc: Global, words: &[&str]) -> Result<String, Fault> {
 fn opening(words: &[&str]) -> Result<Opening, Fault> {
     let me = Zid::from_bytes(&[row::parsed(words, 1)?])?;
     let (link, word) = (row::parsed(words, 2)?, row::parsed(words, 3)?);
-    Ok(Opening::new(me, &SECRET, link, word))
+    Ok(Opening::new(me, &SECRET, link, word, WEIGHT))
 }
 
 fn of_end(
@@ -46,11 +49,14 @@ fn of_end(
     row::run(alloc, End { opening, expected }, steps)
 }
 
-// What the end of an open session knows: the peer, its lease, the most bytes of a batch, the numbers of the first frames of the peer and of
+// What the end of an open session knows: the peer and what the link to it weighs, its lease, the most bytes of a batch, the numbers of the first frames of the peer and of
 // this end, and the answer to OPEN that it has to send.
 fn shown(alloc: Global, o: &Opened) -> Result<String, Fault> {
     let numbers = (o.lease, o.outbox.batch(), o.first, o.outbox.next());
-    row::text(alloc, &(o.peer.role, o.peer.id, numbers, &o.answer))
+    row::text(
+        alloc,
+        &(o.peer.role, o.peer.id, o.peer.weight, numbers, &o.answer),
+    )
 }
 
 // What an end makes of a message that can be spelled: its answer, what it knows then, or why it ends.

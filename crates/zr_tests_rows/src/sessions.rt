@@ -37,7 +37,7 @@ const CLIENT: [&str; 5] = [
 
 /// The same of the router `02`, whose cookie is that of `01 02`.
 const ROUTER: [&str; 5] = [
-    "whole:0600810900022901",
+    "whole:0600810900022902",
     "whole:2400420a0020",
     "whole:02055130d8f245d1b6e7622b13d64055f31ec69ac56dea1695cb6995bd365a7a",
     "confirm",
@@ -101,7 +101,7 @@ fn cut_row(alloc: Global, first: &[u8], second: &[u8]) -> Result<String, AllocEr
 }
 
 fn opening(id: u8) -> Result<Opening, Fault> {
-    Ok(Opening::new(Zid::from_bytes(&[id])?, &SECRET, NUMBER, 0))
+    Ok(Opening::new(Zid::from_bytes(&[id])?, &SECRET, NUMBER, 0, 1))
 }
 
 // The accepting end of router 01, which takes the first steps before those of the row.

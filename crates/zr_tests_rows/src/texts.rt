@@ -4,7 +4,7 @@ use crate::row;
 use std::alloc::{AllocError, Global};
 use zr_bytes::ReadError;
 use zr_decl::Declared;
-use zr_id::record::LinkRecord;
+use zr_id::record::{LinkRecord, Linked};
 use zr_id::zid::Zid;
 use zr_key::key::KeyExpr;
 use zr_msg::content::Content;
@@ -151,8 +151,26 @@ fn between_routers(alloc: Global, msg: &Msg) -> Result<String, AllocError> {
 }
 
 fn record(alloc: Global, record: &LinkRecord) -> Result<String, AllocError> {
-    let (id, number, links) = (record.id(), record.seq(), record.links());
-    format!(in alloc; "record {id:?} {number} {links:?}")
+    let (id, number) = (record.id(), record.seq());
+    let mut out = format!(in alloc; "record {id:?} {number} [")?;
+    let mut is_first = true;
+    for link in record.links() {
+        out.push_str(if is_first { "" } else { ", " })?;
+        out.push_str(&linked(alloc, link)?)?;
+        is_first = false;
+    }
+    out.push_str("]")?;
+    Ok(out)
+}
+
+// A link of a record, with its weight where that isn't 1.
+fn linked(alloc: Global, link: &Linked) -> Result<String, AllocError> {
+    let (id, weight) = (link.id, link.weight);
+    if weight == 1 {
+        format!(in alloc; "{id:?}")
+    } else {
+        format!(in alloc; "{id:?}*{weight}")
+    }
 }
 
 fn entry(

@@ -1,10 +1,11 @@
 //! Trees of small graphs, of a router that knows no record of its neighbour and of a long line, and the children of one router in them.
 //! `tests/rules` asks of each graph of five routers.
 
-use crate::graphs::{record, relink, taken};
+use crate::graphs::{linked, record, relink, taken};
 use crate::row::{self, Fault, Steps};
 use std::alloc::{AllocError, Global};
 use zr_graph::base::Base;
+use zr_id::record::Linked;
 use zr_id::zid::{BadId, Zid};
 use zr_tree::family::Family;
 use zr_tree::trees::Trees;
@@ -24,6 +25,18 @@ static BITS: [[u32; ROUTERS]; ROUTERS] = [
     [8, 64, 256, 512, 0],
 ];
 
+/// How many routers the weighted graphs have.
+const WEIGHED: usize = 4;
+
+/// How far to the right the two bits of an edge's weight stand in the number of a weighted graph, by the indexes of its two routers. No edge
+/// has the weight 0.
+static SHIFTS: [[u32; WEIGHED]; WEIGHED] = [
+    [0, 0, 2, 4],
+    [0, 0, 6, 8],
+    [2, 6, 0, 10],
+    [4, 8, 10, 0],
+];
+
 /// What trees tell, of the graph of a number at a router, of a router that knows no record of its neighbour, or of a line of so many routers.
 pub fn answer(alloc: Global, words: &[&str]) -> Result<String, Fault> {
     let base = named(alloc, words)?;
@@ -36,6 +49,60 @@ pub fn children(alloc: Global, words: &[&str]) -> Result<String, Fault> {
     let base = named(alloc, words)?;
     let family = Family::of(alloc, &base)?;
     row::run(alloc, family, row::behind(words, 2))
+}
+
+/// What trees tell of the weighted graph of a number at a router.
+pub fn weighted(alloc: Global, words: &[&str]) -> Result<String, Fault> {
+    let base = weighted_base(alloc, row::parsed(words, 0)?, row::parsed(words, 1)?)?;
+    let trees = Trees::of(alloc, &base)?;
+    row::run(alloc, trees, row::behind(words, 2))
+}
+
+/// Which routers are children of the one at which the base of a weighted graph is.
+pub fn weighted_children(alloc: Global, words: &[&str]) -> Result<String, Fault> {
+    let base = weighted_base(alloc, row::parsed(words, 0)?, row::parsed(words, 1)?)?;
+    let family = Family::of(alloc, &base)?;
+    row::run(alloc, family, row::behind(words, 2))
+}
+
+// What the edge of two routers weighs in a weighted graph, and nothing where there is none.
+fn edge_weight(graph: u32, i: usize, j: usize) -> u16 {
+    if i < WEIGHED && j < WEIGHED && i != j {
+        ((graph >> SHIFTS[i][j]) & 3) as u16
+    } else {
+        0
+    }
+}
+
+// What a router gives the edge to another one. Of the two ends only one gives the whole weight: the lesser router where the graph's number is
+// even, and else the greater one.
+fn weight_given(graph: u32, i: usize, j: usize) -> u16 {
+    let weight = edge_weight(graph, i, j);
+    if (i < j) == (graph % 2 == 0) {
+        weight
+    } else {
+        weight.min(1)
+    }
+}
+
+fn weighted_links(alloc: Global, graph: u32, i: usize) -> Result<Vec<Linked>, Fault> {
+    let mut links = Vec::new(alloc);
+    for j in 0..WEIGHED {
+        let weight = weight_given(graph, i, j);
+        if weight > 0 {
+            links.push(linked(name(j)?, weight)?)?;
+        }
+    }
+    Ok(links)
+}
+
+// The base of a router that has all records of a weighted graph.
+fn weighted_base(alloc: Global, graph: u32, me: usize) -> Result<Base, Fault> {
+    let mut base = base_with(alloc, name(me)?, &weighted_links(alloc, graph, me)?)?;
+    for i in 0..WEIGHED {
+        accept(&mut base, name(i)?, 1, weighted_links(alloc, graph, i)?)?;
+    }
+    Ok(base)
 }
 
 // The base that a row's first two words name: of the first of a line of so many routers, or of a graph at the router of this index.
@@ -62,18 +129,18 @@ fn far_name(i: u32) -> Result<Zid, BadId> {
     Zid::from_bytes(&[1, a, b, c, d])
 }
 
-fn links_of(alloc: Global, graph: u32, i: usize) -> Result<Vec<Zid>, Fault> {
+fn links_of(alloc: Global, graph: u32, i: usize) -> Result<Vec<Linked>, Fault> {
     let mut links = Vec::new(alloc);
     for j in 0..ROUTERS {
         if is_edge(graph, i, j) {
-            links.push(name(j)?)?;
+            links.push(linked(name(j)?, 1)?)?;
         }
     }
     Ok(links)
 }
 
 // The base of a router with these links, which knows no other one's record.
-fn linked(alloc: Global, me: Zid, links: &[Zid]) -> Result<Base, Fault> {
+fn base_with(alloc: Global, me: Zid, links: &[Linked]) -> Result<Base, Fault> {
     let mut base = Base::new(alloc, me)?;
     relink(&mut base, links)?;
     Ok(base)
@@ -81,11 +148,11 @@ fn linked(alloc: Global, me: Zid, links: &[Zid]) -> Result<Base, Fault> {
 
 // The base of a router that has its links in a graph, and knows no other one's record.
 fn bare(alloc: Global, graph: u32, me: usize) -> Result<Base, Fault> {
-    linked(alloc, name(me)?, &links_of(alloc, graph, me)?)
+    base_with(alloc, name(me)?, &links_of(alloc, graph, me)?)
 }
 
 // A router's record comes.
-fn accept(base: &mut Base, id: Zid, seq: u64, links: Vec<Zid>) -> Result<(), Fault> {
+fn accept(base: &mut Base, id: Zid, seq: u64, links: Vec<Linked>) -> Result<(), Fault> {
     let _ = taken(base, record(id, seq, links)?)?;
     Ok(())
 }
@@ -101,7 +168,7 @@ fn base_of(alloc: Global, graph: u32, me: usize) -> Result<Base, Fault> {
 
 // The base of the first router of a line of so many, of which the last one lists one more, of which nothing came.
 fn line(alloc: Global, routers: u32) -> Result<Base, Fault> {
-    let mut base = linked(alloc, far_name(0)?, &[far_name(1)?])?;
+    let mut base = base_with(alloc, far_name(0)?, &[linked(far_name(1)?, 1)?])?;
     for i in 1..routers {
         accept_far(alloc, &mut base, i)?;
     }
@@ -111,8 +178,8 @@ fn line(alloc: Global, routers: u32) -> Result<Base, Fault> {
 // The record of a router in a line comes: it lists the one before and the one behind.
 fn accept_far(alloc: Global, base: &mut Base, i: u32) -> Result<(), Fault> {
     let links = [
-        far_name(i.saturating_sub(1))?,
-        far_name(i.saturating_add(1))?,
+        linked(far_name(i.saturating_sub(1))?, 1)?,
+        linked(far_name(i.saturating_add(1))?, 1)?,
     ];
     accept(base, far_name(i)?, 1, links.to_vec(alloc)?)
 }
@@ -143,7 +210,7 @@ fn follow(alloc: Global, trees: &mut Trees, graph: u32) -> Result<String, Fault>
 // The base of this graph at router 3, where router 0 lists router 3 as well, which doesn't list it.
 fn one_more(alloc: Global, graph: u32) -> Result<Base, Fault> {
     let mut links = links_of(alloc, graph, 0)?;
-    links.push(name(3)?)?;
+    links.push(linked(name(3)?, 1)?)?;
     let mut base = base_of(alloc, graph, 3)?;
     accept(&mut base, name(0)?, 2, links)?;
     Ok(base)

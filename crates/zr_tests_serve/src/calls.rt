@@ -161,7 +161,11 @@ impl<B: Naming, R: Wait + Drop> Bench<B, R> {
 
 pub fn peer(id: u8, role: Role) -> Result<Peer, AllocError> {
     match Zid::from_bytes(&[id]) {
-        Ok(id) => Ok(Peer { id, role }),
+        Ok(id) => Ok(Peer {
+            id,
+            role,
+            weight: 1,
+        }),
         Err(_) => Err(AllocError),
     }
 }

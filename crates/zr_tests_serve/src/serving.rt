@@ -7,6 +7,7 @@ use std::alloc::{AllocError, Global};
 use std::sync::{Arc, Mutex, Wait};
 use std::test::Fail;
 use std::thread::Threads;
+use zr_dial::{Dial, read_dial};
 use zr_id::zid::Zid;
 use zr_link_job::{LinkJob, Side};
 use zr_outside::host::Host;
@@ -18,7 +19,7 @@ use zr_serve::{ServeEnd, ServePlan};
 use zr_serve_router::serving::serve_router;
 
 /// Which addresses are dialled and whether links have logs, whether the host can listen, which of its accepts and which writes of the error output fail, and
-/// what it comes to: the end, both outputs, and a letter for each job that the crew started, a capital one where it has a log. Where a line is one write, the
+/// what it comes to: the end, both outputs, and for each job that the crew started a letter, a capital one where it has a log, and its weight. Where a line is one write, the
 /// failure of the second breaks none.
 type Row = (
     &'static [&'static str],
@@ -42,10 +43,10 @@ static ROWS: [Row; 4] = [
         ServeEnd::Done,
         "serving 01\n",
         "dial nowhere failed\n",
-        "daa",
+        "d1a1a1",
     ),
     (
-        &["there", "nowhere"],
+        &["there,9", "nowhere,2"],
         true,
         true,
         &[],
@@ -53,7 +54,7 @@ static ROWS: [Row; 4] = [
         ServeEnd::Done,
         "serving 01\n",
         "dial nowhere failed\n",
-        "DAA",
+        "D9A1A1",
     ),
     (
         &[],
@@ -85,7 +86,7 @@ type Opening = (bool, &'static [u8], &'static [u8]);
 // A link that was dialled is written the INIT of router 01, which says that it is one, and one that was accepted nothing but the answer to the INIT of
 // client 0A. The cookie in that is SHA-256 of the first 32 bytes of ChaCha under 32 bytes 07, of link number 0 as eight bytes, and of `01 0A`.
 static OPENINGS: [Opening; 3] = [
-    (true, &[], &[0x06, 0x00, 0x81, 0x09, 0x00, 0x01, 0x29, 0x01]),
+    (true, &[], &[0x06, 0x00, 0x81, 0x09, 0x00, 0x01, 0x29, 0x02]),
     (false, &[], &[]),
     (
         false,
@@ -108,12 +109,14 @@ fn failing_sink(alloc: Global, failing: &[u64]) -> Result<MemSink, AllocError> {
     Ok(MemSink::new(alloc, failing))
 }
 
-fn texts(alloc: Global, words: &[&str]) -> Result<Vec<String>, AllocError> {
-    let mut texts = Vec::new(alloc);
+fn dials_of(alloc: Global, words: &[&str]) -> Result<Vec<Dial>, AllocError> {
+    let mut dials = Vec::new(alloc);
     for word in words {
-        texts.push(String::from_str(alloc, word)?)?;
+        if let Some(dial) = read_dial(alloc, word)? {
+            dials.push(dial)?;
+        }
     }
-    Ok(texts)
+    Ok(dials)
 }
 
 fn plan(alloc: Global, dials: &[&str], log: bool) -> Result<ServePlan, AllocError> {
@@ -121,7 +124,7 @@ fn plan(alloc: Global, dials: &[&str], log: bool) -> Result<ServePlan, AllocErro
         return Err(AllocError);
     };
     let listen = String::from_str(alloc, "here")?;
-    let dials = texts(alloc, dials)?;
+    let dials = dials_of(alloc, dials)?;
     Ok(ServePlan {
         id,
         listen,
@@ -139,16 +142,21 @@ fn letter(job: &LinkJob) -> u8 {
     }
 }
 
-fn are_jobs(jobs: &[LinkJob], letters: &[u8]) -> bool {
-    if jobs.len() != letters.len() {
-        return false;
-    }
-    for i in 0..jobs.len() {
-        if letter(&jobs[i]) != letters[i] {
+// Whether these are the jobs of a text, which has two bytes for each.
+fn are_jobs(jobs: &[LinkJob], text: &[u8]) -> bool {
+    let mut rest = text;
+    for job in jobs {
+        let [letter_of_job, weight, behind @ ..] = rest else {
+            return false;
+        };
+        if letter(job) != *letter_of_job
+            || job.weight.get() != u16::from(weight.saturating_sub(b'0'))
+        {
             return false;
         }
+        rest = behind;
     }
-    true
+    rest.is_empty()
 }
 
 // How serving ended.

@@ -77,7 +77,7 @@ fn client(alloc: Global, most: usize) -> Result<MemSource, AllocError> {
 fn session(alloc: Global, me: Zid) -> Session
     ensures { IsBegun result [] }
 {
-    Session::accepting(alloc, Opening::new(me, &SECRET, NUMBER, 0), 0)
+    Session::accepting(alloc, Opening::new(me, &SECRET, NUMBER, 0, 1), 0)
 }
 
 // What the link's two threads share or hand on, where what is written goes to these bytes.

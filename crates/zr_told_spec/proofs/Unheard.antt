@@ -18,7 +18,7 @@ use Rattle.zr_msg.specs.declared.msg.Msg.{Msg}
 use Rattle.zr_msg.specs.declared.msg.Target.{Target}
 use Rattle.zr_msg.specs.declared.msg.Msg.TheVariants.{Sub, Unsub, Able, Unable, Interest, EndInterest, ToldSub, ToldAble, ToldUnsub, ToldUnable, ToldEnd, Push, Request, Response, Final, State, Step, Snap}
 use Rattle.zr_msg.specs.declared.peer.LinkPeer.{LinkPeer}
-use Rattle.zr_msg.specs.declared.peer.Peer.{Peer}
+use Rattle.zr_msg.specs.Peer.{PeerState}
 use Rattle.zr_msg.specs.declared.peer.Role.{Role}
 use Rattle.zr_msg.specs.declared.peer.Role.TheVariants.{Client, Router}
 use Rattle.zr_local.specs.declared.row.Row.{Row}
@@ -31,7 +31,7 @@ use Rattle.zr_node_spec.specs.Samples.{push_to, push_on, push_along, tree_of}
 use Rattle.zr_node_spec.specs.Queries.{asked_links, final_at_once, final_for, reply_to, request_along, request_to, sends_ends}
 use Rattle.zr_node_spec.specs.Snapshots.{sends_snapshots, snapshots_on}
 use Rattle.zr_node_spec.specs.State.{NodeState, tables}
-use Rattle.zr_node_spec.specs.Table.{after, all_records, joined, own_record, parted, rows_left, sends, sends_down, sends_first, sends_from, sends_own, sends_parted, sends_rows, sends_up}
+use Rattle.zr_node_spec.specs.Table.{own_link, after, all_records, joined, own_record, parted, rows_left, sends, sends_down, sends_first, sends_from, sends_own, sends_parted, sends_rows, sends_up}
 use Rattle.zr_told_spec.specs.Told.{Heard, hear}
 
 pub record IsUnheard (ms : List Msg) : Type 0 where
@@ -111,12 +111,12 @@ of_request_along t pending from target content to (Some tree) =
 
 -- ---- events
 
-of_up : (node : NodeState) (link : ℕ) (peer : Peer) (r : Role) (to : ℕ) → IsUnheard (sends_up node link peer r to)
+of_up : (node : NodeState) (link : ℕ) (peer : PeerState) (r : Role) (to : ℕ) → IsUnheard (sends_up node link peer r to)
 of_up node link peer Client to = none
-of_up node link peer Router to = let b : BaseState = joined node.base peer.id in
+of_up node link peer Router to = let b : BaseState = joined node.base (own_link peer) in
     either _ (all_records b) (sends_own node link b to) (of_records b.records) (of_own node link b to)
 
-of_parted : (node : NodeState) (link : ℕ) (peer : Peer) (r : Role) (to : ℕ) → IsUnheard (sends_parted node link peer r to)
+of_parted : (node : NodeState) (link : ℕ) (peer : PeerState) (r : Role) (to : ℕ) → IsUnheard (sends_parted node link peer r to)
 of_parted node link peer Client to = none
 of_parted node link peer Router to = of_own node link (parted node.base peer.id) to
 

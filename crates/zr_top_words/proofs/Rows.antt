@@ -1,5 +1,5 @@
 -- What a builder adds to a command, and what the getters read of the matches.
-use Rattle.std.proofs.Common.{◌≡◌, ◌∙◌, ◌&&◌, Bool, not, true, false, refl, sym, ap, ap₂, List, Option, Some, None, true≢false}
+use Rattle.std.proofs.Common.{◌≡◌, ◌∙◌, ◌&&◌, Bool, not, true, false, refl, sym, ap, ap₂, List, [], ◌∷◌, ◌++◌, Option, Some, None, append_assoc, append-nil, true≢false}
 use Rattle.std.specs.Prelude.{codes, option_and_then, unwrap_or}
 use Rattle.std.specs.Option.{option_map}
 use Rattle.clap.specs.Built.{AddsArg, AddsSubcommand}
@@ -10,8 +10,9 @@ use Rattle.clap.specs.declared.builder.arg.Arg.{Arg}
 use Rattle.clap.specs.declared.builder.command.Command.{Command}
 use Rattle.clap.specs.declared.parser.matches.ArgMatches.{ArgMatches}
 use Rattle.clap.specs.declared.parser.matches.ArgMatches.TheViews.{out-ArgMatches}
+use Rattle.zr_dial.specs.Dial.{DialState, dial_of}
 use Rattle.zr_id.specs.Zid.{zid_of_hex}
-use Rattle.zr_top_words.specs.Asked.{served_at, served_by}
+use Rattle.zr_top_words.specs.Asked.{dials_of, served_as_named, served_by}
 
 -- ---- the builder
 
@@ -58,16 +59,45 @@ none_met m h = none_is (out-ArgMatches m).subcommand _ _ h
 -- ---- the values of `serve`
 
 pub served_is : (rows : List Row) (listen id : Text) → Some listen ≡ first_of (codes "listen") rows → Some id ≡ first_of (codes "id") rows
-    → served_by rows ≡ option_map (served_at rows listen) (zid_of_hex id)
+    → served_by rows ≡ option_and_then (served_as_named rows listen) (zid_of_hex id)
 served_is rows listen id h k =
-    ap (option_and_then (λ (l : Text). option_map (served_at rows l) (option_and_then zid_of_hex (first_of (codes "id") rows)))) (sym h)
-    ∙ ap (λ (o : Option Text). option_map (served_at rows listen) (option_and_then zid_of_hex o)) (sym k)
+    ap (option_and_then (λ (l : Text). option_and_then (served_as_named rows l) (option_and_then zid_of_hex (first_of (codes "id") rows)))) (sym h)
+    ∙ ap (λ (o : Option Text). option_and_then (served_as_named rows listen) (option_and_then zid_of_hex o)) (sym k)
 
 pub not_listening : (rows : List Row) → None ≡ first_of (codes "listen") rows → served_by rows ≡ None
 not_listening rows h =
-    ap (option_and_then (λ (l : Text). option_map (served_at rows l) (option_and_then zid_of_hex (first_of (codes "id") rows)))) (sym h)
+    ap (option_and_then (λ (l : Text). option_and_then (served_as_named rows l) (option_and_then zid_of_hex (first_of (codes "id") rows)))) (sym h)
 
 pub not_named : (rows : List Row) (listen : Text) → Some listen ≡ first_of (codes "listen") rows → None ≡ first_of (codes "id") rows → served_by rows ≡ None
 not_named rows listen h k =
-    ap (option_and_then (λ (l : Text). option_map (served_at rows l) (option_and_then zid_of_hex (first_of (codes "id") rows)))) (sym h)
-    ∙ ap (λ (o : Option Text). option_map (served_at rows listen) (option_and_then zid_of_hex o)) (sym k)
+    ap (option_and_then (λ (l : Text). option_and_then (served_as_named rows l) (option_and_then zid_of_hex (first_of (codes "id") rows)))) (sym h)
+    ∙ ap (λ (o : Option Text). option_and_then (served_as_named rows listen) (option_and_then zid_of_hex o)) (sym k)
+
+-- ---- what is dialled
+
+-- the words so far gave these dials, and the others will give what is left
+pub dials_begin : (words : List Text) → option_map (λ ds. [] ++ ds) (dials_of words) ≡ dials_of words
+dials_begin words = same (dials_of words)
+  where
+    same : (o : Option (List DialState)) → option_map (λ ds. [] ++ ds) o ≡ o
+    same None = refl
+    same (Some ds) = refl
+
+pub dials_more : (words rest : List Text) (word : Text) (done : List DialState) (d : DialState) (all : Option (List DialState)) → words ≡ word ∷ rest → dial_of word ≡ Some d
+    → option_map (λ ds. done ++ ds) (dials_of words) ≡ all → option_map (λ ds. (done ++ d ∷ []) ++ ds) (dials_of rest) ≡ all
+dials_more words rest word done d all is reads so_far =
+    moved (dials_of rest) ∙ (ap (λ o. option_map (λ ds. done ++ ds) (option_and_then (λ dial. option_map (λ dials. dial ∷ dials) (dials_of rest)) o)) (sym reads)
+    ∙ (ap (λ ws. option_map (λ ds. done ++ ds) (dials_of ws)) (sym is) ∙ so_far))
+  where
+    moved : (o : Option (List DialState)) → option_map (λ ds. (done ++ d ∷ []) ++ ds) o ≡ option_map (λ ds. done ++ ds) (option_map (λ dials. d ∷ dials) o)
+    moved None = refl
+    moved (Some ds) = ap Some (append_assoc done (d ∷ []) ds)
+
+pub dials_stop : (words rest : List Text) (word : Text) (done : List DialState) (all : Option (List DialState)) → words ≡ word ∷ rest → dial_of word ≡ None
+    → option_map (λ ds. done ++ ds) (dials_of words) ≡ all → all ≡ None
+dials_stop words rest word done all is reads so_far =
+    sym so_far ∙ (ap (λ ws. option_map (λ ds. done ++ ds) (dials_of ws)) is
+    ∙ ap (λ o. option_map (λ ds. done ++ ds) (option_and_then (λ dial. option_map (λ dials. dial ∷ dials) (dials_of rest)) o)) reads)
+
+pub dials_over : (words : List Text) (done : List DialState) (all : Option (List DialState)) → words ≡ [] → option_map (λ ds. done ++ ds) (dials_of words) ≡ all → Some done ≡ all
+dials_over words done all none so_far = sym (ap Some (append-nil done)) ∙ (ap (λ ws. option_map (λ ds. done ++ ds) (dials_of ws)) (sym none) ∙ so_far)

@@ -12,10 +12,11 @@ use Rattle.clap.specs.Walk.{Held, Row, Text, Walk, finished, idle, nothing_held,
 use Rattle.clap.specs.Simple.{Shape, built_leaf, inherited, marked_built, with_leaf_noted}
 use Rattle.clap.specs.Faults.{turn_fault}
 use Rattle.zr_make.specs.declared.plan.MakePlan.{MakePlan}
+use Rattle.zr_dial.specs.Dial.{DialState}
 use Rattle.zr_id.specs.Zid.{is_lower_hex, valid_zid, zid_of_hex}
 use Rattle.zr_script_spec.specs.Words.{is_digit, is_number}
 use Rattle.zr_top_words.specs.App.{app, make, serve, top}
-use Rattle.zr_top_words.specs.Asked.{asked_by, asked_of, faults, found, make as asks_make, plan_in_range, serve as asks_serve, served_at, number_below}
+use Rattle.zr_top_words.specs.Asked.{asked_by, asked_of, faults, found, make as asks_make, plan_in_range, serve as asks_serve, served_at, served_as_named, dials_of, number_below}
 use Rattle.zr_top_words.specs.Forms.{is_plain, FormsAreTaken, MakeIsTaken, NetIsTaken, ServeIsTaken}
 use Rattle.zr_top_words.proofs.Steps.{Goes, between, fault_behind, goes_on, idle_fault, idle_walked, more_fault, more_walked, stays, value_passes, value_walked}
 use Rattle.zr_top_words.proofs.Entering.{Enters, asked_is}
@@ -273,34 +274,36 @@ module _ (id listen : Text) (pid : is_plain id ≡ true) (plisten : is_plain lis
   asks_none : (zid : Text) → zid_of_hex id ≡ Some zid
       → asked_by (serve_built.name, finished serve_built.rules listening.held)
       ≡ Some (asks_serve (record { id = zid; listen = listen; log = false; dials = [] }))
-  asks_none zid is = ap (λ (z : Option Text). option_map asks_serve (option_map (served_at (finished serve_built.rules listening.held) listen) z)) is
+  asks_none zid is = ap (λ (z : Option Text). option_map asks_serve (option_and_then (served_as_named (finished serve_built.rules listening.held) listen) z)) is
 
-  asks_dials : (vs : List Text) (last zid : Text) → zid_of_hex id ≡ Some zid
+  asks_dials : (vs : List Text) (last zid : Text) (ds : List DialState) → zid_of_hex id ≡ Some zid → dials_of (vs ++ last ∷ []) ≡ Some ds
       → asked_by (serve_built.name, finished serve_built.rules (dialling vs last).held)
-      ≡ Some (asks_serve (record { id = zid; listen = listen; log = false; dials = vs ++ last ∷ [] }))
-  asks_dials [] last zid is =
-      ap (λ (z : Option Text). option_map asks_serve (option_map (served_at (finished serve_built.rules (dialling [] last).held) listen) z)) is
-  asks_dials (v ∷ vs) last zid is =
-      ap (λ (z : Option Text). option_map asks_serve (option_map (served_at (finished serve_built.rules (dialling (v ∷ vs) last).held) listen) z)) is
+      ≡ Some (asks_serve (record { id = zid; listen = listen; log = false; dials = ds }))
+  asks_dials [] last zid ds is reads =
+      ap (λ (z : Option Text). option_map asks_serve (option_and_then (served_as_named (finished serve_built.rules (dialling [] last).held) listen) z)) is
+      ∙ ap (λ (z : Option (List DialState)). option_map asks_serve (option_map (served_at (finished serve_built.rules (dialling [] last).held) listen zid) z)) reads
+  asks_dials (v ∷ vs) last zid ds is reads =
+      ap (λ (z : Option Text). option_map asks_serve (option_and_then (served_as_named (finished serve_built.rules (dialling (v ∷ vs) last).held) listen) z)) is
+      ∙ ap (λ (z : Option (List DialState)). option_map asks_serve (option_map (served_at (finished serve_built.rules (dialling (v ∷ vs) last).held) listen zid) z)) reads
 
-  serves : (zid : Text) (words : List Text) → zid_of_hex id ≡ Some zid → list_all is_plain words ≡ true
+  serves : (zid : Text) (words : List Text) (ds : List DialState) → zid_of_hex id ≡ Some zid → list_all is_plain words ≡ true → dials_of words ≡ Some ds
       → asked_of (codes "serve" ∷ codes "--id" ∷ id ∷ codes "--listen" ∷ listen ∷ words)
-      ≡ Some (asks_serve (record { id = zid; listen = listen; log = false; dials = words }))
-  serves zid [] is p =
+      ≡ Some (asks_serve (record { id = zid; listen = listen; log = false; dials = ds }))
+  serves zid [] ds is p reads =
       asked_is (codes "serve") (codes "serve") serve_built _ serve_enters listening (starts [] listening (stays serve_built listening)) listening_fine
       ∙ asks_none zid is
-  serves zid (word ∷ rest) is p =
+      ∙ ap (λ (z : Option (List DialState)). option_map asks_serve (option_map (λ (ds : List DialState). record { id = zid; listen = listen; log = false; dials = ds }) z)) reads
+  serves zid (word ∷ rest) ds is p reads =
       let h = both_hold (is_plain word) (list_all is_plain rest) p in
       let d = dials [] word rest h.1 in
       let end = dialling d.noted d.final in
       asked_is (codes "serve") (codes "serve") serve_built _ serve_enters end
       (starts (word ∷ rest) end (goes_on serve_built listening (dialling [] word) word rest end (first_dial word h.0) (first_fine word h.0) d.goes))
       (dialling_fine d.noted d.final)
-      ∙ asks_dials d.noted d.final zid is
-      ∙ ap (λ (ds : List Text). Some (asks_serve (record { id = zid; listen = listen; log = false; dials = ds }))) d.all
+      ∙ asks_dials d.noted d.final zid ds is (ap dials_of d.all ∙ reads)
 
 serve_taken : ServeIsTaken
-serve_taken id zid listen words is plain plains = serves id listen (zid_plain id zid is) plain zid words is plains
+serve_taken id zid listen words ds is plain plains reads = serves id listen (zid_plain id zid is) plain zid words ds is plains reads
 
 pub forms_taken : FormsAreTaken
 forms_taken = (net_taken, serve_taken, make_taken)

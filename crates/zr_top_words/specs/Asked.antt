@@ -5,6 +5,7 @@ use Rattle.std.specs.Str.{bytes_eq}
 use Rattle.clap.specs.Words.{Kinds, Row, all_of, fault_of, first_of, subcommand_of, takes}
 use Rattle.zr_id.specs.Zid.{zid_of_hex}
 use Rattle.zr_script_spec.specs.Words.{is_number, value_of}
+use Rattle.zr_dial.specs.Dial.{DialState, dial_of}
 use Rattle.zr_make.specs.declared.plan.MakePlan.{MakePlan}
 use Rattle.zr_make.specs.Plan.{is_in_range}
 use Rattle.zr_top_words.specs.App.{app}
@@ -30,24 +31,36 @@ found words = subcommand_of app words
 abbrev pub is_given : List ℕ → List Row → Bool
 is_given name rows = option_map_or (λ text. bytes_eq text (codes "true")) (first_of name rows) false
 
--- what `serve` asks for: an identifier, the address at which it listens, whether its links have logs, and the addresses that it dials
+-- what some words ask to be dialled; none where one of them asks for nothing
+abbrev pub dials_of : List (List ℕ) → Option (List DialState)
+dials_of [] = Some []
+dials_of (word ∷ words) = option_and_then (λ dial. option_map (λ dials. dial ∷ dials) (dials_of words)) (dial_of word)
+
+-- what `serve` asks for: an identifier, the address at which it listens, whether its links have logs, and what it dials
 pub record Served : Type 0 where
   pub id : List ℕ
   pub listen : List ℕ
   pub log : Bool
-  pub dials : List (List ℕ)
+  pub dials : List DialState
 
 abbrev pub net_by : List Row → NetPlan
 net_by rows = record { summary = is_given (codes "summary") rows; explain = is_given (codes "explain") rows }
 
-abbrev pub served_at : List Row → List ℕ → List ℕ → Served
-served_at rows listen id =
-    record { id = id; listen = listen; log = is_given (codes "log") rows; dials = unwrap_or (all_of (codes "dial") rows) [] }
+abbrev pub dials_at : List Row → Option (List DialState)
+dials_at rows = dials_of (unwrap_or (all_of (codes "dial") rows) [])
+
+abbrev pub served_at : List Row → List ℕ → List ℕ → List DialState → Served
+served_at rows listen id dials = record { id = id; listen = listen; log = is_given (codes "log") rows; dials = dials }
+
+-- a router of this identifier, where each word asks for a dial
+abbrev pub served_as_named : List Row → List ℕ → List ℕ → Option Served
+served_as_named rows listen id = option_map (served_at rows listen id) (dials_at rows)
 
 -- the identifier has to be one
 abbrev pub served_by : List Row → Option Served
 served_by rows =
-    option_and_then (λ listen. option_map (served_at rows listen) (option_and_then zid_of_hex (first_of (codes "id") rows))) (first_of (codes "listen") rows)
+    option_and_then (λ listen. option_and_then (served_as_named rows listen) (option_and_then zid_of_hex (first_of (codes "id") rows)))
+    (first_of (codes "listen") rows)
 
 -- the number below a limit that a word spells, in decimal digits without leading zeros
 abbrev pub number_below : ℕ → List ℕ → Option ℕ

@@ -2,8 +2,9 @@
 use Rattle.std.specs.Prelude.{◌≡◌, ℕ, ◌==◌, ◌^◌, not, Bool, true, false, List, [], ◌∷◌, Some, codes}
 use Rattle.std.specs.List.{list_all}
 use Rattle.zr_id.specs.Zid.{zid_of_hex}
+use Rattle.zr_dial.specs.Dial.{DialState}
 use Rattle.zr_make.specs.Plan.{is_in_range}
-use Rattle.zr_top_words.specs.Asked.{asked_of, net, serve, make, number_below}
+use Rattle.zr_top_words.specs.Asked.{asked_of, dials_of, net, serve, make, number_below}
 
 -- a word that doesn't begin with a hyphen, as options do
 abbrev pub is_plain : List ℕ → Bool
@@ -15,10 +16,11 @@ abbrev pub NetIsTaken : Type 0
 NetIsTaken = (asked_of (codes "net" ∷ []) ≡ Some (net (record { summary = false; explain = false })))
     × (asked_of (codes "net" ∷ codes "--summary" ∷ []) ≡ Some (net (record { summary = true; explain = false })))
 
--- `serve --id ID --listen ADDRESS [DIAL]...`: ID spells an identifier, and no address begins with a hyphen
+-- `serve --id ID --listen ADDRESS [DIAL]...`: ID spells an identifier, no address begins with a hyphen, and each DIAL is `ADDRESS` or `ADDRESS,W`
 abbrev pub ServeIsTaken : Type 0
-ServeIsTaken = (id zid listen : List ℕ) (dials : List (List ℕ)) → zid_of_hex id ≡ Some zid → is_plain listen ≡ true → list_all is_plain dials ≡ true
-    → asked_of (codes "serve" ∷ codes "--id" ∷ id ∷ codes "--listen" ∷ listen ∷ dials)
+ServeIsTaken = (id zid listen : List ℕ) (words : List (List ℕ)) (dials : List DialState) → zid_of_hex id ≡ Some zid → is_plain listen ≡ true
+    → list_all is_plain words ≡ true → dials_of words ≡ Some dials
+    → asked_of (codes "serve" ∷ codes "--id" ∷ id ∷ codes "--listen" ∷ listen ∷ words)
     ≡ Some (serve (record { id = zid; listen = listen; log = false; dials = dials }))
 
 -- `make --number N --routers R --clients C --messages M`: each is a number without leading zeros, and a script can be made of them

@@ -1,5 +1,6 @@
 //! What the words ask for, and why they ask for nothing.
 
+use zr_dial::Dial;
 use zr_id::zid::Zid;
 use zr_make::MakePlan;
 
@@ -30,8 +31,8 @@ pub struct ServeWords {
     pub id: Zid,
     /// The address at which it listens, as it stands among the words.
     pub listen: String,
-    /// The addresses that it dials, in the order of the words.
-    pub dials: Vec<String>,
+    /// What it dials, in the order of the words.
+    pub dials: Vec<Dial>,
     /// Whether each link that comes up or ends is told.
     pub log: bool,
 }

@@ -2,10 +2,10 @@
 
 ghost use Rattle.std.specs.Prelude.{◌≡◌, ◌^◌, [], true, map, option_map, codes, unwrap_or, IfErr, IfOk, IfSome};
 ghost use Rattle.std.specs.String.{string_bytes};
-ghost use Rattle.clap.specs.Words.{all_of, app_of, first_of, found_of, kind_of, rows_of, subcommand_rows_of};
+ghost use Rattle.clap.specs.Words.{app_of, first_of, found_of, kind_of, rows_of, subcommand_rows_of};
 ghost use Rattle.zr_make.specs.Plan.{is_in_range};
 ghost use Rattle.zr_top_words.specs.App.{app};
-ghost use Rattle.zr_top_words.specs.Asked.{asked_by, is_given, made_by, made_of, make_part, net_by, net_of, net_part, number_at, serve_part, served_by, served_of};
+ghost use Rattle.zr_top_words.specs.Asked.{asked_by, dials_at, dials_of, is_given, made_by, made_of, make_part, net_by, net_of, net_part, number_at, serve_part, served_by, served_of};
 ghost use Rattle.zr_top_words.specs.Read.{asked_as, served_as, AsksNone, CanBeMade, PlansBy, PlansOf, Reads, Refuses};
 
 use crate::commands::program;
@@ -14,6 +14,7 @@ use crate::plan::{NetPlan, Plan, ServeWords, WordsError};
 use clap::error::ErrorKind;
 use clap::{ArgMatches, Command, Error};
 use std::alloc::{AllocError, Global};
+use zr_dial::{Dial, read_dial};
 use zr_id::zid::Zid;
 use zr_make::MakePlan;
 
@@ -118,10 +119,13 @@ fn serve_by(alloc: Global, options: &ArgMatches<'_>) -> Result<Option<ServeWords
     let Ok(id) = Zid::from_text(id) else {
         return Ok(None);
     };
+    let Some(dials) = dials_at(alloc, options)? else {
+        return Ok(None);
+    };
     Ok(Some(ServeWords {
         id,
         listen: String::from_str(alloc, listen)?,
-        dials: all_of(alloc, options, "dial")?,
+        dials,
         log: is_given(options, "log"),
     }))
 }
@@ -174,22 +178,25 @@ fn count_at(options: &ArgMatches<'_>, name: &str) -> Option<u32>
     }
 }
 
-// All values of an option, or of the words that are no options.
-fn all_of(alloc: Global, options: &ArgMatches<'_>, name: &str) -> Result<Vec<String>, AllocError>
-    ensures { IfOk result (λ all. map string_bytes all.items ≡ unwrap_or (all_of name.now (rows_of (found_of options.now))) []) }
+// What the words that are no options ask to be dialled; none where one of them asks for nothing.
+fn dials_at(alloc: Global, options: &ArgMatches<'_>) -> Result<Option<Vec<Dial>>, AllocError>
+    ensures { IfOk result (λ dials. option_map (λ v. v.items) dials ≡ dials_at (rows_of (found_of options.now))) }
 {
-    match options.get_raw(name) {
-        Some(values) => copies(alloc, values),
-        None => Ok(Vec::new(alloc)),
+    match options.get_raw("dial") {
+        Some(words) => read_dials(alloc, words),
+        None => Ok(Some(Vec::new(alloc))),
     }
 }
 
-fn copies(alloc: Global, texts: &[&str]) -> Result<Vec<String>, AllocError>
-    ensures { IfOk result (λ all. map string_bytes all.items ≡ map (λ s. s.now) texts.now) }
+fn read_dials(alloc: Global, words: &[&str]) -> Result<Option<Vec<Dial>>, AllocError>
+    ensures { IfOk result (λ dials. option_map (λ v. v.items) dials ≡ dials_of (map (λ s. s.now) words.now)) }
 {
-    let mut all = Vec::new(alloc);
-    for text in texts {
-        all.push(String::from_str(alloc, text)?)?;
+    let mut dials = Vec::new(alloc);
+    for word in words {
+        match read_dial(alloc, word)? {
+            Some(dial) => dials.push(dial)?,
+            None => return Ok(None),
+        }
     }
-    Ok(all)
+    Ok(Some(dials))
 }

@@ -7,6 +7,7 @@ use crate::reading::plan_of;
 use clap::error::ErrorKind;
 use clap::{ArgMatches, Error};
 use std::alloc::{AllocError, Global};
+use zr_dial::read_dial;
 use zr_id::zid::Zid;
 use zr_make::MakePlan;
 
@@ -103,10 +104,22 @@ fn out_of_range(alloc: Global, matches: &ArgMatches<'_>) -> Result<String, Alloc
             }
         }
     }
+    for word in options.get_raw("dial").unwrap_or(&[]) {
+        if !is_dial(alloc, word)? {
+            write!(told, "a DIAL is an address, or an address, a comma and a weight from 1 to 65535: {word:?} is none\n")?;
+        }
+    }
     if told.is_empty() {
         told.push_str("--messages wants 0 where --clients is 0\n")?;
     }
     Ok(told)
+}
+
+fn is_dial(alloc: Global, word: &str) -> Result<bool, AllocError> {
+    match read_dial(alloc, word)? {
+        Some(_) => Ok(true),
+        None => Ok(false),
+    }
 }
 
 // Whether the value of an option is in range, whatever the others are.

@@ -8,7 +8,7 @@ use Rattle.zr_tree.specs.declared.tree.Hop.{Hop}
 use Rattle.zr_tree.specs.declared.tree.TheConstants.{UNREACHED}
 use Rattle.zr_tree.specs.Hop.{IsHop, depth_of}
 use Rattle.zr_tree.specs.Index.{name}
-use Rattle.zr_tree.specs.Tree.{dist, parent, below, is_child, toward}
+use Rattle.zr_tree.specs.Tree.{tree_depth, parent, below, is_child, toward}
 use Rattle.zr_tree.specs.Walk.{graph_of}
 use Rattle.zr_lists.proofs.Finds.{In, none_find, only_find}
 use Rattle.zr_tree.proofs.Branches.{parent_is, has_parent, child_is, child_from, below_itself, below_parent, below_trans, below_nearer, below_one, below_cases, unreached_no_parent}
@@ -28,15 +28,15 @@ pub depth_unreached : (depth : ℕ) → depth ≡ UNREACHED → depth_of depth �
 depth_unreached depth h = let t : (depth == UNREACHED) ≡ true = eq-eqb depth UNREACHED h in rw t refl
 
 module _ (rs : List RecordState) (root : ℕ) where
-  -- what is kept of a router that isn't the root: its parent is one nearer, and its jump at least that
+  -- what is kept of a router that isn't the root: its parent is one less deep, and its jump at least that
   pub record IsStep (x k : ℕ) (hop : Hop) : Type 0 where
     pub parent_to : parent (graph_of rs) (name rs root) (name rs x) ≡ Some (name rs hop.parent)
-    pub parent_at : dist (graph_of rs) (name rs root) (name rs hop.parent) ≡ Some k
+    pub parent_at : tree_depth (graph_of rs) (name rs root) (name rs hop.parent) ≡ Some k
     pub parent_above : below (graph_of rs) (name rs root) (name rs hop.parent) (name rs x) ≡ true
-    pub jump_at : (j : ℕ) × (dist (graph_of rs) (name rs root) (name rs hop.jump) ≡ Some j) × (j ≤ k)
+    pub jump_at : (j : ℕ) × (tree_depth (graph_of rs) (name rs root) (name rs hop.jump) ≡ Some j) × (j ≤ k)
     pub jump_above : below (graph_of rs) (name rs root) (name rs hop.jump) (name rs x) ≡ true
 
-  pub step_of : (lists : List (List (List ℕ))) (x k : ℕ) (hop : Hop) → IsHop rs root lists x hop → dist (graph_of rs) (name rs root) (name rs x) ≡ Some (suc k) → IsStep x k hop
+  pub step_of : (lists : List (List (List ℕ))) (x k : ℕ) (hop : Hop) → IsHop rs root lists x hop → tree_depth (graph_of rs) (name rs root) (name rs x) ≡ Some (suc k) → IsStep x k hop
   step_of lists x k hop h d =
       let g = graph_of rs in
       let r = name rs root in
@@ -65,19 +65,19 @@ module _ (rs : List RecordState) (root : ℕ) where
   pub record IsOnWay (dest depth x : ℕ) : Type 0 where
     pub within : x < length rs
     pub start : ℕ
-    pub start_at : dist (graph_of rs) (name rs root) (name rs dest) ≡ Some start
+    pub start_at : tree_depth (graph_of rs) (name rs root) (name rs dest) ≡ Some start
     pub above : below (graph_of rs) (name rs root) (name rs x) (name rs dest) ≡ true
     pub far : ℕ
-    pub distance : dist (graph_of rs) (name rs root) (name rs x) ≡ Some far
+    pub distance : tree_depth (graph_of rs) (name rs root) (name rs x) ≡ Some far
     pub no_nearer : depth ≤ far
 
-  pub way_first : (dest depth : ℕ) → dest < length rs → IsSome (dist (graph_of rs) (name rs root) (name rs dest)) → IfSome (dist (graph_of rs) (name rs root) (name rs dest)) (λ far. depth ≤ far) →
+  pub way_first : (dest depth : ℕ) → dest < length rs → IsSome (tree_depth (graph_of rs) (name rs root) (name rs dest)) → IfSome (tree_depth (graph_of rs) (name rs root) (name rs dest)) (λ far. depth ≤ far) →
       IsOnWay dest depth dest
-  way_first dest depth lt some far = by_dist (dist (graph_of rs) (name rs root) (name rs dest)) refl some far
+  way_first dest depth lt some far = by_depth (tree_depth (graph_of rs) (name rs root) (name rs dest)) refl some far
     where
-      by_dist : (o : Option ℕ) → dist (graph_of rs) (name rs root) (name rs dest) ≡ o → IsSome o → IfSome o (λ n. depth ≤ n) → IsOnWay dest depth dest
-      by_dist None e s f = absurd (false≢true s)
-      by_dist (Some n) e s f = record { within = lt; start = n; start_at = e; above = below_itself (graph_of rs) (name rs root) (name rs dest); far = n; distance = e; no_nearer = f }
+      by_depth : (o : Option ℕ) → tree_depth (graph_of rs) (name rs root) (name rs dest) ≡ o → IsSome o → IfSome o (λ n. depth ≤ n) → IsOnWay dest depth dest
+      by_depth None e s f = absurd (false≢true s)
+      by_depth (Some n) e s f = record { within = lt; start = n; start_at = e; above = below_itself (graph_of rs) (name rs root) (name rs dest); far = n; distance = e; no_nearer = f }
 
   -- how far a router on the way is, by what is kept of it
   far_is : (lists : List (List (List ℕ))) (dest depth x : ℕ) (hop : Hop) → (w : IsOnWay dest depth x) → IsHop rs root lists x hop → hop.depth ≡ w.far
@@ -88,7 +88,7 @@ module _ (rs : List RecordState) (root : ℕ) where
   farther depth (suc k) lt = (k, refl, omega arith)
 
   pub way_up : (lists : List (List (List ℕ))) (dest depth x : ℕ) (hop : Hop) → IsOnWay dest depth x → IsHop rs root lists x hop → depth < hop.depth →
-      (k : ℕ) × (hop.depth ≡ suc k) × (depth ≤ k) × (dist (graph_of rs) (name rs root) (name rs x) ≡ Some (suc k)) × IsStep x k hop
+      (k : ℕ) × (hop.depth ≡ suc k) × (depth ≤ k) × (tree_depth (graph_of rs) (name rs root) (name rs x) ≡ Some (suc k)) × IsStep x k hop
   way_up lists dest depth x hop w h lt =
       let e = far_is lists dest depth x hop w h in
       let f = farther depth w.far (omega (arith, e)) in
@@ -151,8 +151,8 @@ module _ (rs : List RecordState) (r at dest : List ℕ) where
     parent_to : parent (graph_of rs) r y ≡ Some at
     above : below (graph_of rs) r y dest ≡ true
     k : ℕ
-    at_is : dist (graph_of rs) r at ≡ Some k
-    child_is_at : dist (graph_of rs) r y ≡ Some (suc k)
+    at_is : tree_depth (graph_of rs) r at ≡ Some k
+    child_is_at : tree_depth (graph_of rs) r y ≡ Some (suc k)
 
   passes : (y : List ℕ) → (is_child (graph_of rs) r at y && below (graph_of rs) r y dest) ≡ true → Passes y
   passes y t =
@@ -164,20 +164,20 @@ module _ (rs : List RecordState) (r at dest : List ℕ) where
   none : ((y : List ℕ) → Passes y → ⊥) → toward (graph_of rs) r at dest ≡ None
   none h = none_find _ (ids rs) (λ y i. false_from_ne_true _ (λ t. h y (passes y t)))
 
-  pub toward_unreached_dest : dist (graph_of rs) r dest ≡ None → toward (graph_of rs) r at dest ≡ None
+  pub toward_unreached_dest : tree_depth (graph_of rs) r dest ≡ None → toward (graph_of rs) r at dest ≡ None
   toward_unreached_dest d = none (λ y p. apart y p (below_cases (graph_of rs) r y dest p.above))
     where
       apart : (y : List ℕ) → Passes y → (dest ≡ y) ⊎ ((q : List ℕ) × (parent (graph_of rs) r dest ≡ Some q) × (below (graph_of rs) r y q ≡ true)) → ⊥
-      apart y p (inl e) = let s : None ≡ Some (suc p.k) = sym d ∙ ap (dist (graph_of rs) r) e ∙ p.child_is_at in absurd (cc)
+      apart y p (inl e) = let s : None ≡ Some (suc p.k) = sym d ∙ ap (tree_depth (graph_of rs) r) e ∙ p.child_is_at in absurd (cc)
       apart y p (inr f) = let s : None ≡ Some f.0 = sym (unreached_no_parent (graph_of rs) r dest d) ∙ f.1 in absurd (cc)
 
-  pub toward_unreached_at : dist (graph_of rs) r at ≡ None → toward (graph_of rs) r at dest ≡ None
+  pub toward_unreached_at : tree_depth (graph_of rs) r at ≡ None → toward (graph_of rs) r at dest ≡ None
   toward_unreached_at d = none (λ y p. let s : None ≡ Some p.k = sym d ∙ p.at_is in absurd (cc))
 
-  pub toward_short : (n m : ℕ) → dist (graph_of rs) r dest ≡ Some n → dist (graph_of rs) r at ≡ Some m → n ≤ m → toward (graph_of rs) r at dest ≡ None
+  pub toward_short : (n m : ℕ) → tree_depth (graph_of rs) r dest ≡ Some n → tree_depth (graph_of rs) r at ≡ Some m → n ≤ m → toward (graph_of rs) r at dest ≡ None
   toward_short n m d e le = none (λ y p. apart y p (below_nearer (graph_of rs) r n y dest d p.above))
     where
-      apart : (y : List ℕ) → Passes y → ((j : ℕ) × (dist (graph_of rs) r y ≡ Some j) × (j ≤ n) × (j ≡ n → dest ≡ y)) → ⊥
+      apart : (y : List ℕ) → Passes y → ((j : ℕ) × (tree_depth (graph_of rs) r y ≡ Some j) × (j ≤ n) × (j ≡ n → dest ≡ y)) → ⊥
       apart y p f =
           let s : Some m ≡ Some p.k = sym e ∙ p.at_is in
           let t : Some f.0 ≡ Some (suc p.k) = sym f.1 ∙ p.child_is_at in
@@ -186,10 +186,10 @@ module _ (rs : List RecordState) (r at dest : List ℕ) where
           absurd (omega (arith, i, j, f.2))
 
   -- another that passes is the same, since both are at one distance
-  only : (n : ℕ) (x y : List ℕ) → dist (graph_of rs) r dest ≡ Some n → below (graph_of rs) r x dest ≡ true → (p : Passes y) → dist (graph_of rs) r x ≡ Some (suc p.k) → y ≡ x
+  only : (n : ℕ) (x y : List ℕ) → tree_depth (graph_of rs) r dest ≡ Some n → below (graph_of rs) r x dest ≡ true → (p : Passes y) → tree_depth (graph_of rs) r x ≡ Some (suc p.k) → y ≡ x
   only n x y d above p e = below_one (graph_of rs) r n y x dest (suc p.k) d p.above above p.child_is_at e
 
-  pub toward_found : (n : ℕ) (x : List ℕ) → dist (graph_of rs) r dest ≡ Some n → below (graph_of rs) r x dest ≡ true → parent (graph_of rs) r x ≡ Some at → In x (ids rs) →
+  pub toward_found : (n : ℕ) (x : List ℕ) → tree_depth (graph_of rs) r dest ≡ Some n → below (graph_of rs) r x dest ≡ true → parent (graph_of rs) r x ≡ Some at → In x (ids rs) →
       toward (graph_of rs) r at dest ≡ Some x
   toward_found n x d above to i =
       only_find _ (ids rs) x i (and_from _ _ (child_from (graph_of rs) r at x to) above) (λ y j t.
@@ -199,8 +199,8 @@ module _ (rs : List RecordState) (r at dest : List ℕ) where
       let e : q.0 ≡ p.k = cc in
       only n x y d above p (q.1.to_child ∙ ap (λ (k : ℕ). Some (suc k)) e))
 
-  pub toward_other : (n depth : ℕ) (x q : List ℕ) → dist (graph_of rs) r dest ≡ Some n → below (graph_of rs) r x dest ≡ true → depth_of depth ≡ dist (graph_of rs) r at →
-      dist (graph_of rs) r x ≡ Some (depth + 1) → parent (graph_of rs) r x ≡ Some q → (q ≡ at → ⊥) → toward (graph_of rs) r at dest ≡ None
+  pub toward_other : (n depth : ℕ) (x q : List ℕ) → tree_depth (graph_of rs) r dest ≡ Some n → below (graph_of rs) r x dest ≡ true → depth_of depth ≡ tree_depth (graph_of rs) r at →
+      tree_depth (graph_of rs) r x ≡ Some (depth + 1) → parent (graph_of rs) r x ≡ Some q → (q ≡ at → ⊥) → toward (graph_of rs) r at dest ≡ None
   toward_other n depth x q d above at_depth x_depth to other = none (λ y p.
       let e = depth_value depth p.k (at_depth ∙ p.at_is) in
       let f : depth + 1 ≡ suc p.k = omega (arith, e) in
@@ -208,7 +208,7 @@ module _ (rs : List RecordState) (r at dest : List ℕ) where
       let s : Some q ≡ Some at = sym to ∙ ap (parent (graph_of rs) r) (sym i) ∙ p.parent_to in
       other (same_Some q at s))
 
-  pub toward_no_farther : (n depth : ℕ) → dist (graph_of rs) r dest ≡ Some n → depth_of depth ≡ dist (graph_of rs) r at → n ≤ depth → toward (graph_of rs) r at dest ≡ None
+  pub toward_no_farther : (n depth : ℕ) → tree_depth (graph_of rs) r dest ≡ Some n → depth_of depth ≡ tree_depth (graph_of rs) r at → n ≤ depth → toward (graph_of rs) r at dest ≡ None
   toward_no_farther n depth d e le = elim (cases_eq depth UNREACHED) [
     | inl u ↦ toward_unreached_at (sym e ∙ depth_unreached depth u)
     | inr u ↦ toward_short n depth d (sym e ∙ depth_reached depth u) le

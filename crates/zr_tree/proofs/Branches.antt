@@ -1,55 +1,37 @@
--- Parents are one nearer to the root, so what a router is below is a line of which each distance has one.
-use Rattle.std.proofs.Common.{◌≡◌, ℕ, ◌+◌, ◌≤◌, zero, suc, Bool, true, false, ◌||◌, List, Option, Some, None, ◌⊎◌, inl, inr, length, unwrap_or, refl, sym, ap, ◌∙◌, subst, arith}
+-- Parents are one less deep, so what a router is below is a line of which each depth has one.
+use Rattle.std.proofs.Common.{◌≡◌, ℕ, ◌≤◌, zero, suc, true, false, ◌||◌, List, Option, Some, None, ◌⊎◌, inl, inr, unwrap_or, refl, sym, ap, ◌∙◌, subst, arith}
 use Rattle.std.specs.Option.{option_map_or}
-use Rattle.std.proofs.lemmas.Bool.{false≢true, eq-eqb, eqb-true, or_cases, or_right, or_left}
+use Rattle.std.proofs.lemmas.Bool.{false≢true, or_cases, or_right, or_left}
 use Rattle.std.proofs.Math.Bool.{or-false}
 use Rattle.zr_id.specs.Zid.{is_named}
 use Rattle.zr_graph.proofs.Names.{same_is, same_refl}
-use Rattle.zr_tree_parents.specs.Distance.{is_sum}
-use Rattle.zr_tree.specs.Walk.{Graph, near, edge_length}
-use Rattle.zr_tree.specs.Tree.{dist, parent, climbs, below, is_child}
-use Rattle.zr_lists.proofs.Finds.{In, find_in, in_find, none_find}
-use Rattle.zr_tree.proofs.Distances.{step_back}
+use Rattle.zr_tree.specs.Walk.{Graph, near}
+use Rattle.zr_tree.specs.Tree.{tree_depth, parent, climbs, below, is_child}
+use Rattle.zr_lists.proofs.Finds.{In}
+use Rattle.zr_tree.proofs.Depths.{parent_near, parent_depth, reached_parent, unreached_parent, root_parent, root_depth, depth_distance, depth_unreached, zero_is_root}
 
 -- how a parent stands to its child
 pub record IsParent (g : Graph) (root x p : List ℕ) (m : ℕ) : Type 0 where
   pub neighbour : In p (near g x)
-  pub from_parent : dist g root p ≡ Some m
-  pub to_child : dist g root x ≡ Some (suc m)
+  pub from_parent : tree_depth g root p ≡ Some m
+  pub to_child : tree_depth g root x ≡ Some (suc m)
 
 module _ (g : Graph) (root : List ℕ) where
-  sum_parts : (a b : Option ℕ) → is_sum a 1 b ≡ true → (m : ℕ) × (a ≡ Some m) × (b ≡ Some (suc m))
-  sum_parts (Some m) (Some n) h = let e : n ≡ suc m = omega (arith, eqb-true (m + 1) n h) in (m, refl, ap Some e)
-  sum_parts (Some m) None h = absurd (false≢true h)
-  sum_parts None b h = absurd (false≢true h)
-
-  sum_from : (a b : Option ℕ) (m : ℕ) → a ≡ Some m → b ≡ Some (suc m) → is_sum a 1 b ≡ true
-  sum_from a b m e f = rw (e, f) (eq-eqb (m + 1) (suc m) (omega arith))
-
   pub parent_is : (x p : List ℕ) → parent g root x ≡ Some p → (m : ℕ) × IsParent g root x p m
   parent_is x p h =
-      let f = find_in (λ y. is_sum (dist g root y) (edge_length g y x) (dist g root x)) (near g x) p h in
-      let s = sum_parts (dist g root p) (dist g root x) f.1 in
-      (s.0, record { neighbour = f.0; from_parent = s.1; to_child = s.2 })
+      let d = parent_depth g root x p h in
+      (d.0, record { neighbour = (parent_near g root x p h).1.neighbour; from_parent = d.1; to_child = d.2 })
 
-  pub has_parent : (x : List ℕ) (m : ℕ) → dist g root x ≡ Some (suc m) → (p : List ℕ) × (parent g root x ≡ Some p)
+  pub has_parent : (x : List ℕ) (m : ℕ) → tree_depth g root x ≡ Some (suc m) → (p : List ℕ) × (parent g root x ≡ Some p)
   has_parent x m h =
-      let y = step_back g root (suc (length g.names)) m x h in
-      in_find (λ z. is_sum (dist g root z) (edge_length g z x) (dist g root x)) (near g x) y.0 y.1 (sum_from (dist g root y.0) (dist g root x) m y.2 h)
+      let d = depth_distance g root x (suc m) h in
+      reached_parent g root x d.0 d.1 (λ i. let s : Some 0 ≡ Some (suc m) = sym (root_depth g root) ∙ ap (tree_depth g root) i ∙ h in cc)
 
-  -- nothing is one nearer than the root, or than what isn't reached
-  no_parent : (x : List ℕ) → ((m : ℕ) → dist g root x ≡ Some (suc m) → ⊥) → parent g root x ≡ None
-  no_parent x h = none_find _ (near g x) (λ y i. by_test y (is_sum (dist g root y) 1 (dist g root x)) refl)
-    where
-      by_test : (y : List ℕ) (t : Bool) → is_sum (dist g root y) 1 (dist g root x) ≡ t → is_sum (dist g root y) 1 (dist g root x) ≡ false
-      by_test y false e = e
-      by_test y true e = let s = sum_parts (dist g root y) (dist g root x) e in absurd (h s.0 s.2)
+  pub unreached_no_parent : (x : List ℕ) → tree_depth g root x ≡ None → parent g root x ≡ None
+  unreached_no_parent x e = unreached_parent g root x (depth_unreached g root x e)
 
-  pub unreached_no_parent : (x : List ℕ) → dist g root x ≡ None → parent g root x ≡ None
-  unreached_no_parent x e = no_parent x (λ m f. cc)
-
-  pub zero_no_parent : (x : List ℕ) → dist g root x ≡ Some 0 → parent g root x ≡ None
-  zero_no_parent x e = no_parent x (λ m f. let i : Some 0 ≡ Some (suc m) = sym e ∙ f in cc)
+  pub zero_no_parent : (x : List ℕ) → tree_depth g root x ≡ Some 0 → parent g root x ≡ None
+  zero_no_parent x e = subst (λ (z : List ℕ). parent g root z ≡ None) (zero_is_root g root x e) (root_parent g root)
 
   pub child_is : (x y : List ℕ) → is_child g root x y ≡ true → parent g root y ≡ Some x
   child_is x y h = by_parent (parent g root y) h
@@ -63,23 +45,23 @@ module _ (g : Graph) (root : List ℕ) where
 
   -- below, by its own words
   pub below_step : (y x : List ℕ) → below g root y x ≡ (is_named x y || option_map_or (λ p. below g root y p) (parent g root x) false)
-  below_step y x = by_dist (dist g root x) refl
+  below_step y x = by_depth (tree_depth g root x) refl
     where
-      by_parent : (m : ℕ) → dist g root x ≡ Some (suc m) → (o : Option (List ℕ)) → parent g root x ≡ o →
+      by_parent : (m : ℕ) → tree_depth g root x ≡ Some (suc m) → (o : Option (List ℕ)) → parent g root x ≡ o →
           (is_named x y || option_map_or (λ p. climbs g m root y p) o false) ≡ (is_named x y || option_map_or (λ p. below g root y p) o false)
       by_parent m e None f = refl
       by_parent m e (Some p) f =
           let q = parent_is x p f in
           let s : Some (suc q.0) ≡ Some (suc m) = sym (q.1.to_child) ∙ e in
           let i : q.0 ≡ m = cc in
-          let j : dist g root p ≡ Some m = q.1.from_parent ∙ ap Some i in
+          let j : tree_depth g root p ≡ Some m = q.1.from_parent ∙ ap Some i in
           ap (λ (d : Option ℕ). is_named x y || climbs g (unwrap_or d 0) root y p) (sym j)
 
-      by_dist : (o : Option ℕ) → dist g root x ≡ o →
+      by_depth : (o : Option ℕ) → tree_depth g root x ≡ o →
           climbs g (unwrap_or o 0) root y x ≡ (is_named x y || option_map_or (λ p. below g root y p) (parent g root x) false)
-      by_dist None e = rw (unreached_no_parent x e) (sym (or-false (is_named x y)))
-      by_dist (Some zero) e = rw (zero_no_parent x e) (sym (or-false (is_named x y)))
-      by_dist (Some (suc m)) e = by_parent m e (parent g root x) refl
+      by_depth None e = rw (unreached_no_parent x e) (sym (or-false (is_named x y)))
+      by_depth (Some zero) e = rw (zero_no_parent x e) (sym (or-false (is_named x y)))
+      by_depth (Some (suc m)) e = by_parent m e (parent g root x) refl
 
   pub below_itself : (x : List ℕ) → below g root x x ≡ true
   below_itself x = below_step x x ∙ or_left (is_named x x) _ (same_refl x)
@@ -98,9 +80,9 @@ module _ (g : Graph) (root : List ℕ) where
       by_parent None e s = absurd (false≢true s)
       by_parent (Some p) e s = (p, e, s)
 
-  -- the same, where x is at a known distance: at zero it is y itself
-  pub below_at : (n : ℕ) (y x : List ℕ) → dist g root x ≡ Some n → below g root y x ≡ true →
-      (x ≡ y) ⊎ ((p : List ℕ) × (m : ℕ) × (n ≡ suc m) × (dist g root p ≡ Some m) × (parent g root x ≡ Some p) × (below g root y p ≡ true))
+  -- the same, where x is at a known depth: at zero it is y itself
+  pub below_at : (n : ℕ) (y x : List ℕ) → tree_depth g root x ≡ Some n → below g root y x ≡ true →
+      (x ≡ y) ⊎ ((p : List ℕ) × (m : ℕ) × (n ≡ suc m) × (tree_depth g root p ≡ Some m) × (parent g root x ≡ Some p) × (below g root y p ≡ true))
   below_at n y x d h = elim (below_cases y x h) [
     | inl i ↦ inl i
     | inr f ↦ (let q = parent_is x f.0 f.1 in
@@ -109,7 +91,7 @@ module _ (g : Graph) (root : List ℕ) where
         inr (f.0, q.0, e, q.1.from_parent, f.1, f.2))
   ]
 
-  pub below_trans : (n : ℕ) (z y x : List ℕ) → dist g root x ≡ Some n → below g root z y ≡ true → below g root y x ≡ true → below g root z x ≡ true
+  pub below_trans : (n : ℕ) (z y x : List ℕ) → tree_depth g root x ≡ Some n → below g root z y ≡ true → below g root y x ≡ true → below g root z x ≡ true
   below_trans zero z y x d u v = elim (below_at zero y x d v) [
     | inl i ↦ (let P : List ℕ → Type 0 = λ w. below g root z w ≡ true in subst P (sym i) u)
     | inr f ↦ absurd (omega (arith, f.2))
@@ -120,33 +102,33 @@ module _ (g : Graph) (root : List ℕ) where
         below_parent z x f.0 f.4 (below_trans n z y f.0 (f.3 ∙ ap Some e) u f.5))
   ]
 
-  -- what x is below is at some distance, no farther than x, and as far only where it is x
-  pub below_nearer : (n : ℕ) (y x : List ℕ) → dist g root x ≡ Some n → below g root y x ≡ true → (m : ℕ) × (dist g root y ≡ Some m) × (m ≤ n) × (m ≡ n → x ≡ y)
+  -- what x is below is at some depth, no deeper than x, and as far only where it is x
+  pub below_nearer : (n : ℕ) (y x : List ℕ) → tree_depth g root x ≡ Some n → below g root y x ≡ true → (m : ℕ) × (tree_depth g root y ≡ Some m) × (m ≤ n) × (m ≡ n → x ≡ y)
   below_nearer zero y x d v = elim (below_at zero y x d v) [
-    | inl i ↦ (let P : List ℕ → Type 0 = λ w. dist g root w ≡ Some zero in (zero, subst P i d, omega arith, λ _. i))
+    | inl i ↦ (let P : List ℕ → Type 0 = λ w. tree_depth g root w ≡ Some zero in (zero, subst P i d, omega arith, λ _. i))
     | inr f ↦ absurd (omega (arith, f.2))
   ]
   below_nearer (suc n) y x d v = elim (below_at (suc n) y x d v) [
-    | inl i ↦ (let P : List ℕ → Type 0 = λ w. dist g root w ≡ Some (suc n) in (suc n, subst P i d, omega arith, λ _. i))
+    | inl i ↦ (let P : List ℕ → Type 0 = λ w. tree_depth g root w ≡ Some (suc n) in (suc n, subst P i d, omega arith, λ _. i))
     | inr f ↦ (let e : f.1 ≡ n = omega (arith, f.2) in
         let r = below_nearer n y f.0 (f.3 ∙ ap Some e) f.5 in
         (r.0, r.1, omega (arith, r.2), λ s. absurd (omega (arith, r.2, s))))
   ]
 
-  -- of those that x is below, one is at each distance
-  pub below_one : (n : ℕ) (y z x : List ℕ) (m : ℕ) → dist g root x ≡ Some n → below g root y x ≡ true → below g root z x ≡ true → dist g root y ≡ Some m → dist g root z ≡ Some m → y ≡ z
+  -- of those that x is below, one is at each depth
+  pub below_one : (n : ℕ) (y z x : List ℕ) (m : ℕ) → tree_depth g root x ≡ Some n → below g root y x ≡ true → below g root z x ≡ true → tree_depth g root y ≡ Some m → tree_depth g root z ≡ Some m → y ≡ z
   below_one zero y z x m d u v a b =
       let p = below_nearer zero y x d u in
       let q = below_nearer zero z x d v in
       sym (p.3 (omega (arith, p.2))) ∙ q.3 (omega (arith, q.2))
   below_one (suc n) y z x m d u v a b = elim (below_at (suc n) y x d u) [
     | inl i ↦ (let q = below_nearer (suc n) z x d v in
-        let s : Some (suc n) ≡ Some q.0 = sym d ∙ (let P : List ℕ → Type 0 = λ w. dist g root w ≡ Some m in subst P (sym i) a) ∙ sym b ∙ q.1 in
+        let s : Some (suc n) ≡ Some q.0 = sym d ∙ (let P : List ℕ → Type 0 = λ w. tree_depth g root w ≡ Some m in subst P (sym i) a) ∙ sym b ∙ q.1 in
         let e : q.0 ≡ suc n = cc in
         sym i ∙ q.3 e)
     | inr f ↦ elim (below_at (suc n) z x d v) [
       | inl j ↦ (let q = below_nearer (suc n) y x d u in
-          let s : Some (suc n) ≡ Some q.0 = sym d ∙ (let P : List ℕ → Type 0 = λ w. dist g root w ≡ Some m in subst P (sym j) b) ∙ sym a ∙ q.1 in
+          let s : Some (suc n) ≡ Some q.0 = sym d ∙ (let P : List ℕ → Type 0 = λ w. tree_depth g root w ≡ Some m in subst P (sym j) b) ∙ sym a ∙ q.1 in
           let e : q.0 ≡ suc n = cc in
           sym (q.3 e) ∙ j)
       | inr h ↦ (let e : f.1 ≡ n = omega (arith, f.2) in

@@ -1,8 +1,10 @@
 pub mod Ancestors
 pub mod Branches
+pub mod Certified
+pub mod Depths
 pub mod Distances
 pub mod Indexes
-pub mod Levels
+pub mod Indexed
 pub mod Linked
 pub mod Links
 pub mod OwnChildren

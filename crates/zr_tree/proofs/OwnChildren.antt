@@ -15,6 +15,7 @@ use Rattle.zr_id.specs.Zid.{is_named}
 use Rattle.zr_graph.specs.Base.{BaseState}
 use Rattle.zr_graph.specs.Record.{ids, has}
 use Rattle.zr_graph.proofs.Names.{same_is, same_refl}
+use Rattle.zr_tree_parents.specs.declared.row.Neighbour.{Neighbour}
 use Rattle.zr_tree_parents.specs.Climb.{row}
 use Rattle.zr_tree_parents.specs.Distance.{is_sum}
 use Rattle.zr_tree.specs.OwnChildren.{is_first, AreFlags, IsFamily}
@@ -23,10 +24,10 @@ use Rattle.zr_tree.specs.Laws.{IsGraph}
 use Rattle.zr_tree.specs.Same.{HaveSameEdges}
 use Rattle.zr_tree.specs.Searches.{is_searched, distance_kept, is_nearer, AreSearches, Searched}
 use Rattle.zr_tree.specs.Tree.{dist, is_child}
-use Rattle.zr_tree.specs.Walk.{Graph, graph_of, IsDistance, near}
+use Rattle.zr_tree.specs.Walk.{Graph, graph_of, IsDistance, near, edge_length}
 use Rattle.zr_tree.proofs.Branches.{parent_is, child_is}
-use Rattle.zr_lists.proofs.Finds.{In, find_in, in_map, in_place, same_find}
-use Rattle.zr_tree.proofs.Levels.{all_in, one_index}
+use Rattle.zr_lists.proofs.Finds.{In, find_in, in_map, in_place, place_in, same_find}
+use Rattle.zr_tree.proofs.Indexed.{of_all, one_index}
 use Rattle.zr_tree.proofs.Paths.{exact, graph_is, walk_back}
 use Rattle.zr_tree.proofs.Searched.{kept_is}
 use Rattle.zr_tree.proofs.Stays.{as_long, ascending_still, child_stays, name_stays}
@@ -79,17 +80,17 @@ module _ (p : List ℕ → Bool) (me : List ℕ) (after : List (List ℕ)) where
       by true false ih = apart z (inl refl)
       by false u ih = ih
 
--- a router is one nearer to a root than y
+-- a router is nearer to a root than y by the edge to it
 abbrev farther : Graph → List ℕ → List ℕ → List ℕ → Bool
-farther g root y z = is_sum (dist g z root) 1 (dist g y root)
+farther g root y z = is_sum (dist g z root) (edge_length g z y) (dist g y root)
 
 module _ (g : Graph) (is : IsGraph g) (root me y : List ℕ) (before after : List (List ℕ)) (split : near g y ≡ before ++ me ∷ after)
     (apart : (z : List ℕ) → In z before → is_named z me ≡ false) where
   child_by : is_child g root me y ≡ (farther g root y me && not (list_any (farther g root y) before))
   child_by =
       ap (λ o. option_map_or (λ q. is_named q me) o false)
-      (same_find (λ z. is_sum (dist g root z) 1 (dist g root y)) (farther g root y) (near g y)
-      (λ z i. ap (λ o. is_sum o 1 (dist g root y)) (dist_back g is root z) ∙ ap (λ o. is_sum (dist g z root) 1 o) (dist_back g is root y)))
+      (same_find (λ z. is_sum (dist g root z) (edge_length g z y) (dist g root y)) (farther g root y) (near g y)
+      (λ z i. ap (λ o. is_sum o (edge_length g z y) (dist g root y)) (dist_back g is root z) ∙ ap (λ o. is_sum (dist g z root) (edge_length g z y) o) (dist_back g is root y)))
       ∙ ap (λ zs. option_map_or (λ q. is_named q me) (find (farther g root y) zs) false) split
       ∙ named_first (farther g root y) me after before apart
 
@@ -130,71 +131,94 @@ module _ {X : Type 0} (p : X → Bool) (xs : List X) where
       let lt : f.0 < k = omega (arith, f.1, n) in
       ap p (sym f.2 ∙ get_or-take k xs f.0 x lt) ∙ at.2 f.0 lt
 
+abbrev none : Neighbour
+none = record { index = 0; weight = 0 }
+
 module _ (e : EdgeTable) (right : AreEdges e) (me y : ℕ) (known : me < length e.records) (here : y < length e.records) where
+  abbrev test : Neighbour → Bool
+  test n = n.index == me
+
+  abbrev name_of : Neighbour → List ℕ
+  name_of n = name e.records n.index
+
   -- who is no neighbour is no parent
-  pub none_flagged : position (λ z. z == me) (row e.rows y) ≡ None → AreFlags e.records (name e.records me) y []
-  none_flagged none root lt = sym (false_from_ne_true _ (λ t. no (in_map (name e.records) (row e.rows y) (name e.records me) (beside t))))
+  pub none_flagged : position (λ n. n.index == me) (row e.rows y) ≡ None → AreFlags e.records (name e.records me) y []
+  none_flagged no_place root lt = sym (false_from_ne_true _ (λ t. no (in_map name_of (row e.rows y) (name e.records me) (beside t))))
     where
-      beside : is_child (graph_of e.records) (name e.records root) (name e.records me) (name e.records y) ≡ true → In (name e.records me) (map (name e.records) (row e.rows y))
+      beside : is_child (graph_of e.records) (name e.records root) (name e.records me) (name e.records y) ≡ true → In (name e.records me) (map name_of (row e.rows y))
       beside t =
           let p = parent_is (graph_of e.records) (name e.records root) (name e.records y) (name e.records me) (child_is (graph_of e.records) (name e.records root) (name e.records me) (name e.records y) t) in
           let P : List (List ℕ) → Type 0 = λ zs. In (name e.records me) zs in
           subst P (sym (right.neighbours y here)) p.1.neighbour
 
-      no : (z : ℕ) × In z (row e.rows y) × (name e.records z ≡ name e.records me) → ⊥
+      no : (n : Neighbour) × In n (row e.rows y) × (name e.records n.index ≡ name e.records me) → ⊥
       no f =
-          let same : f.0 ≡ me = one_index e.records f.0 me right.ascending (all_in (row e.rows y) (length e.records) f.0 (right.within y here) f.1) known f.2 in
-          false≢true (sym (none_place (λ z. z == me) (row e.rows y) none f.0 f.1) ∙ eq-eqb f.0 me same)
+          let same : f.0.index ≡ me = one_index e.records f.0.index me right.ascending (of_all (λ n. n.index < length e.records) (row e.rows y) f.0 (right.within y here) f.1) known f.2 in
+          false≢true (sym (none_place test (row e.rows y) no_place f.0 f.1) ∙ eq-eqb f.0.index me same)
 
-  module _ (k : ℕ) (found : position (λ z. z == me) (row e.rows y) ≡ Some k) where
-    split : near (graph_of e.records) (name e.records y) ≡ map (name e.records) (take k (row e.rows y)) ++ name e.records me ∷ map (name e.records) (drop (suc k) (row e.rows y))
+  module _ (k : ℕ) (found : position (λ n. n.index == me) (row e.rows y) ≡ Some k) where
+    abbrev mine : Neighbour
+    mine = get_or (row e.rows y) k none
+
+    mine_in : In mine (row e.rows y)
+    mine_in = place_in (row e.rows y) k none (position-Some test (row e.rows y) k none found).0
+
+    mine_is : mine.index ≡ me
+    mine_is = eqb-true _ me (position-Some test (row e.rows y) k none found).1
+
+    split : near (graph_of e.records) (name e.records y) ≡ map name_of (take k (row e.rows y)) ++ name e.records me ∷ map name_of (drop (suc k) (row e.rows y))
     split =
-        let at = position-Some (λ z. z == me) (row e.rows y) k 0 found in
-        let mine : get_or (row e.rows y) k 0 ≡ me = eqb-true _ me at.1 in
+        let at = position-Some test (row e.rows y) k none found in
         sym (right.neighbours y here)
-        ∙ ap (map (name e.records)) (sym (take-append-drop k (row e.rows y)) ∙ ap (λ zs. take k (row e.rows y) ++ zs) (drop-cons (row e.rows y) k 0 at.0 ∙ ap (λ z. z ∷ drop (suc k) (row e.rows y)) mine))
-        ∙ map-append (name e.records) (take k (row e.rows y)) (me ∷ drop (suc k) (row e.rows y))
+        ∙ ap (map name_of) (sym (take-append-drop k (row e.rows y)) ∙ ap (λ ns. take k (row e.rows y) ++ ns) (drop-cons (row e.rows y) k none at.0))
+        ∙ map-append name_of (take k (row e.rows y)) (mine ∷ drop (suc k) (row e.rows y))
+        ∙ ap (λ z. map name_of (take k (row e.rows y)) ++ name e.records z ∷ map name_of (drop (suc k) (row e.rows y))) mine_is
 
-    apart : (z : List ℕ) → In z (map (name e.records) (take k (row e.rows y))) → is_named z (name e.records me) ≡ false
-    apart z i = false_from_ne_true _ (λ t. no (in_map (name e.records) (take k (row e.rows y)) z i) (same_is z (name e.records me) t))
+    apart : (z : List ℕ) → In z (map name_of (take k (row e.rows y))) → is_named z (name e.records me) ≡ false
+    apart z i = false_from_ne_true _ (λ t. no (in_map name_of (take k (row e.rows y)) z i) (same_is z (name e.records me) t))
       where
-        no : (j : ℕ) × In j (take k (row e.rows y)) × (name e.records j ≡ z) → z ≡ name e.records me → ⊥
+        no : (n : Neighbour) × In n (take k (row e.rows y)) × (name e.records n.index ≡ z) → z ≡ name e.records me → ⊥
         no f same =
-            let lt : f.0 < length e.records = all_in (row e.rows y) (length e.records) f.0 (right.within y here) (taken_in k (row e.rows y) f.0 f.1) in
-            let e' : f.0 ≡ me = one_index e.records f.0 me right.ascending lt known (f.2 ∙ same) in
-            false≢true (sym (fails_before (λ z. z == me) (row e.rows y) k found f.0 f.1) ∙ eq-eqb f.0 me e')
+            let lt : f.0.index < length e.records = of_all (λ n. n.index < length e.records) (row e.rows y) f.0 (right.within y here) (taken_in k (row e.rows y) f.0 f.1) in
+            let e' : f.0.index ≡ me = one_index e.records f.0.index me right.ascending lt known (f.2 ∙ same) in
+            false≢true (sym (fails_before test (row e.rows y) k found f.0 f.1) ∙ eq-eqb f.0.index me e')
 
     -- whoever was searched from is as near as the distances say
     module _ (searches : List (Option (List (Option ℕ)))) (are : AreSearches e searches) (from : is_searched searches y ≡ true) (root : ℕ) (lt : root < length e.records) where
-      nearer_by : (z : ℕ) → is_searched searches z ≡ true → is_nearer searches z y root ≡ farther (graph_of e.records) (name e.records root) (name e.records y) (name e.records z)
-      nearer_by z h =
-          ap (λ o. is_sum o 1 (distance_kept searches y root)) (kept_is e searches are z root h lt)
-          ∙ ap (λ o. is_sum (dist (graph_of e.records) (name e.records z) (name e.records root)) 1 o) (kept_is e searches are y root from lt)
+      nearer_by : (n : Neighbour) → In n (row e.rows y) → is_searched searches n.index ≡ true →
+          is_nearer searches n y root ≡ farther (graph_of e.records) (name e.records root) (name e.records y) (name_of n)
+      nearer_by n i h =
+          ap (λ o. is_sum o n.weight (distance_kept searches y root)) (kept_is e searches are n.index root h lt)
+          ∙ ap (λ o. is_sum (dist (graph_of e.records) (name_of n) (name e.records root)) n.weight o) (kept_is e searches are y root from lt)
+          ∙ ap (λ (w : ℕ). is_sum (dist (graph_of e.records) (name_of n) (name e.records root)) w (dist (graph_of e.records) (name e.records y) (name e.records root)))
+          (of_all (λ m. m.weight ≡ edge_length (graph_of e.records) (name e.records m.index) (name e.records y)) (row e.rows y) n (right.lengths y here) i)
 
-      any_nearer : (zs : List ℕ) → All (λ z. is_searched searches z ≡ true) zs →
-          list_any (λ z. is_nearer searches z y root) zs ≡ list_any (farther (graph_of e.records) (name e.records root) (name e.records y)) (map (name e.records) zs)
-      any_nearer [] all = refl
-      any_nearer (z ∷ zs) all =
-          ap (λ t. t || list_any (λ z. is_nearer searches z y root) zs) (nearer_by z (all 0 0 (omega arith)))
-          ∙ ap (λ t. farther (graph_of e.records) (name e.records root) (name e.records y) (name e.records z) || t) (any_nearer zs (λ i d l. all (suc i) d (omega (arith, l))))
+      any_nearer : (ns : List Neighbour) → ((n : Neighbour) → In n ns → In n (row e.rows y)) → All (λ z. is_searched searches z ≡ true) (map (λ n. n.index) ns) →
+          list_any (λ n. is_nearer searches n y root) ns ≡ list_any (farther (graph_of e.records) (name e.records root) (name e.records y)) (map name_of ns)
+      any_nearer [] inside all = refl
+      any_nearer (n ∷ ns) inside all =
+          ap (λ t. t || list_any (λ m. is_nearer searches m y root) ns) (nearer_by n (inside n (inl refl)) (all 0 0 (omega arith)))
+          ∙ ap (λ t. farther (graph_of e.records) (name e.records root) (name e.records y) (name_of n) || t) (any_nearer ns (λ m i. inside m (inr i)) (λ i d l. all (suc i) d (omega (arith, l))))
 
-    pub passed_flags : (before searches : List (Option (List (Option ℕ)))) (flags : List Bool) → Searched e before searches ((take k (row e.rows y) ++ me ∷ []) ++ y ∷ []) →
-        flags ≡ map (is_first searches me (take k (row e.rows y)) y) (range_with_len 0 (length e.records)) → AreFlags e.records (name e.records me) y flags
+    pub passed_flags : (before searches : List (Option (List (Option ℕ)))) (flags : List Bool) → Searched e before searches ((map (λ n. n.index) (take k (row e.rows y)) ++ mine.index ∷ []) ++ y ∷ []) →
+        flags ≡ map (is_first searches mine (take k (row e.rows y)) y) (range_with_len 0 (length e.records)) → AreFlags e.records (name e.records me) y flags
     passed_flags before searches flags h is root lt =
-        let others : List ℕ = take k (row e.rows y) in
+        let others : List Neighbour = take k (row e.rows y) in
         let P : ℕ → Type 0 = λ z. is_searched searches z ≡ true in
-        let last : is_searched searches y ≡ true = last_of P (others ++ me ∷ []) y h.these in
-        let rest : All P (others ++ me ∷ []) = left_of P (others ++ me ∷ []) (y ∷ []) h.these in
+        let last : is_searched searches y ≡ true = last_of P (map (λ n. n.index) others ++ mine.index ∷ []) y h.these in
+        let rest : All P (map (λ n. n.index) others ++ mine.index ∷ []) = left_of P (map (λ n. n.index) others ++ mine.index ∷ []) (y ∷ []) h.these in
         ap (λ fs. get_or fs root false) is
-        ∙ get_or-map-range_with_len (is_first searches me others y) 0 (length e.records) root root false (omega (arith, lt)) (omega arith)
-        ∙ ap (λ t. t && not (list_any (λ z. is_nearer searches z y root) others)) (nearer_by searches h.are last root lt me (last_of P others me rest))
-        ∙ ap (λ t. farther (graph_of e.records) (name e.records root) (name e.records y) (name e.records me) && not t) (any_nearer searches h.are last root lt others (left_of P others (me ∷ []) rest))
+        ∙ get_or-map-range_with_len (is_first searches mine others y) 0 (length e.records) root root false (omega (arith, lt)) (omega arith)
+        ∙ ap (λ t. t && not (list_any (λ n. is_nearer searches n y root) others)) (nearer_by searches h.are last root lt mine mine_in (last_of P (map (λ n. n.index) others) mine.index rest))
+        ∙ ap (λ z. farther (graph_of e.records) (name e.records root) (name e.records y) (name e.records z) && not (list_any (λ n. is_nearer searches n y root) others)) mine_is
+        ∙ ap (λ t. farther (graph_of e.records) (name e.records root) (name e.records y) (name e.records me) && not t)
+        (any_nearer searches h.are last root lt others (λ n i. taken_in k (row e.rows y) n i) (left_of P (map (λ n. n.index) others) (mine.index ∷ []) rest))
         ∙ sym (child_by (graph_of e.records) (graph_is e.records right.ascending) (name e.records root) (name e.records me) (name e.records y)
-        (map (name e.records) others) (map (name e.records) (drop (suc k) (row e.rows y))) split apart)
+        (map name_of others) (map name_of (drop (suc k) (row e.rows y))) split apart)
 
     -- if they were worked out
-    pub passed_all : {E : Type 0} (r : Result (List Bool) E) (before searches : List (Option (List (Option ℕ)))) → OnOk r (Searched e before searches ((take k (row e.rows y) ++ me ∷ []) ++ y ∷ [])) →
-        IfOk r (λ flags. flags ≡ map (is_first searches me (take k (row e.rows y)) y) (range_with_len 0 (length e.records))) → IfOk r (λ flags. AreFlags e.records (name e.records me) y flags)
+    pub passed_all : {E : Type 0} (r : Result (List Bool) E) (before searches : List (Option (List (Option ℕ)))) → OnOk r (Searched e before searches ((map (λ n. n.index) (take k (row e.rows y)) ++ mine.index ∷ []) ++ y ∷ [])) →
+        IfOk r (λ flags. flags ≡ map (is_first searches mine (take k (row e.rows y)) y) (range_with_len 0 (length e.records))) → IfOk r (λ flags. AreFlags e.records (name e.records me) y flags)
     passed_all (Ok flags) before searches h is = passed_flags before searches flags h is
     passed_all (Err error) before searches h is = h
 

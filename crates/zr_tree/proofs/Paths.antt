@@ -1,24 +1,16 @@
--- Walks and distances: a walk can be turned round and lengthened, a distance is below the number of routers since a
--- router at each smaller distance stands before it, and so distances are the lengths of shortest walks.
-use Rattle.std.proofs.Common.{◌≡◌, ℕ, ◌+◌, ◌<◌, ◌≤◌, zero, suc, Bool, true, false, List, [], ◌∷◌, ◌++◌, Some, inl, inr, length, refl, sym, ap, ◌∙◌, subst, arith}
-use Rattle.std.specs.Cmp.{eq_by_cmp_equiv}
-use Rattle.std.specs.Cmp.Lexicographic.{nat_list_cmp_total}
-use Rattle.std.specs.List.{AllByRecursion, IsDistinct}
-use Rattle.std.proofs.lemmas.Bool.{false≢true, cases_lt, false_from_ne_true, and_parts}
-use Rattle.std.proofs.lemmas.Map.Keys.{IsDistinct-cons}
-use Rattle.std.proofs.lemmas.Map.Made.{length-le_from_is_member}
-use Rattle.zr_lists.proofs.Elements.{each_in}
+-- Walks and distances: a walk can be turned round and lengthened, and distances are the lengths of shortest walks.
+use Rattle.std.proofs.Common.{◌≡◌, ℕ, ◌+◌, ◌≤◌, zero, suc, max, Bool, true, false, cond, ◌&&◌, List, [], ◌∷◌, ◌++◌, Some, inl, inr, length, refl, sym, ap, ◌∙◌, subst, arith}
+use Rattle.std.proofs.lemmas.Bool.{false≢true, and_parts}
 use Rattle.zr_id.specs.Record.{RecordState}
 use Rattle.zr_id.specs.Zid.{is_named}
-use Rattle.zr_graph.specs.Record.{ids, has, has_edge, lists, IsAscending}
-use Rattle.zr_graph.proofs.Names.{same_is, same_refl}
+use Rattle.zr_graph.specs.Record.{ids, has, has_edge, lists, weight_given, IsAscending}
 use Rattle.zr_tree.specs.Laws.{IsGraph, IsExact}
-use Rattle.zr_tree.specs.Tree.{leads, dist}
-use Rattle.zr_tree.specs.Walk.{Graph, graph_of, near, IsWalk, walk_length, IsDistance}
-use Rattle.zr_lists.proofs.Finds.{In, any_in, in_any, in_filter, filter_in}
-use Rattle.zr_tree.proofs.Distances.{least_some, least_is, least_found, within, step_back}
-use Rattle.zr_tree.proofs.Levels.{joined_back}
-use Rattle.zr_tree.proofs.Unknown.{record_none}
+use Rattle.zr_tree.specs.Tree.{sums, dist}
+use Rattle.zr_tree.specs.Walk.{Graph, graph_of, near, edge_length, IsWalk, walk_length, IsDistance}
+use Rattle.zr_graph.proofs.Names.{same_is}
+use Rattle.zr_lists.proofs.Finds.{In, any_in, in_filter, filter_in}
+use Rattle.zr_tree.proofs.Indexed.{joined_back, record_none}
+use Rattle.zr_tree.proofs.Distances.{least_some, sums_cases, sums_on, root_in, bounded, no_edge_is}
 
 pub has_in : (names : List (List ℕ)) (x : List ℕ) → has names x ≡ true → In x names
 has_in names x h =
@@ -30,6 +22,7 @@ graph_is rs up = record {
   ascending = up;
   known = λ x y h. by_has x y h (has (ids rs) x) refl;
   both_ways = λ x y h. joined_back rs x y h;
+  as_long = λ x y. same_length (lists rs x y) (lists rs y x) (weight_given rs x y) (weight_given rs y x);
 }
   where
     by_has : (x y : List ℕ) → has_edge rs x y ≡ true → (t : Bool) → has (ids rs) x ≡ t → has (ids rs) x ≡ true
@@ -38,9 +31,11 @@ graph_is rs up = record {
         let n : lists rs x y ≡ false = rw (record_none rs x e) refl in
         absurd (false≢true (sym n ∙ (and_parts (lists rs x y) (lists rs y x) h).0))
 
-none_distinct : IsDistinct is_named []
-unfolding IsDistinct
-none_distinct = tt
+    same_length : (a b : Bool) (p q : ℕ) → max 1 (cond (a && b) (max p q) 0) ≡ max 1 (cond (b && a) (max q p) 0)
+    same_length true true p q = omega arith
+    same_length true false p q = refl
+    same_length false true p q = refl
+    same_length false false p q = refl
 
 -- ---- walks
 
@@ -48,119 +43,80 @@ pub walk_push : (g : Graph) (a b c : List ℕ) (path : List (List ℕ)) → IsWa
 walk_push g a b c [] h j = let P : List ℕ → Type 0 = λ z. g.joined z c ≡ true in (subst P (sym h) j, refl)
 walk_push g a b c (y ∷ path) h j = (h.0, walk_push g y b c path h.1 j)
 
-pub length_push : (g : Graph) (a c : List ℕ) (path : List (List ℕ)) → walk_length g a (path ++ c ∷ []) ≡ walk_length g a path + 1
-length_push g a c [] = refl
-length_push g a c (y ∷ path) = let ih = length_push g y c path in omega arith
+pub length_push : (g : Graph) (a b c : List ℕ) (path : List (List ℕ)) → IsWalk g a path b → walk_length g a (path ++ c ∷ []) ≡ walk_length g a path + edge_length g b c
+length_push g a b c [] h = let e : edge_length g a c ≡ edge_length g b c = ap (λ z. edge_length g z c) h in omega (arith, e)
+length_push g a b c (y ∷ path) h = let ih = length_push g y b c path h.1 in omega (arith, ih)
 
 module _ (g : Graph) (is : IsGraph g) where
   pub walk_back : (x z : List ℕ) (path : List (List ℕ)) → IsWalk g x path z → (back : List (List ℕ)) × IsWalk g z back x × (walk_length g z back ≡ walk_length g x path)
   walk_back x z [] h = ([], sym h, refl)
   walk_back x z (y ∷ path) h =
       let ih = walk_back y z path h.1 in
-      let n = length_push g z x ih.0 in
-      (ih.0 ++ x ∷ [], walk_push g z y x ih.0 ih.1 (is.both_ways x y h.0), omega (arith, n, ih.2))
+      let n = length_push g z y x ih.0 ih.1 in
+      (ih.0 ++ x ∷ [], walk_push g z y x ih.0 ih.1 (is.both_ways x y h.0), omega (arith, n, ih.2, is.as_long x y))
 
-  pub leads_walk : (n : ℕ) (root x : List ℕ) → leads g n root x ≡ true → (path : List (List ℕ)) × IsWalk g root path x × (walk_length g root path ≡ n)
-  leads_walk zero root x h = ([], same_is root x h, refl)
-  leads_walk (suc n) root x h =
-      let f = any_in (λ y. leads g n root y) (near g x) h in
-      let i = in_filter (λ y. g.joined x y) g.names f.0 f.1 in
-      let ih = leads_walk n root f.0 f.2 in
-      let e = length_push g root x ih.0 in
-      (ih.0 ++ x ∷ [], walk_push g root f.0 x ih.0 ih.1 (is.both_ways x f.0 i.1), omega (arith, e, ih.2))
+  near_joined : (x y : List ℕ) → In y (near g x) → g.joined y x ≡ true
+  near_joined x y i = is.both_ways x y (in_filter (λ z. g.joined x z) g.names y i).1
+
+  joined_near : (x y : List ℕ) → g.joined y x ≡ true → In y (near g x)
+  joined_near x y j = filter_in (λ z. g.joined x z) g.names y (has_in g.names y (is.known y x j)) (is.both_ways y x j)
+
+  pub sums_walk : (k n : ℕ) (root x : List ℕ) → In n (sums g k root x) → (path : List (List ℕ)) × IsWalk g root path x × (walk_length g root path ≡ n)
+  sums_walk zero n root x h = let z = no_edge_is g root n x h in ([], z.0, sym z.1)
+  sums_walk (suc k) n root x h =
+      elim (sums_cases g root k n x h) [
+        | inl z ↦ ([], z.0, sym z.1)
+        | inr f ↦ (let ih = sums_walk k f.1 root f.0 f.3 in
+            let e = length_push g root f.0 x ih.0 ih.1 in
+            (ih.0 ++ x ∷ [], walk_push g root f.0 x ih.0 ih.1 (near_joined x f.0 f.2), omega (arith, e, ih.2, f.4)))
+      ]
 
   -- one edge more at the root
-  front_step : (n : ℕ) (root y x : List ℕ) → g.joined root y ≡ true → leads g n y x ≡ true → leads g (suc n) root x ≡ true
-  front_step zero root y x j h =
-      let e = same_is y x h in
-      let P : List ℕ → Type 0 = λ z. g.joined z root ≡ true in
-      let back = subst P e (is.both_ways root y j) in
-      in_any (λ z. leads g zero root z) (near g x) root (filter_in (λ z. g.joined x z) g.names root (has_in g.names root (is.known root y j)) back) (same_refl root)
-  front_step (suc n) root y x j h =
-      let f = any_in (λ z. leads g n y z) (near g x) h in
-      in_any (λ z. leads g (suc n) root z) (near g x) f.0 f.1 (front_step n root y f.0 j f.2)
+  at_once : (k n : ℕ) (root y x : List ℕ) → g.joined root y ≡ true → y ≡ x → n ≡ 0 → In (edge_length g root y + n) (sums g (suc k) root x)
+  at_once k n root y x j e z =
+      let i = sums_on g root k 0 root y (joined_near y root j) (root_in g root k) in
+      let s : 0 + edge_length g root y ≡ edge_length g root y + n = omega (arith, z) in
+      subst (λ (m : ℕ). In m (sums g (suc k) root x)) s (subst (λ (u : List ℕ). In (0 + edge_length g root y) (sums g (suc k) root u)) e i)
 
-  pub walk_leads : (root x : List ℕ) (path : List (List ℕ)) → IsWalk g root path x → leads g (walk_length g root path) root x ≡ true
-  walk_leads root x [] h = let P : List ℕ → Type 0 = λ z. is_named root z ≡ true in subst P h (same_refl root)
-  walk_leads root x (y ∷ path) h =
-      let ih = walk_leads y x path h.1 in
-      let e : suc (walk_length g y path) ≡ 1 + walk_length g y path = omega arith in
-      let P : ℕ → Type 0 = λ n. leads g n root x ≡ true in
-      subst P e (front_step (walk_length g y path) root y x h.0 ih)
+  front_step : (k n : ℕ) (root y x : List ℕ) → g.joined root y ≡ true → In n (sums g k y x) → In (edge_length g root y + n) (sums g (suc k) root x)
+  front_step zero n root y x j h = let z = no_edge_is g y n x h in at_once zero n root y x j z.0 z.1
+  front_step (suc k) n root y x j h =
+      elim (sums_cases g y k n x h) [
+        | inl z ↦ at_once (suc k) n root y x j z.0 z.1
+        | inr f ↦ (let i = sums_on g root (suc k) (edge_length g root y + f.1) f.0 x f.2 (front_step k f.1 root y f.0 j f.3) in
+            let s : edge_length g root y + f.1 + edge_length g f.0 x ≡ edge_length g root y + n = omega (arith, f.4) in
+            subst (λ (m : ℕ). In m (sums g (suc (suc k)) root x)) s i)
+      ]
 
-  -- routers at each smaller distance
-  record Chain (root : List ℕ) (m : ℕ) : Type 0 where
-    routers : List (List ℕ)
-    long : length routers ≡ m
-    inside : AllByRecursion (λ z. In z g.names) routers
-    nearer : AllByRecursion (λ z. (k : ℕ) × (k < m) × (leads g k root z ≡ true)) routers
-    distinct : IsDistinct is_named routers
-
-  weaker : (root : List ℕ) (m : ℕ) (zs : List (List ℕ)) → AllByRecursion (λ z. (k : ℕ) × (k < m) × (leads g k root z ≡ true)) zs → AllByRecursion (λ z. (k : ℕ) × (k < suc m) × (leads g k root z ≡ true)) zs
-  weaker root m [] h = h
-  weaker root m (z ∷ zs) h = ((h.0.0, omega (arith, h.0.1), h.0.2), weaker root m zs h.1)
-
-  others : (root y : List ℕ) (m : ℕ) (zs : List (List ℕ)) → ((k : ℕ) → k < m → leads g k root y ≡ false) → AllByRecursion (λ z. (k : ℕ) × (k < m) × (leads g k root z ≡ true)) zs → AllByRecursion (λ z. is_named y z ≡ false) zs
-  others root y m [] first h = h
-  others root y m (z ∷ zs) first h = (
-    false_from_ne_true _ (λ t.
-        let P : List ℕ → Type 0 = λ w. leads g h.0.0 root w ≡ true in
-        false≢true (sym (first h.0.0 h.0.1) ∙ subst P (sym (same_is y z t)) h.0.2)),
-    others root y m zs first h.1,
-  )
-
-  chain : (root : List ℕ) (m : ℕ) (x : List ℕ) → within g root (suc m) x ≡ Some m → Chain root m
-  chain root zero x h = record { routers = []; long = refl; inside = tt; nearer = tt; distinct = none_distinct }
-  chain root (suc m) x h =
-      let s = step_back g root (suc (suc m)) m x h in
-      let l = least_some (λ k. leads g k root s.0) (suc (suc m)) m s.2 in
-      let d : within g root (suc m) s.0 ≡ Some m = least_is (λ k. leads g k root s.0) (suc m) m (record { below = omega arith; passes = l.passes; first = l.first }) in
-      let c = chain root m s.0 d in
-      record {
-        routers = s.0 ∷ c.routers;
-        long = let e = c.long in omega arith;
-        inside = ((in_filter (λ z. g.joined x z) g.names s.0 s.1).0, c.inside);
-        nearer = ((m, omega arith, l.passes), weaker root m c.routers c.nearer);
-        distinct = IsDistinct-cons is_named s.0 c.routers (others root s.0 m c.routers l.first c.nearer) c.distinct;
-      }
-
-  chain_short : (root : List ℕ) (m : ℕ) → Chain root m → m ≤ length g.names
-  chain_short root m c =
-      let l = length-le_from_is_member {eq = is_named} (eq_by_cmp_equiv nat_list_cmp_total) c.routers g.names c.distinct (λ q t.
-      let f = any_in (is_named q) c.routers t in
-      let i = each_in (λ z. In z g.names) c.routers f.0 c.inside f.1 in
-      in_any (is_named q) g.names f.0 i f.2) in
-      omega (arith, l, c.long)
-
-  -- a walk of any length gives a distance
-  pub bounded : (n : ℕ) (root x : List ℕ) → leads g n root x ≡ true → (k : ℕ) × (k ≤ n) × (dist g root x ≡ Some k)
-  bounded n root x h =
-      let f = least_found (λ k. leads g k root x) (suc n) n (omega arith) h in
-      let l = least_some (λ k. leads g k root x) (suc n) f.0 f.2 in
-      let d : within g root (suc f.0) x ≡ Some f.0 = least_is (λ k. leads g k root x) (suc f.0) f.0 (record { below = omega arith; passes = l.passes; first = l.first }) in
-      let s = chain_short root f.0 (chain root f.0 x d) in
-      (f.0, f.1, least_is (λ k. leads g k root x) (suc (length g.names)) f.0 (record { below = omega arith; passes = l.passes; first = l.first }))
+  pub walk_sums : (root x : List ℕ) (path : List (List ℕ)) → IsWalk g root path x → In (walk_length g root path) (sums g (length path) root x)
+  walk_sums root x [] h = subst (λ (u : List ℕ). In 0 (sums g 0 root u)) h (root_in g root 0)
+  walk_sums root x (y ∷ path) h = front_step (length path) (walk_length g y path) root y x h.0 (walk_sums y x path h.1)
 
   pub exact : (root x : List ℕ) (n : ℕ) → IsExact g root x n
   exact root x n = record { is_shortest = shortest; is_found = found }
     where
-      no_less : dist g root x ≡ Some n → (k : ℕ) → leads g k root x ≡ true → n ≤ k
-      no_less d k h = elim (cases_lt k n) [
-        | inl lt ↦ absurd (false≢true (sym ((least_some (λ j. leads g j root x) (suc (length g.names)) n d).first k lt) ∙ h))
-        | inr ge ↦ ge
-      ]
-
       shortest : dist g root x ≡ Some n → IsDistance g root x n
       shortest d = record {
-        walk = leads_walk n root x ((least_some (λ j. leads g j root x) (suc (length g.names)) n d).passes);
-        shortest = λ path w. no_less d (walk_length g root path) (walk_leads root x path w);
+        walk = sums_walk (length g.names) n root x (least_some (sums g (length g.names) root x) n d).among;
+        shortest = λ path w.
+            let b = bounded g root (length path) (walk_length g root path) x (walk_sums root x path w) in
+            let s : Some n ≡ Some b.0 = sym d ∙ b.2 in
+            let e : n ≡ b.0 = cc in
+            omega (arith, e, b.1);
       }
 
       found : IsDistance g root x n → dist g root x ≡ Some n
       found h =
-          let P : ℕ → Type 0 = λ k. leads g k root x ≡ true in
-          let b = bounded n root x (subst P h.walk.2 (walk_leads root x h.walk.0 h.walk.1)) in
-          let w = leads_walk b.0 root x ((least_some (λ j. leads g j root x) (suc (length g.names)) b.0 b.2).passes) in
+          let b = bounded g root (length h.walk.0) (walk_length g root h.walk.0) x (walk_sums root x h.walk.0 h.walk.1) in
+          let w = sums_walk (length g.names) b.0 root x (least_some (sums g (length g.names) root x) b.0 b.2).among in
           let s = h.shortest w.0 w.1 in
-          let e : b.0 ≡ n = omega (arith, s, w.2, b.1) in
+          let e : b.0 ≡ n = omega (arith, s, w.2, b.1, h.walk.2) in
           b.2 ∙ ap Some e
+
+  -- a walk reaches, and the distance is no longer
+  pub walk_reaches : (root x : List ℕ) (path : List (List ℕ)) → IsWalk g root path x → (m : ℕ) × (m ≤ walk_length g root path) × (dist g root x ≡ Some m)
+  walk_reaches root x path w = bounded g root (length path) (walk_length g root path) x (walk_sums root x path w)
+
+  -- the distance is the length of some walk
+  pub dist_walk : (root x : List ℕ) (n : ℕ) → dist g root x ≡ Some n → (path : List (List ℕ)) × IsWalk g root path x × (walk_length g root path ≡ n)
+  dist_walk root x n d = sums_walk (length g.names) n root x (least_some (sums g (length g.names) root x) n d).among

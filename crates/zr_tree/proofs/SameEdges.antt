@@ -1,8 +1,8 @@
--- The tree laws: what a destination is below, the least parent, and that trees are those of the edges alone.
-use Rattle.std.proofs.Common.{◌≡◌, ℕ, ◌+◌, ◌≤◌, zero, suc, Bool, true, false, cond, ◌&&◌, ◌||◌, List, [], ◌∷◌, Option, Some, None, unwrap_or, Less, ◌⊎◌, inl, inr, length, refl, sym, ap, ◌∙◌, subst, arith}
+-- The tree laws: what a destination is below, the least parent, and that trees are those of the edges and their lengths alone.
+use Rattle.std.proofs.Common.{◌≡◌, ℕ, ◌+◌, ◌≤◌, zero, suc, Bool, true, false, cond, ◌&&◌, ◌||◌, List, [], ◌∷◌, ◌++◌, Option, Some, None, map, flat_map, unwrap_or, Less, ◌⊎◌, inl, inr, length, refl, sym, ap, ◌∙◌, subst, arith}
 use Rattle.std.specs.Cmp.Lexicographic.{slice_cmp, nat_list_cmp_total}
-use Rattle.std.specs.List.{filter, find, list_any}
-use Rattle.std.specs.Option.{option_map_or, option_and_then}
+use Rattle.std.specs.List.{filter, find}
+use Rattle.std.specs.Option.{option_map, option_map_or, option_and_then}
 use Rattle.std.specs.Ordering.{nat_cmp}
 use Rattle.std.proofs.lemmas.Bool.{false≢true, cases_Bool, and_from, and_parts}
 use Rattle.std.proofs.lemmas.Cmp.{tied_itself}
@@ -15,12 +15,13 @@ use Rattle.zr_id.specs.Record.{is_before}
 use Rattle.zr_graph.proofs.Names.{same_is, same_refl, comes}
 use Rattle.zr_tree_parents.specs.Distance.{is_sum}
 use Rattle.zr_tree.specs.Laws.{IsGraph, IsNext, HaveSameTrees, steps_toward}
-use Rattle.zr_tree.specs.Tree.{leads, dist, parent, is_child, children, climbs, below, toward}
+use Rattle.zr_tree.specs.Tree.{no_edge, sums, dist, parent, parents_above, tree_depth, is_child, children, climbs, below, toward}
 use Rattle.zr_tree.specs.Walk.{Graph, near, edge_length}
-use Rattle.zr_lists.proofs.Finds.{In, in_filter, filter_in, same_any, same_find, only_find}
-use Rattle.zr_tree.proofs.Distances.{least_some, zero_is_root}
+use Rattle.zr_lists.proofs.Finds.{In, in_filter, filter_in, same_find, only_find}
+use Rattle.zr_tree.proofs.Distances.{least_some, bounded}
+use Rattle.zr_tree.proofs.Depths.{zero_is_root}
 use Rattle.zr_tree.proofs.Branches.{parent_is, has_parent, child_is, child_from, below_itself, below_parent, below_at, below_nearer, below_one}
-use Rattle.zr_tree.proofs.Paths.{has_in, bounded}
+use Rattle.zr_tree.proofs.Paths.{has_in}
 
 -- ---- ascending lists
 
@@ -76,7 +77,7 @@ module _ (g : Graph) (is : IsGraph g) (root : List ℕ) where
       let p = parent_is g root y x (child_is g root x y t) in
       has_in g.names y (is.known y x (in_filter (λ z. g.joined y z) g.names x p.1.neighbour).1)
 
-  next_is : (n : ℕ) (at dest y : List ℕ) → dist g root dest ≡ Some n → is_child g root at y ≡ true → below g root y dest ≡ true → IsNext g root at dest y
+  next_is : (n : ℕ) (at dest y : List ℕ) → tree_depth g root dest ≡ Some n → is_child g root at y ≡ true → below g root y dest ≡ true → IsNext g root at dest y
   next_is n at dest y d c b = record {
     next = only_find _ g.names y (child_in at y c) (and_from _ _ c b) (λ z i t. let both = and_parts (is_child g root at z) (below g root z dest) t in one z both.0 both.1);
     is_child_of = c;
@@ -92,7 +93,7 @@ module _ (g : Graph) (is : IsGraph g) (root : List ℕ) where
           let e : q.0 ≡ p.0 = cc in
           below_one g root n z y dest (suc p.0) d u b (q.1.to_child ∙ ap (λ (k : ℕ). Some (suc k)) e) p.1.to_child
 
-  pub next_one : (n : ℕ) (at dest : List ℕ) → dist g root dest ≡ Some n → below g root at dest ≡ true → (dest ≡ at → ⊥) → (y : List ℕ) × IsNext g root at dest y
+  pub next_one : (n : ℕ) (at dest : List ℕ) → tree_depth g root dest ≡ Some n → below g root at dest ≡ true → (dest ≡ at → ⊥) → (y : List ℕ) × IsNext g root at dest y
   next_one zero at dest d b ne = elim (below_at g root zero at dest d b) [
     | inl e ↦ absurd (ne e)
     | inr f ↦ absurd (omega (arith, f.2))
@@ -108,9 +109,9 @@ module _ (g : Graph) (is : IsGraph g) (root : List ℕ) where
     ]
   ]
 
-  pub root_above : (n : ℕ) (dest : List ℕ) → dist g root dest ≡ Some n → below g root root dest ≡ true
+  pub root_above : (n : ℕ) (dest : List ℕ) → tree_depth g root dest ≡ Some n → below g root root dest ≡ true
   root_above zero dest d =
-      let e = zero_is_root g root (suc (length g.names)) dest d in
+      let e = zero_is_root g root dest d in
       let P : List ℕ → Type 0 = λ z. below g root root z ≡ true in
       subst P e (below_itself g root root)
   root_above (suc n) dest d =
@@ -120,7 +121,7 @@ module _ (g : Graph) (is : IsGraph g) (root : List ℕ) where
       let e : q.0 ≡ n = cc in
       below_parent g root root dest p.0 p.1 (root_above n p.0 (q.1.from_parent ∙ ap Some e))
 
-  pub steps_lead : (n k m : ℕ) (at dest : List ℕ) → m ≡ k + n → dist g root dest ≡ Some m → dist g root at ≡ Some k → below g root at dest ≡ true → steps_toward g root n at dest ≡ Some dest
+  pub steps_lead : (n k m : ℕ) (at dest : List ℕ) → m ≡ k + n → tree_depth g root dest ≡ Some m → tree_depth g root at ≡ Some k → below g root at dest ≡ true → steps_toward g root n at dest ≡ Some dest
   steps_lead zero k m at dest e d a b =
       let f = below_nearer g root m at dest d b in
       let s : Some f.0 ≡ Some k = sym f.1 ∙ a in
@@ -128,7 +129,7 @@ module _ (g : Graph) (is : IsGraph g) (root : List ℕ) where
       ap Some (sym (f.3 (omega (arith, i, e))))
   steps_lead (suc n) k m at dest e d a b =
       let r = next_one m at dest d b (λ i.
-      let s : Some m ≡ Some k = sym d ∙ ap (dist g root) i ∙ a in
+      let s : Some m ≡ Some k = sym d ∙ ap (tree_depth g root) i ∙ a in
       let j : m ≡ k = cc in
       absurd (omega (arith, j, e))) in
       let p = parent_is g root r.0 at (child_is g root at r.0 r.1.is_child_of) in
@@ -139,7 +140,12 @@ module _ (g : Graph) (is : IsGraph g) (root : List ℕ) where
 
 -- ---- two graphs of the same edges
 
-module _ (g h : Graph) (a : IsGraph g) (b : IsGraph h) (edges : (x y : List ℕ) → g.joined x y ≡ h.joined x y) where
+same_flat_map : {X Y : Type 0} (f k : X → List Y) (xs : List X) → ((x : X) → In x xs → f x ≡ k x) → flat_map f xs ≡ flat_map k xs
+same_flat_map f k [] same = refl
+same_flat_map f k (x ∷ xs) same = ap (λ ys. ys ++ flat_map f xs) (same x (inl refl)) ∙ ap (λ ys. k x ++ ys) (same_flat_map f k xs (λ y i. same y (inr i)))
+
+module _ (g h : Graph) (a : IsGraph g) (b : IsGraph h) (edges : (x y : List ℕ) → g.joined x y ≡ h.joined x y)
+    (lengths : (x y : List ℕ) → g.joined x y ≡ true → edge_length g x y ≡ edge_length h x y) where
   near_in : (u v : Graph) → IsGraph u → IsGraph v → ((x y : List ℕ) → u.joined x y ≡ v.joined x y) → (x z : List ℕ) → In z (near u x) → In z (near v x)
   near_in u v i j e x z k =
       let f = in_filter (λ y. u.joined x y) u.names z k in
@@ -152,24 +158,32 @@ module _ (g h : Graph) (a : IsGraph g) (b : IsGraph h) (edges : (x y : List ℕ)
   same_near : (x : List ℕ) → near g x ≡ near h x
   same_near x = same_list (near g x) (near h x) (IsStrictlySortedBy-filter _ _ g.names a.ascending) (IsStrictlySortedBy-filter _ _ h.names b.ascending) (near_in g h a b edges x) (near_in h g b a back x)
 
-  same_leads : (n : ℕ) (root x : List ℕ) → leads g n root x ≡ leads h n root x
-  same_leads zero root x = refl
-  same_leads (suc n) root x =
-      ap (list_any (λ y. leads g n root y)) (same_near x) ∙ same_any (λ y. leads g n root y) (λ y. leads h n root y) (near h x) (λ y i. same_leads n root y)
+  -- the edge to a neighbour is as long
+  near_long : (x y : List ℕ) → In y (near h x) → edge_length g y x ≡ edge_length h y x
+  near_long x y i = lengths y x (edges y x ∙ b.both_ways x y (in_filter (λ z. h.joined x z) h.names y i).1)
 
-  no_farther : (u v : Graph) → IsGraph v → ((n : ℕ) (root x : List ℕ) → leads u n root x ≡ leads v n root x) → (root x : List ℕ) (n : ℕ) → dist u root x ≡ Some n → (k : ℕ) × (k ≤ n) × (dist v root x ≡ Some k)
-  no_farther u v j e root x n d = bounded v j n root x (sym (e n root x) ∙ (least_some (λ k. leads u k root x) (suc (length u.names)) n d).passes)
+  same_sums : (n : ℕ) (root x : List ℕ) → sums g n root x ≡ sums h n root x
+  same_sums zero root x = refl
+  same_sums (suc n) root x =
+      ap (λ ys. no_edge root x ++ flat_map (λ y. map (λ m. m + edge_length g y x) (sums g n root y)) ys) (same_near x)
+      ∙ ap (λ ns. no_edge root x ++ ns)
+      (same_flat_map (λ y. map (λ m. m + edge_length g y x) (sums g n root y)) (λ y. map (λ m. m + edge_length h y x) (sums h n root y)) (near h x)
+      (λ y i. ap (λ (w : ℕ). map (λ m. m + w) (sums g n root y)) (near_long x y i) ∙ ap (map (λ m. m + edge_length h y x)) (same_sums n root y)))
+
+  no_farther : (u v : Graph) → ((n : ℕ) (root x : List ℕ) → sums u n root x ≡ sums v n root x) → (root x : List ℕ) (n : ℕ) → dist u root x ≡ Some n → (k : ℕ) × (k ≤ n) × (dist v root x ≡ Some k)
+  no_farther u v e root x n d =
+      bounded v root (length u.names) n x (subst (λ (ns : List ℕ). In n ns) (e (length u.names) root x) (least_some (sums u (length u.names) root x) n d).among)
 
   pub same_dist : (root x : List ℕ) → dist g root x ≡ dist h root x
   same_dist root x = by_dist (dist g root x) refl (dist h root x) refl
     where
       by_dist : (o : Option ℕ) → dist g root x ≡ o → (p : Option ℕ) → dist h root x ≡ p → o ≡ p
       by_dist None d None e = refl
-      by_dist None d (Some k) e = let f = no_farther h g a (λ n r y. sym (same_leads n r y)) root x k e in let s : None ≡ Some f.0 = sym d ∙ f.2 in absurd (cc)
-      by_dist (Some n) d None e = let f = no_farther g h b same_leads root x n d in let s : None ≡ Some f.0 = sym e ∙ f.2 in absurd (cc)
+      by_dist None d (Some k) e = let f = no_farther h g (λ n r y. sym (same_sums n r y)) root x k e in let s : None ≡ Some f.0 = sym d ∙ f.2 in absurd (cc)
+      by_dist (Some n) d None e = let f = no_farther g h same_sums root x n d in let s : None ≡ Some f.0 = sym e ∙ f.2 in absurd (cc)
       by_dist (Some n) d (Some k) e =
-          let f = no_farther g h b same_leads root x n d in
-          let r = no_farther h g a (λ m q y. sym (same_leads m q y)) root x k e in
+          let f = no_farther g h same_sums root x n d in
+          let r = no_farther h g (λ m q y. sym (same_sums m q y)) root x k e in
           let s : Some k ≡ Some f.0 = sym e ∙ f.2 in
           let t : Some n ≡ Some r.0 = sym d ∙ r.2 in
           let i : k ≡ f.0 = cc in
@@ -180,7 +194,24 @@ module _ (g h : Graph) (a : IsGraph g) (b : IsGraph h) (edges : (x y : List ℕ)
   pub same_parent : (root x : List ℕ) → parent g root x ≡ parent h root x
   same_parent root x =
       ap (find (λ y. is_sum (dist g root y) (edge_length g y x) (dist g root x))) (same_near x)
-      ∙ same_find _ _ (near h x) (λ y i. ap (λ o. is_sum o 1 (dist g root x)) (same_dist root y) ∙ ap (λ o. is_sum (dist h root y) 1 o) (same_dist root x))
+      ∙ same_find _ _ (near h x) (λ y i. ap (λ o. is_sum o (edge_length g y x) (dist g root x)) (same_dist root y)
+      ∙ ap (λ (w : ℕ). is_sum (dist h root y) w (dist g root x)) (near_long x y i) ∙ ap (λ o. is_sum (dist h root y) (edge_length h y x) o) (same_dist root x))
+
+  same_above : (n : ℕ) (root x : List ℕ) → parents_above g n root x ≡ parents_above h n root x
+  same_above zero root x = refl
+  same_above (suc n) root x =
+      ap (λ (o : Option (List ℕ)). option_map_or (λ p. suc (parents_above g n root p)) o 0) (same_parent root x) ∙ by (parent h root x) (λ p. same_above n root p)
+    where
+      by : (o : Option (List ℕ)) → ((p : List ℕ) → parents_above g n root p ≡ parents_above h n root p) → option_map_or (λ p. suc (parents_above g n root p)) o 0 ≡ option_map_or (λ p. suc (parents_above h n root p)) o 0
+      by None ih = refl
+      by (Some p) ih = ap (λ (z : ℕ). suc z) (ih p)
+
+  pub same_depth : (root x : List ℕ) → tree_depth g root x ≡ tree_depth h root x
+  same_depth root x = ap (option_map (λ n. parents_above g n root x)) (same_dist root x) ∙ by (dist h root x)
+    where
+      by : (o : Option ℕ) → option_map (λ n. parents_above g n root x) o ≡ option_map (λ n. parents_above h n root x) o
+      by None = refl
+      by (Some n) = ap Some (same_above n root x)
 
   pub same_child : (root x y : List ℕ) → is_child g root x y ≡ is_child h root x y
   same_child root x y = ap (λ o. option_map_or (λ p. is_named p x) o false) (same_parent root y)
@@ -207,7 +238,7 @@ module _ (g h : Graph) (a : IsGraph g) (b : IsGraph h) (edges : (x y : List ℕ)
       by_parent o p e ih = ap (λ z. option_map_or (λ q. climbs g n root y q) z false) e ∙ at p ih
 
   pub same_below : (root y x : List ℕ) → below g root y x ≡ below h root y x
-  same_below root y x = ap (λ o. climbs g (unwrap_or o 0) root y x) (same_dist root x) ∙ same_climbs (unwrap_or (dist h root x) 0) root y x
+  same_below root y x = ap (λ o. climbs g (unwrap_or o 0) root y x) (same_depth root x) ∙ same_climbs (unwrap_or (tree_depth h root x) 0) root y x
 
   find_children : (u : Graph) (root x dest : List ℕ) (xs : List (List ℕ)) → find (λ y. is_child u root x y && below u root y dest) xs ≡ find (λ y. below u root y dest) (filter (is_child u root x) xs)
   find_children u root x dest [] = refl
@@ -224,4 +255,4 @@ module _ (g h : Graph) (a : IsGraph g) (b : IsGraph h) (edges : (x y : List ℕ)
       ∙ same_find _ _ (children h root x) (λ y i. same_below root y dest) ∙ sym (find_children h root x dest h.names)
 
   pub same_trees : HaveSameTrees g h
-  same_trees = record { distances = same_dist; parents = same_parent; children_are = same_children; next = same_toward }
+  same_trees = record { distances = same_dist; depths = same_depth; parents = same_parent; children_are = same_children; next = same_toward }

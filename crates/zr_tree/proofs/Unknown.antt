@@ -1,16 +1,18 @@
 -- A router that the records don't know has no neighbours, so it is in no tree but its own, and that has no other.
-use Rattle.std.proofs.Common.{◌≡◌, ℕ, zero, suc, Bool, true, false, List, [], ◌∷◌, Option, Some, None, is_some, ◌⊎◌, inl, inr, length, refl, sym, ap, ◌∙◌, subst}
+use Rattle.std.proofs.Common.{◌≡◌, ℕ, ◌<◌, zero, suc, Bool, true, false, List, [], ◌∷◌, Option, Some, None, is_some, ◌⊎◌, inl, inr, refl, sym, ap, ◌∙◌, subst, arith}
 use Rattle.std.specs.List.{filter}
 use Rattle.std.proofs.lemmas.Bool.{false≢true, false_from_ne_true, and_left, and_right}
 use Rattle.zr_id.specs.Record.{RecordState}
 use Rattle.zr_id.specs.Zid.{is_named}
-use Rattle.zr_graph.specs.Record.{ids, has, lists, has_edge, record_of}
+use Rattle.zr_graph.specs.Record.{ids, has, lists, has_edge}
 use Rattle.zr_graph.proofs.Names.{same_is, same_refl}
 use Rattle.zr_tree.specs.Walk.{graph_of, near}
 use Rattle.zr_tree.specs.Tree.{dist, parent, is_child, children, below, toward, reached}
-use Rattle.zr_lists.proofs.Finds.{In, any_none, none_find, in_filter, map_in}
-use Rattle.zr_tree.proofs.Distances.{step_back, root_at_zero, zero_is_root}
-use Rattle.zr_tree.proofs.Branches.{parent_is, child_is, below_cases}
+use Rattle.zr_lists.proofs.Finds.{In, any_none, none_find, in_filter}
+use Rattle.zr_tree.proofs.Distances.{step_back, root_at_zero}
+use Rattle.zr_tree.proofs.Depths.{parent_near}
+use Rattle.zr_tree.proofs.Branches.{child_is, below_cases}
+use Rattle.zr_tree.proofs.Indexed.{record_none}
 
 module _ {X : Type 0} where
   none_filter : (p : X → Bool) (xs : List X) → ((y : X) → In y xs → p y ≡ false) → filter p xs ≡ []
@@ -21,24 +23,18 @@ module _ (rs : List RecordState) where
   not_in : (x : List ℕ) → has (ids rs) x ≡ false → In x (ids rs) → ⊥
   not_in x h i = false≢true (sym (any_none (λ y. is_named y x) (ids rs) x h i) ∙ same_refl x)
 
-  pub record_none : (x : List ℕ) → has (ids rs) x ≡ false → record_of rs x ≡ None
-  record_none x h = none_find (λ r. is_named r.id x) rs (λ r i. any_none (λ y. is_named y x) (ids rs) r.id h (map_in (λ (q : RecordState). q.id) rs r i))
-
   near_none : (x y : List ℕ) → has (ids rs) x ≡ false → In y (near (graph_of rs) x) → ⊥
   near_none x y h i =
-      let e : lists rs x y ≡ false = rw (record_none x h) refl in
+      let e : lists rs x y ≡ false = rw (record_none rs x h) refl in
       let f : has_edge rs x y ≡ false = and_left (lists rs x y) (lists rs y x) e in
       false≢true (sym f ∙ (in_filter (has_edge rs x) (ids rs) y i).1)
 
   -- an unknown root reaches no router that is known
-  far_none : (root : List ℕ) → has (ids rs) root ≡ false → (m : ℕ) (y : List ℕ) → In y (ids rs) → dist (graph_of rs) root y ≡ Some m → ⊥
-  far_none root h zero y i d =
-      let e = zero_is_root (graph_of rs) root (suc (length (ids rs))) y d in
-      let P : List ℕ → Type 0 = λ z. In z (ids rs) in
-      not_in root h (subst P (sym e) i)
-  far_none root h (suc m) y i d =
-      let s = step_back (graph_of rs) root (suc (length (ids rs))) m y d in
-      far_none root h m s.0 (in_filter (has_edge rs y) (ids rs) s.0 s.1).0 s.2
+  far_none : (root : List ℕ) → has (ids rs) root ≡ false → (k m : ℕ) (y : List ℕ) → m < k → In y (ids rs) → dist (graph_of rs) root y ≡ Some m → ⊥
+  far_none root h zero m y lt i d = absurd (omega arith)
+  far_none root h (suc k) m y lt i d =
+      let s = step_back (graph_of rs) root m y d (λ e. let P : List ℕ → Type 0 = λ z. In z (ids rs) in not_in root h (subst P (sym e) i)) in
+      far_none root h k s.1 s.0 (omega (arith, s.4)) (in_filter (has_edge rs y) (ids rs) s.0 s.2).0 s.3
 
   none_from : (o : Option (List ℕ)) → ((p : List ℕ) → o ≡ Some p → ⊥) → o ≡ None
   none_from None h = refl
@@ -46,14 +42,14 @@ module _ (rs : List RecordState) where
 
   no_parent_from : (root x p : List ℕ) → has (ids rs) root ≡ false → parent (graph_of rs) root x ≡ Some p → ⊥
   no_parent_from root x p h e =
-      let q = parent_is (graph_of rs) root x p e in
-      far_none root h q.0 p (in_filter (has_edge rs x) (ids rs) p q.1.neighbour).0 q.1.from_parent
+      let q = parent_near (graph_of rs) root x p e in
+      far_none root h (suc q.0) q.0 p (omega arith) (in_filter (has_edge rs x) (ids rs) p q.1.neighbour).0 q.1.from_parent
 
   no_parent_at : (root x p : List ℕ) → has (ids rs) x ≡ false → parent (graph_of rs) root x ≡ Some p → ⊥
-  no_parent_at root x p h e = near_none x p h ((parent_is (graph_of rs) root x p e).1.neighbour)
+  no_parent_at root x p h e = near_none x p h ((parent_near (graph_of rs) root x p e).1.neighbour)
 
   no_parent_to : (root x p : List ℕ) → has (ids rs) p ≡ false → parent (graph_of rs) root x ≡ Some p → ⊥
-  no_parent_to root x p h e = not_in p h (in_filter (has_edge rs x) (ids rs) p ((parent_is (graph_of rs) root x p e).1.neighbour)).0
+  no_parent_to root x p h e = not_in p h (in_filter (has_edge rs x) (ids rs) p ((parent_near (graph_of rs) root x p e).1.neighbour)).0
 
   pub parent_unknown_root : (root x : List ℕ) → has (ids rs) root ≡ false → parent (graph_of rs) root x ≡ None
   parent_unknown_root root x h = none_from _ (λ p. no_parent_from root x p h)
@@ -82,19 +78,16 @@ module _ (rs : List RecordState) where
   reached_itself x y h =
       let e = same_is x y h in
       let P : List ℕ → Type 0 = λ z. reached (graph_of rs) x z ≡ true in
-      subst P e (ap is_some (root_at_zero (graph_of rs) x (length (ids rs))))
+      subst P e (ap is_some (root_at_zero (graph_of rs) x))
 
   pub reached_unknown : (x y : List ℕ) → is_named x y ≡ false → (has (ids rs) x ≡ false) ⊎ (has (ids rs) y ≡ false) → reached (graph_of rs) x y ≡ false
   reached_unknown x y ne h = by_dist (dist (graph_of rs) x y) refl h
     where
       by_dist : (o : Option ℕ) → dist (graph_of rs) x y ≡ o → (has (ids rs) x ≡ false) ⊎ (has (ids rs) y ≡ false) → is_some o ≡ false
       by_dist None d k = refl
-      by_dist (Some zero) d k =
-          let e = zero_is_root (graph_of rs) x (suc (length (ids rs))) y d in
-          absurd (false≢true (sym ne ∙ ap (is_named x) (sym e) ∙ same_refl x))
-      by_dist (Some (suc m)) d (inl k) =
-          let s = step_back (graph_of rs) x (suc (length (ids rs))) m y d in
-          absurd (far_none x k m s.0 (in_filter (has_edge rs y) (ids rs) s.0 s.1).0 s.2)
-      by_dist (Some (suc m)) d (inr k) =
-          let s = step_back (graph_of rs) x (suc (length (ids rs))) m y d in
-          absurd (near_none y s.0 k s.1)
+      by_dist (Some m) d k =
+          let s = step_back (graph_of rs) x m y d (λ e. false≢true (sym ne ∙ ap (is_named x) (sym e) ∙ same_refl x)) in
+          absurd (elim k [
+            | inl u ↦ far_none x u (suc s.1) s.1 s.0 (omega arith) (in_filter (has_edge rs y) (ids rs) s.0 s.2).0 s.3
+            | inr u ↦ near_none y s.0 u s.2
+          ])

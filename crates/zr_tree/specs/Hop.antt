@@ -7,10 +7,10 @@ use Rattle.zr_tree_parents.specs.Distance.{kept_at}
 use Rattle.zr_tree.specs.declared.tree.Hop.{Hop}
 use Rattle.zr_tree.specs.declared.tree.TheConstants.{UNREACHED}
 use Rattle.zr_tree.specs.Index.{name}
-use Rattle.zr_tree.specs.Tree.{dist, parent, below, children}
+use Rattle.zr_tree.specs.Tree.{tree_depth, parent, below, children}
 use Rattle.zr_tree.specs.Walk.{graph_of}
 
--- the distance that a number stands for
+-- the depth that a number stands for
 abbrev pub depth_of : ℕ → Option ℕ
 depth_of depth = if depth == UNREACHED then None else Some depth
 
@@ -18,12 +18,12 @@ depth_of depth = if depth == UNREACHED then None else Some depth
 abbrev pub parent_name : List RecordState → ℕ → ℕ → Option (List ℕ)
 parent_name records x index = if index == x then None else Some (name records index)
 
--- by index, what is known of the tree of a root: the distances, the parents and the jumps
-pub record AreWays (records : List RecordState) (root : ℕ) (distances : List (Option ℕ)) (parents jumps : List ℕ) : Type 0 where
-  pub distances_long : length distances ≡ length records
+-- by index, what is known of the tree of a root: the depths, the parents and the jumps
+pub record AreWays (records : List RecordState) (root : ℕ) (depths : List (Option ℕ)) (parents jumps : List ℕ) : Type 0 where
+  pub depths_long : length depths ≡ length records
   pub parents_long : length parents ≡ length records
   pub jumps_long : length jumps ≡ length records
-  pub distance : (x : ℕ) → x < length records → kept_at distances x ≡ dist (graph_of records) (name records root) (name records x)
+  pub depth : (x : ℕ) → x < length records → kept_at depths x ≡ tree_depth (graph_of records) (name records root) (name records x)
   pub parent_within : (x : ℕ) → x < length records → at parents x < length records
   pub parent_is : (x : ℕ) → x < length records → parent (graph_of records) (name records root) (name records x) ≡ parent_name records x (at parents x)
   pub jump_within : (x : ℕ) → x < length records → at jumps x < length records
@@ -32,7 +32,7 @@ pub record AreWays (records : List RecordState) (root : ℕ) (distances : List (
 
 -- what is kept of router x in the tree of a root
 pub record IsHop (records : List RecordState) (root : ℕ) (lists : List (List (List ℕ))) (x : ℕ) (hop : Hop) : Type 0 where
-  pub depth : depth_of hop.depth ≡ dist (graph_of records) (name records root) (name records x)
+  pub depth : depth_of hop.depth ≡ tree_depth (graph_of records) (name records root) (name records x)
   pub parent_within : hop.parent < length records
   pub parent_is : parent (graph_of records) (name records root) (name records x) ≡ parent_name records x hop.parent
   pub jump_within : hop.jump < length records

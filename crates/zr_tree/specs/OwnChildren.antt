@@ -4,13 +4,14 @@ use Rattle.std.specs.List.{list_any}
 use Rattle.zr_id.specs.Record.{RecordState}
 use Rattle.zr_graph.specs.Base.{BaseState}
 use Rattle.zr_graph.specs.Record.{ids, IsAscending}
+use Rattle.zr_tree_parents.specs.declared.row.Neighbour.{Neighbour}
 use Rattle.zr_tree.specs.Index.{name}
 use Rattle.zr_tree.specs.Searches.{is_nearer}
 use Rattle.zr_tree.specs.Tree.{is_child}
 use Rattle.zr_tree.specs.Walk.{graph_of}
 
--- router `me` is one nearer to a root than the child, and none of these others is
-abbrev pub is_first : List (Option (List (Option ℕ))) → ℕ → List ℕ → ℕ → ℕ → Bool
+-- router `me` is nearer to a root than the child by the edge to it, and none of these others is by its own
+abbrev pub is_first : List (Option (List (Option ℕ))) → Neighbour → List Neighbour → ℕ → ℕ → Bool
 is_first searches me others child root = is_nearer searches me child root && not (list_any (λ z. is_nearer searches z child root) others)
 
 -- by the index of the root, whether a router is the parent of another one in its tree

@@ -1,5 +1,6 @@
 -- The distances from each router that was searched from, by its index.
 use Rattle.std.specs.Prelude.{◌≡◌, ℕ, true, Bool, List, Option, Some, None, All, is_some, length, option_and_then, slice_index_or}
+use Rattle.zr_tree_parents.specs.declared.row.Neighbour.{Neighbour}
 use Rattle.zr_tree_parents.specs.Distance.{kept_at, is_sum}
 use Rattle.zr_tree.specs.Index.{EdgeTable}
 use Rattle.zr_tree.specs.Search.{AreDistances}
@@ -16,9 +17,9 @@ is_searched searches start = is_some (found_from searches start)
 abbrev pub distance_kept : List (Option (List (Option ℕ))) → ℕ → ℕ → Option ℕ
 distance_kept searches start router = option_and_then (λ distances. kept_at distances router) (found_from searches start)
 
--- the first of two routers is one nearer to a root than the second, by the distances from both
-abbrev pub is_nearer : List (Option (List (Option ℕ))) → ℕ → ℕ → ℕ → Bool
-is_nearer searches near far root = is_sum (distance_kept searches near root) 1 (distance_kept searches far root)
+-- a neighbour of a router is nearer to a root by the edge to it, by the distances from both
+abbrev pub is_nearer : List (Option (List (Option ℕ))) → Neighbour → ℕ → ℕ → Bool
+is_nearer searches near far root = is_sum (distance_kept searches near.index root) near.weight (distance_kept searches far root)
 
 -- what was found are the distances
 pub record AreSearches (e : EdgeTable) (searches : List (Option (List (Option ℕ)))) : Type 0 where

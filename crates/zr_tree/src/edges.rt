@@ -1,20 +1,21 @@
-//! The edges of a base by index: what the search for shortest walks reads.
+//! The edges of a base by index, and what they weigh: what the search for shortest walks reads.
 
-ghost use Rattle.std.specs.Prelude.{◌≡◌, ◌<◌, ◌++◌, ◌∷◌, [], false, Some, IfOk, OnOk, MatchOption, length, map, All, slice_index_or};
+ghost use Rattle.std.specs.Prelude.{◌≡◌, ◌<◌, ◌^◌, ◌++◌, ◌∷◌, [], false, Some, IfOk, OnOk, MatchOption, length, map, All, slice_index_or};
 ghost use Rattle.std.specs.Option.{option_map_or};
+ghost use Rattle.zr_id.specs.Record.{linked_ids};
 ghost use Rattle.zr_graph.specs.Record.{has, ids, lists, record_of, IsAscending};
-ghost use Rattle.zr_tree.specs.Walk.{graph_of, near};
-ghost use Rattle.zr_tree.specs.Index.{name, AreEdges, EdgeTable, LinksBack};
+ghost use Rattle.zr_tree.specs.Walk.{graph_of, near, edge_length};
+ghost use Rattle.zr_tree.specs.Index.{name, AreEdges, EdgeTable, IsGiven, LinksBack};
 
 use std::alloc::{AllocError, Global};
 use std::marker::Model;
 use std::snapshot::Snapshot;
 use zr_graph::base::Base;
-use zr_id::record::LinkRecord;
+use zr_id::record::{LinkRecord, Linked};
 use zr_id::zid::Zid;
-use zr_tree_parents::row::Row;
+use zr_tree_parents::row::{Neighbour, Row};
 
-/// The neighbours of each router of a base, by the routers' indexes in ascending order.
+/// The neighbours of each router of a base, by the routers' indexes in ascending order, with the weights of the edges.
 #[derive(Drop)]
 pub struct Edges {
     base: Snapshot<Base>,
@@ -69,7 +70,7 @@ fn rows_of(alloc: Global, names: &[Zid], records: &[LinkRecord]) -> Result<Vec<R
     Ok(rows)
 }
 
-// The indexes of the records that have an edge with this one.
+// The edges of the router of a record, by the indexes of its neighbours.
 fn row_of(
     alloc: Global,
     names: &[Zid],
@@ -79,36 +80,41 @@ fn row_of(
     requires names { names.now ≡ ids records.now }
     requires ascending { IsAscending (ids records.now) }
     requires among { record_of records.now from.now.id ≡ Some from.now }
-    ensures neighbours { IfOk result (λ r. map (name records.now) r ≡ near (graph_of records.now) from.now.id) }
-    ensures within { IfOk result (λ r. All (λ j. j < length records.now) r) }
+    ensures neighbours { IfOk result (λ r. map (λ n. name records.now n.index) r ≡ near (graph_of records.now) from.now.id) }
+    ensures within { IfOk result (λ r. All (λ n. n.index < length records.now) r) }
+    ensures lengths { IfOk result (λ r. All (λ n. n.weight ≡ edge_length (graph_of records.now) (name records.now n.index) from.now.id) r) }
+    ensures weights { IfOk result (λ r. All (λ n. n.weight < 2 ^ 16) r) }
 {
     let links = from.links();
-    let mut indexes = Vec::new(alloc);
-    for to in links {
-        extend(&mut indexes, linked_back(names, records, from.id(), to))?;
+    let mut neighbours = Vec::new(alloc);
+    for link in links {
+        extend(
+            &mut neighbours,
+            linked_back(names, records, from.id(), link),
+        )?;
     }
-    Ok(Row::of(indexes))
+    Ok(Row::of(neighbours))
 }
 
-// The index of a router's record, if it lists the other one.
-fn linked_back(names: &[Zid], records: &[LinkRecord], from: Zid, to: &Zid) -> Option<usize>
+// The edge by a link, if the record of the other router links back.
+fn linked_back(names: &[Zid], records: &[LinkRecord], from: Zid, link: &Linked) -> Option<Neighbour>
     requires names { names.now ≡ ids records.now }
     requires ascending { IsAscending (ids records.now) }
-    ensures { MatchOption result (lists records.now to.now from ≡ false) (λ i. LinksBack records.now from to.now i) }
+    ensures { MatchOption result (lists records.now link.now.id from ≡ false) (λ n. LinksBack records.now from link.now n) }
 {
-    let index = index_in(names, to)?;
-    if has_link(&records[index], &from) {
-        Some(index)
-    } else {
-        None
-    }
+    let index = index_in(names, &link.id)?;
+    let given = weight_to(&records[index], &from)?;
+    Some(Neighbour {
+        index,
+        weight: link.weight.max(given),
+    })
 }
 
-fn extend(indexes: &mut Vec<usize>, more: Option<usize>) -> Result<(), AllocError>
-    ensures { OnOk result (indexes.new.items ≡ option_map_or (λ i. indexes.old.items ++ i ∷ []) more indexes.old.items) }
+fn extend(neighbours: &mut Vec<Neighbour>, more: Option<Neighbour>) -> Result<(), AllocError>
+    ensures { OnOk result (neighbours.new.items ≡ option_map_or (λ n. neighbours.old.items ++ n ∷ []) more neighbours.old.items) }
 {
     match more {
-        Some(index) => Ok(indexes.push(index)?),
+        Some(neighbour) => Ok(neighbours.push(neighbour)?),
         None => Ok(()),
     }
 }
@@ -121,9 +127,14 @@ pub fn index_in(names: &[Zid], id: &Zid) -> Option<usize>
     names.binary_search(id).ok()
 }
 
-/// Whether a record lists a router.
-pub fn has_link(r: &LinkRecord, to: &Zid) -> bool
-    ensures { result ≡ has r.now.links to.now }
+// What the link of a record to a router weighs, if it has one.
+fn weight_to(r: &LinkRecord, to: &Zid) -> Option<u16>
+    ensures { MatchOption result (has (linked_ids r.now.links) to.now ≡ false) (λ w. IsGiven r.now.links to.now w) }
 {
-    r.links().contains(to)
+    for link in r.links() {
+        if link.id == *to {
+            return Some(link.weight);
+        }
+    }
+    None
 }

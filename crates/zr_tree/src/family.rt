@@ -88,7 +88,7 @@ impl Family {
         }
     }
 
-    /// Whether a base is of the same router, and has the same routers and the same edges. Then its children are these.
+    /// Whether a base is of the same router, and has the same routers and the same edges, of the same weights. Then its children are these.
     pub fn have_edges_of(&self, base: &Base) -> bool
         ensures me { result ≡ true → self.now.me ≡ base.now.me }
         ensures edges { result ≡ true → HaveSameEdges self.now.records base.now.records }
@@ -99,7 +99,7 @@ impl Family {
         are_same_edges(&self.records, base.records())
     }
 
-    /// The children become those of a base of this router that has the same routers and the same edges.
+    /// The children become those of a base of this router that has the same routers and the same edges, of the same weights.
     pub fn follow(&mut self, alloc: Global, base: &Base) -> Result<(), AllocError>
         requires me { self.old.me ≡ base.now.me }
         requires edges { HaveSameEdges self.old.records base.now.records }

@@ -11,6 +11,7 @@ use crate::edges::Edges;
 use crate::searches::Searches;
 use std::alloc::{AllocError, Global};
 use std::marker::Model;
+use zr_tree_parents::row::Neighbour;
 
 /// Whether one router is the parent of another one, by the index of the tree's root. No flags stand for `false` in all trees.
 #[derive(Drop)]
@@ -52,7 +53,7 @@ pub fn all_flags(alloc: Global, edges: &Edges, me: usize) -> Result<Vec<Flags>, 
     Ok(all)
 }
 
-// The flags of router `me` and one other. A router's parent is the first of its neighbours that is one nearer to the root.
+// The flags of router `me` and one other. A router's parent is the first of its neighbours that is nearer to the root by the edge to it.
 fn flags_of(
     alloc: Global,
     edges: &Edges,
@@ -66,39 +67,42 @@ fn flags_of(
     ensures flags { IfOk result (λ f. AreFlags edges.now.records (name edges.now.records me) child f) }
     ensures searches { OnOk result (AreSearches edges.now searches.new) }
 {
-    let neighbours = edges.rows()[child].indexes();
+    let neighbours = edges.rows()[child].neighbours();
     match place_of(neighbours, me) {
-        Some(place) => passed(alloc, edges, searches, me, &neighbours[..place], child),
+        Some(place) => {
+            let mine = neighbours[place];
+            passed(alloc, edges, searches, mine, &neighbours[..place], child)
+        },
         None => Ok(Flags {
             flags: Vec::new(alloc),
         }),
     }
 }
 
-fn place_of(indexes: &[usize], index: usize) -> Option<usize>
-    ensures { result ≡ position (λ z. z == index) indexes.now }
+fn place_of(neighbours: &[Neighbour], index: usize) -> Option<usize>
+    ensures { result ≡ position (λ n. n.index == index) neighbours.now }
 {
-    indexes.iter().position(|z| *z == index)
+    neighbours.iter().position(|n| n.index == index)
 }
 
-// For each root, whether router `me` is one nearer to it than the child, and none of these others is.
+// For each root, whether router `me` is nearer to it than the child by the edge to it, and none of these others is by its own.
 fn passed(
     alloc: Global,
     edges: &Edges,
     searches: &mut Searches,
-    me: usize,
-    others: &[usize],
+    me: Neighbour,
+    others: &[Neighbour],
     child: usize,
 ) -> Result<Flags, AllocError>
-    requires me { me < length edges.now.records }
-    requires others { All (λ z. z < length edges.now.records) others.now }
+    requires me { me.index < length edges.now.records }
+    requires others { All (λ n. n.index < length edges.now.records) others.now }
     requires child { child < length edges.now.records }
     requires searches { AreSearches edges.now searches.old }
     ensures flags { IfOk result (λ f. f ≡ map (is_first searches.new me others.now child) (range_with_len 0 (length edges.now.records))) }
-    ensures searched { OnOk result (Searched edges.now searches.old searches.new ((others.now ++ me ∷ []) ++ child ∷ [])) }
+    ensures searched { OnOk result (Searched edges.now searches.old searches.new ((map (λ n. n.index) others.now ++ me.index ∷ []) ++ child ∷ [])) }
 {
     searches.search_all(alloc, edges, others)?;
-    searches.search(alloc, edges, me)?;
+    searches.search(alloc, edges, me.index)?;
     searches.search(alloc, edges, child)?;
     let flags = first_flags(alloc, searches, me, others, child, edges.rows().len())?;
     Ok(Flags { flags })
@@ -108,8 +112,8 @@ fn passed(
 fn first_flags(
     alloc: Global,
     searches: &Searches,
-    me: usize,
-    others: &[usize],
+    me: Neighbour,
+    others: &[Neighbour],
     child: usize,
     count: usize,
 ) -> Result<Vec<bool>, AllocError>
@@ -122,14 +126,20 @@ fn first_flags(
     Ok(flags)
 }
 
-fn is_first(searches: &Searches, me: usize, others: &[usize], child: usize, root: usize) -> bool
+fn is_first(
+    searches: &Searches,
+    me: Neighbour,
+    others: &[Neighbour],
+    child: usize,
+    root: usize,
+) -> bool
     ensures { result ≡ is_first searches.now me others.now child root }
 {
     searches.is_nearer(me, child, root) && !is_any_nearer(searches, others, child, root)
 }
 
-fn is_any_nearer(searches: &Searches, others: &[usize], child: usize, root: usize) -> bool
-    ensures { result ≡ list_any (λ z. is_nearer searches.now z child root) others.now }
+fn is_any_nearer(searches: &Searches, others: &[Neighbour], child: usize, root: usize) -> bool
+    ensures { result ≡ list_any (λ n. is_nearer searches.now n child root) others.now }
 {
-    others.iter().any(|z| searches.is_nearer(*z, child, root))
+    others.iter().any(|n| searches.is_nearer(*n, child, root))
 }

@@ -1,20 +1,21 @@
 //! How far each router is from those that were searched from. No router is searched from twice.
 
-ghost use Rattle.std.specs.Prelude.{◌≡◌, ◌<◌, ◌++◌, ◌∷◌, [], true, None, IfOk, OnOk, length, All, replicate};
+ghost use Rattle.std.specs.Prelude.{◌≡◌, ◌<◌, ◌++◌, ◌∷◌, [], true, None, IfOk, OnOk, length, map, All, replicate};
 ghost use Rattle.zr_tree_parents.specs.Distance.{kept_at};
 ghost use Rattle.zr_tree.specs.Search.{AreDistances};
 ghost use Rattle.zr_tree.specs.Searches.{distance_kept, is_nearer, AreSearches, Searched};
 
 use crate::edges::Edges;
-use crate::search::search_from;
+use crate::search::reach_from;
 use std::alloc::{AllocError, Global};
 use std::marker::Model;
-use zr_tree_parents::parents::is_next;
+use zr_tree_parents::parents::is_sum;
+use zr_tree_parents::row::Neighbour;
 
 // How far each router is from one, by index.
 #[derive(Drop)]
 struct Distances {
-    distances: Vec<Option<u32>>,
+    distances: Vec<Option<u64>>,
 }
 
 impl Model for Distances {
@@ -45,13 +46,13 @@ impl Distances {
         requires { start < length edges.now.records }
         ensures { IfOk result (λ d. AreDistances edges.now start d) }
     {
-        let reach = search_from(alloc, edges, start)?;
+        let reach = reach_from(alloc, edges, start)?;
         Ok(Distances {
             distances: reach.distances,
         })
     }
 
-    fn to(&self, router: usize) -> Option<u32>
+    fn to(&self, router: usize) -> Option<u64>
         ensures { result ≡ kept_at self.now router }
     {
         match self.distances.get(router) {
@@ -90,27 +91,31 @@ impl Searches {
         &mut self,
         alloc: Global,
         edges: &Edges,
-        starts: &[usize],
+        starts: &[Neighbour],
     ) -> Result<(), AllocError>
-        requires starts { All (λ z. z < length edges.now.records) starts.now }
+        requires starts { All (λ n. n.index < length edges.now.records) starts.now }
         requires searches { AreSearches edges.now self.old }
-        ensures { OnOk result (Searched edges.now self.old self.new starts.now) }
+        ensures { OnOk result (Searched edges.now self.old self.new (map (λ n. n.index) starts.now)) }
     {
         for start in starts {
-            self.search(alloc, edges, *start)?;
+            self.search(alloc, edges, start.index)?;
         }
         Ok(())
     }
 
-    /// Whether the first of two routers is one nearer to a root than the second, by the distances from both.
-    pub fn is_nearer(&self, near: usize, far: usize, root: usize) -> bool
+    /// Whether a neighbour of a router is nearer to a root by the edge to it, by the distances from both.
+    pub fn is_nearer(&self, near: Neighbour, far: usize, root: usize) -> bool
         ensures { result ≡ is_nearer self.now near far root }
     {
-        is_next(self.distance(near, root), self.distance(far, root))
+        is_sum(
+            self.distance(near.index, root),
+            near.weight,
+            self.distance(far, root),
+        )
     }
 
     // How far a router is from one that was searched from.
-    fn distance(&self, start: usize, router: usize) -> Option<u32>
+    fn distance(&self, start: usize, router: usize) -> Option<u64>
         ensures { result ≡ distance_kept self.now start router }
     {
         match self.found.get(start) {

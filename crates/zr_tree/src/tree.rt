@@ -8,14 +8,16 @@ ghost use Rattle.zr_tree_parents.specs.Lists.{OnlyAdds};
 ghost use Rattle.zr_tree.specs.Hop.{AreWays};
 
 use crate::edges::Edges;
-use crate::search::{Reach, search_from};
+use crate::search::reach_from;
 use std::alloc::{AllocError, Global};
 use std::marker::Model;
 use zr_id::zid::Zid;
 use zr_tree_parents::children::children_number;
+use zr_tree_parents::depths::depths_of;
 use zr_tree_parents::jumps::jumps_of;
 use zr_tree_parents::lists::Lists;
 use zr_tree_parents::parents::parents_of;
+use zr_tree_parents::search::Reach;
 
 /// The depth of a router that its root doesn't reach.
 pub const UNREACHED: u32 = u32::MAX;
@@ -23,7 +25,7 @@ pub const UNREACHED: u32 = u32::MAX;
 /// Where a router stands in the tree of a root.
 #[derive(Clone, Copy)]
 pub struct Hop {
-    /// How far it is from the root, or [`UNREACHED`].
+    /// How many edges of the tree lead to it from the root, or [`UNREACHED`].
     pub depth: u32,
     /// The index of its parent, or its own where it has none.
     pub parent: u32,
@@ -36,7 +38,7 @@ pub struct Hop {
 // By index, what is known of the tree of a root.
 #[derive(Drop)]
 struct Ways {
-    distances: Vec<Option<u32>>,
+    depths: Vec<Option<u32>>,
     parents: Vec<usize>,
     jumps: Vec<usize>,
 }
@@ -78,7 +80,7 @@ impl Tree {
         let ways = ways_of(alloc, edges, root)?;
         let mut hops = Vec::with_capacity(alloc, rows.len())?;
         for x in 0..rows.len() {
-            let neighbours = rows[x].indexes();
+            let neighbours = rows[x].neighbours();
             let number = children_number(alloc, names, neighbours, &ways.parents, x, lists)?;
             hops.push(hop_of(&ways, x, number))?;
         }
@@ -96,32 +98,33 @@ impl Tree {
 // The ways in the tree of a root.
 fn ways_of(alloc: Global, edges: &Edges, root: usize) -> Result<Ways, AllocError>
     requires { root < length edges.now.records }
-    ensures { IfOk result (λ w. AreWays edges.now.records root w.distances.items w.parents.items w.jumps.items) }
+    ensures { IfOk result (λ w. AreWays edges.now.records root w.depths.items w.parents.items w.jumps.items) }
 {
     let rows = edges.rows();
-    let Reach { distances, order } = search_from(alloc, edges, root)?;
+    let Reach { distances, order } = reach_from(alloc, edges, root)?;
     let parents = parents_of(alloc, rows, &distances)?;
-    let jumps = jumps_of(alloc, &distances, &order, &parents)?;
+    let depths = depths_of(alloc, &order, &parents)?;
+    let jumps = jumps_of(alloc, &depths, &order, &parents)?;
     Ok(Ways {
-        distances,
+        depths,
         parents,
         jumps,
     })
 }
 
 fn hop_of(ways: &Ways, x: usize, children: u32) -> Hop
-    requires distances { x < length ways.now.distances.items }
+    requires depths { x < length ways.now.depths.items }
     requires parents { x < length ways.now.parents.items }
     requires jumps { x < length ways.now.jumps.items }
     requires parent { at ways.now.parents.items x < 2 ^ 32 }
     requires jump { at ways.now.jumps.items x < 2 ^ 32 }
-    ensures depth { result.depth ≡ unwrap_or (kept_at ways.now.distances.items x) UNREACHED }
+    ensures depth { result.depth ≡ unwrap_or (kept_at ways.now.depths.items x) UNREACHED }
     ensures parent { result.parent ≡ at ways.now.parents.items x }
     ensures jump { result.jump ≡ at ways.now.jumps.items x }
     ensures children { result.children ≡ children }
 {
     Hop {
-        depth: ways.distances[x].unwrap_or(UNREACHED),
+        depth: ways.depths[x].unwrap_or(UNREACHED),
         parent: ways.parents[x] as u32,
         jump: ways.jumps[x] as u32,
         children,

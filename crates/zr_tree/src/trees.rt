@@ -5,7 +5,7 @@ ghost use Rattle.std.specs.Option.{option_map};
 ghost use Rattle.zr_graph.specs.Record.{has, ids, IsAscending};
 ghost use Rattle.zr_tree.specs.Index.{name};
 ghost use Rattle.zr_tree.specs.Same.{HaveSameEdges};
-ghost use Rattle.zr_tree.specs.Tree.{dist, parent, children, below, toward, reached};
+ghost use Rattle.zr_tree.specs.Tree.{tree_depth, parent, children, below, toward, reached};
 ghost use Rattle.zr_tree.specs.Walk.{graph_of};
 
 use crate::edges::{Edges, index_in};
@@ -76,14 +76,14 @@ impl Trees {
         })
     }
 
-    /// Whether a base has the same routers and the same edges. Then its trees are these.
+    /// Whether a base has the same routers and the same edges, of the same weights. Then its trees are these.
     pub fn have_edges_of(&self, base: &Base) -> bool
         ensures { result ≡ true → HaveSameEdges self.now base.now.records }
     {
         are_same_edges(&self.records, base.records())
     }
 
-    /// The trees become those of a base that has the same routers and the same edges.
+    /// The trees become those of a base that has the same routers and the same edges, of the same weights.
     pub fn follow(&mut self, alloc: Global, base: &Base) -> Result<(), AllocError>
         requires { HaveSameEdges self.old base.now.records }
         ensures ok { OnOk result (self.new ≡ base.now.records) }
@@ -194,10 +194,10 @@ impl Trees {
     fn ancestor(&self, root: usize, dest: usize, depth: u32) -> usize
         requires root { root < length self.now }
         requires dest { dest < length self.now }
-        requires reached { IsSome (dist (graph_of self.now) (name self.now root) (name self.now dest)) }
-        requires depth { IfSome (dist (graph_of self.now) (name self.now root) (name self.now dest)) (λ far. depth ≤ far) }
+        requires reached { IsSome (tree_depth (graph_of self.now) (name self.now root) (name self.now dest)) }
+        requires depth { IfSome (tree_depth (graph_of self.now) (name self.now root) (name self.now dest)) (λ far. depth ≤ far) }
         ensures within { result < length self.now }
-        ensures depth { dist (graph_of self.now) (name self.now root) (name self.now result) ≡ Some depth }
+        ensures depth { tree_depth (graph_of self.now) (name self.now root) (name self.now result) ≡ Some depth }
         ensures above { below (graph_of self.now) (name self.now root) (name self.now result) (name self.now dest) ≡ true }
     {
         let mut x = dest;

@@ -1,2 +1,6 @@
+mod Deeper
 mod FirstChildren
+mod Nearer
+mod Offered
+mod Settling
 mod Upward

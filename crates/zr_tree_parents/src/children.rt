@@ -5,6 +5,7 @@ ghost use Rattle.zr_tree_parents.specs.Children.{is_child_index, children_by};
 ghost use Rattle.zr_tree_parents.specs.Lists.{OnlyAdds};
 
 use crate::lists::Lists;
+use crate::row::Neighbour;
 use std::alloc::{AllocError, Global};
 use zr_id::zid::Zid;
 
@@ -13,14 +14,14 @@ use zr_id::zid::Zid;
 pub fn children_number(
     alloc: Global,
     names: &[Zid],
-    neighbours: &[usize],
+    neighbours: &[Neighbour],
     parents: &[usize],
     x: usize,
     lists: &mut Lists,
 ) -> Result<u32, AllocError>
     requires router { x < lists.old.routers }
     requires long { length parents.now ≡ length names.now }
-    requires within { All (λ y. y < length names.now) neighbours.now }
+    requires within { All (λ n. n.index < length names.now) neighbours.now }
     ensures found { IfOk result (λ number. slice_get lists.new.lists number ≡ Some (children_by names.now parents.now x neighbours.now)) }
     ensures kept { OnlyAdds lists.old.lists lists.new.lists }
     ensures routers { lists.new.routers ≡ lists.old.routers }
@@ -36,19 +37,19 @@ pub fn children_number(
 // Whether a list is that of router x's children.
 fn are_children(
     names: &[Zid],
-    neighbours: &[usize],
+    neighbours: &[Neighbour],
     parents: &[usize],
     x: usize,
     list: &[Zid],
 ) -> bool
     requires long { length parents.now ≡ length names.now }
-    requires within { All (λ y. y < length names.now) neighbours.now }
+    requires within { All (λ n. n.index < length names.now) neighbours.now }
     ensures { result ≡ true → list.now ≡ children_by names.now parents.now x neighbours.now }
 {
     let mut count = 0;
-    for y in neighbours {
-        if is_child(parents, *y, x) {
-            if !stands_at(list, count, names, *y) {
+    for n in neighbours {
+        if is_child(parents, n.index, x) {
+            if !stands_at(list, count, names, n.index) {
                 return false;
             }
             count += 1;
@@ -72,18 +73,18 @@ fn stands_at(list: &[Zid], at: usize, names: &[Zid], y: usize) -> bool
 fn children_of(
     alloc: Global,
     names: &[Zid],
-    neighbours: &[usize],
+    neighbours: &[Neighbour],
     parents: &[usize],
     x: usize,
 ) -> Result<Vec<Zid>, AllocError>
     requires long { length parents.now ≡ length names.now }
-    requires within { All (λ y. y < length names.now) neighbours.now }
+    requires within { All (λ n. n.index < length names.now) neighbours.now }
     ensures { IfOk result (λ v. v.items ≡ children_by names.now parents.now x neighbours.now) }
 {
     let mut children = Vec::new(alloc);
-    for y in neighbours {
-        if is_child(parents, *y, x) {
-            children.push(names[*y])?;
+    for n in neighbours {
+        if is_child(parents, n.index, x) {
+            children.push(names[n.index])?;
         }
     }
     Ok(children)

@@ -9,32 +9,32 @@ use std::alloc::{AllocError, Global};
 /// a way of n steps takes about twice the logarithm of n. The order has the nearer routers first.
 pub fn jumps_of(
     alloc: Global,
-    distances: &[Option<u32>],
+    depths: &[Option<u32>],
     order: &[usize],
     parents: &[usize],
 ) -> Result<Vec<usize>, AllocError>
-    requires long { length distances.now ≡ length parents.now }
+    requires long { length depths.now ≡ length parents.now }
     requires order { All (λ x. x < length parents.now) order.now }
     requires parents { AreIndexes parents.now }
     ensures { IfOk result (λ v. AreJumps parents.now v.items) }
 {
     let mut jumps = parents.to_vec(alloc)?;
     for x in order {
-        jumps[*x] = jump_over(distances, &jumps, parents[*x]);
+        jumps[*x] = jump_over(depths, &jumps, parents[*x]);
     }
     Ok(jumps)
 }
 
 // The jump of a router by those of its parent: over both, where they are of one length.
-fn jump_over(distances: &[Option<u32>], jumps: &[usize], parent: usize) -> usize
-    requires long { length distances.now ≡ length jumps.now }
+fn jump_over(depths: &[Option<u32>], jumps: &[usize], parent: usize) -> usize
+    requires long { length depths.now ≡ length jumps.now }
     requires jumps { AreIndexes jumps.now }
     requires parent { parent < length jumps.now }
     ensures { (result ≡ parent) ⊎ (result ≡ at jumps.now (at jumps.now parent)) }
 {
     let near = jumps[parent];
     let far = jumps[near];
-    match (distances[parent], distances[near], distances[far]) {
+    match (depths[parent], depths[near], depths[far]) {
         (Some(a), Some(b), Some(c)) if a.abs_diff(b) == b.abs_diff(c) => far,
         _ => parent,
     }

@@ -1,34 +1,42 @@
-//! Lists of indexes.
+//! Rows of edges.
 
 ghost use Rattle.std.specs.Prelude.{◌≡◌};
 
 use std::marker::Model;
 
-/// A list of indexes.
+/// An edge to a neighbour: its index, and what the edge weighs.
+#[derive(Clone, Copy)]
+pub struct Neighbour {
+    pub index: usize,
+    pub weight: u16,
+}
+
+/// The edges of one router.
 #[derive(Drop)]
 pub struct Row {
-    indexes: Vec<usize>,
+    neighbours: Vec<Neighbour>,
 }
 
 impl Model for Row {
-    ghost use Rattle.std.specs.Prelude.{List, ℕ};
+    ghost use Rattle.std.specs.Prelude.{List};
+    ghost use Rattle.zr_tree_parents.specs.declared.row.Neighbour.{Neighbour};
 
-    ghost Value = { List ℕ };
+    ghost Value = { List Neighbour };
 
-    ghost view = { λ r. r.indexes.items };
+    ghost view = { λ r. r.neighbours.items };
 }
 
 impl Row {
-    /// A list of these indexes.
-    pub fn of(indexes: Vec<usize>) -> Row
-        ensures { result ≡ indexes.items }
+    /// A row of these edges.
+    pub fn of(neighbours: Vec<Neighbour>) -> Row
+        ensures { result ≡ neighbours.items }
     {
-        Row { indexes }
+        Row { neighbours }
     }
 
-    pub fn indexes(&self) -> &[usize]
+    pub fn neighbours(&self) -> &[Neighbour]
         ensures { result.now ≡ self.now }
     {
-        self.indexes.as_slice()
+        self.neighbours.as_slice()
     }
 }

@@ -8,7 +8,7 @@ use Rattle.zr_id.specs.Zid.{is_named}
 use Rattle.zr_id.specs.declared.link.LinkNo.{LinkNo}
 use Rattle.zr_msg.specs.declared.event.Event.{Event}
 use Rattle.zr_msg.specs.declared.event.Event.TheVariants.{Up, Down, From}
-use Rattle.zr_msg.specs.declared.peer.Peer.{Peer}
+use Rattle.zr_msg.specs.Peer.{PeerState}
 use Rattle.zr_node_spec.specs.Event.{IsFresh, MayCome}
 use Rattle.zr_node_spec.specs.Tables.{link_at, link_to, free_link}
 use Rattle.zr_node_spec.specs.State.{NodeState, new_link}
@@ -36,7 +36,7 @@ module _ (w : WorldState) (sound : IsSound w) (x : List ℕ) (r : RouterState) (
   no_link y down = not_there (link_to r.node.links y) (sound.links x y r found ∙ down)
 
   -- a link to a neighbour may come up where the end is down
-  pub fresh : (peer : Peer) → is_up w.ends (x, peer.id) ≡ false → is_named x peer.id ≡ false → IsFresh r.node (record { 0 = free_link r.node.links }) peer
+  pub fresh : (peer : PeerState) → is_up w.ends (x, peer.id) ≡ false → is_named x peer.id ≡ false → IsFresh r.node (record { 0 = free_link r.node.links }) peer
   fresh peer down apart = record {
     number = free_is_free r.node.links;
     name = no_link peer.id down;
@@ -56,7 +56,7 @@ module _ (w : WorldState) (sound : IsSound w) (x : List ℕ) (r : RouterState) (
   down_there y e = sym (sound.links x y r found) ∙ ap is_some e
 
   -- a new client has no end, and is not the router
-  pub fresh_client : (peer : Peer) → is_taken w peer.id ≡ false → IsFresh r.node (record { 0 = free_link r.node.links }) peer
+  pub fresh_client : (peer : PeerState) → is_taken w peer.id ≡ false → IsFresh r.node (record { 0 = free_link r.node.links }) peer
   fresh_client peer new = fresh peer (down (end_of w.ends (x, peer.id)) refl) (apart (is_named x peer.id) refl)
     where
       down : (o : Option EndState) → end_of w.ends (x, peer.id) ≡ o → option_map_or (λ s. s.up) o false ≡ false

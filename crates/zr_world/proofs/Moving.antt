@@ -273,7 +273,7 @@ take_refused w w' router to error told es' before t h same = by (router_of w.rou
 
 -- a client that comes
 pub client_by : (w : WorldState) (line : ℕ) (id router : List ℕ) (r : RouterState) → router_of w.routers router ≡ Some r → is_taken w id ≡ false → nat_le most_clients (length w.clients) ≡ false →
-    (o : Result WorldState ScriptError) → hears (with_ends w (put_end w.ends (router, id) (lifted new_end))) router r (up_event r (record { id = id; role = role.Client })) line ≡ o →
+    (o : Result WorldState ScriptError) → hears (with_ends w (put_end w.ends (router, id) (lifted (new_end 1)))) router r (up_event r (record { id = id; role = role.Client; weight = 1 })) line ≡ o →
     client_step w line id router ≡ o >>= (λ x. Ok ([], with_clients x (insert_entry (slice_cmp nat_cmp) x.clients id (new_client router))))
 unfolding client_step
 client_by w line id router r er et few o h =
@@ -282,14 +282,14 @@ client_by w line id router r er et few o h =
 -- an end that comes up
 pub up_by : (w : WorldState) (line : ℕ) (router name : List ℕ) (r : RouterState) (s : EndState) → router_of w.routers router ≡ Some r → is_taken w name ≡ true →
     end_of w.ends (router, name) ≡ Some s → s.unbroken ≡ true → s.up ≡ false → (o : Result WorldState ScriptError) →
-    hears (with_ends w (with_end w.ends (router, name) (lifted s))) router r (up_event r (peer_of w name)) line ≡ o → up_step w line router name ≡ o >>= (λ x. Ok ([], x))
+    hears (with_ends w (with_end w.ends (router, name) (lifted s))) router r (up_event r (peer_of w name s.weight)) line ≡ o → up_step w line router name ≡ o >>= (λ x. Ok ([], x))
 unfolding up_step
 up_by w line router name r s er et es unbroken up o h =
     rw (er, et, es) (ap (λ b. unless (not b) e.NotLinked >>= (λ x. unless s.up e.AlreadyLinked >>= (λ y. more))) unbroken
     ∙ ap (λ b. unless b e.AlreadyLinked >>= (λ y. more)) up ∙ ap (λ (o : Result WorldState ScriptError). o >>= (λ x. Ok ([], x))) h)
   where
     more : Outcome
-    more = hears (with_ends w (with_end w.ends (router, name) (lifted s))) router r (up_event r (peer_of w name)) line >>= (λ x. Ok ([], x))
+    more = hears (with_ends w (with_end w.ends (router, name) (lifted s))) router r (up_event r (peer_of w name s.weight)) line >>= (λ x. Ok ([], x))
 
 -- an end that goes down
 pub down_is : (w v : WorldState) (line : ℕ) (router name : List ℕ) (r : RouterState) (s : EndState) (l : LinkPeer) → router_of w.routers router ≡ Some r → is_taken w name ≡ true →

@@ -53,11 +53,11 @@ unfolding client_step
 client_taken w line id router r er et = rw (er, et) refl
 
 pub client_refused : (w w' : WorldState) (line : ℕ) (id router : List ℕ) (r r' : RouterState) (out : List (LinkNo × Msg)) (error : ScriptError) → router_of w.routers router ≡ Some r →
-    is_taken w id ≡ false → nat_le most_clients (length w.clients) ≡ false → IsHeard (Err error) r r' (up_event r (record { id = id; role = role.Client })) out → (r' ≡ r → w' ≡ w) →
+    is_taken w id ≡ false → nat_le most_clients (length w.clients) ≡ false → IsHeard (Err error) r r' (up_event r (record { id = id; role = role.Client; weight = 1 })) out → (r' ≡ r → w' ≡ w) →
     Does (Err error) (client_step w line id router) w w'
 client_refused w w' line id router r r' out e.NoMemory er et few heard same = tt
 client_refused w w' line id router r r' out error er et few heard same =
-    let k = hears_refused (with_ends w (put_end w.ends (router, id) (lifted new_end))) router r r' (up_event r (record { id = id; role = role.Client })) out line error heard (λ (z : error ≡ e.NoMemory). cc) in
+    let k = hears_refused (with_ends w (put_end w.ends (router, id) (lifted (new_end 1)))) router r r' (up_event r (record { id = id; role = role.Client; weight = 1 })) out line error heard (λ (z : error ≡ e.NoMemory). cc) in
     (client_by w line id router r er et few (Err error) k.0, same k.1)
 
 -- ---- `up`
@@ -83,10 +83,10 @@ up_twice w line router name r s er et es unbroken up = rw (er, et, es, unbroken,
 
 pub up_refused : (w w' : WorldState) (line : ℕ) (router name : List ℕ) (r r' : RouterState) (s : EndState) (out : List (LinkNo × Msg)) (error : ScriptError) →
     router_of w.routers router ≡ Some r → is_taken w name ≡ true → end_of w.ends (router, name) ≡ Some s → s.unbroken ≡ true → s.up ≡ false →
-    IsHeard (Err error) r r' (up_event r (peer_of w name)) out → (r' ≡ r → w' ≡ w) → Does (Err error) (up_step w line router name) w w'
+    IsHeard (Err error) r r' (up_event r (peer_of w name s.weight)) out → (r' ≡ r → w' ≡ w) → Does (Err error) (up_step w line router name) w w'
 up_refused w w' line router name r r' s out e.NoMemory er et es unbroken up heard same = tt
 up_refused w w' line router name r r' s out error er et es unbroken up heard same =
-    let k = hears_refused (with_ends w (with_end w.ends (router, name) (lifted s))) router r r' (up_event r (peer_of w name)) out line error heard (λ (z : error ≡ e.NoMemory). cc) in
+    let k = hears_refused (with_ends w (with_end w.ends (router, name) (lifted s))) router r r' (up_event r (peer_of w name s.weight)) out line error heard (λ (z : error ≡ e.NoMemory). cc) in
     (up_by w line router name r s er et es unbroken up (Err error) k.0, same k.1)
 
 -- ---- `handle`

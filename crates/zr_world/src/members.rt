@@ -1,6 +1,7 @@
 //! Routers, clients and links come, come up, break and go down.
 
-ghost use Rattle.std.specs.Prelude.{◌≡◌};
+ghost use Rattle.std.specs.Prelude.{◌≡◌, Some};
+ghost use Rattle.zr_world_spec.specs.World.{EndState, end_of};
 ghost use Rattle.zr_world.specs.Steps.{Does};
 
 use crate::client::Client;
@@ -9,9 +10,10 @@ use crate::settled::is_unbroken;
 use crate::spread::spread;
 use crate::tables::WorldTables;
 use zr_id::zid::Zid;
-use zr_msg::peer::{Peer, Role};
+use zr_msg::peer::{Peer, Role, Weight};
 use zr_script_spec::error::ScriptError;
 use zr_world_ends::end::WorldEnd;
+use zr_world_ends::ends::Ends;
 
 /// How many routers a world has at most, all that ever came.
 const MOST_ROUTERS: usize = 64;
@@ -60,9 +62,13 @@ impl WorldTables {
         if count >= MOST_CLIENTS {
             return Err(ScriptError::Limit);
         }
-        let role = Role::Client;
-        r.hear_up(self.alloc, Peer { id, role }, &mut self.out)?;
-        let mut end = WorldEnd::new(self.alloc);
+        let peer = Peer {
+            id,
+            role: Role::Client,
+            weight: 1,
+        };
+        r.hear_up(self.alloc, peer, &mut self.out)?;
+        let mut end = WorldEnd::new(self.alloc, Weight::one());
         end.lift();
         self.ends.put((router, id), end)?;
         spread(r, router, &mut self.ends, &mut self.out, line)?;
@@ -70,10 +76,10 @@ impl WorldTables {
         Ok(())
     }
 
-    /// A link between two routers, up at neither end.
+    /// A link of this weight between two routers, up at neither end.
     #[tactic(auto, unfolding(zr_world_spec::specs::Acts::link_step))]
-    pub fn link(&mut self, one: Zid, other: Zid) -> Result<(), ScriptError>
-        ensures { Does result (link_step (state_of self.old) one other) (state_of self.old) (state_of self.new) }
+    pub fn link(&mut self, one: Zid, other: Zid, weight: Weight) -> Result<(), ScriptError>
+        ensures { Does result (link_step (state_of self.old) one other weight) (state_of self.old) (state_of self.new) }
     {
         if one == other {
             return Err(ScriptError::BadWords);
@@ -87,8 +93,10 @@ impl WorldTables {
         if self.links_in_place() >= MOST_LINKS {
             return Err(ScriptError::Limit);
         }
-        self.ends.put((one, other), WorldEnd::new(self.alloc))?;
-        self.ends.put((other, one), WorldEnd::new(self.alloc))?;
+        let end = WorldEnd::new(self.alloc, weight);
+        self.ends.put((one, other), end)?;
+        let end = WorldEnd::new(self.alloc, weight);
+        self.ends.put((other, one), end)?;
         Ok(())
     }
 
@@ -99,7 +107,8 @@ impl WorldTables {
         ensures { Does result (up_step (state_of self.old) line router neighbour) (state_of self.old) (state_of self.new) }
     {
         let is_known = self.is_taken(&neighbour);
-        let peer = self.peer_of(neighbour);
+        let weight = weight_at(&self.ends, (router, neighbour));
+        let peer = self.peer_of(neighbour, weight);
         let Some(r) = self.routers.get_mut(&router) else {
             return Err(ScriptError::UnknownName);
         };
@@ -163,5 +172,15 @@ impl WorldTables {
         spread(r, router, &mut self.ends, &mut self.out, line)?;
         self.ends.lower((router, neighbour));
         Ok(())
+    }
+}
+
+// What the link of an end weighs for its router, where the end is there.
+fn weight_at(ends: &Ends, at: (Zid, Zid)) -> Weight
+    ensures { (s : EndState) → end_of ends.now at ≡ Some s → result ≡ s.weight }
+{
+    match ends.get(at) {
+        Some(end) => end.weight(),
+        None => Weight::one(),
     }
 }

@@ -11,7 +11,7 @@ use zr_id::link::LinkNo;
 use zr_id::zid::Zid;
 use zr_msg::decl::Kind;
 use zr_msg::msg::Msg;
-use zr_msg::peer::{Peer, Role};
+use zr_msg::peer::{Peer, Role, Weight};
 use zr_script_spec::command::Act;
 use zr_script_spec::error::ScriptError;
 use zr_script_spec::report::ReportLine;
@@ -67,7 +67,7 @@ impl WorldTables {
         match act {
             Act::Router { id } => self.router(id),
             Act::Client { id, router } => self.client(line, id, router),
-            Act::Link { one, other } => self.link(one, other),
+            Act::Link { one, other, weight } => self.link(one, other, weight),
             Act::Up { router, neighbour } => self.up(line, router, neighbour),
             Act::Break { router, neighbour } => self.break_link(router, neighbour),
             Act::Down { router, neighbour } => self.down(line, router, neighbour),
@@ -147,15 +147,19 @@ impl WorldTables {
         self.routers.contains_key(name)
     }
 
-    /// A neighbour by its name.
-    pub fn peer_of(&self, name: Zid) -> Peer
-        ensures { result ≡ peer_of (state_of self.now) name }
+    /// A neighbour by its name, and what the link to it weighs.
+    pub fn peer_of(&self, name: Zid, weight: Weight) -> Peer
+        ensures { result ≡ peer_of (state_of self.now) name weight }
     {
         let role = if self.is_router(&name) {
             Role::Router
         } else {
             Role::Client
         };
-        Peer { id: name, role }
+        Peer {
+            id: name,
+            role,
+            weight: weight.get(),
+        }
     }
 }

@@ -10,6 +10,7 @@ use std::alloc::{AllocError, Global};
 use std::collections::VecDeque;
 use std::marker::Model;
 use zr_msg::msg::Msg;
+use zr_msg::peer::Weight;
 
 /// A message that waits, with the number of the script line that it comes from.
 #[derive(Drop)]
@@ -33,6 +34,7 @@ pub struct WorldEnd {
     unbroken: bool,
     queue: VecDeque<Tagged>,
     wire: VecDeque<Tagged>,
+    weight: Weight,
 }
 
 impl Model for WorldEnd {
@@ -40,19 +42,20 @@ impl Model for WorldEnd {
 
     ghost Value = { EndState };
 
-    ghost view = { λ e. record { up = e.up; unbroken = e.unbroken; queue = e.queue.items; wire = e.wire.items } };
+    ghost view = { λ e. record { up = e.up; unbroken = e.unbroken; queue = e.queue.items; wire = e.wire.items; weight = e.weight } };
 }
 
 impl WorldEnd {
-    /// The end of a new link: it is down, and nothing waits there.
-    pub fn new(alloc: Global) -> WorldEnd
-        ensures { result ≡ new_end }
+    /// The end of a new link of this weight: it is down, and nothing waits there.
+    pub fn new(alloc: Global, weight: Weight) -> WorldEnd
+        ensures { result ≡ new_end weight }
     {
         WorldEnd {
             up: false,
             unbroken: true,
             queue: VecDeque::new(alloc),
             wire: VecDeque::new(alloc),
+            weight,
         }
     }
 
@@ -68,6 +71,13 @@ impl WorldEnd {
         ensures { result ≡ self.now.unbroken }
     {
         self.unbroken
+    }
+
+    /// What the link weighs for the router.
+    pub fn weight(&self) -> Weight
+        ensures { result ≡ self.now.weight }
+    {
+        self.weight
     }
 
     /// Whether the router can handle a message here.

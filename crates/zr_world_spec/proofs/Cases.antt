@@ -40,14 +40,14 @@ use Rattle.zr_world_spec.proofs.Clients.{SameClients, same_clients, same_with_cl
 -- a client came, and its router has heard that the link to it is up
 abbrev pub w_client : WorldState → ℕ → List ℕ → List ℕ → RouterState → WorldState
 w_client w n id router r =
-    let v : WorldState = heard (with_ends w (put_end w.ends (router, id) (lifted new_end))) router r (up_event r (record { id = id; role = role.Client })) n in
+    let v : WorldState = heard (with_ends w (put_end w.ends (router, id) (lifted (new_end 1)))) router r (up_event r (record { id = id; role = role.Client; weight = 1 })) n in
     with_clients v (insert_entry (slice_cmp nat_cmp) w.clients id (new_client router))
 
-abbrev pub w_link : WorldState → List ℕ → List ℕ → WorldState
-w_link w one other = with_ends w (put_end (put_end w.ends (one, other) new_end) (other, one) new_end)
+abbrev pub w_link : WorldState → List ℕ → List ℕ → ℕ → WorldState
+w_link w one other weight = with_ends w (put_end (put_end w.ends (one, other) (new_end weight)) (other, one) (new_end weight))
 
 abbrev pub w_up : WorldState → ℕ → List ℕ → List ℕ → RouterState → EndState → WorldState
-w_up w n router name r s = heard (with_ends w (with_end w.ends (router, name) (lifted s))) router r (up_event r (peer_of w name)) n
+w_up w n router name r s = heard (with_ends w (with_end w.ends (router, name) (lifted s))) router r (up_event r (peer_of w name s.weight)) n
 
 abbrev pub w_break : WorldState → List ℕ → List ℕ → WorldState
 w_break w router name = with_ends w (changed (changed w.ends (router, name) broken) (name, router) broken)
@@ -87,8 +87,8 @@ on_router now id = record { world = with_routers now.world (insert_entry (slice_
 abbrev pub on_client : Moment → ℕ → List ℕ → List ℕ → RouterState → Moment
 on_client now n id router r = record { world = w_client now.world n id router r; report = now.report ++ [] }
 
-abbrev pub on_link : Moment → List ℕ → List ℕ → Moment
-on_link now one other = record { world = w_link now.world one other; report = now.report ++ [] }
+abbrev pub on_link : Moment → List ℕ → List ℕ → ℕ → Moment
+on_link now one other weight = record { world = w_link now.world one other weight; report = now.report ++ [] }
 
 abbrev pub on_up : Moment → ℕ → List ℕ → List ℕ → RouterState → EndState → Moment
 on_up now n router name r s = record { world = w_up now.world n router name r s; report = now.report ++ [] }
@@ -227,36 +227,36 @@ module _ (now : Moment) (Q : Moment → Type 0) where
 
   pub for_client : (n : ℕ) (id router : List ℕ) →
       ((r : RouterState) → router_of w.routers router ≡ Some r → is_taken w id ≡ false → nat_le most_clients (length w.clients) ≡ false →
-      refuses r.node (up_event r (record { id = id; role = role.Client })) ≡ None → Q (on_client now n id router r)) →
+      refuses r.node (up_event r (record { id = id; role = role.Client; weight = 1 })) ≡ None → Q (on_client now n id router r)) →
       IfSome (went now (client_step w n id router)) Q
   unfolding client_step
   for_client n id router step =
       for_bind (router_at (router_of w.routers router)) _ (λ r er. for_unless (is_taken w id) _ _ (λ free. for_unless (nat_le most_clients (length w.clients)) _ _ (λ room.
-      for_hears (with_ends w (put_end w.ends (router, id) (lifted new_end))) router r (up_event r (record { id = id; role = role.Client })) n came (λ taken.
+      for_hears (with_ends w (put_end w.ends (router, id) (lifted (new_end 1)))) router r (up_event r (record { id = id; role = role.Client; weight = 1 })) n came (λ taken.
       step r (router_found (router_of w.routers router) r er) free room taken))))
     where
       came : WorldState → Outcome
       came v = Ok ([], with_clients v (insert_entry (slice_cmp nat_cmp) v.clients id (new_client router)))
 
-  pub for_link : (one other : List ℕ) →
+  pub for_link : (one other : List ℕ) (weight : ℕ) →
       (is_named one other ≡ false → (r : RouterState) → router_of w.routers one ≡ Some r → (q : RouterState) → router_of w.routers other ≡ Some q →
-      is_in_place w.ends (one, other) ≡ false → nat_le most_links (length (links_in_place w)) ≡ false → Q (on_link now one other)) →
-      IfSome (went now (link_step w one other)) Q
+      is_in_place w.ends (one, other) ≡ false → nat_le most_links (length (links_in_place w)) ≡ false → Q (on_link now one other weight)) →
+      IfSome (went now (link_step w one other weight)) Q
   unfolding link_step
-  for_link one other step =
+  for_link one other weight step =
       for_unless (is_named one other) _ _ (λ apart. for_bind (router_at (router_of w.routers one)) _ (λ r er. for_bind (router_at (router_of w.routers other)) _ (λ q eq.
       for_unless (is_in_place w.ends (one, other)) _ _ (λ new. for_unless (nat_le most_links (length (links_in_place w))) _ _ (λ room.
       step apart r (router_found (router_of w.routers one) r er) q (router_found (router_of w.routers other) q eq) new room)))))
 
   pub for_up : (n : ℕ) (router name : List ℕ) →
       ((r : RouterState) → router_of w.routers router ≡ Some r → is_taken w name ≡ true → (s : EndState) → end_of w.ends (router, name) ≡ Some s → s.unbroken ≡ true → s.up ≡ false →
-      refuses r.node (up_event r (peer_of w name)) ≡ None → Q (on_up now n router name r s)) →
+      refuses r.node (up_event r (peer_of w name s.weight)) ≡ None → Q (on_up now n router name r s)) →
       IfSome (went now (up_step w n router name)) Q
   unfolding up_step
   for_up n router name step =
       for_bind (router_at (router_of w.routers router)) _ (λ r er. for_test (is_taken w name) _ _ (λ there. for_bind (end_at (end_of w.ends (router, name))) _ (λ s es.
       for_test s.unbroken _ _ (λ unbroken. for_unless s.up _ _ (λ down.
-      for_hears (with_ends w (with_end w.ends (router, name) (lifted s))) router r (up_event r (peer_of w name)) n _ (λ taken.
+      for_hears (with_ends w (with_end w.ends (router, name) (lifted s))) router r (up_event r (peer_of w name s.weight)) n _ (λ taken.
       step r (router_found (router_of w.routers router) r er) there s (end_found (end_of w.ends (router, name)) s es) unbroken down taken))))))
 
   pub for_break : (router name : List ℕ) →

@@ -116,14 +116,14 @@ module _ (w : WorldState) (booked : ℕ) where
       bind_recounted (unless (is_taken w id) NameTaken) _ _ (λ a. bind_recounted (unless (nat_le most_routers (length w.routers)) Limit) _ _ (λ b. refl))
   outcome_recounted n (c.Client id router) =
       bind_recounted (router_at (router_of w.routers router)) _ _ (λ r. bind_recounted (unless (is_taken w id) NameTaken) _ _ (λ a. bind_recounted (unless (nat_le most_clients (length w.clients)) Limit) _ _ (λ b.
-      hears_recounted (with_ends w (put_end w.ends (router, id) (lifted new_end))) router r (up_event r (record { id = id; role = role.Client })) n (came id router) (came id router) (λ v. refl))))
-  outcome_recounted n (c.Link one other) =
+      hears_recounted (with_ends w (put_end w.ends (router, id) (lifted (new_end 1)))) router r (up_event r (record { id = id; role = role.Client; weight = 1 })) n (came id router) (came id router) (λ v. refl))))
+  outcome_recounted n (c.Link one other weight) =
       bind_recounted (unless (is_named one other) BadWords) _ _ (λ z. bind_recounted (router_at (router_of w.routers one)) _ _ (λ r. bind_recounted (router_at (router_of w.routers other)) _ _ (λ q.
       bind_recounted (unless (is_in_place w.ends (one, other)) AlreadyLinked) _ _ (λ a. bind_recounted (unless (nat_le most_links (length (links_in_place w))) Limit) _ _ (λ b. refl)))))
   outcome_recounted n (c.Up router name) =
       bind_recounted (router_at (router_of w.routers router)) _ _ (λ r. bind_recounted (unless (not (is_taken w name)) UnknownName) _ _ (λ a. bind_recounted (end_at (end_of w.ends (router, name))) _ _ (λ s.
       bind_recounted (unbroken_at s) _ _ (λ b. bind_recounted (unless s.up AlreadyLinked) _ _ (λ c.
-      hears_recounted (with_ends w (with_end w.ends (router, name) (lifted s))) router r (up_event r (peer_of w name)) n _ _ (λ v. refl))))))
+      hears_recounted (with_ends w (with_end w.ends (router, name) (lifted s))) router r (up_event r (peer_of w name s.weight)) n _ _ (λ v. refl))))))
   outcome_recounted n (c.Break router name) =
       bind_recounted (router_at (router_of w.routers router)) _ _ (λ r. bind_recounted (unless (not (is_taken w name)) UnknownName) _ _ (λ a. bind_recounted (end_at (end_of w.ends (router, name))) _ _ (λ s.
       bind_recounted (unbroken_at s) _ _ (λ b. refl))))

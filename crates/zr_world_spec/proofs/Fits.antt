@@ -13,7 +13,7 @@ use Rattle.zr_id.specs.declared.link.LinkNo.{LinkNo}
 use Rattle.zr_msg.specs.declared.msg.Msg.{Msg}
 use Rattle.zr_msg.specs.declared.event.Event.{Event}
 use Rattle.zr_msg.specs.declared.event.Event.TheVariants.{Up, Down, From}
-use Rattle.zr_msg.specs.declared.peer.Peer.{Peer}
+use Rattle.zr_msg.specs.Peer.{PeerState}
 use Rattle.zr_node_spec.specs.Tables.{is_router, link_at, link_to, free_link}
 use Rattle.zr_node_spec.specs.State.{NodeState, new_link}
 use Rattle.zr_msg.specs.declared.peer.LinkPeer.{LinkPeer}
@@ -102,7 +102,7 @@ pub record Fits (routers : Routers) (ends : Ends) (x : List ℕ) (node : NodeSta
   pub own : node.base.me ≡ x
   pub unique : AreUnique node.links
   pub links : (y : List ℕ) → is_some (peer_to node.links y) ≡ is_up ends (x, y)
-  pub roles : (y : List ℕ) (p : Peer) → peer_to node.links y ≡ Some p → is_router p.role ≡ is_some (router_of routers y)
+  pub roles : (y : List ℕ) (p : PeerState) → peer_to node.links y ≡ Some p → is_router p.role ≡ is_some (router_of routers y)
 
 abbrev pub Nodes : Routers → Ends → Type 0
 Nodes routers ends = (x : List ℕ) (r : RouterState) → router_of routers x ≡ Some r → Fits routers ends x r.node
@@ -141,7 +141,7 @@ none_to : (links : List LinkPeer) (y : List ℕ) → is_some (peer_to links y) �
 none_to links y h = not_there (link_to links y) (sym (there_changed (λ l. l.peer) (link_to links y)) ∙ h)
 
 -- the link to a neighbour comes up
-pub fits_up : (routers : Routers) (ends ends' : Ends) (x y : List ℕ) (node : NodeState) (p : Peer) → Fits routers ends x node → p.id ≡ y → is_router p.role ≡ is_some (router_of routers y) →
+pub fits_up : (routers : Routers) (ends ends' : Ends) (x y : List ℕ) (node : NodeState) (p : PeerState) → Fits routers ends x node → p.id ≡ y → is_router p.role ≡ is_some (router_of routers y) →
     is_up ends (x, y) ≡ false → ((q : List ℕ) → is_up ends' (x, q) ≡ cond (is_named y q) true (is_up ends (x, q))) →
     Fits routers ends' x (after node (Up (record { 0 = free_link node.links }) p))
 fits_up routers ends ends' x y node p f same role_is down lifts = record {
@@ -163,7 +163,7 @@ fits_up routers ends ends' x y node p f same role_is down lifts = record {
     peers : (q : List ℕ) → peer_to (with_link node.links (new_link number p)) q ≡ cond (is_named p.id q) (Some p) (peer_to node.links q)
     peers q = peers_up node.links number p f.unique free none q
 
-    by : (q : List ℕ) (p' : Peer) (b : Bool) → is_named p.id q ≡ b → cond b (Some p) (peer_to node.links q) ≡ Some p' → is_router p'.role ≡ is_some (router_of routers q)
+    by : (q : List ℕ) (p' : PeerState) (b : Bool) → is_named p.id q ≡ b → cond b (Some p) (peer_to node.links q) ≡ Some p' → is_router p'.role ≡ is_some (router_of routers q)
     by q p' true e h = let is : p ≡ p' = cc in ap (λ z. is_router z.role) (sym is) ∙ role_is ∙ ap (λ z. is_some (router_of routers z)) (sym same ∙ same_name p.id q e)
     by q p' false e h = f.roles q p' h
 
@@ -180,7 +180,7 @@ fits_down routers ends ends' x y node l f found lowers = record {
     peers : (q : List ℕ) → peer_to (without_link node.links l.link.0) q ≡ cond (is_named y q) None (peer_to node.links q)
     peers q = peers_down node.links y l f.unique found q
 
-    by : (q : List ℕ) (p : Peer) (b : Bool) → cond b None (peer_to node.links q) ≡ Some p → is_router p.role ≡ is_some (router_of routers q)
+    by : (q : List ℕ) (p : PeerState) (b : Bool) → cond b None (peer_to node.links q) ≡ Some p → is_router p.role ≡ is_some (router_of routers q)
     by q p true h = absurd (false≢true (ap is_some h))
     by q p false h = f.roles q p h
 
@@ -269,7 +269,7 @@ nodes_of w h x r found = record {
   roles = λ y p k. by y p (link_to r.node.links y) refl k;
 }
   where
-    by : (y : List ℕ) (p : Peer) (o : Option LinkPeer) → link_to r.node.links y ≡ o → peer o ≡ Some p → is_router p.role ≡ is_some (router_of w.routers y)
+    by : (y : List ℕ) (p : PeerState) (o : Option LinkPeer) → link_to r.node.links y ≡ o → peer o ≡ Some p → is_router p.role ≡ is_some (router_of w.routers y)
     by y p None e k = absurd (false≢true (ap is_some k))
     by y p (Some l) e k = let is : l.peer ≡ p = cc in ap (λ z. is_router z.role) (sym is) ∙ h.roles x y r l found e
 

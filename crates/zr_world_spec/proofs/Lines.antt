@@ -181,7 +181,7 @@ act_tells now h n act = by act
     by : (act : Act) → IfSome (went now (outcome now.world n act)) IsOfActs
     by (c.Router id) = for_router now IsOfActs id (λ free room. more [] refl)
     by (c.Client id router) = for_client now IsOfActs n id router (λ r er free room taken. more [] refl)
-    by (c.Link one other) = for_link now IsOfActs one other (λ apart r er q eq new room. more [] refl)
+    by (c.Link one other weight) = for_link now IsOfActs one other weight (λ apart r er q eq new room. more [] refl)
     by (c.Up router name) = for_up now IsOfActs n router name (λ r er there s es unbroken down taken. more [] refl)
     by (c.Break router name) = for_break now IsOfActs router name (λ r er there s es unbroken. more [] refl)
     by (c.Down router name) = for_down now IsOfActs n router name (λ r er there s es up cut l el taken. more [] refl)

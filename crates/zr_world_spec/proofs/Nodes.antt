@@ -10,7 +10,7 @@ use Rattle.zr_msg.specs.declared.msg.Msg.{Msg}
 use Rattle.zr_msg.specs.declared.msg.Msg.TheVariants.{Sub, Unsub, Able, Unable, Interest, EndInterest, ToldSub, ToldAble, ToldUnsub, ToldUnable, ToldEnd, Push, Request, Response, Final, State, Step, Snap}
 use Rattle.zr_msg.specs.declared.event.Event.{Event}
 use Rattle.zr_msg.specs.declared.event.Event.TheVariants.{Up, Down, From}
-use Rattle.zr_msg.specs.declared.peer.Peer.{Peer}
+use Rattle.zr_msg.specs.Peer.{PeerState}
 use Rattle.zr_msg.specs.declared.peer.Role.{Role}
 use Rattle.zr_msg.specs.declared.peer.Role.TheVariants.{Client, Router}
 use Rattle.zr_node_spec.specs.Tables.{link_at, link_to, leads_to_router}
@@ -22,11 +22,11 @@ use Rattle.zr_world_spec.proofs.Links.{link_to_with, link_to_apart}
 
 -- ---- the own name
 
-me_up : (b : BaseState) (peer : Peer) (role : Role) → (base_up b peer role).me ≡ b.me
+me_up : (b : BaseState) (peer : PeerState) (role : Role) → (base_up b peer role).me ≡ b.me
 me_up b peer Client = refl
 me_up b peer Router = refl
 
-me_parted : (b : BaseState) (peer : Peer) (role : Role) → (base_parted b peer role).me ≡ b.me
+me_parted : (b : BaseState) (peer : PeerState) (role : Role) → (base_parted b peer role).me ≡ b.me
 me_parted b peer Client = refl
 me_parted b peer Router = refl
 
@@ -76,10 +76,10 @@ me_after node (From link msg) = me_from node link.0 msg
 
 -- ---- to whom there are links
 
-abbrev pub peer : Option LinkPeer → Option Peer
+abbrev pub peer : Option LinkPeer → Option PeerState
 peer o = option_map (λ l. l.peer) o
 
-abbrev pub peer_to : List LinkPeer → List ℕ → Option Peer
+abbrev pub peer_to : List LinkPeer → List ℕ → Option PeerState
 peer_to links q = peer (link_to links q)
 
 -- links, whose peers are the same ones
@@ -111,7 +111,7 @@ peers_from node from (Step source number added decl) h = same_links node.links h
 peers_from node from (Snap source number decls) h = same_links node.links h
 
 -- a link more
-pub peers_up : (links : List LinkPeer) (link : LinkNo) (p : Peer) → AreUnique links → link_at links link.0 ≡ None → link_to links p.id ≡ None → (q : List ℕ) →
+pub peers_up : (links : List LinkPeer) (link : LinkNo) (p : PeerState) → AreUnique links → link_at links link.0 ≡ None → link_to links p.id ≡ None → (q : List ℕ) →
     peer_to (with_link links (new_link link p)) q ≡ cond (is_named p.id q) (Some p) (peer_to links q)
 peers_up links link p h number name q =
     ap peer (link_to_with links (new_link link p) h number name q) ∙ read_cond peer (is_named p.id q) (Some (new_link link p)) (link_to links q)

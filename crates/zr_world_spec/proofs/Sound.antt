@@ -186,8 +186,8 @@ module _ (w : WorldState) (line : ℕ) (h : IsSound w) where
         (λ z q apart. ups (z, q) ∙ ap (λ t. cond t b (is_up w.ends (z, q))) (other_end x y z q apart)),
   )
 
-  role_is : (name : List ℕ) → is_router (peer_of w name).role ≡ is_some (router_of w.routers name)
-  role_is name = by (is_some (router_of w.routers name))
+  role_is : (name : List ℕ) (weight : ℕ) → is_router (peer_of w name weight).role ≡ is_some (router_of w.routers name)
+  role_is name weight = by (is_some (router_of w.routers name))
     where
       by : (b : Bool) → is_router (cond b role.Router role.Client) ≡ b
       by true = refl
@@ -196,7 +196,7 @@ module _ (w : WorldState) (line : ℕ) (h : IsSound w) where
   up_sound : (router name : List ℕ) (r : RouterState) → router_of w.routers router ≡ Some r → (s : EndState) → end_of w.ends (router, name) ≡ Some s → s.up ≡ false →
       IsSound (w_up w line router name r s)
   up_sound router name r er s es down =
-      let event : Event = up_event r (peer_of w name) in
+      let event : Event = up_event r (peer_of w name s.weight) in
       let up : Ends = with_end w.ends (router, name) (lifted s) in
       let ends' : Ends = all_told (all_queued up router r.node event line) router r event line in
       let same : SameEnds up ends' = same_heard up router r event line in
@@ -204,7 +204,7 @@ module _ (w : WorldState) (line : ℕ) (h : IsSound w) where
       (λ o. same.sorted (subst (IsStrictlySortedBy end_cmp) (sym (keys_with_end w.ends (router, name) (lifted s))) o))
       (λ q. same.there_too q ∙ keep_with_end w.ends (router, name) (lifted s) is_some q s es refl)
       (λ q. same.as_up q ∙ read_with_end w.ends (router, name) (lifted s) up_of q (ap is_some es))
-      (fits_up w.routers w.ends ends' router name r.node (peer_of w name) (n router r er) refl (role_is name) (ap up_of es ∙ down)) in
+      (fits_up w.routers w.ends ends' router name r.node (peer_of w name s.weight) (n router r er) refl (role_is name s.weight) (ap up_of es ∙ down)) in
       subst IsSound (sym (heard_is (with_ends w up) router r event line)) (sound_of (with_ends (with_routers w (with_router w.routers router (having_told r event))) ends') both.0 both.1)
 
   down_sound : (router name : List ℕ) (r : RouterState) → router_of w.routers router ≡ Some r → (l : LinkNo) → number_to r name ≡ Ok l → IsSound (w_down w line router name r l)
@@ -292,19 +292,19 @@ module _ (w : WorldState) (line : ℕ) (h : IsSound w) where
           subst (λ (t : RouterState). Fits more w.ends x t.node) it (subst (λ z. Fits more w.ends z (new_router id).node) (sym (same_name x id e)) fresh)
       by x r false e k = fits_same w.routers more w.ends w.ends x r.node (n x r k) (λ y u. same x y u) (λ y. refl)
 
-  link_sound : (one other : List ℕ) → is_named one other ≡ false → (r : RouterState) → router_of w.routers one ≡ Some r → (q : RouterState) → router_of w.routers other ≡ Some q →
-      is_in_place w.ends (one, other) ≡ false → IsSound (w_link w one other)
-  link_sound one other apart r er q eq new = sound_of (w_link w one other)
-      (places_put w.routers w.clients first (other, one) new_end
-      (places_put w.routers w.clients w.ends (one, other) new_end p (ap is_some er) (ap (λ (o : Option RouterState). is_some o || is_some (client_of w.clients other)) eq) apart)
+  link_sound : (one other : List ℕ) (weight : ℕ) → is_named one other ≡ false → (r : RouterState) → router_of w.routers one ≡ Some r → (q : RouterState) → router_of w.routers other ≡ Some q →
+      is_in_place w.ends (one, other) ≡ false → IsSound (w_link w one other weight)
+  link_sound one other weight apart r er q eq new = sound_of (w_link w one other weight)
+      (places_put w.routers w.clients first (other, one) (new_end weight)
+      (places_put w.routers w.clients w.ends (one, other) (new_end weight) p (ap is_some er) (ap (λ (o : Option RouterState). is_some o || is_some (client_of w.clients other)) eq) apart)
       (ap is_some eq) (ap (λ (o : Option RouterState). is_some o || is_some (client_of w.clients one)) er) (names.symm other one ∙ apart))
       (λ x t found. fits_same w.routers w.routers w.ends both x t.node (n x t found) (λ y u. refl) (λ y. as_up (x, y)))
     where
       first : Ends
-      first = put_end w.ends (one, other) new_end
+      first = put_end w.ends (one, other) (new_end weight)
 
       both : Ends
-      both = put_end first (other, one) new_end
+      both = put_end first (other, one) (new_end weight)
 
       -- neither end was up
       downs : (is_up w.ends (one, other) ≡ false) × (is_up w.ends (other, one) ≡ false)
@@ -313,16 +313,16 @@ module _ (w : WorldState) (line : ℕ) (h : IsSound w) where
           ((or_parts (is_unbroken w.ends (one, other)) (is_up w.ends (one, other)) parts.0).1, parts.1)
 
       first_up : (e : End) → up_of (end_of first e) ≡ up_of (end_of w.ends e)
-      first_up e = keep_put_end w.ends (one, other) new_end up_of e (sym downs.0)
+      first_up e = keep_put_end w.ends (one, other) (new_end weight) up_of e (sym downs.0)
 
       as_up : (e : End) → up_of (end_of both e) ≡ up_of (end_of w.ends e)
-      as_up e = keep_put_end first (other, one) new_end up_of e (sym (first_up (other, one) ∙ downs.1)) ∙ first_up e
+      as_up e = keep_put_end first (other, one) (new_end weight) up_of e (sym (first_up (other, one) ∙ downs.1)) ∙ first_up e
 
   client_sound : (id router : List ℕ) (r : RouterState) → router_of w.routers router ≡ Some r → is_taken w id ≡ false → IsSound (w_client w line id router r)
   client_sound id router r er free = subst (λ (v : WorldState). IsSound (with_clients v clients)) (sym (heard_is (with_ends w first) router r event line))
       (sound_of (record { routers = more; clients = clients; ends = ends'; booked = w.booked })
       (record {
-        in_order = queued_.sorted (sorted_put_end w.ends (router, id) (lifted new_end) p.in_order);
+        in_order = queued_.sorted (sorted_put_end w.ends (router, id) (lifted (new_end 1)) p.in_order);
         owners = λ x y e. of_end (λ q. is_some (router_of more q.0) ≡ true) (kept_router router ∙ ap is_some er) (λ q k. kept_router q.0 ∙ p.owners q.0 q.1 k) (x, y) e;
         neighbours = λ x y e. of_end (λ q. (is_some (router_of more q.1) || is_some (client_of clients q.1)) ≡ true) (or_right (is_some (router_of more id)) (is_some (client_of clients id)) own_client)
             (λ q k. (λ i. kept_router q.1 i || is_some (client_of clients q.1)) ∙ or_still (is_some (router_of w.routers q.1)) (is_some (client_of w.clients q.1)) (is_some (client_of clients q.1)) (still q.1) (p.neighbours q.0 q.1 k)) (x, y) e;
@@ -331,15 +331,15 @@ module _ (w : WorldState) (line : ℕ) (h : IsSound w) where
         homes = λ name s e. home_of name s (is_named name id) refl (sym (is name) ∙ e);
       })
       (nodes_set w.routers w.ends ends' router r (having_told r event) n er
-      (fits_up w.routers w.ends ends' router id r.node (record { id = id; role = role.Client }) (n router r er) refl (sym (free_name w id free).0) (no_end_to router id free)
+      (fits_up w.routers w.ends ends' router id r.node (record { id = id; role = role.Client; weight = 1 }) (n router r er) refl (sym (free_name w id free).0) (no_end_to router id free)
       (λ q. ups (router, q) ∙ ap (λ t. cond t true (is_up w.ends (router, q))) (own_end router id q)))
       (λ z q apart. ups (z, q) ∙ ap (λ t. cond t true (is_up w.ends (z, q))) (other_end router id z q apart))))
     where
       event : Event
-      event = up_event r (record { id = id; role = role.Client })
+      event = up_event r (record { id = id; role = role.Client; weight = 1 })
 
       first : Ends
-      first = put_end w.ends (router, id) (lifted new_end)
+      first = put_end w.ends (router, id) (lifted (new_end 1))
 
       ends' : Ends
       ends' = all_told (all_queued first router r.node event line) router r event line
@@ -370,13 +370,13 @@ module _ (w : WorldState) (line : ℕ) (h : IsSound w) where
       or_still false b c f e = f e
 
       of_end : (P : End → Type 0) → P (router, id) → ((q : End) → is_some (end_of w.ends q) ≡ true → P q) → (q : End) → is_some (end_of ends' q) ≡ true → P q
-      of_end P own old q e = of_put P w.ends (router, id) (lifted new_end) own old q (sym (queued_.there_too q) ∙ e)
+      of_end P own old q e = of_put P w.ends (router, id) (lifted (new_end 1)) own old q (sym (queued_.there_too q) ∙ e)
 
       there_is : (q : End) → is_some (end_of ends' q) ≡ cond (is_end (router, id) q) true (is_some (end_of w.ends q))
-      there_is q = queued_.there_too q ∙ read_put_end w.ends (router, id) (lifted new_end) is_some q
+      there_is q = queued_.there_too q ∙ read_put_end w.ends (router, id) (lifted (new_end 1)) is_some q
 
       ups : (q : End) → up_of (end_of ends' q) ≡ cond (is_end (router, id) q) true (up_of (end_of w.ends q))
-      ups q = queued_.as_up q ∙ read_put_end w.ends (router, id) (lifted new_end) up_of q
+      ups q = queued_.as_up q ∙ read_put_end w.ends (router, id) (lifted (new_end 1)) up_of q
 
       home_of : (name : List ℕ) (s : ClientState) (b : Bool) → is_named name id ≡ b → cond b (Some (new_client router)) (client_of w.clients name) ≡ Some s →
           is_some (end_of ends' (s.router, name)) ≡ true
@@ -390,7 +390,7 @@ module _ (w : WorldState) (line : ℕ) (h : IsSound w) where
   unfolding outcome
   each_act (a.Router id) = kept (outcome w line (a.Router id)) (for_router now sound id (λ free room. router_sound id free))
   each_act (a.Client id router) = kept (outcome w line (a.Client id router)) (for_client now sound line id router (λ r er free room taken. client_sound id router r er free))
-  each_act (a.Link one other) = kept (outcome w line (a.Link one other)) (for_link now sound one other (λ apart r er q eq new room. link_sound one other apart r er q eq new))
+  each_act (a.Link one other weight) = kept (outcome w line (a.Link one other weight)) (for_link now sound one other weight (λ apart r er q eq new room. link_sound one other weight apart r er q eq new))
   each_act (a.Up router name) = kept (outcome w line (a.Up router name)) (for_up now sound line router name (λ r er there s es unbroken down taken. up_sound router name r er s es down))
   each_act (a.Break router name) = kept (outcome w line (a.Break router name)) (for_break now sound router name (λ r er there s es unbroken. break_sound router name))
   each_act (a.Down router name) = kept (outcome w line (a.Down router name)) (for_down now sound line router name (λ r er there s es up cut l el taken. down_sound router name r er l el))
@@ -598,7 +598,7 @@ module _ (w : WorldState) (h : IsSound w) (x y : List ℕ) (r : RouterState) (er
   no_link down = not_there (link_to r.node.links y) (h.links x y r er ∙ down)
 
   -- the link to a neighbour may come up, where the end is there and not up
-  pub up_may_come : (s : EndState) → end_of w.ends (x, y) ≡ Some s → s.up ≡ false → MayCome r.node (up_event r (peer_of w y))
+  pub up_may_come : (s : EndState) → end_of w.ends (x, y) ≡ Some s → s.up ≡ false → MayCome r.node (up_event r (peer_of w y s.weight))
   up_may_come s es down = record {
     number = free_is_free r.node.links;
     name = no_link (ap up_of es ∙ down);
@@ -606,7 +606,7 @@ module _ (w : WorldState) (h : IsSound w) (x y : List ℕ) (r : RouterState) (er
   }
 
   -- and that to a new client
-  pub client_may_come : is_taken w y ≡ false → MayCome r.node (up_event r (record { id = y; role = role.Client }))
+  pub client_may_come : is_taken w y ≡ false → MayCome r.node (up_event r (record { id = y; role = role.Client; weight = 1 }))
   client_may_come free = record {
     number = free_is_free r.node.links;
     name = no_link (no_end_to w 0 h x y free);

@@ -148,7 +148,7 @@ module _ (w : WorldState) (x : List ℕ) (r : RouterState) (event : Event) (tag 
   same_names_told = keys_waiting w.ends x (told_to r event) tag
 
   -- but for queues they are as they were: whether they are up, whether the link is unbroken, and what is on the wire
-  pub same_end_told : {Y : Type 0} (f : Option EndState → Y) → ((s : EndState) (q : List Tagged) → f (Some (record { up = s.up; unbroken = s.unbroken; queue = q; wire = s.wire })) ≡ f (Some s)) →
+  pub same_end_told : {Y : Type 0} (f : Option EndState → Y) → ((s : EndState) (q : List Tagged) → f (Some (record { up = s.up; unbroken = s.unbroken; queue = q; wire = s.wire; weight = s.weight })) ≡ f (Some s)) →
       (q : End) → f (end_of (telling w x r event tag).ends q) ≡ f (end_of w.ends q)
   same_end_told f blind q = keep_waiting w.ends x (told_to r event) tag f q (λ s. blind s _)
 

@@ -16,6 +16,7 @@ use Rattle.zr_msg.specs.declared.content.Parts.{Parts}
 use Rattle.zr_msg.specs.declared.decl.Kind.{Kind}
 use Rattle.zr_msg.specs.declared.decl.Kind.TheVariants as k
 use Rattle.zr_msg.specs.Extras.{no_extras}
+use Rattle.zr_msg.specs.Peer.{PeerState}
 use Rattle.zr_msg.specs.declared.error.NodeError.{NodeError}
 use Rattle.zr_msg.specs.declared.msg.Msg.{Msg}
 use Rattle.zr_msg.specs.declared.msg.Msg.TheVariants as m
@@ -23,7 +24,6 @@ use Rattle.zr_msg.specs.declared.msg.Kinds.{Kinds}
 use Rattle.zr_msg.specs.declared.msg.Target.{Target}
 use Rattle.zr_msg.specs.declared.event.Event.{Event}
 use Rattle.zr_msg.specs.declared.event.Event.TheVariants.{Up, Down, From}
-use Rattle.zr_msg.specs.declared.peer.Peer.{Peer}
 use Rattle.zr_msg.specs.declared.peer.Role.TheVariants as role
 use Rattle.zr_script_spec.specs.declared.error.ScriptError.{ScriptError}
 use Rattle.zr_script_spec.specs.declared.error.ScriptError.TheVariants.{BadWords, UnknownName, NameTaken, NotLinked, AlreadyLinked, NothingThere, NotAsked, NotSettled, NotJoined, Limit}
@@ -229,12 +229,12 @@ heard_by w x r event tag (Some e) = Err Limit
 abbrev pub hears : WorldState → List ℕ → RouterState → Event → ℕ → Result WorldState ScriptError
 hears w x r event tag = heard_by w x r event tag (refuses_of r event)
 
--- a neighbour by its name: a router or a client
-abbrev pub peer_of : WorldState → List ℕ → Peer
-peer_of w name = record { id = name; role = if is_some (router_of w.routers name) then role.Router else role.Client }
+-- a neighbour by its name, a router or a client, and what the link to it weighs
+abbrev pub peer_of : WorldState → List ℕ → ℕ → PeerState
+peer_of w name weight = record { id = name; role = if is_some (router_of w.routers name) then role.Router else role.Client; weight = weight }
 
 -- the link to a neighbour comes up, under the least number that is free
-abbrev pub up_event : RouterState → Peer → Event
+abbrev pub up_event : RouterState → PeerState → Event
 up_event r peer = Up (record { 0 = free_link r.node.links }) peer
 
 -- the number of the link to a neighbour, if it is up
@@ -260,18 +260,18 @@ client_step w line id router = do
   r ← router_at (router_of w.routers router)
   a ← unless (is_taken w id) NameTaken
   b ← unless (nat_le most_clients (length w.clients)) Limit
-  v ← hears (with_ends w (put_end w.ends (router, id) (lifted new_end))) router r (up_event r (record { id = id; role = role.Client })) line
+  v ← hears (with_ends w (put_end w.ends (router, id) (lifted (new_end 1)))) router r (up_event r (record { id = id; role = role.Client; weight = 1 })) line
   Ok ([], with_clients v (insert_entry (slice_cmp nat_cmp) v.clients id (new_client router)))
 
 -- a link between two routers, up at neither end; no script's line links a router to itself, which is refused as words that don't fit
-unfoldable pub link_step : WorldState → List ℕ → List ℕ → Outcome
-link_step w one other = do
+unfoldable pub link_step : WorldState → List ℕ → List ℕ → ℕ → Outcome
+link_step w one other weight = do
   z ← unless (is_named one other) BadWords
   r ← router_at (router_of w.routers one)
   q ← router_at (router_of w.routers other)
   a ← unless (is_in_place w.ends (one, other)) AlreadyLinked
   b ← unless (nat_le most_links (length (links_in_place w))) Limit
-  Ok ([], with_ends w (put_end (put_end w.ends (one, other) new_end) (other, one) new_end))
+  Ok ([], with_ends w (put_end (put_end w.ends (one, other) (new_end weight)) (other, one) (new_end weight)))
 
 -- a router's end comes up
 unfoldable pub up_step : WorldState → ℕ → List ℕ → List ℕ → Outcome
@@ -281,7 +281,7 @@ up_step w line router name = do
   s ← end_at (end_of w.ends (router, name))
   b ← unbroken_at s
   c ← unless s.up AlreadyLinked
-  v ← hears (with_ends w (with_end w.ends (router, name) (lifted s))) router r (up_event r (peer_of w name)) line
+  v ← hears (with_ends w (with_end w.ends (router, name) (lifted s))) router r (up_event r (peer_of w name s.weight)) line
   Ok ([], v)
 
 -- a link breaks: what is on its wires is lost
@@ -440,7 +440,7 @@ show_step w router = do
 unfoldable pub outcome : WorldState → ℕ → Act → Outcome
 outcome w line (a.Router id) = router_step w id
 outcome w line (a.Client id router) = client_step w line id router
-outcome w line (a.Link one other) = link_step w one other
+outcome w line (a.Link one other weight) = link_step w one other weight
 outcome w line (a.Up router neighbour) = up_step w line router neighbour
 outcome w line (a.Break router neighbour) = break_step w router neighbour
 outcome w line (a.Down router neighbour) = down_step w line router neighbour

@@ -17,7 +17,7 @@ Numbered = ℕ × Act
 abbrev pub is_step : Act → Bool
 is_step (a.Router id) = false
 is_step (a.Client id router) = false
-is_step (a.Link one other) = false
+is_step (a.Link one other weight) = false
 is_step (a.Up router neighbour) = false
 is_step (a.Break router neighbour) = false
 is_step (a.Down router neighbour) = false

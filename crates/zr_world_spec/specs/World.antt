@@ -42,13 +42,14 @@ pub record ClientState : Type 0 where
 abbrev pub End : Type 0
 End = List ℕ × List ℕ
 
--- what is at a router's end: whether the end is up, whether the link is unbroken, what the router has queued for the neighbour, and what
--- the wire from the neighbour has for the router; the oldest message stands first
+-- what is at a router's end: whether the end is up, whether the link is unbroken, what the router has queued for the neighbour, what the
+-- wire from the neighbour has for the router, the oldest message first, and what the link weighs for the router
 pub record EndState : Type 0 where
   pub up : Bool
   pub unbroken : Bool
   pub queue : List Tagged
   pub wire : List Tagged
+  pub weight : ℕ
 
 abbrev pub Routers : Type 0
 Routers = List (List ℕ × RouterState)
@@ -90,9 +91,9 @@ new_router id = record { node = new_node id; told = []; weight = 0 }
 abbrev pub new_client : List ℕ → ClientState
 new_client router = record { router = router; subs = []; ables = []; interests = []; queries = []; requests = [] }
 
--- the end of a new link: nothing waits there
-abbrev pub new_end : EndState
-new_end = record { up = false; unbroken = true; queue = []; wire = [] }
+-- the end of a new link of this weight: nothing waits there
+abbrev pub new_end : ℕ → EndState
+new_end weight = record { up = false; unbroken = true; queue = []; wire = []; weight = weight }
 
 -- ---- names
 
@@ -177,6 +178,10 @@ is_up ends e = passes (λ s. s.up) ends e
 abbrev pub is_unbroken : Ends → End → Bool
 is_unbroken ends e = passes (λ s. s.unbroken) ends e
 
+-- what the link weighs for the router of an end, and nothing where there is no such end
+abbrev pub end_weight : Ends → End → ℕ
+end_weight ends e = option_map_or (λ s. s.weight) (end_of ends e) 0
+
 -- a link between routers is up at both ends
 abbrev pub is_linked : Ends → List ℕ → List ℕ → Bool
 is_linked ends x y = is_up ends (x, y) && is_up ends (y, x)
@@ -197,29 +202,29 @@ links_in_place w = filter (λ e. is_first_end w.routers e && is_in_place w.ends 
 
 -- one message more on the wire from the neighbour
 abbrev pub sent : EndState → Msg → ℕ → EndState
-sent s msg tag = record { up = s.up; unbroken = s.unbroken; queue = s.queue; wire = s.wire ++ record { msg = msg; tag = tag } ∷ [] }
+sent s msg tag = record { up = s.up; unbroken = s.unbroken; queue = s.queue; wire = s.wire ++ record { msg = msg; tag = tag } ∷ []; weight = s.weight }
 
 -- more messages queued for the neighbour, all with one tag
 abbrev pub queued : EndState → List Msg → ℕ → EndState
-queued s msgs tag = record { up = s.up; unbroken = s.unbroken; queue = s.queue ++ map (λ m. record { msg = m; tag = tag }) msgs; wire = s.wire }
+queued s msgs tag = record { up = s.up; unbroken = s.unbroken; queue = s.queue ++ map (λ m. record { msg = m; tag = tag }) msgs; wire = s.wire; weight = s.weight }
 
 abbrev pub with_wire : EndState → List Tagged → EndState
-with_wire s wire = record { up = s.up; unbroken = s.unbroken; queue = s.queue; wire = wire }
+with_wire s wire = record { up = s.up; unbroken = s.unbroken; queue = s.queue; wire = wire; weight = s.weight }
 
 abbrev pub with_queue : EndState → List Tagged → EndState
-with_queue s queue = record { up = s.up; unbroken = s.unbroken; queue = queue; wire = s.wire }
+with_queue s queue = record { up = s.up; unbroken = s.unbroken; queue = queue; wire = s.wire; weight = s.weight }
 
 -- the link is broken: what was on the wire is lost
 abbrev pub broken : EndState → EndState
-broken s = record { up = s.up; unbroken = false; queue = s.queue; wire = [] }
+broken s = record { up = s.up; unbroken = false; queue = s.queue; wire = []; weight = s.weight }
 
 -- the end is up
 abbrev pub lifted : EndState → EndState
-lifted s = record { up = true; unbroken = s.unbroken; queue = s.queue; wire = s.wire }
+lifted s = record { up = true; unbroken = s.unbroken; queue = s.queue; wire = s.wire; weight = s.weight }
 
 -- the end is down: what was queued is lost
 abbrev pub lowered : EndState → EndState
-lowered s = record { up = false; unbroken = s.unbroken; queue = []; wire = s.wire }
+lowered s = record { up = false; unbroken = s.unbroken; queue = []; wire = s.wire; weight = s.weight }
 
 -- a change of one end, where it is there
 abbrev pub changed : Ends → End → (EndState → EndState) → Ends

@@ -6,7 +6,7 @@ ghost use Rattle.zr_node_spec.specs.Queries.{sends_ends};
 ghost use Rattle.zr_node_spec.specs.Tables.{link_at};
 ghost use Rattle.zr_node_spec.specs.Event.{IsFresh, Tells, TellsPrefix};
 ghost use Rattle.zr_node_spec.specs.State.{NodeState, new_link};
-ghost use Rattle.zr_node_spec.specs.Table.{with_link, with_pending, without_link};
+ghost use Rattle.zr_node_spec.specs.Table.{own_link, with_link, with_pending, without_link};
 ghost use Rattle.zr_node.specs.Done.{IsDone, IsLeft};
 ghost use Rattle.zr_node.specs.Steps.{with_links, event_part, up_part, join_part, down_part, parting_part, asked_part, leave_part};
 
@@ -18,6 +18,7 @@ use crate::own;
 use std::alloc::{AllocError, Global};
 use zr_flood::flood::{flood_down, flood_up};
 use zr_id::link::LinkNo;
+use zr_id::record::Linked;
 use zr_msg::event::Event;
 use zr_msg::msg::Msg;
 use zr_msg::peer::{Peer, Role};
@@ -74,7 +75,7 @@ impl Node {
         requires { IsFresh self.old link peer.now }
         ensures { IsDone (join_part self.old link peer.now) result self.new out.old.items out.new.items }
     {
-        own::join(alloc, &mut self.base, &peer.id)?;
+        own::join(alloc, &mut self.base, &own_link(peer))?;
         forget(&mut self.family, &mut self.trees, &mut self.routes);
         Ok(flood_up(alloc, &self.base, self.links.as_slice(), link, out)?)
     }
@@ -207,5 +208,15 @@ impl Node {
     {
         self.routes.clear(); // the link may stand on any of them
         self.links.remove(link);
+    }
+}
+
+// The own link to a peer.
+fn own_link(peer: &Peer) -> Linked
+    ensures { result ≡ own_link peer.now }
+{
+    Linked {
+        id: peer.id,
+        weight: peer.weight,
     }
 }

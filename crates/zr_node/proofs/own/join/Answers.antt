@@ -1,9 +1,10 @@
 use Rattle.std.proofs.Common.{◌≡◌, ℕ, ◌<◌, List, OnOk, length, sym, ap, subst, ◌∙◌}
 use Rattle.std.proofs.lemmas.Bool.{leb-false}
+use Rattle.zr_id.specs.Record.{LinkedState}
 use Rattle.zr_graph.specs.Base.{relinked}
-use Rattle.zr_node_spec.specs.Table.{with_name, own_links}
+use Rattle.zr_node_spec.specs.Table.{with_linked, own_links}
 use Rattle.zr_node_spec.proofs.AreLinks.{named_back}
-use Rattle.zr_node_spec.proofs.OwnLinks.{are_links-with_name}
+use Rattle.zr_node_spec.proofs.OwnLinks.{are_links-with_linked}
 use Rattle.zr_node.proofs.Answers.{not_refused}
 use Rattle.zr_node.proofs.own.join.Goals as goal
 
@@ -11,14 +12,14 @@ pub change-requires : goal.change-requires
 change-requires c =
     let few : length (own_links c.args.base.now) < 65535 = leb-false 65535 (length (own_links c.args.base.now)) (sym c.is_full.ensures ∙ c.if-is_full.false) in
     rw (c.as_slice.ensures.value, c.in_ok-links.ensures)
-    (are_links-with_name c.args.base.now.me c.own_links.result.now c.args.id.now c.own_links.ensures.in_order
-    (named_back c.args.id.now c.args.base.now.me c.requires)
+    (are_links-with_linked c.args.base.now.me c.own_links.result.now c.args.link.now c.own_links.ensures.in_order
+    (named_back c.args.link.now.id c.args.base.now.me c.requires)
     (rw c.own_links.ensures.value few))
 
 pub returns-clause-ok : goal.returns-clause-ok
 returns-clause-ok c =
-    subst (λ (names : List (List ℕ)). OnOk c.change.result (c.change.new.self ≡ relinked c.args.base.now names))
-    (c.as_slice.ensures.value ∙ c.in_ok-links.ensures ∙ ap (λ names. with_name names c.args.id.now) c.own_links.ensures.value) c.change.ensures.ok
+    subst (λ (links : List LinkedState). OnOk c.change.result (c.change.new.self ≡ relinked c.args.base.now links))
+    (c.as_slice.ensures.value ∙ c.in_ok-links.ensures ∙ ap (λ links. with_linked links c.args.link.now) c.own_links.ensures.value) c.change.ensures.ok
 
 pub returns-clause-worn : goal.returns-clause-worn
 returns-clause-worn c =

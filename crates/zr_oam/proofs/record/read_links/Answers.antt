@@ -22,4 +22,4 @@ pub returns-clause-read : goal.returns-clause-read
 returns-clause-read c = series_over _ c.links.counter _ c.links.links.items _ _ (omega arith) c.links.invariant
 
 pub returns-clause-in_order : goal.returns-clause-in_order
-returns-clause-in_order c = links_are_links _ _ _ _ _ (omega arith) (series_over _ c.links.counter _ c.links.links.items _ _ (omega arith) c.links.invariant)
+returns-clause-in_order c = links_are_links _ _ _ _ _ _ (omega arith) (series_over _ c.links.counter _ c.links.links.items _ _ (omega arith) c.links.invariant)

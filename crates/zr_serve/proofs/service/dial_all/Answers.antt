@@ -1,36 +1,35 @@
 use Rattle.std.proofs.Common.{◌≡◌, length, le_trans, arith}
-use Rattle.std.specs.String.{string_bytes}
-use Rattle.zr_serve.proofs.Reaching.{dials_all_at, dials_more_at, dials_stop_at, rose_later}
+use Rattle.zr_serve.proofs.Reaching.{dials_all_at, dials_more_at, dials_stop, rose_later}
 use Rattle.zr_serve.proofs.service.dial_all.Goals as goal
 
 pub returns-in-Err-clause-stopped : goal.returns-in-Err-clause-stopped
 returns-in-Err-clause-stopped g c =
-    dials_stop_at (λ s. string_bytes s) c.args.addresses.now c.loop-address.address-index c.address-item.result c.as_str.result.now _ _ _ c.loop-address-test.true
-    c.address-item.is c.as_str.ensures.value c.loop-address.invariant.0 c.in-Err.ensures.stopped
+    dials_stop c.args.targets.now c.loop-target.target-index c.target-item.result _ _ _ c.loop-target-test.true
+    c.target-item.is c.loop-target.invariant.0 c.in-Err.ensures.stopped
 
-pub loop-address-preserved : goal.loop-address-preserved
-loop-address-preserved g c = (
-  dials_more_at (λ s. string_bytes s) c.args.addresses.now c.loop-address.address-index c.address-item.result c.as_str.result.now _ _ _ c.loop-address-test.true
-      c.address-item.is c.as_str.ensures.value c.loop-address.invariant.0 c.in_default.ensures.dialled,
-  le_trans c.loop-address.invariant.1 c.in_default.ensures.later.0,
-  le_trans c.loop-address.invariant.2 c.in_default.ensures.later.1,
-  le_trans c.loop-address.invariant.3 c.in_default.ensures.later.2,
+pub loop-target-preserved : goal.loop-target-preserved
+loop-target-preserved g c = (
+  dials_more_at c.args.targets.now c.loop-target.target-index c.target-item.result _ _ _ c.loop-target-test.true
+      c.target-item.is c.loop-target.invariant.0 c.in_default.ensures.dialled,
+  le_trans c.loop-target.invariant.1 c.in_default.ensures.later.0,
+  le_trans c.loop-target.invariant.2 c.in_default.ensures.later.1,
+  le_trans c.loop-target.invariant.3 c.in_default.ensures.later.2,
 )
 
 pub returns-in-Err-clause-cause : goal.returns-in-Err-clause-cause
-returns-in-Err-clause-cause g c = (c.in-Err.ensures.cause.0, c.in-Err.ensures.cause.1, λ e. rose_later _ _ _ c.loop-address.invariant.1 (c.in-Err.ensures.cause.2 e))
+returns-in-Err-clause-cause g c = (c.in-Err.ensures.cause.0, c.in-Err.ensures.cause.1, λ e. rose_later _ _ _ c.loop-target.invariant.1 (c.in-Err.ensures.cause.2 e))
 
 pub returns-in-Err-clause-later : goal.returns-in-Err-clause-later
 returns-in-Err-clause-later g c = (
-  le_trans c.loop-address.invariant.1 c.in-Err.ensures.later.0,
-  le_trans c.loop-address.invariant.2 c.in-Err.ensures.later.1,
-  le_trans c.loop-address.invariant.3 c.in-Err.ensures.later.2,
+  le_trans c.loop-target.invariant.1 c.in-Err.ensures.later.0,
+  le_trans c.loop-target.invariant.2 c.in-Err.ensures.later.1,
+  le_trans c.loop-target.invariant.3 c.in-Err.ensures.later.2,
 )
 
 pub returns-clause-dialled : goal.returns-clause-dialled
 returns-clause-dialled g c =
-    let all : c.loop-address.address-index ≡ length c.args.addresses.now = omega arith in
-    dials_all_at (λ s. string_bytes s) c.args.addresses.now _ _ _ all c.loop-address.invariant.0
+    let all : c.loop-target.target-index ≡ length c.args.targets.now = omega arith in
+    dials_all_at c.args.targets.now _ _ _ all c.loop-target.invariant.0
 
 pub returns-clause-later : goal.returns-clause-later
-returns-clause-later g c = (c.loop-address.invariant.1, c.loop-address.invariant.2, c.loop-address.invariant.3)
+returns-clause-later g c = (c.loop-target.invariant.1, c.loop-target.invariant.2, c.loop-target.invariant.3)

@@ -1,14 +1,13 @@
-use Rattle.std.proofs.Common.{◌≤◌, map}
-use Rattle.std.specs.String.{string_bytes}
+use Rattle.std.proofs.Common.{◌≤◌}
 use Rattle.zr_outside_crew.specs.Crew.{crew_faults, crew_told}
 use Rattle.zr_serve.specs.Links.{links_of}
 use Rattle.zr_serve.specs.Moments.{moment}
 use Rattle.zr_serve.specs.Serving.{Dials}
 use Rattle.zr_serve.proofs.service.dial_all.Given as goal
 
-abbrev pub invariant-loop-address : goal.invariant-loop-address
-invariant-loop-address g l =
-    Dials (map string_bytes l.addresses) l.address-index
+abbrev pub invariant-loop-target : goal.invariant-loop-target
+invariant-loop-target g l =
+    Dials l.targets l.target-index
     (moment (g.H.Host.calls l.fn.host) (crew_told l.fn.crew) (crew_faults l.fn.crew) (g.E.Sink.held l.fn.err) (links_of (λ w. g.H.Words.Rng.stream w) l.fn.links))
     (moment (g.H.Host.calls l.host) (crew_told l.crew) (crew_faults l.crew) (g.E.Sink.held l.err) (links_of (λ w. g.H.Words.Rng.stream w) l.links))
     × (g.E.Sink.faults l.fn.err ≤ g.E.Sink.faults l.err)

@@ -1,5 +1,4 @@
 use Rattle.std.proofs.Common.{ap, Err, true, false, refl, le_trans, inr}
-use Rattle.std.specs.String.{string_bytes}
 use Rattle.zr_serve.proofs.Served.{without_words, deaf, unsaid_serves, cut_serves_at, whole_serves_at, no_write_fault, rose_behind, rose_far}
 use Rattle.zr_serve.proofs.service.serve.Goals as goal
 
@@ -18,13 +17,13 @@ returns-in-Err-clause-served g c =
 
 pub returns-in-Err-dial_all-clause-served : goal.returns-in-Err-dial_all-clause-served
 returns-in-Err-dial_all-clause-served g c =
-    cut_serves_at (λ s. string_bytes s) _ _ _ _ c.in-Err-dial_all.end _ _ (g.H.Words.Rng.stream c.in-Some.words) true _ _ _ _ _ _ _ _ _ _ _ _ c.as_slice.ensures.value
+    cut_serves_at _ _ _ _ c.in-Err-dial_all.end _ _ (g.H.Words.Rng.stream c.in-Some.words) true _ _ _ _ _ _ _ _ _ _ _ _ c.as_slice.ensures.value
     c.as_str.ensures.value c.in-Some.ensures.told c.if-not-listen.ensures.told refl c.new-links.ensures c.in-Err-dial_all.ensures.stopped
     c.in_default-say_serving.ensures.said (λ it. c.in-Err-dial_all.ensures.cause.0 (ap Err it)) (λ it. c.in-Err-dial_all.ensures.cause.1 (ap Err it))
 
 pub returns-clause-served : goal.returns-clause-served
 returns-clause-served g c =
-    whole_serves_at (λ s. string_bytes s) _ _ _ _ c.accept_all-end.result _ _ (g.H.Words.Rng.stream c.in-Some.words) true _ _ _ _ _ _ _ _ _ _ _ (g.E.Sink.held c.dial_all.new.err) _ _ _ _ _ _
+    whole_serves_at _ _ _ _ c.accept_all-end.result _ _ (g.H.Words.Rng.stream c.in-Some.words) true _ _ _ _ _ _ _ _ _ _ _ (g.E.Sink.held c.dial_all.new.err) _ _ _ _ _ _
     c.as_slice.ensures.value c.as_str.ensures.value c.in-Some.ensures.told c.if-not-listen.ensures.told refl c.new-links.ensures c.in_default-dial_all.ensures.dialled
     c.accept_all-end.ensures.ended c.in_default-say_serving.ensures.said c.dial_all.ensures.later.0 c.tell_end.ensures.fault c.tell_end.ensures.quiet
 

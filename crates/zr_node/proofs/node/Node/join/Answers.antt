@@ -1,8 +1,9 @@
-use Rattle.std.proofs.Common.{ap, subst}
+use Rattle.std.proofs.Common.{ap, subst, ◌∙◌}
 use Rattle.zr_flood.specs.Flood.{AreOf}
+use Rattle.zr_id.specs.Record.{LinkedState}
 use Rattle.zr_graph.specs.Base.{BaseState}
 use Rattle.zr_node_spec.specs.State.{NodeState}
-use Rattle.zr_node_spec.specs.Table.{with_base}
+use Rattle.zr_node_spec.specs.Table.{joined, with_base}
 use Rattle.zr_node.specs.Done.{IsLeft, IsDone}
 use Rattle.zr_node.specs.Steps.{join_part}
 use Rattle.zr_node.specs.declared.failure.NodeFailure.TheVariants.{NoMemory}
@@ -25,7 +26,7 @@ returns-in_err-flood_up c =
     let of : AreOf node c.as_slice.result.now = record { right = c.self.invariant.links; same = c.as_slice.ensures.value } in
     subst (λ (m : NodeState). IsDone (join_part m c.args.link c.args.peer.now) c.from_residual-in_err-flood_up.result now c.args.out.now.items c.flood_up.new.out.items) c.self.view_is
     (failed (join_part node c.args.link c.args.peer.now) NoMemory c.from_residual-in_err-flood_up.result now c.args.out.now.items c.flood_up.new.out.items c.from_residual-in_err-flood_up.ensures.1
-    (c.in_err-flood_up.ensures.err node c.args.peer.now of c.in_ok-join.ensures.ok))
+    (c.in_err-flood_up.ensures.err node c.args.peer.now of (c.in_ok-join.ensures.ok ∙ ap (λ (l : LinkedState). joined c.self.inside.base l) c.own_link.ensures)))
 
 pub returns : goal.returns
 returns c =
@@ -35,6 +36,6 @@ returns c =
     subst (λ (m : NodeState). IsLeft (join_part m c.args.link c.args.peer.now) now c.args.out.now.items c.flood_up.new.out.items) c.self.view_is
     (record {
       allowed = c.in_ok-join.ensures.worn;
-      state = ap (λ (b : BaseState). with_base node b) c.in_ok-join.ensures.ok;
-      sends = c.in_ok-flood_up.ensures.ok node c.args.peer.now of c.in_ok-join.ensures.ok;
+      state = ap (λ (b : BaseState). with_base node b) (c.in_ok-join.ensures.ok ∙ ap (λ (l : LinkedState). joined c.self.inside.base l) c.own_link.ensures);
+      sends = c.in_ok-flood_up.ensures.ok node c.args.peer.now of (c.in_ok-join.ensures.ok ∙ ap (λ (l : LinkedState). joined c.self.inside.base l) c.own_link.ensures);
     })

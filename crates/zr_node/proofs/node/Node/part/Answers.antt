@@ -1,6 +1,7 @@
 use Rattle.std.proofs.Common.{List, refl, ap, subst, ◌∙◌}
 use Rattle.zr_flood.specs.Flood.{AreOf}
 use Rattle.zr_graph.specs.Base.{BaseState}
+use Rattle.zr_msg.specs.Peer.{PeerState}
 use Rattle.zr_msg.specs.declared.peer.Role.TheVariants.{Router}
 use Rattle.zr_pend.specs.Row.{RowState}
 use Rattle.zr_node_spec.specs.Queries.{sends_ends}
@@ -30,7 +31,7 @@ returns-in_err-flood_down c =
     subst (λ (m : NodeState). IsDone (parting_part m c.args.link.0 c.args.peer.now) c.from_residual-in_err-flood_down.result now c.args.out.now.items c.flood_down.new.out.items) c.self.view_is
     (failed (parting_part node c.args.link.0 c.args.peer.now) NoMemory c.from_residual-in_err-flood_down.result now c.args.out.now.items c.flood_down.new.out.items c.from_residual-in_err-flood_down.ensures.1
     (prefix_second (sends_ends node.pending c.args.link.0) (sends_parted node c.args.link.0 c.args.peer.now Router) (parting_part node c.args.link.0 c.args.peer.now).sends c.args.out.now.items (λ to. refl) c.ends_of.new.out.items c.flood_down.new.out.items
-    c.in_ok-ends_of.ensures.ok (c.in_err-flood_down.ensures.err node c.args.peer.now of c.in_ok-part.ensures.ok)))
+    c.in_ok-ends_of.ensures.ok (c.in_err-flood_down.ensures.err node c.args.peer.now of (c.in_ok-part.ensures.ok ∙ ap (λ (p : PeerState). parted c.self.inside.base p.id) c.peer.view_is))))
 
 pub returns-in_err-ends_of : goal.returns-in_err-ends_of
 returns-in_err-ends_of c =
@@ -50,9 +51,9 @@ returns c =
     (record {
       allowed = c.in_ok-part.ensures.worn;
       state =
-          ap (λ (b : BaseState). with_pending (with_base node b) c.ends_of.new.pending) c.in_ok-part.ensures.ok
+          ap (λ (b : BaseState). with_pending (with_base node b) c.ends_of.new.pending) (c.in_ok-part.ensures.ok ∙ ap (λ (p : PeerState). parted c.self.inside.base p.id) c.peer.view_is)
           ∙ ap (λ (rs : List RowState). with_pending (with_base node (parted node.base c.args.peer.now.id)) rs) c.in_ok-ends_of.ensures.rows;
       sends =
           told_both (sends_ends node.pending c.args.link.0) (sends_parted node c.args.link.0 c.args.peer.now Router) (parting_part node c.args.link.0 c.args.peer.now).sends c.args.out.now.items (λ to. refl) c.ends_of.new.out.items c.flood_down.new.out.items
-          c.in_ok-ends_of.ensures.ok (c.in_ok-flood_down.ensures.ok node c.args.peer.now of c.in_ok-part.ensures.ok);
+          c.in_ok-ends_of.ensures.ok (c.in_ok-flood_down.ensures.ok node c.args.peer.now of (c.in_ok-part.ensures.ok ∙ ap (λ (p : PeerState). parted c.self.inside.base p.id) c.peer.view_is));
     })

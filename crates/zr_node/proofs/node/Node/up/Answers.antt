@@ -1,4 +1,5 @@
-use Rattle.std.proofs.Common.{sym, subst}
+use Rattle.std.proofs.Common.{sym, ap, subst, ◌∙◌}
+use Rattle.zr_msg.specs.Peer.{PeerState}
 use Rattle.zr_msg.specs.declared.peer.Role.{Role}
 use Rattle.zr_node.specs.Done.{IsDone}
 use Rattle.zr_node.specs.Steps.{up_part}
@@ -6,8 +7,8 @@ use Rattle.zr_node.proofs.Ups.{client_up}
 use Rattle.zr_node.proofs.node.Node.up.Goals as goal
 
 pub returns-in_ok-add-in-Client : goal.returns-in_ok-add-in-Client
-returns-in_ok-add-in-Client c = client_up c.args.self.now c.args.link c.args.peer.now c.add.new.self c.args.out.now.items c.in-Client.is c.in_ok-add-in-Client.ensures
+returns-in_ok-add-in-Client c = client_up c.args.self.now c.args.link c.args.peer.now c.add.new.self c.args.out.now.items (sym (ap (λ (p : PeerState). p.role) c.peer.view_is) ∙ c.in-Client.is) c.in_ok-add-in-Client.ensures
 
 pub returns-in-Router : goal.returns-in-Router
 returns-in-Router c =
-    subst (λ (role : Role). IsDone (up_part c.args.self.now c.args.link c.args.peer.now role) c.router_up.result c.router_up.new.self c.args.out.now.items c.router_up.new.out.items) (sym c.in-Router.is) c.router_up.ensures
+    subst (λ (role : Role). IsDone (up_part c.args.self.now c.args.link c.args.peer.now role) c.router_up.result c.router_up.new.self c.args.out.now.items c.router_up.new.out.items) (sym c.in-Router.is ∙ ap (λ (p : PeerState). p.role) c.peer.view_is) c.router_up.ensures

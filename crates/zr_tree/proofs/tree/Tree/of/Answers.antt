@@ -13,9 +13,9 @@ loop-x-preserved c =
     let e = c.args.edges.now in
     let right = c.rows-rows.ensures.right in
     let lt : c.loop-x.x < length e.records = omega (arith, c.loop-x-test.true, ap length c.rows-rows.ensures.value, right.long) in
-    let near : c.indexes-neighbours.result.now ≡ row e.rows c.loop-x.x =
-    c.indexes-neighbours.ensures ∙ get_or_read c.rows-rows.result.now c.loop-x.x c.index-rows-x.result c.loop-x-test.true c.index-rows-x.is [] ∙ ap (λ rs. row rs c.loop-x.x) c.rows-rows.ensures.value in
-    let is : children_by c.args.names.now c.deref.result.now c.loop-x.x c.indexes-neighbours.result.now ≡ map (name e.records) (filter (is_child_index c.in_ok-ways.ways.parents.items c.loop-x.x) (row e.rows c.loop-x.x)) =
+    let near : c.neighbours-neighbours.result.now ≡ row e.rows c.loop-x.x =
+    c.neighbours-neighbours.ensures ∙ get_or_read c.rows-rows.result.now c.loop-x.x c.index-rows-x.result c.loop-x-test.true c.index-rows-x.is [] ∙ ap (λ rs. row rs c.loop-x.x) c.rows-rows.ensures.value in
+    let is : children_by c.args.names.now c.deref.result.now c.loop-x.x c.neighbours-neighbours.result.now ≡ map (λ n. name e.records n.index) (filter (λ n. is_child_index c.in_ok-ways.ways.parents.items c.loop-x.x n.index) (row e.rows c.loop-x.x)) =
     rw (c.requires.names, c.deref.ensures.value, near) refl in
     let here : IsHop e.records c.args.root c.children_number.new.lists.lists c.loop-x.x c.hop_of.result =
     hop_from e right c.args.root c.loop-x.x _ _ _ c.children_number.new.lists.lists c.hop_of.result _ c.in_ok-ways.ensures lt

@@ -4,7 +4,7 @@ use Rattle.std.specs.Option.{option_map_or}
 use Rattle.std.proofs.lemmas.Map.Steps.{set_value_same}
 use Rattle.std.proofs.lemmas.Result.{err_from_is_err_and}
 use Rattle.zr_id.specs.Zid.{is_named}
-use Rattle.zr_msg.specs.declared.peer.Peer.{Peer}
+use Rattle.zr_msg.specs.Peer.{PeerState}
 use Rattle.zr_world_spec.specs.World.{Ends, router_of, is_taken, end_of, with_end, with_router, is_up, lifted}
 use Rattle.zr_world_spec.specs.Acts.{up_event, peer_of}
 use Rattle.zr_world_ends.specs.Steps.{changed_at}
@@ -23,7 +23,7 @@ hear_up-requires c =
     let es : end_of (state_of c.args.self.now).ends (c.args.router, c.args.neighbour) ≡ Some c.in-Some-get.end.now = search rules in
     let down : is_up (state_of c.args.self.now).ends (c.args.router, c.args.neighbour) ≡ false = ap (λ o. option_map_or (λ s. s.up) o false) es ∙ sym c.is_up.ensures ∙ c.if-is_up.false in
     rw c.peer_of-peer.ensures
-    (fresh w c.requires c.args.router c.in-Some.r.now er (peer_of w c.args.neighbour) down (c.requires.apart c.args.router c.args.neighbour (ap is_some es)))
+    (fresh w c.requires c.args.router c.in-Some.r.now er (peer_of w c.args.neighbour c.weight_at-weight.result) down (c.requires.apart c.args.router c.args.neighbour (ap is_some es)))
 
 pub returns : goal.returns
 returns c =
@@ -37,8 +37,10 @@ returns c =
     let unbroken : c.in-Some-get.end.now.unbroken ≡ true = sym c.is_unbroken.ensures ∙ c.if-not-is_unbroken.false in
     let up : c.in-Some-get.end.now.up ≡ false = sym c.is_up.ensures ∙ c.if-is_up.false in
     let down : is_up (state_of c.args.self.now).ends (c.args.router, c.args.neighbour) ≡ false = ap (λ o. option_map_or (λ s. s.up) o false) es ∙ up in
-    let heard : IsHeard (Ok tt) c.in-Some.r.now c.hear_up.new.self (up_event c.in-Some.r.now (peer_of w c.args.neighbour)) c.hear_up.new.out.items =
-    subst (λ (z : Peer). IsHeard (Ok tt) c.in-Some.r.now c.hear_up.new.self (up_event c.in-Some.r.now z) c.hear_up.new.out.items) c.peer_of-peer.ensures c.in_ok-hear_up.ensures in
+    let same : c.peer_of-peer.result ≡ peer_of w c.args.neighbour c.in-Some-get.end.now.weight =
+    c.peer_of-peer.ensures ∙ ap (peer_of w c.args.neighbour) (c.weight_at-weight.ensures c.in-Some-get.end.now es) in
+    let heard : IsHeard (Ok tt) c.in-Some.r.now c.hear_up.new.self (up_event c.in-Some.r.now (peer_of w c.args.neighbour c.in-Some-get.end.now.weight)) c.hear_up.new.out.items =
+    subst (λ (z : PeerState). IsHeard (Ok tt) c.in-Some.r.now c.hear_up.new.self (up_event c.in-Some.r.now z) c.hear_up.new.out.items) same c.in_ok-hear_up.ensures in
     let ends : Ends = with_end w.ends (c.args.router, c.args.neighbour) (lifted s) in
     let lift : c.lift.new.self ≡ with_end c.args.self.now.ends (c.args.router, c.args.neighbour) (lifted c.in-Some-get.end.now) =
     c.in_ok-lift.ensures ∙ ap (λ o. changed_at c.args.self.now.ends (c.args.router, c.args.neighbour) lifted o) es in
@@ -46,9 +48,9 @@ returns c =
     c.in_ok-spread.ensures ∙ ap (λ (z : Ends). all_queued_on c.hear_up.new.self.node.links z c.args.router c.hear_up.new.out.items c.args.line) lift in
     let lent : (c.get_mut.follows.lender c.hear_up.new.self).entries ≡ with_router c.args.self.now.routers.entries c.args.router c.hear_up.new.self = search rules in
     up_by w c.args.line c.args.router c.args.neighbour r s er et es unbroken up (Ok (record { routers = with_router w.routers c.args.router r'; clients = w.clients; ends = c.spread.new.ends; booked = w.booked }))
-    (hears_is w ends c.spread.new.ends c.args.router r r' (up_event r (peer_of w c.args.neighbour)) c.hear_up.new.out.items c.args.line heard
+    (hears_is w ends c.spread.new.ends c.args.router r r' (up_event r (peer_of w c.args.neighbour c.in-Some-get.end.now.weight)) c.hear_up.new.out.items c.args.line heard
     (ordered_with w.ends (c.args.router, c.args.neighbour) (lifted s) c.requires.in_order) (c.requires.unique c.args.router r er)
-    (fresh w c.requires c.args.router r er (peer_of w c.args.neighbour) down (c.requires.apart c.args.router c.args.neighbour (ap is_some es))) spread)
+    (fresh w c.requires c.args.router r er (peer_of w c.args.neighbour c.in-Some-get.end.now.weight) down (c.requires.apart c.args.router c.args.neighbour (ap is_some es))) spread)
     ∙ (λ i. Ok ([], record { routers = sym lent i; clients = c.args.self.now.clients.entries; ends = c.spread.new.ends; booked = c.args.self.now.booked }))
 
 pub returns-in_err-hear_up : goal.returns-in_err-hear_up
@@ -60,8 +62,10 @@ returns-in_err-hear_up c =
     let es : end_of (state_of c.args.self.now).ends (c.args.router, c.args.neighbour) ≡ Some c.in-Some-get.end.now = search rules in
     let unbroken : c.in-Some-get.end.now.unbroken ≡ true = sym c.is_unbroken.ensures ∙ c.if-not-is_unbroken.false in
     let up : c.in-Some-get.end.now.up ≡ false = sym c.is_up.ensures ∙ c.if-is_up.false in
-    let heard : IsHeard (Err c.in_err-hear_up.field-0.0) c.in-Some.r.now c.hear_up.new.self (up_event c.in-Some.r.now (peer_of w c.args.neighbour)) c.hear_up.new.out.items =
-    subst (λ (z : Peer). IsHeard (Err c.in_err-hear_up.field-0.0) c.in-Some.r.now c.hear_up.new.self (up_event c.in-Some.r.now z) c.hear_up.new.out.items) c.peer_of-peer.ensures c.in_err-hear_up.ensures in
+    let same : c.peer_of-peer.result ≡ peer_of w c.args.neighbour c.in-Some-get.end.now.weight =
+    c.peer_of-peer.ensures ∙ ap (peer_of w c.args.neighbour) (c.weight_at-weight.ensures c.in-Some-get.end.now es) in
+    let heard : IsHeard (Err c.in_err-hear_up.field-0.0) c.in-Some.r.now c.hear_up.new.self (up_event c.in-Some.r.now (peer_of w c.args.neighbour c.in-Some-get.end.now.weight)) c.hear_up.new.out.items =
+    subst (λ (z : PeerState). IsHeard (Err c.in_err-hear_up.field-0.0) c.in-Some.r.now c.hear_up.new.self (up_event c.in-Some.r.now z) c.hear_up.new.out.items) same c.in_err-hear_up.ensures in
     let lent : (c.get_mut.follows.lender c.hear_up.new.self).entries ≡ with_router c.args.self.now.routers.entries c.args.router c.hear_up.new.self = search rules in
     rw (p.1, p.2)
     (up_refused w _ c.args.line c.args.router c.args.neighbour c.in-Some.r.now c.hear_up.new.self c.in-Some-get.end.now c.hear_up.new.out.items c.in_err-hear_up.field-0.0 er et es unbroken up heard
