@@ -9,3 +9,4 @@ pub mod Spoken
 pub mod FlowActs
 pub mod AtRest
 pub mod Logged
+pub mod Phases

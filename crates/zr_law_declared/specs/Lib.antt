@@ -2,3 +2,4 @@ pub mod Declared
 pub mod Rows
 pub mod Sets
 pub mod Logs
+pub mod Phases

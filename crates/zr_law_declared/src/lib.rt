@@ -5,6 +5,7 @@
 ghost use Rattle.zr_law_declared.specs.Rows.{SettledRowsAreDeclared};
 ghost use Rattle.zr_law_declared.specs.Sets.{SettledSetsAreDeclared};
 ghost use Rattle.zr_law_declared.specs.Logs.{LogsAreMade, SettledLogsAreKnown};
+ghost use Rattle.zr_law_declared.specs.Phases.{PhasesChangeNothing};
 
 /// At each settled moment the rows of each router are what the clients attached to it have declared, key and kind: each has a link, under each of
 /// its ids stands just what it has declared there, and no row is another's.
@@ -28,4 +29,9 @@ pub fn logs_are_made()
 /// lead to.
 pub fn settled_logs_are_known()
     ensures { SettledLogsAreKnown }
+{}
+
+/// An act that may stand in a phase brings no router and no client, breaks no link, and declares nothing or takes it back.
+pub fn phases_change_nothing()
+    ensures { PhasesChangeNothing }
 {}

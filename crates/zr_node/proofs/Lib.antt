@@ -6,6 +6,7 @@ pub mod Free
 pub mod Handled
 pub mod Judged
 pub mod Logged
+pub mod Messages
 pub mod Named
 pub mod News
 pub mod Parts

@@ -3,7 +3,6 @@
 ghost use Rattle.std.specs.Prelude.{◌≡◌, ◌+◌, ◌-◌, ◌^◌, not, nat_lt, length, map, IfOk, OnOk, OnErr};
 ghost use Rattle.zr_local.specs.Rows.{gone, came};
 ghost use Rattle.zr_node_spec.specs.Changes.{changes_of, after_changes};
-ghost use Rattle.zr_node_spec.specs.Table.{able_kind};
 ghost use Rattle.zr_node.specs.Answer.{IsJudged, answered};
 ghost use Rattle.zr_node.specs.Asked.{rows_after, local_after, refuses_asked};
 
@@ -47,13 +46,6 @@ impl Asked {
             Asked::Leave { link } => Asked::Leave { link: *link },
         })
     }
-}
-
-/// The kind of a queryable.
-pub fn able_kind(complete: bool) -> Kind
-    ensures { result ≡ able_kind complete }
-{
-    if complete { Kind::Full } else { Kind::Able }
 }
 
 /// Does what a client asks, and tells what became of the set of all declarations.

@@ -19,14 +19,15 @@ ghost use Rattle.zr_tree.specs.Same.{HaveSameEdges};
 ghost use Rattle.zr_node.specs.Answer.{IsAnswered, IsJudged, refusal_of};
 ghost use Rattle.zr_node.specs.Asked.{rows_after, local_after, refuses_asked, refuses_change};
 ghost use Rattle.zr_node.specs.Done.{IsDone};
-ghost use Rattle.zr_node.specs.Steps.{with_local, event_part, message_part, asked_part, declare_part, undeclare_part, step_part, snap_part, told_part};
+ghost use Rattle.zr_node.specs.Steps.{with_local, event_part, asked_part, declare_part, undeclare_part, step_part, snap_part, told_part};
 
 mod interests;
 mod lent;
+mod messages;
 mod neighbours;
 mod traffic;
 
-use crate::asked::{self, Asked, able_kind, apply, has_room};
+use crate::asked::{self, Asked, apply, has_room};
 use crate::failure::NodeFailure;
 use crate::kept::{Before, forget, put_family, put_trees, take_family};
 use crate::links::Links;
@@ -297,61 +298,6 @@ impl Node {
             Event::Up { link, peer } => self.up(alloc, *link, peer, out),
             Event::Down { link } => self.down(alloc, *link, out),
             Event::From { link, msg } => self.on_message(alloc, *link, msg, out),
-        }
-    }
-
-    // A message has come over a link.
-    fn on_message(
-        &mut self,
-        alloc: Global,
-        link: LinkNo,
-        msg: &Msg,
-        out: &mut Vec<(LinkNo, Msg)>,
-    ) -> Result<(), NodeFailure>
-        ensures { IsDone (message_part self.old link.0 msg.now) result self.new out.old.items out.new.items }
-    {
-        match msg {
-            Msg::Sub { id, key } => self.declare(alloc, link, *id, Kind::Sub, key, out),
-            Msg::Unsub { id } => self.undeclare(alloc, link, *id, Kind::Sub, out),
-            Msg::Able { id, key, complete } => {
-                self.declare(alloc, link, *id, able_kind(*complete), key, out)
-            }
-            Msg::Unable { id } => self.undeclare(alloc, link, *id, Kind::Able, out),
-            Msg::Push { tree, content } => self.push(alloc, link, *tree, content, out),
-            Msg::Request {
-                tree,
-                id,
-                target,
-                content,
-            } => self.request(alloc, link, *tree, *id, *target, content, out),
-            Msg::Response { id, content } => self.response(link, *id, content, out),
-            Msg::Final { id, extras } => self.end(link, *id, extras, out),
-            Msg::State { links } => self.accept(alloc, link, links, out),
-            Msg::Step {
-                source,
-                number,
-                added,
-                decl,
-            } => self.step(alloc, link, msg, *source, *number, *added, decl.get(), out),
-            Msg::Snap {
-                source,
-                number,
-                decls,
-            } => self.snap(alloc, link, msg, *source, *number, decls, out),
-            Msg::Interest {
-                id,
-                future,
-                kinds,
-                key,
-                aggregate,
-                ..
-            } => self.interest(alloc, link, *future, *id, *kinds, key, *aggregate),
-            Msg::EndInterest { id } => self.end_interest(link, *id),
-            Msg::ToldSub { .. }
-            | Msg::ToldAble { .. }
-            | Msg::ToldUnsub { .. }
-            | Msg::ToldUnable { .. }
-            | Msg::ToldEnd { .. } => Ok(()),
         }
     }
 

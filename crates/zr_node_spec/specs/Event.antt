@@ -55,13 +55,9 @@ pub record TellsPrefix (rows : ℕ → List Msg) (before now : List (LinkNo × M
   pub each : (to : LinkNo) → IsPrefixOf (on_link to sent) (rows to.0)
 
 -- behind what stood there before stands what the event sends, link by link
-pub record Sends (node : NodeState) (event : Event) (before now : List (LinkNo × Msg)) : Type 0 where
-  pub sent : List (LinkNo × Msg)
-  pub appended : now ≡ before ++ sent
-  pub each : (to : LinkNo) → on_link to sent ≡ sends node event to
+abbrev pub Sends : NodeState → Event → List (LinkNo × Msg) → List (LinkNo × Msg) → Type 0
+Sends node event before now = Tells (λ k. sends node event (record { 0 = k })) before now
 
 -- behind what stood there before stands a prefix of it, link by link
-pub record SendsPrefix (node : NodeState) (event : Event) (before now : List (LinkNo × Msg)) : Type 0 where
-  pub sent : List (LinkNo × Msg)
-  pub appended : now ≡ before ++ sent
-  pub each : (to : LinkNo) → IsPrefixOf (on_link to sent) (sends node event to)
+abbrev pub SendsPrefix : NodeState → Event → List (LinkNo × Msg) → List (LinkNo × Msg) → Type 0
+SendsPrefix node event before now = TellsPrefix (λ k. sends node event (record { 0 = k })) before now

@@ -16,6 +16,7 @@ use zr_local::row::Row;
 use zr_log::log::Log;
 use zr_match::{covers, meets};
 use zr_msg::decl::{Decl, Kind};
+use zr_node_spec::kinds::is_complete;
 
 /// Whether the client of a link has declared it.
 pub fn has_declared(rows: &mut ClientRows, link: LinkNo, sought: Sought, key: &KeyExpr) -> bool
@@ -99,14 +100,5 @@ fn is_queryable(kind: Kind) -> bool
     match kind {
         Kind::Sub => false,
         Kind::Able | Kind::Full => true,
-    }
-}
-
-fn is_complete(kind: Kind) -> bool
-    ensures { result ≡ is_complete kind }
-{
-    match kind {
-        Kind::Sub | Kind::Able => false,
-        Kind::Full => true,
     }
 }

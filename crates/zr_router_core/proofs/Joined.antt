@@ -1,5 +1,5 @@
 -- What the router does with an event and what its clients are told make one.
-use Rattle.std.proofs.Common.{append_assoc, ◌≡◌, Vec, Global, ℕ, ◌==◌, ◌&&◌, ◌||◌, ◌++◌, not, map, filter, unwrap_or, Bool, true, false, cond, List, [], ◌∷◌, Option, Some, None, IfSome, option_map, Result, Ok, Err, OnOk, refl, sym, ap, subst, ◌∙◌}
+use Rattle.std.proofs.Common.{◌≡◌, Vec, Global, ℕ, ◌==◌, ◌&&◌, ◌||◌, ◌++◌, not, map, filter, unwrap_or, Bool, true, false, cond, List, [], ◌∷◌, Option, Some, None, IfSome, option_map, Result, Ok, Err, OnOk, refl, sym, ap, subst, ◌∙◌}
 use Rattle.std.specs.List.{list_any}
 use Rattle.std.specs.Map.{lookup}
 use Rattle.std.specs.Option.{option_or, option_map_or}
@@ -19,7 +19,6 @@ use Rattle.zr_msg.specs.declared.peer.LinkPeer.{LinkPeer}
 use Rattle.zr_node_spec.specs.Tables.{TableState, is_router, link_at, leads_to_client}
 use Rattle.zr_node_spec.specs.Event.{on_link, Sends, SendsPrefix, Tells, TellsPrefix}
 use Rattle.zr_lists.specs.Prefix.{IsPrefixOf}
-use Rattle.zr_node_spec.proofs.Told.{on_link-append}
 use Rattle.zr_node_spec.specs.State.{NodeState, new_node, tables}
 use Rattle.zr_node_spec.specs.Table.{sends, after, refuses}
 use Rattle.zr_told_spec.specs.Hub.{HubState, by_link, hub_after, hub_refuses, hub_sends, HubSends, HubSendsPrefix, sends_told, told_after}
@@ -28,6 +27,7 @@ use Rattle.zr_told_spec.specs.Told.{ToldMap}
 use Rattle.zr_told_spec.specs.declared.place.Place.{Place}
 use Rattle.zr_told_spec.proofs.Events.{nothing_told}
 use Rattle.zr_node.proofs.Refusals.{not_memory}
+use Rattle.zr_node.proofs.Retold.{told_both, prefix_first, prefix_second}
 use Rattle.zr_router_core.specs.Done.{hub_of, hub_refusal_of, said_on, IsHandled, IsNodeDone, IsToldAll, IsToldOf, IsDoneBoth, IsRefusedBoth, IsDone, answer_of, have_ids}
 use Rattle.zr_router_core.specs.Places.{AreKeys, changed_places, is_quiet}
 use Rattle.zr_router_core.specs.Ready.{is_own, is_none, tells_nobody, IsToTell}
@@ -47,31 +47,15 @@ module _ (n : NodeState) (told : Maps) (event : Event) where
 
   -- first the router, then its clients
   both_sent : (said mid all : List (LinkNo × Msg)) → Sends n event said mid → Tells told_by mid all → Tells (said_on n told event) said all
-  both_sent said mid all s t = record {
-    sent = s.sent ++ t.sent;
-    appended = t.appended ∙ ap (λ (xs : List (LinkNo × Msg)). xs ++ t.sent) s.appended ∙ append_assoc said s.sent t.sent;
-    each = λ to. on_link-append to s.sent t.sent ∙ ap (λ (ms : List Msg). ms ++ on_link to t.sent) (s.each to) ∙ ap (λ (ms : List Msg). said_by to.0 ++ ms) (t.each to);
-  }
+  both_sent said mid all s t = told_both said_by told_by (said_on n told event) said (λ to. refl) mid all s t
 
   -- memory ran out in the router
   pub first_prefix : (said all : List (LinkNo × Msg)) → SendsPrefix n event said all → TellsPrefix (said_on n told event) said all
-  first_prefix said all h = record {
-    sent = h.sent;
-    appended = h.appended;
-    each = λ to. ((h.each to).0 ++ told_by to.0, ap (λ (ms : List Msg). ms ++ told_by to.0) (h.each to).1 ∙ append_assoc (on_link to h.sent) (h.each to).0 (told_by to.0));
-  }
+  first_prefix said all h = prefix_first said_by told_by (said_on n told event) said (λ to. refl) all h
 
   -- and where its clients were told
   second_prefix : (said mid all : List (LinkNo × Msg)) → Sends n event said mid → TellsPrefix told_by mid all → TellsPrefix (said_on n told event) said all
-  second_prefix said mid all s t = record {
-    sent = s.sent ++ t.sent;
-    appended = t.appended ∙ ap (λ (xs : List (LinkNo × Msg)). xs ++ t.sent) s.appended ∙ append_assoc said s.sent t.sent;
-    each = λ to. (
-      (t.each to).0,
-      ap (λ (ms : List Msg). said_by to.0 ++ ms) (t.each to).1 ∙ sym (append_assoc (said_by to.0) (on_link to t.sent) (t.each to).0)
-          ∙ ap (λ (ms : List Msg). ms ++ (t.each to).0) (ap (λ (ms : List Msg). ms ++ on_link to t.sent) (sym (s.each to)) ∙ sym (on_link-append to s.sent t.sent)),
-    );
-  }
+  second_prefix said mid all s t = prefix_second said_by told_by (said_on n told event) said (λ to. refl) mid all s t
 
   -- ---- refusals
 

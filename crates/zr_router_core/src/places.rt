@@ -5,7 +5,7 @@ ghost use Rattle.std.specs.Option.{option_map};
 ghost use Rattle.zr_graph.specs.Base.{is_newer};
 ghost use Rattle.zr_local.specs.Rows.{AreInOrder};
 ghost use Rattle.zr_node_spec.specs.Tables.{link_at};
-ghost use Rattle.zr_node_spec.specs.Table.{able_kind, key_of, row};
+ghost use Rattle.zr_node_spec.specs.Table.{key_of, row};
 ghost use Rattle.zr_told_spec.specs.Place.{class_of, place_of};
 ghost use Rattle.zr_router_core.specs.Places.{AreKeys, places_under, places_declared, places_on, places_from, places_parted, places_down, places_up, places_told, changed_places, some_places};
 
@@ -20,6 +20,7 @@ use zr_msg::event::Event;
 use zr_msg::msg::Msg;
 use zr_msg::peer::Role;
 use zr_node::node::Node;
+use zr_node_spec::kinds::able_kind;
 use zr_told::place::class_of;
 use zr_told_spec::place::Place;
 use zr_tree::same::find_record;
@@ -147,13 +148,6 @@ fn some(places: Result<Vec<Place>, AllocError>) -> Result<Option<Vec<Place>>, Al
         Ok(places) => Ok(Some(places)),
         Err(error) => Err(error),
     }
-}
-
-// The kind of a queryable.
-fn able_kind(complete: bool) -> Kind
-    ensures { result ≡ able_kind complete }
-{
-    if complete { Kind::Full } else { Kind::Able }
 }
 
 // What a declaration replaces, and what it declares.

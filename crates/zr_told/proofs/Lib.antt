@@ -7,6 +7,7 @@ pub mod Counted
 pub mod Touches
 pub mod Plans
 pub mod Said
+pub mod Calls
 pub mod Clients
 pub mod Changed
 pub mod Found

@@ -5,7 +5,6 @@ ghost use Rattle.zr_told_spec.specs.Place.{place_of};
 ghost use Rattle.zr_told_spec.specs.Wanted.{fits, told_as, wanted};
 ghost use Rattle.std.specs.List.{fold};
 ghost use Rattle.std.specs.Option.{option_copied};
-ghost use Rattle.zr_node_spec.specs.Queries.{is_complete};
 ghost use Rattle.zr_told.specs.Plan.{updated, put_mark, is_wanted, with_again, with_complete, mark_wanted, mark_again, mark_complete, mark_answered, marks_of};
 
 use crate::book::Book;
@@ -15,7 +14,8 @@ use crate::place::{class_of, place_of};
 use std::alloc::{AllocError, Global};
 use std::collections::BTreeMap;
 use zr_local::interest::Interest;
-use zr_msg::decl::{Decl, Kind};
+use zr_msg::decl::Decl;
+use zr_node_spec::kinds::is_complete;
 use zr_told_spec::place::Place;
 
 /// The marks on each place of which a client was told, or wants to be told of what others declare. Of one of its interests it may be told all.
@@ -201,14 +201,4 @@ pub fn wanted_places(
     mark_wanted(alloc, others, interest, &mut marks)?;
     mark_complete(alloc, others, &mut marks)?;
     Book::new(alloc).fresh(alloc, &marks)
-}
-
-/// Whether a declaration is of a complete queryable.
-pub fn is_complete(kind: Kind) -> bool
-    ensures { result ≡ is_complete kind }
-{
-    match kind {
-        Kind::Sub | Kind::Able => false,
-        Kind::Full => true,
-    }
 }

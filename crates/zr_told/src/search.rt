@@ -9,7 +9,6 @@ ghost use Rattle.zr_told_spec.specs.Rows.{is_source, others};
 ghost use Rattle.zr_told_spec.specs.Wanted.{asked, is_complete_at, wants};
 
 use crate::interest::is_told_at;
-use crate::marks::is_complete;
 use crate::others::is_source;
 use crate::place::is_at;
 use zr_id::link::LinkNo;
@@ -17,6 +16,7 @@ use zr_local::interest::{ClientInterests, Interest};
 use zr_local::row::Row;
 use zr_log::log::Log;
 use zr_msg::decl::Decl;
+use zr_node_spec::kinds::is_complete;
 use zr_node_spec::tables::TablesView;
 use zr_told_spec::place::Place;
 

@@ -7,6 +7,7 @@ ghost use Rattle.std.specs.Ordering.{nat_cmp};
 ghost use Rattle.std.specs.List.{flat_map, fold};
 ghost use Rattle.zr_local.specs.Clients.{AreByLink};
 ghost use Rattle.zr_lists.specs.Prefix.{IsPrefixBehind};
+ghost use Rattle.zr_told.specs.Calls.{HasTold};
 ghost use Rattle.zr_told.specs.Plan.{HasIds, IsPlan, PlansAscend, forgotten, ids_last, is_answered, tells_plan, told_plans};
 ghost use Rattle.zr_told_spec.specs.Rows.{AreAsWantedBut, AreListed, IsAsWantedBut, IsNoted, Maps, map_on, one_lacks_ids, tells_all, told_on, most_id, sent_on, others, lacks_ids, tells_changes, told_changes, is_again, answered, once, closing, tells_interest, told_interest};
 ghost use Rattle.zr_told_spec.specs.Told.{entered, undeclared, declared, declares};
@@ -71,12 +72,7 @@ impl Told {
         interests: &[Interest],
         out: &mut Vec<(LinkNo, Msg)>,
     ) -> Result<(), ToldError>
-        ensures map { OnOk result ((k : ℕ) → map_on self.new k ≡ (if link.0 == k then told_changes (others tables.now link.0) interests.now (map_on self.old link.0) else map_on self.old k)) }
-        ensures out { OnOk result (out.new.items ≡ out.old.items ++ sent_on link (tells_changes (others tables.now link.0) interests.now (map_on self.old link.0))) }
-        ensures ids { OnOk result (lacks_ids (others tables.now link.0) interests.now ≡ false) }
-        ensures worn { result ≡ Err ToldError.Worn → lacks_ids (others tables.now link.0) interests.now ≡ true }
-        ensures unchanged { result ≡ Err ToldError.Worn → (self.new ≡ self.old) × (out.new.items ≡ out.old.items) }
-        ensures err { OnErr result (IsPrefixBehind out.old.items (sent_on link (tells_changes (others tables.now link.0) interests.now (map_on self.old link.0))) out.new.items) }
+        ensures { HasTold (lacks_ids (others tables.now link.0) interests.now) (sent_on link (tells_changes (others tables.now link.0) interests.now (map_on self.old link.0))) (λ k. if link.0 == k then told_changes (others tables.now link.0) interests.now (map_on self.old link.0) else map_on self.old k) result self.old self.new out.old.items out.new.items }
     {
         let plan = self.plan_changes(alloc, tables, link, interests)?;
         Ok(self.tell(alloc, link, None, &plan, out)?)
@@ -97,12 +93,7 @@ impl Told {
         out: &mut Vec<(LinkNo, Msg)>,
     ) -> Result<(), ToldError>
         requires noted { IsNoted future interest.now interests.now }
-        ensures map { OnOk result ((k : ℕ) → map_on self.new k ≡ (if link.0 == k then told_interest future (others tables.now link.0) interests.now interest.now (map_on self.old link.0) else map_on self.old k)) }
-        ensures out { OnOk result (out.new.items ≡ out.old.items ++ sent_on link (tells_interest current future (others tables.now link.0) interests.now interest.now (map_on self.old link.0))) }
-        ensures ids { OnOk result (lacks_ids (others tables.now link.0) interests.now ≡ false) }
-        ensures worn { result ≡ Err ToldError.Worn → lacks_ids (others tables.now link.0) interests.now ≡ true }
-        ensures unchanged { result ≡ Err ToldError.Worn → (self.new ≡ self.old) × (out.new.items ≡ out.old.items) }
-        ensures err { OnErr result (IsPrefixBehind out.old.items (sent_on link (tells_interest current future (others tables.now link.0) interests.now interest.now (map_on self.old link.0))) out.new.items) }
+        ensures { HasTold (lacks_ids (others tables.now link.0) interests.now) (sent_on link (tells_interest current future (others tables.now link.0) interests.now interest.now (map_on self.old link.0))) (λ k. if link.0 == k then told_interest future (others tables.now link.0) interests.now interest.now (map_on self.old link.0) else map_on self.old k) result self.old self.new out.old.items out.new.items }
     {
         let others = others(alloc, tables, link)?;
         self.interest_among(
@@ -122,12 +113,7 @@ impl Told {
         future: bool,
         out: &mut Vec<(LinkNo, Msg)>,
     ) -> Result<(), ToldError>
-        ensures map { OnOk result ((k : ℕ) → map_on self.new k ≡ (if link.0 == k then told_interest future others.now interests.now interest.now (map_on self.old link.0) else map_on self.old k)) }
-        ensures out { OnOk result (out.new.items ≡ out.old.items ++ sent_on link (tells_interest current future others.now interests.now interest.now (map_on self.old link.0))) }
-        ensures ids { OnOk result (lacks_ids others.now interests.now ≡ false) }
-        ensures worn { result ≡ Err ToldError.Worn → lacks_ids others.now interests.now ≡ true }
-        ensures unchanged { result ≡ Err ToldError.Worn → (self.new ≡ self.old) × (out.new.items ≡ out.old.items) }
-        ensures err { OnErr result (IsPrefixBehind out.old.items (sent_on link (tells_interest current future others.now interests.now interest.now (map_on self.old link.0))) out.new.items) }
+        ensures { HasTold (lacks_ids others.now interests.now) (sent_on link (tells_interest current future others.now interests.now interest.now (map_on self.old link.0))) (λ k. if link.0 == k then told_interest future others.now interests.now interest.now (map_on self.old link.0) else map_on self.old k) result self.old self.new out.old.items out.new.items }
     {
         let plan = self.plan(alloc, link, others, interests, answered(interest, future))?;
         self.tell(alloc, link, names(interest, current, future), &plan, out)?;
@@ -147,12 +133,7 @@ impl Told {
     ) -> Result<(), ToldError>
         requires by_link { AreByLink clients.now }
         requires before { AreAsWantedBut places.now tables.now clients.now self.old }
-        ensures map { OnOk result ((k : ℕ) → map_on self.new k ≡ told_on tables.now clients.now self.old k) }
-        ensures out { OnOk result (out.new.items ≡ out.old.items ++ tells_all tables.now clients.now self.old) }
-        ensures ids { OnOk result (one_lacks_ids tables.now clients.now ≡ false) }
-        ensures worn { result ≡ Err ToldError.Worn → one_lacks_ids tables.now clients.now ≡ true }
-        ensures unchanged { result ≡ Err ToldError.Worn → (self.new ≡ self.old) × (out.new.items ≡ out.old.items) }
-        ensures err { OnErr result (IsPrefixBehind out.old.items (tells_all tables.now clients.now self.old) out.new.items) }
+        ensures { HasTold (one_lacks_ids tables.now clients.now) (tells_all tables.now clients.now self.old) (told_on tables.now clients.now self.old) result self.old self.new out.old.items out.new.items }
     {
         let plans = self.plans_at(alloc, tables, clients, places)?;
         Ok(self.tell_all(alloc, &plans, out)?)
@@ -170,12 +151,7 @@ impl Told {
     ) -> Result<(), ToldError>
         requires by_link { AreByLink clients.now }
         requires listed { AreListed clients.now self.old }
-        ensures map { OnOk result ((k : ℕ) → map_on self.new k ≡ told_on tables.now clients.now self.old k) }
-        ensures out { OnOk result (out.new.items ≡ out.old.items ++ tells_all tables.now clients.now self.old) }
-        ensures ids { OnOk result (one_lacks_ids tables.now clients.now ≡ false) }
-        ensures worn { result ≡ Err ToldError.Worn → one_lacks_ids tables.now clients.now ≡ true }
-        ensures unchanged { result ≡ Err ToldError.Worn → (self.new ≡ self.old) × (out.new.items ≡ out.old.items) }
-        ensures err { OnErr result (IsPrefixBehind out.old.items (tells_all tables.now clients.now self.old) out.new.items) }
+        ensures { HasTold (one_lacks_ids tables.now clients.now) (tells_all tables.now clients.now self.old) (told_on tables.now clients.now self.old) result self.old self.new out.old.items out.new.items }
     {
         let plans = self.plans_all(alloc, tables, clients)?;
         Ok(self.tell_all(alloc, &plans, out)?)
