@@ -55,16 +55,18 @@ class Router:
 
     program = []
 
-    def __init__(self, ident, *dials, weights=(), options=(), port=None):
+    def __init__(self, ident, *dials, weights=(), options=(), port=None, rules=None):
         self.ident = ident
         self.port = port or free_port()
         self.address = ("127.0.0.1", self.port)
-        words = ["serve", "--id", ident, "--listen", f"127.0.0.1:{self.port}", *options]
+        words = ["serve", "--id", ident, "--listen", f"127.0.0.1:{self.port}", *options, *(["--rules"] if rules else [])]
         dialled = [f"127.0.0.1:{d.port if isinstance(d, Router) else d}" for d in dials]
         words += [f"{it},{weight}" if weight else it for it, weight in itertools.zip_longest(dialled, weights)]
-        self.process = subprocess.Popen(
-            self.program + words, stdin=subprocess.DEVNULL, stdout=subprocess.PIPE, stderr=subprocess.PIPE, text=True
-        )
+        given = subprocess.PIPE if rules else subprocess.DEVNULL
+        self.process = subprocess.Popen(self.program + words, stdin=given, stdout=subprocess.PIPE, stderr=subprocess.PIPE, text=True)
+        if rules:
+            self.process.stdin.write(rules)
+            self.process.stdin.close()
         line = self.process.stdout.readline()
         if line != f"serving {ident}\n":
             self.process.kill()

@@ -1,17 +1,14 @@
 -- The counts of one read behind those of the reads before it.
 use Rattle.std.proofs.Common.{◌≡◌, ◌∙◌, ℕ, ◌<◌, ◌≤◌, min, Result, Ok, Err, List, sym, ap, subst, inl, inr, arith}
-use Rattle.zr_msg.specs.declared.error.NodeError.TheVariants as node
 use Rattle.zr_msg.specs.declared.msg.Msg.{Msg}
 use Rattle.zr_outside.specs.Counts.{Counted, Rose, RoseBy}
 use Rattle.zr_port.specs.declared.error.DeliverError.{DeliverError}
-use Rattle.zr_port.specs.declared.error.DeliverError.TheVariants as deliver
 use Rattle.zr_session.specs.declared.event.SessionEvent.{SessionEvent}
 use Rattle.zr_session.specs.declared.fate.Fate.{Fate}
 use Rattle.zr_session.specs.declared.fate.Fate.TheVariants as fate
 use Rattle.zr_link.specs.declared.end.LinkEnd.{LinkEnd}
 use Rattle.zr_link.specs.declared.end.LinkEnd.TheVariants as end
-use Rattle.zr_link.specs.Ends.{end_of_delivery}
-use Rattle.zr_link.proofs.Going.{Settles, counted_same}
+use Rattle.zr_link.proofs.Going.{Settles, counted_same, of_delivery_end}
 
 pub rose_none : (a : ℕ) → RoseBy 0 a a
 rose_none a = record { most = omega arith; least = omega arith }
@@ -64,23 +61,8 @@ IsUnread end.CrewRefused = Unit {0}
 IsUnread end.Turns = Unit {0}
 IsUnread end.NoMemory = Unit {0}
 
-delivery_unread : (e : DeliverError) → IsUnread (end_of_delivery e)
-delivery_unread (deliver.NotUp link) = tt
-delivery_unread (deliver.Misplaced role) = tt
-delivery_unread (deliver.Node (node.Gap router has came)) = tt
-delivery_unread (deliver.Node (node.NotDeclared id)) = tt
-delivery_unread (deliver.Node (node.TextLimit held more)) = tt
-delivery_unread (deliver.Node (node.NumberTaken id)) = tt
-delivery_unread (deliver.Node (node.TooMany pending)) = tt
-delivery_unread (deliver.Node node.Worn) = tt
-delivery_unread (deliver.Node node.Spent) = tt
-delivery_unread (deliver.Node node.NoMemory) = tt
-delivery_unread (deliver.Full asked free) = tt
-delivery_unread deliver.Worn = tt
-delivery_unread deliver.NoMemory = tt
-
 pub settles_unread : (refuses : Msg → DeliverError → Type 0) (rest : List SessionEvent) (f : Fate) (e : LinkEnd) → Settles refuses rest f e → IsUnread e
-settles_unread refuses rest f e (inl stop) = subst IsUnread (sym stop.ends) (delivery_unread stop.error)
+settles_unread refuses rest f e (inl stop) = of_delivery_end IsUnread stop.error e stop.ends (λ reason at. tt) tt
 settles_unread refuses rest fate.Going e (inr is) = absurd is.1
 settles_unread refuses rest (fate.Closed reason) e (inr is) = subst IsUnread (sym is.1) tt
 settles_unread refuses rest (fate.Peer reason) e (inr is) = subst IsUnread (sym is.1) tt

@@ -1,5 +1,5 @@
 -- Messages that are delivered on a link, and how the reader of a link that is up ends.
-use Rattle.std.proofs.Common.{◌≡◌, ◌≢◌, ◌⊎◌, ℕ, ◌+◌, ◌<◌, ◌≤◌, min, ltb, arith, length, Bool, true, false, List, [], ◌∷◌, ◌++◌, map, Option, None, refl, sym, ap, subst, ◌∙◌, append_assoc, inl, inr}
+use Rattle.std.proofs.Common.{◌≡◌, ◌≢◌, ◌⊎◌, ℕ, ◌+◌, ◌<◌, ◌≤◌, min, ltb, arith, length, Bool, true, false, List, [], ◌∷◌, ◌++◌, map, Option, Some, None, refl, sym, ap, subst, ◌∙◌, append_assoc, inl, inr}
 use Rattle.std.proofs.lemmas.List.{append-nil, map-append}
 use Rattle.std.proofs.lemmas.Bool.{ltb-true, ltb-false}
 use mathlib.Core.List.{IsPrefix}
@@ -14,12 +14,12 @@ use Rattle.zr_msg.specs.declared.error.NodeError.TheVariants as node
 use Rattle.zr_open.specs.declared.expected.Expected.{Expected}
 use Rattle.zr_open.specs.declared.error.Reason.{Reason}
 use Rattle.zr_outside.specs.Counts.{Counted, RoseBy}
-use Rattle.zr_hist.specs.declared.pass.Pass.{Pass}
-use Rattle.zr_hist.specs.Words.{mine}
 use Rattle.zr_port.specs.declared.entry.Entry.{Entry}
 use Rattle.zr_port.specs.declared.error.DeliverError.{DeliverError}
 use Rattle.zr_port.specs.declared.error.DeliverError.TheVariants as deliver
-use Rattle.zr_port.specs.Adding.{AddsAll, DeliversUpTo, IsEntryOf, StopsAt}
+use Rattle.zr_port.specs.Adding.{IsEntryOf}
+use Rattle.zr_port.specs.Coming.{Sight, AddsOne, Came, Delivered, Passed, message_of, messages_of, delivered, Through, ComesUpTo, StopsAt}
+use Rattle.zr_port.proofs.Coming.{looks_self, through_then}
 use Rattle.zr_session.specs.declared.event.SessionEvent.{SessionEvent}
 use Rattle.zr_session.specs.declared.event.SessionEvent.TheVariants.{Opened, Message}
 use Rattle.zr_session.specs.declared.fate.Fate.{Fate}
@@ -75,8 +75,8 @@ open_messages (Opening e) q es h k = absurd h
 open_messages (Established s) (Opening e) es h k = absurd k
 open_messages (Established s) (Established t) es h k = (k, tt)
 
-pub delivers_none : (link : LinkNo) (events : List SessionEvent) (a : List Entry) → Delivers link events events a a
-delivers_none link events a = record { msgs = []; are = refl; does = does_none a }
+pub added_does : (event : Event) (outbox : Option OutboxState) (reason : Option ℕ) (a b : Sight) → AddsOne event outbox reason a b → Does (act event outbox reason ∷ []) a.mine b.mine
+added_does event outbox reason a b h = does_entry a.mine b.mine h.entry event outbox reason h.own h.is
 
 -- ---- what a port tells of messages, as it is of their events
 
@@ -103,22 +103,25 @@ pub some_left : (events : List SessionEvent) (count : ℕ) → 0 < count → cou
 some_left [] count lt is e = absurd (omega (arith, lt, is))
 some_left (x ∷ events) count lt is e = absurd cc
 
-module _ (refuses : List Entry → Msg → DeliverError → Type 0) (link : LinkNo) where
-  does_all : (ms : List Msg) (a b : Pass Entry) → AddsAll refuses link ms a b → Does (froms link ms) (mine a) (mine b)
-  does_all [] a b d = ([], d.0 ∙ sym (append-nil (mine a)), refl)
-  does_all (m ∷ ms) a b d =
-      does_then (from link m ∷ []) (froms link ms) (mine a) (mine d.0) (mine b)
-      (does_entry (mine a) (mine d.0) d.1.entry (From link m) None None d.1.own d.1.says.0) (does_all ms d.0 b d.2)
+module _ (link : LinkNo) (refuses : List Entry → Msg → DeliverError → Type 0) where
+  -- the entries of those that were delivered are what the pass has added
+  pub through_does : (cs : List Came) (a b : Sight) → Through link refuses cs a b → Does (froms link (delivered cs)) a.mine b.mine
+  through_does [] a b h = subst (λ z. Does [] a.mine z) (sym h.0) (does_none a.mine)
+  through_does (Delivered m ∷ cs) a b h = does_then (from link m ∷ []) (froms link (delivered cs)) a.mine h.0.mine b.mine (added_does (From link m) None None a h.0 h.1.0) (through_does cs h.0 b h.2)
+  through_does (Passed m e ∷ cs) a b h = subst (λ z. Does (froms link (delivered cs)) z b.mine) h.1.0.0 (through_does cs h.0 b h.2)
 
-  pub delivers_of : (events : List SessionEvent) (ms rest : List Msg) (a b : Pass Entry) → events ≡ messages ms → DeliversUpTo refuses link ms rest a b
-      → Delivers link events (messages rest) (mine a) (mine b)
+  pub delivers_none : (events : List SessionEvent) (a : Sight) → Delivers link refuses events events a a
+  delivers_none events a = record { came = []; are = refl; goes = looks_self a }
+
+  pub delivers_of : (events : List SessionEvent) (ms rest : List Msg) (a b : Sight) → events ≡ messages ms → ComesUpTo link refuses ms rest a b
+      → Delivers link refuses events (messages rest) a b
   delivers_of events ms rest a b is d = record {
-    msgs = d.msgs;
-    are = is ∙ ap messages d.are ∙ map-append (λ x. Message x) d.msgs rest;
-    does = does_all d.msgs a b d.adds;
+    came = d.came;
+    are = is ∙ ap messages d.are ∙ map-append (λ x. Message x) (messages_of d.came) rest;
+    goes = d.goes;
   }
 
-pub stops_of : (refuses : Msg → DeliverError → Type 0) (rest : List Msg) (error : DeliverError) (e : LinkEnd) → e ≡ end_of_delivery error → StopsAt refuses rest error
+pub stops_of : (refuses : Msg → DeliverError → Type 0) (rest : List Msg) (error : DeliverError) (e : LinkEnd) → end_of_delivery error ≡ Some e → StopsAt refuses rest error
     → Stops refuses (messages rest) e
 stops_of refuses rest error e is s = record { msg = s.msg; others = messages s.others; error = error; first = ap messages s.first; refused = s.refused; ends = is }
 
@@ -128,33 +131,68 @@ stops_memory P refuses [] are some = absurd (some refl)
 stops_memory P refuses (Opened peer outbox ∷ es) are some = absurd are
 stops_memory P refuses (Message m ∷ es) are some = record { msg = m; others = es; error = deliver.NoMemory; first = refl; refused = λ ne. absurd (ne refl); ends = refl }
 
-pub froms_then : (link : LinkNo) (ms ns : List Msg) (a b c : List Entry) → Does (froms link ms) a b → Does (froms link ns) b c → Does (froms link (ms ++ ns)) a c
-froms_then link ms ns a b c h k = subst (λ z. Does z a c) (sym (map-append (λ x. from link x) ms ns)) (does_then (froms link ms) (froms link ns) a b c h k)
+-- the messages of two lists, one behind the other
+pub messages_both : (xs ys : List Msg) → messages (xs ++ ys) ≡ messages xs ++ messages ys
+messages_both xs ys = map-append (λ m. Message m) xs ys
+
+came_both : (cs ds : List Came) → messages_of (cs ++ ds) ≡ messages_of cs ++ messages_of ds
+came_both cs ds = map-append message_of cs ds
 
 -- ---- ends
 
--- a refused message is the first of those that were not delivered
-pub stop_ends : (c : Course) (m : Msg) (ms : List Msg) (Early : Type 0) (Late : Phase → Type 0) (refuses : List Entry → Msg → DeliverError → Type 0) (seen : List Entry) (error : DeliverError)
-    → (error ≢ deliver.NoMemory → refuses seen m error) → UpEnds (end_of_delivery error) c (m ∷ ms) Early Late (λ reason. Refuses refuses seen (m ∷ ms) reason)
-stop_ends c m ms Early Late refuses seen error r = by error r
+-- the end that a refusal brings is one of two kinds
+pub of_delivery_end : (P : LinkEnd → Type 0) (error : DeliverError) (e : LinkEnd) → end_of_delivery error ≡ Some e → ((reason : Reason) → end_of_delivery error ≡ Some (end.Closed reason) → P (end.Closed reason)) → P end.NoMemory → P e
+of_delivery_end P error e is closed spent = by (end_of_delivery error) is refl (kind error)
   where
-    so : (error : DeliverError) (reason : Reason) → end_of_delivery error ≡ end.Closed reason → refuses seen m error → Refuses refuses seen (m ∷ ms) reason
-    so error reason e r = record { msg = m; rest = ms; error = error; before = seen; first = refl; prefix = prefix_self seen; refused = r; ends = e }
+    IsKind : Option LinkEnd → Type 0
+    IsKind None = Unit {0}
+    IsKind (Some end.ReadFault) = ⊥
+    IsKind (Some end.WriteFault) = ⊥
+    IsKind (Some end.PeerEnded) = ⊥
+    IsKind (Some (end.Closed reason)) = Unit {0}
+    IsKind (Some (end.Peer reason)) = ⊥
+    IsKind (Some end.CrewRefused) = ⊥
+    IsKind (Some end.Turns) = ⊥
+    IsKind (Some end.NoMemory) = Unit {0}
 
-    by : (error : DeliverError) → (error ≢ deliver.NoMemory → refuses seen m error) → UpEnds (end_of_delivery error) c (m ∷ ms) Early Late (λ reason. Refuses refuses seen (m ∷ ms) reason)
-    by (deliver.NotUp link) r = inr (so (deliver.NotUp link) _ refl (r (λ e. absurd cc)))
-    by (deliver.Misplaced role) r = inr (so (deliver.Misplaced role) _ refl (r (λ e. absurd cc)))
-    by (deliver.Node (node.Gap router has came)) r = inr (so (deliver.Node (node.Gap router has came)) _ refl (r (λ e. absurd cc)))
-    by (deliver.Node (node.NotDeclared id)) r = inr (so (deliver.Node (node.NotDeclared id)) _ refl (r (λ e. absurd cc)))
-    by (deliver.Node (node.TextLimit held more)) r = inr (so (deliver.Node (node.TextLimit held more)) _ refl (r (λ e. absurd cc)))
-    by (deliver.Node (node.NumberTaken id)) r = inr (so (deliver.Node (node.NumberTaken id)) _ refl (r (λ e. absurd cc)))
-    by (deliver.Node (node.TooMany pending)) r = inr (so (deliver.Node (node.TooMany pending)) _ refl (r (λ e. absurd cc)))
-    by (deliver.Node node.Worn) r = inr (so (deliver.Node node.Worn) _ refl (r (λ e. absurd cc)))
-    by (deliver.Node node.Spent) r = inr (so (deliver.Node node.Spent) _ refl (r (λ e. absurd cc)))
-    by (deliver.Node node.NoMemory) r = tt
-    by (deliver.Full asked free) r = inr (so (deliver.Full asked free) _ refl (r (λ e. absurd cc)))
-    by deliver.Worn r = inr (so deliver.Worn _ refl (r (λ e. absurd cc)))
-    by deliver.NoMemory r = tt
+    kind : (error : DeliverError) → IsKind (end_of_delivery error)
+    kind (deliver.NotUp link) = tt
+    kind (deliver.Misplaced role) = tt
+    kind (deliver.Denied rule) = tt
+    kind (deliver.Ignored id) = tt
+    kind (deliver.Node (node.Gap router has came)) = tt
+    kind (deliver.Node (node.NotDeclared id)) = tt
+    kind (deliver.Node (node.TextLimit held more)) = tt
+    kind (deliver.Node (node.NumberTaken id)) = tt
+    kind (deliver.Node (node.TooMany pending)) = tt
+    kind (deliver.Node node.Worn) = tt
+    kind (deliver.Node node.Spent) = tt
+    kind (deliver.Node node.NoMemory) = tt
+    kind (deliver.Full asked free) = tt
+    kind deliver.Worn = tt
+    kind deliver.NoMemory = tt
+
+    by : (o : Option LinkEnd) → o ≡ Some e → end_of_delivery error ≡ o → IsKind o → P e
+    by None is at k = absurd cc
+    by (Some end.ReadFault) is at k = absurd k
+    by (Some end.WriteFault) is at k = absurd k
+    by (Some end.PeerEnded) is at k = absurd k
+    by (Some (end.Closed reason)) is at k = let same : end.Closed reason ≡ e = cc in subst P same (closed reason at)
+    by (Some (end.Peer reason)) is at k = absurd k
+    by (Some end.CrewRefused) is at k = absurd k
+    by (Some end.Turns) is at k = absurd k
+    by (Some end.NoMemory) is at k = let same : end.NoMemory ≡ e = cc in subst P same spent
+
+-- only want of memory ends a reader so
+closed_told : (error : DeliverError) (reason : Reason) → end_of_delivery error ≡ Some (end.Closed reason) → error ≢ deliver.NoMemory
+closed_told error reason is none = let k : end_of_delivery deliver.NoMemory ≡ Some (end.Closed reason) = subst (λ z. end_of_delivery z ≡ Some (end.Closed reason)) none is in absurd cc
+
+-- a refused message is the first of those that were not looked at
+pub stop_ends : (c : Course) (m : Msg) (ms : List Msg) (Early : Type 0) (Late : Phase → Type 0) (refuses : List Entry → Msg → DeliverError → Type 0) (seen : List Entry) (error : DeliverError) (e : LinkEnd)
+    → end_of_delivery error ≡ Some e → (error ≢ deliver.NoMemory → refuses seen m error) → UpEnds e c (m ∷ ms) Early Late (λ reason. Refuses refuses seen (m ∷ ms) reason)
+stop_ends c m ms Early Late refuses seen error e is r =
+    of_delivery_end (λ z. UpEnds z c (m ∷ ms) Early Late (λ reason. Refuses refuses seen (m ∷ ms) reason)) error e is
+    (λ reason at. inr (record { msg = m; rest = ms; error = error; before = seen; first = refl; prefix = prefix_self seen; refused = r (closed_told error reason at); ends = at })) tt
 
 pub closes_map : (reason : Reason) (c : Course) (L M : Phase → Type 0) → ((p : Phase) → L p → M p) → Closes reason c L → Closes reason c M
 closes_map reason c L M f (inl h) = inl h
@@ -215,113 +253,121 @@ settle_ends refuses seen rest f e c Early L M late are fate_is (inl stop) =
     let ms = are_messages IsSpelled stop.others (subst (AreMessages IsSpelled) stop.first are).1 in (
       stop.msg ∷ ms.0,
       stop.first ∙ ap (λ z. Message stop.msg ∷ z) ms.1,
-      subst (λ z. UpEnds z c (stop.msg ∷ ms.0) Early M (λ reason. Refuses refuses seen (stop.msg ∷ ms.0) reason)) (sym stop.ends) (stop_ends c stop.msg ms.0 Early M refuses seen stop.error stop.refused),
+      stop_ends c stop.msg ms.0 Early M refuses seen stop.error e stop.ends stop.refused,
     )
 settle_ends refuses seen rest f e c Early L M late are fate_is (inr is) = ([], is.0, fate_ends f e c Early L M _ late is.1 fate_is)
 
 -- ---- where a reader of a link that is up has come to
 
--- messages were delivered, and the session stands behind them
-pub record Gone (link : LinkNo) (s t : SessionState) (before now : Option (List ℕ)) (old new : List Entry) : Type 0 where
-  pub msgs : List Msg
-  pub does : Does (froms link msgs) old new
-  pub leads : Leads s t (messages msgs) before now
+-- messages came, and the session stands behind them
+pub record Gone (link : LinkNo) (refuses : List Entry → Msg → DeliverError → Type 0) (s t : SessionState) (before now : Option (List ℕ)) (old new : Sight) : Type 0 where
+  pub came : List Came
+  pub goes : Through link refuses came old new
+  pub leads : Leads s t (messages (messages_of came)) before now
 
-pub gone_none : (link : LinkNo) (s : SessionState) (before : Option (List ℕ)) (a : List Entry) → Gone link s s before before a a
-gone_none link s before a = record { msgs = []; does = does_none a; leads = leads_self s before }
+pub gone_none : (link : LinkNo) (refuses : List Entry → Msg → DeliverError → Type 0) (s : SessionState) (before : Option (List ℕ)) (a : Sight) → Gone link refuses s s before before a a
+gone_none link refuses s before a = record { came = []; goes = looks_self a; leads = leads_self s before }
 
--- what a read gave was delivered
-pub gone_more : (link : LinkNo) (s t u : SessionState) (es : List SessionEvent) (before mid after : Option (List ℕ)) (a b d : List Entry)
-    → Gone link s t before mid a b → Leads t u es mid after → Delivers link es [] b d → Gone link s u before after a d
-gone_more link s t u es before mid after a b d g lead k =
-    let is : es ≡ messages k.msgs = k.are ∙ append-nil (messages k.msgs) in
+-- what a read gave came
+pub gone_more : (link : LinkNo) (refuses : List Entry → Msg → DeliverError → Type 0) (s t u : SessionState) (es : List SessionEvent) (before mid after : Option (List ℕ)) (a b d : Sight)
+    → Gone link refuses s t before mid a b → Leads t u es mid after → Delivers link refuses es [] b d → Gone link refuses s u before after a d
+gone_more link refuses s t u es before mid after a b d g lead k =
+    let is : es ≡ messages (messages_of k.came) = k.are ∙ append-nil (messages (messages_of k.came)) in
     record {
-      msgs = g.msgs ++ k.msgs;
-      does = froms_then link g.msgs k.msgs a b d g.does k.does;
-      leads = subst (λ z. Leads s u z before after) (ap (λ z. messages g.msgs ++ z) is ∙ sym (map-append (λ m. Message m) g.msgs k.msgs))
-          (leads_then s t u (messages g.msgs) es before mid after g.leads lead);
+      came = g.came ++ k.came;
+      goes = through_then link refuses g.came k.came a b d g.goes k.goes;
+      leads = subst (λ z. Leads s u z before after)
+          (ap (λ z. messages (messages_of g.came) ++ z) is ∙ sym (ap messages (came_both g.came k.came) ∙ messages_both (messages_of g.came) (messages_of k.came)))
+          (leads_then s t u (messages (messages_of g.came)) es before mid after g.leads lead);
     }
 
--- what follows of a link that is up, with the messages that were delivered
+-- what follows of a link that is up, with the messages that came
 pub record Followed (link : LinkNo) (s : SessionState) (waiting : List SessionEvent) (f : Fate) (e : LinkEnd) (before after : Option (List ℕ)) (Late : Phase → Type 0)
-    (refuses : List Entry → LinkNo → Msg → DeliverError → Type 0) (seen : List Entry) (old new : List Entry) : Type 0 where
-  pub msgs : List Msg
-  pub does : Does (froms link msgs) old new
-  pub follows : Follows link msgs s waiting f e before after Late refuses seen
+    (refuses : List Entry → LinkNo → Msg → DeliverError → Type 0) (seen : List Entry) (old new : Sight) : Type 0 where
+  pub came : List Came
+  pub goes : Through link (λ h m x. refuses h link m x) came old new
+  pub follows : Follows link came s waiting f e before after Late refuses seen
 
 -- a read lost the link
-pub gone_lost : (link : LinkNo) (s t : SessionState) (before mid after : Option (List ℕ)) (a b : List Entry) (e : LinkEnd) (Late : Phase → Type 0)
-    (refuses : List Entry → LinkNo → Msg → DeliverError → Type 0) (seen : List Entry) → Gone link s t before mid a b → HearsSome t mid after (λ c events. LostIs e c events)
+pub gone_lost : (link : LinkNo) (s t : SessionState) (before mid after : Option (List ℕ)) (a b : Sight) (e : LinkEnd) (Late : Phase → Type 0)
+    (refuses : List Entry → LinkNo → Msg → DeliverError → Type 0) (seen : List Entry) → Gone link (λ h m x. refuses h link m x) s t before mid a b → HearsSome t mid after (λ c events. LostIs e c events)
     → Followed link s [] fate.Going e before after Late refuses seen a b
 gone_lost link s t before mid after a b e Late refuses seen g lost = record {
-  msgs = g.msgs;
-  does = g.does;
+  came = g.came;
+  goes = g.goes;
   follows = λ first bytes rest c bs comes opened stands at.
-      let x = hears_some_then s t (messages g.msgs) before mid after (λ c events. LostIs e c events) g.leads lost first bytes c bs (at refl) in
-      let all = open_messages c.phase x.1.course.phase (messages g.msgs ++ x.0) opened x.1.between in
-      let ms = are_messages IsSpelled x.0 (messages_rest IsSpelled g.msgs x.0 all.0) in
-      (messages g.msgs ++ x.0, ms.0, x.1, ap (λ z. messages g.msgs ++ z) ms.1 ∙ sym (map-append (λ m. Message m) g.msgs ms.0), lost_ends e x.1.course x.0 ms.0 ⊥ Late _ x.2 ms.1);
+      let msgs : List Msg = messages_of g.came in
+      let x = hears_some_then s t (messages msgs) before mid after (λ c events. LostIs e c events) g.leads lost first bytes c bs (at refl) in
+      let all = open_messages c.phase x.1.course.phase (messages msgs ++ x.0) opened x.1.between in
+      let ms = are_messages IsSpelled x.0 (messages_rest IsSpelled msgs x.0 all.0) in
+      (messages msgs ++ x.0, ms.0, x.1, ap (λ z. messages msgs ++ z) ms.1 ∙ sym (messages_both msgs ms.0), lost_ends e x.1.course x.0 ms.0 ⊥ Late _ x.2 ms.1);
 }
 
 -- what a read gave ended it
-pub gone_settled : (link : LinkNo) (s t u : SessionState) (es rest : List SessionEvent) (before mid after : Option (List ℕ)) (a b d : List Entry) (f : Fate) (e : LinkEnd) (L M : Phase → Type 0)
-    (refuses : List Entry → LinkNo → Msg → DeliverError → Type 0) (seen : List Entry) → ((p : Phase) → L p → M p) → Gone link s t before mid a b
-    → Hears t es mid after (λ first bytes c. FateIs f c L × (f ≡ fate.Going → IsAt first u bytes c)) → Delivers link es rest b d → Settles (λ m x. refuses seen link m x) rest f e
+pub gone_settled : (link : LinkNo) (s t u : SessionState) (es rest : List SessionEvent) (before mid after : Option (List ℕ)) (a b d : Sight) (f : Fate) (e : LinkEnd) (L M : Phase → Type 0)
+    (refuses : List Entry → LinkNo → Msg → DeliverError → Type 0) (seen : List Entry) → ((p : Phase) → L p → M p) → Gone link (λ h m x. refuses h link m x) s t before mid a b
+    → Hears t es mid after (λ first bytes c. FateIs f c L × (f ≡ fate.Going → IsAt first u bytes c)) → Delivers link (λ h m x. refuses h link m x) es rest b d → Settles (λ m x. refuses seen link m x) rest f e
     → Followed link s [] fate.Going e before after M refuses seen a d
 gone_settled link s t u es rest before mid after a b d f e L M refuses seen late g h k ends = record {
-  msgs = g.msgs ++ k.msgs;
-  does = froms_then link g.msgs k.msgs a b d g.does k.does;
+  came = g.came ++ k.came;
+  goes = through_then link (λ h m x. refuses h link m x) g.came k.came a b d g.goes k.goes;
   follows = λ first bytes left c bs comes opened stands at.
+      let msgs : List Msg = messages_of g.came in
+      let more : List Msg = messages_of k.came in
       let Told : Expected → List ℕ → Course → Type 0 = λ first bytes c. FateIs f c L × (f ≡ fate.Going → IsAt first u bytes c) in
-      let x = hears_then s t (messages g.msgs) es before mid after Told g.leads h first bytes c bs (at refl) in
-      let all = open_messages c.phase x.0.course.phase (messages g.msgs ++ es) opened x.0.between in
-      let tail = messages_rest IsSpelled k.msgs rest (subst (AreMessages IsSpelled) k.are (messages_rest IsSpelled g.msgs es all.0)) in
+      let x = hears_then s t (messages msgs) es before mid after Told g.leads h first bytes c bs (at refl) in
+      let all = open_messages c.phase x.0.course.phase (messages msgs ++ es) opened x.0.between in
+      let tail = messages_rest IsSpelled more rest (subst (AreMessages IsSpelled) k.are (messages_rest IsSpelled msgs es all.0)) in
       let o = settle_ends (λ z m y. refuses z link m y) seen rest f e x.0.course ⊥ L M late tail x.1.0 ends in
-      let is : messages g.msgs ++ es ≡ messages ((g.msgs ++ k.msgs) ++ o.0) =
-      ap (λ z. messages g.msgs ++ z) (k.are ∙ ap (λ z. messages k.msgs ++ z) o.1) ∙ sym (append_assoc (messages g.msgs) (messages k.msgs) (messages o.0))
-      ∙ ap (λ z. z ++ messages o.0) (sym (map-append (λ m. Message m) g.msgs k.msgs)) ∙ sym (map-append (λ m. Message m) (g.msgs ++ k.msgs) o.0) in
-      (messages g.msgs ++ es, o.0, x.0, is, o.2);
+      let is : messages msgs ++ es ≡ messages (messages_of (g.came ++ k.came) ++ o.0) =
+      ap (λ z. messages msgs ++ z) (k.are ∙ ap (λ z. messages more ++ z) o.1) ∙ sym (append_assoc (messages msgs) (messages more) (messages o.0))
+      ∙ ap (λ z. z ++ messages o.0) (sym (messages_both msgs more)) ∙ sym (messages_both (msgs ++ more) o.0) ∙ ap (λ z. messages (z ++ o.0)) (sym (came_both g.came k.came)) in
+      (messages msgs ++ es, o.0, x.0, is, o.2);
 }
 
 -- all turns were made
-pub gone_over : (link : LinkNo) (s t : SessionState) (before now : Option (List ℕ)) (a b : List Entry) (Late : Phase → Type 0)
-    (refuses : List Entry → LinkNo → Msg → DeliverError → Type 0) (seen : List Entry) → Gone link s t before now a b → is_running t.state ≡ true
+pub gone_over : (link : LinkNo) (s t : SessionState) (before now : Option (List ℕ)) (a b : Sight) (Late : Phase → Type 0)
+    (refuses : List Entry → LinkNo → Msg → DeliverError → Type 0) (seen : List Entry) → Gone link (λ h m x. refuses h link m x) s t before now a b → is_running t.state ≡ true
     → Followed link s [] fate.Going end.Turns before now Late refuses seen a b
 gone_over link s t before now a b Late refuses seen g run = record {
-  msgs = g.msgs;
-  does = g.does;
+  came = g.came;
+  goes = g.goes;
   follows = λ first bytes left c bs comes opened stands at.
+      let msgs : List Msg = messages_of g.came in
       let x = g.leads.1 first bytes c bs (at refl) in
-      (messages g.msgs, [], x.0, ap messages (sym (append-nil g.msgs)), (runs_at first t.opening t.state t.kept (bytes ++ x.0.piece) x.0.course x.1 run, refl));
+      (messages msgs, [], x.0, ap messages (sym (append-nil msgs)), (runs_at first t.opening t.state t.kept (bytes ++ x.0.piece) x.0.course x.1 run, refl));
 }
 
 -- events that waited ended it
-pub waited_settled : (link : LinkNo) (s : SessionState) (es rest : List SessionEvent) (before : Option (List ℕ)) (a b : List Entry) (f : Fate) (e : LinkEnd) (M : Phase → Type 0)
-    (refuses : List Entry → LinkNo → Msg → DeliverError → Type 0) (seen : List Entry) → AreMessages IsSpelled es → Delivers link es rest a b → Settles (λ m x. refuses seen link m x) rest f e
+pub waited_settled : (link : LinkNo) (s : SessionState) (es rest : List SessionEvent) (before : Option (List ℕ)) (a b : Sight) (f : Fate) (e : LinkEnd) (M : Phase → Type 0)
+    (refuses : List Entry → LinkNo → Msg → DeliverError → Type 0) (seen : List Entry) → AreMessages IsSpelled es → Delivers link (λ h m x. refuses h link m x) es rest a b → Settles (λ m x. refuses seen link m x) rest f e
     → Followed link s es f e before before M refuses seen a b
 waited_settled link s es rest before a b f e M refuses seen are k ends = record {
-  msgs = k.msgs;
-  does = k.does;
+  came = k.came;
+  goes = k.goes;
   follows = λ first bytes left c bs comes opened stands at.
-      let tail = messages_rest IsSpelled k.msgs rest (subst (AreMessages IsSpelled) k.are are) in
+      let msgs : List Msg = messages_of k.came in
+      let tail = messages_rest IsSpelled msgs rest (subst (AreMessages IsSpelled) k.are are) in
       let o = settle_ends (λ z m y. refuses z link m y) seen rest f e c ⊥ (λ p. ⊥) M (λ p h. absurd h) tail stands ends in
-      ([], o.0, heard_still first s.opening bytes left c before comes, append-nil es ∙ k.are ∙ ap (λ z. messages k.msgs ++ z) o.1 ∙ sym (map-append (λ m. Message m) k.msgs o.0), o.2);
+      ([], o.0, heard_still first s.opening bytes left c before comes, append-nil es ∙ k.are ∙ ap (λ z. messages msgs ++ z) o.1 ∙ sym (messages_both msgs o.0), o.2);
 }
 
--- they were delivered, and it went on
-pub waited_followed : (link : LinkNo) (s : SessionState) (es : List SessionEvent) (before after : Option (List ℕ)) (a b d : List Entry) (e : LinkEnd) (M : Phase → Type 0)
-    (refuses : List Entry → LinkNo → Msg → DeliverError → Type 0) (seen : List Entry) (f : Fate) → f ≡ fate.Going → Delivers link es [] a b → Followed link s [] fate.Going e before after M refuses seen b d
-    → Followed link s es f e before after M refuses seen a d
+-- they came, and it went on
+pub waited_followed : (link : LinkNo) (s : SessionState) (es : List SessionEvent) (before after : Option (List ℕ)) (a b d : Sight) (e : LinkEnd) (M : Phase → Type 0)
+    (refuses : List Entry → LinkNo → Msg → DeliverError → Type 0) (seen : List Entry) (f : Fate) → f ≡ fate.Going → Delivers link (λ h m x. refuses h link m x) es [] a b
+    → Followed link s [] fate.Going e before after M refuses seen b d → Followed link s es f e before after M refuses seen a d
 waited_followed link s es before after a b d e M refuses seen f going k g = record {
-  msgs = k.msgs ++ g.msgs;
-  does = froms_then link k.msgs g.msgs a b d k.does g.does;
+  came = k.came ++ g.came;
+  goes = through_then link (λ h m x. refuses h link m x) k.came g.came a b d k.goes g.goes;
   follows = λ first bytes left c bs comes opened stands at.
+      let msgs : List Msg = messages_of k.came in
+      let more : List Msg = messages_of g.came in
       let x = g.follows first bytes left c bs comes opened (subst (λ z. FateIs z c (λ p. ⊥)) going stands) (λ _. at going) in (
         x.0,
         x.1,
         x.2,
-        ap (λ z. z ++ x.0) (k.are ∙ append-nil (messages k.msgs)) ∙ ap (λ z. messages k.msgs ++ z) x.3 ∙ sym (map-append (λ m. Message m) k.msgs (g.msgs ++ x.1))
-            ∙ ap messages (sym (append_assoc k.msgs g.msgs x.1)),
+        ap (λ z. z ++ x.0) (k.are ∙ append-nil (messages msgs)) ∙ ap (λ z. messages msgs ++ z) x.3 ∙ sym (messages_both msgs (more ++ x.1))
+            ∙ ap messages (sym (append_assoc msgs more x.1)) ∙ ap (λ z. messages (z ++ x.1)) (sym (came_both k.came g.came)),
         x.4,
       );
 }
@@ -346,23 +392,11 @@ leads_by t u es mid after L f same h going = (same, λ first bytes c bs at. let 
 
 -- ---- ends behind the start of the writer
 
-delivery_started : (error : DeliverError) → IsStarted (end_of_delivery error)
-delivery_started (deliver.NotUp link) = tt
-delivery_started (deliver.Misplaced role) = tt
-delivery_started (deliver.Node (node.Gap router has came)) = tt
-delivery_started (deliver.Node (node.NotDeclared id)) = tt
-delivery_started (deliver.Node (node.TextLimit held more)) = tt
-delivery_started (deliver.Node (node.NumberTaken id)) = tt
-delivery_started (deliver.Node (node.TooMany pending)) = tt
-delivery_started (deliver.Node node.Worn) = tt
-delivery_started (deliver.Node node.Spent) = tt
-delivery_started (deliver.Node node.NoMemory) = tt
-delivery_started (deliver.Full asked free) = tt
-delivery_started deliver.Worn = tt
-delivery_started deliver.NoMemory = tt
+delivery_started : (error : DeliverError) (e : LinkEnd) → end_of_delivery error ≡ Some e → IsStarted e
+delivery_started error e is = of_delivery_end IsStarted error e is (λ reason at. tt) tt
 
 pub settles_started : (refuses : Msg → DeliverError → Type 0) (rest : List SessionEvent) (f : Fate) (e : LinkEnd) → Settles refuses rest f e → IsStarted e
-settles_started refuses rest f e (inl stop) = subst IsStarted (sym stop.ends) (delivery_started stop.error)
+settles_started refuses rest f e (inl stop) = delivery_started stop.error e stop.ends
 settles_started refuses rest fate.Going e (inr is) = absurd is.1
 settles_started refuses rest (fate.Closed reason) e (inr is) = subst IsStarted (sym is.1) tt
 settles_started refuses rest (fate.Peer reason) e (inr is) = subst IsStarted (sym is.1) tt
@@ -377,9 +411,9 @@ up_started end.CrewRefused c others Late R h = h
 up_started end.Turns c others Late R h = tt
 up_started end.NoMemory c others Late R h = tt
 
-pub follows_started : (link : LinkNo) (msgs : List Msg) (s : SessionState) (e : LinkEnd) (before after : Option (List ℕ)) (Late : Phase → Type 0) (refuses : List Entry → LinkNo → Msg → DeliverError → Type 0) (seen : List Entry)
-    → is_running s.state ≡ true → IsIn IsOpen s → Follows link msgs s [] fate.Going e before after Late refuses seen → IsStarted e
-follows_started link msgs s e before after Late refuses seen run i h =
+pub follows_started : (link : LinkNo) (came : List Came) (s : SessionState) (e : LinkEnd) (before after : Option (List ℕ)) (Late : Phase → Type 0) (refuses : List Entry → LinkNo → Msg → DeliverError → Type 0) (seen : List Entry)
+    → is_running s.state ≡ true → IsIn IsOpen s → Follows link came s [] fate.Going e before after Late refuses seen → IsStarted e
+follows_started link came s e before after Late refuses seen run i h =
     let come = comes_at i.0 s.opening s.state s.kept i.1 i.2 i.4 in
     let x = h i.0 i.1 come.0 i.2 i.3 come.1 i.5 (runs_at i.0 s.opening s.state s.kept i.1 i.2 i.4 run) (λ _. i.4) in
     up_started e x.2.course x.1 Late _ x.4

@@ -23,7 +23,6 @@ use Rattle.zr_port.specs.Adding.{Adds, IsEntryOf, IsAdmitted}
 use Rattle.zr_session.specs.declared.event.SessionEvent.{SessionEvent}
 use Rattle.zr_session.specs.declared.event.SessionEvent.TheVariants.{Opened}
 use Rattle.zr_session.specs.declared.fate.Fate.{Fate}
-use Rattle.zr_session.specs.declared.fate.Fate.TheVariants as fate
 use Rattle.zr_session.specs.declared.phase.Phase.{Phase}
 use Rattle.zr_session.specs.declared.phase.Phase.TheVariants.{Opening}
 use Rattle.zr_session.specs.Course.{Course, going, owed_in}
@@ -35,13 +34,15 @@ use Rattle.zr_link.specs.declared.end.LinkEnd.{LinkEnd}
 use Rattle.zr_link.specs.declared.end.LinkEnd.TheVariants as end
 use Rattle.zr_link.specs.Ends.{end_of_up, reason_of, IsEarly}
 use Rattle.zr_link.specs.Acts.{Act, Does, up, down, froms}
+use Rattle.zr_port.specs.Coming.{sight, AddsOne, Came, delivered}
 use Rattle.zr_outside.specs.Told.{Appends}
 use Rattle.zr_link.specs.Heard.{Takes, AreMessages, messages, HearsOn, HearsSomeOn, IsOpen, IsUnopened, IsIn, IsBegun, first_of}
 use Rattle.zr_link.specs.Written.{Gives, Answered, IsWritten, Wrote, WroteAnswers, close_with}
 use Rattle.zr_link.specs.Run.{EarlyEnds, NotTaken, Follows, Enters, GoesDown, Runs}
 use Rattle.zr_link.proofs.Hearing.{takes_none, takes_then, as_before}
 use Rattle.zr_link.proofs.Unopened.{written_more, rose_before}
-use Rattle.zr_link.proofs.Going.{does_none, does_then, does_entry, are_messages, ends_map, early_ends, refuses_later, Followed}
+use Rattle.zr_port.proofs.Coming.{looks_self}
+use Rattle.zr_link.proofs.Going.{does_none, does_then, added_does, through_does, does_entry, are_messages, ends_map, early_ends, refuses_later, Followed}
 
 -- ---- the begin
 
@@ -101,46 +102,49 @@ leaves link e old new refuses (Err x) h k same = ([], inr (refl, (x, k)), subst 
 
 -- ---- a link that came up
 
-later_follows : (link : LinkNo) (msgs : List Msg) (s : SessionState) (waiting : List SessionEvent) (f : Fate) (e : LinkEnd) (before after : Option (List ℕ)) (L : Phase → Type 0)
+later_follows : (link : LinkNo) (came : List Came) (s : SessionState) (waiting : List SessionEvent) (f : Fate) (e : LinkEnd) (before after : Option (List ℕ)) (L : Phase → Type 0)
     (refuses : List Entry → LinkNo → Msg → DeliverError → Type 0) (sees later : List Entry) → IsPrefix sees later
-    → Follows link msgs s waiting f e before after L refuses sees → Follows link msgs s waiting f e before after L refuses later
-later_follows link msgs s waiting f e before after L refuses sees later p h first bytes rest c bs comes opened stands at =
+    → Follows link came s waiting f e before after L refuses sees → Follows link came s waiting f e before after L refuses later
+later_follows link came s waiting f e before after L refuses sees later p h first bytes rest c bs comes opened stands at =
     let x = h first bytes rest c bs comes opened stands at in
     (x.0, x.1, x.2, x.3, ends_map e x.2.course x.1 ⊥ ⊥ L L _ _ (λ k. k) (λ q k. k) (λ reason k. refuses_later (λ z m y. refuses z link m y) sees later x.1 reason p k) x.4)
 
 -- it went on until it went down
 pub enters_followed : (peer : PeerState) (outbox : OutboxState) (s : SessionState) (waiting : List SessionEvent) (f : Fate) (e : LinkEnd) (before after : Option (List ℕ)) (L : Phase → Type 0) (W : List ℕ → Type 0) (N : Type 0)
     (refuses_up : List Entry → PeerState → UpError → Type 0) (refuses : List Entry → LinkNo → Msg → DeliverError → Type 0) (refuses_down : List Entry → LinkNo → DownError → Type 0)
-    (old mid last new : Pass Entry) (link : LinkNo) → Does (up link peer outbox ∷ []) (mine old) (mine mid) → Followed link s waiting f e before after L refuses (seen last) (mine mid) (mine last)
+    (old mid last new : Pass Entry) (link : LinkNo) → AddsOne (event.Up link peer) (Some outbox) None (sight old) (sight mid) → Followed link s waiting f e before after L refuses (seen last) (sight mid) (sight last)
     → IsPrefix (seen last) (seen new) → (downs : List Act) → GoesDown link e (λ x. refuses_down (seen new) link x) downs → Does downs (mine last) (mine new)
     → N → Enters peer outbox s waiting f e before after L W N refuses_up refuses refuses_down old new
-enters_followed peer outbox s waiting f e before after L W N refuses_up refuses refuses_down old mid last new link first g prefix downs goes does handed =
+enters_followed peer outbox s waiting f e before after L W N refuses_up refuses refuses_down old mid last new link upon g prefix downs goes does handed =
     inr (inr (
       link,
-      g.msgs,
+      g.came,
       downs,
-      does_then (up link peer outbox ∷ []) (froms link g.msgs ++ downs) (mine old) (mine mid) (mine new) first (does_then (froms link g.msgs) downs (mine mid) (mine last) (mine new) g.does does),
+      does_then (up link peer outbox ∷ []) (froms link (delivered g.came) ++ downs) (mine old) (mine mid) (mine new) (added_does (event.Up link peer) (Some outbox) None (sight old) (sight mid) upon)
+          (does_then (froms link (delivered g.came)) downs (mine mid) (mine last) (mine new) (through_does link (λ h m x. refuses h link m x) g.came (sight mid) (sight last) g.goes) does),
       goes,
-      later_follows link g.msgs s waiting f e before after L refuses (seen last) (seen new) prefix g.follows,
+      later_follows link g.came s waiting f e before after L refuses (seen last) (seen new) prefix g.follows,
       handed,
+      (sight mid, sight last, upon, g.goes, prefix),
     ))
 
 -- its writer wasn't started. Of what was given to be written the CLOSE was left out
 pub enters_early : (peer : PeerState) (outbox : OutboxState) (s : SessionState) (waiting : List SessionEvent) (f : Fate) (e : LinkEnd) (before : Option (List ℕ)) (L : Phase → Type 0) (N : Type 0)
     (refuses_up : List Entry → PeerState → UpError → Type 0) (refuses : List Entry → LinkNo → Msg → DeliverError → Type 0) (refuses_down : List Entry → LinkNo → DownError → Type 0)
-    (old mid new : Pass Entry) (link : LinkNo) (fed left : List ℕ) (held now : Option (List ℕ)) (F : Type 0) → Does (up link peer outbox ∷ []) (mine old) (mine mid) → IsEarly e
+    (old mid new : Pass Entry) (link : LinkNo) (fed left : List ℕ) (held now : Option (List ℕ)) (F : Type 0) → AddsOne (event.Up link peer) (Some outbox) None (sight old) (sight mid) → IsPrefix (seen mid) (seen new) → IsEarly e
     → (downs : List Act) → GoesDown link e (λ x. refuses_down (seen new) link x) downs → Does downs (mine mid) (mine new)
     → ((answers : List ℕ) → fed ≡ answers ++ close_with f → left ≡ answers) → IsWritten e (left ++ owed_bytes s) held now F
     → Enters peer outbox s waiting f e before before L (λ owed. (answers : List ℕ) → fed ≡ answers ++ close_with f → IsWritten e (answers ++ owed) held now F) N refuses_up refuses refuses_down old new
-enters_early peer outbox s waiting f e before L N refuses_up refuses refuses_down old mid new link fed left held now F first early downs goes does without writes =
+enters_early peer outbox s waiting f e before L N refuses_up refuses refuses_down old mid new link fed left held now F upon prefix early downs goes does without writes =
     inr (inl (
       link,
       downs,
-      does_then (up link peer outbox ∷ []) downs (mine old) (mine mid) (mine new) first does,
+      does_then (up link peer outbox ∷ []) downs (mine old) (mine mid) (mine new) (added_does (event.Up link peer) (Some outbox) None (sight old) (sight mid) upon) does,
       goes,
       early,
       refl,
       λ answers is. subst (λ z. IsWritten e (z ++ owed_bytes s) held now F) (without answers is) writes,
+      (sight mid, upon, prefix),
     ))
 
 -- ---- the whole
@@ -254,9 +258,14 @@ runs_entered s t text fed peer outbox waiting f e before mid after held now L M 
         link = on.0;
         peer = peer;
         outbox = outbox;
-        msgs = [];
+        came = [];
         others = ms.0;
         downs = on.1;
+        begun = on.7.0;
+        last = on.7.0;
+        upon = on.7.1;
+        goes = looks_self on.7.0;
+        behind = on.7.2;
         events_are = x.0.events_are ∙ ap (λ z. Opened peer outbox ∷ z) ms.1;
         does = on.2;
         goes_down = on.3;
@@ -278,9 +287,14 @@ runs_entered s t text fed peer outbox waiting f e before mid after held now L M 
         link = on.0;
         peer = peer;
         outbox = outbox;
-        msgs = on.1;
+        came = on.1;
         others = y.1;
         downs = on.2;
+        begun = on.7.0;
+        last = on.7.1;
+        upon = on.7.2;
+        goes = on.7.3;
+        behind = on.7.4;
         events_are = y.2.events_are ∙ ap (λ z. z ++ y.0) x.0.events_are ∙ ap (λ z. Opened peer outbox ∷ z) y.3;
         does = on.3;
         goes_down = on.4;

@@ -14,7 +14,7 @@ ghost use Rattle.zr_wire.specs.Writing.{IsSpelled};
 ghost use Rattle.zr_link.specs.declared.end.LinkEnd.TheVariants as end;
 ghost use Rattle.zr_link.specs.Heard.{AreMessages, IsLate, IsOpen, IsIn};
 ghost use Rattle.zr_link.specs.Heard as heard;
-ghost use Rattle.zr_link.specs.Acts.{Does, froms};
+ghost use Rattle.zr_port.specs.Coming.{Came, Through, sight};
 ghost use Rattle.zr_link.specs.Run.{Delivers, Stops, EndIs, Follows};
 
 use crate::end::LinkEnd;
@@ -46,7 +46,7 @@ pub(crate) fn go_on<S: Source, P: Port, C: Clock>(
     requires opened { IsIn IsOpen intake.old.session }
     ensures same { IsSamePass pass.old pass.new }
     ensures prefix { IsPrefix (seen pass.old) (seen pass.new) }
-    ensures followed { (msgs : List Msg) × Does (froms link msgs) (mine pass.old) (mine pass.new) × Follows link msgs intake.old.session [] fates.Going result (S.left source.old) (S.left source.new) (IsLate (S.quiets source.old) (S.quiets source.new) intake.old.session.heard (C.last clock.old) (C.last clock.new)) (P.refuses_message port.now) (seen pass.new) }
+    ensures followed { (came : List Came) × Through link (λ h m x. P.refuses_message port.now h link m x) came (sight pass.old) (sight pass.new) × Follows link came intake.old.session [] fates.Going result (S.left source.old) (S.left source.new) (IsLate (S.quiets source.old) (S.quiets source.new) intake.old.session.heard (C.last clock.old) (C.last clock.new)) (P.refuses_message port.now) (seen pass.new) }
     ensures fault { Counted (S.faults source.old) (S.faults source.new) (result ≡ end.ReadFault) }
     ensures ended { Counted (S.ends source.old) (S.ends source.new) (result ≡ end.PeerEnded) }
     ensures turns { result ≡ end.Turns → RoseBy turns (S.reads source.old) (S.reads source.new) }
@@ -78,8 +78,8 @@ pub(crate) fn settle<P: Port>(
     requires messages { AreMessages IsSpelled (into_iter_items messages) }
     ensures same { IsSamePass pass.old pass.new }
     ensures prefix { IsPrefix (seen pass.old) (seen pass.new) }
-    ensures ok { OnOk result ((fate ≡ fates.Going) × Delivers link (into_iter_items messages) [] (mine pass.old) (mine pass.new)) }
-    ensures err { IfErr result (λ e. (rest : List SessionEvent) × Delivers link (into_iter_items messages) rest (mine pass.old) (mine pass.new) × (Stops (λ m x. P.refuses_message port.now (seen pass.new) link m x) rest e ⊎ ((rest ≡ []) × EndIs fate e))) }
+    ensures ok { OnOk result ((fate ≡ fates.Going) × Delivers link (λ h m x. P.refuses_message port.now h link m x) (into_iter_items messages) [] (sight pass.old) (sight pass.new)) }
+    ensures err { IfErr result (λ e. (rest : List SessionEvent) × Delivers link (λ h m x. P.refuses_message port.now h link m x) (into_iter_items messages) rest (sight pass.old) (sight pass.new) × (Stops (λ m x. P.refuses_message port.now (seen pass.new) link m x) rest e ⊎ ((rest ≡ []) × EndIs fate e))) }
 {
     match deliver_all(alloc, port, pass, link, messages) {
         Ok(()) => ended(fate),
@@ -87,7 +87,7 @@ pub(crate) fn settle<P: Port>(
     }
 }
 
-// Delivers the messages of these events, in order.
+// Delivers the messages of these events, in order, but those that the port passes over.
 fn deliver_all<P: Port>(
     alloc: Global,
     port: &P,
@@ -99,8 +99,8 @@ fn deliver_all<P: Port>(
     requires messages { AreMessages IsSpelled (into_iter_items events) }
     ensures same { IsSamePass pass.old pass.new }
     ensures prefix { IsPrefix (seen pass.old) (seen pass.new) }
-    ensures all { OnOk result (Delivers link (into_iter_items events) [] (mine pass.old) (mine pass.new)) }
-    ensures stopped { IfErr result (λ e. (rest : List SessionEvent) × Delivers link (into_iter_items events) rest (mine pass.old) (mine pass.new) × Stops (λ m x. P.refuses_message port.now (seen pass.new) link m x) rest e) }
+    ensures all { OnOk result (Delivers link (λ h m x. P.refuses_message port.now h link m x) (into_iter_items events) [] (sight pass.old) (sight pass.new)) }
+    ensures stopped { IfErr result (λ e. (rest : List SessionEvent) × Delivers link (λ h m x. P.refuses_message port.now h link m x) (into_iter_items events) rest (sight pass.old) (sight pass.new) × Stops (λ m x. P.refuses_message port.now (seen pass.new) link m x) rest e) }
 {
     let Ok(messages) = messages_of(alloc, events) else {
         return Err(LinkEnd::NoMemory);

@@ -1,6 +1,7 @@
 //! How a reader ends.
 
-ghost use Rattle.std.specs.Prelude.{◌≡◌};
+ghost use Rattle.std.specs.Prelude.{◌≡◌, Some, false};
+ghost use Rattle.zr_port.specs.Coming.{is_passed};
 ghost use Rattle.zr_link.specs.Ends.{end_of_up, end_of_delivery, reason_of};
 
 use zr_msg::error::NodeError;
@@ -41,11 +42,13 @@ impl LinkEnd {
         }
     }
 
-    /// The end of a reader whose message was refused.
+    /// The end of a reader whose message was refused and not passed over.
     pub(crate) fn of_delivery(e: DeliverError) -> LinkEnd
-        ensures { result ≡ end_of_delivery e }
+        requires { is_passed e ≡ false }
+        ensures { end_of_delivery e ≡ Some result }
     {
         match e {
+            DeliverError::Denied { .. } | DeliverError::Ignored { .. } => unreachable!(),
             DeliverError::NotUp { .. } | DeliverError::Full { .. } | DeliverError::Worn => {
                 LinkEnd::Closed(Reason::Generic)
             }
@@ -56,7 +59,7 @@ impl LinkEnd {
     }
 
     fn of_node(e: NodeError) -> LinkEnd
-        ensures { result ≡ end_of_delivery (DeliverError.Node e) }
+        ensures { end_of_delivery (DeliverError.Node e) ≡ Some result }
     {
         match e {
             NodeError::Gap { .. } | NodeError::NotDeclared { .. } | NodeError::NumberTaken { .. } =>

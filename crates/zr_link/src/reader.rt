@@ -13,7 +13,8 @@ ghost use Rattle.zr_session.specs.declared.fate.Fate.TheVariants as fates;
 ghost use Rattle.zr_session.specs.Session.{is_running, with_confirmed, owed_bytes};
 ghost use Rattle.zr_wire.specs.Writing.{IsSpelled};
 ghost use Rattle.zr_link.specs.declared.end.LinkEnd.TheVariants as end;
-ghost use Rattle.zr_link.specs.Acts.{Act, Does, froms};
+ghost use Rattle.zr_link.specs.Acts.{Act, Does};
+ghost use Rattle.zr_port.specs.Coming.{Came, Through, sight};
 ghost use Rattle.zr_link.specs.Heard.{IsBegun, IsLate, IsOpen, IsIn, AreMessages};
 ghost use Rattle.zr_link.specs.Written.{IsWritten, Puts, Wrote, close_with};
 ghost use Rattle.zr_link_writer.specs.Parts.{close_bytes};
@@ -239,7 +240,7 @@ fn follow<S: Source, P: Port, C: Clock>(
     requires stands { fate ≡ fates.Going → (is_running intake.old.session.state ≡ true) × IsIn IsOpen intake.old.session }
     ensures same { IsSamePass pass.old pass.new }
     ensures prefix { IsPrefix (seen pass.old) (seen pass.new) }
-    ensures followed { (msgs : List Msg) × Does (froms link msgs) (mine pass.old) (mine pass.new) × Follows link msgs intake.old.session (into_iter_items waiting) fate result (S.left source.old) (S.left source.new) (IsLate (S.quiets source.old) (S.quiets source.new) intake.old.session.heard (C.last clock.old) (C.last clock.new)) (P.refuses_message port.now) (seen pass.new) }
+    ensures followed { (came : List Came) × Through link (λ h m x. P.refuses_message port.now h link m x) came (sight pass.old) (sight pass.new) × Follows link came intake.old.session (into_iter_items waiting) fate result (S.left source.old) (S.left source.new) (IsLate (S.quiets source.old) (S.quiets source.new) intake.old.session.heard (C.last clock.old) (C.last clock.new)) (P.refuses_message port.now) (seen pass.new) }
     ensures started { IsStarted result }
     ensures fault { Counted (S.faults source.old) (S.faults source.new) (result ≡ end.ReadFault) }
     ensures ended { Counted (S.ends source.old) (S.ends source.new) (result ≡ end.PeerEnded) }

@@ -1,5 +1,8 @@
 //! Why a call of a port is refused. But where memory ran out, a refused call has changed nothing.
 
+ghost use Rattle.std.specs.Prelude.{◌≡◌};
+ghost use Rattle.zr_port.specs.Coming.{is_passed};
+
 use thiserror::Error;
 use zr_id::link::LinkNo;
 use zr_msg::error::NodeError;
@@ -31,6 +34,12 @@ pub enum DeliverError {
     /// A peer of that role may not send such a message.
     #[error("the message is out of place")]
     Misplaced { role: Role },
+    /// The rule or the default of this line denies the message to the client that sends it.
+    #[error("a rule denies the message")]
+    Denied { rule: u32 },
+    /// Under rules: the client takes back what isn't declared, since it may have been denied.
+    #[error("nothing is declared under the id, which may have been denied")]
+    Ignored { id: u32 },
     /// The tables refuse the message.
     #[error("the tables refuse the message: {0}")]
     Node(NodeError),
@@ -43,6 +52,23 @@ pub enum DeliverError {
     /// Memory ran out, in this call or before.
     #[error("out of memory")]
     NoMemory,
+}
+
+impl DeliverError {
+    /// Whether the message is passed over, so that those behind it on its link come: a rule denies it, or it takes back what may have been denied.
+    pub fn is_passed(&self) -> bool
+        ensures { result ≡ is_passed self.now }
+    {
+        match self {
+            DeliverError::Denied { .. } | DeliverError::Ignored { .. } => true,
+            DeliverError::NotUp { .. }
+            | DeliverError::Misplaced { .. }
+            | DeliverError::Node(_)
+            | DeliverError::Full { .. }
+            | DeliverError::Worn
+            | DeliverError::NoMemory => false,
+        }
+    }
 }
 
 /// Why a link doesn't go down.

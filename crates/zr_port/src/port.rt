@@ -12,11 +12,13 @@ ghost use Rattle.zr_hist.specs.Rule.{longer};
 ghost use Rattle.zr_hist.specs.Words.{pass_name, IsSamePass, seen, mine};
 ghost use Rattle.zr_ring.specs.Taker.{taken, take_calls};
 ghost use Rattle.zr_wire.specs.Writing.{IsSpelled};
+ghost use Rattle.zr_access.specs.Rules.{PolicyState};
 ghost use Rattle.zr_port.specs.declared.entry.Entry.{Entry};
 ghost use Rattle.zr_port.specs.declared.error.UpError.{UpError};
 ghost use Rattle.zr_port.specs.declared.error.DeliverError.{DeliverError};
 ghost use Rattle.zr_port.specs.declared.error.DownError.{DownError};
-ghost use Rattle.zr_port.specs.Adding.{Adds, IsEntryOf, IsLeastFree, IsAdmitted, DeliversUpTo, StopsAt};
+ghost use Rattle.zr_port.specs.Adding.{Adds, IsEntryOf, IsLeastFree, IsAdmitted};
+ghost use Rattle.zr_port.specs.Coming.{ComesUpTo, StopsAt, sight};
 
 use crate::entry::Entry;
 use crate::error::{DeliverError, DownError, UpError};
@@ -35,6 +37,9 @@ pub trait Port {
 
     // which history its entries stand in
     ghost history: { Self → TableId };
+
+    // by which rules clients are judged
+    ghost policy: { Self → PolicyState };
 
     // which lists of entries the history can be
     ghost is_legal: { Self → List Entry → Type 0 };
@@ -77,8 +82,8 @@ pub trait Port {
         ensures refused { IfErr result (λ e. e ≢ DeliverError.NoMemory → refuses_message self.now (seen pass.new) link msg e) }
         ensures unchanged { OnErr result (mine pass.new ≡ mine pass.old) };
 
-    /// Messages that have a spelling on the wire have come over a link. They are delivered in order, each as `deliver` does it, up to the first that is
-    /// refused. That one and those behind it are let go.
+    /// Messages that have a spelling on the wire have come over a link. They are delivered in order, each as `deliver` does it. Those that a rule denies
+    /// are passed over, and so are those that take back what may have been denied. The first that is refused otherwise is let go with those behind it.
     fn deliver_all(
         &self,
         pass: &mut Pass<Entry>,
@@ -90,8 +95,8 @@ pub trait Port {
         ensures same { IsSamePass pass.old pass.new }
         ensures prefix { IsPrefix (seen pass.old) (seen pass.new) }
         ensures legal { messages.items ≢ [] → is_legal self.now (seen pass.new) }
-        ensures all { OnOk result (DeliversUpTo (λ h m e. refuses_message self.now h link m e) link messages.items [] pass.old pass.new) }
-        ensures stopped { IfErr result (λ e. (rest : List Msg) × DeliversUpTo (λ h m x. refuses_message self.now h link m x) link messages.items rest pass.old pass.new × StopsAt (λ m x. refuses_message self.now (seen pass.new) link m x) rest e) };
+        ensures all { OnOk result (ComesUpTo link (λ h m e. refuses_message self.now h link m e) messages.items [] (sight pass.old) (sight pass.new)) }
+        ensures stopped { IfErr result (λ e. (rest : List Msg) × ComesUpTo link (λ h m x. refuses_message self.now h link m x) messages.items rest (sight pass.old) (sight pass.new) × StopsAt (λ m x. refuses_message self.now (seen pass.new) link m x) rest e) };
 
     /// A link has ended, by this end for the reason where there is one. Its ring gets its end with that reason unless it has one.
     fn down(

@@ -1,8 +1,9 @@
 -- Where a message is refused, and where nothing refuses it, as the tables see it.
-use Rattle.std.proofs.Common.{◌≡◌, ℕ, ◌<◌, ◌==◌, not, Bool, true, false, cond, List, [], ◌∷◌, Option, Some, None, map, option_map, refl, sym, ap, subst, ◌∙◌}
-use Rattle.std.specs.Prelude.{is_some}
+use Rattle.std.proofs.Common.{◌≡◌, ℕ, ◌==◌, not, ◌&&◌, Bool, true, false, cond, List, [], ◌∷◌, ◌++◌, Option, Some, None, map, option_map, refl, sym, ap, subst, ◌∙◌}
+use Rattle.std.specs.Prelude.{is_some, is_none}
 use Rattle.std.specs.List.{find}
-use Rattle.std.specs.Option.{option_and_then}
+use Rattle.std.proofs.lemmas.Bool.{and_from, and_parts}
+use Rattle.std.specs.Option.{option_and_then, option_map_or}
 use Rattle.zr_id.specs.declared.link.LinkNo.{LinkNo}
 use Rattle.zr_msg.specs.declared.event.Event.TheVariants.{From}
 use Rattle.zr_msg.specs.declared.msg.Msg.{Msg}
@@ -18,10 +19,14 @@ use Rattle.zr_port.specs.declared.error.DeliverError.{DeliverError}
 use Rattle.zr_port.specs.declared.error.DeliverError.TheVariants as deliver
 use Rattle.zr_wire.specs.Roles.{admits}
 use Rattle.zr_router_queue.specs.declared.link_end.Closing.{Closing}
-use Rattle.zr_router_queue.specs.Tables.{LinkQueue, replay}
+use Rattle.zr_router_queue.specs.Tables.{LinkQueue, Tables, new_tables, advanced, replay_from, replay}
 use Rattle.zr_router_queue.specs.Ends.{EndState, IsReplay}
 use Rattle.zr_router.specs.Before.{message_refusal, open_refusal}
-use Rattle.zr_router.specs.Refusals.{IsClosed, RefusesAt, RefusesOn, RefusesMessage, closing_of, is_worn, refused_by, refuses_on}
+use Rattle.zr_router.specs.Refusals.{IsClosed, RefusesAt, RefusesOn, RefusesMessage, closing_of, denied_or, is_worn, node_refusal, refused_by, refuses_on}
+use Rattle.zr_router.specs.Allowed.{is_allowed, are_allowed_from, are_allowed}
+use Rattle.zr_access.specs.Rules.{PolicyState, is_open}
+use Rattle.zr_access.specs.Messages.{peer_denial}
+use Rattle.zr_msg.specs.declared.error.NodeError.TheVariants as error
 
 -- what is found under a number, where its peer is
 pub found_peer : (o : Option LinkPeer) (p : PeerState) → option_map (λ l. l.peer) o ≡ Some p → (l : LinkPeer) × (o ≡ Some l) × (l.peer ≡ p)
@@ -49,39 +54,41 @@ find_closed link (x ∷ xs) = by (x.queue.link.0 == link.0) (find_closed link xs
     by true ih = refl
     by false ih = ih
 
-module _ (me : List ℕ) (h : List Entry) (hub : HubState) (ends : List EndState) (r : IsReplay me h hub ends) (link : LinkNo) (msg : Msg) where
+module _ (policy : PolicyState) (me : List ℕ) (h : List Entry) (hub : HubState) (ends : List EndState) (r : IsReplay me h hub ends) (link : LinkNo) (msg : Msg) where
   here : (o : Option LinkPeer) → link_at hub.node.links link.0 ≡ o → link_at (replay me h).hub.node.links link.0 ≡ o
   here o e = ap (λ n. link_at n.node.links link.0) (sym r.hub_is) ∙ e
 
   closing : (o : Option ℕ) → closed_at ends link ≡ o → closing_of (replay me h) link ≡ o
   closing o e = ap (λ qs. option_and_then (λ (q : LinkQueue). q.closed) (find (λ q. q.link.0 == link.0) qs)) (sym r.queues) ∙ find_closed link ends ∙ e
 
-  not_up : (e : DeliverError) → link_at hub.node.links link.0 ≡ None → e ≡ deliver.NotUp link → RefusesMessage me h link msg e
-  not_up e none is = subst (λ o. RefusesAt (replay me h) h link msg o e) (sym (here None none)) is
+  not_up : (e : DeliverError) → link_at hub.node.links link.0 ≡ None → e ≡ deliver.NotUp link → RefusesMessage policy me h link msg e
+  not_up e none is = subst (λ o. RefusesAt policy (replay me h) h link msg o e) (sym (here None none)) is
 
-  refused_on : (l : LinkPeer) (o : Option ℕ) (e : DeliverError) → link_at hub.node.links link.0 ≡ Some l → closed_at ends link ≡ o → RefusesOn (replay me h) h link l.peer.role msg o e → RefusesMessage me h link msg e
+  refused_on : (l : LinkPeer) (o : Option ℕ) (e : DeliverError) → link_at hub.node.links link.0 ≡ Some l → closed_at ends link ≡ o → RefusesOn policy (replay me h) h link l.peer msg o e → RefusesMessage policy me h link msg e
   refused_on l o e up shut is =
-      subst (λ p. RefusesAt (replay me h) h link msg p e) (sym (here (Some l) up))
-      (subst (λ p. RefusesOn (replay me h) h link l.peer.role msg p e) (sym (closing o shut)) is)
+      subst (λ p. RefusesAt policy (replay me h) h link msg p e) (sym (here (Some l) up))
+      (subst (λ p. RefusesOn policy (replay me h) h link l.peer msg p e) (sym (closing o shut)) is)
 
-  refused_open : (l : LinkPeer) (e : DeliverError) → link_at hub.node.links link.0 ≡ Some l → closed_at ends link ≡ None → refuses_on hub h link l.peer.role msg ≡ Some e → RefusesMessage me h link msg e
-  refused_open l e up unshut is = refused_on l None e up unshut (subst (λ n. refuses_on n h link l.peer.role msg ≡ Some e) r.hub_is is)
+  refused_open : (l : LinkPeer) (e : DeliverError) → link_at hub.node.links link.0 ≡ Some l → closed_at ends link ≡ None → refuses_on policy hub h link l.peer msg ≡ Some e → RefusesMessage policy me h link msg e
+  refused_open l e up unshut is = refused_on l None e up unshut (subst (λ n. refuses_on policy n h link l.peer msg ≡ Some e) r.hub_is is)
 
   -- a link that is up and open admits the message, or says why not
-  worn_more : (a w : Bool) (role : Role) (x : Option NodeError) (e : DeliverError) → cond (not a) (Some (deliver.Misplaced role)) (cond w (Some deliver.Worn) None) ≡ Some e →
-      cond (not a) (Some (deliver.Misplaced role)) (refused_by w x) ≡ Some e
-  worn_more false w role x e is = is
-  worn_more true true role x e is = is
-  worn_more true false role x e is = cc
+  worn_more : (a : Bool) (d : Option ℕ) (ruled w : Bool) (role : Role) (x : Option NodeError) (e : DeliverError) → cond (not a) (Some (deliver.Misplaced role)) (denied_or d (cond w (Some deliver.Worn) None)) ≡ Some e →
+      cond (not a) (Some (deliver.Misplaced role)) (denied_or d (refused_by ruled w x)) ≡ Some e
+  worn_more false d ruled w role x e is = is
+  worn_more true (Some rule) ruled w role x e is = is
+  worn_more true None ruled true role x e is = is
+  worn_more true None ruled false role x e is = cc
 
-  none_more : (a w : Bool) (role : Role) (x : Option NodeError) → cond (not a) (Some (deliver.Misplaced role)) (cond w (Some deliver.Worn) None) ≡ None →
-      (w ≡ false) × (cond (not a) (Some (deliver.Misplaced role)) (refused_by w x) ≡ refused_by false x)
-  none_more false w role x is = cc
-  none_more true true role x is = cc
-  none_more true false role x is = (refl, refl)
+  none_more : (a : Bool) (d : Option ℕ) (ruled w : Bool) (role : Role) (x : Option NodeError) → cond (not a) (Some (deliver.Misplaced role)) (denied_or d (cond w (Some deliver.Worn) None)) ≡ None →
+      (a ≡ true) × (d ≡ None) × (w ≡ false) × (cond (not a) (Some (deliver.Misplaced role)) (denied_or d (refused_by ruled w x)) ≡ refused_by ruled false x)
+  none_more false d ruled w role x is = cc
+  none_more true (Some rule) ruled w role x is = cc
+  none_more true None ruled true role x is = cc
+  none_more true None ruled false role x is = (refl, refl, refl, refl)
 
   pub message_refused : (p : Option PeerState) (c : Option Closing) (e : DeliverError) → p ≡ option_map (λ l. l.peer) (link_at hub.node.links link.0) → asked c ≡ closed_at ends link →
-      message_refusal p c link msg (is_worn h) ≡ Some e → RefusesMessage me h link msg e
+      message_refusal policy p c link msg (is_worn h) ≡ Some e → RefusesMessage policy me h link msg e
   message_refused None c e at shut is = not_up e (no_peer (link_at hub.node.links link.0) (sym at)) (let same : e ≡ deliver.NotUp link = cc in same)
   message_refused (Some q) (Some c) e at shut is =
       let f = found_peer (link_at hub.node.links link.0) q (sym at) in
@@ -89,47 +96,82 @@ module _ (me : List ℕ) (h : List Entry) (hub : HubState) (ends : List EndState
   message_refused (Some q) None e at shut is =
       let f = found_peer (link_at hub.node.links link.0) q (sym at) in
       refused_open f.0 e f.1 (sym shut)
-      (worn_more (admits f.0.peer.role msg) (is_worn h) f.0.peer.role (hub_refuses hub (From link msg)) e (subst (λ z. open_refusal z msg (is_worn h) ≡ Some e) (sym f.2) is))
+      (worn_more (admits f.0.peer.role msg) (peer_denial policy f.0.peer msg) (not (is_open policy)) (is_worn h) f.0.peer.role (hub_refuses hub (From link msg)) e (subst (λ z. open_refusal policy z msg (is_worn h) ≡ Some e) (sym f.2) is))
 
   -- what follows where nothing of that refuses it
-  unshut : (p : Option PeerState) (c : Option Closing) → p ≡ option_map (λ l. l.peer) (link_at hub.node.links link.0) → asked c ≡ closed_at ends link → message_refusal p c link msg (is_worn h) ≡ None →
-      (l : LinkPeer) × (link_at hub.node.links link.0 ≡ Some l) × (closed_at ends link ≡ None) × (open_refusal l.peer msg (is_worn h) ≡ None)
+  unshut : (p : Option PeerState) (c : Option Closing) → p ≡ option_map (λ l. l.peer) (link_at hub.node.links link.0) → asked c ≡ closed_at ends link → message_refusal policy p c link msg (is_worn h) ≡ None →
+      (l : LinkPeer) × (link_at hub.node.links link.0 ≡ Some l) × (closed_at ends link ≡ None) × (open_refusal policy l.peer msg (is_worn h) ≡ None)
   unshut None c at shut is = cc
   unshut (Some q) (Some c) at shut is = cc
   unshut (Some q) None at shut is =
       let f = found_peer (link_at hub.node.links link.0) q (sym at) in
-      (f.0, f.1, sym shut, subst (λ z. open_refusal z msg (is_worn h) ≡ None) (sym f.2) is)
+      (f.0, f.1, sym shut, subst (λ z. open_refusal policy z msg (is_worn h) ≡ None) (sym f.2) is)
 
-  module _ (p : Option PeerState) (c : Option Closing) (at : p ≡ option_map (λ l. l.peer) (link_at hub.node.links link.0)) (shut : asked c ≡ closed_at ends link) (is : message_refusal p c link msg (is_worn h) ≡ None) where
+  module _ (p : Option PeerState) (c : Option Closing) (at : p ≡ option_map (λ l. l.peer) (link_at hub.node.links link.0)) (shut : asked c ≡ closed_at ends link) (is : message_refusal policy p c link msg (is_worn h) ≡ None) where
     pub message_comes : is_some (link_at hub.node.links link.0) ≡ true
     message_comes = ap is_some (unshut p c at shut is).1
 
     pub message_room : is_worn h ≡ false
-    message_room = let u = unshut p c at shut is in (none_more (admits u.0.peer.role msg) (is_worn h) u.0.peer.role (hub_refuses hub (From link msg)) u.3).0
+    message_room = let u = unshut p c at shut is in (none_more (admits u.0.peer.role msg) (peer_denial policy u.0.peer msg) (not (is_open policy)) (is_worn h) u.0.peer.role (hub_refuses hub (From link msg)) u.3).2
 
-    pub message_node : (x : NodeError) → hub_refuses hub (From link msg) ≡ Some x → RefusesMessage me h link msg (deliver.Node x)
+    -- its role sends such messages, and no rule denies it
+    pub message_allowed : is_allowed policy (replay me h).hub.node (From link msg) ≡ true
+    message_allowed =
+        let u = unshut p c at shut is in
+        let told = none_more (admits u.0.peer.role msg) (peer_denial policy u.0.peer msg) (not (is_open policy)) (is_worn h) u.0.peer.role (hub_refuses hub (From link msg)) u.3 in
+        subst (λ o. option_map_or (λ (l : LinkPeer). admits l.peer.role msg && is_none (peer_denial policy l.peer msg)) o false ≡ true) (sym (here (Some u.0) u.1)) (and_from _ _ told.0 (ap is_none told.1))
+
+    pub message_node : (x : NodeError) → hub_refuses hub (From link msg) ≡ Some x → RefusesMessage policy me h link msg (node_refusal (not (is_open policy)) x)
     message_node x denied =
         let u = unshut p c at shut is in
-        refused_open u.0 (deliver.Node x) u.1 u.2
-        ((none_more (admits u.0.peer.role msg) (is_worn h) u.0.peer.role (hub_refuses hub (From link msg)) u.3).1 ∙ ap (λ o. refused_by false o) denied)
+        refused_open u.0 (node_refusal (not (is_open policy)) x) u.1 u.2
+        ((none_more (admits u.0.peer.role msg) (peer_denial policy u.0.peer msg) (not (is_open policy)) (is_worn h) u.0.peer.role (hub_refuses hub (From link msg)) u.3).3 ∙ ap (λ o. refused_by (not (is_open policy)) false o) denied)
 
-    pub message_admitted : hub_refuses hub (From link msg) ≡ None → IsAdmitted (λ e. RefusesMessage me h link msg e)
+    pub message_admitted : hub_refuses hub (From link msg) ≡ None → IsAdmitted (λ e. RefusesMessage policy me h link msg e)
     message_admitted takes e refused =
         let u = unshut p c at shut is in
-        let on : RefusesAt (replay me h) h link msg (Some u.0) e = subst (λ o. RefusesAt (replay me h) h link msg o e) (here (Some u.0) u.1) refused in
-        let there : refuses_on (replay me h).hub h link u.0.peer.role msg ≡ Some e = subst (λ o. RefusesOn (replay me h) h link u.0.peer.role msg o e) (closing None u.2) on in
-        let same : refuses_on hub h link u.0.peer.role msg ≡ Some e = subst (λ n. refuses_on n h link u.0.peer.role msg ≡ Some e) (sym r.hub_is) there in
-        let none : refuses_on hub h link u.0.peer.role msg ≡ None =
-        (none_more (admits u.0.peer.role msg) (is_worn h) u.0.peer.role (hub_refuses hub (From link msg)) u.3).1 ∙ ap (λ o. refused_by false o) takes in
+        let on : RefusesAt policy (replay me h) h link msg (Some u.0) e = subst (λ o. RefusesAt policy (replay me h) h link msg o e) (here (Some u.0) u.1) refused in
+        let there : refuses_on policy (replay me h).hub h link u.0.peer msg ≡ Some e = subst (λ o. RefusesOn policy (replay me h) h link u.0.peer msg o e) (closing None u.2) on in
+        let same : refuses_on policy hub h link u.0.peer msg ≡ Some e = subst (λ n. refuses_on policy n h link u.0.peer msg ≡ Some e) (sym r.hub_is) there in
+        let none : refuses_on policy hub h link u.0.peer msg ≡ None =
+        (none_more (admits u.0.peer.role msg) (peer_denial policy u.0.peer msg) (not (is_open policy)) (is_worn h) u.0.peer.role (hub_refuses hub (From link msg)) u.3).3 ∙ ap (λ o. refused_by (not (is_open policy)) false o) takes in
         cc
 
 -- out of memory is no cause of these
-pub never_memory : (p : Option PeerState) (c : Option Closing) (link : LinkNo) (msg : Msg) (w : Bool) → message_refusal p c link msg w ≡ Some deliver.NoMemory → ⊥
-never_memory None c link msg w e = cc
-never_memory (Some q) (Some c) link msg w e = cc
-never_memory (Some q) None link msg w e = by (admits q.role msg) w e
+pub never_memory : (policy : PolicyState) (p : Option PeerState) (c : Option Closing) (link : LinkNo) (msg : Msg) (w : Bool) → message_refusal policy p c link msg w ≡ Some deliver.NoMemory → ⊥
+never_memory policy None c link msg w e = cc
+never_memory policy (Some q) (Some c) link msg w e = cc
+never_memory policy (Some q) None link msg w e = by (admits q.role msg) (peer_denial policy q msg) w e
   where
-    by : (a w : Bool) → cond (not a) (Some (deliver.Misplaced q.role)) (cond w (Some deliver.Worn) None) ≡ Some deliver.NoMemory → ⊥
-    by false w e = cc
-    by true true e = cc
-    by true false e = cc
+    by : (a : Bool) (d : Option ℕ) (w : Bool) → cond (not a) (Some (deliver.Misplaced q.role)) (denied_or d (cond w (Some deliver.Worn) None)) ≡ Some deliver.NoMemory → ⊥
+    by false d w e = cc
+    by true (Some rule) w e = cc
+    by true None true e = cc
+    by true None false e = cc
+
+-- nor is it one of a refusal by the router
+pub node_never_memory : (ruled : Bool) (x : NodeError) → node_refusal ruled x ≡ deliver.NoMemory → ⊥
+node_never_memory true (error.NotDeclared id) e = cc
+node_never_memory true (error.Gap router has came) e = cc
+node_never_memory true (error.TextLimit held more) e = cc
+node_never_memory true (error.NumberTaken id) e = cc
+node_never_memory true (error.TooMany pending) e = cc
+node_never_memory true error.Worn e = cc
+node_never_memory true error.Spent e = cc
+node_never_memory true error.NoMemory e = cc
+node_never_memory false x e = cc
+
+-- ---- one more entry that is allowed
+
+and_true : (b : Bool) → (b && true) ≡ b
+and_true true = refl
+and_true false = refl
+
+allowed_snoc : (policy : PolicyState) (t : Tables) (h : List Entry) (e : Entry) → are_allowed_from policy t h ≡ true → is_allowed policy (replay_from t h).hub.node e.event ≡ true → are_allowed_from policy t (h ++ e ∷ []) ≡ true
+allowed_snoc policy t [] e a b = and_true (is_allowed policy t.hub.node e.event) ∙ b
+allowed_snoc policy t (x ∷ h) e a b =
+    let first = and_parts (is_allowed policy t.hub.node x.event) (are_allowed_from policy (advanced t x) h) a in
+    and_from _ _ first.0 (allowed_snoc policy (advanced t x) h e first.1 b)
+
+pub allowed_more : (policy : PolicyState) (me : List ℕ) (h : List Entry) (e : Entry) → are_allowed policy me h ≡ true → is_allowed policy (replay me h).hub.node e.event ≡ true → are_allowed policy me (h ++ e ∷ []) ≡ true
+allowed_more policy me h e a b = allowed_snoc policy (new_tables me) h e a b

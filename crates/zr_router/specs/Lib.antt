@@ -1,5 +1,6 @@
 pub mod Refusals
 pub mod Before
+pub mod Allowed
 pub mod Handled
 pub mod Ended
 pub mod Replayed

@@ -4,10 +4,12 @@ use Rattle.std.specs.Option.{option_and_then}
 use Rattle.zr_id.specs.Zid.{is_named}
 use Rattle.zr_id.specs.declared.link.LinkNo.{LinkNo}
 use Rattle.zr_hist.specs.Words.{most_entries}
+use Rattle.zr_access.specs.Rules.{PolicyState, is_open}
+use Rattle.zr_access.specs.Messages.{peer_denial}
 use Rattle.zr_msg.specs.declared.error.NodeError.{NodeError}
+use Rattle.zr_msg.specs.declared.error.NodeError.TheVariants as error
 use Rattle.zr_msg.specs.declared.msg.Msg.{Msg}
 use Rattle.zr_msg.specs.Peer.{PeerState}
-use Rattle.zr_msg.specs.declared.peer.Role.{Role}
 use Rattle.zr_msg.specs.declared.event.Event.{Event}
 use Rattle.zr_msg.specs.declared.event.Event.TheVariants.{Up, Down, From}
 use Rattle.zr_node_spec.specs.Tables.{link_at, link_to, is_router, free_link}
@@ -74,17 +76,34 @@ RefusesUp me h peer e = refuses_peer (replay me h).hub h peer ≡ Some e
 
 -- ---- a message
 
--- the refusal of a message for want of a place in the history, or by the router itself
-abbrev pub refused_by : Bool → Option NodeError → Option DeliverError
-refused_by true refusal = Some deliver.Worn
-refused_by false (Some e) = Some (deliver.Node e)
-refused_by false None = None
+-- what a refusal by the router is told as: where there are rules, what isn't declared may have been denied, and is ignored
+abbrev pub node_refusal : Bool → NodeError → DeliverError
+node_refusal true (error.NotDeclared id) = deliver.Ignored id
+node_refusal true (error.Gap router has came) = deliver.Node (error.Gap router has came)
+node_refusal true (error.TextLimit held more) = deliver.Node (error.TextLimit held more)
+node_refusal true (error.NumberTaken id) = deliver.Node (error.NumberTaken id)
+node_refusal true (error.TooMany pending) = deliver.Node (error.TooMany pending)
+node_refusal true error.Worn = deliver.Node error.Worn
+node_refusal true error.Spent = deliver.Node error.Spent
+node_refusal true error.NoMemory = deliver.Node error.NoMemory
+node_refusal false e = deliver.Node e
 
--- the refusal of a message over a link that is up and was not closed: a peer of that role may not send it, or the tables refuse it
-abbrev pub refuses_on : HubState → List Entry → LinkNo → Role → Msg → Option DeliverError
-refuses_on hub h link role msg =
-    if not (admits role msg) then Some (deliver.Misplaced role)
-    else refused_by (is_worn h) (hub_refuses hub (From link msg))
+-- the refusal of a message for want of a place in the history, or by the router itself
+abbrev pub refused_by : Bool → Bool → Option NodeError → Option DeliverError
+refused_by ruled true refusal = Some deliver.Worn
+refused_by ruled false (Some e) = Some (node_refusal ruled e)
+refused_by ruled false None = None
+
+-- the refusal by a rule, or else another one
+abbrev pub denied_or : Option ℕ → Option DeliverError → Option DeliverError
+denied_or (Some rule) other = Some (deliver.Denied rule)
+denied_or None other = other
+
+-- the refusal of a message over a link that is up and was not closed: a peer of that role may not send it, a rule denies it, or the tables refuse it
+abbrev pub refuses_on : PolicyState → HubState → List Entry → LinkNo → PeerState → Msg → Option DeliverError
+refuses_on policy hub h link peer msg =
+    if not (admits peer.role msg) then Some (deliver.Misplaced peer.role)
+    else denied_or (peer_denial policy peer msg) (refused_by (not (is_open policy)) (is_worn h) (hub_refuses hub (From link msg)))
 
 -- an earlier event closed the link, which had so many parcels for it and had fewer free slots
 abbrev pub IsClosed : Option ℕ → DeliverError → Type 0
@@ -92,6 +111,8 @@ IsClosed None (deliver.Full asked free) = ⊥
 IsClosed (Some n) (deliver.Full asked free) = (asked ≡ n) × (free < asked)
 IsClosed closed (deliver.NotUp link) = ⊥
 IsClosed closed (deliver.Misplaced role) = ⊥
+IsClosed closed (deliver.Denied rule) = ⊥
+IsClosed closed (deliver.Ignored id) = ⊥
 IsClosed closed (deliver.Node e) = ⊥
 IsClosed closed deliver.Worn = ⊥
 IsClosed closed deliver.NoMemory = ⊥
@@ -100,18 +121,18 @@ IsClosed closed deliver.NoMemory = ⊥
 abbrev pub closing_of : Tables → LinkNo → Option ℕ
 closing_of t link = option_and_then (λ (q : LinkQueue). q.closed) (find (λ q. q.link.0 == link.0) (open_queues t))
 
--- what an open or a closed link to a peer of that role refuses
-abbrev pub RefusesOn : Tables → List Entry → LinkNo → Role → Msg → Option ℕ → DeliverError → Type 0
-RefusesOn t h link role msg (Some n) e = IsClosed (Some n) e
-RefusesOn t h link role msg None e = refuses_on t.hub h link role msg ≡ Some e
+-- what an open or a closed link to a peer refuses
+abbrev pub RefusesOn : PolicyState → Tables → List Entry → LinkNo → PeerState → Msg → Option ℕ → DeliverError → Type 0
+RefusesOn policy t h link peer msg (Some n) e = IsClosed (Some n) e
+RefusesOn policy t h link peer msg None e = refuses_on policy t.hub h link peer msg ≡ Some e
 
 -- the link isn't up, or it refuses the message
-abbrev pub RefusesAt : Tables → List Entry → LinkNo → Msg → Option LinkPeer → DeliverError → Type 0
-RefusesAt t h link msg None e = e ≡ deliver.NotUp link
-RefusesAt t h link msg (Some l) e = RefusesOn t h link l.peer.role msg (closing_of t link) e
+abbrev pub RefusesAt : PolicyState → Tables → List Entry → LinkNo → Msg → Option LinkPeer → DeliverError → Type 0
+RefusesAt policy t h link msg None e = e ≡ deliver.NotUp link
+RefusesAt policy t h link msg (Some l) e = RefusesOn policy t h link l.peer msg (closing_of t link) e
 
-abbrev pub RefusesMessage : List ℕ → List Entry → LinkNo → Msg → DeliverError → Type 0
-RefusesMessage me h link msg e = RefusesAt (replay me h) h link msg (link_at (replay me h).hub.node.links link.0) e
+abbrev pub RefusesMessage : PolicyState → List ℕ → List Entry → LinkNo → Msg → DeliverError → Type 0
+RefusesMessage policy me h link msg e = RefusesAt policy (replay me h) h link msg (link_at (replay me h).hub.node.links link.0) e
 
 -- ---- a link that is to go down
 

@@ -2,11 +2,13 @@
 
 ghost use Rattle.std.specs.Prelude.{◌≡◌, ◌≤◌, ◌&&◌, ◌||◌, nat_le, filter, length};
 ghost use Rattle.zr_node_spec.specs.Tables.{is_router};
-ghost use Rattle.zr_router.specs.Before.{message_refusal};
+ghost use Rattle.zr_router.specs.Before.{message_refusal, open_refusal};
 ghost use Rattle.zr_router.specs.Refusals as refusals;
-ghost use Rattle.zr_router.specs.Refusals.{down_refusal, most_routers, most_sessions, peer_refusal};
+ghost use Rattle.zr_router.specs.Refusals.{down_refusal, node_refusal, most_routers, most_sessions, peer_refusal};
 
+use zr_access::Policy;
 use zr_id::link::LinkNo;
+use zr_msg::error::NodeError;
 use zr_msg::msg::Msg;
 use zr_msg::peer::{LinkPeer, Peer, Role};
 use zr_port::{DeliverError, DownError, UpError};
@@ -97,16 +99,17 @@ pub(crate) fn refuses_down(hub: &Hub, worn: bool, link: LinkNo) -> Option<DownEr
     None
 }
 
-/// Why a message over a link is refused before the router is asked, if it is: who stands at the other end of the link, if it is up, and how an event
-/// has closed it, if one has. `worn` says that the history is at its end.
+/// Why a message over a link is refused before the router is asked, if it is: by which rules, who stands at the other end of the link, if it is up, and how
+/// an event has closed it, if one has. `worn` says that the history is at its end.
 pub(crate) fn refuses_message(
+    policy: &Policy,
     peer: Option<Peer>,
     closing: Option<Closing>,
     link: LinkNo,
     msg: &Msg,
     worn: bool,
 ) -> Option<DeliverError>
-    ensures { result ≡ message_refusal peer closing link msg.now worn }
+    ensures { result ≡ message_refusal policy.now peer closing link msg.now worn }
 {
     let Some(peer) = peer else {
         return Some(DeliverError::NotUp { link });
@@ -117,11 +120,42 @@ pub(crate) fn refuses_message(
             free: closing.free,
         });
     }
+    open_refusal(policy, peer, msg, worn)
+}
+
+fn open_refusal(policy: &Policy, peer: Peer, msg: &Msg, worn: bool) -> Option<DeliverError>
+    ensures { result ≡ open_refusal policy.now peer msg.now worn }
+{
     if !admits(peer.role, msg) {
         return Some(DeliverError::Misplaced { role: peer.role });
+    }
+    if let Some(rule) = policy.denial(&peer, msg) {
+        return Some(DeliverError::Denied { rule });
     }
     if worn {
         return Some(DeliverError::Worn);
     }
     None
+}
+
+/// What a refusal by the router is told as: where there are rules, what isn't declared may have been denied.
+pub(crate) fn node_refusal(ruled: bool, error: NodeError) -> DeliverError
+    ensures { result ≡ node_refusal ruled error }
+{
+    match error {
+        NodeError::NotDeclared { id } => {
+            if ruled {
+                DeliverError::Ignored { id }
+            } else {
+                DeliverError::Node(error)
+            }
+        }
+        NodeError::Gap { .. }
+        | NodeError::TextLimit { .. }
+        | NodeError::NumberTaken { .. }
+        | NodeError::TooMany { .. }
+        | NodeError::Worn
+        | NodeError::Spent
+        | NodeError::NoMemory => DeliverError::Node(error),
+    }
 }

@@ -11,6 +11,7 @@ use std::marker::PhantomData;
 use std::sync::{Mutex, Wait};
 use std::thread::Parker;
 use std::time::Duration;
+use zr_access::Policy;
 use zr_frame::Outbox;
 use zr_hist::{History, Kept, Pass};
 use zr_id::link::LinkNo;
@@ -55,12 +56,14 @@ impl<B: Naming, R: Wait + Drop> Router<B, R> {
         rt: R,
         alloc: Global,
         me: Zid,
+        policy: Policy,
         history: History<Entry>,
         kept: Kept<Entry>,
     ) -> Result<Router<B, R>, AllocError>
         requires history { name history ≡ B.history }
         requires kept { (kept_name kept ≡ B.history) × (list_of kept ≡ []) }
         requires own { me ≡ B.me }
+        requires ruled { policy ≡ B.policy }
     {
         let mut bells = Vec::with_capacity(alloc, MOST_SESSIONS as usize)?;
         for _ in 0..MOST_SESSIONS {
@@ -70,7 +73,7 @@ impl<B: Naming, R: Wait + Drop> Router<B, R> {
             rt,
             alloc,
             history,
-            tables: Mutex::new(Tables::new(alloc, me, kept)?),
+            tables: Mutex::new(Tables::new(alloc, me, policy, kept)?),
             bells,
             of: PhantomData,
         })
@@ -105,19 +108,22 @@ impl<B: Naming, R: Wait + Drop> Port for Router<B, R> {
     ghost use Rattle.std.specs.Prelude.{◌≡◌, true};
     ghost use Rattle.zr_router_queue.specs.History as history;
     ghost use Rattle.zr_router_queue.specs.Tables as tables;
+    ghost use Rattle.zr_router.specs.Allowed.{are_allowed};
     ghost use Rattle.zr_router.specs.Refusals.{RefusesDown, RefusesMessage, RefusesUp};
 
     type Note = Queued;
 
     ghost history = { λ _. B.history };
 
-    ghost is_legal = { λ _ h. history.is_legal B.me h ≡ true };
+    ghost policy = { λ _. B.policy };
+
+    ghost is_legal = { λ _ h. (history.is_legal B.me h ≡ true) × (are_allowed B.policy B.me h ≡ true) };
 
     ghost is_up = { λ _ h link. tables.is_up B.me h link };
 
     ghost refuses_up = { λ _ h peer e. RefusesUp B.me h peer e };
 
-    ghost refuses_message = { λ _ h link msg e. RefusesMessage B.me h link msg e };
+    ghost refuses_message = { λ _ h link msg e. RefusesMessage B.policy B.me h link msg e };
 
     ghost refuses_down = { λ _ h link e. RefusesDown B.me h link e };
 

@@ -9,7 +9,8 @@ ghost use Rattle.zr_hist.specs.Words.{IsSamePass, kept_name, list_of, mine, most
 ghost use Rattle.zr_id.specs.declared.link.LinkNo.{LinkNo};
 ghost use Rattle.zr_msg.specs.declared.event.Event.TheVariants as event;
 ghost use Rattle.zr_msg.specs.declared.msg.Msg.{Msg};
-ghost use Rattle.zr_port.specs.Adding.{Adds, DeliversUpTo, IsAdmitted, IsEntryOf, IsLeastFree, StopsAt};
+ghost use Rattle.zr_port.specs.Adding.{Adds, IsAdmitted, IsEntryOf, IsLeastFree};
+ghost use Rattle.zr_port.specs.Coming.{Came, ComesUpTo, Makes, StopsAt, is_passed, message_of, sight};
 ghost use Rattle.zr_port.specs.declared.entry.Entry.{Entry};
 ghost use Rattle.zr_ring.specs.Taker.{taken, take_calls};
 ghost use Rattle.zr_node_spec.specs.Event.{MayCome, on_link};
@@ -17,20 +18,22 @@ ghost use Rattle.zr_told_spec.specs.Hub.{hub_after, hub_refuses, hub_sends};
 ghost use Rattle.zr_wire.specs.Writing.{IsSpelled};
 ghost use Rattle.zr_router_queue.specs.Ends.{GoesByRings, IsReplay, new_end, taker_ring};
 ghost use Rattle.zr_router_queue.specs.History.{is_legal};
-ghost use Rattle.zr_router_queue.specs.Tables.{is_up, new_queue};
+ghost use Rattle.zr_router_queue.specs.Tables.{is_up, new_queue, replay};
+ghost use Rattle.zr_router.specs.Allowed.{are_allowed, is_allowed};
 ghost use Rattle.zr_router.specs.Failures.{HasFailed};
 ghost use Rattle.zr_router.specs.Handled.{IsHandled};
 ghost use Rattle.zr_router.specs.Ended.{HasEnded};
 ghost use Rattle.zr_router.specs.Replayed.{IsReplay-prop};
-ghost use Rattle.zr_router.specs.Runs.{RunsUpTo};
+ghost use Rattle.zr_router.specs.Runs.{IsStep, RunsUpTo};
 ghost use Rattle.zr_router.specs.Refusals.{RefusesDown, RefusesMessage, RefusesUp, is_worn, most_sessions};
 
-use crate::admit::{MOST_SESSIONS, refuses_down, refuses_message, refuses_peer};
+use crate::admit::{MOST_SESSIONS, node_refusal, refuses_down, refuses_message, refuses_peer};
 use crate::ends::{closing_of, taken_out};
 use crate::failure::Failure;
 use std::alloc::{AllocError, Global};
 use std::marker::PhantomData;
 use std::vec;
+use zr_access::Policy;
 use zr_frame::Outbox;
 use zr_hist::{History, Kept, Pass};
 use zr_id::link::LinkNo;
@@ -57,6 +60,7 @@ const MOST_HELD: u32 = 64;
 /// what stands for the history. Unless memory ran out they are the replay of its list.
 pub struct Tables<B: Naming> {
     me: Zid,
+    policy: Policy,
     hub: Hub,
     ends: Vec<LinkSender>,
     kept: Kept<Entry>,
@@ -70,7 +74,9 @@ pub struct Tables<B: Naming> {
     of: PhantomData<B>,
     ghost named: { kept_name kept ≡ B.history },
     ghost own: { me ≡ B.me },
+    ghost ruled: { policy ≡ B.policy },
     ghost legal: { is_legal B.me (list_of kept) ≡ true },
+    ghost allowed: { are_allowed B.policy B.me (list_of kept) ≡ true },
     ghost replayed: { is_spent ≡ false → IsReplay B.me (list_of kept) hub ends.items } by { IsReplay-prop is_spent B.me (list_of kept) hub ends.items },
 }
 
@@ -79,6 +85,7 @@ impl<B: Naming> Drop for Tables<B> {
     fn drop(self) {
         let Self {
             me: _me,
+            policy: _policy,
             hub: _hub,
             ends: _ends,
             kept: _kept,
@@ -111,14 +118,21 @@ impl<B: Naming> Tables<B> {
     ghost use Rattle.zr_router.specs.Words.{entries, is_spent, open_links};
 
     /// The tables of a router without links, and an empty history.
-    pub fn new(alloc: Global, me: Zid, kept: Kept<Entry>) -> Result<Tables<B>, AllocError>
+    pub fn new(
+        alloc: Global,
+        me: Zid,
+        policy: Policy,
+        kept: Kept<Entry>,
+    ) -> Result<Tables<B>, AllocError>
         requires named { kept_name kept ≡ B.history }
         requires own { me ≡ B.me }
+        requires ruled { policy ≡ B.policy }
         requires empty { list_of kept ≡ [] }
         ensures { IfOk result (λ t. (entries t ≡ []) × (is_spent t ≡ false) × (open_links t ≡ [])) }
     {
         Ok(Tables {
             me,
+            policy,
             hub: Hub::new(alloc, me)?,
             ends: Vec::new(alloc),
             kept,
@@ -146,9 +160,10 @@ impl<B: Naming> Tables<B> {
         ensures prefix { IsPrefix (seen pass.old) (entries self.old) }
         ensures seen { seen pass.new ≡ entries self.new }
         ensures legal { is_legal B.me (entries self.new) ≡ true }
-        ensures added { IfOk result (λ _. Adds pass.old pass.new (λ before e. (before ≡ entries self.old) × IsEntryOf (event.From link msg) None None e × IsAdmitted (λ r. RefusesMessage B.me before link msg r))) }
+        ensures allowed { are_allowed B.policy B.me (entries self.new) ≡ true }
+        ensures added { IfOk result (λ _. Adds pass.old pass.new (λ before e. (before ≡ entries self.old) × IsEntryOf (event.From link msg) None None e × IsAdmitted (λ r. RefusesMessage B.policy B.me before link msg r))) }
         ensures rings { IfOk result (λ _. Adds pass.old pass.new (λ before e. (before ≡ entries self.old) × GoesByRings B.me before e (open_links self.old) (open_links self.new))) }
-        ensures refused { IfErr result (λ r. r ≢ DeliverError.NoMemory → RefusesMessage B.me (entries self.old) link msg r) }
+        ensures refused { IfErr result (λ r. r ≢ DeliverError.NoMemory → RefusesMessage B.policy B.me (entries self.old) link msg r) }
         ensures unchanged { OnErr result ((entries self.new ≡ entries self.old) × (mine pass.new ≡ mine pass.old)) }
         ensures unasked { IfErr result (λ r. r ≢ DeliverError.NoMemory → open_links self.new ≡ open_links self.old) }
         ensures spent { (result ≡ Err DeliverError.NoMemory) ↔ (is_spent self.new ≡ true) }
@@ -160,7 +175,7 @@ impl<B: Naming> Tables<B> {
         };
         let peer = self.hub.peer_at(link);
         let closing = closing_of(self.ends.as_slice(), link);
-        if let Some(refused) = refuses_message(peer, closing, link, &msg, worn) {
+        if let Some(refused) = refuses_message(&self.policy, peer, closing, link, &msg, worn) {
             drop(msg);
             return Err(refused);
         }
@@ -173,7 +188,7 @@ impl<B: Naming> Tables<B> {
             }
             Err(Failure::Refused(error)) => {
                 drop(event);
-                return Err(DeliverError::Node(error));
+                return Err(node_refusal(!self.policy.is_open(), error));
             }
         };
         let arrival = Arrival {
@@ -193,8 +208,8 @@ impl<B: Naming> Tables<B> {
         }
     }
 
-    /// Messages have come over a link: the next of them are delivered, in order, up to the first that is refused. As many of them are left as would hold
-    /// up other threads, or the writers of links: behind so many messages, and behind one that leaves a ring half full or crowded.
+    /// Messages have come over a link: the next of them are delivered or passed over, in order, up to the first that is refused otherwise. As many of them
+    /// are left as would hold up other threads, or the writers of links: behind so many messages, and behind one that leaves a ring half full or crowded.
     pub fn deliver_some(
         &mut self,
         alloc: Global,
@@ -212,13 +227,14 @@ impl<B: Naming> Tables<B> {
         ensures prefix { IsPrefix (seen pass.old) (entries self.old) }
         ensures seen { seen pass.new ≡ entries self.new }
         ensures legal { is_legal B.me (seen pass.new) ≡ true }
+        ensures allowed { are_allowed B.policy B.me (seen pass.new) ≡ true }
         ensures own { (own : List Entry) × (entries self.new ≡ entries self.old ++ own) × (mine pass.new ≡ mine pass.old ++ own) }
-        ensures run { OnOk result (RunsUpTo B.me link (into_iter_items messages.old) (into_iter_items messages.new) (entries self.old) (open_links self.old) (entries self.new) (open_links self.new)) }
-        ensures run_so_far { IfErr result (λ r. r ≢ DeliverError.NoMemory → (msg : Msg) × RunsUpTo B.me link (into_iter_items messages.old) (msg ∷ into_iter_items messages.new) (entries self.old) (open_links self.old) (entries self.new) (open_links self.new)) }
-        ensures delivered { OnOk result (DeliversUpTo (λ h m e. RefusesMessage B.me h link m e) link (into_iter_items messages.old) (into_iter_items messages.new) pass.old pass.new) }
+        ensures run { OnOk result (RunsUpTo B.policy B.me link (into_iter_items messages.old) (into_iter_items messages.new) (entries self.old) (open_links self.old) (entries self.new) (open_links self.new)) }
+        ensures run_so_far { IfErr result (λ r. r ≢ DeliverError.NoMemory → (msg : Msg) × RunsUpTo B.policy B.me link (into_iter_items messages.old) (msg ∷ into_iter_items messages.new) (entries self.old) (open_links self.old) (entries self.new) (open_links self.new)) }
+        ensures delivered { OnOk result (ComesUpTo link (λ h m e. RefusesMessage B.policy B.me h link m e) (into_iter_items messages.old) (into_iter_items messages.new) (sight pass.old) (sight pass.new)) }
         ensures left { OnOk result (AllByRecursion IsSpelled (into_iter_items messages.new) × (into_iter_len messages.new ≡ length (into_iter_items messages.new))) }
         ensures fewer { OnOk result (into_iter_len messages.new < into_iter_len messages.old) }
-        ensures stopped { IfErr result (λ e. (rest : List Msg) × DeliversUpTo (λ h m x. RefusesMessage B.me h link m x) link (into_iter_items messages.old) rest pass.old pass.new × StopsAt (λ m x. RefusesMessage B.me (seen pass.new) link m x) rest e) }
+        ensures stopped { IfErr result (λ e. (rest : List Msg) × ComesUpTo link (λ h m x. RefusesMessage B.policy B.me h link m x) (into_iter_items messages.old) rest (sight pass.old) (sight pass.new) × StopsAt (λ m x. RefusesMessage B.policy B.me (seen pass.new) link m x) rest e) }
         ensures spent { (result ≡ Err DeliverError.NoMemory) ↔ (is_spent self.new ≡ true) }
         ensures stays { is_spent self.old ≡ true → is_spent self.new ≡ true }
     {
@@ -226,7 +242,7 @@ impl<B: Naming> Tables<B> {
             let Some(msg) = messages.next() else {
                 return Ok(());
             };
-            if let Err(e) = self.deliver(alloc, history, pass, link, msg) {
+            if let Err(e) = self.deliver_next(alloc, history, pass, link, msg) {
                 return Err(e);
             }
             if self.presses || self.rest_ms > 0 {
@@ -234,6 +250,38 @@ impl<B: Naming> Tables<B> {
             }
         }
         Ok(())
+    }
+
+    // One message more has come over a link: it is delivered, or passed over.
+    fn deliver_next(
+        &mut self,
+        alloc: Global,
+        history: &History<Entry>,
+        pass: &mut Pass<Entry>,
+        link: LinkNo,
+        msg: Msg,
+    ) -> Result<(), DeliverError>
+        requires history { name history.now ≡ B.history }
+        requires pass { pass_name pass.old ≡ B.history }
+        requires spelled { IsSpelled msg }
+        ensures same { IsSamePass pass.old pass.new }
+        ensures prefix { IsPrefix (seen pass.old) (entries self.old) }
+        ensures seen { seen pass.new ≡ entries self.new }
+        ensures legal { is_legal B.me (entries self.new) ≡ true }
+        ensures allowed { are_allowed B.policy B.me (entries self.new) ≡ true }
+        ensures came { OnOk result ((c : Came) × (message_of c ≡ msg) × IsStep B.policy B.me link c (entries self.old) (open_links self.old) (entries self.new) (open_links self.new) × Makes link (λ h m x. RefusesMessage B.policy B.me h link m x) c (sight pass.old) (sight pass.new)) }
+        ensures own { (own : List Entry) × (entries self.new ≡ entries self.old ++ own) × (mine pass.new ≡ mine pass.old ++ own) }
+        ensures stops { IfErr result (λ r. is_passed r ≡ false) }
+        ensures refused { IfErr result (λ r. r ≢ DeliverError.NoMemory → RefusesMessage B.policy B.me (entries self.old) link msg r) }
+        ensures unchanged { OnErr result ((entries self.new ≡ entries self.old) × (mine pass.new ≡ mine pass.old)) }
+        ensures unasked { IfErr result (λ r. r ≢ DeliverError.NoMemory → open_links self.new ≡ open_links self.old) }
+        ensures spent { (result ≡ Err DeliverError.NoMemory) ↔ (is_spent self.new ≡ true) }
+        ensures stays { is_spent self.old ≡ true → is_spent self.new ≡ true }
+    {
+        match self.deliver(alloc, history, pass, link, msg) {
+            Ok(()) => Ok(()),
+            Err(e) => { if e.is_passed() { Ok(()) } else { Err(e) } }
+        }
     }
 
     /// For how long at most who reads from a link rests for all that one read gave, in milliseconds.
@@ -259,6 +307,7 @@ impl<B: Naming> Tables<B> {
         ensures prefix { IsPrefix (seen pass.old) (entries self.old) }
         ensures seen { seen pass.new ≡ entries self.new }
         ensures legal { is_legal B.me (entries self.new) ≡ true }
+        ensures allowed { are_allowed B.policy B.me (entries self.new) ≡ true }
         ensures added { IfOk result (λ r. Adds pass.old pass.new (λ before e. (before ≡ entries self.old) × IsEntryOf (event.Up r.0 peer) (Some outbox) None e × (IsLeastFree (λ l. is_up B.me before l) r.0 × IsAdmitted (λ e. RefusesUp B.me before peer e)))) }
         ensures rings { IfOk result (λ r. Adds pass.old pass.new (λ before e. (before ≡ entries self.old) × GoesByRings B.me before e (open_links self.old ++ new_end (new_queue r.0 peer.role outbox) (taker_ring r.1) ∷ []) (open_links self.new))) }
         ensures link { IfOk result (λ r. is_up B.me (entries self.new) r.0 ≡ true) }
@@ -328,6 +377,7 @@ impl<B: Naming> Tables<B> {
         ensures prefix { IsPrefix (seen pass.old) (entries self.old) }
         ensures seen { seen pass.new ≡ entries self.new }
         ensures legal { is_legal B.me (entries self.new) ≡ true }
+        ensures allowed { are_allowed B.policy B.me (entries self.new) ≡ true }
         ensures added { IfOk result (λ _. Adds pass.old pass.new (λ before e. (before ≡ entries self.old) × IsEntryOf (event.Down link) None reason e × IsAdmitted (λ e. RefusesDown B.me before link e))) }
         ensures rings { IfOk result (λ _. Adds pass.old pass.new (λ before e. (before ≡ entries self.old) × GoesByRings B.me before e (filter (λ x. not (x.queue.link.0 == link.0)) (open_links self.old)) (open_links self.new))) }
         ensures ended { IfOk result (λ giver. HasEnded (open_links self.old) link reason giver) }
@@ -470,6 +520,7 @@ impl<B: Naming> Tables<B> {
         requires history { name history.now ≡ B.history }
         requires pass { pass_name pass.old ≡ B.history }
         requires spent { self.old.is_spent ≡ true }
+        requires allowed { is_allowed B.policy (replay B.me (list_of self.old.kept)).hub.node arrival.event ≡ true }
         requires handled { IsHandled B.me (list_of self.old.kept) self.old.hub self.old.ends.items arrival.event arrival.outbox arrival.reason sent.now }
         ensures same { IsSamePass pass.old pass.new }
         ensures added { OnOk result ((e : Entry) × IsEntryOf arrival.event arrival.outbox arrival.reason e × (list_of self.new.kept ≡ list_of self.old.kept ++ e ∷ []) × (mine pass.new ≡ mine pass.old ++ e ∷ []) × (seen pass.new ≡ list_of self.new.kept) × GoesByRings B.me (list_of self.old.kept) e self.old.ends.items self.new.ends.items) }

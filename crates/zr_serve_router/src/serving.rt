@@ -11,6 +11,7 @@ use std::alloc::Global;
 use std::marker::Brand;
 use std::sync::{Arc, Wait};
 use std::thread::Threads;
+use zr_access::Policy;
 use zr_hist::{History, Kept, Pass};
 use zr_link_job::LinkJob;
 use zr_outside::host::Host;
@@ -20,7 +21,7 @@ use zr_port::{Entry, Naming};
 use zr_router::Router;
 use zr_serve::{ServeEnd, ServePlan, Serving, serve};
 
-/// Makes the router of a plan, and serves it.
+/// Makes the router of a plan, which judges what clients send by these rules, and serves it.
 #[tactic(auto, using(zr_serve::proofs::Served::not_begun))]
 pub fn serve_router<
     K: Sink,
@@ -31,6 +32,7 @@ pub fn serve_router<
     rt: R,
     alloc: Global,
     plan: &ServePlan,
+    policy: Policy,
     out: &mut K,
     err: &mut E,
     host: &mut H,
@@ -50,14 +52,14 @@ where
     match History::new(alloc) {
         Ok((history, kept, pass)) => {
             serve_named::<K, E, H, R, Brand>(
-                rt, alloc, plan, out, err, host, crew, history, kept, pass,
+                rt, alloc, plan, policy, out, err, host, crew, history, kept, pass,
             )
         }
         Err(_) => ServeEnd::NoMemory,
     }
 }
 
-// The same under a name, which is that of the history and of the plan's identifier.
+// The same under a name, which is that of the history, of the plan's identifier and of the rules.
 #[tactic(auto, using(zr_serve::proofs::Served::not_begun))]
 fn serve_named<
     K: Sink,
@@ -69,6 +71,7 @@ fn serve_named<
     rt: R,
     alloc: Global,
     plan: &ServePlan,
+    policy: Policy,
     out: &mut K,
     err: &mut E,
     host: &mut H,
@@ -86,13 +89,14 @@ where
     requires kept { (kept_name kept ≡ B.history) × (list_of kept ≡ []) }
     requires pass { pass_name pass ≡ B.history }
     requires own { plan.now.id ≡ B.me }
+    requires ruled { policy ≡ B.policy }
     ensures served { IsServed result plan.now.id plan.now.log (string_bytes plan.now.listen) plan.now.dials.items (H.calls host.old) (H.calls host.new) (crew_told crew.old) (crew_told crew.new) (crew_faults crew.old) (crew_faults crew.new) (outputs (K.held out.old) (E.held err.old) (E.faults err.old)) (outputs (K.held out.new) (E.held err.new) (E.faults err.new)) }
     ensures done { result ≡ ServeEnd.Done → Rose (H.ends host.old) (H.ends host.new) }
     ensures host { result ≡ ServeEnd.HostFault → Rose (H.faults host.old) (H.faults host.new) }
     ensures write { result ≡ ServeEnd.WriteFault → Rose (K.faults out.old) (K.faults out.new) ⊎ Rose (E.faults err.old) (E.faults err.new) }
     ensures later { (K.faults out.old ≤ K.faults out.new) × (E.faults err.old ≤ E.faults err.new) }
 {
-    let Ok(router) = Router::<B, R>::new(rt, alloc, plan.id, history, kept) else {
+    let Ok(router) = Router::<B, R>::new(rt, alloc, plan.id, policy, history, kept) else {
         return ServeEnd::NoMemory;
     };
     let Ok(port) = Arc::new(alloc, router) else {

@@ -1,5 +1,6 @@
 //! Rows of what names a network (key expressions and how they compare, links, trees, change logs, pending requests), of the wire's formats (bytes,
-//! extensions, bodies, keys, transport messages, declarations, network messages, messages between routers), and of opening, frames and whole sessions.
+//! extensions, bodies, keys, transport messages, declarations, network messages, messages between routers), of opening, frames and whole sessions, and of
+//! access rules.
 //!
 //! A row of standard input names a call and what it takes, word by word; it is written to standard output with what came of it behind `=`. Empty
 //! lines and those that begin with `#` are written as they are. What is to come stands in the file `stdout` beside this folder, as the
@@ -22,6 +23,7 @@ mod openings;
 mod pending;
 mod pieces;
 mod row;
+mod rules;
 mod sessions;
 mod sets;
 mod texts;
@@ -61,6 +63,7 @@ fn answer(alloc: Global, name: &str, words: &[&str]) -> Result<String, Fault> {
         "body" => bodies::answer(alloc, words),
         "expression" => expressions::answer(alloc, words),
         "match" => matches::answer(alloc, words),
+        "rules" => rules::answer(alloc, words),
         "key" => keys::answer(alloc, words),
         "transport" => transport::answer(alloc, words),
         "message" => messages::answer(alloc, words),

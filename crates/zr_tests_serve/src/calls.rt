@@ -6,6 +6,7 @@ use crate::desk::{Hand, Say};
 use std::alloc::{AllocError, Global};
 use std::marker::Brand;
 use std::sync::Wait;
+use zr_access::Policy;
 use zr_frame::Outbox;
 use zr_hist::{History, Kept, Pass};
 use zr_id::zid::Zid;
@@ -66,6 +67,9 @@ pub enum Told {
     Misplaced(Role),
     Full(u64, u32),
     NotDeclared(u32),
+    /// The line of the rule that denies.
+    Denied(u32),
+    Ignored(u32),
     /// So many entries of the log are known, and this one came.
     Gap(u64, u64),
     Parcels(u64),
@@ -201,6 +205,8 @@ fn undelivered(error: DeliverError) -> Told {
         DeliverError::NotUp { link } => Told::NotUp(link.0),
         DeliverError::Misplaced { role } => Told::Misplaced(role),
         DeliverError::Full { asked, free } => Told::Full(asked, free),
+        DeliverError::Denied { rule } => Told::Denied(rule),
+        DeliverError::Ignored { id } => Told::Ignored(id),
         DeliverError::Node(NodeError::NotDeclared { id }) => Told::NotDeclared(id),
         DeliverError::Node(NodeError::Gap { has, came, .. }) => Told::Gap(has, came),
         _ => Told::Other,
@@ -256,6 +262,7 @@ fn wrong_at<B: Naming, R: Wait + Drop>(
     rt: R,
     alloc: Global,
     me: Zid,
+    policy: Policy,
     history: History<Entry>,
     kept: Kept<Entry>,
     pass: Pass<Entry>,
@@ -265,26 +272,32 @@ fn wrong_at<B: Naming, R: Wait + Drop>(
     requires kept { (kept_name kept ≡ B.history) × (list_of kept ≡ []) }
     requires pass { pass_name pass ≡ B.history }
     requires own { me ≡ B.me }
+    requires ruled { policy ≡ B.policy }
 {
     let hand = Hand::new(pass);
     let mut bench = Bench {
         alloc,
-        router: Router::<B, R>::new(rt, alloc, me, history, kept)?,
+        router: Router::<B, R>::new(rt, alloc, me, policy, history, kept)?,
         hand,
         takers: Vec::new(alloc),
     };
     Ok(wrong(&mut bench, rows))
 }
 
-/// The number of the first row that a new router answers otherwise, where the rows come one after the other; that of all where there is none.
+/// The number of the first row that a new router under these rules answers otherwise, where the rows come one after the other; that of all where there is
+/// none.
 pub fn first_wrong<R: Wait + Drop>(
     rt: R,
     alloc: Global,
+    rules: &[u8],
     rows: &[(Call, Told)],
 ) -> Result<usize, AllocError> {
+    let Ok(policy) = Policy::read(alloc, rules) else {
+        return Err(AllocError);
+    };
     let Ok(me) = Zid::from_bytes(&[OWN]) else {
         return Err(AllocError);
     };
     let (history, kept, pass) = History::<Entry>::new(alloc)?;
-    wrong_at::<Brand, R>(rt, alloc, me, history, kept, pass, rows)
+    wrong_at::<Brand, R>(rt, alloc, me, policy, history, kept, pass, rows)
 }

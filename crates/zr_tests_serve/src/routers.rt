@@ -234,8 +234,33 @@ static CHILD: [Row; 17] = [
     (Call::Take(0), Told::Parcels(0)),
 ];
 
+/// Rules for the last table: of these the first denies what the second client declares, and the second what it publishes.
+const RULES: &[u8] = b"deny 0b sub a/*\ndeny 0b put **\nallow * * **\ndefault deny\n";
+
+static RULED: [Row; 12] = [
+    (Call::Client(0x0a), Told::Link(0)),
+    (Call::Client(0x0b), Told::Link(1)),
+    (Call::Say(1, Say::Sub), Told::Denied(1)),
+    (Call::Say(1, Say::Unsub), Told::Ignored(1)),
+    (Call::Say(0, Say::Sub), Told::Ok),
+    (Call::Say(1, Say::Sample), Told::Denied(2)),
+    (Call::Take(0), Told::Parcels(0)),
+    (Call::Say(1, Say::Told), Told::Misplaced(Role::Client)),
+    (Call::Say(0, Say::Sample), Told::Ok),
+    (Call::Say(0, Say::Unsub), Told::Ok),
+    (Call::Say(0, Say::Unsub), Told::Ignored(1)),
+    (Call::Say(2, Say::Sub), Told::NotUp(2)),
+];
+
 /// How many tables there are.
-const TABLES: usize = 10;
+const TABLES: usize = 11;
+
+fn rules(number: usize) -> &'static [u8] {
+    match number {
+        10 => RULES,
+        _ => b"",
+    }
+}
 
 fn table(number: usize) -> &'static [Row] {
     match number {
@@ -248,7 +273,8 @@ fn table(number: usize) -> &'static [Row] {
         6 => &BYTES,
         7 => &NUMBERS,
         8 => &ROLES,
-        _ => &CHILD,
+        9 => &CHILD,
+        _ => &RULED,
     }
 }
 
@@ -259,7 +285,7 @@ fn first_other<R: Wait + Copy + Drop>(
 ) -> Result<Option<(usize, usize)>, AllocError> {
     for number in 0..TABLES {
         let rows = table(number);
-        let wrong = first_wrong(rt, alloc, rows)?;
+        let wrong = first_wrong(rt, alloc, rules(number), rows)?;
         if wrong != rows.len() {
             return Ok(Some((number, wrong)));
         }

@@ -7,6 +7,7 @@ use std::alloc::{AllocError, Global};
 use std::sync::{Arc, Mutex, Wait};
 use std::test::Fail;
 use std::thread::Threads;
+use zr_access::Policy;
 use zr_dial::{Dial, read_dial};
 use zr_id::zid::Zid;
 use zr_link_job::{LinkJob, Side};
@@ -175,7 +176,7 @@ where
     H::Time: 'static,
     H::Log: 'static,
 {
-    serve_router(rt, alloc, plan, out, err, host, crew)
+    serve_router(rt, alloc, plan, Policy::open(alloc), out, err, host, crew)
 }
 
 // Whether serving comes to what the row says.

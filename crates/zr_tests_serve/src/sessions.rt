@@ -9,6 +9,7 @@ use std::marker::Brand;
 use std::sync::{Arc, Mutex, Wait};
 use std::test::Fail;
 use std::thread::Threads;
+use zr_access::Policy;
 use zr_hist::{History, Kept, Pass};
 use zr_id::link::LinkNo;
 use zr_id::zid::Zid;
@@ -157,6 +158,7 @@ fn is_answered_at<
     rt: R,
     alloc: Global,
     me: Zid,
+    policy: Policy,
     history: History<Entry>,
     kept: Kept<Entry>,
     pass: Pass<Entry>,
@@ -167,10 +169,11 @@ fn is_answered_at<
     requires kept { (kept_name kept ≡ B.history) × (list_of kept ≡ []) }
     requires pass { pass_name pass ≡ B.history }
     requires own { me ≡ B.me }
+    requires ruled { policy ≡ B.policy }
 {
     let mut pass = pass;
     let bytes = no_bytes(alloc)?;
-    let router = Router::<B, R>::new(rt, alloc, me, history, kept)?;
+    let router = Router::<B, R>::new(rt, alloc, me, policy, history, kept)?;
     let out = outward(rt, alloc, router, &bytes)?;
     let is_left = is_left(rt, alloc, me, source, out, &mut pass)?;
     Ok(is_left && hold(&rt, &bytes, want))
@@ -188,7 +191,17 @@ fn is_answered<R: Threads + Wait + Copy + Send + Sync + Drop + 'static>(
     };
     let mut source = client(alloc, most)?;
     let (history, kept, pass) = History::<Entry>::new(alloc)?;
-    is_answered_at::<Brand, R>(rt, alloc, me, history, kept, pass, &mut source, want)
+    is_answered_at::<Brand, R>(
+        rt,
+        alloc,
+        me,
+        Policy::open(alloc),
+        history,
+        kept,
+        pass,
+        &mut source,
+        want,
+    )
 }
 
 #[test]

@@ -9,6 +9,7 @@ use std::marker::Brand;
 use std::sync::Wait;
 use std::test::Fail;
 use std::thread::{Threads, join};
+use zr_access::Policy;
 use zr_hist::{History, Kept, Pass};
 use zr_id::zid::Zid;
 use zr_msg::peer::Role;
@@ -140,6 +141,7 @@ fn share<B: Naming + Send + Sync, R: Threads + Wait + Copy + Send + Sync + Drop>
     rt: R,
     alloc: Global,
     me: Zid,
+    policy: Policy,
     history: History<Entry>,
     kept: Kept<Entry>,
     pass: Pass<Entry>,
@@ -148,9 +150,10 @@ fn share<B: Naming + Send + Sync, R: Threads + Wait + Copy + Send + Sync + Drop>
     requires kept { (kept_name kept ≡ B.history) × (list_of kept ≡ []) }
     requires pass { pass_name pass ≡ B.history }
     requires own { me ≡ B.me }
+    requires ruled { policy ≡ B.policy }
 {
     let mut hand = Hand::new(pass);
-    let router = Router::<B, R>::new(rt, alloc, me, history, kept)?;
+    let router = Router::<B, R>::new(rt, alloc, me, policy, history, kept)?;
     share_at(rt, alloc, &router, &mut hand)
 }
 
@@ -162,7 +165,7 @@ fn shared<R: Threads + Wait + Copy + Send + Sync + Drop>(
         return Err(AllocError);
     };
     let (history, kept, pass) = History::<Entry>::new(alloc)?;
-    share::<Brand, R>(rt, alloc, me, history, kept, pass)
+    share::<Brand, R>(rt, alloc, me, Policy::open(alloc), history, kept, pass)
 }
 
 #[test]

@@ -1,7 +1,9 @@
 -- What holds of a run by what its words ask for.
-use Rattle.std.proofs.Common.{◌≡◌, ◌∙◌, ℕ, false, refl, sym, ap, subst, List, [], Option, Some, None, inl, inr, true≢false, true}
+use Rattle.std.proofs.Common.{◌≡◌, ◌∙◌, ◌||◌, ℕ, Bool, false, refl, sym, ap, subst, List, [], Option, Some, None, Result, Ok, Err, inl, inr, true≢false, true}
 use Rattle.std.specs.Prelude.{IfSome, is_some}
 use Rattle.std.specs.List.{list_any}
+use Rattle.std.specs.Option.{option_map_or}
+use Rattle.zr_access.specs.Rules.{PolicyState, open_policy}
 use Rattle.clap.specs.Kinds.{Kinds}
 use Rattle.zr_netrun.specs.declared.options.NetOptions.{NetOptions}
 use Rattle.zr_netrun.specs.declared.status.Status.TheVariants.{NoMemory}
@@ -14,8 +16,14 @@ use Rattle.zr_outside.specs.declared.host.Call.{Call}
 use Rattle.zr_serve.proofs.Served.{not_begun}
 use Rattle.zr_serve.specs.Serving.{Outputs}
 use Rattle.zr_serve.specs.declared.end.ServeEnd.TheVariants as end
-use Rattle.zr_top.specs.Asked.{IsServing}
-use Rattle.zr_top_words.specs.Asked.{Asked, Served, asked_of}
+use Rattle.zr_rules.specs.Given.{OfBytes}
+use Rattle.zr_rules.specs.declared.telling.RulesEnd.TheVariants as rules_end
+use Rattle.zr_rules.specs.declared.rules.RulesError.{RulesError}
+use Rattle.zr_rules.specs.declared.rules.RulesError.TheVariants as rules_error
+use Rattle.zr_top.specs.Asked.{Answers, HasRules, IsServingBy}
+use Rattle.zr_top.specs.Words.{asks_rules, reads_input}
+use Rattle.zr_top_words.specs.Asked.{Asked, Served, asked_of, net_of, served_of}
+use Rattle.zr_top_words.specs.declared.plan.NetPlan.{NetPlan}
 use Rattle.zr_top_words.specs.Read.{is_answer, may_answer, IsRefused}
 use Rattle.zr_top_words.proofs.Causes.{answer_asks_none, refused_asks_none}
 
@@ -64,7 +72,28 @@ no_script options left InputEnded out err = record {
       (false, λ e. absurd (true≢false (sym e)), (as_before out out refl, as_before err err refl));
 }
 
--- no router was served
-pub no_router : (s : Served) (calls : Option (List Call)) (told : Option (List LinkJob)) (faults : ℕ) (o : Outputs)
-    → IsServing s NoMemory calls calls told told faults faults o o
-no_router s calls told faults o = record { how = end.NoMemory; end_is = refl; served = not_begun s.id s.log s.listen s.dials calls told faults o }
+no_bytes : (left : Option (List ℕ)) → OfBytes left left (λ bytes. Unit {0})
+no_bytes None = ([], tt, tt)
+no_bytes (Some all) = ([], (all, refl, refl), tt)
+
+-- no router was served, and no rules were read
+asked_none : (rules : Bool) (s : Served) (left : Option (List ℕ)) (Ended : Type 0) (calls : Option (List Call)) (told : Option (List LinkJob)) (faults : ℕ) (o : Outputs)
+    → (given : Result PolicyState RulesError) × HasRules rules left left Ended given × Answers given s NoMemory calls calls told told faults faults o o
+asked_none false s left Ended calls told faults o =
+    (Ok open_policy, (refl, refl), record { how = end.NoMemory; end_is = refl; served = not_begun s.id s.log s.listen s.dials calls told faults o })
+asked_none true s left Ended calls told faults o =
+    (Err rules_error.NoMemory, no_bytes left, (refl, refl, refl, refl, (rules_end.NoMemory, refl, (refl, refl))))
+
+pub no_router : (s : Served) (left : Option (List ℕ)) (Ended : Type 0) (calls : Option (List Call)) (told : Option (List LinkJob)) (faults : ℕ) (o : Outputs)
+    → IsServingBy s NoMemory left left Ended calls calls told told faults faults o o
+no_router s left Ended calls told faults o =
+    let none = asked_none s.rules s left Ended calls told faults o in
+    record { given = none.0; rules = none.1; answers = none.2 }
+
+-- ---- whether the input is read
+
+pub net_reads : (words : List (List ℕ)) (plan : NetPlan) → net_of words ≡ Some plan → reads_input words ≡ true
+net_reads words plan is = ap (λ o. is_some o || asks_rules words) is
+
+pub served_reads : (words : List (List ℕ)) (s : Served) → net_of words ≡ None → served_of words ≡ Some s → reads_input words ≡ s.rules
+served_reads words s none is = ap (λ o. is_some o || asks_rules words) none ∙ ap (λ o. option_map_or (λ (x : Served). x.rules) o false) is

@@ -1,9 +1,14 @@
 -- What is said of the router that the words `serve ..` ask for.
-use Rattle.std.specs.Prelude.{◌≡◌, ℕ, List, Option}
+use Rattle.std.specs.Prelude.{◌≡◌, ℕ, Bool, true, false, List, Option, Result, Ok, Err}
+use Rattle.zr_access.specs.Rules.{PolicyState, open_policy}
 use Rattle.zr_link_job.specs.declared.job.LinkJob.{LinkJob}
 use Rattle.zr_netrun.specs.declared.status.Status.{Status}
 use Rattle.zr_netrun.specs.declared.status.Status.TheVariants as status
 use Rattle.zr_outside.specs.declared.host.Call.{Call}
+use Rattle.zr_rules.specs.Given.{GivesRules, OfBytes, TellsRules}
+use Rattle.zr_rules.specs.declared.telling.RulesEnd.{RulesEnd}
+use Rattle.zr_rules.specs.declared.telling.RulesEnd.TheVariants as rules_end
+use Rattle.zr_rules.specs.declared.rules.RulesError.{RulesError}
 use Rattle.zr_serve.specs.declared.end.ServeEnd.{ServeEnd}
 use Rattle.zr_serve.specs.declared.end.ServeEnd.TheVariants as end
 use Rattle.zr_serve.specs.Serving.{Outputs, IsServed}
@@ -20,3 +25,20 @@ pub record IsServing (s : Served) (end : Status) (calls calls' : Option (List Ca
   pub how : ServeEnd
   pub end_is : end ≡ status_of how
   pub served : IsServed how s.id s.log s.listen s.dials calls calls' told told' faults faults' o p
+
+-- which rules there are: none where none are asked for, and else those that the bytes of the input give, if they give some
+abbrev pub HasRules : Bool → Option (List ℕ) → Option (List ℕ) → Type 0 → Result PolicyState RulesError → Type 0
+HasRules false left left' Ended given = (given ≡ Ok open_policy) × (left' ≡ left)
+HasRules true left left' Ended given = OfBytes left left' (GivesRules Ended given)
+
+-- with rules a router was served, and where the input gives none that was told, and nothing else was done
+abbrev pub Answers : Result PolicyState RulesError → Served → Status → Option (List Call) → Option (List Call) → Option (List LinkJob) → Option (List LinkJob) → ℕ → ℕ → Outputs → Outputs → Type 0
+Answers (Ok policy) s end calls calls' told told' faults faults' o p = IsServing s end calls calls' told told' faults faults' o p
+Answers (Err e) s end calls calls' told told' faults faults' o p =
+    (calls' ≡ calls) × (told' ≡ told) × (faults' ≡ faults) × (p.out ≡ o.out) × ((how : RulesEnd) × (end ≡ status_of_rules how) × TellsRules e how o.err p.err)
+
+-- what the words `serve ..` ask for was done: from the old bytes of the input, calls, jobs, failed starts and outputs to the new ones
+pub record IsServingBy (s : Served) (end : Status) (left left' : Option (List ℕ)) (Ended : Type 0) (calls calls' : Option (List Call)) (told told' : Option (List LinkJob)) (faults faults' : ℕ) (o p : Outputs) : Type 0 where
+  pub given : Result PolicyState RulesError
+  pub rules : HasRules s.rules left left' Ended given
+  pub answers : Answers given s end calls calls' told told' faults faults' o p

@@ -4,7 +4,6 @@ use Rattle.zr_netrun.specs.declared.status.Status.{Status}
 use Rattle.zr_netrun.specs.declared.status.Status.TheVariants.{Done, Refused, Words, NoMemory, ReadFault, WriteFault, HostFault}
 use Rattle.zr_outside.specs.Counts.{Rose}
 use Rattle.zr_outside.specs.Told.{Appends, AppendsPrefix}
-use Rattle.zr_script_spec.specs.Report.{usage_text}
 
 -- A text was written: all of it, or a prefix where memory ran out or a write failed. It ends in no other way.
 abbrev pub IsWritten : Status → List ℕ → Option (List ℕ) → Option (List ℕ) → ℕ → ℕ → Type 0
@@ -23,6 +22,11 @@ Says text err err' faults faults' = Appends text err err' ⊎ (AppendsPrefix tex
 -- some text was written, as above: `clap` makes it
 abbrev pub IsTold : Status → Option (List ℕ) → Option (List ℕ) → ℕ → ℕ → Type 0
 IsTold status out out' faults faults' = (text : List ℕ) × IsWritten status text out out' faults faults'
+
+-- the line that shows the forms of words that are taken
+abbrev pub usage_text : List ℕ
+usage_text =
+    codes "usage: zrd net [--summary] / serve --id ID --listen ADDRESS [--rules] [DIAL]... / make --number N --routers R --clients C --messages M\n"
 
 -- the usage line was written, or a prefix of it and a write has failed
 abbrev pub TellsUsage : Option (List ℕ) → Option (List ℕ) → ℕ → ℕ → Type 0

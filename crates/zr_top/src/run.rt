@@ -18,10 +18,10 @@ ghost use Rattle.zr_netrun.specs.Clauses.{OfLines, WritesAsAsked};
 ghost use Rattle.zr_top.specs.Means.{HaveKeyTexts, LeadToTheirReport};
 ghost use Rattle.zr_outside_crew.specs.Crew.{crew_faults, crew_told};
 ghost use Rattle.zr_serve.specs.Serving.{outputs};
-ghost use Rattle.zr_top.specs.Asked.{IsServing};
+ghost use Rattle.zr_top.specs.Asked.{IsServingBy};
 ghost use Rattle.zr_make.specs.Script.{script, text_of};
 ghost use Rattle.zr_top.specs.Told.{IsTold, IsWritten, TellsUsage};
-ghost use Rattle.zr_top.specs.Words.{is_net, options_by};
+ghost use Rattle.zr_top.specs.Words.{is_net, options_by, reads_input};
 ghost use Rattle.zr_top_words.specs.Asked.{made_of, net_of, served_of};
 ghost use Rattle.zr_top_words.specs.Forms.{FormsAreTaken};
 ghost use Rattle.zr_top_words.specs.Read.{may_answer, IsRefused, IsWrong};
@@ -53,8 +53,9 @@ use zr_top_words::forms::forms_are_taken;
 /// The whole program. Its words, without its name, are read by `clap`, and ask for one of four things. `net` reads a script from `input`, and writes the
 /// report to `out`; with `--summary` it writes, at the script's end, four counts of the report in its place. With `--explain` `err` has the explanation
 /// of a refused line behind the line that tells its refusal, and all else is the same.
-/// `serve --id ID --listen ADDRESS [--log] [DIAL]...` runs a router of that identifier, which listens at the address and dials each of the others once,
-/// until the host gives no more links: the crew starts the reader of each link, with a log where the words say so.
+/// `serve --id ID --listen ADDRESS [--log] [--rules] [DIAL]...` runs a router of that identifier, which listens at the address and dials each of the others
+/// once, until the host gives no more links: the crew starts the reader of each link, with a log where the words say so. With `--rules` the whole `input`
+/// is read first. It has the access rules of the router, and where it has none `err` is told why, and nothing is served.
 /// `make --number N --routers R --clients C --messages M` writes a script that is made from the number. Help and the version are told to `out`.
 ///
 /// The status is `Words` only where the words are none that `clap` promises to take, and it refuses them for another cause than memory, or where a value is
@@ -78,10 +79,10 @@ use zr_top_words::forms::forms_are_taken;
 /// it is free, or asked, or kept with some replies on their way back, or ended with the final behind them; and each reply and each final that a client was sent
 /// is that of its query of that turn (`answers`).
 ///
-/// The clause `served` says what was called of the host, which jobs the crew started, and what was written, where a router was served. The clause
+/// The clause `served` says which rules were read, what was called of the host, which jobs the crew started, and what was written, where a router was served. The clause
 /// `made` says which text was written, where a script was made: all of it at `Done`, and else a prefix. Where `clap` may answer with help or the version,
 /// that is told whole, or else in part, or the words are wrong (`helped`).
-/// With all other words than those of `serve` the host and the crew are as they were (`unserved`), and with all other words than those of `net` the input is (`unread`).
+/// With all other words than those of `serve` the host and the crew are as they were (`unserved`), and with all other words than those of `net` and of `serve` with `--rules` the input is (`unread`).
 pub fn run<
     S: Source,
     K: Sink,
@@ -120,15 +121,15 @@ where
     ensures answering { AnsweringIsMeeting }
     ensures covering { AnsweringIsCovering }
     ensures rest { RestIsQuiet }
-    ensures served { IfSome (served_of (map string_bytes words.now)) (λ s. IsServing s result (H.calls host.old) (H.calls host.new) (crew_told crew.old) (crew_told crew.new) (crew_faults crew.old) (crew_faults crew.new) (outputs (K.held out.old) (E.held err.old) (E.faults err.old)) (outputs (K.held out.new) (E.held err.new) (E.faults err.new))) }
+    ensures served { IfSome (served_of (map string_bytes words.now)) (λ s. IsServingBy s result (S.left input.old) (S.left input.new) (IsReadToEnd (S.ends input.old) (S.ends input.new) (S.quiets input.old) (S.quiets input.new)) (H.calls host.old) (H.calls host.new) (crew_told crew.old) (crew_told crew.new) (crew_faults crew.old) (crew_faults crew.new) (outputs (K.held out.old) (E.held err.old) (E.faults err.old)) (outputs (K.held out.new) (E.held err.new) (E.faults err.new))) }
     ensures unserved { is_some (served_of (map string_bytes words.now)) ≡ false → (host.new ≡ host.old) × (crew.new ≡ crew.old) }
-    ensures unread { is_net (map string_bytes words.now) ≡ false → input.new ≡ input.old }
+    ensures unread { reads_input (map string_bytes words.now) ≡ false → input.new ≡ input.old }
     ensures whole { is_net (map string_bytes words.now) ≡ true → result ≡ Status.Done → IsReadToEnd (S.ends input.old) (S.ends input.new) (S.quiets input.old) (S.quiets input.new) }
     ensures made { IfSome (made_of (map string_bytes words.now)) (λ plan. IsWritten result (text_of (script plan)) (K.held out.old) (K.held out.new) (K.faults out.old) (K.faults out.new) × (E.held err.new ≡ E.held err.old) × (S.left input.new ≡ S.left input.old)) }
     ensures helped { may_answer (map string_bytes words.now) ≡ true → (result ≡ Status.Words) ⊎ (IsTold result (K.held out.old) (K.held out.new) (K.faults out.old) (K.faults out.new) × (E.held err.new ≡ E.held err.old) × (S.left input.new ≡ S.left input.old)) }
     ensures ended { is_some (served_of (map string_bytes words.now)) ≡ true → result ≡ Status.Done → Rose (H.ends host.old) (H.ends host.new) }
     ensures host { result ≡ Status.HostFault → Rose (H.faults host.old) (H.faults host.new) }
-    ensures refused { result ≡ Status.Refused → is_net (map string_bytes words.now) ≡ true }
+    ensures refused { result ≡ Status.Refused → reads_input (map string_bytes words.now) ≡ true }
     ensures read { result ≡ Status.ReadFault → Rose (S.faults input.old) (S.faults input.new) }
     ensures write { result ≡ Status.WriteFault → Rose (K.faults out.old) (K.faults out.new) ⊎ Rose (E.faults err.old) (E.faults err.new) }
     ensures words { (result ≡ Status.Words → IsWrong (map string_bytes words.now)) × (IsRefused (map string_bytes words.now) → (result ≡ Status.Words) ⊎ (result ≡ Status.NoMemory)) }

@@ -16,8 +16,8 @@ use Rattle.zr_dial.specs.Dial.{DialState}
 use Rattle.zr_id.specs.Zid.{is_lower_hex, valid_zid, zid_of_hex}
 use Rattle.zr_script_spec.specs.Words.{is_digit, is_number}
 use Rattle.zr_top_words.specs.App.{app, make, serve, top}
-use Rattle.zr_top_words.specs.Asked.{asked_by, asked_of, faults, found, make as asks_make, plan_in_range, serve as asks_serve, served_at, served_as_named, dials_of, number_below}
-use Rattle.zr_top_words.specs.Forms.{is_plain, FormsAreTaken, MakeIsTaken, NetIsTaken, ServeIsTaken}
+use Rattle.zr_top_words.specs.Asked.{Served, asked_by, asked_of, faults, found, make as asks_make, plan_in_range, serve as asks_serve, served_at, served_as_named, dials_of, number_below}
+use Rattle.zr_top_words.specs.Forms.{flag_words, is_plain, FormsAreTaken, MakeIsTaken, NetIsTaken, ServeIsTaken}
 use Rattle.zr_top_words.proofs.Steps.{Goes, between, fault_behind, goes_on, idle_fault, idle_walked, more_fault, more_walked, stays, value_passes, value_walked}
 use Rattle.zr_top_words.proofs.Entering.{Enters, asked_is}
 
@@ -186,20 +186,29 @@ abbrev dialled : List Text → List Row
 dialled [] = []
 dialled (v ∷ vs) = given (codes "dial") (v ∷ vs) ∷ []
 
+-- what was found of `--rules`, where it stands, before other rows
+abbrev ruled : Bool → List Row → List Row
+ruled true rows = given (codes "rules") (codes "true" ∷ []) ∷ rows
+ruled false rows = rows
+
 module _ (id listen : Text) (pid : is_plain id ≡ true) (plisten : is_plain listen ≡ true) where
   abbrev id_found : List Row
   id_found = given (codes "id") (id ∷ []) ∷ []
 
-  abbrev both_found : List Text → List Row
-  both_found vs = given (codes "id") (id ∷ []) ∷ given (codes "listen") (listen ∷ []) ∷ dialled vs
+  abbrev all_found : Bool → List Text → List Row
+  all_found rules vs = given (codes "id") (id ∷ []) ∷ given (codes "listen") (listen ∷ []) ∷ ruled rules (dialled vs)
 
-  -- the walk behind the address
-  abbrev listening : Walk
-  listening = between (holding id_found (codes "listen") (listen ∷ [])) idle
+  -- the walk behind the address, and behind `--rules`
+  abbrev behind_options : Bool → Held
+  behind_options true = record { rows = all_found true []; pending = None; skip = 0 }
+  behind_options false = holding id_found (codes "listen") (listen ∷ [])
+
+  abbrev listening : Bool → Walk
+  listening rules = between (behind_options rules) idle
 
   -- the walk behind some addresses to dial, of which the last is not noted yet
-  abbrev dialling : List Text → Text → Walk
-  dialling vs last = between (holding (both_found vs) (codes "dial") (last ∷ [])) positional
+  abbrev dialling : Bool → List Text → Text → Walk
+  dialling rules vs last = between (holding (all_found rules vs) (codes "dial") (last ∷ [])) positional
 
   id_named : walked serve_built.rules [] (between nothing_held idle) (codes "--id") ≡ between (holding [] (codes "id") []) (option (codes "id"))
   unfolding clap_on_literals
@@ -218,92 +227,131 @@ module _ (id listen : Text) (pid : is_plain id ≡ true) (plisten : is_plain lis
   unfolding clap_on_literals
   listen_fine = refl
 
-  starts : (rest : List Text) (end : Walk) → Goes serve_built listening rest end
+  rules_named : walked serve_built.rules [] (listening false) (codes "--rules") ≡ listening true
+  unfolding clap_on_literals
+  rules_named = refl
+
+  rules_fine : turn_fault serve_built [] (listening false) (codes "--rules") ≡ []
+  unfolding clap_on_literals
+  rules_fine = refl
+
+  listens : (rest : List Text) (end : Walk) → Goes serve_built (listening false) rest end
       → Goes serve_built (walk_from nothing_held) (codes "--id" ∷ id ∷ codes "--listen" ∷ listen ∷ rest) end
-  starts rest end go =
+  listens rest end go =
       valued serve_built _ [] _ (codes "id") id _ end id_named id_fine (value_walked serve_built (holding [] (codes "id") []) (codes "id") id pid) pid
       (valued serve_built _ id_found _ (codes "listen") listen _ end listen_named listen_fine
       (value_walked serve_built (holding id_found (codes "listen") []) (codes "listen") listen plisten) plisten go)
 
-  -- one address more
-  notes : (vs : List Text) (last word : Text) → is_plain word ≡ true → walked serve_built.rules [] (dialling vs last) word ≡ dialling (vs ++ last ∷ []) word
-  notes [] last word p = more_walked serve_built (holding (both_found []) (codes "dial") (last ∷ [])) word p
-  notes (v ∷ vs) last word p = more_walked serve_built (holding (both_found (v ∷ vs)) (codes "dial") (last ∷ [])) word p
+  starts : (rules : Bool) (rest : List Text) (end : Walk) → Goes serve_built (listening rules) rest end
+      → Goes serve_built (walk_from nothing_held) (codes "--id" ∷ id ∷ codes "--listen" ∷ listen ∷ (flag_words (codes "--rules") rules ++ rest)) end
+  starts true rest end go =
+      listens (codes "--rules" ∷ rest) end (goes_on serve_built (listening false) (listening true) (codes "--rules") rest end rules_named rules_fine go)
+  starts false rest end go = listens rest end go
 
-  notes_fine : (vs : List Text) (last word : Text) → is_plain word ≡ true → turn_fault serve_built [] (dialling vs last) word ≡ []
-  notes_fine [] last word p = more_fault serve_built (holding (both_found []) (codes "dial") (last ∷ [])) word p
-  notes_fine (v ∷ vs) last word p = more_fault serve_built (holding (both_found (v ∷ vs)) (codes "dial") (last ∷ [])) word p
+  -- one address more
+  notes : (rules : Bool) (vs : List Text) (last word : Text) → is_plain word ≡ true
+      → walked serve_built.rules [] (dialling rules vs last) word ≡ dialling rules (vs ++ last ∷ []) word
+  notes true [] last word p = more_walked serve_built (holding (all_found true []) (codes "dial") (last ∷ [])) word p
+  notes true (v ∷ vs) last word p = more_walked serve_built (holding (all_found true (v ∷ vs)) (codes "dial") (last ∷ [])) word p
+  notes false [] last word p = more_walked serve_built (holding (all_found false []) (codes "dial") (last ∷ [])) word p
+  notes false (v ∷ vs) last word p = more_walked serve_built (holding (all_found false (v ∷ vs)) (codes "dial") (last ∷ [])) word p
+
+  notes_fine : (rules : Bool) (vs : List Text) (last word : Text) → is_plain word ≡ true → turn_fault serve_built [] (dialling rules vs last) word ≡ []
+  notes_fine true [] last word p = more_fault serve_built (holding (all_found true []) (codes "dial") (last ∷ [])) word p
+  notes_fine true (v ∷ vs) last word p = more_fault serve_built (holding (all_found true (v ∷ vs)) (codes "dial") (last ∷ [])) word p
+  notes_fine false [] last word p = more_fault serve_built (holding (all_found false []) (codes "dial") (last ∷ [])) word p
+  notes_fine false (v ∷ vs) last word p = more_fault serve_built (holding (all_found false (v ∷ vs)) (codes "dial") (last ∷ [])) word p
 
   -- all addresses: of those noted and the last one, and those behind them, the last is not noted in the end
-  record Dials (vs : List Text) (last : Text) (rest : List Text) : Type 0 where
+  record Dials (rules : Bool) (vs : List Text) (last : Text) (rest : List Text) : Type 0 where
     noted : List Text
     final : Text
     all : noted ++ final ∷ [] ≡ vs ++ last ∷ rest
-    goes : Goes serve_built (dialling vs last) rest (dialling noted final)
+    goes : Goes serve_built (dialling rules vs last) rest (dialling rules noted final)
 
-  dials : (vs : List Text) (last : Text) (rest : List Text) → list_all is_plain rest ≡ true → Dials vs last rest
-  dials vs last [] p = record { noted = vs; final = last; all = refl; goes = stays serve_built (dialling vs last) }
-  dials vs last (word ∷ rest) p =
+  dials : (rules : Bool) (vs : List Text) (last : Text) (rest : List Text) → list_all is_plain rest ≡ true → Dials rules vs last rest
+  dials rules vs last [] p = record { noted = vs; final = last; all = refl; goes = stays serve_built (dialling rules vs last) }
+  dials rules vs last (word ∷ rest) p =
       let h = both_hold (is_plain word) (list_all is_plain rest) p in
-      let more = dials (vs ++ last ∷ []) word rest h.1 in
+      let more = dials rules (vs ++ last ∷ []) word rest h.1 in
       record {
         noted = more.noted;
         final = more.final;
         all = more.all ∙ append_assoc vs (last ∷ []) (word ∷ rest);
-        goes = goes_on serve_built (dialling vs last) (dialling (vs ++ last ∷ []) word) word rest (dialling more.noted more.final)
-            (notes vs last word h.0) (notes_fine vs last word h.0) more.goes;
+        goes = goes_on serve_built (dialling rules vs last) (dialling rules (vs ++ last ∷ []) word) word rest (dialling rules more.noted more.final)
+            (notes rules vs last word h.0) (notes_fine rules vs last word h.0) more.goes;
       }
 
-  first_dial : (word : Text) → is_plain word ≡ true → walked serve_built.rules [] listening word ≡ dialling [] word
-  first_dial word p = idle_walked serve_built (holding id_found (codes "listen") (listen ∷ [])) word p
+  first_dial : (rules : Bool) (word : Text) → is_plain word ≡ true → walked serve_built.rules [] (listening rules) word ≡ dialling rules [] word
+  first_dial true word p = idle_walked serve_built (behind_options true) word p
+  first_dial false word p = idle_walked serve_built (behind_options false) word p
 
-  first_fine : (word : Text) → is_plain word ≡ true → turn_fault serve_built [] listening word ≡ []
-  first_fine word p = idle_fault serve_built (holding id_found (codes "listen") (listen ∷ [])) word p
+  first_fine : (rules : Bool) (word : Text) → is_plain word ≡ true → turn_fault serve_built [] (listening rules) word ≡ []
+  first_fine true word p = idle_fault serve_built (behind_options true) word p
+  first_fine false word p = idle_fault serve_built (behind_options false) word p
 
-  -- where the walk ends: behind the address, or behind the addresses to dial
-  listening_fine : fault_behind serve_built listening ≡ []
+  -- where the walk ends: behind the options, or behind the addresses to dial
+  listening_fine : (rules : Bool) → fault_behind serve_built (listening rules) ≡ []
   unfolding clap_on_literals
-  listening_fine = refl
+  listening_fine true = refl
+  listening_fine false = refl
 
-  dialling_fine : (vs : List Text) (last : Text) → fault_behind serve_built (dialling vs last) ≡ []
+  dialling_fine : (rules : Bool) (vs : List Text) (last : Text) → fault_behind serve_built (dialling rules vs last) ≡ []
   unfolding clap_on_literals
-  dialling_fine [] last = refl
-  dialling_fine (v ∷ vs) last = refl
+  dialling_fine true [] last = refl
+  dialling_fine true (v ∷ vs) last = refl
+  dialling_fine false [] last = refl
+  dialling_fine false (v ∷ vs) last = refl
 
   -- what is asked for at those ends
-  asks_none : (zid : Text) → zid_of_hex id ≡ Some zid
-      → asked_by (serve_built.name, finished serve_built.rules listening.held)
-      ≡ Some (asks_serve (record { id = zid; listen = listen; log = false; dials = [] }))
-  asks_none zid is = ap (λ (z : Option Text). option_map asks_serve (option_and_then (served_as_named (finished serve_built.rules listening.held) listen) z)) is
+  asks_none : (rules : Bool) (zid : Text) → zid_of_hex id ≡ Some zid
+      → asked_by (serve_built.name, finished serve_built.rules (listening rules).held)
+      ≡ Some (asks_serve (record { id = zid; listen = listen; log = false; rules = rules; dials = [] }))
+  asks_none true zid is = ap (λ (z : Option Text). option_map asks_serve (option_and_then (served_as_named (finished serve_built.rules (listening true).held) listen) z)) is
+  asks_none false zid is = ap (λ (z : Option Text). option_map asks_serve (option_and_then (served_as_named (finished serve_built.rules (listening false).held) listen) z)) is
 
-  asks_dials : (vs : List Text) (last zid : Text) (ds : List DialState) → zid_of_hex id ≡ Some zid → dials_of (vs ++ last ∷ []) ≡ Some ds
-      → asked_by (serve_built.name, finished serve_built.rules (dialling vs last).held)
-      ≡ Some (asks_serve (record { id = zid; listen = listen; log = false; dials = ds }))
-  asks_dials [] last zid ds is reads =
-      ap (λ (z : Option Text). option_map asks_serve (option_and_then (served_as_named (finished serve_built.rules (dialling [] last).held) listen) z)) is
-      ∙ ap (λ (z : Option (List DialState)). option_map asks_serve (option_map (served_at (finished serve_built.rules (dialling [] last).held) listen zid) z)) reads
-  asks_dials (v ∷ vs) last zid ds is reads =
-      ap (λ (z : Option Text). option_map asks_serve (option_and_then (served_as_named (finished serve_built.rules (dialling (v ∷ vs) last).held) listen) z)) is
-      ∙ ap (λ (z : Option (List DialState)). option_map asks_serve (option_map (served_at (finished serve_built.rules (dialling (v ∷ vs) last).held) listen zid) z)) reads
+  -- with some words to dial: those that were found come to these dials
+  asks_found : (rows : List Row) (rules : Bool) (zid : Text) (ds : List DialState) → zid_of_hex id ≡ Some zid
+      → served_as_named rows listen zid ≡ Some (record { id = zid; listen = listen; log = false; rules = rules; dials = ds })
+      → option_map asks_serve (option_and_then (served_as_named rows listen) (zid_of_hex id))
+      ≡ Some (asks_serve (record { id = zid; listen = listen; log = false; rules = rules; dials = ds }))
+  asks_found rows rules zid ds is named =
+      ap (λ (z : Option Text). option_map asks_serve (option_and_then (served_as_named rows listen) z)) is ∙ ap (λ (z : Option Served). option_map asks_serve z) named
 
-  serves : (zid : Text) (words : List Text) (ds : List DialState) → zid_of_hex id ≡ Some zid → list_all is_plain words ≡ true → dials_of words ≡ Some ds
-      → asked_of (codes "serve" ∷ codes "--id" ∷ id ∷ codes "--listen" ∷ listen ∷ words)
-      ≡ Some (asks_serve (record { id = zid; listen = listen; log = false; dials = ds }))
-  serves zid [] ds is p reads =
-      asked_is (codes "serve") (codes "serve") serve_built _ serve_enters listening (starts [] listening (stays serve_built listening)) listening_fine
-      ∙ asks_none zid is
-      ∙ ap (λ (z : Option (List DialState)). option_map asks_serve (option_map (λ (ds : List DialState). record { id = zid; listen = listen; log = false; dials = ds }) z)) reads
-  serves zid (word ∷ rest) ds is p reads =
+  asks_dials : (rules : Bool) (vs : List Text) (last zid : Text) (ds : List DialState) → zid_of_hex id ≡ Some zid → dials_of (vs ++ last ∷ []) ≡ Some ds
+      → asked_by (serve_built.name, finished serve_built.rules (dialling rules vs last).held)
+      ≡ Some (asks_serve (record { id = zid; listen = listen; log = false; rules = rules; dials = ds }))
+  asks_dials true [] last zid ds is reads =
+      asks_found (finished serve_built.rules (dialling true [] last).held) true zid ds is
+      (ap (λ (z : Option (List DialState)). option_map (served_at (finished serve_built.rules (dialling true [] last).held) listen zid) z) reads)
+  asks_dials true (v ∷ vs) last zid ds is reads =
+      asks_found (finished serve_built.rules (dialling true (v ∷ vs) last).held) true zid ds is
+      (ap (λ (z : Option (List DialState)). option_map (served_at (finished serve_built.rules (dialling true (v ∷ vs) last).held) listen zid) z) reads)
+  asks_dials false [] last zid ds is reads =
+      asks_found (finished serve_built.rules (dialling false [] last).held) false zid ds is
+      (ap (λ (z : Option (List DialState)). option_map (served_at (finished serve_built.rules (dialling false [] last).held) listen zid) z) reads)
+  asks_dials false (v ∷ vs) last zid ds is reads =
+      asks_found (finished serve_built.rules (dialling false (v ∷ vs) last).held) false zid ds is
+      (ap (λ (z : Option (List DialState)). option_map (served_at (finished serve_built.rules (dialling false (v ∷ vs) last).held) listen zid) z) reads)
+
+  serves : (zid : Text) (rules : Bool) (words : List Text) (ds : List DialState) → zid_of_hex id ≡ Some zid → list_all is_plain words ≡ true → dials_of words ≡ Some ds
+      → asked_of (codes "serve" ∷ codes "--id" ∷ id ∷ codes "--listen" ∷ listen ∷ (flag_words (codes "--rules") rules ++ words))
+      ≡ Some (asks_serve (record { id = zid; listen = listen; log = false; rules = rules; dials = ds }))
+  serves zid rules [] ds is p reads =
+      asked_is (codes "serve") (codes "serve") serve_built _ serve_enters (listening rules) (starts rules [] (listening rules) (stays serve_built (listening rules))) (listening_fine rules)
+      ∙ asks_none rules zid is
+      ∙ ap (λ (z : Option (List DialState)). option_map asks_serve (option_map (λ (ds : List DialState). record { id = zid; listen = listen; log = false; rules = rules; dials = ds }) z)) reads
+  serves zid rules (word ∷ rest) ds is p reads =
       let h = both_hold (is_plain word) (list_all is_plain rest) p in
-      let d = dials [] word rest h.1 in
-      let end = dialling d.noted d.final in
+      let d = dials rules [] word rest h.1 in
+      let end = dialling rules d.noted d.final in
       asked_is (codes "serve") (codes "serve") serve_built _ serve_enters end
-      (starts (word ∷ rest) end (goes_on serve_built listening (dialling [] word) word rest end (first_dial word h.0) (first_fine word h.0) d.goes))
-      (dialling_fine d.noted d.final)
-      ∙ asks_dials d.noted d.final zid ds is (ap dials_of d.all ∙ reads)
+      (starts rules (word ∷ rest) end (goes_on serve_built (listening rules) (dialling rules [] word) word rest end (first_dial rules word h.0) (first_fine rules word h.0) d.goes))
+      (dialling_fine rules d.noted d.final)
+      ∙ asks_dials rules d.noted d.final zid ds is (ap dials_of d.all ∙ reads)
 
 serve_taken : ServeIsTaken
-serve_taken id zid listen words ds is plain plains reads = serves id listen (zid_plain id zid is) plain zid words ds is plains reads
+serve_taken id zid listen rules words ds is plain plains reads = serves id listen (zid_plain id zid is) plain zid rules words ds is plains reads
 
 pub forms_taken : FormsAreTaken
 forms_taken = (net_taken, serve_taken, make_taken)

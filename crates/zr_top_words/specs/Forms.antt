@@ -1,5 +1,5 @@
 -- The forms of the usage line: what the program promises to take.
-use Rattle.std.specs.Prelude.{◌≡◌, ℕ, ◌==◌, ◌^◌, not, Bool, true, false, List, [], ◌∷◌, Some, codes}
+use Rattle.std.specs.Prelude.{◌≡◌, ℕ, ◌==◌, ◌^◌, not, Bool, true, false, List, [], ◌∷◌, ◌++◌, Some, codes}
 use Rattle.std.specs.List.{list_all}
 use Rattle.zr_id.specs.Zid.{zid_of_hex}
 use Rattle.zr_dial.specs.Dial.{DialState}
@@ -16,12 +16,18 @@ abbrev pub NetIsTaken : Type 0
 NetIsTaken = (asked_of (codes "net" ∷ []) ≡ Some (net (record { summary = false; explain = false })))
     × (asked_of (codes "net" ∷ codes "--summary" ∷ []) ≡ Some (net (record { summary = true; explain = false })))
 
--- `serve --id ID --listen ADDRESS [DIAL]...`: ID spells an identifier, no address begins with a hyphen, and each DIAL is `ADDRESS` or `ADDRESS,W`
+-- the words of an option without a value, where it stands
+abbrev pub flag_words : List ℕ → Bool → List (List ℕ)
+flag_words word true = word ∷ []
+flag_words word false = []
+
+-- `serve --id ID --listen ADDRESS [--rules] [DIAL]...`: ID spells an identifier, no address begins with a hyphen, and each DIAL is `ADDRESS` or
+-- `ADDRESS,W`
 abbrev pub ServeIsTaken : Type 0
-ServeIsTaken = (id zid listen : List ℕ) (words : List (List ℕ)) (dials : List DialState) → zid_of_hex id ≡ Some zid → is_plain listen ≡ true
+ServeIsTaken = (id zid listen : List ℕ) (rules : Bool) (words : List (List ℕ)) (dials : List DialState) → zid_of_hex id ≡ Some zid → is_plain listen ≡ true
     → list_all is_plain words ≡ true → dials_of words ≡ Some dials
-    → asked_of (codes "serve" ∷ codes "--id" ∷ id ∷ codes "--listen" ∷ listen ∷ words)
-    ≡ Some (serve (record { id = zid; listen = listen; log = false; dials = dials }))
+    → asked_of (codes "serve" ∷ codes "--id" ∷ id ∷ codes "--listen" ∷ listen ∷ (flag_words (codes "--rules") rules ++ words))
+    ≡ Some (serve (record { id = zid; listen = listen; log = false; rules = rules; dials = dials }))
 
 -- `make --number N --routers R --clients C --messages M`: each is a number without leading zeros, and a script can be made of them
 abbrev pub MakeIsTaken : Type 0

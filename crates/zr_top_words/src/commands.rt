@@ -66,6 +66,11 @@ fn serve<'a>(alloc: Global) -> Result<Command<'a>, AllocError>
             "log",
             "Tells each link that comes up or ends on standard error",
         ))?
+        .arg(flag(
+            alloc,
+            "rules",
+            "Reads from standard input what each client may do, before it listens",
+        ))?
         .arg(words_beside(
             alloc,
             "dial",

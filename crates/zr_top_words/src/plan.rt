@@ -35,6 +35,8 @@ pub struct ServeWords {
     pub dials: Vec<Dial>,
     /// Whether each link that comes up or ends is told.
     pub log: bool,
+    /// Whether access rules are read from the input.
+    pub rules: bool,
 }
 
 /// Why the words gave no plan.

@@ -127,6 +127,7 @@ fn serve_by(alloc: Global, options: &ArgMatches<'_>) -> Result<Option<ServeWords
         listen: String::from_str(alloc, listen)?,
         dials,
         log: is_given(options, "log"),
+        rules: is_given(options, "rules"),
     }))
 }
 

@@ -1,26 +1,30 @@
 -- What the port tells of the messages, as it is of their events.
-use Rattle.std.proofs.Common.{[], refl}
+use Rattle.std.proofs.Common.{[]}
 use Rattle.std.specs.Vec.Iter.{into_iter_items}
-use Rattle.zr_hist.specs.Words.{mine, seen}
+use Rattle.zr_hist.specs.Words.{seen}
+use Rattle.zr_port.specs.Coming.{sight}
 use Rattle.zr_wire.specs.Writing.{IsSpelled}
 use Rattle.zr_link.specs.Heard.{messages}
 use Rattle.zr_link.proofs.Going.{delivers_none, delivers_of, stops_memory, stops_of}
 use Rattle.zr_link.proofs.delivery.deliver_all.Goals as goal
 
 pub returns-in_default-clause-stopped : goal.returns-in_default-clause-stopped
-returns-in_default-clause-stopped g c =
-    (into_iter_items c.args.events, delivers_none c.args.link (into_iter_items c.args.events) (mine c.args.pass.now), stops_memory IsSpelled _ _ c.requires.messages c.in_default.ensures.some)
+returns-in_default-clause-stopped g c = (
+  into_iter_items c.args.events,
+  delivers_none c.args.link (λ h m e. g.P.Port.refuses_message c.args.port.now h c.args.link m e) (into_iter_items c.args.events) (sight c.args.pass.now),
+  stops_memory IsSpelled _ _ c.requires.messages c.in_default.ensures.some,
+)
 
 pub returns-in-Err-clause-stopped : goal.returns-in-Err-clause-stopped
 returns-in-Err-clause-stopped g c =
     let stopped = c.in-Err.ensures.stopped in (
       messages stopped.0,
-      delivers_of (λ h m e. g.P.Port.refuses_message c.args.port.now h c.args.link m e) c.args.link (into_iter_items c.args.events) c.in-Ok.messages.items stopped.0 c.args.pass.now c.deliver_all.new.pass
+      delivers_of c.args.link (λ h m e. g.P.Port.refuses_message c.args.port.now h c.args.link m e) (into_iter_items c.args.events) c.in-Ok.messages.items stopped.0 (sight c.args.pass.now) (sight c.deliver_all.new.pass)
           c.in-Ok.ensures.are stopped.1,
       stops_of (λ m e. g.P.Port.refuses_message c.args.port.now (seen c.deliver_all.new.pass) c.args.link m e) stopped.0 c.in-Err.e _ c.of_delivery.ensures stopped.2,
     )
 
 pub returns-clause-all : goal.returns-clause-all
 returns-clause-all g c =
-    delivers_of (λ h m e. g.P.Port.refuses_message c.args.port.now h c.args.link m e) c.args.link (into_iter_items c.args.events) c.in-Ok.messages.items [] c.args.pass.now c.deliver_all.new.pass
+    delivers_of c.args.link (λ h m e. g.P.Port.refuses_message c.args.port.now h c.args.link m e) (into_iter_items c.args.events) c.in-Ok.messages.items [] (sight c.args.pass.now) (sight c.deliver_all.new.pass)
     c.in-Ok.ensures.are c.in_default-deliver_all.ensures.all

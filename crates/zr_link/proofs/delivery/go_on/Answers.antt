@@ -2,7 +2,8 @@
 use Rattle.std.proofs.Common.{◌≡◌, ◌≤◌, ◌∙◌, true, min, refl, sym, subst, [], append-nil}
 use Rattle.std.proofs.Math.Nat.{le_refl, le_trans}
 use Rattle.zr_lists.proofs.Prefixes.{prefix_trans}
-use Rattle.zr_hist.specs.Words.{seen, mine}
+use Rattle.zr_hist.specs.Words.{seen}
+use Rattle.zr_port.specs.Coming.{sight}
 use Rattle.zr_session.specs.Session.{SessionState, is_running}
 use Rattle.zr_link.specs.Heard.{IsLate, IsIn, IsOpen}
 use Rattle.zr_link.specs.Run.{Delivers}
@@ -17,7 +18,7 @@ pub loop-init : goal.loop-init
 loop-init g c = record {
   same = (refl, refl);
   prefix = ([], append-nil _);
-  gone = gone_none _ _ _ _;
+  gone = gone_none _ _ _ _ _;
   running = c.requires.running;
   opened = c.requires.opened;
   counts = (refl, refl);
@@ -36,7 +37,7 @@ returns-in-Err-clause-followed g c =
     let all = gone_lost c.args.link c.args.intake.now.session c.loop.intake.session _ _ _ _ _ c.in-Err.end
     (IsLate (g.S.Source.quiets c.args.source.now) (g.S.Source.quiets c.next.new.source) c.args.intake.now.session.heard (g.C.Clock.last c.args.clock.now) (g.C.Clock.last c.next.new.clock))
     (g.P.Port.refuses_message c.args.port.now) (seen c.loop.pass) c.loop.invariant.gone (plainly_some c.loop.intake.session _ _ _ c.in-Err.ensures.lost) in
-    (all.msgs, all.does, all.follows)
+    (all.came, all.goes, all.follows)
 
 pub returns-in-Err-settle-clause-followed : goal.returns-in-Err-settle-clause-followed
 returns-in-Err-settle-clause-followed g c =
@@ -46,8 +47,8 @@ returns-in-Err-settle-clause-followed g c =
     let all = gone_settled c.args.link c.args.intake.now.session c.loop.intake.session c.next.new.self.session c.next.new.self.fed.events.items stops.0 _ _ _ _ _ _ c.in-Ok.fate c.in-Err-settle.end _
     (IsLate (g.S.Source.quiets c.args.source.now) (g.S.Source.quiets c.next.new.source) c.args.intake.now.session.heard (g.C.Clock.last c.args.clock.now) (g.C.Clock.last c.next.new.clock))
     (g.P.Port.refuses_message c.args.port.now) (seen c.settle.new.pass) (λ p l. late_before _ _ _ _ _ _ _ _ p inv.later.0 inv.later.1 inv.moment l.1) inv.gone (plainly c.loop.intake.session c.next.new.self.session _ _ _ _ _ _ c.in-Ok.ensures.heard)
-    (subst (λ z. Delivers c.args.link z stops.0 (mine c.loop.pass) (mine c.settle.new.pass)) are stops.1) stops.2 in
-    (all.msgs, all.does, all.follows)
+    (subst (λ z. Delivers c.args.link (λ h m x. g.P.Port.refuses_message c.args.port.now h c.args.link m x) z stops.0 (sight c.loop.pass) (sight c.settle.new.pass)) are stops.1) stops.2 in
+    (all.came, all.goes, all.follows)
 
 pub loop-preserved : goal.loop-preserved
 loop-preserved g c =
@@ -59,11 +60,11 @@ loop-preserved g c =
     let are = c.into_iter-events.ensures.rest ∙ c.take_events.ensures.0 in
     let kept = sym c.take_events.ensures.1 in
     let reads = rose_more _ _ _ _ inv.reads heard.counted in
-    let gone = gone_more c.args.link c.args.intake.now.session c.loop.intake.session c.next.new.self.session c.next.new.self.fed.events.items _ _ _ _ _ _ inv.gone (leads_by c.loop.intake.session c.next.new.self.session _ _ _ _ c.in-Ok.fate heard.opening told going)
-    (subst (λ z. Delivers c.args.link z [] (mine c.loop.pass) (mine c.settle.new.pass)) are done.ok.1) in record {
+    let gone = gone_more c.args.link (λ h m x. g.P.Port.refuses_message c.args.port.now h c.args.link m x) c.args.intake.now.session c.loop.intake.session c.next.new.self.session c.next.new.self.fed.events.items _ _ _ _ _ _ inv.gone (leads_by c.loop.intake.session c.next.new.self.session _ _ _ _ c.in-Ok.fate heard.opening told going)
+    (subst (λ z. Delivers c.args.link (λ h m x. g.P.Port.refuses_message c.args.port.now h c.args.link m x) z [] (sight c.loop.pass) (sight c.settle.new.pass)) are done.ok.1) in record {
       same = (done.same.0 ∙ inv.same.0, done.same.1 ∙ inv.same.1);
       prefix = prefix_trans _ _ _ inv.prefix done.prefix;
-      gone = subst (λ (z : SessionState). Gone c.args.link c.args.intake.now.session z (g.S.Source.left c.args.source.now) (g.S.Source.left c.next.new.source) (mine c.args.pass.now) (mine c.settle.new.pass)) kept gone;
+      gone = subst (λ (z : SessionState). Gone c.args.link (λ h m x. g.P.Port.refuses_message c.args.port.now h c.args.link m x) c.args.intake.now.session z (g.S.Source.left c.args.source.now) (g.S.Source.left c.next.new.source) (sight c.args.pass.now) (sight c.settle.new.pass)) kept gone;
       running = subst (λ (z : SessionState). is_running z.state ≡ true) kept (heard.running going);
       opened = subst (λ (z : SessionState). IsIn IsOpen z) kept (open_on c.loop.intake.session c.next.new.self.session _ _ _ _ c.in-Ok.fate inv.opened told going);
       counts = (counted_none _ _ _ _ heard.fault ∙ inv.counts.0, counted_none _ _ _ _ heard.ended ∙ inv.counts.1);
@@ -77,7 +78,7 @@ returns-clause-followed g c =
     let all = gone_over c.args.link c.args.intake.now.session c.loop.intake.session _ _ _ _
     (IsLate (g.S.Source.quiets c.args.source.now) (g.S.Source.quiets c.loop.source) c.args.intake.now.session.heard (g.C.Clock.last c.args.clock.now) (g.C.Clock.last c.loop.clock))
     (g.P.Port.refuses_message c.args.port.now) (seen c.loop.pass) c.loop.invariant.gone c.loop.invariant.running in
-    (all.msgs, all.does, all.follows)
+    (all.came, all.goes, all.follows)
 
 pub returns-in-Err-clause-fault : goal.returns-in-Err-clause-fault
 returns-in-Err-clause-fault g c = counted_err _ _ _ c.next.result c.in-Err.end end.ReadFault c.in-Err.is c.loop.invariant.counts.0 c.next.ensures.fault

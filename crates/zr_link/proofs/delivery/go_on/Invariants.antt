@@ -1,7 +1,8 @@
 use Rattle.std.proofs.Common.{◌≡◌, ◌≤◌, true, min}
 use mathlib.Core.List.{IsPrefix}
 use Rattle.zr_outside.specs.Counts.{RoseBy}
-use Rattle.zr_hist.specs.Words.{IsSamePass, seen, mine}
+use Rattle.zr_hist.specs.Words.{IsSamePass, seen}
+use Rattle.zr_port.specs.Coming.{sight}
 use Rattle.zr_session.specs.Session.{is_running}
 use Rattle.zr_link.specs.Heard.{IsIn, IsOpen}
 use Rattle.zr_link.proofs.Going.{Gone}
@@ -11,7 +12,7 @@ abbrev pub invariant-loop : goal.invariant-loop
 invariant-loop g l = record {
   same : IsSamePass l.fn.pass l.pass;
   prefix : IsPrefix (seen l.fn.pass) (seen l.pass);
-  gone : Gone l.link l.fn.intake.session l.intake.session (g.S.Source.left l.fn.source) (g.S.Source.left l.source) (mine l.fn.pass) (mine l.pass);
+  gone : Gone l.link (λ h m x. g.P.Port.refuses_message l.port h l.link m x) l.fn.intake.session l.intake.session (g.S.Source.left l.fn.source) (g.S.Source.left l.source) (sight l.fn.pass) (sight l.pass);
   running : is_running l.intake.session.state ≡ true;
   opened : IsIn IsOpen l.intake.session;
   counts : (g.S.Source.faults l.source ≡ g.S.Source.faults l.fn.source) × (g.S.Source.ends l.source ≡ g.S.Source.ends l.fn.source);

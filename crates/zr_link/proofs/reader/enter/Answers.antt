@@ -10,7 +10,9 @@ use Rattle.zr_session.specs.Session.{SessionState, with_confirmed}
 use Rattle.zr_link.specs.Heard.{IsLate}
 use Rattle.zr_link.specs.Acts.{up, froms}
 use Rattle.zr_link.specs.Ends.{IsStarted}
-use Rattle.zr_link.proofs.Going.{Followed, does_entry, does_then}
+use Rattle.zr_port.specs.Coming.{sight, delivered}
+use Rattle.zr_port.proofs.Coming.{adds_one}
+use Rattle.zr_link.proofs.Going.{Followed, through_does, does_entry, does_then}
 use Rattle.zr_link.specs.Log.{IsNotUp}
 use Rattle.zr_link.proofs.Logged.{logged_up}
 use Rattle.zr_link.proofs.Running.{enters_followed, enters_early, up_not_refused}
@@ -31,18 +33,18 @@ returns-in-Ok-begin-clause-entered g c =
     let waiting = into_iter_items c.args.opened.messages in
     let link = c.in-Ok.up.0 in
     let added = c.in-Ok.ensures.added in
-    let first = does_entry (mine c.args.pass.now) (mine c.up.new.pass) added.entry (event.Up link c.args.opened.peer) (Some c.args.opened.outbox) None added.own added.says.0 in
+    let upon = adds_one c.args.pass.now c.up.new.pass (event.Up link c.args.opened.peer) (Some c.args.opened.outbox) None _ added (λ b x p. p.0) in
     let same = c.in-Ok-begin.ensures.same ∙ ap with_confirmed c.without_close.ensures.same in
     let on = c.follow-end.ensures.followed in
     let followed = subst (λ (z : SessionState). Followed link z waiting c.args.opened.fate c.follow-end.result (g.S.Source.left c.args.source.now) (g.S.Source.left c.follow-end.new.source)
     (IsLate (g.S.Source.quiets c.args.source.now) (g.S.Source.quiets c.follow-end.new.source) z.heard (g.C.Clock.last c.args.clock.now) (g.C.Clock.last c.follow-end.new.clock))
-    (g.P.Port.refuses_message c.args.port.now) (seen c.follow-end.new.pass) (mine c.up.new.pass) (mine c.follow-end.new.pass)) same (record { msgs = on.0; does = on.1; follows = on.2 }) in
+    (g.P.Port.refuses_message c.args.port.now) (seen c.follow-end.new.pass) (sight c.up.new.pass) (sight c.follow-end.new.pass)) same (record { came = on.0; goes = on.1; follows = on.2 }) in
     let down = c.leave.ensures.left in
     enters_followed c.args.opened.peer c.args.opened.outbox S waiting c.args.opened.fate c.follow-end.result (g.S.Source.left c.args.source.now) (g.S.Source.left c.follow-end.new.source)
     (IsLate (g.S.Source.quiets c.args.source.now) (g.S.Source.quiets c.follow-end.new.source) S.heard (g.C.Clock.last c.args.clock.now) (g.C.Clock.last c.follow-end.new.clock))
     (λ owed. (answers : List ℕ) → c.args.intake.now.fed.bytes.items ≡ answers ++ close_with c.args.opened.fate → Unit {0}) _
     (g.P.Port.refuses_up c.args.port.now) (g.P.Port.refuses_message c.args.port.now) (g.P.Port.refuses_down c.args.port.now)
-    c.args.pass.now c.up.new.pass c.follow-end.new.pass c.leave.new.pass link first (record { msgs = followed.msgs; does = followed.does; follows = followed.follows }) c.leave.ensures.prefix down.0 down.1 down.2 refl
+    c.args.pass.now c.up.new.pass c.follow-end.new.pass c.leave.new.pass link upon (record { came = followed.came; goes = followed.goes; follows = followed.follows }) c.leave.ensures.prefix down.0 down.1 down.2 refl
 
 pub returns-in-Ok-begin-clause-unwritten : goal.returns-in-Ok-begin-clause-unwritten
 returns-in-Ok-begin-clause-unwritten g c is = absurd (subst IsStarted is c.follow-end.ensures.started)
@@ -63,12 +65,12 @@ returns-in-Ok-begin-clause-writer g c =
     let first = does_entry (mine c.args.pass.now) (mine c.up.new.pass) added.entry (event.Up link c.args.opened.peer) (Some c.args.opened.outbox) None added.own added.says.0 in
     let on = c.follow-end.ensures.followed in
     let down = c.leave.ensures.left in
-    let rest = does_then (froms link on.0) down.0 (mine c.up.new.pass) (mine c.follow-end.new.pass) (mine c.leave.new.pass) on.1 down.2 in (
+    let rest = does_then (froms link (delivered on.0)) down.0 (mine c.up.new.pass) (mine c.follow-end.new.pass) (mine c.leave.new.pass) (through_does link (λ h m x. g.P.Port.refuses_message c.args.port.now h link m x) on.0 (sight c.up.new.pass) (sight c.follow-end.new.pass) on.1) down.2 in (
       link,
       c.args.opened.peer,
       c.args.opened.outbox,
-      froms link on.0 ++ down.0,
-      does_then (up link c.args.opened.peer c.args.opened.outbox ∷ []) (froms link on.0 ++ down.0) (mine c.args.pass.now) (mine c.up.new.pass) (mine c.leave.new.pass) first rest,
+      froms link (delivered on.0) ++ down.0,
+      does_then (up link c.args.opened.peer c.args.opened.outbox ∷ []) (froms link (delivered on.0) ++ down.0) (mine c.args.pass.now) (mine c.up.new.pass) (mine c.leave.new.pass) first rest,
       c.in-Ok-begin.ensures.told,
     )
 
@@ -76,14 +78,14 @@ pub returns-in-Err-begin-clause-entered : goal.returns-in-Err-begin-clause-enter
 returns-in-Err-begin-clause-entered g c =
     let link = c.in-Ok.up.0 in
     let added = c.in-Ok.ensures.added in
-    let first = does_entry (mine c.args.pass.now) (mine c.up.new.pass) added.entry (event.Up link c.args.opened.peer) (Some c.args.opened.outbox) None added.own added.says.0 in
+    let upon = adds_one c.args.pass.now c.up.new.pass (event.Up link c.args.opened.peer) (Some c.args.opened.outbox) None _ added (λ b x p. p.0) in
     let down = c.leave-in-Err-begin.ensures.left in
     let wrote = rw c.without_close.ensures.same at c.in-Err-begin.ensures.wrote in
     enters_early c.args.opened.peer c.args.opened.outbox c.args.intake.now.session (into_iter_items c.args.opened.messages) c.args.opened.fate _ (g.S.Source.left c.args.source.now)
     (IsLate (g.S.Source.quiets c.args.source.now) (g.S.Source.quiets c.args.source.now) c.args.intake.now.session.heard (g.C.Clock.last c.args.clock.now) (g.C.Clock.last c.args.clock.now)) _
     (g.P.Port.refuses_up c.args.port.now) (g.P.Port.refuses_message c.args.port.now) (g.P.Port.refuses_down c.args.port.now)
     c.args.pass.now c.up.new.pass c.leave-in-Err-begin.new.pass link c.args.intake.now.fed.bytes.items c.without_close.new.self.fed.bytes.items (g.K.Sink.held c.args.out.sink) _ _
-    first c.in-Err-begin.ensures.early down.0 down.1 down.2 c.without_close.ensures.without wrote
+    upon c.leave-in-Err-begin.ensures.prefix c.in-Err-begin.ensures.early down.0 down.1 down.2 c.without_close.ensures.without wrote
 
 pub returns-in-Err-clause-logged : goal.returns-in-Err-clause-logged
 returns-in-Err-clause-logged g c = inl (c.in-Err.ensures.unchanged, subst IsNotUp (sym c.opened.ensures.stage) tt, c.opened.ensures.held)
@@ -95,9 +97,9 @@ returns-in-Ok-begin-clause-logged g c =
     let first = does_entry (mine c.args.pass.now) (mine c.up.new.pass) added.entry (event.Up link c.args.opened.peer) (Some c.args.opened.outbox) None added.own added.says.0 in
     let on = c.follow-end.ensures.followed in
     let down = c.leave.ensures.left in
-    let rest = does_then (froms link on.0) down.0 (mine c.up.new.pass) (mine c.follow-end.new.pass) (mine c.leave.new.pass) on.1 down.2 in
-    logged_up (λ l. g.L.Log.held l) link c.args.opened.peer _ c.args.opened.outbox (froms link on.0 ++ down.0) _ _ c.args.log.now c.opened.new.self _ c.same_peer-known.ensures
-    (does_then (up link c.args.opened.peer c.args.opened.outbox ∷ []) (froms link on.0 ++ down.0) (mine c.args.pass.now) (mine c.up.new.pass) (mine c.leave.new.pass) first rest)
+    let rest = does_then (froms link (delivered on.0)) down.0 (mine c.up.new.pass) (mine c.follow-end.new.pass) (mine c.leave.new.pass) (through_does link (λ h m x. g.P.Port.refuses_message c.args.port.now h link m x) on.0 (sight c.up.new.pass) (sight c.follow-end.new.pass) on.1) down.2 in
+    logged_up (λ l. g.L.Log.held l) link c.args.opened.peer _ c.args.opened.outbox (froms link (delivered on.0) ++ down.0) _ _ c.args.log.now c.opened.new.self _ c.same_peer-known.ensures
+    (does_then (up link c.args.opened.peer c.args.opened.outbox ∷ []) (froms link (delivered on.0) ++ down.0) (mine c.args.pass.now) (mine c.up.new.pass) (mine c.leave.new.pass) first rest)
     c.opened.ensures.held c.up-2.ensures.stage c.up-2.ensures.told
 
 pub returns-in-Err-begin-clause-logged : goal.returns-in-Err-begin-clause-logged

@@ -1,4 +1,5 @@
-use Rattle.zr_top.proofs.Branches.{not_answered, not_refused}
+use Rattle.std.proofs.Common.{◌∙◌, sym, true≢false}
+use Rattle.zr_top.proofs.Branches.{net_reads, not_answered, not_refused, served_reads}
 use Rattle.zr_top.proofs.asked.run_asked.Goals as goal
 
 -- words with a plan are not answered, nor refused
@@ -10,7 +11,7 @@ returns-in-Ok-Serve-clause-helped g c h = absurd (not_answered _ _ c.in-Ok-Serve
 
 pub returns-in-Ok-Serve-clause-words : goal.returns-in-Ok-Serve-clause-words
 returns-in-Ok-Serve-clause-words g c = (
-  λ it. absurd (c.serve.ensures.none.0 it),
+  λ it. absurd (c.serve.ensures.none it),
   λ r. absurd (not_refused _ _ c.in-Ok-Serve.ensures.reads r),
 )
 
@@ -19,3 +20,16 @@ returns-in-Ok-Make-clause-words g c = (
   λ it. absurd (c.make_script.ensures.none it),
   λ r. absurd (not_refused _ _ c.in-Ok-Make.ensures.reads r),
 )
+
+-- the input is read by `net`, and by `serve` where rules are asked for
+pub returns-in-Ok-Net-clause-unread : goal.returns-in-Ok-Net-clause-unread
+returns-in-Ok-Net-clause-unread g c none = absurd (true≢false (sym (net_reads _ _ (sym c.in-Ok-Net.ensures.net)) ∙ none))
+
+pub returns-in-Ok-Net-clause-refused : goal.returns-in-Ok-Net-clause-refused
+returns-in-Ok-Net-clause-refused g c it = net_reads _ _ (sym c.in-Ok-Net.ensures.net)
+
+pub returns-in-Ok-Serve-clause-unread : goal.returns-in-Ok-Serve-clause-unread
+returns-in-Ok-Serve-clause-unread g c none = c.serve.ensures.unread (sym (served_reads _ _ (sym c.in-Ok-Serve.ensures.net) (sym c.in-Ok-Serve.ensures.serve)) ∙ none)
+
+pub returns-in-Ok-Serve-clause-refused : goal.returns-in-Ok-Serve-clause-refused
+returns-in-Ok-Serve-clause-refused g c it = served_reads _ _ (sym c.in-Ok-Serve.ensures.net) (sym c.in-Ok-Serve.ensures.serve) ∙ c.serve.ensures.refused it

@@ -10,4 +10,5 @@ returns c =
     let one = adds c.in_ok-arg.ensures c.wanted.ensures.local none c.wanted.ensures.rule in
     let two = adds c.in_ok-arg-2.ensures c.wanted-2.ensures.local one c.wanted-2.ensures.rule in
     let three = adds c.in_ok-arg-3.ensures c.flag.ensures.local two c.flag.ensures.rule in
-    IfOk-weaker c.arg-4.result _ _ (λ r h. ap (λ (a : App). a.top) (adds h c.words_beside.ensures.local three c.words_beside.ensures.rule)) c.arg-4.ensures
+    let four = adds c.in_ok-arg-4.ensures c.flag-2.ensures.local three c.flag-2.ensures.rule in
+    IfOk-weaker c.arg-5.result _ _ (λ r h. ap (λ (a : App). a.top) (adds h c.words_beside.ensures.local four c.words_beside.ensures.rule)) c.arg-5.ensures

@@ -1,24 +1,27 @@
-use Rattle.std.proofs.Common.{◌≡◌, ◌<◌, true, false, List, [], ◌∷◌, ◌++◌, length, map, Option, Some, None, refl, sym, ap, subst, ◌∙◌}
-use Rattle.zr_hist.specs.Words.{list_of, most_entries, seen}
+use Rattle.std.proofs.Common.{◌≡◌, ◌<◌, not, true, false, List, [], ◌∷◌, ◌++◌, length, Some, None, refl, sym, ap, subst, ◌∙◌}
+use Rattle.zr_hist.specs.Words.{list_of, most_entries}
 use Rattle.zr_msg.specs.declared.event.Event.TheVariants.{From}
 use Rattle.zr_port.specs.Adding.{IsAdmitted}
 use Rattle.zr_node_spec.specs.Event.{on_link}
 use Rattle.zr_router_queue.specs.Ends.{EndState, GoesByRings, IsReplay}
+use Rattle.zr_router_queue.specs.Tables.{replay}
+use Rattle.zr_router.specs.Allowed.{is_allowed}
 use Rattle.zr_router.specs.Before.{message_refusal}
-use Rattle.zr_port.specs.declared.error.DeliverError.TheVariants as deliver
 use Rattle.zr_told_spec.specs.Hub.{hub_refuses}
 use Rattle.zr_router.specs.Failures.{HasFailed}
 use Rattle.zr_router.specs.declared.failure.Failure.{Failure}
 use Rattle.zr_router.specs.declared.failure.Failure.TheVariants.{Refused}
-use Rattle.zr_router.specs.Refusals.{RefusesMessage, is_worn}
+use Rattle.zr_router.specs.Refusals.{RefusesMessage, is_worn, node_refusal}
+use Rattle.zr_access.specs.Rules.{is_open}
 use Rattle.zr_router.proofs.Entered.{added, added_beside, handled}
-use Rattle.zr_router.proofs.Refused.{closed_at, message_admitted, message_comes, message_node, message_refused, message_room, never_memory}
+use Rattle.zr_router.proofs.Refused.{closed_at, message_allowed, message_admitted, message_comes, message_node, message_refused, message_room, never_memory}
 use Rattle.zr_router.proofs.tables.Tables.deliver.Goals as goal
 
 pub returns-in-Some-clause-refused : goal.returns-in-Some-clause-refused
 returns-in-Some-clause-refused g c =
     let t = c.args.self.now in
     let me = g.B.Naming.me in
+    let pol = g.B.Naming.policy in
     let l = c.look.new.self in
     let h = list_of l.kept in
     let open_now : l.is_spent ≡ false = c.look.ensures.same.2 ∙ sym c.in-Ok.ensures.spent in
@@ -28,22 +31,23 @@ returns-in-Some-clause-refused g c =
     let k = c.closing_of-closing.result in
     let at = c.peer_at-peer.ensures in
     let shut = c.closing_of-closing.ensures ∙ ap (λ xs. closed_at xs c.args.link) c.as_slice.ensures.value in
-    let is : message_refusal p k c.args.link c.args.msg (is_worn h) ≡ Some c.in-Some.refused =
-    ap (λ b. message_refusal p k c.args.link c.args.msg b) w ∙ sym c.refuses_message.ensures ∙ c.in-Some.is in
-    λ _. subst (λ x. RefusesMessage me x c.args.link c.args.msg c.in-Some.refused) c.look.ensures.kept
-    (message_refused me h l.hub l.ends.items r c.args.link c.args.msg p k c.in-Some.refused at shut is)
+    let is : message_refusal pol p k c.args.link c.args.msg (is_worn h) ≡ Some c.in-Some.refused =
+    ap (λ b. message_refusal pol p k c.args.link c.args.msg b) w ∙ ap (λ z. message_refusal z p k c.args.link c.args.msg c.in-Ok.worn) (sym l.ruled) ∙ sym c.refuses_message.ensures ∙ c.in-Some.is in
+    λ _. subst (λ x. RefusesMessage pol me x c.args.link c.args.msg c.in-Some.refused) c.look.ensures.kept
+    (message_refused pol me h l.hub l.ends.items r c.args.link c.args.msg p k c.in-Some.refused at shut is)
 
 pub returns-in-Some-clause-spent : goal.returns-in-Some-clause-spent
 returns-in-Some-clause-spent g c =
     let l = c.look.new.self in
     let open_now : l.is_spent ≡ false = c.look.ensures.same.2 ∙ sym c.in-Ok.ensures.spent in
     let is = sym c.refuses_message.ensures ∙ c.in-Some.is in
-    (λ e. absurd (never_memory c.peer_at-peer.result c.closing_of-closing.result c.args.link c.args.msg c.in-Ok.worn (is ∙ cc)), λ spent. cc)
+    (λ e. absurd (never_memory l.policy c.peer_at-peer.result c.closing_of-closing.result c.args.link c.args.msg c.in-Ok.worn (is ∙ cc)), λ spent. cc)
 
 pub enter-requires-clause-handled : goal.enter-requires-clause-handled
 enter-requires-clause-handled g c =
     let t = c.args.self.now in
     let me = g.B.Naming.me in
+    let pol = g.B.Naming.policy in
     let l = c.look.new.self in
     let h = list_of l.kept in
     let open_now : l.is_spent ≡ false = c.look.ensures.same.2 ∙ sym c.in-Ok.ensures.spent in
@@ -58,21 +62,45 @@ enter-requires-clause-handled g c =
     let q : IsReplay me (list_of n.kept) l.hub n.ends.items =
     subst (λ x. IsReplay me x l.hub n.ends.items) (sym c.handle.ensures.kept) (subst (λ (xs : List EndState). IsReplay me h l.hub xs) (sym (ap (λ v. v.items) c.handle.ensures.ends)) r) in
     let handled_is = c.in-Ok-handle.ensures.handled in
-    let none : message_refusal p k c.args.link c.args.msg (is_worn h) ≡ None =
-    ap (λ b. message_refusal p k c.args.link c.args.msg b) w ∙ sym c.refuses_message.ensures ∙ c.in_default-refuses_message.is in
+    let none : message_refusal pol p k c.args.link c.args.msg (is_worn h) ≡ None =
+    ap (λ b. message_refusal pol p k c.args.link c.args.msg b) w ∙ ap (λ z. message_refusal z p k c.args.link c.args.msg c.in-Ok.worn) (sym l.ruled) ∙ sym c.refuses_message.ensures ∙ c.in_default-refuses_message.is in
     handled me (list_of n.kept) l.hub n.hub n.ends.items (From c.args.link c.args.msg) None None c.as_slice-2.result.now
     n.legal q.hub_is
-    (message_comes me h l.hub l.ends.items r c.args.link c.args.msg p k at shut none)
+    (message_comes pol me h l.hub l.ends.items r c.args.link c.args.msg p k at shut none)
     handled_is.1 handled_is.0
     (λ to. ap (λ xs. on_link to xs) c.as_slice-2.ensures.value ∙ c.in-Ok-handle.ensures.sent to)
     c.requires.spelled refl q.queues
     (subst (λ x. length x < most_entries) (sym kept)
-    (c.in-Ok.ensures.room (sym w ∙ message_room me h l.hub l.ends.items r c.args.link c.args.msg p k at shut none)))
+    (c.in-Ok.ensures.room (sym w ∙ message_room pol me h l.hub l.ends.items r c.args.link c.args.msg p k at shut none)))
+
+pub enter-requires-clause-allowed : goal.enter-requires-clause-allowed
+enter-requires-clause-allowed g c =
+    let t = c.args.self.now in
+    let me = g.B.Naming.me in
+    let pol = g.B.Naming.policy in
+    let l = c.look.new.self in
+    let h = list_of l.kept in
+    let open_now : l.is_spent ≡ false = c.look.ensures.same.2 ∙ sym c.in-Ok.ensures.spent in
+    let r : IsReplay me h l.hub l.ends.items = l.replayed open_now in
+    let w : is_worn h ≡ c.in-Ok.worn = ap (λ x. is_worn x) c.look.ensures.kept ∙ sym c.in-Ok.ensures.worn in
+    let p = c.peer_at-peer.result in
+    let k = c.closing_of-closing.result in
+    let at = c.peer_at-peer.ensures in
+    let shut = c.closing_of-closing.ensures ∙ ap (λ xs. closed_at xs c.args.link) c.as_slice.ensures.value in
+    let n = c.handle.new.self in
+    let kept : list_of n.kept ≡ list_of t.kept = c.handle.ensures.kept ∙ c.look.ensures.kept in
+    let q : IsReplay me (list_of n.kept) l.hub n.ends.items =
+    subst (λ x. IsReplay me x l.hub n.ends.items) (sym c.handle.ensures.kept) (subst (λ (xs : List EndState). IsReplay me h l.hub xs) (sym (ap (λ v. v.items) c.handle.ensures.ends)) r) in
+    let handled_is = c.in-Ok-handle.ensures.handled in
+    let none : message_refusal pol p k c.args.link c.args.msg (is_worn h) ≡ None =
+    ap (λ b. message_refusal pol p k c.args.link c.args.msg b) w ∙ ap (λ z. message_refusal z p k c.args.link c.args.msg c.in-Ok.worn) (sym l.ruled) ∙ sym c.refuses_message.ensures ∙ c.in_default-refuses_message.is in
+    subst (λ x. is_allowed pol (replay me x).hub.node (From c.args.link c.args.msg) ≡ true) (sym c.handle.ensures.kept) (message_allowed pol me h l.hub l.ends.items r c.args.link c.args.msg p k at shut none)
 
 pub returns-in-Ok-enter-clause-added : goal.returns-in-Ok-enter-clause-added
 returns-in-Ok-enter-clause-added g c =
     let t = c.args.self.now in
     let me = g.B.Naming.me in
+    let pol = g.B.Naming.policy in
     let l = c.look.new.self in
     let h = list_of l.kept in
     let open_now : l.is_spent ≡ false = c.look.ensures.same.2 ∙ sym c.in-Ok.ensures.spent in
@@ -87,20 +115,21 @@ returns-in-Ok-enter-clause-added g c =
     let q : IsReplay me (list_of n.kept) l.hub n.ends.items =
     subst (λ x. IsReplay me x l.hub n.ends.items) (sym c.handle.ensures.kept) (subst (λ (xs : List EndState). IsReplay me h l.hub xs) (sym (ap (λ v. v.items) c.handle.ensures.ends)) r) in
     let handled_is = c.in-Ok-handle.ensures.handled in
-    let none : message_refusal p k c.args.link c.args.msg (is_worn h) ≡ None =
-    ap (λ b. message_refusal p k c.args.link c.args.msg b) w ∙ sym c.refuses_message.ensures ∙ c.in_default-refuses_message.is in
+    let none : message_refusal pol p k c.args.link c.args.msg (is_worn h) ≡ None =
+    ap (λ b. message_refusal pol p k c.args.link c.args.msg b) w ∙ ap (λ z. message_refusal z p k c.args.link c.args.msg c.in-Ok.worn) (sym l.ruled) ∙ sym c.refuses_message.ensures ∙ c.in_default-refuses_message.is in
     let a = c.in-Ok-enter.ensures.added in
     added c.args.pass.now c.look.new.pass c.enter.new.pass (list_of t.kept) (list_of c.enter.new.self.kept) (From c.args.link c.args.msg) None None
-    (λ before. IsAdmitted (λ e. RefusesMessage me before c.args.link c.args.msg e))
+    (λ before. IsAdmitted (λ e. RefusesMessage pol me before c.args.link c.args.msg e))
     c.look.ensures.pass.1 c.look.ensures.prefix
     (a.0, a.1, a.2 ∙ ap (λ x. x ++ a.0 ∷ []) kept, a.3, a.4)
-    (subst (λ x. IsAdmitted (λ e. RefusesMessage me x c.args.link c.args.msg e)) c.look.ensures.kept
-    (message_admitted me h l.hub l.ends.items r c.args.link c.args.msg p k at shut none handled_is.1))
+    (subst (λ x. IsAdmitted (λ e. RefusesMessage pol me x c.args.link c.args.msg e)) c.look.ensures.kept
+    (message_admitted pol me h l.hub l.ends.items r c.args.link c.args.msg p k at shut none handled_is.1))
 
 pub returns-in-Err-Refused-clause-refused : goal.returns-in-Err-Refused-clause-refused
 returns-in-Err-Refused-clause-refused g c =
     let t = c.args.self.now in
     let me = g.B.Naming.me in
+    let pol = g.B.Naming.policy in
     let l = c.look.new.self in
     let h = list_of l.kept in
     let open_now : l.is_spent ≡ false = c.look.ensures.same.2 ∙ sym c.in-Ok.ensures.spent in
@@ -110,18 +139,24 @@ returns-in-Err-Refused-clause-refused g c =
     let k = c.closing_of-closing.result in
     let at = c.peer_at-peer.ensures in
     let shut = c.closing_of-closing.ensures ∙ ap (λ xs. closed_at xs c.args.link) c.as_slice.ensures.value in
-    let none : message_refusal p k c.args.link c.args.msg (is_worn h) ≡ None =
-    ap (λ b. message_refusal p k c.args.link c.args.msg b) w ∙ sym c.refuses_message.ensures ∙ c.in_default-refuses_message.is in
+    let none : message_refusal pol p k c.args.link c.args.msg (is_worn h) ≡ None =
+    ap (λ b. message_refusal pol p k c.args.link c.args.msg b) w ∙ ap (λ z. message_refusal z p k c.args.link c.args.msg c.in-Ok.worn) (sym l.ruled) ∙ sym c.refuses_message.ensures ∙ c.in_default-refuses_message.is in
     let refused = c.in-Err-Refused.error in
     let failed : HasFailed (hub_refuses l.hub (From c.args.link c.args.msg)) l.is_spent c.handle.new.self.is_spent (Refused refused) =
     subst (λ (x : Failure). HasFailed (hub_refuses l.hub (From c.args.link c.args.msg)) l.is_spent c.handle.new.self.is_spent x) c.in-Err-Refused.field-0-is c.in-Err-Refused.ensures.failed in
-    λ _. rw c.in-Err-Refused.field-0-is (subst (λ x. RefusesMessage me x c.args.link c.args.msg (deliver.Node refused)) c.look.ensures.kept
-    (message_node me h l.hub l.ends.items r c.args.link c.args.msg p k at shut none refused failed.0))
+    let told : RefusesMessage pol me (list_of t.kept) c.args.link c.args.msg (node_refusal (not (is_open pol)) refused) =
+    subst (λ x. RefusesMessage pol me x c.args.link c.args.msg (node_refusal (not (is_open pol)) refused)) c.look.ensures.kept
+    (message_node pol me h l.hub l.ends.items r c.args.link c.args.msg p k at shut none refused failed.0) in
+    let is : c.node_refusal.result ≡ node_refusal (not c.is_open.result) refused = rw c.in-Err-Refused.field-0-is at c.node_refusal.ensures in
+    let ruled : node_refusal (not (is_open pol)) refused ≡ c.node_refusal.result =
+    ap (λ z. node_refusal (not (is_open z)) refused) (sym c.handle.new.self.ruled) ∙ ap (λ b. node_refusal (not b) refused) (sym c.is_open.ensures) ∙ sym is in
+    λ _. subst (λ x. RefusesMessage pol me (list_of t.kept) c.args.link c.args.msg x) ruled told
 
 pub returns-in-Ok-enter-clause-rings : goal.returns-in-Ok-enter-clause-rings
 returns-in-Ok-enter-clause-rings g c =
     let t = c.args.self.now in
     let me = g.B.Naming.me in
+    let pol = g.B.Naming.policy in
     let n = c.handle.new.self in
     let kept : list_of n.kept ≡ list_of t.kept = c.handle.ensures.kept ∙ c.look.ensures.kept in
     let ends : n.ends.items ≡ t.ends.items = ap (λ v. v.items) c.handle.ensures.ends ∙ ap (λ v. v.items) c.look.ensures.same.1 in

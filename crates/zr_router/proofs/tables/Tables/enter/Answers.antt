@@ -7,6 +7,8 @@ use Rattle.zr_router_queue.specs.History.{is_legal}
 use Rattle.zr_router_queue.specs.Tables.{open_queues, queued_by, replay}
 use Rattle.zr_router_queue.proofs.Rings.{goes_by_rings}
 use Rattle.zr_router_queue.proofs.Stepped.{zip_so}
+use Rattle.zr_router.specs.Allowed.{are_allowed, is_allowed}
+use Rattle.zr_router.proofs.Refused.{allowed_more}
 use Rattle.zr_router.proofs.Entered.{entered, may_enter, written_over}
 use Rattle.zr_router.proofs.tables.Tables.enter.Goals as goal
 
@@ -26,6 +28,10 @@ invariant_of-self-2 g c =
     record {
       named = c.enter.ensures.same.0 ∙ t.named;
       own = t.own;
+      ruled = t.ruled;
+      allowed = subst (λ z. are_allowed g.B.Naming.policy g.B.Naming.me z ≡ true) (sym c.enter.ensures.list)
+          (allowed_more g.B.Naming.policy g.B.Naming.me (list_of t.kept) c.in_ok-entry.entry t.allowed
+          (subst (λ z. is_allowed g.B.Naming.policy (replay g.B.Naming.me (list_of t.kept)).hub.node z ≡ true) (sym c.in_ok-entry.ensures.entry.event_is) c.requires.allowed));
       legal = subst (λ m. is_legal m (list_of c.enter.new.kept) ≡ true) t.own c.enter.ensures.legal;
       replayed = λ _. subst (λ (xs : List EndState). IsReplay g.B.Naming.me (list_of c.enter.new.kept) t.hub xs)
           (sym (written_over t.ends.len c.enter.new.ends _ (omega (arith, c.enter.auto.ends, c.prepare.auto.ends, c.as_mut_slice-ends.ensures.len))))
