@@ -3,13 +3,16 @@ use Rattle.std.proofs.Common.{◌≡◌, ◌∙◌, ℕ, ◌<◌, ◌≤◌, Boo
 use Rattle.zr_bytes.specs.Number.{writes}
 use Rattle.zr_bytes.proofs.Numbers.{written_long}
 use Rattle.zr_trans.specs.Writing.{writes_trans}
-use Rattle.zr_trans.specs.declared.trans.Trans.TheVariants.{Fragment}
+use Rattle.zr_trans.specs.declared.trans.Trans.TheVariants.{Frame, Fragment}
 use Rattle.zr_frame.specs.Outbox.{OutboxState}
 use Rattle.zr_frame.specs.Packing.{room}
 
 -- a number takes nine bytes at most
 pub length-writes : (value : ℕ) → length (writes value) ≤ 9
 length-writes value = let h = written_long 8 value in omega (arith, h)
+
+pub length_frame_head : (n : ℕ) → length (writes_trans (Frame true n)) ≤ 10
+length_frame_head n = let few = length-writes n in omega (arith, few)
 
 pub length-fragment_head : (more : Bool) (n : ℕ) → length (writes_trans (Fragment true more n [])) ≤ 10
 length-fragment_head more n =

@@ -1,5 +1,6 @@
 pub mod Heads
 pub mod Adding
+pub mod Alone
 pub mod Splitting
 pub mod Lengths
 pub mod Receiving

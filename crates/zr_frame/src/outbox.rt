@@ -1,15 +1,18 @@
 //! What an end of a session sends by: how long a batch may be, and which number its next frame has.
 
-ghost use Rattle.std.specs.Prelude.{◌≡◌, ◌++◌, ◌<◌, ◌≤◌, map, OnOk, OnErr};
+ghost use Rattle.std.specs.Prelude.{◌≡◌, ◌+◌, ◌++◌, ◌<◌, ◌≤◌, ℕ, List, [], ◌∷◌, true, length, nat_le, if◌then◌else◌, map, IfOk, OnOk, OnErr};
+ghost use Rattle.zr_trans.specs.Writing.{writes_trans};
+ghost use Rattle.zr_trans.specs.declared.trans.Trans.TheVariants.{Frame};
 ghost use Rattle.zr_frame.specs.Turn.{modulus_of};
 ghost use Rattle.zr_frame.specs.Outbox.{IsOutbox, advanced};
-ghost use Rattle.zr_frame.specs.Packing.{parcels};
+ghost use Rattle.zr_frame.specs.Packing.{one_parcel, parcels};
 
 use crate::counter::modulus;
 use crate::packer::Packer;
 use std::alloc::{AllocError, Global};
 use std::marker::Model;
 use zr_bytes::ByteString;
+use zr_trans::{Trans, write_trans};
 
 /// The least that a batch may hold, in bytes. Each end refuses less as a session opens.
 pub const LEAST_BATCH: u16 = 64;
@@ -74,6 +77,34 @@ impl Outbox {
         ensures { self.new ≡ advanced self.old }
     {
         self.next = (self.next + 1) % modulus(self.bits);
+    }
+
+    /// Writes what stands before one message of `count` bytes in a frame of its own, in place of what `head` held. Where both
+    /// fit into a batch, head and message are the one batch of this message, and the frame was sent.
+    #[tactic(auto, using(crate::proofs::Alone::goes_alone, crate::proofs::Heads::length_frame_head))]
+    pub fn head(&mut self, count: usize, head: &mut Vec<u8>) -> Result<bool, AllocError>
+        ensures value { OnOk result (head.new.items ≡ writes_trans (Frame true self.old.next)) }
+        ensures short { OnOk result (length head.new.items ≤ 10) }
+        ensures fits { IfOk result (λ fits. fits ≡ nat_le (length head.new.items + count) self.old.batch) }
+        ensures outbox { IfOk result (λ fits. self.new ≡ (if fits then advanced self.old else self.old)) }
+        ensures alone { IfOk result (λ fits. fits ≡ true → (m : List ℕ) → length m ≡ count → parcels self.old (m ∷ []) ≡ one_parcel self.old (head.new.items ++ m)) }
+        ensures err { OnErr result (self.new ≡ self.old) }
+    {
+        head.clear();
+        let number = self.next;
+        write_trans(
+            head,
+            &Trans::Frame {
+                reliable: true,
+                number,
+            },
+        )?;
+        let most = usize::from(self.batch);
+        if head.len() > most || count > most - head.len() {
+            return Ok(false);
+        }
+        self.advance();
+        Ok(true)
     }
 
     /// Appends the batches of messages that are written. A frame takes the next message while it fits; one that doesn't fit

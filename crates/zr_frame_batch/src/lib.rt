@@ -7,4 +7,4 @@ mod put;
 
 pub use incoming::{Incoming, MOST_IDLE, split_batch};
 pub use laws::{streams_are_cut_once, streams_are_joined, written_batches_are_cut};
-pub use put::put_batch;
+pub use put::{put_batch, put_parts};

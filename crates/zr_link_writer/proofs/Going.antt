@@ -50,14 +50,14 @@ no_later : (start k n moment later : ℕ) → n ≡ k → start + k * keep_alive
 no_later start k n moment later is fits more = omega (arith, is, fits, more)
 
 module _ {N : Type 0} {g : Ghosts N} where
-  bodies_last : (items : List (Item N g)) (p : Parcel N g) → bodies (items ++ One p ∷ []) ≡ bodies items ++ p.bytes.items ∷ []
+  bodies_last : (items : List (Item N g)) (p : Parcel N g) → bodies (items ++ One p ∷ []) ≡ bodies items ++ p.bytes ∷ []
   bodies_last [] p = refl
-  bodies_last (One q ∷ items) p = ap (λ z. q.bytes.items ∷ z) (bodies_last items p)
+  bodies_last (One q ∷ items) p = ap (λ z. q.bytes ∷ z) (bodies_last items p)
   bodies_last (Last e ∷ items) p = bodies_last items p
 
   bodies_same : (items : List (Item N g)) (e : Ending N g) → bodies (items ++ Last e ∷ []) ≡ bodies items
   bodies_same [] e = refl
-  bodies_same (One q ∷ items) e = ap (λ z. q.bytes.items ∷ z) (bodies_same items e)
+  bodies_same (One q ∷ items) e = ap (λ z. q.bytes ∷ z) (bodies_same items e)
   bodies_same (Last f ∷ items) e = bodies_same items e
 
   -- one item more was taken
@@ -82,16 +82,16 @@ module _ {N : Type 0} {g : Ghosts N} where
   -- a parcel was joined
   pub goes_parcel : (before after after' : List (Item N g)) (start moment later : ℕ) (waiting waiting' : List ℕ) (held now now' : Option (List ℕ))
       (p : Parcel N g) → Goes before after start moment waiting held now → after' ≡ after ++ One p ∷ []
-      → Carries now now' waiting' (waiting ++ framed p.bytes.items) → moment ≤ later → Goes before after' start later waiting' held now'
+      → Carries now now' waiting' (waiting ++ framed p.bytes) → moment ≤ later → Goes before after' start later waiting' held now'
   goes_parcel before after after' start moment later waiting waiting' held now now' p h is more le = record {
     items = h.items ++ One p ∷ [];
-    parts = h.parts ++ parcel p.bytes.items ∷ [];
+    parts = h.parts ++ parcel p.bytes ∷ [];
     taken = taken_last before after h.items after' (One p) h.taken is;
     no_end = ap end_of is ∙ (end_of_one after p ∙ h.no_end);
-    in_order = parcels_last h.parts p.bytes.items ∙ (ap (λ z. z ++ p.bytes.items ∷ []) h.in_order ∙ sym (bodies_last h.items p));
-    seldom = no_later start (keep_alives h.parts) _ moment later (alives_same h.parts p.bytes.items) h.seldom le;
-    carried = rw (text_last h.parts (parcel p.bytes.items))
-        (carries_then held now now' waiting waiting' (text_of h.parts) (framed p.bytes.items) h.carried more);
+    in_order = parcels_last h.parts p.bytes ∙ (ap (λ z. z ++ p.bytes ∷ []) h.in_order ∙ sym (bodies_last h.items p));
+    seldom = no_later start (keep_alives h.parts) _ moment later (alives_same h.parts p.bytes) h.seldom le;
+    carried = rw (text_last h.parts (parcel p.bytes))
+        (carries_then held now now' waiting waiting' (text_of h.parts) (framed p.bytes) h.carried more);
   }
 
   -- nothing was to be had
@@ -123,16 +123,16 @@ module _ {N : Type 0} {g : Ghosts N} where
   -- a write failed as a parcel was joined
   pub stops_parcel : (before after after' : List (Item N g)) (start moment later : ℕ) (waiting close : List ℕ) (held now now' : Option (List ℕ))
       (p : Parcel N g) → Goes before after start moment waiting held now → after' ≡ after ++ One p ∷ []
-      → AppendsPrefix (waiting ++ framed p.bytes.items) now now' → moment ≤ later
+      → AppendsPrefix (waiting ++ framed p.bytes) now now' → moment ≤ later
       → Writes before after' start later close (λ text. AppendsPrefix text held now')
   stops_parcel before after after' start moment later waiting close held now now' p h is part le = record {
     items = h.items ++ One p ∷ [];
-    parts = h.parts ++ parcel p.bytes.items ∷ [];
+    parts = h.parts ++ parcel p.bytes ∷ [];
     taken = taken_last before after h.items after' (One p) h.taken is;
-    in_order = parcels_last h.parts p.bytes.items ∙ (ap (λ z. z ++ p.bytes.items ∷ []) h.in_order ∙ sym (bodies_last h.items p));
-    seldom = no_later start (keep_alives h.parts) _ moment later (alives_same h.parts p.bytes.items) h.seldom le;
-    written = rw (text_last h.parts (parcel p.bytes.items)) (prefix_more (text_of h.parts ++ framed p.bytes.items) close held now'
-        (carries_prefix held now now' waiting (text_of h.parts) (framed p.bytes.items) h.carried part));
+    in_order = parcels_last h.parts p.bytes ∙ (ap (λ z. z ++ p.bytes ∷ []) h.in_order ∙ sym (bodies_last h.items p));
+    seldom = no_later start (keep_alives h.parts) _ moment later (alives_same h.parts p.bytes) h.seldom le;
+    written = rw (text_last h.parts (parcel p.bytes)) (prefix_more (text_of h.parts ++ framed p.bytes) close held now'
+        (carries_prefix held now now' waiting (text_of h.parts) (framed p.bytes) h.carried part));
   }
 
   -- a write failed where nothing was to be had

@@ -44,5 +44,5 @@ close_bytes (Some (Some reason)) = framed (writes_trans (Close true reason))
 -- the bytes of the parcels among what was taken
 abbrev pub bodies : {N : Type 0} {g : Ghosts N} → List (Item N g) → List (List ℕ)
 bodies [] = []
-bodies (One p ∷ items) = p.bytes.items ∷ bodies items
+bodies (One p ∷ items) = p.bytes ∷ bodies items
 bodies (Last e ∷ items) = bodies items

@@ -11,7 +11,7 @@ ghost use Rattle.zr_link_writer.specs.declared.end.Stop.TheVariants.{Fault};
 use crate::close::close_batch;
 use crate::end::Stop;
 use std::alloc::Global;
-use zr_frame_batch::put_batch;
+use zr_frame_batch::put_parts;
 use zr_outside::clock::Clock;
 use zr_outside::sink::{Sink, write_all};
 
@@ -47,27 +47,28 @@ impl Joined {
         }
     }
 
-    /// Joins a parcel as one batch behind its length. What waits is written first where both are too much for one write.
+    /// Joins a parcel, a head with a body behind it, as one batch behind its length. What waits is written first where both are too much for one write.
     #[tactic(auto, using(crate::proofs::Carrying::carries_written, crate::proofs::Carrying::carries_joined, crate::proofs::Carrying::prefix_more, crate::proofs::Carrying::prefix_written, crate::proofs::Carrying::prefix_none, crate::proofs::Waiting::waits_joined))]
     pub(crate) fn add<K: Sink, C: Clock>(
         &mut self,
         sink: &mut K,
         clock: &mut C,
-        parcel: &[u8],
+        head: &[u8],
+        body: &[u8],
     ) -> Result<(), Stop>
-        requires short { length parcel.now < 2 ^ 16 }
+        requires short { length (head.now ++ body.now) < 2 ^ 16 }
         requires past { self.old.moment ≤ C.last clock.old }
-        ensures joined { OnOk result (Carries (K.held sink.old) (K.held sink.new) self.new.bytes.items (self.old.bytes.items ++ framed parcel.now)) }
-        ensures part { OnErr result (AppendsPrefix (self.old.bytes.items ++ framed parcel.now) (K.held sink.old) (K.held sink.new)) }
+        ensures joined { OnOk result (Carries (K.held sink.old) (K.held sink.new) self.new.bytes.items (self.old.bytes.items ++ framed (head.now ++ body.now))) }
+        ensures part { OnErr result (AppendsPrefix (self.old.bytes.items ++ framed (head.now ++ body.now)) (K.held sink.old) (K.held sink.new)) }
         ensures cause { result ≡ Err Fault → Rose (K.faults sink.old) (K.faults sink.new) }
         ensures later { K.faults sink.old ≤ K.faults sink.new }
         ensures moment { (self.old.moment ≤ self.new.moment) × (self.new.moment ≤ C.last clock.new) }
         ensures clock { C.last clock.old ≤ C.last clock.new }
     {
-        if parcel.len() + LENGTH_BYTES > MOST_JOINED.saturating_sub(self.bytes.len()) {
+        if head.len() + body.len() + LENGTH_BYTES > MOST_JOINED.saturating_sub(self.bytes.len()) {
             self.flush(sink, clock)?;
         }
-        match put_batch(&mut self.bytes, parcel) {
+        match put_parts(&mut self.bytes, head, body) {
             Ok(()) => Ok(()),
             Err(_) => Err(Stop::NoMemory),
         }

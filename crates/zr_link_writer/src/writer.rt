@@ -44,7 +44,8 @@ impl Writer {
         for _ in 0..turns {
             match taker.take() {
                 Took::Parcel(parcel) => {
-                    if let Err(stop) = joined.add(sink, clock, parcel.bytes.as_slice()) {
+                    let (head, body) = parcel.bytes.parts();
+                    if let Err(stop) = joined.add(sink, clock, head, body) {
                         return stop.end();
                     }
                 }

@@ -75,6 +75,20 @@ impl<N: Note + Drop> Giver<N> {
         Ok(())
     }
 
+    /// Gives one, for which a slot is known to be free.
+    pub fn give_one(&mut self, parcel: Parcel<N>)
+        requires going { is_going self.old ≡ true }
+        requires place { parcel.place ≡ number self.old }
+        requires room { 0 < free_slots self.old }
+        ensures same { IsSameGiver self.old self.new × (is_going self.new ≡ true) }
+        ensures loaded { (taken_loaded self.new ≡ taken_loaded self.old) × (free_calls self.new ≡ free_calls self.old) }
+        ensures given { sent self.new ≡ sent self.old ++ ones (parcel ∷ []) }
+        ensures free { free_slots self.new + 1 ≡ free_slots self.old }
+    {
+        self.ring.put(Item::One(parcel));
+        self.free -= 1;
+    }
+
     /// Gives the end. There is always a slot for it.
     pub fn end(&mut self, reason: Option<u8>, note: N)
         requires going { is_going self.old ≡ true }

@@ -2,6 +2,7 @@
 //! asks for memory. Each parcel carries its place and a note that vouches for its bytes there.
 #![tactic(auto)]
 
+mod bytes;
 mod ends;
 mod giver;
 mod pair;
@@ -11,6 +12,7 @@ mod rule;
 mod steps;
 mod taker;
 
+pub use bytes::{Bytes, MOST_HEAD};
 pub use giver::Giver;
 pub use pair::ring;
 pub use parcel::{Ending, Item, MOST_BYTES, Note, Parcel};

@@ -1,8 +1,9 @@
 //! What goes through a ring: parcels, and at last its end, each with its place and a note.
-ghost use Rattle.std.specs.Prelude.{◌≡◌, ◌≤◌, ℕ, vec_len};
+ghost use Rattle.std.specs.Prelude.{◌≡◌, ◌≤◌, ℕ, length};
 ghost use Rattle.zr_ring.specs.Content.{Content, bytes_of, end};
 ghost use Rattle.zr_ring.specs.declared.parcel.TheConstants.{MOST_BYTES};
 
+use crate::bytes::Bytes;
 use crate::rule::HasPlace;
 
 /// The most bytes of a parcel: what the two bytes of its length on the wire can say.
@@ -20,10 +21,10 @@ pub trait Note {
 #[derive(Drop)]
 pub struct Parcel<N: Note> {
     pub place: u64,
-    pub bytes: Vec<u8>,
+    pub bytes: Bytes,
     pub note: N,
     ghost vouched: { N.vouches note (bytes_of bytes) place } by { N.is_fact note (bytes_of bytes) place },
-    ghost short: { vec_len bytes ≤ MOST_BYTES },
+    ghost short: { length bytes ≤ MOST_BYTES },
 }
 
 /// The end of a ring, and why it ended.

@@ -9,6 +9,7 @@ pub mod Lookups
 pub mod Plans
 pub mod Replays
 pub mod Rings
+pub mod Same
 pub mod Settling
 pub mod Snapshots
 pub mod Spelled

@@ -7,7 +7,9 @@ use Rattle.zr_node_spec.specs.Event.{on_link}
 use Rattle.zr_frame.specs.Outbox.{OutboxState, IsOutbox}
 use Rattle.zr_frame.specs.Packing.{parcels}
 use Rattle.zr_frame.proofs.Lengths.{good_packed}
+use Rattle.zr_wire.specs.Writing.{writes_message}
 use Rattle.zr_router_queue.specs.Tables.{may_drop, is_droppable}
+use Rattle.zr_router_queue.specs.Batches.{bytes_on, written_of}
 
 weaker : (most : ℕ) → most < 2 ^ 16 → (batches : List (List ℕ)) → AllByRecursion (λ b. (0 < length b) × (length b ≤ most)) batches →
     AllByRecursion (λ b. length b ≤ 65535) batches
@@ -38,3 +40,14 @@ pub droppable_one : (link : LinkNo) (x : LinkNo × Msg) (rest : List (LinkNo × 
 droppable_one link x rest e =
     sym (droppable_first x.1 (on_link link rest))
     ∙ ap (λ b. droppable_from None (map (λ y. y.1) (cond b (x ∷ filter (λ y. y.0.0 == link.0) rest) (filter (λ y. y.0.0 == link.0) rest)))) (sym e)
+
+-- what was written for a link is what was sent on it
+pub on_written : (link : LinkNo) (sent : List (LinkNo × Msg)) → bytes_on link (written_of sent) ≡ map writes_message (on_link link sent)
+on_written link [] = refl
+on_written link (x ∷ sent) = by (x.0.0 == link.0) (on_written link sent)
+  where
+    by : (b : Bool) → bytes_on link (written_of sent) ≡ map writes_message (on_link link sent) →
+        map (λ y. y.1) (cond b ((x.0, writes_message x.1) ∷ filter (λ y. y.0.0 == link.0) (written_of sent)) (filter (λ y. y.0.0 == link.0) (written_of sent)))
+        ≡ map writes_message (map (λ y. y.1) (cond b (x ∷ filter (λ y. y.0.0 == link.0) sent) (filter (λ y. y.0.0 == link.0) sent)))
+    by true ih = ap (λ z. writes_message x.1 ∷ z) ih
+    by false ih = ih

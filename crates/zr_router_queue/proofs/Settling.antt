@@ -1,5 +1,5 @@
 -- What an entry makes of the queue of a link's end that it was planned for: the end is closed, left out or given its parcels, as the entry names it.
-use Rattle.std.proofs.Common.{◌≡◌, ℕ, suc, ◌+◌, ◌≤◌, ◌||◌, nat_lt, not, Bool, true, false, cond, List, [], ◌∷◌, ◌++◌, length, Some, slice_get, refl, sym, ap, subst, ◌∙◌, arith}
+use Rattle.std.proofs.Common.{◌≡◌, ℕ, ◌≤◌, ◌||◌, nat_lt, not, Bool, true, false, cond, List, [], ◌∷◌, ◌++◌, length, Some, refl, sym, ap, subst, ◌∙◌, arith}
 use Rattle.std.specs.Prelude.{◌&&◌, is_some}
 use Rattle.std.specs.Option.{option_map_or}
 use Rattle.std.proofs.lemmas.Bool.Decides.{nat_tests}
@@ -15,10 +15,6 @@ pub last_snoc : (test : Entry → Bool) (before : List Entry) (e : Entry) → la
 last_snoc test [] e = refl
 last_snoc test (x ∷ []) e = refl
 last_snoc test (x ∷ y ∷ more) e = last_snoc test (y ∷ more) e
-
-pub get_behind : {X : Type 0} (xs ys : List X) (i : ℕ) → slice_get (xs ++ ys) (length xs + i) ≡ slice_get ys i
-get_behind [] ys i = (let e : 0 + i ≡ i = omega arith in ap (λ n. slice_get ys n) e)
-get_behind (x ∷ xs) ys i = (let e : suc (length xs) + i ≡ suc (length xs + i) = omega arith in ap (λ n. slice_get (x ∷ (xs ++ ys)) n) e) ∙ get_behind xs ys i
 
 module _ (hub : HubState) (entry : Entry) (x : EndState) (p : PlanState) (planned : IsPlanned hub entry.event x) (plan : x.plan ≡ Some p) where
   pub plan_of : IsPlan (hub_sends hub entry.event x.queue.link) x (Some p)
@@ -70,8 +66,6 @@ module _ (me : List ℕ) (h : List Entry) (hub : HubState) (entry : Entry) (x : 
       neither_lacks true true e f = cc
       neither_lacks true false e f = cc
 
-  pub given_queued : is_among entry.closed x.queue.link ≡ false → is_among entry.dropped x.queue.link ≡ false → (i : ℕ) →
-      slice_get (queued me h x.queue.link) (length x.queue.batches + i) ≡ slice_get p.parcels.batches i
-  given_queued other neither i =
-      ap (λ bs. slice_get bs (length x.queue.batches + i)) (en.queue ∙ ap (λ q. q.batches) (queue_given hub entry x p en.planned plan up other neither))
-      ∙ get_behind x.queue.batches p.parcels.batches i
+  pub given_queued : is_among entry.closed x.queue.link ≡ false → is_among entry.dropped x.queue.link ≡ false →
+      queued me h x.queue.link ≡ x.queue.batches ++ p.parcels.batches
+  given_queued other neither = en.queue ∙ ap (λ q. q.batches) (queue_given hub entry x p en.planned plan up other neither)

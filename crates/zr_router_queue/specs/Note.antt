@@ -52,5 +52,5 @@ Vouches-prop me link h (end reason) k = Prim.hlevel props
 -- the bytes of the parcels among what was given
 abbrev pub batches_of : {N : Type 0} {g : Ghosts N} → List (Item N g) → List (List ℕ)
 batches_of [] = []
-batches_of (One p ∷ items) = p.bytes.items ∷ batches_of items
+batches_of (One p ∷ items) = p.bytes ∷ batches_of items
 batches_of (Last e ∷ items) = batches_of items

@@ -3,11 +3,14 @@
 #![tactic(auto)]
 
 mod event;
+mod link_batches;
 mod link_end;
 mod note;
 mod pack;
 mod plan;
 mod queue;
+mod same_sample;
+mod written;
 
 pub use event::{enter, prepare};
 pub use link_end::{Closing, LinkSender};

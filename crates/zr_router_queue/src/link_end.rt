@@ -1,20 +1,21 @@
 //! One link that is up, as the tables keep it: what it sends by, and the ring to its writer.
 
-ghost use Rattle.std.specs.Prelude.{◌≡◌, ◌+◌, ◌<◌, ◌≤◌, ◌^◌, ◌++◌, ℕ, All, Option, Some, None, is_none, option_map, IfOk, IfSome, OnOk, length, slice_get, vec_capacity, []};
+ghost use Rattle.std.specs.Prelude.{◌≡◌, ◌+◌, ◌<◌, ◌≤◌, ◌++◌, ℕ, List, [], ◌∷◌, Option, Some, None, is_none, option_map, IfOk, IfSome, OnOk, length};
 ghost use Rattle.std.specs.List.{AllByRecursion};
 ghost use Rattle.zr_hist.specs.Words.{name, pass_name, IsSamePass, IsPassOf, seen, mine};
 ghost use Rattle.zr_ring.specs.Content.{end};
 ghost use Rattle.zr_ring.specs.Giver.{sent, is_going, number, slots_of, free_slots};
-ghost use Rattle.zr_ring.specs.Items.{GoOnFrom, end_of, most_parcels, ones};
+ghost use Rattle.zr_ring.specs.Items.{end_of, most_parcels};
 ghost use Rattle.zr_ring.specs.Taker.{taken, take_calls};
 ghost use Rattle.zr_node_spec.specs.Event.{on_link};
 ghost use Rattle.zr_told_spec.specs.Hub.{HubState};
-ghost use Rattle.zr_router_queue.specs.Writable.{IsWritable};
+ghost use Rattle.zr_router_queue.specs.Batches.{written_of};
 ghost use Rattle.zr_router_queue.specs.Tables as tables;
 ghost use Rattle.zr_router_queue.specs.Tables.{is_among, queued, queued_by, new_queue, with_parcels, with_closed};
 ghost use Rattle.zr_router_queue.specs.Note.{batches_of, Vouches, full_reason};
 ghost use Rattle.zr_router_queue.specs.Ends.{new_end, with_queue, giver_ring, taker_ring, last_reason, is_dropped, is_closing, IsAsked, IsEntered, IsOver, IsPlanned, IsPlannedFor, IsSameRing};
 
+use crate::link_batches::Batches;
 use crate::note::Queued;
 use crate::plan::Plan;
 use std::alloc::{AllocError, Global};
@@ -26,8 +27,9 @@ use zr_id::link::LinkNo;
 use zr_id::zid::Zid;
 use zr_msg::msg::Msg;
 use zr_msg::peer::Role;
+use zr_msg::shared::Shared;
 use zr_port::Entry;
-use zr_ring::{Giver, Parcel, Taker, ring};
+use zr_ring::{Bytes, Giver, Parcel, Taker, ring};
 
 /// How many parcels wait for a client at most.
 const CLIENT_SLOTS: u32 = 256;
@@ -132,9 +134,17 @@ impl LinkSender {
         self.closed
     }
 
-    /// Works out what an event has for the link among all that it sends. A link that an event has closed gets nothing any more.
-    pub(crate) fn plan(&mut self, alloc: Global, sent: &[(LinkNo, Msg)]) -> Result<(), AllocError>
-        requires { All (λ x. IsWritable x.1) sent.now }
+    /// Works out what an event has for the link among all that it sends and what was written of it. A link that an event has closed gets nothing any
+    /// more. The memory of `head` is used.
+    #[tactic(auto, using(crate::proofs::Plans::on_written))]
+    pub(crate) fn plan(
+        &mut self,
+        alloc: Global,
+        sent: &[(LinkNo, Msg)],
+        written: &[(LinkNo, Shared<ByteString>)],
+        head: &mut Vec<u8>,
+    ) -> Result<(), AllocError>
+        requires { written.now ≡ written_of sent.now }
         ensures queue { self.new.queue ≡ self.old.queue }
         ensures planned { OnOk result (IsPlannedFor (on_link self.old.queue.link sent.now) self.new) }
         ensures asked { OnOk result (IsAsked self.old self.new) }
@@ -143,8 +153,8 @@ impl LinkSender {
         if self.closed.is_some() {
             return Ok(());
         }
-        let plan = Plan::of(alloc, sent, self.link, self.outbox)?;
-        self.ask(plan.batches.len());
+        let plan = Plan::of(alloc, sent, written, self.link, self.outbox, head)?;
+        self.ask(plan.batches.count());
         self.plan = Some(plan);
         Ok(())
     }
@@ -168,7 +178,7 @@ impl LinkSender {
     {
         match &self.plan {
             None => false,
-            Some(plan) => plan.batches.len() > self.free as usize && plan.droppable,
+            Some(plan) => plan.batches.count() > self.free as usize && plan.droppable,
         }
     }
 
@@ -178,7 +188,7 @@ impl LinkSender {
     {
         match &self.plan {
             None => false,
-            Some(plan) => plan.batches.len() > self.free as usize && !plan.droppable,
+            Some(plan) => plan.batches.count() > self.free as usize && !plan.droppable,
         }
     }
 
@@ -188,7 +198,7 @@ impl LinkSender {
         match &self.plan {
             None => 0,
             Some(plan) => {
-                let parcels = plan.batches.len();
+                let parcels = plan.batches.count();
                 if plan.droppable || parcels == 0 || parcels > self.free as usize {
                     return 0;
                 }
@@ -204,7 +214,7 @@ impl LinkSender {
         match &self.plan {
             None => false,
             Some(plan) => {
-                let parcels = plan.batches.len();
+                let parcels = plan.batches.count();
                 let half = (slots_of(self.role) / 2) as usize;
                 parcels > 0 && parcels.saturating_add(half) > self.free as usize
             }
@@ -230,21 +240,80 @@ impl LinkSender {
         };
         if is_among(entry.closed.as_slice(), self.link) {
             let closing = Closing {
-                asked: plan.batches.len() as u64,
+                asked: plan.batches.count() as u64,
                 free: self.free,
             };
             let note = self.note(history, pass, me);
             self.close(closing, note);
         } else if !is_among(entry.dropped.as_slice(), self.link) {
-            let Plan {
-                batches,
-                outbox,
-                room,
-                ..
-            } = plan;
-            let parcels = parcels_of(history, pass, me, self.link, self.place, batches, room);
-            self.give(parcels, outbox);
+            self.give_plan(history, pass, me, plan);
         }
+    }
+
+    // Gives the ring what an event has for the link, which the list of entries that the pass has seen queues next. There is room for it.
+    fn give_plan(&mut self, history: &History<Entry>, pass: &mut Pass<Entry>, me: Zid, plan: Plan)
+        requires open { self.old.queue.closed ≡ None }
+        requires pass { IsPassOf history.now pass.old }
+        requires room { length plan.parcels.batches ≤ self.old.free }
+        requires queued { queued me (seen pass.old) self.old.queue.link ≡ self.old.queue.batches ++ plan.parcels.batches }
+        ensures pass { IsSamePass pass.old pass.new × (seen pass.new ≡ seen pass.old) × (mine pass.new ≡ mine pass.old) }
+        ensures queue { self.new.queue ≡ with_parcels self.old.queue plan.parcels }
+        ensures same { IsSameRing self.old self.new × (self.new.plan ≡ self.old.plan) }
+    {
+        let Plan {
+            batches,
+            outbox,
+            ..
+        } = plan;
+        match batches {
+            Batches::One(bytes) => self.give_one(history, pass, me, bytes),
+            Batches::Several(batches) => self.give_all(history, pass, me, batches),
+        }
+        self.outbox = outbox;
+    }
+
+    // Gives the ring the next parcels, for which there is room.
+    #[tactic(auto, using(crate::proofs::Batches::with_next))]
+    fn give_all(
+        &mut self,
+        history: &History<Entry>,
+        pass: &mut Pass<Entry>,
+        me: Zid,
+        batches: Vec<Bytes>,
+    )
+        requires open { self.old.queue.closed ≡ None }
+        requires pass { IsPassOf history.now pass.old }
+        requires short { AllByRecursion (λ b. length b ≤ 65535) batches.items }
+        requires room { length batches.items ≤ self.old.free }
+        requires queued { queued me (seen pass.old) self.old.queue.link ≡ self.old.queue.batches ++ batches.items }
+        ensures pass { IsSamePass pass.old pass.new × (seen pass.new ≡ seen pass.old) × (mine pass.new ≡ mine pass.old) }
+        ensures queue { self.new.queue ≡ with_parcels self.old.queue (record { batches = batches.items; outbox = self.old.queue.outbox }) }
+        ensures same { IsSameRing self.old self.new × (self.new.plan ≡ self.old.plan) }
+    {
+        for bytes in batches {
+            self.give_one(history, pass, me, bytes);
+        }
+    }
+
+    // Gives the ring the next parcel, for which there is room.
+    fn give_one(&mut self, history: &History<Entry>, pass: &mut Pass<Entry>, me: Zid, bytes: Bytes)
+        requires open { self.old.queue.closed ≡ None }
+        requires pass { IsPassOf history.now pass.old }
+        requires short { length bytes ≤ 65535 }
+        requires room { 0 < self.old.free }
+        requires queued { (more : List (List ℕ)) × (queued me (seen pass.old) self.old.queue.link ≡ self.old.queue.batches ++ bytes ∷ more) }
+        ensures pass { IsSamePass pass.old pass.new × (seen pass.new ≡ seen pass.old) × (mine pass.new ≡ mine pass.old) }
+        ensures queue { self.new.queue ≡ with_parcels self.old.queue (record { batches = bytes ∷ []; outbox = self.old.queue.outbox }) }
+        ensures same { IsSameRing self.old self.new × (self.new.plan ≡ self.old.plan) }
+    {
+        let note = self.note(history, pass, me);
+        self.giver.give_one(Parcel {
+            place: self.place,
+            bytes,
+            note,
+        });
+        self.place += 1;
+        self.free -= 1;
     }
 
     // What vouches for a parcel or an end of the link under what the pass has seen.
@@ -257,26 +326,6 @@ impl LinkSender {
             me,
             link: self.link,
             pass: history.split(pass),
-        }
-    }
-
-    // Gives the ring the next parcels, for which there is room; what is sent then goes on from this outbox.
-    #[tactic(auto, using(crate::proofs::Batches::given_more))]
-    fn give(&mut self, parcels: Vec<Parcel<Queued>>, outbox: Outbox)
-        requires open { self.old.queue.closed ≡ None }
-        requires places { GoOnFrom (length self.old.queue.batches) parcels.items }
-        requires room { length parcels.items ≤ self.old.free }
-        ensures queue { self.new.queue ≡ with_parcels self.old.queue (record { batches = batches_of (ones parcels.items); outbox = outbox }) }
-        ensures same { IsSameRing self.old self.new × (self.new.plan ≡ self.old.plan) }
-    {
-        let count = parcels.len();
-        match self.giver.give(parcels) {
-            Ok(()) => {
-                self.place += count as u64;
-                self.free -= count as u32;
-                self.outbox = outbox;
-            }
-            Err(_) => unreachable!(),
         }
     }
 
@@ -316,43 +365,4 @@ fn is_among(links: &[LinkNo], link: LinkNo) -> bool
     ensures { result ≡ is_among links.now link }
 {
     links.iter().any(|l| l.0 == link.0)
-}
-
-// The parcels of a link's batches, which the list of entries that the pass has seen queues from this place on. There is room for them.
-#[tactic(auto, using(zr_ring::proofs::Items::go_on_more, crate::proofs::Batches::batches_push, crate::proofs::Batches::one_more))]
-fn parcels_of(
-    history: &History<Entry>,
-    pass: &mut Pass<Entry>,
-    me: Zid,
-    link: LinkNo,
-    from: u64,
-    batches: Vec<ByteString>,
-    room: Vec<Parcel<Queued>>,
-) -> Vec<Parcel<Queued>>
-    requires pass { IsPassOf history.now pass.old }
-    requires empty { room.items ≡ [] }
-    requires room { length batches.items ≤ vec_capacity room }
-    requires places { from + length batches.items < 2 ^ 64 }
-    requires short { AllByRecursion (λ b. length b ≤ 65535) batches.items }
-    requires queued { (i : ℕ) → i < length batches.items → slice_get (queued me (seen pass.old) link) (from + i) ≡ slice_get batches.items i }
-    ensures pass { IsSamePass pass.old pass.new × (seen pass.new ≡ seen pass.old) × (mine pass.new ≡ mine pass.old) }
-    ensures places { GoOnFrom from result.items }
-    ensures bytes { batches_of (ones result.items) ≡ batches.items }
-{
-    let mut parcels = room;
-    let mut place = from;
-    for batch in batches {
-        let note = Queued {
-            me,
-            link,
-            pass: history.split(pass),
-        };
-        parcels.push_reserved(Parcel {
-            place,
-            bytes: batch.into_vec(),
-            note,
-        });
-        place += 1;
-    }
-    parcels
 }

@@ -30,5 +30,5 @@ impl Note for Queued {
 
 /// What any thread knows of a parcel that it took: its bytes are what that list queues at its place.
 pub fn is_queued(parcel: &Parcel<Queued>)
-    ensures { slice_get (queued parcel.now.note.me (seen parcel.now.note.pass) parcel.now.note.link) parcel.now.place ≡ Some parcel.now.bytes.items }
+    ensures { slice_get (queued parcel.now.note.me (seen parcel.now.note.pass) parcel.now.note.link) parcel.now.place ≡ Some parcel.now.bytes }
 {}

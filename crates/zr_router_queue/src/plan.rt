@@ -1,15 +1,14 @@
 //! What an event has for one link, worked out before anything is given.
 
-ghost use Rattle.std.specs.Prelude.{◌≡◌, ◌≤◌, [], map, All, IfOk, length, vec_capacity};
+ghost use Rattle.std.specs.Prelude.{◌≡◌, ◌≤◌, IfOk, length};
 ghost use Rattle.std.specs.List.{AllByRecursion, AllByRecursion-prop};
 ghost use Rattle.std.proofs.Props.{props};
 ghost use Rattle.zr_frame.specs.Packing.{parcels};
 ghost use Rattle.zr_router_queue.specs.Tables.{may_drop, is_droppable};
 ghost use Rattle.zr_node_spec.specs.Event.{on_link};
-ghost use Rattle.zr_router_queue.specs.Writable.{IsWritable};
-ghost use Rattle.zr_wire.specs.Writing.{writes_message};
+ghost use Rattle.zr_router_queue.specs.Batches.{batches_in, bytes_on};
 
-use crate::note::Queued;
+use crate::link_batches::Batches;
 use crate::pack::{Packed, pack};
 use std::alloc::{AllocError, Global};
 use std::marker::Model;
@@ -17,49 +16,46 @@ use zr_bytes::ByteString;
 use zr_frame::Outbox;
 use zr_id::link::LinkNo;
 use zr_msg::msg::Msg;
-use zr_ring::Parcel;
+use zr_msg::shared::Shared;
 
 /// The bit of a quality of service that asks not to drop the sample (Zenoh protocol 1.0, "QoS").
 const DONT_DROP: u64 = 0x08;
 
-/// What an event has for one link: its batches, the outbox behind them, and room for as many parcels.
+/// What an event has for one link: its batches, and the outbox behind them.
 #[derive(Drop)]
 pub(crate) struct Plan {
-    pub batches: Vec<ByteString>,
+    pub batches: Batches,
     pub outbox: Outbox,
-    pub room: Vec<Parcel<Queued>>,
     pub droppable: bool,
-    ghost empty: { room.items ≡ [] },
-    ghost room_for_all: { length batches.items ≤ vec_capacity room },
-    ghost short: { AllByRecursion (λ b. length b ≤ 65535) batches.items } by { AllByRecursion-prop (λ b. length b ≤ 65535) (λ b. Prim.hlevel props) batches.items },
+    ghost short: { AllByRecursion (λ b. length b ≤ 65535) (batches_in batches) } by { AllByRecursion-prop (λ b. length b ≤ 65535) (λ b. Prim.hlevel props) (batches_in batches) },
 }
 
 impl Model for Plan {
+    ghost use Rattle.zr_router_queue.specs.Batches.{batches_in};
     ghost use Rattle.zr_router_queue.specs.Ends.{PlanState};
 
     ghost Value = { PlanState };
 
-    ghost view = { λ p. record { parcels = record { batches = p.batches.items; outbox = p.outbox }; droppable = p.droppable } };
+    ghost view = { λ p. record { parcels = record { batches = batches_in p.batches; outbox = p.outbox }; droppable = p.droppable } };
 }
 
 impl Plan {
-    /// The plan for a link among all that was sent, whose messages can be written.
+    /// The plan for a link among all that was sent and what was written of it. The memory of `head` is used.
     pub fn of(
         alloc: Global,
         sent: &[(LinkNo, Msg)],
+        written: &[(LinkNo, Shared<ByteString>)],
         link: LinkNo,
         outbox: Outbox,
+        head: &mut Vec<u8>,
     ) -> Result<Plan, AllocError>
-        requires { All (λ x. IsWritable x.1) sent.now }
-        ensures parcels { IfOk result (λ p. p.parcels ≡ parcels outbox (map writes_message (on_link link sent.now))) }
+        ensures parcels { IfOk result (λ p. p.parcels ≡ parcels outbox (bytes_on link written.now)) }
         ensures droppable { IfOk result (λ p. p.droppable ≡ is_droppable (on_link link sent.now)) }
     {
-        let Packed { batches, outbox } = pack(alloc, sent, link, outbox)?;
-        let room = Vec::with_capacity(alloc, batches.len())?;
+        let Packed { batches, outbox } = pack(alloc, written, link, outbox, head)?;
         Ok(Plan {
             batches,
             outbox,
-            room,
             droppable: is_droppable(sent, link),
         })
     }

@@ -3,6 +3,7 @@ ghost use Rattle.std.specs.Prelude.{◌≡◌, []};
 ghost use Rattle.zr_hist.specs.Words.{kept_name, list_of, name, pass_name};
 
 use crate::desk::{Hand, Say};
+use crate::note::are_bytes;
 use std::alloc::{AllocError, Global};
 use std::marker::Brand;
 use std::sync::Wait;
@@ -241,7 +242,7 @@ fn all_of(taker: &mut Taker<Queued>) -> Told {
 // Takes one parcel, which is to have these bytes.
 fn next_of(taker: &mut Taker<Queued>, bytes: &[u8]) -> Told {
     match taker.take() {
-        Took::Parcel(parcel) if parcel.bytes.as_slice() == bytes => Told::Ok,
+        Took::Parcel(parcel) if are_bytes(&parcel.bytes, bytes) => Told::Ok,
         Took::Parcel(_) | Took::Ended(_) | Took::Nothing => Told::Other,
     }
 }

@@ -4,7 +4,9 @@ ghost use Rattle.zr_ring.specs.Giver.{is_going, number, sent};
 
 use crate::note::{Anything, parcels};
 use std::alloc::{AllocError, Global};
-use zr_ring::{Giver, MOST_BYTES, Parcel, Taker, ring};
+use zr_bytes::ByteString;
+use zr_msg::shared::Shared;
+use zr_ring::{Bytes, Giver, MOST_BYTES, Parcel, Taker, ring};
 
 /// A ring's giver that isn't ended, with the number of parcels that it gave.
 #[derive(Drop)]
@@ -29,7 +31,7 @@ impl Giving {
         let mut parcels = Vec::with_capacity(alloc, 1)?;
         parcels.push_reserved(Parcel {
             place: self.next,
-            bytes: bytes.to_vec(alloc)?,
+            bytes: Bytes::whole(Shared::new(alloc, ByteString::from_slice(alloc, bytes)?)?),
             note: Anything,
         });
         let is_given = self.giver.free() > 0 && self.giver.give(parcels).is_ok();

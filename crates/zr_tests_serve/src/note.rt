@@ -3,7 +3,9 @@ ghost use Rattle.std.specs.Prelude.{◌≡◌, ◌+◌, ◌^◌, ◌<◌, IfOk, 
 ghost use Rattle.zr_ring.specs.Items.{GoOnFrom};
 
 use std::alloc::{AllocError, Global};
-use zr_ring::{Note, Parcel, Queue};
+use zr_bytes::ByteString;
+use zr_msg::shared::Shared;
+use zr_ring::{Bytes, Note, Parcel, Queue};
 
 /// It vouches for everything.
 #[derive(Drop)]
@@ -37,10 +39,10 @@ impl Queue<u64> for Link {
 fn parcel(alloc: Global, place: u64) -> Result<Parcel<Anything>, AllocError>
     ensures { IfOk result (λ p. p.place ≡ place) }
 {
-    let bytes = Vec::from_elem(alloc, (place % 256) as u8, 1)?;
+    let bytes = ByteString::from_slice(alloc, &[(place % 256) as u8])?;
     Ok(Parcel {
         place,
-        bytes,
+        bytes: Bytes::whole(Shared::new(alloc, bytes)?),
         note: Anything,
     })
 }
@@ -58,4 +60,11 @@ pub fn parcels(alloc: Global, from: u64, count: u64) -> Result<Vec<Parcel<Anythi
         all.push(parcel(alloc, place)?)?;
     }
     Ok(all)
+}
+
+/// Whether a parcel has these bytes.
+pub fn are_bytes(bytes: &Bytes, wanted: &[u8]) -> bool {
+    let (head, body) = bytes.parts();
+    let count = head.len();
+    wanted.len() >= count && &wanted[..count] == head && &wanted[count..] == body
 }

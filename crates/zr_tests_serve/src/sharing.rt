@@ -14,7 +14,7 @@ use zr_hist::{History, Kept, Pass};
 use zr_id::zid::Zid;
 use zr_msg::peer::Role;
 use zr_port::{Entry, Naming};
-use zr_ring::{Taker, Took};
+use zr_ring::{Bytes, Taker, Took};
 use zr_router::Router;
 use zr_router_queue::Queued;
 
@@ -66,14 +66,16 @@ fn in_order(taker: &mut Taker<Queued>) -> u32 {
     count
 }
 
-// Whether bytes begin as a frame of this number, below 16,384.
-fn is_frame(number: u32, bytes: &[u8]) -> bool {
+// Whether bytes are a frame of this number, below 16,384, with a sample.
+fn is_frame(number: u32, bytes: &Bytes) -> bool {
+    let (head, body) = bytes.parts();
     let low = (number % 128) as u8;
-    if number < 128 {
-        bytes.starts_with(&[0x25, low, 0x3D])
-    } else {
-        bytes.starts_with(&[0x25, 0x80 | low, (number / 128 % 128) as u8, 0x3D])
-    }
+    body.starts_with(&[0x3D])
+        && if number < 128 {
+            head == [0x25, low].as_slice()
+        } else {
+            head == [0x25, 0x80 | low, (number / 128 % 128) as u8].as_slice()
+        }
 }
 
 // A client comes up; its taker, where it has the next link.

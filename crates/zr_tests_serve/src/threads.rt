@@ -3,14 +3,14 @@ ghost use Rattle.std.specs.Prelude.{◌≡◌};
 ghost use Rattle.zr_hist.specs.Words.{IsKeptOf, IsPassOf, kept_name, name, pass_name};
 
 use crate::giving::Giving;
-use crate::note::Anything;
+use crate::note::{Anything, are_bytes};
 use std::alloc::Global;
 use std::marker::{Brand, PhantomData};
 use std::sync::Wait;
 use std::thread;
 use std::thread::{Threads, join};
 use zr_hist::{History, Kept, Pass};
-use zr_ring::{Taker, Took};
+use zr_ring::{Bytes, Taker, Took};
 
 /// How many parcels go from thread to thread.
 pub const PARCELS: u64 = 100_000;
@@ -97,8 +97,8 @@ enum Came {
 }
 
 // Whether a parcel has the byte of its entry, and the history that entry.
-fn is_right(place: u64, bytes: &[u8], entries: u64) -> bool {
-    bytes == [(place % 256) as u8].as_slice() && place < entries
+fn is_right(place: u64, bytes: &Bytes, entries: u64) -> bool {
+    are_bytes(bytes, &[(place % 256) as u8]) && place < entries
 }
 
 fn take_one<H: Named>(

@@ -22,7 +22,7 @@ loop-init g c = (
 pub returns-in-Err-clause-written : goal.returns-in-Err-clause-written
 returns-in-Err-clause-written g c =
     let inv = c.loop.invariant in
-    let part = subst (λ z. AppendsPrefix (c.loop.joined.bytes.items ++ framed z) (g.K.Sink.held c.loop.sink) (g.K.Sink.held c.add.new.sink)) c.as_slice.ensures.value c.in-Err.ensures.part in
+    let part = subst (λ z. AppendsPrefix (c.loop.joined.bytes.items ++ framed z) (g.K.Sink.held c.loop.sink) (g.K.Sink.held c.add.new.sink)) c.parts.ensures c.in-Err.ensures.part in
     stops_parcel _ (taken c.loop.taker) _ _ c.loop.joined.moment _ c.loop.joined.bytes.items _ _ (g.K.Sink.held c.loop.sink) _ c.in-Parcel.parcel inv.5 c.in-Parcel.ensures.tells.0 part
     (omega (arith, inv.4, c.add.ensures.clock))
 
@@ -60,7 +60,7 @@ loop-preserved g c =
     let inv = c.loop.invariant in
     elim c.match-take.branch [
       | in-Parcel+in_default w ↦
-          let joined = subst (λ z. Carries (g.K.Sink.held c.loop.sink) (g.K.Sink.held w.add.new.sink) w.add.new.self.bytes.items (c.loop.joined.bytes.items ++ framed z)) w.as_slice.ensures.value w.in_default.ensures.joined in
+          let joined = subst (λ z. Carries (g.K.Sink.held c.loop.sink) (g.K.Sink.held w.add.new.sink) w.add.new.self.bytes.items (c.loop.joined.bytes.items ++ framed z)) w.parts.ensures w.in_default.ensures.joined in
           rw (w.sink-is, w.clock-is, w.joined-is) (
             omega (arith, c.take.ensures.called, inv.0),
             search rules,

@@ -1,9 +1,8 @@
 -- The end was planned, and its entry stands last in what the pass has seen: what the entry says of the link is what its ring is given.
-use Rattle.std.proofs.Common.{◌≡◌, ◌+◌, ◌≤◌, true, false, Some, length, slice_get, refl, sym, ap, subst, ◌∙◌}
+use Rattle.std.proofs.Common.{◌≡◌, true, false, Some, refl, sym, ap, subst, ◌∙◌}
 use Rattle.zr_hist.specs.Words.{seen}
-use Rattle.zr_router_queue.specs.Tables.{is_among, queued}
+use Rattle.zr_router_queue.specs.Tables.{is_among}
 use Rattle.zr_router_queue.specs.Ends.{IsEntered}
-use Rattle.zr_router_queue.proofs.Batches.{batches_count}
 use Rattle.zr_router_queue.proofs.Settling.{closed_vouched, given_queued, given_room}
 use Rattle.zr_router_queue.proofs.link_end.LinkSender.settle.Goals as goal
 
@@ -16,27 +15,22 @@ close-requires-clause-vouched c =
     let note = c.note-note.ensures.note in
     rw (note.0, note.1, note.2) (closed_vouched c.args.me (seen c.args.pass.now) en.0 c.args.entry.now _ c.in-Some.plan here plan refl among)
 
-pub parcels_of-parcels-requires-clause-queued : goal.parcels_of-parcels-requires-clause-queued
-parcels_of-parcels-requires-clause-queued c i lt =
+pub give_plan-requires-clause-queued : goal.give_plan-requires-clause-queued
+give_plan-requires-clause-queued c =
     let en = c.requires.entered in
     let here = subst (λ x. IsEntered c.args.me (seen c.args.pass.now) en.0 c.args.entry.now x) (sym c.self.view_is) en.1 in
     let plan : c.self.inside.plan ≡ Some c.in-Some.plan = cc in
     let other : is_among c.args.entry.now.closed c.self.inside.link ≡ false = ap (λ l. is_among l c.self.inside.link) (sym c.as_slice.ensures) ∙ sym c.is_among.ensures ∙ c.if-is_among.false in
     let neither : is_among c.args.entry.now.dropped c.self.inside.link ≡ false =
     ap (λ l. is_among l c.self.inside.link) (sym c.as_slice-else-is_among.ensures) ∙ sym c.is_among-else-is_among.ensures ∙ c.if-not-is_among.true in
-    ap (λ n. slice_get (queued c.args.me (seen c.args.pass.now) c.self.inside.link) (n + i)) (c.self.inside.counted ∙ c.self.inside.numbered)
-    ∙ given_queued c.args.me (seen c.args.pass.now) en.0 c.args.entry.now _ c.in-Some.plan here plan refl other neither i
-    ∙ ap (λ p. slice_get p.parcels.batches i) (sym c.plan.view_is)
+    given_queued c.args.me (seen c.args.pass.now) en.0 c.args.entry.now _ c.in-Some.plan here plan refl other neither
 
-pub give-requires-clause-room : goal.give-requires-clause-room
-give-requires-clause-room c =
+pub give_plan-requires-clause-room : goal.give_plan-requires-clause-room
+give_plan-requires-clause-room c =
     let en = c.requires.entered in
     let here = subst (λ x. IsEntered c.args.me (seen c.args.pass.now) en.0 c.args.entry.now x) (sym c.self.view_is) en.1 in
     let plan : c.self.inside.plan ≡ Some c.in-Some.plan = cc in
     let other : is_among c.args.entry.now.closed c.self.inside.link ≡ false = ap (λ l. is_among l c.self.inside.link) (sym c.as_slice.ensures) ∙ sym c.is_among.ensures ∙ c.if-is_among.false in
     let neither : is_among c.args.entry.now.dropped c.self.inside.link ≡ false =
     ap (λ l. is_among l c.self.inside.link) (sym c.as_slice-else-is_among.ensures) ∙ sym c.is_among-else-is_among.ensures ∙ c.if-not-is_among.true in
-    let room = given_room c.args.me (seen c.args.pass.now) en.0 c.args.entry.now _ c.in-Some.plan here plan refl other neither in
-    let count : length c.parcels_of-parcels.result.items ≡ length c.in-Some.plan.parcels.batches =
-    sym (batches_count c.parcels_of-parcels.result.items) ∙ ap length c.parcels_of-parcels.ensures.bytes ∙ ap (λ p. length p.parcels.batches) c.plan.view_is in
-    subst (λ n. n ≤ c.self.inside.free) (sym count) room
+    given_room c.args.me (seen c.args.pass.now) en.0 c.args.entry.now _ c.in-Some.plan here plan refl other neither
