@@ -1,3 +1,4 @@
 pub mod Match
 pub mod Table
 pub mod Laws
+pub mod Row

@@ -37,8 +37,8 @@ fn rows_compare(expands: bool, first: &[u8], second: &[u8], row: &mut [bool]) ->
     row[last]
 }
 
-// The row of no chunk, and how many chunks the second expression has.
-fn put_first_row(expands: bool, second: &[u8], row: &mut [bool]) -> usize
+/// The row of no chunk, and how many chunks the second expression has.
+pub fn put_first_row(expands: bool, second: &[u8], row: &mut [bool]) -> usize
     requires { length second.now + 1 < length row.old }
     ensures row { IsRow (first_row (chunk_signs expands)) (expression_of second.now) row.new }
     ensures last { result ≡ length (expression_of second.now) }
@@ -56,8 +56,8 @@ fn put_first_row(expands: bool, second: &[u8], row: &mut [bool]) -> usize
     at
 }
 
-// The row of one more chunk of the first expression, in the place of the row above it.
-fn put_next_row(expands: bool, x: &[u8], second: &[u8], row: &mut [bool])
+/// The row of one more chunk of the first expression, in the place of the row above it.
+pub fn put_next_row(expands: bool, x: &[u8], second: &[u8], row: &mut [bool])
     requires short { length second.now ≤ 2048 }
     requires row_fits { length second.now + 1 < length row.old }
     ensures { (above : List Chunk) → IsRow (table (chunk_signs expands) above) (expression_of second.now) row.old → IsRow (table (chunk_signs expands) (chunk_of x.now ∷ above)) (expression_of second.now) row.new }
@@ -156,7 +156,8 @@ fn is_any(chunk: &[u8]) -> bool
     chunk == b"*".as_slice()
 }
 
-fn has_star(chunk: &[u8]) -> bool
+/// Whether a chunk has a wildcard.
+pub fn has_star(chunk: &[u8]) -> bool
     ensures { result ≡ list_any (λ b. b == 42 || b == 36) chunk.now }
 {
     chunk.iter().any(|b| *b == b'*' || *b == b'$')

@@ -10,6 +10,7 @@ ghost use Rattle.zr_match.specs.Table.{compare_chunks, texts_meet, texts_cover};
 mod chunks;
 pub mod laws;
 mod pieces;
+pub mod row;
 mod walk;
 
 use walk::compare;

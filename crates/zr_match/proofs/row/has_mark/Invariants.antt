@@ -1,0 +1,7 @@
+-- None of the marks so far is one.
+use Rattle.std.proofs.Common.{◌≡◌, drop}
+use Rattle.std.specs.List.{list_any}
+use Rattle.zr_match.proofs.row.has_mark.Given as goal
+
+abbrev pub invariant-loop-mark : goal.invariant-loop-mark
+invariant-loop-mark l = list_any (λ mark. mark) (drop l.mark-index l.marks) ≡ list_any (λ mark. mark) l.marks
