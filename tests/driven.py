@@ -21,9 +21,11 @@ Session, Ended, Reader, Sample, Answer, Told = pubsub.Session, pubsub.Ended, pub
 MOST_WAIT = 10  # seconds
 MOST_AHEAD = 128  # samples that a publisher is ahead of the slowest subscriber: a ring has twice as many slots
 SILENCE = 0.3  # seconds for which nothing comes
+PROBE_LEASE = 120  # seconds: on a busy machine a probe may be late
 PROBE = "settle/"  # the keys by which a client learns that its subscription is seen
 SPEAKS_RECORDS = bytes([0x29, 0x02])  # the extension of INIT that a router of this kind sends
 RECORD, DECLARATIONS, WEIGHTED_RECORD = 0x5A01, 0x5A02, 0x5A03  # messages between routers
+QOS = bytes([0x21, 0x0D])  # the extension of PUSH that has its quality of service: the usual priority, and the bit "don't drop"
 
 
 class Wrong(Exception):
@@ -84,11 +86,16 @@ class Router:
     def client(self, ident=None, lease=pubsub.LEASE_S):
         return Client(self.address, bytes.fromhex(ident) if ident else None, lease)
 
+    def status(self):
+        """What the system tells of the process in numbers: threads, and memory in KiB."""
+        lines = pathlib.Path(f"/proc/{self.process.pid}/status").read_text().split("\n")
+        values = (line.split(":", 1) for line in lines if ":" in line)
+        return {name: int(value.split()[0]) for name, value in values if value.split() and value.split()[0].isdigit()}
+
     def threads(self):
         """How many threads it runs, and how much memory it holds, in KiB."""
-        status = pathlib.Path(f"/proc/{self.process.pid}/status").read_text().split("\n")
-        values = dict(line.split(":", 1) for line in status if ":" in line)
-        return int(values["Threads"]), int(values["VmRSS"].split()[0])
+        status = self.status()
+        return status["Threads"], status["VmRSS"]
 
     def descriptors(self):
         return len(os.listdir(f"/proc/{self.process.pid}/fd"))
@@ -239,12 +246,31 @@ def reason(text):
     return int(text[len(head) :].split()[0]) if text.startswith(head) else text
 
 
+def sure_put(key, payload):
+    """A sample that may not be dropped."""
+    put = pubsub.put(key, payload)
+    body = 2 + len(pubsub.string(key.encode()))
+    return bytes([put[0] | pubsub.EXTENDED]) + put[1:body] + QOS + put[body:]
+
+
+def send_at_once(session, messages):
+    """Sends messages in one write, in as few frames as hold them."""
+    most = pubsub.MOST_BATCH - 1 - len(pubsub.number(pubsub.MODULUS))
+    contents = [b""]
+    for message in messages:
+        if len(contents[-1]) + len(message) > most:
+            contents.append(b"")
+        contents[-1] += message
+    frames = [bytes([pubsub.FRAME | pubsub.RELIABLE]) + pubsub.number(session.number()) + content for content in contents]
+    session.link.sendall(b"".join(len(frame).to_bytes(2, "little") + frame for frame in frames))
+
+
 def settle(*clients):
     """Waits until the router has read all that was sent by these: each hears a sample on a key of its own, which another client publishes."""
     for client in clients:
         key = f"{PROBE}{os.urandom(8).hex()}"
         subscription = client.subscribe(key)
-        probe = Session(client.link.getpeername())
+        probe = Session(client.link.getpeername(), lease=PROBE_LEASE)
         until(lambda: probe.put(key, b"") or client.hears(key), "a subscription is seen")
         probe.close()
         client.unsubscribe(subscription)
@@ -262,7 +288,7 @@ def settle_across(client, router):
     """Waits until a client's declarations so far have come to another router: what a client of that one publishes comes to it."""
     key = f"{PROBE}{os.urandom(8).hex()}"
     subscription = client.subscribe(key)
-    probe = Session(router.address)
+    probe = Session(router.address, lease=PROBE_LEASE)
     until(lambda: probe.put(key, b"") or client.hears(key), "a subscription is seen from another router")
     probe.close()
     client.unsubscribe(subscription)

@@ -1,0 +1,352 @@
+"""Cases of hostile or unlucky use that a router doesn't stand yet, by `tests/serve --known`; each says what is to hold.
+
+One that has come to pass moves to the cases of `tests/serve`. `steady_reader` is among those already.
+"""
+import contextlib
+import multiprocessing
+import os
+import resource
+import select
+import socket
+import subprocess
+import tempfile
+import threading
+import time
+
+from driven import Answer, Ended, Router, Sample, Watcher, Wrong
+from driven import MOST_WAIT, RECORD, SILENCE, answered, free_port, must, pubsub, received, send_at_once, settle, settle_across, sure_put, takes, until
+
+CHANGES, SAMPLES = 200, 40
+RECORDS, BYTES_EACH = 3_000, 2_048  # records that nobody links, and the memory that each may take
+ORPHANS, ASKED_AT_ONCE, STANDSTILL = 20_000, 200, 0.25  # queries whose asker has gone; seconds for which a router may stand still
+PACE, STEADY = 1 / 300, 15  # seconds between two samples that are read, and for which it goes on
+AHEAD = 400_000  # bytes that are published in one write
+SMALL_BUFFER = 16_384  # bytes of a socket; the system doubles it
+DRIPPED, MUTE, DRIP_PAUSE = 13, 300, 2  # seconds, connections, seconds
+LOGGED = 1_500  # sessions, whose lines are more than a pipe holds
+
+
+def restarted_without_id():
+    """A router that is started without an identifier has a fresh one each time, so that it is heard after a restart."""
+    with Router("01") as first:
+        for _ in range(2):
+            with unnamed(first) as second:
+                subscriber = second.client()
+                for _ in range(CHANGES):
+                    subscriber.unsubscribe(subscriber.subscribe("other"))
+                hears_from(subscriber, first)
+
+
+@contextlib.contextmanager
+def unnamed(dial):
+    """A router without `--id`."""
+    port = free_port()
+    words = ["serve", "--listen", f"127.0.0.1:{port}", f"127.0.0.1:{dial.port}"]
+    process = subprocess.Popen(Router.program + words, stdout=subprocess.PIPE, stderr=subprocess.PIPE, text=True)
+    try:
+        line = process.stdout.readline().split()
+        if line[:1] != ["serving"] or len(line[1]) != 32:
+            raise Wrong(f"it wrote {line!r}, and on standard error {process.stderr.read()!r}")
+        router = Router.__new__(Router)
+        router.port, router.address, router.process = port, ("127.0.0.1", port), process
+        yield router
+    finally:
+        process.kill()
+        process.wait()
+        process.stdout.close()
+        process.stderr.close()
+
+
+def hears_from(subscriber, router):
+    """All samples that a client of another router publishes."""
+    subscriber.subscribe("a")
+    settle_across(subscriber, router)
+    publisher = router.client()
+    for i in range(SAMPLES):
+        publisher.put("a", b"%d" % i)
+    must(received(subscriber, SAMPLES), [Sample("a", b"%d" % i) for i in range(SAMPLES)], "the samples from the other router")
+    publisher.close()
+
+
+def restarted_under_its_identifier():
+    """A router that comes back under its old identifier says so, for its neighbours may not hear it."""
+    with Router("01") as first:
+        with Router("02", first) as second:
+            subscriber = second.client()
+            for _ in range(CHANGES):
+                subscriber.unsubscribe(subscriber.subscribe("other"))
+            settle_across(subscriber, first)
+        with Router("02", first) as second:
+            must(bool(select.select([second.process.stderr], [], [], MOST_WAIT)[0]), True, "something is told on standard error")
+            must(second.process.stderr.readline(), "identifier 02 was in use before: start with a fresh one\n", "what is told")
+
+
+class Forger(Watcher):
+    """A session of a router that sends records of others."""
+
+    def tell(self, idents):
+        contents = [pubsub.string(ident) + pubsub.number(1) + pubsub.number(0) for ident in idents]
+        messages = [bytes([0x5F]) + pubsub.number(RECORD) + pubsub.string(content) for content in contents]
+        send_at_once(self, messages)
+
+
+def unlinked_records():
+    """A record that nobody links costs its own bytes, whatever the number of others."""
+    with Router("01") as router:
+        forger, before = Forger(router.address, "0f"), router.threads()[1]
+        forger.tell([b"\x10" + i.to_bytes(4, "big") for i in range(RECORDS)])
+        watcher, client = Watcher(router.address, "0d"), router.client()
+        until(lambda: len(watcher.links()) > RECORDS, "all records are read", 3 * MOST_WAIT)
+        began = time.monotonic()
+        answered(client, Answer(client.ask("plan")), seconds=6 * MOST_WAIT)
+        passed = time.monotonic() - began - SILENCE
+        grown = router.threads()[1] - before
+        if grown > RECORDS * BYTES_EACH // 1_024 or passed > 1:
+            raise Wrong(f"{RECORDS} records took {grown} KiB, and a query behind them {passed:.1f} s")
+
+
+def orphan_queries():
+    """Queries whose askers have gone cost others hardly anything, also once who should answer them goes."""
+    with Router("01") as router:
+        replier, subscriber, publisher = router.client(), router.client(), router.client()
+        replier.declare_queryable("held")
+        subscriber.subscribe("a")
+        settle(replier, subscriber)
+        began = time.monotonic()
+        for _ in range(ORPHANS // 4_000):
+            asker = router.client()
+            for _ in range(4_000 // ASKED_AT_ONCE):
+                ask_many(asker, ASKED_AT_ONCE)
+                for _ in range(ASKED_AT_ONCE):
+                    must(replier.receive_query(3 * MOST_WAIT) is not None, True, "a query comes")
+                for client in (subscriber, publisher):
+                    client.keep_alive()
+            asker.close()
+        passed = time.monotonic() - began
+        replier.link.close()
+        waits = [wait_of(publisher, subscriber, i) for i in range(100)]
+        if max(waits) > STANDSTILL:
+            raise Wrong(f"{ORPHANS} queries took {passed:.1f} s, and then the router stood still for {max(waits):.1f} s")
+
+
+def ask_many(asker, count):
+    numbers = range(asker.asked + 1, asker.asked + 1 + count)
+    asker.asked += count
+    send_at_once(asker, [pubsub.request(number, "held", None, pubsub.BEST_MATCHING) for number in numbers])
+
+
+def wait_of(publisher, subscriber, i):
+    """How long a sample takes, in seconds."""
+    began = time.monotonic()
+    publisher.put("a", b"%d" % i)
+    must(subscriber.receive(6 * MOST_WAIT), Sample("a", b"%d" % i), "a sample")
+    time.sleep(0.005)
+    return time.monotonic() - began - 0.005
+
+
+def out_of_memory():
+    """A router that runs out of memory says so and ends with 3, so that a supervisor starts it anew."""
+    with Router("01") as router:
+        router.client().close()
+        size = router.status()["VmData"]
+        resource.prlimit(router.process.pid, resource.RLIMIT_DATA, (size * 1_024, size * 1_024))
+        clients, end = [], time.monotonic() + MOST_WAIT
+        while router.process.poll() is None and time.monotonic() < end:
+            with contextlib.suppress(OSError, Ended):
+                clients.append(pubsub.Session(router.address, timeout=1))
+                for i in range(1, 1_000):
+                    clients[-1].send(pubsub.subscription(i, f"{i}/" + "x" * 2_000))
+                clients[-1].round_trip("y")
+        if router.process.poll() is None:
+            raise Wrong(f"out of memory it neither ended nor said a word within {MOST_WAIT} s, and serves {'on' if can_open(router) else 'nobody'}")
+        must((router.process.wait(), router.process.stderr.read()), (3, "zrd: out of memory\n"), "the end")
+
+
+def can_open(router):
+    try:
+        pubsub.Session(router.address, timeout=2).close()
+    except (OSError, Ended):
+        return False
+    return True
+
+
+def read_steadily(client, end):
+    """Reads 300 samples a second; gives their number."""
+    count, next_one = 0, time.monotonic()
+    with contextlib.suppress(Ended, OSError):
+        while time.monotonic() < end:
+            count += client.receive(0.1) is not None
+            next_one += PACE
+            time.sleep(max(0, next_one - time.monotonic()))
+    return count
+
+
+def is_closed(router, ident):
+    """Whether a client's session has ended at the router, though what was written before may still be on its way."""
+    return takes(router, ident)
+
+
+def small(router, **how):
+    """A client with a small buffer of what it has received."""
+    link = socket.socket
+    try:
+        socket.socket = lambda *words, **more: small_socket(link, *words, **more)
+        return router.client(**how)
+    finally:
+        socket.socket = link
+
+
+def small_socket(make, *words, **more):
+    out = make(*words, **more)
+    out.setsockopt(socket.SOL_SOCKET, socket.SO_RCVBUF, SMALL_BUFFER)
+    return out
+
+
+@contextlib.contextmanager
+def publishing(router, key, payload, seconds, put=sure_put):
+    """A process of its own that publishes as fast as its samples are taken."""
+    process = multiprocessing.Process(target=publish_steadily, args=(router.address, put(key, payload), seconds), daemon=True)
+    process.start()
+    try:
+        yield
+    finally:
+        process.terminate()
+        process.join()
+
+
+def publish_steadily(address, sample, seconds):
+    end = time.monotonic() + seconds
+    with contextlib.suppress(OSError, Ended):
+        publisher = pubsub.Session(address, timeout=MOST_WAIT)
+        while time.monotonic() < end:
+            send_at_once(publisher, [sample] * (AHEAD // (len(sample) + 100)))
+            time.sleep(0.01)
+
+
+def steady_reader():
+    """A client that reads 300 small samples a second isn't closed: their sender waits for it."""
+    closed = []
+    with Router("01") as router:
+        for size in (5, 1_000):
+            slow = small(router, ident="0a")
+            slow.subscribe(f"a/{size}")
+            settle(slow)
+            with publishing(router, f"a/{size}", b"." * size, STEADY):
+                count = read_steadily(slow, time.monotonic() + STEADY)
+                if is_closed(router, "0a"):
+                    closed.append(f"of {size} B after less than {count} samples")
+            slow.link.close()
+            until(lambda: takes(router, "0a"), "the identifier can come again")
+    must(closed, [], "the sessions that were closed though their clients read")
+
+
+def slow_reader_across():
+    """A client that reads 300 samples a second of another router's harms neither the link between the routers nor the others there."""
+    with Router("01") as first, Router("02", first) as second:
+        slow, other = small(second), second.client()
+        slow.subscribe("a")
+        other.subscribe("b")
+        for client in (slow, other):
+            settle_across(client, first)
+        end = time.monotonic() + STEADY
+        threading.Thread(target=read_steadily, args=(slow, end), daemon=True).start()
+        publisher, late = first.client(), [0]
+        with publishing(first, "a", b"." * 100, STEADY):
+            while time.monotonic() < end:
+                began = time.monotonic()
+                publisher.put("b", b"on")
+                if other.receive(5) is None:
+                    raise Wrong(f"no sample of another client came over the link for 5 s; {len(late) - 1} before, each within {max(late):.1f} s")
+                late.append(time.monotonic() - began)
+                time.sleep(0.05)
+        if max(late) > 1:
+            raise Wrong(f"a sample of another client took {max(late):.1f} s over the link")
+
+
+def reply_behind_samples():
+    """A client whose ring is full of samples that may be dropped isn't closed by a reply or a final: who sends them waits for it."""
+    with Router("01") as router:
+        asker, replier = small(router, ident="0a"), router.client()
+        replier.declare_queryable("plan")
+        asker.subscribe("a")
+        settle(replier, asker)
+        end, asked = time.monotonic() + STEADY, 0
+        replying = threading.Thread(target=answer_until, args=(replier, end), daemon=True)
+        replying.start()
+        with publishing(router, "a", b"." * 200, STEADY, pubsub.put):
+            while time.monotonic() < end and not is_closed(router, "0a"):
+                with contextlib.suppress(OSError, Ended):
+                    asker.ask("plan")
+                asked += 1
+                read_steadily(asker, time.monotonic() + 0.2)
+        if is_closed(router, "0a"):
+            raise Wrong(f"its session was closed after {asked} queries")
+        replying.join(MOST_WAIT)
+
+
+def answer_until(replier, end):
+    with contextlib.suppress(OSError, Ended):
+        while time.monotonic() < end:
+            query = replier.receive_query(0.2)
+            if query:
+                replier.reply(query, "plan", b"north")
+                replier.end(query)
+
+
+def dripping_connections():
+    """Connections on which no session opens give way to others after 10 s, though they send a byte now and then."""
+    with Router("01") as router:
+        mute = [socket.create_connection(router.address) for _ in range(MUTE)]
+        try:
+            end = time.monotonic() + DRIPPED
+            content = iter(bytes([200, 0]) + bytes(198))
+            while time.monotonic() < end:
+                byte = bytes([next(content)])
+                for link in mute:
+                    with contextlib.suppress(OSError):
+                        link.sendall(byte)
+                time.sleep(DRIP_PAUSE)
+            until(lambda: can_open(router), "a client's session opens", 2)
+        finally:
+            for link in mute:
+                link.close()
+
+
+def full_log():
+    """A standard error that nobody reads stops no session."""
+    with Router("01", options=["--log"]) as router:
+        for i in range(LOGGED):
+            if not can_open(router):
+                raise Wrong(f"no session opens behind {i} whose lines nobody read")
+
+
+def lost_name():
+    """A dial by a name that no server tells is given up after 3 s, and clients are served."""
+    if os.geteuid() or not Router.program[0]:
+        raise Wrong("this case wants to be root")
+    with socket.socket(socket.AF_INET, socket.SOCK_DGRAM) as silent, tempfile.NamedTemporaryFile("w") as names:
+        silent.bind(("127.83.71.1", 53))
+        names.write("nameserver 127.83.71.1\noptions timeout:10 attempts:2\n")
+        names.flush()
+        port = free_port()
+        words = [*Router.program, "serve", "--id", "01", "--listen", f"127.0.0.1:{port}", "nobody.invalid:7447"]
+        under = ["unshare", "--mount", "sh", "-c", 'mount --bind "$0" /etc/resolv.conf && exec "$@"', names.name, *words]
+        process = subprocess.Popen(under, stdout=subprocess.PIPE, stderr=subprocess.PIPE, text=True)
+        try:
+            must(process.stdout.readline(), "serving 01\n", "what is told at the start")
+            began = time.monotonic()
+            pubsub.Session(("127.0.0.1", port), timeout=4 * MOST_WAIT).close()
+            passed = time.monotonic() - began
+            if passed > 5:
+                raise Wrong(f"a client waited {passed:.1f} s while a name was looked up")
+        finally:
+            process.kill()
+            process.wait()
+            process.stdout.close()
+            process.stderr.close()
+
+
+KNOWN = [
+    *(restarted_without_id, restarted_under_its_identifier, unlinked_records, orphan_queries, out_of_memory, slow_reader_across),
+    *(reply_behind_samples, dripping_connections, full_log, lost_name),
+]
