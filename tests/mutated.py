@@ -13,7 +13,7 @@ MOST_STREAMS = 6  # of one connection: few sessions outlast more
 PROBE = 0x0F0F0F00  # the interests that tell how far a router has read
 PROBE_KEY = b"probe"
 LARGEST_NUMBER = (1 << 64) - 1
-ROUTER_INFO = bytes([0x29, 0x01])
+ROUTER_INFO = bytes([0x29, 0x02])
 TARGET = 0x24  # the extension of REQUEST
 
 TIDY_KEYS = ["a", "a/b", "*", "a/*", "**", "a/**", "**/b", "a$*/b", "x$*y", "*/**", "@v/a", "é/ü", "long/" + "x" * 200]
@@ -199,7 +199,7 @@ def other_oam(rng):
     form = rng.choice([0, 0x20, 0x40])
     flags, exts = chain(rng)
     content = {0: b"", 0x20: number(any_number(rng)), 0x40: string(payload(rng))}[form]
-    return bytes([0x1F | form | flags]) + number(rng.choice([0, 7, 0x5A03, 65_535])) + exts + content
+    return bytes([0x1F | form | flags]) + number(rng.choice([0, 7, 0x5A04, 65_535])) + exts + content
 
 
 @functools.lru_cache(maxsize=None)
@@ -216,9 +216,12 @@ def client_units(seed, group):
     return [rng.choice(makers)() for _ in range(UNITS)]
 
 
-def record(own, seq, others):
-    content = string(own) + number(seq) + number(len(others)) + b"".join(map(string, sorted(others)))
-    return bytes([0x5F]) + number(0x5A01) + string(content)
+def record(own, seq, weights):
+    """A record with the weights of its links; without weights where each is 1, as a router writes it."""
+    is_weighted = any(weight != 1 for weight in weights.values())
+    links = (string(ident) + (number(weight) if is_weighted else b"") for ident, weight in sorted(weights.items()))
+    content = string(own) + number(seq) + number(len(weights)) + b"".join(links)
+    return bytes([0x5F]) + number(0x5A03 if is_weighted else 0x5A01) + string(content)
 
 
 def changes(form, source, position, entries):
@@ -242,7 +245,8 @@ def router_units(rng, group, own):
 
     def links():
         seq[0] += rng.choice([0, 1, 5])
-        return [record(own, seq[0], {b"\1", *rng.choices([b"\2", b"\3\3", b"\4"], k=rng.randrange(3))} - {own})]
+        others = {b"\1", *rng.choices([b"\2", b"\3\3", b"\4"], k=rng.randrange(3))} - {own}
+        return [record(own, seq[0], {ident: rng.choice([1, 1, 1, 5, 300, 65_535]) for ident in others})]
 
     makers = [
         *(step, step, snap, links, links, lambda: [response(rng, group)], lambda: [final(rng)], lambda: [other_oam(rng)]),

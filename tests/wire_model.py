@@ -24,7 +24,8 @@ QOS, TIMESTAMP, NODE, TREE = 0x21, 0x42, 0x23, 0x47
 TARGET, BUDGET, TIMEOUT, RESPONDER = 0x24, 0x25, 0x26, 0x43
 SPEAKS, FRAME_INFO = 0x29, 0x21
 OF_SUBSCRIBER, OF_QUERYABLE, OF_GONE = {0x21}, {0x21}, {0x4F}
-RECORD, DECLARATIONS = 0x5A01, 0x5A02
+RECORD, DECLARATIONS, WEIGHTED_RECORD = 0x5A01, 0x5A02, 0x5A03
+SPEAKS_RECORDS = 2  # what a router of this kind says by that extension
 
 
 class Closed(Exception):
@@ -197,7 +198,7 @@ class Session:
             ids = 2
         speaks = read.extensions(header, {SPEAKS}).get(SPEAKS)
         role = packed & 3
-        if version != VERSION or role not in (ROUTER, CLIENT) or role == ROUTER and speaks != 1:
+        if version != VERSION or role not in (ROUTER, CLIENT) or role == ROUTER and speaks != SPEAKS_RECORDS:
             raise Closed(UNSUPPORTED)
         if batch < LEAST_BATCH:
             raise refused()
@@ -407,11 +408,11 @@ class Session:
         if form == 0x60:
             raise refused()
         ident = read.number(16)
-        if ident in (RECORD, DECLARATIONS):
+        if ident in (RECORD, DECLARATIONS, WEIGHTED_RECORD):
             if header != 0x5F:
                 raise refused()
             content = Bytes(read.string(32))
-            take = (self.record if ident == RECORD else self.declarations)(content)
+            take = self.declarations(content) if ident == DECLARATIONS else self.record(content, ident == WEIGHTED_RECORD)
             self.admit(not content.left())
             return take if self.is_router else None
         read.extensions(header)
@@ -421,12 +422,13 @@ class Session:
             read.string(32)
         return None
 
-    def record(self, content):
+    def record(self, content, is_weighted):
         own, last = content.identifier(), b""
         content.number()
         for _ in range(content.number(16)):
             ident = content.identifier()
             self.admit(ident > last and ident != own)
+            self.admit(not is_weighted or content.number(16) >= 1)
             last = ident
 
     def declarations(self, content):

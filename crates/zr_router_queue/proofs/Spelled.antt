@@ -39,7 +39,7 @@ use Rattle.zr_node_spec.specs.Tables.{TableState, is_router, is_to_child, leads_
 use Rattle.zr_lists.proofs.Each.{All-append}
 use Rattle.zr_lists.proofs.Numbers.{same_number}
 use Rattle.zr_node_spec.specs.State.{NodeState, tables}
-use Rattle.zr_node_spec.specs.Table.{able_kind, after, all_records, is_other_router, joined, key_of, own_record, parted, refuses, row, rows_declared, rows_left, rows_undeclared, sends, sends_down, sends_first, sends_from, sends_own, sends_parted, sends_rows, sends_up}
+use Rattle.zr_node_spec.specs.Table.{able_kind, after, all_records, is_other_router, joined, key_of, own_link, own_record, parted, refuses, row, rows_declared, rows_left, rows_undeclared, sends, sends_down, sends_first, sends_from, sends_own, sends_parted, sends_rows, sends_up}
 use Rattle.zr_node_spec.specs.Event.{on_link}
 use Rattle.zr_told_spec.specs.Hub.{Asking, HubState, asking_on, hub_refuses, hub_sends, sends_told, tells_with}
 use Rattle.zr_told_spec.specs.Rows.{answered, closing, is_again, map_on, once, others}
@@ -85,8 +85,8 @@ told_written node from b to = either (is_other_router node from to) (own_record 
 up_written : (node : NodeState) (link : ℕ) (peer : PeerState) (role : Role) (to : ℕ) → AreWritable (sends_up node link peer role to)
 up_written node link peer Client to = tt
 up_written node link peer Router to =
-    either (to == link) (all_records (joined node.base peer.id)) (sends_own node link (joined node.base peer.id) to)
-    (records_written (joined node.base peer.id).records) (told_written node link (joined node.base peer.id) to)
+    either (to == link) (all_records (joined node.base (own_link peer))) (sends_own node link (joined node.base (own_link peer)) to)
+    (records_written (joined node.base (own_link peer)).records) (told_written node link (joined node.base (own_link peer)) to)
 
 parted_written : (node : NodeState) (link : ℕ) (peer : PeerState) (role : Role) (to : ℕ) → AreWritable (sends_parted node link peer role to)
 parted_written node link peer Client to = tt

@@ -4,6 +4,7 @@ ghost use Rattle.std.specs.Prelude.{◌≡◌, ◌++◌, ◌∷◌, codes, OnOk}
 ghost use Rattle.std.specs.Fmt.{decimal};
 ghost use Rattle.std.specs.List.{flat_map};
 ghost use Rattle.zr_body.specs.Payload.{payload_of};
+ghost use Rattle.zr_msg.specs.Groups.{group_of};
 ghost use Rattle.zr_script_spec.specs.Report.{id_text, optional_id_text, payload_text, interest_text, kinds_text, key_text, if_so, target_text, sign_text, linked_text, links_text, record_text, decl_text, msg_text};
 
 use crate::part::{
@@ -17,10 +18,22 @@ use zr_id::zid::Zid;
 use zr_key::key::KeyExpr;
 use zr_msg::content::Content;
 use zr_msg::decl::Decl;
-use zr_msg::msg::{Kinds, Msg, Target};
+use zr_msg::msg::{Group, Kinds, Msg, Target};
 
 /// Appends the text of a message.
 pub fn put_msg(msg: &Msg, out: &mut Vec<u8>) -> Result<(), AllocError>
+    ensures { OnOk result (out.new.items ≡ out.old.items ++ msg_text msg.now) }
+{
+    match msg.group() {
+        Group::Declared => put_declaration(msg, out),
+        Group::Told => put_told_message(msg, out),
+        Group::Routed => put_routed(msg, out),
+        Group::Flooded => put_flooded(msg, out),
+    }
+}
+
+fn put_declaration(msg: &Msg, out: &mut Vec<u8>) -> Result<(), AllocError>
+    requires { group_of msg.now ≡ Group.Declared }
     ensures { OnOk result (out.new.items ≡ out.old.items ++ msg_text msg.now) }
 {
     match msg {
@@ -44,6 +57,15 @@ pub fn put_msg(msg: &Msg, out: &mut Vec<u8>) -> Result<(), AllocError>
             out,
         ),
         Msg::EndInterest { id } => put_under(b"uninterest ", *id, out),
+        _ => unreachable!(),
+    }
+}
+
+fn put_told_message(msg: &Msg, out: &mut Vec<u8>) -> Result<(), AllocError>
+    requires { group_of msg.now ≡ Group.Told }
+    ensures { OnOk result (out.new.items ≡ out.old.items ++ msg_text msg.now) }
+{
+    match msg {
         Msg::ToldSub { id, key, interest } => put_told(b"told sub", *id, key, *interest, out),
         Msg::ToldAble {
             id,
@@ -54,6 +76,15 @@ pub fn put_msg(msg: &Msg, out: &mut Vec<u8>) -> Result<(), AllocError>
         Msg::ToldUnsub { id } => put_under(b"told unsub ", *id, out),
         Msg::ToldUnable { id } => put_under(b"told unable ", *id, out),
         Msg::ToldEnd { interest } => put_under(b"told end ", *interest, out),
+        _ => unreachable!(),
+    }
+}
+
+fn put_routed(msg: &Msg, out: &mut Vec<u8>) -> Result<(), AllocError>
+    requires { group_of msg.now ≡ Group.Routed }
+    ensures { OnOk result (out.new.items ≡ out.old.items ++ msg_text msg.now) }
+{
+    match msg {
         Msg::Push { tree, content } => put_sample(tree, content, out),
         Msg::Request {
             tree,
@@ -63,6 +94,15 @@ pub fn put_msg(msg: &Msg, out: &mut Vec<u8>) -> Result<(), AllocError>
         } => put_request(tree, *id, *target, content, out),
         Msg::Response { id, content } => put_reply(*id, content, out),
         Msg::Final { id, .. } => put_under(b"final ", *id, out),
+        _ => unreachable!(),
+    }
+}
+
+fn put_flooded(msg: &Msg, out: &mut Vec<u8>) -> Result<(), AllocError>
+    requires { group_of msg.now ≡ Group.Flooded }
+    ensures { OnOk result (out.new.items ≡ out.old.items ++ msg_text msg.now) }
+{
+    match msg {
         Msg::State { links } => put_record(links.get(), out),
         Msg::Step {
             source,
@@ -75,6 +115,7 @@ pub fn put_msg(msg: &Msg, out: &mut Vec<u8>) -> Result<(), AllocError>
             number,
             decls,
         } => put_snapshot(source, *number, decls.as_slice(), out),
+        _ => unreachable!(),
     }
 }
 

@@ -106,7 +106,10 @@ fn out_of_range(alloc: Global, matches: &ArgMatches<'_>) -> Result<String, Alloc
     }
     for word in options.get_raw("dial").unwrap_or(&[]) {
         if !is_dial(alloc, word)? {
-            write!(told, "a DIAL is an address, or an address, a comma and a weight from 1 to 65535: {word:?} is none\n")?;
+            write!(
+                told,
+                "a DIAL is an address, or an address, a comma and a weight from 1 to 65535: {word:?} is none\n"
+            )?;
         }
     }
     if told.is_empty() {

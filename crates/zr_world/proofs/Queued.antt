@@ -100,11 +100,11 @@ module _ (links : List LinkPeer) (x : List ℕ) (tag : ℕ) where
 
   queued_nothing : (o : Option EndState) → option_map (more []) o ≡ o
   queued_nothing None = refl
-  queued_nothing (Some s) = ap (λ z. Some (record { up = s.up; unbroken = s.unbroken; queue = z; wire = s.wire })) (append-nil s.queue)
+  queued_nothing (Some s) = ap (λ z. Some (record { up = s.up; unbroken = s.unbroken; queue = z; wire = s.wire; weight = s.weight })) (append-nil s.queue)
 
   queued_more : (m : Msg) (ms : List Msg) (o : Option EndState) → option_map (more ms) (option_map (more (m ∷ [])) o) ≡ option_map (more (m ∷ ms)) o
   queued_more m ms None = refl
-  queued_more m ms (Some s) = ap (λ z. Some (record { up = s.up; unbroken = s.unbroken; queue = z; wire = s.wire }))
+  queued_more m ms (Some s) = ap (λ z. Some (record { up = s.up; unbroken = s.unbroken; queue = z; wire = s.wire; weight = s.weight }))
       (append_assoc s.queue (record { msg = m; tag = tag } ∷ []) (map (λ n. record { msg = n; tag = tag }) ms))
 
   keys_queued_on : (es : Ends) (m : LinkNo × Msg) → keys_of (queued_on links es x m.0 m.1 tag) ≡ keys_of es
@@ -167,7 +167,7 @@ queued_twice : (b : Bool) (ms ns : List Msg) (tag : ℕ) (o : Option EndState) �
     ≡ cond b (option_map (λ (z : EndState). queued z ns tag) (cond b (option_map (λ (z : EndState). queued z ms tag) o) o)) (cond b (option_map (λ (z : EndState). queued z ms tag) o) o)
 queued_twice false ms ns tag o = refl
 queued_twice true ms ns tag None = refl
-queued_twice true ms ns tag (Some s) = ap (λ (ws : List Tagged). Some (record { up = s.up; unbroken = s.unbroken; queue = ws; wire = s.wire }))
+queued_twice true ms ns tag (Some s) = ap (λ (ws : List Tagged). Some (record { up = s.up; unbroken = s.unbroken; queue = ws; wire = s.wire; weight = s.weight }))
     (ap (λ z. s.queue ++ z) (map-append (λ m. record { msg = m; tag = tag }) ms ns) ∙ sym (append_assoc s.queue (map (λ m. record { msg = m; tag = tag }) ms) (map (λ m. record { msg = m; tag = tag }) ns)))
 
 pub spread_is : (es : Ends) (x : List ℕ) (r : RouterState) (event : Event) (sent : List (LinkNo × Msg)) (tag : ℕ) → IsStrictlySortedBy end_cmp (keys_of es) →

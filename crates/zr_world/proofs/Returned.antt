@@ -33,7 +33,7 @@ back_is es q y h = by (end_of es q) refl h
     wire s found (x ∷ xs) e k =
         let is : (x, with_end es q (with_wire s xs)) ≡ y = ap last k in
         ap (back q) (sym is)
-        ∙ restored es q s (with_wire s xs) (λ t. returned t x) found (λ i. record { up = s.up; unbroken = s.unbroken; queue = s.queue; wire = sym e i })
+        ∙ restored es q s (with_wire s xs) (λ t. returned t x) found (λ i. record { up = s.up; unbroken = s.unbroken; queue = s.queue; wire = sym e i; weight = s.weight })
       where
         last : Result (Tagged × Ends) ScriptError → Tagged × Ends
         last (Ok z) = z

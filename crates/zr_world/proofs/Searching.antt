@@ -1,6 +1,6 @@
 -- A search from one router finds whoever is reached from it; and where it finds all, each is reached from each other, since links go both ways.
 use Rattle.std.proofs.Common.{◌≡◌, ℕ, ◌+◌, ◌<◌, suc, drop, get_or, drop-cons, add-one, append_assoc, Bool, true, false, cond, not, List, [], ◌∷◌, ◌++◌, length, Option, Some, None, refl, sym, ap, ◌∙◌, subst, arith}
-use Rattle.std.specs.Prelude.{◌&&◌, ◌||◌, ◌==◌, is_some, min, slice_index_or}
+use Rattle.std.specs.Prelude.{◌&&◌, ◌||◌, ◌==◌, is_some, max, min, slice_index_or}
 use Rattle.std.specs.List.{filter, list_any, list_all}
 use Rattle.std.specs.List.Sorted.{IsStrictlySortedBy}
 use Rattle.std.specs.Map.{lookup, keys_of}
@@ -13,10 +13,10 @@ use Rattle.zr_graph.specs.Record.{has}
 use Rattle.zr_tree.specs.Walk.{Graph, IsWalk, walk_length}
 use Rattle.zr_tree.specs.Tree.{dist, reached}
 use Rattle.zr_tree.specs.Laws.{IsGraph}
-use Rattle.zr_tree.proofs.Paths.{bounded, walk_leads, exact, walk_back}
+use Rattle.zr_tree.proofs.Paths.{exact, walk_back, walk_reaches}
 use Rattle.zr_lists.proofs.Finds.{any_in, in_any}
-use Rattle.zr_world_spec.specs.World.{EndState, WorldState, Ends, end_of, is_up, is_linked}
-use Rattle.zr_world_spec.specs.Joined.{graph, is_joined}
+use Rattle.zr_world_spec.specs.World.{EndState, WorldState, Ends, end_of, end_weight, is_up, is_linked}
+use Rattle.zr_world_spec.specs.Joined.{graph, is_joined, linked_weight}
 use Rattle.zr_world_spec.specs.Sound.{IsSound}
 use Rattle.zr_world_spec.proofs.Names.{names, same_name}
 use Rattle.zr_world.specs.Search.{IsSearched}
@@ -79,11 +79,22 @@ both_linked ends x y = by (is_up ends (x, y)) (is_up ends (y, x))
     by false true = refl
     by false false = refl
 
+-- the weight of a link has no direction
+weight_back : (ends : Ends) (x y : List ℕ) → linked_weight ends x y ≡ linked_weight ends y x
+weight_back ends x y = by (is_up ends (x, y)) (is_up ends (y, x))
+  where
+    by : (s t : Bool) → cond (s && t) (max (end_weight ends (x, y)) (end_weight ends (y, x))) 0 ≡ cond (t && s) (max (end_weight ends (y, x)) (end_weight ends (x, y))) 0
+    by true true = omega arith
+    by true false = refl
+    by false true = refl
+    by false false = refl
+
 pub is_graph : (w : WorldState) → IsSound w → IsStrictlySortedBy (slice_cmp nat_cmp) (keys_of w.routers) → IsGraph (graph w)
 is_graph w sound ascending = record {
   ascending = ascending;
   known = λ x y h. sym (has_key w.routers x) ∙ sound.routers x y (up_there (end_of w.ends (x, y)) (and_parts (is_up w.ends (x, y)) (is_up w.ends (y, x)) h).0);
   both_ways = λ x y h. both_linked w.ends y x ∙ h;
+  as_long = λ x y. ap (λ n. max 1 n) (weight_back w.ends x y);
 }
   where
     up_there : (o : Option EndState) → option_map_or (λ s. s.up) o false ≡ true → is_some o ≡ true
@@ -93,8 +104,8 @@ is_graph w sound ascending = record {
 -- ---- walks
 
 module _ (g : Graph) (is : IsGraph g) where
-  walk_reaches : (x : List ℕ) (path : List (List ℕ)) (z : List ℕ) → IsWalk g x path z → reached g x z ≡ true
-  walk_reaches x path z walk = ap is_some (bounded g is (walk_length g x path) x z (walk_leads g is x z path walk)).2
+  reaches_by : (x : List ℕ) (path : List (List ℕ)) (z : List ℕ) → IsWalk g x path z → reached g x z ≡ true
+  reaches_by x path z walk = ap is_some (walk_reaches g is x z path walk).2
 
   walk_of : (x z : List ℕ) → reached g x z ≡ true → (path : List (List ℕ)) × IsWalk g x path z
   walk_of x z h = by (dist g x z) refl h
@@ -108,11 +119,11 @@ module _ (g : Graph) (is : IsGraph g) where
   walk_on x (v ∷ path) y more z a b = (a.0, walk_on v path y more z a.1 b)
 
   pub reaches_itself : (x : List ℕ) → reached g x x ≡ true
-  reaches_itself x = walk_reaches x [] x refl
+  reaches_itself x = reaches_by x [] x refl
 
   -- whoever is reached reaches its neighbours
   pub reaches_on : (x y z : List ℕ) → reached g x y ≡ true → g.joined y z ≡ true → reached g x z ≡ true
-  reaches_on x y z h j = let a = walk_of x y h in walk_reaches x (a.0 ++ z ∷ []) z (walk_on x a.0 y (z ∷ []) z a.1 (j, refl))
+  reaches_on x y z h j = let a = walk_of x y h in reaches_by x (a.0 ++ z ∷ []) z (walk_on x a.0 y (z ∷ []) z a.1 (j, refl))
 
   -- two that one router reaches reach each other
   pub reaches_each : (root x y : List ℕ) → reached g root x ≡ true → reached g root y ≡ true → reached g x y ≡ true
@@ -120,7 +131,7 @@ module _ (g : Graph) (is : IsGraph g) where
       let a = walk_of root x h in
       let b = walk_of root y k in
       let back = walk_back g is root x a.0 a.1 in
-      walk_reaches x (back.0 ++ b.0) y (walk_on x back.0 root b.0 y back.1 b.1)
+      reaches_by x (back.0 ++ b.0) y (walk_on x back.0 root b.0 y back.1 b.1)
 
 -- ---- the search
 

@@ -1,4 +1,4 @@
-use Rattle.std.proofs.Common.{◌∙◌, [], Some, ap, sym}
+use Rattle.std.proofs.Common.{◌∙◌, [], Some, ap}
 use Rattle.std.specs.Prelude.{codes, unwrap_or}
 use Rattle.std.proofs.lemmas.Result.{IfOk-weaker}
 use Rattle.clap.proofs.WalkLemmas.{raw_values-rows}

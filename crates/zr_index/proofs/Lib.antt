@@ -1,0 +1,6 @@
+pub mod Weights
+pub mod Levels
+pub mod Found
+pub mod Sought
+pub mod Changing
+pub mod Taking
