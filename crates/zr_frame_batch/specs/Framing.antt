@@ -30,3 +30,7 @@ abbrev pub is_within_one : List ℕ → Bool
 is_within_one [] = true
 is_within_one (low ∷ []) = true
 is_within_one (low ∷ high ∷ bytes) = nat_le (length bytes) (low + 256 * high)
+
+-- for so many bytes memory is kept, at most, where none came of the next batch
+abbrev pub most_idle : ℕ
+most_idle = 1024

@@ -7,26 +7,28 @@ ghost use Rattle.zr_frame_batch.specs.Framing.{IsFramed, BeginsWith, lacks, is_w
 use std::alloc::{AllocError, Global};
 use std::marker::Model;
 
-/// Contracts see the bytes that came, with those of the length. They never go further than the end of the batch, and
-/// memory is taken for bytes that came alone.
+/// Contracts see the bytes that came, with those of the length. They never go further than the end of the batch. Where
+/// none came, memory for at most 1,024 is kept.
 #[derive(Drop)]
 pub struct Incoming {
     alloc: Global,
     bytes: Vec<u8>,
 }
 
-/// How many bytes are kept taken between two batches, at most.
+/// For how many bytes memory is kept between two batches, at most.
 pub const MOST_IDLE: usize = 1024;
 
 impl Model for Incoming {
     ghost use Rattle.std.specs.Prelude.{◌≡◌, List, ℕ, true};
-    ghost use Rattle.zr_frame_batch.specs.Framing.{is_within_one};
+    ghost use Rattle.std.specs.Prelude.{[], ◌≤◌};
+    ghost use Rattle.std.specs.Vec.{vec_capacity};
+    ghost use Rattle.zr_frame_batch.specs.Framing.{is_within_one, most_idle};
 
     ghost Value = { List ℕ };
 
     ghost view = { λ i. i.bytes.items };
 
-    ghost invariant = { λ i. is_within_one i.bytes.items ≡ true };
+    ghost invariant = { λ i. (is_within_one i.bytes.items ≡ true) × (i.bytes.items ≡ [] → vec_capacity i.bytes ≤ most_idle) };
 }
 
 impl Incoming {
@@ -47,6 +49,11 @@ impl Incoming {
         ensures err { OnErr result (self.new ≡ self.old) }
     {
         let (front, rest) = cut(piece, lacks(&self.bytes));
+        if front.is_empty() {
+            return Ok(rest);
+        }
+        // Apart from the copy, so that nothing is kept taken where this fails.
+        self.bytes.reserve(front.len())?;
         self.bytes.extend_from_slice(front)?;
         Ok(rest)
     }

@@ -1,5 +1,5 @@
 -- Counts of what happened outside. A count never falls, and stands still at 2 ^ 64 - 1.
-use Rattle.std.specs.Prelude.{ℕ, ◌+◌, ◌-◌, ◌^◌, ◌<◌, ◌≤◌, min}
+use Rattle.std.specs.Prelude.{◌≡◌, ℕ, ◌+◌, ◌-◌, ◌^◌, ◌<◌, ◌≤◌, min, Result, Ok, Err}
 
 -- a count rose, or stands at its end
 abbrev pub Rose : ℕ → ℕ → Type 0
@@ -16,3 +16,8 @@ pub record Counted (before now : ℕ) (Event : Type 0) : Type 0 where
   pub one : now ≤ before + 1
   pub cause : Event → Rose before now
   pub only : before < now → Event
+
+-- a count rose only where the call answers with this error
+abbrev pub RoseOnlyBy : {X E : Type 0} → E → Result X E → ℕ → ℕ → Type 0
+RoseOnlyBy fault (Ok x) before after = after ≡ before
+RoseOnlyBy fault (Err e) before after = before < after → e ≡ fault

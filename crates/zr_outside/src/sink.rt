@@ -1,6 +1,6 @@
 //! `Sink`: where bytes go, and writing all of some bytes.
 
-ghost use Rattle.std.specs.Prelude.{ℕ, ◌≤◌, ◌<◌, List, length, OnOk, OnErr};
+ghost use Rattle.std.specs.Prelude.{ℕ, ◌≡◌, ◌≤◌, ◌<◌, List, length, OnOk, OnErr};
 ghost use Rattle.std.specs.declared.option.Option.{Option};
 ghost use Rattle.zr_outside.specs.Counts.{Counted, Rose};
 ghost use Rattle.zr_outside.specs.Sink.{Writes, IsFailed};
@@ -33,11 +33,12 @@ pub trait Sink {
         ensures failed { Counted (faults self.old) (faults self.new) (IsFailed result) };
 }
 
-/// Writes all of some bytes, in as many writes as it takes. After a fault a prefix of them was written.
+/// Writes all of some bytes, in as many writes as it takes. The first fault ends it, and then a prefix of them was written.
 pub fn write_all<K: Sink>(out: &mut K, text: &[u8]) -> Result<(), WriteFailed>
     ensures ok { OnOk result (Appends text.now (K.held out.old) (K.held out.new)) }
     ensures err { OnErr result (AppendsPrefix text.now (K.held out.old) (K.held out.new)) }
     ensures cause { OnErr result (Rose (K.faults out.old) (K.faults out.new)) }
+    ensures quiet { OnOk result (K.faults out.new ≡ K.faults out.old) }
     ensures later { K.faults out.old ≤ K.faults out.new }
 {
     let mut at = 0;

@@ -1,0 +1,27 @@
+-- Counts of faults over one call, and over several calls one after another.
+use Rattle.std.proofs.Common.{◌≡◌, ◌∙◌, ℕ, ◌<◌, ltb, arith, Bool, true, false, Result, Ok, Err, refl, sym, subst}
+use Rattle.std.specs.Result.{IsErrAnd}
+use Rattle.std.proofs.lemmas.Bool.{ltb-true, ltb-false}
+use Rattle.zr_outside.specs.Counts.{Counted, RoseOnlyBy}
+
+-- a count whose event didn't come stands as it was
+pub counted_same : (a b : ℕ) (E : Type 0) → Counted a b E → (E → ⊥) → b ≡ a
+counted_same a b E h never = by (ltb a b) refl
+  where
+    by : (t : Bool) → ltb a b ≡ t → b ≡ a
+    by true e = absurd (never (h.only (ltb-true a b e)))
+    by false e = let k = ltb-false a b e in let l = h.later in omega (arith, k, l)
+
+-- the calls before had no fault
+pub only_behind : {X E : Type 0} (fault : E) (r : Result X E) (a b c : ℕ) → b ≡ a → RoseOnlyBy fault r b c → RoseOnlyBy fault r a c
+only_behind fault r a b c same h = subst (λ (z : ℕ). RoseOnlyBy fault r z c) same h
+
+-- the same where the error of the call is handed on
+pub only_stopped : {Y E : Type 0} (fault : E) (r : Result Y E) (e : E) (a b c : ℕ) → IsErrAnd r (λ x. x ≡ e) → b ≡ a → (b < c → e ≡ fault) → RoseOnlyBy fault r a c
+only_stopped fault (Ok y) e a b c is same h = absurd is
+only_stopped fault (Err x) e a b c is same h = λ rose. is ∙ h (subst (λ (z : ℕ). z < c) (sym same) rose)
+
+-- no count rose, however the call ends
+pub only_still : {X E : Type 0} (fault : E) (r : Result X E) (a b : ℕ) → b ≡ a → RoseOnlyBy fault r a b
+only_still fault (Ok x) a b same = same
+only_still fault (Err e) a b same = λ rose. absurd (omega (arith, same, rose))
