@@ -1,10 +1,12 @@
 """A running router and its clients over real sockets, and what was seen of them. `tests/serve` has the cases."""
 import contextlib
+import datetime
 import importlib.machinery
 import importlib.util
 import itertools
 import os
 import pathlib
+import re
 import socket
 import subprocess
 import sys
@@ -19,6 +21,7 @@ loader.exec_module(pubsub)
 Session, Ended, Reader, Sample, Answer, Told = pubsub.Session, pubsub.Ended, pubsub.Reader, pubsub.Sample, pubsub.Answer, pubsub.Told
 
 MOST_WAIT = 10  # seconds
+MOST_LATE = 60  # seconds between a line of the log and its reading
 MOST_AHEAD = 128  # samples that a publisher is ahead of the slowest subscriber: a ring has twice as many slots
 SILENCE = 0.3  # seconds for which nothing comes
 PROBE_LEASE = 120  # seconds: on a busy machine a probe may be late
@@ -26,6 +29,9 @@ PROBE = "settle/"  # the keys by which a client learns that its subscription is 
 SPEAKS_RECORDS = bytes([0x29, 0x02])  # the extension of INIT that a router of this kind sends
 RECORD, DECLARATIONS, WEIGHTED_RECORD = 0x5A01, 0x5A02, 0x5A03  # messages between routers
 QOS = bytes([0x21, 0x0D])  # the extension of PUSH that has its quality of service: the usual priority, and the bit "don't drop"
+
+
+LOGGED = re.compile(r"(\d{4}-\d\d-\d\dT\d\d:\d\d:\d\d\.\d{3}Z) (info|warn) (.+)\n")
 
 
 class Wrong(Exception):
@@ -58,11 +64,11 @@ class Router:
     program = []
 
     def __init__(self, ident, *dials, weights=(), options=(), port=None, rules=None):
-        self.ident = ident
         self.port = port or free_port()
         self.address = ("127.0.0.1", self.port)
-        words = ["serve", "--id", ident, "--listen", f"127.0.0.1:{self.port}", *options, *(["--rules"] if rules else [])]
-        dialled = [f"127.0.0.1:{d.port if isinstance(d, Router) else d}" for d in dials]
+        named = ["--id", ident] if ident else []
+        words = ["serve", *named, "--listen", f"127.0.0.1:{self.port}", *options, *(["--rules"] if rules else [])]
+        dialled = [d if isinstance(d, str) else f"127.0.0.1:{d.port if isinstance(d, Router) else d}" for d in dials]
         words += [f"{it},{weight}" if weight else it for it, weight in itertools.zip_longest(dialled, weights)]
         given = subprocess.PIPE if rules else subprocess.DEVNULL
         self.process = subprocess.Popen(self.program + words, stdin=given, stdout=subprocess.PIPE, stderr=subprocess.PIPE, text=True)
@@ -70,9 +76,11 @@ class Router:
             self.process.stdin.write(rules)
             self.process.stdin.close()
         line = self.process.stdout.readline()
-        if line != f"serving {ident}\n":
+        found = re.fullmatch(r"serving ((?:[0-9a-f]{2}){1,16})\n", line)
+        if not found or ident not in (None, found[1]):
             self.process.kill()
             raise Wrong(f"the router wrote {line!r}, not 'serving {ident}'; on standard error: {self.process.stderr.read()!r}")
+        self.ident = found[1]
 
     def __enter__(self):
         return self
@@ -96,6 +104,16 @@ class Router:
         """How many threads it runs, and how much memory it holds, in KiB."""
         status = self.status()
         return status["Threads"], status["VmRSS"]
+
+    def logged(self):
+        """The next line of the log, without its time: the severity and the text."""
+        line = self.process.stderr.readline()
+        if not (found := LOGGED.fullmatch(line)):
+            raise Wrong(f"{line!r} is no line of the log")
+        told = datetime.datetime.strptime(found[1], "%Y-%m-%dT%H:%M:%S.%f%z").timestamp()
+        if abs(time.time() - told) > MOST_LATE:
+            raise Wrong(f"the log tells {found[1]}, not the time of now")
+        return found[2], found[3]
 
     def descriptors(self):
         return len(os.listdir(f"/proc/{self.process.pid}/fd"))

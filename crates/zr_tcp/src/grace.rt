@@ -1,7 +1,7 @@
 //! The grace period of a stream.
 
 use crate::clock::SystemClock;
-use crate::shared::Shared;
+use crate::place::Place;
 use std::sync::Arc;
 use zr_outside::clock::Clock;
 
@@ -11,16 +11,16 @@ const GRACE_MS: u64 = 10_000;
 /// For how long a stream is still written, from the first write behind the end of its reading end.
 #[derive(Drop)]
 pub(crate) struct Grace<R: std::time::Clock + Drop> {
-    shared: Arc<Shared>,
+    place: Arc<Place>,
     clock: SystemClock<R>,
     began: Option<u64>,
 }
 
 impl<R: std::time::Clock + Drop> Grace<R> {
     /// The grace period of a stream, by this clock.
-    pub(crate) fn new(shared: Arc<Shared>, clock: SystemClock<R>) -> Grace<R> {
+    pub(crate) fn new(place: Arc<Place>, clock: SystemClock<R>) -> Grace<R> {
         Grace {
-            shared,
+            place,
             clock,
             began: None,
         }
@@ -28,7 +28,7 @@ impl<R: std::time::Clock + Drop> Grace<R> {
 
     /// Whether the reading end is gone.
     pub(crate) fn is_due(&self) -> bool {
-        self.shared.is_unread()
+        self.place.is_unread()
     }
 
     /// Whether the period is over. Where the system tells no time it never is.

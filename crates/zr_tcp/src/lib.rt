@@ -2,11 +2,16 @@
 //! counted.
 #![tactic(auto)]
 
+mod address;
 mod clock;
+mod door;
 mod grace;
 mod host;
+mod line;
 mod log;
-mod shared;
+mod place;
+mod queue;
+mod reason;
 mod stream;
 
 pub use clock::SystemClock;

@@ -2,45 +2,72 @@
 
 ghost use Rattle.std.specs.Prelude.{None};
 
+use crate::line::{Severity, stamped};
+use crate::queue::LogQueue;
 use std::alloc::{AllocError, Global};
-use std::io::{Stderr, Write};
 use std::net::SocketAddr;
+use std::sync::{Arc, Wait};
+use std::time::Clock;
 use zr_outside::log::Log;
 
-/// Tells lines on the error output, each behind the address of the link's peer. A line is one write, so those of other threads don't come between.
+/// What the lines of a link that was given up contain.
+const GIVEN_UP: [&str; 5] = [
+    "closed here, ",
+    " failed",
+    "refused ",
+    "out of memory",
+    "no thread could be started",
+];
+
+/// Tells lines on the error output, each behind the time, a severity and the address of the link's peer. Telling one never waits for who reads them.
 #[derive(Drop)]
-pub struct ErrorLog {
+pub struct ErrorLog<R: Wait + Clock + Drop> {
+    rt: R,
     alloc: Global,
-    err: Stderr,
+    queue: Option<Arc<LogQueue>>,
     address: Option<SocketAddr>,
 }
 
-impl ErrorLog {
+impl<R: Wait + Clock + Drop> ErrorLog<R> {
     /// The log of a link to this address; none where the system doesn't tell it.
-    pub fn new(alloc: Global, err: Stderr, address: Option<SocketAddr>) -> ErrorLog {
+    pub(crate) fn new(
+        rt: R,
+        alloc: Global,
+        queue: &Arc<LogQueue>,
+        address: Option<SocketAddr>,
+    ) -> ErrorLog<R> {
         ErrorLog {
+            rt,
             alloc,
-            err,
+            queue: Arc::try_clone(queue).ok(),
             address,
         }
     }
 
     fn addressed(&self, line: &str) -> Result<String, AllocError> {
-        match self.address {
-            Some(address) => format!(in self.alloc; "link {address}: {line}"),
-            None => format!(in self.alloc; "link: {line}"),
+        let text = match self.address {
+            Some(address) => format!(in self.alloc; "link {address}: {line}")?,
+            None => format!(in self.alloc; "link: {line}")?,
+        };
+        stamped(&self.rt, self.alloc, severity(line), text.as_str())
+    }
+}
+
+impl<R: Wait + Clock + Drop> Log for ErrorLog<R> {
+    ghost held = { λ _. None };
+
+    fn tell(&mut self, line: &str) {
+        let text = self.addressed(line).ok();
+        if let Some(queue) = &self.queue {
+            queue.put(&self.rt, text);
         }
     }
 }
 
-impl Log for ErrorLog {
-    ghost held = { λ _. None };
-
-    fn tell(&mut self, line: &str) {
-        let Ok(text) = self.addressed(line) else {
-            return;
-        };
-        // where nobody reads the error output, nobody is to be told
-        let _ = self.err.write_all(text.as_bytes());
+fn severity(line: &str) -> Severity {
+    if GIVEN_UP.iter().any(|words| line.contains(*words)) {
+        Severity::Warn
+    } else {
+        Severity::Info
     }
 }

@@ -4,9 +4,8 @@ ghost use Rattle.std.specs.Prelude.{◌≡◌, ◌≤◌, None, length};
 
 use crate::clock::SystemClock;
 use crate::grace::Grace;
-use crate::shared::Shared;
-use std::alloc::Global;
-use std::io;
+use crate::place::Place;
+use crate::reason::Reason;
 use std::io::{ErrorKind, Read, Write};
 use std::net::{Shutdown, SocketAddr, TcpStream};
 use std::sync::Arc;
@@ -23,10 +22,13 @@ const MOST_WRITE_S: u64 = 10;
 /// How often a write that a signal broke off is tried.
 const MOST_TRIES: u32 = 16;
 
+/// How many writes a session takes to open: one for each answer to its peer. A peer that sends less than both messages is written less.
+const WRITES_TO_OPEN: u32 = 2;
+
 /// The reading end of a stream. Once it is dropped the writing end has its grace period left.
 pub struct TcpSource {
     stream: TcpStream,
-    shared: Arc<Shared>,
+    place: Arc<Place>,
     reads: u64,
     faults: u64,
     quiets: u64,
@@ -36,26 +38,28 @@ pub struct TcpSource {
 /// The writing end of a stream. As it is dropped the peer reads the end, behind all that was written; where a write has failed, the reading end reads it too.
 pub struct TcpSink<R: Clock + Drop> {
     stream: TcpStream,
+    place: Arc<Place>,
     grace: Grace<R>,
+    writes: u32,
     faults: u64,
 }
 
 /// Both ends of a stream, each with a descriptor of its own.
 pub(crate) fn ends_of<R: Clock + Drop>(
-    alloc: Global,
     clock: SystemClock<R>,
     stream: TcpStream,
-    shared: Shared,
-) -> io::Result<(TcpSource, TcpSink<R>)> {
+    place: &Arc<Place>,
+) -> Result<(TcpSource, TcpSink<R>), Reason> {
     stream.set_nodelay(true)?;
     stream.set_read_timeout(Some(Duration::from_millis(QUIET_MS)))?;
     stream.set_write_timeout(Some(Duration::from_secs(MOST_WRITE_S)))?;
     let other = stream.try_clone()?;
-    let shared = Arc::new(alloc, shared)?;
-    let theirs = Arc::try_clone(&shared)?;
+    let read = Arc::try_clone(place)?;
+    let written = Arc::try_clone(place)?;
+    let graced = Arc::try_clone(place)?;
     let source = TcpSource {
         stream,
-        shared,
+        place: read,
         reads: 0,
         faults: 0,
         quiets: 0,
@@ -63,7 +67,9 @@ pub(crate) fn ends_of<R: Clock + Drop>(
     };
     let sink = TcpSink {
         stream: other,
-        grace: Grace::new(theirs, clock),
+        place: written,
+        grace: Grace::new(graced, clock),
+        writes: 0,
         faults: 0,
     };
     Ok((source, sink))
@@ -76,17 +82,28 @@ impl TcpSource {
     }
 }
 
+impl<R: Clock + Drop> TcpSink<R> {
+    fn count_write(&mut self)
+        ensures { self.new.faults ≡ self.old.faults }
+    {
+        self.writes = self.writes.saturating_add(1);
+        if self.writes == WRITES_TO_OPEN {
+            self.place.open();
+        }
+    }
+}
+
 impl Drop for TcpSource {
     fn drop(self) {
         let TcpSource {
             stream: _,
-            shared,
+            place,
             reads: _,
             faults: _,
             quiets: _,
             ends: _,
         } = self;
-        shared.end_reading();
+        place.end_reading();
     }
 }
 
@@ -94,7 +111,9 @@ impl<R: Clock + Drop> Drop for TcpSink<R> {
     fn drop(self) {
         let TcpSink {
             stream,
+            place,
             grace: _,
+            writes: _,
             faults,
         } = self;
         // a link to which nothing can be written is to go down, though its peer may still send
@@ -105,6 +124,7 @@ impl<R: Clock + Drop> Drop for TcpSink<R> {
         };
         // where the peer has gone there is nobody to be told
         let _ = stream.shutdown(how);
+        place.end_writing();
     }
 }
 
@@ -121,6 +141,10 @@ impl Source for TcpSource {
 
     fn read(&mut self, into: &mut [u8]) -> Got {
         self.reads = self.reads.saturating_add(1);
+        if self.place.gives_way() {
+            self.ends = self.ends.saturating_add(1);
+            return Got::End;
+        }
         match self.stream.read(into) {
             Ok(0) => {
                 self.ends = self.ends.saturating_add(1);
@@ -152,7 +176,10 @@ impl<R: Clock + Drop> Sink for TcpSink<R> {
                 self.faults = self.faults.saturating_add(1);
                 Put::Failed
             }
-            count => Put::Took(count),
+            count => {
+                self.count_write();
+                Put::Took(count)
+            }
         }
     }
 }

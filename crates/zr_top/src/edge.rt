@@ -13,6 +13,9 @@ use zr_netrun::status::Status;
 use zr_outside::sink::{Sink, write_all};
 use zr_top_words::wrong::what_is_wrong;
 
+/// Where the command stands among the words, behind the program's name.
+const COMMAND_AT: usize = 1;
+
 /// All words that come, in order.
 pub fn collect_words<I: Iterator<Item = String>>(
     alloc: Global,
@@ -30,6 +33,46 @@ pub fn without_name(words: &[String]) -> &[String]
     ensures { result.now ≡ drop 1 words.now }
 {
     words.get(1..).unwrap_or(&[])
+}
+
+/// Whether the words, with the program's name, ask for a router that is served.
+pub fn is_serve(words: &[String]) -> bool {
+    match words.get(COMMAND_AT) {
+        Some(command) => command.as_str() == "serve",
+        None => false,
+    }
+}
+
+/// Whether an option stands among the words. Behind `--` none does.
+pub fn has_option(words: &[String], option: &str) -> bool {
+    words
+        .iter()
+        .take_while(|word| word.as_str() != "--")
+        .any(|word| is_option(word.as_str(), option))
+}
+
+fn is_option(word: &str, option: &str) -> bool {
+    match word.strip_prefix(option) {
+        Some(rest) => rest.is_empty() || rest.starts_with('='),
+        None => false,
+    }
+}
+
+/// The words with these bytes as identifier behind the command. The last byte is made odd, as Zenoh knows no identifier with zeros at its end.
+pub fn with_identifier(
+    alloc: Global,
+    mut words: Vec<String>,
+    random: [u8; 16],
+) -> Result<Vec<String>, AllocError> {
+    let mut bytes = random;
+    bytes[15] |= 1;
+    let id = hex::encode(alloc, &bytes)?;
+    let option = String::from_str(alloc, "--id")?;
+    if words.len() > COMMAND_AT {
+        words.insert(COMMAND_AT + 1, id)?;
+        words.insert(COMMAND_AT + 1, option)?;
+    }
+    Ok(words)
 }
 
 /// Tells behind the usage line what is wrong with the words, a line for each fault: they stand with the program's name, and where there are none one was

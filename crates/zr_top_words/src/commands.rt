@@ -53,7 +53,7 @@ fn serve<'a>(alloc: Global) -> Result<Command<'a>, AllocError>
             alloc,
             "id",
             "ID",
-            "The router's identifier: 2 to 32 lower-case hexadecimal digits, an even number, not all 0",
+            "The router's identifier: 2 to 32 lower-case hexadecimal digits, an even number, not all 0; random where it is left out",
         ))?
         .arg(wanted(
             alloc,

@@ -1,0 +1,259 @@
+//! Where links come from over TCP: a listener, dials, and the streams that are open.
+
+use crate::address::Resolver;
+use crate::clock::SystemClock;
+use crate::line::{Severity, stamped};
+use crate::log::ErrorLog;
+use crate::place::Places;
+use crate::queue::LogQueue;
+use crate::reason::Reason;
+use crate::stream::{TcpSink, TcpSource, ends_of};
+use std::alloc::{AllocError, Global};
+use std::io::{ErrorKind, Stderr, Write};
+use std::net::{Net, TcpListener, TcpStream};
+use std::sync::{Arc, Wait};
+use std::thread::Threads;
+use std::time::Duration;
+use std::{io, thread, time};
+use zr_outside::clock::Clock;
+
+/// How long accepting rests where the system lacks descriptors, memory or a network.
+const LACK_MS: u64 = 100;
+
+/// How long a dial waits for each address to answer. Nothing is accepted meanwhile, so it is well below the lease with which peers give up.
+const MOST_DIAL_S: u64 = 3;
+
+/// How long it is quiet behind a line that tells of connections that were closed at once.
+const QUIET_MS: u64 = 1_000;
+
+/// The codes of Linux for an accept that failed for a while, though the listener is sound (accept(2)): EPERM, ENOMEM, ENFILE, EMFILE, ENONET,
+/// EPROTO, ENOPROTOOPT, EOPNOTSUPP, ENETDOWN, ENETUNREACH, ENOBUFS, EHOSTDOWN, EHOSTUNREACH.
+const LACKING: [i32; 13] = [1, 12, 23, 24, 64, 71, 92, 95, 100, 101, 105, 112, 113];
+
+/// A listener and the streams that are open, at most so many at a time: what is one too many is closed at once, unless one on which no session opens gives
+/// way to it. It tells on the error output why it can't listen, and what it closes.
+#[derive(Drop)]
+pub(crate) struct Door<
+    R: Net<Listener = TcpListener, Stream = TcpStream> + Wait + time::Clock + Drop,
+> {
+    rt: R,
+    alloc: Global,
+    err: Stderr,
+    has_log: bool,
+    listener: Option<TcpListener>,
+    places: Places,
+    queue: Arc<LogQueue>,
+    resolver: Arc<Resolver>,
+    clock: SystemClock<R>,
+    closed: u64,
+    quiet_until: u64,
+}
+
+/// What an accept came to.
+pub(crate) enum Came<R: time::Clock + Drop> {
+    Link(TcpSource, TcpSink<R>),
+    Nothing,
+    Fault,
+}
+
+impl<
+    R: Net<Listener = TcpListener, Stream = TcpStream>
+        + Threads
+        + Wait
+        + time::Clock
+        + Copy
+        + Send
+        + Drop
+        + 'static,
+> Door<R> {
+    /// Starts the threads that write its lines and resolve names.
+    pub(crate) fn start(&self) {
+        LogQueue::start(self.rt, self.alloc, &self.queue, self.err);
+        Resolver::start(self.rt, self.alloc, &self.resolver);
+    }
+}
+
+impl<R: Net<Listener = TcpListener, Stream = TcpStream> + Wait + time::Clock + Copy + Drop> Door<
+    R,
+> {
+    /// It doesn't listen yet.
+    pub(crate) fn new(
+        rt: R,
+        alloc: Global,
+        err: Stderr,
+        has_log: bool,
+    ) -> Result<Door<R>, AllocError> {
+        Ok(Door {
+            rt,
+            alloc,
+            err,
+            has_log,
+            listener: None,
+            places: Places::new(alloc),
+            queue: LogQueue::new(alloc)?,
+            resolver: Resolver::new(alloc)?,
+            clock: SystemClock::new(rt),
+            closed: 0,
+            quiet_until: 0,
+        })
+    }
+
+    /// Begins to listen; false where it can't, which it tells.
+    pub(crate) fn listen(&mut self, address: &str) -> bool {
+        match self.listening(address) {
+            Ok(listener) => {
+                if self.has_log {
+                    self.tell_listening(&listener);
+                }
+                self.listener = Some(listener);
+                true
+            }
+            Err(reason) => {
+                self.tell_unheard(address, reason);
+                false
+            }
+        }
+    }
+
+    /// A link to an address; none where that can't be, which it tells the log.
+    pub(crate) fn dial(&mut self, address: &str) -> Option<(TcpSource, TcpSink<R>)> {
+        match self.connected(address) {
+            Ok((source, sink)) => Some((source, sink)),
+            Err(reason) => {
+                if self.has_log {
+                    self.tell_undialled(address, reason);
+                }
+                None
+            }
+        }
+    }
+
+    /// The log of a link.
+    pub(crate) fn log(&self, alloc: Global, link: &TcpSource) -> ErrorLog<R> {
+        ErrorLog::new(self.rt, alloc, &self.queue, link.peer())
+    }
+
+    fn listening(&self, address: &str) -> Result<TcpListener, Reason> {
+        let found = self.resolver.addresses(&self.rt, self.alloc, address)?;
+        Ok(TcpListener::bind(&self.rt, found.as_slice())?)
+    }
+
+    /// What the next accept comes to.
+    pub(crate) fn next(&mut self) -> Came<R> {
+        let Some(listener) = &self.listener else {
+            return Came::Fault;
+        };
+        match listener.accept() {
+            // a peer that went at once, one too many, or a system out of descriptors or memory, is no fault of the listener
+            Ok((stream, _)) => match self.ends(stream) {
+                Ok((source, sink)) => Came::Link(source, sink),
+                Err(reason) => {
+                    self.tell_closed(reason);
+                    Came::Nothing
+                }
+            },
+            Err(e) => self.lost(&e),
+        }
+    }
+
+    // What an accept that failed comes to.
+    fn lost(&self, e: &io::Error) -> Came<R> {
+        match e.kind() {
+            ErrorKind::Interrupted
+            | ErrorKind::WouldBlock
+            | ErrorKind::ConnectionAborted
+            | ErrorKind::ConnectionReset => Came::Nothing,
+            _ if is_lack(e) => {
+                thread::sleep(&self.rt, Duration::from_millis(LACK_MS));
+                Came::Nothing
+            }
+            _ => Came::Fault,
+        }
+    }
+
+    // Both ends of a stream, if there may be one more.
+    fn ends(&mut self, stream: TcpStream) -> Result<(TcpSource, TcpSink<R>), Reason> {
+        let place = self.places.take(self.alloc, self.clock.now())?;
+        match ends_of(SystemClock::new(self.rt), stream, &place) {
+            Ok(ends) => Ok(ends),
+            Err(reason) => {
+                place.end_reading();
+                place.end_writing();
+                Err(reason)
+            }
+        }
+    }
+
+    fn connected(&mut self, address: &str) -> Result<(TcpSource, TcpSink<R>), Reason> {
+        match self.stream_to(address) {
+            Ok(stream) => self.ends(stream),
+            Err(reason) => Err(reason),
+        }
+    }
+
+    // Tries each address for which the text stands.
+    fn stream_to(&self, address: &str) -> Result<TcpStream, Reason> {
+        let most = Duration::from_secs(MOST_DIAL_S);
+        let mut last = Reason::NoSuchHost;
+        for address in self.resolver.addresses(&self.rt, self.alloc, address)? {
+            match TcpStream::connect_timeout(&self.rt, &address, most) {
+                Ok(stream) => return Ok(stream),
+                Err(e) => last = Reason::from(e),
+            }
+        }
+        Err(last)
+    }
+
+    // Tells at once why it can't listen at an address: the router ends.
+    fn tell_unheard(&self, address: &str, reason: Reason) {
+        let why = reason.text();
+        if let Ok(line) = format!(in self.alloc; "listen {address}: {why}\n") {
+            let mut err = self.err;
+            // where nobody reads the error output, nobody is to be told
+            let _ = err.write_all(line.as_bytes());
+        }
+    }
+
+    // Tells the log why an address can't be dialled: the router goes on.
+    fn tell_undialled(&self, address: &str, reason: Reason) {
+        let why = reason.text();
+        if let Ok(text) = format!(in self.alloc; "dial {address}: {why}\n") {
+            self.put(Severity::Warn, text.as_str());
+        }
+    }
+
+    fn tell_listening(&self, listener: &TcpListener) {
+        if let Ok(address) = listener.local_addr() {
+            if let Ok(text) = format!(in self.alloc; "listening on {address}\n") {
+                self.put(Severity::Info, text.as_str());
+            }
+        }
+    }
+
+    // Tells of connections that were closed at once, a line a second at most.
+    fn tell_closed(&mut self, reason: Reason) {
+        self.closed = self.closed.saturating_add(1);
+        let now = self.clock.now();
+        if now < self.quiet_until {
+            return;
+        }
+        let (count, why) = (self.closed, reason.text());
+        if let Ok(text) = format!(in self.alloc; "connections closed at once: {count}, {why}\n") {
+            self.put(Severity::Warn, text.as_str());
+        }
+        self.closed = 0;
+        self.quiet_until = now.saturating_add(QUIET_MS);
+    }
+
+    fn put(&self, severity: Severity, text: &str) {
+        let line = stamped(&self.rt, self.alloc, severity, text).ok();
+        self.queue.put(&self.rt, line);
+    }
+}
+
+fn is_lack(e: &io::Error) -> bool {
+    match e.raw_os_error() {
+        Some(code) => LACKING.contains(&code),
+        None => false,
+    }
+}
