@@ -3,14 +3,14 @@ use Rattle.std.proofs.Common.{◌≡◌, ℕ, ◌+◌, ◌≤◌, Bool, true, fa
 use Rattle.std.specs.List.{sum_by, list_any, position, position_or_len}
 use Rattle.std.specs.Str.{bytes_eq}
 use Rattle.std.specs.Cmp.Lexicographic.{pointwise}
-use Rattle.std.proofs.lemmas.Bool.{or_parts, false≢true}
+use Rattle.std.proofs.lemmas.Bool.{or_parts}
 use Rattle.std.proofs.lemmas.Bool.Decides.{nat_tests}
 use Rattle.std.proofs.lemmas.List.Elements.{All-from_get_or}
 use Rattle.std.proofs.lemmas.List.Folds.{list_any_none}
 use Rattle.std.proofs.lemmas.List.Sums.{sum_by-cons, sum_by_push, fails_before_first}
 use Rattle.zr_key.proofs.Spelling.{same_bytes}
 use Rattle.zr_key.specs.Key.{is_plain_text}
-use Rattle.zr_index.specs.Pairs.{Pairs, pairs, AreSame, weigh_below, is_of, one, TakesValue, TakesBelow}
+use Rattle.zr_index.specs.Pairs.{pairs, weigh_below, is_of, one}
 use Rattle.zr_index.specs.declared.node.Node.{Node}
 use Rattle.zr_index.specs.declared.node.Node.TheOpen.{Node-F}
 use Rattle.zr_index.proofs.Levels.{guarded, level}

@@ -1,6 +1,6 @@
 -- What a walk finds, level by level, and that it finds nothing below a row without a mark.
-use Rattle.std.proofs.Common.{◌≡◌, ℕ, suc, zero, ◌+◌, ◌≤◌, Bool, true, false, cond, ◌&&◌, ◌||◌, not, List, [], ◌∷◌, ◌++◌, map, refl, sym, ap, ◌∙◌, arith, length, reverse, take, drop, get_or}
-use Rattle.std.specs.List.{list_any, flat_map}
+use Rattle.std.proofs.Common.{◌≡◌, ℕ, suc, zero, ◌+◌, ◌≤◌, Bool, true, false, cond, ◌&&◌, ◌||◌, List, [], ◌∷◌, ◌++◌, map, refl, sym, ap, ◌∙◌, arith, length, reverse, take, drop, get_or}
+use Rattle.std.specs.List.{list_any}
 use Rattle.std.specs.Ordering.{is_eq}
 use Rattle.std.specs.declared.cmp.Ordering.{Ordering}
 use Rattle.std.proofs.lemmas.List.Folds.{list_any-append}
@@ -8,10 +8,9 @@ use Rattle.std.proofs.lemmas.Bool.{or_parts}
 use Rattle.std.proofs.lemmas.List.{reverse-append}
 use Rattle.zr_key.specs.Expression.{Chunk}
 use Rattle.zr_key.specs.Key.{chunks, chunk_of, expression_of}
-use Rattle.zr_match.specs.Table.{Signs, place, next_row, table, chunk_signs, compare_chunks, IsRow}
+use Rattle.zr_match.specs.Table.{Signs, place, next_row, table, chunk_signs, IsRow}
 use Rattle.zr_match.proofs.Rows.{reverse_next, drop_next, length_suc}
 use Rattle.zr_index.specs.declared.node.Node.{Node}
-use Rattle.zr_index.specs.declared.node.Node.TheOpen.{Node-F}
 use Rattle.zr_index.specs.declared.node.Node.TheViews.{out-Node}
 use Rattle.zr_index.specs.declared.node.Node.TheFolds.{fold_out-Node}
 use Rattle.zr_index.specs.Meeting.{meets_key}

@@ -1,6 +1,6 @@
 -- What a tree of chunks holds, level by level.
 use Rattle.std.proofs.Common.{◌≡◌, ℕ, ◌+◌, Bool, true, false, cond, List, [], ◌∷◌, ◌++◌, map, refl, sym, ap, ◌∙◌, arith}
-use Rattle.std.specs.List.{sum_by, flat_map}
+use Rattle.std.specs.List.{sum_by}
 use Rattle.std.proofs.lemmas.List.Sums.{sum_by-cons, sum_by-append}
 use Rattle.zr_index.specs.Pairs.{Pairs, pairs, pairs_step, behind, below, is_of, weigh_below}
 use Rattle.zr_index.specs.declared.node.Node.{Node}

@@ -1,5 +1,5 @@
 -- Where the marked chunks of a key are plain and it has no `**`, of the plain chunks of a tree only those need a visit.
-use Rattle.std.proofs.Common.{◌≡◌, ℕ, ◌+◌, ◌==◌, Bool, true, false, cond, ◌&&◌, ◌||◌, not, List, [], ◌∷◌, Option, Some, None, map, refl, sym, ap, ◌∙◌, get_or, nat_eq}
+use Rattle.std.proofs.Common.{◌≡◌, ℕ, ◌+◌, ◌==◌, Bool, true, false, cond, ◌&&◌, ◌||◌, not, List, [], ◌∷◌, Some, None, refl, sym, ap, ◌∙◌, get_or, nat_eq}
 use Rattle.std.specs.declared.cmp.Ordering.{Ordering}
 use Rattle.std.specs.declared.cmp.Ordering.TheVariants.{Less, Equal, Greater}
 use Rattle.std.specs.Cmp.{IsTotalOrder, eq_by_cmp_equiv}
@@ -18,7 +18,7 @@ use Rattle.zr_lists.proofs.Truths.{same_test}
 use Rattle.zr_key.proofs.Spelling.{same_bytes}
 use Rattle.zr_key.specs.Expression.{Chunk, Pieces}
 use Rattle.zr_key.specs.Key.{chunks, chunk_of, expression_of, pieces_of, is_plain_text}
-use Rattle.zr_match.specs.Table.{Signs, place, next_row, table, chunk_signs, chunks_go_together, is_any_chunks, IsRow}
+use Rattle.zr_match.specs.Table.{Signs, next_row, table, chunk_signs, chunks_go_together, is_any_chunks, IsRow}
 use Rattle.zr_match.proofs.GoTogether.{plain_case, plain_chars}
 use Rattle.zr_match.proofs.Plain.{bare_chunk}
 use Rattle.zr_index.specs.declared.node.Node.{Node}

@@ -1,6 +1,6 @@
 -- One pair more or less of a tree, from one more or less of a level's parts.
-use Rattle.std.proofs.Common.{◌≡◌, ℕ, ◌+◌, ◌≤◌, Bool, true, false, cond, not, ◌&&◌, List, [], ◌∷◌, Option, Some, None, Result, Ok, Err, OnOk, IfErr, refl, sym, ap, ◌∙◌, arith, nat_eq}
-use Rattle.std.specs.List.{sum_by, list_any, IsDistinct}
+use Rattle.std.proofs.Common.{◌≡◌, ℕ, ◌+◌, ◌≤◌, Bool, true, false, cond, ◌&&◌, List, [], ◌∷◌, Some, None, Result, Ok, Err, OnOk, IfErr, refl, sym, ap, ◌∙◌, arith}
+use Rattle.std.specs.List.{sum_by, IsDistinct}
 use Rattle.std.specs.Result.{is_ok}
 use Rattle.std.specs.Str.{bytes_eq}
 use Rattle.std.specs.Cmp.Lexicographic.{pointwise, slice_cmp}
@@ -15,12 +15,12 @@ use Rattle.std.proofs.lemmas.Map.Entries.{none_past_head}
 use Rattle.std.proofs.lemmas.Map.Keys.{IsDistinct-tail}
 use Rattle.std.proofs.lemmas.Map.Text.{is_eq-slice_cmp}
 use Rattle.zr_key.specs.Key.{is_plain_text}
-use Rattle.zr_index.specs.Pairs.{Pairs, pairs, AreSame, weigh_below, is_of, one, TakesOne, TakesValue, TakesBelow}
+use Rattle.zr_index.specs.Pairs.{pairs, weigh_below, one, TakesOne, TakesValue, TakesBelow}
 use Rattle.zr_index.specs.declared.node.Node.{Node}
 use Rattle.zr_index.specs.declared.node.Node.TheOpen.{Node-F}
 use Rattle.zr_index.specs.declared.node.Node.TheViews.{out-Node, roll-Node}
 use Rattle.zr_index.proofs.Levels.{guarded, level, weigh_roll, weigh_out}
-use Rattle.zr_index.proofs.Changing.{grow_values, grow_plain, grow_wild, same_level, sum_all_zero, none_ends, none_plain, none_wild, sum_le}
+use Rattle.zr_index.proofs.Changing.{grow_plain, grow_wild, same_level, sum_all_zero, none_ends, none_plain, none_wild, sum_le}
 use Rattle.zr_index.proofs.Sought.{same_key, total_by}
 use Rattle.zr_index.proofs.Weights.{some_is}
 

@@ -20,6 +20,13 @@ status_of end.NoMemory = status.NoMemory
 status_of end.WriteFault = status.WriteFault
 status_of end.HostFault = status.HostFault
 
+-- how the program ends where the input gives no rules
+abbrev pub status_of_rules : RulesEnd → Status
+status_of_rules rules_end.Refused = status.Refused
+status_of_rules rules_end.NoMemory = status.NoMemory
+status_of_rules rules_end.ReadFault = status.ReadFault
+status_of_rules rules_end.WriteFault = status.WriteFault
+
 -- A router was served as the words ask for, and ended so; or memory ran out before anything was done
 pub record IsServing (s : Served) (end : Status) (calls calls' : Option (List Call)) (told told' : Option (List LinkJob)) (faults faults' : ℕ) (o p : Outputs) : Type 0 where
   pub how : ServeEnd

@@ -1,8 +1,7 @@
-use Rattle.std.proofs.Common.{◌≡◌, ◌+◌, Some, None, refl, sym, ap, ◌∙◌, arith, length, get_or}
-use Rattle.std.specs.List.{sum_by, list_any, position}
+use Rattle.std.proofs.Common.{◌≡◌, refl, sym, ap, ◌∙◌, arith, get_or}
+use Rattle.std.specs.List.{sum_by, position}
 use Rattle.std.proofs.lemmas.List.Quantifiers.{position-Some}
-use Rattle.std.proofs.lemmas.List.Sorted.{IsPermutation-swap_remove, sum_by-IsPermutation}
-use Rattle.std.proofs.lemmas.List.Sums.{sum_by-cons, sum_by-swap_remove}
+use Rattle.std.proofs.lemmas.List.Sums.{sum_by-swap_remove}
 use Rattle.zr_index.proofs.Changing.{none_placed}
 use Rattle.zr_index.proofs.node.remove_value.Goals as goal
 

@@ -4,7 +4,7 @@ use Rattle.zr_serve.proofs.Reaching.{accept_gives, accept_loses, accept_waits, a
 use Rattle.zr_serve.proofs.service.accept.Goals as goal
 
 pub returns-in-Ok-clause-going : goal.returns-in-Ok-clause-going
-returns-in-Ok-clause-going g c = λ held. accept_gives answer.Link _ _ _ _ _ _ _ held _ _ c.in-Link.ensures.told refl c.in-Ok.ensures.told c.in-Ok.ensures.started c.in-Ok.ensures.links
+returns-in-Ok-clause-going g c = λ held. accept_gives answer.Link _ _ _ _ _ _ _ held _ _ c.in-Link.ensures.told refl c.in-Ok.ensures.told (rw c.one-weight.ensures at c.in-Ok.ensures.started) c.in-Ok.ensures.links
 
 pub returns-in-Err-clause-stops : goal.returns-in-Err-clause-stops
 returns-in-Err-clause-stops g c =

@@ -1,7 +1,6 @@
-use Rattle.std.proofs.Common.{◌≡◌, [], ◌||◌, ap, ◌∙◌}
+use Rattle.std.proofs.Common.{[], ◌||◌, ap, ◌∙◌}
 use Rattle.std.specs.List.{list_any}
 use Rattle.std.specs.Ordering.{is_eq}
-use Rattle.std.specs.BTreeSet.{contains}
 use Rattle.std.proofs.lemmas.Result.{on_ok_weaker}
 use Rattle.zr_index.specs.Meeting.{held}
 use Rattle.zr_index.specs.Walk.{finds}

@@ -1,18 +1,14 @@
-use Rattle.std.proofs.Common.{◌≡◌, ◌∷◌, [], ◌||◌, ◌&&◌, ◌+◌, List, Bool, true, false, not, refl, sym, ap, ◌∙◌, get_or, arith, length, Some}
+use Rattle.std.proofs.Common.{◌≡◌, ◌∷◌, [], ◌||◌, ◌&&◌, ◌+◌, Bool, true, false, refl, sym, ap, ◌∙◌, get_or, arith, length}
 use Rattle.std.specs.List.{list_any}
 use Rattle.std.specs.Ordering.{is_eq}
 use Rattle.std.specs.Option.{option_copied, option_map_or}
 use Rattle.std.specs.BTreeSet.{contains}
-use Rattle.std.specs.Cmp.Lexicographic.{slice_cmp, nat_list_cmp_total}
-use Rattle.std.specs.Ordering.{nat_cmp}
 use Rattle.std.specs.Map.{keys_of}
 use Rattle.std.proofs.lemmas.Bool.{not-true}
 use Rattle.std.proofs.lemmas.Result.{on_ok_weaker}
 use Rattle.std.proofs.lemmas.Map.Keys.{IsDistinct-from_sorted}
 use Rattle.zr_lists.specs.Cut.{parts}
-use Rattle.zr_key.specs.Expression.{Chunk}
-use Rattle.zr_key.specs.Key.{chunks, chunk_of, expression_of}
-use Rattle.zr_match.specs.Row.{IsRowBehind}
+use Rattle.zr_key.specs.Key.{chunk_of}
 use Rattle.zr_match.proofs.ChunkSteps.{room_at, room_more}
 use Rattle.zr_index.specs.declared.node.Node.TheViews.{out-Node}
 use Rattle.zr_index.specs.Pairs.{pairs}
