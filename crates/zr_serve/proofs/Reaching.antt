@@ -122,13 +122,10 @@ accept_unlinked calls mid calls' told told' faults faults' held l l' recorded sa
 pub accept_other : (a : Answer) (calls mid : Option (List Call)) (told : Option (List LinkJob)) (faults : ℕ) (held : Option (List ℕ)) (l : LinksState)
     → link_of 1 (Accept a) ≡ [] → host.Records (Accept a) calls mid
     → Serves (accepts (a ∷ [])) (moment calls told faults held l) (moment mid told faults held l)
-accept_other answer.Link calls mid told faults held l none recorded = absurd (by none)
+accept_other answer.Link calls mid told faults held l none recorded = absurd (none_is_one (ap (λ s. length s) none))
   where
     none_is_one : suc zero ≡ zero → ⊥
     none_is_one e = omega arith
-
-    by : record { side = Accepting; weight = 1 } ∷ [] ≡ [] → ⊥
-    by e = none_is_one (ap (λ s. length s) e)
 accept_other answer.Quiet calls mid told faults held l none recorded = record {
   recorded = records_one (accept_call answer.Quiet) calls mid recorded;
   started = starts_none told faults;
