@@ -1,4 +1,5 @@
-# Completion of the words of `zrd` for bash: source this file. An option is offered behind its command until it stands there, and none where its value is wanted.
+# Completion of the words of `zrd` for bash: source this file. An option is offered behind its command until it stands
+# there, and none where its value is wanted.
 
 _zrd() {
     # words are counted by spaces, since bash parts an address at its colon

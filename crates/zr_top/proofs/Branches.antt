@@ -22,9 +22,12 @@ use Rattle.zr_rules.specs.declared.rules.RulesError.{RulesError}
 use Rattle.zr_rules.specs.declared.rules.RulesError.TheVariants as rules_error
 use Rattle.zr_top.specs.Asked.{Answers, HasRules, IsServingBy}
 use Rattle.zr_top.specs.Words.{asks_rules, reads_input}
-use Rattle.zr_top_words.specs.Asked.{Asked, Served, asked_of, net_of, served_of}
+use Rattle.zr_top_words.specs.Asked.{Asked, Served, asked_of, net_of, net_part, serve_part, served_of}
 use Rattle.zr_top_words.specs.declared.plan.NetPlan.{NetPlan}
-use Rattle.zr_top_words.specs.Read.{is_answer, may_answer, IsRefused}
+use Rattle.zr_top_words.specs.declared.plan.Plan.{Plan}
+use Rattle.zr_top_words.specs.declared.plan.Plan.TheVariants as plan
+use Rattle.zr_top_words.specs.declared.plan.ServeWords.{ServeWords}
+use Rattle.zr_top_words.specs.Read.{asked_as, is_answer, may_answer, served_as, IsRefused}
 use Rattle.zr_top_words.proofs.Causes.{answer_asks_none, refused_asks_none}
 
 pub none_of : {A : Type 0} (r : Option A) (P : A → Type 0) → r ≡ None → IfSome r P
@@ -92,8 +95,18 @@ no_router s left Ended calls told faults o =
 
 -- ---- whether the input is read
 
-pub net_reads : (words : List (List ℕ)) (plan : NetPlan) → net_of words ≡ Some plan → reads_input words ≡ true
+net_reads : (words : List (List ℕ)) (plan : NetPlan) → net_of words ≡ Some plan → reads_input words ≡ true
 net_reads words plan is = ap (λ o. is_some o || asks_rules words) is
 
-pub served_reads : (words : List (List ℕ)) (s : Served) → net_of words ≡ None → served_of words ≡ Some s → reads_input words ≡ s.rules
+served_reads : (words : List (List ℕ)) (s : Served) → net_of words ≡ None → served_of words ≡ Some s → reads_input words ≡ s.rules
 served_reads words s none is = ap (λ o. is_some o || asks_rules words) none ∙ ap (λ o. option_map_or (λ (x : Served). x.rules) o false) is
+
+-- a plan of `net` reads the input
+pub net_plan_reads : (words : List (List ℕ)) (p : Plan) (q : NetPlan) → net_part (asked_as p) ≡ net_of words → p ≡ plan.Net q → reads_input words ≡ true
+net_plan_reads words p q net is = net_reads words q (sym net ∙ ap (λ z. net_part (asked_as z)) is)
+
+-- a plan of `serve` reads it where it has rules
+pub serve_plan_reads : (words : List (List ℕ)) (p : Plan) (q : ServeWords) → net_part (asked_as p) ≡ net_of words → serve_part (asked_as p) ≡ served_of words
+    → p ≡ plan.Serve q → reads_input words ≡ q.rules
+serve_plan_reads words p q net serve is =
+    served_reads words (served_as q) (sym net ∙ ap (λ z. net_part (asked_as z)) is) (sym serve ∙ ap (λ z. serve_part (asked_as z)) is)
