@@ -4,8 +4,6 @@ ghost use Rattle.std.specs.Prelude.{◌≡◌, ◌==◌, ◌&&◌, ◌++◌, not
 ghost use Rattle.std.specs.List.{list_any};
 ghost use Rattle.std.specs.Option.{option_copied, option_map};
 ghost use Rattle.zr_id.specs.Zid.{is_named};
-ghost use Rattle.zr_node_spec.specs.Queries.{is_complete};
-ghost use Rattle.zr_node_spec.specs.Table.{able_kind};
 ghost use Rattle.zr_told_spec.specs.Place.{class_rank};
 ghost use Rattle.zr_guarantee.specs.Broker.{asks_for, attached_by, can_answer, from, is_attached, is_for, is_line, is_line_of, is_publisher, item_for, publication, publishes, standing, standing_by, takes};
 ghost use Rattle.zr_tests_judge.specs.Given.{carried_of};
@@ -19,6 +17,7 @@ use zr_match::{covers, meets};
 use zr_msg::content::Content;
 use zr_msg::decl::Kind;
 use zr_msg::msg::Target;
+use zr_node_spec::kinds::{able_kind, is_complete};
 use zr_script_spec::command::Act;
 use zr_told_spec::place::Class;
 
@@ -334,12 +333,6 @@ fn is_class(one: Class, other: Class) -> bool
     }
 }
 
-fn able_kind(complete: bool) -> Kind
-    ensures { result ≡ able_kind complete }
-{
-    if complete { Kind::Full } else { Kind::Able }
-}
-
 fn forget(so_far: &mut Vec<Declaration<'_>>, id: u32)
     ensures { so_far.new.items ≡ filter (λ s. not (s.id == id)) so_far.old.items }
 {
@@ -370,14 +363,5 @@ fn can_answer(target: Target, key: &KeyExpr, queryable: &Declaration<'_>) -> boo
     match target {
         Target::Best | Target::All => meets(queryable.key, key),
         Target::Complete => is_complete(queryable.kind) && covers(queryable.key, key),
-    }
-}
-
-fn is_complete(kind: Kind) -> bool
-    ensures { result ≡ is_complete kind }
-{
-    match kind {
-        Kind::Sub | Kind::Able => false,
-        Kind::Full => true,
     }
 }
