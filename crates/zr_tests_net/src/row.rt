@@ -54,6 +54,13 @@ fn message_of(alloc: Global, act: Act, more: u32) -> Result<Msg, AllocError> {
             tree: None,
             content,
         }),
+        other => message_of_query(alloc, other, more),
+    }
+}
+
+// The same of an act on a query.
+fn message_of_query(alloc: Global, act: Act, more: u32) -> Result<Msg, AllocError> {
+    match act {
         Act::Get {
             client: _,
             number,
