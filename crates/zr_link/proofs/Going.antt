@@ -2,9 +2,7 @@
 use Rattle.std.proofs.Common.{◌≡◌, ◌≢◌, ◌⊎◌, ℕ, ◌+◌, ◌<◌, ◌≤◌, min, ltb, arith, length, Bool, true, false, List, [], ◌∷◌, ◌++◌, map, Option, Some, None, refl, sym, ap, subst, ◌∙◌, append_assoc, inl, inr}
 use Rattle.std.proofs.lemmas.List.{append-nil, map-append}
 use Rattle.std.proofs.lemmas.Bool.{ltb-true, ltb-false}
-use mathlib.Core.List.{IsPrefix}
 use Rattle.std.specs.List.{AllByRecursion}
-use Rattle.zr_lists.proofs.Prefixes.{prefix_trans, prefix_self}
 use Rattle.zr_id.specs.declared.link.LinkNo.{LinkNo}
 use Rattle.zr_frame.specs.Outbox.{OutboxState}
 use Rattle.zr_msg.specs.declared.event.Event.{Event}
@@ -188,11 +186,11 @@ closed_told : (error : DeliverError) (reason : Reason) → end_of_delivery error
 closed_told error reason is none = let k : end_of_delivery deliver.NoMemory ≡ Some (end.Closed reason) = subst (λ z. end_of_delivery z ≡ Some (end.Closed reason)) none is in absurd cc
 
 -- a refused message is the first of those that were not looked at
-pub stop_ends : (c : Course) (m : Msg) (ms : List Msg) (Early : Type 0) (Late : Phase → Type 0) (refuses : List Entry → Msg → DeliverError → Type 0) (seen : List Entry) (error : DeliverError) (e : LinkEnd)
-    → end_of_delivery error ≡ Some e → (error ≢ deliver.NoMemory → refuses seen m error) → UpEnds e c (m ∷ ms) Early Late (λ reason. Refuses refuses seen (m ∷ ms) reason)
-stop_ends c m ms Early Late refuses seen error e is r =
-    of_delivery_end (λ z. UpEnds z c (m ∷ ms) Early Late (λ reason. Refuses refuses seen (m ∷ ms) reason)) error e is
-    (λ reason at. inr (record { msg = m; rest = ms; error = error; before = seen; first = refl; prefix = prefix_self seen; refused = r (closed_told error reason at); ends = at })) tt
+pub stop_ends : (c : Course) (m : Msg) (ms : List Msg) (Early : Type 0) (Late : Phase → Type 0) (refuses : Msg → DeliverError → Type 0) (error : DeliverError) (e : LinkEnd)
+    → end_of_delivery error ≡ Some e → (error ≢ deliver.NoMemory → refuses m error) → UpEnds e c (m ∷ ms) Early Late (λ reason. Refuses refuses (m ∷ ms) reason)
+stop_ends c m ms Early Late refuses error e is r =
+    of_delivery_end (λ z. UpEnds z c (m ∷ ms) Early Late (λ reason. Refuses refuses (m ∷ ms) reason)) error e is
+    (λ reason at. inr (record { msg = m; rest = ms; error = error; first = refl; refused = r (closed_told error reason at); ends = at })) tt
 
 pub closes_map : (reason : Reason) (c : Course) (L M : Phase → Type 0) → ((p : Phase) → L p → M p) → Closes reason c L → Closes reason c M
 closes_map reason c L M f (inl h) = inl h
@@ -238,24 +236,21 @@ early_ends end.CrewRefused c others A L R h a = a
 early_ends end.Turns c others A L R h a = absurd h
 early_ends end.NoMemory c others A L R h a = tt
 
-pub refuses_later : (refuses : List Entry → Msg → DeliverError → Type 0) (seen later : List Entry) (others : List Msg) (reason : Reason) → IsPrefix seen later → Refuses refuses seen others reason → Refuses refuses later others reason
-refuses_later refuses seen later others reason p r = record { msg = r.msg; rest = r.rest; error = r.error; before = r.before; first = r.first; prefix = prefix_trans r.before seen later r.prefix p; refused = r.refused; ends = r.ends }
-
 -- how a batch of events ended the reader, in one word
 abbrev pub Settles : (Msg → DeliverError → Type 0) → List SessionEvent → Fate → LinkEnd → Type 0
 Settles refuses rest f e = Stops refuses rest e ⊎ ((rest ≡ []) × EndIs f e)
 
 -- what was not delivered are messages, and the reader ends for the first of them or with the session
-pub settle_ends : (refuses : List Entry → Msg → DeliverError → Type 0) (seen : List Entry) (rest : List SessionEvent) (f : Fate) (e : LinkEnd) (c : Course) (Early : Type 0) (L M : Phase → Type 0)
-    → ((p : Phase) → L p → M p) → AreMessages IsSpelled rest → FateIs f c L → Settles (refuses seen) rest f e
-    → (others : List Msg) × (rest ≡ messages others) × UpEnds e c others Early M (λ reason. Refuses refuses seen others reason)
-settle_ends refuses seen rest f e c Early L M late are fate_is (inl stop) =
+pub settle_ends : (refuses : Msg → DeliverError → Type 0) (rest : List SessionEvent) (f : Fate) (e : LinkEnd) (c : Course) (Early : Type 0) (L M : Phase → Type 0)
+    → ((p : Phase) → L p → M p) → AreMessages IsSpelled rest → FateIs f c L → Settles refuses rest f e
+    → (others : List Msg) × (rest ≡ messages others) × UpEnds e c others Early M (λ reason. Refuses refuses others reason)
+settle_ends refuses rest f e c Early L M late are fate_is (inl stop) =
     let ms = are_messages IsSpelled stop.others (subst (AreMessages IsSpelled) stop.first are).1 in (
       stop.msg ∷ ms.0,
       stop.first ∙ ap (λ z. Message stop.msg ∷ z) ms.1,
-      stop_ends c stop.msg ms.0 Early M refuses seen stop.error e stop.ends stop.refused,
+      stop_ends c stop.msg ms.0 Early M refuses stop.error e stop.ends stop.refused,
     )
-settle_ends refuses seen rest f e c Early L M late are fate_is (inr is) = ([], is.0, fate_ends f e c Early L M _ late is.1 fate_is)
+settle_ends refuses rest f e c Early L M late are fate_is (inr is) = ([], is.0, fate_ends f e c Early L M _ late is.1 fate_is)
 
 -- ---- where a reader of a link that is up has come to
 
@@ -283,16 +278,16 @@ gone_more link refuses s t u es before mid after a b d g lead k =
 
 -- what follows of a link that is up, with the messages that came
 pub record Followed (link : LinkNo) (s : SessionState) (waiting : List SessionEvent) (f : Fate) (e : LinkEnd) (before after : Option (List ℕ)) (Late : Phase → Type 0)
-    (refuses : List Entry → LinkNo → Msg → DeliverError → Type 0) (seen : List Entry) (old new : Sight) : Type 0 where
+    (refuses : List Entry → LinkNo → Msg → DeliverError → Type 0) (old new : Sight) : Type 0 where
   pub came : List Came
   pub goes : Through link (λ h m x. refuses h link m x) came old new
-  pub follows : Follows link came s waiting f e before after Late refuses seen
+  pub follows : Follows link came s waiting f e before after Late refuses new.seen
 
 -- a read lost the link
 pub gone_lost : (link : LinkNo) (s t : SessionState) (before mid after : Option (List ℕ)) (a b : Sight) (e : LinkEnd) (Late : Phase → Type 0)
-    (refuses : List Entry → LinkNo → Msg → DeliverError → Type 0) (seen : List Entry) → Gone link (λ h m x. refuses h link m x) s t before mid a b → HearsSome t mid after (λ c events. LostIs e c events)
-    → Followed link s [] fate.Going e before after Late refuses seen a b
-gone_lost link s t before mid after a b e Late refuses seen g lost = record {
+    (refuses : List Entry → LinkNo → Msg → DeliverError → Type 0) → Gone link (λ h m x. refuses h link m x) s t before mid a b → HearsSome t mid after (λ c events. LostIs e c events)
+    → Followed link s [] fate.Going e before after Late refuses a b
+gone_lost link s t before mid after a b e Late refuses g lost = record {
   came = g.came;
   goes = g.goes;
   follows = λ first bytes rest c bs comes opened stands at.
@@ -305,10 +300,10 @@ gone_lost link s t before mid after a b e Late refuses seen g lost = record {
 
 -- what a read gave ended it
 pub gone_settled : (link : LinkNo) (s t u : SessionState) (es rest : List SessionEvent) (before mid after : Option (List ℕ)) (a b d : Sight) (f : Fate) (e : LinkEnd) (L M : Phase → Type 0)
-    (refuses : List Entry → LinkNo → Msg → DeliverError → Type 0) (seen : List Entry) → ((p : Phase) → L p → M p) → Gone link (λ h m x. refuses h link m x) s t before mid a b
-    → Hears t es mid after (λ first bytes c. FateIs f c L × (f ≡ fate.Going → IsAt first u bytes c)) → Delivers link (λ h m x. refuses h link m x) es rest b d → Settles (λ m x. refuses seen link m x) rest f e
-    → Followed link s [] fate.Going e before after M refuses seen a d
-gone_settled link s t u es rest before mid after a b d f e L M refuses seen late g h k ends = record {
+    (refuses : List Entry → LinkNo → Msg → DeliverError → Type 0) → ((p : Phase) → L p → M p) → Gone link (λ h m x. refuses h link m x) s t before mid a b
+    → Hears t es mid after (λ first bytes c. FateIs f c L × (f ≡ fate.Going → IsAt first u bytes c)) → Delivers link (λ h m x. refuses h link m x) es rest b d → Settles (λ m x. refuses d.seen link m x) rest f e
+    → Followed link s [] fate.Going e before after M refuses a d
+gone_settled link s t u es rest before mid after a b d f e L M refuses late g h k ends = record {
   came = g.came ++ k.came;
   goes = through_then link (λ h m x. refuses h link m x) g.came k.came a b d g.goes k.goes;
   follows = λ first bytes left c bs comes opened stands at.
@@ -318,7 +313,7 @@ gone_settled link s t u es rest before mid after a b d f e L M refuses seen late
       let x = hears_then s t (messages msgs) es before mid after Told g.leads h first bytes c bs (at refl) in
       let all = open_messages c.phase x.0.course.phase (messages msgs ++ es) opened x.0.between in
       let tail = messages_rest IsSpelled more rest (subst (AreMessages IsSpelled) k.are (messages_rest IsSpelled msgs es all.0)) in
-      let o = settle_ends (λ z m y. refuses z link m y) seen rest f e x.0.course ⊥ L M late tail x.1.0 ends in
+      let o = settle_ends (λ m y. refuses d.seen link m y) rest f e x.0.course ⊥ L M late tail x.1.0 ends in
       let is : messages msgs ++ es ≡ messages (messages_of (g.came ++ k.came) ++ o.0) =
       ap (λ z. messages msgs ++ z) (k.are ∙ ap (λ z. messages more ++ z) o.1) ∙ sym (append_assoc (messages msgs) (messages more) (messages o.0))
       ∙ ap (λ z. z ++ messages o.0) (sym (messages_both msgs more)) ∙ sym (messages_both (msgs ++ more) o.0) ∙ ap (λ z. messages (z ++ o.0)) (sym (came_both g.came k.came)) in
@@ -327,9 +322,9 @@ gone_settled link s t u es rest before mid after a b d f e L M refuses seen late
 
 -- all turns were made
 pub gone_over : (link : LinkNo) (s t : SessionState) (before now : Option (List ℕ)) (a b : Sight) (Late : Phase → Type 0)
-    (refuses : List Entry → LinkNo → Msg → DeliverError → Type 0) (seen : List Entry) → Gone link (λ h m x. refuses h link m x) s t before now a b → is_running t.state ≡ true
-    → Followed link s [] fate.Going end.Turns before now Late refuses seen a b
-gone_over link s t before now a b Late refuses seen g run = record {
+    (refuses : List Entry → LinkNo → Msg → DeliverError → Type 0) → Gone link (λ h m x. refuses h link m x) s t before now a b → is_running t.state ≡ true
+    → Followed link s [] fate.Going end.Turns before now Late refuses a b
+gone_over link s t before now a b Late refuses g run = record {
   came = g.came;
   goes = g.goes;
   follows = λ first bytes left c bs comes opened stands at.
@@ -340,23 +335,23 @@ gone_over link s t before now a b Late refuses seen g run = record {
 
 -- events that waited ended it
 pub waited_settled : (link : LinkNo) (s : SessionState) (es rest : List SessionEvent) (before : Option (List ℕ)) (a b : Sight) (f : Fate) (e : LinkEnd) (M : Phase → Type 0)
-    (refuses : List Entry → LinkNo → Msg → DeliverError → Type 0) (seen : List Entry) → AreMessages IsSpelled es → Delivers link (λ h m x. refuses h link m x) es rest a b → Settles (λ m x. refuses seen link m x) rest f e
-    → Followed link s es f e before before M refuses seen a b
-waited_settled link s es rest before a b f e M refuses seen are k ends = record {
+    (refuses : List Entry → LinkNo → Msg → DeliverError → Type 0) → AreMessages IsSpelled es → Delivers link (λ h m x. refuses h link m x) es rest a b → Settles (λ m x. refuses b.seen link m x) rest f e
+    → Followed link s es f e before before M refuses a b
+waited_settled link s es rest before a b f e M refuses are k ends = record {
   came = k.came;
   goes = k.goes;
   follows = λ first bytes left c bs comes opened stands at.
       let msgs : List Msg = messages_of k.came in
       let tail = messages_rest IsSpelled msgs rest (subst (AreMessages IsSpelled) k.are are) in
-      let o = settle_ends (λ z m y. refuses z link m y) seen rest f e c ⊥ (λ p. ⊥) M (λ p h. absurd h) tail stands ends in
+      let o = settle_ends (λ m y. refuses b.seen link m y) rest f e c ⊥ (λ p. ⊥) M (λ p h. absurd h) tail stands ends in
       ([], o.0, heard_still first s.opening bytes left c before comes, append-nil es ∙ k.are ∙ ap (λ z. messages msgs ++ z) o.1 ∙ sym (messages_both msgs o.0), o.2);
 }
 
 -- they came, and it went on
 pub waited_followed : (link : LinkNo) (s : SessionState) (es : List SessionEvent) (before after : Option (List ℕ)) (a b d : Sight) (e : LinkEnd) (M : Phase → Type 0)
-    (refuses : List Entry → LinkNo → Msg → DeliverError → Type 0) (seen : List Entry) (f : Fate) → f ≡ fate.Going → Delivers link (λ h m x. refuses h link m x) es [] a b
-    → Followed link s [] fate.Going e before after M refuses seen b d → Followed link s es f e before after M refuses seen a d
-waited_followed link s es before after a b d e M refuses seen f going k g = record {
+    (refuses : List Entry → LinkNo → Msg → DeliverError → Type 0) (f : Fate) → f ≡ fate.Going → Delivers link (λ h m x. refuses h link m x) es [] a b
+    → Followed link s [] fate.Going e before after M refuses b d → Followed link s es f e before after M refuses a d
+waited_followed link s es before after a b d e M refuses f going k g = record {
   came = k.came ++ g.came;
   goes = through_then link (λ h m x. refuses h link m x) k.came g.came a b d k.goes g.goes;
   follows = λ first bytes left c bs comes opened stands at.
@@ -411,9 +406,9 @@ up_started end.CrewRefused c others Late R h = h
 up_started end.Turns c others Late R h = tt
 up_started end.NoMemory c others Late R h = tt
 
-pub follows_started : (link : LinkNo) (came : List Came) (s : SessionState) (e : LinkEnd) (before after : Option (List ℕ)) (Late : Phase → Type 0) (refuses : List Entry → LinkNo → Msg → DeliverError → Type 0) (seen : List Entry)
-    → is_running s.state ≡ true → IsIn IsOpen s → Follows link came s [] fate.Going e before after Late refuses seen → IsStarted e
-follows_started link came s e before after Late refuses seen run i h =
+pub follows_started : (link : LinkNo) (came : List Came) (s : SessionState) (e : LinkEnd) (before after : Option (List ℕ)) (Late : Phase → Type 0) (refuses : List Entry → LinkNo → Msg → DeliverError → Type 0) (last : List Entry)
+    → is_running s.state ≡ true → IsIn IsOpen s → Follows link came s [] fate.Going e before after Late refuses last → IsStarted e
+follows_started link came s e before after Late refuses last run i h =
     let come = comes_at i.0 s.opening s.state s.kept i.1 i.2 i.4 in
     let x = h i.0 i.1 come.0 i.2 i.3 come.1 i.5 (runs_at i.0 s.opening s.state s.kept i.1 i.2 i.4 run) (λ _. i.4) in
     up_started e x.2.course x.1 Late _ x.4

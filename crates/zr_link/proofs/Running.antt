@@ -34,15 +34,15 @@ use Rattle.zr_link.specs.declared.end.LinkEnd.{LinkEnd}
 use Rattle.zr_link.specs.declared.end.LinkEnd.TheVariants as end
 use Rattle.zr_link.specs.Ends.{end_of_up, reason_of, IsEarly}
 use Rattle.zr_link.specs.Acts.{Act, Does, up, down, froms}
-use Rattle.zr_port.specs.Coming.{sight, AddsOne, Came, delivered}
+use Rattle.zr_port.specs.Coming.{sight, AddsOne, delivered}
 use Rattle.zr_outside.specs.Told.{Appends}
 use Rattle.zr_link.specs.Heard.{Takes, AreMessages, messages, HearsOn, HearsSomeOn, IsOpen, IsUnopened, IsIn, IsBegun, first_of}
 use Rattle.zr_link.specs.Written.{Gives, Answered, IsWritten, Wrote, WroteAnswers, close_with}
-use Rattle.zr_link.specs.Run.{EarlyEnds, NotTaken, Follows, Enters, GoesDown, Runs}
+use Rattle.zr_link.specs.Run.{EarlyEnds, NotTaken, Enters, GoesDown, Runs}
 use Rattle.zr_link.proofs.Hearing.{takes_none, takes_then, as_before}
 use Rattle.zr_link.proofs.Unopened.{written_more, rose_before}
-use Rattle.zr_port.proofs.Coming.{looks_self}
-use Rattle.zr_link.proofs.Going.{does_none, does_then, added_does, through_does, does_entry, are_messages, ends_map, early_ends, refuses_later, Followed}
+use Rattle.zr_port.proofs.Coming.{looks_self, adds_one}
+use Rattle.zr_link.proofs.Going.{does_none, does_then, added_does, through_does, does_entry, are_messages, ends_map, early_ends, Followed}
 
 -- ---- the begin
 
@@ -95,25 +95,18 @@ up_not_refused up_error.NoMemory is = cc
 -- the link goes down, or that is refused
 pub leaves : (link : LinkNo) (e : LinkEnd) (old new : Pass Entry) (refuses : List Entry → LinkNo → DownError → Type 0) (r : Result (Unit {0}) DownError)
     → IfOk r (λ _. Adds old new (λ before x. IsEntryOf (event.Down link) None (reason_of e) x × IsAdmitted (refuses before link)))
-    → IfErr r (λ x. x ≢ down_error.NoMemory → refuses (seen new) link x) → OnErr r (mine new ≡ mine old)
-    → (downs : List Act) × GoesDown link e (λ x. refuses (seen new) link x) downs × Does downs (mine old) (mine new)
-leaves link e old new refuses (Ok u) h k same = (down link (reason_of e) ∷ [], inl refl, does_entry (mine old) (mine new) h.entry (event.Down link) None (reason_of e) h.own h.says.0)
-leaves link e old new refuses (Err x) h k same = ([], inr (refl, (x, k)), subst (λ z. Does [] (mine old) z) (sym same) (does_none (mine old)))
+    → IfErr r (λ x. x ≢ down_error.NoMemory → refuses (seen new) link x) → OnErr r (mine new ≡ mine old) → IsPrefix (seen old) (seen new)
+    → (downs : List Act) × GoesDown link e (λ x. refuses (seen new) link x) downs (sight old) (sight new) × Does downs (mine old) (mine new)
+leaves link e old new refuses (Ok u) h k same p = (down link (reason_of e) ∷ [], inl (refl, adds_one old new (event.Down link) None (reason_of e) _ h (λ b x q. q.0)), does_entry (mine old) (mine new) h.entry (event.Down link) None (reason_of e) h.own h.says.0)
+leaves link e old new refuses (Err x) h k same p = ([], inr (refl, (same, p), (x, k)), subst (λ z. Does [] (mine old) z) (sym same) (does_none (mine old)))
 
 -- ---- a link that came up
-
-later_follows : (link : LinkNo) (came : List Came) (s : SessionState) (waiting : List SessionEvent) (f : Fate) (e : LinkEnd) (before after : Option (List ℕ)) (L : Phase → Type 0)
-    (refuses : List Entry → LinkNo → Msg → DeliverError → Type 0) (sees later : List Entry) → IsPrefix sees later
-    → Follows link came s waiting f e before after L refuses sees → Follows link came s waiting f e before after L refuses later
-later_follows link came s waiting f e before after L refuses sees later p h first bytes rest c bs comes opened stands at =
-    let x = h first bytes rest c bs comes opened stands at in
-    (x.0, x.1, x.2, x.3, ends_map e x.2.course x.1 ⊥ ⊥ L L _ _ (λ k. k) (λ q k. k) (λ reason k. refuses_later (λ z m y. refuses z link m y) sees later x.1 reason p k) x.4)
 
 -- it went on until it went down
 pub enters_followed : (peer : PeerState) (outbox : OutboxState) (s : SessionState) (waiting : List SessionEvent) (f : Fate) (e : LinkEnd) (before after : Option (List ℕ)) (L : Phase → Type 0) (W : List ℕ → Type 0) (N : Type 0)
     (refuses_up : List Entry → PeerState → UpError → Type 0) (refuses : List Entry → LinkNo → Msg → DeliverError → Type 0) (refuses_down : List Entry → LinkNo → DownError → Type 0)
-    (old mid last new : Pass Entry) (link : LinkNo) → AddsOne (event.Up link peer) (Some outbox) None (sight old) (sight mid) → Followed link s waiting f e before after L refuses (seen last) (sight mid) (sight last)
-    → IsPrefix (seen last) (seen new) → (downs : List Act) → GoesDown link e (λ x. refuses_down (seen new) link x) downs → Does downs (mine last) (mine new)
+    (old mid last new : Pass Entry) (link : LinkNo) → AddsOne (event.Up link peer) (Some outbox) None (sight old) (sight mid) → Followed link s waiting f e before after L refuses (sight mid) (sight last)
+    → IsPrefix (seen last) (seen new) → (downs : List Act) → GoesDown link e (λ x. refuses_down (seen new) link x) downs (sight last) (sight new) → Does downs (mine last) (mine new)
     → N → Enters peer outbox s waiting f e before after L W N refuses_up refuses refuses_down old new
 enters_followed peer outbox s waiting f e before after L W N refuses_up refuses refuses_down old mid last new link upon g prefix downs goes does handed =
     inr (inr (
@@ -122,17 +115,24 @@ enters_followed peer outbox s waiting f e before after L W N refuses_up refuses 
       downs,
       does_then (up link peer outbox ∷ []) (froms link (delivered g.came) ++ downs) (mine old) (mine mid) (mine new) (added_does (event.Up link peer) (Some outbox) None (sight old) (sight mid) upon)
           (does_then (froms link (delivered g.came)) downs (mine mid) (mine last) (mine new) (through_does link (λ h m x. refuses h link m x) g.came (sight mid) (sight last) g.goes) does),
-      goes,
-      later_follows link g.came s waiting f e before after L refuses (seen last) (seen new) prefix g.follows,
       handed,
-      (sight mid, sight last, upon, g.goes, prefix),
+      (
+        sight mid,
+        sight last,
+        upon,
+        g.goes,
+        prefix,
+        (does.0, sym does.1),
+        g.follows,
+        goes,
+      ),
     ))
 
 -- its writer wasn't started. Of what was given to be written the CLOSE was left out
 pub enters_early : (peer : PeerState) (outbox : OutboxState) (s : SessionState) (waiting : List SessionEvent) (f : Fate) (e : LinkEnd) (before : Option (List ℕ)) (L : Phase → Type 0) (N : Type 0)
     (refuses_up : List Entry → PeerState → UpError → Type 0) (refuses : List Entry → LinkNo → Msg → DeliverError → Type 0) (refuses_down : List Entry → LinkNo → DownError → Type 0)
     (old mid new : Pass Entry) (link : LinkNo) (fed left : List ℕ) (held now : Option (List ℕ)) (F : Type 0) → AddsOne (event.Up link peer) (Some outbox) None (sight old) (sight mid) → IsPrefix (seen mid) (seen new) → IsEarly e
-    → (downs : List Act) → GoesDown link e (λ x. refuses_down (seen new) link x) downs → Does downs (mine mid) (mine new)
+    → (downs : List Act) → GoesDown link e (λ x. refuses_down (seen new) link x) downs (sight mid) (sight new) → Does downs (mine mid) (mine new)
     → ((answers : List ℕ) → fed ≡ answers ++ close_with f → left ≡ answers) → IsWritten e (left ++ owed_bytes s) held now F
     → Enters peer outbox s waiting f e before before L (λ owed. (answers : List ℕ) → fed ≡ answers ++ close_with f → IsWritten e (answers ++ owed) held now F) N refuses_up refuses refuses_down old new
 enters_early peer outbox s waiting f e before L N refuses_up refuses refuses_down old mid new link fed left held now F upon prefix early downs goes does without writes =
@@ -140,11 +140,10 @@ enters_early peer outbox s waiting f e before L N refuses_up refuses refuses_dow
       link,
       downs,
       does_then (up link peer outbox ∷ []) downs (mine old) (mine mid) (mine new) (added_does (event.Up link peer) (Some outbox) None (sight old) (sight mid) upon) does,
-      goes,
       early,
       refl,
       λ answers is. subst (λ z. IsWritten e (z ++ owed_bytes s) held now F) (without answers is) writes,
-      (sight mid, upon, prefix),
+      (sight mid, upon, prefix, (does.0, sym does.1), goes),
     ))
 
 -- ---- the whole
@@ -252,7 +251,7 @@ runs_entered s t text fed peer outbox waiting f e before mid after held now L M 
       bytes = x.0.piece;
       course = x.0.course;
       rest = x.0.rest;
-      taken = subst (λ z. Takes x.0.piece before z) (sym on.5) x.0.taken;
+      taken = subst (λ z. Takes x.0.piece before z) (sym on.4) x.0.taken;
       comes = x.0.comes;
       made = inr (record {
         link = on.0;
@@ -261,22 +260,23 @@ runs_entered s t text fed peer outbox waiting f e before mid after held now L M 
         came = [];
         others = ms.0;
         downs = on.1;
-        begun = on.7.0;
-        last = on.7.0;
-        upon = on.7.1;
-        goes = looks_self on.7.0;
-        behind = on.7.2;
+        begun = on.6.0;
+        last = on.6.0;
+        upon = on.6.1;
+        goes = looks_self on.6.0;
+        behind = on.6.2;
+        own = on.6.3;
         events_are = x.0.events_are ∙ ap (λ z. Opened peer outbox ∷ z) ms.1;
         does = on.2;
-        goes_down = on.3;
-        why = early_ends e x.0.course ms.0 ([] ≡ []) M _ on.4 refl;
-        writes = subst W behind (writes a.0 b.answers (owed_bytes t) a.2 b.fed_are on.6);
+        goes_down = on.6.4;
+        why = early_ends e x.0.course ms.0 ([] ≡ []) M _ on.3 refl;
+        writes = subst W behind (writes a.0 b.answers (owed_bytes t) a.2 b.fed_are on.5);
       });
     }
 runs_entered s t text fed peer outbox waiting f e before mid after held now L M V W N refuses_up refuses refuses_down old new begins same unconfirmed late are h writes handed (inr (inr on)) =
     let x = h (first_of s.state) [] (going (Opening (first_of s.state))) tt (begun_at s text begins) in
     let come = subst (λ z. Comes z (Opening (first_of s.state)) x.0.piece x.0.course x.0.rest) (sym same) x.0.comes in
-    let y = on.5 (first_of s.state) x.0.piece x.0.rest x.0.course x.0.are_bytes come x.1.0 x.1.1.2.fate_is x.1.1.2.stands in
+    let y = on.5.6 (first_of s.state) x.0.piece x.0.rest x.0.course x.0.are_bytes come x.1.0 x.1.1.2.fate_is x.1.1.2.stands in
     record {
       bytes = x.0.piece ++ y.2.piece;
       course = y.2.course;
@@ -290,15 +290,16 @@ runs_entered s t text fed peer outbox waiting f e before mid after held now L M 
         came = on.1;
         others = y.1;
         downs = on.2;
-        begun = on.7.0;
-        last = on.7.1;
-        upon = on.7.2;
-        goes = on.7.3;
-        behind = on.7.4;
+        begun = on.5.0;
+        last = on.5.1;
+        upon = on.5.2;
+        goes = on.5.3;
+        behind = on.5.4;
+        own = on.5.5;
         events_are = y.2.events_are ∙ ap (λ z. z ++ y.0) x.0.events_are ∙ ap (λ z. Opened peer outbox ∷ z) y.3;
         does = on.3;
-        goes_down = on.4;
+        goes_down = on.5.7;
         why = ends_map e y.2.course y.1 ⊥ (on.1 ≡ []) L M _ _ (λ z. absurd z) late (λ r z. z) y.4;
-        writes = handed on.6 (y.2.course.bytes ++ owed_in y.2.course.phase);
+        writes = handed on.4 (y.2.course.bytes ++ owed_in y.2.course.phase);
       });
     }

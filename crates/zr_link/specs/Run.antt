@@ -3,7 +3,7 @@ use Rattle.std.specs.Prelude.{◌≡◌, ◌≢◌, ◌⊎◌, ℕ, List, [], �
 use mathlib.Core.List.{IsPrefix}
 use Rattle.zr_id.specs.declared.link.LinkNo.{LinkNo}
 use Rattle.zr_frame.specs.Outbox.{OutboxState}
-use Rattle.zr_msg.specs.declared.event.Event.TheVariants.{Up}
+use Rattle.zr_msg.specs.declared.event.Event.TheVariants.{Up, Down}
 use Rattle.zr_msg.specs.declared.msg.Msg.{Msg}
 use Rattle.zr_msg.specs.Peer.{PeerState}
 use Rattle.zr_open.specs.declared.error.Reason.{Reason}
@@ -33,7 +33,7 @@ use Rattle.zr_link.specs.declared.end.LinkEnd.TheVariants as end
 use Rattle.zr_link.specs.Ends.{end_of_up, end_of_delivery, reason_of, IsEarly}
 use Rattle.zr_link.specs.Heard.{AreBytes, Takes, Heard, Closes, FateIs, messages, first_of, IsOpen}
 use Rattle.zr_link.specs.Acts.{Act, Does, up, down, froms}
-use Rattle.zr_port.specs.Coming.{Sight, sight, AddsOne, Came, messages_of, delivered, Through}
+use Rattle.zr_port.specs.Coming.{Sight, sight, AddsOne, Looks, Came, messages_of, delivered, Through}
 
 -- ---- messages that are delivered on a link
 
@@ -52,15 +52,13 @@ pub record Stops (refuses : Msg → DeliverError → Type 0) (rest : List Sessio
   pub refused : error ≢ deliver.NoMemory → refuses msg error
   pub ends : end_of_delivery error ≡ Some end
 
--- The first of these messages was refused, after a list of entries that the pass had seen, and so this end closes the session
-pub record Refuses (refuses : List Entry → Msg → DeliverError → Type 0) (seen : List Entry) (others : List Msg) (reason : Reason) : Type 0 where
+-- The first of these messages was refused, and so this end closes the session
+pub record Refuses (refuses : Msg → DeliverError → Type 0) (others : List Msg) (reason : Reason) : Type 0 where
   pub msg : Msg
   pub rest : List Msg
   pub error : DeliverError
-  pub before : List Entry
   pub first : others ≡ msg ∷ rest
-  pub prefix : IsPrefix before seen
-  pub refused : refuses before msg error
+  pub refused : refuses msg error
   pub ends : end_of_delivery error ≡ Some (end.Closed reason)
 
 -- Why a reader ends whose link is up, by what was heard and by the messages that were not delivered. `Early` is told of ends that come before the
@@ -82,14 +80,14 @@ EndIs (fate.Closed reason) e = e ≡ end.Closed reason
 EndIs (fate.Peer reason) e = e ≡ end.Peer reason
 
 -- A reader whose link is up went on until an end, from where bytes have led the session and some events still wait: these messages of what waited and of
--- what was heard since came, in order
+-- what was heard since came, in order. The next one was looked at after the pass had seen `last`
 abbrev pub Follows : LinkNo → List Came → SessionState → List SessionEvent → Fate → LinkEnd → Option (List ℕ) → Option (List ℕ) → (Phase → Type 0)
     → (List Entry → LinkNo → Msg → DeliverError → Type 0) → List Entry → Type 0
-Follows link came s waiting f end before after Late refuses seen =
+Follows link came s waiting f end before after Late refuses last =
     (first : Expected) (bytes rest : List ℕ) (c : Course) → AreBytes bytes → Comes s.opening (Opening first) bytes c rest → IsOpen c.phase → FateIs f c (λ p. ⊥)
     → (f ≡ fate.Going → IsAt first s bytes c)
     → (later : List SessionEvent) × (others : List Msg) × (h : Heard first s.opening bytes c later before after) × (waiting ++ later ≡ messages (messages_of came ++ others))
-    × UpEnds end h.course others ⊥ Late (λ reason. Refuses (λ h m e. refuses h link m e) seen others reason)
+    × UpEnds end h.course others ⊥ Late (λ reason. Refuses (λ m e. refuses last link m e) others reason)
 
 -- ---- a whole run
 
@@ -120,9 +118,11 @@ pub record StaysDown (end : LinkEnd) (c : Course) (Late : Phase → Type 0) (Wri
   pub why : EarlyEnds end c c.events Late (λ reason. NotTaken refuses (seen new) c.events reason)
   pub writes : Writes c.bytes
 
--- the link goes down with the reason of the reader's end, unless the port refuses that
-abbrev pub GoesDown : LinkNo → LinkEnd → (DownError → Type 0) → List Act → Type 0
-GoesDown link end refuses downs = (downs ≡ down link (reason_of end) ∷ []) ⊎ ((downs ≡ []) × ((error : DownError) × (error ≢ down_error.NoMemory → refuses error)))
+-- the link goes down with the reason of the reader's end, behind all that was seen and added before, unless the port refuses that
+abbrev pub GoesDown : LinkNo → LinkEnd → (DownError → Type 0) → List Act → Sight → Sight → Type 0
+GoesDown link end refuses downs old new =
+    ((downs ≡ down link (reason_of end) ∷ []) × AddsOne (Down link) None (reason_of end) old new)
+    ⊎ ((downs ≡ []) × Looks old new × ((error : DownError) × (error ≢ down_error.NoMemory → refuses error)))
 
 -- The link came up with the peer and the outbox with which the session opened, then messages came, in order, each delivered or passed over, and at last
 -- it went down. The
@@ -140,9 +140,10 @@ pub record ComesUp (end : LinkEnd) (c : Course) (Late : Phase → Type 0) (Write
   pub upon : AddsOne (Up link peer) (Some outbox) None (sight old) begun
   pub goes : Through link (λ h m e. refuses h link m e) came begun last
   pub behind : IsPrefix last.seen (seen new)
+  pub own : IsPrefix last.mine (mine new)
   pub does : Does (up link peer outbox ∷ (froms link (delivered came) ++ downs)) (mine old) (mine new)
-  pub goes_down : GoesDown link end (λ e. refuses_down (seen new) link e) downs
-  pub why : UpEnds end c others (came ≡ []) Late (λ reason. Refuses (λ h m e. refuses h link m e) (seen new) others reason)
+  pub goes_down : GoesDown link end (λ e. refuses_down (seen new) link e) downs last (sight new)
+  pub why : UpEnds end c others (came ≡ []) Late (λ reason. Refuses (λ m e. refuses last.seen link m e) others reason)
   pub writes : Writes (c.bytes ++ owed_in c.phase)
 
 -- Either the sink came back, and the crew tells what it told before; or the writer was started, and the crew tells it last, by the link that came up
@@ -159,16 +160,19 @@ EndsRefused peer end before after Writes refuses_up old new =
 -- The port takes it, and no writer is started: the answer to OPEN is written, and the link goes down
 abbrev pub EndsEarly : PeerState → OutboxState → SessionState → LinkEnd → Option (List ℕ) → Option (List ℕ) → (List ℕ → Type 0) → (List Entry → LinkNo → DownError → Type 0) → Pass Entry → Pass Entry → Type 0
 EndsEarly peer outbox s end before after Writes refuses_down old new =
-    (link : LinkNo) × (downs : List Act) × Does (up link peer outbox ∷ downs) (mine old) (mine new) × GoesDown link end (λ e. refuses_down (seen new) link e) downs
-    × IsEarly end × (after ≡ before) × Writes (owed_bytes s) × ((begun : Sight) × AddsOne (Up link peer) (Some outbox) None (sight old) begun × IsPrefix begun.seen (seen new))
+    (link : LinkNo) × (downs : List Act) × Does (up link peer outbox ∷ downs) (mine old) (mine new)
+    × IsEarly end × (after ≡ before) × Writes (owed_bytes s) × ((begun : Sight) × AddsOne (Up link peer) (Some outbox) None (sight old) begun × IsPrefix begun.seen (seen new) × IsPrefix begun.mine (mine new)
+    × GoesDown link end (λ e. refuses_down (seen new) link e) downs begun (sight new))
 
 -- The port takes it, and its writer is started: messages are delivered, and the link goes down. The sink is handed on
 abbrev pub EndsStarted : PeerState → OutboxState → SessionState → List SessionEvent → Fate → LinkEnd → Option (List ℕ) → Option (List ℕ) → (Phase → Type 0) → Type 0
     → (List Entry → LinkNo → Msg → DeliverError → Type 0) → (List Entry → LinkNo → DownError → Type 0) → Pass Entry → Pass Entry → Type 0
 EndsStarted peer outbox s waiting f end before after Late IsHandedOn refuses refuses_down old new =
     (link : LinkNo) × (came : List Came) × (downs : List Act) × Does (up link peer outbox ∷ (froms link (delivered came) ++ downs)) (mine old) (mine new)
-    × GoesDown link end (λ e. refuses_down (seen new) link e) downs × Follows link came s waiting f end before after Late refuses (seen new) × IsHandedOn
-    × ((begun : Sight) × (last : Sight) × AddsOne (Up link peer) (Some outbox) None (sight old) begun × Through link (λ h m e. refuses h link m e) came begun last × IsPrefix last.seen (seen new))
+    × IsHandedOn
+    × ((begun : Sight) × (last : Sight) × AddsOne (Up link peer) (Some outbox) None (sight old) begun × Through link (λ h m e. refuses h link m e) came begun last
+    × IsPrefix last.seen (seen new) × IsPrefix last.mine (mine new) × Follows link came s waiting f end before after Late refuses last.seen
+    × GoesDown link end (λ e. refuses_down (seen new) link e) downs last (sight new))
 
 -- The session has opened, and the port takes the peer or not. `Writes` is told of the answer to OPEN, where it is written
 abbrev pub Enters : PeerState → OutboxState → SessionState → List SessionEvent → Fate → LinkEnd → Option (List ℕ) → Option (List ℕ) → (Phase → Type 0) → (List ℕ → Type 0) → Type 0

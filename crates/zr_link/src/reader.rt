@@ -216,7 +216,7 @@ fn leave<P: Port>(port: &P, pass: &mut Pass<Entry>, link: LinkNo, end: LinkEnd)
     requires { pass_name pass.old ≡ P.history port.now }
     ensures same { IsSamePass pass.old pass.new }
     ensures prefix { IsPrefix (seen pass.old) (seen pass.new) }
-    ensures left { (downs : List Act) × GoesDown link end (λ e. P.refuses_down port.now (seen pass.new) link e) downs × Does downs (mine pass.old) (mine pass.new) }
+    ensures left { (downs : List Act) × GoesDown link end (λ e. P.refuses_down port.now (seen pass.new) link e) downs (sight pass.old) (sight pass.new) × Does downs (mine pass.old) (mine pass.new) }
 {
     // a link that another caller took down, or memory that ran out, changes nothing of how the reader ends
     let _ = port.down(pass, link, end.reason());

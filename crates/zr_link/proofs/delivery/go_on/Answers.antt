@@ -2,7 +2,6 @@
 use Rattle.std.proofs.Common.{◌≡◌, ◌≤◌, ◌∙◌, true, min, refl, sym, subst, [], append-nil}
 use Rattle.std.proofs.Math.Nat.{le_refl, le_trans}
 use Rattle.zr_lists.proofs.Prefixes.{prefix_trans}
-use Rattle.zr_hist.specs.Words.{seen}
 use Rattle.zr_port.specs.Coming.{sight}
 use Rattle.zr_session.specs.Session.{SessionState, is_running}
 use Rattle.zr_link.specs.Heard.{IsLate, IsIn, IsOpen}
@@ -36,7 +35,7 @@ pub returns-in-Err-clause-followed : goal.returns-in-Err-clause-followed
 returns-in-Err-clause-followed g c =
     let all = gone_lost c.args.link c.args.intake.now.session c.loop.intake.session _ _ _ _ _ c.in-Err.end
     (IsLate (g.S.Source.quiets c.args.source.now) (g.S.Source.quiets c.next.new.source) c.args.intake.now.session.heard (g.C.Clock.last c.args.clock.now) (g.C.Clock.last c.next.new.clock))
-    (g.P.Port.refuses_message c.args.port.now) (seen c.loop.pass) c.loop.invariant.gone (plainly_some c.loop.intake.session _ _ _ c.in-Err.ensures.lost) in
+    (g.P.Port.refuses_message c.args.port.now) c.loop.invariant.gone (plainly_some c.loop.intake.session _ _ _ c.in-Err.ensures.lost) in
     (all.came, all.goes, all.follows)
 
 pub returns-in-Err-settle-clause-followed : goal.returns-in-Err-settle-clause-followed
@@ -46,7 +45,7 @@ returns-in-Err-settle-clause-followed g c =
     let are = c.into_iter-events.ensures.rest ∙ c.take_events.ensures.0 in
     let all = gone_settled c.args.link c.args.intake.now.session c.loop.intake.session c.next.new.self.session c.next.new.self.fed.events.items stops.0 _ _ _ _ _ _ c.in-Ok.fate c.in-Err-settle.end _
     (IsLate (g.S.Source.quiets c.args.source.now) (g.S.Source.quiets c.next.new.source) c.args.intake.now.session.heard (g.C.Clock.last c.args.clock.now) (g.C.Clock.last c.next.new.clock))
-    (g.P.Port.refuses_message c.args.port.now) (seen c.settle.new.pass) (λ p l. late_before _ _ _ _ _ _ _ _ p inv.later.0 inv.later.1 inv.moment l.1) inv.gone (plainly c.loop.intake.session c.next.new.self.session _ _ _ _ _ _ c.in-Ok.ensures.heard)
+    (g.P.Port.refuses_message c.args.port.now) (λ p l. late_before _ _ _ _ _ _ _ _ p inv.later.0 inv.later.1 inv.moment l.1) inv.gone (plainly c.loop.intake.session c.next.new.self.session _ _ _ _ _ _ c.in-Ok.ensures.heard)
     (subst (λ z. Delivers c.args.link (λ h m x. g.P.Port.refuses_message c.args.port.now h c.args.link m x) z stops.0 (sight c.loop.pass) (sight c.settle.new.pass)) are stops.1) stops.2 in
     (all.came, all.goes, all.follows)
 
@@ -77,7 +76,7 @@ pub returns-clause-followed : goal.returns-clause-followed
 returns-clause-followed g c =
     let all = gone_over c.args.link c.args.intake.now.session c.loop.intake.session _ _ _ _
     (IsLate (g.S.Source.quiets c.args.source.now) (g.S.Source.quiets c.loop.source) c.args.intake.now.session.heard (g.C.Clock.last c.args.clock.now) (g.C.Clock.last c.loop.clock))
-    (g.P.Port.refuses_message c.args.port.now) (seen c.loop.pass) c.loop.invariant.gone c.loop.invariant.running in
+    (g.P.Port.refuses_message c.args.port.now) c.loop.invariant.gone c.loop.invariant.running in
     (all.came, all.goes, all.follows)
 
 pub returns-in-Err-clause-fault : goal.returns-in-Err-clause-fault

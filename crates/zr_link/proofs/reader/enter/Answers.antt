@@ -5,7 +5,7 @@ use Rattle.std.proofs.lemmas.List.{append-nil}
 use Rattle.std.specs.Prelude.{Some, None}
 use Rattle.std.specs.Vec.Iter.{into_iter_items}
 use Rattle.zr_msg.specs.declared.event.Event.TheVariants as event
-use Rattle.zr_hist.specs.Words.{seen, mine}
+use Rattle.zr_hist.specs.Words.{mine}
 use Rattle.zr_session.specs.Session.{SessionState, with_confirmed}
 use Rattle.zr_link.specs.Heard.{IsLate}
 use Rattle.zr_link.specs.Acts.{up, froms}
@@ -38,7 +38,7 @@ returns-in-Ok-begin-clause-entered g c =
     let on = c.follow-end.ensures.followed in
     let followed = subst (λ (z : SessionState). Followed link z waiting c.args.opened.fate c.follow-end.result (g.S.Source.left c.args.source.now) (g.S.Source.left c.follow-end.new.source)
     (IsLate (g.S.Source.quiets c.args.source.now) (g.S.Source.quiets c.follow-end.new.source) z.heard (g.C.Clock.last c.args.clock.now) (g.C.Clock.last c.follow-end.new.clock))
-    (g.P.Port.refuses_message c.args.port.now) (seen c.follow-end.new.pass) (sight c.up.new.pass) (sight c.follow-end.new.pass)) same (record { came = on.0; goes = on.1; follows = on.2 }) in
+    (g.P.Port.refuses_message c.args.port.now) (sight c.up.new.pass) (sight c.follow-end.new.pass)) same (record { came = on.0; goes = on.1; follows = on.2 }) in
     let down = c.leave.ensures.left in
     enters_followed c.args.opened.peer c.args.opened.outbox S waiting c.args.opened.fate c.follow-end.result (g.S.Source.left c.args.source.now) (g.S.Source.left c.follow-end.new.source)
     (IsLate (g.S.Source.quiets c.args.source.now) (g.S.Source.quiets c.follow-end.new.source) S.heard (g.C.Clock.last c.args.clock.now) (g.C.Clock.last c.follow-end.new.clock))
