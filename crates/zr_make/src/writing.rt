@@ -2,7 +2,7 @@
 
 ghost use Rattle.std.specs.Prelude.{◌≡◌, ◌+◌, ◌*◌, ◌-◌, ◌<◌, ◌≤◌, ◌%◌, true, [], ◌∷◌, codes, Err, OnErr, OnOk};
 ghost use Rattle.rand_core.specs.Stream.{next_u32};
-ghost use Rattle.zr_outside.specs.Counts.{Rose};
+ghost use Rattle.zr_outside.specs.Counts.{Rose, RoseOnlyBy};
 ghost use Rattle.zr_outside.specs.Told.{Appends, AppendsPrefix};
 ghost use Rattle.zr_make.specs.Draws.{behind, pick};
 ghost use Rattle.zr_make.specs.Making.{Makes};
@@ -36,6 +36,7 @@ pub fn make<K: Sink>(alloc: Global, plan: &MakePlan, out: &mut K) -> Result<(), 
     ensures done { OnOk result (Appends (text_of (script plan.now)) (K.held out.old) (K.held out.new)) }
     ensures stopped { OnErr result (AppendsPrefix (text_of (script plan.now)) (K.held out.old) (K.held out.new)) }
     ensures fault { result ≡ Err MakeError.WriteFault → Rose (K.faults out.old) (K.faults out.new) }
+    ensures only { RoseOnlyBy MakeError.WriteFault result (K.faults out.old) (K.faults out.new) }
     ensures later { K.faults out.old ≤ K.faults out.new }
 {
     let mut rng = Lcg64Xsh32::seed_from_u64(plan.number);
@@ -57,6 +58,7 @@ fn write_network<R: Rng, K: Sink>(
     ensures made { Makes result (network (R.stream rng.old) routers clients) (K.held out.old) (K.held out.new) }
     ensures drawn { OnOk result (R.stream rng.new ≡ behind (3 * clients) (behind (routers - 1) (R.stream rng.old))) }
     ensures fault { result ≡ Err MakeError.WriteFault → Rose (K.faults out.old) (K.faults out.new) }
+    ensures only { RoseOnlyBy MakeError.WriteFault result (K.faults out.old) (K.faults out.new) }
     ensures later { K.faults out.old ≤ K.faults out.new }
 {
     write_routers(routers, text, out)?;
@@ -77,6 +79,7 @@ fn write_traffic<R: Rng, K: Sink>(
     requires some { 0 < messages → 0 < clients }
     ensures made { Makes result (traffic (R.stream rng.old) clients messages) (K.held out.old) (K.held out.new) }
     ensures fault { result ≡ Err MakeError.WriteFault → Rose (K.faults out.old) (K.faults out.new) }
+    ensures only { RoseOnlyBy MakeError.WriteFault result (K.faults out.old) (K.faults out.new) }
     ensures later { K.faults out.old ≤ K.faults out.new }
 {
     write_samples(clients, messages, rng, text, out)?;
@@ -87,6 +90,7 @@ fn write_routers<K: Sink>(count: u32, text: &mut Vec<u8>, out: &mut K) -> Result
     requires { count ≤ 64 }
     ensures made { Makes result (all_routers count) (K.held out.old) (K.held out.new) }
     ensures fault { result ≡ Err MakeError.WriteFault → Rose (K.faults out.old) (K.faults out.new) }
+    ensures only { RoseOnlyBy MakeError.WriteFault result (K.faults out.old) (K.faults out.new) }
     ensures later { K.faults out.old ≤ K.faults out.new }
 {
     for index in 0..count {
@@ -105,6 +109,7 @@ fn write_links<R: Rng, K: Sink>(
     ensures made { Makes result (all_links (R.stream rng.old) count) (K.held out.old) (K.held out.new) }
     ensures drawn { OnOk result (R.stream rng.new ≡ behind count (R.stream rng.old)) }
     ensures fault { result ≡ Err MakeError.WriteFault → Rose (K.faults out.old) (K.faults out.new) }
+    ensures only { RoseOnlyBy MakeError.WriteFault result (K.faults out.old) (K.faults out.new) }
     ensures later { K.faults out.old ≤ K.faults out.new }
 {
     for index in 0..count {
@@ -126,6 +131,7 @@ fn write_clients<R: Rng, K: Sink>(
     ensures made { Makes result (all_clients (R.stream rng.old) routers count) (K.held out.old) (K.held out.new) }
     ensures drawn { OnOk result (R.stream rng.new ≡ behind (3 * count) (R.stream rng.old)) }
     ensures fault { result ≡ Err MakeError.WriteFault → Rose (K.faults out.old) (K.faults out.new) }
+    ensures only { RoseOnlyBy MakeError.WriteFault result (K.faults out.old) (K.faults out.new) }
     ensures later { K.faults out.old ≤ K.faults out.new }
 {
     for index in 0..count {
@@ -146,6 +152,7 @@ fn write_samples<R: Rng, K: Sink>(
     requires some { 0 < count → 0 < clients }
     ensures made { Makes result (all_samples (R.stream rng.old) clients count) (K.held out.old) (K.held out.new) }
     ensures fault { result ≡ Err MakeError.WriteFault → Rose (K.faults out.old) (K.faults out.new) }
+    ensures only { RoseOnlyBy MakeError.WriteFault result (K.faults out.old) (K.faults out.new) }
     ensures later { K.faults out.old ≤ K.faults out.new }
 {
     for index in 0..count {
@@ -158,6 +165,7 @@ fn write_router<K: Sink>(index: u32, text: &mut Vec<u8>, out: &mut K) -> Result<
     requires { index < 64 }
     ensures made { Makes result (router_line (index + 1) ∷ []) (K.held out.old) (K.held out.new) }
     ensures fault { result ≡ Err MakeError.WriteFault → Rose (K.faults out.old) (K.faults out.new) }
+    ensures only { RoseOnlyBy MakeError.WriteFault result (K.faults out.old) (K.faults out.new) }
     ensures later { K.faults out.old ≤ K.faults out.new }
 {
     text.clear();
@@ -175,6 +183,7 @@ fn write_link<R: Rng, K: Sink>(
     ensures made { Makes result (link_lines (index + 2) (1 + pick (R.stream rng.old) 0 (index + 1))) (K.held out.old) (K.held out.new) }
     ensures drawn { R.stream rng.new ≡ behind 1 (R.stream rng.old) }
     ensures fault { result ≡ Err MakeError.WriteFault → Rose (K.faults out.old) (K.faults out.new) }
+    ensures only { RoseOnlyBy MakeError.WriteFault result (K.faults out.old) (K.faults out.new) }
     ensures later { K.faults out.old ≤ K.faults out.new }
 {
     let peer = 1 + pick(rng, index + 1);
@@ -196,6 +205,7 @@ fn write_client<R: Rng, K: Sink>(
     ensures made { Makes result (client_lines (index + 1) (1 + pick (R.stream rng.old) 0 routers) (pick (R.stream rng.old) 1 4) (pick (R.stream rng.old) 2 8)) (K.held out.old) (K.held out.new) }
     ensures drawn { R.stream rng.new ≡ behind 3 (R.stream rng.old) }
     ensures fault { result ≡ Err MakeError.WriteFault → Rose (K.faults out.old) (K.faults out.new) }
+    ensures only { RoseOnlyBy MakeError.WriteFault result (K.faults out.old) (K.faults out.new) }
     ensures later { K.faults out.old ≤ K.faults out.new }
 {
     let router = 1 + pick(rng, routers);
@@ -219,6 +229,7 @@ fn write_sample<R: Rng, K: Sink>(
     ensures made { Makes result (sample_line (1 + pick (R.stream rng.old) 0 clients) (pick (R.stream rng.old) 1 8) (index + 1) ∷ []) (K.held out.old) (K.held out.new) }
     ensures drawn { R.stream rng.new ≡ behind 2 (R.stream rng.old) }
     ensures fault { result ≡ Err MakeError.WriteFault → Rose (K.faults out.old) (K.faults out.new) }
+    ensures only { RoseOnlyBy MakeError.WriteFault result (K.faults out.old) (K.faults out.new) }
     ensures later { K.faults out.old ≤ K.faults out.new }
 {
     let client = 1 + pick(rng, clients);

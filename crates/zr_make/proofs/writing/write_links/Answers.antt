@@ -1,7 +1,9 @@
-use Rattle.std.proofs.Common.{◌+◌, arith, le_trans}
+use Rattle.std.proofs.Common.{◌∙◌, ◌+◌, arith}
 use Rattle.rand_core.specs.Stream.{Stream}
 use Rattle.zr_make.specs.Draws.{pick}
 use Rattle.zr_make.specs.Script.{link_lines}
+use Rattle.zr_outside.proofs.Counting.{only_stopped}
+use Rattle.zr_make.specs.declared.error.MakeError.TheVariants as e
 use Rattle.zr_make.proofs.Joining.{item_made, item_stopped, made_stopped, drawn_more, link_is}
 use Rattle.zr_make.proofs.writing.write_links.Goals as goal
 
@@ -17,5 +19,9 @@ loop-index-preserved g c =
     record {
       made = item_made (λ i. link_lines (i + 2) (1 + pick drawn i (i + 1))) c.loop-index.index _ _ _ _ (link_is _ drawn c.loop-index.index c.loop-index.invariant.drawn) c.loop-index.invariant.made c.in_ok-write_link.ensures.made;
       drawn = drawn_more _ _ drawn c.loop-index.index 1 (c.loop-index.index + 1) c.loop-index.invariant.drawn c.in_ok-write_link.ensures.drawn (omega arith);
-      later = le_trans c.loop-index.invariant.later c.in_ok-write_link.ensures.later;
+      quiet = c.in_ok-write_link.ensures.only ∙ c.loop-index.invariant.quiet;
     }
+
+pub returns-in_err-write_link-clause-only : goal.returns-in_err-write_link-clause-only
+returns-in_err-write_link-clause-only g c =
+    only_stopped e.WriteFault c.from_residual.result c.in_err-write_link.field-0.0 _ _ _ c.from_residual.ensures.1 c.loop-index.invariant.quiet c.in_err-write_link.ensures.only

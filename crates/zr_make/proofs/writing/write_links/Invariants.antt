@@ -1,4 +1,4 @@
-use Rattle.std.proofs.Common.{◌≡◌, ◌≤◌}
+use Rattle.std.proofs.Common.{◌≡◌}
 use Rattle.zr_outside.specs.Told.{Appends}
 use Rattle.zr_make.specs.Draws.{behind}
 use Rattle.zr_make.specs.Script.{all_links, text_of}
@@ -8,5 +8,5 @@ abbrev pub invariant-loop-index : goal.invariant-loop-index
 invariant-loop-index g l = record {
   made : Appends (text_of (all_links (g.R.Rng.stream l.fn.rng) l.index)) (g.K.Sink.held l.fn.out) (g.K.Sink.held l.out);
   drawn : g.R.Rng.stream l.rng ≡ behind l.index (g.R.Rng.stream l.fn.rng);
-  later : g.K.Sink.faults l.fn.out ≤ g.K.Sink.faults l.out;
+  quiet : g.K.Sink.faults l.out ≡ g.K.Sink.faults l.fn.out;
 }
