@@ -1,6 +1,6 @@
 //! `run_script`: a script from a source, its report or the summary of it to a sink, and why it is refused to another sink.
 
-ghost use Rattle.std.specs.Prelude.{◌≡◌, ◌≤◌, ◌⊎◌, IfOk};
+ghost use Rattle.std.specs.Prelude.{◌≡◌, ◌<◌, ◌≤◌, ◌⊎◌, IfOk};
 ghost use Rattle.zr_outside.specs.Counts.{Rose};
 ghost use Rattle.zr_outside.specs.Piece.{IsReadToEnd};
 ghost use Rattle.zr_world_spec.specs.Run.{start};
@@ -40,7 +40,7 @@ const MOST_A_READ: usize = 65_536;
 ///
 /// A refused line ends the run: `err` then has `line N: NUMBER NAME`, and its explanation behind it where that is asked for. So does a
 /// script of more than 67,108,864 bytes, none of whose lines within them is refused: `err` has `script too long`. A status of fault comes
-/// only where that count rose in this call.
+/// only where that count rose in this call, and a read that fails ends the run by that status.
 #[tactic(auto, using(crate::proofs::Starting::from_start, crate::proofs::Asked::writes_report, crate::proofs::Asked::writes_summary))]
 pub fn run_script<S: Source, K: Sink, E: Sink>(
     alloc: Global,
@@ -51,6 +51,7 @@ pub fn run_script<S: Source, K: Sink, E: Sink>(
 ) -> Status
     ensures writes { WritesAsAsked options (S.left input.old) (S.left input.new) (IsReadToEnd (S.ends input.old) (S.ends input.new) (S.quiets input.old) (S.quiets input.new)) result (K.held out.old) (K.held out.new) (E.held err.old) (E.held err.new) }
     ensures ends { IsEnded (IsReadToEnd (S.ends input.old) (S.ends input.new) (S.quiets input.old) (S.quiets input.new)) result (S.faults input.old) (S.faults input.new) (K.faults out.old) (K.faults out.new) (E.faults err.old) (E.faults err.new) }
+    ensures only { S.faults input.old < S.faults input.new → result ≡ Status.ReadFault }
 {
     if options.summary {
         return sum_up(alloc, options, input, out, err);
@@ -71,6 +72,7 @@ fn sum_up<S: Source, K: Sink, E: Sink>(
 ) -> Status
     ensures summed_up { OfRead (S.left input.old) (S.left input.new) (IsSummedUp options.explain (IsReadToEnd (S.ends input.old) (S.ends input.new) (S.quiets input.old) (S.quiets input.new)) result (K.held out.old) (K.held out.new) (E.held err.old) (E.held err.new)) }
     ensures ends { IsEnded (IsReadToEnd (S.ends input.old) (S.ends input.new) (S.quiets input.old) (S.quiets input.new)) result (S.faults input.old) (S.faults input.new) (K.faults out.old) (K.faults out.new) (E.faults err.old) (E.faults err.new) }
+    ensures only { S.faults input.old < S.faults input.new → result ≡ Status.ReadFault }
 {
     steps_are_possible();
     let mut runner = Runner::new(alloc, Some(Counts::new()));
@@ -113,6 +115,7 @@ fn run_lines<S: Source, K: Sink, E: Sink>(
     ensures mode { result ≡ Status.Done → writes runner.new ≡ writes runner.old }
     ensures report { OfRead (S.left input.old) (S.left input.new) (IsRun options.explain (IsReadToEnd (S.ends input.old) (S.ends input.new) (S.quiets input.old) (S.quiets input.new)) result (seen (writes runner.old) (K.held out.old)) (seen (writes runner.old) (K.held out.new)) (E.held err.old) (E.held err.new) runner.new) }
     ensures ends { IsEnded (IsReadToEnd (S.ends input.old) (S.ends input.new) (S.quiets input.old) (S.quiets input.new)) result (S.faults input.old) (S.faults input.new) (K.faults out.old) (K.faults out.new) (E.faults err.old) (E.faults err.new) }
+    ensures only { S.faults input.old < S.faults input.new → result ≡ Status.ReadFault }
 {
     let mut piece = [0; MOST_A_READ];
     let mut total: usize = 0;

@@ -5,6 +5,7 @@ use Rattle.zr_script_spec.specs.Lines.{ended_lines}
 use Rattle.zr_script_spec.specs.Report.{too_long_text}
 use Rattle.zr_outside.specs.Piece.{IsReadToEnd}
 use Rattle.zr_outside.specs.Told.{Consumes}
+use Rattle.zr_outside.proofs.Counting.{counted_same}
 use Rattle.zr_netrun_lines.specs.Kept.{Kept, fresh, writes}
 use Rattle.zr_netrun_lines.specs.Possible.{StepsGo}
 use Rattle.zr_netrun_lines.proofs.Writing.{seen_at, seen_stopped}
@@ -28,7 +29,7 @@ reading-init g c =
       sized = search rules;
       quiets = omega arith;
       ends = omega arith;
-      input = omega arith;
+      input = refl;
       out = omega arith;
       err = omega arith;
       err_same = refl;
@@ -73,7 +74,7 @@ reading-preserved g c =
       sized = search rules;
       quiets = omega (arith, c.in-Bytes.ensures.quiets.0, c.reading.invariant.quiets);
       ends = omega (arith, c.in-Bytes.ensures.ends.0, c.reading.invariant.ends);
-      input = omega (arith, c.in-Bytes.ensures.failed.later, c.reading.invariant.input);
+      input = counted_same _ _ _ c.in-Bytes.ensures.failed (λ e. cc) ∙ c.reading.invariant.input;
       out = omega (arith, c.in-Ok.ensures.later, c.reading.invariant.out);
       err = c.reading.invariant.err;
       err_same = c.reading.invariant.err_same;
@@ -108,3 +109,27 @@ pub returns-in-Failed-clause-report : goal.returns-in-Failed-clause-report
 returns-in-Failed-clause-report g c =
     not_done c.args.options.explain _ _ _ _ _ _ _ _ _ fault_not_done
     (fails_reading c.args.options.explain _ _ _ _ c.reading.total c.reading.runner _ _ _ _ c.reading.invariant.read c.in-Failed.ensures.bytes c.reading.invariant.most c.reading.invariant.err_same)
+
+pub returns-in-Err-clause-only : goal.returns-in-Err-clause-only
+returns-in-Err-clause-only g c = λ rose.
+    let same = counted_same _ _ _ c.in-Bytes.ensures.failed (λ e. cc) in
+    let before = c.reading.invariant.input in
+    absurd (omega (arith, same, before, rose))
+
+pub returns-then-used-count-clause-only : goal.returns-then-used-count-clause-only
+returns-then-used-count-clause-only g c = λ rose.
+    let same = counted_same _ _ _ c.in-Bytes.ensures.failed (λ e. cc) in
+    let before = c.reading.invariant.input in
+    absurd (omega (arith, same, before, rose))
+
+pub returns-in-Ok-finish-clause-only : goal.returns-in-Ok-finish-clause-only
+returns-in-Ok-finish-clause-only g c = λ rose.
+    let same = counted_same _ _ _ c.in-End.ensures.failed (λ e. cc) in
+    let before = c.reading.invariant.input in
+    absurd (omega (arith, same, before, rose))
+
+pub returns-in-Err-finish-clause-only : goal.returns-in-Err-finish-clause-only
+returns-in-Err-finish-clause-only g c = λ rose.
+    let same = counted_same _ _ _ c.in-End.ensures.failed (λ e. cc) in
+    let before = c.reading.invariant.input in
+    absurd (omega (arith, same, before, rose))

@@ -16,7 +16,7 @@ invariant-reading g l = record {
   sized : length l.piece ≡ 65536;
   quiets : g.S.Source.quiets l.fn.input ≤ g.S.Source.quiets l.input;
   ends : g.S.Source.ends l.fn.input ≤ g.S.Source.ends l.input;
-  input : g.S.Source.faults l.fn.input ≤ g.S.Source.faults l.input;
+  input : g.S.Source.faults l.input ≡ g.S.Source.faults l.fn.input;
   out : g.K.Sink.faults l.fn.out ≤ g.K.Sink.faults l.out;
   err : g.E.Sink.faults l.fn.err ≤ g.E.Sink.faults l.err;
   err_same : g.E.Sink.held l.err ≡ g.E.Sink.held l.fn.err;
