@@ -1,6 +1,6 @@
 //! `read_rules`: the policy of all bytes of an input.
 
-ghost use Rattle.std.specs.Prelude.{◌≡◌, ◌≤◌, [], Err, OnOk, length};
+ghost use Rattle.std.specs.Prelude.{◌≡◌, ◌<◌, ◌≤◌, [], Err, OnOk, length};
 ghost use Rattle.zr_outside.specs.Counts.{Rose};
 ghost use Rattle.zr_outside.specs.Piece.{IsReadToEnd};
 ghost use Rattle.zr_rules.specs.Given.{Gathers, GivesRules, IsGathered, OfBytes, most_bytes};
@@ -29,12 +29,13 @@ pub enum RulesError {
     NoMemory,
 }
 
-/// The policy of all bytes of an input, which is read to its end.
+/// The policy of all bytes of an input, which is read to its end. A read that fails is told as that.
 #[tactic(auto, using(crate::proofs::Gathering::of_gathered, crate::proofs::Gathering::fails_gathered))]
 pub fn read_rules<S: Source>(alloc: Global, input: &mut S) -> Result<Policy, RulesError>
     ensures rules { OfBytes (S.left input.old) (S.left input.new) (GivesRules (IsReadToEnd (S.ends input.old) (S.ends input.new) (S.quiets input.old) (S.quiets input.new)) result) }
     ensures whole { OnOk result (IsReadToEnd (S.ends input.old) (S.ends input.new) (S.quiets input.old) (S.quiets input.new)) }
     ensures fault { result ≡ Err RulesError.ReadFault → Rose (S.faults input.old) (S.faults input.new) }
+    ensures only { S.faults input.old < S.faults input.new → result ≡ Err RulesError.ReadFault }
     ensures later { S.faults input.old ≤ S.faults input.new }
 {
     let mut text = Vec::new(alloc);
@@ -57,6 +58,7 @@ fn gather<S: Source>(input: &mut S, text: &mut Vec<u8>) -> Result<(), RulesError
     ensures few { OnOk result (length text.new.items ≤ most_bytes) }
     ensures whole { OnOk result (IsReadToEnd (S.ends input.old) (S.ends input.new) (S.quiets input.old) (S.quiets input.new)) }
     ensures fault { result ≡ Err RulesError.ReadFault → Rose (S.faults input.old) (S.faults input.new) }
+    ensures only { S.faults input.old < S.faults input.new → result ≡ Err RulesError.ReadFault }
     ensures later { S.faults input.old ≤ S.faults input.new }
 {
     let mut piece = [0; MOST_A_READ];
