@@ -16,7 +16,8 @@ use Rattle.zr_outside.specs.declared.host.Call.{Call}
 use Rattle.zr_serve.proofs.Served.{not_begun}
 use Rattle.zr_serve.specs.Serving.{Outputs}
 use Rattle.zr_serve.specs.declared.end.ServeEnd.TheVariants as end
-use Rattle.zr_rules.specs.Given.{OfBytes}
+use Rattle.zr_rules.specs.Given.{OfBytes, TellsRules}
+use Rattle.zr_rules.specs.declared.telling.RulesEnd.{RulesEnd}
 use Rattle.zr_rules.specs.declared.telling.RulesEnd.TheVariants as rules_end
 use Rattle.zr_rules.specs.declared.rules.RulesError.{RulesError}
 use Rattle.zr_rules.specs.declared.rules.RulesError.TheVariants as rules_error
@@ -92,6 +93,12 @@ pub no_router : (s : Served) (left : Option (List ℕ)) (Ended : Type 0) (calls 
 no_router s left Ended calls told faults o =
     let none = asked_none s.rules s left Ended calls told faults o in
     record { given = none.0; rules = none.1; answers = none.2 }
+
+-- ---- a read of the rules failed
+
+-- nothing is told of that but the end
+pub read_fault_kept : (e : RulesError) (how : RulesEnd) (err err' : Option (List ℕ)) → e ≡ rules_error.ReadFault → TellsRules e how err err' → how ≡ rules_end.ReadFault
+read_fault_kept e how err err' is h = (subst (λ (z : RulesError). TellsRules z how err err') is h).0
 
 -- ---- whether the input is read
 

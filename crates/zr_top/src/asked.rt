@@ -1,6 +1,6 @@
 //! What the words ask for is done: a script is read, a router is served, or a script is made.
 
-ghost use Rattle.std.specs.Prelude.{◌≡◌, ◌≤◌, ◌⊎◌, true, false, is_some, map, Err, IfSome, OnErr};
+ghost use Rattle.std.specs.Prelude.{◌≡◌, ◌<◌, ◌≤◌, ◌⊎◌, true, false, is_some, map, Err, IfSome, OnErr};
 ghost use Rattle.std.specs.String.{string_bytes};
 ghost use Rattle.zr_outside_crew.specs.Crew.{crew_faults, crew_told};
 ghost use Rattle.zr_make.specs.Plan.{is_in_range};
@@ -70,6 +70,7 @@ where
     ensures host { result ≡ Status.HostFault → Rose (H.faults host.old) (H.faults host.new) }
     ensures refused { result ≡ Status.Refused → reads_input (map string_bytes words.now) ≡ true }
     ensures read { result ≡ Status.ReadFault → Rose (S.faults input.old) (S.faults input.new) }
+    ensures read_told { S.faults input.old < S.faults input.new → result ≡ Status.ReadFault }
     ensures write { result ≡ Status.WriteFault → Rose (K.faults out.old) (K.faults out.new) ⊎ Rose (E.faults err.old) (E.faults err.new) }
     ensures words { (result ≡ Status.Words → IsWrong (map string_bytes words.now)) × (IsRefused (map string_bytes words.now) → (result ≡ Status.Words) ⊎ (result ≡ Status.NoMemory)) }
     ensures input_later { S.faults input.old ≤ S.faults input.new }
@@ -122,6 +123,7 @@ where
     ensures ended { result ≡ Status.Done → Rose (H.ends host.old) (H.ends host.new) }
     ensures host { result ≡ Status.HostFault → Rose (H.faults host.old) (H.faults host.new) }
     ensures read { result ≡ Status.ReadFault → Rose (S.faults input.old) (S.faults input.new) }
+    ensures read_told { S.faults input.old < S.faults input.new → result ≡ Status.ReadFault }
     ensures write { result ≡ Status.WriteFault → Rose (K.faults out.old) (K.faults out.new) ⊎ Rose (E.faults err.old) (E.faults err.new) }
     ensures refused { result ≡ Status.Refused → words.rules ≡ true }
     ensures unread { words.rules ≡ false → input.new ≡ input.old }
@@ -138,6 +140,7 @@ where
 fn rules_for<S: Source>(alloc: Global, asked: bool, input: &mut S) -> Result<Policy, RulesError>
     ensures rules { HasRules asked (S.left input.old) (S.left input.new) (IsReadToEnd (S.ends input.old) (S.ends input.new) (S.quiets input.old) (S.quiets input.new)) result }
     ensures fault { result ≡ Err RulesError.ReadFault → Rose (S.faults input.old) (S.faults input.new) }
+    ensures only { S.faults input.old < S.faults input.new → result ≡ Err RulesError.ReadFault }
     ensures unread { asked ≡ false → input.new ≡ input.old }
     ensures refused { OnErr result (asked ≡ true) }
     ensures later { S.faults input.old ≤ S.faults input.new }

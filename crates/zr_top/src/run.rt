@@ -1,7 +1,9 @@
 //! `run`: the whole program over the sources and sinks that it is given.
 
-ghost use Rattle.std.specs.Prelude.{◌≡◌, ◌≤◌, ◌⊎◌, true, false, is_some, map, Some, IfSome, IsTrue};
+ghost use Rattle.std.specs.Prelude.{◌≡◌, ◌<◌, ◌≤◌, ◌⊎◌, true, false, is_some, map, Some, IfSome, IsTrue};
 ghost use Rattle.std.specs.String.{string_bytes};
+ghost use Rattle.zr_key.specs.Laws.{IsReading, ReadingKeepsKeys, ReadsEach};
+ghost use Rattle.zr_tree.specs.Laws.{DistancesAreOfShortestWalks, RecordsMakeGraphs};
 ghost use Rattle.zr_outside.specs.Counts.{Rose};
 ghost use Rattle.zr_outside.specs.Piece.{IsReadToEnd};
 ghost use Rattle.zr_guarantee.specs.Scripts.{IsRefined, TellsClients};
@@ -30,6 +32,7 @@ use crate::asked::run_asked;
 use std::alloc::Global;
 use std::sync::Wait;
 use std::thread::Threads;
+use zr_key::laws::{each_expression_is_read, reading_is_canonical, reading_keeps_keys};
 use zr_law_declared::{
     settled_logs_are_known, settled_rows_are_declared, settled_sets_are_declared,
 };
@@ -49,6 +52,7 @@ use zr_outside::sink::Sink;
 use zr_outside::source::Source;
 use zr_outside_crew::Crew;
 use zr_top_words::forms::forms_are_taken;
+use zr_tree::laws::{distances_are_of_shortest_walks, records_make_graphs};
 
 /// The whole program. Its words, without its name, are read by `clap`, and ask for one of four things. `net` reads a script from `input`, and writes the
 /// report to `out`; with `--summary` it writes, at the script's end, four counts of the report in its place. With `--explain` `err` has the explanation
@@ -66,6 +70,8 @@ use zr_top_words::forms::forms_are_taken;
 /// acts of the lines that were read lead to the moment that the report tells. Beside them stands what the headline's words mean: the keys
 /// of a script are texts of expressions (`keys`), the one broker sends to a subscription exactly where some key is matched by both
 /// expressions (`meeting`), and asks a queryable exactly there (`answering`) or where a complete one covers the key (`covering`), and in a phase nothing is under way exactly where no step is possible, which a run tells by `quiet` (`rest`).
+/// What is read of a key's text is the canonical form of what it spells, each text that spells one is read (`readings`), and it matches the same keys
+/// (`kept`). Along trees distances are those of shortest walks (`walks`).
 ///
 /// The clause `interests` says what clients were told of each other: at each moment of the lines that were read, also between two steps of a run, at which
 /// the network is settled and joined and nothing is under way, each attached client was told just what its interests want of what all other attached
@@ -121,6 +127,9 @@ where
     ensures answering { AnsweringIsMeeting }
     ensures covering { AnsweringIsCovering }
     ensures rest { RestIsQuiet }
+    ensures readings { IsReading × ReadsEach }
+    ensures kept { ReadingKeepsKeys }
+    ensures walks { RecordsMakeGraphs × DistancesAreOfShortestWalks }
     ensures served { IfSome (served_of (map string_bytes words.now)) (λ s. IsServingBy s result (S.left input.old) (S.left input.new) (IsReadToEnd (S.ends input.old) (S.ends input.new) (S.quiets input.old) (S.quiets input.new)) (H.calls host.old) (H.calls host.new) (crew_told crew.old) (crew_told crew.new) (crew_faults crew.old) (crew_faults crew.new) (outputs (K.held out.old) (E.held err.old) (E.faults err.old)) (outputs (K.held out.new) (E.held err.new) (E.faults err.new))) }
     ensures unserved { is_some (served_of (map string_bytes words.now)) ≡ false → (host.new ≡ host.old) × (crew.new ≡ crew.old) }
     ensures unread { reads_input (map string_bytes words.now) ≡ false → input.new ≡ input.old }
@@ -131,6 +140,7 @@ where
     ensures host { result ≡ Status.HostFault → Rose (H.faults host.old) (H.faults host.new) }
     ensures refused { result ≡ Status.Refused → reads_input (map string_bytes words.now) ≡ true }
     ensures read { result ≡ Status.ReadFault → Rose (S.faults input.old) (S.faults input.new) }
+    ensures read_told { S.faults input.old < S.faults input.new → result ≡ Status.ReadFault }
     ensures write { result ≡ Status.WriteFault → Rose (K.faults out.old) (K.faults out.new) ⊎ Rose (E.faults err.old) (E.faults err.new) }
     ensures words { (result ≡ Status.Words → IsWrong (map string_bytes words.now)) × (IsRefused (map string_bytes words.now) → (result ≡ Status.Words) ⊎ (result ≡ Status.NoMemory)) }
     ensures forms { FormsAreTaken }
@@ -144,6 +154,11 @@ where
     answering_is_meeting();
     answering_is_covering();
     rest_is_quiet();
+    reading_is_canonical();
+    each_expression_is_read();
+    reading_keeps_keys();
+    records_make_graphs();
+    distances_are_of_shortest_walks();
     settled_logs_agree();
     settled_logs_are_known();
     settled_rows_are_declared();

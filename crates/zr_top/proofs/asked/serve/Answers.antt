@@ -1,5 +1,8 @@
 -- With rules the router was served; without them only that was told.
-use Rattle.std.proofs.Common.{Ok, Err, refl}
+use Rattle.std.proofs.Common.{◌≡◌, ◌∙◌, ap, Ok, Err, refl}
+use Rattle.zr_rules.specs.declared.rules.RulesError.TheVariants.{ReadFault}
+use Rattle.zr_top.specs.Asked.{status_of_rules}
+use Rattle.zr_top.proofs.Branches.{read_fault_kept}
 use Rattle.zr_top.proofs.asked.serve.Goals as goal
 
 pub returns-in-Ok-clause-served : goal.returns-in-Ok-clause-served
@@ -11,3 +14,15 @@ returns-in-Err-clause-served g c = record {
   rules = c.in-Err.ensures.rules;
   answers = (refl, refl, refl, refl, (c.tell_refusal.result, c.status_of_rules.ensures.is, c.tell_refusal.ensures.tells));
 }
+
+-- where a read failed there are no rules, and the end says so
+pub returns-in-Ok-clause-read_told : goal.returns-in-Ok-clause-read_told
+returns-in-Ok-clause-read_told g c = λ rose.
+    let none = c.in-Ok.ensures.only rose in
+    absurd (cc)
+
+pub returns-in-Err-clause-read_told : goal.returns-in-Err-clause-read_told
+returns-in-Err-clause-read_told g c = λ rose.
+    let told = c.in-Err.ensures.only rose in
+    let is : c.in-Err.error ≡ ReadFault = cc in
+    c.status_of_rules.ensures.is ∙ ap status_of_rules (read_fault_kept _ _ _ _ is c.tell_refusal.ensures.tells)
