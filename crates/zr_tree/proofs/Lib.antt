@@ -6,6 +6,7 @@ pub mod Distances
 pub mod Indexes
 pub mod Indexed
 pub mod Linked
+pub mod MadeEdges
 pub mod Links
 pub mod OwnChildren
 pub mod Paths

@@ -1,4 +1,4 @@
--- Where each record that comes in another's place keeps the edges, all edges stay, and the trees with them.
+-- Where each record that comes in another's place keeps the edges, all edges stay, and the children with them.
 use Rattle.std.proofs.Common.{◌≡◌, ℕ, ◌+◌, ◌<◌, max, Bool, true, false, cond, not, ◌&&◌, ◌||◌, ◌==◌, List, [], ◌∷◌, ◌++◌, Option, Some, None, ◌⊎◌, inl, inr, length, get_or, take, refl, sym, ap, ◌∙◌, subst, arith}
 use Rattle.std.specs.List.{find}
 use Rattle.std.specs.Option.{option_map_or}
@@ -9,18 +9,16 @@ use Rattle.zr_id.specs.Record.{LinkedState, RecordState, linked_ids}
 use Rattle.zr_id.specs.Zid.{is_named}
 use Rattle.zr_graph.specs.Record.{ids, has, has_edge, edge_weight, lists, record_of, weight_to, weight_given, IsAscending}
 use Rattle.zr_graph.proofs.Names.{same_is}
-use Rattle.zr_tree.specs.Hop.{AreTrees, IsHop}
 use Rattle.zr_tree.specs.Index.{name}
 use Rattle.zr_tree.specs.Laws.{IsGraph}
 use Rattle.zr_tree.specs.Same.{HaveSameEdges, KeepsEdges, has_linked, makes_no_edge}
-use Rattle.zr_tree.specs.Tree.{below, children, tree_depth, is_child, parent}
+use Rattle.zr_tree.specs.Tree.{is_child}
 use Rattle.zr_tree.specs.Walk.{graph_of, edge_length}
-use Rattle.zr_tree.specs.declared.tree.Hop.{Hop}
 use Rattle.zr_lists.proofs.Finds.{In, any_in, in_any, in_find, find_in, in_map, map_in}
 use Rattle.zr_tree.proofs.Indexed.{in_name, record_none}
 use Rattle.zr_tree.proofs.Paths.{has_in, graph_is}
 use Rattle.zr_tree.proofs.Rows.{record_at, name_at}
-use Rattle.zr_tree.proofs.SameEdges.{same_depth, same_parent, same_child, same_below, same_children}
+use Rattle.zr_tree.proofs.SameEdges.{same_child}
 
 -- a link that the other record has not, with its weight, makes no edge
 none_made : (rs : List RecordState) (r other : RecordState) (l : LinkedState) → makes_no_edge rs r other ≡ true → In l r.links → has_linked other.links l ≡ false → lists rs l.id r.id ≡ false
@@ -204,36 +202,6 @@ module _ (old new : List RecordState) (same : HaveSameEdges old new) where
   as_long_still : (x y : List ℕ) → has_edge old x y ≡ true → edge_length (graph_of old) x y ≡ edge_length (graph_of new) x y
   as_long_still x y t = ap (max 1) (same.weights x y)
 
-  both_stay : {X : Type 0} (f : List ℕ → List ℕ → X) (i j : ℕ) → f (name old i) (name old j) ≡ f (name new i) (name new j)
-  both_stay f i j = ap (λ z. f z (name old j)) (name_stays i) ∙ ap (f (name new i)) (name_stays j)
-
-  hop_stays : (root x : ℕ) (lists : List (List (List ℕ))) (hop : Hop) → IsHop old root lists x hop → IsHop new root lists x hop
-  hop_stays root x lists hop h = record {
-    depth = h.depth ∙ same_depth (graph_of old) (graph_of new) is_graph is_graph_still same.edges as_long_still (name old root) (name old x) ∙ both_stay (tree_depth (graph_of new)) root x;
-    parent_within = omega (arith, as_long, h.parent_within);
-    parent_is =
-        sym (both_stay (parent (graph_of new)) root x)
-        ∙ sym (same_parent (graph_of old) (graph_of new) is_graph is_graph_still same.edges as_long_still (name old root) (name old x))
-        ∙ h.parent_is ∙ ap (λ z. cond (hop.parent == x) None (Some z)) (name_stays hop.parent);
-    jump_within = omega (arith, as_long, h.jump_within);
-    jump_above =
-        sym (both_stay (λ z w. below (graph_of new) z w (name old hop.parent)) root hop.jump ∙ ap (below (graph_of new) (name new root) (name new hop.jump)) (name_stays hop.parent))
-        ∙ sym (same_below (graph_of old) (graph_of new) is_graph is_graph_still same.edges as_long_still (name old root) (name old hop.jump) (name old hop.parent)) ∙ h.jump_above;
-    children_are =
-        h.children_are
-        ∙ ap Some (same_children (graph_of old) (graph_of new) is_graph is_graph_still same.edges as_long_still (name old root) (name old x) ∙ both_stay (children (graph_of new)) root x);
-  }
-
-  pub trees_stay : (names : List (List ℕ)) (trees : List (List Hop)) (lists : List (List (List ℕ))) → AreTrees old names trees lists → AreTrees new names trees lists
-  trees_stay names trees lists h = record {
-    names_are = h.names_are ∙ same.names;
-    ascending = ascending_still;
-    long = h.long ∙ as_long;
-    each = λ root lt.
-        let t = h.each root (omega (arith, as_long, lt)) in
-        record { long = t.long ∙ as_long; each = λ x d l. hop_stays root x lists _ (t.each x d (omega (arith, as_long, l))) };
-  }
-
-  -- and each child stays one
+  -- each child stays one
   pub child_stays : (root x y : List ℕ) → is_child (graph_of old) root x y ≡ is_child (graph_of new) root x y
   child_stays root x y = same_child (graph_of old) (graph_of new) is_graph is_graph_still same.edges as_long_still root x y

@@ -1,4 +1,4 @@
-//! The edges of a base by index, and what they weigh: what the search for shortest walks reads.
+//! The edges of records by index, and what they weigh: what the search for shortest walks reads.
 
 ghost use Rattle.std.specs.Prelude.{◌≡◌, ◌<◌, ◌^◌, ◌++◌, ◌∷◌, [], false, Some, IfOk, OnOk, MatchOption, length, map, All, slice_index_or};
 ghost use Rattle.std.specs.Option.{option_map_or};
@@ -10,15 +10,14 @@ ghost use Rattle.zr_tree.specs.Index.{name, AreEdges, EdgeTable, IsGiven, LinksB
 use std::alloc::{AllocError, Global};
 use std::marker::Model;
 use std::snapshot::Snapshot;
-use zr_graph::base::Base;
 use zr_id::record::{LinkRecord, Linked};
 use zr_id::zid::Zid;
 use zr_tree_parents::row::{Neighbour, Row};
 
-/// The neighbours of each router of a base, by the routers' indexes in ascending order, with the weights of the edges.
+/// The neighbours of each router of some records, by the routers' indexes in ascending order, with the weights of the edges.
 #[derive(Drop)]
 pub struct Edges {
-    base: Snapshot<Base>,
+    records: Snapshot<Vec<LinkRecord>>,
     rows: Vec<Row>,
 }
 
@@ -27,20 +26,21 @@ impl Model for Edges {
 
     ghost Value = { EdgeTable };
 
-    ghost view = { λ e. record { records = e.base.value.records; rows = e.rows.items } };
+    ghost view = { λ e. record { records = e.records.value.items; rows = e.rows.items } };
 
-    ghost invariant = { λ e. AreEdges (record { records = e.base.value.records; rows = e.rows.items }) };
+    ghost invariant = { λ e. AreEdges (record { records = e.records.value.items; rows = e.rows.items }) };
 }
 
 impl Edges {
-    /// The edges of a base, whose routers have these names.
-    pub fn of(alloc: Global, base: &Base, names: &[Zid]) -> Result<Edges, AllocError>
-        requires { names.now ≡ ids base.now.records }
-        ensures { IfOk result (λ e. e.records ≡ base.now.records) }
+    /// The edges of records in ascending order, whose routers have these names.
+    pub fn of(alloc: Global, records: &Vec<LinkRecord>, names: &[Zid]) -> Result<Edges, AllocError>
+        requires names { names.now ≡ ids records.now.items }
+        requires ascending { IsAscending (ids records.now.items) }
+        ensures { IfOk result (λ e. e.records ≡ records.now.items) }
     {
-        let rows = rows_of(alloc, names, base.records())?;
+        let rows = rows_of(alloc, names, records)?;
         Ok(Edges {
-            base: Snapshot::of(base),
+            records: Snapshot::of(records),
             rows,
         })
     }
@@ -96,8 +96,13 @@ fn row_of(
     Ok(Row::of(neighbours))
 }
 
-// The edge by a link, if the record of the other router links back.
-fn linked_back(names: &[Zid], records: &[LinkRecord], from: Zid, link: &Linked) -> Option<Neighbour>
+/// The edge by a link, if the record of the other router links back.
+pub fn linked_back(
+    names: &[Zid],
+    records: &[LinkRecord],
+    from: Zid,
+    link: &Linked,
+) -> Option<Neighbour>
     requires names { names.now ≡ ids records.now }
     requires ascending { IsAscending (ids records.now) }
     ensures { MatchOption result (lists records.now link.now.id from ≡ false) (λ n. LinksBack records.now from link.now n) }

@@ -11,8 +11,8 @@ ghost use Rattle.zr_tree.specs.Walk.{graph_of};
 
 use crate::edges::{Edges, index_in};
 use crate::flags::{Flags, all_flags};
+use crate::rooted::names_of;
 use crate::same::are_same_edges;
-use crate::trees::names_of;
 use std::alloc::{AllocError, Global};
 use std::marker::Model;
 use zr_graph::base::{Base, copies_of};
@@ -60,8 +60,8 @@ impl Family {
     {
         let me = base.me();
         let names = names_of(alloc, base.records())?;
-        let edges = Edges::of(alloc, base, &names)?;
         let records = copies_of(alloc, base.records())?;
+        let edges = Edges::of(alloc, &records, &names)?;
         let flags = all_flags(alloc, &edges, own_index(base, &names, me))?;
         Ok(Family {
             me,
