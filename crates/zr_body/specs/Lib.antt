@@ -2,3 +2,4 @@ pub mod Body
 pub mod Reading
 pub mod Payload
 pub mod Laws
+pub mod Latest

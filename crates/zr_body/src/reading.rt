@@ -16,7 +16,7 @@ pub fn read_body(alloc: Global, c: &mut Cursor<'_>, place: Place) -> Result<Body
     ensures { Keeps (λ body. body) result (body_of place c.old) c.old c.new }
 {
     let mut ahead = c.fork();
-    let payload = skipping::body(alloc, &mut ahead, place)?;
+    let payload = skipping::body(&mut ahead, place)?;
     let length = c.left() - ahead.left();
     let body = Body::of(alloc, &c.as_slice()[..length], length - payload.len())?;
     *c = ahead;

@@ -3,34 +3,34 @@
 ghost use Rattle.std.specs.Prelude.{◌≡◌, ◌^◌, ◌-◌, ◌%◌, ◌==◌};
 ghost use Rattle.zr_bytes.specs.Flag.{has_flag};
 ghost use Rattle.zr_bytes.specs.Reading.{Steps};
+ghost use Rattle.zr_ext.specs.Finding.{Passes};
 ghost use Rattle.zr_body.specs.Reading.{passed_if, skip_number, skip_text, skip_some_text, skip_timestamp, skip_encoding, skip_extensions, read_payload, read_put, read_del, read_query, read_sample, read_reply, read_err, read_behind, payload_in};
 
 use crate::place::Place;
-use std::alloc::Global;
 use zr_bytes::{Cursor, ReadError};
-use zr_ext::read_chain;
+use zr_ext::skip_chain;
 use zr_format_spec::header::{EXTENSIONS, ID};
 
 pub(crate) const PUT: u8 = 1;
 
 pub(crate) const DEL: u8 = 2;
 
-const QUERY: u8 = 3;
+pub(crate) const QUERY: u8 = 3;
 
-const REPLY: u8 = 4;
+pub(crate) const REPLY: u8 = 4;
 
 const ERR: u8 = 5;
 
 /// Of PUT and DEL.
-const TIMESTAMP: u8 = 0x20;
+pub(crate) const TIMESTAMP: u8 = 0x20;
 /// Of QUERY and REPLY.
-const CONSOLIDATION: u8 = 0x20;
+pub(crate) const CONSOLIDATION: u8 = 0x20;
 /// Of PUT and ERR.
 const ENCODING: u8 = 0x40;
 /// Of QUERY.
 const PARAMETERS: u8 = 0x40;
 /// The most bytes of a clock's identifier, of a schema, of parameters and of a payload.
-const MOST_CLOCK: u64 = 16;
+pub(crate) const MOST_CLOCK: u64 = 16;
 
 const MOST_SCHEMA: u64 = 255;
 
@@ -40,91 +40,82 @@ const MOST_PAYLOAD: u64 = (1 << 32) - 1;
 
 /// The payload of a body of a message of this kind, with the cursor behind the body; no bytes where it has none.
 #[tactic(auto, unfolding(crate::specs::Reading::payload_in))]
-pub(crate) fn body<'a>(
-    alloc: Global,
-    c: &mut Cursor<'a>,
-    place: Place,
-) -> Result<&'a [u8], ReadError>
+pub(crate) fn body<'a>(c: &mut Cursor<'a>, place: Place) -> Result<&'a [u8], ReadError>
     ensures { Steps (λ payload. payload.now) result (payload_in place c.old) c.new }
 {
     let header = c.u8()?;
-    behind(alloc, c, place, header)
+    behind(c, place, header)
 }
 
 #[tactic(auto, unfolding(crate::specs::Reading::read_behind))]
-fn behind<'a>(
-    alloc: Global,
-    c: &mut Cursor<'a>,
-    place: Place,
-    header: u8,
-) -> Result<&'a [u8], ReadError>
+fn behind<'a>(c: &mut Cursor<'a>, place: Place, header: u8) -> Result<&'a [u8], ReadError>
     ensures { Steps (λ payload. payload.now) result (read_behind place header c.old) c.new }
 {
     match (place, header & ID) {
-        (Place::Push, _) => sample(alloc, c, header),
-        (Place::Request, QUERY) => query(alloc, c, header),
-        (Place::Response, REPLY) => reply(alloc, c, header),
-        (Place::Response, ERR) => err(alloc, c, header),
+        (Place::Push, _) => sample(c, header),
+        (Place::Request, QUERY) => query(c, header),
+        (Place::Response, REPLY) => reply(c, header),
+        (Place::Response, ERR) => err(c, header),
         _ => Err(ReadError::UnknownId),
     }
 }
 
 #[tactic(auto, unfolding(crate::specs::Reading::read_sample))]
-fn sample<'a>(alloc: Global, c: &mut Cursor<'a>, header: u8) -> Result<&'a [u8], ReadError>
+fn sample<'a>(c: &mut Cursor<'a>, header: u8) -> Result<&'a [u8], ReadError>
     ensures { Steps (λ payload. payload.now) result (read_sample header c.old) c.new }
 {
     match header & ID {
-        PUT => put(alloc, c, header),
-        DEL => del(alloc, c, header),
+        PUT => put(c, header),
+        DEL => del(c, header),
         _ => Err(ReadError::UnknownId),
     }
 }
 
 #[tactic(auto, unfolding(crate::specs::Reading::read_put))]
-fn put<'a>(alloc: Global, c: &mut Cursor<'a>, header: u8) -> Result<&'a [u8], ReadError>
+fn put<'a>(c: &mut Cursor<'a>, header: u8) -> Result<&'a [u8], ReadError>
     ensures { Steps (λ payload. payload.now) result (read_put header c.old) c.new }
 {
     timestamp(c, header)?;
     encoding(c, header)?;
-    extensions(alloc, c, header)?;
+    extensions(c, header)?;
     payload(c)
 }
 
 #[tactic(auto, unfolding(crate::specs::Reading::read_del))]
-fn del<'a>(alloc: Global, c: &mut Cursor<'a>, header: u8) -> Result<&'a [u8], ReadError>
+fn del<'a>(c: &mut Cursor<'a>, header: u8) -> Result<&'a [u8], ReadError>
     ensures { Steps (λ payload. payload.now) result (read_del header c.old) c.new }
 {
     timestamp(c, header)?;
-    extensions(alloc, c, header)?;
+    extensions(c, header)?;
     Ok(&[])
 }
 
 #[tactic(auto, unfolding(crate::specs::Reading::read_query))]
-fn query<'a>(alloc: Global, c: &mut Cursor<'a>, header: u8) -> Result<&'a [u8], ReadError>
+fn query<'a>(c: &mut Cursor<'a>, header: u8) -> Result<&'a [u8], ReadError>
     ensures { Steps (λ payload. payload.now) result (read_query header c.old) c.new }
 {
     consolidation(c, header)?;
     parameters(c, header)?;
-    extensions(alloc, c, header)?;
+    extensions(c, header)?;
     Ok(&[])
 }
 
 #[tactic(auto, unfolding(crate::specs::Reading::read_reply))]
-fn reply<'a>(alloc: Global, c: &mut Cursor<'a>, header: u8) -> Result<&'a [u8], ReadError>
+fn reply<'a>(c: &mut Cursor<'a>, header: u8) -> Result<&'a [u8], ReadError>
     ensures { Steps (λ payload. payload.now) result (read_reply header c.old) c.new }
 {
     consolidation(c, header)?;
-    extensions(alloc, c, header)?;
+    extensions(c, header)?;
     let inner = c.u8()?;
-    sample(alloc, c, inner)
+    sample(c, inner)
 }
 
 #[tactic(auto, unfolding(crate::specs::Reading::read_err))]
-fn err<'a>(alloc: Global, c: &mut Cursor<'a>, header: u8) -> Result<&'a [u8], ReadError>
+fn err<'a>(c: &mut Cursor<'a>, header: u8) -> Result<&'a [u8], ReadError>
     ensures { Steps (λ payload. payload.now) result (read_err header c.old) c.new }
 {
     encoding(c, header)?;
-    extensions(alloc, c, header)?;
+    extensions(c, header)?;
     payload(c)
 }
 
@@ -164,18 +155,18 @@ fn encoding(c: &mut Cursor<'_>, header: u8) -> Result<(), ReadError>
 }
 
 #[tactic(auto, unfolding(crate::specs::Reading::skip_extensions))]
-fn extensions(alloc: Global, c: &mut Cursor<'_>, header: u8) -> Result<(), ReadError>
-    ensures { Steps (λ x. x) result (passed_if (has_flag header 0x80) skip_extensions c.old) c.new }
+pub(crate) fn extensions(c: &mut Cursor<'_>, header: u8) -> Result<(), ReadError>
+    ensures { Passes result (passed_if (has_flag header 0x80) skip_extensions c.old) c.new }
 {
     if header & EXTENSIONS != 0 {
-        read_chain(alloc, c, &[])?;
+        skip_chain(c)?;
     }
     Ok(())
 }
 
 #[tactic(auto, unfolding(crate::specs::Reading::skip_number))]
-fn consolidation(c: &mut Cursor<'_>, header: u8) -> Result<(), ReadError>
-    ensures { Steps (λ x. x) result (passed_if (has_flag header 0x20) skip_number c.old) c.new }
+pub(crate) fn consolidation(c: &mut Cursor<'_>, header: u8) -> Result<(), ReadError>
+    ensures { Passes result (passed_if (has_flag header 0x20) skip_number c.old) c.new }
 {
     if header & CONSOLIDATION != 0 {
         c.zint()?;

@@ -2,9 +2,10 @@
 
 ghost use Rattle.std.specs.Prelude.{◌≡◌, ◌++◌, ◌<◌, ◌^◌, length, IfOk, OnOk, OnErr};
 ghost use Rattle.zr_body.specs.Body.{IsBody};
+ghost use Rattle.zr_body.specs.Latest.{is_reply};
 ghost use Rattle.zr_body.specs.Payload.{put_body, del_body, payload_of, is_del, IsBodyTo};
 
-use crate::skipping::{DEL, PUT};
+use crate::skipping::{DEL, PUT, REPLY};
 use std::alloc::{AllocError, Global};
 use std::marker::Model;
 use std::sync::ArcSlice;
@@ -93,6 +94,16 @@ impl Body {
     {
         match self.as_slice().first() {
             Some(header) => header & ID == DEL,
+            None => false,
+        }
+    }
+
+    /// Whether it is a REPLY, and no ERR.
+    pub fn is_reply(&self) -> bool
+        ensures { result ≡ is_reply self.now }
+    {
+        match self.as_slice().first() {
+            Some(header) => header & ID == REPLY,
             None => false,
         }
     }

@@ -4,3 +4,4 @@ pub mod One
 pub mod Many
 pub mod Written
 pub mod Distinct
+pub mod Passed

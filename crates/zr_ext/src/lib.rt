@@ -10,5 +10,5 @@ mod writing;
 
 pub use ext::{Content, Ext, Form};
 pub use laws::{chains_are_read, chains_have_one_reading, written_chains_are_read};
-pub use reading::{read_chain, skip_content};
+pub use reading::{read_chain, skip_chain, skip_content};
 pub use writing::write_chain;

@@ -1,11 +1,11 @@
 //! Reading a chain of extensions.
 
 ghost use Rattle.std.specs.Prelude.{◌≡◌, [], filter, not, ◌∷◌, ◌++◌, IfOk, OnOk, ◌&&◌, ◌==◌};
-ghost use Rattle.zr_bytes.specs.Reading.{Keeps, Steps};
+ghost use Rattle.zr_bytes.specs.Reading.{Reads, Keeps, Steps};
 ghost use Rattle.zr_ext.specs.Header.{form_of, same_form};
 ghost use Rattle.zr_ext.specs.Chain.{repeats};
 ghost use Rattle.zr_ext.specs.Reading.{content_of, ext_of, found_of, chain_of};
-ghost use Rattle.zr_ext.specs.Finding.{with_one, without_value};
+ghost use Rattle.zr_ext.specs.Finding.{Passes, with_one, without_value, more_of};
 
 use crate::ext::{Content, Ext, Form};
 use crate::header::{knows, read_header};
@@ -45,6 +45,38 @@ fn chain(alloc: Global, c: &mut Cursor<'_>, known: &[(u8, Form)]) -> Result<Vec<
     Err(ReadError::Short)
 }
 
+/// Passes over a chain of which no extension is known; a mandatory one is refused with `Mandatory`. It takes no memory.
+pub fn skip_chain(c: &mut Cursor<'_>) -> Result<(), ReadError>
+    ensures { Reads result (without_value (chain_of [] c.old)) c.old c.new }
+{
+    let mut ahead = c.fork();
+    pass_chain(&mut ahead)?;
+    *c = ahead;
+    Ok(())
+}
+
+fn pass_chain(c: &mut Cursor<'_>) -> Result<(), ReadError>
+    ensures { Passes result (without_value (chain_of [] c.old)) c.new }
+{
+    // Each extension takes a byte at least.
+    'exts: for _ in 0..c.left() {
+        if !pass_extension(c)? {
+            return Ok(());
+        }
+    }
+    Err(ReadError::Short)
+}
+
+/// One extension that isn't known, and whether another one follows.
+#[tactic(auto, unfolding(crate::specs::Reading::ext_of))]
+fn pass_extension(c: &mut Cursor<'_>) -> Result<bool, ReadError>
+    ensures { Passes result (more_of (ext_of [] c.old)) c.new }
+{
+    let head = read_header(c.u8()?, &[])?;
+    pass_content(c, head.form)?;
+    Ok(head.more)
+}
+
 /// One extension, where it is known, and whether another one follows.
 #[tactic(auto, unfolding(crate::specs::Reading::found_of, crate::specs::Reading::ext_of))]
 fn extension(
@@ -81,9 +113,15 @@ fn content(alloc: Global, c: &mut Cursor<'_>, form: Form) -> Result<Content, Rea
 }
 
 /// What stands behind a header, passed over. After a refusal the cursor may stand anywhere.
-#[tactic(auto, unfolding(crate::specs::Reading::content_of))]
 pub fn skip_content(c: &mut Cursor<'_>, form: Form) -> Result<(), ReadError>
     ensures { Steps (λ x. x) result (without_value (content_of form c.old)) c.new }
+{
+    pass_content(c, form)
+}
+
+#[tactic(auto, unfolding(crate::specs::Reading::content_of))]
+fn pass_content(c: &mut Cursor<'_>, form: Form) -> Result<(), ReadError>
+    ensures { Passes result (without_value (content_of form c.old)) c.new }
 {
     match form {
         Form::Unit => {}

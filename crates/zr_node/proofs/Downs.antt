@@ -17,14 +17,14 @@ use Rattle.zr_msg.specs.declared.peer.Role.{Role}
 use Rattle.zr_msg.specs.declared.peer.Role.TheVariants.{Client, Router}
 use Rattle.zr_pend.specs.Pending.{dropped}
 use Rattle.zr_node_spec.specs.Changes.{changes, after_changes}
-use Rattle.zr_node_spec.specs.Queries.{link_no, sends_ends}
+use Rattle.zr_node_spec.specs.Queries.{held_down, link_no, sends_ends}
 use Rattle.zr_node_spec.specs.Snapshots.{sends_snapshots}
 use Rattle.zr_node_spec.specs.Tables.{link_at, is_router}
 use Rattle.zr_node_spec.specs.Event.{Tells, TellsPrefix}
 use Rattle.zr_node_spec.specs.State.{NodeState, tables}
-use Rattle.zr_node_spec.specs.Table.{base_down, base_parted, without_link, with_pending, with_rows, sends_rows, sends_down, sends_parted, refuses_rows, refuses_down, refuses_parting}
+use Rattle.zr_node_spec.specs.Table.{base_down, base_parted, without_link, with_rows, sends_rows, sends_down, sends_parted, refuses_rows, refuses_down, refuses_parting}
 use Rattle.zr_node.specs.Done.{Part, IsLeft, IsDone}
-use Rattle.zr_node.specs.Steps.{with_links, event_part, asked_part, leave_part, down_part, parted_from}
+use Rattle.zr_node.specs.Steps.{with_links, with_table, ended_on, event_part, asked_part, leave_part, down_part, parted_from}
 use Rattle.zr_node.specs.declared.asked.Asked.TheVariants.{Leave}
 use Rattle.zr_node.specs.declared.failure.NodeFailure.{NodeFailure}
 use Rattle.zr_node.specs.declared.failure.NodeFailure.TheVariants.{Refused, NoMemory}
@@ -53,6 +53,7 @@ module _ (n : NodeState) (link : LinkNo) where
         clients = clients_by role;
         known = after_changes n.known (changes n.rows (rows_by role));
         pending = dropped (link_no link.0) n.pending;
+        held = held_down n.pending n.held link.0;
         spent = n.spent;
       }
 
@@ -61,7 +62,7 @@ module _ (n : NodeState) (link : LinkNo) where
       record {
         before = n;
         left = left_by peer role;
-        sends = λ to. (sends_ends n.pending link.0 to ++ (sends_parted n link.0 peer role to ++ sends_rows n (rows_by role) to)) ++ sends_snapshots (tables (left_by peer role)) n.base.records to;
+        sends = λ to. (sends_ends n.pending n.held link.0 to ++ (sends_parted n link.0 peer role to ++ sends_rows n (rows_by role) to)) ++ sends_snapshots (tables (left_by peer role)) n.base.records to;
         refused = option_or (refuses_parting n.base role) (refuses_rows n (rows_by role));
       }
 
@@ -81,6 +82,7 @@ module _ (n : NodeState) (link : LinkNo) where
         clients = clients_of o;
         known = after_changes n.known (changes n.rows (rows_of o));
         pending = dropped (link_no link.0) n.pending;
+        held = held_down n.pending n.held link.0;
         spent = n.spent;
       }
 
@@ -89,7 +91,7 @@ module _ (n : NodeState) (link : LinkNo) where
       record {
         before = n;
         left = left_of o;
-        sends = λ to. (sends_ends n.pending link.0 to ++ (sends_down n link.0 o to ++ sends_rows n (rows_of o) to)) ++ sends_snapshots (tables (left_of o)) n.base.records to;
+        sends = λ to. (sends_ends n.pending n.held link.0 to ++ (sends_down n link.0 o to ++ sends_rows n (rows_of o) to)) ++ sends_snapshots (tables (left_of o)) n.base.records to;
         refused = option_or (refuses_down n.base o) (refuses_rows n (rows_of o));
       }
 
@@ -110,7 +112,7 @@ module _ (n : NodeState) (link : LinkNo) where
         → IsDone (event_part n (Down link)) r now said all
     client_gone peer at is h =
         of_link peer Client at is
-        (redone (leave_part n link) (down_by peer Client) r now said all refl refl (λ to. nothing_more (tables (left_by peer Client)) n.base.records (sends_ends n.pending link.0 to ++ sends_rows n (left n.rows link.0) to) refl to) refl h)
+        (redone (leave_part n link) (down_by peer Client) r now said all refl refl (λ to. nothing_more (tables (left_by peer Client)) n.base.records (sends_ends n.pending n.held link.0 to ++ sends_rows n (left n.rows link.0) to) refl to) refl h)
 
     pub router_gone : (peer : PeerState) → Some peer ≡ option_map (λ l. l.peer) (link_at n.links link.0) → peer.role ≡ Router → position n.known n.known.me < 2 ^ 64
         → IsDone (down_part n link.0 peer) r now said all → IsDone (event_part n (Down link)) r now said all
@@ -121,8 +123,8 @@ module _ (n : NodeState) (link : LinkNo) where
         of_link peer Router at is
         (redone (down_part n link.0 peer) (down_by peer Router) r now said all refl stays
         (λ to.
-        ap (λ (m : NodeState). (sends_ends n.pending link.0 to ++ sent to) ++ sends_snapshots (tables m) n.base.records to) stays
-        ∙ ap (λ (ms : List Msg). (sends_ends n.pending link.0 to ++ ms) ++ sends_snapshots (tables (with_rows last last.rows)) n.base.records to) (sym (ap (λ (ms : List Msg). sent to ++ ms) (rows_silent n to) ∙ append-nil (sent to))))
+        ap (λ (m : NodeState). (sends_ends n.pending n.held link.0 to ++ sent to) ++ sends_snapshots (tables m) n.base.records to) stays
+        ∙ ap (λ (ms : List Msg). (sends_ends n.pending n.held link.0 to ++ ms) ++ sends_snapshots (tables (with_rows last last.rows)) n.base.records to) (sym (ap (λ (ms : List Msg). sent to ++ ms) (rows_silent n to) ∙ append-nil (sent to))))
         (first_alone (refuses_parting n.base Router) (refuses_rows n n.rows) (rows_allowed n fits)) h)
 
 -- ---- a client leaves
@@ -138,23 +140,23 @@ module _ (n : NodeState) (link : LinkNo) where
 
   module _ (first : NodeState) (told : List (LinkNo × Msg)) (left : IsLeft leaves first [] told) (said mid : List (LinkNo × Msg)) where
     -- memory ran out in the finals
-    pub ending_failed : TellsPrefix (sends_ends first.pending link.0) said mid → TellsPrefix (leave_part n link).sends said mid
+    pub ending_failed : TellsPrefix (sends_ends first.pending first.held link.0) said mid → TellsPrefix (leave_part n link).sends said mid
     ending_failed h =
-        prefix_first (sends_ends n.pending link.0) leaves.sends (leave_part n link).sends said (λ to. refl) mid
-        (subst (λ (m : NodeState). TellsPrefix (sends_ends m.pending link.0) said mid) left.state h)
+        prefix_first (sends_ends n.pending n.held link.0) leaves.sends (leave_part n link).sends said (λ to. refl) mid
+        (subst (λ (m : NodeState). TellsPrefix (sends_ends m.pending m.held link.0) said mid) left.state h)
 
     -- or behind them
-    pub finals_told : Tells (sends_ends first.pending link.0) said mid → TellsPrefix (leave_part n link).sends said mid
-    finals_told h = ending_failed (all_told (sends_ends first.pending link.0) said mid h)
+    pub finals_told : Tells (sends_ends first.pending first.held link.0) said mid → TellsPrefix (leave_part n link).sends said mid
+    finals_told h = ending_failed (all_told (sends_ends first.pending first.held link.0) said mid h)
 
     -- the finals are told, and then what was to be told
-    pub client_left : (second last : NodeState) (all : List (LinkNo × Msg)) → Tells (sends_ends first.pending link.0) said mid → second ≡ with_pending first (dropped link first.pending)
+    pub client_left : (second last : NodeState) (all : List (LinkNo × Msg)) → Tells (sends_ends first.pending first.held link.0) said mid → second ≡ with_table first (ended_on first link.0)
         → all ≡ mid ++ told → last ≡ with_links second (without_link second.links link.0) → IsLeft (leave_part n link) last said all
     client_left second last all h ended appended e = record {
       allowed = left.allowed;
-      state = e ∙ ap (λ (m : NodeState). with_links m (without_link m.links link.0)) (ended ∙ ap (λ (m : NodeState). with_pending m (dropped link m.pending)) left.state);
+      state = e ∙ ap (λ (m : NodeState). with_links m (without_link m.links link.0)) (ended ∙ ap (λ (m : NodeState). with_table m (ended_on m link.0)) left.state);
       sends =
-          told_both (sends_ends n.pending link.0) leaves.sends (leave_part n link).sends said (λ to. refl) mid all
-          (subst (λ (m : NodeState). Tells (sends_ends m.pending link.0) said mid) left.state h)
+          told_both (sends_ends n.pending n.held link.0) leaves.sends (leave_part n link).sends said (λ to. refl) mid all
+          (subst (λ (m : NodeState). Tells (sends_ends m.pending m.held link.0) said mid) left.state h)
           (told_behind leaves.sends told mid all left.sends appended);
     }

@@ -101,7 +101,7 @@ no_changes rows = ap (λ ds. map (λ (d : Decl). record { added = false; decl = 
 
 -- the router stays, and tells nothing of them
 pub rows_stay : (n : NodeState) → n ≡ with_rows n n.rows
-rows_stay n = ap (λ cs. record { links = n.links; base = n.base; rows = n.rows; clients = n.clients; known = after_changes n.known cs; pending = n.pending; spent = n.spent }) (sym (no_changes n.rows))
+rows_stay n = ap (λ cs. record { links = n.links; base = n.base; rows = n.rows; clients = n.clients; known = after_changes n.known cs; pending = n.pending; held = n.held; spent = n.spent }) (sym (no_changes n.rows))
 
 pub rows_silent : (n : NodeState) (to : ℕ) → sends_rows n n.rows to ≡ []
 rows_silent n to = ap (λ cs. sends_changes (tables n) cs to) (no_changes n.rows) ∙ by (is_to_child (tables n) n.base.me to)

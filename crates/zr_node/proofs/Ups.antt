@@ -10,11 +10,9 @@ use Rattle.zr_msg.specs.Peer.{PeerState}
 use Rattle.zr_msg.specs.declared.peer.Role.{Role}
 use Rattle.zr_msg.specs.declared.peer.Role.TheVariants.{Client, Router}
 use Rattle.zr_node_spec.specs.State.{NodeState, new_link, tables}
-use Rattle.zr_pend.specs.Pending.{dropped}
-use Rattle.zr_node_spec.specs.Queries.{link_no}
-use Rattle.zr_node_spec.specs.Table.{with_base, with_pending, with_link, without_link, joined, own_link, parted}
+use Rattle.zr_node_spec.specs.Table.{with_base, with_link, without_link, joined, own_link, parted}
 use Rattle.zr_node.specs.Done.{IsLeft}
-use Rattle.zr_node.specs.Steps.{with_links, up_as, up_part, join_part, parted_from, parting_part, down_part, news_to}
+use Rattle.zr_node.specs.Steps.{with_links, with_table, ended_on, up_as, up_part, join_part, parted_from, parting_part, down_part, news_to}
 use Rattle.zr_node.proofs.Done.{IsFirst}
 use Rattle.zr_node.proofs.Quiet.{no_new_children}
 use Rattle.zr_node.proofs.Retold.{silent}
@@ -52,7 +50,7 @@ pub up_state : (n first second last : NodeState) (link : LinkNo) (peer : PeerSta
 up_state n first second last link peer e f g =
     g ∙ ap (λ (m : NodeState). with_links m (with_link m.links (new_link link peer))) (f ∙ ap (λ (m : NodeState). with_base m (joined m.base (own_link peer))) e)
 
-pub down_state : (n first second last : NodeState) (link : ℕ) (peer : PeerState) → first ≡ n → second ≡ with_pending (with_base first (parted first.base peer.id)) (dropped (link_no link) first.pending)
+pub down_state : (n first second last : NodeState) (link : ℕ) (peer : PeerState) → first ≡ n → second ≡ with_table (with_base first (parted first.base peer.id)) (ended_on first link)
     → last ≡ with_links second (without_link second.links link) → last ≡ parted_from n link peer
 down_state n first second last link peer e f g =
-    g ∙ ap (λ (m : NodeState). with_links m (without_link m.links link)) (f ∙ ap (λ (m : NodeState). with_pending (with_base m (parted m.base peer.id)) (dropped (link_no link) m.pending)) e)
+    g ∙ ap (λ (m : NodeState). with_links m (without_link m.links link)) (f ∙ ap (λ (m : NodeState). with_table (with_base m (parted m.base peer.id)) (ended_on m link)) e)

@@ -4,7 +4,7 @@ ghost use Rattle.std.specs.Prelude.{◌≡◌, ℕ, List, Option, Some, None, fa
 ghost use Rattle.zr_node.specs.Requests.{refuses_asker};
 ghost use Rattle.zr_push.specs.Routes.{AreRoutes};
 ghost use Rattle.zr_pend.specs.Pending.{asked};
-ghost use Rattle.zr_node_spec.specs.Queries.{after_request, asked_links, has_no_number, sends_request};
+ghost use Rattle.zr_node_spec.specs.Queries.{after_request, asked_links, gathering_if, has_no_number, sends_request};
 ghost use Rattle.zr_node_spec.specs.Samples.{tree_of};
 ghost use Rattle.zr_node_spec.specs.Tables.{AreNumbered, link_at};
 ghost use Rattle.zr_node_spec.specs.Event.{Tells, TellsPrefix};
@@ -30,7 +30,7 @@ const MOST_PENDING: u32 = 4_096;
 
 /// Why a request is refused for who asks: under its number one is pending, or the client has as many pending as it may.
 pub fn refusal(pending: &Pending, from: Asker, is_client: bool) -> Option<NodeError>
-    ensures { result ≡ refuses_asker pending.now from is_client }
+    ensures { result ≡ refuses_asker pending.now.rows from is_client }
 {
     if pending.asked(from.link, from.number) {
         return Some(NodeError::NumberTaken { id: from.number });
@@ -54,23 +54,25 @@ pub fn ask(
     named: Option<Zid>,
     target: Target,
     content: &Content,
+    latest: bool,
     out: &mut Vec<(LinkNo, Msg)>,
 ) -> Result<(), RequestError>
     requires routes { AreRoutes routes.old tables.now }
     requires numbered { AreNumbered tables.now.links }
-    requires fresh { asked from pending.old ≡ false }
+    requires fresh { asked from pending.old.rows ≡ false }
     requires at { link_at tables.now.links from.link.0 ≡ link }
     ensures routes { AreRoutes routes.new tables.now }
-    ensures sends { OnOk result (Tells (sends_request tables.now pending.old from.link.0 named from.number target content.now) out.old.items out.new.items) }
-    ensures rows { OnOk result (pending.new ≡ after_request tables.now pending.old from.link.0 named from.number target content.now.key) }
-    ensures room { OnOk result (has_no_number pending.old (asked_links tables.now from.link.0 named target content.now.key) ≡ false) }
-    ensures full { result ≡ Err RequestError.NoNumber → has_no_number pending.old (asked_links tables.now from.link.0 named target content.now.key) ≡ true }
+    ensures sends { OnOk result (Tells (sends_request tables.now pending.old.rows from.link.0 named from.number target content.now) out.old.items out.new.items) }
+    ensures rows { OnOk result (pending.new.rows ≡ after_request tables.now pending.old.rows from.link.0 named from.number target content.now.key) }
+    ensures held { OnOk result (pending.new.held ≡ gathering_if pending.old.held latest from (asked_links tables.now from.link.0 named target content.now.key)) }
+    ensures room { OnOk result (has_no_number pending.old.rows (asked_links tables.now from.link.0 named target content.now.key) ≡ false) }
+    ensures full { result ≡ Err RequestError.NoNumber → has_no_number pending.old.rows (asked_links tables.now from.link.0 named target content.now.key) ≡ true }
     ensures unchanged { result ≡ Err RequestError.NoNumber → (pending.new ≡ pending.old) × (out.new.items ≡ out.old.items) }
-    ensures prefix { OnErr result (TellsPrefix (sends_request tables.now pending.old from.link.0 named from.number target content.now) out.old.items out.new.items) }
+    ensures prefix { OnErr result (TellsPrefix (sends_request tables.now pending.old.rows from.link.0 named from.number target content.now) out.old.items out.new.items) }
 {
     match tree_for(tables, link, named) {
         Some(tree) => request_along(
-            alloc, tables, routes, pending, from, tree, target, content, out,
+            alloc, tables, routes, pending, from, tree, target, content, latest, out,
         ),
         None => Ok(refuse(alloc, from, out)?),
     }
@@ -94,25 +96,31 @@ fn request_along(
     tree: Zid,
     target: Target,
     content: &Content,
+    latest: bool,
     out: &mut Vec<(LinkNo, Msg)>,
 ) -> Result<(), RequestError>
     requires routes { AreRoutes routes.old tables.now }
     requires numbered { AreNumbered tables.now.links }
-    requires fresh { asked from pending.old ≡ false }
+    requires fresh { asked from pending.old.rows ≡ false }
     ensures routes { AreRoutes routes.new tables.now }
-    ensures sends { (named : Option (List ℕ)) → tree_of tables.now (link_at tables.now.links from.link.0) named ≡ Some tree → OnOk result (Tells (sends_request tables.now pending.old from.link.0 named from.number target content.now) out.old.items out.new.items) }
-    ensures rows { (named : Option (List ℕ)) → tree_of tables.now (link_at tables.now.links from.link.0) named ≡ Some tree → OnOk result (pending.new ≡ after_request tables.now pending.old from.link.0 named from.number target content.now.key) }
-    ensures room { (named : Option (List ℕ)) → tree_of tables.now (link_at tables.now.links from.link.0) named ≡ Some tree → OnOk result (has_no_number pending.old (asked_links tables.now from.link.0 named target content.now.key) ≡ false) }
-    ensures full { (named : Option (List ℕ)) → tree_of tables.now (link_at tables.now.links from.link.0) named ≡ Some tree → result ≡ Err RequestError.NoNumber → has_no_number pending.old (asked_links tables.now from.link.0 named target content.now.key) ≡ true }
+    ensures sends { (named : Option (List ℕ)) → tree_of tables.now (link_at tables.now.links from.link.0) named ≡ Some tree → OnOk result (Tells (sends_request tables.now pending.old.rows from.link.0 named from.number target content.now) out.old.items out.new.items) }
+    ensures rows { (named : Option (List ℕ)) → tree_of tables.now (link_at tables.now.links from.link.0) named ≡ Some tree → OnOk result (pending.new.rows ≡ after_request tables.now pending.old.rows from.link.0 named from.number target content.now.key) }
+    ensures held { (named : Option (List ℕ)) → tree_of tables.now (link_at tables.now.links from.link.0) named ≡ Some tree → OnOk result (pending.new.held ≡ gathering_if pending.old.held latest from (asked_links tables.now from.link.0 named target content.now.key)) }
+    ensures room { (named : Option (List ℕ)) → tree_of tables.now (link_at tables.now.links from.link.0) named ≡ Some tree → OnOk result (has_no_number pending.old.rows (asked_links tables.now from.link.0 named target content.now.key) ≡ false) }
+    ensures full { (named : Option (List ℕ)) → tree_of tables.now (link_at tables.now.links from.link.0) named ≡ Some tree → result ≡ Err RequestError.NoNumber → has_no_number pending.old.rows (asked_links tables.now from.link.0 named target content.now.key) ≡ true }
     ensures unchanged { result ≡ Err RequestError.NoNumber → (pending.new ≡ pending.old) × (out.new.items ≡ out.old.items) }
-    ensures prefix { (named : Option (List ℕ)) → tree_of tables.now (link_at tables.now.links from.link.0) named ≡ Some tree → OnErr result (TellsPrefix (sends_request tables.now pending.old from.link.0 named from.number target content.now) out.old.items out.new.items) }
+    ensures prefix { (named : Option (List ℕ)) → tree_of tables.now (link_at tables.now.links from.link.0) named ≡ Some tree → OnErr result (TellsPrefix (sends_request tables.now pending.old.rows from.link.0 named from.number target content.now) out.old.items out.new.items) }
 {
     let sought = sought_by(target);
     let key = content.key();
     if let Some(route) = routes.find(tree, sought, key) {
-        return request(alloc, route, pending, from, tree, target, content, out);
+        return request(
+            alloc, route, pending, from, tree, target, content, latest, out,
+        );
     }
     let route = Route::of(alloc, tables, tree, sought, key)?;
-    request(alloc, &route, pending, from, tree, target, content, out)?;
+    request(
+        alloc, &route, pending, from, tree, target, content, latest, out,
+    )?;
     Ok(routes.remember(alloc, tree, sought, key, route)?)
 }

@@ -19,7 +19,7 @@ ghost use Rattle.zr_tree.specs.Same.{HaveSameEdges};
 ghost use Rattle.zr_node.specs.Answer.{IsAnswered, IsJudged, refusal_of};
 ghost use Rattle.zr_node.specs.Asked.{rows_after, local_after, refuses_asked, refuses_change};
 ghost use Rattle.zr_node.specs.Done.{IsDone};
-ghost use Rattle.zr_node.specs.Steps.{with_local, event_part, asked_part, declare_part, undeclare_part, step_part, snap_part, told_part};
+ghost use Rattle.zr_node.specs.Steps.{with_local, pending_of, event_part, asked_part, declare_part, undeclare_part, step_part, snap_part, told_part};
 
 mod interests;
 mod lent;
@@ -60,7 +60,7 @@ use zr_tree::trees::Trees;
 const SURE_OF_ROOM: u64 = 0x4000_0000_0000_0000;
 
 /// A router: its links, what it knows of the links of all routers, what its clients have declared and their live interests, what it knows of
-/// all logs, and the requests that it has passed on and that have not ended.
+/// all logs, the requests that it has passed on and that have not ended, and the replies that it holds for them.
 pub struct Node {
     links: Links,
     base: Base,
@@ -98,7 +98,7 @@ impl Model for Node {
 
     ghost Value = { NodeState };
 
-    ghost view = { λ n. record { links = n.links; base = n.base; rows = n.local.rows; clients = n.local.clients; known = n.known; pending = n.pending; spent = n.spent } };
+    ghost view = { λ n. record { links = n.links; base = n.base; rows = n.local.rows; clients = n.local.clients; known = n.known; pending = n.pending.rows; held = n.pending.held; spent = n.spent } };
 
     ghost invariant = { λ n. IsWhole (record { links = n.links; base = n.base; rows = n.local.rows; clients = n.local.clients; known = n.known }) n.family n.trees n.routes };
 }
@@ -133,7 +133,7 @@ impl Node {
 
     fn copy_with(&self, alloc: Global, links: Links, pending: Pending) -> Result<Node, AllocError>
         requires links { links ≡ self.now.links }
-        requires pending { pending ≡ self.now.pending }
+        requires pending { pending ≡ pending_of self.now }
         ensures { IfOk result (λ n. n ≡ self.now) }
     {
         let base = self.base.copy(alloc)?;
@@ -151,7 +151,7 @@ impl Node {
         known: Known,
     ) -> Result<Node, AllocError>
         requires links { links ≡ self.now.links }
-        requires pending { pending ≡ self.now.pending }
+        requires pending { pending ≡ pending_of self.now }
         requires base { base ≡ self.now.base }
         requires known { known ≡ self.now.known }
         ensures { IfOk result (λ n. n ≡ self.now) }

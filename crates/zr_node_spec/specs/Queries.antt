@@ -1,10 +1,11 @@
 -- Where a request goes: along the tree of its asker's router to every router whose clients can answer it, and at each router to its own clients.
 -- Replies and finals go back by the rows of what is pending: a reply to who asked the row of its branch, and one final once all branches of a
--- row have ended.
-use Rattle.std.specs.Prelude.{ℕ, ◌==◌, ◌&&◌, not, nat_le, Bool, true, false, if◌then◌else◌, List, [], ◌∷◌, ◌++◌, map, filter, Option, Some, None}
+-- row have ended. Replies to a client that asks for the latest ones alone are held up to its final.
+use Rattle.std.specs.Prelude.{ℕ, ◌==◌, ◌&&◌, not, nat_le, Bool, true, false, if◌then◌else◌, List, [], ◌∷◌, ◌++◌, map, filter, Option, Some, None, is_some}
 use Rattle.std.specs.List.{list_any, flat_map}
 use Rattle.std.specs.Option.{option_map_or}
 use Rattle.zr_id.specs.declared.link.LinkNo.{LinkNo}
+use Rattle.zr_body.specs.Latest.{is_latest, is_reply}
 use Rattle.zr_match.specs.Table.{texts_meet, texts_cover}
 use Rattle.zr_msg.specs.Extras.{no_extras}
 use Rattle.zr_msg.specs.declared.content.Parts.{Parts}
@@ -24,7 +25,8 @@ use Rattle.zr_log.specs.declared.log.Log.{Log}
 use Rattle.zr_pend.specs.declared.branch.Asker.{Asker}
 use Rattle.zr_pend.specs.Row.{RowState}
 use Rattle.zr_pend.specs.Pending.{count, asker_of, branch, free_number, is_full, begun, finished, final_to, finals_of_drop}
-use Rattle.zr_node_spec.specs.Tables.{TableState, link_at}
+use Rattle.zr_pend.specs.Held.{GatheringState, held_for, has_room, gathering_begun, gatherings_with, gatherings_without, gatherings_left, gathers_at}
+use Rattle.zr_node_spec.specs.Tables.{TableState, link_at, leads_to_client}
 use Rattle.zr_node_spec.specs.Samples.{leads_to_source, tree_of}
 
 -- ---- who can answer
@@ -112,21 +114,57 @@ sends_request t pending from named number target content to =
 abbrev pub reply_to : Parts → ℕ → Asker → List Msg
 reply_to content to a = if to == a.link.0 then Response a.number content ∷ [] else []
 
--- what a reply under a number of a link sends: to who asked the row of that branch, if it is pending and its asker is there
-abbrev pub sends_reply : List RowState → ℕ → ℕ → Parts → ℕ → List Msg
-sends_reply pending from number content to = option_map_or (λ a. reply_to content to a) (asker_of (branch (link_no from) number) pending) []
+-- for whom a reply under a number of a link is held, if it is: a REPLY, for who asked its row for the latest alone, where there is room for it
+abbrev pub held_at : List RowState → List GatheringState → ℕ → ℕ → Parts → Option Asker
+held_at pending held from number content = if is_reply content.body && has_room held content then gathers_at pending held (branch (link_no from) number) else None
 
--- a final goes to who asked, under the number that the request had there
+-- what a reply under a number of a link sends that isn't held: to who asked the row of that branch, if it is pending and its asker is there
+abbrev pub passes_reply : List RowState → ℕ → ℕ → Parts → ℕ → List Msg
+passes_reply pending from number content to = option_map_or (λ a. reply_to content to a) (asker_of (branch (link_no from) number) pending) []
+
+-- what a reply under a number of a link sends: nothing where it is held
+abbrev pub sends_reply : List RowState → List GatheringState → ℕ → ℕ → Parts → ℕ → List Msg
+sends_reply pending held from number content to = if is_some (held_at pending held from number content) then [] else passes_reply pending from number content to
+
+-- a final goes to who asked, under the number that the request had there, behind what was held for it
 abbrev pub final_for : Extras → ℕ → Asker → List Msg
 final_for extras to a = if to == a.link.0 then Final a.number extras ∷ [] else []
 
--- what a final under a number of a link sends: one final with its extensions, where that was the last branch of its row
-abbrev pub sends_final : List RowState → ℕ → ℕ → Extras → ℕ → List Msg
-sends_final pending from number extras to = option_map_or (λ a. final_for extras to a) (final_to pending (branch (link_no from) number)) []
+abbrev pub held_to : List GatheringState → ℕ → Asker → List Msg
+held_to held to a = if to == a.link.0 then map (λ c. Response a.number c) (held_for held a) else []
 
--- what a link that goes down sends: its branches end in the order of their numbers, and a final goes to each whose row ends by that
-abbrev pub sends_ends : List RowState → ℕ → ℕ → List Msg
-sends_ends pending link to = flat_map (λ a. final_for no_extras to a) (finals_of_drop (link_no link) pending)
+abbrev pub ending_for : List GatheringState → Extras → ℕ → Asker → List Msg
+ending_for held extras to a = held_to held to a ++ final_for extras to a
+
+-- what a final under a number of a link sends: what was held and one final with its extensions, where that was the last branch of its row
+abbrev pub sends_final : List RowState → List GatheringState → ℕ → ℕ → Extras → ℕ → List Msg
+sends_final pending held from number extras to = option_map_or (λ a. ending_for held extras to a) (final_to pending (branch (link_no from) number)) []
+
+-- what a link that goes down sends: its branches end in the order of their numbers, and what was held and a final go to each whose row ends by
+-- that
+abbrev pub sends_ends : List RowState → List GatheringState → ℕ → ℕ → List Msg
+sends_ends pending held link to = flat_map (λ a. ending_for held no_extras to a) (finals_of_drop (link_no link) pending)
+
+-- ---- what is held
+
+-- replies are gathered for a client that asks for the latest alone, where its request goes somewhere
+abbrev pub gathering_if : List GatheringState → Bool → Asker → List LinkNo → List GatheringState
+gathering_if held latest from [] = held
+gathering_if held latest from (l ∷ links) = if latest then gathering_begun held from else held
+
+-- what is held once a request has come over a link, a reply or a final under a number of a link, and once a link went down
+abbrev pub held_request : TableState → List GatheringState → ℕ → Option (List ℕ) → ℕ → Target → Parts → List GatheringState
+held_request t held from named number target content =
+    gathering_if held (leads_to_client t.links from && is_latest content.body) (asker from number) (asked_links t from named target content.key)
+
+abbrev pub held_reply : List RowState → List GatheringState → ℕ → ℕ → Parts → List GatheringState
+held_reply pending held from number content = option_map_or (λ a. gatherings_with held a content) (held_at pending held from number content) held
+
+abbrev pub held_final : List RowState → List GatheringState → ℕ → ℕ → List GatheringState
+held_final pending held from number = option_map_or (λ a. gatherings_without held a) (final_to pending (branch (link_no from) number)) held
+
+abbrev pub held_down : List RowState → List GatheringState → ℕ → List GatheringState
+held_down pending held link = gatherings_left held (link_no link) (finals_of_drop (link_no link) pending)
 
 -- ---- what is pending
 

@@ -9,11 +9,12 @@ use Rattle.zr_local.specs.declared.row.Row.{Row}
 use Rattle.zr_local.specs.State.{LocalState}
 use Rattle.zr_log.specs.Known.{KnownState, nothing_known}
 use Rattle.zr_pend.specs.Row.{RowState}
+use Rattle.zr_pend.specs.Held.{GatheringState}
 use Rattle.zr_node_spec.specs.Tables.{TableState}
 
 -- a router: its links in ascending order of their numbers, what it knows of the links of all routers, itself among them, what the clients of
--- its links have declared, what it knows of the change logs of all routers, its own among them, and the requests that it has passed on and
--- that have not ended, in the order in which they came
+-- its links have declared, what it knows of the change logs of all routers, its own among them, the requests that it has passed on and that
+-- have not ended, in the order in which they came, and the replies that it holds for those that ask for the latest ones alone
 pub record NodeState : Type 0 where
   pub links : List LinkPeer
   pub base : BaseState
@@ -21,12 +22,13 @@ pub record NodeState : Type 0 where
   pub clients : List ClientInterests
   pub known : KnownState
   pub pending : List RowState
+  pub held : List GatheringState
   -- memory ran out at an earlier event: nothing is said of the rest, and the router answers no more
   pub spent : Bool
 
 -- a router without links
 abbrev pub new_node : List ℕ → NodeState
-new_node me = record { links = []; base = fresh me; rows = []; clients = []; known = nothing_known me; pending = []; spent = false }
+new_node me = record { links = []; base = fresh me; rows = []; clients = []; known = nothing_known me; pending = []; held = []; spent = false }
 
 -- a link that has come up
 abbrev pub new_link : LinkNo → PeerState → LinkPeer

@@ -36,10 +36,11 @@ use Rattle.zr_log.specs.declared.error.KnownError.{KnownError}
 use Rattle.zr_log.specs.declared.error.KnownError.TheVariants as known
 use Rattle.zr_pend.specs.Row.{RowState}
 use Rattle.zr_pend.specs.Pending.{asked, dropped}
+use Rattle.zr_pend.specs.Held.{GatheringState}
 use Rattle.zr_node_spec.specs.Tables.{is_link, link_at, leads_to_router, leads_to_client}
 use Rattle.zr_node_spec.specs.Changes.{changes, after_changes, sends_changes, have_no_room}
 use Rattle.zr_node_spec.specs.Samples.{sends_push}
-use Rattle.zr_node_spec.specs.Queries.{link_no, asker, asked_links, sends_request, sends_reply, sends_final, sends_ends, after_request, after_final, most_pending, asks_most, has_no_number}
+use Rattle.zr_node_spec.specs.Queries.{link_no, asker, asked_links, sends_request, sends_reply, sends_final, sends_ends, after_request, after_final, held_request, held_reply, held_final, held_down, most_pending, asks_most, has_no_number}
 use Rattle.zr_node_spec.specs.Snapshots.{sends_step, sends_snap, sends_snapshots}
 use Rattle.zr_node_spec.specs.State.{NodeState, new_link, tables, local_state}
 
@@ -130,7 +131,7 @@ clients_down node from = if leads_to_client node.links from then clients_left no
 -- a router whose clients have other live interests
 abbrev pub with_clients : NodeState → List ClientInterests → NodeState
 with_clients node clients =
-    record { links = node.links; base = node.base; rows = node.rows; clients = clients; known = node.known; pending = node.pending; spent = node.spent }
+    record { links = node.links; base = node.base; rows = node.rows; clients = clients; known = node.known; pending = node.pending; held = node.held; spent = node.spent }
 
 -- a router whose clients have declared these rows: what has changed of their set stands in its log
 abbrev pub with_rows : NodeState → List Row → NodeState
@@ -142,6 +143,7 @@ with_rows node rows =
       clients = node.clients;
       known = after_changes node.known (changes node.rows rows);
       pending = node.pending;
+      held = node.held;
       spent = node.spent;
     }
 
@@ -202,18 +204,18 @@ sends_from node from (ToldUnable id) to = []
 sends_from node from (ToldEnd interest) to = []
 sends_from node from (Push tree content) to = sends_push (tables node) from tree content to
 sends_from node from (Request tree id target content) to = sends_request (tables node) node.pending from tree id target content to
-sends_from node from (Response id content) to = sends_reply node.pending from id content to
-sends_from node from (Final id extras) to = sends_final node.pending from id extras to
+sends_from node from (Response id content) to = sends_reply node.pending node.held from id content to
+sends_from node from (Final id extras) to = sends_final node.pending node.held from id extras to
 sends_from node from (State links) to = sends_state node from links to
 sends_from node from (Step source number added decl) to = sends_step (tables node) from source number (record { added = added; decl = decl }) to
 sends_from node from (Snap source number decls) to = sends_snap (tables node) from source number decls to
 
--- what an event sends on the link of a number, but for the snapshots of new children: records; where a link goes down, first the finals of
--- the requests that end by that, and last what has changed where a client leaves
+-- what an event sends on the link of a number, but for the snapshots of new children: records; where a link goes down, first what was held for
+-- the requests that end by that, each with its final, and last what has changed where a client leaves
 abbrev pub sends_first : NodeState → Event → LinkNo → List Msg
 sends_first node (Up link peer) to = sends_up node link.0 peer peer.role to.0
 sends_first node (Down link) to =
-    sends_ends node.pending link.0 to.0 ++ (sends_down node link.0 (link_at node.links link.0) to.0 ++ sends_rows node (rows_left node link.0) to.0)
+    sends_ends node.pending node.held link.0 to.0 ++ (sends_down node link.0 (link_at node.links link.0) to.0 ++ sends_rows node (rows_left node link.0) to.0)
 sends_first node (From link msg) to = sends_from node link.0 msg to.0
 
 -- ---- what is left
@@ -228,14 +230,19 @@ without_link links link = filter (λ l. not (is_link link l)) links
 
 -- a router with another base, or that knows other logs
 abbrev pub with_base : NodeState → BaseState → NodeState
-with_base node base = record { links = node.links; base = base; rows = node.rows; clients = node.clients; known = node.known; pending = node.pending; spent = node.spent }
+with_base node base = record { links = node.links; base = base; rows = node.rows; clients = node.clients; known = node.known; pending = node.pending; held = node.held; spent = node.spent }
 
 abbrev pub with_known : NodeState → KnownState → NodeState
-with_known node known = record { links = node.links; base = node.base; rows = node.rows; clients = node.clients; known = known; pending = node.pending; spent = node.spent }
+with_known node known = record { links = node.links; base = node.base; rows = node.rows; clients = node.clients; known = known; pending = node.pending; held = node.held; spent = node.spent }
 
 -- a router where other requests are pending
 abbrev pub with_pending : NodeState → List RowState → NodeState
-with_pending node pending = record { links = node.links; base = node.base; rows = node.rows; clients = node.clients; known = node.known; pending = pending; spent = node.spent }
+with_pending node pending = record { links = node.links; base = node.base; rows = node.rows; clients = node.clients; known = node.known; pending = pending; held = node.held; spent = node.spent }
+
+-- a router that holds other replies
+abbrev pub with_held : NodeState → List GatheringState → NodeState
+with_held node held =
+    record { links = node.links; base = node.base; rows = node.rows; clients = node.clients; known = node.known; pending = node.pending; held = held; spent = node.spent }
 
 -- what is known once a router tells a change or a snapshot: clients tell none
 abbrev pub known_step : NodeState → ℕ → List ℕ → ℕ → Change → KnownState
@@ -260,9 +267,9 @@ after_from node from (ToldUnable id) = node
 after_from node from (ToldEnd interest) = node
 after_from node from (Push tree content) = node
 after_from node from (Request tree id target content) =
-    with_pending node (after_request (tables node) node.pending from tree id target content.key)
-after_from node from (Response id content) = node
-after_from node from (Final id extras) = with_pending node (after_final node.pending from id)
+    with_held (with_pending node (after_request (tables node) node.pending from tree id target content.key)) (held_request (tables node) node.held from tree id target content)
+after_from node from (Response id content) = with_held node (held_reply node.pending node.held from id content)
+after_from node from (Final id extras) = with_held (with_pending node (after_final node.pending from id)) (held_final node.pending node.held from id)
 after_from node from (State links) = with_base node (base_told node from links)
 after_from node from (Step source number added decl) = with_known node (known_step node from source number (record { added = added; decl = decl }))
 after_from node from (Snap source number decls) = with_known node (known_snap node from source number decls)
@@ -277,11 +284,12 @@ after_up node link peer =
       clients = node.clients;
       known = node.known;
       pending = node.pending;
+      held = node.held;
       spent = node.spent;
     }
 
 -- the state that the Down of a link leaves, once what its client has declared is gone: its branches have ended, and what it asked has no
--- asker any more
+-- asker any more, and no replies that are held
 abbrev pub after_down : NodeState → ℕ → NodeState
 after_down node link =
     record {
@@ -291,6 +299,7 @@ after_down node link =
       clients = clients_down node link;
       known = node.known;
       pending = dropped (link_no link) node.pending;
+      held = held_down node.pending node.held link;
       spent = node.spent;
     }
 

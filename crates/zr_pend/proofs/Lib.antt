@@ -9,3 +9,7 @@ pub mod Readings
 pub mod ReadingsOfDrop
 pub mod Flags
 pub mod OneEnd
+pub mod Sums
+pub mod Gathered
+pub mod Askers
+pub mod Best

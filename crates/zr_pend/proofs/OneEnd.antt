@@ -20,7 +20,7 @@ none_left b (c ∷ cs) = by (is_branch b c) (none_left b cs)
     by true ih = ih
     by false ih = not_done c (filter (λ e. not (is_branch b e)) cs)
 
-done_is_last : (b : Branch) (r : RowState) → has b r ≡ true → is_done (without b r) ≡ is_last b r
+pub done_is_last : (b : Branch) (r : RowState) → has b r ≡ true → is_done (without b r) ≡ is_last b r
 done_is_last b r h = rw h (none_left b r.branches)
 
 -- the rows as those before one, this one, and those behind it

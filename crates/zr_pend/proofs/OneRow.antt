@@ -24,7 +24,7 @@ others_stay : (b : Branch) (bs : List Branch) → list_any (λ c. is_branch b c)
 others_stay b [] h = refl
 others_stay b (c ∷ cs) h = let e : is_branch b c ≡ false = left_false _ _ h in rw e (ap (λ z. c ∷ z) (others_stay b cs (right_false _ _ h)))
 
-row_stays : (b : Branch) (r : RowState) → has b r ≡ false → without b r ≡ r
+pub row_stays : (b : Branch) (r : RowState) → has b r ≡ false → without b r ≡ r
 row_stays b r h = ap (λ bs. record { asker = r.asker; branches = bs }) (others_stay b r.branches h)
 
 -- they stay as they are

@@ -153,11 +153,11 @@ finished_back (r ∷ rows) b c = by (is_done (without b r)) refl (is_branch b c)
 -- ---- each asker has one row
 
 -- a row whose asker asks none of the others
-one_row : (a : Asker) (o : Option Asker) (rows : List RowState) → o ≡ Some a → option_map_or (λ z. asked z rows) o false ≡ false → asked a rows ≡ false
+pub one_row : (a : Asker) (o : Option Asker) (rows : List RowState) → o ≡ Some a → option_map_or (λ z. asked z rows) o false ≡ false → asked a rows ≡ false
 one_row a None rows e k = cc
 one_row a (Some z) rows e k = ap (λ u. option_map_or (λ z. asked z rows) u false) (sym e) ∙ k
 
-asker_at : (a : Asker) (o : Option Asker) → option_map_or (λ z. z.link.0 == a.link.0 && z.number == a.number) o false ≡ true → o ≡ Some a
+pub asker_at : (a : Asker) (o : Option Asker) → option_map_or (λ z. z.link.0 == a.link.0 && z.number == a.number) o false ≡ true → o ≡ Some a
 asker_at a None e = absurd (false≢true e)
 asker_at a (Some z) e =
     let parts = and_parts (z.link.0 == a.link.0) (z.number == a.number) e in
@@ -165,7 +165,7 @@ asker_at a (Some z) e =
     let e1 : z.number ≡ a.number = eqb-true z.number a.number parts.1 in
     λ i. Some (record { link = record { 0 = e0 i }; number = e1 i })
 
-asks_itself : (a : Asker) (r : RowState) → r.asker ≡ Some a → is_asked_by a r ≡ true
+pub asks_itself : (a : Asker) (r : RowState) → r.asker ≡ Some a → is_asked_by a r ≡ true
 asks_itself a r e = ap (λ o. option_map_or (λ z. z.link.0 == a.link.0 && z.number == a.number) o false) e
     ∙ and_from (a.link.0 == a.link.0) (a.number == a.number) (eq-eqb a.link.0 a.link.0 refl) (eq-eqb a.number a.number refl)
 
@@ -186,7 +186,7 @@ back_asked (r ∷ rows) b a e = by (has b r) e (back_asked rows b a)
     by false k ih = or_right (is_asked_by a r) (asked a rows) (ih k)
 
 -- no other row is asked by the asker of the first one
-alone : (r : RowState) (rows : List RowState) (a : Asker) → askers_differ (r ∷ rows) ≡ true → is_asked_by a r ≡ true → asked a rows ≡ false
+pub alone : (r : RowState) (rows : List RowState) (a : Asker) → askers_differ (r ∷ rows) ≡ true → is_asked_by a r ≡ true → asked a rows ≡ false
 alone r rows a s e = one_row a r.asker rows (asker_at a r.asker e) (not_is (option_map_or (λ z. asked z rows) r.asker false) (and_parts (not (option_map_or (λ z. asked z rows) r.asker false)) (askers_differ rows) s).0)
   where
     not_is : (b : Bool) → not b ≡ true → b ≡ false

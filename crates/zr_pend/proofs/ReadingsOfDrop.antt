@@ -1,12 +1,12 @@
 -- What the rows of pending requests say once a link went down: who asked over it is forgotten, and its branches have ended.
-use Rattle.std.proofs.Common.{◌≡◌, ℕ, length, ◌==◌, ◌&&◌, ◌||◌, not, Bool, true, false, cond, List, [], ◌∷◌, map, filter, Option, Some, None, refl, sym, ap, ◌∙◌}
+use Rattle.std.proofs.Common.{◌≡◌, length, ◌==◌, ◌&&◌, ◌||◌, not, Bool, true, false, cond, List, [], ◌∷◌, filter, Option, Some, None, refl, sym, ap, ◌∙◌}
 use Rattle.std.specs.List.{list_any, list_all, find}
 use Rattle.std.specs.Option.{option_map, option_map_or}
 use Rattle.std.proofs.lemmas.Bool.{eqb-true, eq-eqb, false≢true, or_left, or_right}
 use Rattle.zr_id.specs.declared.link.LinkNo.{LinkNo}
 use Rattle.zr_pend.specs.declared.branch.Asker.{Asker}
 use Rattle.zr_pend.specs.declared.branch.Branch.{Branch}
-use Rattle.zr_pend.specs.Readings.{back, row_of, but_for, but_link, off_link, IsDropped}
+use Rattle.zr_pend.specs.Readings.{back, row_of, but_link, off_link, IsDropped}
 use Rattle.zr_pend.specs.Row.{RowState, is_branch, has, is_done, is_of, is_asked_by, orphaned}
 use Rattle.zr_pend.specs.Pending.{asked, askers_differ, is_pending, branch, branches_on, numbers_on, ascending, finished, all_finished, all_orphaned, dropped, IsSound}
 use Rattle.zr_pend.proofs.Parts.{and_left, and_right}
@@ -19,7 +19,7 @@ use Rattle.zr_pend.proofs.Readings.{finished_back, finished_row}
 
 -- ---- who asked over the link is forgotten
 
-orphaned_asker : (link : LinkNo) (r : RowState) → (orphaned link r).asker ≡ but_link link r.asker
+pub orphaned_asker : (link : LinkNo) (r : RowState) → (orphaned link r).asker ≡ but_link link r.asker
 orphaned_asker link r = by (is_of link r)
   where
     by : (t : Bool) → (cond t (record { asker = None; branches = r.branches }) r).asker ≡ cond t None r.asker
@@ -39,10 +39,10 @@ orphaned_back link (r ∷ rows) b =
     by false ih = ih
 
 -- whether an asker is another one's
-abbrev is_who : Asker → Option Asker → Bool
+abbrev pub is_who : Asker → Option Asker → Bool
 is_who a o = option_map_or (λ z. z.link.0 == a.link.0 && z.number == a.number) o false
 
-who_is_left : (link : LinkNo) (a : Asker) (o : Option Asker) → is_who a (but_link link o) ≡ (not (a.link.0 == link.0) && is_who a o)
+pub who_is_left : (link : LinkNo) (a : Asker) (o : Option Asker) → is_who a (but_link link o) ≡ (not (a.link.0 == link.0) && is_who a o)
 who_is_left link a None = by (a.link.0 == link.0)
   where
     by : (t : Bool) → false ≡ (not t && false)

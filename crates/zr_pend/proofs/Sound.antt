@@ -125,7 +125,7 @@ finished_branches (r ∷ rows) b =
     by false e ih = ap (λ z. (without b r).branches ++ z) ih
 
 -- who asked none of the rows asks none of those that are left
-asked_left : (a : Asker) (rows : List RowState) (b : Branch) → asked a rows ≡ false → asked a (finished rows b) ≡ false
+pub asked_left : (a : Asker) (rows : List RowState) (b : Branch) → asked a rows ≡ false → asked a (finished rows b) ≡ false
 asked_left a [] b h = refl
 asked_left a (r ∷ rows) b h = by (is_done (without b r)) (asked_left a rows b (right_false _ _ h))
   where

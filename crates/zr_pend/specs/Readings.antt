@@ -1,6 +1,6 @@
 -- What the rows of pending requests say: for whom a branch is pending, and which branches are pending for who asked; and what the begin of a
 -- request, the end of a branch and the end of a link make of that.
-use Rattle.std.specs.Prelude.{◌≡◌, ℕ, ◌==◌, ◌&&◌, ◌||◌, not, Bool, true, false, List, [], ◌∷◌, ◌++◌, length, filter, Option, Some, None, if◌then◌else◌}
+use Rattle.std.specs.Prelude.{◌≡◌, ◌==◌, ◌&&◌, ◌||◌, not, true, false, List, [], ◌∷◌, ◌++◌, length, filter, Option, Some, None, if◌then◌else◌}
 use Rattle.std.specs.List.{list_any, find}
 use Rattle.std.specs.Option.{option_map, option_map_or, option_and_then}
 use Rattle.zr_id.specs.declared.link.LinkNo.{LinkNo}

@@ -1,5 +1,6 @@
 //! Laws of pending requests, for the proofs of the crates above.
 
+ghost use Rattle.zr_pend.specs.Best.{GatheredIsBest};
 ghost use Rattle.zr_pend.specs.Readings.{BegunRowsAreRead, FinishedRowsAreRead, BranchesStandInRows, DroppedRowsAreRead};
 ghost use Rattle.zr_pend.specs.Laws.{NumbersAreLeast, NumbersAreTaken, BeginKeeps, FinishKeeps, DropKeeps, BranchesAreOfOneRow, RowsEndOnce, DroppedLinksAreGone, AscendingNumbersAscend};
 
@@ -66,4 +67,9 @@ pub fn branches_stand_in_rows()
 /// Once a link went down its branches are pending no more, and what it asked is pending for nobody.
 pub fn dropped_rows_are_read()
     ensures { DroppedRowsAreRead }
+{}
+
+/// What is held of replies is of each key the latest one, whatever the order in which they came, and however often.
+pub fn gathered_is_best()
+    ensures { GatheredIsBest }
 {}

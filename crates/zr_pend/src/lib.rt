@@ -1,9 +1,12 @@
 //! The pending requests of one router: who asked each request that was passed on, and the links that have not finished it.
-//! No message and no key is known here.
+//! For requests for the latest replies alone it holds these. Which of two replies is the later one isn't known here.
 #![tactic(auto)]
 
 pub mod branch;
+pub mod gathering;
+mod gatherings;
 pub mod laws;
 pub mod pending;
+pub mod replies;
 mod row;
 mod rows;

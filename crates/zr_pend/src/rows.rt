@@ -42,12 +42,12 @@ pub fn numbers_of(alloc: Global, branches: &[Branch]) -> Result<Vec<u32>, AllocE
     branches.iter().map(|b| b.number).collect(alloc)
 }
 
-/// Puts a row behind the others.
-pub fn put(rows: &mut Vec<Row>, row: Row) -> Result<(), AllocError>
-    ensures ok { OnOk result (rows.new.items ≡ rows.old.items ++ row ∷ []) }
-    ensures err { OnErr result (rows.new.items ≡ rows.old.items) }
+/// Puts a row behind the others. There is room for it.
+pub fn put(rows: &mut Vec<Row>, row: Row)
+    requires { vec_len rows.old + 1 ≤ vec_capacity rows.old }
+    ensures { rows.new.items ≡ rows.old.items ++ row ∷ [] }
 {
-    Ok(rows.push(row)?)
+    let _ = rows.push(row);
 }
 
 /// Who asked the row of a branch.

@@ -1,7 +1,6 @@
 -- A request along its route is, on the link of each number, what the definition of routing says, and it is pending there as that says.
-use Rattle.std.proofs.Common.{◌≡◌, ℕ, ◌==◌, ◌<◌, ◌&&◌, not, arith, Bool, true, false, cond, List, [], ◌∷◌, ◌++◌, append-nil, suc, length, Option, Some, None, map, filter, refl, sym, ap, ◌∙◌}
+use Rattle.std.proofs.Common.{◌≡◌, ℕ, ◌==◌, ◌<◌, arith, Bool, true, false, cond, List, [], ◌∷◌, ◌++◌, append-nil, suc, length, Option, Some, None, map, filter, refl, sym, ap, ◌∙◌}
 use Rattle.std.specs.List.{list_any}
-use Rattle.std.specs.Option.{option_map_or}
 use Rattle.zr_id.specs.declared.link.LinkNo.{LinkNo}
 use Rattle.zr_msg.specs.declared.content.Parts.{Parts}
 use Rattle.zr_msg.specs.declared.msg.Msg.{Msg}
@@ -18,14 +17,14 @@ use Rattle.zr_pend.specs.declared.branch.Branch.{Branch}
 use Rattle.zr_push.specs.declared.route.RouteLink.{RouteLink}
 use Rattle.zr_push.specs.Route.{stop_at, route_of, stops_from}
 use Rattle.zr_push_sought.specs.Sought.{sought_by}
-use Rattle.zr_push.proofs.Stops.{kept_same, is_told, told_stops, each_kept, on_kept, told_each}
-use Rattle.zr_node_spec.specs.Queries.{is_asked, links_along, asked_links, tree_for, request_along, final_at_once, has_no_number, sends_request, after_request, asked_over}
+use Rattle.zr_push.proofs.Stops.{kept_same, is_told, told_stops, on_kept, told_each}
+use Rattle.zr_pend.specs.Held.{GatheringState}
+use Rattle.zr_node_spec.specs.Queries.{gathering_if, is_asked, links_along, asked_links, tree_for, request_along, final_at_once, has_no_number, sends_request, after_request, asked_over}
 use Rattle.zr_node_spec.specs.Tables.{TableState, AreNumbered, link_at}
 use Rattle.zr_node_spec.specs.Event.{on_link, Tells, TellsPrefix}
 use Rattle.zr_lists.specs.Prefix.{IsPrefixBehind}
 use Rattle.zr_node_spec.proofs.Links.{ascending_behind, none_behind}
 use Rattle.zr_node_spec.proofs.Told.{tells_list, tells_prefix}
-use Rattle.zr_query.specs.Answering.{final_sent}
 use Rattle.zr_query.specs.Asking.{IsRouteOf, links_of, asked_of, request_for, each_asked, all_asked, sent_by}
 use Rattle.zr_query.proofs.Told.{ended_at_once}
 
@@ -136,6 +135,9 @@ module _ (t : TableState) (rows : List RowState) (from : Asker) (tree : List ℕ
 
     pub pending_is : (now : List RowState) → now ≡ asked_over rows from (links_of kept) → now ≡ after_request t rows from.link.0 named from.number target content.key
     pending_is now k = k ∙ ap (λ ls. asked_over rows from ls) links_are
+
+    pub gathered_is : (held now : List GatheringState) (latest : Bool) → now ≡ gathering_if held latest from (links_of kept) → now ≡ gathering_if held latest from (asked_links t from.link.0 named target content.key)
+    gathered_is held now latest k = k ∙ ap (λ ls. gathering_if held latest from ls) links_are
 
     pub room_is : (b : Bool) → list_any (λ l. is_full l rows) (links_of kept) ≡ b → has_no_number rows (asked_links t from.link.0 named target content.key) ≡ b
     room_is b k = ap (λ ls. has_no_number rows ls) (sym links_are) ∙ k

@@ -1,24 +1,26 @@
 -- What is told to who asked is, on the link of each number, what the definition of routing says.
-use Rattle.std.proofs.Common.{◌≡◌, ℕ, ◌==◌, Bool, true, false, cond, List, [], ◌∷◌, ◌++◌, append-nil, Option, Some, None, map, refl, sym, ap, ◌∙◌}
+use Rattle.std.proofs.Common.{◌≡◌, ℕ, ◌==◌, Bool, true, false, cond, List, [], ◌∷◌, ◌++◌, append-nil, Option, Some, None, is_some, map, refl, sym, ap, ◌∙◌}
 use Rattle.std.specs.List.{flat_map}
-use Rattle.std.specs.Option.{option_map_or}
+use Rattle.std.specs.Option.{option_map, option_map_or}
 use Rattle.std.proofs.lemmas.Bool.{eqb-true, eq-eqb, false≢true}
 use Rattle.zr_id.specs.declared.link.LinkNo.{LinkNo}
 use Rattle.zr_msg.specs.Extras.{no_extras}
 use Rattle.zr_msg.specs.declared.content.Parts.{Parts}
 use Rattle.zr_msg.specs.declared.extras.Extras.{Extras}
 use Rattle.zr_msg.specs.declared.msg.Msg.{Msg}
+use Rattle.zr_msg.specs.declared.msg.Msg.TheVariants.{Response}
 use Rattle.zr_msg.specs.declared.msg.Target.{Target}
 use Rattle.zr_pend.specs.Row.{RowState}
 use Rattle.zr_pend.specs.Pending.{asker_of, branch, final_to, finals_of_drop}
 use Rattle.zr_pend.specs.declared.branch.Asker.{Asker}
-use Rattle.zr_node_spec.specs.Queries.{reply_to, final_for, final_at_once, link_no, links_along, request_along, sends_request, sends_reply, sends_final, sends_ends}
+use Rattle.zr_pend.specs.Held.{GatheringState, ending, held_for}
+use Rattle.zr_node_spec.specs.Queries.{reply_to, final_for, final_at_once, ending_for, held_at, held_to, link_no, links_along, passes_reply, request_along, sends_request, sends_reply, sends_final, sends_ends}
 use Rattle.zr_node_spec.specs.Samples.{tree_of}
 use Rattle.zr_node_spec.specs.Tables.{TableState, link_at}
 use Rattle.zr_node_spec.specs.Event.{on_link, Tells, TellsPrefix}
 use Rattle.zr_lists.specs.Prefix.{IsPrefixBehind}
 use Rattle.zr_node_spec.proofs.Told.{on_link-append, tells_list, tells_prefix}
-use Rattle.zr_query.specs.Answering.{reply_sent, final_sent}
+use Rattle.zr_query.specs.Answering.{ending_sent, endings_sent, final_sent, reply_sent}
 
 -- a message for one link is on that link alone
 pub on_own : (l : LinkNo) (m : Msg) (to : LinkNo) → on_link to ((l, m) ∷ []) ≡ cond (to.0 == l.0) (m ∷ []) []
@@ -43,38 +45,92 @@ pub tells_nothing : (rows : ℕ → List Msg) (before : List (LinkNo × Msg)) �
 tells_nothing rows before h = tells_list rows before [] before (λ to. sym (h to.0)) (sym (append-nil before))
 
 pub reply_told : (rows : List RowState) (from number : ℕ) (content : Parts) (a : Asker) (before now : List (LinkNo × Msg)) → asker_of (branch (link_no from) number) rows ≡ Some a →
-    now ≡ before ++ reply_sent content a ∷ [] → Tells (sends_reply rows from number content) before now
+    now ≡ before ++ reply_sent content a ∷ [] → Tells (passes_reply rows from number content) before now
 reply_told rows from number content a before now at e =
     tells_list _ _ _ _ (λ to. replied content a to ∙ ap (λ o. option_map_or (λ b. reply_to content to.0 b) o []) (sym at)) e
 
 pub no_reply_told : (rows : List RowState) (from number : ℕ) (content : Parts) (before : List (LinkNo × Msg)) → asker_of (branch (link_no from) number) rows ≡ None →
-    Tells (sends_reply rows from number content) before before
+    Tells (passes_reply rows from number content) before before
 no_reply_told rows from number content before at = tells_nothing _ _ (λ n. ap (λ o. option_map_or (λ b. reply_to content n b) o []) at)
 
-pub final_told : (rows : List RowState) (from number : ℕ) (extras : Extras) (a : Asker) (before now : List (LinkNo × Msg)) → final_to rows (branch (link_no from) number) ≡ Some a →
-    now ≡ before ++ final_sent extras a ∷ [] → Tells (sends_final rows from number extras) before now
-final_told rows from number extras a before now at e = tells_list _ _ _ _ (λ to. ended extras a to ∙ ap (λ o. option_map_or (λ b. final_for extras to.0 b) o []) (sym at)) e
+-- a reply that is held, and one that isn't
+module _ (rows : List RowState) (held : List GatheringState) (from number : ℕ) (content : Parts) (before now : List (LinkNo × Msg)) where
+  pub held_told : is_some (held_at rows held from number content) ≡ true → Tells (sends_reply rows held from number content) before before
+  held_told h = tells_nothing _ _ (λ n. ap (λ t. cond t [] (passes_reply rows from number content n)) h)
 
-pub no_final_told : (rows : List RowState) (from number : ℕ) (extras : Extras) (before : List (LinkNo × Msg)) → final_to rows (branch (link_no from) number) ≡ None →
-    Tells (sends_final rows from number extras) before before
-no_final_told rows from number extras before at = tells_nothing _ _ (λ n. ap (λ o. option_map_or (λ b. final_for extras n b) o []) at)
+  pub passed_told : is_some (held_at rows held from number content) ≡ false → Tells (passes_reply rows from number content) before now → Tells (sends_reply rows held from number content) before now
+  passed_told h t = record {
+    sent = t.sent;
+    appended = t.appended;
+    each = λ to. t.each to ∙ sym (ap (λ u. cond u [] (passes_reply rows from number content to.0)) h);
+  }
+
+-- ---- what was held, and the final
+
+replies_told : (a : Asker) (replies : List Parts) (to : LinkNo) → on_link to (map (λ c. reply_sent c a) replies) ≡ cond (to.0 == a.link.0) (map (λ c. Response a.number c) replies) []
+replies_told a [] to = none (to.0 == a.link.0)
+  where
+    none : (t : Bool) → [] ≡ cond {A = List Msg} t [] []
+    none true = refl
+    none false = refl
+replies_told a (c ∷ replies) to =
+    on_link-append to (reply_sent c a ∷ []) (map (λ d. reply_sent d a) replies)
+    ∙ ap (λ ms. ms ++ on_link to (map (λ d. reply_sent d a) replies)) (replied c a to)
+    ∙ ap (λ ms. cond (to.0 == a.link.0) (Response a.number c ∷ []) [] ++ ms) (replies_told a replies to)
+    ∙ both (to.0 == a.link.0)
+  where
+    both : (t : Bool) → cond t (Response a.number c ∷ []) [] ++ cond t (map (λ d. Response a.number d) replies) [] ≡ cond t (Response a.number c ∷ map (λ d. Response a.number d) replies) []
+    both true = refl
+    both false = refl
+
+ending_told : (held : List GatheringState) (extras : Extras) (a : Asker) (to : LinkNo) → on_link to (ending_sent extras (ending held a)) ≡ ending_for held extras to.0 a
+ending_told held extras a to =
+    on_link-append to (map (λ c. reply_sent c a) (held_for held a)) (final_sent extras a ∷ [])
+    ∙ ap (λ ms. ms ++ on_link to (final_sent extras a ∷ [])) (replies_told a (held_for held a) to)
+    ∙ ap (λ ms. held_to held to.0 a ++ ms) (ended extras a to)
+
+module _ (rows : List RowState) (held : List GatheringState) (from number : ℕ) (extras : Extras) (a : Asker) (before now : List (LinkNo × Msg)) (at : final_to rows (branch (link_no from) number) ≡ Some a) where
+  final_each : (to : LinkNo) → on_link to (ending_sent extras (ending held a)) ≡ sends_final rows held from number extras to.0
+  final_each to = ending_told held extras a to ∙ ap (λ o. option_map_or (λ b. ending_for held extras to.0 b) o []) (sym at)
+
+  pub final_told : now ≡ before ++ ending_sent extras (ending held a) → Tells (sends_final rows held from number extras) before now
+  final_told e = tells_list _ _ _ _ final_each e
+
+  pub final_prefix : IsPrefixBehind before (ending_sent extras (ending held a)) now → TellsPrefix (sends_final rows held from number extras) before now
+  final_prefix e = tells_prefix _ _ _ _ final_each e
+
+pub no_final_told : (rows : List RowState) (held : List GatheringState) (from number : ℕ) (extras : Extras) (before : List (LinkNo × Msg)) → final_to rows (branch (link_no from) number) ≡ None →
+    Tells (sends_final rows held from number extras) before before
+no_final_told rows held from number extras before at = tells_nothing _ _ (λ n. ap (λ o. option_map_or (λ b. ending_for held extras n b) o []) at)
+
+-- who it was that got the final
+pub who_ended : (held : List GatheringState) (o : Option Asker) (e : GatheringState) → option_map (λ a. ending held a) o ≡ Some e → (a : Asker) × (o ≡ Some a) × (ending held a ≡ e)
+who_ended held None e h = absurd (cc)
+who_ended held (Some a) e h = (a, refl, cc)
+
+pub none_ended : (held : List GatheringState) (o : Option Asker) → option_map (λ a. ending held a) o ≡ None → o ≡ None
+none_ended held None h = refl
+none_ended held (Some a) h = absurd (cc)
 
 -- ---- several finals
 
-pub all_ended : (askers : List Asker) (to : LinkNo) → on_link to (map (λ a. final_sent no_extras a) askers) ≡ flat_map (λ a. final_for no_extras to.0 a) askers
-all_ended [] to = refl
-all_ended (a ∷ askers) to =
-    on_link-append to (final_sent no_extras a ∷ []) (map (λ b. final_sent no_extras b) askers)
-    ∙ ap (λ ms. ms ++ on_link to (map (λ b. final_sent no_extras b) askers)) (ended no_extras a to)
-    ∙ ap (λ ms. final_for no_extras to.0 a ++ ms) (all_ended askers to)
+all_ended : (held : List GatheringState) (askers : List Asker) (to : LinkNo) →
+    on_link to (endings_sent no_extras (map (λ a. ending held a) askers)) ≡ flat_map (λ a. ending_for held no_extras to.0 a) askers
+all_ended held [] to = refl
+all_ended held (a ∷ askers) to =
+    on_link-append to (ending_sent no_extras (ending held a)) (endings_sent no_extras (map (λ b. ending held b) askers))
+    ∙ ap (λ ms. ms ++ on_link to (endings_sent no_extras (map (λ b. ending held b) askers))) (ending_told held no_extras a to)
+    ∙ ap (λ ms. ending_for held no_extras to.0 a ++ ms) (all_ended held askers to)
 
-pub ends_told : (rows : List RowState) (link : ℕ) (askers : List Asker) (before now : List (LinkNo × Msg)) → askers ≡ finals_of_drop (link_no link) rows → now ≡ before ++ map (λ a. final_sent no_extras a) askers →
-    Tells (sends_ends rows link) before now
-ends_told rows link askers before now e k = tells_list _ _ _ _ (λ to. all_ended askers to ∙ ap (λ xs. flat_map (λ a. final_for no_extras to.0 a) xs) e) k
+module _ (rows : List RowState) (held : List GatheringState) (link : ℕ) (ended : List GatheringState) (before now : List (LinkNo × Msg)) (e : ended ≡ map (λ a. ending held a) (finals_of_drop (link_no link) rows)) where
+  ends_each : (to : LinkNo) → on_link to (endings_sent no_extras ended) ≡ sends_ends rows held link to.0
+  ends_each to = ap (λ es. on_link to (endings_sent no_extras es)) e ∙ all_ended held (finals_of_drop (link_no link) rows) to
 
-pub ends_prefix : (rows : List RowState) (link : ℕ) (askers : List Asker) (before now : List (LinkNo × Msg)) → askers ≡ finals_of_drop (link_no link) rows → IsPrefixBehind before (map (λ a. final_sent no_extras a) askers) now →
-    TellsPrefix (sends_ends rows link) before now
-ends_prefix rows link askers before now e k = tells_prefix _ _ _ _ (λ to. all_ended askers to ∙ ap (λ xs. flat_map (λ a. final_for no_extras to.0 a) xs) e) k
+  pub ends_told : now ≡ before ++ endings_sent no_extras ended → Tells (sends_ends rows held link) before now
+  ends_told k = tells_list _ _ _ _ ends_each k
+
+  pub ends_prefix : IsPrefixBehind before (endings_sent no_extras ended) now → TellsPrefix (sends_ends rows held link) before now
+  ends_prefix k = tells_prefix _ _ _ _ ends_each k
 
 -- nothing yet is a prefix
 pub nothing_yet : (rows : ℕ → List Msg) (before : List (LinkNo × Msg)) → TellsPrefix rows before before

@@ -3,10 +3,11 @@
 ghost use Rattle.std.specs.Prelude.{◌≡◌, ◌<◌, ◌++◌, ◌∷◌, [], ℕ, List, Option, None, true, false, length, map, IfOk, OnOk, OnErr};
 ghost use Rattle.std.specs.List.{list_any};
 ghost use Rattle.zr_pend.specs.Pending.{asked, begun, differ, is_full, opened};
+ghost use Rattle.zr_pend.specs.Held.{begun_if};
 ghost use Rattle.zr_pend.specs.Row.{RowState};
 ghost use Rattle.zr_msg.specs.Extras.{no_extras};
 ghost use Rattle.zr_msg.specs.declared.content.Parts.{Parts};
-ghost use Rattle.zr_node_spec.specs.Queries.{after_request, asked_links, asked_over, has_no_number, sends_request};
+ghost use Rattle.zr_node_spec.specs.Queries.{after_request, asked_links, asked_over, gathering_if, has_no_number, sends_request};
 ghost use Rattle.zr_node_spec.specs.Samples.{tree_of};
 ghost use Rattle.zr_node_spec.specs.Tables.{TableState, link_at};
 ghost use Rattle.zr_node_spec.specs.Event.{Tells, TellsPrefix};
@@ -49,7 +50,7 @@ impl From<AllocError> for RequestError {
 }
 
 /// A request has come over a link, in a tree: it goes on along the route, under the least number that isn't pending on each link, or a final
-/// goes back at once where the route leads nowhere.
+/// goes back at once where the route leads nowhere. Where it asks for the latest replies alone, replies to it are held from now on.
 ///
 /// Where a link has no number left nothing has changed.
 pub fn request(
@@ -60,16 +61,18 @@ pub fn request(
     tree: Zid,
     target: Target,
     content: &Content,
+    latest: bool,
     out: &mut Vec<(LinkNo, Msg)>,
 ) -> Result<(), RequestError>
     requires apart { differ (asked_of route.now from.link.0) ≡ true }
-    requires fresh { asked from pending.old ≡ false }
-    ensures sends { (t : TableState) (named : Option (List ℕ)) → IsRouteOf t from.link.0 named tree target content.now.key route.now → OnOk result (Tells (sends_request t pending.old from.link.0 named from.number target content.now) out.old.items out.new.items) }
-    ensures rows { (t : TableState) (named : Option (List ℕ)) → IsRouteOf t from.link.0 named tree target content.now.key route.now → OnOk result (pending.new ≡ after_request t pending.old from.link.0 named from.number target content.now.key) }
-    ensures room { (t : TableState) (named : Option (List ℕ)) → IsRouteOf t from.link.0 named tree target content.now.key route.now → OnOk result (has_no_number pending.old (asked_links t from.link.0 named target content.now.key) ≡ false) }
-    ensures full { (t : TableState) (named : Option (List ℕ)) → IsRouteOf t from.link.0 named tree target content.now.key route.now → result ≡ Err RequestError.NoNumber → has_no_number pending.old (asked_links t from.link.0 named target content.now.key) ≡ true }
+    requires fresh { asked from pending.old.rows ≡ false }
+    ensures sends { (t : TableState) (named : Option (List ℕ)) → IsRouteOf t from.link.0 named tree target content.now.key route.now → OnOk result (Tells (sends_request t pending.old.rows from.link.0 named from.number target content.now) out.old.items out.new.items) }
+    ensures rows { (t : TableState) (named : Option (List ℕ)) → IsRouteOf t from.link.0 named tree target content.now.key route.now → OnOk result (pending.new.rows ≡ after_request t pending.old.rows from.link.0 named from.number target content.now.key) }
+    ensures held { (t : TableState) (named : Option (List ℕ)) → IsRouteOf t from.link.0 named tree target content.now.key route.now → OnOk result (pending.new.held ≡ gathering_if pending.old.held latest from (asked_links t from.link.0 named target content.now.key)) }
+    ensures room { (t : TableState) (named : Option (List ℕ)) → IsRouteOf t from.link.0 named tree target content.now.key route.now → OnOk result (has_no_number pending.old.rows (asked_links t from.link.0 named target content.now.key) ≡ false) }
+    ensures full { (t : TableState) (named : Option (List ℕ)) → IsRouteOf t from.link.0 named tree target content.now.key route.now → result ≡ Err RequestError.NoNumber → has_no_number pending.old.rows (asked_links t from.link.0 named target content.now.key) ≡ true }
     ensures unchanged { result ≡ Err RequestError.NoNumber → (pending.new ≡ pending.old) × (out.new.items ≡ out.old.items) }
-    ensures prefix { (t : TableState) (named : Option (List ℕ)) → IsRouteOf t from.link.0 named tree target content.now.key route.now → OnErr result (TellsPrefix (sends_request t pending.old from.link.0 named from.number target content.now) out.old.items out.new.items) }
+    ensures prefix { (t : TableState) (named : Option (List ℕ)) → IsRouteOf t from.link.0 named tree target content.now.key route.now → OnErr result (TellsPrefix (sends_request t pending.old.rows from.link.0 named from.number target content.now) out.old.items out.new.items) }
 {
     let stops = route.stops_from(alloc, from.link)?;
     ask_or_end(
@@ -80,6 +83,7 @@ pub fn request(
         tree,
         target,
         content,
+        latest,
         out,
     )
 }
@@ -101,21 +105,25 @@ fn ask_or_end(
     tree: Zid,
     target: Target,
     content: &Content,
+    latest: bool,
     out: &mut Vec<(LinkNo, Msg)>,
 ) -> Result<(), RequestError>
     requires apart { differ (links_of stops.now) ≡ true }
-    requires fresh { asked from pending.old ≡ false }
-    ensures sends { OnOk result (out.new.items ≡ out.old.items ++ sent_by pending.old from tree target content.now stops.now) }
-    ensures rows { OnOk result (pending.new ≡ asked_over pending.old from (links_of stops.now)) }
-    ensures room { OnOk result (list_any (λ l. is_full l pending.old) (links_of stops.now) ≡ false) }
-    ensures full { result ≡ Err RequestError.NoNumber → list_any (λ l. is_full l pending.old) (links_of stops.now) ≡ true }
+    requires fresh { asked from pending.old.rows ≡ false }
+    ensures sends { OnOk result (out.new.items ≡ out.old.items ++ sent_by pending.old.rows from tree target content.now stops.now) }
+    ensures rows { OnOk result (pending.new.rows ≡ asked_over pending.old.rows from (links_of stops.now)) }
+    ensures held { OnOk result (pending.new.held ≡ gathering_if pending.old.held latest from (links_of stops.now)) }
+    ensures room { OnOk result (list_any (λ l. is_full l pending.old.rows) (links_of stops.now) ≡ false) }
+    ensures full { result ≡ Err RequestError.NoNumber → list_any (λ l. is_full l pending.old.rows) (links_of stops.now) ≡ true }
     ensures unchanged { result ≡ Err RequestError.NoNumber → (pending.new ≡ pending.old) × (out.new.items ≡ out.old.items) }
-    ensures prefix { OnErr result (IsPrefixBehind out.old.items (sent_by pending.old from tree target content.now stops.now) out.new.items) }
+    ensures prefix { OnErr result (IsPrefixBehind out.old.items (sent_by pending.old.rows from tree target content.now stops.now) out.new.items) }
 {
     if stops.is_empty() {
         return Ok(end_at_once(alloc, from, out)?);
     }
-    ask(alloc, stops, pending, from, tree, target, content, out)
+    ask(
+        alloc, stops, pending, from, tree, target, content, latest, out,
+    )
 }
 
 // The request goes on to these stops, of which there is one at least.
@@ -127,20 +135,22 @@ fn ask(
     tree: Zid,
     target: Target,
     content: &Content,
+    latest: bool,
     out: &mut Vec<(LinkNo, Msg)>,
 ) -> Result<(), RequestError>
     requires some { 0 < length stops.now }
     requires apart { differ (links_of stops.now) ≡ true }
-    requires fresh { asked from pending.old ≡ false }
-    ensures sends { OnOk result (out.new.items ≡ out.old.items ++ all_asked pending.old tree target content.now stops.now) }
-    ensures rows { OnOk result (pending.new ≡ begun pending.old from (links_of stops.now)) }
-    ensures room { OnOk result (list_any (λ l. is_full l pending.old) (links_of stops.now) ≡ false) }
-    ensures full { result ≡ Err RequestError.NoNumber → list_any (λ l. is_full l pending.old) (links_of stops.now) ≡ true }
+    requires fresh { asked from pending.old.rows ≡ false }
+    ensures sends { OnOk result (out.new.items ≡ out.old.items ++ all_asked pending.old.rows tree target content.now stops.now) }
+    ensures rows { OnOk result (pending.new.rows ≡ begun pending.old.rows from (links_of stops.now)) }
+    ensures held { OnOk result (pending.new.held ≡ begun_if latest pending.old.held from) }
+    ensures room { OnOk result (list_any (λ l. is_full l pending.old.rows) (links_of stops.now) ≡ false) }
+    ensures full { result ≡ Err RequestError.NoNumber → list_any (λ l. is_full l pending.old.rows) (links_of stops.now) ≡ true }
     ensures unchanged { result ≡ Err RequestError.NoNumber → (pending.new ≡ pending.old) × (out.new.items ≡ out.old.items) }
-    ensures prefix { OnErr result (IsPrefixBehind out.old.items (all_asked pending.old tree target content.now stops.now) out.new.items) }
+    ensures prefix { OnErr result (IsPrefixBehind out.old.items (all_asked pending.old.rows tree target content.now stops.now) out.new.items) }
 {
     let links = links_of(alloc, stops)?;
-    let numbers = begin(pending, from, links.as_slice())?;
+    let numbers = begin(pending, from, links.as_slice(), latest)?;
     Ok(ask_each(stops, numbers.as_slice(), tree, target, content, out)?)
 }
 
@@ -151,17 +161,23 @@ fn links_of(alloc: Global, stops: &[RouteLink]) -> Result<Vec<LinkNo>, AllocErro
 }
 
 // The request is pending on these links from now on: the number that it has on each.
-fn begin(pending: &mut Pending, from: Asker, links: &[LinkNo]) -> Result<Vec<u32>, RequestError>
+fn begin(
+    pending: &mut Pending,
+    from: Asker,
+    links: &[LinkNo],
+    latest: bool,
+) -> Result<Vec<u32>, RequestError>
     requires some { 0 < length links.now }
     requires apart { differ links.now ≡ true }
-    requires fresh { asked from pending.old ≡ false }
-    ensures numbers { IfOk result (λ ns. ns.items ≡ map (λ b. b.number) (opened pending.old links.now)) }
-    ensures rows { OnOk result (pending.new ≡ begun pending.old from links.now) }
-    ensures room { OnOk result (list_any (λ l. is_full l pending.old) links.now ≡ false) }
-    ensures full { result ≡ Err RequestError.NoNumber → list_any (λ l. is_full l pending.old) links.now ≡ true }
+    requires fresh { asked from pending.old.rows ≡ false }
+    ensures numbers { IfOk result (λ ns. ns.items ≡ map (λ b. b.number) (opened pending.old.rows links.now)) }
+    ensures rows { OnOk result (pending.new.rows ≡ begun pending.old.rows from links.now) }
+    ensures held { OnOk result (pending.new.held ≡ begun_if latest pending.old.held from) }
+    ensures room { OnOk result (list_any (λ l. is_full l pending.old.rows) links.now ≡ false) }
+    ensures full { result ≡ Err RequestError.NoNumber → list_any (λ l. is_full l pending.old.rows) links.now ≡ true }
     ensures unchanged { OnErr result (pending.new ≡ pending.old) }
 {
-    match pending.begin(from.link, from.number, links) {
+    match pending.begin(from.link, from.number, links, latest) {
         Ok(numbers) => Ok(numbers),
         Err(PendError::Many) => Err(RequestError::NoNumber),
         Err(PendError::NoMemory) => Err(RequestError::NoMemory),

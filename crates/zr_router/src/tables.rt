@@ -23,7 +23,8 @@ ghost use Rattle.zr_router.specs.Allowed.{are_allowed, is_allowed};
 ghost use Rattle.zr_router.specs.Failures.{HasFailed};
 ghost use Rattle.zr_router.specs.Handled.{IsHandled};
 ghost use Rattle.zr_router.specs.Ended.{HasEnded};
-ghost use Rattle.zr_router.specs.Replayed.{IsReplay-prop};
+ghost use Rattle.zr_router.specs.Replayed.{IsReplay-prop, HoldsSpelled-prop};
+ghost use Rattle.zr_router_queue.specs.Writable.{HoldsSpelled};
 ghost use Rattle.zr_router.specs.Runs.{IsStep, RunsUpTo};
 ghost use Rattle.zr_router.specs.Refusals.{RefusesDown, RefusesMessage, RefusesUp, is_worn, most_sessions};
 
@@ -57,7 +58,7 @@ const MOST_ROUTER_REST_MS: u64 = 100;
 const MOST_HELD: u32 = 64;
 
 /// The tables of a running router: the router itself with what its clients were told, the links that are up in the order in which they came up, and
-/// what stands for the history. Unless memory ran out they are the replay of its list.
+/// what stands for the history. Unless memory ran out they are the replay of its list, and each reply that the router holds can be written.
 pub struct Tables<B: Naming> {
     me: Zid,
     policy: Policy,
@@ -78,6 +79,7 @@ pub struct Tables<B: Naming> {
     ghost legal: { is_legal B.me (list_of kept) ≡ true },
     ghost allowed: { are_allowed B.policy B.me (list_of kept) ≡ true },
     ghost replayed: { is_spent ≡ false → IsReplay B.me (list_of kept) hub ends.items } by { IsReplay-prop is_spent B.me (list_of kept) hub ends.items },
+    ghost spelled: { is_spent ≡ false → HoldsSpelled hub.node.held } by { HoldsSpelled-prop is_spent hub.node.held },
 }
 
 // Written out, so that it is proved here, and not by each crate that lets one go.

@@ -184,7 +184,7 @@ module _ (n : NodeState) (told : Maps) (event : Event) (places : Option (Vec Pla
 -- ---- a router that counts as spent or not
 
 pub same_spent : (n : NodeState) (b : Bool) → n.spent ≡ b → spent_as n b ≡ n
-same_spent n b h = λ i. record { links = n.links; base = n.base; rows = n.rows; clients = n.clients; known = n.known; pending = n.pending; spent = sym h i }
+same_spent n b h = λ i. record { links = n.links; base = n.base; rows = n.rows; clients = n.clients; known = n.known; pending = n.pending; held = n.held; spent = sym h i }
 
 -- a router without links
 pub new_sound : (me : List ℕ) → IsSound (new_node me) []

@@ -23,7 +23,7 @@ pub record IsSound (node : NodeState) (told : Maps) : Type 0 where
 
 -- a router that counts as spent or not
 abbrev pub spent_as : NodeState → Bool → NodeState
-spent_as n spent = record { links = n.links; base = n.base; rows = n.rows; clients = n.clients; known = n.known; pending = n.pending; spent = spent }
+spent_as n spent = record { links = n.links; base = n.base; rows = n.rows; clients = n.clients; known = n.known; pending = n.pending; held = n.held; spent = spent }
 
 -- what is known of a router's parts between events
 pub record AreOrdered (n : NodeState) : Type 0 where

@@ -154,7 +154,7 @@ from_kept node from (ToldUnable id) h may = h
 from_kept node from (ToldEnd interest) h may = h
 from_kept node from (Push tree content) h may = h
 from_kept node from (Request tree id target content) h may = record { logs = h.logs; light = h.light }
-from_kept node from (Response id content) h may = h
+from_kept node from (Response id content) h may = record { logs = h.logs; light = h.light }
 from_kept node from (Final id extras) h may = record { logs = h.logs; light = h.light }
 from_kept node from (State links) h may = record { logs = h.logs; light = h.light }
 from_kept node from (Step source number added decl) h may = step_kept node source number (record { added = added; decl = decl }) (leads_to_router node.links from) h may

@@ -1,6 +1,7 @@
 pub mod Batches
 pub mod Chosen
 pub mod Entering
+pub mod Holding
 pub mod InStep
 pub mod Kept
 pub mod KeptReplays

@@ -1,5 +1,5 @@
 -- Every message that a router sends can be written, where the message that came has a spelling.
-use Rattle.std.proofs.Common.{◌≡◌, ℕ, ◌+◌, ◌==◌, Bool, true, false, cond, List, [], ◌∷◌, ◌++◌, Option, Some, None, map, filter, All, inl, inr, refl, arith}
+use Rattle.std.proofs.Common.{◌≡◌, ℕ, ◌+◌, ◌==◌, Bool, true, false, cond, List, [], ◌∷◌, ◌++◌, Option, Some, None, is_some, map, filter, All, inl, inr, refl, arith}
 use Rattle.std.specs.Prelude.{◌&&◌}
 use Rattle.std.specs.List.{AllByRecursion, flat_map}
 use Rattle.std.specs.Option.{option_map_or}
@@ -29,9 +29,10 @@ use Rattle.zr_msg.specs.Extras.{no_extras}
 use Rattle.zr_msg.specs.declared.extras.Extras.{Extras}
 use Rattle.zr_msg.specs.declared.msg.Target.{Target}
 use Rattle.zr_pend.specs.declared.branch.Asker.{Asker}
+use Rattle.zr_pend.specs.Held.{GatheringState, held_for}
 use Rattle.zr_pend.specs.Row.{RowState}
 use Rattle.zr_pend.specs.Pending.{asker_of, branch, final_to, finals_of_drop, free_number}
-use Rattle.zr_node_spec.specs.Queries.{asked_links, final_at_once, final_for, is_asked, link_no, reply_to, request_along, request_to, sends_ends, sends_final, sends_reply, sends_request, tree_for}
+use Rattle.zr_node_spec.specs.Queries.{asked_links, ending_for, final_at_once, final_for, held_at, held_to, is_asked, link_no, passes_reply, reply_to, request_along, request_to, sends_ends, sends_final, sends_reply, sends_request, tree_for}
 use Rattle.zr_node_spec.specs.Changes.{changes, steps}
 use Rattle.zr_node_spec.specs.Samples.{leads_to_subscriber, push_along, push_on, push_to, tree_of}
 use Rattle.zr_node_spec.specs.Snapshots.{is_new_child, sends_snapshots, snapshot, snapshots_for, snapshots_on}
@@ -49,15 +50,10 @@ use Rattle.zr_told_spec.specs.declared.place.Class.{Class}
 use Rattle.zr_told_spec.specs.declared.place.Class.TheVariants.{Queryable, Subscriber}
 use Rattle.zr_told_spec.specs.declared.place.Place.{Place}
 use Rattle.zr_wire.specs.Writing.{IsSpelled}
-use Rattle.zr_router_queue.specs.Writable.{IsWritable}
+use Rattle.zr_router_queue.specs.Writable.{HoldsSpelled, IsReplySpelled, IsWritable}
+use Rattle.zr_router_queue.proofs.Holding.{ComesSpelled, found_spelled}
 use Rattle.zr_router_queue.proofs.Kept.{IsKept, kept_after, neither}
 use Rattle.zr_router_queue.proofs.Logs.{IsLight, logs_light}
-
--- the message that came, if one has, has a spelling
-abbrev pub ComesSpelled : Event → Type 0
-ComesSpelled (Up link peer) = Unit {0}
-ComesSpelled (Down link) = Unit {0}
-ComesSpelled (From link msg) = IsSpelled msg
 
 abbrev AreWritable : List Msg → Type 0
 AreWritable messages = AllByRecursion (λ m. IsWritable m) messages
@@ -169,67 +165,79 @@ request_written t pending from named id target content to h =
     by None = tt
     by (Some tree) = over tree (link_at t.links to)
 
-reply_written : (pending : List RowState) (from id : ℕ) (content : Parts) (to : ℕ) → IsSpelled (Response id content) → AreWritable (sends_reply pending from id content to)
-reply_written pending from id content to h = by (asker_of (branch (link_no from) id) pending)
+reply_written : (pending : List RowState) (held : List GatheringState) (from id : ℕ) (content : Parts) (to : ℕ) → IsSpelled (Response id content) → AreWritable (sends_reply pending held from id content to)
+reply_written pending held from id content to h = either (is_some (held_at pending held from id content)) [] (passes_reply pending from id content to) tt (by (asker_of (branch (link_no from) id) pending))
   where
     by : (o : Option Asker) → AreWritable (option_map_or (λ a. reply_to content to a) o [])
     by None = tt
     by (Some a) = either (to == a.link.0) (Response a.number content ∷ []) [] (inl h, tt) tt
 
-final_written : (pending : List RowState) (from id : ℕ) (extras : Extras) (to : ℕ) → IsSpelled (Final id extras) → AreWritable (sends_final pending from id extras to)
-final_written pending from id extras to h = by (final_to pending (branch (link_no from) id))
+-- what was held for who asked, and the final behind it
+ending_written : (held : List GatheringState) (extras : Extras) (to : ℕ) (a : Asker) → HoldsSpelled held → IsSpelled (Final 0 extras) → AreWritable (ending_for held extras to a)
+ending_written held extras to a h k =
+    All-append (λ m. IsWritable m) (held_to held to a) (final_for extras to a)
+    (either (to == a.link.0) (map (λ c. Response a.number c) (held_for held a)) [] (replies (held_for held a) (found_spelled held a h)) tt)
+    (either (to == a.link.0) (Final a.number extras ∷ []) [] (inl k, tt) tt)
   where
-    by : (o : Option Asker) → AreWritable (option_map_or (λ a. final_for extras to a) o [])
-    by None = tt
-    by (Some a) = either (to == a.link.0) (Final a.number extras ∷ []) [] (inl h, tt) tt
+    replies : (cs : List Parts) → AllByRecursion (λ c. IsReplySpelled c) cs → AreWritable (map (λ c. Response a.number c) cs)
+    replies [] k = tt
+    replies (c ∷ cs) k = (inl k.0, replies cs k.1)
 
-ends_written : (pending : List RowState) (link to : ℕ) → AreWritable (sends_ends pending link to)
-ends_written pending link to = by (finals_of_drop (link_no link) pending)
+final_written : (pending : List RowState) (held : List GatheringState) (from id : ℕ) (extras : Extras) (to : ℕ) → HoldsSpelled held → IsSpelled (Final id extras) →
+    AreWritable (sends_final pending held from id extras to)
+final_written pending held from id extras to h k = by (final_to pending (branch (link_no from) id))
   where
-    by : (askers : List Asker) → AreWritable (flat_map (λ a. final_for no_extras to a) askers)
+    by : (o : Option Asker) → AreWritable (option_map_or (λ a. ending_for held extras to a) o [])
+    by None = tt
+    by (Some a) = ending_written held extras to a h k
+
+ends_written : (pending : List RowState) (held : List GatheringState) (link to : ℕ) → HoldsSpelled held → AreWritable (sends_ends pending held link to)
+ends_written pending held link to h = by (finals_of_drop (link_no link) pending)
+  where
+    by : (askers : List Asker) → AreWritable (flat_map (λ a. ending_for held no_extras to a) askers)
     by [] = tt
     by (a ∷ askers) =
-        All-append (λ m. IsWritable m) (final_for no_extras to a) (flat_map (λ b. final_for no_extras to b) askers)
-        (either (to == a.link.0) (Final a.number no_extras ∷ []) [] (inl no_extras_fit, tt) tt) (by askers)
+        All-append (λ m. IsWritable m) (ending_for held no_extras to a) (flat_map (λ b. ending_for held no_extras to b) askers)
+        (ending_written held no_extras to a h no_extras_fit) (by askers)
 
 -- ---- events
 
-from_written : (node : NodeState) (from : ℕ) (msg : Msg) (to : ℕ) → IsSpelled msg → AreWritable (sends_from node from msg to)
-from_written node from (Sub id key) to h = rows_written node (rows_declared node from (row from id kind.Sub key)) to
-from_written node from (Unsub id) to h = rows_written node (rows_undeclared node from (key_of from id kind.Sub)) to
-from_written node from (Able id key complete) to h = rows_written node (rows_declared node from (row from id (able_kind complete) key)) to
-from_written node from (Unable id) to h = rows_written node (rows_undeclared node from (key_of from id kind.Able)) to
-from_written node from (Interest id current future kinds key aggregate) to h = tt
-from_written node from (EndInterest id) to h = tt
-from_written node from (ToldSub id key interest) to h = tt
-from_written node from (ToldAble id key complete interest) to h = tt
-from_written node from (ToldUnsub id) to h = tt
-from_written node from (ToldUnable id) to h = tt
-from_written node from (ToldEnd interest) to h = tt
-from_written node from (Push tree content) to h = push_written (tables node) from tree content to h
-from_written node from (Request tree id target content) to h = request_written (tables node) node.pending from tree id target content to h
-from_written node from (Response id content) to h = reply_written node.pending from id content to h
-from_written node from (Final id extras) to h = final_written node.pending from id extras to h
-from_written node from (State links) to h = either _ (State links ∷ []) [] (inl tt, tt) tt
-from_written node from (Step source number added decl) to h =
+from_written : (node : NodeState) (from : ℕ) (msg : Msg) (to : ℕ) → HoldsSpelled node.held → IsSpelled msg → AreWritable (sends_from node from msg to)
+from_written node from (Sub id key) to spelled h = rows_written node (rows_declared node from (row from id kind.Sub key)) to
+from_written node from (Unsub id) to spelled h = rows_written node (rows_undeclared node from (key_of from id kind.Sub)) to
+from_written node from (Able id key complete) to spelled h = rows_written node (rows_declared node from (row from id (able_kind complete) key)) to
+from_written node from (Unable id) to spelled h = rows_written node (rows_undeclared node from (key_of from id kind.Able)) to
+from_written node from (Interest id current future kinds key aggregate) to spelled h = tt
+from_written node from (EndInterest id) to spelled h = tt
+from_written node from (ToldSub id key interest) to spelled h = tt
+from_written node from (ToldAble id key complete interest) to spelled h = tt
+from_written node from (ToldUnsub id) to spelled h = tt
+from_written node from (ToldUnable id) to spelled h = tt
+from_written node from (ToldEnd interest) to spelled h = tt
+from_written node from (Push tree content) to spelled h = push_written (tables node) from tree content to h
+from_written node from (Request tree id target content) to spelled h = request_written (tables node) node.pending from tree id target content to h
+from_written node from (Response id content) to spelled h = reply_written node.pending node.held from id content to h
+from_written node from (Final id extras) to spelled h = final_written node.pending node.held from id extras to spelled h
+from_written node from (State links) to spelled h = either _ (State links ∷ []) [] (inl tt, tt) tt
+from_written node from (Step source number added decl) to spelled h =
     either (leads_to_router node.links from && (is_next node.known source number && is_to_child (tables node) source to)) (Step source number added decl ∷ []) [] (inl h, tt) tt
-from_written node from (Snap source number decls) to h =
+from_written node from (Snap source number decls) to spelled h =
     either (leads_to_router node.links from && (is_newer node.known source number && is_to_child (tables node) source to)) (Snap source number decls ∷ []) [] (inl h, tt) tt
 
-first_written : (node : NodeState) (event : Event) (to : LinkNo) → ComesSpelled event → AreWritable (sends_first node event to)
-first_written node (Up link peer) to h = up_written node link.0 peer peer.role to.0
-first_written node (Down link) to h =
-    All-append (λ m. IsWritable m) (sends_ends node.pending link.0 to.0) (sends_down node link.0 (link_at node.links link.0) to.0 ++ sends_rows node (rows_left node link.0) to.0)
-    (ends_written node.pending link.0 to.0)
+first_written : (node : NodeState) (event : Event) (to : LinkNo) → HoldsSpelled node.held → ComesSpelled event → AreWritable (sends_first node event to)
+first_written node (Up link peer) to spelled h = up_written node link.0 peer peer.role to.0
+first_written node (Down link) to spelled h =
+    All-append (λ m. IsWritable m) (sends_ends node.pending node.held link.0 to.0) (sends_down node link.0 (link_at node.links link.0) to.0 ++ sends_rows node (rows_left node link.0) to.0)
+    (ends_written node.pending node.held link.0 to.0 spelled)
     (All-append (λ m. IsWritable m) (sends_down node link.0 (link_at node.links link.0) to.0) (sends_rows node (rows_left node link.0) to.0)
     (down_written node link.0 (link_at node.links link.0) to.0) (rows_written node (rows_left node link.0) to.0))
-first_written node (From link msg) to h = from_written node link.0 msg to.0 h
+first_written node (From link msg) to spelled h = from_written node link.0 msg to.0 spelled h
 
-sends_written : (node : NodeState) (event : Event) (to : LinkNo) → IsKept node → refuses node event ≡ None → ComesSpelled event → AllByRecursion (λ m. IsWritable m) (sends node event to)
-sends_written node event to kept taken h =
+sends_written : (node : NodeState) (event : Event) (to : LinkNo) → IsKept node → HoldsSpelled node.held → refuses node event ≡ None → ComesSpelled event → AllByRecursion (λ m. IsWritable m) (sends node event to)
+sends_written node event to kept spelled taken h =
     let k = kept_after node event kept taken in
     All-append (λ m. IsWritable m) (sends_first node event to) (sends_snapshots (tables (after node event)) node.base.records to.0)
-    (first_written node event to h) (snapshots_written (tables (after node event)) node.base.records to.0 (logs_light (after node event).known (after node event).rows k.logs (omega (arith, k.light))))
+    (first_written node event to spelled h) (snapshots_written (tables (after node event)) node.base.records to.0 (logs_light (after node event).known (after node event).rows k.logs (omega (arith, k.light))))
 
 -- ---- what clients are told: each told message has a spelling
 
@@ -273,12 +281,12 @@ tells_written t m to (Some a) =
 
 -- ---- the router with its clients
 
-hub_written : (hub : HubState) (event : Event) (to : LinkNo) → IsKept hub.node → hub_refuses hub event ≡ None → ComesSpelled event → AreWritable (hub_sends hub event to)
-hub_written hub event to light taken h =
+hub_written : (hub : HubState) (event : Event) (to : LinkNo) → IsKept hub.node → HoldsSpelled hub.node.held → hub_refuses hub event ≡ None → ComesSpelled event → AreWritable (hub_sends hub event to)
+hub_written hub event to light spelled taken h =
     let t : TableState = tables (after hub.node event) in
     let m : ToldMap = map_on hub.told to.0 in
     All-append (λ x. IsWritable x) (sends hub.node event to) (sends_told t m event to.0)
-    (sends_written hub.node event to light (neither (refuses hub.node event) _ taken) h)
+    (sends_written hub.node event to light spelled (neither (refuses hub.node event) _ taken) h)
     (either (leads_to_client t.links to.0) (tells_with t m to.0 (asking_on event to.0)) [] (tells_written t m to.0 (asking_on event to.0)) tt)
 
 -- what can be written link by link can be written
@@ -295,7 +303,7 @@ by_links (x ∷ xs) h = (head (x.0.0 == x.0.0) (same_number x.0.0) (h x.0), by_l
     tail true to k = k.1
     tail false to k = k
 
-pub sent_written : (hub : HubState) (event : Event) (sent : List (LinkNo × Msg)) → IsKept hub.node → hub_refuses hub event ≡ None → ComesSpelled event →
+pub sent_written : (hub : HubState) (event : Event) (sent : List (LinkNo × Msg)) → IsKept hub.node → HoldsSpelled hub.node.held → hub_refuses hub event ≡ None → ComesSpelled event →
     ((to : LinkNo) → on_link to sent ≡ hub_sends hub event to) → All (λ x. IsWritable x.1) sent
-sent_written hub event sent light taken h e =
-    All-from_recursion (λ x. IsWritable x.1) sent (by_links sent (λ to. rw (e to) (hub_written hub event to light taken h)))
+sent_written hub event sent light spelled taken h e =
+    All-from_recursion (λ x. IsWritable x.1) sent (by_links sent (λ to. rw (e to) (hub_written hub event to light spelled taken h)))

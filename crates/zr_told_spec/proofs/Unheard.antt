@@ -28,7 +28,8 @@ use Rattle.zr_pend.specs.declared.branch.Asker.{Asker}
 use Rattle.zr_node_spec.specs.Tables.{TableState, link_at}
 use Rattle.zr_node_spec.specs.Changes.{steps, sends_changes}
 use Rattle.zr_node_spec.specs.Samples.{push_to, push_on, push_along, tree_of}
-use Rattle.zr_node_spec.specs.Queries.{asked_links, final_at_once, final_for, reply_to, request_along, request_to, sends_ends}
+use Rattle.zr_pend.specs.Held.{GatheringState, held_for}
+use Rattle.zr_node_spec.specs.Queries.{asked_links, final_at_once, final_for, held_to, ending_for, reply_to, request_along, request_to, sends_ends}
 use Rattle.zr_node_spec.specs.Snapshots.{sends_snapshots, snapshots_on}
 use Rattle.zr_node_spec.specs.State.{NodeState, tables}
 use Rattle.zr_node_spec.specs.Table.{own_link, after, all_records, joined, own_record, parted, rows_left, sends, sends_down, sends_first, sends_from, sends_own, sends_parted, sends_rows, sends_up}
@@ -99,6 +100,13 @@ of_final extras to a = either _ _ [] (one _ (λ h. refl)) none
 of_reply : (content : Parts) (to : ℕ) (a : Asker) → IsUnheard (reply_to content to a)
 of_reply content to a = either _ _ [] (one _ (λ h. refl)) none
 
+of_held : (number : ℕ) (cs : List Parts) → IsUnheard (map (λ c. Response number c) cs)
+of_held number [] = none
+of_held number (c ∷ cs) = both (Response number c ∷ []) (map (λ d. Response number d) cs) (one _ (λ h. refl)) (of_held number cs)
+
+of_ending : (held : List GatheringState) (extras : Extras) (to : ℕ) (a : Asker) → IsUnheard (ending_for held extras to a)
+of_ending held extras to a = both (held_to held to a) (final_for extras to a) (either _ _ [] (of_held a.number (held_for held a)) none) (of_final extras to a)
+
 of_final_at_once : (from number to : ℕ) (links : List LinkNo) → IsUnheard (final_at_once from number links to)
 of_final_at_once from number to [] = either _ _ [] (one _ (λ h. refl)) none
 of_final_at_once from number to (l ∷ links) = none
@@ -144,8 +152,8 @@ of_from node from to (Request tree id target content) =
     both (final_at_once from id (asked_links (tables node) from tree target content.key) to) (request_along (tables node) node.pending from _ target content to)
     (of_final_at_once from id to (asked_links (tables node) from tree target content.key))
     (of_request_along (tables node) node.pending from target content to (tree_of (tables node) (link_at node.links from) tree))
-of_from node from to (Response id content) = of_found (λ a. reply_to content to a) (of_reply content to) _
-of_from node from to (Final id extras) = of_found (λ a. final_for extras to a) (of_final extras to) _
+of_from node from to (Response id content) = either _ [] _ none (of_found (λ a. reply_to content to a) (of_reply content to) _)
+of_from node from to (Final id extras) = of_found (λ a. ending_for node.held extras to a) (of_ending node.held extras to) _
 of_from node from to (State links) = either _ _ [] (one _ (λ h. refl)) none
 of_from node from to (Step source number added decl) = either _ _ [] (one _ (λ h. refl)) none
 of_from node from to (Snap source number decls) = either _ _ [] (one _ (λ h. refl)) none
@@ -153,8 +161,8 @@ of_from node from to (Snap source number decls) = either _ _ [] (one _ (λ h. re
 of_first : (node : NodeState) (event : Event) (to : LinkNo) → IsUnheard (sends_first node event to)
 of_first node (Up link peer) to = of_up node link.0 peer peer.role to.0
 of_first node (Down link) to =
-    both (sends_ends node.pending link.0 to.0) _
-    (of_each (λ a. final_for no_extras to.0 a) (of_final no_extras to.0) _)
+    both (sends_ends node.pending node.held link.0 to.0) _
+    (of_each (λ a. ending_for node.held no_extras to.0 a) (of_ending node.held no_extras to.0) _)
     (both (sends_down node link.0 (link_at node.links link.0) to.0) _ (of_down node link.0 to.0 (link_at node.links link.0)) (of_rows node (rows_left node link.0) to.0))
 of_first node (From link msg) to = of_from node link.0 to.0 msg
 

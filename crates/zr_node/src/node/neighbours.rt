@@ -1,14 +1,13 @@
 //! The links of a router that come up and go down.
 
 ghost use Rattle.std.specs.Prelude.{◌≡◌, [], true, OnOk, OnErr, is_some};
-ghost use Rattle.zr_pend.specs.Pending.{dropped};
 ghost use Rattle.zr_node_spec.specs.Queries.{sends_ends};
 ghost use Rattle.zr_node_spec.specs.Tables.{link_at};
 ghost use Rattle.zr_node_spec.specs.Event.{IsFresh, Tells, TellsPrefix};
 ghost use Rattle.zr_node_spec.specs.State.{NodeState, new_link};
-ghost use Rattle.zr_node_spec.specs.Table.{own_link, with_link, with_pending, without_link};
+ghost use Rattle.zr_node_spec.specs.Table.{own_link, with_link, without_link};
 ghost use Rattle.zr_node.specs.Done.{IsDone, IsLeft};
-ghost use Rattle.zr_node.specs.Steps.{with_links, event_part, up_part, join_part, down_part, parting_part, asked_part, leave_part};
+ghost use Rattle.zr_node.specs.Steps.{with_links, with_table, ended_on, event_part, up_part, join_part, down_part, parting_part, asked_part, leave_part};
 
 use super::Node;
 use crate::asked::Asked;
@@ -153,16 +152,16 @@ impl Node {
         }
     }
 
-    // The branches of a link that has gone down end, and the finals of the requests that end by that go out.
+    // The branches of a link that has gone down end, and what was held for the requests that end by that goes out, each with its final.
     fn end_requests(
         &mut self,
         alloc: Global,
         link: LinkNo,
         out: &mut Vec<(LinkNo, Msg)>,
     ) -> Result<(), AllocError>
-        ensures state { OnOk result (self.new ≡ with_pending self.old (dropped link self.old.pending)) }
-        ensures sends { OnOk result (Tells (sends_ends self.old.pending link.0) out.old.items out.new.items) }
-        ensures prefix { OnErr result (TellsPrefix (sends_ends self.old.pending link.0) out.old.items out.new.items) }
+        ensures state { OnOk result (self.new ≡ with_table self.old (ended_on self.old link.0)) }
+        ensures sends { OnOk result (Tells (sends_ends self.old.pending self.old.held link.0) out.old.items out.new.items) }
+        ensures prefix { OnErr result (TellsPrefix (sends_ends self.old.pending self.old.held link.0) out.old.items out.new.items) }
     {
         ends_of(alloc, &mut self.pending, link, out)
     }

@@ -1,6 +1,7 @@
 //! Samples, requests, replies and finals at a router.
 
-ghost use Rattle.std.specs.Prelude.{◌≡◌, None};
+ghost use Rattle.std.specs.Prelude.{◌≡◌, ◌&&◌, None};
+ghost use Rattle.zr_body.specs.Latest.{is_latest};
 ghost use Rattle.zr_node_spec.specs.Tables.{leads_to_client};
 ghost use Rattle.zr_node.specs.Done.{IsDone};
 ghost use Rattle.zr_node.specs.Requests.{refuses_asker};
@@ -11,6 +12,7 @@ use crate::asking::{ask, refusal};
 use crate::failure::NodeFailure;
 use crate::kept::{lend, put_trees, take_trees};
 use std::alloc::Global;
+use zr_body::latest;
 use zr_id::link::LinkNo;
 use zr_id::zid::Zid;
 use zr_msg::content::Content;
@@ -60,11 +62,14 @@ impl Node {
         let is_client = self.leads_to_client(link);
         match refusal(&self.pending, from, is_client) {
             Some(error) => Err(NodeFailure::Refused(error)),
-            None => self.ask(alloc, from, named, target, content, out),
+            None => {
+                let is_latest = is_client && latest(content.body());
+                self.ask(alloc, from, named, target, content, is_latest, out)
+            }
         }
     }
 
-    // A request that isn't refused for who asks goes on, or a final goes back at once.
+    // A request that isn't refused for who asks goes on, or a final goes back at once. Replies are held where a client asks for the latest alone.
     fn ask(
         &mut self,
         alloc: Global,
@@ -72,9 +77,11 @@ impl Node {
         named: Option<Zid>,
         target: Target,
         content: &Content,
+        latest: bool,
         out: &mut Vec<(LinkNo, Msg)>,
     ) -> Result<(), NodeFailure>
-        requires { refuses_asker self.old.pending from (leads_to_client self.old.links from.link.0) ≡ None }
+        requires allowed { refuses_asker self.old.pending from (leads_to_client self.old.links from.link.0) ≡ None }
+        requires latest { latest ≡ (leads_to_client self.old.links from.link.0 && is_latest content.now.body) }
         ensures { IsDone (request_part self.old from.link.0 named from.number target content.now) result self.new out.old.items out.new.items }
     {
         let trees = take_trees(alloc, &mut self.trees, &self.base)?;
@@ -90,6 +97,7 @@ impl Node {
             named,
             target,
             content,
+            latest,
             out,
         );
         put_trees(&mut self.trees, trees);
@@ -106,7 +114,7 @@ impl Node {
     ) -> Result<(), NodeFailure>
         ensures { IsDone (response_part self.old link.0 number content.now) result self.new out.old.items out.new.items }
     {
-        Ok(response(&self.pending, link, number, content, out)?)
+        Ok(response(&mut self.pending, link, number, content, out)?)
     }
 
     // A final has come under a number of a link.

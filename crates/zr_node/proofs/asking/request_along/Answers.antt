@@ -41,6 +41,12 @@ returns-in-Some-clause-rows c = λ named at.
     (is_route_of c.args.tables.now c.args.from.link.0 named c.args.tree c.args.target c.sought_by-sought.result c.key-key.result.now c.args.content.now.key c.in-Some.route.now c.requires.numbered at
     (c.in-Some.ensures c.args.tables.now c.requires.routes) c.sought_by-sought.ensures c.key-key.ensures)
 
+pub returns-in-Some-clause-held : goal.returns-in-Some-clause-held
+returns-in-Some-clause-held c = λ named at.
+    c.request.ensures.held c.args.tables.now named
+    (is_route_of c.args.tables.now c.args.from.link.0 named c.args.tree c.args.target c.sought_by-sought.result c.key-key.result.now c.args.content.now.key c.in-Some.route.now c.requires.numbered at
+    (c.in-Some.ensures c.args.tables.now c.requires.routes) c.sought_by-sought.ensures c.key-key.ensures)
+
 pub returns-in-Some-clause-room : goal.returns-in-Some-clause-room
 returns-in-Some-clause-room c = λ named at.
     c.request.ensures.room c.args.tables.now named
@@ -68,6 +74,12 @@ returns-clause-sends c = λ named at.
 pub returns-clause-rows : goal.returns-clause-rows
 returns-clause-rows c = λ named at.
     c.in_ok-request.ensures.rows c.args.tables.now named
+    (is_route_of c.args.tables.now c.args.from.link.0 named c.args.tree c.args.target c.sought_by-sought.result c.key-key.result.now c.args.content.now.key c.in_ok-route.route c.requires.numbered at
+    c.in_ok-route.ensures c.sought_by-sought.ensures c.key-key.ensures)
+
+pub returns-clause-held : goal.returns-clause-held
+returns-clause-held c = λ named at.
+    c.in_ok-request.ensures.held c.args.tables.now named
     (is_route_of c.args.tables.now c.args.from.link.0 named c.args.tree c.args.target c.sought_by-sought.result c.key-key.result.now c.args.content.now.key c.in_ok-route.route c.requires.numbered at
     c.in_ok-route.ensures c.sought_by-sought.ensures c.key-key.ensures)
 

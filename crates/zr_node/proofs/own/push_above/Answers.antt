@@ -1,4 +1,4 @@
-use Rattle.std.proofs.Common.{◌≡◌, ℕ, Bool, true, false, List, [], ◌∷◌, ◌++◌, sym, ap, subst, ◌∙◌, arith}
+use Rattle.std.proofs.Common.{◌≡◌, Bool, true, false, [], ◌∷◌, ◌++◌, sym, ap, subst, ◌∙◌, arith}
 use Rattle.zr_id.specs.Record.{LinkedState, is_before}
 use Rattle.zr_node_spec.proofs.Kept.{kept_more, kept_past}
 use Rattle.zr_node.proofs.own.push_above.Goals.{then-is_before+in_ok-push, else-is_before}

@@ -1,4 +1,4 @@
-use Rattle.std.proofs.Common.{◌≡◌, ℕ, not, Bool, true, false, List, [], ◌∷◌, ◌++◌, sym, ap, subst, ◌∙◌, arith}
+use Rattle.std.proofs.Common.{◌≡◌, not, Bool, true, false, [], ◌∷◌, ◌++◌, sym, ap, subst, ◌∙◌, arith}
 use Rattle.zr_id.specs.Record.{LinkedState}
 use Rattle.zr_id.specs.Zid.{is_named}
 use Rattle.zr_node_spec.proofs.Kept.{kept_more, kept_past}

@@ -13,7 +13,7 @@ use Rattle.zr_node.proofs.node.Node.join.Goals as goal
 
 pub returns-in_err-join : goal.returns-in_err-join
 returns-in_err-join c =
-    let node : NodeState = record { links = c.self.inside.links; base = c.self.inside.base; rows = c.self.inside.local.rows; clients = c.self.inside.local.clients; known = c.self.inside.known; pending = c.self.inside.pending; spent = c.self.inside.spent } in
+    let node : NodeState = record { links = c.self.inside.links; base = c.self.inside.base; rows = c.self.inside.local.rows; clients = c.self.inside.local.clients; known = c.self.inside.known; pending = c.self.inside.pending.rows; held = c.self.inside.pending.held; spent = c.self.inside.spent } in
     let now : NodeState = with_base node c.join.new.base in
     subst (λ (m : NodeState). IsDone (join_part m c.args.link c.args.peer.now) c.from_residual.result now c.args.out.now.items c.args.out.now.items) c.self.view_is
     (change_failed (join_part node c.args.link c.args.peer.now) c.in_err-join.field-0.0 c.from_residual.result now c.args.out.now.items c.from_residual.ensures.1 c.in_err-join.ensures.worn
@@ -21,7 +21,7 @@ returns-in_err-join c =
 
 pub returns-in_err-flood_up : goal.returns-in_err-flood_up
 returns-in_err-flood_up c =
-    let node : NodeState = record { links = c.self.inside.links; base = c.self.inside.base; rows = c.self.inside.local.rows; clients = c.self.inside.local.clients; known = c.self.inside.known; pending = c.self.inside.pending; spent = c.self.inside.spent } in
+    let node : NodeState = record { links = c.self.inside.links; base = c.self.inside.base; rows = c.self.inside.local.rows; clients = c.self.inside.local.clients; known = c.self.inside.known; pending = c.self.inside.pending.rows; held = c.self.inside.pending.held; spent = c.self.inside.spent } in
     let now : NodeState = with_base node c.join.new.base in
     let of : AreOf node c.as_slice.result.now = record { right = c.self.invariant.links; same = c.as_slice.ensures.value } in
     subst (λ (m : NodeState). IsDone (join_part m c.args.link c.args.peer.now) c.from_residual-in_err-flood_up.result now c.args.out.now.items c.flood_up.new.out.items) c.self.view_is
@@ -30,7 +30,7 @@ returns-in_err-flood_up c =
 
 pub returns : goal.returns
 returns c =
-    let node : NodeState = record { links = c.self.inside.links; base = c.self.inside.base; rows = c.self.inside.local.rows; clients = c.self.inside.local.clients; known = c.self.inside.known; pending = c.self.inside.pending; spent = c.self.inside.spent } in
+    let node : NodeState = record { links = c.self.inside.links; base = c.self.inside.base; rows = c.self.inside.local.rows; clients = c.self.inside.local.clients; known = c.self.inside.known; pending = c.self.inside.pending.rows; held = c.self.inside.pending.held; spent = c.self.inside.spent } in
     let now : NodeState = with_base node c.join.new.base in
     let of : AreOf node c.as_slice.result.now = record { right = c.self.invariant.links; same = c.as_slice.ensures.value } in
     subst (λ (m : NodeState). IsLeft (join_part m c.args.link c.args.peer.now) now c.args.out.now.items c.flood_up.new.out.items) c.self.view_is

@@ -17,7 +17,7 @@ use Rattle.zr_node.proofs.node.Node.push.Goals as goal
 
 pub returns-in_err-pushed : goal.returns-in_err-pushed
 returns-in_err-pushed c =
-    let node : NodeState = record { links = c.self.inside.links; base = c.self.inside.base; rows = c.self.inside.local.rows; clients = c.self.inside.local.clients; known = c.self.inside.known; pending = c.self.inside.pending; spent = c.self.inside.spent } in
+    let node : NodeState = record { links = c.self.inside.links; base = c.self.inside.base; rows = c.self.inside.local.rows; clients = c.self.inside.local.clients; known = c.self.inside.known; pending = c.self.inside.pending.rows; held = c.self.inside.pending.held; spent = c.self.inside.spent } in
     let up = subst (λ (t : TableState). AreNumbered t.links) (sym c.lend-tables.ensures) c.self.invariant.links.ascending in
     let at = subst (λ (t : TableState). link_at t.links c.in-Some.from.link.0 ≡ Some c.in-Some.from) (sym c.lend-tables.ensures) (at_itself c.self.inside.links c.args.link.0 c.in-Some.from c.in-Some.ensures) in
     subst (λ (m : NodeState). IsDone (push_part m c.args.link.0 c.args.tree c.args.content.now) c.from_residual-in_err-pushed.result node c.args.out.now.items c.push-pushed.new.out.items) c.self.view_is
@@ -28,7 +28,7 @@ returns-in_err-pushed c =
 
 pub returns : goal.returns
 returns c =
-    let node : NodeState = record { links = c.self.inside.links; base = c.self.inside.base; rows = c.self.inside.local.rows; clients = c.self.inside.local.clients; known = c.self.inside.known; pending = c.self.inside.pending; spent = c.self.inside.spent } in
+    let node : NodeState = record { links = c.self.inside.links; base = c.self.inside.base; rows = c.self.inside.local.rows; clients = c.self.inside.local.clients; known = c.self.inside.known; pending = c.self.inside.pending.rows; held = c.self.inside.pending.held; spent = c.self.inside.spent } in
     let up = subst (λ (t : TableState). AreNumbered t.links) (sym c.lend-tables.ensures) c.self.invariant.links.ascending in
     let at = subst (λ (t : TableState). link_at t.links c.in-Some.from.link.0 ≡ Some c.in-Some.from) (sym c.lend-tables.ensures) (at_itself c.self.inside.links c.args.link.0 c.in-Some.from c.in-Some.ensures) in
     subst (λ (m : NodeState). IsLeft (push_part m c.args.link.0 c.args.tree c.args.content.now) node c.args.out.now.items c.push-pushed.new.out.items) c.self.view_is

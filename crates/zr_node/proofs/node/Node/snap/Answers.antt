@@ -15,7 +15,7 @@ use Rattle.zr_node.proofs.node.Node.snap.Goals as goal
 
 pub returns-in_err-pass_on-in-New : goal.returns-in_err-pass_on-in-New
 returns-in_err-pass_on-in-New c =
-    let node : NodeState = record { links = c.self.inside.links; base = c.self.inside.base; rows = c.self.inside.local.rows; clients = c.self.inside.local.clients; known = c.self.inside.known; pending = c.self.inside.pending; spent = c.self.inside.spent } in
+    let node : NodeState = record { links = c.self.inside.links; base = c.self.inside.base; rows = c.self.inside.local.rows; clients = c.self.inside.local.clients; known = c.self.inside.known; pending = c.self.inside.pending.rows; held = c.self.inside.pending.held; spent = c.self.inside.spent } in
     let router : leads_to_router node.links c.args.link.0 ≡ true = subst (λ (m : NodeState). leads_to_router m.links c.args.link.0 ≡ true) (sym c.self.view_is) (sym c.leads_to_router.ensures ∙ c.if-not-leads_to_router.false) in
     let next : is_newer node.known c.args.source c.args.number ≡ true = new_is _ (sym c.in-New.is ∙ c.in_ok-snap.ensures.answer) in
     let same : HaveSameTrees (tables node) (tables (with_known node c.snap.new.self)) = record { links = refl; base = refl } in
@@ -25,7 +25,7 @@ returns-in_err-pass_on-in-New c =
 
 pub returns-in_ok-pass_on-in-New : goal.returns-in_ok-pass_on-in-New
 returns-in_ok-pass_on-in-New c =
-    let node : NodeState = record { links = c.self.inside.links; base = c.self.inside.base; rows = c.self.inside.local.rows; clients = c.self.inside.local.clients; known = c.self.inside.known; pending = c.self.inside.pending; spent = c.self.inside.spent } in
+    let node : NodeState = record { links = c.self.inside.links; base = c.self.inside.base; rows = c.self.inside.local.rows; clients = c.self.inside.local.clients; known = c.self.inside.known; pending = c.self.inside.pending.rows; held = c.self.inside.pending.held; spent = c.self.inside.spent } in
     let router : leads_to_router node.links c.args.link.0 ≡ true = subst (λ (m : NodeState). leads_to_router m.links c.args.link.0 ≡ true) (sym c.self.view_is) (sym c.leads_to_router.ensures ∙ c.if-not-leads_to_router.false) in
     let next : is_newer node.known c.args.source c.args.number ≡ true = new_is _ (sym c.in-New.is ∙ c.in_ok-snap.ensures.answer) in
     let same : HaveSameTrees (tables node) (tables (with_known node c.snap.new.self)) = record { links = refl; base = refl } in

@@ -8,7 +8,7 @@ use Rattle.zr_node.proofs.node.Node.tell_fresh_of.Goals as goal
 
 pub returns-clause-sends : goal.returns-clause-sends
 returns-clause-sends c = λ base own is.
-    let node : NodeState = record { links = c.self.inside.links; base = c.self.inside.base; rows = c.self.inside.local.rows; clients = c.self.inside.local.clients; known = c.self.inside.known; pending = c.self.inside.pending; spent = c.self.inside.spent } in
+    let node : NodeState = record { links = c.self.inside.links; base = c.self.inside.base; rows = c.self.inside.local.rows; clients = c.self.inside.local.clients; known = c.self.inside.known; pending = c.self.inside.pending.rows; held = c.self.inside.pending.held; spent = c.self.inside.spent } in
     let by : GoesBy (tables node) c.as_slice-links.result.now c.in_ok-family.family = record { links_are = sym c.as_slice-links.ensures.value; base_is = sym c.in_ok-family.ensures.family } in
     let me : c.args.before.me ≡ c.in_ok-family.family.me =
     ap (λ (b : BaseState). b.me) is ∙ own ∙ sym (ap (λ (m : NodeState). m.base.me) c.self.view_is) ∙ sym (ap (λ (b : BaseState). b.me) c.in_ok-family.ensures.family) in
@@ -18,7 +18,7 @@ returns-clause-sends c = λ base own is.
 
 pub returns-clause-prefix : goal.returns-clause-prefix
 returns-clause-prefix c = λ base own is.
-    let node : NodeState = record { links = c.self.inside.links; base = c.self.inside.base; rows = c.self.inside.local.rows; clients = c.self.inside.local.clients; known = c.self.inside.known; pending = c.self.inside.pending; spent = c.self.inside.spent } in
+    let node : NodeState = record { links = c.self.inside.links; base = c.self.inside.base; rows = c.self.inside.local.rows; clients = c.self.inside.local.clients; known = c.self.inside.known; pending = c.self.inside.pending.rows; held = c.self.inside.pending.held; spent = c.self.inside.spent } in
     let by : GoesBy (tables node) c.as_slice-links.result.now c.in_ok-family.family = record { links_are = sym c.as_slice-links.ensures.value; base_is = sym c.in_ok-family.ensures.family } in
     let me : c.args.before.me ≡ c.in_ok-family.family.me =
     ap (λ (b : BaseState). b.me) is ∙ own ∙ sym (ap (λ (m : NodeState). m.base.me) c.self.view_is) ∙ sym (ap (λ (b : BaseState). b.me) c.in_ok-family.ensures.family) in

@@ -69,7 +69,7 @@ enter-requires-clause-handled g c =
     (message_comes pol me h l.hub l.ends.items r c.args.link c.args.msg p k at shut none)
     handled_is.1 handled_is.0
     (λ to. ap (λ xs. on_link to xs) c.as_slice-2.ensures.value ∙ c.in-Ok-handle.ensures.sent to)
-    c.requires.spelled refl q.queues
+    (l.spelled open_now) c.requires.spelled refl q.queues
     (subst (λ x. length x < most_entries) (sym kept)
     (c.in-Ok.ensures.room (sym w ∙ message_room pol me h l.hub l.ends.items r c.args.link c.args.msg p k at shut none)))
 

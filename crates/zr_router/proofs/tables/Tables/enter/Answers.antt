@@ -38,6 +38,7 @@ invariant_of-self-2 g c =
           (entered g.B.Naming.me (list_of t.kept) t.hub t.ends.items c.enter.new.ends c.args.arrival.event c.args.arrival.outbox c.args.arrival.reason c.args.sent.now c.in_ok-entry.entry
           (list_of c.enter.new.kept) c.requires.handled c.in_ok-entry.ensures.entry c.enter.ensures.list
           (subst (λ m. map (λ (x : EndState). x.queue) c.enter.new.ends ≡ open_queues (replay m (list_of c.enter.new.kept))) t.own c.enter.ensures.queues));
+      spelled = λ _. c.requires.handled.spelled;
     }
 
 pub returns-clause-added : goal.returns-clause-added
