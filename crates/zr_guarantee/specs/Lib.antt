@@ -5,6 +5,7 @@ pub mod Names
 pub mod Broker
 pub mod Sent
 pub mod Queries
+pub mod Latest
 pub mod Refines
 pub mod Interests
 pub mod Scripts

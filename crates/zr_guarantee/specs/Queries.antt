@@ -1,6 +1,6 @@
 -- The one broker, on queries: what each client that is asked has replied and which have ended, so what replies each asker is to have and when its
 -- final. The lines of the script say it, and of the report those that say what clients were sent: no router or table is known here.
-use Rattle.std.specs.Prelude.{ℕ, ◌==◌, ◌&&◌, ◌||◌, not, nat_lt, nat_le, Bool, false, List, Option, Some, None, is_none, is_some, if◌then◌else◌}
+use Rattle.std.specs.Prelude.{ℕ, ◌==◌, ◌&&◌, ◌||◌, not, nat_lt, nat_le, Bool, false, List, filter, Option, Some, None, is_none, if◌then◌else◌}
 use Rattle.std.specs.List.{list_any, list_all, filter_map, slice_get, count_by}
 use Rattle.std.specs.Option.{option_map_or}
 use Rattle.zr_id.specs.Zid.{is_named}
@@ -13,7 +13,7 @@ use Rattle.zr_guarantee.specs.Item.{Query, Reply}
 use Rattle.zr_guarantee.specs.Meaning.{meaning}
 pub use Rattle.zr_guarantee.specs.Meaning.{Asked, Saying}
 use Rattle.zr_guarantee.specs.Broker.{is_for}
-use Rattle.zr_guarantee.specs.Sent.{requests_to}
+use Rattle.zr_guarantee.specs.Sent.{requests_to, told_to, finals_in}
 
 -- ---- queries
 
@@ -37,6 +37,10 @@ times_asked acts client number = count_by (λ q. is_under client number q) (quer
 -- of the query before, so as many finals of the number are that one's and those before it
 abbrev pub turn : List Numbered → Asked → ℕ
 turn acts q = count_by (λ p. is_under q.client q.number p && nat_le p.line q.line) (queries acts)
+
+-- the query that a client asked under a number after so many others
+abbrev pub query_at : List Numbered → List ℕ → ℕ → ℕ → Option Asked
+query_at acts client number turns = slice_get (filter (λ q. is_under client number q) (queries acts)) turns
 
 -- whether a query asks a client: another one, attached, that has a queryable which can answer
 abbrev pub asks : List Numbered → Asked → List ℕ → Bool
@@ -93,12 +97,6 @@ has_ended acts report q client = list_any (λ s. is_named client s.client && (is
 abbrev pub is_finished : List Numbered → List Numbered → List ReportLine → Asked → Bool
 is_finished before acts report q = list_all (λ c. not (asks before q c) || has_ended acts report q c) (clients before)
 
--- whether there is a query, and it is one that the client has asked under the number
-abbrev pub is_own_query : List Numbered → List ℕ → ℕ → Option ℕ → Bool
-is_own_query acts client number None = false
-is_own_query acts client number (Some line) = list_any (λ q. q.line == line && is_under client number q) (queries acts)
-
--- whether a reply may come to a client: a client has replied so, and said it to a query that this one has asked under the reply's number
-abbrev pub may_come : List Numbered → List ReportLine → List ℕ → Reply → Bool
-may_come acts report client reply =
-    list_any (λ s. s.line == reply.line && (is_some s.reply && is_own_query acts client reply.number (query_of acts report s))) (sayings acts)
+-- whether its client was sent the final of a query
+abbrev pub has_final : List Numbered → List ReportLine → Asked → Bool
+has_final acts report q = nat_le (turn acts q) (finals_in q.number (told_to report q.client))

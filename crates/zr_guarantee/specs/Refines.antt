@@ -1,5 +1,5 @@
 -- The network refines one broker: from each accepted mark on, at each moment of its phase.
-use Rattle.std.specs.Prelude.{◌≡◌, ℕ, ◌≤◌, suc, length, ◌==◌, ◌||◌, nat_lt, nat_le, Bool, true, false, List, [], ◌∷◌, ◌++◌, filter, Some}
+use Rattle.std.specs.Prelude.{◌≡◌, ℕ, ◌≤◌, suc, length, ◌==◌, ◌||◌, nat_lt, Bool, true, false, List, [], ◌∷◌, ◌++◌, filter, Some}
 use Rattle.std.specs.List.{list_any, list_all, AllByRecursion}
 use Rattle.zr_script_spec.specs.declared.command.Act.TheVariants.{Mark}
 use Rattle.zr_script_spec.specs.declared.report.ReportLine.{ReportLine}
@@ -10,7 +10,9 @@ use Rattle.zr_guarantee.specs.Phase.{is_phase}
 use Rattle.zr_guarantee.specs.Names.{is_router}
 use Rattle.zr_guarantee.specs.Item.{Item, Reply}
 use Rattle.zr_guarantee.specs.Broker.{is_line_of, is_line, from}
-use Rattle.zr_guarantee.specs.Queries.{Asked, queries, times_asked, times_ended, turn, replies, is_finished, may_come}
+use Rattle.zr_guarantee.specs.Queries.{Asked, queries, times_asked, times_ended, turn, replies, is_finished}
+pub use Rattle.zr_guarantee.specs.Queries.{has_final}
+use Rattle.zr_guarantee.specs.Latest.{asks_latest, all_may_come, IsAnsweredLatest, LatestFit}
 use Rattle.zr_guarantee.specs.Sent.{Told, told_to, requests_to, sent_to, replies_in, finals_in, behind_finals}
 
 -- ---- samples and requests
@@ -24,10 +26,6 @@ sent_of phase m publisher receiver = filter (λ i. is_line_of phase publisher i.
 -- of some messages that its client was sent, the replies of a replier to a query: those of lines that reply to it
 abbrev pub sent_of_query : List Numbered → List ReportLine → Asked → List ℕ → List Told → List Reply
 sent_of_query acts report q replier told = filter (λ r. list_any (λ d. d.line == r.line) (replies acts report q replier)) (replies_in told)
-
--- whether its client was sent the final of a query
-abbrev pub has_final : List Numbered → List ReportLine → Asked → Bool
-has_final acts report q = nat_le (turn acts q) (finals_in q.number (told_to report q.client))
 
 -- A query of a phase is answered as one broker answers it. `before` are the acts before the mark, and `acts` those and the phase's.
 pub record IsAnswered (before acts : List Numbered) (m : Moment) (q : Asked) : Type 0 where
@@ -43,6 +41,11 @@ pub record IsAnswered (before acts : List Numbered) (m : Moment) (q : Asked) : T
   pub whole : is_quiet m.world ≡ true → (replier : List ℕ) →
       sent_of_query acts m.report q replier (told_to m.report q.client) ≡ replies acts m.report q replier
   pub final : is_quiet m.world ≡ true → is_finished before acts m.report q ≡ true → has_final acts m.report q ≡ true
+
+-- so is each, whether it asks for the latest or not
+abbrev pub IsAnsweredBy : Bool → List Numbered → List Numbered → Moment → Asked → Type 0
+IsAnsweredBy true before acts m q = IsAnsweredLatest before acts m q
+IsAnsweredBy false before acts m q = IsAnswered before acts m q
 
 -- ---- samples and requests of a phase
 
@@ -70,10 +73,9 @@ pub record Refines (before : List Numbered) (mark : ℕ) (phase : List Numbered)
   -- samples and requests come as one broker sends them
   pub delivers : Delivers before mark phase m
   -- each query of the phase is answered: its replies come, and one final behind them
-  pub answered : AllByRecursion (λ q. IsAnswered before (before ++ phase) m q) (queries phase)
-  -- each reply was said by a client, to a query that its receiver has asked under that number
-  pub no_other_reply : (receiver : List ℕ) → is_router before receiver ≡ false →
-      list_all (λ r. may_come (before ++ phase) m.report receiver r) (replies_in (told_to m.report receiver)) ≡ true
+  pub answered : AllByRecursion (λ q. IsAnsweredBy (asks_latest q) before (before ++ phase) m q) (queries phase)
+  -- each reply was said by a client, to the query that its receiver has asked under that number and whose final it was not sent yet
+  pub no_other_reply : (receiver : List ℕ) → is_router before receiver ≡ false → all_may_come (before ++ phase) m.report receiver [] (told_to m.report receiver) ≡ true
   -- under each number a client is sent the next request only once it has ended the one before
   pub one_at_a_time : (receiver : List ℕ) (number : ℕ) → is_router before receiver ≡ false →
       length (requests_to m.report receiver number) ≤ suc (times_ended (before ++ phase) receiver number)
@@ -81,8 +83,8 @@ pub record Refines (before : List Numbered) (mark : ℕ) (phase : List Numbered)
   pub no_other_final : (receiver : List ℕ) (number : ℕ) → is_router before receiver ≡ false →
       finals_in number (told_to m.report receiver) ≤ times_asked (before ++ phase) receiver number
 
--- every moment of every phase refines one broker
+-- every moment of every phase refines one broker: where a query asks for the latest, as far as what clients reply may be held
 abbrev pub PhasesRefine : Type 0
 PhasesRefine = (before phase : List Numbered) (mark : ℕ) (m : Moment) →
-    ascends 0 (before ++ (mark, Mark) ∷ phase) ≡ true → is_phase phase ≡ true →
+    ascends 0 (before ++ (mark, Mark) ∷ phase) ≡ true → is_phase phase ≡ true → LatestFit (before ++ phase) →
     reached (before ++ (mark, Mark) ∷ phase) ≡ Some m → Refines before mark phase m

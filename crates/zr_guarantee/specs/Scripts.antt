@@ -4,6 +4,7 @@ use Rattle.zr_script_spec.specs.declared.command.Act.TheVariants.{Mark}
 use Rattle.zr_world_spec.specs.Moments.{Numbered, Moment, reached}
 use Rattle.zr_world_spec.specs.Accepted.{accepted}
 use Rattle.zr_guarantee.specs.Phase.{is_phase}
+use Rattle.zr_guarantee.specs.Latest.{LatestFit}
 use Rattle.zr_guarantee.specs.Refines.{Refines}
 use Rattle.zr_guarantee.specs.Interests.{AreTold, is_at_rest}
 
@@ -13,9 +14,10 @@ IsRefined ls = (before phase rest : List Numbered) (mark : ℕ) →
     accepted ls ≡ before ++ (mark, Mark) ∷ (phase ++ rest) → is_phase phase ≡ true →
     (m : Moment) × (reached (before ++ (mark, Mark) ∷ phase) ≡ Some m) × Refines before mark phase m
 
--- so it is with every script's lines, a refused script's up to the refused one
+-- so it is with every script's lines, a refused script's up to the refused one: where a query asks for the latest, as far as what clients reply may be
+-- held, and so of each script that has no more bytes than it may have
 abbrev pub LinesRefine : Type 0
-LinesRefine = (ls : List (List ℕ)) → IsRefined ls
+LinesRefine = (ls : List (List ℕ)) → LatestFit (accepted ls) → IsRefined ls
 
 -- however the accepted acts of some lines are cut, also within a run, there is a moment, and where the network is at rest its clients were told
 -- what they want

@@ -147,3 +147,12 @@ abbrev pub behind_finals : ℕ → ℕ → List Told → List Told
 behind_finals number zero told = told
 behind_finals number (suc n) [] = []
 behind_finals number (suc n) (x ∷ told) = if is_final number x.msg then behind_finals number n told else behind_finals number (suc n) told
+
+-- the messages up to the next final of a number; replies of other numbers stand among them
+abbrev pub up_to_final : ℕ → List Told → List Told
+up_to_final number [] = []
+up_to_final number (x ∷ told) = if is_final number x.msg then x ∷ [] else x ∷ up_to_final number told
+
+-- those of a turn: behind so many finals, up to the next one
+abbrev pub told_in_turn : ℕ → ℕ → List Told → List Told
+told_in_turn number turns told = up_to_final number (behind_finals number turns told)

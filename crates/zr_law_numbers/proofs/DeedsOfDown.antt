@@ -18,7 +18,7 @@ use Rattle.zr_pend.proofs.Free.{is_in, pending_is_in}
 use Rattle.zr_pend.proofs.Sound.{all_orphaned_sound}
 use Rattle.zr_pend.proofs.ReadingsOfDrop.{dropped_back}
 use Rattle.zr_node_spec.specs.Tables.{link_at}
-use Rattle.zr_node_spec.specs.Queries.{final_for}
+use Rattle.zr_node_spec.specs.Queries.{ending_for}
 use Rattle.zr_lists.proofs.Each.{All-append}
 use Rattle.zr_node_spec.specs.State.{NodeState}
 use Rattle.zr_node_spec.specs.Table.{after, without_link}
@@ -30,7 +30,7 @@ use Rattle.zr_law_numbers.proofs.RowsBegun.{not_back}
 use Rattle.zr_law_numbers.proofs.LinksAfter.{at_without_link}
 use Rattle.zr_law_numbers.proofs.DeedLists.{Leads, leads-append, ends_for, all_ends_lead, half_by, asks_on, same_half}
 use Rattle.zr_law_numbers.proofs.SentOfQueries.{down_tells}
-use Rattle.zr_law_numbers.proofs.DeedsDone.{back_in, asks_are, answers_are, done_alone, final_is_deed, end_meant}
+use Rattle.zr_law_numbers.proofs.DeedsDone.{back_in, asks_are, answers_are, released, done_alone, final_is_deed, end_meant}
 
 -- ---- numbers leave
 
@@ -66,21 +66,21 @@ nothing_told tells none (n ∷ ns) = ap (λ z. z ++ flat_map tells (map (λ m. L
 
 -- ---- requests end
 
-ends_sent : (tag : ℕ) (to : LinkNo) (askers : List Asker) →
-    (flat_map (λ m. asks_in tag m) (flat_map (λ a. final_for no_extras to.0 a) askers) ≡ flat_map asked_by_deed (flat_map (λ a. ends_for to a) askers))
-    × (flat_map (λ m. answers_in tag m) (flat_map (λ a. final_for no_extras to.0 a) askers) ≡ flat_map answered_by_deed (flat_map (λ a. ends_for to a) askers))
-ends_sent tag to [] = (refl, refl)
-ends_sent tag to (a ∷ askers) =
-    let one = final_is_deed tag no_extras to a in
-    let more = ends_sent tag to askers in (
-      flat_map-append (λ m. asks_in tag m) (final_for no_extras to.0 a) (flat_map (λ z. final_for no_extras to.0 z) askers)
-          ∙ ap (λ z. z ++ flat_map (λ m. asks_in tag m) (flat_map (λ z. final_for no_extras to.0 z) askers)) one.0
-          ∙ ap (λ z. flat_map asked_by_deed (ends_for to a) ++ z) more.0
-          ∙ sym (flat_map-append asked_by_deed (ends_for to a) (flat_map (λ z. ends_for to z) askers)),
-      flat_map-append (λ m. answers_in tag m) (final_for no_extras to.0 a) (flat_map (λ z. final_for no_extras to.0 z) askers)
-          ∙ ap (λ z. z ++ flat_map (λ m. answers_in tag m) (flat_map (λ z. final_for no_extras to.0 z) askers)) one.1
-          ∙ ap (λ z. flat_map answered_by_deed (ends_for to a) ++ z) more.1
-          ∙ sym (flat_map-append answered_by_deed (ends_for to a) (flat_map (λ z. ends_for to z) askers)),
+ends_sent : (node : NodeState) (tag : ℕ) (to : LinkNo) (askers : List Asker) →
+    (flat_map (λ m. asks_in tag m) (flat_map (λ a. ending_for node.held no_extras to.0 a) askers) ≡ flat_map asked_by_deed (flat_map (λ a. ends_for (released node tag) to a) askers))
+    × (flat_map (λ m. answers_in tag m) (flat_map (λ a. ending_for node.held no_extras to.0 a) askers) ≡ flat_map answered_by_deed (flat_map (λ a. ends_for (released node tag) to a) askers))
+ends_sent node tag to [] = (refl, refl)
+ends_sent node tag to (a ∷ askers) =
+    let one = final_is_deed node tag no_extras to a in
+    let more = ends_sent node tag to askers in (
+      flat_map-append (λ m. asks_in tag m) (ending_for node.held no_extras to.0 a) (flat_map (λ z. ending_for node.held no_extras to.0 z) askers)
+          ∙ ap (λ z. z ++ flat_map (λ m. asks_in tag m) (flat_map (λ z. ending_for node.held no_extras to.0 z) askers)) one.0
+          ∙ ap (λ z. flat_map asked_by_deed (ends_for (released node tag) to a) ++ z) more.0
+          ∙ sym (flat_map-append asked_by_deed (ends_for (released node tag) to a) (flat_map (λ z. ends_for (released node tag) to z) askers)),
+      flat_map-append (λ m. answers_in tag m) (ending_for node.held no_extras to.0 a) (flat_map (λ z. ending_for node.held no_extras to.0 z) askers)
+          ∙ ap (λ z. z ++ flat_map (λ m. answers_in tag m) (flat_map (λ z. ending_for node.held no_extras to.0 z) askers)) one.1
+          ∙ ap (λ z. flat_map answered_by_deed (ends_for (released node tag) to a) ++ z) more.1
+          ∙ sym (flat_map-append answered_by_deed (ends_for (released node tag) to a) (flat_map (λ z. ends_for (released node tag) to z) askers)),
     )
 
 -- ---- what the rows say of another link
@@ -169,21 +169,21 @@ module _ (node : NodeState) (link : LinkNo) (tag : ℕ) (l : LinkPeer) (sound : 
   leaves_meant [] = tt
   leaves_meant (n ∷ ns) = (tt, leaves_meant ns)
 
-  finals_meant : (askers : List Asker) → AllByRecursion (λ d. IsMeant node (Down link) tag l d) (flat_map (λ a. ends_for l.link a) askers)
+  finals_meant : (askers : List Asker) → AllByRecursion (λ d. IsMeant node (Down link) tag l d) (flat_map (λ a. ends_for (released node tag) l.link a) askers)
   finals_meant [] = tt
   finals_meant (a ∷ askers) =
-      subst (λ ds. AllByRecursion (λ d. IsMeant node (Down link) tag l d) ds) (sym (flat_map-append (λ z. ends_for l.link z) (a ∷ []) askers ∙ ap (λ z. z ++ flat_map (λ z. ends_for l.link z) askers) (append-nil (ends_for l.link a))))
-      (All-append (λ d. IsMeant node (Down link) tag l d) (ends_for l.link a) (flat_map (λ z. ends_for l.link z) askers) (end_meant node (Down link) tag l l.link a) (finals_meant askers))
+      subst (λ ds. AllByRecursion (λ d. IsMeant node (Down link) tag l d) ds) (sym (flat_map-append (λ z. ends_for (released node tag) l.link z) (a ∷ []) askers ∙ ap (λ z. z ++ flat_map (λ z. ends_for (released node tag) l.link z) askers) (append-nil (ends_for (released node tag) l.link a))))
+      (All-append (λ d. IsMeant node (Down link) tag l d) (ends_for (released node tag) l.link a) (flat_map (λ z. ends_for (released node tag) l.link z) askers) (end_meant node (Down link) tag l refl a) (finals_meant askers))
 
   pub down_done : IsDone node (Down link) tag l
   down_done =
       let ns : List Deed = map (λ n. Leaves n) (leavers link node.pending l.link) in
-      let es : List Deed = flat_map (λ a. ends_for l.link a) (finals_of_drop link node.pending) in
+      let es : List Deed = flat_map (λ a. ends_for (released node tag) l.link a) (finals_of_drop link node.pending) in
       done_alone node (Down link) tag l (ns ++ es) refl
       (leads-append (half_of node l) ns (half_by (all_orphaned link node.pending) l.link (back_in (after node (Down link)) l)) es (half_of (after node (Down link)) l) leave
-      (all_ends_lead (all_orphaned link node.pending) (branches_on link node.pending) l.link (back_in (after node (Down link)) l) (all_orphaned_sound link node.pending sound)))
-      (down_tells (λ m. asks_in tag m) (asks_are tag) node link l.link ∙ (ends_sent tag l.link (finals_of_drop link node.pending)).0
+      (all_ends_lead (released node tag) (all_orphaned link node.pending) (branches_on link node.pending) l.link (back_in (after node (Down link)) l) (all_orphaned_sound link node.pending sound)))
+      (down_tells (λ m. asks_in tag m) (asks_are tag) node link l.link ∙ (ends_sent node tag l.link (finals_of_drop link node.pending)).0
       ∙ sym (flat_map-append asked_by_deed ns es ∙ ap (λ z. z ++ flat_map asked_by_deed es) (nothing_told asked_by_deed (λ n. refl) (leavers link node.pending l.link))))
-      (down_tells (λ m. answers_in tag m) (answers_are tag) node link l.link ∙ (ends_sent tag l.link (finals_of_drop link node.pending)).1
+      (down_tells (λ m. answers_in tag m) (answers_are tag) node link l.link ∙ (ends_sent node tag l.link (finals_of_drop link node.pending)).1
       ∙ sym (flat_map-append answered_by_deed ns es ∙ ap (λ z. z ++ flat_map answered_by_deed es) (nothing_told answered_by_deed (λ n. refl) (leavers link node.pending l.link))))
       (All-append (λ d. IsMeant node (Down link) tag l d) ns es (leaves_meant (leavers link node.pending l.link)) (finals_meant (finals_of_drop link node.pending)))

@@ -1,5 +1,6 @@
 -- A reply is heard, and goes on to who asked; a final closes its number, and ends the row that has no other branch.
-use Rattle.std.proofs.Common.{◌≡◌, ℕ, ◌==◌, ◌&&◌, Bool, true, false, cond, List, [], ◌∷◌, Option, Some, None, refl, sym, ap, subst, ◌∙◌}
+use Rattle.std.proofs.Common.{◌≡◌, ℕ, ◌==◌, ◌&&◌, Bool, true, false, cond, List, [], ◌∷◌, Option, Some, None, inl, refl, sym, ap, subst, ◌∙◌}
+use Rattle.std.specs.Prelude.{is_some}
 use Rattle.std.specs.List.{AllByRecursion, flat_map}
 use Rattle.std.specs.Option.{option_map, option_map_or, option_and_then}
 use Rattle.std.proofs.lemmas.Bool.{eqb-true}
@@ -15,14 +16,14 @@ use Rattle.zr_pend.specs.Row.{has}
 use Rattle.zr_pend.specs.Pending.{IsSound, asked, branch, asker_of, finished, final_to}
 use Rattle.zr_pend.specs.Readings.{back}
 use Rattle.zr_pend.proofs.Readings.{finished_back}
-use Rattle.zr_node_spec.specs.Queries.{link_no, reply_to, final_for}
+use Rattle.zr_node_spec.specs.Queries.{link_no, reply_to, held_at, ending_for}
 use Rattle.zr_node_spec.specs.State.{NodeState}
 use Rattle.zr_node_spec.specs.Table.{after}
 use Rattle.zr_law_numbers.specs.Waiting.{Place, asks_in, answers_in}
 use Rattle.zr_law_numbers.specs.Deeds.{Half, Deed, Hears, Closes, Replies, with_deeds, asked_by_deed, answered_by_deed, place_in, half_of, IsMeant, IsDone}
 use Rattle.zr_law_numbers.proofs.RowsKept.{found_asked}
 use Rattle.zr_law_numbers.proofs.DeedLists.{Leads, ends_of, ends_lead, half_by, asks_on, same_half, swapped}
-use Rattle.zr_law_numbers.proofs.DeedsDone.{back_in, done_from, final_is_deed, ends_meant}
+use Rattle.zr_law_numbers.proofs.DeedsDone.{back_in, released, done_from, final_is_deed, ends_meant}
 
 -- ---- a reply
 
@@ -31,6 +32,10 @@ replies_for tag content to a = cond (to.0 == a.link.0) (Replies a.number (record
 
 abbrev replies_of : ℕ → Parts → LinkNo → Option Asker → List Deed
 replies_of tag content to o = option_map_or (λ a. replies_for tag content to a) o []
+
+-- nothing where the reply is held
+abbrev replies_unless : Bool → ℕ → Parts → LinkNo → Option Asker → List Deed
+replies_unless held tag content to o = cond held [] (replies_of tag content to o)
 
 module _ (node : NodeState) (link : LinkNo) (id : ℕ) (content : Parts) (tag : ℕ) (l : LinkPeer) where
   reply_leads : (o : Option Asker) → asker_of (branch (link_no link.0) id) node.pending ≡ o →
@@ -72,22 +77,43 @@ module _ (node : NodeState) (link : LinkNo) (id : ℕ) (content : Parts) (tag : 
           AllByRecursion (λ d. IsMeant node (From link (Response id content)) tag l d) (cond t (Replies a.number (record { line = tag; content = content }) ∷ []) [])
       by true f =
           let same : l.link.0 ≡ a.link.0 = eqb-true l.link.0 a.link.0 f in (
-            record {
+            inl (record {
               link = link;
               id = id;
               content = content;
               came = refl;
               reply = refl;
               asker = e ∙ (λ i. Some (record { link = record { 0 = sym same i }; number = a.number }));
-            },
+            }),
             tt,
           )
       by false f = tt
 
+  -- a reply that is held leaves nothing but that it was heard
+  unless_leads : (t : Bool) (o : Option Asker) → asker_of (branch (link_no link.0) id) node.pending ≡ o →
+      Leads (with_deeds (half_of node l) (cond (link.0 == l.link.0) (Hears id ∷ []) [])) (replies_unless t tag content l.link o) (half_of (after node (From link (Response id content))) l)
+  unless_leads false o e = reply_leads o e
+  unless_leads true o e = from (link.0 == l.link.0)
+    where
+      from : (t : Bool) → Leads (with_deeds (half_of node l) (cond t (Hears id ∷ []) [])) [] (half_of node l)
+      from true = record { owns = refl; may = tt; leaves = record { keeps = λ n. refl; back = λ n. refl } }
+      from false = record { owns = refl; may = tt; leaves = record { keeps = λ n. refl; back = λ n. refl } }
+
+  unless_sent : (t : Bool) (o : Option Asker) →
+      (flat_map (λ m. asks_in tag m) (cond t [] (option_map_or (λ a. reply_to content l.link.0 a) o [])) ≡ flat_map asked_by_deed (replies_unless t tag content l.link o))
+      × (flat_map (λ m. answers_in tag m) (cond t [] (option_map_or (λ a. reply_to content l.link.0 a) o [])) ≡ flat_map answered_by_deed (replies_unless t tag content l.link o))
+  unless_sent true o = (refl, refl)
+  unless_sent false o = reply_sent o
+
+  unless_meant : (t : Bool) (o : Option Asker) → asker_of (branch (link_no link.0) id) node.pending ≡ o → AllByRecursion (λ d. IsMeant node (From link (Response id content)) tag l d) (replies_unless t tag content l.link o)
+  unless_meant true o e = tt
+  unless_meant false o e = reply_meant o e
+
   pub response_done : IsDone node (From link (Response id content)) tag l
   response_done =
       let o : Option Asker = asker_of (branch (link_no link.0) id) node.pending in
-      done_from node link (Response id content) tag l (Hears id) (replies_of tag content l.link o) refl refl refl (λ h. tt) (reply_leads o refl) (reply_sent o).0 (reply_sent o).1 (reply_meant o refl)
+      let t : Bool = is_some (held_at node.pending node.held link.0 id content) in
+      done_from node link (Response id content) tag l (Hears id) (replies_unless t tag content l.link o) refl refl refl (λ h. tt) (unless_leads t o refl) (unless_sent t o).0 (unless_sent t o).1 (unless_meant t o refl)
 
 -- ---- a final
 
@@ -118,10 +144,10 @@ module _ (node : NodeState) (link : LinkNo) (id : ℕ) (extras : Extras) (tag : 
       by false = refl
 
   final_sent : (o : Option Asker) →
-      (flat_map (λ m. asks_in tag m) (option_map_or (λ a. final_for extras l.link.0 a) o []) ≡ flat_map asked_by_deed (ends_of l.link o))
-      × (flat_map (λ m. answers_in tag m) (option_map_or (λ a. final_for extras l.link.0 a) o []) ≡ flat_map answered_by_deed (ends_of l.link o))
+      (flat_map (λ m. asks_in tag m) (option_map_or (λ a. ending_for node.held extras l.link.0 a) o []) ≡ flat_map asked_by_deed (ends_of (released node tag) l.link o))
+      × (flat_map (λ m. answers_in tag m) (option_map_or (λ a. ending_for node.held extras l.link.0 a) o []) ≡ flat_map answered_by_deed (ends_of (released node tag) l.link o))
   final_sent None = (refl, refl)
-  final_sent (Some a) = final_is_deed tag extras l.link a
+  final_sent (Some a) = final_is_deed node tag extras l.link a
 
   pub final_done : IsDone node (From link (Final id extras)) tag l
   final_done =
@@ -129,7 +155,7 @@ module _ (node : NodeState) (link : LinkNo) (id : ℕ) (extras : Extras) (tag : 
       let pending : ℕ → Option (Option Place) = back_in (after node (From link (Final id extras))) l in
       let start : Half = with_deeds (half_of node l) (cond (link.0 == l.link.0) (Closes id ∷ []) []) in
       let same : half_by node.pending l.link pending ≡ start = same_half (half_by node.pending l.link pending) start (record { keeps = kept; back = closed }) in
-      done_from node link (Final id extras) tag l (Closes id) (ends_of l.link (final_to node.pending b)) refl refl refl (λ h. tt)
-      (subst (λ h. Leads h (ends_of l.link (final_to node.pending b)) (half_by (finished node.pending b) l.link pending)) same (ends_lead node.pending b l.link pending sound))
+      done_from node link (Final id extras) tag l (Closes id) (ends_of (released node tag) l.link (final_to node.pending b)) refl refl refl (λ h. tt)
+      (subst (λ h. Leads h (ends_of (released node tag) l.link (final_to node.pending b)) (half_by (finished node.pending b) l.link pending)) same (ends_lead (released node tag) node.pending b l.link pending sound))
       (final_sent (final_to node.pending b)).0 (final_sent (final_to node.pending b)).1
-      (ends_meant node (From link (Final id extras)) tag l l.link (final_to node.pending b))
+      (ends_meant node (From link (Final id extras)) tag l refl (final_to node.pending b))

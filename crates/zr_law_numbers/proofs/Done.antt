@@ -12,7 +12,7 @@ use Rattle.zr_node_spec.specs.Table.{after, refuses_from, without_link}
 use Rattle.zr_law_numbers.specs.Rows.{AreOfLinks}
 use Rattle.zr_law_numbers.specs.Deeds.{handles_msg, IsNew, EventIsDone, EventsAreDone}
 use Rattle.zr_law_numbers.proofs.LinksAfter.{at_without_link}
-use Rattle.zr_law_numbers.proofs.OfLinks.{IsUp, quiet_keeps, taken_keeps, final_keeps, down_keeps, up_keeps}
+use Rattle.zr_law_numbers.proofs.OfLinks.{IsUp, quiet_keeps, taken_keeps, reply_keeps, final_keeps, down_keeps, up_keeps}
 use Rattle.zr_law_numbers.proofs.DeedsOfFinals.{response_done, final_done}
 use Rattle.zr_law_numbers.proofs.DeedsOfDown.{down_done}
 use Rattle.zr_law_numbers.proofs.DeedsOfRequests.{request_done}
@@ -48,12 +48,12 @@ module _ (node : NodeState) (link : LinkNo) (h : AreOfLinks node) where
   from_done (Request tree id target content) up r = record {
     done = λ tag l before now. request_done node link tree id target content tag l h.numbered before r;
     fresh = λ tag l none some. not_new node link (Request tree id target content) tag l none some;
-    keeps = taken_keeps node link tree id target content.key up r h;
+    keeps = taken_keeps node link tree id target content up r h;
   }
   from_done (Response id content) up r = record {
     done = λ tag l before now. response_done node link id content tag l;
     fresh = λ tag l none some. not_new node link (Response id content) tag l none some;
-    keeps = h;
+    keeps = reply_keeps node link.0 id content h;
   }
   from_done (Final id extras) up r = record {
     done = λ tag l before now. final_done node link id extras tag l h.sound;

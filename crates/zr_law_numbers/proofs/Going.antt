@@ -153,7 +153,7 @@ each_then P true new o x h each e = let one : new ≡ x = cc in subst P one h
 each_then P false new o x h each e = each x e
 
 new_rows : (id : List ℕ) → AreOfLinks (new_node id)
-new_rows id = record { numbered = (no_links id).ascending; sound = record { pending = refl; distinct = refl; askers = refl }; askers = tt; branches = tt }
+new_rows id = record { numbered = (no_links id).ascending; sound = record { pending = refl; distinct = refl; askers = refl }; askers = tt; branches = tt; gatherings = record { of_rows = refl; differ = refl }; of_clients = tt }
 
 -- clients are told
 pub numbers_told : (w v : WorldState) → IsTold w v → NumbersGo w → NumbersGo v

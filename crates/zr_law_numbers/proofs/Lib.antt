@@ -9,6 +9,7 @@ pub mod DeedsDone
 pub mod DeedsOfFinals
 pub mod DeedsOfDown
 pub mod DeedsOfRequests
+pub mod Gatherings
 pub mod OfLinks
 pub mod DeedsOfUp
 pub mod Done

@@ -148,11 +148,11 @@ module _ {X : Type 0} (tells : Msg → List X) (none : IsOfQueries tells) where
         ∙ append-nil (flat_map tells (sends_first n event to))
 
     -- nor is what stands behind the finals of a link that goes down
-    pub down_tells : (link to : LinkNo) → flat_map tells (sends_first n (Down link) to) ≡ flat_map tells (sends_ends n.pending link.0 to.0)
+    pub down_tells : (link to : LinkNo) → flat_map tells (sends_first n (Down link) to) ≡ flat_map tells (sends_ends n.pending n.held link.0 to.0)
     down_tells link to =
-        flat_map-append tells (sends_ends n.pending link.0 to.0) (sends_down n link.0 (link_at n.links link.0) to.0 ++ sends_rows n (rows_left n link.0) to.0)
-        ∙ ap (λ z. flat_map tells (sends_ends n.pending link.0 to.0) ++ z)
+        flat_map-append tells (sends_ends n.pending n.held link.0 to.0) (sends_down n link.0 (link_at n.links link.0) to.0 ++ sends_rows n (rows_left n link.0) to.0)
+        ∙ ap (λ z. flat_map tells (sends_ends n.pending n.held link.0 to.0) ++ z)
         (flat_map-append tells (sends_down n link.0 (link_at n.links link.0) to.0) (sends_rows n (rows_left n link.0) to.0)
         ∙ ap (λ z. z ++ flat_map tells (sends_rows n (rows_left n link.0) to.0)) (down_silent link.0 (link_at n.links link.0) to.0)
         ∙ rows_silent (rows_left n link.0) to.0)
-        ∙ append-nil (flat_map tells (sends_ends n.pending link.0 to.0))
+        ∙ append-nil (flat_map tells (sends_ends n.pending n.held link.0 to.0))

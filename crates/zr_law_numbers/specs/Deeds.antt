@@ -1,8 +1,9 @@
 -- What one event of a router does on one of its links, as far as requests go: seen from that router, number by number. As the upper end it asks over
 -- the link and hears what comes back; as the lower end it takes requests, replies to them and ends them.
-use Rattle.std.specs.Prelude.{◌≡◌, ℕ, ◌==◌, Bool, true, false, cond, List, [], ◌∷◌, ◌++◌, Option, Some, None}
+use Rattle.std.specs.Prelude.{◌≡◌, ◌⊎◌, ℕ, ◌==◌, Bool, true, false, cond, List, [], ◌∷◌, ◌++◌, Option, Some, None}
 use Rattle.std.specs.List.{AllByRecursion, flat_map, list_all}
 use Rattle.std.specs.Option.{option_map, option_and_then}
+use Rattle.zr_lists.proofs.Finds.{In}
 use Rattle.zr_id.specs.declared.link.LinkNo.{LinkNo}
 use Rattle.zr_msg.specs.declared.content.Parts.{Parts}
 use Rattle.zr_msg.specs.declared.event.Event.{Event}
@@ -14,6 +15,7 @@ use Rattle.zr_msg.specs.declared.peer.LinkPeer.{LinkPeer}
 use Rattle.zr_pend.specs.declared.branch.Asker.{Asker}
 use Rattle.zr_pend.specs.Pending.{asked, asker_of, branch}
 use Rattle.zr_pend.specs.Readings.{back}
+use Rattle.zr_pend.specs.Held.{held_for}
 use Rattle.zr_node_spec.specs.Tables.{link_at}
 use Rattle.zr_node_spec.specs.State.{NodeState}
 use Rattle.zr_node_spec.specs.Event.{MayCome}
@@ -166,13 +168,50 @@ pub record IsPassedBack (node : NodeState) (event : Event) (tag : ℕ) (to : Lin
   pub reply : said ≡ record { line = tag; content = content }
   pub asker : asker_of (branch link id) node.pending ≡ Some (record { link = to; number = number })
 
+-- an event by which requests end: a final came, or a link went down
+abbrev pub is_ending_msg : Msg → Bool
+is_ending_msg (Sub id key) = false
+is_ending_msg (Unsub id) = false
+is_ending_msg (Able id key complete) = false
+is_ending_msg (Unable id) = false
+is_ending_msg (Interest id current future kinds key aggregate) = false
+is_ending_msg (EndInterest id) = false
+is_ending_msg (ToldSub id key interest) = false
+is_ending_msg (ToldAble id key complete interest) = false
+is_ending_msg (ToldUnsub id) = false
+is_ending_msg (ToldUnable id) = false
+is_ending_msg (ToldEnd interest) = false
+is_ending_msg (Push tree content) = false
+is_ending_msg (Request tree id target content) = false
+is_ending_msg (Response id content) = false
+is_ending_msg (Final id extras) = true
+is_ending_msg (State links) = false
+is_ending_msg (Step source number added decl) = false
+is_ending_msg (Snap source number decls) = false
+
+abbrev pub is_ending : Event → Bool
+is_ending (Up link peer) = false
+is_ending (Down link) = true
+is_ending (From link msg) = is_ending_msg msg
+
+-- or one that was held for who asked over that link, released where requests end
+pub record IsReleased (node : NodeState) (event : Event) (tag : ℕ) (to : LinkNo) (number : ℕ) (said : Said) : Type 0 where
+  pub content : Parts
+  pub reply : said ≡ record { line = tag; content = content }
+  pub ends : is_ending event ≡ true
+  pub held : In content (held_for node.held (record { link = to; number = number }))
+
+-- a reply is given in one of these ways
+abbrev pub IsSaid : NodeState → Event → ℕ → LinkNo → ℕ → Said → Type 0
+IsSaid node event tag to number said = IsPassedBack node event tag to number said ⊎ IsReleased node event tag to number said
+
 abbrev pub IsMeant : NodeState → Event → ℕ → LinkPeer → Deed → Type 0
 IsMeant node event tag l (Asks number request by) = IsPassedOn node event tag l.link number request by
 IsMeant node event tag l (Hears number) = Unit {0}
 IsMeant node event tag l (Closes number) = Unit {0}
 IsMeant node event tag l (Leaves number) = Unit {0}
 IsMeant node event tag l (Takes number) = Unit {0}
-IsMeant node event tag l (Replies number said) = IsPassedBack node event tag l.link number said
+IsMeant node event tag l (Replies number said) = IsSaid node event tag l.link number said
 IsMeant node event tag l (Ends number) = Unit {0}
 
 -- an event does on a link what handles what came over it, and then what is its own

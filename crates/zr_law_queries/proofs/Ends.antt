@@ -14,41 +14,49 @@ is_over_is OnTheWay h = absurd (false≢true h)
 is_over_is (Here xs b) h = absurd (false≢true h)
 is_over_is Over h = refl
 
-done_below : {R : Type 0} (u v : Stage R) → is_done u ≡ true → fits u v ≡ true → v ≡ Over
+pub done_below : {R : Type 0} (u v : Stage R) → is_done u ≡ true → fits u v ≡ true → v ≡ Over
 done_below NotYet v d h = absurd (false≢true d)
 done_below OnTheWay v d h = absurd (false≢true d)
 done_below (Here rs true) v d h = is_over_is v h
 done_below (Here rs false) v d h = absurd (false≢true d)
 done_below Over v d h = is_over_is v h
 
+pub nothing_waits : {R : Type 0} (u : Stage R) → is_at_rest u ≡ true → replies_at u ≡ []
+nothing_waits NotYet e = refl
+nothing_waits OnTheWay e = refl
+nothing_waits (Here [] d) e = refl
+nothing_waits (Here (x ∷ xs) d) e = absurd (false≢true e)
+nothing_waits Over e = refl
+
 module _ {N R : Type 0} (t : Tree N) (is : IsTree t) (s : N → Stage R) (h : Sound t s) where
-  module _ (w : Way N R) (on : IsWay t w) (heard : N → List R) (lines : List R) (g : Brings t w s heard lines) where
-    prefix_at : (n : ℕ) (x : N) → t.height x < n → w.on x ≡ true → (rest : List R) × (filter w.is_own (sent_up s heard x) ++ rest ≡ lines)
-    prefix_at zero x low o = let bad : ⊥ = omega (arith, low) in absurd bad
-    prefix_at (suc n) x low o = by (t.same x w.replier) refl (λ y lt k. prefix_at n y lt k)
+  -- no node so low gathers
+  module _ (w : Way N R) (on : IsWay t w) (heard : N → List R) (got lines : List R) (g : Brings t w s heard got lines) (top : ℕ) (free : (x : N) → t.height x < top → t.gathers x ≡ false) where
+    prefix_at : (n : ℕ) (x : N) → t.height x < n → t.height x < top → w.on x ≡ true → (rest : List R) × (filter w.is_own (sent_up s heard x) ++ rest ≡ lines)
+    prefix_at zero x low under o = let bad : ⊥ = omega (arith, low) in absurd bad
+    prefix_at (suc n) x low under o = by (t.same x w.replier) refl (λ y lt u k. prefix_at n y lt u k)
       where
-        by : (b : Bool) → t.same x w.replier ≡ b → ((y : N) → t.height y < n → w.on y ≡ true → (rest : List R) × (filter w.is_own (sent_up s heard y) ++ rest ≡ lines)) →
+        by : (b : Bool) → t.same x w.replier ≡ b → ((y : N) → t.height y < n → t.height y < top → w.on y ≡ true → (rest : List R) × (filter w.is_own (sent_up s heard y) ++ rest ≡ lines)) →
             (rest : List R) × (filter w.is_own (sent_up s heard x) ++ rest ≡ lines)
         by true e ih = ([], append-nil (filter w.is_own (sent_up s heard x)) ∙ ap (λ z. filter w.is_own (sent_up s heard z)) (is.decides x w.replier e) ∙ g.own)
         by false e ih =
             let y : N = w.next x in
             let lt : t.height y < t.height x = is.falls x y (on.goes x o e) in
-            let more : (rest : List R) × (filter w.is_own (sent_up s heard y) ++ rest ≡ lines) = ih y (omega (arith, lt, low)) (on.stays x o e) in (
+            let more : (rest : List R) × (filter w.is_own (sent_up s heard y) ++ rest ≡ lines) = ih y (omega (arith, lt, low)) (omega (arith, lt, under)) (on.stays x o e) in (
               filter w.is_own (replies_at (s y)) ++ more.0,
-              ap (λ z. z ++ (filter w.is_own (replies_at (s y)) ++ more.0)) (g.along x o e)
+              ap (λ z. z ++ (filter w.is_own (replies_at (s y)) ++ more.0)) (g.along x o e (free x under))
                   ∙ sym (append_assoc (filter w.is_own (heard y)) (filter w.is_own (replies_at (s y))) more.0)
                   ∙ ap (λ z. z ++ more.0) (sym (filter-append w.is_own (heard y) (replies_at (s y)))) ∙ more.1,
             )
 
     -- what came is a prefix of what was replied
-    pub prefix : (rest : List R) × (filter w.is_own (sent_up s heard t.root) ++ rest ≡ lines)
-    prefix = prefix_at (suc (t.height t.root)) t.root (omega arith) on.starts
+    pub prefix : (x : N) → t.height x < top → w.on x ≡ true → (rest : List R) × (filter w.is_own (sent_up s heard x) ++ rest ≡ lines)
+    prefix x under o = prefix_at (suc (t.height x)) x (omega arith) under o
 
-    whole_at : (n : ℕ) (x : N) → t.height x < n → w.on x ≡ true → is_done (s x) ≡ true → (filter w.is_own (sent_up s heard x) ≡ lines) × (is_done (s w.replier) ≡ true)
-    whole_at zero x low o d = let bad : ⊥ = omega (arith, low) in absurd bad
-    whole_at (suc n) x low o d = by (t.same x w.replier) refl (λ y lt k j. whole_at n y lt k j)
+    whole_at : (n : ℕ) (x : N) → t.height x < n → t.height x < top → w.on x ≡ true → is_done (s x) ≡ true → (filter w.is_own (sent_up s heard x) ≡ lines) × (is_done (s w.replier) ≡ true)
+    whole_at zero x low under o d = let bad : ⊥ = omega (arith, low) in absurd bad
+    whole_at (suc n) x low under o d = by (t.same x w.replier) refl (λ y lt u k j. whole_at n y lt u k j)
       where
-        by : (b : Bool) → t.same x w.replier ≡ b → ((y : N) → t.height y < n → w.on y ≡ true → is_done (s y) ≡ true → (filter w.is_own (sent_up s heard y) ≡ lines) × (is_done (s w.replier) ≡ true)) →
+        by : (b : Bool) → t.same x w.replier ≡ b → ((y : N) → t.height y < n → t.height y < top → w.on y ≡ true → is_done (s y) ≡ true → (filter w.is_own (sent_up s heard y) ≡ lines) × (is_done (s w.replier) ≡ true)) →
             (filter w.is_own (sent_up s heard x) ≡ lines) × (is_done (s w.replier) ≡ true)
         by true e ih =
             let same : x ≡ w.replier = is.decides x w.replier e in
@@ -58,35 +66,28 @@ module _ {N R : Type 0} (t : Tree N) (is : IsTree t) (s : N → Stage R) (h : So
             let kid : is_child t x y ≡ true = on.goes x o e in
             let lt : t.height y < t.height x = is.falls x y kid in
             let over : s y ≡ Over = done_below (s x) (s y) d (h.fit x y kid) in
-            let more : (filter w.is_own (sent_up s heard y) ≡ lines) × (is_done (s w.replier) ≡ true) = ih y (omega (arith, lt, low)) (on.stays x o e) (ap is_done over) in
-            (g.along x o e ∙ ap (filter w.is_own) (sym (append-nil (heard y)) ∙ ap (λ u. heard y ++ replies_at u) (sym over)) ∙ more.0, more.1)
+            let more : (filter w.is_own (sent_up s heard y) ≡ lines) × (is_done (s w.replier) ≡ true) = ih y (omega (arith, lt, low)) (omega (arith, lt, under)) (on.stays x o e) (ap is_done over) in
+            (g.along x o e (free x under) ∙ ap (filter w.is_own) (sym (append-nil (heard y)) ∙ ap (λ u. heard y ++ replies_at u) (sym over)) ∙ more.0, more.1)
 
-    nothing_waits : (u : Stage R) → is_at_rest u ≡ true → replies_at u ≡ []
-    nothing_waits NotYet e = refl
-    nothing_waits OnTheWay e = refl
-    nothing_waits (Here [] d) e = refl
-    nothing_waits (Here (x ∷ xs) d) e = absurd (false≢true e)
-    nothing_waits Over e = refl
-
-    quiet_at : (n : ℕ) (x : N) → t.height x < n → w.on x ≡ true → IsQuiet t s → filter w.is_own (sent_up s heard x) ≡ lines
-    quiet_at zero x low o q = let bad : ⊥ = omega (arith, low) in absurd bad
-    quiet_at (suc n) x low o q = by (t.same x w.replier) refl (λ y lt k. quiet_at n y lt k q)
+    quiet_at : (n : ℕ) (x : N) → t.height x < n → t.height x < top → w.on x ≡ true → IsQuiet t s → filter w.is_own (sent_up s heard x) ≡ lines
+    quiet_at zero x low under o q = let bad : ⊥ = omega (arith, low) in absurd bad
+    quiet_at (suc n) x low under o q = by (t.same x w.replier) refl (λ y lt u k. quiet_at n y lt u k q)
       where
-        by : (b : Bool) → t.same x w.replier ≡ b → ((y : N) → t.height y < n → w.on y ≡ true → filter w.is_own (sent_up s heard y) ≡ lines) → filter w.is_own (sent_up s heard x) ≡ lines
+        by : (b : Bool) → t.same x w.replier ≡ b → ((y : N) → t.height y < n → t.height y < top → w.on y ≡ true → filter w.is_own (sent_up s heard y) ≡ lines) → filter w.is_own (sent_up s heard x) ≡ lines
         by true e ih = ap (λ z. filter w.is_own (sent_up s heard z)) (is.decides x w.replier e) ∙ g.own
         by false e ih =
             let y : N = w.next x in
             let kid : is_child t x y ≡ true = on.goes x o e in
             let lt : t.height y < t.height x = is.falls x y kid in
-            g.along x o e ∙ ap (filter w.is_own) (sym (append-nil (heard y)) ∙ ap (λ r. heard y ++ r) (sym (nothing_waits (s y) (q x y kid)))) ∙ ih y (omega (arith, lt, low)) (on.stays x o e)
+            g.along x o e (free x under) ∙ ap (filter w.is_own) (sym (append-nil (heard y)) ∙ ap (λ r. heard y ++ r) (sym (nothing_waits (s y) (q x y kid)))) ∙ ih y (omega (arith, lt, low)) (omega (arith, lt, under)) (on.stays x o e)
 
     -- where nothing is under way all replies have come
-    pub whole_quiet : IsQuiet t s → filter w.is_own (sent_up s heard t.root) ≡ lines
-    whole_quiet q = quiet_at (suc (t.height t.root)) t.root (omega arith) on.starts q
+    pub whole_quiet : (x : N) → t.height x < top → w.on x ≡ true → IsQuiet t s → filter w.is_own (sent_up s heard x) ≡ lines
+    whole_quiet x under o q = quiet_at (suc (t.height x)) x (omega arith) under o q
 
     -- where the final was sent, all replies were before it, and the client has ended
-    pub whole : is_done (s t.root) ≡ true → (filter w.is_own (sent_up s heard t.root) ≡ lines) × (is_done (s w.replier) ≡ true)
-    whole d = whole_at (suc (t.height t.root)) t.root (omega arith) on.starts d
+    pub whole : (x : N) → t.height x < top → w.on x ≡ true → is_done (s x) ≡ true → (filter w.is_own (sent_up s heard x) ≡ lines) × (is_done (s w.replier) ≡ true)
+    whole x under o d = whole_at (suc (t.height x)) x (omega arith) under o d
 
   -- where nothing is under way and all have ended, each node that was reached is done
   over_at : (n : ℕ) (x y : N) → t.height y < n → IsQuiet t s → IsFinished t s → is_child t x y ≡ true → is_not_yet (s y) ≡ false → is_over (s y) ≡ true

@@ -3,7 +3,7 @@ use Rattle.std.proofs.Common.{◌≡◌, ◌&&◌, ◌||◌, Bool, true, false, 
 use Rattle.std.specs.Prelude.{◌⊎◌}
 use Rattle.std.specs.List.{list_all}
 use Rattle.std.proofs.lemmas.Bool.{false≢true, and_parts}
-use Rattle.zr_law_queries.specs.Query.{Tree, IsTree, Stage, NotYet, OnTheWay, Here, Over, has, is_child, at_first, is_not_yet, is_over, is_done, replies_at, fits, all_over, Sound, with_one, is_empty, goes_nowhere, MayBegin, Move, Begin, Say, End, Pass, Close, after}
+use Rattle.zr_law_queries.specs.Query.{Tree, IsTree, Stage, NotYet, OnTheWay, Here, Over, has, is_child, at_first, is_not_yet, is_over, is_done, replies_at, fits, all_over, Sound, with_one, is_empty, goes_nowhere, passed_on, closes, MayBegin, Move, Begin, Say, End, Pass, Close, after}
 use Rattle.zr_law_queries.specs.Courses.{MovesKeepSound}
 use Rattle.zr_law_queries.proofs.Trees.{all_on, Goes, goes_sound}
 
@@ -119,9 +119,9 @@ module _ {N R : Type 0} (t : Tree N) (is : IsTree t) (s : N → Stage R) (h : So
   open_is x y rs b k was = open_above (s x) rs b (ap (fits (s x)) (sym was) ∙ h.fit x y k)
 
   pass_goes : (x y : N) (line : R) (rs : List R) (done : Bool) → is_child t x y ≡ true → s y ≡ Here (line ∷ rs) done →
-      Goes t s x (Here (replies_at (s x) ++ line ∷ []) false) (with_one t s y (Here rs done))
+      Goes t s x (Here (replies_at (s x) ++ passed_on t x line) false) (with_one t s y (Here rs done))
   pass_goes x y line rs done kid was = record {
-    above = λ a k. fits_here (s a) (replies_at (s x) ++ line ∷ []) (replies_at (s x)) false false ∙ ap (fits (s a)) (sym up) ∙ h.fit a x k;
+    above = λ a k. fits_here (s a) (replies_at (s x) ++ passed_on t x line) (replies_at (s x)) false false ∙ ap (fits (s a)) (sym up) ∙ h.fit a x k;
     own = λ z k. by_own z k (t.same y z) refl;
     below = λ z k j l. by_below z k j l (t.same y z) refl;
     inside = h.inside x (ap is_not_yet up);
@@ -133,7 +133,7 @@ module _ {N R : Type 0} (t : Tree N) (is : IsTree t) (s : N → Stage R) (h : So
       up : s x ≡ Here (replies_at (s x)) false
       up = open_is x y (line ∷ rs) done kid was
 
-      by_own : (z : N) → is_child t x z ≡ true → (b : Bool) → t.same y z ≡ b → fits (Here (replies_at (s x) ++ line ∷ []) false) (cond b (Here rs done) (s z)) ≡ true
+      by_own : (z : N) → is_child t x z ≡ true → (b : Bool) → t.same y z ≡ b → fits (Here (replies_at (s x) ++ passed_on t x line) false) (cond b (Here rs done) (s z)) ≡ true
       by_own z k true e = refl
       by_own z k false e = ap (λ u. fits u (s z)) (sym up) ∙ h.fit x z k
 
@@ -149,10 +149,10 @@ module _ {N R : Type 0} (t : Tree N) (is : IsTree t) (s : N → Stage R) (h : So
       by_rows z os c true e f = (line ∷ rs, ap s (sym (is.decides y z e)) ∙ was ∙ ap (λ d. Here (line ∷ rs) d) (ap is_done f))
       by_rows z os c false e f = (os, f)
 
-  close_goes : (x y : N) → is_child t x y ≡ true → s y ≡ Here [] true →
-      Goes t s x (Here (replies_at (s x)) (all_over (with_one t s y Over) (t.children x))) (with_one t s y Over)
-  close_goes x y kid was = record {
-    above = λ a k. fits_here (s a) (replies_at (s x)) (replies_at (s x)) (all_over f (t.children x)) false ∙ ap (fits (s a)) (sym up) ∙ h.fit a x k;
+  close_goes : (x y : N) (out : List R) → is_child t x y ≡ true → s y ≡ Here [] true →
+      Goes t s x (Here (replies_at (s x) ++ out) (all_over (with_one t s y Over) (t.children x))) (with_one t s y Over)
+  close_goes x y out kid was = record {
+    above = λ a k. fits_here (s a) (replies_at (s x) ++ out) (replies_at (s x)) (all_over f (t.children x)) false ∙ ap (fits (s a)) (sym up) ∙ h.fit a x k;
     own = λ z k. by_own z k (all_over f (t.children x)) refl (t.same y z) refl;
     below = λ z k j l. by_below z k j l (t.same y z) refl;
     inside = h.inside x (ap is_not_yet up);
@@ -167,7 +167,7 @@ module _ {N R : Type 0} (t : Tree N) (is : IsTree t) (s : N → Stage R) (h : So
       up : s x ≡ Here (replies_at (s x)) false
       up = open_is x y [] true kid was
 
-      by_own : (z : N) → is_child t x z ≡ true → (d : Bool) → all_over f (t.children x) ≡ d → (b : Bool) → t.same y z ≡ b → fits (Here (replies_at (s x)) d) (cond b Over (s z)) ≡ true
+      by_own : (z : N) → is_child t x z ≡ true → (d : Bool) → all_over f (t.children x) ≡ d → (b : Bool) → t.same y z ≡ b → fits (Here (replies_at (s x) ++ out) d) (cond b Over (s z)) ≡ true
       by_own z k true all b e = ap (λ c. is_over (cond c Over (s z))) (sym e) ∙ over_member t is f (t.children x) z all k
       by_own z k false all true e = refl
       by_own z k false all false e = ap (λ u. fits u (s z)) (sym up) ∙ h.fit x z k
@@ -184,8 +184,8 @@ module _ {N R : Type 0} (t : Tree N) (is : IsTree t) (s : N → Stage R) (h : So
   move_sound (Begin x was) = goes_sound t is s x (Here [] (goes_nowhere t x)) (λ y. OnTheWay) h (begin_goes x was)
   move_sound (Say d line rs leaf was) = goes_sound t is s d (Here (rs ++ line ∷ []) false) s h (alone d (rs ++ line ∷ []) rs false leaf was)
   move_sound (End d rs leaf was) = goes_sound t is s d (Here rs true) s h (alone d rs rs true leaf was)
-  move_sound (Pass x y line rs done kid was) = goes_sound t is s x (Here (replies_at (s x) ++ line ∷ []) false) (with_one t s y (Here rs done)) h (pass_goes x y line rs done kid was)
-  move_sound (Close x y kid was) = goes_sound t is s x (Here (replies_at (s x)) (all_over (with_one t s y Over) (t.children x))) (with_one t s y Over) h (close_goes x y kid was)
+  move_sound (Pass x y line rs done kid was) = goes_sound t is s x (Here (replies_at (s x) ++ passed_on t x line) false) (with_one t s y (Here rs done)) h (pass_goes x y line rs done kid was)
+  move_sound (Close x y out kid was) = goes_sound t is s x (Here (replies_at (s x) ++ out) (closes t s x y)) (with_one t s y Over) h (close_goes x y out kid was)
 
 pub start_sound : {N R : Type 0} (t : Tree N) → Sound t (at_first {R = R})
 start_sound t = record { fit = λ x y k. refl; row = λ x p rs done e. cc; inside = λ x n. cc }

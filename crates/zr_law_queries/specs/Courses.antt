@@ -1,12 +1,14 @@
 -- What a query comes to over any moves, and what is promised of it.
 use Rattle.std.specs.Prelude.{◌≡◌, Bool, true, false, cond, List, [], ◌∷◌, ◌++◌, filter}
-use Rattle.zr_law_queries.specs.Query.{Tree, IsTree, Stage, at_first, is_not_yet, is_done, replies_at, has, is_child, Sound, Move, after, heard_after, Way, IsWay, Brings, said_after, Agrees, IsQuiet, IsFinished}
+use Rattle.zr_law_queries.specs.Query.{Tree, IsPlain, IsDesk, IsTree, Stage, at_first, is_not_yet, is_done, replies_at, has, is_child, Sound, Move, after, heard_after, got_after, Way, IsWay, GathersOnce, Brings, said_after, Release, Releases, Agrees, IsQuiet, IsFinished}
 
--- any moves, from before the query is asked: the stages to which they lead, what the parent of each node has taken from it, and what the replier has said
-pub data Course {N R : Type 0} (tree : Tree N) (way : Way N R) : (N → Stage R) → (N → List R) → List R → Type 0 where
-  Start : Course tree way at_first (λ x. []) []
-  Then : (stage : N → Stage R) (heard : N → List R) (said : List R) → Course tree way stage heard said →
-      (move : Move tree stage) → Agrees tree stage move way → Course tree way (after tree stage move) (heard_after tree stage move heard) (said_after tree stage move way.is_own said)
+-- any moves, from before the query is asked: the stages to which they lead, what the parent of each node has taken from it, what a node that gathers has
+-- handled, and what the replier has said
+pub data Course {N R C : Type 0} (release : Release R C) (tree : Tree N) (way : Way N R) : (N → Stage R) → (N → List R) → List R → List R → Type 0 where
+  Start : Course release tree way at_first (λ x. []) [] []
+  Then : (stage : N → Stage R) (heard : N → List R) (got said : List R) → Course release tree way stage heard got said →
+      (move : Move tree stage) → Agrees release tree stage move way got →
+      Course release tree way (after tree stage move) (heard_after tree stage move heard) (got_after tree stage move got) (said_after tree stage move way.is_own said)
 
 -- what the client that asks was sent, of what one replier has said
 pub record IsAnswered {N R : Type 0} (tree : Tree N) (way : Way N R) (stage : N → Stage R) (said : List R) : Type 0 where
@@ -18,6 +20,23 @@ pub record IsAnswered {N R : Type 0} (tree : Tree N) (way : Way N R) (stage : N 
   -- the whole where nothing is under way
   pub quiet : IsQuiet tree stage → filter way.is_own (replies_at (stage tree.root)) ≡ said
   -- and the final, once the client has asked, nothing is under way, and all that were asked have ended
+  pub final : is_not_yet (stage tree.root) ≡ false → IsQuiet tree stage → IsFinished tree stage → is_done (stage tree.root) ≡ true
+
+-- What the client that asks was sent where its desk gathers, and what the desk has handled, of what one replier has said. The desk has sent what it released:
+-- what the client was sent, and behind it what waits there.
+pub record IsGathered {N R C : Type 0} (release : Release R C) (tree : Tree N) (desk : N) (way : Way N R) (stage : N → Stage R) (got said : List R) : Type 0 where
+  -- the desk has handled a prefix
+  pub prefix : (rest : List R) × (filter way.is_own got ++ rest ≡ said)
+  -- nothing is released while a final from below is missing
+  pub early : is_done (stage desk) ≡ false → replies_at (stage tree.root) ++ replies_at (stage desk) ≡ []
+  -- and then what may be, of the whole, and the replier has ended
+  pub released : is_done (stage desk) ≡ true → Releases release got (replies_at (stage tree.root) ++ replies_at (stage desk))
+  pub whole : is_done (stage desk) ≡ true → filter way.is_own got ≡ said
+  pub ended : is_done (stage desk) ≡ true → is_done (stage way.replier) ≡ true
+  -- with the final the client was sent all of it
+  pub all : is_done (stage tree.root) ≡ true → (is_done (stage desk) ≡ true) × (replies_at (stage desk) ≡ [])
+  -- where nothing is under way nothing waits at the desk, and it has handled the whole
+  pub quiet : IsQuiet tree stage → (replies_at (stage desk) ≡ []) × (filter way.is_own got ≡ said)
   pub final : is_not_yet (stage tree.root) ≡ false → IsQuiet tree stage → IsFinished tree stage → is_done (stage tree.root) ≡ true
 
 -- ---- ways
@@ -44,21 +63,26 @@ pub record MovesKeepSound (N R : Type 0) : Type 0 where
   pub moves : (tree : Tree N) (stage : N → Stage R) → IsTree tree → Sound tree stage → (move : Move tree stage) → Sound tree (after tree stage move)
 
 -- each move keeps the replies of a replier along its way, and so they are at first
-pub record MovesBring (N R : Type 0) : Type 0 where
-  pub start : (tree : Tree N) (way : Way N R) → Brings tree way at_first (λ x. []) []
-  pub moves : (tree : Tree N) (stage : N → Stage R) (heard : N → List R) (way : Way N R) (said : List R) →
-      IsTree tree → Sound tree stage → IsWay tree way → Brings tree way stage heard said → (move : Move tree stage) → Agrees tree stage move way →
-      Brings tree way (after tree stage move) (heard_after tree stage move heard) (said_after tree stage move way.is_own said)
+pub record MovesBring (N R C : Type 0) : Type 0 where
+  pub start : (tree : Tree N) (way : Way N R) → Brings tree way at_first (λ x. []) [] []
+  pub moves : (release : Release R C) (tree : Tree N) (stage : N → Stage R) (heard : N → List R) (way : Way N R) (got said : List R) →
+      IsTree tree → Sound tree stage → IsWay tree way → GathersOnce tree way → Brings tree way stage heard got said → (move : Move tree stage) → Agrees release tree stage move way got →
+      Brings tree way (after tree stage move) (heard_after tree stage move heard) (got_after tree stage move got) (said_after tree stage move way.is_own said)
 
 -- once the client that asks was sent the final, no move sends it anything
 abbrev pub FinalsAreLast : Type 0 → Type 0 → Type 0
 FinalsAreLast N R = (tree : Tree N) (stage : N → Stage R) → IsTree tree → Sound tree stage → is_done (stage tree.root) ≡ true →
     (move : Move tree stage) → after tree stage move tree.root ≡ stage tree.root
 
--- whatever moves a query makes, the client that asks is answered by each replier
-abbrev pub QueriesAreAnswered : Type 0 → Type 0 → Type 0
-QueriesAreAnswered N R = (tree : Tree N) (way : Way N R) → IsTree tree → IsWay tree way →
-    (stage : N → Stage R) (heard : N → List R) (said : List R) → Course tree way stage heard said → IsAnswered tree way stage said
+-- whatever moves a query makes along a tree where no node gathers, the client that asks is answered by each replier
+abbrev pub QueriesAreAnswered : Type 0 → Type 0 → Type 0 → Type 0
+QueriesAreAnswered N R C = (release : Release R C) (tree : Tree N) (way : Way N R) → IsTree tree → IsPlain tree → IsWay tree way →
+    (stage : N → Stage R) (heard : N → List R) (got said : List R) → Course release tree way stage heard got said → IsAnswered tree way stage said
+
+-- and where its desk gathers, it is sent what is released of all replies
+abbrev pub QueriesAreGathered : Type 0 → Type 0 → Type 0 → Type 0
+QueriesAreGathered N R C = (release : Release R C) (tree : Tree N) (desk : N) (way : Way N R) → IsTree tree → IsDesk tree desk → IsWay tree way → Releases release [] [] →
+    (stage : N → Stage R) (heard : N → List R) (got said : List R) → Course release tree way stage heard got said → IsGathered release tree desk way stage got said
 
 -- a chain of nodes from the root to a client that is asked is a way
 abbrev pub ChainsAreWays : Type 0 → Type 0 → Type 0

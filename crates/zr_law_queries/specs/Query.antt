@@ -7,7 +7,8 @@ use Rattle.std.specs.List.{list_any, list_all}
 
 -- What stays while a query is answered: the client that asks, which is the root; to which nodes each node passes the request, and from which it has it;
 -- which nodes pass on what comes from below, as routers and the client that asks do, and the clients that are asked don't; and a height that falls from
--- each node to those below it. `same` tells whether two nodes are one.
+-- each node to those below it. `same` tells whether two nodes are one. A node that gathers holds all replies that it handles until it sends its final, and
+-- then sends what is released of them.
 pub record Tree (N : Type 0) : Type 0 where
   pub same : N → N → Bool
   pub root : N
@@ -15,6 +16,17 @@ pub record Tree (N : Type 0) : Type 0 where
   pub parent : N → N
   pub passes : N → Bool
   pub height : N → ℕ
+  pub gathers : N → Bool
+
+-- no node gathers
+abbrev pub IsPlain : {N : Type 0} → Tree N → Type 0
+IsPlain {N} tree = (x : N) → tree.gathers x ≡ false
+
+-- one node gathers, the desk: the only child of the client that asks
+pub record IsDesk {N : Type 0} (tree : Tree N) (desk : N) : Type 0 where
+  pub alone : tree.children tree.root ≡ desk ∷ []
+  pub one : (x : N) → tree.gathers x ≡ tree.same x desk
+  pub passes : tree.passes desk ≡ true
 
 -- a node is one of some
 abbrev pub has : {N : Type 0} → Tree N → List N → N → Bool
@@ -124,17 +136,24 @@ pub data Move {N R : Type 0} (tree : Tree N) (stage : N → Stage R) : Type 0 wh
   End : (x : N) (replies : List R) → tree.passes x ≡ false → stage x ≡ Here replies false → Move tree stage
   -- x handles the first reply that waits from its child y, and passes it on
   Pass : (x y : N) (reply : R) (replies : List R) (done : Bool) → is_child tree x y ≡ true → stage y ≡ Here (reply ∷ replies) done → Move tree stage
-  -- x handles the final of its child y, and passes it on where it was the last
-  Close : (x y : N) → is_child tree x y ≡ true → stage y ≡ Here [] true → Move tree stage
+  -- x handles the final of its child y, and passes it on where it was the last, behind what is released then
+  Close : (x y : N) (released : List R) → is_child tree x y ≡ true → stage y ≡ Here [] true → Move tree stage
+
+-- the reply that a node passes on when it handles one: none where it gathers
+abbrev pub passed_on : {N R : Type 0} → Tree N → N → R → List R
+passed_on tree x reply = cond (tree.gathers x) [] (reply ∷ [])
+
+-- all children of a node are over, once one is
+abbrev pub closes : {N R : Type 0} → Tree N → (N → Stage R) → N → N → Bool
+closes tree stage x y = all_over (with_one tree stage y Over) (tree.children x)
 
 abbrev pub after : {N R : Type 0} → (tree : Tree N) → (stage : N → Stage R) → Move tree stage → N → Stage R
 after tree stage (Begin x may) = moved tree stage x (Here [] (goes_nowhere tree x)) (λ y. OnTheWay)
 after tree stage (Say x reply replies asked here) = moved tree stage x (Here (replies ++ reply ∷ []) false) stage
 after tree stage (End x replies asked here) = moved tree stage x (Here replies true) stage
 after tree stage (Pass x y reply replies done child here) =
-    moved tree stage x (Here (replies_at (stage x) ++ reply ∷ []) false) (with_one tree stage y (Here replies done))
-after tree stage (Close x y child here) =
-    let below = with_one tree stage y Over in moved tree stage x (Here (replies_at (stage x)) (all_over below (tree.children x))) below
+    moved tree stage x (Here (replies_at (stage x) ++ passed_on tree x reply) false) (with_one tree stage y (Here replies done))
+after tree stage (Close x y released child here) = moved tree stage x (Here (replies_at (stage x) ++ released) (closes tree stage x y)) (with_one tree stage y Over)
 
 -- ---- what comes back
 
@@ -144,7 +163,15 @@ heard_after tree stage (Begin x may) heard z = heard z
 heard_after tree stage (Say x reply replies asked here) heard z = heard z
 heard_after tree stage (End x replies asked here) heard z = heard z
 heard_after tree stage (Pass x y reply replies done child here) heard z = cond (tree.same y z) (heard z ++ reply ∷ []) (heard z)
-heard_after tree stage (Close x y child here) heard z = heard z
+heard_after tree stage (Close x y released child here) heard z = heard z
+
+-- all that a node that gathers has handled, in the order in which it came, with one move more
+abbrev pub got_after : {N R : Type 0} → (tree : Tree N) → (stage : N → Stage R) → Move tree stage → List R → List R
+got_after tree stage (Begin x may) got = got
+got_after tree stage (Say x reply replies asked here) got = got
+got_after tree stage (End x replies asked here) got = got
+got_after tree stage (Pass x y reply replies done child here) got = cond (tree.gathers x) (got ++ reply ∷ []) got
+got_after tree stage (Close x y released child here) got = got
 
 -- all that each node has sent up: what its parent has taken, and what waits
 abbrev pub sent_up : {N R : Type 0} → (N → Stage R) → (N → List R) → N → List R
@@ -166,13 +193,21 @@ pub record IsWay {N R : Type 0} (tree : Tree N) (way : Way N R) : Type 0 where
   pub only : (x y : N) → is_child tree x y ≡ true → way.on y ≡ true → way.next x ≡ y
   pub leaf : tree.passes way.replier ≡ false
 
+-- at most one node gathers, and if one does, it passes on and is on the way
+pub record GathersOnce {N R : Type 0} (tree : Tree N) (way : Way N R) : Type 0 where
+  pub one : (x y : N) → tree.gathers x ≡ true → tree.gathers y ≡ true → x ≡ y
+  pub passes : (x : N) → tree.gathers x ≡ true → tree.passes x ≡ true
+  pub on : (x : N) → tree.gathers x ≡ true → way.on x ≡ true
+
 -- the replies that the replier has said stand along its way
-pub record Brings {N R : Type 0} (tree : Tree N) (way : Way N R) (stage : N → Stage R) (heard : N → List R) (said : List R) : Type 0 where
+pub record Brings {N R : Type 0} (tree : Tree N) (way : Way N R) (stage : N → Stage R) (heard : N → List R) (got said : List R) : Type 0 where
   -- they are on its way alone
   pub off : (z : N) → way.on z ≡ false → filter way.is_own (sent_up stage heard z) ≡ []
   -- what a node on its way has sent up is what it has taken from the next one
-  pub along : (x : N) → way.on x ≡ true → tree.same x way.replier ≡ false →
+  pub along : (x : N) → way.on x ≡ true → tree.same x way.replier ≡ false → tree.gathers x ≡ false →
       filter way.is_own (sent_up stage heard x) ≡ filter way.is_own (heard (way.next x))
+  -- and so is what a node that gathers has handled
+  pub gathered : (x : N) → way.on x ≡ true → tree.same x way.replier ≡ false → tree.gathers x ≡ true → filter way.is_own got ≡ filter way.is_own (heard (way.next x))
   -- what the replier has sent up is what it has said
   pub own : filter way.is_own (sent_up stage heard way.replier) ≡ said
 
@@ -182,15 +217,28 @@ said_after tree stage (Begin x may) is_own said = said
 said_after tree stage (Say x reply replies asked here) is_own said = said ++ filter is_own (reply ∷ [])
 said_after tree stage (End x replies asked here) is_own said = said
 said_after tree stage (Pass x y reply replies done child here) is_own said = said
-said_after tree stage (Close x y child here) is_own said = said
+said_after tree stage (Close x y released child here) is_own said = said
 
--- a reply is one of the replier's own exactly where it is the replier that says it
-abbrev pub Agrees : {N R : Type 0} → (tree : Tree N) → (stage : N → Stage R) → Move tree stage → Way N R → Type 0
-Agrees tree stage (Begin x may) way = Unit {0}
-Agrees tree stage (Say x reply replies asked here) way = way.is_own reply ≡ tree.same x way.replier
-Agrees tree stage (End x replies asked here) way = Unit {0}
-Agrees tree stage (Pass x y reply replies done child here) way = Unit {0}
-Agrees tree stage (Close x y child here) way = Unit {0}
+-- What a node that gathers releases: replies that show the best of all that it has handled. What is shown of replies is a C.
+pub record Release (R C : Type 0) : Type 0 where
+  pub shown : List R → C
+  pub best : List R → C
+
+abbrev pub Releases : {R C : Type 0} → Release R C → List R → List R → Type 0
+Releases release got released = release.shown released ≡ release.best got
+
+-- so it is where a node that gathers has its last final; nothing is released anywhere else
+abbrev pub ReleasesIf : {R C : Type 0} → Bool → Release R C → List R → List R → Type 0
+ReleasesIf true release got released = Releases release got released
+ReleasesIf false release got released = released ≡ []
+
+-- a reply is one of the replier's own exactly where it is the replier that says it, and what is released is what is to be
+abbrev pub Agrees : {N R C : Type 0} → Release R C → (tree : Tree N) → (stage : N → Stage R) → Move tree stage → Way N R → List R → Type 0
+Agrees release tree stage (Begin x may) way got = Unit {0}
+Agrees release tree stage (Say x reply replies asked here) way got = way.is_own reply ≡ tree.same x way.replier
+Agrees release tree stage (End x replies asked here) way got = Unit {0}
+Agrees release tree stage (Pass x y reply replies done child here) way got = Unit {0}
+Agrees release tree stage (Close x y released child here) way got = ReleasesIf (tree.gathers x && closes tree stage x y) release got released
 
 -- ---- where it ends
 

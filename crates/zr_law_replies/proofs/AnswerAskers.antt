@@ -1,5 +1,5 @@
 -- Who asked at a router, by name: what the router does for an asker over that one's link it does for the place that the asker has (`deeds_placed`).
-use Rattle.std.proofs.Common.{◌≡◌, ℕ, ◌==◌, Bool, true, false, cond, List, [], ◌∷◌, Option, Some, None, is_some, refl, sym, ap, ◌∙◌}
+use Rattle.std.proofs.Common.{◌≡◌, ℕ, ◌==◌, Bool, true, false, cond, List, [], Option, Some, None, is_some, refl, sym, ap, ◌∙◌}
 use Rattle.std.specs.Prelude.{IfSome}
 use Rattle.std.specs.List.{find}
 use Rattle.std.specs.Option.{option_map, option_map_or, option_and_then}
@@ -28,12 +28,12 @@ use Rattle.zr_law_replies.proofs.StandBranches.{link_of_number}
 abbrev pub placed : RouterState → Option Asker → Option Place
 placed r o = option_and_then (λ z. place_of r z) o
 
--- one deed for who asked, by the link and by name: nothing on the links to others
-abbrev pub deeds_for : (ℕ → Deed) → LinkNo → Option Asker → List Deed
-deeds_for f to o = option_map_or (λ z. cond (to.0 == z.link.0) (f z.number ∷ []) []) o []
+-- what is done for who asked, by the link and by name: nothing on the links to others
+abbrev pub deeds_for : (ℕ → List Deed) → LinkNo → Option Asker → List Deed
+deeds_for f to o = option_map_or (λ z. cond (to.0 == z.link.0) (f z.number) []) o []
 
-abbrev pub deeds_to : (ℕ → Deed) → List ℕ → Option Place → List Deed
-deeds_to f y o = option_map_or (λ p. cond (is_named p.name y) (f p.number ∷ []) []) o []
+abbrev pub deeds_to : (ℕ → List Deed) → List ℕ → Option Place → List Deed
+deeds_to f y o = option_map_or (λ p. cond (is_named p.name y) (f p.number) []) o []
 
 -- the link of an asker is there
 abbrev pub IsThere : RouterState → Option Asker → Type 0
@@ -66,21 +66,21 @@ module _ (r : RouterState) (unique : AreUnique r.node.links) where
           false≢true (sym k ∙ ap (λ (x : LinkPeer). is_named x.peer.id y) (sym one) ∙ ap (λ n. is_named n y) (named_link r.node.links y l el) ∙ names.refl y))
 
   -- what is done for who asked over the link to a neighbour
-  pub deeds_placed : (f : ℕ → Deed) (o : Option Asker) → IsThere r o → (y : List ℕ) (l : LinkPeer) → link_to r.node.links y ≡ Some l → deeds_for f l.link o ≡ deeds_to f y (placed r o)
+  pub deeds_placed : (f : ℕ → List Deed) (o : Option Asker) → IsThere r o → (y : List ℕ) (l : LinkPeer) → link_to r.node.links y ≡ Some l → deeds_for f l.link o ≡ deeds_to f y (placed r o)
   deeds_placed f None there y l el = refl
   deeds_placed f (Some z) there y l el = by (link_at r.node.links z.link.0) refl there
     where
       by : (p : Option LinkPeer) → link_at r.node.links z.link.0 ≡ p → is_some p ≡ true →
-          cond (l.link.0 == z.link.0) (f z.number ∷ []) [] ≡ deeds_to f y (option_map (λ (j : LinkPeer). record { name = j.peer.id; number = z.number }) p)
+          cond (l.link.0 == z.link.0) (f z.number) [] ≡ deeds_to f y (option_map (λ (j : LinkPeer). record { name = j.peer.id; number = z.number }) p)
       by None e k = absurd (false≢true k)
-      by (Some j) e k = ap (λ b. cond b (f z.number ∷ []) []) (asker_link z j e y l el)
+      by (Some j) e k = ap (λ b. cond b (f z.number) []) (asker_link z j e y l el)
 
   -- nobody asked whose link isn't there
-  pub none_placed : (f : ℕ → Deed) (o : Option Asker) (y : List ℕ) → link_to r.node.links y ≡ None → deeds_to f y (placed r o) ≡ []
+  pub none_placed : (f : ℕ → List Deed) (o : Option Asker) (y : List ℕ) → link_to r.node.links y ≡ None → deeds_to f y (placed r o) ≡ []
   none_placed f None y none = refl
   none_placed f (Some z) y none = by (link_at r.node.links z.link.0) refl
     where
-      at : (j : LinkPeer) → link_at r.node.links z.link.0 ≡ Some j → (b : Bool) → is_named j.peer.id y ≡ b → cond b (f z.number ∷ []) [] ≡ []
+      at : (j : LinkPeer) → link_at r.node.links z.link.0 ≡ Some j → (b : Bool) → is_named j.peer.id y ≡ b → cond b (f z.number) [] ≡ []
       at j e false k = refl
       at j e true k = absurd (false≢true (ap is_some (sym none ∙ ap (link_to r.node.links) (sym (same_name j.peer.id y k)) ∙ (link_of_number r unique z.link j e).0)))
 

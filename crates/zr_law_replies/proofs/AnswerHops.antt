@@ -1,6 +1,6 @@
 -- What it makes of hops that a router handles an answer (`answer_goes`): the hop that the answer came on changes, and that of who asked where the router
 -- tells that one something; all other hops stay.
-use Rattle.std.proofs.Common.{◌≡◌, ℕ, ◌==◌, Bool, true, false, cond, List, [], ◌∷◌, ◌++◌, Option, Some, None, refl, sym, ap, ◌∙◌, subst, append-nil}
+use Rattle.std.proofs.Common.{◌≡◌, ℕ, ◌==◌, Bool, true, false, cond, List, [], ◌++◌, Option, Some, None, refl, sym, ap, ◌∙◌, subst, append-nil}
 use Rattle.std.specs.Prelude.{◌&&◌}
 use Rattle.std.specs.List.{flat_map, list_all}
 use Rattle.std.proofs.lemmas.Bool.{eq-eqb}
@@ -54,11 +54,11 @@ abbrev pub half_to : RouterState → List ℕ → Half
 half_to r y = record { keeps = λ n. row_kept r y n; back = λ n. branch_back r y n }
 
 -- a message from a neighbour is an answer under a number, which changes the hop of that number, and router a tells one place something of it
-pub record IsAnswering (r : RouterState) (link : LinkNo) (msg : Msg) (tag : ℕ) (a from : List ℕ) (id : ℕ) (to : Option Place) (heard told : HopState → HopState) (f : ℕ → Deed) : Type 0 where
+pub record IsAnswering (r : RouterState) (link : LinkNo) (msg : Msg) (tag : ℕ) (a from : List ℕ) (id : ℕ) (to : Option Place) (heard told : HopState → HopState) (f : ℕ → List Deed) : Type 0 where
   pub quiet : asks_in tag msg ≡ []
   pub silent : (y : List ℕ) → flat_map (λ m. asks_in tag m) (sends_to r.node (From link msg) y) ≡ []
   pub heard_is : (n : ℕ) (h : HopState) → above_hops n (handles_msg msg ++ []) h ≡ cond (id == n) (heard h) h
-  pub told_is : (n i : ℕ) (h : HopState) → below_hops n (f i ∷ []) h ≡ cond (i == n) (told h) h
+  pub told_is : (n i : ℕ) (h : HopState) → below_hops n (f i) h ≡ cond (i == n) (told h) h
   pub back_here : (n : ℕ) → branch_back (having_told r (From link msg)) from n ≡ (with_deeds (half_to r from) (handles_msg msg ++ [])).back n
   pub back_apart : (y : List ℕ) (n : ℕ) → is_named from y ≡ false → branch_back (having_told r (From link msg)) y n ≡ branch_back r y n
   pub tells : (y : List ℕ) → is_named a y ≡ false → IsTold r link msg tag y (deeds_to f y to)
@@ -72,7 +72,7 @@ module _ (w : WorldState) (q : Asked) (m : Moment) (sound : IsSound m.world) (or
   abbrev next : WorldState
   next = (after_heard m a from msg tag h).world
 
-  module _ (id : ℕ) (to : Option Place) (heard told : HopState → HopState) (f : ℕ → Deed) (is : IsAnswering h.router h.link.link msg tag a from id to heard told f) where
+  module _ (id : ℕ) (to : Option Place) (heard told : HopState → HopState) (f : ℕ → List Deed) (is : IsAnswering h.router h.link.link msg tag a from id to heard told f) where
     apart : is_named a from ≡ false
     apart = from_apart now sound orderly a h.router h.found from h.state h.at msg tag h.behind h.first h.link h.linked
 
@@ -121,7 +121,7 @@ module _ (w : WorldState) (q : Asked) (m : Moment) (sound : IsSound m.world) (or
 
     told_there : (pl : Place) (h : HopState) → to ≡ Some pl → below_hops pl.number (deeds_to f pl.name to) h ≡ told h
     told_there pl h e =
-        ap (λ o. below_hops pl.number (deeds_to f pl.name o) h) e ∙ ap (λ b. below_hops pl.number (cond b (f pl.number ∷ []) []) h) (names.refl pl.name)
+        ap (λ o. below_hops pl.number (deeds_to f pl.name o) h) e ∙ ap (λ b. below_hops pl.number (cond b (f pl.number) []) h) (names.refl pl.name)
         ∙ is.told_is pl.number pl.number h ∙ ap (λ b. cond b (told h) h) (eq-eqb pl.number pl.number refl)
 
     untold : (o : Option Place) (x : List ℕ) (n : ℕ) (h : HopState) → ((pl : Place) → o ≡ Some pl → is_hop pl.name a pl.number x a n ≡ false) → below_hops n (deeds_to f x o) h ≡ h
@@ -131,7 +131,7 @@ module _ (w : WorldState) (q : Asked) (m : Moment) (sound : IsSound m.world) (or
         number : is_named pl.name x ≡ true → (pl.number == n) ≡ false
         number e = sym (ap (λ b. b && (is_named a a && pl.number == n)) e ∙ ap (λ b. b && pl.number == n) (names.refl a)) ∙ other pl refl
 
-        by : (b : Bool) → is_named pl.name x ≡ b → below_hops n (cond b (f pl.number ∷ []) []) h ≡ h
+        by : (b : Bool) → is_named pl.name x ≡ b → below_hops n (cond b (f pl.number) []) h ≡ h
         by false e = refl
         by true e = is.told_is n pl.number h ∙ ap (λ b. cond b (told h) h) (number e)
 

@@ -3,7 +3,7 @@
 use Rattle.std.proofs.Common.{◌≡◌, ℕ, Bool, true, false, cond, List, [], Option, Some, None, ◌⊎◌, inl, inr, is_some, refl, sym, ap, ◌∙◌, subst}
 use Rattle.std.specs.List.{list_any}
 use Rattle.std.specs.Option.{option_map_or}
-use Rattle.std.proofs.lemmas.Bool.{false≢true, true≢false, false_from_ne_true}
+use Rattle.std.proofs.lemmas.Bool.{false≢true, true≢false, false_from_ne_true, eq-eqb}
 use Rattle.std.proofs.lemmas.Option.{none-some}
 use Rattle.zr_id.specs.Zid.{is_named}
 use Rattle.zr_world_spec.specs.World.{RouterState, WorldState, router_of}
@@ -11,7 +11,7 @@ use Rattle.zr_world_spec.specs.Moments.{Numbered, Moment}
 use Rattle.zr_law_settled.proofs.Goes.{Goes}
 use Rattle.zr_guarantee.specs.Queries.{Asked}
 use Rattle.zr_law_queries.specs.Link.{Free, Asked as AskedHop, Open}
-use Rattle.zr_law_queries.specs.Query.{Tree, IsTree, Stage, Here as AtNode, is_child, is_not_yet, moved}
+use Rattle.zr_law_queries.specs.Query.{Tree, IsTree, Stage, Here as AtNode, is_child, is_not_yet, moved, NotYet, OnTheWay, Over}
 use Rattle.zr_law_queries.proofs.Hops.{kept_is}
 use Rattle.zr_law_numbers.specs.Waiting.{Place, Said, is_kept_by, back_at, link_of, is_whole}
 use Rattle.zr_law_numbers.proofs.Waits.{router_back}
@@ -114,6 +114,19 @@ module _ (before : List Numbered) (mark : ℕ) (start : Moment) (q : Asked) (b :
         ∙ ap (λ z. list_any (λ c. is_place (place y n) c) (row_places r z)) place_is
         ∙ branch_in_row r (g.sound.unique a r found) (here.holds.go.1.1.tables a r found).sound.askers y n p
         (sym (router_back m.world a y r found (router_alone m.world g.orderly a r found) n) ∙ back))
+
+    -- whoever asked for the query here, what it asked is the query's
+    pub place_own : (y : List ℕ) (n : ℕ) (by : Option Place) → back_at m.world a y n ≡ Some by → is_open (stage a) ≡ true → by ≡ Some (asked_at t num a) → is_of q.line (here.hop a y n) ≡ true
+    place_own y n by back o its = at (stage a) refl o
+      where
+        at : (u : Stage Said) → stage a ≡ u → is_open u ≡ true → is_of q.line (here.hop a y n) ≡ true
+        at NotYet e k = absurd (false≢true k)
+        at OnTheWay e k = absurd (false≢true k)
+        at (AtNode rs true) e k = absurd (false≢true k)
+        at (AtNode rs false) e k =
+            let below : is_child t (t.parent a) a ≡ true = below_parent (ap is_not_yet e) in
+            branch_own y n (asked_at t num a) (back ∙ ap (λ z. Some z) its) (kids before mark start q b (t.parent a) a below) (ap (is_of q.line) (parent_hop rs e) ∙ eq-eqb q.line q.line refl)
+        at Over e k = absurd (false≢true k)
 
     -- ---- an answer of another query
 

@@ -191,5 +191,5 @@ module _ (before : List Numbered) (mark : ℕ) (start : Moment) (q : Asked) (b :
         other_stands =
             stands_same w phase q acts acts' m next hop hop' st still
             (foreign_marks (tree_at w q) b.tree.is_tree (request_to w q) q.line (λ y. refl) (is_whole w) (kids before mark start q b) st.num st.stage hop hop' st.marks own foreign)
-            (has_same w phase q acts acts' m next hop hop' st still (λ y r er. (r, er, λ o. refl)) keeps_waiting same_asked
+            (has_same w phase q acts acts' m next hop hop' st still (λ y r er. (r, er, λ o. (refl, refl))) keeps_waiting same_asked
             (λ k. λ i. answers_told q.number (told_in_turn q.number (same_turn k i - 1) (same_report i q.client)))) (λ d ends. same_replies d) (λ d ends. same_ends d)

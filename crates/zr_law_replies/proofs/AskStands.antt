@@ -1,15 +1,15 @@
 -- A client asks: if it asks the query, that begins at its client; and if it asks another one, the query stands as before (`get_stands`).
 use Rattle.std.proofs.Common.{◌≡◌, ◌≤◌, ◌<◌, ℕ, suc, ◌-◌, ◌==◌, ◌&&◌, ◌||◌, Bool, true, false, cond, List, [], ◌∷◌, ◌++◌, Some, None, inl, inr, refl, sym, ap, ◌∙◌, arith}
-use Rattle.std.specs.Prelude.{not, IfSome, if◌then◌else◌}
+use Rattle.std.specs.Prelude.{not, IfSome, if◌then◌else◌, is_some}
 use Rattle.std.specs.List.{AllByRecursion, list_any}
-use Rattle.std.proofs.lemmas.Bool.{false≢true, true≢false, eqb-true, eq-eqb, and_right, and_from, or_left, or_right}
+use Rattle.std.proofs.lemmas.Bool.{false≢true, true≢false, eqb-true, eq-eqb, and_right, and_from, or_left, or_right, false_from_ne_true}
 use Rattle.std.proofs.lemmas.List.Folds.{list_any-append}
 use Rattle.zr_id.specs.Zid.{is_named}
 use Rattle.zr_msg.specs.declared.content.Parts.{Parts}
 use Rattle.zr_msg.specs.declared.msg.Msg.TheVariants as msgs
 use Rattle.zr_msg.specs.declared.msg.Target.{Target}
 use Rattle.zr_script_spec.specs.declared.command.Act.TheVariants as c
-use Rattle.zr_world_spec.specs.World.{ClientState, EndState, Clients, WorldState, with_client, client_of, end_of}
+use Rattle.zr_world_spec.specs.World.{ClientState, EndState, Clients, WorldState, with_client, client_of, end_of, router_of}
 use Rattle.zr_world_spec.specs.Acts.{has_number, asking, get_step}
 use Rattle.zr_world_spec.specs.Moments.{Numbered, Moment, went}
 use Rattle.zr_world_spec.proofs.Names.{names}
@@ -25,7 +25,7 @@ use Rattle.zr_law_numbers.proofs.Numbers.{AllGo}
 use Rattle.zr_law_numbers.proofs.ActClients.{number_more}
 use Rattle.zr_law_replies.specs.Answers.{told_in_turn}
 use Rattle.zr_law_replies.specs.Trees.{has_router, home_of, named_at, tree_at}
-use Rattle.zr_law_replies.specs.Stands.{IsStill, asked_at, Marks, request_to, answers_told, answers_at, numbered, said_in, Stands}
+use Rattle.zr_law_replies.specs.Stands.{IsStill, asked_at, Marks, request_to, answers_told, answers_at, numbered, said_in, Stands, held_by, place}
 use Rattle.zr_law_replies.proofs.Grown.{Earlier, queries_lines}
 use Rattle.zr_law_replies.proofs.Links.{lines_on}
 use Rattle.zr_law_replies.proofs.Trees.{asks_client, home_child, client_child}
@@ -38,6 +38,7 @@ use Rattle.zr_law_replies.proofs.StandStep.{PlainHops, Begins, Here, Then}
 use Rattle.zr_law_replies.proofs.StandHere.{still_home, still_router, kids, asker_apart, answers_now, row_at, rows_read, rows_now}
 use Rattle.zr_law_replies.proofs.QueryTurns.{turn_new, turn_is_new}
 use Rattle.zr_law_replies.proofs.AskHops.{queries_then, below, are, asks_now, elsewhere, same_report, same_replies, same_ends, other_stands}
+use Rattle.zr_law_replies.proofs.StandHolds.{begin_opens}
 
 module _ (before : List Numbered) (mark : ℕ) (start : Moment) (q : Asked) (b : Begins before mark start q) (phase acts : List Numbered) (m : Moment) (here : Here start.world phase q acts m)
     (n : ℕ) (name : List ℕ) (number : ℕ) (target : Target) (content : Parts) (earlier : Earlier acts (n, c.Get name number target content)) where
@@ -215,6 +216,11 @@ module _ (before : List Numbered) (mark : ℕ) (start : Moment) (q : Asked) (b :
         own_stands : Stands w phase q acts' next hop'
         own_stands = stands_moved w phase q acts acts' m next hop hop' st still b.tree.is_tree (Begin q.client may) num' marks (record {
           rows = rows_read m.world t num' stage' rows_are;
+          holds = λ y r e o.
+              let other = false_from_ne_true (t.same q.client y) (λ z. false≢true (sym (asker_apart before mark start q b phase acts m here) ∙ sym (still_router w m.world st.still q.client)
+              ∙ ap (λ v. is_some (router_of m.world.routers v)) (b.tree.is_tree.decides q.client y z) ∙ ap is_some e)) in
+              let open_ = begin_opens t b.tree.is_tree st.stage st.sound q.client may y other o in
+              ap (λ z. held_by r (place (t.parent y) (cond z (more y) (st.num y)))) open_.0 ∙ st.holds y r e open_.1;
           number = own_number;
           asked = ap is_not_yet here_now ∙ ap not (sym in_now);
           waits = λ k found o. waiting_now k found;

@@ -1,9 +1,14 @@
 -- Acts of clients keep what stands: a client comes, declares or publishes something, asks, replies, or ends a request (`client_kept`).
-use Rattle.std.proofs.Common.{◌≡◌, ℕ, ◌+◌, Bool, true, false, cond, List, [], ◌∷◌, ◌++◌, length, map, filter, Some, None, is_some, refl, sym, ap, ◌∙◌, subst}
+use Rattle.std.proofs.Common.{◌≡◌, ℕ, ◌+◌, ◌⊎◌, inl, inr, option_map, Bool, true, false, cond, List, [], ◌∷◌, ◌++◌, length, map, filter, Some, None, is_some, refl, sym, ap, ◌∙◌, subst}
 use Rattle.std.specs.Prelude.{◌||◌, IfSome}
 use Rattle.std.proofs.lemmas.Bool.{false≢true, true≢false, or_right, false_from_ne_true}
 use Rattle.std.proofs.lemmas.Option.{none-some}
-use Rattle.zr_lists.proofs.Options.{not_there}
+use Rattle.zr_lists.proofs.Options.{not_there, there_changed}
+use Rattle.zr_msg.specs.declared.content.Parts.{Parts}
+use Rattle.zr_node_spec.specs.Tables.{free_link}
+use Rattle.zr_node_spec.specs.Table.{after}
+use Rattle.zr_law_numbers.proofs.Neighbours.{stays_up}
+use Rattle.zr_law_replies.proofs.Gathered.{gathered_by, gathered_of, gathered_at, heard_gathered, quiet_gathered, nodes_gathered}
 use Rattle.zr_id.specs.Zid.{is_named}
 use Rattle.zr_graph.proofs.Names.{same_is}
 use Rattle.zr_msg.specs.declared.decl.Kind.{Kind}
@@ -39,7 +44,7 @@ use Rattle.zr_law_replies.proofs.Grown.{Earlier}
 use Rattle.zr_law_replies.proofs.Links.{Lines, lines_on, FineAsk, FineSay}
 use Rattle.zr_law_replies.proofs.Lines.{AllShow}
 use Rattle.zr_law_replies.proofs.Routers.{quiet_fits}
-use Rattle.zr_law_replies.proofs.Standing.{BookOf, NoBook, Stands, held_then, no_book_then, others_then, told_none, book_stays, steady, book_same}
+use Rattle.zr_law_replies.proofs.Standing.{BookOf, NoBook, Stands, GathersBy, gathers_then, held_then, no_book_then, others_then, told_none, book_stays, steady, book_same}
 
 module _ (acts : List Numbered) (m : Moment) (x : Numbered) (before : Earlier acts x) (lines : Lines) (g : Goes m.world) (shows : AllShow m.world) (h : Stands acts m lines) where
   abbrev w : WorldState
@@ -71,19 +76,28 @@ module _ (acts : List Numbered) (m : Moment) (x : Numbered) (before : Earlier ac
         let tells : IsTold u v = telling_told u router r event n (router_heard (with_ends w (put_end w.ends (router, id) (lifted (new_end 1)))) router r er event n) in
         let may : MayCome r.node (up_event r (record { id = id; role = role.Client; weight = 1 })) = client_may_come w g.sound router id r er free in
         let goes : Fine v = links_then u v tells (FineAsk acts' w v lines) (FineSay acts' report' v lines) w (client_links w g.sound g.orderly router r er id free n may (events_are_done r.node (up_event r (record { id = id; role = role.Client; weight = 1 })) may taken (rows router r er))
-        (FineAsk acts' w v lines) (FineSay acts' report' v lines) (quiet_fits acts' report' w v lines router r.node (up_event r (record { id = id; role = role.Client; weight = 1 })) n refl) (sound_back u v tells g'.sound)) in
+        (FineAsk acts' w v lines) (FineSay acts' report' v lines) (quiet_fits acts' report' w v lines router r.node (up_event r (record { id = id; role = role.Client; weight = 1 })) n refl refl) (sound_back u v tells g'.sound)) in
         came r er free v g' shows' goes (λ q. heard_router is_some w.routers router q r (up_event r (record { id = id; role = role.Client; weight = 1 }))
         ∙ read_kept is_some w.routers router q r (having_told r (up_event r (record { id = id; role = role.Client; weight = 1 }))) er refl)
-        (λ d. value_new w.clients id d (new_client router) (not_there (client_of w.clients id) (free_name w id free).1)))
+        (λ d. value_new w.clients id d (new_client router) (not_there (client_of w.clients id) (free_name w id free).1))
+        (λ a y k hs whole e. inl (before_it r er may a y k hs (heard_gathered w.routers router r er (up_event r (record { id = id; role = role.Client; weight = 1 })) a y k hs e))))
       where
-        came : (r : RouterState) → router_of w.routers router ≡ Some r → is_taken w id ≡ false → (v : WorldState) (g' : Goes v) (shows' : AllShow v) → Fine v →
+        before_it : (r : RouterState) → router_of w.routers router ≡ Some r → MayCome r.node (up_event r (record { id = id; role = role.Client; weight = 1 })) → (a y : List ℕ) (k : ℕ) (hs : List Parts) →
+            (gathered_of (router_of w.routers a) y k ≡ Some hs) ⊎ ((router ≡ a) × (gathered_by (after r.node (up_event r (record { id = id; role = role.Client; weight = 1 }))) y k ≡ Some hs)) → gathered_at w a y k ≡ Some hs
+        before_it r er may a y k hs (inl old) = old
+        before_it r er may a y k hs (inr new) = subst (λ z. gathered_at w z y k ≡ Some hs) new.0
+            (quiet_gathered w router r er (rows router r er) (up_event r (record { id = id; role = role.Client; weight = 1 })) refl
+            (λ q l f. stays_up r.node (g.sound.unique router r er) (record { 0 = free_link r.node.links }) (record { id = id; role = role.Client; weight = 1 }) q may.number may.name) y k hs new.1)
+
+        came : (r : RouterState) → router_of w.routers router ≡ Some r → is_taken w id ≡ false → (v : WorldState) (g' : Goes v) (shows' : AllShow v) → (goes : Fine v) →
             ((q : List ℕ) → is_some (router_of v.routers q) ≡ is_some (router_of w.routers q)) → ((d : List ℕ) → client_of v.clients d ≡ cond (is_named d id) (Some (new_client router)) (client_of w.clients d)) →
-            Stands acts' (record { world = v; report = report' }) (lines_on v lines)
-        came r er free v g' shows' goes routers clients = record {
+            GathersBy acts m x before lines g shows h [] v g' shows' goes → Stands acts' (record { world = v; report = report' }) (lines_on v lines)
+        came r er free v g' shows' goes routers clients gathers = record {
           held = held_then acts m x before lines g shows h [] v g' shows' goes;
           books = λ d s k found. booked d s k (is_named d id) refl (sym (clients d) ∙ found);
           others = others_then acts m x before lines g shows h [] v g' shows' (λ d none. gone d (is_named d id) (sym (clients d) ∙ none)) (λ d k none. quiet d k);
           untold = λ d untaken. told_none acts m x before lines g shows h [] v g' shows' d refl ∙ h.untold d (was d (is_named d id) ((λ i. sym (routers d) i || is_some (sym (clients d) i)) ∙ untaken));
+          gathers = gathers_then acts m x before lines g shows h [] v g' shows' goes gathers;
         }
           where
             gone : (d : List ℕ) (b : Bool) → cond b (Some (new_client router)) (client_of w.clients d) ≡ None → client_of w.clients d ≡ None
@@ -129,13 +143,15 @@ module _ (acts : List Numbered) (m : Moment) (x : Numbered) (before : Earlier ac
     no_client : ((d : List ℕ) (k : ℕ) → is_named name d ≡ false → NoBook (x ∷ []) d k) → (d : List ℕ) (k : ℕ) → client_of w.clients d ≡ None → NoBook (x ∷ []) d k
     no_client others d k none = others d k (false_from_ne_true (is_named name d) (λ t. none-some s (sym none ∙ ap (client_of w.clients) (sym (same_is name d t)) ∙ es)))
 
-    pub said : (v : WorldState) (g' : Goes v) (shows' : AllShow v) → Fine v → (s' : ClientState) → ((q : List ℕ) → is_some (router_of v.routers q) ≡ is_some (router_of w.routers q)) →
+    pub said : (v : WorldState) (g' : Goes v) (shows' : AllShow v) → Fine v → (s' : ClientState) → ((q : List ℕ) → option_map (λ r. r.node) (router_of v.routers q) ≡ option_map (λ r. r.node) (router_of w.routers q)) →
         ((d : List ℕ) → client_of v.clients d ≡ cond (is_named name d) (Some s') (client_of w.clients d)) →
         ((k : ℕ) → BookOf acts' report' v (lines_on v lines) name s' k) → ((d : List ℕ) (k : ℕ) → is_named name d ≡ false → NoBook (x ∷ []) d k) →
         Stands acts' (record { world = v; report = report' }) (lines_on v lines)
     said v g' shows' goes s' routers are own others =
-        steady acts m x before lines g shows h [] v g' shows' goes routers (λ d. ap is_some (are d) ∙ there d (is_named name d) refl) (no_client others) (λ d free. refl)
-        (books_by v g' shows' goes s' are own others)
+        steady acts m x before lines g shows h [] v g' shows' goes
+        (λ q. sym (there_changed (λ (r : RouterState). r.node) (router_of v.routers q)) ∙ ap is_some (routers q) ∙ there_changed (λ (r : RouterState). r.node) (router_of w.routers q))
+        (λ d. ap is_some (are d) ∙ there d (is_named name d) refl) (no_client others) (λ d free. refl)
+        (books_by v g' shows' goes s' are own others) (λ a y k hs whole e. inl (nodes_gathered w v routers a y k hs e))
       where
         there : (d : List ℕ) (b : Bool) → is_named name d ≡ b → is_some (cond b (Some s') (client_of w.clients d)) ≡ is_some (client_of w.clients d)
         there d true same = sym (ap is_some (ap (client_of w.clients) (sym (same_is name d same)) ∙ es))
@@ -150,7 +166,7 @@ module _ (acts : List Numbered) (m : Moment) (x : Numbered) (before : Earlier ac
         (g' : Goes (w_weighed w n name key msg s e r (with_client w.clients name s'))) (shows' : AllShow (w_weighed w n name key msg s e r (with_client w.clients name s'))) →
         Stands acts' (record { world = w_weighed w n name key msg s e r (with_client w.clients name s'); report = report' }) (lines_on (w_weighed w n name key msg s e r (with_client w.clients name s')) lines)
     weighed quiet s' ids key r er no_ask no_answer g' shows' =
-        said v g' shows' goes s' (λ q. read_kept is_some w.routers s.router q r (weighing r key) er refl) (λ q. value_after w.clients name q s' (ap is_some es))
+        said v g' shows' goes s' (λ q. read_kept (option_map (λ z. z.node)) w.routers s.router q r (weighing r key) er refl) (λ q. value_after w.clients name q s' (ap is_some es))
         (λ k. book_same acts m x before lines g shows h [] v g' shows' goes name s s' k ids.0 ids.2 ids.1 (book_stays acts m x before lines g shows h [] v g' shows' goes name s es k (quiet name k) refl)) (λ d k other. quiet d k)
       where
         v : WorldState

@@ -4,7 +4,7 @@ use Rattle.std.specs.Prelude.{unwrap_or, IfSome}
 use Rattle.std.specs.List.{AllByRecursion, fold}
 use Rattle.std.proofs.lemmas.Bool.{false≢true}
 use Rattle.std.proofs.lemmas.Option.{none-some}
-use Rattle.std.proofs.lemmas.List.Sums.{length-filter}
+use Rattle.std.proofs.lemmas.List.Sums.{length-filter, fold-append}
 use Rattle.zr_script_spec.specs.declared.command.Act.{Act}
 use Rattle.zr_script_spec.specs.declared.command.Act.TheVariants as c
 use Rattle.zr_script_spec.specs.Mode.{is_current, is_future}
@@ -16,7 +16,7 @@ use Rattle.zr_msg.specs.declared.msg.Msg.TheVariants as msgs
 use Rattle.zr_node_spec.specs.Table.{able_kind}
 use Rattle.zr_world_spec.specs.Acts.{outcome, declare_step, undeclare_step, wanting, unwanting}
 use Rattle.zr_world_spec.specs.Moments.{Numbered, Moment, beginning, went, onward, ascends, reached}
-use Rattle.zr_world_spec.proofs.Lines.{at_some}
+use Rattle.zr_world_spec.proofs.Lines.{at_some, prefix_ascends}
 use Rattle.zr_world_spec.proofs.Cases.{for_declare, for_undeclare, for_interest, for_uninterest, for_publish}
 use Rattle.zr_law_settled.proofs.Goes.{goes_first}
 use Rattle.zr_law_queries.specs.Link.{Ask, Answer, Free, Asked as AskedHop, Open, asks_of, answers_of, answers_with, is_kept, asked_by, Shows}
@@ -29,7 +29,8 @@ use Rattle.zr_guarantee.specs.Queries.{queries, is_under}
 use Rattle.zr_guarantee.specs.Sent.{told_to}
 use Rattle.zr_law_replies.specs.Answers.{HopState, line_of, replies_of, IsAsked, IsSaidTo, IsAnswer, AnswersHold, AnswersAlwaysHold}
 use Rattle.zr_law_replies.proofs.Turns.{turned_in_turn}
-use Rattle.zr_law_replies.proofs.Grown.{Earlier, earlier}
+use Rattle.zr_law_replies.proofs.Grown.{Earlier, earlier, new_other}
+use Rattle.zr_law_replies.proofs.QueryTags.{tags_hold}
 use Rattle.zr_law_replies.proofs.Links.{Lines, IsOf, SaysTo, lines_on}
 use Rattle.zr_law_replies.proofs.Lines.{AllShow}
 use Rattle.zr_law_replies.proofs.EachSaid.{AllHaveQueries, queries_kept}
@@ -42,13 +43,15 @@ use Rattle.zr_law_replies.proofs.TakeActs as taking
 -- ---- what holds at a moment
 
 pub record Holds (acts : List Numbered) (m : Moment) : Type 0 where
+  pub led : reached acts ≡ Some m
+  pub later : ascends 0 acts ≡ true
   pub go : AllGo m
   pub lines : Lines
   pub stands : Stands acts m lines
   pub said : AllHaveQueries acts m.report
 
 pub shows_of : (m : Moment) → AllGo m → AllShow m.world
-shows_of m go x y whole = (go.1.0 x y, go.1.1.links x y whole)
+shows_of m go = record { links = λ x y whole. (go.1.0 x y, go.1.1.links x y whole); tables = go.1.1.tables }
 
 -- ---- each act keeps it
 
@@ -78,7 +81,8 @@ module _ (acts : List Numbered) (m : Moment) (h : Holds acts m) where
       routers.up_kept acts m (n, c.Up router name) before h.lines h.go.0 (shows_of m h.go) h.stands h.go.1.1.tables (λ d k. record { ended = refl; asked = refl }) n router name
   kept n (c.Break router name) before = routers.break_kept acts m (n, c.Break router name) before h.lines h.go.0 (shows_of m h.go) h.stands (λ d k. record { ended = refl; asked = refl }) router name
   kept n (c.Down router name) before =
-      routers.down_kept acts m (n, c.Down router name) before h.lines h.go.0 (shows_of m h.go) h.stands h.go.1.1.tables (λ d k. record { ended = refl; asked = refl }) n router name
+      routers.down_kept acts m (n, c.Down router name) before h.lines h.go.0 (shows_of m h.go) h.stands h.go.1.1.tables (λ d k. record { ended = refl; asked = refl }) n
+      (new_other acts (n, c.Down router name) before refl (λ s e. absurd (none-some s e))) router name
   kept n (c.Sub client id key) before = declares n (c.Sub client id key) before (λ d k. record { ended = refl; asked = refl }) client sort.Sub id key (msgs.Sub id key) refl refl
   kept n (c.Unsub client id) before = undeclares n (c.Unsub client id) before (λ d k. record { ended = refl; asked = refl }) client sort.Sub id (msgs.Unsub id) refl refl
   kept n (c.Able client id key complete) before =
@@ -104,7 +108,8 @@ module _ (acts : List Numbered) (m : Moment) (h : Holds acts m) where
   kept n (c.Reply client number content) before = asking.reply_kept acts m h.lines h.go.0 (shows_of m h.go) h.stands n client number content before
   kept n (c.End client number) before = asking.end_kept acts m h.lines h.go.0 (shows_of m h.go) h.stands n client number before
   kept n (c.Handle router from) before =
-      routers.handle_kept acts m (n, c.Handle router from) before h.lines h.go.0 (shows_of m h.go) h.stands h.go.1.1.tables (λ d k. record { ended = refl; asked = refl }) router from
+      routers.handle_kept acts m (n, c.Handle router from) before h.lines h.go.0 (shows_of m h.go) h.stands h.go.1.1.tables (λ d k. record { ended = refl; asked = refl })
+      (tags_hold acts m h.later h.led) router from
   kept n (c.Take router to) before = taking.take_kept acts m (n, c.Take router to) before h.lines h.go.0 (shows_of m h.go) h.stands (λ d k. record { ended = refl; asked = refl }) router to
   kept n c.Mark before = routers.mark_kept acts m (n, c.Mark) before h.lines h.go.0 (shows_of m h.go) h.stands (λ d k. record { ended = refl; asked = refl }) n
   kept n (c.Show router) before = routers.show_kept acts m (n, c.Show router) before h.lines h.go.0 (shows_of m h.go) h.stands (λ d k. record { ended = refl; asked = refl }) router
@@ -113,17 +118,24 @@ module _ (acts : List Numbered) (m : Moment) (h : Holds acts m) where
   pub said_on : (x : Numbered) → Earlier acts x → IfSome (went m (outcome m.world x.0 x.1)) (λ next. AllHaveQueries (acts ++ x ∷ []) next.report)
   said_on x before = queries_kept acts m h.lines h.stands h.said x.0 x.1 before
 
-  holds_on : (x : Numbered) → Earlier acts x → IfSome (onward (Some m) x) (Kept x)
-  holds_on x before = by (went m (outcome m.world x.0 x.1)) (all_go m x.0 x.1 h.go) (kept x.0 x.1 before) (said_on x before)
+  -- the acts lead on
+  pub leads_on : (x : Numbered) → reached (acts ++ x ∷ []) ≡ onward (Some m) x
+  leads_on x = fold-append onward (Some beginning) acts (x ∷ []) ∙ ap (λ o. onward o x) h.led
+
+  holds_on : (x : Numbered) → Earlier acts x → ascends 0 (acts ++ x ∷ []) ≡ true → IfSome (onward (Some m) x) (Kept x)
+  holds_on x before up = by (went m (outcome m.world x.0 x.1)) refl (all_go m x.0 x.1 h.go) (kept x.0 x.1 before) (said_on x before)
     where
-      by : (o : Option Moment) → IfSome o AllGo → IfSome o (routers.IsKept acts m x before h.lines h.go.0 (shows_of m h.go) h.stands) → IfSome o (λ next. AllHaveQueries (acts ++ x ∷ []) next.report) → IfSome o (Kept x)
-      by None go k said = tt
-      by (Some next) go k said = record { go = go; lines = lines_on next.world h.lines; stands = k go.0 (shows_of next go); said = said }
+      by : (o : Option Moment) → went m (outcome m.world x.0 x.1) ≡ o → IfSome o AllGo → IfSome o (routers.IsKept acts m x before h.lines h.go.0 (shows_of m h.go) h.stands) →
+          IfSome o (λ next. AllHaveQueries (acts ++ x ∷ []) next.report) → IfSome o (Kept x)
+      by None e go k said = tt
+      by (Some next) e go k said = record { led = leads_on x ∙ e; later = up; go = go; lines = lines_on next.world h.lines; stands = k go.0 (shows_of next go); said = said }
 
 -- ---- all moments
 
 holds_first : Holds [] beginning
 holds_first = record {
+  led = refl;
+  later = refl;
   go = (goes_first, numbers_first);
   lines = λ x y k. 0;
   stands = record {
@@ -131,6 +143,7 @@ holds_first = record {
     books = λ d s n found. absurd (none-some s found);
     others = λ d n none. record { ended = refl; asked = refl };
     untold = λ d free. refl;
+    gathers = λ x y n hs whole e. absurd (none-some hs e);
   };
   said = tt;
 }
@@ -144,7 +157,7 @@ holds_all done (x ∷ rest) o later h =
   where
     by : (o : Option Moment) → IfSome o (Holds done) → IfSome (onward o x) (Holds (done ++ x ∷ []))
     by None k = tt
-    by (Some m) k = holds_on done m k x (earlier 0 done x rest later).0
+    by (Some m) k = holds_on done m k x (earlier 0 done x rest later).0 (prefix_ascends 0 (done ++ x ∷ []) rest (ap (ascends 0) (append_assoc done (x ∷ []) rest) ∙ later))
 
 pub stands_at : (acts : List Numbered) (m : Moment) → ascends 0 acts ≡ true → reached acts ≡ Some m → Holds acts m
 stands_at acts m later is = at_some (Holds acts) (reached acts) m is (holds_all [] acts (Some beginning) later holds_first)
@@ -187,7 +200,7 @@ labelled_shows l hops lines shows n = record {
     back (AskedHop q by) = refl
     back (Open q by rs done) = refl
 
-module _ (acts : List Numbered) (report : List ReportLine) (l : Wire) (hops : ℕ → HopState) (shows : Shows l hops) (k line : ℕ) (is : IsOf acts report l k line) where
+module _ (acts : List Numbered) (report : List ReportLine) (x : List ℕ) (l : Wire) (hops : ℕ → HopState) (shows : Shows l hops) (k line : ℕ) (is : IsOf acts report x l k line) where
   -- the line of a hop that is pending
   line_is : (by : Option Place) → l.back k ≡ Some by → line_of (labelled line (hops k)) ≡ Some line
   line_is by pending = at (hops k) refl
@@ -210,21 +223,21 @@ module _ (acts : List Numbered) (report : List ReportLine) (l : Wire) (hops : �
       at (AskedHop q b) e = pending (AskedHop q b) b e refl
       at (Open q b rs done) e = pending (Open q b rs done) b e refl
 
-  line_said : (line' : ℕ) → line_of (labelled line (hops k)) ≡ Some line' → AllByRecursion (IsSaidTo acts report line') (replies_of (labelled line (hops k)))
+  line_said : (line' : ℕ) → line_of (labelled line (hops k)) ≡ Some line' → AllByRecursion (IsSaidTo acts report x line') (replies_of (labelled line (hops k)))
   line_said line' e = at (hops k) refl e
     where
-      each : (rs : List Said) (done : Bool) → AllByRecursion (λ (a : Answer Said). SaysTo acts report line a.body) (answers_with k rs done) → AllByRecursion (IsSaidTo acts report line) rs
+      each : (rs : List Said) (done : Bool) → AllByRecursion (λ (a : Answer Said). SaysTo acts report x line a.body) (answers_with k rs done) → AllByRecursion (IsSaidTo acts report x line) rs
       each [] done h = tt
       each (r ∷ rs) done h = (h.0, each rs done h.1)
 
-      at : (h : HopState) → hops k ≡ h → line_of (labelled line h) ≡ Some line' → AllByRecursion (IsSaidTo acts report line') (replies_of (labelled line (hops k)))
+      at : (h : HopState) → hops k ≡ h → line_of (labelled line h) ≡ Some line' → AllByRecursion (IsSaidTo acts report x line') (replies_of (labelled line (hops k)))
       at Free f i = absurd (none-some line' i)
-      at (AskedHop q b) f i = subst (λ h. AllByRecursion (IsSaidTo acts report line') (replies_of (labelled line h))) (sym f) tt
+      at (AskedHop q b) f i = subst (λ h. AllByRecursion (IsSaidTo acts report x line') (replies_of (labelled line h))) (sym f) tt
       at (Open q b rs done) f i =
           let one : line ≡ line' = cc in
-          subst (λ h. AllByRecursion (IsSaidTo acts report line') (replies_of (labelled line h))) (sym f)
-          (subst (λ j. AllByRecursion (IsSaidTo acts report j) rs) one
-          (each rs done (subst (λ zs. AllByRecursion (λ (a : Answer Said). SaysTo acts report line a.body) zs) ((shows k).answers ∙ ap (answers_of k) f) is.said)))
+          subst (λ h. AllByRecursion (IsSaidTo acts report x line') (replies_of (labelled line h))) (sym f)
+          (subst (λ j. AllByRecursion (IsSaidTo acts report x j) rs) one
+          (each rs done (subst (λ zs. AllByRecursion (λ (a : Answer Said). SaysTo acts report x line a.body) zs) ((shows k).answers ∙ ap (answers_of k) f) is.said)))
 
 module _ (acts : List Numbered) (m : Moment) (h : Holds acts m) where
   abbrev hops : Hops
@@ -237,7 +250,7 @@ module _ (acts : List Numbered) (m : Moment) (h : Holds acts m) where
   hop x y n = labelled (h.lines x y n) (hops x y n)
 
   pub pending_line : (x y : List ℕ) (n : ℕ) → is_whole m.world x y ≡ true → (by : Option Place) → back_at m.world x y n ≡ Some by → line_of (hop x y n) ≡ Some (h.lines x y n)
-  pending_line x y n whole by pending = line_is acts m.report (link_of m.world x y) (hops x y) (numbers.links x y whole) n (h.lines x y n) (h.stands.held.is x y n whole) by pending
+  pending_line x y n whole by pending = line_is acts m.report x (link_of m.world x y) (hops x y) (numbers.links x y whole) n (h.lines x y n) (h.stands.held.is x y n whole) by pending
 
   kept_back : (x y : List ℕ) (n : ℕ) → is_whole m.world x y ≡ true → is_kept_by m.world x y n ≡ true → (by : Option Place) × (back_at m.world x y n ≡ Some by)
   kept_back x y n whole kept = at (hops x y n) refl
@@ -255,8 +268,8 @@ module _ (acts : List Numbered) (m : Moment) (h : Holds acts m) where
       queries = numbers.queries;
       requests = numbers.requests;
     };
-    asked = λ x y n whole. line_asked acts m.report (link_of m.world x y) (hops x y) (numbers.links x y whole) n (h.lines x y n) (h.stands.held.is x y n whole);
-    said = λ x y n line whole e. line_said acts m.report (link_of m.world x y) (hops x y) (numbers.links x y whole) n (h.lines x y n) (h.stands.held.is x y n whole) line e;
+    asked = λ x y n whole. line_asked acts m.report x (link_of m.world x y) (hops x y) (numbers.links x y whole) n (h.lines x y n) (h.stands.held.is x y n whole);
+    said = λ x y n line whole e. line_said acts m.report x (link_of m.world x y) (hops x y) (numbers.links x y whole) n (h.lines x y n) (h.stands.held.is x y n whole) line e;
     sent = λ d s n found. (h.stands.books d s n found).kept.count;
     kept = λ d s n found whole keeps.
         let back = kept_back s.router d n whole (keeps_is m.world h.go.0.orderly d s found n ∙ keeps) in

@@ -1,15 +1,16 @@
 -- What one act more makes of what is read from acts and report: what was asked stays asked, and what was said is said to the same query.
 use Rattle.std.proofs.Common.{◌≡◌, ◌≤◌, ◌<◌, ℕ, ◌+◌, ◌-◌, ◌==◌, nat_lt, nat_le, ◌⊎◌, inl, inr, true, false, cond, List, [], ◌∷◌, ◌++◌, length, map, filter, Option, Some, None, refl, sym, ap, ◌∙◌, subst, arith, append-nil}
-use Rattle.std.specs.Prelude.{◌&&◌, IfSome}
+use Rattle.std.specs.Prelude.{◌&&◌, ◌||◌, not, is_some, IfSome}
 use Rattle.std.specs.List.{AllByRecursion, cons_option, count_by, list_any, slice_get}
-use Rattle.std.proofs.lemmas.Bool.{false≢true, and_parts, and_right, or_left, or_cases, lt-ltb, ltb-true, leb-true, false_from_ne_true}
+use Rattle.std.proofs.lemmas.Bool.{false≢true, and_parts, and_right, and_from, or_left, or_right, or_cases, lt-ltb, ltb-true, leb-true, eqb-true, eq-eqb, not-true, false_from_ne_true}
 use Rattle.std.proofs.lemmas.List.{map-append}
 use Rattle.std.proofs.lemmas.List.Elements.{filter_map-append, filter-append}
 use Rattle.std.proofs.lemmas.List.Folds.{list_any-append}
 use Rattle.std.proofs.lemmas.List.Sums.{sum_by-append}
 use Rattle.zr_lists.proofs.Each.{All-each}
-use Rattle.zr_lists.proofs.Finds.{slice_get_kept, slice_get_pushed}
+use Rattle.zr_lists.proofs.Finds.{In, any_in, none_any, slice_get_kept, slice_get_pushed}
 use Rattle.zr_lists.proofs.Elements.{each_in, in_each}
+use Rattle.zr_id.specs.Zid.{is_named}
 use Rattle.zr_msg.specs.declared.content.Parts.{Parts}
 use Rattle.zr_script_spec.specs.declared.command.Act.{Act}
 use Rattle.zr_script_spec.specs.declared.command.Act.TheVariants as a
@@ -17,9 +18,10 @@ use Rattle.zr_script_spec.specs.declared.report.ReportLine.{ReportLine}
 use Rattle.zr_world_spec.specs.Moments.{Numbered, is_step, is_later, ascends}
 use Rattle.zr_law_numbers.specs.Waiting.{Said}
 use Rattle.zr_guarantee.specs.Item.{Reply}
+use Rattle.zr_guarantee.specs.Latest.{asks_latest}
 use Rattle.zr_guarantee.specs.Queries.{Asked, asked_in, queries, is_under, turn, Saying, saying_in, sayings, is_end, ended_before, query_of, times_ended}
 use Rattle.zr_guarantee.specs.Sent.{Told, told_in, told_to, is_request, requests_to}
-use Rattle.zr_law_replies.specs.Answers.{IsAsked, IsSaidTo, told_in_turn, query_at, IsAnswer}
+use Rattle.zr_law_replies.specs.Answers.{IsAsked, is_latest_of, is_other_line, IsSaidTo, told_in_turn, query_at, IsAnswer}
 use Rattle.zr_law_replies.specs.Stands.{answers_told}
 use Rattle.zr_law_replies.proofs.Lists.{all_at, from_map, count_all}
 
@@ -182,6 +184,47 @@ module _ (acts : List Numbered) (x : Numbered) where
       ap (λ qs. slice_get qs turns) (under_more c n)
       ∙ slice_get_kept (filter (λ z. is_under c n z) (queries acts)) (filter (λ z. is_under c n z) (queries (x ∷ []))) turns q e
 
+  pub latest_kept : (name : List ℕ) (line : ℕ) → is_latest_of acts name line ≡ true → is_latest_of more name line ≡ true
+  latest_kept name line h =
+      ap (list_any (λ (p : Asked). is_named name p.client && (p.line == line && asks_latest p))) queries_more ∙ list_any-append (λ (p : Asked). is_named name p.client && (p.line == line && asks_latest p)) (queries acts) (queries (x ∷ []))
+      ∙ or_left (list_any (λ (p : Asked). is_named name p.client && (p.line == line && asks_latest p)) (queries acts)) (list_any (λ (p : Asked). is_named name p.client && (p.line == line && asks_latest p)) (queries (x ∷ []))) h
+
+  -- a reply more is of a later line
+  pub other_kept : Earlier acts x → (line : ℕ) → is_other_line acts line ≡ true → is_other_line more line ≡ true
+  other_kept before line h =
+      let parts = and_parts (list_any (λ (y : Numbered). y.0 == line) acts) (not (list_any (λ s. s.line == line && is_some s.reply) (sayings acts))) h in
+      and_from (list_any (λ (y : Numbered). y.0 == line) more) (not (list_any (λ s. s.line == line && is_some s.reply) (sayings more)))
+      (list_any-append (λ (y : Numbered). y.0 == line) acts (x ∷ []) ∙ or_left (list_any (λ (y : Numbered). y.0 == line) acts) (list_any (λ (y : Numbered). y.0 == line) (x ∷ [])) parts.0)
+      (ap not (ap (list_any (λ s. s.line == line && is_some s.reply)) sayings_more ∙ list_any-append (λ (s : Saying). s.line == line && is_some s.reply) (sayings acts) (sayings (x ∷ []))
+      ∙ (λ i. not-true (list_any (λ s. s.line == line && is_some s.reply) (sayings acts)) parts.1 i || none (saying_in x.0 x.1) refl (any_in (λ (y : Numbered). y.0 == line) acts parts.0) i)))
+    where
+      none : (o : Option Saying) → saying_in x.0 x.1 ≡ o → (y : Numbered) × In y acts × ((y.0 == line) ≡ true) → list_any (λ s. s.line == line && is_some s.reply) (cons_option o []) ≡ false
+      none None e y = refl
+      none (Some s) e y = ap (λ b. (b && is_some s.reply) || false) (false_from_ne_true (s.line == line) (λ t.
+          let lt : y.0.0 < x.0 = each_in (λ (z : Numbered). z.0 < x.0) acts y.0 (before.below (says_no_step x.0 x.1 s e)) y.1 in
+          let one : y.0.0 ≡ line = eqb-true y.0.0 line y.2 in
+          let two : s.line ≡ line = eqb-true s.line line t in
+          let three : s.line ≡ x.0 = saying_of x.0 x.1 s e in
+          absurd (omega arith)))
+
+  -- the line of an act that is no step and no reply
+  pub new_other : Earlier acts x → is_step x.1 ≡ false → ((s : Saying) → saying_in x.0 x.1 ≡ Some s → is_some s.reply ≡ false) → is_other_line more x.0 ≡ true
+  new_other before step quiet =
+      and_from (list_any (λ (y : Numbered). y.0 == x.0) more) (not (list_any (λ s. s.line == x.0 && is_some s.reply) (sayings more)))
+      (list_any-append (λ (y : Numbered). y.0 == x.0) acts (x ∷ []) ∙ or_right (list_any (λ (y : Numbered). y.0 == x.0) acts) (list_any (λ (y : Numbered). y.0 == x.0) (x ∷ [])) (or_left (x.0 == x.0) false (eq-eqb x.0 x.0 refl)))
+      (ap not (ap (list_any (λ s. s.line == x.0 && is_some s.reply)) sayings_more ∙ list_any-append (λ (s : Saying). s.line == x.0 && is_some s.reply) (sayings acts) (sayings (x ∷ []))
+      ∙ (λ i. none_any (λ (s : Saying). s.line == x.0 && is_some s.reply) (sayings acts) old i || none (saying_in x.0 x.1) refl i)))
+    where
+      old : (s : Saying) → In s (sayings acts) → (s.line == x.0 && is_some s.reply) ≡ false
+      old s i = ap (λ b. b && is_some s.reply) (false_from_ne_true (s.line == x.0) (λ t.
+          let lt : s.line < x.0 = each_in (λ (z : Saying). z.line < x.0) (sayings acts) s (sayings_lines (λ k. k < x.0) acts (before.below step)) i in
+          let one : s.line ≡ x.0 = eqb-true s.line x.0 t in
+          absurd (omega arith)))
+
+      none : (o : Option Saying) → saying_in x.0 x.1 ≡ o → list_any (λ s. s.line == x.0 && is_some s.reply) (cons_option o []) ≡ false
+      none None e = refl
+      none (Some s) e = ap (λ b. (s.line == x.0 && b) || false) (quiet s e) ∙ (λ i. and_right (s.line == x.0) false refl i || false)
+
 -- ---- one report behind another
 
 pub told_more : (xs ys : List ReportLine) (c : List ℕ) → told_to (xs ++ ys) c ≡ told_to xs c ++ told_to ys c
@@ -218,28 +261,33 @@ module _ (acts : List Numbered) (x : Numbered) (report lines : List ReportLine) 
       ∙ slice_get_kept (requests_to report s.client s.number) (requests_to lines s.client s.number) (ended_before acts s.client s.number s.line) line e
 
 module _ (acts : List Numbered) (x : Numbered) (before : Earlier acts x) (report lines : List ReportLine) where
-  pub said_kept : (line : ℕ) (said : Said) → IsSaidTo acts report line said → IsSaidTo (acts ++ x ∷ []) (report ++ lines) line said
-  said_kept line said h = record {
+  pub said_kept : (name : List ℕ) (line : ℕ) (said : Said) → IsSaidTo acts report name line said → IsSaidTo (acts ++ x ∷ []) (report ++ lines) name line said
+  said_kept name line said h = record {
     place = h.place;
     saying = h.saying;
     stands = ap (λ ss. slice_get ss h.place) (sayings_more acts x) ∙ slice_get_kept (sayings acts) (sayings (x ∷ [])) h.place h.saying h.stands;
-    line_is = h.line_is;
+    line_is = by h.line_is;
     reply_is = h.reply_is;
     query = query_kept acts x report lines h.saying line (all_at (λ (s : Saying). s.line ≤ x.0) (sayings acts) h.place h.saying (sayings_lines (λ k. k ≤ x.0) acts before.most) h.stands) h.query;
   }
+    where
+      by : (h.saying.line ≡ said.line) ⊎ ((is_latest_of acts name line ≡ true) × (is_other_line acts said.line ≡ true)) →
+          (h.saying.line ≡ said.line) ⊎ ((is_latest_of (acts ++ x ∷ []) name line ≡ true) × (is_other_line (acts ++ x ∷ []) said.line ≡ true))
+      by (inl e) = inl e
+      by (inr e) = inr (latest_kept acts x name line e.0, other_kept acts x before said.line e.1)
 
   pub answer_kept : (c : List ℕ) (n turns : ℕ) (r : Reply) → IsAnswer acts report c n turns r → IsAnswer (acts ++ x ∷ []) (report ++ lines) c n turns r
-  answer_kept c n turns r h = record { query = h.query; asked = query_at_kept acts x c n turns h.query h.asked; said = said_kept h.query.line (record { line = r.line; content = r.content }) h.said }
+  answer_kept c n turns r h = record { query = h.query; asked = query_at_kept acts x c n turns h.query h.asked; said = said_kept c h.query.line (record { line = r.line; content = r.content }) h.said }
 
 -- a reply is said to the last request that its client was sent under the number
-pub new_reply : (acts : List Numbered) (report : List ReportLine) (n : ℕ) (d : List ℕ) (number : ℕ) (content : Parts) (line : ℕ) → Earlier acts (n, a.Reply d number content) →
+pub new_reply : (acts : List Numbered) (report : List ReportLine) (n : ℕ) (d : List ℕ) (number : ℕ) (content : Parts) (name : List ℕ) (line : ℕ) → Earlier acts (n, a.Reply d number content) →
     slice_get (requests_to report d number) (times_ended acts d number) ≡ Some line →
-    IsSaidTo (acts ++ (n, a.Reply d number content) ∷ []) report line (record { line = n; content = content })
-new_reply acts report n d number content line before e = record {
+    IsSaidTo (acts ++ (n, a.Reply d number content) ∷ []) report name line (record { line = n; content = content })
+new_reply acts report n d number content name line before e = record {
   place = length (sayings acts);
   saying = s;
   stands = ap (λ ss. slice_get ss (length (sayings acts))) (sayings_more acts x) ∙ slice_get_pushed (sayings acts) (length (sayings acts)) s refl;
-  line_is = refl;
+  line_is = inl refl;
   reply_is = refl;
   query = ap (slice_get (requests_to report d number)) (ended_before_more acts x d number n (omega arith) ∙ ends_below d number n (sayings acts) (sayings_lines (λ k. k < n) acts (before.below refl))) ∙ e;
 }

@@ -20,15 +20,15 @@ use Rattle.zr_world_spec.proofs.Cases.{on_handle, number_found, for_handle}
 use Rattle.zr_law_settled.proofs.Orderly.{Orderly, has_wire}
 use Rattle.zr_guarantee.specs.Queries.{Asked, queries, turn, replies, has_ended}
 use Rattle.zr_guarantee.specs.Sent.{told_to, requests_to}
-use Rattle.zr_law_queries.specs.Query.{IsTree, Stage, is_not_yet, Move, after, said_after, Agrees}
+use Rattle.zr_law_queries.specs.Query.{IsTree, Stage, is_not_yet, Move, after, said_after, Agrees, got_after}
 use Rattle.zr_law_queries.specs.Courses.{way_of}
 use Rattle.zr_law_numbers.specs.Waiting.{Said, is_whole}
 use Rattle.zr_law_replies.specs.Answers.{told_in_turn}
 use Rattle.zr_law_replies.specs.Trees.{has_router, tree_at}
-use Rattle.zr_law_replies.specs.Stands.{IsStill, is_open, asked_at, Marks, request_to, row_places, open_below, answers_told, answers_at, said_in, is_said_by, Stands}
+use Rattle.zr_law_replies.specs.Stands.{IsStill, is_open, asked_at, Marks, request_to, row_places, open_below, answers_told, answers_at, said_in, is_said_by, Stands, held_by, held_if, latest_release}
 use Rattle.zr_law_replies.proofs.ToldRouters.{router_then, router_apart}
 use Rattle.zr_law_replies.proofs.StandOwn.{RowsShow}
-use Rattle.zr_law_replies.proofs.StandSteps.{Hops, ended_after, Has, stands_same, stands_moved, has_same}
+use Rattle.zr_law_replies.proofs.StandSteps.{Hops, ended_after, Has, stands_same, stands_moved, has_same, SameFor}
 use Rattle.zr_law_replies.proofs.StandHere.{still_router, row_at, rows_named, rows_read}
 use Rattle.zr_law_replies.proofs.Grown.{queries_same, sayings_same, told_same, requests_same, turn_told_same}
 use Rattle.zr_law_replies.proofs.Replies.{replies_kept, ended_kept}
@@ -114,41 +114,43 @@ module _ (w : WorldState) (phase : List Numbered) (q : Asked) (apart : has_route
 
   -- where the message is of no concern to the query: its hops stay, and so does its row at the router
   pub heard_same : IsStill w next.world → Marks (tree_at w q) (request_to w q) q.line (is_whole w) s.num s.stage hop' →
-      (is_open (s.stage x) ≡ true → row_places then (asked_at (tree_at w q) s.num x) ≡ row_places h.router (asked_at (tree_at w q) s.num x)) → Stands w phase q acts' next hop'
+      (is_open (s.stage x) ≡ true → SameFor (asked_at (tree_at w q) s.num x) then h.router) → Stands w phase q acts' next hop'
   heard_same still marks row = stands_same w phase q acts acts' m next hop hop' s still marks
       (has_same w phase q acts acts' m next hop hop' s still routers (λ c' ec. (c', ec, λ k. k)) (ap (list_any (λ p. p.line == q.line)) same_queries) (λ k. same_told)) (λ d ends. same_replies d) (λ d ends. same_ended d)
     where
       routers : (z : List ℕ) (r' : RouterState) → router_of next.world.routers z ≡ Some r' →
-          (r : RouterState) × (router_of m.world.routers z ≡ Some r) × (is_open (s.stage z) ≡ true → row_places r' (asked_at (tree_at w q) s.num z) ≡ row_places r (asked_at (tree_at w q) s.num z))
+          (r : RouterState) × (router_of m.world.routers z ≡ Some r) × (is_open (s.stage z) ≡ true → SameFor (asked_at (tree_at w q) s.num z) r' r)
       routers z r' e = by (is_named x z) refl
         where
           by : (b : Bool) → is_named x z ≡ b →
-              (r : RouterState) × (router_of m.world.routers z ≡ Some r) × (is_open (s.stage z) ≡ true → row_places r' (asked_at (tree_at w q) s.num z) ≡ row_places r (asked_at (tree_at w q) s.num z))
-          by false f = (r', sym (heard_other z f) ∙ e, λ o. refl)
+              (r : RouterState) × (router_of m.world.routers z ≡ Some r) × (is_open (s.stage z) ≡ true → SameFor (asked_at (tree_at w q) s.num z) r' r)
+          by false f = (r', sym (heard_other z f) ∙ e, λ o. (refl, refl))
           by true f =
               let one : x ≡ z = same_is x z f in
               let both : Some then ≡ Some r' = sym heard_router ∙ ap (router_of next.world.routers) one ∙ e in
               let is : then ≡ r' = cc in (
                 h.router,
                 ap (router_of m.world.routers) (sym one) ∙ h.found,
-                λ o. ap (λ y. row_places y (asked_at (tree_at w q) s.num z)) (sym is) ∙ ap (λ y. row_places then (asked_at (tree_at w q) s.num y)) (sym one) ∙ row (ap (λ y. is_open (s.stage y)) one ∙ o)
-                    ∙ ap (λ y. row_places h.router (asked_at (tree_at w q) s.num y)) one,
+                λ o. subst (λ y. SameFor (asked_at (tree_at w q) s.num y) r' h.router) one (subst (λ y. SameFor (asked_at (tree_at w q) s.num x) y h.router) is (row (ap (λ y. is_open (s.stage y)) one ∙ o))),
               )
 
   -- where it is a move of the query, but not of its client
   pub heard_moved : IsStill w next.world → IsTree (tree_at w q) → (move : Move (tree_at w q) s.stage) (num : List ℕ → ℕ) → num q.client ≡ s.num q.client →
       after (tree_at w q) s.stage move q.client ≡ s.stage q.client → Marks (tree_at w q) (request_to w q) q.line (is_whole w) num (after (tree_at w q) s.stage move) hop' →
       RowsShow (tree_at w q) num (after (tree_at w q) s.stage move) (has_router w) (row_at next.world) →
-      ((d : List ℕ) (ys : List (List ℕ)) → Agrees (tree_at w q) s.stage move (way_of (tree_at w q) ys d (is_said_by phase d))) →
+      ((z : List ℕ) (r : RouterState) → router_of next.world.routers z ≡ Some r → is_open (after (tree_at w q) s.stage move z) ≡ true →
+      held_by r (asked_at (tree_at w q) num z) ≡ held_if ((tree_at w q).gathers z) (got_after (tree_at w q) s.stage move s.got)) →
+      ((d : List ℕ) (ys : List (List ℕ)) → Agrees latest_release (tree_at w q) s.stage move (way_of (tree_at w q) ys d (is_said_by phase d)) s.got) →
       ((is_own : Said → Bool) (said : List Said) → said_after (tree_at w q) s.stage move is_own said ≡ said) → ((d : List ℕ) (ended : Bool) → ended_after (tree_at w q) s.stage move d ended ≡ ended) →
       Stands w phase q acts' next hop'
-  heard_moved still is move num number client marks rows agrees said ends_after = stands_moved w phase q acts acts' m next hop hop' s still is move num marks has (λ d ys ends. agrees d ys)
+  heard_moved still is move num number client marks rows holds agrees said ends_after = stands_moved w phase q acts acts' m next hop hop' s still is move num marks has (λ d ys ends. agrees d ys)
       (λ d ends. ap said_in (same_replies d) ∙ sym (said (is_said_by phase d) (said_in (replies acts m.report q d))))
       (λ d ends. same_ended d ∙ sym (ends_after d (has_ended acts m.report q d)))
     where
-      has : Has w phase q acts' next num (after (tree_at w q) s.stage move)
+      has : Has w phase q acts' next num (after (tree_at w q) s.stage move) (got_after (tree_at w q) s.stage move s.got)
       has = record {
         rows = rows_are w next.world still q num (after (tree_at w q) s.stage move) rows;
+        holds = holds;
         number = number ∙ s.number;
         asked = ap is_not_yet client ∙ s.asked ∙ ap (λ z. not (list_any (λ p. p.line == q.line) z)) (sym same_queries);
         waits = λ d ed o. s.waits d ed (ap is_open (sym client) ∙ o);

@@ -40,10 +40,10 @@ use Rattle.zr_law_replies.proofs.ToldRouters.{router_then, router_apart}
 
 -- what a router keeps of its links is the same where its links and its rows are
 pub kept_same : (r r' : RouterState) → r'.node.links ≡ r.node.links → r'.node.pending ≡ r.node.pending → (y : List ℕ) (n : ℕ) → row_kept r' y n ≡ row_kept r y n
-kept_same r r' links pending y n = λ i. row_kept (record { node = record { links = links i; base = r.node.base; rows = r.node.rows; clients = r.node.clients; known = r.node.known; pending = pending i; spent = r.node.spent }; told = r.told; weight = r.weight }) y n
+kept_same r r' links pending y n = λ i. row_kept (record { node = record { links = links i; base = r.node.base; rows = r.node.rows; clients = r.node.clients; known = r.node.known; pending = pending i; held = r.node.held; spent = r.node.spent }; told = r.told; weight = r.weight }) y n
 
 pub awaited_same : (r r' : RouterState) → r'.node.links ≡ r.node.links → r'.node.pending ≡ r.node.pending → (y : List ℕ) (n : ℕ) → branch_back r' y n ≡ branch_back r y n
-awaited_same r r' links pending y n = λ i. branch_back (record { node = record { links = links i; base = r.node.base; rows = r.node.rows; clients = r.node.clients; known = r.node.known; pending = pending i; spent = r.node.spent }; told = r.told; weight = r.weight }) y n
+awaited_same r r' links pending y n = λ i. branch_back (record { node = record { links = links i; base = r.node.base; rows = r.node.rows; clients = r.node.clients; known = r.node.known; pending = pending i; held = r.node.held; spent = r.node.spent }; told = r.told; weight = r.weight }) y n
 
 -- ---- what a message has of queries
 

@@ -20,7 +20,7 @@ use Rattle.zr_law_replies.specs.Trees.{has_router, tree_at}
 use Rattle.zr_law_replies.specs.Stands.{is_of, asked_at, request_to, Stands}
 use Rattle.zr_law_replies.proofs.Trees.{client_apart, is_tree}
 use Rattle.zr_law_replies.proofs.MarkChanges.{foreign_marks}
-use Rattle.zr_law_replies.proofs.StandBranches.{row_same}
+use Rattle.zr_law_replies.proofs.StandBranches.{row_same, held_same}
 use Rattle.zr_law_replies.proofs.StandStep.{Begins, Here, Then}
 use Rattle.zr_law_replies.proofs.StandBegins.{kids_whole}
 use Rattle.zr_law_replies.proofs.ActHops.{Any, still_hop}
@@ -28,6 +28,7 @@ use Rattle.zr_law_replies.proofs.HandleLinks.{quiet_is, quiet_links, links_stay}
 use Rattle.zr_law_replies.proofs.StandHere.{still_whole}
 use Rattle.zr_law_replies.proofs.HandleHeard.{Heard, after_heard, for_heard, heard_same}
 use Rattle.zr_law_replies.proofs.HandleRequest.{request_then}
+use Rattle.zr_law_replies.proofs.StandHolds.{quiet_holds}
 
 module _ (before : List Numbered) (mark : ℕ) (start : Moment) (q : Asked) (b : Begins before mark start q) (phase acts : List Numbered) (m : Moment) (here : Here start.world phase q acts m)
     (n : ℕ) (x from : List ℕ) where
@@ -45,9 +46,14 @@ module _ (before : List Numbered) (mark : ℕ) (start : Moment) (q : Asked) (b :
       heard_same start.world phase q apart acts m here.hop s n x from msg tag h hop' still
       (foreign_marks (tree_at start.world q) is (request_to start.world q) q.line (λ y. refl) (is_whole start.world) (λ a y kid. kids_whole before mark start b.marked q b.client b.found b.up a y kid)
       s.num s.stage here.hop hop' s.marks (λ a y k there o. same a y k there) (λ a y k there o. ap (is_of q.line) (same a y k there) ∙ o))
-      (λ o. row_same h.router (having_told h.router (From h.link.link msg))
-      (links_stay m.world here.holds.go.0.sound here.holds.go.0.orderly x h.router h.found from h.state h.at msg tag h.behind h.first h.link h.linked)
-      (quiet_is h.router.node h.link.link tag msg quiet).pending (asked_at (tree_at start.world q) s.num x))
+      (λ o. (
+        row_same h.router (having_told h.router (From h.link.link msg))
+            (links_stay m.world here.holds.go.0.sound here.holds.go.0.orderly x h.router h.found from h.state h.at msg tag h.behind h.first h.link h.linked)
+            (quiet_is h.router.node h.link.link tag msg quiet).pending (asked_at (tree_at start.world q) s.num x),
+        held_same h.router (having_told h.router (From h.link.link msg))
+            (links_stay m.world here.holds.go.0.sound here.holds.go.0.orderly x h.router h.found from h.state h.at msg tag h.behind h.first h.link h.linked)
+            (quiet_holds h.router.node h.link.link msg quiet) (asked_at (tree_at start.world q) s.num x),
+      ))
     where
       same : (a y : List ℕ) (k : ℕ) → is_whole start.world a y ≡ true → hop' a y k ≡ here.hop a y k
       same a y k there =

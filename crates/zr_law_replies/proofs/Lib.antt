@@ -8,6 +8,10 @@ pub mod ToldAnswers
 pub mod ToldMore
 pub mod QueryTurns
 pub mod OneLine
+pub mod Gathers
+pub mod QueryTags
+pub mod ToldRouters
+pub mod Gathered
 pub mod Replies
 pub mod SameActs
 pub mod Links
@@ -15,9 +19,9 @@ pub mod Lines
 pub mod Keeps
 pub mod Routers
 pub mod Standing
+pub mod Askers
 pub mod EachSaid
 pub mod ToldLinks
-pub mod ToldRouters
 pub mod InterestLinks
 pub mod RouterActs
 pub mod ClientActs
@@ -30,8 +34,11 @@ pub mod OwnReplies
 pub mod TreeLinks
 pub mod Trees
 pub mod TreeWays
+pub mod AnswerAskers
+pub mod HeldAt
 pub mod StandStep
 pub mod StandSteps
+pub mod StandHolds
 pub mod StandBegins
 pub mod StandHere
 pub mod StandStill
@@ -73,7 +80,6 @@ pub mod RequestComes
 pub mod RequestForeign
 pub mod RequestOwn
 pub mod HandleRequest
-pub mod AnswerAskers
 pub mod AnswerHops
 pub mod AnswerOwner
 pub mod HandleReply

@@ -3,12 +3,13 @@ use Rattle.std.proofs.Common.{◌≡◌, ℕ, ◌⊎◌, inl, inr, true, List, O
 use Rattle.std.proofs.lemmas.Bool.{false≢true}
 use Rattle.std.proofs.lemmas.Option.{none-some}
 use Rattle.zr_script_spec.specs.declared.report.ReportLine.{ReportLine}
-use Rattle.zr_world_spec.specs.World.{WorldState}
+use Rattle.zr_world_spec.specs.World.{RouterState, WorldState, router_of}
 use Rattle.zr_world_spec.specs.Moments.{Numbered}
 use Rattle.zr_world_spec.specs.Sound.{IsSound}
 use Rattle.zr_law_settled.proofs.Orderly.{Orderly}
 use Rattle.zr_law_queries.specs.Link.{Hop, Free, Asked as AskedHop, Open, is_kept, asked_by, Shows, fresh}
 use Rattle.zr_law_queries.proofs.Hops.{fresh_shows}
+use Rattle.zr_law_numbers.specs.Rows.{AreOfLinks}
 use Rattle.zr_law_numbers.specs.Waiting.{Asked, Said, Place, is_kept_by, back_at, link_of, is_whole}
 use Rattle.zr_law_numbers.proofs.Leading.{Wire}
 use Rattle.zr_law_numbers.proofs.Whole.{LinksGo, whole_apart}
@@ -17,14 +18,16 @@ use Rattle.zr_law_replies.proofs.Keeps.{asker_keeps}
 
 -- each number of an unbroken link is of one query's line, and so is the number of who asked, where that link is unbroken too
 pub record LinesHold (acts : List Numbered) (report : List ReportLine) (w : WorldState) (lines : Lines) : Type 0 where
-  pub is : (x y : List ℕ) (k : ℕ) → is_whole w x y ≡ true → IsOf acts report (link_of w x y) k (lines x y k)
+  pub is : (x y : List ℕ) (k : ℕ) → is_whole w x y ≡ true → IsOf acts report x (link_of w x y) k (lines x y k)
   pub back : (x y : List ℕ) (k : ℕ) (p : Place) → is_whole w x y ≡ true → back_at w x y k ≡ Some (Some p) → is_whole w p.name x ≡ true → lines x y k ≡ lines p.name x p.number
 
-abbrev pub AllShow : WorldState → Type 0
-AllShow w = (x y : List ℕ) → is_whole w x y ≡ true → (hops : ℕ → Hop Asked Place Said) × Shows (link_of w x y) hops
+-- each unbroken link shows hops, and what routers keep is of their links
+pub record AllShow (w : WorldState) : Type 0 where
+  pub links : (x y : List ℕ) → is_whole w x y ≡ true → (hops : ℕ → Hop Asked Place Said) × Shows (link_of w x y) hops
+  pub tables : (x : List ℕ) (r : RouterState) → router_of w.routers x ≡ Some r → AreOfLinks r.node
 
 -- a request that is kept is pending
-kept_pending : (l : Wire) (hops : ℕ → Hop Asked Place Said) → Shows l hops → (k : ℕ) → l.keeps k ≡ true → (by : Option Place) × (l.back k ≡ Some by)
+pub kept_pending : (l : Wire) (hops : ℕ → Hop Asked Place Said) → Shows l hops → (k : ℕ) → l.keeps k ≡ true → (by : Option Place) × (l.back k ≡ Some by)
 kept_pending l hops shows k e = at (hops k) refl
   where
     at : (h : Hop Asked Place Said) → hops k ≡ h → (by : Option Place) × (l.back k ≡ Some by)
@@ -41,21 +44,21 @@ module _ (acts : List Numbered) (report : List ReportLine) (acts' : List Numbere
     shows_before = at (goes x y whole).0
       where
         at : (is_whole w x y ≡ true) ⊎ (link_of w x y ≡ fresh) → (hops : ℕ → Hop Asked Place Said) × Shows (link_of w x y) hops
-        at (inl old) = shows x y old
+        at (inl old) = shows.links x y old
         at (inr new) = ((λ n. Free), subst (λ l. Shows l (λ n. Free)) (sym new) (fresh_shows Asked Place Said))
 
-    is_before : (k : ℕ) → IsOf acts report (link_of w x y) k (lines x y k)
+    is_before : (k : ℕ) → IsOf acts report x (link_of w x y) k (lines x y k)
     is_before k = at (goes x y whole).0
       where
-        nothing : IsOf acts report fresh k (lines x y k)
+        nothing : IsOf acts report x fresh k (lines x y k)
         nothing = record { asks = tt; said = tt; asked = λ by e. absurd (none-some by e) }
 
-        at : (is_whole w x y ≡ true) ⊎ (link_of w x y ≡ fresh) → IsOf acts report (link_of w x y) k (lines x y k)
+        at : (is_whole w x y ≡ true) ⊎ (link_of w x y ≡ fresh) → IsOf acts report x (link_of w x y) k (lines x y k)
         at (inl old) = holds.is x y k old
-        at (inr new) = subst (λ l. IsOf acts report l k (lines x y k)) (sym new) nothing
+        at (inr new) = subst (λ l. IsOf acts report x l k (lines x y k)) (sym new) nothing
 
     pub keeps_on : (k : ℕ) → Keeps acts report acts' report' grows w v lines x y whole k
-    keeps_on k = moves_keep acts report acts' report' grows w v lines x y whole k (is_before k) shows_before.0 (shows' x y whole).0 shows_before.1 (shows' x y whole).1 (goes x y whole).1
+    keeps_on k = moves_keep acts report acts' report' grows w v lines x y whole k (is_before k) shows_before.0 (shows'.links x y whole).0 shows_before.1 (shows'.links x y whole).1 (goes x y whole).1
 
     -- a number that is pending stays of its query
     pub pending_same : (k : ℕ) (by : Option Place) → back_at w x y k ≡ Some by → lines_on v lines x y k ≡ lines x y k
@@ -84,7 +87,7 @@ module _ (acts : List Numbered) (report : List ReportLine) (acts' : List Numbere
     where
       back_then : (x y : List ℕ) (k : ℕ) (p : Place) → is_whole v x y ≡ true → back_at v x y k ≡ Some (Some p) → is_whole v p.name x ≡ true → lines_on v lines x y k ≡ lines_on v lines p.name x p.number
       back_then x y k p whole e above =
-          at (moves_back acts report acts' report' grows w v lines x y whole k p (shows' x y whole).0 (shows' x y whole).1 (goes x y whole).1 e)
+          at (moves_back acts report acts' report' grows w v lines x y whole k p (shows'.links x y whole).0 (shows'.links x y whole).1 (goes x y whole).1 e)
         where
           at : (back_at w x y k ≡ Some (Some p)) ⊎
               (is_whole v p.name x ≡ true → (line_on (link_of v x y) k (lines x y k) ≡ lines p.name x p.number) × (o : Option Place) × (back_at w p.name x p.number ≡ Some o)) →

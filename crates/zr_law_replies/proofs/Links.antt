@@ -19,7 +19,7 @@ use Rattle.zr_law_numbers.specs.Deeds.{Half, Deed, Asks, Hears, Closes, Leaves, 
 use Rattle.zr_law_numbers.proofs.Leading.{Wire, handled, answered, requested, handling_is_silent}
 use Rattle.zr_law_numbers.proofs.DeedLists.{with-append}
 use Rattle.zr_law_numbers.proofs.Doing.{Above, Below, Moves, Same, Upper, Lower}
-use Rattle.zr_law_replies.specs.Answers.{IsAsked, IsSaidTo}
+use Rattle.zr_law_replies.specs.Answers.{IsAsked, is_latest_of, is_other_line, IsSaidTo}
 
 -- ---- the query of a number
 
@@ -27,15 +27,15 @@ use Rattle.zr_law_replies.specs.Answers.{IsAsked, IsSaidTo}
 abbrev pub Lines : Type 0
 Lines = List ℕ → List ℕ → ℕ → ℕ
 
--- an answer that waits is said to the query
-abbrev pub SaysTo : List Numbered → List ReportLine → ℕ → Body Said → Type 0
-SaysTo acts report line (Replied said) = IsSaidTo acts report line said
-SaysTo acts report line Ended = Unit {0}
+-- an answer that waits is said to the query, and comes to a name
+abbrev pub SaysTo : List Numbered → List ReportLine → List ℕ → ℕ → Body Said → Type 0
+SaysTo acts report name line (Replied said) = IsSaidTo acts report name line said
+SaysTo acts report name line Ended = Unit {0}
 
--- what waits under a number of a link is of the query of a line, which was asked if the number is pending
-pub record IsOf (acts : List Numbered) (report : List ReportLine) (l : Wire) (k line : ℕ) : Type 0 where
+-- what waits under a number of a name's link is of the query of a line, which was asked if the number is pending
+pub record IsOf (acts : List Numbered) (report : List ReportLine) (name : List ℕ) (l : Wire) (k line : ℕ) : Type 0 where
   pub asks : AllByRecursion (λ (a : Ask Asked). a.request.line ≡ line) (filter (has_number k) l.asks)
-  pub said : AllByRecursion (λ (a : Answer Said). SaysTo acts report line a.body) (filter (answers_number k) l.answers)
+  pub said : AllByRecursion (λ (a : Answer Said). SaysTo acts report name line a.body) (filter (answers_number k) l.answers)
   pub asked : (by : Option Place) → l.back k ≡ Some by → IsAsked acts line
 
 abbrev pub first_line : List (Ask Asked) → ℕ → ℕ
@@ -73,7 +73,7 @@ FineSay acts report v lines x y (Hears number) = Unit {0}
 FineSay acts report v lines x y (Closes number) = Unit {0}
 FineSay acts report v lines x y (Leaves number) = Unit {0}
 FineSay acts report v lines x y (Takes number) = Unit {0}
-FineSay acts report v lines x y (Replies number said) = is_whole v x y ≡ true → IsSaidTo acts report (lines x y number) said
+FineSay acts report v lines x y (Replies number said) = is_whole v x y ≡ true → IsSaidTo acts report x (lines x y number) said
 FineSay acts report v lines x y (Ends number) = Unit {0}
 
 -- ---- lists
@@ -172,7 +172,9 @@ still_pending k h (Ends n ∷ ds) by may e none = still_pending k (with_deed h (
 -- what was asked and said stays so
 pub record Grows (acts : List Numbered) (report : List ReportLine) (acts' : List Numbered) (report' : List ReportLine) : Type 0 where
   pub asked : (line : ℕ) → IsAsked acts line → IsAsked acts' line
-  pub said : (line : ℕ) (said : Said) → IsSaidTo acts report line said → IsSaidTo acts' report' line said
+  pub said : (name : List ℕ) (line : ℕ) (said : Said) → IsSaidTo acts report name line said → IsSaidTo acts' report' name line said
+  pub latest : (name : List ℕ) (line : ℕ) → is_latest_of acts name line ≡ true → is_latest_of acts' name line ≡ true
+  pub other : (line : ℕ) → is_other_line acts line ≡ true → is_other_line acts' line ≡ true
 
 module _ (acts : List Numbered) (report : List ReportLine) (acts' : List Numbered) (report' : List ReportLine) (grows : Grows acts report acts' report') (w v : WorldState) (lines : Lines) (x y : List ℕ) (whole : is_whole v x y ≡ true) (k : ℕ) where
   abbrev l : Wire
@@ -192,17 +194,17 @@ module _ (acts : List Numbered) (report : List ReportLine) (acts' : List Numbere
 
   -- the number stays of its query, and of the same one where it was pending
   pub record Keeps : Type 0 where
-    pub is : IsOf acts' report' m k (line_on m k line)
+    pub is : IsOf acts' report' x m k (line_on m k line)
     pub same : (by : Option Place) → l.back k ≡ Some by → line_on m k line ≡ line
 
-  said_still : (qs : List (Answer Said)) → AllByRecursion (λ (a : Answer Said). SaysTo acts report line a.body) qs → AllByRecursion (λ (a : Answer Said). SaysTo acts' report' line a.body) qs
-  said_still qs h = All-each (λ (a : Answer Said). SaysTo acts report line a.body) (λ (a : Answer Said). SaysTo acts' report' line a.body) qs (λ a s. at a.body s) h
+  said_still : (qs : List (Answer Said)) → AllByRecursion (λ (a : Answer Said). SaysTo acts report x line a.body) qs → AllByRecursion (λ (a : Answer Said). SaysTo acts' report' x line a.body) qs
+  said_still qs h = All-each (λ (a : Answer Said). SaysTo acts report x line a.body) (λ (a : Answer Said). SaysTo acts' report' x line a.body) qs (λ a s. at a.body s) h
     where
-      at : (b : Body Said) → SaysTo acts report line b → SaysTo acts' report' line b
-      at (Replied said) s = grows.said line said s
+      at : (b : Body Said) → SaysTo acts report x line b → SaysTo acts' report' x line b
+      at (Replied said) s = grows.said x line said s
       at Ended s = tt
 
-  own_said : (ds : List Deed) → AllByRecursion below ds → AllByRecursion (λ (a : Answer Said). SaysTo acts' report' line a.body) (filter (answers_number k) (flat_map answered_by_deed ds))
+  own_said : (ds : List Deed) → AllByRecursion below ds → AllByRecursion (λ (a : Answer Said). SaysTo acts' report' x line a.body) (filter (answers_number k) (flat_map answered_by_deed ds))
   own_said [] h = tt
   own_said (Asks n q b ∷ ds) h = own_said ds h.1
   own_said (Hears n ∷ ds) h = own_said ds h.1
@@ -214,25 +216,25 @@ module _ (acts : List Numbered) (report : List ReportLine) (acts' : List Numbere
       more : List (Answer Said)
       more = filter (answers_number k) (flat_map answered_by_deed ds)
 
-      at : (t : Bool) → (n == k) ≡ t → AllByRecursion (λ (a : Answer Said). SaysTo acts' report' line a.body) more →
-          AllByRecursion (λ (a : Answer Said). SaysTo acts' report' line a.body) (cond t (record { number = n; body = Replied said } ∷ more) more)
-      at true e rest = (subst (λ j. IsSaidTo acts' report' (lines x y j) said) (eqb-true n k e) (h.0 whole), rest)
+      at : (t : Bool) → (n == k) ≡ t → AllByRecursion (λ (a : Answer Said). SaysTo acts' report' x line a.body) more →
+          AllByRecursion (λ (a : Answer Said). SaysTo acts' report' x line a.body) (cond t (record { number = n; body = Replied said } ∷ more) more)
+      at true e rest = (subst (λ j. IsSaidTo acts' report' x (lines x y j) said) (eqb-true n k e) (h.0 whole), rest)
       at false e rest = rest
   own_said (Ends n ∷ ds) h = at (n == k) (own_said ds h.1)
     where
       more : List (Answer Said)
       more = filter (answers_number k) (flat_map answered_by_deed ds)
 
-      at : (t : Bool) → AllByRecursion (λ (a : Answer Said). SaysTo acts' report' line a.body) more → AllByRecursion (λ (a : Answer Said). SaysTo acts' report' line a.body) (cond t (final n ∷ more) more)
+      at : (t : Bool) → AllByRecursion (λ (a : Answer Said). SaysTo acts' report' x line a.body) more → AllByRecursion (λ (a : Answer Said). SaysTo acts' report' x line a.body) (cond t (final n ∷ more) more)
       at true rest = (tt, rest)
       at false rest = rest
 
-  module _ (is : IsOf acts report l k line) where
+  module _ (is : IsOf acts report x l k line) where
     by_same : l ≡ m → Keeps
     by_same e =
         let one : line_on m k line ≡ line = ap (λ z. line_on z k line) (sym e) ∙ first_same (filter (has_number k) l.asks) line is.asks in
-        let now : IsOf acts' report' l k line = record { asks = is.asks; said = said_still (filter (answers_number k) l.answers) is.said; asked = λ by b. grows.asked line (is.asked by b) } in
-        record { is = subst (λ n. IsOf acts' report' m k n) (sym one) (subst (λ z. IsOf acts' report' z k line) e now); same = λ by b. one }
+        let now : IsOf acts' report' x l k line = record { asks = is.asks; said = said_still (filter (answers_number k) l.answers) is.said; asked = λ by b. grows.asked line (is.asked by b) } in
+        record { is = subst (λ n. IsOf acts' report' x m k n) (sym one) (subst (λ z. IsOf acts' report' x z k line) e now); same = λ by b. one }
 
     by_lower : Below below l m → Keeps
     by_lower d =
@@ -240,15 +242,15 @@ module _ (acts : List Numbered) (report : List ReportLine) (acts' : List Numbere
         All-back (λ (a : Ask Asked). a.request.line ≡ line) (filter (has_number k) (requested d.came)) (filter (has_number k) m.asks)
         (subst (λ qs. AllByRecursion (λ (a : Ask Asked). a.request.line ≡ line) qs) (ap (filter (has_number k)) d.asks ∙ filter-append (has_number k) (requested d.came) m.asks) is.asks) in
         let one : line_on m k line ≡ line = first_same (filter (has_number k) m.asks) line asks in
-        let now : IsOf acts' report' m k line = record {
+        let now : IsOf acts' report' x m k line = record {
           asks = asks;
-          said = subst (λ qs. AllByRecursion (λ (a : Answer Said). SaysTo acts' report' line a.body) qs)
+          said = subst (λ qs. AllByRecursion (λ (a : Answer Said). SaysTo acts' report' x line a.body) qs)
               (sym (ap (filter (answers_number k)) d.answers ∙ filter-append (answers_number k) l.answers (flat_map answered_by_deed d.own)))
-              (All-append (λ (a : Answer Said). SaysTo acts' report' line a.body) (filter (answers_number k) l.answers) (filter (answers_number k) (flat_map answered_by_deed d.own))
+              (All-append (λ (a : Answer Said). SaysTo acts' report' x line a.body) (filter (answers_number k) l.answers) (filter (answers_number k) (flat_map answered_by_deed d.own))
               (said_still (filter (answers_number k) l.answers) is.said) (own_said d.own d.fits));
           asked = λ by b. grows.asked line (is.asked by (sym (d.back k) ∙ b));
         } in
-        record { is = subst (λ n. IsOf acts' report' m k n) (sym one) now; same = λ by b. one }
+        record { is = subst (λ n. IsOf acts' report' x m k n) (sym one) now; same = λ by b. one }
 
     -- what is asked under a number is under a free one
     new_asked : (ds : List Deed) (a : Ask Asked) (qs : List (Ask Asked)) → AllByRecursion above ds → filter (has_number k) (flat_map asked_by_deed ds) ≡ a ∷ qs → (l.back k ≡ None) × IsAsked acts' a.request.line
@@ -282,15 +284,15 @@ module _ (acts : List Numbered) (report : List ReportLine) (acts' : List Numbere
       none_new e =
           let still : filter (has_number k) m.asks ≡ filter (has_number k) l.asks = asks_then ∙ ap (λ z. filter (has_number k) l.asks ++ z) e ∙ append-nil (filter (has_number k) l.asks) in
           let one : line_on m k line ≡ line = ap (λ z. first_line z line) still ∙ first_same (filter (has_number k) l.asks) line is.asks in
-          let now : IsOf acts' report' m k line = record {
+          let now : IsOf acts' report' x m k line = record {
             asks = subst (λ qs. AllByRecursion (λ (a : Ask Asked). a.request.line ≡ line) qs) (sym still) is.asks;
-            said = All-back (λ (a : Answer Said). SaysTo acts' report' line a.body) (filter (answers_number k) (answered u.came)) (filter (answers_number k) m.answers)
-                (subst (λ qs. AllByRecursion (λ (a : Answer Said). SaysTo acts' report' line a.body) qs) answers_then (said_still (filter (answers_number k) l.answers) is.said));
+            said = All-back (λ (a : Answer Said). SaysTo acts' report' x line a.body) (filter (answers_number k) (answered u.came)) (filter (answers_number k) m.answers)
+                (subst (λ qs. AllByRecursion (λ (a : Answer Said). SaysTo acts' report' x line a.body) qs) answers_then (said_still (filter (answers_number k) l.answers) is.said));
             asked = λ by b.
                 let was = still_pending k u.half (handled u.came ++ u.own) by u.may (sym (u.leaves k) ∙ b) (ap (filter (has_number k)) (asks_none u.came u.own) ∙ e) in
                 grows.asked line (is.asked was.0 (u.before k ∙ was.1));
           } in
-          record { is = subst (λ n. IsOf acts' report' m k n) (sym one) now; same = λ by b. one }
+          record { is = subst (λ n. IsOf acts' report' x m k n) (sym one) now; same = λ by b. one }
 
       one_new : (a : Ask Asked) (qs : List (Ask Asked)) → new ≡ a ∷ qs → Keeps
       one_new a qs e =
@@ -301,12 +303,12 @@ module _ (acts : List Numbered) (report : List ReportLine) (acts' : List Numbere
           let one : line_on m k line ≡ a.request.line = ap (λ z. first_line z line) asks in
           let quiet : filter (answers_number k) m.answers ≡ [] =
           nothing_behind (filter (answers_number k) (answered u.came)) (filter (answers_number k) m.answers) (sym answers_then ∙ (shows k).answers ∙ ap (answers_of k) none) in
-          let now : IsOf acts' report' m k a.request.line = record {
+          let now : IsOf acts' report' x m k a.request.line = record {
             asks = subst (λ zs. AllByRecursion (λ (z : Ask Asked). z.request.line ≡ a.request.line) zs) (sym (asks ∙ ap (λ z. a ∷ z) only)) (refl, tt);
-            said = subst (λ zs. AllByRecursion (λ (z : Answer Said). SaysTo acts' report' a.request.line z.body) zs) (sym quiet) tt;
+            said = subst (λ zs. AllByRecursion (λ (z : Answer Said). SaysTo acts' report' x a.request.line z.body) zs) (sym quiet) tt;
             asked = λ by b. got.1;
           } in
-          record { is = subst (λ n. IsOf acts' report' m k n) (sym one) now; same = λ by b. absurd (none-some by (sym got.0 ∙ b)) }
+          record { is = subst (λ n. IsOf acts' report' x m k n) (sym one) now; same = λ by b. absurd (none-some by (sym got.0 ∙ b)) }
 
       by_upper : Keeps
       by_upper = at new refl

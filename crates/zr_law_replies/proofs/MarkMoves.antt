@@ -4,7 +4,7 @@ use Rattle.std.proofs.Common.{◌≡◌, ℕ, ◌==◌, ◌&&◌, Bool, true, fa
 use Rattle.std.proofs.lemmas.Bool.{true≢false}
 use Rattle.zr_id.specs.Zid.{is_named}
 use Rattle.zr_law_queries.specs.Link.{Asked as AskedHop, Open}
-use Rattle.zr_law_queries.specs.Query.{Tree, IsTree, Stage, NotYet, OnTheWay, Here, Over, has, is_child, replies_at, fits, all_over, goes_nowhere, Sound, moved, with_one, MayBegin, Begin, Say, End, Pass, Close, after}
+use Rattle.zr_law_queries.specs.Query.{Tree, IsTree, Stage, NotYet, OnTheWay, Here, Over, has, is_child, replies_at, fits, goes_nowhere, passed_on, closes, Sound, moved, with_one, MayBegin, Begin, Say, End, Pass, Close, after}
 use Rattle.zr_law_queries.proofs.Trees.{no_loop, no_cycle}
 use Rattle.zr_law_queries.proofs.Moves.{is_not_yet_is}
 use Rattle.zr_law_numbers.specs.Waiting as waiting
@@ -119,24 +119,24 @@ module _ (t : Tree (List ℕ)) (is : IsTree t) (request : List ℕ → waiting.A
       (same : (a b : List ℕ) (k : ℕ) → whole a b ≡ true → is_hop x y (num y) a b k ≡ false → (x ≡ t.root) ⊎ (is_hop (t.parent x) x (num x) a b k ≡ false) → hop' a b k ≡ hop a b k) where
     pub pass_marks : (reply : Said) (replies : List Said) (done : Bool) (here : stage y ≡ Here (reply ∷ replies) done) →
         hop' x y (num y) ≡ Open (request y) (Some (asked_at t num x)) replies done →
-        (Below x → hop' (t.parent x) x (num x) ≡ Open (request x) (Some (asked_at t num (t.parent x))) (replies_at (stage x) ++ reply ∷ []) false) →
+        (Below x → hop' (t.parent x) x (num x) ≡ Open (request x) (Some (asked_at t num (t.parent x))) (replies_at (stage x) ++ passed_on t x reply) false) →
         Marks t request line whole num (after t stage (Pass x y reply replies done child here)) hop'
     pass_marks reply replies done here shows above =
-        both_marks x y child (Here (replies_at (stage x) ++ reply ∷ []) false) (Here replies done)
-        (own_goes t is request line line_is whole kids_whole num stage hop (hop_at hop x y (num y) hop') m x y child (still_elsewhere x y child (Here (replies_at (stage x) ++ reply ∷ []) false) (Here replies done))
-        (Here replies done) refl (half_here x y child (Here (replies_at (stage x) ++ reply ∷ []) false) (Here replies done) ∙ shows))
+        both_marks x y child (Here (replies_at (stage x) ++ passed_on t x reply) false) (Here replies done)
+        (own_goes t is request line line_is whole kids_whole num stage hop (hop_at hop x y (num y) hop') m x y child (still_elsewhere x y child (Here (replies_at (stage x) ++ passed_on t x reply) false) (Here replies done))
+        (Here replies done) refl (half_here x y child (Here (replies_at (stage x) ++ passed_on t x reply) false) (Here replies done) ∙ shows))
         refl reached above same
 
-    pub close_marks : (here : stage y ≡ Here [] true) → is_of line (hop' x y (num y)) ≡ false →
-        (Below x → hop' (t.parent x) x (num x) ≡ Open (request x) (Some (asked_at t num (t.parent x))) (replies_at (stage x)) (all_over (with_one t stage y Over) (t.children x))) →
-        Marks t request line whole num (after t stage (Close x y child here)) hop'
-    close_marks here gone above =
+    pub close_marks : (released : List Said) (here : stage y ≡ Here [] true) → is_of line (hop' x y (num y)) ≡ false →
+        (Below x → hop' (t.parent x) x (num x) ≡ Open (request x) (Some (asked_at t num (t.parent x))) (replies_at (stage x) ++ released) (closes t stage x y)) →
+        Marks t request line whole num (after t stage (Close x y released child here)) hop'
+    close_marks released here gone above =
         both_marks x y child v Over
         (own_closes t is request line line_is whole kids_whole num stage hop (hop_at hop x y (num y) hop') m x y child (still_elsewhere x y child v Over) (ap (is_of line) (half_here x y child v Over) ∙ gone))
         refl reached above same
       where
         v : Stage Said
-        v = Here (replies_at (stage x)) (all_over (with_one t stage y Over) (t.children x))
+        v = Here (replies_at (stage x) ++ released) (closes t stage x y)
 
   -- ---- a node has the request, and it goes to all its children
 

@@ -1,13 +1,13 @@
--- What follows for the one broker, without any tree: each reply that a client was sent was said to a query of its own (`no_other_reply`), and under each number
+-- What follows for the one broker, without any tree: each reply that a client was sent was said to its query of that turn (`no_other_reply`), and under each number
 -- it was sent one request at a time (`one_at_a_time`) and no more finals than it asked queries (`no_other_final`).
-use Rattle.std.proofs.Common.{◌≡◌, ◌≤◌, ◌<◌, ℕ, ◌+◌, ◌==◌, nat_lt, Bool, true, false, cond, List, [], ◌∷◌, ◌++◌, filter, map, length, suc, Option, Some, None, is_some, refl, sym, ap, ◌∙◌, subst, arith}
+use Rattle.std.proofs.Common.{◌≡◌, ◌≤◌, ◌<◌, ℕ, ◌+◌, ◌==◌, nat_lt, Bool, true, false, cond, List, [], ◌∷◌, ◌++◌, filter, map, length, suc, Option, Some, None, is_some, refl, sym, ap, ◌∙◌, subst, arith, ◌⊎◌, inl, inr}
 use Rattle.std.specs.Prelude.{◌&&◌, ◌||◌}
-use Rattle.std.specs.List.{AllByRecursion, list_any, list_all, count_by, slice_get}
-use Rattle.std.proofs.lemmas.Bool.{false≢true, and_parts, and_from, eq-eqb}
+use Rattle.std.specs.List.{AllByRecursion, list_any, count_by, slice_get}
+use Rattle.std.proofs.lemmas.Bool.{false≢true, and_parts, and_from, eq-eqb, eqb-true}
 use Rattle.std.proofs.lemmas.List.Elements.{filter_map-append}
 use Rattle.std.proofs.lemmas.List.Folds.{list_any-append}
-use Rattle.std.proofs.lemmas.List.Sums.{length-filter}
-use Rattle.zr_lists.proofs.Finds.{in_any, in_filter, same_any}
+use Rattle.std.proofs.lemmas.List.Sums.{length-filter, sum_by-append}
+use Rattle.zr_lists.proofs.Finds.{in_any, in_filter, In, any_in}
 use Rattle.zr_script_spec.specs.declared.command.Act.{Act}
 use Rattle.zr_script_spec.specs.declared.command.Act.TheVariants as c
 use Rattle.zr_script_spec.specs.declared.report.ReportLine.{ReportLine}
@@ -17,35 +17,29 @@ use Rattle.zr_world_spec.specs.Moments.{Numbered, Moment, ascends, reached}
 use Rattle.zr_guarantee.specs.Phase.{stays, is_phase}
 use Rattle.zr_guarantee.specs.Names.{brings_router, is_router}
 use Rattle.zr_guarantee.specs.Item.{Reply}
-use Rattle.zr_guarantee.specs.Queries.{Asked, asked_in, queries, is_under, times_asked, Saying, saying_in, sayings, query_of, is_own_query, may_come, is_end, times_ended}
-use Rattle.zr_guarantee.specs.Sent.{Told, told_to, is_request, requests_to, replies_in, finals_in}
-use Rattle.zr_law_replies.specs.Answers.{IsAnswer}
-use Rattle.zr_law_replies.proofs.Turns.{turned_all}
+use Rattle.zr_guarantee.specs.Queries.{Asked, asked_in, queries, is_under, times_asked, saying_in, sayings, is_said_to, is_end, times_ended}
+use Rattle.zr_guarantee.specs.Sent.{Told, told_to, is_request, requests_to, finals_in, reply_in, is_final}
+use Rattle.zr_law_replies.specs.Answers.{IsAnswer, is_latest_of, is_other_line}
+use Rattle.zr_law_replies.proofs.Turns.{Says, Turned}
 use Rattle.zr_law_replies.proofs.Lists.{get_in}
 use Rattle.zr_law_replies.proofs.Grown.{earlier}
 use Rattle.zr_law_replies.proofs.Every.{Holds, stands_at}
+use Rattle.zr_guarantee.specs.Latest.{asks_latest, has_content, is_what_is_said, may_come, all_may_come}
+use Rattle.zr_law_replies.proofs.OneLine.{one_query}
+use Rattle.zr_msg.specs.declared.content.Parts.{Parts}
+use Rattle.zr_graph.proofs.Names.{same_refl}
+use Rattle.zr_id.specs.Zid.{is_named}
+use Rattle.std.specs.Option.{option_map_or}
 
--- ---- what all pass
-
-all_pass : {X : Type 0} (P : X → Type 0) (p : X → Bool) (xs : List X) → ((x : X) → P x → p x ≡ true) → AllByRecursion P xs → list_all p xs ≡ true
-all_pass P p [] each h = refl
-all_pass P p (x ∷ xs) each h = and_from (p x) (list_all p xs) (each x h.0) (all_pass P p xs each h.1)
+-- ---- by acts that ask and say the same
 
 -- whether a reply may come is told by what acts ask and say
-may_come_same : (acts acts' : List Numbered) (report : List ReportLine) (client : List ℕ) (r : Reply) → queries acts' ≡ queries acts → sayings acts' ≡ sayings acts →
-    may_come acts' report client r ≡ may_come acts report client r
-may_come_same acts acts' report client r asked said =
-    ap (list_any (λ s. s.line == r.line && (is_some s.reply && is_own_query acts' client r.number (query_of acts' report s)))) said
-    ∙ same_any (λ s. s.line == r.line && (is_some s.reply && is_own_query acts' client r.number (query_of acts' report s)))
-    (λ s. s.line == r.line && (is_some s.reply && is_own_query acts client r.number (query_of acts report s))) (sayings acts)
-    (λ s i. ap (λ b. s.line == r.line && (is_some s.reply && b)) (ap (is_own_query acts' client r.number) (query_same s) ∙ own_same (query_of acts report s)))
-  where
-    query_same : (s : Saying) → query_of acts' report s ≡ query_of acts report s
-    query_same s = ap (λ ss. slice_get (requests_to report s.client s.number) (count_by (λ z. is_end s.client s.number z && nat_lt z.line s.line) ss)) said
-
-    own_same : (o : Option ℕ) → is_own_query acts' client r.number o ≡ is_own_query acts client r.number o
-    own_same None = refl
-    own_same (Some line) = ap (list_any (λ q. q.line == line && is_under client r.number q)) asked
+may_come_same : (acts acts' : List Numbered) (report : List ReportLine) (client : List ℕ) (turns : ℕ) (r : Reply) → queries acts' ≡ queries acts → sayings acts' ≡ sayings acts →
+    may_come acts' report client turns r ≡ may_come acts report client turns r
+may_come_same acts acts' report client turns r asked said = λ i.
+    option_map_or
+    (λ q. list_any (λ s. option_map_or (λ l. l == q.line) (slice_get (requests_to report s.client s.number) (count_by (λ z. is_end s.client s.number z && nat_lt z.line s.line) (said i))) false && is_what_is_said q r s) (said i))
+    (slice_get (filter (λ q. is_under client r.number q) (asked i)) turns) false
 
 -- ---- acts of a phase
 
@@ -147,28 +141,57 @@ module _ (before phase : List Numbered) (mark : ℕ) (m : Moment) (later : ascen
         by (Some s) found = most (length (requests_to m.report receiver number)) (times_ended (before ++ phase) receiver number) (has_number s.requests number)
             ((holds.stands.books receiver s number found).kept.count ∙ ap (λ ss. count_by (λ z. is_end receiver number z) ss + cond (has_number s.requests number) 1 0) (sym sayings_without))
 
-    -- a query under a number of the receiver is its own
-    own_query : (number turns : ℕ) (q : Asked) → slice_get (filter (λ z. is_under receiver number z) (queries acts)) turns ≡ Some q → is_own_query acts receiver number (Some q.line) ≡ true
-    own_query number turns q e =
-        let kept = in_filter (λ z. is_under receiver number z) (queries acts) q (get_in (filter (λ z. is_under receiver number z) (queries acts)) turns q e) in
-        in_any (λ z. z.line == q.line && is_under receiver number z) (queries acts) q kept.0 (and_from (q.line == q.line) (is_under receiver number q) (eq-eqb q.line q.line refl) kept.1)
+    -- ---- a reply in its turn
 
-    reply_comes : (r : Reply) (turns : ℕ) → IsAnswer acts m.report receiver r.number turns r → may_come acts m.report receiver r ≡ true
+    -- it has the content of what is said
+    same_content : (c : Parts) → has_content c (Some c) ≡ true
+    same_content c = and_from (is_named c.key c.key) (is_named c.body c.body) (same_refl c.key) (same_refl c.body)
+
+    reply_comes : (r : Reply) (turns : ℕ) → IsAnswer acts m.report receiver r.number turns r → may_come acts m.report receiver turns r ≡ true
     reply_comes r turns a =
-        in_any (λ s. s.line == r.line && (is_some s.reply && is_own_query acts receiver r.number (query_of acts m.report s))) (sayings acts) a.said.saying
-        (get_in (sayings acts) a.said.place a.said.saying a.said.stands)
-        (and_from (a.said.saying.line == r.line) (is_some a.said.saying.reply && is_own_query acts receiver r.number (query_of acts m.report a.said.saying)) (eq-eqb a.said.saying.line r.line a.said.line_is)
-        (and_from (is_some a.said.saying.reply) (is_own_query acts receiver r.number (query_of acts m.report a.said.saying)) (ap is_some a.said.reply_is)
-        (ap (is_own_query acts receiver r.number) a.said.query ∙ own_query r.number turns a.query a.asked)))
+        ap (λ o. option_map_or (λ q. list_any (λ s. is_said_to acts m.report q.line s && is_what_is_said q r s) (sayings acts)) o false) a.asked
+        ∙ in_any (λ s. is_said_to acts m.report a.query.line s && is_what_is_said a.query r s) (sayings acts) a.said.saying (get_in (sayings acts) a.said.place a.said.saying a.said.stands)
+        (and_from (is_said_to acts m.report a.query.line a.said.saying) (is_what_is_said a.query r a.said.saying)
+        (ap (λ o. option_map_or (λ l. l == a.query.line) o false) a.said.query ∙ eq-eqb a.query.line a.query.line refl) (by (asks_latest a.query) refl))
+      where
+        there : In a.query (queries acts)
+        there = (in_filter (λ z. is_under receiver r.number z) (queries acts) a.query (get_in (filter (λ z. is_under receiver r.number z) (queries acts)) turns a.query a.asked)).0
 
-    -- the mark neither asks nor says anything
-    same_may_come : (r : Reply) → may_come (before ++ phase) m.report receiver r ≡ may_come acts m.report receiver r
-    same_may_come r = may_come_same acts (before ++ phase) m.report receiver r queries_without sayings_without
+        -- with another line it comes to a query for the latest alone
+        latest : is_latest_of acts receiver a.query.line ≡ true → asks_latest a.query ≡ true
+        latest e =
+            let p = any_in (λ (z : Asked). is_named receiver z.client && (z.line == a.query.line && asks_latest z)) (queries acts) e in
+            let parts = and_parts (p.0.line == a.query.line) (asks_latest p.0) (and_parts (is_named receiver p.0.client) (p.0.line == a.query.line && asks_latest p.0) p.2).1 in
+            ap asks_latest (sym (one_query 0 acts later p.0 a.query p.1 there (eqb-true p.0.line a.query.line parts.0))) ∙ parts.1
 
-    pub no_other_reply : list_all (λ r. may_come (before ++ phase) m.report receiver r) (replies_in (told_to m.report receiver)) ≡ true
+        line : asks_latest a.query ≡ false → (a.said.saying.line ≡ r.line) ⊎ ((is_latest_of acts receiver a.query.line ≡ true) × (is_other_line acts r.line ≡ true)) → (a.said.saying.line == r.line) ≡ true
+        line e (inl same) = eq-eqb a.said.saying.line r.line same
+        line e (inr other) = absurd (false≢true (sym e ∙ latest other.0))
+
+        by : (b : Bool) → asks_latest a.query ≡ b → cond b (has_content r.content a.said.saying.reply) (a.said.saying.line == r.line && is_some a.said.saying.reply) ≡ true
+        by true e = ap (has_content r.content) a.said.reply_is ∙ same_content r.content
+        by false e = and_from (a.said.saying.line == r.line) (is_some a.said.saying.reply) (line e a.said.line_is) (ap is_some a.said.reply_is)
+
+    -- each reply among what it was sent, behind so many finals of each number
+    all_come : (behind told : List Told) → ((k : ℕ) → Turned (λ turns r. IsAnswer acts m.report receiver k turns r) k (finals_in k behind) told) → all_may_come (before ++ phase) m.report receiver behind told ≡ true
+    all_come behind [] h = refl
+    all_come behind (x ∷ told) h = and_from _ _ (first (reply_in x.tag x.msg) (λ k. (h k).0)) (all_come (behind ++ x ∷ []) told (λ k. subst (λ j. Turned (λ turns r. IsAnswer acts m.report receiver k turns r) k j told) (more k) (h k).1))
+      where
+        first : (o : Option Reply) → ((k : ℕ) → Says (λ turns r. IsAnswer acts m.report receiver k turns r) k (finals_in k behind) o) → option_map_or (λ r. may_come (before ++ phase) m.report receiver (finals_in r.number behind) r) o true ≡ true
+        first None says = refl
+        first (Some r) says = may_come_same acts (before ++ phase) m.report receiver (finals_in r.number behind) r queries_without sayings_without
+            ∙ reply_comes r (finals_in r.number behind) (says r.number (eq-eqb r.number r.number refl))
+
+        more : (k : ℕ) → cond (is_final k x.msg) (suc (finals_in k behind)) (finals_in k behind) ≡ finals_in k (behind ++ x ∷ [])
+        more k = by (is_final k x.msg) ∙ sym (sum_by-append (λ (y : Told). cond (is_final k y.msg) 1 0) behind (x ∷ []))
+          where
+            by : (b : Bool) → cond b (suc (finals_in k behind)) (finals_in k behind) ≡ finals_in k behind + (0 + cond b 1 0)
+            by true = omega arith
+            by false = omega arith
+
+    pub no_other_reply : all_may_come (before ++ phase) m.report receiver [] (told_to m.report receiver) ≡ true
     no_other_reply = by (client_of m.world.clients receiver) refl
       where
-        by : (o : Option ClientState) → client_of m.world.clients receiver ≡ o → list_all (λ r. may_come (before ++ phase) m.report receiver r) (replies_in (told_to m.report receiver)) ≡ true
-        by None none = ap (λ ts. list_all (λ r. may_come (before ++ phase) m.report receiver r) (replies_in ts)) (untold none)
-        by (Some s) found = all_pass (λ r. (turns : ℕ) × IsAnswer acts m.report receiver r.number turns r) (λ r. may_come (before ++ phase) m.report receiver r) (replies_in (told_to m.report receiver))
-            (λ r a. same_may_come r ∙ reply_comes r a.0 a.1) (turned_all (λ n turns r. IsAnswer acts m.report receiver n turns r) (told_to m.report receiver) (λ n. (0, (holds.stands.books receiver s n found).told)))
+        by : (o : Option ClientState) → client_of m.world.clients receiver ≡ o → all_may_come (before ++ phase) m.report receiver [] (told_to m.report receiver) ≡ true
+        by None none = ap (λ ts. all_may_come (before ++ phase) m.report receiver [] ts) (untold none)
+        by (Some s) found = all_come [] (told_to m.report receiver) (λ k. (holds.stands.books receiver s k found).told)

@@ -149,9 +149,9 @@ module _ (acts : List Numbered) (m : Moment) (lines : Lines) (g : Goes m.world) 
           same : (d : List ℕ) (b : Bool) → is_named name d ≡ b → client_of w.clients d ≡ cond b (Some s) (client_of w.clients d)
           same d b f = same_client acts m y before lines g shows h name s es e ee n (Response number content) d b f
 
-          reply_said : IsSaidTo (acts ++ y ∷ []) report' (lines s.router name number) (record { line = n; content = content })
-          reply_said = subst (λ r. IsSaidTo (acts ++ y ∷ []) r (lines s.router name number) (record { line = n; content = content })) (sym (append-nil m.report))
-              (new_reply acts m.report n name number content (lines s.router name number) before ((h.books name s number es).kept.last whole keeps))
+          reply_said : IsSaidTo (acts ++ y ∷ []) report' s.router (lines s.router name number) (record { line = n; content = content })
+          reply_said = subst (λ r. IsSaidTo (acts ++ y ∷ []) r s.router (lines s.router name number) (record { line = n; content = content })) (sym (append-nil m.report))
+              (new_reply acts m.report n name number content s.router (lines s.router name number) before ((h.books name s number es).kept.last whole keeps))
 
           on : LinksGo (FineAsk (acts ++ y ∷ []) w v_replied lines) (FineSay (acts ++ y ∷ []) report' v_replied lines) w v_replied
           on = said_links w g.sound g.orderly g.clients name s es v_replied s refl (λ d. same d (is_named name d) refl) (λ a b k. refl) (λ a b k. refl) n (Response number content) e ee refl

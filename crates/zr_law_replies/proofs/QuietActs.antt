@@ -26,8 +26,8 @@ use Rattle.zr_world_spec.proofs.Cases.{on_publish, on_said, on_weighed, on_take,
 use Rattle.zr_guarantee.specs.Queries.{Asked, asked_in, queries, saying_in, sayings}
 use Rattle.zr_guarantee.specs.Sent.{Told, told_to, requests_to}
 use Rattle.zr_law_replies.specs.Trees.{has_router, passes_at, tree_at}
-use Rattle.zr_law_replies.specs.Stands.{IsStill, is_open, asked_at, row_places, Stands}
-use Rattle.zr_law_replies.proofs.StandSteps.{Hops, stands_same, has_same}
+use Rattle.zr_law_replies.specs.Stands.{IsStill, is_open, asked_at, row_places, Stands, held_by}
+use Rattle.zr_law_replies.proofs.StandSteps.{Hops, stands_same, has_same, SameFor}
 use Rattle.zr_law_replies.proofs.Grown.{queries_same, sayings_same, told_more, told_same, requests_same, turn_told_same}
 use Rattle.zr_law_replies.proofs.Replies.{replies_kept, ended_kept}
 
@@ -60,7 +60,7 @@ module _ (w : WorldState) (phase : List Numbered) (q : Asked) (apart : has_route
   calm_step : (x : Numbered) (next : Moment) (lines : List ReportLine) → asked_in x.0 x.1 ≡ None → saying_in x.0 x.1 ≡ None → next.report ≡ now.report ++ lines →
       ((d : List ℕ) → has_router w d ≡ false → told_to lines d ≡ []) →
       ((y : List ℕ) (r' : RouterState) → router_of next.world.routers y ≡ Some r' → (r : RouterState) × (router_of now.world.routers y ≡ Some r) ×
-      (is_open (s.stage y) ≡ true → row_places r' (asked_at (tree_at w q) s.num y) ≡ row_places r (asked_at (tree_at w q) s.num y))) →
+      (is_open (s.stage y) ≡ true → SameFor (asked_at (tree_at w q) s.num y) r' r)) →
       ((c' : ClientState) → client_of next.world.clients q.client ≡ Some c' → (c : ClientState) × (client_of now.world.clients q.client ≡ Some c) × (has_number c.queries q.number ≡ true → has_number c'.queries q.number ≡ true)) →
       IsStill w next.world → Stands w phase q (acts ++ x ∷ []) next hop
   calm_step x next lines no_query no_saying report silent routers clients still =
@@ -87,19 +87,19 @@ module _ (w : WorldState) (phase : List Numbered) (q : Asked) (apart : has_route
       ((d : List ℕ) → has_router w d ≡ false → told_to lines d ≡ []) → next.world.routers ≡ now.world.routers → next.world.clients ≡ now.world.clients → IsStill w next.world →
       Stands w phase q (acts ++ x ∷ []) next hop
   quiet_step x next lines no_query no_saying report silent routers clients still = calm_step x next lines no_query no_saying report silent
-      (λ y r' er. (r', ap (λ z. router_of z y) (sym routers) ∙ er, λ o. refl)) (λ c' ec. (c', ap (λ z. client_of z q.client) (sym clients) ∙ ec, λ k. k)) still
+      (λ y r' er. (r', ap (λ z. router_of z y) (sym routers) ∙ er, λ o. (refl, refl))) (λ c' ec. (c', ap (λ z. client_of z q.client) (sym clients) ∙ ec, λ k. k)) still
 
   -- a router on which one more declaration or interest weighs has its rows as before
   weighed_rows : (x : List ℕ) (r : RouterState) → router_of now.world.routers x ≡ Some r → (key : List ℕ) (y : List ℕ) (r' : RouterState) → router_of (with_router now.world.routers x (weighing r key)) y ≡ Some r' →
-      (z : RouterState) × (router_of now.world.routers y ≡ Some z) × (is_open (s.stage y) ≡ true → row_places r' (asked_at (tree_at w q) s.num y) ≡ row_places z (asked_at (tree_at w q) s.num y))
+      (z : RouterState) × (router_of now.world.routers y ≡ Some z) × (is_open (s.stage y) ≡ true → SameFor (asked_at (tree_at w q) s.num y) r' z)
   weighed_rows x r found key y r' er = by (is_named x y) refl (sym (read_after (λ o. o) now.world.routers x y r (weighing r key) found) ∙ er)
     where
       by : (b : Bool) → is_named x y ≡ b → cond b (Some (weighing r key)) (router_of now.world.routers y) ≡ Some r' →
-          (z : RouterState) × (router_of now.world.routers y ≡ Some z) × (is_open (s.stage y) ≡ true → row_places r' (asked_at (tree_at w q) s.num y) ≡ row_places z (asked_at (tree_at w q) s.num y))
+          (z : RouterState) × (router_of now.world.routers y ≡ Some z) × (is_open (s.stage y) ≡ true → SameFor (asked_at (tree_at w q) s.num y) r' z)
       by true e k =
           let one : weighing r key ≡ r' = cc in
-          (r, ap (router_of now.world.routers) (sym (same_name x y e)) ∙ found, λ o. ap (λ z. row_places z (asked_at (tree_at w q) s.num y)) (sym one))
-      by false e k = (r', k, λ o. refl)
+          (r, ap (router_of now.world.routers) (sym (same_name x y e)) ∙ found, λ o. (ap (λ z. row_places z (asked_at (tree_at w q) s.num y)) (sym one), ap (λ z. held_by z (asked_at (tree_at w q) s.num y)) (sym one)))
+      by false e k = (r', k, λ o. (refl, refl))
 
   -- a client with other interests has asked what it had
   wanted_same : (name : List ℕ) (t t' : ClientState) → client_of now.world.clients name ≡ Some t → t'.queries ≡ t.queries → (c' : ClientState) → client_of (with_client now.world.clients name t') q.client ≡ Some c' →
@@ -136,7 +136,7 @@ module _ (w : WorldState) (phase : List Numbered) (q : Asked) (apart : has_route
   uninterest_stands n client id = for_uninterest now (Goes (n, c.Uninterest client id)) n client id
       (λ t found known e at unbroken still.
       calm_step (n, c.Uninterest client id) (on_said now n client (m.EndInterest id) t e (with_client now.world.clients client (unwanting t id))) [] refl refl refl (λ d none. refl)
-      (λ y r' er. (r', er, λ o. refl)) (wanted_same client t (unwanting t id) found refl) still)
+      (λ y r' er. (r', er, λ o. (refl, refl))) (wanted_same client t (unwanting t id) found refl) still)
 
   pub mark_stands : (n : ℕ) → IfSome (went now (mark_step now.world n)) (Goes (n, c.Mark))
   mark_stands n = for_mark now (Goes (n, c.Mark)) n (λ settled joined still. quiet_step (n, c.Mark) (on_mark now n) (line.Mark n ∷ []) refl refl refl (λ d none. refl) refl refl still)

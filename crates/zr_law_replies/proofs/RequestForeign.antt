@@ -1,8 +1,8 @@
 -- A router handles another query's request: nothing of the query changes, since what is asked is asked under numbers that were free, and the row of whom it
 -- asks is none of the query's (`other_stands`).
-use Rattle.std.proofs.Common.{subst, ◌≡◌, ℕ, ◌==◌, Bool, true, false, List, [], ◌∷◌, ◌++◌, Option, inl, inr, ◌⊎◌, refl, sym, ap, ◌∙◌}
+use Rattle.std.proofs.Common.{subst, ◌≡◌, ℕ, ◌==◌, Bool, true, false, List, [], ◌∷◌, ◌++◌, Option, inl, inr, ◌⊎◌, refl, sym, ap, ◌∙◌, Some, ◌&&◌}
 use Rattle.std.specs.Prelude.{◌&&◌}
-use Rattle.std.proofs.lemmas.Bool.{false≢true, eqb-true, and_parts}
+use Rattle.std.proofs.lemmas.Bool.{false≢true, eqb-true, and_parts, and_from, eq-eqb}
 use Rattle.zr_id.specs.Zid.{is_named}
 use Rattle.zr_id.specs.declared.link.LinkNo.{LinkNo}
 use Rattle.zr_msg.specs.declared.content.Parts.{Parts}
@@ -10,7 +10,7 @@ use Rattle.zr_msg.specs.declared.msg.Msg.TheVariants.{Request}
 use Rattle.zr_msg.specs.declared.msg.Target.{Target}
 use Rattle.zr_msg.specs.declared.event.Event.TheVariants.{From}
 use Rattle.zr_script_spec.specs.declared.command.Act.TheVariants as c
-use Rattle.zr_node_spec.specs.Queries.{asker}
+use Rattle.zr_node_spec.specs.Queries.{asker, asked_links}
 use Rattle.zr_world_spec.specs.World.{RouterState, WorldState}
 use Rattle.zr_world_spec.specs.Acts.{having_told}
 use Rattle.zr_world_spec.specs.Moments.{Numbered, Moment}
@@ -22,7 +22,7 @@ use Rattle.zr_law_queries.specs.Query.{Tree, IsTree, Stage, NotYet, OnTheWay, He
 use Rattle.zr_law_numbers.specs.Waiting as waiting
 use Rattle.zr_law_numbers.specs.Waiting.{Place, Said, is_whole}
 use Rattle.zr_law_replies.specs.Trees.{has_router, tree_at}
-use Rattle.zr_law_replies.specs.Stands.{IsStill, is_of, is_open, place, asked_at, Shown, request_to, row_places, Stands}
+use Rattle.zr_law_replies.specs.Stands.{IsStill, is_of, is_open, place, asked_at, Shown, request_to, row_places, Stands, held_by}
 use Rattle.zr_law_replies.proofs.MarkChanges.{is_hop, hop_is, foreign_marks}
 use Rattle.zr_law_replies.proofs.StandRows.{is_place}
 use Rattle.zr_law_replies.proofs.StandBranches.{number_for, begun_others, row_same}
@@ -33,6 +33,12 @@ use Rattle.zr_law_replies.proofs.HandleHeard.{Heard, after_heard, heard_same}
 use Rattle.zr_law_replies.proofs.RequestGoes.{links_on, goes_to, over_some, over_none}
 use Rattle.zr_law_replies.proofs.RequestComes.{Comes}
 use Rattle.zr_law_replies.proofs.RequestChildren.{routes}
+use Rattle.zr_graph.proofs.Names.{same_refl}
+use Rattle.zr_body.specs.Latest.{is_latest}
+use Rattle.zr_law_replies.proofs.HeldAt.{place_is, begun_apart}
+use Rattle.zr_law_replies.proofs.AnswerAskers.{placed}
+use Rattle.zr_node_spec.specs.Tables.{leads_to_client}
+use Rattle.zr_node_spec.specs.State.{tables}
 
 module _ (before : List Numbered) (mark : ℕ) (start : Moment) (q : Asked) (b : Begins before mark start q) (phase acts : List Numbered) (m : Moment) (here : Here start.world phase q acts m)
     (n : ℕ) (x from : List ℕ) (tree : Option (List ℕ)) (id : ℕ) (target : Target) (content : Parts) (tag : ℕ) (h : Heard m.world x from (Request tree id target content) tag)
@@ -149,6 +155,14 @@ module _ (before : List Numbered) (mark : ℕ) (start : Moment) (q : Asked) (b :
       by false e = begun_others h.router unique then refl from h.link h.linked id to
           (over_some h.router.node.pending (asker h.link.link.0 id) to e) (asked_at t s.num x) (not_its_row o)
 
+  held_stays : is_open (s.stage x) ≡ true → held_by then (asked_at t s.num x) ≡ held_by h.router (asked_at t s.num x)
+  held_stays o = begun_apart h.router unique (asked_at t s.num x) h.router.node.held (leads_to_client h.router.node.links h.link.link.0 && is_latest content.body) (asker h.link.link.0 id)
+      (asked_links (tables h.router.node) h.link.link.0 tree target content.key) (λ e.
+      let mine : placed h.router (Some (asker h.link.link.0 id)) ≡ Some (place from id) = place_is h.router unique (place from id) h.link h.linked in
+      let both : Some (place from id) ≡ Some (asked_at t s.num x) = sym mine ∙ e in
+      let one : place from id ≡ asked_at t s.num x = cc in
+      false≢true (sym (not_its_row o) ∙ ap (is_place (place from id)) (sym one) ∙ and_from (is_named from from) (id == id) (same_refl from) (eq-eqb id id refl)))
+
   pub other_stands : Stands start.world phase q (acts ++ (n, c.Handle x from) ∷ []) next hop'
   other_stands = heard_same w phase q apart acts m here.hop s n x from (Request tree id target content) tag h hop' still
-      (foreign_marks t is (request_to w q) q.line (λ y. refl) (is_whole w) (kids before mark start q b) s.num s.stage here.hop hop' s.marks own_stays foreign_stays) row_stays
+      (foreign_marks t is (request_to w q) q.line (λ y. refl) (is_whole w) (kids before mark start q b) s.num s.stage here.hop hop' s.marks own_stays foreign_stays) (λ o. (row_stays o, held_stays o))

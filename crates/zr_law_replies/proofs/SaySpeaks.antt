@@ -140,9 +140,10 @@ module _ (before : List Numbered) (mark : ℕ) (start : Moment) (q : Asked) (b :
 
     -- at other stages, but for its client's
     pub has_then : (stage' : List ℕ → Stage Said) → stage' q.client ≡ st.stage q.client → RowsShow (tree_at start.world q) st.num stage' (has_router m.world) (row_at m.world) →
-        Has start.world phase q (acts ++ a.act ∷ []) next st.num stage'
-    has_then stage' same rows = record {
+        ((x : List ℕ) → is_open (stage' x) ≡ true → is_open (st.stage x) ≡ true) → Has start.world phase q (acts ++ a.act ∷ []) next st.num stage' st.got
+    has_then stage' same rows opens = record {
       rows = rows_read m.world t st.num stage' rows;
+      holds = λ x r er o. st.holds x r er (opens x o);
       number = st.number;
       asked = ap is_not_yet same ∙ st.asked ∙ ap (λ qs. not (list_any (λ (p : Asked). p.line == q.line) qs)) (sym a.same_queries);
       waits = λ k found o. let was = waits_then k found in was.2 (st.waits was.0 was.1 (sym (ap is_open same) ∙ o));
@@ -157,7 +158,7 @@ module _ (before : List Numbered) (mark : ℕ) (start : Moment) (q : Asked) (b :
     other_stands other other' same_replies same_ends =
         stands_same w phase q acts (acts ++ a.act ∷ []) m next hop hop' st still
         (foreign_marks t b.tree.is_tree (request_to w q) q.line (λ y. refl) (is_whole w) (kids before mark start q b) st.num st.stage hop hop' st.marks own foreign)
-        (has_same w phase q acts (acts ++ a.act ∷ []) m next hop hop' st still (λ y r er. (r, er, λ o. refl)) waits_then (ap (list_any (λ p. p.line == q.line)) a.same_queries) (λ k. told_then)) (λ d ends. same_replies d) (λ d ends. same_ends d)
+        (has_same w phase q acts (acts ++ a.act ∷ []) m next hop hop' st still (λ y r er. (r, er, λ o. (refl, refl))) waits_then (ap (list_any (λ p. p.line == q.line)) a.same_queries) (λ k. told_then)) (λ d ends. same_replies d) (λ d ends. same_ends d)
       where
         own : (x y : List ℕ) (k : ℕ) → is_whole w x y ≡ true → is_of q.line (hop x y k) ≡ true → hop' x y k ≡ hop x y k
         own x y k there is = by (is_hop a.s.router name number x y k) refl

@@ -35,6 +35,7 @@ use Rattle.zr_law_replies.proofs.StandHere.{kids, row_at, rows_now}
 use Rattle.zr_law_replies.proofs.SayHops.{same_client}
 use Rattle.zr_law_replies.proofs.Replies.{new_replies, replies_more, replies_stay, ended_more, ended_stays, reply_new, end_new}
 use Rattle.zr_law_replies.proofs.SaySpeaks.{Speaks, Keeps, kept, kept_whole, has_then, other_stands, is_here, leaf, below, apart, shows, asker_stays}
+use Rattle.zr_law_replies.proofs.StandHolds.{opens}
 
 module _ (before : List Numbered) (mark : ℕ) (start : Moment) (q : Asked) (b : Begins before mark start q) (phase acts : List Numbered) (m : Moment) (here : Here start.world phase q acts m)
     (n : ℕ) (name : List ℕ) (number : ℕ) where
@@ -142,7 +143,8 @@ module _ (before : List Numbered) (mark : ℕ) (start : Moment) (q : Asked) (b :
               (shows before mark start q b phase acts m here name number replying behind.0 behind.1 behind.2 behind.3 own (keep.replies ++ said ∷ []) false refl))
               (has_then before mark start q b phase acts m here name number replying behind.0 behind.1 behind.2 behind.3 (after t st.stage (Say name said keep.replies said_leaf said_at))
               (asker_stays before mark start q b phase acts m here name number replying behind.0 behind.1 behind.2 behind.3 own (At (keep.replies ++ said ∷ []) false))
-              (say_rows t b.tree.is_tree st.num st.stage st.sound (has_router m.world) (row_at m.world) name said keep.replies said_leaf said_at (rows_now before mark start q b phase acts m here)))
+              (say_rows t b.tree.is_tree st.num st.stage st.sound (has_router m.world) (row_at m.world) name said keep.replies said_leaf said_at (rows_now before mark start q b phase acts m here))
+              (opens t b.tree.is_tree st.stage st.sound (Say name said keep.replies said_leaf said_at) tt))
               (λ d ys ends. said_by d ∙ names.symm d name) (λ d ends. replies_then d) (λ d ends. same_ends d)
 
         replied : Stands w phase q (acts ++ x ∷ []) next behind.2
@@ -217,7 +219,8 @@ module _ (before : List Numbered) (mark : ℕ) (start : Moment) (q : Asked) (b :
               (shows before mark start q b phase acts m here name number finishing behind.0 behind.1 behind.2 behind.3 own open_.replies true refl))
               (has_then before mark start q b phase acts m here name number finishing behind.0 behind.1 behind.2 behind.3 (after t st.stage (End name open_.replies ended_leaf ended_at))
               (asker_stays before mark start q b phase acts m here name number finishing behind.0 behind.1 behind.2 behind.3 own (At open_.replies true))
-              (end_rows t b.tree.is_tree st.num st.stage st.sound (has_router m.world) (row_at m.world) name open_.replies ended_leaf ended_at (rows_now before mark start q b phase acts m here)))
+              (end_rows t b.tree.is_tree st.num st.stage st.sound (has_router m.world) (row_at m.world) name open_.replies ended_leaf ended_at (rows_now before mark start q b phase acts m here))
+              (opens t b.tree.is_tree st.stage st.sound (End name open_.replies ended_leaf ended_at) tt))
               (λ d ys ends. tt) (λ d ends. ap said_in (same_replies d)) (λ d ends. ends_then d)
             where
               by : (h c : Bool) → (h || (c && true)) ≡ cond c true h

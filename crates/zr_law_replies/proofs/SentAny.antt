@@ -168,6 +168,7 @@ module _ (before : List Numbered) (mark : ℕ) (start : Moment) (q : Query) (b :
       stands_same w₀ phase q acts acts' m next here.hop k.hop st k.still marks
       (record {
         rows = st.rows;
+        holds = st.holds;
         number = st.number;
         asked = asked_then st.stage refl;
         waits = λ z found o. waits_then st.stage (λ p. p) no_final z found o;

@@ -1,6 +1,6 @@
 -- A client is sent a final while a query stands. If it is the query's, then the client is the one that asks, and the query is over there; a final of another
 -- query comes in another turn, or under another number, or to another client, and leaves the query as it was (`final_stands`).
-use Rattle.std.proofs.Common.{◌≡◌, ℕ, ◌-◌, ◌==◌, ◌&&◌, inl, Bool, true, false, cond, List, [], ◌∷◌, ◌++◌, None, is_some, refl, sym, ap, ◌∙◌}
+use Rattle.std.proofs.Common.{◌≡◌, ℕ, ◌-◌, ◌==◌, ◌&&◌, inl, Bool, true, false, cond, List, [], ◌∷◌, ◌++◌, None, is_some, refl, sym, ap, ◌∙◌, append-nil, subst}
 use Rattle.std.proofs.lemmas.Bool.{false≢true, true≢false, eqb-true, eq-eqb}
 use Rattle.zr_id.specs.Zid.{is_named}
 use Rattle.zr_msg.specs.declared.extras.Extras.{Extras}
@@ -17,7 +17,7 @@ use Rattle.zr_guarantee.specs.Queries.{Asked as Query, turn}
 use Rattle.zr_guarantee.specs.Sent.{Told, told_to}
 use Rattle.zr_law_queries.specs.Link.{final, Free, Open}
 use Rattle.zr_law_queries.specs.Numbers.{IsLastFinal}
-use Rattle.zr_law_queries.specs.Query.{Tree, IsTree, Stage, Here as At, Over, is_child, is_not_yet, is_over, replies_at, all_over, with_one, Move, Close, after}
+use Rattle.zr_law_queries.specs.Query.{Tree, IsTree, Stage, Here as At, Over, is_child, is_not_yet, is_over, replies_at, all_over, with_one, Move, Close, after, closes, ReleasesIf}
 use Rattle.zr_law_queries.proofs.Hops.{front_final}
 use Rattle.zr_law_queries.proofs.Moves.{is_not_yet_is}
 use Rattle.zr_law_numbers.specs.Waiting.{Said, waits, link_of, is_whole}
@@ -25,7 +25,7 @@ use Rattle.zr_law_numbers.proofs.Whole.{client_alone}
 use Rattle.zr_law_numbers.proofs.Waits.{answers_among}
 use Rattle.zr_law_replies.specs.Answers.{told_in_turn}
 use Rattle.zr_law_replies.specs.Trees.{has_router, tree_at}
-use Rattle.zr_law_replies.specs.Stands.{is_of, is_open, Marks, request_to, answers_told, answers_at, said_in, Stands}
+use Rattle.zr_law_replies.specs.Stands.{is_of, is_open, Marks, request_to, answers_told, answers_at, said_in, Stands, latest_release}
 use Rattle.zr_law_replies.proofs.ToldMore.{told_now, answers_more, with_end}
 use Rattle.zr_law_replies.proofs.MarkChanges.{is_hop}
 use Rattle.zr_law_replies.proofs.MarkMoves.{close_marks}
@@ -39,6 +39,7 @@ use Rattle.zr_law_replies.proofs.SentHops as hops
 use Rattle.zr_law_replies.proofs.SentHops.{Take}
 use Rattle.zr_law_replies.proofs.SentAny as taken
 use Rattle.zr_law_replies.proofs.SentOwner as open_
+use Rattle.zr_law_replies.proofs.StandHolds.{opens, root_plain}
 
 module _ (before : List Numbered) (mark : ℕ) (start : Moment) (q : Query) (b : Begins before mark start q) (phase acts : List Numbered) (m : Moment) (here : Here start.world phase q acts m)
     (n : ℕ) (to : List ℕ) (s : ClientState) (id : ℕ) (extras : Extras) (tag : ℕ) (k : Take start.world phase q acts m here to s (Final id extras) tag) where
@@ -127,7 +128,7 @@ module _ (before : List Numbered) (mark : ℕ) (start : Moment) (q : Query) (b :
     mine = open_.own_is before mark start q b phase acts m here n to s msg tag k id front.request front.by [] true hop_was own
 
     abbrev move : Move (tree_at start.world q) st.stage
-    move = Close q.client s.router mine.child mine.stage_is
+    move = Close q.client s.router [] mine.child mine.stage_is
 
     abbrev stage' : List ℕ → Stage Said
     stage' = after tree st.stage move
@@ -143,21 +144,21 @@ module _ (before : List Numbered) (mark : ℕ) (start : Moment) (q : Query) (b :
     marks_then : Marks tree (request_to w₀ q) q.line (is_whole w₀) st.num stage' k.hop
     marks_then =
         close_marks tree is (request_to w₀ q) q.line (λ y. refl) (is_whole w₀) (kids before mark start q b) st.num st.stage here.hop k.hop st.marks q.client s.router mine.child (inl refl)
-        (λ x y j whole e o. same x y j whole (ap (λ z. is_hop z s.router id x y j) (sym mine.asks_it) ∙ ap (λ z. is_hop q.client s.router z x y j) mine.place_is ∙ e)) mine.stage_is
+        (λ x y j whole e o. same x y j whole (ap (λ z. is_hop z s.router id x y j) (sym mine.asks_it) ∙ ap (λ z. is_hop q.client s.router z x y j) mine.place_is ∙ e)) [] mine.stage_is
         (ap (λ z. is_of q.line (k.hop z s.router (st.num s.router))) mine.asks_it ∙ ap (λ z. is_of q.line (k.hop to s.router z)) (sym mine.place_is) ∙ ap (is_of q.line) hop_is)
         (λ up. absurd (false≢true (sym (is.top (tree.parent q.client)) ∙ up)))
 
     rows_then : RowsShow tree st.num stage' (has_router w) (row_at w)
     rows_then =
         close_rows tree is st.num st.stage st.sound q.client s.router mine.child (has_router w) (row_at w)
-        (row_at w) (rows_now before mark start q b phase acts m here) mine.stage_is
+        (row_at w) (rows_now before mark start q b phase acts m here) [] mine.stage_is
         (λ routes. absurd (false≢true (sym (ap is_some client_apart) ∙ routes))) (λ z routes o other. refl)
 
     root_then : stage' q.client ≡ At (replies_at (st.stage q.client)) true
     root_then =
-        ap (λ c. cond c (At (replies_at (st.stage q.client)) (all_over (with_one tree st.stage s.router Over) (tree.children q.client)))
+        ap (λ c. cond c (At (replies_at (st.stage q.client) ++ []) (closes tree st.stage q.client s.router))
         (cond (is_child tree q.client q.client) (with_one tree st.stage s.router Over q.client) (st.stage q.client))) (names.refl q.client)
-        ∙ ap (At (replies_at (st.stage q.client))) all_done
+        ∙ ap (λ z. At z (closes tree st.stage q.client s.router)) (append-nil (replies_at (st.stage q.client))) ∙ ap (At (replies_at (st.stage q.client))) all_done
 
     begun : is_not_yet (st.stage q.client) ≡ false
     begun = ap is_not_yet mine.root_open
@@ -176,12 +177,13 @@ module _ (before : List Numbered) (mark : ℕ) (start : Moment) (q : Query) (b :
         stands_moved w₀ phase q acts acts' m next here.hop k.hop st k.still is move st.num marks_then
         (record {
           rows = λ y r e o. rows_read w tree st.num stage' rows_then y r e o;
+          holds = λ y r e o. st.holds y r e (opens tree is st.stage st.sound move tt y o);
           number = st.number;
           asked = taken.asked_then before mark start q b phase acts m here n to s msg tag k stage' (ap is_not_yet root_then ∙ sym begun);
           waits = λ z found o. absurd (false≢true (sym (ap is_open root_then) ∙ o));
           told = λ asked. told_own;
         })
-        (λ d ys ends. tt) (λ d ends. ap said_in (taken.replies_still before mark start q b phase acts m here n to s msg tag k d)) (λ d ends. taken.ended_still before mark start q b phase acts m here n to s msg tag k d)
+        (λ d ys ends. subst (λ c. ReleasesIf (c && closes tree st.stage q.client s.router) latest_release st.got []) (sym (root_plain w₀ q is)) refl) (λ d ends. ap said_in (taken.replies_still before mark start q b phase acts m here n to s msg tag k d)) (λ d ends. taken.ended_still before mark start q b phase acts m here n to s msg tag k d)
 
   pub final_stands : Stands w₀ phase q acts' next k.hop
   final_stands = by (front.request.line == q.line) refl

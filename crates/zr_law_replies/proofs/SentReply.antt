@@ -17,13 +17,13 @@ use Rattle.zr_guarantee.specs.Queries.{Asked as Query, turn}
 use Rattle.zr_guarantee.specs.Sent.{Told, told_to}
 use Rattle.zr_law_queries.specs.Link.{reply, Open, hop_heard}
 use Rattle.zr_law_queries.specs.Numbers.{IsFirstReply}
-use Rattle.zr_law_queries.specs.Query.{Tree, IsTree, Stage, Here as At, is_child, is_not_yet, replies_at, with_one, Move, Pass, after}
+use Rattle.zr_law_queries.specs.Query.{Tree, IsTree, Stage, Here as At, is_child, is_not_yet, replies_at, with_one, Move, Pass, after, passed_on}
 use Rattle.zr_law_queries.proofs.Hops.{front_reply}
 use Rattle.zr_law_numbers.specs.Waiting.{Asked, Said, waits, link_of, is_whole}
 use Rattle.zr_law_numbers.proofs.Waits.{answers_among}
 use Rattle.zr_law_replies.specs.Answers.{told_in_turn}
 use Rattle.zr_law_replies.specs.Trees.{has_router, tree_at}
-use Rattle.zr_law_replies.specs.Stands.{is_of, is_open, asked_at, Marks, request_to, answers_told, answers_at, said_in, Stands}
+use Rattle.zr_law_replies.specs.Stands.{is_of, is_open, asked_at, Marks, request_to, answers_told, answers_at, said_in, Stands, held_if}
 use Rattle.zr_law_replies.proofs.ToldMore.{told_now, answers_more, with_reply}
 use Rattle.zr_law_replies.proofs.MarkChanges.{is_hop}
 use Rattle.zr_law_replies.proofs.MarkMoves.{pass_marks}
@@ -37,6 +37,7 @@ use Rattle.zr_law_replies.proofs.SentHops as hops
 use Rattle.zr_law_replies.proofs.SentHops.{Take}
 use Rattle.zr_law_replies.proofs.SentAny as taken
 use Rattle.zr_law_replies.proofs.SentOwner as open_
+use Rattle.zr_law_replies.proofs.StandHolds.{opens, root_plain}
 
 module _ (before : List Numbered) (mark : ℕ) (start : Moment) (q : Query) (b : Begins before mark start q) (phase acts : List Numbered) (m : Moment) (here : Here start.world phase q acts m)
     (n : ℕ) (to : List ℕ) (s : ClientState) (id : ℕ) (content : Parts) (tag : ℕ) (k : Take start.world phase q acts m here to s (Response id content) tag) where
@@ -139,9 +140,13 @@ module _ (before : List Numbered) (mark : ℕ) (start : Moment) (q : Query) (b :
         pass_rows tree is st.num st.stage st.sound q.client s.router mine.child (has_router w) (row_at w)
         (row_at w) (rows_now before mark start q b phase acts m here) said front.replies front.done mine.stage_is (λ z routes o. refl)
 
+    plain_root : tree.gathers q.client ≡ false
+    plain_root = root_plain w₀ q is
+
     root_then : stage' q.client ≡ At (replies_at (st.stage q.client) ++ said ∷ []) false
-    root_then = ap (λ c. cond c (At (replies_at (st.stage q.client) ++ said ∷ []) false) (cond (is_child tree q.client q.client) (with_one tree st.stage s.router (At front.replies front.done) q.client) (st.stage q.client)))
+    root_then = ap (λ c. cond c (At (replies_at (st.stage q.client) ++ passed_on tree q.client said) false) (cond (is_child tree q.client q.client) (with_one tree st.stage s.router (At front.replies front.done) q.client) (st.stage q.client)))
         (names.refl q.client)
+        ∙ ap (λ c. At (replies_at (st.stage q.client) ++ cond c [] (said ∷ [])) false) plain_root
 
     begun : is_not_yet (st.stage q.client) ≡ false
     begun = ap is_not_yet mine.root_open
@@ -160,6 +165,7 @@ module _ (before : List Numbered) (mark : ℕ) (start : Moment) (q : Query) (b :
         stands_moved w₀ phase q acts acts' m next here.hop k.hop st k.still is move st.num marks_then
         (record {
           rows = λ y r e o. rows_read w tree st.num stage' rows_then y r e o;
+          holds = λ y r e o. st.holds y r e (opens tree is st.stage st.sound move tt y o) ∙ ap (λ c. held_if (tree.gathers y) (cond c (st.got ++ said ∷ []) st.got)) (sym plain_root);
           number = st.number;
           asked = taken.asked_then before mark start q b phase acts m here n to s msg tag k stage' (ap is_not_yet root_then ∙ sym begun);
           waits = λ z found o. taken.waits_then before mark start q b phase acts m here n to s msg tag k stage' (λ p. ap is_open mine.root_open) (λ e p. refl) z found o;

@@ -10,7 +10,7 @@ use Rattle.zr_msg.specs.declared.msg.Target.{Target}
 use Rattle.zr_script_spec.specs.declared.command.Act.TheVariants as c
 use Rattle.zr_script_spec.specs.declared.report.ReportLine.{ReportLine}
 use Rattle.zr_script_spec.specs.declared.report.ReportLine.TheVariants as line
-use Rattle.zr_world_spec.specs.World.{ClientState, WorldState}
+use Rattle.zr_world_spec.specs.World.{ClientState, WorldState, router_of}
 use Rattle.zr_world_spec.specs.Moments.{Numbered, Moment}
 use Rattle.zr_world_spec.proofs.Names.{names, same_name}
 use Rattle.zr_world_spec.proofs.Cases.{w_take, on_take}
@@ -24,7 +24,7 @@ use Rattle.zr_law_numbers.specs.Waiting.{Asked, Said, waits, link_of, is_whole}
 use Rattle.zr_law_numbers.proofs.Whole.{client_alone}
 use Rattle.zr_law_numbers.proofs.Waits.{asks_among}
 use Rattle.zr_law_replies.specs.Trees.{has_router, passes_at, tree_at}
-use Rattle.zr_law_replies.specs.Stands.{is_of, is_open, asked_at, Marks, request_to, answers_at, said_in, numbered, Stands}
+use Rattle.zr_law_replies.specs.Stands.{is_of, is_open, asked_at, Marks, request_to, answers_at, said_in, numbered, Stands, held_by, place}
 use Rattle.zr_law_replies.proofs.ToldMore.{others_add_none}
 use Rattle.zr_law_replies.proofs.MarkChanges.{is_hop}
 use Rattle.zr_law_replies.proofs.MarkMoves.{begin_marks}
@@ -37,6 +37,8 @@ use Rattle.zr_law_replies.proofs.StandHere.{kids, rows_now, rows_read, row_at, s
 use Rattle.zr_law_replies.proofs.SentHops as hops
 use Rattle.zr_law_replies.proofs.SentHops.{Take}
 use Rattle.zr_law_replies.proofs.SentAny as taken
+use Rattle.zr_law_replies.proofs.StandHolds.{begin_opens}
+use Rattle.std.proofs.lemmas.Option.{none-some}
 
 module _ (before : List Numbered) (mark : ℕ) (start : Moment) (q : Query) (b : Begins before mark start q) (phase acts : List Numbered) (m : Moment) (here : Here start.world phase q acts m)
     (n : ℕ) (to : List ℕ) (s : ClientState) (named : Option (List ℕ)) (id : ℕ) (target : Target) (content : Parts) (tag : ℕ)
@@ -180,6 +182,10 @@ module _ (before : List Numbered) (mark : ℕ) (start : Moment) (q : Query) (b :
         stands_moved w₀ phase q acts acts' m next here.hop k.hop st k.still is move num' marks_then
         (record {
           rows = λ y r e o. rows_read w tree num' stage' rows_then y r e o;
+          holds = λ y r e o.
+              let other = false_from_ne_true (tree.same to y) (λ same. none-some r (sym (client_alone w here.holds.go.0.orderly to s k.found) ∙ ap (router_of w.routers) (is.decides to y same) ∙ e)) in
+              let open_ = begin_opens tree is st.stage st.sound to (inl on.stage_is) y other o in
+              ap (λ c. held_by r (place (tree.parent y) (cond c (st.num y) (st.num y)))) open_.0 ∙ st.holds y r e open_.1;
           number = number_same (has tree (tree.children to) q.client) ∙ st.number;
           asked = taken.asked_then before mark start q b phase acts m here n to s msg tag k stage' (ap is_not_yet root_same);
           waits = λ z found o. taken.waits_then before mark start q b phase acts m here n to s msg tag k stage' (λ p. ap is_open (sym root_same) ∙ p) (λ e p. refl) z found o;

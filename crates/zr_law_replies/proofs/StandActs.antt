@@ -21,13 +21,15 @@ use Rattle.zr_law_replies.proofs.QuietStands.{interest_stands, uninterest_stands
 use Rattle.zr_law_replies.proofs.StandHere.{still_router}
 use Rattle.zr_law_replies.proofs.HandleAny.{handled_stands}
 use Rattle.zr_law_replies.proofs.SentStands.{take_stands}
+use Rattle.zr_guarantee.specs.Latest.{asks_latest, RepliesFit}
 
 -- the numbers of lines tell whose query and whose reply an act of the phase is
 pub record Fits (phase : List Numbered) (q : Asked) (x : Numbered) : Type 0 where
   pub own : (p : Asked) → asked_in x.0 x.1 ≡ Some p → (x.0 == q.line) ≡ true → asked_in x.0 x.1 ≡ Some q
   pub said : (client : List ℕ) (number : ℕ) (content : Parts) → x.1 ≡ c.Reply client number content → (d : List ℕ) → is_said_by phase d (record { line = x.0; content = content }) ≡ is_named d client
 
-module _ (before : List Numbered) (mark : ℕ) (start : Moment) (q : Asked) (b : Begins before mark start q) (phase acts : List Numbered) (m : Moment) (here : Here start.world phase q acts m) where
+module _ (before : List Numbered) (mark : ℕ) (start : Moment) (q : Asked) (b : Begins before mark start q) (phase acts : List Numbered) (m : Moment) (here : Here start.world phase q acts m)
+    (room : asks_latest q ≡ true → RepliesFit acts) where
   -- a message is taken to a client, or to a router
   taken : (n : ℕ) (router to : List ℕ) → IfSome (went m (take_step m.world router to)) (Then start.world phase q acts m here (n, c.Take router to))
   taken n router to = by (client_of m.world.clients to) refl
@@ -60,7 +62,7 @@ module _ (before : List Numbered) (mark : ℕ) (start : Moment) (q : Asked) (b :
       (fits.own (record { line = n; client = client; number = number; target = target; content = content }) refl)
   stands_at n (c.Reply client number content) earlier st fits = reply_stands before mark start q b phase acts m here n client number content earlier (fits.said client number content refl)
   stands_at n (c.End client number) earlier st fits = end_stands before mark start q b phase acts m here n client number earlier
-  stands_at n (c.Handle router from) earlier st fits = handled_stands before mark start q b phase acts m here n router from
+  stands_at n (c.Handle router from) earlier st fits = handled_stands before mark start q b phase acts m here room n router from
   stands_at n (c.Take router to) earlier st fits = taken n router to
   stands_at n c.Mark earlier st fits = mark_stands before mark start q b phase acts m here n
   stands_at n (c.Show router) earlier st fits = show_stands before mark start q b phase acts m here n router

@@ -11,6 +11,7 @@ use Rattle.zr_lists.proofs.Elements.{each_in}
 use Rattle.zr_msg.specs.declared.peer.LinkPeer.{LinkPeer}
 use Rattle.zr_pend.specs.declared.branch.Asker.{Asker}
 use Rattle.zr_pend.specs.Row.{RowState, is_asked_by}
+use Rattle.zr_pend.specs.Held.{is_for}
 use Rattle.zr_pend.specs.Pending.{asked, branch, askers_differ, free_number, opened, begun, finished}
 use Rattle.zr_pend.specs.Readings.{back, row_of, new_row}
 use Rattle.zr_pend.proofs.Readings.{in_row, finished_row, begun_row}
@@ -21,7 +22,7 @@ use Rattle.zr_world_spec.proofs.Names.{names}
 use Rattle.zr_world_spec.proofs.Links.{named_link, numbered_link}
 use Rattle.zr_law_numbers.specs.Waiting.{Place, place_of, branch_back}
 use Rattle.zr_law_replies.specs.Trees.{neighbours_of}
-use Rattle.zr_law_replies.specs.Stands.{place, branch_place, row_places}
+use Rattle.zr_law_replies.specs.Stands.{place, branch_place, row_places, held_by}
 use Rattle.zr_law_replies.proofs.StandRows.{is_place, without, places_without, place_among}
 
 -- what isn't there is left out of nothing
@@ -45,7 +46,12 @@ unasked_row a (r ∷ rows) e = by (is_asked_by a r) e (unasked_row a rows)
 
 -- a router with the same links and rows has the same by name
 pub row_same : (r r' : RouterState) → r'.node.links ≡ r.node.links → r'.node.pending ≡ r.node.pending → (from : Place) → row_places r' from ≡ row_places r from
-row_same r r' links pending from = λ i. row_places (record { node = record { links = links i; base = r.node.base; rows = r.node.rows; clients = r.node.clients; known = r.node.known; pending = pending i; spent = r.node.spent }; told = r.told; weight = r.weight }) from
+row_same r r' links pending from = λ i. row_places (record { node = record { links = links i; base = r.node.base; rows = r.node.rows; clients = r.node.clients; known = r.node.known; pending = pending i; held = r.node.held; spent = r.node.spent }; told = r.told; weight = r.weight }) from
+
+-- and with the same held, what is held
+pub held_same : (r r' : RouterState) → r'.node.links ≡ r.node.links → r'.node.held ≡ r.node.held → (from : Place) → held_by r' from ≡ held_by r from
+held_same r r' links held from = λ i.
+    option_and_then (λ l. option_map (λ g. g.held) (find (λ g. is_for (record { link = l.link; number = from.number }) g) (held i))) (link_to (links i) from.name)
 
 -- the number that a request gets on the link to a neighbour
 abbrev pub number_for : RouterState → List ℕ → ℕ

@@ -20,7 +20,7 @@ use Rattle.zr_world_spec.specs.Acts.{outcome}
 use Rattle.zr_world_spec.specs.Moments.{Numbered, ascends, Moment, went, onward}
 use Rattle.zr_world_spec.proofs.Clients.{same_clients}
 use Rattle.zr_world_spec.proofs.Cases.{for_get}
-use Rattle.zr_world_spec.proofs.Lines.{refused_stays, at_some}
+use Rattle.zr_world_spec.proofs.Lines.{refused_stays, at_some, prefix_ascends}
 use Rattle.zr_guarantee.specs.Phase.{stays, is_phase}
 use Rattle.zr_guarantee.specs.Broker.{is_attached, Publication, is_publisher}
 use Rattle.zr_guarantee.specs.Queries.{Asked, asked_in, queries, Saying, saying_in, sayings}
@@ -37,7 +37,7 @@ use Rattle.zr_law_replies.proofs.Grown.{Earlier, earlier, asked_of, asks_no_step
 use Rattle.zr_law_replies.proofs.Links.{lines_on}
 use Rattle.zr_law_replies.proofs.RouterActs as acts
 use Rattle.zr_law_replies.proofs.EachSaid.{AllHaveQueries}
-use Rattle.zr_law_replies.proofs.Every.{Holds, shows_of, kept, said_on}
+use Rattle.zr_law_replies.proofs.Every.{Holds, shows_of, kept, leads_on, said_on}
 use Rattle.zr_law_replies.proofs.Lists.{parted, from_map, into_map}
 use Rattle.zr_law_replies.proofs.OneLine.{later_in, one_saying, one_query}
 use Rattle.zr_law_replies.proofs.Asked.{asks_publishes}
@@ -47,6 +47,8 @@ use Rattle.zr_law_replies.proofs.StandStart.{here_first}
 use Rattle.zr_law_replies.proofs.StandStill.{shape, SameEnds, phase_ends, is_still}
 use Rattle.zr_law_replies.proofs.StandStep.{Begins, Here, Then}
 use Rattle.zr_law_replies.proofs.StandActs.{Fits, act_stands}
+use Rattle.zr_guarantee.specs.Latest.{asks_latest, RepliesFit}
+use Rattle.zr_law_replies.proofs.SameActs.{fits_front}
 
 -- ---- lists
 
@@ -183,7 +185,8 @@ module _ (before : List Numbered) (mark : ℕ) (start : Moment) (marked : Marked
 
   -- ---- each act
 
-  module _ (all_later : ascends 0 (before ++ (mark, c.Mark) ∷ phase) ≡ true) (holds : Holds (before ++ (mark, c.Mark) ∷ []) start) where
+  module _ (all_later : ascends 0 (before ++ (mark, c.Mark) ∷ phase) ≡ true) (holds : Holds (before ++ (mark, c.Mark) ∷ []) start)
+      (fit : asks_latest q ≡ true → RepliesFit (before ++ (mark, c.Mark) ∷ phase)) where
     abbrev all : List Numbered
     all = before ++ (mark, c.Mark) ∷ phase
 
@@ -193,6 +196,9 @@ module _ (before : List Numbered) (mark : ℕ) (start : Moment) (marked : Marked
 
     all_is : (done rest : List Numbered) → phase ≡ done ++ rest → upto done ++ rest ≡ all
     all_is done rest cut = append_assoc (before ++ (mark, c.Mark) ∷ []) done rest ∙ ap (λ xs. (before ++ (mark, c.Mark) ∷ []) ++ xs) (sym cut) ∙ append_assoc before ((mark, c.Mark) ∷ []) phase
+
+    fits_upto : (done rest : List Numbered) → done ++ rest ≡ all → asks_latest q ≡ true → RepliesFit done
+    fits_upto done rest e latest = fits_front done rest (subst (λ xs. RepliesFit xs) (sym e) (fit latest))
 
     asked_of_all : In q (queries all)
     asked_of_all = into_map (λ (x : Numbered). asked_in x.0 x.1) all asking.0 q (in_behind before ((mark, c.Mark) ∷ phase) asking.0 (inr asking.1)) asking.2
@@ -232,12 +238,12 @@ module _ (before : List Numbered) (mark : ℕ) (start : Moment) (marked : Marked
             s = record { line = x.0; client = client; number = number; reply = Some content }
 
             by : (b : Bool) → is_named d client ≡ b → is_said_by all d (record { line = x.0; content = content }) ≡ b
-            by true e = in_any (λ (z : Saying). z.line == x.0 && is_named d z.client) (sayings all) s there (and_from (x.0 == x.0) (is_named d client) (eq-eqb x.0 x.0 refl) e)
-            by false e = none_any (λ (z : Saying). z.line == x.0 && is_named d z.client) (sayings all) (λ z k. other z k (z.line == x.0) refl)
+            by true e = in_any (λ (z : Saying). z.line == x.0 && (is_some z.reply && is_named d z.client)) (sayings all) s there (and_from (x.0 == x.0) (is_named d client) (eq-eqb x.0 x.0 refl) e)
+            by false e = none_any (λ (z : Saying). z.line == x.0 && (is_some z.reply && is_named d z.client)) (sayings all) (λ z k. other z k (z.line == x.0) refl)
               where
-                other : (z : Saying) → In z (sayings all) → (b : Bool) → (z.line == x.0) ≡ b → (b && is_named d z.client) ≡ false
+                other : (z : Saying) → In z (sayings all) → (b : Bool) → (z.line == x.0) ≡ b → (b && (is_some z.reply && is_named d z.client)) ≡ false
                 other z k false f = refl
-                other z k true f = ap (λ (v : Saying). is_named d v.client) (one_saying 0 all all_later z s k there (eqb-true z.line x.0 f)) ∙ e
+                other z k true f = ap (λ (v : Saying). is_some v.reply && is_named d v.client) (one_saying 0 all all_later z s k there (eqb-true z.line x.0 f)) ∙ e
 
     record On (done : List Numbered) (p : Moment) : Type 0 where
       here : Here start.world all q (upto done) p
@@ -246,7 +252,7 @@ module _ (before : List Numbered) (mark : ℕ) (start : Moment) (marked : Marked
     step : (done : List Numbered) (x : Numbered) (rest : List Numbered) → phase ≡ done ++ x ∷ rest → (p : Moment) → On done p → IfSome (onward (Some p) x) (On (done ++ x ∷ []))
     step done x rest cut p on =
         by (went p (outcome p.world x.0 x.1)) refl (all_go p x.0 x.1 on.here.holds.go) (kept (upto done) p on.here.holds x.0 x.1 come) (said_on (upto done) p on.here.holds x come)
-        (act_stands before mark start q begins all (upto done) p on.here x come (passes_each (λ (y : Numbered). stays y.1) phase x stay (subst (λ xs. In x xs) (sym cut) (in_behind done (x ∷ rest) x (inl refl))))
+        (act_stands before mark start q begins all (upto done) p on.here (fits_upto (upto done) (x ∷ rest) (all_is done (x ∷ rest) cut)) x come (passes_each (λ (y : Numbered). stays y.1) phase x stay (subst (λ xs. In x xs) (sym cut) (in_behind done (x ∷ rest) x (inl refl))))
         (fits x (subst (λ xs. In x xs) (all_is done (x ∷ rest) cut) (in_behind (upto done) (x ∷ rest) x (inl refl)))))
       where
         come : Earlier (upto done) x
@@ -267,7 +273,14 @@ module _ (before : List Numbered) (mark : ℕ) (start : Moment) (marked : Marked
             still = still_at (done ++ x ∷ []) rest (cut ∙ sym (append_assoc done (x ∷ []) rest)) next led_then
 
             holds_then : Holds (upto done ++ x ∷ []) next
-            holds_then = record { go = go; lines = lines_on next.world on.here.holds.lines; stands = held go.0 (shows_of next go); said = said }
+            holds_then = record {
+              led = leads_on (upto done) p on.here.holds x ∙ e;
+              later = prefix_ascends 0 (upto done ++ x ∷ []) rest (ap (ascends 0) (append_assoc (upto done) (x ∷ []) rest ∙ all_is done (x ∷ rest) cut) ∙ all_later);
+              go = go;
+              lines = lines_on next.world on.here.holds.lines;
+              stands = held go.0 (shows_of next go);
+              said = said;
+            }
 
             here_then : Here start.world all q (upto done ++ x ∷ []) next
             here_then = record {

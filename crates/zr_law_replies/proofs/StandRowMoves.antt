@@ -2,7 +2,7 @@
 use Rattle.std.proofs.Common.{◌≡◌, ℕ, Bool, true, false, cond, List, [], ◌∷◌, ◌++◌, inl, inr, refl, sym, ap, ◌∙◌}
 use Rattle.std.specs.Prelude.{not, map, filter}
 use Rattle.std.proofs.lemmas.Bool.{false≢true}
-use Rattle.zr_law_queries.specs.Query.{Tree, IsTree, Stage, OnTheWay, Here, Over, has, is_child, is_over, replies_at, all_over, goes_nowhere, Sound, moved, with_one, MayBegin, Begin, Pass, Close, after}
+use Rattle.zr_law_queries.specs.Query.{Tree, IsTree, Stage, OnTheWay, Here, Over, has, is_child, is_over, replies_at, goes_nowhere, passed_on, closes, Sound, moved, with_one, MayBegin, Begin, Pass, Close, after}
 use Rattle.zr_law_queries.proofs.Trees.{has_head, has_tail, same_of, no_loop, one_parent}
 use Rattle.zr_law_queries.proofs.Moves.{open_is}
 use Rattle.zr_law_numbers.specs.Waiting.{Place, Said}
@@ -44,23 +44,23 @@ module _ (t : Tree (List ℕ)) (is : IsTree t) (num : List ℕ → ℕ) (stage :
         RowsShow t num (after t stage (Pass x y reply replies done child here)) routes row'
     pass_rows reply replies done here same =
         rows_still t is num stage sound (after t stage (Pass x y reply replies done child here)) routes row row' (λ z there o. opens z o)
-        (moved_over x (Here (replies_at (stage x) ++ reply ∷ []) false) (with_one t stage y (Here replies done)) (ap is_over at_x) (one_over t is num stage sound y (Here replies done) (ap is_over here)))
+        (moved_over x (Here (replies_at (stage x) ++ passed_on t x reply) false) (with_one t stage y (Here replies done)) (ap is_over at_x) (one_over t is num stage sound y (Here replies done) (ap is_over here)))
         (λ z there o. same z there (opens z o)) rows
       where
         at_x : stage x ≡ Here (replies_at (stage x)) false
         at_x = open_is t is stage sound x y (reply ∷ replies) done child here
 
         opens : (z : List ℕ) → is_open (after t stage (Pass x y reply replies done child here) z) ≡ true → is_open (stage z) ≡ true
-        opens z o = moved_open x (Here (replies_at (stage x) ++ reply ∷ []) false) (with_one t stage y (Here replies done)) (λ k. ap is_open at_x)
+        opens z o = moved_open x (Here (replies_at (stage x) ++ passed_on t x reply) false) (with_one t stage y (Here replies done)) (λ k. ap is_open at_x)
             (λ z kid k. one_open t is num stage sound y (Here replies done) (λ l. ap is_open here ∙ l) z k) z o
 
-    pub close_rows : (here : stage y ≡ Here [] true) → (routes x ≡ true → row' x (asked_at t num x) ≡ without (place y (num y)) (row x (asked_at t num x))) →
+    pub close_rows : (released : List Said) (here : stage y ≡ Here [] true) → (routes x ≡ true → row' x (asked_at t num x) ≡ without (place y (num y)) (row x (asked_at t num x))) →
         ((z : List ℕ) → routes z ≡ true → is_open (stage z) ≡ true → t.same x z ≡ false → row' z (asked_at t num z) ≡ row z (asked_at t num z)) →
-        RowsShow t num (after t stage (Close x y child here)) routes row'
-    close_rows here own same z there o = by (t.same x z) refl
+        RowsShow t num (after t stage (Close x y released child here)) routes row'
+    close_rows released here own same z there o = by (t.same x z) refl
       where
         v : Stage Said
-        v = Here (replies_at (stage x)) (all_over (with_one t stage y Over) (t.children x))
+        v = Here (replies_at (stage x) ++ released) (closes t stage x y)
 
         at_x : stage x ≡ Here (replies_at (stage x)) false
         at_x = open_is t is stage sound x y [] true child here
@@ -68,10 +68,10 @@ module _ (t : Tree (List ℕ)) (is : IsTree t) (num : List ℕ → ℕ) (stage :
         was_open : is_open (stage z) ≡ true
         was_open = moved_open x v (with_one t stage y Over) (λ k. ap is_open at_x) (λ z kid k. one_open t is num stage sound y Over (λ l. absurd (false≢true l)) z k) z o
 
-        below_x : (w : List ℕ) → is_child t x w ≡ true → is_over (with_one t stage y Over w) ≡ is_over (after t stage (Close x y child here) w)
+        below_x : (w : List ℕ) → is_child t x w ≡ true → is_over (with_one t stage y Over w) ≡ is_over (after t stage (Close x y released child here) w)
         below_x w kid = sym (ap (λ c. is_over (cond c v (cond (is_child t x w) (with_one t stage y Over w) (stage w)))) (kid_apart x w kid) ∙ ap (λ c. is_over (cond c (with_one t stage y Over w) (stage w))) kid)
 
-        below_other : (w : List ℕ) → t.same x z ≡ false → is_child t z w ≡ true → is_over (stage w) ≡ is_over (after t stage (Close x y child here) w)
+        below_other : (w : List ℕ) → t.same x z ≡ false → is_child t z w ≡ true → is_over (stage w) ≡ is_over (after t stage (Close x y released child here) w)
         below_other w other kid = at (t.same x w) refl (is_child t x w) refl
           where
             at : (a : Bool) → t.same x w ≡ a → (b : Bool) → is_child t x w ≡ b → is_over (stage w) ≡ is_over (cond a v (cond b (with_one t stage y Over w) (stage w)))
@@ -79,13 +79,13 @@ module _ (t : Tree (List ℕ)) (is : IsTree t) (num : List ℕ → ℕ) (stage :
             at false e true eb = absurd (false≢true (sym other ∙ same_of t is x z (one_parent t is x z w eb kid)))
             at false e false eb = refl
 
-        by : (c : Bool) → t.same x z ≡ c → row' z (asked_at t num z) ≡ open_below t num (after t stage (Close x y child here)) z
+        by : (c : Bool) → t.same x z ≡ c → row' z (asked_at t num z) ≡ open_below t num (after t stage (Close x y released child here)) z
         by true e = rw (← is.decides x z e) (at_own (ap routes (is.decides x z e) ∙ there))
           where
-            at_own : routes x ≡ true → row' x (asked_at t num x) ≡ open_below t num (after t stage (Close x y child here)) x
+            at_own : routes x ≡ true → row' x (asked_at t num x) ≡ open_below t num (after t stage (Close x y released child here)) x
             at_own r = own r ∙ ap (without (place y (num y))) (rows x r (ap is_open at_x)) ∙ without_open t is num stage x y
-                ∙ open_on t is num (with_one t stage y Over) (after t stage (Close x y child here)) x below_x
-        by false e = same z there was_open e ∙ rows z there was_open ∙ open_on t is num stage (after t stage (Close x y child here)) z (λ w kid. below_other w e kid)
+                ∙ open_on t is num (with_one t stage y Over) (after t stage (Close x y released child here)) x below_x
+        by false e = same z there was_open e ∙ rows z there was_open ∙ open_on t is num stage (after t stage (Close x y released child here)) z (λ w kid. below_other w e kid)
 
   -- ---- a request begins
 

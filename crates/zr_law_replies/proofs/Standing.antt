@@ -1,6 +1,6 @@
 -- What stands at a moment (`Stands`): the query of each number of each link, and all that clients were sent and asked under each number. What stands then is
 -- what an act leaves as it is, number by number, and what it changes.
-use Rattle.std.proofs.Common.{◌≡◌, ℕ, ◌+◌, true, false, cond, List, [], ◌∷◌, ◌++◌, map, filter, Some, None, is_some, refl, sym, ap, ◌∙◌, subst, arith, append-nil}
+use Rattle.std.proofs.Common.{◌≡◌, ℕ, ◌+◌, ◌⊎◌, inl, inr, Option, true, false, cond, List, [], ◌∷◌, ◌++◌, map, filter, Some, None, is_some, refl, sym, ap, ◌∙◌, subst, arith, append-nil}
 use Rattle.std.specs.Prelude.{◌&&◌, ◌||◌}
 use Rattle.std.proofs.lemmas.List.Sums.{sum_by-append}
 use Rattle.zr_lists.proofs.Options.{not_there}
@@ -11,7 +11,8 @@ use Rattle.zr_world_spec.specs.Acts.{has_number}
 use Rattle.zr_world_spec.specs.Moments.{Numbered, Moment}
 use Rattle.zr_law_settled.proofs.Goes.{Goes}
 use Rattle.zr_law_settled.proofs.Orderly.{Orderly}
-use Rattle.zr_law_numbers.specs.Waiting.{is_kept_by, back_at, is_whole}
+use Rattle.zr_msg.specs.declared.content.Parts.{Parts}
+use Rattle.zr_law_numbers.specs.Waiting.{Place, is_kept_by, back_at, is_whole}
 use Rattle.zr_law_numbers.proofs.Waits.{client_keeps, client_back}
 use Rattle.zr_law_numbers.proofs.Whole.{LinksGo, client_alone}
 use Rattle.zr_law_numbers.proofs.ActClients.{for_itself}
@@ -19,7 +20,8 @@ use Rattle.zr_guarantee.specs.Queries.{queries, is_under, times_ended}
 use Rattle.zr_guarantee.specs.Sent.{Told, told_to, is_request, requests_to, finals_in, is_final}
 use Rattle.zr_law_replies.specs.Answers.{IsAnswer}
 use Rattle.zr_law_replies.proofs.Turns.{Turned, turned_each}
-use Rattle.zr_law_replies.proofs.Grown.{Earlier, times_ended_more, under_more, asked_kept, told_more, requests_more, said_kept, answer_kept}
+use Rattle.zr_law_replies.proofs.Grown.{Earlier, times_ended_more, under_more, asked_kept, latest_kept, other_kept, told_more, requests_more, said_kept, answer_kept}
+use Rattle.zr_law_replies.proofs.Gathered.{gathered_at, IsGathered, GathersHold, gathered_kept, gathered_grows}
 use Rattle.zr_law_replies.proofs.Books.{Requests, Asks, requests_same, asks_same}
 use Rattle.zr_law_replies.proofs.Links.{Lines, lines_on, FineAsk, FineSay, Grows}
 use Rattle.zr_law_replies.proofs.Lines.{LinesHold, AllShow, lines_go, pending_same, kept_same, pending_whole, kept_whole}
@@ -43,6 +45,8 @@ pub record Stands (acts : List Numbered) (m : Moment) (lines : Lines) : Type 0 w
   pub books : (c : List ℕ) (s : ClientState) (n : ℕ) → client_of m.world.clients c ≡ Some s → BookOf acts m.report m.world lines c s n
   pub others : (c : List ℕ) (n : ℕ) → client_of m.world.clients c ≡ None → NoBook acts c n
   pub untold : (c : List ℕ) → is_taken m.world c ≡ false → told_to m.report c ≡ []
+  -- what routers hold was said to the queries of who asked
+  pub gathers : GathersHold acts m.report m.world lines
 
 -- ---- a client's own part of its links
 
@@ -73,7 +77,12 @@ module _ (acts : List Numbered) (m : Moment) (x : Numbered) (before : Earlier ac
   lines' = lines_on v lines
 
   pub grows : Grows acts m.report acts' report'
-  grows = record { asked = λ line i. asked_kept acts x line i; said = λ line said i. said_kept acts x before m.report rl line said i }
+  grows = record {
+    asked = λ line i. asked_kept acts x line i;
+    said = λ name line said i. said_kept acts x before m.report rl name line said i;
+    latest = λ name line i. latest_kept acts x name line i;
+    other = λ line i. other_kept acts x before line i;
+  }
 
   -- what each act does on links is fine
   abbrev pub Well : Type 0
@@ -92,6 +101,26 @@ module _ (acts : List Numbered) (m : Moment) (x : Numbered) (before : Earlier ac
   module _ (goes : Well) where
     pub held_then : LinesHold acts' report' v lines'
     held_then = lines_go acts m.report acts' report' grows w v lines g.sound g'.sound g.orderly shows shows' h.held goes
+
+    -- what routers hold then they held before, or it was said to the query of a number that was pending
+    abbrev pub GathersBy : Type 0
+    GathersBy = (a y : List ℕ) (n : ℕ) (hs : List Parts) → is_whole v y a ≡ true → gathered_at v a y n ≡ Some hs →
+        (gathered_at w a y n ≡ Some hs) ⊎ (IsGathered acts' report' y (lines y a n) hs × (by : Option Place) × (back_at w y a n ≡ Some by))
+
+    pub gathers_then : GathersBy → GathersHold acts' report' v lines'
+    gathers_then each a y n hs whole e = by (each a y n hs whole e)
+      where
+        on : (by : Option Place) → back_at w y a n ≡ Some by → IsGathered acts' report' y (lines y a n) hs → IsGathered acts' report' y (lines' y a n) hs
+        on by pending was = subst (λ k. IsGathered acts' report' y k hs)
+            (sym (pending_same acts m.report acts' report' grows w v lines g.sound g'.sound g.orderly shows shows' h.held goes y a whole n by pending)) was
+
+        by : (gathered_at w a y n ≡ Some hs) ⊎ (IsGathered acts' report' y (lines y a n) hs × (by : Option Place) × (back_at w y a n ≡ Some by)) → IsGathered acts' report' y (lines' y a n) hs
+        by (inl old) =
+            let kept : is_kept_by w y a n ≡ true = gathered_kept w shows.tables a y n hs old in
+            let there : is_whole w y a ≡ true = kept_whole acts m.report acts' report' grows w v lines g.sound g'.sound g.orderly shows shows' h.held goes y a whole n kept in
+            subst (λ k. IsGathered acts' report' y k hs) (sym (kept_same acts m.report acts' report' grows w v lines g.sound g'.sound g.orderly shows shows' h.held goes y a whole n kept))
+            (gathered_grows acts x before m.report rl y (lines y a n) hs (h.gathers a y n hs there old))
+        by (inr new) = on new.1 new.2 new.0
 
     -- ---- a client, number by number
 
@@ -155,12 +184,13 @@ module _ (acts : List Numbered) (m : Moment) (x : Numbered) (before : Earlier ac
     -- an act that brings no router and no client
     pub steady : ((q : List ℕ) → is_some (router_of v.routers q) ≡ is_some (router_of w.routers q)) → ((c : List ℕ) → is_some (client_of v.clients c) ≡ is_some (client_of w.clients c)) →
         ((c : List ℕ) (n : ℕ) → client_of w.clients c ≡ None → NoBook (x ∷ []) c n) → ((c : List ℕ) → is_taken w c ≡ false → told_to rl c ≡ []) →
-        ((c : List ℕ) (s : ClientState) (n : ℕ) → client_of v.clients c ≡ Some s → BookOf acts' report' v lines' c s n) → Stands acts' then lines'
-    steady routers clients quiet silent books = record {
+        ((c : List ℕ) (s : ClientState) (n : ℕ) → client_of v.clients c ≡ Some s → BookOf acts' report' v lines' c s n) → GathersBy → Stands acts' then lines'
+    steady routers clients quiet silent books gathers = record {
       held = held_then;
       books = books;
       others = others_then (λ c none. gone c none) (λ c n none. quiet c n (gone c none));
       untold = λ c free. told_none c (silent c (was_free c free)) ∙ h.untold c (was_free c free);
+      gathers = gathers_then gathers;
     }
       where
         gone : (c : List ℕ) → client_of v.clients c ≡ None → client_of w.clients c ≡ None

@@ -1,6 +1,6 @@
 -- A message is taken from a router's queue: a router's waits as before, and a client is sent it. A request is of the query of its number, a reply was said to
 -- the query that is open under its number, and a final closes that: so what stands is kept (`take_kept`).
-use Rattle.std.proofs.Common.{◌≡◌, ℕ, ◌+◌, ◌==◌, Bool, true, false, cond, List, [], ◌∷◌, ◌++◌, map, filter, Option, Some, None, is_some, refl, sym, ap, ◌∙◌, subst, arith, append-nil}
+use Rattle.std.proofs.Common.{◌≡◌, inl, ℕ, ◌+◌, ◌==◌, Bool, true, false, cond, List, [], ◌∷◌, ◌++◌, map, filter, Option, Some, None, is_some, refl, sym, ap, ◌∙◌, subst, arith, append-nil}
 use Rattle.std.specs.Prelude.{◌||◌, IfSome}
 use Rattle.std.specs.List.{AllByRecursion, cons_option}
 use Rattle.std.specs.Option.{option_map}
@@ -192,6 +192,7 @@ module _ (acts : List Numbered) (m : Moment) (x : Numbered) (before : Earlier ac
         steady acts m x before lines g shows h rl v g' shows' goes (λ q. refl) (λ d. ap is_some (same d)) (λ d k free. quiet d k) silent_free
         (λ d s k found. book_stays acts m x before lines g shows h rl v g' shows' goes d s (sym (same d) ∙ found) k (quiet d k)
         (silent d (false_from_ne_true (is_named d to) (λ b. none-some s (sym none ∙ ap (client_of w.clients) (sym (same_is d to b)) ∙ sym (same d) ∙ found)))))
+        (λ a y k hs whole e. inl e)
       where
         same : (d : List ℕ) → client_of v.clients d ≡ client_of w.clients d
         same d = ap (λ o. client_of (received w.clients to msg o) d) none
@@ -245,7 +246,7 @@ module _ (acts : List Numbered) (m : Moment) (x : Numbered) (before : Earlier ac
 
       request_taken : (k : ℕ) → is_request k msg ≡ true → Kept k true
       request_taken k matches =
-          let hops = shows s.router to below in
+          let hops = shows.links s.router to below in
           let got = ask_of k tag msg matches in
           let asks : (link_of w s.router to).asks ≡ ask k got.request ∷ asks_among (waits v s.router to) = ap asks_among came ∙ ap (λ z. z ++ asks_among (waits v s.router to)) got.is in
           let front = front_ask (link_of w s.router to) hops.0 hops.1 k got.request (asks_among (waits v s.router to)) asks in
@@ -290,7 +291,7 @@ module _ (acts : List Numbered) (m : Moment) (x : Numbered) (before : Earlier ac
 
       final_taken : (k : ℕ) → is_final k msg ≡ true → Open k false
       final_taken k matches =
-          let hops = shows to s.router above in
+          let hops = shows.links to s.router above in
           let answers : (link_of w to s.router).answers ≡ final k ∷ answers_among (waits v s.router to) =
           ap answers_among came ∙ ap (λ z. z ++ answers_among (waits v s.router to)) (final_of k tag msg matches) in
           let front = front_final (link_of w to s.router) hops.0 hops.1 k (answers_among (waits v s.router to)) answers in
@@ -311,24 +312,24 @@ module _ (acts : List Numbered) (m : Moment) (x : Numbered) (before : Earlier ac
       reply_taken k r is same =
           let number : r.number ≡ k = eqb-true r.number k same in
           let said : Said = record { line = r.line; content = r.content } in
-          let hops = shows to s.router above in
+          let hops = shows.links to s.router above in
           let answers : (link_of w to s.router).answers ≡ reply k said ∷ answers_among (waits v s.router to) =
           ap answers_among came ∙ ap (λ z. z ++ answers_among (waits v s.router to)) (reply_of tag msg r is ∙ ap (λ j. reply {R = Said} j said ∷ []) number) in
           let front = front_reply (link_of w to s.router) hops.0 hops.1 k said (answers_among (waits v s.router to)) answers in
           let here : filter (answers_number k) (link_of w to s.router).answers ≡ reply k said ∷ filter (answers_number k) (answers_among (waits v s.router to)) =
           ap (filter (answers_number k)) answers
           ∙ ap (λ b. cond b (reply k said ∷ filter (answers_number k) (answers_among (waits v s.router to))) (filter (answers_number k) (answers_among (waits v s.router to)))) (eq-eqb k k refl) in
-          let told : IsSaidTo acts m.report (lines to s.router k) said =
-          (subst (λ zs. AllByRecursion (λ (a : Answer Said). SaysTo acts m.report (lines to s.router k) a.body) zs) here (h.held.is to s.router k above).said).0 in
+          let told : IsSaidTo acts m.report to (lines to s.router k) said =
+          (subst (λ zs. AllByRecursion (λ (a : Answer Said). SaysTo acts m.report to (lines to s.router k) a.body) zs) here (h.held.is to s.router k above).said).0 in
           answer (found_query (query_at acts to k (finals_in k (told_to m.report to))) refl ((h.books to s k es).open_.last above (open_query k front.by front.pending))) told
         where
-          answer : (q : Query) × (query_at acts to k (finals_in k (told_to m.report to)) ≡ Some q) × (q.line ≡ lines to s.router k) → IsSaidTo acts m.report (lines to s.router k) (record { line = r.line; content = r.content }) →
+          answer : (q : Query) × (query_at acts to k (finals_in k (told_to m.report to)) ≡ Some q) × (q.line ≡ lines to s.router k) → IsSaidTo acts m.report to (lines to s.router k) (record { line = r.line; content = r.content }) →
               IsAnswer acts' report' to k (finals_in k (told_to m.report to)) r
           answer found told = record {
             query = found.0;
             asked = query_at_kept acts x to k (finals_in k (told_to m.report to)) found.0 found.1;
-            said = said_kept acts x before m.report rl found.0.line (record { line = r.line; content = r.content })
-                (subst (λ j. IsSaidTo acts m.report j (record { line = r.line; content = r.content })) (sym found.2) told);
+            said = said_kept acts x before m.report rl to found.0.line (record { line = r.line; content = r.content })
+                (subst (λ j. IsSaidTo acts m.report to j (record { line = r.line; content = r.content })) (sym found.2) told);
           }
 
           found_query : (o : Option Query) → query_at acts to k (finals_in k (told_to m.report to)) ≡ o → option_map (λ q. q.line) o ≡ Some (lines to s.router k) →
@@ -366,7 +367,7 @@ module _ (acts : List Numbered) (m : Moment) (x : Numbered) (before : Earlier ac
           by false other f = book_stays acts m x before lines g shows h rl v g' shows' goes d z f k (quiet d k) (silent d (names.symm d to ∙ other))
 
       by_client : Stands acts' (record { world = v; report = report' }) (lines_on v lines)
-      by_client = steady acts m x before lines g shows h rl v g' shows' goes (λ q. refl) (λ d. ap is_some (are d) ∙ same d (is_named to d) refl) (λ d k free. quiet d k) silent_free books
+      by_client = steady acts m x before lines g shows h rl v g' shows' goes (λ q. refl) (λ d. ap is_some (are d) ∙ same d (is_named to d) refl) (λ d k free. quiet d k) silent_free books (λ a y k hs whole e. inl e)
         where
           same : (d : List ℕ) (b : Bool) → is_named to d ≡ b → is_some (cond b (Some s') (client_of w.clients d)) ≡ is_some (client_of w.clients d)
           same d true f = sym (ap is_some (ap (client_of w.clients) (sym (same_is to d f)) ∙ es))

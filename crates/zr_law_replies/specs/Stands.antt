@@ -1,10 +1,12 @@
 -- How a query of a phase stands at a moment: the number that it has on the link above each node of its tree, and the stage of each node. What links,
 -- routers and clients have of it agrees with that.
-use Rattle.std.specs.Prelude.{◌≡◌, ℕ, ◌-◌, ◌==◌, ◌&&◌, not, Bool, true, false, if◌then◌else◌, List, [], map, filter, Option, Some, None}
-use Rattle.std.specs.List.{list_any, flat_map, filter_map}
-use Rattle.std.specs.Option.{option_map, option_map_or}
+use Rattle.std.specs.Prelude.{◌≡◌, ℕ, ◌-◌, ◌==◌, ◌&&◌, not, Bool, true, false, if◌then◌else◌, List, [], map, filter, Option, Some, None, is_some}
+use Rattle.std.specs.List.{find, list_any, flat_map, filter_map}
+use Rattle.std.specs.Option.{option_map, option_map_or, option_and_then}
 use Rattle.zr_id.specs.Zid.{is_named}
+use Rattle.zr_msg.specs.declared.content.Parts.{Parts}
 use Rattle.zr_pend.specs.declared.branch.Branch.{Branch}
+use Rattle.zr_pend.specs.Held.{is_for, gathered}
 use Rattle.zr_pend.specs.Readings.{row_of}
 use Rattle.zr_node_spec.specs.Tables.{TableState, link_at, link_to}
 use Rattle.zr_node_spec.specs.State.{NodeState}
@@ -15,7 +17,7 @@ use Rattle.zr_guarantee.specs.Item.{Reply}
 use Rattle.zr_guarantee.specs.Queries.{Asked, queries, turn, sayings, replies, has_ended}
 use Rattle.zr_guarantee.specs.Sent.{Told, told_to}
 use Rattle.zr_law_queries.specs.Link.{Answer, Asked as AskedHop, Open, answers_with, answers_number}
-use Rattle.zr_law_queries.specs.Query.{Tree, Stage, NotYet, OnTheWay, Here, Over, has, is_child, is_not_yet, is_over, is_done, Sound}
+use Rattle.zr_law_queries.specs.Query.{Tree, Stage, NotYet, OnTheWay, Here, Over, has, is_child, is_not_yet, is_over, is_done, Sound, Release}
 use Rattle.zr_law_queries.specs.Courses.{Chain, way_of, Course}
 use Rattle.zr_law_numbers.specs.Waiting as waiting
 use Rattle.zr_law_numbers.specs.Waiting.{Place, Said, answers_in, is_whole}
@@ -54,6 +56,13 @@ is_open NotYet = false
 is_open OnTheWay = false
 is_open (Here replies done) = not done
 is_open Over = false
+
+-- the request has come to the node
+abbrev pub has_come : {R : Type 0} → Stage R → Bool
+has_come NotYet = false
+has_come OnTheWay = false
+has_come (Here replies done) = true
+has_come Over = true
 
 -- the query was not asked yet, or its client has it
 abbrev pub is_asked_or_not : {R : Type 0} → Stage R → Bool
@@ -128,7 +137,25 @@ said_in rs = map (λ r. record { line = r.line; content = r.content }) rs
 
 -- a reply is of one of the client's lines in a phase
 abbrev pub is_said_by : List Numbered → List ℕ → Said → Bool
-is_said_by phase client said = list_any (λ s. s.line == said.line && is_named client s.client) (sayings phase)
+is_said_by phase client said = list_any (λ s. s.line == said.line && (is_some s.reply && is_named client s.client)) (sayings phase)
+
+-- ---- at the router of a client that asks for the latest
+
+-- what it releases of replies shows what it holds of them
+abbrev pub latest_release : Release Said (List Parts)
+latest_release = record { shown = λ said. map (λ s. s.content) said; best = λ got. gathered (map (λ s. s.content) got) }
+
+-- what a router holds for a neighbour under a number, if it gathers for it
+abbrev pub gathered_by : NodeState → List ℕ → ℕ → Option (List Parts)
+gathered_by node y number = option_and_then (λ l. option_map (λ g. g.held) (find (λ g. is_for (record { link = l.link; number = number }) g) node.held)) (link_to node.links y)
+
+-- what the router of a node holds for who asked it
+abbrev pub held_by : RouterState → Place → Option (List Parts)
+held_by r from = gathered_by r.node from.name from.number
+
+-- a router gathers where it is the one of the client that asks for the latest: of all that it has got the latest
+abbrev pub held_if : Bool → List Said → Option (List Parts)
+held_if gathers got = if gathers then Some (latest_release.best got) else None
 
 -- ---- all of it
 
@@ -146,9 +173,13 @@ pub record Stands (w : WorldState) (phase : List Numbered) (q : Asked) (acts : L
   pub asked : is_not_yet (stage q.client) ≡ not (list_any (λ p. p.line == q.line) (queries acts))
   pub waits : (s : ClientState) → client_of m.world.clients q.client ≡ Some s → is_open (stage q.client) ≡ true → has_number s.queries q.number ≡ true
   pub told : is_not_yet (stage q.client) ≡ false → answers_told q.number (told_in_turn q.number (turn acts q - 1) (told_to m.report q.client)) ≡ answers_at q.number (stage q.client)
+  -- the router of a client that asks for the latest has got some replies, and until its final it holds the latest of these; others hold nothing
+  pub got : List Said
+  pub fresh : (x : List ℕ) → (tree_at w q).gathers x ≡ true → has_come (stage x) ≡ false → got ≡ []
+  pub holds : (x : List ℕ) (r : RouterState) → router_of m.world.routers x ≡ Some r → is_open (stage x) ≡ true → held_by r (asked_at (tree_at w q) num x) ≡ held_if ((tree_at w q).gathers x) got
   -- by moves that brought the stages about each client that is asked has said what its replies are
   pub course : (d : List ℕ) (ys : List (List ℕ)) → passes_at w q.client d ≡ false → Chain (tree_at w q) q.client ys d →
-      (heard : List ℕ → List Said) × Course (tree_at w q) (way_of (tree_at w q) ys d (is_said_by phase d)) stage heard (said_in (replies acts m.report q d))
+      (heard : List ℕ → List Said) × Course latest_release (tree_at w q) (way_of (tree_at w q) ys d (is_said_by phase d)) stage heard got (said_in (replies acts m.report q d))
   -- and has ended its request exactly where its stage is done
   pub ended : (d : List ℕ) → passes_at w q.client d ≡ false → has_ended acts m.report q d ≡ is_done (stage d)
   -- the request of the client that asks was never on a link

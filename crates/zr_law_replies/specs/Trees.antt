@@ -1,7 +1,7 @@
 -- The tree of a query: along which links its requests go, by the tables of a world. Its nodes are names. The root is the client that asks, and its child
 -- is its router; the children of a router are the neighbours to which it passes on a request that comes from its own parent; and clients that are
 -- asked have none.
-use Rattle.std.specs.Prelude.{◌≡◌, ℕ, ◌-◌, ◌||◌, suc, Bool, true, false, if◌then◌else◌, List, [], ◌∷◌, length, filter_map, Option, Some, None, is_some, unwrap_or}
+use Rattle.std.specs.Prelude.{◌≡◌, ℕ, ◌-◌, ◌&&◌, ◌||◌, suc, Bool, true, false, if◌then◌else◌, List, [], ◌∷◌, length, filter_map, Option, Some, None, is_some, unwrap_or}
 use Rattle.std.specs.Option.{option_map, option_map_or}
 use Rattle.zr_id.specs.Zid.{is_named}
 use Rattle.zr_id.specs.declared.link.LinkNo.{LinkNo}
@@ -14,6 +14,7 @@ use Rattle.zr_node_spec.specs.State.{tables}
 use Rattle.zr_world_spec.specs.World.{RouterState, WorldState, router_of, client_of}
 use Rattle.zr_world_spec.specs.Joined.{graph}
 use Rattle.zr_world_spec.specs.Moments.{Numbered}
+use Rattle.zr_guarantee.specs.Latest.{asks_latest}
 use Rattle.zr_guarantee.specs.Queries.{Asked, asks}
 use Rattle.zr_law_queries.specs.Query.{Tree, IsTree, is_child}
 use Rattle.zr_law_queries.specs.Courses.{Chain}
@@ -63,7 +64,7 @@ children_at w q x =
     if is_named q.client x then home_of w q.client ∷ []
     else option_map_or (λ r. neighbours_of r.node.links (links_from r (parent_of w q.client x) (named_at w q.client x) q.target q.content.key)) (router_of w.routers x) []
 
--- the tree of a query
+-- the tree of a query; where it asks for the latest, the router of its client gathers
 abbrev pub tree_at : WorldState → Asked → Tree (List ℕ)
 tree_at w q = record {
   same = is_named;
@@ -72,6 +73,7 @@ tree_at w q = record {
   parent = parent_of w q.client;
   passes = passes_at w q.client;
   height = height_at w q.client;
+  gathers = λ x. asks_latest q && is_named (home_of w q.client) x;
 }
 
 -- it is a tree, and the clients at its ends are those that the query asks, by the acts that led to the world

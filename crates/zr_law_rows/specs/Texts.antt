@@ -6,7 +6,7 @@ use Rattle.zr_msg.specs.declared.decl.Kind.TheVariants as k
 use Rattle.zr_msg.specs.declared.decl.Decl.{Decl}
 use Rattle.zr_msg.specs.declared.msg.Target.TheVariants.{Best, All, Complete}
 use Rattle.zr_msg.specs.declared.msg.Msg.TheVariants.{Sub, Unsub, Able, Unable, Interest, EndInterest, ToldSub, ToldAble, ToldUnsub, ToldUnable, ToldEnd, Push, Request, Response, Final, State, Step, Snap}
-use Rattle.zr_script_spec.specs.Command.{plain, query_body, reply_body}
+use Rattle.zr_script_spec.specs.Command.{plain, query_body, latest_body, reply_body, timed_body}
 use Rattle.zr_script_spec.specs.Report.{msg_text}
 
 -- three identifiers
@@ -65,7 +65,9 @@ pub record ContentsAreTold : Type 0 where
   pub get_best : msg_text (Request None 7 Best (plain (codes "a") query_body)) ≡ codes "get - 7 a best"
   pub get_all : msg_text (Request (Some two) 1 All (plain (codes "a") query_body)) ≡ codes "get 02 1 a all"
   pub get_complete : msg_text (Request None 7 Complete (plain (codes "a") query_body)) ≡ codes "get - 7 a complete"
+  pub get_latest : msg_text (Request None 7 Best (plain (codes "a") latest_body)) ≡ codes "get - 7 a best latest"
   pub reply : msg_text (Response 7 (plain (codes "a") (reply_body (codes "z")))) ≡ codes "reply 7 a z"
+  pub reply_timed : msg_text (Response 7 (plain (codes "a") (timed_body 5 one (codes "z")))) ≡ codes "reply 7 a z 5"
   pub reply_deletes : msg_text (Response 7 (plain (codes "a") end_body)) ≡ codes "reply 7 a -"
   pub reply_fails : msg_text (Response 7 (plain (codes "a") error_body)) ≡ codes "reply 7 a no"
   pub final : msg_text (Final 7 no_extras) ≡ codes "final 7"

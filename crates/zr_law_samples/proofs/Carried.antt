@@ -80,8 +80,8 @@ module _ (n : NodeState) where
   from_none from (ToldEnd interest) to e = tt
   from_none from (Push tree content) to e = absurd (true≢false (ap is_some e))
   from_none from (Request tree id target content) to e = absurd (true≢false (ap is_some e))
-  from_none from (Response id content) to e = reply_all CarriesNone (λ number content. refl) n.pending from id content to
-  from_none from (Final id extras) to e = final_all CarriesNone (λ number extras. refl) n.pending from id extras to
+  from_none from (Response id content) to e = reply_all CarriesNone (λ number content. refl) n.pending n.held from id content to
+  from_none from (Final id extras) to e = final_all CarriesNone (λ number extras. refl) (λ number content. refl) n.pending n.held from id extras to
   from_none from (State r) to e = none_if (leads_to_router n.links from && records.is_newer n.base r && is_other_router n from to) (State r ∷ []) (refl, tt)
   from_none from (Step source number added decl) to e =
       none_if (leads_to_router n.links from && (is_next n.known source number && is_to_child (tables n) source to)) (Step source number added decl ∷ []) (refl, tt)

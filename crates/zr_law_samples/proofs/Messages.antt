@@ -44,14 +44,14 @@ module _ (P : Msg → Type 0) where
   by_kind sub unsub able unable push request state step snap quiet (m.Snap source number decls) = snap source number decls
   by_kind sub unsub able unable push request state step snap quiet (m.Response number content) = quiet (m.Response number content) (record {
     carries = refl;
-    sends = λ node from to. none_carried (sends_reply node.pending from number content to) (reply_all (λ z. carried_by z ≡ None) (λ n c. refl) node.pending from number content to);
-    calms = λ node from to. all_pass (λ z. not (unsettles z)) (sends_reply node.pending from number content to) (reply_all (λ z. not (unsettles z) ≡ true) (λ n c. refl) node.pending from number content to);
+    sends = λ node from to. none_carried (sends_reply node.pending node.held from number content to) (reply_all (λ z. carried_by z ≡ None) (λ n c. refl) node.pending node.held from number content to);
+    calms = λ node from to. all_pass (λ z. not (unsettles z)) (sends_reply node.pending node.held from number content to) (reply_all (λ z. not (unsettles z) ≡ true) (λ n c. refl) node.pending node.held from number content to);
     keeps = λ node from. refl;
   })
   by_kind sub unsub able unable push request state step snap quiet (m.Final number extras) = quiet (m.Final number extras) (record {
     carries = refl;
-    sends = λ node from to. none_carried (sends_final node.pending from number extras to) (final_all (λ z. carried_by z ≡ None) (λ n e. refl) node.pending from number extras to);
-    calms = λ node from to. all_pass (λ z. not (unsettles z)) (sends_final node.pending from number extras to) (final_all (λ z. not (unsettles z) ≡ true) (λ n e. refl) node.pending from number extras to);
+    sends = λ node from to. none_carried (sends_final node.pending node.held from number extras to) (final_all (λ z. carried_by z ≡ None) (λ n e. refl) (λ n c. refl) node.pending node.held from number extras to);
+    calms = λ node from to. all_pass (λ z. not (unsettles z)) (sends_final node.pending node.held from number extras to) (final_all (λ z. not (unsettles z) ≡ true) (λ n e. refl) (λ n c. refl) node.pending node.held from number extras to);
     keeps = λ node from. refl;
   })
   by_kind sub unsub able unable push request state step snap quiet msg =

@@ -244,8 +244,8 @@ module _ (n : NodeState) where
         keeps (From link (Push tree content)) refl refl (λ to. push_silent brings (tables n) link.0 content (λ tree. refl) (tree_of (tables n) (link_at n.links link.0) tree) to.0)
     from_brings sets link (Request tree id target content) came =
         keeps (From link (Request tree id target content)) refl refl (λ to. request_silent brings brings_none (tables n) n.pending link.0 tree id target content to.0)
-    from_brings sets link (Response id content) came = keeps (From link (Response id content)) refl refl (λ to. reply_silent brings brings_none n.pending link.0 id content to.0)
-    from_brings sets link (Final id extras) came = keeps (From link (Final id extras)) refl refl (λ to. final_silent brings brings_none n.pending link.0 id extras to.0)
+    from_brings sets link (Response id content) came = keeps (From link (Response id content)) refl refl (λ to. reply_silent brings brings_none n.pending n.held link.0 id content to.0)
+    from_brings sets link (Final id extras) came = keeps (From link (Final id extras)) refl refl (λ to. final_silent brings brings_none n.pending n.held link.0 id extras to.0)
     from_brings sets link (State r) came = keeps (From link (State r)) refl refl (λ to. silent_if brings (leads_to_router n.links link.0 && is_newer n.base r && is_other_router n link.0 to.0) (State r ∷ []) refl)
     from_brings sets link (Step source number added decl) came = step_brings link source number added decl came
     from_brings sets link (Snap source number ds) came = snap_brings link source number ds sets came
@@ -255,6 +255,6 @@ module _ (n : NodeState) where
 
     pub down_brings : (link : LinkNo) → Brings n (Down link) made most
     down_brings link = rows_bring (Down link) (rows_left n link.0) refl refl (λ to.
-        behind_ends brings brings_none n.pending link.0 to.0 (sends_down n link.0 (link_at n.links link.0) to.0 ++ sends_rows n (rows_left n link.0) to.0)
+        behind_ends brings brings_none n.pending n.held link.0 to.0 (sends_down n link.0 (link_at n.links link.0) to.0 ++ sends_rows n (rows_left n link.0) to.0)
         ∙ flat_map-append brings (sends_down n link.0 (link_at n.links link.0) to.0) (sends_rows n (rows_left n link.0) to.0)
         ∙ ap (λ z. z ++ flat_map brings (sends_rows n (rows_left n link.0) to.0)) (down_silent link.0 (link_at n.links link.0) to.0))

@@ -202,8 +202,8 @@ module _ (n : NodeState) where
     from_follows link (ToldEnd interest) = keeps (From link (ToldEnd interest)) refl (λ to. refl)
     from_follows link (Push tree content) = keeps (From link (Push tree content)) refl (λ to. push_silent places_in (tables n) link.0 content (λ tree. refl) (tree_of (tables n) (link_at n.links link.0) tree) to.0)
     from_follows link (Request tree id target content) = keeps (From link (Request tree id target content)) refl (λ to. request_silent places_in no_places (tables n) n.pending link.0 tree id target content to.0)
-    from_follows link (Response id content) = keeps (From link (Response id content)) refl (λ to. reply_silent places_in no_places n.pending link.0 id content to.0)
-    from_follows link (Final id extras) = keeps (From link (Final id extras)) refl (λ to. final_silent places_in no_places n.pending link.0 id extras to.0)
+    from_follows link (Response id content) = keeps (From link (Response id content)) refl (λ to. reply_silent places_in no_places n.pending n.held link.0 id content to.0)
+    from_follows link (Final id extras) = keeps (From link (Final id extras)) refl (λ to. final_silent places_in no_places n.pending n.held link.0 id extras to.0)
     from_follows link (State r) = keeps (From link (State r)) refl (λ to. silent_if places_in (leads_to_router n.links link.0 && is_newer n.base r && is_other_router n link.0 to.0) (State r ∷ []) refl)
     from_follows link (Step source number added decl) =
         taken_follow link (Step source number added decl) source number refl (log.is_next n.known source number) (known_step n link.0 source number (record { added = added; decl = decl })) refl refl
@@ -226,7 +226,7 @@ module _ (n : NodeState) where
         first : (to : LinkNo) (z : Name) → best z (places (sends_first n (Down link) to)) ≡ best z (places (sends_rows n (rows_left n link.0) to.0))
         first to z =
             let behind : best z (places (sends_first n (Down link) to)) ≡ best z (places (sends_down n link.0 (link_at n.links link.0) to.0 ++ sends_rows n (rows_left n link.0) to.0)) =
-            ap (best z) (behind_ends places_in no_places n.pending link.0 to.0 (sends_down n link.0 (link_at n.links link.0) to.0 ++ sends_rows n (rows_left n link.0) to.0)) in
+            ap (best z) (behind_ends places_in no_places n.pending n.held link.0 to.0 (sends_down n link.0 (link_at n.links link.0) to.0 ++ sends_rows n (rows_left n link.0) to.0)) in
             let e = best_both z (sends_down n link.0 (link_at n.links link.0) to.0) (sends_rows n (rows_left n link.0) to.0) in
             let none : best z (places (sends_down n link.0 (link_at n.links link.0) to.0)) ≡ 0 = ap (best z) (down_silent link.0 (link_at n.links link.0) to.0) in
             omega (arith, behind, e, none)
@@ -252,7 +252,7 @@ module _ (n : NodeState) where
 
       silent : (to : LinkNo) → places (sends_first n (Down link) to) ≡ []
       silent to =
-          behind_ends places_in no_places n.pending link.0 to.0 (sends_down n link.0 (link_at n.links link.0) to.0 ++ sends_rows n (rows_left n link.0) to.0)
+          behind_ends places_in no_places n.pending n.held link.0 to.0 (sends_down n link.0 (link_at n.links link.0) to.0 ++ sends_rows n (rows_left n link.0) to.0)
           ∙ places-append (sends_down n link.0 (link_at n.links link.0) to.0) (sends_rows n (rows_left n link.0) to.0)
           ∙ ap (λ z. z ++ places (sends_rows n (rows_left n link.0) to.0)) (down_silent link.0 (link_at n.links link.0) to.0)
           ∙ ap (λ rows. places (sends_rows n rows to.0)) rows_same

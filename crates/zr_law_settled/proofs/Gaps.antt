@@ -176,8 +176,8 @@ module _ (n : NodeState) (z : Name) (top : ℕ) where
         none_climb (sends_first n (From link (Push tree content)) to) (push_silent brings (tables n) link.0 content (λ tree. refl) (tree_of (tables n) (link_at n.links link.0) tree) to.0)
     from_climbs link (Request tree id target content) =
         none_climb (sends_first n (From link (Request tree id target content)) to) (request_silent brings brings_none (tables n) n.pending link.0 tree id target content to.0)
-    from_climbs link (Response id content) = none_climb (sends_first n (From link (Response id content)) to) (reply_silent brings brings_none n.pending link.0 id content to.0)
-    from_climbs link (Final id extras) = none_climb (sends_first n (From link (Final id extras)) to) (final_silent brings brings_none n.pending link.0 id extras to.0)
+    from_climbs link (Response id content) = none_climb (sends_first n (From link (Response id content)) to) (reply_silent brings brings_none n.pending n.held link.0 id content to.0)
+    from_climbs link (Final id extras) = none_climb (sends_first n (From link (Final id extras)) to) (final_silent brings brings_none n.pending n.held link.0 id extras to.0)
     from_climbs link (State r) =
         none_climb (sends_first n (From link (State r)) to) (silent_if brings (leads_to_router n.links link.0 && is_newer n.base r && is_other_router n link.0 to.0) (State r ∷ []) refl)
     from_climbs link (Step source number added decl) = step_climbs link.0 source number added decl
@@ -186,7 +186,7 @@ module _ (n : NodeState) (z : Name) (top : ℕ) where
     first_climbs : (event : Event) → Gapless z top (flat_map brings (sends_first n event to))
     first_climbs (Up link peer) = none_climb (sends_first n (Up link peer) to) (up_silent n link.0 peer peer.role to.0)
     first_climbs (Down link) =
-        subst (λ ms. Gapless z top ms) (sym (behind_ends brings brings_none n.pending link.0 to.0 (sends_down n link.0 (link_at n.links link.0) to.0 ++ sends_rows n (rows_left n link.0) to.0)
+        subst (λ ms. Gapless z top ms) (sym (behind_ends brings brings_none n.pending n.held link.0 to.0 (sends_down n link.0 (link_at n.links link.0) to.0 ++ sends_rows n (rows_left n link.0) to.0)
         ∙ flat_map-append brings (sends_down n link.0 (link_at n.links link.0) to.0) (sends_rows n (rows_left n link.0) to.0)
         ∙ ap (λ q. q ++ flat_map brings (sends_rows n (rows_left n link.0) to.0)) (down_silent n link.0 (link_at n.links link.0) to.0))) (rows_climb (rows_left n link.0))
     first_climbs (From link msg) = from_climbs link msg

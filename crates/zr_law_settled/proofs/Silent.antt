@@ -101,8 +101,8 @@ module _ (n : NodeState) where
   from_silent from (ToldEnd interest) to e = refl
   from_silent from (Push tree content) to e = push_silent notes_in (tables n) from content (λ tree. refl) (tree_of (tables n) (link_at n.links from) tree) to
   from_silent from (Request tree id target content) to e = request_silent notes_in no_notes (tables n) n.pending from tree id target content to
-  from_silent from (Response id content) to e = reply_silent notes_in no_notes n.pending from id content to
-  from_silent from (Final id extras) to e = final_silent notes_in no_notes n.pending from id extras to
+  from_silent from (Response id content) to e = reply_silent notes_in no_notes n.pending n.held from id content to
+  from_silent from (Final id extras) to e = final_silent notes_in no_notes n.pending n.held from id extras to
   from_silent from (State links) to e = absurd (cc)
   from_silent from (Step source number added decl) to e =
       silent_if notes_in (leads_to_router n.links from && (is_next n.known source number && is_to_child (tables n) source to)) (Step source number added decl ∷ []) refl
@@ -139,7 +139,7 @@ module _ (n : NodeState) where
 
   pub down_tells_first : (link to : LinkNo) → told (sends_first n (Down link) to) ≡ told (sends_down n link.0 (link_at n.links link.0) to.0)
   down_tells_first link to =
-      behind_ends notes_in no_notes n.pending link.0 to.0 (sends_down n link.0 (link_at n.links link.0) to.0 ++ sends_rows n (rows_left n link.0) to.0)
+      behind_ends notes_in no_notes n.pending n.held link.0 to.0 (sends_down n link.0 (link_at n.links link.0) to.0 ++ sends_rows n (rows_left n link.0) to.0)
       ∙ told-append (sends_down n link.0 (link_at n.links link.0) to.0) (sends_rows n (rows_left n link.0) to.0)
       ∙ ap (λ z. told (sends_down n link.0 (link_at n.links link.0) to.0) ++ z) (rows_silent (rows_left n link.0) to.0)
       ∙ append-nil (told (sends_down n link.0 (link_at n.links link.0) to.0))

@@ -164,8 +164,8 @@ module _ (ever : Ever) (x : Name) (n : NodeState) (h : IsWithin ever x n) where
   down_weighs link =
       rows_weigh (Down link) (rows_left n link.0) 0
       (costs_if (ever x) n.rows (left n.rows link.0) 0 (leads_to_client n.links link.0) h.rows (costs_less (ever x) n.rows (λ r. not (r.link.0 == link.0)) h.rows)) refl refl (leave (leads_to_client n.links link.0))
-      (λ to sent. All-append (IsSent ever) (sends_ends n.pending link.0 to.0) (sends_down n link.0 (link_at n.links link.0) to.0 ++ sends_rows n (rows_left n link.0) to.0)
-      (ends_all (IsSent ever) (λ number extras. (tt, refl)) n.pending link.0 to.0)
+      (λ to sent. All-append (IsSent ever) (sends_ends n.pending n.held link.0 to.0) (sends_down n link.0 (link_at n.links link.0) to.0 ++ sends_rows n (rows_left n link.0) to.0)
+      (ends_all (IsSent ever) (λ number extras. (tt, refl)) (λ number content. (tt, refl)) n.pending n.held link.0 to.0)
       (All-append (IsSent ever) (sends_down n link.0 (link_at n.links link.0) to.0) (sends_rows n (rows_left n link.0) to.0) (down_sent ever n link.0 (link_at n.links link.0) to.0) sent))
     where
       leave : (t : Bool) → clients_weight (cond t (clients_left n.clients link.0) n.clients) ≤ clients_weight n.clients
@@ -220,9 +220,9 @@ module _ (ever : Ever) (x : Name) (n : NodeState) (h : IsWithin ever x n) where
   from_weighs link (Request tree id target content) g t = quiet_weigh (From link (Request tree id target content)) refl refl refl (λ to.
       request_all (IsSent ever) (λ number extras. (tt, refl)) (λ tree number target content. (tt, refl)) (tables n) n.pending link.0 tree id target content to.0)
   from_weighs link (Response id content) g t = quiet_weigh (From link (Response id content)) refl refl refl (λ to.
-      reply_all (IsSent ever) (λ number content. (tt, refl)) n.pending link.0 id content to.0)
+      reply_all (IsSent ever) (λ number content. (tt, refl)) n.pending n.held link.0 id content to.0)
   from_weighs link (Final id extras) g t = quiet_weigh (From link (Final id extras)) refl refl refl (λ to.
-      final_all (IsSent ever) (λ number extras. (tt, refl)) n.pending link.0 id extras to.0)
+      final_all (IsSent ever) (λ number extras. (tt, refl)) (λ number content. (tt, refl)) n.pending n.held link.0 id extras to.0)
   from_weighs link (State r) g t =
       quiet_weigh (From link (State r)) refl refl refl (λ to. sent_if ever (leads_to_router n.links link.0 && is_newer n.base r && is_other_router n link.0 to.0) (State r ∷ []) ((tt, refl), tt))
   from_weighs link (Step source number added decl) g t =

@@ -11,3 +11,4 @@ pub mod Telling
 pub mod Sound
 pub mod Counting
 pub mod Lines
+pub mod Asks

@@ -2,4 +2,4 @@ use Rattle.zr_law_queries.proofs.Replies as law
 use Rattle.zr_law_queries.proofs.queries.moves_bring.Goals as goal
 
 pub returns : goal.returns
-returns g c = law.law g.row.N.Denot g.row.R.Denot
+returns g c = law.law g.row.N.Denot g.row.R.Denot g.row.C.Denot

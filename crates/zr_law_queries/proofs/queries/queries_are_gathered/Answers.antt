@@ -1,0 +1,5 @@
+use Rattle.zr_law_queries.proofs.Courses as law
+use Rattle.zr_law_queries.proofs.queries.queries_are_gathered.Goals as goal
+
+pub returns : goal.returns
+returns g c = law.gathered_law g.row.N.Denot g.row.R.Denot g.row.C.Denot
