@@ -19,6 +19,10 @@ OfRead (Some all) after P = (read : List ℕ) × (rest : List ℕ) × (all ≡ r
 abbrev pub OfLines : Option (List ℕ) → Option (List ℕ) → (List (List ℕ) → Type 0) → Type 0
 OfLines before after P = OfRead before after (λ read. (to_end : Bool) → P (judged_lines to_end read))
 
+-- so too, but where they are the whole script it has no more bytes than a script may have
+abbrev pub OfScriptLines : Option (List ℕ) → Option (List ℕ) → (List (List ℕ) → Type 0) → Type 0
+OfScriptLines before after P = OfRead before after (λ read. (to_end : Bool) → (to_end ≡ true → length read ≤ most_bytes) → P (judged_lines to_end read))
+
 -- What was written to out and to err, by the status, where these bytes were read, to the end of the script or not.
 -- Done: it was read to its end and is not refused, and out gained its whole report; err gained nothing.
 -- Refused: it is refused by what was read, out gained the report of the lines before that, and err the one line that tells why, with the

@@ -9,8 +9,8 @@ use Rattle.zr_script_spec.specs.declared.command.Mode.{Mode}
 use Rattle.zr_script_spec.specs.declared.error.ScriptError.{ScriptError}
 use Rattle.zr_script_spec.specs.declared.error.ScriptError.TheVariants.{BadWords}
 use Rattle.zr_script_spec.specs.Step.{◌>>=◌, IsSaid}
-use Rattle.zr_script_spec.specs.Command.{plain, query_body, reply_body, interest_line, get_line, reply_line}
-use Rattle.zr_script_spec.specs.Words.{five_of, four_of, target_at, key_at, optional_key_at, payload_at}
+use Rattle.zr_script_spec.specs.Command.{plain, asking_body, answer_body, interest_line, get_line, reply_line}
+use Rattle.zr_script_spec.specs.Words.{five_of, four_of, target_at, latest_at, time_at, key_at, optional_key_at, payload_at}
 use Rattle.zr_script.specs.Args.{LeadsOn, numbered_then, terms_then}
 use Rattle.zr_script.proofs.Leading.{stays, stay_words}
 
@@ -54,61 +54,91 @@ interest_words ws e h = stay_words e (five_of ws) (λ w. numbered_then w.0 w.1 (
 
 -- ---- get
 
-module _ (ws : List (List ℕ)) (a b t w : List ℕ) (words_are : ws ≡ a ∷ b ∷ t ∷ w ∷ []) where
-  abbrev asked : List ℕ → ℕ → Target → List ℕ → Result Command ScriptError
-  asked client number target key = Ok (Act (Get client number target (plain key query_body)))
+module _ (ws more : List (List ℕ)) (a b t w : List ℕ) (words_are : ws ≡ a ∷ b ∷ t ∷ w ∷ more) where
+  abbrev asked : List ℕ → ℕ → Target → Bool → List ℕ → Result Command ScriptError
+  asked client number target latest key = Ok (Act (Get client number target (plain key (asking_body latest))))
 
-  get_is : get_line ws ≡ numbered_then a b (λ y. target_at w >>= λ target. key_at t >>= λ key. asked y.0 y.1 target key)
+  abbrev about : List ℕ → ℕ → Target → Bool → Result Command ScriptError
+  about client number target latest = key_at t >>= λ key. asked client number target latest key
+
+  abbrev aimed_at : List ℕ → ℕ → Target → Result Command ScriptError
+  aimed_at client number target = latest_at more >>= λ latest. about client number target latest
+
+  get_is : get_line ws ≡ numbered_then a b (λ y. target_at w >>= λ target. aimed_at y.0 y.1 target)
   unfolding get_line
   get_is = ap get_line words_are
 
   pub get_stays : (e : ScriptError) → LeadsOn {X = List ℕ × ℕ} (Err e) (numbered_then a b) → IsSaid {X = Command} (Err e) (get_line ws)
-  get_stays e h = subst (Refuses e) (sym get_is) (h (λ y. target_at w >>= λ target. key_at t >>= λ key. asked y.0 y.1 target key))
+  get_stays e h = subst (Refuses e) (sym get_is) (h (λ y. target_at w >>= λ target. aimed_at y.0 y.1 target))
 
   module _ (client : List ℕ) (number : ℕ) (begins : LeadsOn (Ok (client, number)) (numbered_then a b)) where
-    asks : get_line ws ≡ (target_at w >>= λ target. key_at t >>= λ key. asked client number target key)
-    asks = get_is ∙ begins (λ y. target_at w >>= λ target. key_at t >>= λ key. asked y.0 y.1 target key)
+    asks : get_line ws ≡ (target_at w >>= λ target. aimed_at client number target)
+    asks = get_is ∙ begins (λ y. target_at w >>= λ target. aimed_at y.0 y.1 target)
 
     pub get_stays_target : (e : ScriptError) → IsSaid {X = Target} (Err e) (target_at w) → IsSaid {X = Command} (Err e) (get_line ws)
-    get_stays_target e h = subst (Refuses e) (sym asks) (stays e (target_at w) (λ target. key_at t >>= λ key. asked client number target key) h)
+    get_stays_target e h = subst (Refuses e) (sym asks) (stays e (target_at w) (λ target. aimed_at client number target) h)
 
     module _ (target : Target) (aims : target_at w ≡ Ok target) where
-      aimed : get_line ws ≡ (key_at t >>= λ key. asked client number target key)
-      aimed = asks ∙ ap (λ m. m >>= λ target. key_at t >>= λ key. asked client number target key) aims
+      aimed : get_line ws ≡ aimed_at client number target
+      aimed = asks ∙ ap (λ m. m >>= λ target. aimed_at client number target) aims
 
-      pub get_stays_key : (e : ScriptError) → IsSaid {X = List ℕ} (Err e) (key_at t) → IsSaid {X = Command} (Err e) (get_line ws)
-      get_stays_key e h = subst (Refuses e) (sym aimed) (stays e (key_at t) (λ key. asked client number target key) h)
+      pub get_stays_latest : (e : ScriptError) → IsSaid {X = Bool} (Err e) (latest_at more) → IsSaid {X = Command} (Err e) (get_line ws)
+      get_stays_latest e h = subst (Refuses e) (sym aimed) (stays e (latest_at more) (λ latest. about client number target latest) h)
 
-      pub get_leads : (key : List ℕ) → key_at t ≡ Ok key → (r : Result Command ScriptError) → IsSaid r (Ok (Act (Get client number target (plain key query_body)))) → IsSaid r (get_line ws)
-      get_leads key h r done = subst (IsSaid r) (sym (aimed ∙ ap (λ m. m >>= λ key. asked client number target key) h)) done
+      module _ (latest : Bool) (wants : latest_at more ≡ Ok latest) where
+        wanted : get_line ws ≡ about client number target latest
+        wanted = aimed ∙ ap (λ m. m >>= λ latest. about client number target latest) wants
+
+        pub get_stays_key : (e : ScriptError) → IsSaid {X = List ℕ} (Err e) (key_at t) → IsSaid {X = Command} (Err e) (get_line ws)
+        get_stays_key e h = subst (Refuses e) (sym wanted) (stays e (key_at t) (λ key. asked client number target latest key) h)
+
+        pub get_leads : (key : List ℕ) → key_at t ≡ Ok key → (r : Result Command ScriptError) → IsSaid r (Ok (Act (Get client number target (plain key (asking_body latest)))))
+            → IsSaid r (get_line ws)
+        get_leads key h r done = subst (IsSaid r) (sym (wanted ∙ ap (λ m. m >>= λ key. asked client number target latest key) h)) done
 
 pub get_words : (ws : List (List ℕ)) (e : ScriptError) → (e ≡ BadWords) × (four_of ws ≡ Err BadWords) → IsSaid {X = Command} (Err e) (get_line ws)
 unfolding get_line
-get_words ws e h = stay_words e (four_of ws) (λ w. numbered_then w.0 w.1 (λ y. target_at w.3 >>= λ target. key_at w.2 >>= λ key. Ok (Act (Get y.0 y.1 target (plain key query_body))))) h
+get_words ws e h =
+    stay_words e (four_of ws)
+    (λ w. numbered_then w.0 w.1 (λ y. target_at w.3 >>= λ target. latest_at w.4 >>= λ latest. key_at w.2 >>= λ key. Ok (Act (Get y.0 y.1 target (plain key (asking_body latest))))))
+    h
 
 -- ---- reply
 
-module _ (ws : List (List ℕ)) (a b t w : List ℕ) (words_are : ws ≡ a ∷ b ∷ t ∷ w ∷ []) where
-  abbrev replied : List ℕ → ℕ → List ℕ → Result Command ScriptError
-  replied client number key = Ok (Act (Reply client number (plain key (reply_body (payload_at w)))))
+module _ (ws more : List (List ℕ)) (a b t w : List ℕ) (words_are : ws ≡ a ∷ b ∷ t ∷ w ∷ more) where
+  abbrev replied : List ℕ → ℕ → Option ℕ → List ℕ → Result Command ScriptError
+  replied client number time key = Ok (Act (Reply client number (plain key (answer_body time client (payload_at w)))))
 
-  reply_is : reply_line ws ≡ numbered_then a b (λ y. key_at t >>= λ key. replied y.0 y.1 key)
+  abbrev timed : List ℕ → ℕ → Option ℕ → Result Command ScriptError
+  timed client number time = key_at t >>= λ key. replied client number time key
+
+  reply_is : reply_line ws ≡ numbered_then a b (λ y. time_at more >>= λ time. timed y.0 y.1 time)
   unfolding reply_line
   reply_is = ap reply_line words_are
 
   pub reply_stays : (e : ScriptError) → LeadsOn {X = List ℕ × ℕ} (Err e) (numbered_then a b) → IsSaid {X = Command} (Err e) (reply_line ws)
-  reply_stays e h = subst (Refuses e) (sym reply_is) (h (λ y. key_at t >>= λ key. replied y.0 y.1 key))
+  reply_stays e h = subst (Refuses e) (sym reply_is) (h (λ y. time_at more >>= λ time. timed y.0 y.1 time))
 
   module _ (client : List ℕ) (number : ℕ) (begins : LeadsOn (Ok (client, number)) (numbered_then a b)) where
-    answers : reply_line ws ≡ (key_at t >>= λ key. replied client number key)
-    answers = reply_is ∙ begins (λ y. key_at t >>= λ key. replied y.0 y.1 key)
+    answers : reply_line ws ≡ (time_at more >>= λ time. timed client number time)
+    answers = reply_is ∙ begins (λ y. time_at more >>= λ time. timed y.0 y.1 time)
 
-    pub reply_stays_key : (e : ScriptError) → IsSaid {X = List ℕ} (Err e) (key_at t) → IsSaid {X = Command} (Err e) (reply_line ws)
-    reply_stays_key e h = subst (Refuses e) (sym answers) (stays e (key_at t) (λ key. replied client number key) h)
+    pub reply_stays_time : (e : ScriptError) → IsSaid {X = Option ℕ} (Err e) (time_at more) → IsSaid {X = Command} (Err e) (reply_line ws)
+    reply_stays_time e h = subst (Refuses e) (sym answers) (stays e (time_at more) (λ time. timed client number time) h)
 
-    pub reply_leads : (key : List ℕ) → key_at t ≡ Ok key → (r : Result Command ScriptError) → IsSaid r (Ok (Act (Reply client number (plain key (reply_body (payload_at w)))))) → IsSaid r (reply_line ws)
-    reply_leads key h r done = subst (IsSaid r) (sym (answers ∙ ap (λ m. m >>= λ key. replied client number key) h)) done
+    module _ (time : Option ℕ) (given : time_at more ≡ Ok time) where
+      dated : reply_line ws ≡ timed client number time
+      dated = answers ∙ ap (λ m. m >>= λ time. timed client number time) given
+
+      pub reply_stays_key : (e : ScriptError) → IsSaid {X = List ℕ} (Err e) (key_at t) → IsSaid {X = Command} (Err e) (reply_line ws)
+      reply_stays_key e h = subst (Refuses e) (sym dated) (stays e (key_at t) (λ key. replied client number time key) h)
+
+      pub reply_leads : (key : List ℕ) → key_at t ≡ Ok key → (r : Result Command ScriptError)
+          → IsSaid r (Ok (Act (Reply client number (plain key (answer_body time client (payload_at w)))))) → IsSaid r (reply_line ws)
+      reply_leads key h r done = subst (IsSaid r) (sym (dated ∙ ap (λ m. m >>= λ key. replied client number time key) h)) done
 
 pub reply_words : (ws : List (List ℕ)) (e : ScriptError) → (e ≡ BadWords) × (four_of ws ≡ Err BadWords) → IsSaid {X = Command} (Err e) (reply_line ws)
 unfolding reply_line
-reply_words ws e h = stay_words e (four_of ws) (λ w. numbered_then w.0 w.1 (λ y. key_at w.2 >>= λ key. Ok (Act (Reply y.0 y.1 (plain key (reply_body (payload_at w.3))))))) h
+reply_words ws e h =
+    stay_words e (four_of ws)
+    (λ w. numbered_then w.0 w.1 (λ y. time_at w.4 >>= λ time. key_at w.2 >>= λ key. Ok (Act (Reply y.0 y.1 (plain key (answer_body time y.0 (payload_at w.3))))))) h

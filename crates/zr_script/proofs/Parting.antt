@@ -48,17 +48,17 @@ three_more ws (b ∷ []) a e h = ap three_of e
 three_more ws (b ∷ c ∷ []) a e h = absurd (cc)
 three_more ws (b ∷ c ∷ d ∷ more) a e h = ap three_of e
 
-pub four_more : (ws more : List (List ℕ)) (a : List ℕ) → ws ≡ a ∷ more → three_of more ≡ Err BadWords → four_of ws ≡ Err BadWords
-four_more ws [] a e h = ap four_of e
-four_more ws (b ∷ []) a e h = ap four_of e
-four_more ws (b ∷ c ∷ []) a e h = ap four_of e
-four_more ws (b ∷ c ∷ d ∷ []) a e h = absurd (cc)
-four_more ws (b ∷ c ∷ d ∷ f ∷ more) a e h = ap four_of e
-
 pub few_two : (ws : List (List ℕ)) → length ws < 2 → some_two_of ws ≡ Err BadWords
 few_two [] le = refl
 few_two (a ∷ []) le = refl
 few_two (a ∷ b ∷ more) le = absurd (omega arith)
+
+pub few_four : (ws : List (List ℕ)) → length ws < 4 → four_of ws ≡ Err BadWords
+few_four [] le = refl
+few_four (a ∷ []) le = refl
+few_four (a ∷ b ∷ []) le = refl
+few_four (a ∷ b ∷ c ∷ []) le = refl
+few_four (a ∷ b ∷ c ∷ d ∷ more) le = absurd (omega arith)
 
 pub few_five : (ws : List (List ℕ)) → length ws < 5 → five_of ws ≡ Err BadWords
 few_five [] le = refl

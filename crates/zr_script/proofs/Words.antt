@@ -68,9 +68,12 @@ third_short args a b c h e =
     let third = and_parts (nat_le (length c) most_line) true second.1 in
     payload_short c (leb-true (length c) most_line third.0)
 
--- the payload of the fourth of four words is short enough for a body
-pub fourth_short : (args : List (List ℕ)) (a b c d : List ℕ) → are_short args ≡ true → args ≡ a ∷ b ∷ c ∷ d ∷ [] → length (payload_at d) < 2 ^ 32
-fourth_short args a b c d h e =
-    let all : are_short (a ∷ b ∷ c ∷ d ∷ []) ≡ true = subst (λ ws. are_short ws ≡ true) e h in
-    let first = and_parts (nat_le (length a) most_line) (are_short (b ∷ c ∷ d ∷ [])) all in
-    third_short (b ∷ c ∷ d ∷ []) b c d first.1 refl
+-- so is that of the fourth word
+pub fourth_short : (args more : List (List ℕ)) (a b c d : List ℕ) → are_short args ≡ true → args ≡ a ∷ b ∷ c ∷ d ∷ more → length (payload_at d) < 2 ^ 32
+fourth_short args more a b c d h e =
+    let all : are_short (a ∷ b ∷ c ∷ d ∷ more) ≡ true = subst (λ ws. are_short ws ≡ true) e h in
+    let first = and_parts (nat_le (length a) most_line) (are_short (b ∷ c ∷ d ∷ more)) all in
+    let second = and_parts (nat_le (length b) most_line) (are_short (c ∷ d ∷ more)) first.1 in
+    let third = and_parts (nat_le (length c) most_line) (are_short (d ∷ more)) second.1 in
+    let fourth = and_parts (nat_le (length d) most_line) (are_short more) third.1 in
+    payload_short d (leb-true (length d) most_line fourth.0)

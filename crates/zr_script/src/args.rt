@@ -2,10 +2,10 @@
 
 ghost use Rattle.std.specs.Prelude.{◌≡◌, ◌==◌, ◌<◌, ◌∷◌, [], length, nat_lt, position, MatchOption, if◌then◌else◌};
 ghost use Rattle.zr_script_spec.specs.Step.{IsSaid};
-ghost use Rattle.zr_script_spec.specs.Words.{words, aggregate_at, link_weight_at, one_of, two_of, some_two_of, three_of, four_of, five_of};
+ghost use Rattle.zr_script_spec.specs.Words.{words, is_there, link_weight_at, time_at, one_of, two_of, some_two_of, three_of, four_of, five_of};
 ghost use Rattle.zr_script.specs.Args.{Takes, none_of};
 
-use crate::word::{is_word, weight};
+use crate::word::{is_word, number, weight};
 use zr_msg::peer::Weight;
 use zr_script_spec::error::ScriptError;
 
@@ -90,16 +90,18 @@ pub fn three(text: &[u8]) -> Result<(&[u8], &[u8], &[u8]), ScriptError>
     Ok((a, b, c))
 }
 
-/// The four words that there are.
-#[tactic(auto, using(crate::proofs::Parting::four_more))]
-pub fn four(text: &[u8]) -> Result<(&[u8], &[u8], &[u8], &[u8]), ScriptError>
-    ensures { Takes (λ x. x.0.now ∷ x.1.now ∷ x.2.now ∷ x.3.now ∷ []) result (four_of (words text.now)) (words text.now) }
+/// The first four words and what is behind them, where there are four at least.
+#[tactic(auto, using(crate::proofs::Parting::few_four))]
+pub fn four(text: &[u8]) -> Result<(&[u8], &[u8], &[u8], &[u8], &[u8]), ScriptError>
+    ensures { Takes (λ x. x.0.now ∷ x.1.now ∷ x.2.now ∷ x.3.now ∷ words x.4.now) result (four_of (words text.now)) (words text.now) }
 {
-    let Some((a, rest)) = first(text) else {
+    let Some((a, b, rest)) = pair(text) else {
         return Err(ScriptError::BadWords);
     };
-    let (b, c, d) = three(rest)?;
-    Ok((a, b, c, d))
+    let Some((c, d, rest)) = pair(rest) else {
+        return Err(ScriptError::BadWords);
+    };
+    Ok((a, b, c, d, rest))
 }
 
 /// The first five words and what is behind them, where there are five at least.
@@ -139,15 +141,27 @@ pub fn link_weight(text: &[u8]) -> Result<Weight, ScriptError>
     weight(word)
 }
 
-/// Whether the words behind an interest's key ask that all is told as one.
-pub fn aggregate(text: &[u8]) -> Result<bool, ScriptError>
-    ensures { IsSaid result (aggregate_at (words text.now)) }
+/// The time that the words behind a reply's payload spell, if there is one.
+pub fn time(text: &[u8]) -> Result<Option<u32>, ScriptError>
+    ensures { IsSaid result (time_at (words text.now)) }
 {
     let Some((word, rest)) = first(text) else {
+        return Ok(None);
+    };
+    none(rest)?;
+    let time = number(word)?;
+    Ok(Some(time))
+}
+
+/// Whether a word that may be left out stands there: it is the only one then.
+pub fn is_there(text: &[u8], word: &[u8]) -> Result<bool, ScriptError>
+    ensures { IsSaid result (is_there word.now (words text.now)) }
+{
+    let Some((only, rest)) = first(text) else {
         return Ok(false);
     };
     none(rest)?;
-    if is_word(word, b"aggregate") {
+    if is_word(only, word) {
         Ok(true)
     } else {
         Err(ScriptError::BadWords)

@@ -3,12 +3,14 @@
 ghost use Rattle.std.specs.Prelude.{◌≡◌, ◌≤◌, ◌<◌, ◌^◌, length, true, Ok};
 ghost use Rattle.zr_script_spec.specs.Lines.{most_line};
 ghost use Rattle.zr_script_spec.specs.Step.{IsSaid};
-ghost use Rattle.zr_script_spec.specs.Command.{command_of, by_words, by_name, by_later_name, by_last_name, is_command, is_later_command, is_last_command, is_silent, plain, query_body, reply_body, router_line, client_line, link_line, up_line, break_line, down_line, sub_line, unsub_line, able_line, unable_line, interest_line, uninterest_line, put_line, del_line, get_line, reply_line, end_line, handle_line, take_line, run_line, mark_line, show_line};
+ghost use Rattle.zr_script_spec.specs.Command.{command_of, by_words, by_name, by_later_name, by_last_name, is_command, is_later_command, is_last_command, is_silent, plain, asking_body, answer_body, router_line, client_line, link_line, up_line, break_line, down_line, sub_line, unsub_line, able_line, unable_line, interest_line, uninterest_line, put_line, del_line, get_line, reply_line, end_line, handle_line, take_line, run_line, mark_line, show_line};
 ghost use Rattle.zr_script_spec.specs.Words.{words, is_clean};
 ghost use Rattle.zr_script.specs.Args.{LeadsOn, names_then, linked_then, pair_then, numbered_then, keyed_then, terms_then};
 ghost use Rattle.zr_script.specs.Short.{are_short};
 
-use crate::args::{aggregate, first, five, four, link_weight, none, one, some_two, three, two};
+use crate::args::{
+    first, five, four, is_there, link_weight, none, one, some_two, three, time, two,
+};
 use crate::body::{query_body, reply_body};
 use crate::word::{
     is_clean, is_word, key, kinds, mode, number, optional_key, payload, target, zid,
@@ -365,7 +367,7 @@ fn terms(
 {
     let mode = mode(mode_word)?;
     let kinds = kinds(kinds_word)?;
-    let aggregate = aggregate(behind)?;
+    let aggregate = is_there(behind, b"aggregate")?;
     Ok((mode, kinds, aggregate))
 }
 
@@ -414,11 +416,12 @@ fn publish(alloc: Global, client: Zid, key: KeyExpr, body: Body) -> Result<Comma
 fn get(alloc: Global, args: &[u8]) -> Result<Command, ScriptError>
     ensures { IsSaid result (get_line (words args.now)) }
 {
-    let (client, id, text, word) = four(args)?;
+    let (client, id, text, word, behind) = four(args)?;
     let (client, number) = numbered_words(client, id)?;
     let target = target(word)?;
+    let latest = is_there(behind, b"latest")?;
     let key = key(alloc, text)?;
-    ask(alloc, client, number, target, key)
+    ask(alloc, client, number, target, latest, key)
 }
 
 fn ask(
@@ -426,11 +429,12 @@ fn ask(
     client: Zid,
     number: u32,
     target: Target,
+    latest: bool,
     key: KeyExpr,
 ) -> Result<Command, ScriptError>
-    ensures { IsSaid result (Ok (Command.Act (Act.Get client number target (plain key query_body)))) }
+    ensures { IsSaid result (Ok (Command.Act (Act.Get client number target (plain key (asking_body latest))))) }
 {
-    let body = query_body(alloc)?;
+    let body = query_body(alloc, latest)?;
     let content = Content::new(alloc, key, Extras::none(), body)?;
     let act = Act::Get {
         client,
@@ -446,23 +450,26 @@ fn reply(alloc: Global, args: &[u8]) -> Result<Command, ScriptError>
     requires { are_short (words args.now) ≡ true }
     ensures { IsSaid result (reply_line (words args.now)) }
 {
-    let (client, id, text, word) = four(args)?;
+    let (client, id, text, word, behind) = four(args)?;
     let (client, number) = numbered_words(client, id)?;
+    let time = time(behind)?;
     let key = key(alloc, text)?;
-    answer(alloc, client, number, key, payload(word))
+    answer(alloc, client, number, time, key, payload(word))
 }
 
+// The time of a reply is that of its client's clock.
 fn answer(
     alloc: Global,
     client: Zid,
     number: u32,
+    time: Option<u32>,
     key: KeyExpr,
     payload: &[u8],
 ) -> Result<Command, ScriptError>
     requires { length payload.now < 2 ^ 32 }
-    ensures { IsSaid result (Ok (Command.Act (Act.Reply client number (plain key (reply_body payload.now))))) }
+    ensures { IsSaid result (Ok (Command.Act (Act.Reply client number (plain key (answer_body time client payload.now))))) }
 {
-    let body = reply_body(alloc, payload)?;
+    let body = reply_body(alloc, time, &client, payload)?;
     let content = Content::new(alloc, key, Extras::none(), body)?;
     let act = Act::Reply {
         client,

@@ -3,16 +3,18 @@
 ghost use Rattle.std.specs.Prelude.{◌≡◌, ◌++◌, ◌∷◌, codes, OnOk};
 ghost use Rattle.std.specs.Fmt.{decimal};
 ghost use Rattle.std.specs.List.{flat_map};
+ghost use Rattle.zr_body.specs.Latest.{is_latest, stamp_of};
 ghost use Rattle.zr_body.specs.Payload.{payload_of};
 ghost use Rattle.zr_msg.specs.Groups.{group_of};
-ghost use Rattle.zr_script_spec.specs.Report.{id_text, optional_id_text, payload_text, interest_text, kinds_text, key_text, if_so, target_text, sign_text, linked_text, links_text, record_text, decl_text, msg_text};
+ghost use Rattle.zr_script_spec.specs.Report.{id_text, optional_id_text, payload_text, interest_text, kinds_text, key_text, if_so, target_text, time_text, sign_text, linked_text, links_text, record_text, decl_text, msg_text};
 
 use crate::part::{
-    able_text, aggregate_text, kind_text, kinds_text, mode_text, put_id, put_interest, put_key,
-    put_named, put_number, put_numbered, put_payload, put_word, sign_text, target_text,
+    able_text, aggregate_text, kind_text, kinds_text, latest_text, mode_text, put_id, put_interest,
+    put_key, put_named, put_number, put_numbered, put_payload, put_word, sign_text, target_text,
     told_able_text,
 };
 use std::alloc::AllocError;
+use zr_body::{Body, latest, stamp};
 use zr_id::record::{LinkRecord, Linked};
 use zr_id::zid::Zid;
 use zr_key::key::KeyExpr;
@@ -219,20 +221,32 @@ fn put_request(
     content: &Content,
     out: &mut Vec<u8>,
 ) -> Result<(), AllocError>
-    ensures { OnOk result (out.new.items ≡ out.old.items ++ (codes "get " ++ optional_id_text tree.now ++ codes " " ++ decimal id ++ codes " " ++ content.now.key ++ codes " " ++ target_text target)) }
+    ensures { OnOk result (out.new.items ≡ out.old.items ++ (codes "get " ++ optional_id_text tree.now ++ codes " " ++ decimal id ++ codes " " ++ content.now.key ++ codes " " ++ target_text target ++ if_so (is_latest content.now.body) (codes "latest"))) }
 {
     put_kind(b"get ", b"get - ", tree, out)?;
     put_number(u64::from(id), out)?;
     put_word(content.key().text().as_bytes(), out)?;
-    out.extend_from_slice(target_text(target))
+    out.extend_from_slice(target_text(target))?;
+    out.extend_from_slice(latest_text(latest(content.body())))
 }
 
 fn put_reply(id: u32, content: &Content, out: &mut Vec<u8>) -> Result<(), AllocError>
-    ensures { OnOk result (out.new.items ≡ out.old.items ++ (codes "reply " ++ decimal id ++ codes " " ++ content.now.key ++ codes " " ++ payload_text (payload_of content.now.body))) }
+    ensures { OnOk result (out.new.items ≡ out.old.items ++ (codes "reply " ++ decimal id ++ codes " " ++ content.now.key ++ codes " " ++ payload_text (payload_of content.now.body) ++ time_text (stamp_of content.now.body))) }
 {
     put_under(b"reply ", id, out)?;
     out.extend_from_slice(b" ")?;
-    put_content(content, out)
+    put_content(content, out)?;
+    put_time(content.body(), out)
+}
+
+// The time of a reply that has one, behind a space.
+fn put_time(body: &Body, out: &mut Vec<u8>) -> Result<(), AllocError>
+    ensures { OnOk result (out.new.items ≡ out.old.items ++ time_text (stamp_of body.now)) }
+{
+    match stamp(body) {
+        None => Ok(()),
+        Some(stamp) => put_numbered(b" ", stamp.time, out),
+    }
 }
 
 /// Appends a link record.

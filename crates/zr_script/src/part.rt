@@ -204,6 +204,13 @@ pub fn kind_text(kind: Kind) -> &'static [u8]
     }
 }
 
+/// The word behind a request for the latest replies alone, with the space before it.
+pub fn latest_text(latest: bool) -> &'static [u8]
+    ensures { result.now ≡ if_so latest (codes "latest") }
+{
+    if latest { b" latest" } else { b"" }
+}
+
 /// Whether a declaration was added or removed, with the space before it.
 pub fn sign_text(added: bool) -> &'static [u8]
     ensures { result.now ≡ codes " " ++ sign_text added }

@@ -9,8 +9,8 @@ use Rattle.zr_script_spec.specs.declared.error.ScriptError.{ScriptError}
 use Rattle.zr_script_spec.specs.declared.error.ScriptError.TheVariants.{UnknownCommand, BadWords, BadKey, UnknownName, NameTaken, NotLinked, AlreadyLinked, NothingThere, NotAsked, NotSettled, NotJoined, Limit, NoMemory}
 use Rattle.zr_script_spec.specs.Lines.{most_line}
 use Rattle.zr_script_spec.specs.Words.{is_word, is_clean, is_printable, is_space}
-use Rattle.zr_script_explain.specs.Forms.{word_at, declares, undeclares, is_interest, ends_interest, is_of_client, is_numbered, key_number, form}
-use Rattle.zr_script_explain.specs.Places.{has_all, is_first_good, is_name, is_mode, is_kind, is_target_bad, is_interest_bad, is_weight_bad, odd_byte}
+use Rattle.zr_script_explain.specs.Forms.{word_at, declares, undeclares, is_query, is_interest, ends_interest, is_of_client, is_numbered, key_number, form}
+use Rattle.zr_script_explain.specs.Places.{has_all, is_first_good, is_name, is_target, is_mode, is_kind, is_query_bad, is_time_bad, is_interest_bad, is_weight_bad, odd_byte}
 
 -- ---- bytes as they are shown
 
@@ -67,9 +67,11 @@ second_cause ws =
     else if is_name (word_at 2 ws) then codes "no router is linked to itself"
     else name_cause 2 ws
 
--- a word that must be a target, and is none
-abbrev pub target_cause : List (List ℕ) → List ℕ
-target_cause ws = told 4 ws ++ codes " is no target, which is best, all or complete"
+-- a word of a query behind its number is not as it must be
+abbrev pub query_cause : List (List ℕ) → List ℕ
+query_cause ws =
+    if is_target (word_at 4 ws) then told 5 ws ++ codes " is not latest, which alone may stand behind the target"
+    else told 4 ws ++ codes " is no target, which is best, all or complete"
 
 -- a word of an interest behind its number is not as it must be
 abbrev pub interest_cause : List (List ℕ) → List ℕ
@@ -85,7 +87,8 @@ weight_cause ws = told 3 ws ++ codes " is no weight, which is a number from 1 to
 -- a word behind the first one is wrong
 abbrev pub later_cause : List (List ℕ) → List ℕ
 later_cause ws =
-    if is_target_bad ws then target_cause ws
+    if is_query_bad ws then query_cause ws
+    else if is_time_bad ws then number_cause 5 ws
     else if is_interest_bad ws then interest_cause ws
     else if is_weight_bad ws then weight_cause ws
     else second_cause ws
@@ -130,7 +133,7 @@ abbrev pub taken_cause : List (List ℕ) → List ℕ
 taken_cause ws =
     if declares (word_at 0 ws) then of_two (codes "id ") 2 (codes " is already declared by ") 1 [] ws
     else if is_interest (word_at 0 ws) then of_two (codes "id ") 2 (codes " is that of an interest of ") 1 [] ws
-    else if is_word (word_at 0 ws) (codes "get") then of_two (codes "number ") 2 (codes " is that of a query of ") 1 (codes " whose final was not sent yet") ws
+    else if is_query (word_at 0 ws) then of_two (codes "number ") 2 (codes " is that of a query of ") 1 (codes " whose final was not sent yet") ws
     else codes "a router or a client is already named " ++ told 1 ws
 
 abbrev pub link_cause : List (List ℕ) → List ℕ
@@ -162,7 +165,7 @@ limit_cause long name =
     else if is_word name (codes "client") then codes "more than 1024 clients"
     else if is_word name (codes "link") then codes "more than 512 links between routers"
     else if is_word name (codes "run") then codes "more than 10000000 steps of all runs together"
-    else if is_word name (codes "get") then codes "more than 4096 open queries of a client"
+    else if is_query name then codes "more than 4096 open queries of a client"
     else codes "declarations and interests of the clients of a router weigh more than 4194304"
 
 -- ---- all

@@ -19,9 +19,17 @@ undeclares name = is_word name (codes "unsub") || is_word name (codes "unable")
 abbrev pub publishes : List ℕ → Bool
 publishes name = is_word name (codes "put") || is_word name (codes "del")
 
+-- the command of a query: `CLIENT N KEY TARGET` stands behind it, and maybe one word more; and that of a reply: `CLIENT N KEY PAYLOAD`, and maybe
+-- a time
+abbrev pub is_query : List ℕ → Bool
+is_query name = is_word name (codes "get")
+
+abbrev pub is_reply : List ℕ → Bool
+is_reply name = is_word name (codes "reply")
+
 -- a command that asks or answers a query: `CLIENT N` stands behind it, and behind that what it asks or answers
 abbrev pub is_of_query : List ℕ → Bool
-is_of_query name = is_word name (codes "get") || is_word name (codes "reply") || is_word name (codes "end")
+is_of_query name = is_query name || is_reply name || is_word name (codes "end")
 
 -- the command of an interest: `CLIENT N MODE KIND KEY` stands behind it, and maybe one word more; and the one that ends it: `CLIENT N`
 abbrev pub is_interest : List ℕ → Bool
@@ -44,7 +52,7 @@ is_of_client name = publishes name || is_numbered name
 
 -- a command that gives something of a client a number that must be free: a declaration, an interest or a query
 abbrev pub gives_number : List ℕ → Bool
-gives_number name = declares name || is_interest name || is_word name (codes "get")
+gives_number name = declares name || is_interest name || is_query name
 
 -- the number of the word that is the key, where a command takes one
 abbrev pub key_number : List ℕ → ℕ
@@ -60,21 +68,25 @@ words_behind name =
     if is_word name (codes "mark") then 0
     else if is_single name then 1
     else if declares name || is_word name (codes "put") then 3
-    else if is_word name (codes "get") || is_word name (codes "reply") then 4
+    else if is_query name || is_reply name then 4
     else if is_interest name then 5
     else 2
 
 -- and at most
 abbrev pub most_behind : List ℕ → ℕ
-most_behind name = if is_interest name then 6 else if links name then 3 else words_behind name
+most_behind name =
+    if is_interest name then 6
+    else if is_query name || is_reply name then 5
+    else if links name then 3
+    else words_behind name
 
 -- which words a command takes that sends messages or lets them move on, or that stands behind these
 unfoldable pub last_form : List ℕ → List ℕ
 last_form name =
     if is_word name (codes "put") then codes "put CLIENT KEY PAYLOAD"
     else if is_word name (codes "del") then codes "del CLIENT KEY"
-    else if is_word name (codes "get") then codes "get CLIENT N KEY TARGET"
-    else if is_word name (codes "reply") then codes "reply CLIENT N KEY PAYLOAD"
+    else if is_word name (codes "get") then codes "get CLIENT N KEY TARGET [latest]"
+    else if is_word name (codes "reply") then codes "reply CLIENT N KEY PAYLOAD [TIME]"
     else if is_word name (codes "end") then codes "end CLIENT N"
     else if is_word name (codes "handle") then codes "handle ROUTER FROM"
     else if is_word name (codes "take") then codes "take ROUTER TO"

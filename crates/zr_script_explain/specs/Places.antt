@@ -6,7 +6,7 @@ use Rattle.zr_script_spec.specs.declared.error.ScriptError.{ScriptError}
 use Rattle.zr_script_spec.specs.declared.error.ScriptError.TheVariants.{UnknownCommand, BadWords, BadKey, UnknownName, NameTaken, NotLinked, AlreadyLinked, NothingThere, NotAsked, NotSettled, NotJoined, Limit, NoMemory}
 use Rattle.zr_script_spec.specs.Lines.{most_line}
 use Rattle.zr_script_spec.specs.Words.{is_word, is_clean, is_printable, is_space, is_number, value_of}
-use Rattle.zr_script_explain.specs.Forms.{word_at, gives_number, is_interest, links, is_of_client, key_number, words_behind, most_behind}
+use Rattle.zr_script_explain.specs.Forms.{word_at, gives_number, is_query, is_reply, is_interest, links, is_of_client, key_number, words_behind, most_behind}
 
 -- ---- words that have not their form
 
@@ -17,6 +17,10 @@ is_name word = is_some (zid_of_hex word)
 -- a word that is a number of 32 bits
 abbrev pub is_count : List ℕ → Bool
 is_count word = is_number word && nat_lt (value_of word) (2 ^ 32)
+
+-- a word that is a target
+abbrev pub is_target : List ℕ → Bool
+is_target word = is_word word (codes "best") || is_word word (codes "all") || is_word word (codes "complete")
 
 -- a word that tells of which declarations an interest is to be told, and one that tells of which kinds
 abbrev pub is_mode : List ℕ → Bool
@@ -37,9 +41,13 @@ has_all ws = nat_le (words_behind (word_at 0 ws) + 1) (length ws) && nat_le (len
 abbrev pub is_first_good : List (List ℕ) → Bool
 is_first_good ws = if is_word (word_at 0 ws) (codes "run") then is_count (word_at 1 ws) else is_name (word_at 1 ws)
 
--- where client and number of `get` are as they must be, its target is not
-abbrev pub is_target_bad : List (List ℕ) → Bool
-is_target_bad ws = is_word (word_at 0 ws) (codes "get") && is_count (word_at 2 ws)
+-- where client and number of `get` are as they must be, its target is not, or what stands behind it
+abbrev pub is_query_bad : List (List ℕ) → Bool
+is_query_bad ws = is_query (word_at 0 ws) && is_count (word_at 2 ws)
+
+-- where client and number of `reply` are as they must be, its time is not
+abbrev pub is_time_bad : List (List ℕ) → Bool
+is_time_bad ws = is_reply (word_at 0 ws) && is_count (word_at 2 ws)
 
 -- where client and number of `interest` are as they must be, a word behind them is not
 abbrev pub is_interest_bad : List (List ℕ) → Bool
@@ -49,13 +57,22 @@ is_interest_bad ws = is_interest (word_at 0 ws) && is_count (word_at 2 ws)
 abbrev pub is_weight_bad : List (List ℕ) → Bool
 is_weight_bad ws = links (word_at 0 ws) && is_name (word_at 2 ws) && nat_lt 3 (length ws) && not (is_weight (word_at 3 ws))
 
+-- the target, or what stands behind it
+abbrev pub query_word : List (List ℕ) → ℕ
+query_word ws = if is_target (word_at 4 ws) then 5 else 4
+
 -- the mode, or the kinds, or what stands behind the key
 abbrev pub interest_word : List (List ℕ) → ℕ
 interest_word ws = if not (is_mode (word_at 3 ws)) then 3 else if not (is_kind (word_at 4 ws)) then 4 else 6
 
 -- the word that is wrong where the first one is good
 abbrev pub later_word : List (List ℕ) → ℕ
-later_word ws = if is_target_bad ws then 4 else if is_interest_bad ws then interest_word ws else if is_weight_bad ws then 3 else 2
+later_word ws =
+    if is_query_bad ws then query_word ws
+    else if is_time_bad ws then 5
+    else if is_interest_bad ws then interest_word ws
+    else if is_weight_bad ws then 3
+    else 2
 
 -- the first word that is not what its command takes there: one that is missing or too much comes before one that has not its form
 abbrev pub bad_word : List (List ℕ) → ℕ

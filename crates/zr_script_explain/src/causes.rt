@@ -3,15 +3,15 @@
 ghost use Rattle.std.specs.Prelude.{◌≡◌, ◌++◌, [], map, OnOk};
 ghost use Rattle.zr_key.specs.Key.{read_key};
 ghost use Rattle.zr_script_explain.specs.Places.{odd_byte};
-ghost use Rattle.zr_script_explain.specs.Causes.{already_cause, asked_cause, byte_cause, cause, command_cause, fault_cause, first_cause, form_cause, interest_cause, key_cause, later_cause, limit_cause, link_cause, name_cause, nothing_cause, number_cause, odd_cause, of_two, second_cause, space_cause, taken_cause, target_cause, told, unknown_cause, weight_cause, words_cause};
+ghost use Rattle.zr_script_explain.specs.Causes.{already_cause, asked_cause, byte_cause, cause, command_cause, fault_cause, first_cause, form_cause, interest_cause, key_cause, later_cause, limit_cause, link_cause, name_cause, nothing_cause, number_cause, odd_cause, of_two, query_cause, second_cause, space_cause, taken_cause, told, unknown_cause, weight_cause, words_cause};
 
 use crate::forms::{
-    declares, ends_interest, form, is_interest, is_numbered, is_of_client, key_number, undeclares,
-    word_at,
+    declares, ends_interest, form, is_interest, is_numbered, is_of_client, is_query, key_number,
+    undeclares, word_at,
 };
 use crate::places::{
     begins_with_space, has_all, is_first_good, is_interest_bad, is_kind, is_mode, is_name,
-    is_target_bad, is_weight_bad, odd_byte,
+    is_query_bad, is_target, is_time_bad, is_weight_bad, odd_byte,
 };
 use crate::put::{put_one, put_shown, put_told, put_two};
 use std::alloc::{AllocError, Global};
@@ -139,8 +139,10 @@ fn put_first_cause(words: &[&[u8]], text: &mut Vec<u8>) -> Result<(), AllocError
 fn put_later_cause(words: &[&[u8]], text: &mut Vec<u8>) -> Result<(), AllocError>
     ensures { OnOk result (text.new.items ≡ text.old.items ++ later_cause (map (λ w. w.now) words.now)) }
 {
-    if is_target_bad(words) {
-        put_target_cause(words, text)
+    if is_query_bad(words) {
+        put_query_cause(words, text)
+    } else if is_time_bad(words) {
+        put_number_cause(5, words, text)
     } else if is_interest_bad(words) {
         put_interest_cause(words, text)
     } else if is_weight_bad(words) {
@@ -180,15 +182,24 @@ fn put_word(
     text.extend_from_slice(behind)
 }
 
-fn put_target_cause(words: &[&[u8]], text: &mut Vec<u8>) -> Result<(), AllocError>
-    ensures { OnOk result (text.new.items ≡ text.old.items ++ target_cause (map (λ w. w.now) words.now)) }
+fn put_query_cause(words: &[&[u8]], text: &mut Vec<u8>) -> Result<(), AllocError>
+    ensures { OnOk result (text.new.items ≡ text.old.items ++ query_cause (map (λ w. w.now) words.now)) }
 {
-    put_word(
-        4,
-        b" is no target, which is best, all or complete",
-        words,
-        text,
-    )
+    if is_target(word_at(4, words)) {
+        put_word(
+            5,
+            b" is not latest, which alone may stand behind the target",
+            words,
+            text,
+        )
+    } else {
+        put_word(
+            4,
+            b" is no target, which is best, all or complete",
+            words,
+            text,
+        )
+    }
 }
 
 fn put_weight_cause(words: &[&[u8]], text: &mut Vec<u8>) -> Result<(), AllocError>
@@ -338,7 +349,7 @@ fn put_taken_cause(words: &[&[u8]], text: &mut Vec<u8>) -> Result<(), AllocError
             words,
             text,
         )
-    } else if is_word(name, b"get") {
+    } else if is_query(name) {
         put_two(
             b"number ",
             2,
@@ -420,7 +431,7 @@ fn limit_cause(long: bool, name: &[u8]) -> &'static [u8]
         b"more than 512 links between routers"
     } else if is_word(name, b"run") {
         b"more than 10000000 steps of all runs together"
-    } else if is_word(name, b"get") {
+    } else if is_query(name) {
         b"more than 4096 open queries of a client"
     } else {
         b"declarations and interests of the clients of a router weigh more than 4194304"

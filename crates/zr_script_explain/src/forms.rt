@@ -1,7 +1,7 @@
 //! What words a command takes.
 
 ghost use Rattle.std.specs.Prelude.{◌≡◌, ◌++◌, map, codes};
-ghost use Rattle.zr_script_explain.specs.Forms.{declares, ends_interest, form, later_form, last_form, gives_number, is_interest, is_numbered, is_of_client, is_of_query, is_single, key_number, links, most_behind, publishes, undeclares, word_at, words_behind};
+ghost use Rattle.zr_script_explain.specs.Forms.{declares, ends_interest, form, later_form, last_form, gives_number, is_interest, is_numbered, is_of_client, is_of_query, is_query, is_reply, is_single, key_number, links, most_behind, publishes, undeclares, word_at, words_behind};
 
 use zr_script::word::is_word;
 
@@ -41,11 +41,25 @@ fn publishes(name: &[u8]) -> bool
     is_word(name, b"put") || is_word(name, b"del")
 }
 
+/// Whether a command asks a query.
+pub(crate) fn is_query(name: &[u8]) -> bool
+    ensures { result ≡ is_query name.now }
+{
+    is_word(name, b"get")
+}
+
+/// Whether a command replies to a request.
+pub(crate) fn is_reply(name: &[u8]) -> bool
+    ensures { result ≡ is_reply name.now }
+{
+    is_word(name, b"reply")
+}
+
 // Whether a command asks or answers a query.
 fn is_of_query(name: &[u8]) -> bool
     ensures { result ≡ is_of_query name.now }
 {
-    is_word(name, b"get") || is_word(name, b"reply") || is_word(name, b"end")
+    is_query(name) || is_reply(name) || is_word(name, b"end")
 }
 
 /// Whether a command is that of an interest.
@@ -91,7 +105,7 @@ pub(crate) fn is_of_client(name: &[u8]) -> bool
 pub(crate) fn gives_number(name: &[u8]) -> bool
     ensures { result ≡ gives_number name.now }
 {
-    declares(name) || is_interest(name) || is_word(name, b"get")
+    declares(name) || is_interest(name) || is_query(name)
 }
 
 /// The number of the word that is the key, where a command takes one.
@@ -123,7 +137,7 @@ pub(crate) fn words_behind(name: &[u8]) -> usize
         1
     } else if declares(name) || is_word(name, b"put") {
         3
-    } else if is_word(name, b"get") || is_word(name, b"reply") {
+    } else if is_query(name) || is_reply(name) {
         4
     } else if is_interest(name) {
         5
@@ -138,6 +152,8 @@ pub(crate) fn most_behind(name: &[u8]) -> usize
 {
     if is_interest(name) {
         6
+    } else if is_query(name) || is_reply(name) {
+        5
     } else if links(name) {
         3
     } else {
@@ -201,9 +217,9 @@ fn last_form(name: &[u8]) -> &'static [u8]
     } else if is_word(name, b"del") {
         b"del CLIENT KEY"
     } else if is_word(name, b"get") {
-        b"get CLIENT N KEY TARGET"
+        b"get CLIENT N KEY TARGET [latest]"
     } else if is_word(name, b"reply") {
-        b"reply CLIENT N KEY PAYLOAD"
+        b"reply CLIENT N KEY PAYLOAD [TIME]"
     } else if is_word(name, b"end") {
         b"end CLIENT N"
     } else if is_word(name, b"handle") {

@@ -2,10 +2,11 @@
 
 ghost use Rattle.std.specs.Prelude.{◌≡◌, map, slice_get};
 ghost use Rattle.zr_script_spec.specs.Words.{is_space};
-ghost use Rattle.zr_script_explain.specs.Places.{bad_word, has_all, interest_word, is_count, is_first_good, is_interest_bad, is_kind, is_mode, is_name, is_target_bad, is_weight, is_weight_bad, later_word, linked_word, odd_byte, place, place_of_byte, place_of_limit, place_of_space, place_of_word, taken_word, unknown_word};
+ghost use Rattle.zr_script_explain.specs.Places.{bad_word, has_all, interest_word, is_count, is_first_good, is_interest_bad, is_kind, is_mode, is_name, is_query_bad, is_target, is_time_bad, is_weight, is_weight_bad, later_word, linked_word, odd_byte, place, place_of_byte, place_of_limit, place_of_space, place_of_word, query_word, taken_word, unknown_word};
 
 use crate::forms::{
-    gives_number, is_interest, is_of_client, key_number, links, most_behind, word_at, words_behind,
+    gives_number, is_interest, is_of_client, is_query, is_reply, key_number, links, most_behind,
+    word_at, words_behind,
 };
 use zr_id::zid::Zid;
 use zr_script::line::MOST_LINE;
@@ -88,8 +89,10 @@ fn bad_word(words: &[&[u8]]) -> usize
 fn later_word(words: &[&[u8]]) -> usize
     ensures { result ≡ later_word (map (λ w. w.now) words.now) }
 {
-    if is_target_bad(words) {
-        4
+    if is_query_bad(words) {
+        query_word(words)
+    } else if is_time_bad(words) {
+        5
     } else if is_interest_bad(words) {
         interest_word(words)
     } else if is_weight_bad(words) {
@@ -97,6 +100,13 @@ fn later_word(words: &[&[u8]]) -> usize
     } else {
         2
     }
+}
+
+// The word that is wrong where client and number of a `get` are as they must be.
+fn query_word(words: &[&[u8]]) -> usize
+    ensures { result ≡ query_word (map (λ w. w.now) words.now) }
+{
+    if is_target(word_at(4, words)) { 5 } else { 4 }
 }
 
 // The word that is wrong where client and number of an `interest` are as they must be.
@@ -112,11 +122,18 @@ fn interest_word(words: &[&[u8]]) -> usize
     }
 }
 
-/// Whether it is the target of a `get` that is wrong, where some word behind the first is.
-pub(crate) fn is_target_bad(words: &[&[u8]]) -> bool
-    ensures { result ≡ is_target_bad (map (λ w. w.now) words.now) }
+/// Whether a word of a `get` behind its number is wrong, where some word behind the first is.
+pub(crate) fn is_query_bad(words: &[&[u8]]) -> bool
+    ensures { result ≡ is_query_bad (map (λ w. w.now) words.now) }
 {
-    is_word(word_at(0, words), b"get") && is_count(word_at(2, words))
+    is_query(word_at(0, words)) && is_count(word_at(2, words))
+}
+
+/// Whether it is the time of a `reply` that is wrong, where some word behind the first is.
+pub(crate) fn is_time_bad(words: &[&[u8]]) -> bool
+    ensures { result ≡ is_time_bad (map (λ w. w.now) words.now) }
+{
+    is_reply(word_at(0, words)) && is_count(word_at(2, words))
 }
 
 /// Whether a word of an `interest` behind its number is wrong, where some word behind the first is.
@@ -147,6 +164,13 @@ fn is_weight(word: &[u8]) -> bool
         Some(n) => n > 0 && n <= 65_535,
         None => false,
     }
+}
+
+/// Whether a word is a target.
+pub(crate) fn is_target(word: &[u8]) -> bool
+    ensures { result ≡ is_target word.now }
+{
+    is_word(word, b"best") || is_word(word, b"all") || is_word(word, b"complete")
 }
 
 /// Whether a word tells of which declarations an interest is to be told.

@@ -18,8 +18,10 @@
 --   Limit           a limit of the world would be passed
 --
 -- Out of memory, `NoMemory`, is no refusal: no definition says it.
-use Rattle.std.specs.Prelude.{ℕ, ◌==◌, ◌||◌, not, nat_lt, Bool, true, false, if◌then◌else◌, List, [], ◌∷◌, length, codes, Option, Some, None, Result, Ok, Err}
+use Rattle.std.specs.Prelude.{ℕ, ◌==◌, ◌||◌, not, nat_lt, Bool, true, false, if◌then◌else◌, List, [], ◌∷◌, ◌++◌, length, codes, Option, Some, None, Result, Ok, Err}
 use Rattle.zr_id.specs.Zid.{is_named}
+use Rattle.zr_bytes.specs.Number.{writes}
+use Rattle.zr_bytes.specs.Text.{writes_text}
 use Rattle.zr_body.specs.Payload.{put_body, del_body}
 use Rattle.zr_msg.specs.declared.content.Parts.{Parts}
 use Rattle.zr_msg.specs.Extras.{no_extras}
@@ -30,7 +32,7 @@ use Rattle.zr_script_spec.specs.declared.command.Command.{Command}
 use Rattle.zr_script_spec.specs.declared.command.Command.TheVariants.{Act, Run}
 use Rattle.zr_script_spec.specs.Step.{◌>>=◌}
 use Rattle.zr_script_spec.specs.Lines.{most_line}
-use Rattle.zr_script_spec.specs.Words.{words, is_word, is_clean, one_of, two_of, some_two_of, three_of, four_of, five_of, zid_at, number_at, link_weight_at, target_at, mode_at, kinds_at, aggregate_at, key_at, optional_key_at, payload_at}
+use Rattle.zr_script_spec.specs.Words.{words, is_word, is_clean, one_of, two_of, some_two_of, three_of, four_of, five_of, zid_at, number_at, time_at, link_weight_at, target_at, latest_at, mode_at, kinds_at, aggregate_at, key_at, optional_key_at, payload_at}
 
 -- ---- one command each, by the words behind its name
 
@@ -136,7 +138,7 @@ uninterest_line args = do
   id ← number_at w.1
   Ok (Act (Uninterest client id))
 
--- a sample, a query or a reply as a script makes it: its body has no flags, and nothing stands beside key and body
+-- a sample, a query or a reply as a script makes it: nothing stands beside key and body
 abbrev pub plain : List ℕ → List ℕ → Parts
 plain key body = record { key = key; extras = no_extras; body = body }
 
@@ -156,31 +158,50 @@ del_line args = do
   key ← key_at w.1
   Ok (Act (Publish client (plain key del_body)))
 
--- the body of a query, and that of a reply with a payload, without flags and extensions
+-- The bodies of queries and replies have no extensions, and no flags but those of two: the consolidation of a query for the latest replies,
+-- and the timestamp of a reply that has a time (Zenoh protocol 1.0, "QUERY", "REPLY" and "PUT").
+
+-- the body of a query, and that of a query for the latest replies alone, whose consolidation is 3
 abbrev pub query_body : List ℕ
 query_body = 3 ∷ []
 
+abbrev pub latest_body : List ℕ
+latest_body = 0x23 ∷ 3 ∷ []
+
+abbrev pub asking_body : Bool → List ℕ
+asking_body latest = if latest then latest_body else query_body
+
+-- the body of a reply with a payload, and that of one whose PUT has a time and the clock that gave it
 abbrev pub reply_body : List ℕ → List ℕ
 reply_body payload = 4 ∷ put_body payload
 
--- get CLIENT N KEY TARGET
+abbrev pub timed_body : ℕ → List ℕ → List ℕ → List ℕ
+timed_body time clock payload = 4 ∷ 0x21 ∷ writes time ++ writes_text clock ++ writes_text payload
+
+abbrev pub answer_body : Option ℕ → List ℕ → List ℕ → List ℕ
+answer_body None clock payload = reply_body payload
+answer_body (Some time) clock payload = timed_body time clock payload
+
+-- get CLIENT N KEY TARGET, or with `latest` behind the target
 unfoldable pub get_line : List (List ℕ) → Result Command ScriptError
 get_line args = do
   w ← four_of args
   client ← zid_at w.0
   number ← number_at w.1
   target ← target_at w.3
+  latest ← latest_at w.4
   key ← key_at w.2
-  Ok (Act (Get client number target (plain key query_body)))
+  Ok (Act (Get client number target (plain key (asking_body latest))))
 
--- reply CLIENT N KEY PAYLOAD
+-- reply CLIENT N KEY PAYLOAD, or with the time behind the payload: the client is the clock that gave it
 unfoldable pub reply_line : List (List ℕ) → Result Command ScriptError
 reply_line args = do
   w ← four_of args
   client ← zid_at w.0
   number ← number_at w.1
+  time ← time_at w.4
   key ← key_at w.2
-  Ok (Act (Reply client number (plain key (reply_body (payload_at w.3)))))
+  Ok (Act (Reply client number (plain key (answer_body time client (payload_at w.3)))))
 
 -- end CLIENT N
 unfoldable pub end_line : List (List ℕ) → Result Command ScriptError

@@ -4,6 +4,7 @@ use Rattle.std.specs.Fmt.{decimal}
 use Rattle.std.specs.List.{flat_map, join_with_byte}
 use Rattle.hex.specs.Hex.{encode_lower}
 use Rattle.zr_id.specs.Record.{LinkedState, RecordState}
+use Rattle.zr_body.specs.Latest.{StampState, is_latest, stamp_of}
 use Rattle.zr_body.specs.Payload.{payload_of, is_del}
 use Rattle.zr_msg.specs.Kinds.{in_subs, in_ables}
 use Rattle.zr_msg.specs.declared.decl.Kind.{Kind}
@@ -42,6 +43,11 @@ optional_id_text (Some id) = id_text id
 abbrev pub payload_text : List ℕ → List ℕ
 payload_text [] = codes "-"
 payload_text (b ∷ bs) = b ∷ bs
+
+-- the time at which a reply's payload was given, if it has one, behind a space; the clock isn't shown
+abbrev pub time_text : Option StampState → List ℕ
+time_text None = []
+time_text (Some stamp) = codes " " ++ decimal stamp.time
 
 -- the key of an interest, if it has one
 abbrev pub key_text : Option (List ℕ) → List ℕ
@@ -139,7 +145,9 @@ msg_text (ToldEnd interest) = codes "told end " ++ decimal interest
 msg_text (Push tree content) = sample_text (is_del content.body) (optional_id_text tree) content.key (payload_text (payload_of content.body))
 msg_text (Request tree id target content) =
     codes "get " ++ optional_id_text tree ++ codes " " ++ decimal id ++ codes " " ++ content.key ++ codes " " ++ target_text target
-msg_text (Response id content) = codes "reply " ++ decimal id ++ codes " " ++ content.key ++ codes " " ++ payload_text (payload_of content.body)
+    ++ if_so (is_latest content.body) (codes "latest")
+msg_text (Response id content) =
+    codes "reply " ++ decimal id ++ codes " " ++ content.key ++ codes " " ++ payload_text (payload_of content.body) ++ time_text (stamp_of content.body)
 msg_text (Final id extras) = codes "final " ++ decimal id
 msg_text (State links) = record_text links
 msg_text (Step source number added decl) = codes "entry " ++ id_text source ++ codes " " ++ decimal number ++ codes " " ++ sign_text added ++ decl_text decl

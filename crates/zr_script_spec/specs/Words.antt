@@ -64,13 +64,13 @@ three_of (a ∷ b ∷ []) = Err BadWords
 three_of (a ∷ b ∷ c ∷ []) = Ok (a, b, c)
 three_of (a ∷ b ∷ c ∷ d ∷ more) = Err BadWords
 
-abbrev pub four_of : List (List ℕ) → Result (List ℕ × List ℕ × List ℕ × List ℕ) ScriptError
+-- four words, and those behind them
+abbrev pub four_of : List (List ℕ) → Result (List ℕ × List ℕ × List ℕ × List ℕ × List (List ℕ)) ScriptError
 four_of [] = Err BadWords
 four_of (a ∷ []) = Err BadWords
 four_of (a ∷ b ∷ []) = Err BadWords
 four_of (a ∷ b ∷ c ∷ []) = Err BadWords
-four_of (a ∷ b ∷ c ∷ d ∷ []) = Ok (a, b, c, d)
-four_of (a ∷ b ∷ c ∷ d ∷ e ∷ more) = Err BadWords
+four_of (a ∷ b ∷ c ∷ d ∷ more) = Ok (a, b, c, d, more)
 
 -- five words, and those behind them
 abbrev pub five_of : List (List ℕ) → Result (List ℕ × List ℕ × List ℕ × List ℕ × List ℕ × List (List ℕ)) ScriptError
@@ -80,6 +80,14 @@ five_of (a ∷ b ∷ []) = Err BadWords
 five_of (a ∷ b ∷ c ∷ []) = Err BadWords
 five_of (a ∷ b ∷ c ∷ d ∷ []) = Err BadWords
 five_of (a ∷ b ∷ c ∷ d ∷ e ∷ more) = Ok (a, b, c, d, e, more)
+
+-- ---- words that may be left out
+
+-- whether a word stands behind the others: there is one, this one, or there is none
+abbrev pub is_there : List ℕ → List (List ℕ) → Result Bool ScriptError
+is_there word [] = Ok false
+is_there word (w ∷ []) = if is_word w word then Ok true else Err BadWords
+is_there word (a ∷ b ∷ more) = Err BadWords
 
 -- ---- names
 
@@ -112,6 +120,12 @@ value_of digits = fold (λ n b. n * 10 + (b - 48)) 0 digits
 abbrev pub number_at : List ℕ → Result ℕ ScriptError
 number_at word = if is_number word && nat_lt (value_of word) (2 ^ 32) then Ok (value_of word) else Err BadWords
 
+-- the time that the words behind a reply's payload spell: there is one word, a number, or there is none
+abbrev pub time_at : List (List ℕ) → Result (Option ℕ) ScriptError
+time_at [] = Ok None
+time_at (word ∷ []) = number_at word >>= (λ time. Ok (Some time))
+time_at (a ∷ b ∷ more) = Err BadWords
+
 -- a weight: a number from 1 to 65,535
 abbrev pub weight_at : List ℕ → Result ℕ ScriptError
 weight_at word =
@@ -133,6 +147,10 @@ target_at word =
     else if is_word word (codes "complete") then Ok Complete
     else Err BadWords
 
+-- whether the words behind a query's target ask for the latest replies alone
+abbrev pub latest_at : List (List ℕ) → Result Bool ScriptError
+latest_at behind = is_there (codes "latest") behind
+
 -- ---- interests
 
 -- of which declarations a word asks to be told
@@ -151,11 +169,9 @@ kinds_at word =
     else if is_word word (codes "all") then Ok (record { 0 = bit_or SUBSCRIBERS QUERYABLES })
     else Err BadWords
 
--- whether the words behind the key ask that all is told as one: there is one, `aggregate`, or there is none
+-- whether the words behind the key ask that all is told as one
 abbrev pub aggregate_at : List (List ℕ) → Result Bool ScriptError
-aggregate_at [] = Ok false
-aggregate_at (word ∷ []) = if is_word word (codes "aggregate") then Ok true else Err BadWords
-aggregate_at (a ∷ b ∷ more) = Err BadWords
+aggregate_at behind = is_there (codes "aggregate") behind
 
 -- ---- keys and payloads
 

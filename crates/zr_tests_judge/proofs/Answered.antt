@@ -19,12 +19,13 @@ use Rattle.zr_world_spec.specs.World.{WorldState, is_quiet}
 use Rattle.zr_world_spec.specs.Moments.{Numbered, Moment}
 use Rattle.zr_guarantee.specs.Item.{Reply}
 use Rattle.zr_guarantee.specs.Names.{is_router}
-use Rattle.zr_guarantee.specs.Queries.{Asked, Saying, sayings, times_asked, times_ended, turn, replies, reply_of, is_said_to, may_come}
+use Rattle.zr_guarantee.specs.Queries.{Asked, Saying, sayings, times_asked, times_ended, turn, replies, reply_of, is_said_to}
+use Rattle.zr_guarantee.specs.Latest.{IsAnsweredLatest, asks_latest, all_may_come}
 use Rattle.zr_guarantee.specs.Sent.{Told, told_in, told_to, is_request, requests_to, replies_in, is_final, finals_in, behind_finals}
-use Rattle.zr_guarantee.specs.Refines.{IsAnswered, sent_of_query}
-use Rattle.zr_tests_judge.specs.Same.{is_same_reply}
-use Rattle.zr_tests_judge.specs.Judge.{Judged, acts_of, replies_due, replies_sent, replies_behind, is_final_sent, have_ended, is_none_left, replier_holds, query_holds, replies_hold, requests_hold, finals_hold, answers_hold}
-use Rattle.zr_tests_judge.specs.Equal.{one_reply}
+use Rattle.zr_guarantee.specs.Refines.{IsAnswered, IsAnsweredBy, sent_of_query}
+use Rattle.zr_tests_judge.specs.Same.{is_same_reply, is_same_key_body}
+use Rattle.zr_tests_judge.specs.Judge.{Judged, acts_of, replies_due, replies_sent, replies_behind, is_final_sent, have_ended, is_none_left, replier_holds, best_due, best_sent, has_all_best, is_nothing, best_holds, contents_hold, query_holds, replies_hold, requests_hold, finals_hold, answers_hold}
+use Rattle.zr_tests_judge.specs.Equal.{one_reply, one_key_body}
 use Rattle.zr_tests_judge.proofs.Begins.{prefix_means, prefix_holds, same_holds, both_prefixes}
 use Rattle.zr_tests_judge.proofs.Delivered.{none_pass, tells_of, none_told}
 
@@ -64,6 +65,10 @@ none_of_query acts report q replier told e =
 none_left : (xs : List Reply) → is_none_left xs ≡ true → xs ≡ []
 none_left [] h = refl
 none_left (x ∷ xs) h = absurd (false≢true h)
+
+nothing : (xs : List (List ℕ × List ℕ)) → is_nothing xs ≡ true → xs ≡ []
+nothing [] h = refl
+nothing (x ∷ xs) h = absurd (false≢true h)
 
 module _ (j : Judged) where
   -- ---- a query and a replier
@@ -142,48 +147,44 @@ module _ (j : Judged) where
     now = record { world = w; report = j.report }
 
     abbrev Answered : Asked → Type 0
-    Answered q = IsAnswered j.before (acts_of j) now q
+    Answered q = IsAnsweredBy (asks_latest q) j.before (acts_of j) now q
 
-    query_sound : (q : Asked) → query_holds j q ≡ true → Answered q
-    query_sound q h = record {
+    -- what is said of the final
+    module _ (q : Asked) where
+      abbrev finished : Bool
+      finished = not (is_final_sent j q) || have_ended j q
+
+      abbrev ends : Bool
+      ends = not (j.quiet && have_ended j q) || is_final_sent j q
+
+      final_only : finished ≡ true → is_final_sent j q ≡ true → have_ended j q ≡ true
+      final_only h f = so_there (is_final_sent j q) (have_ended j q) h f
+
+      final_comes : ends ≡ true → is_quiet w ≡ true → have_ended j q ≡ true → is_final_sent j q ≡ true
+      final_comes h quiet ended = so_there (j.quiet && have_ended j q) (is_final_sent j q) h (and_from j.quiet (have_ended j q) (sym quiet_is ∙ quiet) ended)
+
+      finals_hold_of : (is_final_sent j q ≡ true → have_ended j q ≡ true) → (is_quiet w ≡ true → have_ended j q ≡ true → is_final_sent j q ≡ true) → (finished && ends) ≡ true
+      finals_hold_of only comes =
+          and_from finished ends (where_so (is_final_sent j q) (have_ended j q) only)
+          (where_so (j.quiet && have_ended j q) (is_final_sent j q) (λ e. let parts = and_parts j.quiet (have_ended j q) e in comes (quiet_is ∙ parts.0) parts.1))
+
+    -- a query for all replies
+    plain_sound : (q : Asked) → list_all (λ s. replier_holds j q s.client) (sayings (acts_of j)) ≡ true → finished q ≡ true → ends q ≡ true → IsAnswered j.before (acts_of j) now q
+    plain_sound q h only comes = record {
       prefix = λ replier. (all replier).prefix;
-      finished = λ f. so_there (is_final_sent j q) (have_ended j q) finals.0 f;
+      finished = final_only q only;
       complete = λ f replier. (all replier).whole (or_left (is_final_sent j q) j.quiet f);
       last = λ replier. (all replier).last;
       whole = λ quiet replier. (all replier).whole (or_right (is_final_sent j q) j.quiet (sym quiet_is ∙ quiet));
-      final = λ quiet ended. so_there (j.quiet && have_ended j q) (is_final_sent j q) finals.1 (and_from j.quiet (have_ended j q) (sym quiet_is ∙ quiet) ended);
+      final = final_comes q comes;
     }
       where
-        repliers : Bool
-        repliers = list_all (λ s. replier_holds j q s.client) (sayings (acts_of j))
-
-        finished : Bool
-        finished = not (is_final_sent j q) || have_ended j q
-
-        ends : Bool
-        ends = not (j.quiet && have_ended j q) || is_final_sent j q
-
-        finals : (finished ≡ true) × (ends ≡ true)
-        finals = and_parts finished ends (and_parts repliers (finished && ends) h).1
-
         all : (replier : List ℕ) → HasReplies q replier
-        all = every_replier q (and_parts repliers (finished && ends) h).0
+        all = every_replier q h
 
-    query_complete : (q : Asked) → Answered q → query_holds j q ≡ true
-    query_complete q h =
-        and_from (list_all (λ s. replier_holds j q s.client) (sayings (acts_of j))) (finished && ends)
-        (all_true (λ s. replier_holds j q s.client) (λ s. means_holds q s.client (of s.client)) (sayings (acts_of j)))
-        (and_from finished ends (where_so (is_final_sent j q) (have_ended j q) h.finished) (where_so (j.quiet && have_ended j q) (is_final_sent j q) at_rest))
+    plain_complete : (q : Asked) → IsAnswered j.before (acts_of j) now q → list_all (λ s. replier_holds j q s.client) (sayings (acts_of j)) ≡ true
+    plain_complete q h = all_true (λ s. replier_holds j q s.client) (λ s. means_holds q s.client (of s.client)) (sayings (acts_of j))
       where
-        finished : Bool
-        finished = not (is_final_sent j q) || have_ended j q
-
-        ends : Bool
-        ends = not (j.quiet && have_ended j q) || is_final_sent j q
-
-        at_rest : (j.quiet && have_ended j q) ≡ true → is_final_sent j q ≡ true
-        at_rest e = let parts = and_parts j.quiet (have_ended j q) e in h.final (quiet_is ∙ parts.0) parts.1
-
         of : (replier : List ℕ) → HasReplies q replier
         of replier = record {
           prefix = h.prefix replier;
@@ -194,6 +195,83 @@ module _ (j : Judged) where
             by : (is_final_sent j q ≡ true) ⊎ (j.quiet ≡ true) → replies_sent j q replier ≡ replies_due j q replier
             by (inl f) = h.complete f replier
             by (inr quiet) = h.whole (quiet_is ∙ quiet) replier
+
+    -- a query for the latest
+    latest_sound : (q : Asked) → best_holds j q ≡ true → finished q ≡ true → ends q ≡ true → IsAnsweredLatest j.before (acts_of j) now q
+    latest_sound q h only comes =
+        let parts = and_parts waits (begins && whole) h in
+        let more = and_parts begins whole parts.1 in
+        let all : has_all_best j q ≡ true → sent ≡ due = λ e. both_prefixes is_same_key_body one_key_body sent due more.0 (so_there (has_all_best j q) (starts_with is_same_key_body sent due) more.1 e) in
+        record {
+          prefix = prefix_means is_same_key_body one_key_body sent due more.0;
+          early = λ e. nothing sent (ap (λ b. b || is_nothing sent) (sym e) ∙ parts.0);
+          finished = final_only q only;
+          complete = λ f. all (or_left (is_final_sent j q) (j.quiet && have_ended j q) f);
+          whole = λ quiet ended. all (or_right (is_final_sent j q) (j.quiet && have_ended j q) (and_from j.quiet (have_ended j q) (sym quiet_is ∙ quiet) ended));
+          final = final_comes q comes;
+        }
+      where
+        sent : List (List ℕ × List ℕ)
+        sent = best_sent j q
+
+        due : List (List ℕ × List ℕ)
+        due = best_due j q
+
+        begins : Bool
+        begins = starts_with is_same_key_body due sent
+
+        waits : Bool
+        waits = have_ended j q || is_nothing sent
+
+        whole : Bool
+        whole = not (has_all_best j q) || starts_with is_same_key_body sent due
+
+    latest_complete : (q : Asked) → IsAnsweredLatest j.before (acts_of j) now q → best_holds j q ≡ true
+    latest_complete q h =
+        and_from waits (begins && whole) (early (have_ended j q) refl)
+        (and_from begins whole (prefix_holds is_same_key_body one_key_body sent due h.prefix)
+        (where_so (has_all_best j q) (starts_with is_same_key_body sent due)
+        (λ e. same_holds is_same_key_body one_key_body due sent (sym (all (or_cases (is_final_sent j q) (j.quiet && have_ended j q) e))))))
+      where
+        sent : List (List ℕ × List ℕ)
+        sent = best_sent j q
+
+        due : List (List ℕ × List ℕ)
+        due = best_due j q
+
+        begins : Bool
+        begins = starts_with is_same_key_body due sent
+
+        waits : Bool
+        waits = have_ended j q || is_nothing sent
+
+        whole : Bool
+        whole = not (has_all_best j q) || starts_with is_same_key_body sent due
+
+        early : (b : Bool) → have_ended j q ≡ b → (b || is_nothing sent) ≡ true
+        early true e = refl
+        early false e = ap is_nothing (h.early e)
+
+        all : (is_final_sent j q ≡ true) ⊎ ((j.quiet && have_ended j q) ≡ true) → sent ≡ due
+        all (inl f) = h.complete f
+        all (inr e) = let parts = and_parts j.quiet (have_ended j q) e in h.whole (quiet_is ∙ parts.0) parts.1
+
+    query_sound : (q : Asked) → query_holds j q ≡ true → Answered q
+    query_sound q h =
+        let parts = and_parts (contents_hold (asks_latest q) j q) (finished q && ends q) h in
+        let finals = and_parts (finished q) (ends q) parts.1 in
+        by (asks_latest q) parts.0 finals.0 finals.1
+      where
+        by : (b : Bool) → contents_hold b j q ≡ true → finished q ≡ true → ends q ≡ true → IsAnsweredBy b j.before (acts_of j) now q
+        by true holds only comes = latest_sound q holds only comes
+        by false holds only comes = plain_sound q holds only comes
+
+    query_complete : (q : Asked) → Answered q → query_holds j q ≡ true
+    query_complete q h = let both = by (asks_latest q) h in and_from (contents_hold (asks_latest q) j q) (finished q && ends q) both.0 both.1
+      where
+        by : (b : Bool) → IsAnsweredBy b j.before (acts_of j) now q → (contents_hold b j q ≡ true) × ((finished q && ends q) ≡ true)
+        by true answered = (latest_complete q answered, finals_hold_of q answered.finished answered.final)
+        by false answered = (plain_complete q answered, finals_hold_of q answered.finished answered.final)
 
     pub queries_sound : (qs : List Asked) → list_all (λ q. query_holds j q) qs ≡ true → AllByRecursion (λ q. Answered q) qs
     queries_sound [] h = tt
@@ -315,7 +393,7 @@ module _ (j : Judged) where
   -- ---- what is said of receivers
 
   abbrev MayCome : Type 0
-  MayCome = (d : List ℕ) → is_router j.before d ≡ false → list_all (λ x. may_come (acts_of j) j.report d x) (replies_in (told_to j.report d)) ≡ true
+  MayCome = (d : List ℕ) → is_router j.before d ≡ false → all_may_come (acts_of j) j.report d [] (told_to j.report d) ≡ true
 
   abbrev FewRequests : Type 0
   FewRequests = (d : List ℕ) (number : ℕ) → is_router j.before d ≡ false → length (requests_to j.report d number) ≤ suc (times_ended (acts_of j) d number)
@@ -328,7 +406,7 @@ module _ (j : Judged) where
     where
       by : (b : Bool) → list_any (tells_of d) j.report ≡ b → replies_hold j d ≡ true
       by true e = replies_found j.report d other e h
-      by false e = ap (λ told. list_all (λ x. may_come (acts_of j) j.report d x) (replies_in told)) (none_told j.report d e)
+      by false e = ap (all_may_come (acts_of j) j.report d []) (none_told j.report d e)
 
   pub requests_sound : list_all (λ x. answers_hold j x) j.report ≡ true → FewRequests
   requests_sound h d number other = by (kind_found d other (is_request number) (few_requests d number) shows j.report h)

@@ -91,3 +91,22 @@ module _ {X Y : Type 0} (bring : X → Option Y) where
 
     pub none_brought : bring x ≡ None → after ≡ before → after ++ filter_map bring (drop (i + 1) xs) ≡ whole
     none_brought e is = gathered_more all_brought brought brought_first xs i x within here before after whole (is ∙ sym (append-nil before) ∙ ap (λ o. before ++ cons_option o []) (sym e)) so_far
+
+-- and where an element that passes a test is brought itself
+module _ {X : Type 0} (p : X → Bool) where
+  abbrev if_passes : X → List X
+  if_passes x = cond (p x) (x ∷ []) []
+
+  passes_first : (x : X) (xs : List X) → filter p (x ∷ xs) ≡ if_passes x ++ filter p xs
+  passes_first x xs = by (p x)
+    where
+      by : (b : Bool) → cond b (x ∷ filter p xs) (filter p xs) ≡ cond b (x ∷ []) [] ++ filter p xs
+      by true = refl
+      by false = refl
+
+  module _ (xs : List X) (i : ℕ) (x : X) (within : i < length xs) (here : x ≡ get_or xs i x) (before after whole : List X) (so_far : before ++ filter p (drop i xs) ≡ whole) where
+    pub is_kept : p x ≡ true → after ≡ before ++ x ∷ [] → after ++ filter p (drop (i + 1) xs) ≡ whole
+    is_kept e is = gathered_more (filter p) if_passes passes_first xs i x within here before after whole (is ∙ ap (λ b. before ++ cond b (x ∷ []) []) (sym e)) so_far
+
+    pub is_passed : p x ≡ false → after ≡ before → after ++ filter p (drop (i + 1) xs) ≡ whole
+    is_passed e is = gathered_more (filter p) if_passes passes_first xs i x within here before after whole (is ∙ sym (append-nil before) ∙ ap (λ b. before ++ cond b (x ∷ []) []) (sym e)) so_far

@@ -13,7 +13,7 @@ use Rattle.zr_msg.specs.declared.extras.Extras.{Extras}
 use Rattle.zr_msg.specs.declared.msg.Target.{Target}
 use Rattle.zr_msg.specs.declared.msg.Target.TheVariants.{Best, All, Complete}
 use Rattle.zr_guarantee.specs.Item.{Item, Carried, Sample, Query, Reply}
-use Rattle.zr_tests_judge.specs.Same.{is_same_bytes, is_same_extras, is_same_content, is_same_target, is_same_carried, is_same, is_same_reply}
+use Rattle.zr_tests_judge.specs.Same.{is_same_bytes, is_same_extras, is_same_content, is_same_target, is_same_carried, is_same, is_same_reply, is_same_key_body}
 
 -- ---- what is found to be one
 
@@ -86,6 +86,11 @@ same_reply x y h =
     equal : x.line ≡ y.line → x.number ≡ y.number → x.content ≡ y.content → x ≡ y
     equal el en ec i = record { line = el i; number = en i; content = ec i }
 
+same_key_body : (x y : List ℕ × List ℕ) → is_same_key_body x y ≡ true → x ≡ y
+same_key_body x y h =
+    let parts = and_parts (is_same_bytes x.0 y.0) (is_same_bytes x.1 y.1) h in
+    ap (λ key. (key, x.1)) (same_bytes x.0 y.0 parts.0) ∙ ap (λ body. (y.0, body)) (same_bytes x.1 y.1 parts.1)
+
 -- ---- each with itself
 
 option_itself : {X : Type 0} (same : X → X → Bool) → ((x : X) → same x x ≡ true) → (o : Option X) → option_eq same o o ≡ true
@@ -116,6 +121,9 @@ item_itself x = and_from _ _ (same_number x.line) (carried_itself x.carried)
 reply_itself : (x : Reply) → is_same_reply x x ≡ true
 reply_itself x = and_from _ _ (same_number x.line) (and_from _ _ (same_number x.number) (content_itself x.content))
 
+key_body_itself : (x : List ℕ × List ℕ) → is_same_key_body x x ≡ true
+key_body_itself x = and_from _ _ (nat_list_eq_equiv.refl x.0) (nat_list_eq_equiv.refl x.1)
+
 -- ---- both ways, and the laws
 
 pub one_item : (x y : Item) → Decides (is_same x y) (x ≡ y)
@@ -123,6 +131,9 @@ one_item x y = (same_item x y, λ e. subst (λ (z : Item). is_same x z ≡ true)
 
 pub one_reply : (x y : Reply) → Decides (is_same_reply x y) (x ≡ y)
 one_reply x y = (same_reply x y, λ e. subst (λ (z : Reply). is_same_reply x z ≡ true) e (reply_itself x))
+
+pub one_key_body : (x y : List ℕ × List ℕ) → Decides (is_same_key_body x y) (x ≡ y)
+one_key_body x y = (same_key_body x y, λ e. subst (λ (z : List ℕ × List ℕ). is_same_key_body x z ≡ true) e (key_body_itself x))
 
 laws : {X : Type 0} (same : X → X → Bool) → ((x y : X) → Decides (same x y) (x ≡ y)) → IsPartialEquivalence same
 laws same one = record {
@@ -135,3 +146,6 @@ item_laws = laws is_same one_item
 
 pub reply_laws : IsPartialEquivalence is_same_reply
 reply_laws = laws is_same_reply one_reply
+
+pub key_body_laws : IsPartialEquivalence is_same_key_body
+key_body_laws = laws is_same_key_body one_key_body

@@ -12,10 +12,11 @@ use Rattle.zr_world_spec.specs.Moments.{Numbered}
 use Rattle.zr_guarantee.specs.Item.{Item, Carried, Reply}
 use Rattle.zr_guarantee.specs.Names.{is_router}
 use Rattle.zr_guarantee.specs.Broker.{Publication, publication, is_line_of, is_line, from}
-use Rattle.zr_guarantee.specs.Queries.{Asked, queries, sayings, times_asked, times_ended, turn, replies, is_finished, may_come}
-use Rattle.zr_guarantee.specs.Sent.{carried_by, sent_to, told_to, requests_to, replies_in, finals_in, behind_finals}
+use Rattle.zr_guarantee.specs.Queries.{Asked, queries, sayings, times_asked, times_ended, turn, replies, is_finished}
+use Rattle.zr_guarantee.specs.Latest.{asks_latest, best, sent_in_turn, all_may_come}
+use Rattle.zr_guarantee.specs.Sent.{carried_by, sent_to, told_to, requests_to, finals_in, behind_finals}
 use Rattle.zr_guarantee.specs.Refines.{Refines, sent_of_query, has_final}
-use Rattle.zr_tests_judge.specs.Same.{is_same, is_same_reply}
+use Rattle.zr_tests_judge.specs.Same.{is_same, is_same_reply, is_same_key_body}
 
 -- what is judged: the acts before a mark, the number of its line, the acts after it, the report so far, and whether
 -- nothing is under way
@@ -146,15 +147,43 @@ replier_holds j q replier =
     starts_with is_same_reply (replies_due j q replier) (replies_sent j q replier)
     && ((not (is_final_sent j q || j.quiet) || starts_with is_same_reply (replies_sent j q replier) (replies_due j q replier)) && is_none_left (replies_behind j q replier))
 
--- so it is for all that say anything, the final is sent only where all that are asked have ended, and it is where they have and nothing is under way
+-- the best of all that was replied to a query for the latest, and what its client was sent
+abbrev pub best_due : Judged → Asked → List (List ℕ × List ℕ)
+best_due j q = best (acts_of j) j.report q
+
+abbrev pub best_sent : Judged → Asked → List (List ℕ × List ℕ)
+best_sent j q = sent_in_turn (acts_of j) j.report q
+
+-- whether a query has all its replies by now
+abbrev pub has_all_best : Judged → Asked → Bool
+has_all_best j q = is_final_sent j q || (j.quiet && have_ended j q)
+
+-- whether a list is empty
+abbrev pub is_nothing : List (List ℕ × List ℕ) → Bool
+is_nothing [] = true
+is_nothing (x ∷ xs) = false
+
+-- what was sent is nothing unless all that are asked have ended, it begins the best, and it is the whole where the final was sent, or where all have
+-- ended and nothing is under way
+abbrev pub best_holds : Judged → Asked → Bool
+best_holds j q =
+    (have_ended j q || is_nothing (best_sent j q))
+    && (starts_with is_same_key_body (best_due j q) (best_sent j q) && (not (has_all_best j q) || starts_with is_same_key_body (best_sent j q) (best_due j q)))
+
+-- so it is of a query for the latest, and of any other it is as said above for all that say anything
+abbrev pub contents_hold : Bool → Judged → Asked → Bool
+contents_hold true j q = best_holds j q
+contents_hold false j q = list_all (λ s. replier_holds j q s.client) (sayings (acts_of j))
+
+-- so it is, the final is sent only where all that are asked have ended, and it is where they have and nothing is under way
 abbrev pub query_holds : Judged → Asked → Bool
 query_holds j q =
-    list_all (λ s. replier_holds j q s.client) (sayings (acts_of j))
+    contents_hold (asks_latest q) j q
     && ((not (is_final_sent j q) || have_ended j q) && (not (j.quiet && have_ended j q) || is_final_sent j q))
 
 -- no reply came to a client that is none of its own
 abbrev pub replies_hold : Judged → List ℕ → Bool
-replies_hold j receiver = list_all (λ r. may_come (acts_of j) j.report receiver r) (replies_in (told_to j.report receiver))
+replies_hold j receiver = all_may_come (acts_of j) j.report receiver [] (told_to j.report receiver)
 
 -- if a message is a request, no more of them came under its number than its client has ended and one
 abbrev pub requests_hold : Judged → List ℕ → Msg → Bool

@@ -50,3 +50,7 @@ is_same x y = x.line == y.line && is_same_carried x.carried y.carried
 -- whether two replies are one
 abbrev pub is_same_reply : Reply → Reply → Bool
 is_same_reply x y = x.line == y.line && (x.number == y.number && is_same_content x.content y.content)
+
+-- whether two keys with their bodies are one
+abbrev pub is_same_key_body : List ℕ × List ℕ → List ℕ × List ℕ → Bool
+is_same_key_body x y = is_same_bytes x.0 y.0 && is_same_bytes x.1 y.1

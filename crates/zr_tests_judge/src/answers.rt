@@ -1,17 +1,23 @@
 //! The judgement of replies and finals, and of requests under a number.
 
-ghost use Rattle.std.specs.Prelude.{◌≡◌, ◌==◌, ◌&&◌, ◌||◌, not, IfOk, filter};
+ghost use Rattle.std.specs.Prelude.{◌≡◌, ◌==◌, ◌&&◌, ◌||◌, not, IfOk, [], true, filter};
 ghost use Rattle.std.specs.List.{list_all, list_any, starts_with};
+ghost use Rattle.std.specs.Option.{option_map_or};
 ghost use Rattle.zr_guarantee.specs.Queries.{sayings, turn};
-ghost use Rattle.zr_guarantee.specs.Sent.{behind_finals, replies_in, told_to};
+ghost use Rattle.zr_guarantee.specs.Latest.{all_may_come, asks_latest, may_come};
+ghost use Rattle.zr_guarantee.specs.Sent.{behind_finals, finals_in, replies_in, reply_in, told_to};
 ghost use Rattle.zr_tests_judge.specs.Same.{is_same_reply};
-ghost use Rattle.zr_tests_judge.specs.Judge.{acts_of, answers_hold, finals_hold, is_answered, is_final_sent, is_none_left, query_holds, replier_holds, replies_hold, requests_hold};
+ghost use Rattle.zr_tests_judge.specs.Judge.{acts_of, answers_hold, best_holds, contents_hold, finals_hold, is_answered, is_final_sent, is_none_left, query_holds, replier_holds, replies_hold, requests_hold};
 
 use crate::judge::is_router;
+use crate::latest::{self, is_nothing};
 use crate::queries::{
-    Asked, Talk, add_queries, is_finished, may_come, replies, times_asked, times_ended, turn,
+    Asked, Talk, add_queries, asks_latest, is_finished, may_come, replies, times_asked,
+    times_ended, turn,
 };
-use crate::sent::{Reply, Told, behind_finals, finals_in, replies_in, requests_to, told_to};
+use crate::sent::{
+    Reply, Told, behind_finals, finals_in, replies_in, reply_in, requests_to, told_to,
+};
 use std::alloc::{AllocError, Global};
 use zr_id::zid::Zid;
 use zr_msg::msg::Msg;
@@ -59,13 +65,41 @@ fn all_answers_hold(
 fn query_holds(alloc: Global, talk: &Talk<'_>, q: &Asked<'_>) -> Result<bool, AllocError>
     ensures { IfOk result (λ answer. answer ≡ query_holds talk.now q.now) }
 {
-    if !repliers_hold(alloc, talk, q)? {
+    if !contents_hold(alloc, talk, q)? {
         return Ok(false);
     }
     let told = told_to_asker(alloc, talk, q)?;
     let is_final_sent = is_final_sent(talk, q, told.as_slice());
     let have_ended = is_finished(alloc, talk, q)?;
     Ok((!is_final_sent || have_ended) && (!(talk.quiet && have_ended) || is_final_sent))
+}
+
+// Whether the replies to a query come as they are to.
+fn contents_hold(alloc: Global, talk: &Talk<'_>, q: &Asked<'_>) -> Result<bool, AllocError>
+    ensures { IfOk result (λ answer. answer ≡ contents_hold (asks_latest q.now) talk.now q.now) }
+{
+    if asks_latest(q) {
+        best_holds(alloc, talk, q)
+    } else {
+        repliers_hold(alloc, talk, q)
+    }
+}
+
+// Of a query for the latest what was sent is nothing before the end, begins the best, and is the whole where its final was sent or nothing is under way.
+fn best_holds(alloc: Global, talk: &Talk<'_>, q: &Asked<'_>) -> Result<bool, AllocError>
+    ensures { IfOk result (λ answer. answer ≡ best_holds talk.now q.now) }
+{
+    let told = told_to_asker(alloc, talk, q)?;
+    let told = told.as_slice();
+    let due = latest::best(alloc, talk, q)?;
+    let sent = latest::sent_in_turn(alloc, talk, q, told)?;
+    let sent = sent.as_slice();
+    let have_ended = is_finished(alloc, talk, q)?;
+    if !have_ended && !is_nothing(sent) {
+        return Ok(false);
+    }
+    let is_whole = is_final_sent(talk, q, told) || (talk.quiet && have_ended);
+    Ok(latest::agree(due.as_slice(), sent, is_whole))
 }
 
 fn repliers_hold(alloc: Global, talk: &Talk<'_>, q: &Asked<'_>) -> Result<bool, AllocError>
@@ -197,13 +231,43 @@ fn replies_hold(alloc: Global, talk: &Talk<'_>, receiver: &Zid) -> Result<bool, 
     ensures { IfOk result (λ answer. answer ≡ replies_hold talk.now receiver.now) }
 {
     let told = told_to(alloc, talk.report, receiver)?;
-    let replies = replies_in(alloc, told.as_slice())?;
-    for r in &replies {
-        if !may_come(alloc, talk, receiver, r)? {
+    all_may_come(alloc, talk, receiver, told.as_slice())
+}
+
+// Whether each reply among some messages may come behind those before it.
+fn all_may_come(
+    alloc: Global,
+    talk: &Talk<'_>,
+    receiver: &Zid,
+    told: &[Told<'_>],
+) -> Result<bool, AllocError>
+    ensures { IfOk result (λ answer. answer ≡ all_may_come (acts_of talk.now) talk.now.report receiver.now [] told.now) }
+{
+    for place in 0..told.len() {
+        if !comes_rightly(alloc, talk, receiver, &told[..place], &told[place])? {
             return Ok(false);
         }
     }
     Ok(true)
+}
+
+// Whether a message, if it is a reply, may come behind others.
+fn comes_rightly(
+    alloc: Global,
+    talk: &Talk<'_>,
+    receiver: &Zid,
+    behind: &[Told<'_>],
+    x: &Told<'_>,
+) -> Result<bool, AllocError>
+    ensures { IfOk result (λ answer. answer ≡ option_map_or (λ r. may_come (acts_of talk.now) talk.now.report receiver.now (finals_in r.number behind.now) r) (reply_in x.now.tag x.now.msg) true) }
+{
+    match reply_in(x.tag, x.msg) {
+        Some(reply) => {
+            let turns = finals_in(reply.number, behind);
+            may_come(alloc, talk, receiver, turns, &reply)
+        }
+        None => Ok(true),
+    }
 }
 
 // If the message is a request, its client has ended all that came under its number but one at most.

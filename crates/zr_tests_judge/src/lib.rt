@@ -5,6 +5,7 @@
 mod answers;
 mod broker;
 pub mod judge;
+mod latest;
 mod queries;
 mod same;
 mod sent;

@@ -5,14 +5,17 @@ ghost use Rattle.std.specs.List.{list_any};
 ghost use Rattle.std.specs.Option.{option_copied, option_map};
 ghost use Rattle.zr_id.specs.Zid.{is_named};
 ghost use Rattle.zr_guarantee.specs.Names.{client_in};
-ghost use Rattle.zr_guarantee.specs.Queries.{asked_in, asks, ended_before, has_ended, is_end, is_finished, is_own_query, is_said_to, is_under, may_come, queries, query_of, replies, reply_of, saying_in, sayings, times_asked, times_ended, turn};
+ghost use Rattle.zr_guarantee.specs.Queries.{asked_in, asks, ended_before, has_ended, is_end, is_finished, is_said_to, is_under, queries, query_at, query_of, replies, reply_of, saying_in, sayings, times_asked, times_ended, turn};
+ghost use Rattle.zr_guarantee.specs.Latest.{asks_latest, has_content, is_what_is_said, may_come};
 ghost use Rattle.zr_tests_judge.specs.Judge.{acts_of};
 
 use crate::broker::{Carried, is_for};
 use crate::judge::Case;
+use crate::latest::{is_same_body, is_same_key};
 use crate::sent::{Reply, requests_to};
 use std::alloc::{AllocError, Global};
 use std::marker::Model;
+use zr_body::latest;
 use zr_id::zid::Zid;
 use zr_msg::content::Content;
 use zr_msg::msg::Target;
@@ -257,8 +260,13 @@ fn query_of(alloc: Global, talk: &Talk<'_>, s: &Saying<'_>) -> Result<Option<u64
     Ok(requests.get(place).copied())
 }
 
-// Whether something is said to the query of a line.
-fn is_said_to(alloc: Global, talk: &Talk<'_>, line: u64, s: &Saying<'_>) -> Result<bool, AllocError>
+/// Whether something is said to the query of a line.
+pub fn is_said_to(
+    alloc: Global,
+    talk: &Talk<'_>,
+    line: u64,
+    s: &Saying<'_>,
+) -> Result<bool, AllocError>
     ensures { IfOk result (λ answer. answer ≡ is_said_to (acts_of talk.now) talk.now.report line s.now) }
 {
     match query_of(alloc, talk, s)? {
@@ -367,54 +375,99 @@ pub fn is_finished(alloc: Global, talk: &Talk<'_>, q: &Asked<'_>) -> Result<bool
     Ok(true)
 }
 
-// Whether there is a query, and it is one that the client has asked under the number.
-fn is_own_query(talk: &Talk<'_>, client: &Zid, number: u32, query: Option<u64>) -> bool
-    ensures { result ≡ is_own_query (acts_of talk.now) client.now number query }
+// The query that a client asked under a number after so many others.
+fn query_at<'b, 'a>(
+    talk: &'b Talk<'a>,
+    client: &Zid,
+    number: u32,
+    turns: usize,
+) -> Option<&'b Asked<'a>>
+    ensures { option_copied result ≡ query_at (acts_of talk.now) client.now number turns }
 {
-    match query {
-        Some(line) => is_asked_by(client, number, line, talk.asked.as_slice()),
-        None => false,
+    let mut left = turns;
+    for q in &talk.asked {
+        if is_under(client, number, q) {
+            if left == 0 {
+                return Some(q);
+            }
+            left -= 1;
+        }
     }
+    None
 }
 
-fn is_asked_by(client: &Zid, number: u32, line: u64, asked: &[Asked<'_>]) -> bool
-    ensures { result ≡ list_any (λ q. q.line == line && is_under client.now number q) asked.now }
-{
-    asked
-        .iter()
-        .any(|q| q.line == line && is_under(client, number, q))
-}
-
-/// Whether a reply may come to a client: a client has replied so, and said it to a query that this one has asked under the reply's number.
+/// Whether a reply may come to a client behind so many finals of its number: a client has said it, to the query that this one has asked
+/// under that number after so many others.
 pub fn may_come(
     alloc: Global,
     talk: &Talk<'_>,
     client: &Zid,
+    turns: usize,
     reply: &Reply<'_>,
 ) -> Result<bool, AllocError>
-    ensures { IfOk result (λ answer. answer ≡ may_come (acts_of talk.now) talk.now.report client.now reply.now) }
+    ensures { IfOk result (λ answer. answer ≡ may_come (acts_of talk.now) talk.now.report client.now turns reply.now) }
+{
+    match query_at(talk, client, reply.number, turns) {
+        Some(q) => is_said(alloc, talk, q, reply),
+        None => Ok(false),
+    }
+}
+
+// Whether a client has said a reply, to this query.
+fn is_said(
+    alloc: Global,
+    talk: &Talk<'_>,
+    q: &Asked<'_>,
+    reply: &Reply<'_>,
+) -> Result<bool, AllocError>
+    ensures { IfOk result (λ answer. answer ≡ list_any (λ s. is_said_to (acts_of talk.now) talk.now.report q.now.line s && is_what_is_said q.now reply.now s) (sayings (acts_of talk.now))) }
 {
     for s in &talk.said {
-        if is_own(alloc, talk, client, reply, s)? {
+        if is_said_so(alloc, talk, q, reply, s)? {
             return Ok(true);
         }
     }
     Ok(false)
 }
 
-// Whether it is the reply of the line, and said to a query of the client's own under the reply's number.
-fn is_own(
+// Whether it is this reply that is said, to this query.
+fn is_said_so(
     alloc: Global,
     talk: &Talk<'_>,
-    client: &Zid,
+    q: &Asked<'_>,
     reply: &Reply<'_>,
     s: &Saying<'_>,
 ) -> Result<bool, AllocError>
-    ensures { IfOk result (λ answer. answer ≡ (s.now.line == reply.now.line && (is_some s.now.reply && is_own_query (acts_of talk.now) client.now reply.now.number (query_of (acts_of talk.now) talk.now.report s.now)))) }
+    ensures { IfOk result (λ answer. answer ≡ (is_said_to (acts_of talk.now) talk.now.report q.now.line s.now && is_what_is_said q.now reply.now s.now)) }
 {
-    if s.line != reply.line || s.reply.is_none() {
-        return Ok(false);
+    Ok(is_said_to(alloc, talk, q.line, s)? && is_what_is_said(q, reply, s))
+}
+
+// Whether a reply is what is said: it comes from that line, or to a query for the latest it has that key and body.
+fn is_what_is_said(q: &Asked<'_>, reply: &Reply<'_>, s: &Saying<'_>) -> bool
+    ensures { result ≡ is_what_is_said q.now reply.now s.now }
+{
+    if asks_latest(q) {
+        has_content(reply.content, s.reply)
+    } else {
+        s.line == reply.line && s.reply.is_some()
     }
-    let query = query_of(alloc, talk, s)?;
-    Ok(is_own_query(talk, client, reply.number, query))
+}
+
+fn has_content(content: &Content, said: Option<&Content>) -> bool
+    ensures { result ≡ has_content content.now (option_copied said.entry) }
+{
+    match said {
+        Some(said) => {
+            is_same_key(content.key(), said.key()) && is_same_body(content.body(), said.body())
+        }
+        None => false,
+    }
+}
+
+/// Whether a query asks for the latest replies alone.
+pub fn asks_latest(q: &Asked<'_>) -> bool
+    ensures { result ≡ asks_latest q.now }
+{
+    latest(q.content.body())
 }

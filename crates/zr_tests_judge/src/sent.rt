@@ -3,7 +3,7 @@
 ghost use Rattle.std.specs.Prelude.{◌≡◌, ◌++◌, IfOk, OnOk, filter, is_some};
 ghost use Rattle.std.specs.Option.{option_map};
 ghost use Rattle.zr_guarantee.specs.Broker.{is_line_of};
-ghost use Rattle.zr_guarantee.specs.Sent.{behind_finals, carried_by, finals_in, is_final, is_request, item_of, replies_in, reply_in, requests_to, sent_to, told_in, told_to};
+ghost use Rattle.zr_guarantee.specs.Sent.{behind_finals, carried_by, finals_in, is_final, is_request, item_of, replies_in, reply_in, requests_to, sent_to, told_in, told_to, up_to_final};
 ghost use Rattle.zr_tests_judge.specs.Given.{carried_of};
 
 use crate::broker::{Carried, Item, is_line_of};
@@ -185,8 +185,8 @@ pub fn replies_in<'a>(alloc: Global, told: &[Told<'a>]) -> Result<Vec<Reply<'a>>
     Ok(replies)
 }
 
-// The reply that a message is, if it is one.
-fn reply_in<'a>(tag: u64, msg: &'a Msg) -> Option<Reply<'a>>
+/// The reply that a message is, if it is one.
+pub fn reply_in<'a>(tag: u64, msg: &'a Msg) -> Option<Reply<'a>>
     ensures { result ≡ reply_in tag msg.now }
 {
     match msg {
@@ -222,6 +222,19 @@ pub fn behind_finals<'b, 'a>(number: u32, count: usize, told: &'b [Told<'a>]) ->
         rest = more;
     }
     rest
+}
+
+/// The messages up to the next final of a number.
+pub fn up_to_final<'b, 'a>(number: u32, told: &'b [Told<'a>]) -> &'b [Told<'a>]
+    ensures { result.now ≡ up_to_final number told.now }
+{
+    for place in 0..told.len() {
+        let x = &told[place];
+        if is_final(number, x.msg) {
+            return &told[..place + 1];
+        }
+    }
+    told
 }
 
 fn is_request(number: u32, msg: &Msg) -> bool

@@ -1,8 +1,9 @@
-//! Scripts with samples and with a query: the judge at each moment of their phase, and at forged reports.
+//! Scripts with samples and with queries: the judge at each moment of their phase, and at forged reports.
 //!
 //! The lines are those of the language of scripts, and what is sent is written as the line that brings such a message. What else routers do,
 //! and who takes a step, is nothing to the judge: so a `run` stands for the steps before the mark, and the steps of a phase are lines of their own.
 
+use crate::latest::{FORGED_LATEST, LATEST_QUERY, TRUE_LATEST};
 use crate::row::{act_of, message, name};
 use std::alloc::{AllocError, Global};
 use std::test::Fail;
@@ -16,16 +17,16 @@ use zr_script_spec::report::ReportLine;
 use zr_tests_judge::judge::{Case, refines};
 
 /// A script: its lines before the mark, and those behind it.
-struct Script {
-    before: &'static [&'static str],
-    phase: &'static [&'static str],
+pub(crate) struct Script {
+    pub(crate) before: &'static [&'static str],
+    pub(crate) phase: &'static [&'static str],
 }
 
 /// A message that is sent: the router that sends it, to whom, the number of the line that it comes from, and a line that brings one like it.
-type Sent = (u8, u8, u64, &'static str);
+pub(crate) type Sent = (u8, u8, u64, &'static str);
 
 /// How many lines of the phase are done, what was sent, whether nothing is under way, and what there is to see.
-type Row = (usize, &'static [Sent], bool, &'static str);
+pub(crate) type Row = (usize, &'static [Sent], bool, &'static str);
 
 /// A script, rows at which the network refines one broker, and rows at which it doesn't.
 type Table = (Script, &'static [Row], &'static [Row]);
@@ -474,6 +475,8 @@ static NOT_TAKEN: Table = (NOT_TAKEN_BACK, SENT_ALL_THE_SAME, &[]);
 
 static ANSWERS: Table = (QUERY, TRUE_ANSWERS, FORGED_ANSWERS);
 
+static LATEST: Table = (LATEST_QUERY, TRUE_LATEST, FORGED_LATEST);
+
 static OF_TWO: Table = (TWO_ROUTERS, TRUE_OF_TWO, ADDED);
 
 static OF_THREE: Table = (THREE_ROUTERS, TRUE_OF_THREE, FORGED_OF_THREE);
@@ -493,6 +496,10 @@ fn not_taken() -> &'static Table {
 
 fn answers() -> &'static Table {
     &ANSWERS
+}
+
+fn latest() -> &'static Table {
+    &LATEST
 }
 
 fn of_two() -> &'static Table {
@@ -644,7 +651,7 @@ fn wrong_in(alloc: Global, table: &Table) -> Result<&'static str, AllocError> {
 }
 
 // The same of some tables.
-fn first_wrong(alloc: Global, tables: [&Table; 6]) -> Result<&'static str, AllocError> {
+fn first_wrong(alloc: Global, tables: [&Table; 7]) -> Result<&'static str, AllocError> {
     for i in 0..tables.len() {
         let wrong = wrong_in(alloc, tables[i])?;
         if !wrong.is_empty() {
@@ -661,6 +668,7 @@ fn the_judge_tells_each_moment_from_forged_reports(rt: HostRuntime) -> Result<()
         taken(),
         not_taken(),
         answers(),
+        latest(),
         of_two(),
         of_three(),
     ];

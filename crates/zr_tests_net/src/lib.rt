@@ -1,9 +1,11 @@
 //! Tests of a router, of the judge of reports, and of scripts that come in pieces.
-//! Each file tests one crate, as rows of a table, but for `row`, which has what rows are made of. What the contracts say for all inputs is not tested.
+//! Each file tests one crate, as rows of a table, but for `row`, which has what rows are made of, and `latest`, which has rows for the judge. What the contracts say for all inputs is not tested.
 #![tactic(auto)]
 
 #[cfg(test)]
 mod judges;
+#[cfg(test)]
+mod latest;
 #[cfg(test)]
 mod nodes;
 #[cfg(test)]

@@ -2,7 +2,7 @@
 
 use crate::row::{self, Fault};
 use std::alloc::{AllocError, Global};
-use zr_body::{Body, Place, read_body, write_body};
+use zr_body::{Body, Place, is_later, latest, read_body, stamp, write_body};
 use zr_bytes::Cursor;
 
 pub fn answer(alloc: Global, words: &[&str]) -> Result<String, Fault> {
@@ -10,6 +10,9 @@ pub fn answer(alloc: Global, words: &[&str]) -> Result<String, Fault> {
         "push" => read(alloc, words, Place::Push),
         "request" => read(alloc, words, Place::Request),
         "response" => read(alloc, words, Place::Response),
+        "latest" => asks_latest(alloc, words),
+        "stamp" => stamp_in(alloc, words),
+        "later" => later(alloc, words),
         "hi" => row::or_fault(made(alloc, Body::put(alloc, b"hi"))),
         "deletion" => row::or_fault(made(alloc, Body::del(alloc))),
         _ => Err(Fault::Row),
@@ -22,6 +25,38 @@ fn read(alloc: Global, words: &[&str], place: Place) -> Result<String, Fault> {
     match read_body(alloc, &mut c, place) {
         Ok(body) => row::or_fault(shown(alloc, &body, c.left())),
         Err(e) => row::read(alloc, &e, c.left()),
+    }
+}
+
+// Whether a query asks for the latest replies alone.
+fn asks_latest(alloc: Global, words: &[&str]) -> Result<String, Fault> {
+    let body = body_at(alloc, words, 1, Place::Request)?;
+    row::text(alloc, &latest(&body))
+}
+
+// When the value in a reply was given: the time, and the clock.
+fn stamp_in(alloc: Global, words: &[&str]) -> Result<String, Fault> {
+    let body = body_at(alloc, words, 1, Place::Response)?;
+    match stamp(&body) {
+        Some(stamp) => row::or_fault(format!(in alloc; "{} by {:?}", stamp.time, stamp.clock)),
+        None => Ok(String::from_str(alloc, "none")?),
+    }
+}
+
+// Whether a reply is later than another one, and the other one than it.
+fn later(alloc: Global, words: &[&str]) -> Result<String, Fault> {
+    let reply = body_at(alloc, words, 1, Place::Response)?;
+    let other = body_at(alloc, words, 2, Place::Response)?;
+    let (is, isnt) = (is_later(&reply, &other), is_later(&other, &reply));
+    row::or_fault(format!(in alloc; "{is}, {isnt}"))
+}
+
+fn body_at(alloc: Global, words: &[&str], at: usize, place: Place) -> Result<Body, Fault> {
+    let bytes = row::bytes(alloc, words, at)?;
+    let mut c = Cursor::new(&bytes);
+    match read_body(alloc, &mut c, place) {
+        Ok(body) => Ok(body),
+        Err(_) => Err(Fault::Row),
     }
 }
 
