@@ -4,3 +4,4 @@ pub mod Written
 pub mod Acts
 pub mod Run
 pub mod Log
+pub mod Complete

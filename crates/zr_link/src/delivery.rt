@@ -27,10 +27,10 @@ use zr_id::link::LinkNo;
 use zr_msg::msg::Msg;
 use zr_outside::clock::Clock;
 use zr_outside::source::Source;
-use zr_port::{Entry, Port};
+use zr_port::{DeliverError, Entry, Port};
 use zr_session::{Fate, SessionEvent};
 
-/// Reads so often at most, and delivers what comes, until the session ends.
+/// Reads so often at most, and delivers what comes, until the session ends. Where a message is refused, `refused` is told why.
 pub(crate) fn go_on<S: Source, P: Port, C: Clock>(
     alloc: Global,
     intake: &mut Intake,
@@ -40,6 +40,7 @@ pub(crate) fn go_on<S: Source, P: Port, C: Clock>(
     pass: &mut Pass<Entry>,
     link: LinkNo,
     turns: u64,
+    refused: &mut Option<DeliverError>,
 ) -> LinkEnd
     requires pass { pass_name pass.old ≡ P.history port.now }
     requires running { is_running intake.old.session.state ≡ true }
@@ -58,14 +59,14 @@ pub(crate) fn go_on<S: Source, P: Port, C: Clock>(
             Err(end) => return end,
         };
         let events = intake.take_events(alloc).into_iter();
-        if let Err(end) = settle(alloc, port, pass, link, events, fate) {
+        if let Err(end) = settle(alloc, port, pass, link, events, fate, refused) {
             return end;
         }
     }
     LinkEnd::Turns
 }
 
-/// Delivers these messages, and tells the end where the session has come to it.
+/// Delivers these messages, and tells the end where the session has come to it. Where a message is refused, `refused` is told why.
 pub(crate) fn settle<P: Port>(
     alloc: Global,
     port: &P,
@@ -73,6 +74,7 @@ pub(crate) fn settle<P: Port>(
     link: LinkNo,
     messages: vec::IntoIter<SessionEvent>,
     fate: Fate,
+    refused: &mut Option<DeliverError>,
 ) -> Result<(), LinkEnd>
     requires pass { pass_name pass.old ≡ P.history port.now }
     requires messages { AreMessages IsSpelled (into_iter_items messages) }
@@ -81,7 +83,7 @@ pub(crate) fn settle<P: Port>(
     ensures ok { OnOk result ((fate ≡ fates.Going) × Delivers link (λ h m x. P.refuses_message port.now h link m x) (into_iter_items messages) [] (sight pass.old) (sight pass.new)) }
     ensures err { IfErr result (λ e. (rest : List SessionEvent) × Delivers link (λ h m x. P.refuses_message port.now h link m x) (into_iter_items messages) rest (sight pass.old) (sight pass.new) × (Stops (λ m x. P.refuses_message port.now (seen pass.new) link m x) rest e ⊎ ((rest ≡ []) × EndIs fate e))) }
 {
-    match deliver_all(alloc, port, pass, link, messages) {
+    match deliver_all(alloc, port, pass, link, messages, refused) {
         Ok(()) => ended(fate),
         Err(end) => Err(end),
     }
@@ -94,6 +96,7 @@ fn deliver_all<P: Port>(
     pass: &mut Pass<Entry>,
     link: LinkNo,
     events: vec::IntoIter<SessionEvent>,
+    refused: &mut Option<DeliverError>,
 ) -> Result<(), LinkEnd>
     requires pass { pass_name pass.old ≡ P.history port.now }
     requires messages { AreMessages IsSpelled (into_iter_items events) }
@@ -106,9 +109,15 @@ fn deliver_all<P: Port>(
         return Err(LinkEnd::NoMemory);
     };
     if let Err(e) = port.deliver_all(pass, link, messages) {
+        keep(refused, &e);
         return Err(LinkEnd::of_delivery(e));
     }
     Ok(())
+}
+
+// A message was refused for this.
+fn keep(refused: &mut Option<DeliverError>, e: &DeliverError) {
+    *refused = Some(*e);
 }
 
 // The messages of these events. Where there are none it takes no memory.

@@ -18,11 +18,13 @@ ghost use Rattle.zr_port.specs.Coming.{Came, Through, sight};
 ghost use Rattle.zr_link.specs.Heard.{IsBegun, IsLate, IsOpen, IsIn, AreMessages};
 ghost use Rattle.zr_link.specs.Written.{IsWritten, Puts, Wrote, close_with};
 ghost use Rattle.zr_link_writer.specs.Parts.{close_bytes};
+ghost use Rattle.zr_link.specs.Complete.{IsComplete};
 ghost use Rattle.zr_link.specs.Run.{Follows, Enters, Runs, Starts, GoesDown};
 ghost use Rattle.zr_link.specs.declared.log.Stage.TheVariants as stages;
 ghost use Rattle.zr_link.specs.Log.{IsLogged, stage_of};
 ghost use Rattle.zr_link.specs.Ends.{IsEarly, IsStarted, IsCrewRefused};
 
+use crate::cause::cause;
 use crate::clock::PortClock;
 use crate::delivery::{go_on, settle};
 use crate::end::LinkEnd;
@@ -44,7 +46,7 @@ use zr_outside::log::Log;
 use zr_outside::sink::{Sink, write_all};
 use zr_outside::source::Source;
 use zr_outside_crew::Crew;
-use zr_port::{Entry, Port};
+use zr_port::{DeliverError, Entry, Port};
 use zr_ring::Taker;
 use zr_session::{Fate, Session, SessionEvent};
 
@@ -92,6 +94,7 @@ impl Reader {
         ensures same { IsSamePass pass.old pass.new }
         ensures prefix { IsPrefix (seen pass.old) (seen pass.new) }
         ensures run { Runs session result.0 (S.left source.old) (S.left source.new) (IsLate (S.quiets source.old) (S.quiets source.new) session.heard (C.last clock.old) (C.last clock.new)) (λ answers. Wrote (λ k. K.held k) (λ k. K.faults k) result.0 (first.now ++ answers) out.sink result.1) (P.refuses_up (arc_value out.port)) (P.refuses_message (arc_value out.port)) (P.refuses_down (arc_value out.port)) pass.old pass.new }
+        ensures complete { IsComplete session result.0 (S.left source.old) (S.left source.new) (IsLate (S.quiets source.old) (S.quiets source.new) session.heard (C.last clock.old) (C.last clock.new)) (P.refuses_up (arc_value out.port)) (P.refuses_message (arc_value out.port)) pass.old pass.new }
         ensures fault { Counted (S.faults source.old) (S.faults source.new) (result.0 ≡ end.ReadFault) }
         ensures ended { Counted (S.ends source.old) (S.ends source.new) (result.0 ≡ end.PeerEnded) }
         ensures turns { result.0 ≡ end.Turns → RoseBy out.turns (S.reads source.old) (S.reads source.new) }
@@ -125,7 +128,10 @@ impl Reader {
                 pass,
                 log,
             ),
-            Err(end) => (end, Some(out.sink)),
+            Err(end) => {
+                log.because(cause(alloc, &intake.session, None));
+                (end, Some(out.sink))
+            }
         }
     }
 }
@@ -190,9 +196,21 @@ where
     log.up(&known);
     match begin(alloc, intake, out, crew, link, known, taker) {
         Ok(()) => {
+            let mut refused = None;
             let end = follow(
-                alloc, intake, messages, fate, source, clock, port, pass, link, left,
+                alloc,
+                intake,
+                messages,
+                fate,
+                source,
+                clock,
+                port,
+                pass,
+                link,
+                left,
+                &mut refused,
             );
+            log.because(cause(alloc, &intake.session, refused));
             leave(port, pass, link, end);
             (end, None)
         }
@@ -222,7 +240,7 @@ fn leave<P: Port>(port: &P, pass: &mut Pass<Entry>, link: LinkNo, end: LinkEnd)
     let _ = port.down(pass, link, end.reason());
 }
 
-// The writer is started: delivers what waits, and goes on.
+// The writer is started: delivers what waits, and goes on. Where a message is refused, `refused` is told why.
 fn follow<S: Source, P: Port, C: Clock>(
     alloc: Global,
     intake: &mut Intake,
@@ -234,6 +252,7 @@ fn follow<S: Source, P: Port, C: Clock>(
     pass: &mut Pass<Entry>,
     link: LinkNo,
     turns: u64,
+    refused: &mut Option<DeliverError>,
 ) -> LinkEnd
     requires pass { pass_name pass.old ≡ P.history port.now }
     requires messages { AreMessages IsSpelled (into_iter_items waiting) }
@@ -247,8 +266,10 @@ fn follow<S: Source, P: Port, C: Clock>(
     ensures turns { result ≡ end.Turns → RoseBy turns (S.reads source.old) (S.reads source.new) }
     ensures later { (S.quiets source.old ≤ S.quiets source.new) × (C.last clock.old ≤ C.last clock.new) }
 {
-    match settle(alloc, port, pass, link, waiting, fate) {
-        Ok(()) => go_on(alloc, intake, source, clock, port, pass, link, turns),
+    match settle(alloc, port, pass, link, waiting, fate, refused) {
+        Ok(()) => go_on(
+            alloc, intake, source, clock, port, pass, link, turns, refused,
+        ),
         Err(end) => end,
     }
 }

@@ -12,13 +12,14 @@ use std::alloc::Global;
 use zr_bytes::Cursor;
 use zr_open::Opening;
 
-/// Reads a batch up to its first fault.
+/// Reads a batch up to its first fault, of which `cause` is told.
 pub(crate) fn read_batch(
     alloc: Global,
     opening: &Opening,
     phase: &mut Phase,
     batch: &[u8],
     out: &mut Fed,
+    cause: &mut Option<String>,
 ) -> Result<(), ReadStop>
     ensures { Goes result (on_batch opening.now phase.old batch.now) phase.new out.old out.new }
 {
@@ -29,7 +30,7 @@ pub(crate) fn read_batch(
         if c.left() == 0 {
             return Ok(());
         }
-        in_frame = match read_item(alloc, opening, phase, in_frame, &mut c, out) {
+        in_frame = match read_item(alloc, opening, phase, in_frame, &mut c, out, cause) {
             Ok(in_frame) => in_frame,
             Err(e) => return Err(e),
         };

@@ -10,14 +10,36 @@ use crate::event::Fed;
 use crate::opening::on_trans;
 use crate::phase::{Established, Phase};
 use crate::stop::{INVALID, ReadStop, stop_of_read};
+use crate::why::why;
 use std::alloc::Global;
 use zr_bytes::Cursor;
 use zr_open::Opening;
 use zr_trans::{Trans, read_trans};
 
 /// Reads the message at the front, where a frame is open or not, and does what it asks for. The answer is whether a frame is open
-/// behind it.
+/// behind it. Where this end closes the session for the message, `cause` is told why, in words.
 pub(crate) fn read_item(
+    alloc: Global,
+    opening: &Opening,
+    phase: &mut Phase,
+    in_frame: bool,
+    c: &mut Cursor<'_>,
+    out: &mut Fed,
+    cause: &mut Option<String>,
+) -> Result<bool, ReadStop>
+    ensures { Reads result (item_of opening.now phase.old in_frame c.old) phase.new c.new out.old out.new }
+{
+    let bytes = c.as_slice();
+    match read_one(alloc, opening, phase, in_frame, c, out) {
+        Ok(in_frame) => Ok(in_frame),
+        Err(stop) => {
+            *cause = why(alloc, stop, phase, in_frame, bytes);
+            Err(stop)
+        }
+    }
+}
+
+fn read_one(
     alloc: Global,
     opening: &Opening,
     phase: &mut Phase,

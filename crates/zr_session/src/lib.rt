@@ -15,6 +15,7 @@ mod piece;
 mod session;
 mod state;
 mod stop;
+mod why;
 mod write;
 
 pub use event::{Fed, SessionEvent};

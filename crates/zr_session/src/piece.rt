@@ -31,6 +31,7 @@ pub(crate) fn take_piece(
     kept: &mut Incoming,
     piece: &[u8],
     out: &mut Fed,
+    cause: &mut Option<String>,
 ) -> Result<(), ReadStop>
     requires { 0 < lacks kept.old }
     ensures stream { Takes result opening.now phase.old (kept.old ++ piece.now) phase.new kept.new out.old out.new }
@@ -39,7 +40,7 @@ pub(crate) fn take_piece(
     let mut rest = piece;
     'pieces: while !rest.is_empty() {
         if let Some((batch, more)) = ahead(kept, rest) {
-            match read_batch(alloc, opening, phase, batch, out) {
+            match read_batch(alloc, opening, phase, batch, out, cause) {
                 Ok(()) => {}
                 Err(e) => return Err(e),
             }
@@ -51,7 +52,7 @@ pub(crate) fn take_piece(
             Err(AllocError) => return Err(ReadStop::NoMemory),
         };
         if let Some(batch) = kept.batch() {
-            let read = read_batch(alloc, opening, phase, batch, out);
+            let read = read_batch(alloc, opening, phase, batch, out, cause);
             kept.clear();
             match read {
                 Ok(()) => {}

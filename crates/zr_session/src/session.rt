@@ -40,6 +40,8 @@ pub struct Session {
     confirmed: bool,
     /// When bytes came last, in milliseconds.
     heard: u64,
+    /// For a log: for what this end has closed the session. Contracts don't see it.
+    cause: Option<String>,
 }
 
 // Written out, so that it is proved here, and not by each crate that lets one go.
@@ -52,6 +54,7 @@ impl Drop for Session {
             kept: _kept,
             confirmed: _confirmed,
             heard: _heard,
+            cause: _cause,
         } = self;
     }
 }
@@ -108,6 +111,7 @@ impl Session {
             kept: Incoming::new(alloc),
             confirmed: false,
             heard: now,
+            cause: None,
         }
     }
 
@@ -139,6 +143,7 @@ impl Session {
             &mut self.kept,
             piece,
             out,
+            &mut self.cause,
         ) {
             Ok(()) => {
                 self.state = State::Running(phase);
@@ -146,6 +151,15 @@ impl Session {
             }
             Err(ReadStop::Ended(how)) => self.end(how, phase, &mut out.bytes),
             Err(ReadStop::NoMemory) => Err(AllocError),
+        }
+    }
+
+    /// For what this end has closed the session, in words for a log: the rule that the last message breaks, and for a key that
+    /// is none the key. Nothing where it was no message, or where the reason tells it.
+    pub fn cause(&self) -> Option<&str> {
+        match &self.cause {
+            Some(words) => Some(words.as_str()),
+            None => None,
         }
     }
 

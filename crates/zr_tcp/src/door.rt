@@ -7,6 +7,7 @@ use crate::log::ErrorLog;
 use crate::place::Places;
 use crate::queue::LogQueue;
 use crate::reason::Reason;
+use crate::refusals::{Refusals, Seldom};
 use crate::stream::{TcpSink, TcpSource, ends_of};
 use std::alloc::{AllocError, Global};
 use std::io::{ErrorKind, Stderr, Write};
@@ -22,9 +23,6 @@ const LACK_MS: u64 = 100;
 
 /// How long a dial waits for each address to answer. Nothing is accepted meanwhile, so it is well below the lease with which peers give up.
 const MOST_DIAL_S: u64 = 3;
-
-/// How long it is quiet behind a line that tells of connections that were closed at once.
-const QUIET_MS: u64 = 1_000;
 
 /// The codes of Linux for an accept that failed for a while, though the listener is sound (accept(2)): EPERM, ENOMEM, ENFILE, EMFILE, ENONET,
 /// EPROTO, ENOPROTOOPT, EOPNOTSUPP, ENETDOWN, ENETUNREACH, ENOBUFS, EHOSTDOWN, EHOSTUNREACH.
@@ -44,9 +42,9 @@ pub(crate) struct Door<
     places: Places,
     queue: Arc<LogQueue>,
     resolver: Arc<Resolver>,
+    refusals: Arc<Refusals<R>>,
     clock: SystemClock<R>,
-    closed: u64,
-    quiet_until: u64,
+    closed: Seldom<R>,
 }
 
 /// What an accept came to.
@@ -83,6 +81,7 @@ impl<R: Net<Listener = TcpListener, Stream = TcpStream> + Wait + time::Clock + C
         err: Stderr,
         has_log: bool,
     ) -> Result<Door<R>, AllocError> {
+        let queue = LogQueue::new(alloc)?;
         Ok(Door {
             rt,
             alloc,
@@ -90,11 +89,11 @@ impl<R: Net<Listener = TcpListener, Stream = TcpStream> + Wait + time::Clock + C
             has_log,
             listener: None,
             places: Places::new(alloc),
-            queue: LogQueue::new(alloc)?,
+            refusals: Refusals::new(rt, alloc, &queue, has_log)?,
+            queue,
             resolver: Resolver::new(alloc)?,
             clock: SystemClock::new(rt),
-            closed: 0,
-            quiet_until: 0,
+            closed: Seldom::new(rt),
         })
     }
 
@@ -174,7 +173,7 @@ impl<R: Net<Listener = TcpListener, Stream = TcpStream> + Wait + time::Clock + C
     // Both ends of a stream, if there may be one more.
     fn ends(&mut self, stream: TcpStream) -> Result<(TcpSource, TcpSink<R>), Reason> {
         let place = self.places.take(self.alloc, self.clock.now())?;
-        match ends_of(SystemClock::new(self.rt), stream, &place) {
+        match ends_of(self.rt, stream, &place, &self.refusals) {
             Ok(ends) => Ok(ends),
             Err(reason) => {
                 place.end_reading();
@@ -232,17 +231,13 @@ impl<R: Net<Listener = TcpListener, Stream = TcpStream> + Wait + time::Clock + C
 
     // Tells of connections that were closed at once, a line a second at most.
     fn tell_closed(&mut self, reason: Reason) {
-        self.closed = self.closed.saturating_add(1);
-        let now = self.clock.now();
-        if now < self.quiet_until {
+        let Some(count) = self.closed.next() else {
             return;
-        }
-        let (count, why) = (self.closed, reason.text());
+        };
+        let why = reason.text();
         if let Ok(text) = format!(in self.alloc; "connections closed at once: {count}, {why}\n") {
             self.put(Severity::Warn, text.as_str());
         }
-        self.closed = 0;
-        self.quiet_until = now.saturating_add(QUIET_MS);
     }
 
     fn put(&self, severity: Severity, text: &str) {

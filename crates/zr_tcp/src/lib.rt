@@ -12,6 +12,7 @@ mod log;
 mod place;
 mod queue;
 mod reason;
+mod refusals;
 mod stream;
 
 pub use clock::SystemClock;

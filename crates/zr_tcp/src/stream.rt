@@ -6,9 +6,10 @@ use crate::clock::SystemClock;
 use crate::grace::Grace;
 use crate::place::Place;
 use crate::reason::Reason;
+use crate::refusals::Refusals;
 use std::io::{ErrorKind, Read, Write};
 use std::net::{Shutdown, SocketAddr, TcpStream};
-use std::sync::Arc;
+use std::sync::{Arc, Wait};
 use std::time::{Clock, Duration};
 use zr_outside::sink::{Put, Sink};
 use zr_outside::source::{Got, Source};
@@ -37,7 +38,9 @@ pub struct TcpSource {
 
 /// The writing end of a stream. As it is dropped the peer reads the end, behind all that was written; where a write has failed, the reading end reads it too.
 pub struct TcpSink<R: Clock + Drop> {
+    rt: R,
     stream: TcpStream,
+    refusals: Arc<Refusals<R>>,
     place: Arc<Place>,
     grace: Grace<R>,
     writes: u32,
@@ -45,10 +48,11 @@ pub struct TcpSink<R: Clock + Drop> {
 }
 
 /// Both ends of a stream, each with a descriptor of its own.
-pub(crate) fn ends_of<R: Clock + Drop>(
-    clock: SystemClock<R>,
+pub(crate) fn ends_of<R: Clock + Copy + Drop>(
+    rt: R,
     stream: TcpStream,
     place: &Arc<Place>,
+    refusals: &Arc<Refusals<R>>,
 ) -> Result<(TcpSource, TcpSink<R>), Reason> {
     stream.set_nodelay(true)?;
     stream.set_read_timeout(Some(Duration::from_millis(QUIET_MS)))?;
@@ -57,6 +61,7 @@ pub(crate) fn ends_of<R: Clock + Drop>(
     let read = Arc::try_clone(place)?;
     let written = Arc::try_clone(place)?;
     let graced = Arc::try_clone(place)?;
+    let refusals = Arc::try_clone(refusals)?;
     let source = TcpSource {
         stream,
         place: read,
@@ -66,9 +71,11 @@ pub(crate) fn ends_of<R: Clock + Drop>(
         ends: 0,
     };
     let sink = TcpSink {
+        rt,
         stream: other,
+        refusals,
         place: written,
-        grace: Grace::new(graced, clock),
+        grace: Grace::new(graced, SystemClock::new(rt)),
         writes: 0,
         faults: 0,
     };
@@ -110,7 +117,9 @@ impl Drop for TcpSource {
 impl<R: Clock + Drop> Drop for TcpSink<R> {
     fn drop(self) {
         let TcpSink {
+            rt: _,
             stream,
+            refusals: _,
             place,
             grace: _,
             writes: _,
@@ -165,7 +174,7 @@ impl Source for TcpSource {
     }
 }
 
-impl<R: Clock + Drop> Sink for TcpSink<R> {
+impl<R: Wait + Clock + Copy + Drop> Sink for TcpSink<R> {
     ghost held = { λ _. None };
 
     ghost faults = { λ s. s.faults };
@@ -178,6 +187,7 @@ impl<R: Clock + Drop> Sink for TcpSink<R> {
             }
             count => {
                 self.count_write();
+                self.refusals.wrote(&self.rt, from, &self.stream);
                 Put::Took(count)
             }
         }
