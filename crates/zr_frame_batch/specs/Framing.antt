@@ -1,5 +1,5 @@
 -- Batches on a stream of bytes (Zenoh protocol 1.0, TCP links).
-use Rattle.std.specs.Prelude.{◌≡◌, ℕ, ◌+◌, ◌-◌, ◌*◌, ◌%◌, ◌/◌, Bool, true, List, [], ◌∷◌, ◌++◌, length, nat_le}
+use Rattle.std.specs.Prelude.{◌≡◌, ℕ, ◌+◌, ◌-◌, ◌*◌, ◌%◌, ◌/◌, Bool, true, List, [], ◌∷◌, ◌++◌, length, max, nat_le}
 
 -- a batch of less than 2^16 bytes behind its length, the low byte first
 abbrev pub framed : List ℕ → List ℕ
@@ -31,6 +31,6 @@ is_within_one [] = true
 is_within_one (low ∷ []) = true
 is_within_one (low ∷ high ∷ bytes) = nat_le (length bytes) (low + 256 * high)
 
--- for so many bytes memory is kept, at most, where none came of the next batch
-abbrev pub most_idle : ℕ
-most_idle = 1024
+-- for so many bytes memory is held, at most, where so many came of the next batch
+abbrev pub most_room : ℕ → ℕ
+most_room came = max 1024 (2 * came)

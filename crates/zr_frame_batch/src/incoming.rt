@@ -1,14 +1,15 @@
 //! What came of the next batch.
 
-ghost use Rattle.std.specs.Prelude.{◌≡◌, ◌<◌, ◌≤◌, ◌++◌, [], length, IfSome, IfOk, OnErr};
-ghost use Rattle.std.specs.Prelude.{None, true, ◌+◌, ◌*◌};
+ghost use Rattle.std.specs.Prelude.{◌≡◌, ◌<◌, ◌≤◌, ◌++◌, [], length, IfSome, IfOk, OnOk, OnErr};
+ghost use Rattle.std.specs.Prelude.{None, true, ◌+◌, ◌*◌, max};
+ghost use Rattle.std.specs.Vec.{vec_len, vec_capacity};
 ghost use Rattle.zr_frame_batch.specs.Framing.{IsFramed, BeginsWith, lacks, is_within_one};
 
 use std::alloc::{AllocError, Global};
 use std::marker::Model;
 
-/// Contracts see the bytes that came, with those of the length. They never go further than the end of the batch. Where
-/// none came, memory for at most 1,024 is kept.
+/// Contracts see the bytes that came, with those of the length. They never go further than the end of the batch. Memory
+/// is held for at most twice as many, or for 1,024.
 #[derive(Drop)]
 pub struct Incoming {
     alloc: Global,
@@ -20,15 +21,15 @@ pub const MOST_IDLE: usize = 1024;
 
 impl Model for Incoming {
     ghost use Rattle.std.specs.Prelude.{◌≡◌, List, ℕ, true};
-    ghost use Rattle.std.specs.Prelude.{[], ◌≤◌};
+    ghost use Rattle.std.specs.Prelude.{length, ◌≤◌};
     ghost use Rattle.std.specs.Vec.{vec_capacity};
-    ghost use Rattle.zr_frame_batch.specs.Framing.{is_within_one, most_idle};
+    ghost use Rattle.zr_frame_batch.specs.Framing.{is_within_one, most_room};
 
     ghost Value = { List ℕ };
 
     ghost view = { λ i. i.bytes.items };
 
-    ghost invariant = { λ i. (is_within_one i.bytes.items ≡ true) × (i.bytes.items ≡ [] → vec_capacity i.bytes ≤ most_idle) };
+    ghost invariant = { λ i. (is_within_one i.bytes.items ≡ true) × (vec_capacity i.bytes ≤ most_room (length i.bytes.items)) };
 }
 
 impl Incoming {
@@ -53,8 +54,8 @@ impl Incoming {
             return Ok(rest);
         }
         // Apart from the copy, so that nothing is kept taken where this fails.
-        self.bytes.reserve(front.len())?;
-        self.bytes.extend_from_slice(front)?;
+        make_room(&mut self.bytes, front)?;
+        append(&mut self.bytes, front);
         Ok(rest)
     }
 
@@ -82,6 +83,31 @@ impl Incoming {
         } else {
             self.bytes.clear();
         }
+    }
+}
+
+/// Makes room for a piece: where there isn't any, for twice the bytes that there are with it, at most.
+fn make_room(bytes: &mut Vec<u8>, piece: &[u8]) -> Result<(), AllocError>
+    ensures items { bytes.new.items ≡ bytes.old.items }
+    ensures ok { OnOk result (vec_len bytes.new + length piece.now ≤ vec_capacity bytes.new) }
+    ensures kept { OnErr result (vec_capacity bytes.new ≡ vec_capacity bytes.old) }
+    ensures bounded { vec_capacity bytes.new ≤ max (vec_capacity bytes.old) (2 * (length bytes.old.items + length piece.now)) }
+{
+    let count = bytes.len() + piece.len();
+    if count <= bytes.capacity() {
+        return Ok(());
+    }
+    bytes.reserve_exact(count)
+}
+
+/// Appends a piece to bytes that have the room. Of `extend_from_slice` it isn't known that it takes no more.
+fn append(bytes: &mut Vec<u8>, piece: &[u8])
+    requires room { vec_len bytes.old + length piece.now ≤ vec_capacity bytes.old }
+    ensures items { bytes.new.items ≡ bytes.old.items ++ piece.now }
+    ensures kept { vec_capacity bytes.new ≡ vec_capacity bytes.old }
+{
+    for byte in piece {
+        bytes.push_reserved(*byte);
     }
 }
 
