@@ -16,7 +16,8 @@ ghost use Rattle.zr_law_replies.specs.Answers.{AnswersAlwaysHold};
 ghost use Rattle.zr_law_numbers.specs.Numbers.{NumbersAlwaysHold};
 ghost use Rattle.zr_law_settled.specs.Events.{NoEventIsRefused};
 ghost use Rattle.zr_law_settled.specs.Tables.{AgreeWhereSettled, SettledLogsAgree};
-ghost use Rattle.zr_netrun.specs.Clauses.{OfLines, WritesAsAsked};
+ghost use Rattle.zr_netrun.specs.Clauses.{OfLines, OfScriptLines, WritesAsAsked};
+ghost use Rattle.zr_pend.specs.Best.{GatheredIsBest};
 ghost use Rattle.zr_top.specs.Means.{HaveKeyTexts, LeadToTheirReport};
 ghost use Rattle.zr_outside_crew.specs.Crew.{crew_faults, crew_told};
 ghost use Rattle.zr_serve.specs.Serving.{outputs};
@@ -36,6 +37,7 @@ use zr_key::laws::{each_expression_is_read, reading_is_canonical, reading_keeps_
 use zr_law_declared::{
     settled_logs_are_known, settled_rows_are_declared, settled_sets_are_declared,
 };
+use zr_law_held::{lines_are_within, lines_fit};
 use zr_law_numbers::{no_event_is_refused, numbers_always_hold};
 use zr_law_replies::{answers_always_hold, lines_refine};
 use zr_law_samples::keys::{
@@ -51,6 +53,7 @@ use zr_outside::host::Host;
 use zr_outside::sink::Sink;
 use zr_outside::source::Source;
 use zr_outside_crew::Crew;
+use zr_pend::laws::gathered_is_best;
 use zr_top_words::forms::forms_are_taken;
 use zr_tree::laws::{distances_are_of_shortest_walks, records_make_graphs};
 
@@ -63,13 +66,14 @@ use zr_tree::laws::{distances_are_of_shortest_walks, records_make_graphs};
 /// `make --number N --routers R --clients C --messages M` writes a script that is made from the number. Help and the version are told to `out`.
 ///
 /// The status is `Words` only where the words are none that `clap` promises to take, and it refuses them for another cause than memory, or where a value is
-/// out of range; and there it is `Words` or, where memory ran out, `NoMemory` (`words`). So `err` has the usage line (`usage`). Words in a form of that line,
+/// out of range or `serve` has no identifier; and there it is `Words` or, where memory ran out, `NoMemory` (`words`). So `err` has the usage line (`usage`). Words in a form of that line,
 /// with values in range, are taken for what they say (`forms`).
 ///
 /// The clause `headline` says what clients were sent, and `told` that the report, of which `report` speaks, tells just this: the accepted
 /// acts of the lines that were read lead to the moment that the report tells. Beside them stands what the headline's words mean: the keys
 /// of a script are texts of expressions (`keys`), the one broker sends to a subscription exactly where some key is matched by both
-/// expressions (`meeting`), and asks a queryable exactly there (`answering`) or where a complete one covers the key (`covering`), and in a phase nothing is under way exactly where no step is possible, which a run tells by `quiet` (`rest`).
+/// expressions (`meeting`), and asks a queryable exactly there (`answering`) or where a complete one covers the key (`covering`), of each key it sends for a query
+/// of the latest the reply than which none is later (`best`), and in a phase nothing is under way exactly where no step is possible, which a run tells by `quiet` (`rest`).
 /// What is read of a key's text is the canonical form of what it spells, each text that spells one is read (`readings`), and it matches the same keys
 /// (`kept`). Along trees distances are those of shortest walks (`walks`).
 ///
@@ -111,7 +115,7 @@ where
     H::Time: 'static,
     H::Log: 'static,
     ensures report { IfSome (net_of (map string_bytes words.now)) (λ plan. WritesAsAsked (options_by plan) (S.left input.old) (S.left input.new) (IsReadToEnd (S.ends input.old) (S.ends input.new) (S.quiets input.old) (S.quiets input.new)) result (K.held out.old) (K.held out.new) (E.held err.old) (E.held err.new)) }
-    ensures headline { is_net (map string_bytes words.now) ≡ true → OfLines (S.left input.old) (S.left input.new) IsRefined }
+    ensures headline { is_net (map string_bytes words.now) ≡ true → OfScriptLines (S.left input.old) (S.left input.new) IsRefined }
     ensures interests { is_net (map string_bytes words.now) ≡ true → OfLines (S.left input.old) (S.left input.new) TellsClients }
     ensures told { is_net (map string_bytes words.now) ≡ true → OfLines (S.left input.old) (S.left input.new) LeadToTheirReport }
     ensures keys { is_net (map string_bytes words.now) ≡ true → OfLines (S.left input.old) (S.left input.new) HaveKeyTexts }
@@ -126,6 +130,7 @@ where
     ensures meeting { AskingIsMeeting }
     ensures answering { AnsweringIsMeeting }
     ensures covering { AnsweringIsCovering }
+    ensures best { GatheredIsBest }
     ensures rest { RestIsQuiet }
     ensures readings { IsReading × ReadsEach }
     ensures kept { ReadingKeepsKeys }
@@ -153,6 +158,7 @@ where
     asking_is_meeting();
     answering_is_meeting();
     answering_is_covering();
+    gathered_is_best();
     rest_is_quiet();
     reading_is_canonical();
     each_expression_is_read();
@@ -167,6 +173,8 @@ where
     numbers_always_hold();
     answers_always_hold();
     lines_refine();
+    lines_fit();
+    lines_are_within();
     lines_tell_clients();
     lines_are_moments();
     keys_are_texts();

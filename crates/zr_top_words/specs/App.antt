@@ -11,6 +11,10 @@ flag name = record (new_rule name) { long = Some name; action = Some SetTrue }
 abbrev pub wanted : List ℕ → Rule
 wanted name = record (new_rule name) { long = Some name; action = Some Set; value_names = 1; required = true }
 
+-- an option with a value, which may stand once
+abbrev pub optional : List ℕ → Rule
+optional name = record (new_rule name) { long = Some name; action = Some Set; value_names = 1 }
+
 -- the words that are no options, as many as there are
 abbrev pub words_beside : List ℕ → Rule
 words_beside name = record (new_rule name) { action = Some Append; value_names = 1 }
@@ -23,7 +27,7 @@ abbrev pub net : Shape
 net = command (codes "net") (flag (codes "summary") ∷ flag (codes "explain") ∷ [])
 
 abbrev pub serve : Shape
-serve = command (codes "serve") (wanted (codes "id") ∷ wanted (codes "listen") ∷ flag (codes "log") ∷ flag (codes "rules") ∷ words_beside (codes "dial") ∷ [])
+serve = command (codes "serve") (optional (codes "id") ∷ wanted (codes "listen") ∷ flag (codes "log") ∷ flag (codes "rules") ∷ words_beside (codes "dial") ∷ [])
 
 abbrev pub make : Shape
 make = command (codes "make")

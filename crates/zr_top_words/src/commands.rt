@@ -3,7 +3,7 @@
 
 ghost use Rattle.std.specs.Prelude.{◌≡◌, false, IfOk};
 ghost use Rattle.clap.specs.Words.{app_of, rule_of, shape_of};
-ghost use Rattle.zr_top_words.specs.App.{app, flag, make, net, serve, wanted, words_beside};
+ghost use Rattle.zr_top_words.specs.App.{app, flag, make, net, optional, serve, wanted, words_beside};
 
 use clap::{Arg, ArgAction, Command};
 use std::alloc::{AllocError, Global};
@@ -49,7 +49,7 @@ fn serve<'a>(alloc: Global) -> Result<Command<'a>, AllocError>
 {
     Command::new(alloc, "serve")
         .about("Runs a router over TCP")
-        .arg(wanted(
+        .arg(optional(
             alloc,
             "id",
             "ID",
@@ -75,7 +75,7 @@ fn serve<'a>(alloc: Global) -> Result<Command<'a>, AllocError>
             alloc,
             "dial",
             "DIAL",
-            "The address and port of a router with which it links",
+            "The address and port of a router with which it links; the weight of the link may follow, 1 to 65535: ADDRESS,W",
         ))
 }
 
@@ -118,6 +118,18 @@ fn wanted<'a>(alloc: Global, name: &'a str, value: &'a str, help: &'a str) -> Ar
         .action(ArgAction::Set)
         .value_name(value)
         .required(true)
+        .help(help)
+}
+
+// An option with a value, which may stand.
+fn optional<'a>(alloc: Global, name: &'a str, value: &'a str, help: &'a str) -> Arg<'a>
+    ensures rule { rule_of result ≡ optional name.entry.now }
+    ensures local { result.global ≡ false }
+{
+    Arg::new(alloc, name)
+        .long(name)
+        .action(ArgAction::Set)
+        .value_name(value)
         .help(help)
 }
 

@@ -83,19 +83,25 @@ fn unknown_command(alloc: Global, text: &str) -> Result<String, AllocError> {
 fn missing(alloc: Global, text: &str) -> Result<String, AllocError> {
     let mut told = String::new(alloc);
     for line in between(text, "were not provided:\n", "\n\n").lines() {
-        let option = name_of(line.trim());
-        let value = value_of(option);
-        write!(told, "{option} is missing: it wants {value}\n")?;
+        put_missing(name_of(line.trim()), &mut told)?;
     }
     Ok(told)
 }
 
-// The options whose values are out of range, where `clap` takes the words.
+fn put_missing(option: &str, told: &mut String) -> Result<(), AllocError> {
+    let value = value_of(option);
+    write!(told, "{option} is missing: it wants {value}\n")
+}
+
+// The options whose values are out of range, or whose value `clap` lets be left out and the plan wants.
 fn out_of_range(alloc: Global, matches: &ArgMatches<'_>) -> Result<String, AllocError> {
     let mut told = String::new(alloc);
-    let Some((_, options)) = matches.subcommand() else {
+    let Some((command, options)) = matches.subcommand() else {
         return Ok(told);
     };
+    if command == "serve" && options.get_str("id").is_none() {
+        put_missing("--id", &mut told)?;
+    }
     for option in ["--id", "--number", "--routers", "--clients", "--messages"] {
         if let Some(text) = options.get_str(option.trim_start_matches('-')) {
             if !is_in_range(option, text) {

@@ -1,6 +1,12 @@
 use Rattle.zr_netrun.specs.Judged.{judged_lines}
 use Rattle.zr_netrun.proofs.Telling.{of_read}
+use Rattle.zr_top.proofs.Lines.{lines_refined}
 use Rattle.zr_top.proofs.run.run.Goals as goal
+
+-- what the lines that count have sent refines the one broker: their replies fit
+pub returns-clause-headline : goal.returns-clause-headline
+returns-clause-headline g c is_net =
+    of_read _ _ _ _ (c.run_asked.ensures.read_part is_net) (λ read p to_end few. lines_refined c.lines_refine.ensures c.lines_fit.ensures c.lines_are_within.ensures to_end read few)
 
 -- the lines that count lead to a moment, whichever they are
 pub returns-clause-told : goal.returns-clause-told
