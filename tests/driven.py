@@ -91,8 +91,13 @@ class Router:
         self.process.stdout.close()
         self.process.stderr.close()
 
-    def client(self, ident=None, lease=pubsub.LEASE_S):
-        return Client(self.address, bytes.fromhex(ident) if ident else None, lease)
+    def client(self, ident=None, lease=pubsub.LEASE_S, timeout=MOST_WAIT):
+        return Client(self.address, bytes.fromhex(ident) if ident else None, lease, timeout)
+
+    def before_others(self):
+        """Lets it run before other work of a busy machine, where that is allowed."""
+        with contextlib.suppress(OSError):
+            os.setpriority(os.PRIO_PROCESS, self.process.pid, -10)
 
     def status(self):
         """What the system tells of the process in numbers: threads, and memory in KiB."""
@@ -302,12 +307,12 @@ def takes(router, ident):
     return True
 
 
-def settle_across(client, router):
+def settle_across(client, router, seconds=MOST_WAIT):
     """Waits until a client's declarations so far have come to another router: what a client of that one publishes comes to it."""
     key = f"{PROBE}{os.urandom(8).hex()}"
     subscription = client.subscribe(key)
-    probe = Session(router.address, lease=PROBE_LEASE)
-    until(lambda: probe.put(key, b"") or client.hears(key), "a subscription is seen from another router")
+    probe = Session(router.address, lease=PROBE_LEASE, timeout=seconds)
+    until(lambda: probe.put(key, b"") or client.hears(key), "a subscription is seen from another router", seconds)
     probe.close()
     client.unsubscribe(subscription)
 

@@ -9,10 +9,11 @@ import random
 import time
 
 from driven import Answer, Ended, Router, Sample, Told, Wrong
-from driven import MOST_WAIT, must, pubsub, received, reply_to, settle_across
+from driven import must, pubsub, received, reply_to, settle_across
 
 PROCESSES, GROUPS = 1, 34  # groups of three clients each, in each process
-LEASE = 120  # seconds: on a busy machine a client's turn may be late
+PATIENCE = 120  # seconds for which an answer may be late on a full machine
+LEASE = 600  # seconds: on a full machine a client's turn may be late
 MOST_ROUNDS = 30  # before a group goes and another comes
 SAMPLES, QUERIES, DECLARATIONS = 100, 5, 5  # of a round
 WARM = 1 / 6  # of the run
@@ -25,13 +26,13 @@ class Group:
     def __init__(self, rng, routers, name):
         self.name, self.rounds, self.count = name, rng.randrange(1, MOST_ROUNDS), 0
         self.routers = [rng.choice(routers), *rng.sample(routers, 2)]
-        self.clients = [router.client(lease=LEASE) for router in self.routers]
+        self.clients = [router.client(lease=LEASE, timeout=PATIENCE) for router in self.routers]
         self.begin()
 
     def known(self, *clients):
         """Waits until the declarations of clients have come to the first one's router."""
         for client in clients:
-            settle_across(client, self.routers[0])
+            settle_across(client, self.routers[0], PATIENCE)
 
     def close(self):
         for client in self.clients:
@@ -53,7 +54,7 @@ class Samples(Group):
         for sample in samples:
             publisher.put(sample.key, sample.payload)
         for subscriber in subscribers:
-            must(received(subscriber, SAMPLES), samples, "the samples of a subscriber")
+            must(received(subscriber, SAMPLES, PATIENCE), samples, "the samples of a subscriber")
             must(subscriber.receive(0), None, "what comes behind them")
         seen["samples"] += SAMPLES * len(subscribers)
 
@@ -71,12 +72,12 @@ class Queries(Group):
         for _ in range(QUERIES):
             number = asker.ask(f"{self.name}/k", b"where", pubsub.ALL)
             for i, replier in enumerate(repliers):
-                query = replier.receive_query(MOST_WAIT)
+                query = replier.receive_query(PATIENCE)
                 must(query and query[1:], (f"{self.name}/k", b"where", pubsub.ALL), "the query")
                 replier.reply(query, f"{self.name}/k", b"%d" % i)
-                must(asker.receive_answer(MOST_WAIT), reply_to(number, f"{self.name}/k", b"%d" % i), "the reply")
+                must(asker.receive_answer(PATIENCE), reply_to(number, f"{self.name}/k", b"%d" % i), "the reply")
                 replier.end(query)
-            must(asker.receive_answer(MOST_WAIT), Answer(number), "the final")
+            must(asker.receive_answer(PATIENCE), Answer(number), "the final")
             must(asker.receive_answer(0), None, "what comes behind it")
         seen["queries"] += QUERIES
 
@@ -87,7 +88,7 @@ class Interests(Group):
     def begin(self):
         watcher = self.clients[0]
         interest = watcher.declare_interest(f"{self.name}/**")
-        must(watcher.receive_told(MOST_WAIT), Told(pubsub.ALL_TOLD, interest=interest), "the end of what is declared now")
+        must(watcher.receive_told(PATIENCE), Told(pubsub.ALL_TOLD, interest=interest), "the end of what is declared now")
 
     def round(self, seen):
         watcher, *others = self.clients
@@ -95,11 +96,11 @@ class Interests(Group):
             keys = [f"{self.name}/{i}/{j}" for j in range(DECLARATIONS)]
             declared = [other.subscribe(key) for key in keys]
             for j, key in enumerate(keys):
-                must(watcher.receive_told(MOST_WAIT), Told(pubsub.SUBSCRIBER, j + 1, key), "what is told of a subscriber that comes")
+                must(watcher.receive_told(PATIENCE), Told(pubsub.SUBSCRIBER, j + 1, key), "what is told of a subscriber that comes")
             for ident in declared:
                 other.unsubscribe(ident)
             for j in range(DECLARATIONS):
-                must(watcher.receive_told(MOST_WAIT), Told(pubsub.NO_SUBSCRIBER, j + 1), "what is told of one that goes")
+                must(watcher.receive_told(PATIENCE), Told(pubsub.NO_SUBSCRIBER, j + 1), "what is told of one that goes")
         must(watcher.receive_told(0), None, "what is told behind it")
         seen["told messages"] += 2 * DECLARATIONS * len(others)
 
@@ -136,6 +137,8 @@ def soak(seconds):
     """Runs for so long; fails where anything is lost, doubled or out of its place, or memory grows."""
     with Router("01") as first, Router("02", first) as second:
         routers = [first, second]
+        for router in routers:
+            router.before_others()  # neither may be silent for its lease
         results, begun, stop = multiprocessing.Queue(), multiprocessing.Semaphore(0), multiprocessing.Event()
         workers = [multiprocessing.Process(target=work, args=(routers, i, begun, stop, results), daemon=True) for i in range(PROCESSES)]
         for worker in workers:
@@ -150,7 +153,7 @@ def soak(seconds):
                 warm = held(routers)
         stop.set()
         for _ in workers:
-            counts, fault = results.get(timeout=6 * MOST_WAIT)
+            counts, fault = results.get(timeout=3 * PATIENCE)
             seen += counts
             failed += [fault] if fault else []
         now = held(routers)

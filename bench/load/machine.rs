@@ -32,7 +32,7 @@ pub fn sleep_exactly() {
 
 /// Processor time in nanoseconds.
 pub struct Usage {
-    /// Of the broker.
+    /// Of the broker, or of both where two are linked.
     pub broker: u64,
     own: u64,
     machine: u64,
@@ -41,9 +41,9 @@ pub struct Usage {
 }
 
 impl Usage {
-    pub fn of(pid: u32) -> Self {
+    pub fn of(pids: &[u32]) -> Self {
         Self {
-            broker: of_process(pid),
+            broker: pids.iter().map(|&pid| of_process(pid)).sum(),
             own: of_process(std::process::id()),
             machine: of_machine(),
             at: Instant::now(),
