@@ -1,15 +1,15 @@
--- What the session of a job is at its begin, by the end of the link that the router is.
+-- What the session of a link is at its begin, by the end of the link that the router is.
 use Rattle.std.specs.Prelude.{ℕ, List, []}
 use Rattle.zr_open.specs.Opening.{OpeningState}
 use Rattle.zr_open.specs.declared.expected.Expected.{Expected}
 use Rattle.zr_open.specs.declared.expected.Expected.TheVariants.{Init, InitAnswer}
 use Rattle.zr_session.specs.Session.{greeting_bytes}
-use Rattle.zr_link_job.specs.declared.job.LinkJob.{LinkJob}
+use Rattle.zr_link_job.specs.declared.job.LinkStart.{LinkStart}
 use Rattle.zr_link_job.specs.declared.job.Side.{Side}
 use Rattle.zr_link_job.specs.declared.job.Side.TheVariants.{Accepting, Dialling}
 
-abbrev pub opening_of : LinkJob → OpeningState
-opening_of job = record { me = job.me; secret = job.secret; number = job.number; word = job.word; weight = job.weight }
+abbrev pub opening_of : LinkStart → OpeningState
+opening_of start = record { me = start.me; secret = start.secret; number = start.number; word = start.word; weight = start.weight }
 
 -- the message that is expected first: who has dialled begins
 abbrev pub expects : Side → Expected

@@ -1,9 +1,9 @@
 //! The job of a link's reader, as plain data.
 
-ghost use Rattle.std.specs.Prelude.{◌≡◌};
-
+use zr_access::Policy;
 use zr_id::zid::Zid;
 use zr_msg::peer::Weight;
+use zr_msg::shared::Shared;
 
 /// Which end of a link the router is.
 #[derive(Clone, Copy)]
@@ -14,11 +14,10 @@ pub enum Side {
     Dialling,
 }
 
-/// What the reader of a link begins with: which end it is, the link's number, counted from 0 in the order in which the links came, the router's
-/// identifier, the secret of its cookies, the link's random word, what the link weighs if the peer is a router, how often it reads at most, and whether
-/// the link has a log.
-#[derive(Drop)]
-pub struct LinkJob {
+/// How a link begins: which end of it the router is, its number, counted from 0 in the order in which the links came, the router's identifier, the secret
+/// of its cookies, the link's random word, what the link weighs if the peer is a router, how often its reader reads at most, and whether it has a log.
+#[derive(Clone, Copy)]
+pub struct LinkStart {
     pub side: Side,
     pub number: u64,
     pub me: Zid,
@@ -29,20 +28,9 @@ pub struct LinkJob {
     pub log: bool,
 }
 
-impl LinkJob {
-    /// The same job again.
-    pub(crate) fn copy(&self) -> LinkJob
-        ensures { result ≡ self.now }
-    {
-        LinkJob {
-            side: self.side,
-            number: self.number,
-            me: self.me,
-            secret: self.secret,
-            word: self.word,
-            weight: self.weight,
-            turns: self.turns,
-            log: self.log,
-        }
-    }
+/// The job of a link's reader: how the link begins, and the rules by which its router judges what clients send.
+#[derive(Drop)]
+pub struct LinkJob {
+    pub start: LinkStart,
+    pub policy: Shared<Policy>,
 }

@@ -5,5 +5,5 @@
 mod job;
 mod reading;
 
-pub use job::{LinkJob, Side};
-pub use reading::{Reading, hand_over};
+pub use job::{LinkJob, LinkStart, Side};
+pub use reading::{Reading, hand_over, turn_away};

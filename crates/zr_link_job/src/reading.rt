@@ -1,16 +1,21 @@
 //! What the thread of a link's reader owns, and does.
 
-ghost use Rattle.std.specs.Prelude.{◌≡◌, [], ◌∷◌, IfOk, is_some};
+ghost use Rattle.std.specs.Prelude.{◌≡◌, ◌⊎◌, ◌++◌, ℕ, Option, [], ◌∷◌, IfOk, is_some};
 ghost use Rattle.std.specs.Arc.{arc_value};
 ghost use Rattle.zr_outside_crew.specs.Crew.{crew_faults, crew_told};
 ghost use Rattle.zr_hist.specs.Words.{pass_name};
 ghost use Rattle.zr_link_job.specs.Begins.{expects, greets, opening_of};
 ghost use Rattle.zr_link_job.specs.Starts.{Starts};
+ghost use Rattle.zr_outside.specs.Counts.{RoseBy};
+ghost use Rattle.zr_link.specs.Heard.{IsLate};
 ghost use Rattle.zr_link.specs.Log.{stage_of};
+ghost use Rattle.zr_link.specs.Run.{Runs};
+ghost use Rattle.zr_link.specs.Written.{Wrote};
+ghost use Rattle.zr_link.specs.declared.end.LinkEnd.TheVariants as end;
 ghost use Rattle.zr_link.specs.declared.log.Stage.TheVariants as stages;
 ghost use Rattle.zr_session.specs.Session.{begun};
 
-use crate::job::{LinkJob, Side};
+use crate::job::{LinkJob, LinkStart, Side};
 use std::alloc::{AllocError, Global};
 use std::sync::Arc;
 use std::thread::Threads;
@@ -28,7 +33,8 @@ use zr_port::{Entry, Port};
 use zr_session::Session;
 
 /// What the thread of a link's reader owns: its job, both ways of the link, a clock and a log for it and for the writer that it starts, the port at
-/// which the link reaches the router, a pass of its history, and the crew that starts the writer. There are logs exactly where the job asks for them.
+/// which the link reaches the router, a pass of its history, and the crew that starts the writer. There are logs exactly where the job asks for them, and the
+/// port judges by the rules of the job.
 #[derive(Drop)]
 pub struct Reading<
     S: Source + Drop,
@@ -50,7 +56,32 @@ pub struct Reading<
     pub pass: Pass<Entry>,
     pub crew: Crew<R, LinkNo>,
     ghost ours: { pass_name pass ≡ P.history (arc_value port) },
-    ghost asked: { (is_some log ≡ job.log) × (is_some writer_log ≡ job.log) },
+    ghost asked: { (is_some log ≡ job.start.log) × (is_some writer_log ≡ job.start.log) },
+    ghost ruled: { job.policy ≡ P.policy (arc_value port) },
+}
+
+// The same, once the crew has its job: how the link begins is all that its thread needs.
+#[derive(Drop)]
+struct Hearing<
+    S: Source + Drop,
+    K: Sink + Drop,
+    C: Clock + Drop,
+    L: Log + Drop,
+    P: Port + Drop,
+    R: Threads + Drop,
+> {
+    alloc: Global,
+    start: LinkStart,
+    source: S,
+    sink: K,
+    clock: C,
+    writer_clock: C,
+    log: Option<L>,
+    writer_log: Option<L>,
+    port: Arc<P>,
+    pass: Pass<Entry>,
+    crew: Crew<R, LinkNo>,
+    ghost ours: { pass_name pass ≡ P.history (arc_value port) },
 }
 
 /// Starts the reader of a link by the crew, which tells its job. A reader that the crew hands back is let go: its peer is told so by a CLOSE, where it
@@ -68,10 +99,35 @@ where
     P::Note: Send + 'static,
     ensures { Starts (reading.job ∷ []) (crew_told crew.old) (crew_told crew.new) (crew_faults crew.old) (crew_faults crew.new) }
 {
-    let told = reading.job.copy();
-    let run = |reading: Reading<S, K, C, L, P, R>| read(reading);
-    if let Err(reading) = crew.start(reading, told, run) {
-        give_up(reading);
+    let Reading {
+        alloc,
+        job,
+        source,
+        sink,
+        clock,
+        writer_clock,
+        log,
+        writer_log,
+        port,
+        pass,
+        crew: inner,
+    } = reading;
+    let hearing = Hearing {
+        alloc,
+        start: job.start,
+        source,
+        sink,
+        clock,
+        writer_clock,
+        log,
+        writer_log,
+        port,
+        pass,
+        crew: inner,
+    };
+    let run = |hearing: Hearing<S, K, C, L, P, R>| read(hearing);
+    if let Err(hearing) = crew.start(hearing, job, run) {
+        give_up(hearing);
     }
 }
 
@@ -83,13 +139,13 @@ fn read<
     L: Log + Send + Drop + 'static,
     P: Port + Send + Sync + Drop + 'static,
     R: Threads + Drop,
->(reading: Reading<S, K, C, L, P, R>)
+>(hearing: Hearing<S, K, C, L, P, R>)
 where
     P::Note: Send + 'static,
 {
-    let Reading {
+    let Hearing {
         alloc,
-        job,
+        start,
         mut source,
         sink,
         mut clock,
@@ -99,18 +155,18 @@ where
         port,
         mut pass,
         mut crew,
-    } = reading;
+    } = hearing;
     let mut log = LinkLog::new(alloc, log, Stage::Unopened);
     let out = Outward {
         sink,
         port,
         clock: writer_clock,
-        turns: job.turns,
+        turns: start.turns,
         log: writer_log,
     };
     let end = hear(
         alloc,
-        &job,
+        &start,
         &mut source,
         out,
         &mut clock,
@@ -121,7 +177,7 @@ where
     log.read(end);
 }
 
-// Opens the session of a job, and runs the link's reader.
+// Opens the session of a link that begins so, and runs the link's reader.
 #[tactic(auto, using(crate::proofs::Beginning::is_begun))]
 fn hear<
     S: Source,
@@ -132,7 +188,7 @@ fn hear<
     R: Threads + Drop,
 >(
     alloc: Global,
-    job: &LinkJob,
+    start: &LinkStart,
     source: &mut S,
     out: Outward<K, P, C, L>,
     clock: &mut C,
@@ -143,9 +199,12 @@ fn hear<
 where
     P::Note: Send + 'static,
     requires pass { pass_name pass.old ≡ P.history (arc_value out.port) }
+    requires turns { out.turns ≡ start.now.turns }
     requires unopened { stage_of log.old ≡ stages.Unopened }
+    ensures heard { (result ≡ end.NoMemory) ⊎ ((now : ℕ) × (back : Option K) × Runs (begun (expects start.now.side) (opening_of start.now) now) result (S.left source.old) (S.left source.new) (IsLate (S.quiets source.old) (S.quiets source.new) now now (C.last clock.new)) (λ answers. Wrote (λ k. K.held k) (λ k. K.faults k) result (greets start.now.side (opening_of start.now) ++ answers) out.sink back) (P.refuses_up (arc_value out.port)) (P.refuses_message (arc_value out.port)) (P.refuses_down (arc_value out.port)) pass.old pass.new) }
+    ensures turns { result ≡ end.Turns → RoseBy start.now.turns (S.reads source.old) (S.reads source.new) }
 {
-    let Ok((session, first)) = begin(alloc, job, clock.now()) else {
+    let Ok((session, first)) = begin(alloc, start, clock.now()) else {
         return LinkEnd::NoMemory;
     };
     let (end, _) = Reader::run(
@@ -162,20 +221,32 @@ where
     end
 }
 
-// The session of a job, by its side, and what it asks to be written first.
-fn begin(alloc: Global, job: &LinkJob, now: u64) -> Result<(Session, Vec<u8>), AllocError>
-    ensures session { IfOk result (λ r. r.0 ≡ begun (expects job.now.side) (opening_of job.now) now) }
-    ensures first { IfOk result (λ r. r.1.items ≡ greets job.now.side (opening_of job.now)) }
+// The session of a link that begins so, by its side, and what it asks to be written first.
+fn begin(alloc: Global, start: &LinkStart, now: u64) -> Result<(Session, Vec<u8>), AllocError>
+    ensures session { IfOk result (λ r. r.0 ≡ begun (expects start.now.side) (opening_of start.now) now) }
+    ensures first { IfOk result (λ r. r.1.items ≡ greets start.now.side (opening_of start.now)) }
 {
-    let opening = Opening::new(job.me, &job.secret, job.number, job.word, job.weight.get());
+    let opening = Opening::new(
+        start.me,
+        &start.secret,
+        start.number,
+        start.word,
+        start.weight.get(),
+    );
     let mut first = Vec::new(alloc);
-    match job.side {
+    match start.side {
         Side::Accepting => Ok((Session::accepting(alloc, opening, now), first)),
         Side::Dialling => match Session::dialling(alloc, opening, now, &mut first) {
             Ok(session) => Ok((session, first)),
             Err(_) => Err(AllocError),
         },
     }
+}
+
+/// The reader of a link can't be started: its peer is told so by a CLOSE, where it still reads.
+pub fn turn_away<K: Sink>(sink: &mut K) {
+    // where the peer has gone there is nobody to be told
+    let _ = write_all(sink, &close_batch(Reason::Generic.byte()));
 }
 
 // The link's reader could not be started: its peer is told so, and its log.
@@ -186,14 +257,13 @@ fn give_up<
     L: Log + Drop,
     P: Port + Drop,
     R: Threads + Drop,
->(reading: Reading<S, K, C, L, P, R>) {
-    let Reading {
+>(hearing: Hearing<S, K, C, L, P, R>) {
+    let Hearing {
         alloc,
         mut sink,
         log,
         ..
-    } = reading;
-    // where the peer has gone there is nobody to be told
-    let _ = write_all(&mut sink, &close_batch(Reason::Generic.byte()));
+    } = hearing;
+    turn_away(&mut sink);
     LinkLog::new(alloc, log, Stage::Unopened).read(LinkEnd::CrewRefused);
 }

@@ -1,6 +1,6 @@
 //! `Crew`, and how a job is started.
 
-ghost use Rattle.std.specs.Prelude.{◌≡◌, ◌+◌, true, is_err, Some, None, [], IfOk, IfSome};
+ghost use Rattle.std.specs.Prelude.{◌≡◌, ◌+◌, ◌-◌, ◌^◌, true, is_err, min, Some, None, [], IfOk, IfSome};
 ghost use Rattle.zr_outside.specs.Counts.{Counted};
 ghost use Rattle.zr_outside_crew.specs.Told.{items_of, with_last, HasRoom};
 
@@ -143,13 +143,21 @@ impl<R: Threads + Drop, T: Drop> Crew<R, T> {
         }
     }
 
+    /// A job for which there was no memory counts as one that could not be started.
+    pub fn lose(&mut self)
+        ensures counted { crew_faults self.new ≡ min (crew_faults self.old + 1) (2 ^ 64 - 1) }
+        ensures told { crew_told self.new ≡ crew_told self.old }
+    {
+        self.faults = self.faults.saturating_add(1);
+    }
+
     fn refuse<J>(&mut self, job: J) -> Result<(), J>
         ensures back { IsBack job result }
         ensures refused { is_err result ≡ true }
         ensures failed { Counted (crew_faults self.old) (crew_faults self.new) (is_err result ≡ true) }
         ensures told { crew_told self.new ≡ crew_told self.old }
     {
-        self.faults = self.faults.saturating_add(1);
+        self.faults = self.faults.saturating_add(1); // the job itself goes back
         Err(job)
     }
 }

@@ -129,6 +129,9 @@ pub trait Port {
         ensures seen { seen pass.new ≡ longer (seen pass.old) (seen other) }
         ensures prefixes { IsPrefix (seen pass.old) (seen pass.new) × IsPrefix (seen other) (seen pass.new) };
 
+    /// Whether memory ran out in an earlier call, so that each later one is refused for want of it. Nothing is promised of it.
+    fn is_spent(&self) -> bool;
+
     /// Rests until the writer of the link is woken, since something was queued for it, or for so many milliseconds. Nothing is promised of how long.
     fn rest(&self, link: LinkNo, most: u64);
 }

@@ -11,6 +11,7 @@ use zr_id::link::LinkNo;
 use zr_msg::error::NodeError;
 use zr_msg::msg::Msg;
 use zr_msg::peer::{LinkPeer, Peer, Role};
+use zr_msg::shared::Shared;
 use zr_port::{DeliverError, DownError, UpError};
 use zr_router_core::hub::Hub;
 use zr_router_queue::Closing;
@@ -102,7 +103,7 @@ pub(crate) fn refuses_down(hub: &Hub, worn: bool, link: LinkNo) -> Option<DownEr
 /// Why a message over a link is refused before the router is asked, if it is: by which rules, who stands at the other end of the link, if it is up, and how
 /// an event has closed it, if one has. `worn` says that the history is at its end.
 pub(crate) fn refuses_message(
-    policy: &Policy,
+    policy: &Shared<Policy>,
     peer: Option<Peer>,
     closing: Option<Closing>,
     link: LinkNo,
@@ -120,7 +121,7 @@ pub(crate) fn refuses_message(
             free: closing.free,
         });
     }
-    open_refusal(policy, peer, msg, worn)
+    open_refusal(policy.get(), peer, msg, worn)
 }
 
 fn open_refusal(policy: &Policy, peer: Peer, msg: &Msg, worn: bool) -> Option<DeliverError>

@@ -18,6 +18,7 @@ use zr_id::link::LinkNo;
 use zr_id::zid::Zid;
 use zr_msg::msg::Msg;
 use zr_msg::peer::Peer;
+use zr_msg::shared::Shared;
 use zr_port::{DeliverError, DownError, Entry, Naming, Port, UpError};
 use zr_ring::Taker;
 use zr_router_queue::Queued;
@@ -51,12 +52,12 @@ impl<B: Naming, R: Wait + Drop> Drop for Router<B, R> {
 }
 
 impl<B: Naming, R: Wait + Drop> Router<B, R> {
-    /// A router without links, over an empty history.
+    /// A router without links, over an empty history. It judges what clients send by these rules.
     pub fn new(
         rt: R,
         alloc: Global,
         me: Zid,
-        policy: Policy,
+        policy: Shared<Policy>,
         history: History<Entry>,
         kept: Kept<Entry>,
     ) -> Result<Router<B, R>, AllocError>
@@ -202,6 +203,13 @@ impl<B: Naming, R: Wait + Drop> Port for Router<B, R> {
 
     fn join(&self, pass: &mut Pass<Entry>, other: Pass<Entry>) {
         self.history.join(pass, other);
+    }
+
+    fn is_spent(&self) -> bool {
+        let tables = self.tables.lock(&self.rt);
+        let is_spent = tables.is_spent();
+        drop(tables);
+        is_spent
     }
 
     fn rest(&self, link: LinkNo, most: u64) {

@@ -42,6 +42,7 @@ use zr_id::zid::Zid;
 use zr_msg::event::Event;
 use zr_msg::msg::Msg;
 use zr_msg::peer::{Peer, Role};
+use zr_msg::shared::Shared;
 use zr_port::{DeliverError, DownError, Entry, Naming, UpError};
 use zr_ring::{Giver, Taker};
 use zr_router_core::hub::Hub;
@@ -61,7 +62,7 @@ const MOST_HELD: u32 = 64;
 /// what stands for the history. Unless memory ran out they are the replay of its list, and each reply that the router holds can be written.
 pub struct Tables<B: Naming> {
     me: Zid,
-    policy: Policy,
+    policy: Shared<Policy>,
     hub: Hub,
     ends: Vec<LinkSender>,
     kept: Kept<Entry>,
@@ -123,7 +124,7 @@ impl<B: Naming> Tables<B> {
     pub fn new(
         alloc: Global,
         me: Zid,
-        policy: Policy,
+        policy: Shared<Policy>,
         kept: Kept<Entry>,
     ) -> Result<Tables<B>, AllocError>
         requires named { kept_name kept ≡ B.history }
@@ -190,7 +191,7 @@ impl<B: Naming> Tables<B> {
             }
             Err(Failure::Refused(error)) => {
                 drop(event);
-                return Err(node_refusal(!self.policy.is_open(), error));
+                return Err(node_refusal(!self.policy.get().is_open(), error));
             }
         };
         let arrival = Arrival {
@@ -284,6 +285,13 @@ impl<B: Naming> Tables<B> {
             Ok(()) => Ok(()),
             Err(e) => { if e.is_passed() { Ok(()) } else { Err(e) } }
         }
+    }
+
+    /// Whether memory ran out in an earlier call.
+    pub fn is_spent(&self) -> bool
+        ensures { result ≡ is_spent self.now }
+    {
+        self.is_spent
     }
 
     /// For how long at most who reads from a link rests for all that one read gave, in milliseconds.

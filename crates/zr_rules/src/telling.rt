@@ -29,6 +29,7 @@ pub fn tell_refusal<E: Sink>(alloc: Global, error: RulesError, err: &mut E) -> R
     ensures tells { TellsRules error result (E.held err.old) (E.held err.new) }
     ensures write { result ≡ RulesEnd.WriteFault → Rose (E.faults err.old) (E.faults err.new) }
     ensures read { result ≡ RulesEnd.ReadFault → error ≡ RulesError.ReadFault }
+    ensures quiet { result ≡ RulesEnd.Refused → E.faults err.new ≡ E.faults err.old }
     ensures later { E.faults err.old ≤ E.faults err.new }
 {
     match error {
@@ -46,6 +47,7 @@ fn complain<E: Sink>(text: &[u8], err: &mut E) -> RulesEnd
     ensures tells { Complains result text.now (E.held err.old) (E.held err.new) }
     ensures write { result ≡ RulesEnd.WriteFault → Rose (E.faults err.old) (E.faults err.new) }
     ensures told { (result ≡ RulesEnd.Refused → ⊥) → result ≡ RulesEnd.WriteFault }
+    ensures quiet { result ≡ RulesEnd.Refused → E.faults err.new ≡ E.faults err.old }
     ensures later { E.faults err.old ≤ E.faults err.new }
 {
     match write_all(err, text) {

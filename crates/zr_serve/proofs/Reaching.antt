@@ -23,7 +23,7 @@ use Rattle.zr_serve.specs.Moments.{Moment, moment, Serves, BreaksOff}
 use Rattle.zr_serve.specs.Serving.{Goes, Stops, Accepts, Dials, Outputs, CutsOff, Comes, Says, listening}
 use Rattle.zr_serve.specs.declared.end.ServeEnd.{ServeEnd}
 use Rattle.zr_serve.specs.declared.end.ServeEnd.TheVariants as e
-use Rattle.zr_serve.proofs.Stepping.{records_one, starts_none, serves_none, serves_both, breaks_both}
+use Rattle.zr_serve.proofs.Stepping.{records_one, starts_none, serves_none, serves_both, breaks_both, whole_is_part}
 
 -- a count rose, whatever it was before
 pub rose_later : (a b c : ℕ) → a ≤ b → Rose b c → Rose a c
@@ -42,23 +42,6 @@ dial_linked d true calls mid calls' told told' faults faults' held l l' recorded
     started = started;
     links_are = links;
     complained = appends_none held;
-  },
-)
-
-pub dial_unlinked : (d : DialState) (is : Bool) (calls mid calls' : Option (List Call)) (told told' : Option (List LinkJob)) (faults faults' : ℕ) (held : Option (List ℕ)) (l l' : LinksState)
-    → host.Records (Dial d.address is) calls mid → is ≡ true → calls' ≡ mid → told' ≡ told → faults' ≡ faults
-    → (is_link : Bool) × BreaksOff (dial_call d is_link ∷ []) (moment calls told faults held l) (moment calls' told' faults' held l')
-dial_unlinked d false calls mid calls' told told' faults faults' held l l' recorded e same told_same faults_same = absurd (false≢true e)
-dial_unlinked d true calls mid calls' told told' faults faults' held l l' recorded e same told_same faults_same = (
-  true,
-  record {
-    recorded = subst (λ z. Records (dial_call d true ∷ []) calls z) (sym same) (records_one (dial_call d true) calls mid recorded);
-    jobs = [];
-    last = next_job l (record { side = Dialling; weight = d.weight }) ∷ [];
-    jobs_are = refl;
-    one = omega arith;
-    started = rw told_same (rw faults_same (starts_none told faults));
-    complained = prefix_none [] held;
   },
 )
 
@@ -84,10 +67,6 @@ dial_untold d false calls mid told faults held held' l recorded e said = (
   false,
   record {
     recorded = records_one (dial_call d false) calls mid recorded;
-    jobs = [];
-    last = [];
-    jobs_are = refl;
-    one = omega arith;
     started = starts_none told faults;
     complained = prefix_more (dial_text d.address) [] held held' said;
   },
@@ -103,19 +82,6 @@ accept_linked calls mid calls' told told' faults faults' held l l' recorded same
   started = started;
   links_are = links;
   complained = appends_none held;
-}
-
-pub accept_unlinked : (calls mid calls' : Option (List Call)) (told told' : Option (List LinkJob)) (faults faults' : ℕ) (held : Option (List ℕ)) (l l' : LinksState)
-    → host.Records (Accept answer.Link) calls mid → calls' ≡ mid → told' ≡ told → faults' ≡ faults
-    → BreaksOff (accepts (answer.Link ∷ [])) (moment calls told faults held l) (moment calls' told' faults' held l')
-accept_unlinked calls mid calls' told told' faults faults' held l l' recorded same told_same faults_same = record {
-  recorded = subst (λ z. Records (accept_call answer.Link ∷ []) calls z) (sym same) (records_one (accept_call answer.Link) calls mid recorded);
-  jobs = [];
-  last = next_job l (record { side = Accepting; weight = 1 }) ∷ [];
-  jobs_are = refl;
-  one = omega arith;
-  started = rw told_same (rw faults_same (starts_none told faults));
-  complained = prefix_none [] held;
 }
 
 -- an accept that gave no link
@@ -151,12 +117,6 @@ pub accept_gives : (a : Answer) (calls mid calls' : Option (List Call)) (told to
     → (x : Answer) × IsGoing x × Serves (accepts (x ∷ [])) (moment calls told faults held l) (moment calls' told' faults' held l')
 accept_gives a calls mid calls' told told' faults faults' held l l' recorded is same started links =
     (answer.Link, tt, accept_linked calls mid calls' told told' faults faults' held l l' (subst (λ z. host.Records (Accept z) calls mid) is recorded) same started links)
-
-pub accept_loses : (a : Answer) (calls mid calls' : Option (List Call)) (told told' : Option (List LinkJob)) (faults faults' : ℕ) (held : Option (List ℕ)) (l l' : LinksState)
-    → host.Records (Accept a) calls mid → a ≡ answer.Link → calls' ≡ mid → told' ≡ told → faults' ≡ faults
-    → BreaksOff (accepts (answer.Link ∷ [])) (moment calls told faults held l) (moment calls' told' faults' held l')
-accept_loses a calls mid calls' told told' faults faults' held l l' recorded is same told_same faults_same =
-    accept_unlinked calls mid calls' told told' faults faults' held l l' (subst (λ z. host.Records (Accept z) calls mid) is recorded) same told_same faults_same
 
 pub accept_waits : (a : Answer) (calls mid : Option (List Call)) (told : Option (List LinkJob)) (faults : ℕ) (held : Option (List ℕ)) (l : LinksState)
     → host.Records (Accept a) calls mid → a ≡ answer.Quiet
@@ -214,12 +174,12 @@ goes_more a b c p q = record {
 pub goes_on_to : (a b c : Moment) (end : ServeEnd) → Goes a b → Stops end b c → Accepts end a c
 goes_on_to a b c e.Done p q = (p.answers, p.going, subst (λ z. Serves z a c) (sym (accepts_both p.answers (answer.End ∷ []))) (serves_both _ _ a b c p.serves q))
 goes_on_to a b c e.HostFault p q = (p.answers, p.going, subst (λ z. Serves z a c) (sym (accepts_both p.answers (answer.Failed ∷ []))) (serves_both _ _ a b c p.serves q))
-goes_on_to a b c e.NoMemory p q = (
-  p.answers ++ answer.Link ∷ [],
-  All-append IsGoing p.answers (answer.Link ∷ []) p.going (All-cons IsGoing answer.Link [] tt (All-nil IsGoing)),
-  subst (λ z. BreaksOff z a c) (sym (accepts_both p.answers (answer.Link ∷ []))) (breaks_both _ _ a b c p.serves q),
-)
+goes_on_to a b c e.NoMemory p q = absurd q
 goes_on_to a b c e.WriteFault p q = absurd q
+
+-- memory ran out in the router behind an accept
+pub goes_spent : (a b c : Moment) → Goes a b → (answer : Answer) × IsGoing answer × Serves (accepts (answer ∷ [])) b c → Accepts e.NoMemory a c
+goes_spent a b c p q = let r = goes_more a b c p q in (r.answers, r.going, r.serves)
 
 -- ---- dialling goes on
 
@@ -301,9 +261,6 @@ module _ (id address : List ℕ) (texts : List DialState) (a m n : Moment) (o p 
     over : (answers : List Answer) → Serves (accepts answers) n b → Serves (listening address texts dialled.0 answers) a b
     over answers q = serves_both (listen_call address true ∷ []) _ a m b listens (serves_both (dials texts dialled.0) (accepts answers) m n b dialled.2 q)
 
-    over_part : (answers : List Answer) → BreaksOff (accepts answers) n b → BreaksOff (listening address texts dialled.0 answers) a b
-    over_part answers q = breaks_both (listen_call address true ∷ []) _ a m b listens (breaks_both (dials texts dialled.0) (accepts answers) m n b dialled.2 q)
-
     pub comes : (end : ServeEnd) → Accepts end n b → Appends (serving_text id) o.out p.out → (end ≡ e.HostFault → Says accept_text b.held p.err o.faults p.faults)
         → ((end ≡ e.HostFault → ⊥) → b.held ≡ p.err) → Comes end id address texts a b o p
     comes e.Done q said last same = (
@@ -331,7 +288,7 @@ module _ (id address : List ℕ) (texts : List DialState) (a m n : Moment) (o p 
       record {
         made = listening address texts dialled.0 q.0;
         ends = inr (record { gave = dialled.0; answers = q.0; going = q.1; order = inr dialled.1; calls_are = refl });
-        breaks = over_part q.0 q.2;
+        breaks = whole_is_part _ a b (over q.0 q.2);
         said = prefix_whole (serving_text id) o.out p.out said;
       },
       same no_fault,

@@ -5,7 +5,7 @@ use Rattle.std.specs.Prelude.{min}
 use Rattle.zr_outside.specs.Host as host
 use Rattle.zr_outside.specs.Told.{Appends, AppendsPrefix}
 use Rattle.zr_outside.specs.declared.host.Call.{Call}
-use Rattle.zr_link_writer.proofs.Carrying.{appends_none, appends_both, prefix_behind}
+use Rattle.zr_link_writer.proofs.Carrying.{appends_none, appends_both, prefix_behind, prefix_whole}
 use Rattle.zr_link_job.specs.Starts.{marked, unmarked, Tells, Starts}
 use Rattle.zr_link_job.specs.declared.job.LinkJob.{LinkJob}
 use Rattle.zr_link_job.proofs.Starting.{tells_none}
@@ -105,29 +105,29 @@ serves_none a = record {
   complained = appends_none a.held;
 }
 
+-- the jobs of calls that stand behind others
+jobs_then : (l m : LinksState) (xs ys : List Made) → m ≡ behind l (new_links xs) → jobs_of l (new_links (xs ++ ys)) ≡ jobs_of l (new_links xs) ++ jobs_of m (new_links ys)
+jobs_then l m xs ys is = ap (λ s. jobs_of l s) (links_both xs ys) ∙ (jobs_both l (new_links xs) (new_links ys)
+    ∙ ap (λ z. jobs_of l (new_links xs) ++ jobs_of z (new_links ys)) (sym is))
+
 pub serves_both : (xs ys : List Made) (a b c : Moment) → Serves xs a b → Serves ys b c → Serves (xs ++ ys) a c
 serves_both xs ys a b c p q = record {
   recorded = records_both xs ys a.calls b.calls c.calls p.recorded q.recorded;
-  started = subst (λ js. Starts js a.told c.told a.faults c.faults) (sym jobs_are)
+  started = subst (λ js. Starts js a.told c.told a.faults c.faults) (sym (jobs_then a.links b.links xs ys p.links_are))
       (starts_both _ _ a.told b.told c.told a.faults b.faults c.faults p.started q.started);
   links_are = q.links_are ∙ (ap (λ l. behind l (new_links ys)) p.links_are ∙ (sym (behind_both a.links (new_links xs) (new_links ys))
       ∙ ap (λ s. behind a.links s) (sym (links_both xs ys))));
   complained = subst (λ t. Appends t a.held c.held) (sym (complaints_both xs ys)) (appends_both _ _ a.held b.held c.held p.complained q.complained);
 }
-  where
-    jobs_are : jobs_of a.links (new_links (xs ++ ys)) ≡ jobs_of a.links (new_links xs) ++ jobs_of b.links (new_links ys)
-    jobs_are = ap (λ s. jobs_of a.links s) (links_both xs ys) ∙ (jobs_both a.links (new_links xs) (new_links ys)
-        ∙ ap (λ l. jobs_of a.links (new_links xs) ++ jobs_of l (new_links ys)) (sym p.links_are))
+
+-- what was served is cut off behind its last call
+pub whole_is_part : (made : List Made) (a b : Moment) → Serves made a b → BreaksOff made a b
+whole_is_part made a b p = record { recorded = p.recorded; started = p.started; complained = prefix_whole _ a.held b.held p.complained }
 
 pub breaks_both : (xs ys : List Made) (a b c : Moment) → Serves xs a b → BreaksOff ys b c → BreaksOff (xs ++ ys) a c
 breaks_both xs ys a b c p q = record {
   recorded = records_both xs ys a.calls b.calls c.calls p.recorded q.recorded;
-  jobs = jobs_of a.links (new_links xs) ++ q.jobs;
-  last = q.last;
-  jobs_are = ap (λ s. jobs_of a.links s) (links_both xs ys) ∙ (jobs_both a.links (new_links xs) (new_links ys)
-      ∙ (ap (λ l. jobs_of a.links (new_links xs) ++ jobs_of l (new_links ys)) (sym p.links_are)
-      ∙ (ap (λ js. jobs_of a.links (new_links xs) ++ js) q.jobs_are ∙ sym (append_assoc _ q.jobs q.last))));
-  one = q.one;
-  started = starts_both _ _ a.told b.told c.told a.faults b.faults c.faults p.started q.started;
+  started = subst (λ js. Starts js a.told c.told a.faults c.faults) (sym (jobs_then a.links b.links xs ys p.links_are))
+      (starts_both _ _ a.told b.told c.told a.faults b.faults c.faults p.started q.started);
   complained = subst (λ t. AppendsPrefix t a.held c.held) (sym (complaints_both xs ys)) (prefix_behind _ _ a.held b.held c.held p.complained q.complained);
 }

@@ -1,8 +1,9 @@
 -- What the links of a router begin with, as it is kept.
 use Rattle.rand_core.specs.Stream.{Stream}
+use Rattle.zr_access.specs.Rules.{PolicyState}
 use Rattle.zr_serve.specs.Jobs.{LinksState}
 use Rattle.zr_serve.specs.declared.links.Links.{Links}
 
--- by the stream of its generator
-abbrev pub links_of : {W : Type 0} → (W → Stream) → Links W → LinksState
-links_of stream l = record { me = l.me; log = l.log; secret = l.secret; words = stream l.words; count = l.count }
+-- by the stream of its generator, and under the rules of the router
+abbrev pub links_of : {W : Type 0} → (W → Stream) → PolicyState → Links W → LinksState
+links_of stream policy l = record { me = l.me; policy = policy; log = l.log; secret = l.secret; words = stream l.words; count = l.count }

@@ -19,19 +19,16 @@ pub record Moment : Type 0 where
 abbrev pub moment : Option (List Call) → Option (List LinkJob) → ℕ → Option (List ℕ) → LinksState → Moment
 moment calls told faults held links = record { calls = calls; told = told; faults = faults; held = held; links = links }
 
--- These calls were made: the job of each link that they gave was started, and what is to be told of them was written
+-- These calls were made: the job of each link that they gave was started, or that was counted as a start that failed, and what is to be told of them was
+-- written
 pub record Serves (made : List Made) (a b : Moment) : Type 0 where
   pub recorded : Records made a.calls b.calls
   pub started : Starts (jobs_of a.links (new_links made)) a.told b.told a.faults b.faults
   pub links_are : b.links ≡ behind a.links (new_links made)
   pub complained : Appends (complaints made) a.held b.held
 
--- The same, but a write failed or memory ran out in the last call: its link may not be started, and what is told is a prefix
+-- The same, but a write failed or memory ran out in the last call: what is told is a prefix
 pub record BreaksOff (made : List Made) (a b : Moment) : Type 0 where
   pub recorded : Records made a.calls b.calls
-  pub jobs : List LinkJob
-  pub last : List LinkJob
-  pub jobs_are : jobs_of a.links (new_links made) ≡ jobs ++ last
-  pub one : length last ≤ 1
-  pub started : Starts jobs a.told b.told a.faults b.faults
+  pub started : Starts (jobs_of a.links (new_links made)) a.told b.told a.faults b.faults
   pub complained : AppendsPrefix (complaints made) a.held b.held

@@ -1,6 +1,7 @@
 -- How serving goes, end by end.
 use Rattle.std.specs.Prelude.{◌≡◌, ℕ, ◌⊎◌, Bool, true, false, List, [], ◌∷◌, ◌++◌, All, length, take, Option}
 use Rattle.rand_core.specs.Stream.{Stream}
+use Rattle.zr_access.specs.Rules.{PolicyState}
 use Rattle.zr_outside.specs.Counts.{Rose}
 use Rattle.zr_outside.specs.Told.{Appends, AppendsPrefix}
 use Rattle.zr_outside.specs.declared.host.Answer.{Answer}
@@ -53,14 +54,14 @@ pub record Goes (a b : Moment) : Type 0 where
 abbrev pub Stops : ServeEnd → Moment → Moment → Type 0
 Stops Done a b = Serves (accepts (End ∷ [])) a b
 Stops HostFault a b = Serves (accepts (Failed ∷ [])) a b
-Stops NoMemory a b = BreaksOff (accepts (Link ∷ [])) a b
+Stops NoMemory a b = ⊥
 Stops WriteFault a b = ⊥
 
--- accepting came to an answer that doesn't go on, or memory ran out
+-- accepting came to an answer that doesn't go on, or memory ran out in the router
 abbrev pub Accepts : ServeEnd → Moment → Moment → Type 0
 Accepts Done a b = (answers : List Answer) × All IsGoing answers × Serves (accepts (answers ++ End ∷ [])) a b
 Accepts HostFault a b = (answers : List Answer) × All IsGoing answers × Serves (accepts (answers ++ Failed ∷ [])) a b
-Accepts NoMemory a b = (answers : List Answer) × All IsGoing answers × BreaksOff (accepts answers) a b
+Accepts NoMemory a b = (answers : List Answer) × All IsGoing answers × Serves (accepts answers) a b
 Accepts WriteFault a b = ⊥
 
 -- The host has no random words, can't listen, or can't accept any more: which calls were made, what was said before, and the line that tells why
@@ -109,14 +110,14 @@ Comes HostFault id address ds a b o p = FailsAt id address ds a b o p
 Comes NoMemory id address ds a b o p = CutsOff id address ds a b o p × (b.held ≡ p.err)
 Comes WriteFault id address ds a b o p = CutsOff id address ds a b o p × (b.held ≡ p.err)
 
--- A router of this identifier was served at this address, its links with logs or without, and these were to be dialled: from the old calls of the host, jobs told and failed starts of
--- the crew to the new ones, for some random words of the host
-pub record IsServed (end : ServeEnd) (id : List ℕ) (log : Bool) (address : List ℕ) (ds : List DialState) (calls calls' : Option (List Call))
+-- A router of this identifier was served at this address under these rules, its links with logs or without, and these were to be dialled: from the old calls
+-- of the host, jobs told and failed starts of the crew to the new ones, for some random words of the host
+pub record IsServed (end : ServeEnd) (id : List ℕ) (policy : PolicyState) (log : Bool) (address : List ℕ) (ds : List DialState) (calls calls' : Option (List Call))
     (told told' : Option (List LinkJob)) (faults faults' : ℕ) (o p : Outputs) : Type 0 where
   pub words : Stream
   pub held : Option (List ℕ)
   pub links : LinksState
-  pub comes : Comes end id address ds (moment calls told faults o.err (first_links id log words)) (moment calls' told' faults' held links) o p
+  pub comes : Comes end id address ds (moment calls told faults o.err (first_links id policy log words)) (moment calls' told' faults' held links) o p
 
 -- so many of the addresses were dialled
 pub record Dials (ds : List DialState) (count : ℕ) (a b : Moment) : Type 0 where

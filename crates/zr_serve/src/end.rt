@@ -5,7 +5,7 @@
 pub enum ServeEnd {
     /// No more links come.
     Done,
-    /// Memory ran out.
+    /// Memory ran out: here, or in the router.
     NoMemory,
     /// A write of the output or of the error output failed.
     WriteFault,

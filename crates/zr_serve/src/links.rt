@@ -1,12 +1,13 @@
 //! What the links of a router begin with.
 
 ghost use Rattle.std.specs.Prelude.{◌≡◌, ◌≤◌, ◌+◌, ◌%◌, ◌^◌, ◌++◌, drop, length, take};
-ghost use Rattle.zr_serve.specs.Jobs.{first_links, next_job, with_next};
+ghost use Rattle.zr_access.specs.Rules.{PolicyState};
+ghost use Rattle.zr_serve.specs.Jobs.{first_links, next_start, with_next};
 ghost use Rattle.zr_serve.specs.Links.{links_of};
 
 use rand_core::Rng;
 use zr_id::zid::Zid;
-use zr_link_job::{LinkJob, Side};
+use zr_link_job::{LinkStart, Side};
 use zr_msg::peer::Weight;
 
 /// How often a reader reads at most.
@@ -25,7 +26,7 @@ pub(crate) struct Links<W: Rng + Drop> {
 impl<W: Rng + Drop> Links<W> {
     /// Before the first link. The secret takes the first four words.
     pub(crate) fn new(me: Zid, log: bool, mut words: W) -> Links<W>
-        ensures { links_of (λ w. W.stream w) result ≡ first_links me log (W.stream words) }
+        ensures { (rules : PolicyState) → links_of (λ w. W.stream w) rules result ≡ first_links me rules log (W.stream words) }
     {
         let first = words.next_u64().to_le_bytes();
         let second = words.next_u64().to_le_bytes();
@@ -40,14 +41,14 @@ impl<W: Rng + Drop> Links<W> {
         }
     }
 
-    /// The job of the next link, which weighs so much if the peer is a router.
-    pub(crate) fn next(&mut self, side: Side, weight: Weight) -> LinkJob
-        ensures job { result ≡ next_job (links_of (λ w. W.stream w) self.old) (record { side = side; weight = weight }) }
-        ensures next { links_of (λ w. W.stream w) self.new ≡ with_next (links_of (λ w. W.stream w) self.old) }
+    /// How the next link begins, which weighs so much if the peer is a router.
+    pub(crate) fn next(&mut self, side: Side, weight: Weight) -> LinkStart
+        ensures start { (rules : PolicyState) → result ≡ next_start (links_of (λ w. W.stream w) rules self.old) (record { side = side; weight = weight }) }
+        ensures next { (rules : PolicyState) → links_of (λ w. W.stream w) rules self.new ≡ with_next (links_of (λ w. W.stream w) rules self.old) }
     {
         let number = self.count;
         self.count = self.count.wrapping_add(1);
-        LinkJob {
+        LinkStart {
             side,
             number,
             me: self.me,

@@ -22,30 +22,36 @@ use crate::plan::ServePlan;
 use std::alloc::{AllocError, Global};
 use std::sync::{Arc, Wait};
 use std::thread::Threads;
+use zr_access::Policy;
 use zr_dial::Dial;
 use zr_hist::Pass;
 use zr_id::link::LinkNo;
-use zr_link_job::{LinkJob, Reading, Side, hand_over};
+use zr_link_job::{LinkJob, Reading, Side, hand_over, turn_away};
 use zr_msg::peer::Weight;
+use zr_msg::shared::Shared;
 use zr_outside::host::{Accepted, Host};
 use zr_outside::sink::Sink;
 use zr_outside_crew::Crew;
 use zr_port::{Entry, Port};
 
-/// What the threads of each link are made of: the threads of the system, the port at which links reach the router, and a pass of its history.
+/// What the threads of each link are made of: the threads of the system, the port at which links reach the router, the rules by which that judges what
+/// clients send, and a pass of its history.
 #[derive(Drop)]
 pub struct Serving<P: Port + Drop, R: Threads + Wait + Copy + Drop> {
     pub rt: R,
     pub alloc: Global,
     pub port: Arc<P>,
+    pub policy: Shared<Policy>,
     pub pass: Pass<Entry>,
     ghost ours: { pass_name pass ≡ P.history (arc_value port) },
+    ghost ruled: { policy ≡ P.policy (arc_value port) },
 }
 
 /// Serves a router: listens, dials each address once, in order, and then accepts until no more links come. For each link that is given the crew starts
 /// its reader, which opens the session, brings the link up at the port, and starts its writer; a link whose reader can't be started is told so by a
 /// CLOSE. Where the plan says so each link has a log. `out` has the line `serving ID` once the router listens, `err` a line `dial ADDRESS failed` for
-/// each dial that gave no link, and a line that says why where the host fails. It waits for no session as it ends.
+/// each dial that gave no link, and a line that says why where the host fails. Once memory has run out in the router it ends, behind the next accept. It
+/// waits for no session as it ends.
 pub fn serve<
     H: Host,
     K: Sink,
@@ -66,7 +72,7 @@ where
     H::Time: 'static,
     H::Log: 'static,
     P::Note: Send + 'static,
-    ensures served { IsServed result plan.now.id plan.now.log (string_bytes plan.now.listen) plan.now.dials.items (H.calls host.old) (H.calls host.new) (crew_told crew.old) (crew_told crew.new) (crew_faults crew.old) (crew_faults crew.new) (outputs (K.held out.old) (E.held err.old) (E.faults err.old)) (outputs (K.held out.new) (E.held err.new) (E.faults err.new)) }
+    ensures served { IsServed result plan.now.id serving.old.policy plan.now.log (string_bytes plan.now.listen) plan.now.dials.items (H.calls host.old) (H.calls host.new) (crew_told crew.old) (crew_told crew.new) (crew_faults crew.old) (crew_faults crew.new) (outputs (K.held out.old) (E.held err.old) (E.faults err.old)) (outputs (K.held out.new) (E.held err.new) (E.faults err.new)) }
     ensures done { result ≡ ServeEnd.Done → Rose (H.ends host.old) (H.ends host.new) }
     ensures host { result ≡ ServeEnd.HostFault → Rose (H.faults host.old) (H.faults host.new) }
     ensures write { result ≡ ServeEnd.WriteFault → Rose (K.faults out.old) (K.faults out.new) ⊎ Rose (E.faults err.old) (E.faults err.new) }
@@ -125,8 +131,8 @@ where
     H::Time: 'static,
     H::Log: 'static,
     P::Note: Send + 'static,
-    ensures dialled { OnOk result ((gave : List Bool) × (length gave ≡ length targets.now) × Serves (dials targets.now gave) (moment (H.calls host.old) (crew_told crew.old) (crew_faults crew.old) (E.held err.old) (links_of (λ w. H.Words.stream w) links.old)) (moment (H.calls host.new) (crew_told crew.new) (crew_faults crew.new) (E.held err.new) (links_of (λ w. H.Words.stream w) links.new))) }
-    ensures stopped { OnErr result ((gave : List Bool) × BreaksOff (dials targets.now gave) (moment (H.calls host.old) (crew_told crew.old) (crew_faults crew.old) (E.held err.old) (links_of (λ w. H.Words.stream w) links.old)) (moment (H.calls host.new) (crew_told crew.new) (crew_faults crew.new) (E.held err.new) (links_of (λ w. H.Words.stream w) links.new))) }
+    ensures dialled { OnOk result ((gave : List Bool) × (length gave ≡ length targets.now) × Serves (dials targets.now gave) (moment (H.calls host.old) (crew_told crew.old) (crew_faults crew.old) (E.held err.old) (links_of (λ w. H.Words.stream w) serving.old.policy links.old)) (moment (H.calls host.new) (crew_told crew.new) (crew_faults crew.new) (E.held err.new) (links_of (λ w. H.Words.stream w) serving.new.policy links.new))) }
+    ensures stopped { OnErr result ((gave : List Bool) × BreaksOff (dials targets.now gave) (moment (H.calls host.old) (crew_told crew.old) (crew_faults crew.old) (E.held err.old) (links_of (λ w. H.Words.stream w) serving.old.policy links.old)) (moment (H.calls host.new) (crew_told crew.new) (crew_faults crew.new) (E.held err.new) (links_of (λ w. H.Words.stream w) serving.new.policy links.new))) }
     ensures cause { (result ≡ Err ServeEnd.Done → ⊥) × (result ≡ Err ServeEnd.HostFault → ⊥) × (result ≡ Err ServeEnd.WriteFault → Rose (E.faults err.old) (E.faults err.new)) }
     ensures later { (E.faults err.old ≤ E.faults err.new) × (H.faults host.old ≤ H.faults host.new) × (H.ends host.old ≤ H.ends host.new) }
 {
@@ -139,7 +145,7 @@ where
 }
 
 // Dials an address, and starts the reader of the link that this gives.
-#[tactic(auto, using(crate::proofs::Reaching::dial_linked, crate::proofs::Reaching::dial_unlinked, crate::proofs::Reaching::dial_lost, crate::proofs::Reaching::dial_untold))]
+#[tactic(auto, using(crate::proofs::Reaching::dial_linked, crate::proofs::Reaching::dial_lost, crate::proofs::Reaching::dial_untold))]
 fn dial<
     H: Host,
     E: Sink,
@@ -159,8 +165,8 @@ where
     H::Time: 'static,
     H::Log: 'static,
     P::Note: Send + 'static,
-    ensures dialled { OnOk result ((is_link : Bool) × Serves (dial_call target.now is_link ∷ []) (moment (H.calls host.old) (crew_told crew.old) (crew_faults crew.old) (E.held err.old) (links_of (λ w. H.Words.stream w) links.old)) (moment (H.calls host.new) (crew_told crew.new) (crew_faults crew.new) (E.held err.new) (links_of (λ w. H.Words.stream w) links.new))) }
-    ensures stopped { OnErr result ((is_link : Bool) × BreaksOff (dial_call target.now is_link ∷ []) (moment (H.calls host.old) (crew_told crew.old) (crew_faults crew.old) (E.held err.old) (links_of (λ w. H.Words.stream w) links.old)) (moment (H.calls host.new) (crew_told crew.new) (crew_faults crew.new) (E.held err.new) (links_of (λ w. H.Words.stream w) links.new))) }
+    ensures dialled { OnOk result ((is_link : Bool) × Serves (dial_call target.now is_link ∷ []) (moment (H.calls host.old) (crew_told crew.old) (crew_faults crew.old) (E.held err.old) (links_of (λ w. H.Words.stream w) serving.old.policy links.old)) (moment (H.calls host.new) (crew_told crew.new) (crew_faults crew.new) (E.held err.new) (links_of (λ w. H.Words.stream w) serving.new.policy links.new))) }
+    ensures stopped { OnErr result ((is_link : Bool) × BreaksOff (dial_call target.now is_link ∷ []) (moment (H.calls host.old) (crew_told crew.old) (crew_faults crew.old) (E.held err.old) (links_of (λ w. H.Words.stream w) serving.old.policy links.old)) (moment (H.calls host.new) (crew_told crew.new) (crew_faults crew.new) (E.held err.new) (links_of (λ w. H.Words.stream w) serving.new.policy links.new))) }
     ensures cause { (result ≡ Err ServeEnd.Done → ⊥) × (result ≡ Err ServeEnd.HostFault → ⊥) × (result ≡ Err ServeEnd.WriteFault → Rose (E.faults err.old) (E.faults err.new)) }
     ensures later { (E.faults err.old ≤ E.faults err.new) × (H.faults host.old ≤ H.faults host.new) × (H.ends host.old ≤ H.ends host.new) }
 {
@@ -168,7 +174,7 @@ where
     match host.dial(address) {
         Some((source, sink)) => {
             let weight = target.weight();
-            match start(
+            start(
                 serving,
                 host,
                 crew,
@@ -177,10 +183,8 @@ where
                 weight,
                 source,
                 sink,
-            ) {
-                Ok(()) => Ok(()),
-                Err(_) => Err(ServeEnd::NoMemory),
-            }
+            );
+            Ok(())
         }
         None => match say_not_dialled(serving.alloc, address, err) {
             Ok(()) => Ok(()),
@@ -189,8 +193,8 @@ where
     }
 }
 
-// Accepts, and starts the reader of each link that comes, until no more come.
-#[tactic(auto, using(crate::proofs::Reaching::goes_none, crate::proofs::Reaching::goes_more, crate::proofs::Reaching::goes_on_to))]
+// Accepts, and starts the reader of each link that comes, until no more come, or memory ran out in the router.
+#[tactic(auto, using(crate::proofs::Reaching::goes_none, crate::proofs::Reaching::goes_more, crate::proofs::Reaching::goes_on_to, crate::proofs::Reaching::goes_spent))]
 fn accept_all<
     H: Host,
     P: Port + Send + Sync + Drop + 'static,
@@ -207,7 +211,7 @@ where
     H::Time: 'static,
     H::Log: 'static,
     P::Note: Send + 'static,
-    ensures ended { (held : Option (List ℕ)) → Accepts result (moment (H.calls host.old) (crew_told crew.old) (crew_faults crew.old) held (links_of (λ w. H.Words.stream w) links.old)) (moment (H.calls host.new) (crew_told crew.new) (crew_faults crew.new) held (links_of (λ w. H.Words.stream w) links.new)) }
+    ensures ended { (held : Option (List ℕ)) → Accepts result (moment (H.calls host.old) (crew_told crew.old) (crew_faults crew.old) held (links_of (λ w. H.Words.stream w) serving.old.policy links.old)) (moment (H.calls host.new) (crew_told crew.new) (crew_faults crew.new) held (links_of (λ w. H.Words.stream w) serving.new.policy links.new)) }
     ensures cause { (result ≡ ServeEnd.Done → Rose (H.ends host.old) (H.ends host.new)) × (result ≡ ServeEnd.HostFault → Rose (H.faults host.old) (H.faults host.new)) }
 {
     let rt = serving.rt;
@@ -215,12 +219,15 @@ where
         if let Err(end) = accept(serving, host, crew, links) {
             return end;
         }
+        if serving.port.is_spent() {
+            return ServeEnd::NoMemory;
+        }
     }
     unreachable!()
 }
 
 // Accepts once, and starts the reader of the link that this gives.
-#[tactic(auto, using(crate::proofs::Reaching::accept_gives, crate::proofs::Reaching::accept_loses, crate::proofs::Reaching::accept_waits, crate::proofs::Reaching::accept_ends, crate::proofs::Reaching::accept_fails))]
+#[tactic(auto, using(crate::proofs::Reaching::accept_gives, crate::proofs::Reaching::accept_waits, crate::proofs::Reaching::accept_ends, crate::proofs::Reaching::accept_fails))]
 fn accept<
     H: Host,
     P: Port + Send + Sync + Drop + 'static,
@@ -237,8 +244,8 @@ where
     H::Time: 'static,
     H::Log: 'static,
     P::Note: Send + 'static,
-    ensures going { (held : Option (List ℕ)) → OnOk result ((a : Answer) × IsGoing a × Serves (accepts (a ∷ [])) (moment (H.calls host.old) (crew_told crew.old) (crew_faults crew.old) held (links_of (λ w. H.Words.stream w) links.old)) (moment (H.calls host.new) (crew_told crew.new) (crew_faults crew.new) held (links_of (λ w. H.Words.stream w) links.new))) }
-    ensures stops { (held : Option (List ℕ)) → IfErr result (λ e. Stops e (moment (H.calls host.old) (crew_told crew.old) (crew_faults crew.old) held (links_of (λ w. H.Words.stream w) links.old)) (moment (H.calls host.new) (crew_told crew.new) (crew_faults crew.new) held (links_of (λ w. H.Words.stream w) links.new))) }
+    ensures going { (held : Option (List ℕ)) → OnOk result ((a : Answer) × IsGoing a × Serves (accepts (a ∷ [])) (moment (H.calls host.old) (crew_told crew.old) (crew_faults crew.old) held (links_of (λ w. H.Words.stream w) serving.old.policy links.old)) (moment (H.calls host.new) (crew_told crew.new) (crew_faults crew.new) held (links_of (λ w. H.Words.stream w) serving.new.policy links.new))) }
+    ensures stops { (held : Option (List ℕ)) → IfErr result (λ e. Stops e (moment (H.calls host.old) (crew_told crew.old) (crew_faults crew.old) held (links_of (λ w. H.Words.stream w) serving.old.policy links.old)) (moment (H.calls host.new) (crew_told crew.new) (crew_faults crew.new) held (links_of (λ w. H.Words.stream w) serving.new.policy links.new))) }
     ensures done { result ≡ Err ServeEnd.Done → Rose (H.ends host.old) (H.ends host.new) }
     ensures host { result ≡ Err ServeEnd.HostFault → Rose (H.faults host.old) (H.faults host.new) }
     ensures later { (H.faults host.old ≤ H.faults host.new) × (H.ends host.old ≤ H.ends host.new) }
@@ -246,7 +253,7 @@ where
     match host.accept() {
         Accepted::Link(source, sink) => {
             let weight = Weight::one();
-            match start(
+            start(
                 serving,
                 host,
                 crew,
@@ -255,10 +262,8 @@ where
                 weight,
                 source,
                 sink,
-            ) {
-                Ok(()) => Ok(()),
-                Err(_) => Err(ServeEnd::NoMemory),
-            }
+            );
+            Ok(())
         }
         Accepted::Quiet => Ok(()),
         Accepted::End => Err(ServeEnd::Done),
@@ -266,7 +271,8 @@ where
     }
 }
 
-// Starts the reader of a link, by its job.
+// Starts the reader of a link, by its job. One for which there is no memory is turned away, and counts as one that could not be started.
+#[tactic(auto, using(zr_link_job::proofs::Starting::starts_lost))]
 fn start<
     H: Host,
     P: Port + Send + Sync + Drop + 'static,
@@ -279,30 +285,36 @@ fn start<
     side: Side,
     weight: Weight,
     source: H::In,
-    sink: H::Out,
-) -> Result<(), AllocError>
+    mut sink: H::Out,
+)
 where
     H::In: 'static,
     H::Out: 'static,
     H::Time: 'static,
     H::Log: 'static,
     P::Note: Send + 'static,
-    ensures started { OnOk result (Starts (next_job (links_of (λ w. H.Words.stream w) links.old) (record { side = side; weight = weight }) ∷ []) (crew_told crew.old) (crew_told crew.new) (crew_faults crew.old) (crew_faults crew.new)) }
-    ensures unstarted { OnErr result ((crew_told crew.new ≡ crew_told crew.old) × (crew_faults crew.new ≡ crew_faults crew.old)) }
-    ensures links { links_of (λ w. H.Words.stream w) links.new ≡ with_next (links_of (λ w. H.Words.stream w) links.old) }
+    ensures started { Starts (next_job (links_of (λ w. H.Words.stream w) serving.old.policy links.old) (record { side = side; weight = weight }) ∷ []) (crew_told crew.old) (crew_told crew.new) (crew_faults crew.old) (crew_faults crew.new) }
+    ensures links { links_of (λ w. H.Words.stream w) serving.new.policy links.new ≡ with_next (links_of (λ w. H.Words.stream w) serving.old.policy links.old) }
     ensures told { H.calls host.new ≡ H.calls host.old }
     ensures counts { (H.faults host.new ≡ H.faults host.old) × (H.ends host.new ≡ H.ends host.old) }
 {
-    let job = links.next(side, weight);
+    let begins = links.next(side, weight);
     // what may fail comes first, while there is little to be let go
-    let (port, inner) = shared(serving)?;
+    let Ok((port, policy, inner)) = shared(serving) else {
+        turn_away(&mut sink);
+        crew.lose();
+        return;
+    };
     let clock = host.time();
     let writer_clock = host.time();
-    let log = log_of(serving.alloc, host, &job, &source);
-    let writer_log = log_of(serving.alloc, host, &job, &source);
+    let log = log_of(serving.alloc, host, begins.log, &source);
+    let writer_log = log_of(serving.alloc, host, begins.log, &source);
     let reading = Reading {
         alloc: serving.alloc,
-        job,
+        job: LinkJob {
+            start: begins,
+            policy,
+        },
         source,
         sink,
         clock,
@@ -314,27 +326,28 @@ where
         crew: inner,
     };
     hand_over(crew, reading);
-    Ok(())
 }
 
-// The port for one more link, and a crew that starts its writer.
+// The port and the rules for one more link, and a crew that starts its writer.
 fn shared<P: Port + Drop, R: Threads + Wait + Copy + Drop>(
     serving: &Serving<P, R>,
-) -> Result<(Arc<P>, Crew<R, LinkNo>), AllocError>
-    ensures { IfOk result (λ r. arc_value r.0 ≡ arc_value serving.now.port) }
+) -> Result<(Arc<P>, Shared<Policy>, Crew<R, LinkNo>), AllocError>
+    ensures port { IfOk result (λ r. arc_value r.0 ≡ arc_value serving.now.port) }
+    ensures policy { IfOk result (λ r. r.1 ≡ serving.now.policy) }
 {
     let inner = Crew::new(serving.rt, serving.alloc)?;
+    let policy = serving.policy.copy()?;
     let port = Arc::try_clone(&serving.port)?;
-    Ok((port, inner))
+    Ok((port, policy, inner))
 }
 
-// A log for one more thread of a link, where its job has one.
-fn log_of<H: Host>(alloc: Global, host: &mut H, job: &LinkJob, source: &H::In) -> Option<H::Log>
-    ensures asked { is_some result ≡ job.now.log }
+// A log for one more thread of a link, where it has one.
+fn log_of<H: Host>(alloc: Global, host: &mut H, has_log: bool, source: &H::In) -> Option<H::Log>
+    ensures asked { is_some result ≡ has_log }
     ensures told { H.calls host.new ≡ H.calls host.old }
     ensures counts { (H.faults host.new ≡ H.faults host.old) × (H.ends host.new ≡ H.ends host.old) }
 {
-    if job.log {
+    if has_log {
         Some(host.log(alloc, source))
     } else {
         None

@@ -14,6 +14,7 @@ use std::thread::Threads;
 use zr_access::Policy;
 use zr_hist::{History, Kept, Pass};
 use zr_link_job::LinkJob;
+use zr_msg::shared::Shared;
 use zr_outside::host::Host;
 use zr_outside::sink::Sink;
 use zr_outside_crew::Crew;
@@ -43,12 +44,15 @@ where
     H::Out: 'static,
     H::Time: 'static,
     H::Log: 'static,
-    ensures served { IsServed result plan.now.id plan.now.log (string_bytes plan.now.listen) plan.now.dials.items (H.calls host.old) (H.calls host.new) (crew_told crew.old) (crew_told crew.new) (crew_faults crew.old) (crew_faults crew.new) (outputs (K.held out.old) (E.held err.old) (E.faults err.old)) (outputs (K.held out.new) (E.held err.new) (E.faults err.new)) }
+    ensures served { IsServed result plan.now.id policy plan.now.log (string_bytes plan.now.listen) plan.now.dials.items (H.calls host.old) (H.calls host.new) (crew_told crew.old) (crew_told crew.new) (crew_faults crew.old) (crew_faults crew.new) (outputs (K.held out.old) (E.held err.old) (E.faults err.old)) (outputs (K.held out.new) (E.held err.new) (E.faults err.new)) }
     ensures done { result ≡ ServeEnd.Done → Rose (H.ends host.old) (H.ends host.new) }
     ensures host { result ≡ ServeEnd.HostFault → Rose (H.faults host.old) (H.faults host.new) }
     ensures write { result ≡ ServeEnd.WriteFault → Rose (K.faults out.old) (K.faults out.new) ⊎ Rose (E.faults err.old) (E.faults err.new) }
     ensures later { (K.faults out.old ≤ K.faults out.new) × (E.faults err.old ≤ E.faults err.new) }
 {
+    let Ok(policy) = Shared::new(alloc, policy) else {
+        return ServeEnd::NoMemory;
+    };
     match History::new(alloc) {
         Ok((history, kept, pass)) => {
             serve_named::<K, E, H, R, Brand>(
@@ -71,7 +75,7 @@ fn serve_named<
     rt: R,
     alloc: Global,
     plan: &ServePlan,
-    policy: Policy,
+    policy: Shared<Policy>,
     out: &mut K,
     err: &mut E,
     host: &mut H,
@@ -90,13 +94,16 @@ where
     requires pass { pass_name pass ≡ B.history }
     requires own { plan.now.id ≡ B.me }
     requires ruled { policy ≡ B.policy }
-    ensures served { IsServed result plan.now.id plan.now.log (string_bytes plan.now.listen) plan.now.dials.items (H.calls host.old) (H.calls host.new) (crew_told crew.old) (crew_told crew.new) (crew_faults crew.old) (crew_faults crew.new) (outputs (K.held out.old) (E.held err.old) (E.faults err.old)) (outputs (K.held out.new) (E.held err.new) (E.faults err.new)) }
+    ensures served { IsServed result plan.now.id policy plan.now.log (string_bytes plan.now.listen) plan.now.dials.items (H.calls host.old) (H.calls host.new) (crew_told crew.old) (crew_told crew.new) (crew_faults crew.old) (crew_faults crew.new) (outputs (K.held out.old) (E.held err.old) (E.faults err.old)) (outputs (K.held out.new) (E.held err.new) (E.faults err.new)) }
     ensures done { result ≡ ServeEnd.Done → Rose (H.ends host.old) (H.ends host.new) }
     ensures host { result ≡ ServeEnd.HostFault → Rose (H.faults host.old) (H.faults host.new) }
     ensures write { result ≡ ServeEnd.WriteFault → Rose (K.faults out.old) (K.faults out.new) ⊎ Rose (E.faults err.old) (E.faults err.new) }
     ensures later { (K.faults out.old ≤ K.faults out.new) × (E.faults err.old ≤ E.faults err.new) }
 {
-    let Ok(router) = Router::<B, R>::new(rt, alloc, plan.id, policy, history, kept) else {
+    let Ok(judged) = policy.copy() else {
+        return ServeEnd::NoMemory;
+    };
+    let Ok(router) = Router::<B, R>::new(rt, alloc, plan.id, judged, history, kept) else {
         return ServeEnd::NoMemory;
     };
     let Ok(port) = Arc::new(alloc, router) else {
@@ -106,6 +113,7 @@ where
         rt,
         alloc,
         port,
+        policy,
         pass,
     };
     serve(&mut serving, plan, out, err, host, crew)

@@ -13,6 +13,7 @@ use zr_hist::{History, Kept, Pass};
 use zr_id::zid::Zid;
 use zr_msg::error::NodeError;
 use zr_msg::peer::{Peer, Role};
+use zr_msg::shared::Shared;
 use zr_port::{DeliverError, DownError, Entry, Naming, UpError};
 use zr_ring::{Taker, Took};
 use zr_router::Router;
@@ -263,7 +264,7 @@ fn wrong_at<B: Naming, R: Wait + Drop>(
     rt: R,
     alloc: Global,
     me: Zid,
-    policy: Policy,
+    policy: Shared<Policy>,
     history: History<Entry>,
     kept: Kept<Entry>,
     pass: Pass<Entry>,
@@ -299,6 +300,7 @@ pub fn first_wrong<R: Wait + Drop>(
     let Ok(me) = Zid::from_bytes(&[OWN]) else {
         return Err(AllocError);
     };
+    let policy = Shared::new(alloc, policy)?;
     let (history, kept, pass) = History::<Entry>::new(alloc)?;
     wrong_at::<Brand, R>(rt, alloc, me, policy, history, kept, pass, rows)
 }

@@ -17,6 +17,7 @@ use zr_msg::content::Content;
 use zr_msg::extras::Extras;
 use zr_msg::msg::Msg;
 use zr_msg::peer::Peer;
+use zr_msg::shared::Shared;
 use zr_oam::read_oam;
 use zr_port::{DeliverError, DownError, Entry, Naming, Port, UpError};
 use zr_ring::Taker;
@@ -83,7 +84,7 @@ impl<B: Naming> Hand<B> {
     }
 }
 
-/// A message on `a/b`.
+/// A message, on `a/b` where nothing else is said.
 #[derive(Clone, Copy)]
 pub enum Say {
     Sub,
@@ -101,6 +102,11 @@ pub enum Say {
     Told,
     /// The client no longer subscribes.
     Unsub,
+    /// The client subscribes to `secret/a` under id 4, and no longer does so.
+    Secret,
+    Unsecret,
+    /// The end of request 9.
+    Final,
     /// What a router tells of its links or of its clients, in these bytes.
     Tells(&'static [u8]),
 }
@@ -118,6 +124,9 @@ fn message(alloc: Global, say: Say) -> Result<Msg, AllocError>
         Say::Sub => sub(alloc),
         Say::Told => told_sub(alloc),
         Say::Unsub => Ok(Msg::Unsub { id: 1 }),
+        Say::Secret => secret(alloc),
+        Say::Unsecret => Ok(Msg::Unsub { id: 4 }),
+        Say::Final => end_of_request(alloc),
         Say::Tells(bytes) => told(alloc, bytes),
         Say::Sample | Say::Keep | Say::Express | Say::Long | Say::LongKeep | Say::Along => {
             sample(alloc, say)
@@ -130,6 +139,22 @@ fn sub(alloc: Global) -> Result<Msg, AllocError>
 {
     let key = key(alloc)?;
     Ok(Msg::Sub { id: 1, key })
+}
+
+fn secret(alloc: Global) -> Result<Msg, AllocError>
+    ensures { IfOk result (λ m. IsSpelled m) }
+{
+    match KeyExpr::read(alloc, b"secret/a".as_slice()) {
+        Ok(key) => Ok(Msg::Sub { id: 4, key }),
+        Err(_) => Err(AllocError),
+    }
+}
+
+fn end_of_request(alloc: Global) -> Result<Msg, AllocError>
+    ensures { IfOk result (λ m. IsSpelled m) }
+{
+    let extras = Shared::new(alloc, Extras::none())?;
+    Ok(Msg::Final { id: 9, extras })
 }
 
 fn told_sub(alloc: Global) -> Result<Msg, AllocError>

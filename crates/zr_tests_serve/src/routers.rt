@@ -234,7 +234,7 @@ static CHILD: [Row; 17] = [
     (Call::Take(0), Told::Parcels(0)),
 ];
 
-/// Rules for the last table: of these the first denies what the second client declares, and the second what it publishes.
+/// Rules for the table below: of these the first denies what the second client declares, and the second what it publishes.
 const RULES: &[u8] = b"deny 0b sub a/*\ndeny 0b put **\nallow * * **\ndefault deny\n";
 
 static RULED: [Row; 12] = [
@@ -252,12 +252,23 @@ static RULED: [Row; 12] = [
     (Call::Say(2, Say::Sub), Told::NotUp(2)),
 ];
 
+/// Rules under which nobody subscribes to what is secret.
+const SECRET_RULES: &[u8] = b"allow 0a put robot/**\ndeny * put **\ndeny * sub secret/*\n";
+
+static SECRET: [Row; 4] = [
+    (Call::Client(0x0c), Told::Link(0)),
+    (Call::Say(0, Say::Secret), Told::Denied(3)),
+    (Call::Say(0, Say::Unsecret), Told::Ignored(4)),
+    (Call::Say(0, Say::Final), Told::Ok),
+];
+
 /// How many tables there are.
-const TABLES: usize = 11;
+const TABLES: usize = 12;
 
 fn rules(number: usize) -> &'static [u8] {
     match number {
         10 => RULES,
+        11 => SECRET_RULES,
         _ => b"",
     }
 }
@@ -274,7 +285,8 @@ fn table(number: usize) -> &'static [Row] {
         7 => &NUMBERS,
         8 => &ROLES,
         9 => &CHILD,
-        _ => &RULED,
+        10 => &RULED,
+        _ => &SECRET,
     }
 }
 

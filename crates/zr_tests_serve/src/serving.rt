@@ -135,7 +135,7 @@ fn plan(alloc: Global, dials: &[&str], log: bool) -> Result<ServePlan, AllocErro
 }
 
 fn letter(job: &LinkJob) -> u8 {
-    match (job.side, job.log) {
+    match (job.start.side, job.start.log) {
         (Side::Accepting, false) => b'a',
         (Side::Accepting, true) => b'A',
         (Side::Dialling, false) => b'd',
@@ -151,7 +151,8 @@ fn are_jobs(jobs: &[LinkJob], text: &[u8]) -> bool {
             return false;
         };
         if letter(job) != *letter_of_job
-            || job.weight.get() != u16::from(weight.saturating_sub(b'0'))
+            || job.start.weight.get() != u16::from(weight.saturating_sub(b'0'))
+            || !job.policy.get().is_open()
         {
             return false;
         }

@@ -14,6 +14,7 @@ use zr_hist::{History, Kept, Pass};
 use zr_id::link::LinkNo;
 use zr_id::zid::Zid;
 use zr_link::{LinkEnd, LinkLog, Outward, Reader, Stage};
+use zr_msg::shared::Shared;
 use zr_open::Opening;
 use zr_outside_crew::Crew;
 use zr_outside_mem::mem_clock::MemClock;
@@ -158,7 +159,7 @@ fn is_answered_at<
     rt: R,
     alloc: Global,
     me: Zid,
-    policy: Policy,
+    policy: Shared<Policy>,
     history: History<Entry>,
     kept: Kept<Entry>,
     pass: Pass<Entry>,
@@ -190,12 +191,13 @@ fn is_answered<R: Threads + Wait + Copy + Send + Sync + Drop + 'static>(
         return Err(AllocError);
     };
     let mut source = client(alloc, most)?;
+    let policy = Shared::new(alloc, Policy::open(alloc))?;
     let (history, kept, pass) = History::<Entry>::new(alloc)?;
     is_answered_at::<Brand, R>(
         rt,
         alloc,
         me,
-        Policy::open(alloc),
+        policy,
         history,
         kept,
         pass,

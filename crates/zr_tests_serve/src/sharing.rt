@@ -13,6 +13,7 @@ use zr_access::Policy;
 use zr_hist::{History, Kept, Pass};
 use zr_id::zid::Zid;
 use zr_msg::peer::Role;
+use zr_msg::shared::Shared;
 use zr_port::{Entry, Naming};
 use zr_ring::{Bytes, Taker, Took};
 use zr_router::Router;
@@ -143,7 +144,7 @@ fn share<B: Naming + Send + Sync, R: Threads + Wait + Copy + Send + Sync + Drop>
     rt: R,
     alloc: Global,
     me: Zid,
-    policy: Policy,
+    policy: Shared<Policy>,
     history: History<Entry>,
     kept: Kept<Entry>,
     pass: Pass<Entry>,
@@ -166,8 +167,9 @@ fn shared<R: Threads + Wait + Copy + Send + Sync + Drop>(
     let Ok(me) = Zid::from_bytes(&[OWN]) else {
         return Err(AllocError);
     };
+    let policy = Shared::new(alloc, Policy::open(alloc))?;
     let (history, kept, pass) = History::<Entry>::new(alloc)?;
-    share::<Brand, R>(rt, alloc, me, Policy::open(alloc), history, kept, pass)
+    share::<Brand, R>(rt, alloc, me, policy, history, kept, pass)
 }
 
 #[test]

@@ -1,14 +1,11 @@
 use Rattle.std.proofs.Common.{refl}
 use Rattle.zr_outside.specs.declared.host.Answer.TheVariants as answer
-use Rattle.zr_serve.proofs.Reaching.{accept_gives, accept_loses, accept_waits, accept_ends, accept_fails}
+use Rattle.zr_serve.proofs.Reaching.{accept_gives, accept_waits, accept_ends, accept_fails}
 use Rattle.zr_serve.proofs.service.accept.Goals as goal
 
-pub returns-in-Ok-clause-going : goal.returns-in-Ok-clause-going
-returns-in-Ok-clause-going g c = λ held. accept_gives answer.Link _ _ _ _ _ _ _ held _ _ c.in-Link.ensures.told refl c.in-Ok.ensures.told (rw c.one-weight.ensures at c.in-Ok.ensures.started) c.in-Ok.ensures.links
-
-pub returns-in-Err-clause-stops : goal.returns-in-Err-clause-stops
-returns-in-Err-clause-stops g c =
-    λ held. accept_loses answer.Link _ _ _ _ _ _ _ held _ _ c.in-Link.ensures.told refl c.in-Err.ensures.told c.in-Err.ensures.unstarted.0 c.in-Err.ensures.unstarted.1
+pub returns-in-Link-clause-going : goal.returns-in-Link-clause-going
+returns-in-Link-clause-going g c =
+    λ held. accept_gives answer.Link _ _ _ _ _ _ _ held _ _ c.in-Link.ensures.told refl c.start.ensures.told (rw c.one-weight.ensures at c.start.ensures.started) c.start.ensures.links
 
 pub returns-in-Quiet-clause-going : goal.returns-in-Quiet-clause-going
 returns-in-Quiet-clause-going g c = λ held. accept_waits answer.Quiet _ _ _ _ held _ c.in-Quiet.ensures.told refl

@@ -1,5 +1,5 @@
 use Rattle.std.proofs.Common.{ap, Err, le_trans}
-use Rattle.zr_serve.proofs.Reaching.{goes_more, goes_on_to, rose_later}
+use Rattle.zr_serve.proofs.Reaching.{goes_more, goes_on_to, goes_spent, rose_later}
 use Rattle.zr_serve.proofs.service.accept_all.Goals as goal
 
 pub returns-in-Err-clause-ended : goal.returns-in-Err-clause-ended
@@ -10,6 +10,9 @@ returns-in-Err-clause-cause g c = (
   λ e. rose_later _ _ _ c.loop.invariant.2 (c.in-Err.ensures.done (ap Err e)),
   λ e. rose_later _ _ _ c.loop.invariant.1 (c.in-Err.ensures.host (ap Err e)),
 )
+
+pub returns-then-is_spent-clause-ended : goal.returns-then-is_spent-clause-ended
+returns-then-is_spent-clause-ended g c = λ held. goes_spent _ _ _ (c.loop.invariant.0 held) (c.in_default.ensures.going held)
 
 pub loop-preserved : goal.loop-preserved
 loop-preserved g c = (

@@ -3,28 +3,28 @@ use Rattle.zr_serve.proofs.Served.{without_words, deaf, unsaid_serves, cut_serve
 use Rattle.zr_serve.proofs.service.serve.Goals as goal
 
 pub returns-in_default-clause-served : goal.returns-in_default-clause-served
-returns-in_default-clause-served g c = without_words _ _ _ _ _ _ _ _ _ _ _ _ _ c.in_default.ensures.told c.say_last.ensures.says
+returns-in_default-clause-served g c = without_words _ _ _ _ _ _ _ _ _ _ _ _ _ _ c.in_default.ensures.told c.say_last.ensures.says
 
 pub returns-then-not-listen-clause-served : goal.returns-then-not-listen-clause-served
 returns-then-not-listen-clause-served g c =
-    deaf _ _ _ _ _ _ _ _ _ false _ (g.H.Words.Rng.stream c.in-Some.words) _ _ _ _ c.in-Some.ensures.told (rw c.as_str.ensures.value at c.if-not-listen.ensures.told) refl
+    deaf _ _ _ _ _ _ _ _ _ _ false _ (g.H.Words.Rng.stream c.in-Some.words) _ _ _ _ c.in-Some.ensures.told (rw c.as_str.ensures.value at c.if-not-listen.ensures.told) refl
     (rw c.as_str-then-not-listen.ensures.value at c.say_not_listening.ensures.says)
 
 pub returns-in-Err-clause-served : goal.returns-in-Err-clause-served
 returns-in-Err-clause-served g c =
-    rw c.end.ensures (unsaid_serves c.in-Err.unsaid _ _ _ _ (g.H.Words.Rng.stream c.in-Some.words) true _ _ _ _ _ _ _ _ _ c.in-Some.ensures.told
+    rw c.end.ensures (unsaid_serves c.in-Err.unsaid _ _ _ _ _ (g.H.Words.Rng.stream c.in-Some.words) true _ _ _ _ _ _ _ _ _ c.in-Some.ensures.told
     (rw c.as_str.ensures.value at c.if-not-listen.ensures.told) refl c.in-Err.ensures.part)
 
 pub returns-in-Err-dial_all-clause-served : goal.returns-in-Err-dial_all-clause-served
 returns-in-Err-dial_all-clause-served g c =
-    cut_serves_at _ _ _ _ c.in-Err-dial_all.end _ _ (g.H.Words.Rng.stream c.in-Some.words) true _ _ _ _ _ _ _ _ _ _ _ _ c.as_slice.ensures.value
-    c.as_str.ensures.value c.in-Some.ensures.told c.if-not-listen.ensures.told refl c.new-links.ensures c.in-Err-dial_all.ensures.stopped
+    cut_serves_at _ _ _ _ c.in-Err-dial_all.end _ _ _ (g.H.Words.Rng.stream c.in-Some.words) true _ _ _ _ _ _ _ _ _ _ _ _ c.as_slice.ensures.value
+    c.as_str.ensures.value c.in-Some.ensures.told c.if-not-listen.ensures.told refl (c.new-links.ensures _) c.in-Err-dial_all.ensures.stopped
     c.in_default-say_serving.ensures.said (λ it. c.in-Err-dial_all.ensures.cause.0 (ap Err it)) (λ it. c.in-Err-dial_all.ensures.cause.1 (ap Err it))
 
 pub returns-clause-served : goal.returns-clause-served
 returns-clause-served g c =
-    whole_serves_at _ _ _ _ c.accept_all-end.result _ _ (g.H.Words.Rng.stream c.in-Some.words) true _ _ _ _ _ _ _ _ _ _ _ (g.E.Sink.held c.dial_all.new.err) _ _ _ _ _ _
-    c.as_slice.ensures.value c.as_str.ensures.value c.in-Some.ensures.told c.if-not-listen.ensures.told refl c.new-links.ensures c.in_default-dial_all.ensures.dialled
+    whole_serves_at _ _ _ _ c.accept_all-end.result _ _ _ (g.H.Words.Rng.stream c.in-Some.words) true _ _ _ _ _ _ _ _ _ _ _ (g.E.Sink.held c.dial_all.new.err) _ _ _ _ _ _
+    c.as_slice.ensures.value c.as_str.ensures.value c.in-Some.ensures.told c.if-not-listen.ensures.told refl (c.new-links.ensures _) c.in_default-dial_all.ensures.dialled
     c.accept_all-end.ensures.ended c.in_default-say_serving.ensures.said c.dial_all.ensures.later.0 c.tell_end.ensures.fault c.tell_end.ensures.quiet
 
 pub returns-clause-write : goal.returns-clause-write

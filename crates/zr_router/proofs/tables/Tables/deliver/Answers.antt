@@ -149,7 +149,7 @@ returns-in-Err-Refused-clause-refused g c =
     (message_node pol me h l.hub l.ends.items r c.args.link c.args.msg p k at shut none refused failed.0) in
     let is : c.node_refusal.result ≡ node_refusal (not c.is_open.result) refused = rw c.in-Err-Refused.field-0-is at c.node_refusal.ensures in
     let ruled : node_refusal (not (is_open pol)) refused ≡ c.node_refusal.result =
-    ap (λ z. node_refusal (not (is_open z)) refused) (sym c.handle.new.self.ruled) ∙ ap (λ b. node_refusal (not b) refused) (sym c.is_open.ensures) ∙ sym is in
+    ap (λ z. node_refusal (not (is_open z)) refused) (sym c.handle.new.self.ruled) ∙ ap (λ z. node_refusal (not (is_open z)) refused) (sym c.get.ensures) ∙ ap (λ b. node_refusal (not b) refused) (sym c.is_open.ensures) ∙ sym is in
     λ _. subst (λ x. RefusesMessage pol me (list_of t.kept) c.args.link c.args.msg x) ruled told
 
 pub returns-in-Ok-enter-clause-rings : goal.returns-in-Ok-enter-clause-rings
