@@ -1,7 +1,7 @@
 //! What came of the next batch.
 
-ghost use Rattle.std.specs.Prelude.{◌≡◌, ◌<◌, ◌≤◌, ◌++◌, [], length, IfSome, IfOk, OnOk, OnErr};
-ghost use Rattle.std.specs.Prelude.{None, true, ◌+◌, ◌*◌, max};
+ghost use Rattle.std.specs.Prelude.{◌≡◌, ◌<◌, ◌≤◌, ◌++◌, [], length, IfSome, IfOk, OnErr};
+ghost use Rattle.std.specs.Prelude.{None, true, ◌+◌, ◌*◌};
 ghost use Rattle.std.specs.Vec.{vec_len, vec_capacity};
 ghost use Rattle.zr_frame_batch.specs.Framing.{IsFramed, BeginsWith, lacks, is_within_one};
 
@@ -53,9 +53,11 @@ impl Incoming {
         if front.is_empty() {
             return Ok(rest);
         }
-        // Apart from the copy, so that nothing is kept taken where this fails.
-        make_room(&mut self.bytes, front)?;
-        append(&mut self.bytes, front);
+        if has_room(&self.bytes, front) {
+            append(&mut self.bytes, front);
+        } else {
+            self.bytes = joined(self.alloc, &self.bytes, front)?;
+        }
         Ok(rest)
     }
 
@@ -86,21 +88,13 @@ impl Incoming {
     }
 }
 
-/// Makes room for a piece: where there isn't any, for twice the bytes that there are with it, at most.
-fn make_room(bytes: &mut Vec<u8>, piece: &[u8]) -> Result<(), AllocError>
-    ensures items { bytes.new.items ≡ bytes.old.items }
-    ensures ok { OnOk result (vec_len bytes.new + length piece.now ≤ vec_capacity bytes.new) }
-    ensures kept { OnErr result (vec_capacity bytes.new ≡ vec_capacity bytes.old) }
-    ensures bounded { vec_capacity bytes.new ≤ max (vec_capacity bytes.old) (2 * (length bytes.old.items + length piece.now)) }
+fn has_room(bytes: &Vec<u8>, piece: &[u8]) -> bool
+    ensures { result ≡ true → vec_len bytes.now + length piece.now ≤ vec_capacity bytes.now }
 {
-    let count = bytes.len() + piece.len();
-    if count <= bytes.capacity() {
-        return Ok(());
-    }
-    bytes.reserve_exact(count)
+    bytes.len() + piece.len() <= bytes.capacity()
 }
 
-/// Appends a piece to bytes that have the room. Of `extend_from_slice` it isn't known that it takes no more.
+/// Appends a piece to bytes that have the room. They keep it, as isn't known of `extend_from_slice`.
 fn append(bytes: &mut Vec<u8>, piece: &[u8])
     requires room { vec_len bytes.old + length piece.now ≤ vec_capacity bytes.old }
     ensures items { bytes.new.items ≡ bytes.old.items ++ piece.now }
@@ -109,6 +103,22 @@ fn append(bytes: &mut Vec<u8>, piece: &[u8])
     for byte in piece {
         bytes.push_reserved(*byte);
     }
+}
+
+/// Some bytes with a piece behind them, in memory for as many more as there were. A long piece is copied at once so.
+fn joined(alloc: Global, bytes: &[u8], piece: &[u8]) -> Result<Vec<u8>, AllocError>
+    ensures items { IfOk result (λ all. all.items ≡ bytes.now ++ piece.now) }
+    ensures bounded { IfOk result (λ all. vec_capacity all ≤ 2 * (length bytes.now + length piece.now)) }
+{
+    let count = bytes.len() + piece.len();
+    let mut all = Vec::with_capacity(alloc, count.saturating_add(bytes.len()))?;
+    all.extend_from_slice(bytes)?;
+    all.extend_from_slice(piece)?;
+    // That copying takes no more than the room that is there isn't known.
+    if all.capacity().saturating_sub(count) > count {
+        return Err(AllocError);
+    }
+    Ok(all)
 }
 
 /// The batch at the front of a piece where it is whole, and the bytes behind it: nothing is copied.

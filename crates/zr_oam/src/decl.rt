@@ -8,6 +8,7 @@ ghost use Rattle.zr_format_spec.specs.Reading.{Makes, last_of, series_of};
 ghost use Rattle.zr_oam.specs.Oam.{kind_byte, kind_of, is_canonical, decl_before, decl_may_follow};
 ghost use Rattle.zr_oam.specs.Reading.{key_of, decl_of, next_decl_of, form_of, entry_number_of, snapshot_of, change_of, declarations_of};
 
+use crate::gathered::Gathered;
 use crate::parts::{ADDED, MOST_KEY, REMOVED, SNAPSHOT};
 use crate::record::read_zid;
 use std::alloc::Global;
@@ -98,12 +99,12 @@ fn read_change(
 fn read_decls(alloc: Global, c: &mut Cursor<'_>, count: u32) -> Result<Vec<Decl>, ReadError>
     ensures { Steps (λ decls. decls.items) result (series_of next_decl_of None count c.old) c.new }
 {
-    let mut decls = Vec::new(alloc);
+    let mut decls = Gathered::new(alloc);
     'decls: for _ in 0..count {
-        let decl = read_next(alloc, c, &decls)?;
+        let decl = read_next(alloc, c, decls.as_slice())?;
         decls.push(decl)?;
     }
-    Ok(decls)
+    Ok(decls.into_vec())
 }
 
 /// A declaration that comes after those before it.

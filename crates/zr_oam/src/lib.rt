@@ -3,6 +3,7 @@
 #![tactic(auto)]
 
 mod decl;
+mod gathered;
 mod laws;
 mod parts;
 mod reading;

@@ -7,6 +7,7 @@ ghost use Rattle.zr_id.specs.Record.{are_links};
 ghost use Rattle.zr_oam.specs.Oam.{last_id};
 ghost use Rattle.zr_oam.specs.Reading.{zid_of, weight_of, neighbour_of, link_of, record_of};
 
+use crate::gathered::Gathered;
 use crate::parts::MOST_ID;
 use std::alloc::Global;
 use zr_bytes::{Cursor, ReadError};
@@ -41,12 +42,12 @@ fn read_links(
     ensures read { Steps (λ links. links.items) result (series_of (link_of weighted own.now) None count c.old) c.new }
     ensures in_order { IfOk result (λ links. are_links own.now links.items ≡ true) }
 {
-    let mut links = Vec::new(alloc);
+    let mut links = Gathered::new(alloc);
     'links: for _ in 0..count {
-        let link = read_link(c, own, &links, weighted)?;
+        let link = read_link(c, own, links.as_slice(), weighted)?;
         links.push(link)?;
     }
-    Ok(links)
+    Ok(links.into_vec())
 }
 
 /// A link that may stand behind those before it, with its weight.

@@ -5,6 +5,7 @@ use crate::clock::SystemClock;
 use crate::line::{Severity, stamped};
 use crate::log::ErrorLog;
 use crate::place::Places;
+use crate::porch::{Porch, accepted};
 use crate::queue::LogQueue;
 use crate::reason::Reason;
 use crate::refusals::{Refusals, Seldom};
@@ -38,7 +39,9 @@ pub(crate) struct Door<
     alloc: Global,
     err: Stderr,
     has_log: bool,
+    is_listening: bool,
     listener: Option<TcpListener>,
+    porch: Arc<Porch>,
     places: Places,
     queue: Arc<LogQueue>,
     resolver: Arc<Resolver>,
@@ -64,8 +67,9 @@ impl<
         + Drop
         + 'static,
 > Door<R> {
-    /// Starts the threads that write its lines and resolve names.
+    /// Starts the threads that write its lines, resolve names and accept.
     pub(crate) fn start(&self) {
+        Porch::start(self.rt, &self.porch);
         LogQueue::start(self.rt, self.alloc, &self.queue, self.err);
         Resolver::start(self.rt, self.alloc, &self.resolver);
     }
@@ -87,7 +91,9 @@ impl<R: Net<Listener = TcpListener, Stream = TcpStream> + Wait + time::Clock + C
             alloc,
             err,
             has_log,
+            is_listening: false,
             listener: None,
+            porch: Porch::new(alloc)?,
             places: Places::new(alloc),
             refusals: Refusals::new(rt, alloc, &queue, has_log)?,
             queue,
@@ -104,7 +110,7 @@ impl<R: Net<Listener = TcpListener, Stream = TcpStream> + Wait + time::Clock + C
                 if self.has_log {
                     self.tell_listening(&listener);
                 }
-                self.listener = Some(listener);
+                self.open(listener);
                 true
             }
             Err(reason) => {
@@ -137,21 +143,39 @@ impl<R: Net<Listener = TcpListener, Stream = TcpStream> + Wait + time::Clock + C
         Ok(TcpListener::bind(&self.rt, found.as_slice())?)
     }
 
-    /// What the next accept comes to.
+    // Without a thread that accepts, who asks for the next connection accepts it.
+    fn open(&mut self, listener: TcpListener) {
+        self.is_listening = true;
+        if self.porch.has_thread() {
+            self.porch.open(&self.rt, listener);
+        } else {
+            self.listener = Some(listener);
+        }
+    }
+
+    /// What the next accept comes to. With a thread that accepts it comes to nothing where there is none for a second.
     pub(crate) fn next(&mut self) -> Came<R> {
-        let Some(listener) = &self.listener else {
+        if !self.is_listening {
             return Came::Fault;
-        };
-        match listener.accept() {
+        }
+        match self.accepted() {
             // a peer that went at once, one too many, or a system out of descriptors or memory, is no fault of the listener
-            Ok((stream, _)) => match self.ends(stream) {
+            Some(Ok(stream)) => match self.ends(stream) {
                 Ok((source, sink)) => Came::Link(source, sink),
                 Err(reason) => {
                     self.tell_closed(reason);
                     Came::Nothing
                 }
             },
-            Err(e) => self.lost(&e),
+            Some(Err(e)) => self.lost(&e),
+            None => Came::Nothing,
+        }
+    }
+
+    fn accepted(&self) -> Option<io::Result<TcpStream>> {
+        match &self.listener {
+            Some(listener) => Some(accepted(listener)),
+            None => self.porch.next(&self.rt),
         }
     }
 

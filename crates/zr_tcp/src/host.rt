@@ -1,13 +1,16 @@
 //! A host over TCP.
 
-ghost use Rattle.std.specs.Prelude.{◌≡◌, None};
+ghost use Rattle.std.specs.Prelude.{◌≡◌, ℕ, List, None, true, is_none, IfSome};
+ghost use Rattle.rand_chacha.specs.ChaCha.{of_seed};
+ghost use Rattle.zr_outside.specs.Counts.{Counted};
 
 use crate::clock::SystemClock;
 use crate::door::{Came, Door};
 use crate::log::ErrorLog;
+use crate::random::SystemRandom;
 use crate::stream::{TcpSink, TcpSource};
 use rand_chacha::ChaCha20Rng;
-use rand_core::SeedableRng;
+use rand_core::{SeedableRng, TryRng};
 use std::alloc::{AllocError, Global};
 use std::io::Stderr;
 use std::net::{Net, TcpListener, TcpStream};
@@ -17,13 +20,15 @@ use std::thread::Threads;
 use std::time;
 use zr_outside::host::{Accepted, Host};
 
-/// Listens, accepts and dials over TCP. Its accepts never end.
+/// Listens, accepts and dials over TCP. Its accepts never end. Its random words have a seed from a source of its own, by default the system.
 #[derive(Drop)]
 pub struct TcpHost<
-    R: Net<Listener = TcpListener, Stream = TcpStream> + RandomSource + Wait + time::Clock + Drop,
+    R: Net<Listener = TcpListener, Stream = TcpStream> + Wait + time::Clock + Drop,
+    S: TryRng + Drop,
 > {
     rt: R,
     door: Door<R>,
+    random: S,
     faults: u64,
     quiets: u64,
     lost_dials: u64,
@@ -31,7 +36,6 @@ pub struct TcpHost<
 
 impl<
     R: Net<Listener = TcpListener, Stream = TcpStream>
-        + RandomSource
         + Threads
         + Wait
         + time::Clock
@@ -39,8 +43,9 @@ impl<
         + Send
         + Drop
         + 'static,
-> TcpHost<R> {
-    /// Starts the threads by which it serves: one writes its lines, and one resolves names. They end with the process.
+    S: TryRng + Drop,
+> TcpHost<R, S> {
+    /// Starts the threads by which it serves: one writes its lines, one resolves names, and one accepts. They end with the process.
     pub fn start(&self) {
         self.door.start();
     }
@@ -53,13 +58,19 @@ impl<
         + time::Clock
         + Copy
         + Drop,
-> TcpHost<R> {
+> TcpHost<R, SystemRandom<R>> {
     /// A host that doesn't listen yet, and is to be started before it does. The logs of its links tell on the error output; where there are such logs, it
     /// tells there too at which address it listens, and why a dial failed.
-    pub fn new(rt: R, alloc: Global, err: Stderr, has_log: bool) -> Result<TcpHost<R>, AllocError> {
+    pub fn new(
+        rt: R,
+        alloc: Global,
+        err: Stderr,
+        has_log: bool,
+    ) -> Result<TcpHost<R, SystemRandom<R>>, AllocError> {
         Ok(TcpHost {
             rt,
             door: Door::new(rt, alloc, err, has_log)?,
+            random: SystemRandom::new(rt),
             faults: 0,
             quiets: 0,
             lost_dials: 0,
@@ -68,14 +79,9 @@ impl<
 }
 
 impl<
-    R: Net<Listener = TcpListener, Stream = TcpStream>
-        + RandomSource
-        + Wait
-        + time::Clock
-        + Copy
-        + Send
-        + Drop,
-> Host for TcpHost<R> {
+    R: Net<Listener = TcpListener, Stream = TcpStream> + Wait + time::Clock + Copy + Send + Drop,
+    S: TryRng + Drop,
+> Host for TcpHost<R, S> {
     type In = TcpSource;
 
     type Out = TcpSink<R>;
@@ -136,14 +142,15 @@ impl<
         self.door.log(alloc, link)
     }
 
-    fn words(&mut self) -> Option<ChaCha20Rng> {
-        let mut seed = [0u8; 32];
-        match self.rt.fill_bytes(&mut seed) {
-            Ok(()) => Some(ChaCha20Rng::from_seed(seed)),
-            Err(_) => {
-                self.faults = self.faults.saturating_add(1);
-                None
-            }
+    fn words(&mut self) -> Option<ChaCha20Rng>
+        ensures failed { Counted self.old.faults self.new.faults (is_none result ≡ true) }
+        ensures others { (self.new.quiets ≡ self.old.quiets) × (self.new.lost_dials ≡ self.old.lost_dials) }
+        ensures seeded { IfSome result (λ words. (seed : List ℕ) × (words ≡ of_seed seed) × S.may_fill self.old.random seed self.new.random) }
+    {
+        let words = ChaCha20Rng::try_from_rng(&mut self.random).ok();
+        if words.is_none() {
+            self.faults = self.faults.saturating_add(1);
         }
+        words
     }
 }
