@@ -1,11 +1,13 @@
 -- What holds of a run by what its words ask for.
-use Rattle.std.proofs.Common.{◌≡◌, ◌∙◌, ◌||◌, ℕ, Bool, false, refl, sym, ap, subst, List, [], Option, Some, None, Result, Ok, Err, inl, inr, true≢false, true}
+use Rattle.std.proofs.Common.{◌≡◌, ◌∙◌, ◌⊎◌, ◌||◌, ℕ, Bool, false, refl, sym, ap, subst, List, [], Option, Some, None, Result, Ok, Err, inl, inr, true≢false, true}
 use Rattle.std.specs.Prelude.{IfSome, is_some}
 use Rattle.std.specs.List.{list_any}
 use Rattle.std.specs.Option.{option_map_or}
 use Rattle.zr_access.specs.Rules.{PolicyState, open_policy}
 use Rattle.clap.specs.Kinds.{Kinds}
 use Rattle.zr_netrun.specs.declared.options.NetOptions.{NetOptions}
+use Rattle.zr_netrun.specs.declared.status.Status.{Status}
+use Rattle.zr_netrun.specs.declared.status.Status.TheVariants as status
 use Rattle.zr_netrun.specs.declared.status.Status.TheVariants.{NoMemory}
 use Rattle.zr_netrun.specs.Clauses.{IsReported, IsSummedUp, OfRead, WritesAsAsked}
 use Rattle.zr_netrun.specs.Judged.{judged}
@@ -22,6 +24,7 @@ use Rattle.zr_rules.specs.declared.telling.RulesEnd.TheVariants as rules_end
 use Rattle.zr_rules.specs.declared.rules.RulesError.{RulesError}
 use Rattle.zr_rules.specs.declared.rules.RulesError.TheVariants as rules_error
 use Rattle.zr_top.specs.Asked.{Answers, HasRules, IsServingBy}
+use Rattle.zr_top.specs.Told.{IsUnhindered}
 use Rattle.zr_top.specs.Words.{asks_rules, reads_input}
 use Rattle.zr_top_words.specs.Asked.{Asked, Served, asked_of, net_of, net_part, serve_part, served_of}
 use Rattle.zr_top_words.specs.declared.plan.NetPlan.{NetPlan}
@@ -84,7 +87,7 @@ no_bytes (Some all) = ([], (all, refl, refl), tt)
 asked_none : (rules : Bool) (s : Served) (left : Option (List ℕ)) (Ended : Type 0) (calls : Option (List Call)) (told : Option (List LinkJob)) (faults : ℕ) (o : Outputs)
     → (given : Result PolicyState RulesError) × HasRules rules left left Ended given × Answers given s NoMemory calls calls told told faults faults o o
 asked_none false s left Ended calls told faults o =
-    (Ok open_policy, (refl, refl), record { how = end.NoMemory; end_is = refl; served = not_begun s.id s.log s.listen s.dials calls told faults o })
+    (Ok open_policy, (refl, refl), record { how = end.NoMemory; end_is = refl; served = not_begun s.id open_policy s.log s.listen s.dials calls told faults o })
 asked_none true s left Ended calls told faults o =
     (Err rules_error.NoMemory, no_bytes left, (refl, refl, refl, refl, (rules_end.NoMemory, refl, (refl, refl))))
 
@@ -99,6 +102,21 @@ no_router s left Ended calls told faults o =
 -- nothing is told of that but the end
 pub read_fault_kept : (e : RulesError) (how : RulesEnd) (err err' : Option (List ℕ)) → e ≡ rules_error.ReadFault → TellsRules e how err err' → how ≡ rules_end.ReadFault
 read_fault_kept e how err err' is h = (subst (λ (z : RulesError). TellsRules z how err err') is h).0
+
+-- ---- where nothing fails
+
+pub unhindered : (e : Status) (P Q R H : Type 0) → (e ≡ status.ReadFault → P) → (e ≡ status.WriteFault → Q ⊎ R) → (e ≡ status.HostFault → H) → (P → ⊥) → (Q → ⊥) → (R → ⊥) → (H → ⊥) → IsUnhindered e
+unhindered status.Done P Q R H read write host no_read no_out no_err no_host = tt
+unhindered status.Refused P Q R H read write host no_read no_out no_err no_host = tt
+unhindered status.Words P Q R H read write host no_read no_out no_err no_host = tt
+unhindered status.NoMemory P Q R H read write host no_read no_out no_err no_host = tt
+unhindered status.ReadFault P Q R H read write host no_read no_out no_err no_host = no_read (read refl)
+unhindered status.WriteFault P Q R H read write host no_read no_out no_err no_host = by (write refl)
+  where
+    by : Q ⊎ R → ⊥
+    by (inl q) = no_out q
+    by (inr r) = no_err r
+unhindered status.HostFault P Q R H read write host no_read no_out no_err no_host = no_host (host refl)
 
 -- ---- whether the input is read
 

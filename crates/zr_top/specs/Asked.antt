@@ -27,20 +27,20 @@ status_of_rules rules_end.NoMemory = status.NoMemory
 status_of_rules rules_end.ReadFault = status.ReadFault
 status_of_rules rules_end.WriteFault = status.WriteFault
 
--- A router was served as the words ask for, and ended so; or memory ran out before anything was done
-pub record IsServing (s : Served) (end : Status) (calls calls' : Option (List Call)) (told told' : Option (List LinkJob)) (faults faults' : ℕ) (o p : Outputs) : Type 0 where
+-- A router was served as the words ask for, under these rules, and ended so; or memory ran out before anything was done
+pub record IsServing (s : Served) (policy : PolicyState) (end : Status) (calls calls' : Option (List Call)) (told told' : Option (List LinkJob)) (faults faults' : ℕ) (o p : Outputs) : Type 0 where
   pub how : ServeEnd
   pub end_is : end ≡ status_of how
-  pub served : IsServed how s.id s.log s.listen s.dials calls calls' told told' faults faults' o p
+  pub served : IsServed how s.id policy s.log s.listen s.dials calls calls' told told' faults faults' o p
 
 -- which rules there are: none where none are asked for, and else those that the bytes of the input give, if they give some
 abbrev pub HasRules : Bool → Option (List ℕ) → Option (List ℕ) → Type 0 → Result PolicyState RulesError → Type 0
 HasRules false left left' Ended given = (given ≡ Ok open_policy) × (left' ≡ left)
 HasRules true left left' Ended given = OfBytes left left' (GivesRules Ended given)
 
--- with rules a router was served, and where the input gives none that was told, and nothing else was done
+-- with rules a router was served under them, and where the input gives none that was told, and nothing else was done
 abbrev pub Answers : Result PolicyState RulesError → Served → Status → Option (List Call) → Option (List Call) → Option (List LinkJob) → Option (List LinkJob) → ℕ → ℕ → Outputs → Outputs → Type 0
-Answers (Ok policy) s end calls calls' told told' faults faults' o p = IsServing s end calls calls' told told' faults faults' o p
+Answers (Ok policy) s end calls calls' told told' faults faults' o p = IsServing s policy end calls calls' told told' faults faults' o p
 Answers (Err e) s end calls calls' told told' faults faults' o p =
     (calls' ≡ calls) × (told' ≡ told) × (faults' ≡ faults) × (p.out ≡ o.out) × ((how : RulesEnd) × (end ≡ status_of_rules how) × TellsRules e how o.err p.err)
 

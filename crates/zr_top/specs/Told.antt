@@ -32,6 +32,16 @@ usage_text =
 abbrev pub TellsUsage : Option (List ℕ) → Option (List ℕ) → ℕ → ℕ → Type 0
 TellsUsage err err' faults faults' = Says usage_text err err' faults faults'
 
+-- the ends to which nothing that fails leads: all was done, a line or the words were refused, or memory ran out
+abbrev pub IsUnhindered : Status → Type 0
+IsUnhindered Done = Unit {0}
+IsUnhindered Refused = Unit {0}
+IsUnhindered Words = Unit {0}
+IsUnhindered NoMemory = Unit {0}
+IsUnhindered ReadFault = ⊥
+IsUnhindered WriteFault = ⊥
+IsUnhindered HostFault = ⊥
+
 -- what is said where the program could not do its work, and nothing where it has or where `run` has told why
 abbrev pub trouble_text : Status → List ℕ
 trouble_text Done = []

@@ -69,6 +69,8 @@ where
     ensures ended { is_some (served_of (map string_bytes words.now)) ≡ true → result ≡ Status.Done → Rose (H.ends host.old) (H.ends host.new) }
     ensures host { result ≡ Status.HostFault → Rose (H.faults host.old) (H.faults host.new) }
     ensures refused { result ≡ Status.Refused → reads_input (map string_bytes words.now) ≡ true }
+    ensures refused_told { is_some (served_of (map string_bytes words.now)) ≡ true → result ≡ Status.Refused → E.faults err.new ≡ E.faults err.old }
+    ensures untouched { (result ≡ Status.Refused → (host.new ≡ host.old) × (crew.new ≡ crew.old)) × (result ≡ Status.ReadFault → (host.new ≡ host.old) × (crew.new ≡ crew.old)) }
     ensures read { result ≡ Status.ReadFault → Rose (S.faults input.old) (S.faults input.new) }
     ensures read_told { S.faults input.old < S.faults input.new → result ≡ Status.ReadFault }
     ensures write { result ≡ Status.WriteFault → Rose (K.faults out.old) (K.faults out.new) ⊎ Rose (E.faults err.old) (E.faults err.new) }
@@ -125,7 +127,8 @@ where
     ensures read { result ≡ Status.ReadFault → Rose (S.faults input.old) (S.faults input.new) }
     ensures read_told { S.faults input.old < S.faults input.new → result ≡ Status.ReadFault }
     ensures write { result ≡ Status.WriteFault → Rose (K.faults out.old) (K.faults out.new) ⊎ Rose (E.faults err.old) (E.faults err.new) }
-    ensures refused { result ≡ Status.Refused → words.rules ≡ true }
+    ensures refused { result ≡ Status.Refused → (words.rules ≡ true) × (E.faults err.new ≡ E.faults err.old) }
+    ensures untouched { (result ≡ Status.Refused → (host.new ≡ host.old) × (crew.new ≡ crew.old)) × (result ≡ Status.ReadFault → (host.new ≡ host.old) × (crew.new ≡ crew.old)) }
     ensures unread { words.rules ≡ false → input.new ≡ input.old }
     ensures none { result ≡ Status.Words → ⊥ }
     ensures later { (S.faults input.old ≤ S.faults input.new) × (K.faults out.old ≤ K.faults out.new) × (E.faults err.old ≤ E.faults err.new) }
@@ -168,7 +171,7 @@ where
     H::Out: 'static,
     H::Time: 'static,
     H::Log: 'static,
-    ensures served { IsServing (served_as words) result (H.calls host.old) (H.calls host.new) (crew_told crew.old) (crew_told crew.new) (crew_faults crew.old) (crew_faults crew.new) (outputs (K.held out.old) (E.held err.old) (E.faults err.old)) (outputs (K.held out.new) (E.held err.new) (E.faults err.new)) }
+    ensures served { IsServing (served_as words) policy result (H.calls host.old) (H.calls host.new) (crew_told crew.old) (crew_told crew.new) (crew_faults crew.old) (crew_faults crew.new) (outputs (K.held out.old) (E.held err.old) (E.faults err.old)) (outputs (K.held out.new) (E.held err.new) (E.faults err.new)) }
     ensures ended { result ≡ Status.Done → Rose (H.ends host.old) (H.ends host.new) }
     ensures host { result ≡ Status.HostFault → Rose (H.faults host.old) (H.faults host.new) }
     ensures write { result ≡ Status.WriteFault → Rose (K.faults out.old) (K.faults out.new) ⊎ Rose (E.faults err.old) (E.faults err.new) }
@@ -198,6 +201,7 @@ fn status_of(end: ServeEnd) -> Status
 fn status_of_rules(end: RulesEnd) -> Status
     ensures is { result ≡ status_of_rules end }
     ensures none { (result ≡ Status.Done → ⊥) × (result ≡ Status.Words → ⊥) × (result ≡ Status.HostFault → ⊥) }
+    ensures refused { result ≡ Status.Refused → end ≡ RulesEnd.Refused }
     ensures read { result ≡ Status.ReadFault → end ≡ RulesEnd.ReadFault }
     ensures write { result ≡ Status.WriteFault → end ≡ RulesEnd.WriteFault }
 {

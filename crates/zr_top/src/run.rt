@@ -23,7 +23,7 @@ ghost use Rattle.zr_outside_crew.specs.Crew.{crew_faults, crew_told};
 ghost use Rattle.zr_serve.specs.Serving.{outputs};
 ghost use Rattle.zr_top.specs.Asked.{IsServingBy};
 ghost use Rattle.zr_make.specs.Script.{script, text_of};
-ghost use Rattle.zr_top.specs.Told.{IsTold, IsWritten, TellsUsage};
+ghost use Rattle.zr_top.specs.Told.{IsTold, IsWritten, TellsUsage, IsUnhindered};
 ghost use Rattle.zr_top.specs.Words.{is_net, options_by, reads_input};
 ghost use Rattle.zr_top_words.specs.Asked.{made_of, net_of, served_of};
 ghost use Rattle.zr_top_words.specs.Forms.{FormsAreTaken};
@@ -89,10 +89,12 @@ use zr_tree::laws::{distances_are_of_shortest_walks, records_make_graphs};
 /// it is free, or asked, or kept with some replies on their way back, or ended with the final behind them; and each reply and each final that a client was sent
 /// is that of its query of that turn (`answers`).
 ///
-/// The clause `served` says which rules were read, what was called of the host, which jobs the crew started, and what was written, where a router was served. The clause
+/// The clause `served` says which rules were read, and where a router was served under them, what was called of the host, which jobs the crew started, and what
+/// was written. Where the rules are refused, or can't be read, the host and the crew are as they were (`untouched`). The clause
 /// `made` says which text was written, where a script was made: all of it at `Done`, and else a prefix. Where `clap` may answer with help or the version,
 /// that is told whole, or else in part, or the words are wrong (`helped`).
 /// With all other words than those of `serve` the host and the crew are as they were (`unserved`), and with all other words than those of `net` and of `serve` with `--rules` the input is (`unread`).
+/// Where nothing outside fails, all was done, a line or the words were refused, or memory ran out (`complete`).
 pub fn run<
     S: Source,
     K: Sink,
@@ -144,9 +146,12 @@ where
     ensures ended { is_some (served_of (map string_bytes words.now)) ≡ true → result ≡ Status.Done → Rose (H.ends host.old) (H.ends host.new) }
     ensures host { result ≡ Status.HostFault → Rose (H.faults host.old) (H.faults host.new) }
     ensures refused { result ≡ Status.Refused → reads_input (map string_bytes words.now) ≡ true }
+    ensures refused_told { is_some (served_of (map string_bytes words.now)) ≡ true → result ≡ Status.Refused → E.faults err.new ≡ E.faults err.old }
+    ensures untouched { (result ≡ Status.Refused → (host.new ≡ host.old) × (crew.new ≡ crew.old)) × (result ≡ Status.ReadFault → (host.new ≡ host.old) × (crew.new ≡ crew.old)) }
     ensures read { result ≡ Status.ReadFault → Rose (S.faults input.old) (S.faults input.new) }
     ensures read_told { S.faults input.old < S.faults input.new → result ≡ Status.ReadFault }
     ensures write { result ≡ Status.WriteFault → Rose (K.faults out.old) (K.faults out.new) ⊎ Rose (E.faults err.old) (E.faults err.new) }
+    ensures complete { (Rose (S.faults input.old) (S.faults input.new) → ⊥) → (Rose (K.faults out.old) (K.faults out.new) → ⊥) → (Rose (E.faults err.old) (E.faults err.new) → ⊥) → (Rose (H.faults host.old) (H.faults host.new) → ⊥) → IsUnhindered result }
     ensures words { (result ≡ Status.Words → IsWrong (map string_bytes words.now)) × (IsRefused (map string_bytes words.now) → (result ≡ Status.Words) ⊎ (result ≡ Status.NoMemory)) }
     ensures forms { FormsAreTaken }
     ensures input_later { S.faults input.old ≤ S.faults input.new }

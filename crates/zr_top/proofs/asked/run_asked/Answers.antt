@@ -34,4 +34,4 @@ returns-in-Ok-Serve-clause-unread g c none =
 
 pub returns-in-Ok-Serve-clause-refused : goal.returns-in-Ok-Serve-clause-refused
 returns-in-Ok-Serve-clause-refused g c it =
-    serve_plan_reads _ _ _ c.in-Ok-Serve.ensures.net c.in-Ok-Serve.ensures.serve c.in-Ok-Serve.field-0-is ∙ c.serve.ensures.refused it
+    serve_plan_reads _ _ _ c.in-Ok-Serve.ensures.net c.in-Ok-Serve.ensures.serve c.in-Ok-Serve.field-0-is ∙ (c.serve.ensures.refused it).0
