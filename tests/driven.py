@@ -271,9 +271,16 @@ def reason(text):
 
 def sure_put(key, payload):
     """A sample that may not be dropped."""
-    put = pubsub.put(key, payload)
+    return sure(pubsub.put(key, payload), key)
+
+
+def sure_delete(key):
+    return sure(pubsub.delete(key), key)
+
+
+def sure(push, key):
     body = 2 + len(pubsub.string(key.encode()))
-    return bytes([put[0] | pubsub.EXTENDED]) + put[1:body] + QOS + put[body:]
+    return bytes([push[0] | pubsub.EXTENDED]) + push[1:body] + QOS + push[body:]
 
 
 def send_at_once(session, messages):
