@@ -4,18 +4,19 @@ use Rattle.std.specs.declared.cmp.Ordering.{Ordering}
 use Rattle.std.specs.Ordering.{nat_cmp, on, then_cmp}
 use Rattle.zr_msg.specs.declared.decl.Decl.{Decl}
 use Rattle.zr_msg.specs.declared.decl.Kind.{Kind}
-use Rattle.zr_msg.specs.declared.decl.Kind.TheVariants.{Sub, Able, Full}
+use Rattle.zr_msg.specs.declared.decl.Kind.TheVariants.{Sub, Able, Full, Token}
 use Rattle.zr_lists.specs.Ascending.{IsAscending, at_key, put, without}
 use Rattle.zr_log_set.specs.Decls.{has, set_of, weight, most_weight}
 use Rattle.zr_local.specs.declared.error.LocalError.{LocalError}
 use Rattle.zr_local.specs.declared.error.LocalError.TheVariants.{UnknownId, TextLimit, NoMemory}
 use Rattle.zr_local.specs.declared.row.Row.{Row}
 
--- a subscriber has an id of its own kind, and so has a queryable, complete or not: subscribers come first
+-- a subscriber has an id of its own kind, and so has a queryable, complete or not, and a token: in this order
 abbrev pub id_kind : Kind → ℕ
 id_kind Sub = 0
 id_kind Able = 1
 id_kind Full = 1
+id_kind Token = 2
 
 -- under what a client has declared: its link, the kind of the id, and the id
 pub record Key : Type 0 where

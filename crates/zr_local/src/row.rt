@@ -21,7 +21,7 @@ pub struct Row {
     pub decl: Decl,
 }
 
-/// Under what a client has declared. A subscriber and a queryable may have the same id.
+/// Under what a client has declared. A subscriber, a queryable and a token may have the same id.
 #[derive(Clone, Copy)]
 pub struct Key {
     link: u32,
@@ -48,6 +48,7 @@ fn id_kind(kind: Kind) -> u32
     match kind {
         Kind::Sub => 0,
         Kind::Able | Kind::Full => 1,
+        Kind::Token => 2,
     }
 }
 

@@ -13,7 +13,7 @@ use Rattle.std.proofs.lemmas.Map.Lookups.{exact_bytes, exact_unsigned}
 use Rattle.zr_msg.specs.Decl.{kind_rank, decl_cmp}
 use Rattle.zr_msg.specs.declared.decl.Decl.{Decl}
 use Rattle.zr_msg.specs.declared.decl.Kind.{Kind}
-use Rattle.zr_msg.specs.declared.decl.Kind.TheVariants.{Sub, Able, Full}
+use Rattle.zr_msg.specs.declared.decl.Kind.TheVariants.{Sub, Able, Full, Token}
 use Rattle.zr_lists.specs.Ascending.{at_key, before_key, behind_key}
 use Rattle.zr_log_set.specs.Decls.{is_decl, IsSet, has, with_decl, without_decl, set_of, decl_weight, weight}
 use Rattle.zr_lists.specs.Place.{IsAt, IsGap, IsPlace}
@@ -26,12 +26,19 @@ rank_is : (a b : Kind) → kind_rank a ≡ kind_rank b → a ≡ b
 rank_is Sub Sub h = refl
 rank_is Sub Able h = absurd (omega arith)
 rank_is Sub Full h = absurd (omega arith)
+rank_is Sub Token h = absurd (omega arith)
 rank_is Able Sub h = absurd (omega arith)
 rank_is Able Able h = refl
 rank_is Able Full h = absurd (omega arith)
+rank_is Able Token h = absurd (omega arith)
 rank_is Full Sub h = absurd (omega arith)
 rank_is Full Able h = absurd (omega arith)
 rank_is Full Full h = refl
+rank_is Full Token h = absurd (omega arith)
+rank_is Token Sub h = absurd (omega arith)
+rank_is Token Able h = absurd (omega arith)
+rank_is Token Full h = absurd (omega arith)
+rank_is Token Token h = refl
 
 decl_is : (a b : Decl) → a.kind ≡ b.kind → a.key ≡ b.key → a ≡ b
 decl_is a b p q = λ i. record { kind = p i; key = q i }

@@ -17,6 +17,8 @@ pub enum Kind {
     Able,
     /// A complete queryable: what it answers on its expression is all that there is.
     Full,
+    /// A liveliness token: it is there as long as the client is that declared it.
+    Token,
 }
 
 /// A declaration. Declarations are ordered by their kinds, and then by the bytes of their keys.

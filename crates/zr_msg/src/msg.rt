@@ -64,6 +64,15 @@ pub enum Msg {
     Unsub {
         id: u32,
     },
+    /// A client declares a liveliness token on an expression, under an id of its own.
+    Token {
+        id: u32,
+        key: KeyExpr,
+    },
+    /// A client takes back the token that it declared under the id.
+    Untoken {
+        id: u32,
+    },
     /// A client answers requests on an expression, under an id of its own.
     Able {
         id: u32,
@@ -106,6 +115,16 @@ pub enum Msg {
     },
     /// A client is told that a queryable is gone.
     ToldUnable {
+        id: u32,
+    },
+    /// A client is told of a liveliness token, in answer to an interest where it has one.
+    ToldToken {
+        id: u32,
+        key: KeyExpr,
+        interest: Option<u32>,
+    },
+    /// A client is told that a liveliness token is gone.
+    ToldUntoken {
         id: u32,
     },
     /// A client was told all that is declared now.
@@ -159,6 +178,8 @@ impl Drop for Msg {
         match self {
             Self::Sub { id: _id, key: _key } => (),
             Self::Unsub { id: _id } => (),
+            Self::Token { id: _id, key: _key } => (),
+            Self::Untoken { id: _id } => (),
             Self::Able {
                 id: _id,
                 key: _key,
@@ -187,6 +208,12 @@ impl Drop for Msg {
             } => (),
             Self::ToldUnsub { id: _id } => (),
             Self::ToldUnable { id: _id } => (),
+            Self::ToldToken {
+                id: _id,
+                key: _key,
+                interest: _interest,
+            } => (),
+            Self::ToldUntoken { id: _id } => (),
             Self::ToldEnd {
                 interest: _interest,
             } => (),
@@ -232,6 +259,8 @@ impl Msg {
         match self {
             Msg::Sub { .. }
             | Msg::Unsub { .. }
+            | Msg::Token { .. }
+            | Msg::Untoken { .. }
             | Msg::Able { .. }
             | Msg::Unable { .. }
             | Msg::Interest { .. }
@@ -240,6 +269,8 @@ impl Msg {
             | Msg::ToldAble { .. }
             | Msg::ToldUnsub { .. }
             | Msg::ToldUnable { .. }
+            | Msg::ToldToken { .. }
+            | Msg::ToldUntoken { .. }
             | Msg::ToldEnd { .. } => Group::Told,
             Msg::Push { .. } | Msg::Request { .. } | Msg::Response { .. } | Msg::Final { .. } => {
                 Group::Routed
@@ -270,6 +301,11 @@ impl Msg {
                 key: key.copy(alloc)?,
             },
             Msg::Unsub { id } => Msg::Unsub { id: *id },
+            Msg::Token { id, key } => Msg::Token {
+                id: *id,
+                key: key.copy(alloc)?,
+            },
+            Msg::Untoken { id } => Msg::Untoken { id: *id },
             Msg::Able { id, key, complete } => Msg::Able {
                 id: *id,
                 key: key.copy(alloc)?,
@@ -319,6 +355,12 @@ impl Msg {
             },
             Msg::ToldUnsub { id } => Msg::ToldUnsub { id: *id },
             Msg::ToldUnable { id } => Msg::ToldUnable { id: *id },
+            Msg::ToldToken { id, key, interest } => Msg::ToldToken {
+                id: *id,
+                key: key.copy(alloc)?,
+                interest: *interest,
+            },
+            Msg::ToldUntoken { id } => Msg::ToldUntoken { id: *id },
             Msg::ToldEnd { interest } => Msg::ToldEnd {
                 interest: *interest,
             },

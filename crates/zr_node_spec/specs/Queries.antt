@@ -11,7 +11,7 @@ use Rattle.zr_msg.specs.Extras.{no_extras}
 use Rattle.zr_msg.specs.declared.content.Parts.{Parts}
 use Rattle.zr_msg.specs.declared.decl.Decl.{Decl}
 use Rattle.zr_msg.specs.declared.decl.Kind.{Kind}
-use Rattle.zr_msg.specs.declared.decl.Kind.TheVariants.{Sub, Able, Full}
+use Rattle.zr_msg.specs.declared.decl.Kind.TheVariants.{Sub, Able, Full, Token}
 use Rattle.zr_msg.specs.declared.extras.Extras.{Extras}
 use Rattle.zr_msg.specs.declared.msg.Msg.{Msg}
 use Rattle.zr_msg.specs.declared.msg.Msg.TheVariants.{Request, Response, Final}
@@ -36,11 +36,13 @@ abbrev pub is_queryable : Kind → Bool
 is_queryable Sub = false
 is_queryable Able = true
 is_queryable Full = true
+is_queryable Token = false
 
 abbrev pub is_complete : Kind → Bool
 is_complete Sub = false
 is_complete Able = false
 is_complete Full = true
+is_complete Token = false
 
 -- a declared queryable can answer a request on a key: it meets the key; of complete ones alone, it is complete and covers the key
 abbrev pub can_answer : Target → List ℕ → Decl → Bool

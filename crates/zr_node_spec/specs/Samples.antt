@@ -8,7 +8,7 @@ use Rattle.zr_match.specs.Table.{texts_meet}
 use Rattle.zr_msg.specs.declared.content.Parts.{Parts}
 use Rattle.zr_msg.specs.declared.decl.Decl.{Decl}
 use Rattle.zr_msg.specs.declared.decl.Kind.{Kind}
-use Rattle.zr_msg.specs.declared.decl.Kind.TheVariants.{Sub, Able, Full}
+use Rattle.zr_msg.specs.declared.decl.Kind.TheVariants.{Sub, Able, Full, Token}
 use Rattle.zr_msg.specs.declared.msg.Msg.{Msg}
 use Rattle.zr_msg.specs.declared.msg.Msg.TheVariants.{Push}
 use Rattle.zr_msg.specs.declared.peer.LinkPeer.{LinkPeer}
@@ -25,6 +25,7 @@ abbrev pub is_subscriber : Kind → Bool
 is_subscriber Sub = true
 is_subscriber Able = false
 is_subscriber Full = false
+is_subscriber Token = false
 
 -- a declaration subscribes to an expression that meets the key: some key is matched by both
 abbrev pub is_for : List ℕ → Decl → Bool

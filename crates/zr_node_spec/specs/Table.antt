@@ -13,7 +13,7 @@ use Rattle.zr_msg.specs.declared.decl.Decl.{Decl}
 use Rattle.zr_msg.specs.declared.decl.Kind.{Kind}
 use Rattle.zr_msg.specs.declared.decl.Kind.TheVariants as kind
 use Rattle.zr_msg.specs.declared.msg.Msg.{Msg}
-use Rattle.zr_msg.specs.declared.msg.Msg.TheVariants.{Sub, Unsub, Able, Unable, Interest, EndInterest, ToldSub, ToldAble, ToldUnsub, ToldUnable, ToldEnd, Push, Request, Response, Final, State, Step, Snap}
+use Rattle.zr_msg.specs.declared.msg.Msg.TheVariants.{Sub, Unsub, Token, Untoken, Able, Unable, Interest, EndInterest, ToldSub, ToldAble, ToldUnsub, ToldToken, ToldUntoken, ToldUnable, ToldEnd, Push, Request, Response, Final, State, Step, Snap}
 use Rattle.zr_msg.specs.declared.error.NodeError.{NodeError}
 use Rattle.zr_msg.specs.declared.error.NodeError.TheVariants as e
 use Rattle.zr_msg.specs.declared.event.Event.{Event}
@@ -193,13 +193,17 @@ sends_state node from told to =
 abbrev pub sends_from : NodeState → ℕ → Msg → ℕ → List Msg
 sends_from node from (Sub id key) to = sends_rows node (rows_declared node from (row from id kind.Sub key)) to
 sends_from node from (Unsub id) to = sends_rows node (rows_undeclared node from (key_of from id kind.Sub)) to
+sends_from node from (Token id key) to = sends_rows node (rows_declared node from (row from id kind.Token key)) to
+sends_from node from (Untoken id) to = sends_rows node (rows_undeclared node from (key_of from id kind.Token)) to
 sends_from node from (Able id key complete) to = sends_rows node (rows_declared node from (row from id (able_kind complete) key)) to
 sends_from node from (Unable id) to = sends_rows node (rows_undeclared node from (key_of from id kind.Able)) to
 sends_from node from (Interest id current future kinds key aggregate) to = []
 sends_from node from (EndInterest id) to = []
 sends_from node from (ToldSub id key interest) to = []
+sends_from node from (ToldToken id key interest) to = []
 sends_from node from (ToldAble id key complete interest) to = []
 sends_from node from (ToldUnsub id) to = []
+sends_from node from (ToldUntoken id) to = []
 sends_from node from (ToldUnable id) to = []
 sends_from node from (ToldEnd interest) to = []
 sends_from node from (Push tree content) to = sends_push (tables node) from tree content to
@@ -255,14 +259,18 @@ known_snap node from source number decls = if leads_to_router node.links from th
 abbrev pub after_from : NodeState → ℕ → Msg → NodeState
 after_from node from (Sub id key) = with_rows node (rows_declared node from (row from id kind.Sub key))
 after_from node from (Unsub id) = with_rows node (rows_undeclared node from (key_of from id kind.Sub))
+after_from node from (Token id key) = with_rows node (rows_declared node from (row from id kind.Token key))
+after_from node from (Untoken id) = with_rows node (rows_undeclared node from (key_of from id kind.Token))
 after_from node from (Able id key complete) = with_rows node (rows_declared node from (row from id (able_kind complete) key))
 after_from node from (Unable id) = with_rows node (rows_undeclared node from (key_of from id kind.Able))
 after_from node from (Interest id current future kinds key aggregate) =
     with_clients node (clients_noted node from id (live future (record { id = id; kinds = kinds; key = key; aggregate = aggregate })))
 after_from node from (EndInterest id) = with_clients node (clients_noted node from id None)
 after_from node from (ToldSub id key interest) = node
+after_from node from (ToldToken id key interest) = node
 after_from node from (ToldAble id key complete interest) = node
 after_from node from (ToldUnsub id) = node
+after_from node from (ToldUntoken id) = node
 after_from node from (ToldUnable id) = node
 after_from node from (ToldEnd interest) = node
 after_from node from (Push tree content) = node
@@ -392,14 +400,18 @@ refuses_request node from id links =
 abbrev pub refuses_from : NodeState → ℕ → Msg → Option NodeError
 refuses_from node from (Sub id key) = refuses_declared node from (row from id kind.Sub key)
 refuses_from node from (Unsub id) = refuses_undeclared node from (key_of from id kind.Sub)
+refuses_from node from (Token id key) = refuses_declared node from (row from id kind.Token key)
+refuses_from node from (Untoken id) = refuses_undeclared node from (key_of from id kind.Token)
 refuses_from node from (Able id key complete) = refuses_declared node from (row from id (able_kind complete) key)
 refuses_from node from (Unable id) = refuses_undeclared node from (key_of from id kind.Able)
 refuses_from node from (Interest id current future kinds key aggregate) =
     refuses_noted node from id (live future (record { id = id; kinds = kinds; key = key; aggregate = aggregate }))
 refuses_from node from (EndInterest id) = None
 refuses_from node from (ToldSub id key interest) = None
+refuses_from node from (ToldToken id key interest) = None
 refuses_from node from (ToldAble id key complete interest) = None
 refuses_from node from (ToldUnsub id) = None
+refuses_from node from (ToldUntoken id) = None
 refuses_from node from (ToldUnable id) = None
 refuses_from node from (ToldEnd interest) = None
 refuses_from node from (Push tree content) = None

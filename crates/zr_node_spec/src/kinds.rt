@@ -18,7 +18,7 @@ pub fn is_complete(kind: Kind) -> bool
     ensures { result ≡ is_complete kind }
 {
     match kind {
-        Kind::Sub | Kind::Able => false,
+        Kind::Sub | Kind::Able | Kind::Token => false,
         Kind::Full => true,
     }
 }

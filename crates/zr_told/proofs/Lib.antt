@@ -13,3 +13,5 @@ pub mod Changed
 pub mod Found
 pub mod Links
 pub mod Lasting
+pub mod Alike
+pub mod Tallied

@@ -2,3 +2,4 @@ pub mod Ids
 pub mod Plan
 pub mod Calls
 pub mod Laws
+pub mod Tokens

@@ -381,6 +381,7 @@ fn undeclares(id: u32, class: Class) -> Msg
     match class {
         Class::Subscriber => Msg::ToldUnsub { id },
         Class::Queryable => Msg::ToldUnable { id },
+        Class::Living => Msg::ToldUntoken { id },
     }
 }
 
@@ -402,5 +403,6 @@ fn declares(
             complete,
             interest,
         },
+        Class::Living => Msg::ToldToken { id, key, interest },
     })
 }

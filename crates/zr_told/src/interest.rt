@@ -12,7 +12,7 @@ use zr_key::key::KeyExpr;
 use zr_local::interest::Interest;
 use zr_match::meets;
 use zr_msg::decl::Decl;
-use zr_msg::msg::{Kinds, QUERYABLES, SUBSCRIBERS};
+use zr_msg::msg::{Kinds, QUERYABLES, SUBSCRIBERS, TOKENS};
 use zr_told_spec::place::{Class, Place};
 
 /// Whether an interest is in what is declared at a place.
@@ -55,12 +55,14 @@ fn told_key<'a>(interest: &'a Interest, key: &'a KeyExpr) -> &'a KeyExpr
     key
 }
 
-fn asks(kinds: Kinds, class: Class) -> bool
+/// Whether an interest is in declarations of a class.
+pub fn asks(kinds: Kinds, class: Class) -> bool
     ensures { result ≡ asks kinds class }
 {
     match class {
         Class::Subscriber => kinds.0 & SUBSCRIBERS != 0,
         Class::Queryable => kinds.0 & QUERYABLES != 0,
+        Class::Living => kinds.0 & TOKENS != 0,
     }
 }
 

@@ -13,5 +13,6 @@ mod others;
 pub mod place;
 mod plan;
 mod search;
+mod tokens;
 pub mod told;
 mod touched;

@@ -1,7 +1,7 @@
 //! Where declarations stand.
 
 ghost use Rattle.std.specs.Prelude.{◌≡◌, IfOk};
-ghost use Rattle.zr_told_spec.specs.Place.{same, class_of, place_of};
+ghost use Rattle.zr_told_spec.specs.Place.{same, class_of, is_token, place_of};
 
 use std::alloc::{AllocError, Global};
 use zr_key::key::KeyExpr;
@@ -15,6 +15,17 @@ pub fn class_of(kind: Kind) -> Class
     match kind {
         Kind::Sub => Class::Subscriber,
         Kind::Able | Kind::Full => Class::Queryable,
+        Kind::Token => Class::Living,
+    }
+}
+
+/// Whether a declaration is of a token.
+pub fn is_token(kind: Kind) -> bool
+    ensures { result ≡ is_token kind }
+{
+    match kind {
+        Kind::Sub | Kind::Able | Kind::Full => false,
+        Kind::Token => true,
     }
 }
 

@@ -18,6 +18,7 @@ use crate::error::ToldError;
 use crate::marks::wanted_places;
 use crate::others::others;
 use crate::plan::{LinkPlan, plan_at, plan_of};
+use crate::tokens::others_for;
 use crate::touched::is_touched;
 use std::alloc::{AllocError, Global};
 use std::collections::BTreeMap;
@@ -80,7 +81,8 @@ impl Told {
 
     /// The client of a link has a new interest, `current` where it is in what is declared now, and `future` where it is in what is declared later.
     /// `interests` are its live ones after it: the new one is among them where it is in what is declared later, and else none of its id is.
-    /// `tables` are those after the event. Cost: a copy of what others declare.
+    /// `tables` are those after the event. Cost: a copy of what others declare; where the new interest is in tokens that are declared now, each
+    /// of their keys is copied once more.
     pub fn interest(
         &mut self,
         alloc: Global,
@@ -95,7 +97,7 @@ impl Told {
         requires noted { IsNoted future interest.now interests.now }
         ensures { HasTold (lacks_ids (others tables.now link.0) interests.now) (sent_on link (tells_interest current future (others tables.now link.0) interests.now interest.now (map_on self.old link.0))) (λ k. if link.0 == k then told_interest future (others tables.now link.0) interests.now interest.now (map_on self.old link.0) else map_on self.old k) result self.old self.new out.old.items out.new.items }
     {
-        let others = others(alloc, tables, link)?;
+        let others = others_for(alloc, tables, link, interest, current)?;
         self.interest_among(
             alloc, &others, link, interests, interest, current, future, out,
         )

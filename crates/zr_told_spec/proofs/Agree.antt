@@ -16,7 +16,7 @@ use Rattle.zr_told_spec.specs.Wanted.{Wanted}
 use Rattle.zr_told_spec.specs.Told.{ToldMap, at, is_used, free_id, id_at, id_for, declares, undeclares, undeclared, declared, entered, is_in, kept, gone, fresh, retell, retold, Heard, with_number, without_number, hear}
 use Rattle.zr_told_spec.specs.declared.entry.Entry.{Entry}
 use Rattle.zr_told_spec.specs.declared.place.Class.{Class}
-use Rattle.zr_told_spec.specs.declared.place.Class.TheVariants.{Subscriber, Queryable}
+use Rattle.zr_told_spec.specs.declared.place.Class.TheVariants.{Subscriber, Queryable, Living}
 use Rattle.zr_told_spec.specs.declared.place.Place.{Place}
 use Rattle.zr_told_spec.specs.Laws.{Agrees}
 use Rattle.zr_told_spec.proofs.Places.{same_is, same_at, at_put}
@@ -27,8 +27,9 @@ use Rattle.zr_told_spec.proofs.Free.{free_is_least_id}
 un_hears : (t : Heard) (id : ℕ) (c : Class) → hear t (undeclares id c) ≡ without_number t id
 un_hears t id Subscriber = refl
 un_hears t id Queryable = refl
+un_hears t id Living = refl
 
--- a message says of a place all that is to be told: of a subscriber there is no completeness to tell
+-- a message says of a place all that is to be told: of subscribers and tokens there is no completeness to tell
 abbrev pub Says : Place × Bool → Type 0
 Says w = (t : Heard) (id : ℕ) (interest : Option ℕ) → hear t (declares id w.0.class w.0.key w.1 interest) ≡ with_number t id w.0 w.1
 

@@ -1,4 +1,4 @@
--- How much may be wanted: no more than the declarations, and two places for each interest that is told of all as one.
+-- How much may be wanted: no more than the declarations, and three places for each interest that is told of all as one.
 use Rattle.std.proofs.Common.{◌≡◌, ℕ, ◌*◌, ◌≤◌, ◌&&◌, ◌||◌, Bool, true, false, cond, List, [], ◌∷◌, ◌++◌, length, map, refl, sym, ap, ◌∙◌, arith}
 use Rattle.std.specs.declared.option.Option.{Option}
 use Rattle.std.specs.declared.option.Option.TheVariants.{None, Some}
@@ -17,7 +17,7 @@ use Rattle.zr_told_spec.specs.Laws.{FewAreWanted}
 use Rattle.zr_told_spec.specs.Place.{place_cmp, place_of, same}
 use Rattle.zr_told_spec.specs.Wanted.{asked, fits, told_as, wanted, wants}
 use Rattle.zr_told_spec.specs.declared.place.Class.{Class}
-use Rattle.zr_told_spec.specs.declared.place.Class.TheVariants.{Subscriber, Queryable}
+use Rattle.zr_told_spec.specs.declared.place.Class.TheVariants.{Subscriber, Queryable, Living}
 use Rattle.zr_told_spec.specs.declared.place.Place.{Place}
 use Rattle.std.proofs.lemmas.List.Folds.{list_any-append}
 use Rattle.zr_told_spec.proofs.Places.{same_equiv}
@@ -26,7 +26,7 @@ use Rattle.zr_told_spec.proofs.Wants.{wanted_in}
 
 -- the places under an interest's own key
 abbrev own : Interest → List Place
-own i = record { class = Subscriber; key = unwrap_or i.key [] } ∷ record { class = Queryable; key = unwrap_or i.key [] } ∷ []
+own i = record { class = Subscriber; key = unwrap_or i.key [] } ∷ record { class = Queryable; key = unwrap_or i.key [] } ∷ record { class = Living; key = unwrap_or i.key [] } ∷ []
 
 abbrev places : List Decl → List Place
 places ds = map (λ d. place_of d) ds
@@ -43,6 +43,7 @@ there_or_own i p q h = by i.aggregate i.key refl h
     of_class : (k : List ℕ) (c : Class) → i.key ≡ Some k → same q (record { class = c; key = k }) ≡ true → list_any (same q) (own i) ≡ true
     of_class k Subscriber e g = or_left _ _ (ap (λ (o : Option (List ℕ)). same q (record { class = Subscriber; key = unwrap_or o [] })) e ∙ g)
     of_class k Queryable e g = or_right _ _ (or_left _ _ (ap (λ (o : Option (List ℕ)). same q (record { class = Queryable; key = unwrap_or o [] })) e ∙ g))
+    of_class k Living e g = or_right _ _ (or_right _ _ (or_left _ _ (ap (λ (o : Option (List ℕ)). same q (record { class = Living; key = unwrap_or o [] })) e ∙ g)))
 
     by : (a : Bool) (o : Option (List ℕ)) → i.key ≡ o → same q (record { class = p.class; key = cond a (unwrap_or o p.key) p.key }) ≡ true → (same q p || list_any (same q) (own i)) ≡ true
     by true None e g = or_left (same q p) _ g
@@ -93,13 +94,13 @@ wants_there ds q (i ∷ is) h = by (wants_there ds q is) (asked ds i q) refl h
 
 -- ---- the law
 
-twice : (is : List Interest) → length (flat_map own is) ≡ 2 * length is
-twice [] = refl
-twice (i ∷ is) = let h = twice is in omega (arith, h)
+thrice : (is : List Interest) → length (flat_map own is) ≡ 3 * length is
+thrice [] = refl
+thrice (i ∷ is) = let h = thrice is in omega (arith, h)
 
 pub few_are_wanted : FewAreWanted
 few_are_wanted ds is =
     let le : length (keys_of (wanted ds is)) ≤ length (places ds ++ flat_map own is) =
     length-le_from_is_member same_equiv (keys_of (wanted ds is)) (places ds ++ flat_map own is) (IsDistinct-from_sorted place_cmp _ (wanted_ascends ds is))
     (λ q k. list_any-append (same q) (places ds) (flat_map own is) ∙ wants_there ds q is (sym (wanted_in ds is q) ∙ is_some-lookup (same q) (wanted ds is) ∙ k)) in
-    omega (arith, le, length-keys_of (wanted ds is), length-append (places ds) (flat_map own is), length-map ds (λ d. place_of d), twice is)
+    omega (arith, le, length-keys_of (wanted ds is), length-append (places ds) (flat_map own is), length-map ds (λ d. place_of d), thrice is)

@@ -10,17 +10,26 @@ use Rattle.std.specs.BTreeMap.{insert_entry}
 use Rattle.std.specs.declared.option.Option.TheVariants.{Some}
 use Rattle.std.proofs.lemmas.Map.Lookups.{exact_unsigned, exact_bytes}
 use Rattle.std.proofs.lemmas.Cmp.{eq_by_cmp_equiv}
+use Rattle.std.proofs.lemmas.Bool.{false≢true}
 use Rattle.zr_lists.proofs.Order.{IsExactOrder, is_same}
-use Rattle.zr_told_spec.specs.Place.{place_cmp, same, class_rank}
+use Rattle.zr_msg.specs.declared.decl.Decl.{Decl}
+use Rattle.zr_msg.specs.declared.decl.Kind.{Kind}
+use Rattle.zr_msg.specs.declared.decl.Kind.TheVariants as k
+use Rattle.zr_told_spec.specs.Place.{place_cmp, same, class_rank, is_token, token_on}
 use Rattle.zr_told_spec.specs.declared.place.Class.{Class}
-use Rattle.zr_told_spec.specs.declared.place.Class.TheVariants.{Subscriber, Queryable}
+use Rattle.zr_told_spec.specs.declared.place.Class.TheVariants.{Subscriber, Queryable, Living}
 use Rattle.zr_told_spec.specs.declared.place.Place.{Place}
 
-rank_is : (a b : Class) → class_rank a ≡ class_rank b → a ≡ b
+pub rank_is : (a b : Class) → class_rank a ≡ class_rank b → a ≡ b
 rank_is Subscriber Subscriber h = refl
 rank_is Subscriber Queryable h = absurd (omega arith)
 rank_is Queryable Subscriber h = absurd (omega arith)
 rank_is Queryable Queryable h = refl
+rank_is Subscriber Living h = absurd (omega arith)
+rank_is Queryable Living h = absurd (omega arith)
+rank_is Living Subscriber h = absurd (omega arith)
+rank_is Living Queryable h = absurd (omega arith)
+rank_is Living Living h = refl
 
 place_is : (p q : Place) → p.class ≡ q.class → p.key ≡ q.key → p ≡ q
 place_is p q c k = λ i. record { class = c i; key = k i }
@@ -75,3 +84,15 @@ at_put {X} (e ∷ es) k v p = by (place_cmp k e.0) refl (at_put es k v p)
         apart true a false b = refl
         apart false a true b = refl
         apart false a false b = refl
+
+-- ---- tokens
+
+-- a token is what its key says
+pub token_is : (d : Decl) → is_token d.kind ≡ true → token_on d.key ≡ d
+token_is d h = by d.kind refl h
+  where
+    by : (kind : Kind) → d.kind ≡ kind → is_token kind ≡ true → token_on d.key ≡ d
+    by k.Sub e h = absurd (false≢true h)
+    by k.Able e h = absurd (false≢true h)
+    by k.Full e h = absurd (false≢true h)
+    by k.Token e h = λ t. record { kind = sym e t; key = d.key }

@@ -16,7 +16,7 @@ use Rattle.zr_msg.specs.declared.event.Event.TheVariants.{Up, Down, From}
 use Rattle.zr_msg.specs.declared.extras.Extras.{Extras}
 use Rattle.zr_msg.specs.declared.msg.Msg.{Msg}
 use Rattle.zr_msg.specs.declared.msg.Target.{Target}
-use Rattle.zr_msg.specs.declared.msg.Msg.TheVariants.{Sub, Unsub, Able, Unable, Interest, EndInterest, ToldSub, ToldAble, ToldUnsub, ToldUnable, ToldEnd, Push, Request, Response, Final, State, Step, Snap}
+use Rattle.zr_msg.specs.declared.msg.Msg.TheVariants.{Sub, Unsub, Token, Untoken, Able, Unable, Interest, EndInterest, ToldSub, ToldAble, ToldUnsub, ToldToken, ToldUntoken, ToldUnable, ToldEnd, Push, Request, Response, Final, State, Step, Snap}
 use Rattle.zr_msg.specs.declared.peer.LinkPeer.{LinkPeer}
 use Rattle.zr_msg.specs.Peer.{PeerState}
 use Rattle.zr_msg.specs.declared.peer.Role.{Role}
@@ -138,13 +138,17 @@ of_rows node rows to = of_changes (tables node) _ to
 of_from : (node : NodeState) (from to : ℕ) (msg : Msg) → IsUnheard (sends_from node from msg to)
 of_from node from to (Sub id key) = of_rows node _ to
 of_from node from to (Unsub id) = of_rows node _ to
+of_from node from to (Token id key) = of_rows node _ to
+of_from node from to (Untoken id) = of_rows node _ to
 of_from node from to (Able id key complete) = of_rows node _ to
 of_from node from to (Unable id) = of_rows node _ to
 of_from node from to (Interest id current future kinds key aggregate) = none
 of_from node from to (EndInterest id) = none
 of_from node from to (ToldSub id key interest) = none
+of_from node from to (ToldToken id key interest) = none
 of_from node from to (ToldAble id key complete interest) = none
 of_from node from to (ToldUnsub id) = none
+of_from node from to (ToldUntoken id) = none
 of_from node from to (ToldUnable id) = none
 of_from node from to (ToldEnd interest) = none
 of_from node from to (Push tree content) = of_push (tables node) from content to (tree_of (tables node) (link_at node.links from) tree)

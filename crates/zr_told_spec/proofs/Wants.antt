@@ -13,7 +13,7 @@ use Rattle.std.proofs.lemmas.Option.{none-some, same_Some}
 use Rattle.std.proofs.lemmas.List.Folds.{list_any-append}
 use Rattle.std.proofs.lemmas.Map.Entries.{lookup-filter-keys}
 use Rattle.zr_msg.specs.declared.decl.Kind.{Kind}
-use Rattle.zr_msg.specs.declared.decl.Kind.TheVariants.{Sub, Able, Full}
+use Rattle.zr_msg.specs.declared.decl.Kind.TheVariants.{Sub, Able, Full, Token}
 use Rattle.zr_node_spec.specs.Queries.{is_complete}
 use Rattle.zr_told_spec.specs.Place.{place_cmp, same, place_of, class_of}
 use Rattle.zr_told_spec.specs.Wanted.{fits, told_as, asked, wants, is_complete_at, want, Wanted, places_of, put_wanted, wanted}
@@ -21,7 +21,7 @@ use Rattle.zr_told_spec.specs.Told.{ToldMap, at, id_at, id_for, free_id, entered
 use Rattle.zr_told_spec.specs.declared.entry.Entry.{Entry}
 use Rattle.zr_local.specs.declared.interest.Interest.{Interest}
 use Rattle.zr_told_spec.specs.declared.place.Class.{Class}
-use Rattle.zr_told_spec.specs.declared.place.Class.TheVariants.{Subscriber, Queryable}
+use Rattle.zr_told_spec.specs.declared.place.Class.TheVariants.{Subscriber, Queryable, Living}
 use Rattle.zr_told_spec.specs.declared.place.Place.{Place}
 use Rattle.zr_msg.specs.declared.decl.Decl.{Decl}
 use Rattle.zr_told_spec.proofs.Places.{same_is, same_refl, at_put}
@@ -93,29 +93,27 @@ wanted_in ds is p = ap is_some (wanted_at ds is p) ∙ by (wants ds is p)
     by true = refl
     by false = refl
 
--- no subscriber is complete
-no_complete : (ds : List Decl) (key : List ℕ) → is_complete_at ds (record { class = Subscriber; key = key }) ≡ false
-no_complete [] key = refl
-no_complete (d ∷ ds) key = by (same (record { class = Subscriber; key = key }) (place_of d)) refl d.kind refl (no_complete ds key)
+-- nothing but a queryable is complete
+no_complete : (ds : List Decl) (p : Place) → ((p.class ≡ Queryable) → ⊥) → is_complete_at ds p ≡ false
+no_complete [] p other = refl
+no_complete (d ∷ ds) p other = by (same p (place_of d)) refl d.kind refl (no_complete ds p other)
   where
-    by : (s : Bool) → same (record { class = Subscriber; key = key }) (place_of d) ≡ s → (k : Kind) → d.kind ≡ k →
-        is_complete_at ds (record { class = Subscriber; key = key }) ≡ false → (s && is_complete k || is_complete_at ds (record { class = Subscriber; key = key })) ≡ false
+    by : (s : Bool) → same p (place_of d) ≡ s → (k : Kind) → d.kind ≡ k → is_complete_at ds p ≡ false → (s && is_complete k || is_complete_at ds p) ≡ false
     by false e k f ih = ih
     by true e Sub f ih = ih
     by true e Able f ih = ih
-    by true e Full f ih =
-        let g : Subscriber ≡ class_of d.kind = ap (λ z. z.class) (same_is (record { class = Subscriber; key = key }) (place_of d) e) in
-        let h : Subscriber ≡ Queryable = g ∙ ap class_of f in
-        cc
+    by true e Token f ih = ih
+    by true e Full f ih = absurd (other (ap (λ z. z.class) (same_is p (place_of d) e) ∙ ap class_of f))
 
 says : (ds : List Decl) (w : Place × Bool) → w.1 ≡ is_complete_at ds w.0 → Says w
 says ds w b t id interest = by w.0.class refl
   where
+    not_complete : {c : Class} → w.0.class ≡ c → ((c ≡ Queryable) → ⊥) → false ≡ w.1
+    not_complete e other = sym (b ∙ no_complete ds w.0 (λ q. other (sym e ∙ q)))
+
     by : (c : Class) → w.0.class ≡ c → hear t (declares id c w.0.key w.1 interest) ≡ with_number t id w.0 w.1
-    by Subscriber e =
-        let p : record { class = Subscriber; key = w.0.key } ≡ w.0 = λ i. record { class = sym e i; key = w.0.key } in
-        let f : false ≡ w.1 = sym (b ∙ ap (is_complete_at ds) (sym p) ∙ no_complete ds w.0.key) in
-        λ i. with_number t id (p i) (f i)
+    by Subscriber e = λ i. with_number t id (record { class = sym e i; key = w.0.key }) (not_complete e (λ q. cc) i)
+    by Living e = λ i. with_number t id (record { class = sym e i; key = w.0.key }) (not_complete e (λ q. cc) i)
     by Queryable e = λ i. with_number t id (record { class = sym e i; key = w.0.key }) w.1
 
 all_say : (ds : List Decl) (ws : Wanted) → IsBy (is_complete_at ds) ws → AllByRecursion Says ws

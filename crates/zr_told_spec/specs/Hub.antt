@@ -8,7 +8,7 @@ use Rattle.zr_msg.specs.declared.error.NodeError.TheVariants as e
 use Rattle.zr_msg.specs.declared.event.Event.{Event}
 use Rattle.zr_msg.specs.declared.event.Event.TheVariants.{Up, Down, From}
 use Rattle.zr_msg.specs.declared.msg.Msg.{Msg}
-use Rattle.zr_msg.specs.declared.msg.Msg.TheVariants.{Sub, Unsub, Able, Unable, Interest, EndInterest, ToldSub, ToldAble, ToldUnsub, ToldUnable, ToldEnd, Push, Request, Response, Final, State, Step, Snap}
+use Rattle.zr_msg.specs.declared.msg.Msg.TheVariants.{Sub, Unsub, Token, Untoken, Able, Unable, Interest, EndInterest, ToldSub, ToldAble, ToldUnsub, ToldToken, ToldUntoken, ToldUnable, ToldEnd, Push, Request, Response, Final, State, Step, Snap}
 use Rattle.zr_local.specs.Clients.{interests_on}
 use Rattle.zr_local.specs.declared.interest.Interest.{Interest as LiveInterest}
 use Rattle.zr_msg.specs.declared.peer.LinkPeer.{LinkPeer}
@@ -43,14 +43,18 @@ pub record Asking : Type 0 where
 abbrev pub asking_of : Msg → Option Asking
 asking_of (Sub id key) = None
 asking_of (Unsub id) = None
+asking_of (Token id key) = None
+asking_of (Untoken id) = None
 asking_of (Able id key complete) = None
 asking_of (Unable id) = None
 asking_of (Interest id current future kinds key aggregate) =
     Some (record { current = current; future = future; interest = record { id = id; kinds = kinds; key = key; aggregate = aggregate } })
 asking_of (EndInterest id) = None
 asking_of (ToldSub id key interest) = None
+asking_of (ToldToken id key interest) = None
 asking_of (ToldAble id key complete interest) = None
 asking_of (ToldUnsub id) = None
+asking_of (ToldUntoken id) = None
 asking_of (ToldUnable id) = None
 asking_of (ToldEnd interest) = None
 asking_of (Push tree content) = None

@@ -72,9 +72,9 @@ ItsOwnIsTold = (current : Bool) (ds : List Decl) (before is : List Interest) (i 
 abbrev pub NothingWithout : Type 0
 NothingWithout = (ds : List Decl) (m : ToldMap) → IsAsWanted ds [] m → m ≡ []
 
--- each wanted place is that of a declaration, or one of two under the key of an interest: so no more are wanted
+-- each wanted place is that of a declaration, or one of three under the key of an interest: so no more are wanted
 abbrev pub FewAreWanted : Type 0
-FewAreWanted = (ds : List Decl) (is : List Interest) → length (wanted ds is) ≤ length ds + 2 * length is
+FewAreWanted = (ds : List Decl) (is : List Interest) → length (wanted ds is) ≤ length ds + 3 * length is
 
 -- what all clients are told is, on the link of each, what its client is told
 abbrev pub TellsEach : Type 0

@@ -5,13 +5,13 @@ use Rattle.std.specs.Map.{lookup, keys_of}
 use Rattle.std.specs.Option.{option_map_or}
 use Rattle.std.specs.BTreeMap.{insert_entry}
 use Rattle.zr_msg.specs.declared.msg.Msg.{Msg}
-use Rattle.zr_msg.specs.declared.msg.Msg.TheVariants.{Sub, Unsub, Able, Unable, Interest, EndInterest, ToldSub, ToldAble, ToldUnsub, ToldUnable, ToldEnd, Push, Request, Response, Final, State, Step, Snap}
+use Rattle.zr_msg.specs.declared.msg.Msg.TheVariants.{Sub, Unsub, Token, Untoken, Able, Unable, Interest, EndInterest, ToldSub, ToldAble, ToldUnsub, ToldToken, ToldUntoken, ToldUnable, ToldEnd, Push, Request, Response, Final, State, Step, Snap}
 use Rattle.zr_pend.specs.Pending.{first_free}
 use Rattle.zr_told_spec.specs.Place.{place_cmp, same}
 use Rattle.zr_told_spec.specs.Wanted.{Wanted}
 use Rattle.zr_told_spec.specs.declared.entry.Entry.{Entry}
 use Rattle.zr_told_spec.specs.declared.place.Class.{Class}
-use Rattle.zr_told_spec.specs.declared.place.Class.TheVariants.{Subscriber, Queryable}
+use Rattle.zr_told_spec.specs.declared.place.Class.TheVariants.{Subscriber, Queryable, Living}
 use Rattle.zr_told_spec.specs.declared.place.Place.{Place}
 
 -- ---- the told map of a client: of which places it was told, each under an id of its own, and whether as complete
@@ -44,11 +44,13 @@ id_for m p = option_map_or (λ e. e.id) (at m p) (free_id m)
 abbrev pub declares : ℕ → Class → List ℕ → Bool → Option ℕ → Msg
 declares id Subscriber key complete interest = ToldSub id key interest
 declares id Queryable key complete interest = ToldAble id key complete interest
+declares id Living key complete interest = ToldToken id key interest
 
 -- it is told that nothing is declared there any more
 abbrev pub undeclares : ℕ → Class → Msg
 undeclares id Subscriber = ToldUnsub id
 undeclares id Queryable = ToldUnable id
+undeclares id Living = ToldUntoken id
 
 -- ---- one event: what is wanted after it is compared with what was told
 
@@ -108,12 +110,16 @@ without_number t n k = if n == k then None else t k
 
 abbrev pub hear : Heard → Msg → Heard
 hear t (ToldSub id key interest) = with_number t id (record { class = Subscriber; key = key }) false
+hear t (ToldToken id key interest) = with_number t id (record { class = Living; key = key }) false
 hear t (ToldAble id key complete interest) = with_number t id (record { class = Queryable; key = key }) complete
 hear t (ToldUnsub id) = without_number t id
+hear t (ToldUntoken id) = without_number t id
 hear t (ToldUnable id) = without_number t id
 hear t (ToldEnd interest) = t
 hear t (Sub id key) = t
 hear t (Unsub id) = t
+hear t (Token id key) = t
+hear t (Untoken id) = t
 hear t (Able id key complete) = t
 hear t (Unable id) = t
 hear t (Interest id current future kinds key aggregate) = t

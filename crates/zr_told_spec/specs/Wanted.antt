@@ -6,20 +6,21 @@ use Rattle.std.specs.BTreeMap.{insert_entry}
 use Rattle.zr_match.specs.Table.{texts_meet}
 use Rattle.zr_msg.specs.declared.decl.Decl.{Decl}
 use Rattle.zr_msg.specs.declared.msg.Kinds.{Kinds}
-use Rattle.zr_msg.specs.Kinds.{in_subs, in_ables}
+use Rattle.zr_msg.specs.Kinds.{in_subs, in_ables, in_tokens}
 use Rattle.zr_node_spec.specs.Queries.{is_complete}
 use Rattle.zr_told_spec.specs.Place.{place_cmp, same, place_of}
 use Rattle.zr_local.specs.declared.interest.Interest.{Interest}
 use Rattle.zr_told_spec.specs.declared.place.Class.{Class}
-use Rattle.zr_told_spec.specs.declared.place.Class.TheVariants.{Subscriber, Queryable}
+use Rattle.zr_told_spec.specs.declared.place.Class.TheVariants.{Subscriber, Queryable, Living}
 use Rattle.zr_told_spec.specs.declared.place.Place.{Place}
 
 -- ---- one interest
 
--- an interest is in subscribers, or in queryables
+-- an interest is in subscribers, in queryables, or in tokens
 abbrev pub asks : Kinds → Class → Bool
 asks kinds Subscriber = in_subs kinds
 asks kinds Queryable = in_ables kinds
+asks kinds Living = in_tokens kinds
 
 -- an interest is in what is declared at a place: it is in that class, and its key meets the expression or it has none
 abbrev pub fits : Interest → Place → Bool

@@ -11,9 +11,11 @@ use zr_key::key::KeyExpr;
 pub enum Class {
     Subscriber,
     Queryable,
+    /// Of liveliness tokens.
+    Living,
 }
 
-/// Of what a client is told: of the subscribers or the queryables on an expression. The order is by class, then by the expression's bytes.
+/// Of what a client is told: of the subscribers, the queryables or the tokens on an expression. The order is by class, then by the expression's bytes.
 #[derive(Debug, PartialEq, Eq, Drop)]
 pub struct Place {
     pub class: Class,
