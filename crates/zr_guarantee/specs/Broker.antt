@@ -41,7 +41,7 @@ abbrev pub stands_then : List Standing → ℕ → Option Decl → List Standing
 stands_then so_far id (Some decl) = so_far ++ record { id = id; decl = decl } ∷ []
 stands_then so_far id None = filter (λ s. not (s.id == id)) so_far
 
--- what a client has declared of a class, subscribers or queryables, once one more act was done
+-- what a client has declared of a class, subscribers, queryables or tokens, once one more act was done
 abbrev pub standing_by : List ℕ → Class → List Standing → Act → List Standing
 standing_by name class so_far act =
     option_map_or (λ d. if is_named name d.client && class_rank d.class == class_rank class then stands_then so_far d.id d.decl else so_far) (meaning act).declares so_far

@@ -6,14 +6,14 @@ use Rattle.zr_msg.specs.declared.decl.Kind.TheVariants as kind
 use Rattle.zr_msg.specs.declared.msg.Target.{Target}
 use Rattle.zr_local.specs.declared.interest.Interest.{Interest}
 use Rattle.zr_told_spec.specs.declared.place.Class.{Class}
-use Rattle.zr_told_spec.specs.declared.place.Class.TheVariants.{Subscriber, Queryable}
+use Rattle.zr_told_spec.specs.declared.place.Class.TheVariants.{Subscriber, Queryable, Living}
 use Rattle.zr_script_spec.specs.Mode.{is_future}
 use Rattle.zr_script_spec.specs.declared.command.Act.{Act}
 use Rattle.zr_script_spec.specs.declared.command.Act.TheVariants as a
 use Rattle.zr_guarantee.specs.Item.{Carried, Sample, Query}
 
--- what stands under an id of a client from then on, or nothing where the client takes back what it has declared there; ids of subscribers are
--- others than those of queryables
+-- what stands under an id of a client from then on, or nothing where the client takes back what it has declared there; ids of subscribers, of
+-- queryables and of tokens are apart
 pub record Declares : Type 0 where
   pub client : List ℕ
   pub class : Class
@@ -92,6 +92,8 @@ meaning (a.Break router neighbour) = record change { broken = Some neighbour }
 meaning (a.Down router neighbour) = change
 meaning (a.Sub client id key) = declaring (record { client = client; class = Subscriber; id = id; decl = Some (record { kind = kind.Sub; key = key }) })
 meaning (a.Unsub client id) = declaring (record { client = client; class = Subscriber; id = id; decl = None })
+meaning (a.Token client id key) = declaring (record { client = client; class = Living; id = id; decl = Some (record { kind = kind.Token; key = key }) })
+meaning (a.Untoken client id) = declaring (record { client = client; class = Living; id = id; decl = None })
 meaning (a.Able client id key complete) =
     declaring (record { client = client; class = Queryable; id = id; decl = Some (record { kind = if complete then kind.Full else kind.Able; key = key }) })
 meaning (a.Unable client id) = declaring (record { client = client; class = Queryable; id = id; decl = None })

@@ -6,7 +6,7 @@ use Rattle.zr_world_spec.specs.Accepted.{accepted}
 use Rattle.zr_guarantee.specs.Phase.{is_phase}
 use Rattle.zr_guarantee.specs.Latest.{LatestFit}
 use Rattle.zr_guarantee.specs.Refines.{Refines}
-use Rattle.zr_guarantee.specs.Interests.{AreTold, is_at_rest}
+use Rattle.zr_guarantee.specs.Interests.{AreTold, TokensAreToldAt, is_at_rest}
 
 -- however the accepted acts of some lines are cut at a mark and in its phase, also within a run, there is a moment, and it refines one broker
 abbrev pub IsRefined : List (List ℕ) → Type 0
@@ -24,6 +24,13 @@ LinesRefine = (ls : List (List ℕ)) → LatestFit (accepted ls) → IsRefined l
 abbrev pub TellsClients : List (List ℕ) → Type 0
 TellsClients ls = (acts rest : List Numbered) → accepted ls ≡ acts ++ rest → (m : Moment) × (reached acts ≡ Some m) × (is_at_rest m.world ≡ true → AreTold acts m)
 
+-- and of tokens just those that they want of the living ones
+abbrev pub TellsTokens : List (List ℕ) → Type 0
+TellsTokens ls = (acts rest : List Numbered) → accepted ls ≡ acts ++ rest → (m : Moment) × (reached acts ≡ Some m) × (is_at_rest m.world ≡ true → TokensAreToldAt acts m)
+
 -- so it is with every script's lines
 abbrev pub LinesTellClients : Type 0
 LinesTellClients = (ls : List (List ℕ)) → TellsClients ls
+
+abbrev pub LinesTellTokens : Type 0
+LinesTellTokens = (ls : List (List ℕ)) → TellsTokens ls

@@ -3,7 +3,7 @@ use Rattle.std.specs.Prelude.{ℕ, zero, suc, ◌==◌, Bool, false, if◌then�
 use Rattle.std.specs.List.{flat_map, count_by, filter_map}
 use Rattle.zr_id.specs.Zid.{is_named}
 use Rattle.zr_msg.specs.declared.msg.Msg.{Msg}
-use Rattle.zr_msg.specs.declared.msg.Msg.TheVariants.{Sub, Unsub, Able, Unable, Interest, EndInterest, ToldSub, ToldAble, ToldUnsub, ToldUnable, ToldEnd, Push, Request, Response, Final, State, Step, Snap}
+use Rattle.zr_msg.specs.declared.msg.Msg.TheVariants.{Sub, Unsub, Token, Untoken, Able, Unable, Interest, EndInterest, ToldSub, ToldAble, ToldUnsub, ToldToken, ToldUntoken, ToldUnable, ToldEnd, Push, Request, Response, Final, State, Step, Snap}
 use Rattle.zr_script_spec.specs.declared.report.ReportLine.{ReportLine}
 use Rattle.zr_script_spec.specs.declared.report.ReportLine.TheVariants as r
 use Rattle.zr_guarantee.specs.Item.{Item, Carried, Sample, Query, Reply}
@@ -14,13 +14,17 @@ use Rattle.zr_guarantee.specs.Item.{Item, Carried, Sample, Query, Reply}
 abbrev pub carried_by : Msg → Option Carried
 carried_by (Sub id key) = None
 carried_by (Unsub id) = None
+carried_by (Token id key) = None
+carried_by (Untoken id) = None
 carried_by (Able id key complete) = None
 carried_by (Unable id) = None
 carried_by (Interest id current future kinds key aggregate) = None
 carried_by (EndInterest id) = None
 carried_by (ToldSub id key interest) = None
+carried_by (ToldToken id key interest) = None
 carried_by (ToldAble id key complete interest) = None
 carried_by (ToldUnsub id) = None
+carried_by (ToldUntoken id) = None
 carried_by (ToldUnable id) = None
 carried_by (ToldEnd interest) = None
 carried_by (Push tree content) = Some (Sample content)
@@ -69,13 +73,17 @@ sent_to report receiver = flat_map (λ x. item_of x.msg x.tag) (told_to report r
 abbrev pub is_request : ℕ → Msg → Bool
 is_request under (Sub id key) = false
 is_request under (Unsub id) = false
+is_request under (Token id key) = false
+is_request under (Untoken id) = false
 is_request under (Able id key complete) = false
 is_request under (Unable id) = false
 is_request under (Interest id current future kinds key aggregate) = false
 is_request under (EndInterest id) = false
 is_request under (ToldSub id key interest) = false
+is_request under (ToldToken id key interest) = false
 is_request under (ToldAble id key complete interest) = false
 is_request under (ToldUnsub id) = false
+is_request under (ToldUntoken id) = false
 is_request under (ToldUnable id) = false
 is_request under (ToldEnd interest) = false
 is_request under (Push tree content) = false
@@ -96,13 +104,17 @@ requests_to report receiver number = map (λ x. x.tag) (filter (λ x. is_request
 abbrev pub reply_in : ℕ → Msg → Option Reply
 reply_in tag (Sub id key) = None
 reply_in tag (Unsub id) = None
+reply_in tag (Token id key) = None
+reply_in tag (Untoken id) = None
 reply_in tag (Able id key complete) = None
 reply_in tag (Unable id) = None
 reply_in tag (Interest id current future kinds key aggregate) = None
 reply_in tag (EndInterest id) = None
 reply_in tag (ToldSub id key interest) = None
+reply_in tag (ToldToken id key interest) = None
 reply_in tag (ToldAble id key complete interest) = None
 reply_in tag (ToldUnsub id) = None
+reply_in tag (ToldUntoken id) = None
 reply_in tag (ToldUnable id) = None
 reply_in tag (ToldEnd interest) = None
 reply_in tag (Push tree content) = None
@@ -121,13 +133,17 @@ replies_in told = filter_map (λ x. reply_in x.tag x.msg) told
 abbrev pub is_final : ℕ → Msg → Bool
 is_final under (Sub id key) = false
 is_final under (Unsub id) = false
+is_final under (Token id key) = false
+is_final under (Untoken id) = false
 is_final under (Able id key complete) = false
 is_final under (Unable id) = false
 is_final under (Interest id current future kinds key aggregate) = false
 is_final under (EndInterest id) = false
 is_final under (ToldSub id key interest) = false
+is_final under (ToldToken id key interest) = false
 is_final under (ToldAble id key complete interest) = false
 is_final under (ToldUnsub id) = false
+is_final under (ToldUntoken id) = false
 is_final under (ToldUnable id) = false
 is_final under (ToldEnd interest) = false
 is_final under (Push tree content) = false

@@ -14,7 +14,7 @@ use Rattle.zr_script_spec.specs.declared.command.Act.{Act}
 use Rattle.zr_script_spec.specs.declared.command.Act.TheVariants as a
 use Rattle.zr_script_spec.specs.Mode.{is_current, is_future}
 use Rattle.zr_node_spec.specs.Table.{able_kind}
-use Rattle.zr_told_spec.specs.declared.place.Class.TheVariants.{Subscriber, Queryable}
+use Rattle.zr_told_spec.specs.declared.place.Class.TheVariants.{Subscriber, Queryable, Living}
 use Rattle.zr_world_spec.specs.World.{ClientState, WorldState, with_routers, with_router, with_ends, with_end, with_queue, client_of, changed, sent}
 use Rattle.zr_world_spec.specs.Acts.{outcome, weighing, declaring, undeclaring, received}
 use Rattle.zr_world_spec.specs.Moments.{Numbered, Moment, beginning, went, reached}
@@ -48,6 +48,7 @@ module _ (acts : List Numbered) (now : Moment) (sound : IsSound now.world) (h : 
   home_of s k.Sub id = refl
   home_of s k.Able id = refl
   home_of s k.Full id = refl
+  home_of s k.Token id = refl
 
   -- a client says something that is nothing of ids
   says : (n : ℕ) (act : Act) (client : Name) (msg : Msg) → ((c : Name) (kind : Kind) (i : ℕ) (so_far : Option Decl) → stands_by c kind i so_far act ≡ so_far) →
@@ -84,6 +85,13 @@ module _ (acts : List Numbered) (now : Moment) (sound : IsSound now.world) (h : 
   flows_keep n (a.Unsub client id) = for_undeclare now (FlowsThen n (a.Unsub client id)) n client k.Sub id (m.Unsub id) (λ s found known e at_end unbroken.
       said_flows acts w sound h f n (a.Unsub client id) client s found e at_end (m.Unsub id) (undeclaring s k.Sub id) refl w.routers (λ x c kind i. refl)
       (λ c kind i so_far. both (is_named c client) (is_same_id kind i Subscriber id) None so_far))
+  flows_keep n (a.Token client id key) = for_declare now (FlowsThen n (a.Token client id key)) n client k.Token id key (m.Token id key) (λ s found fresh e at_end unbroken r there room.
+      said_flows acts w sound h f n (a.Token client id key) client s found e at_end (m.Token id key) (declaring s k.Token id) refl (with_router w.routers s.router (weighing r key))
+      (λ x c kind i. says_kept w s.router r (weighing r key) there c kind i refl x)
+      (λ c kind i so_far. both (is_named c client) (is_same_id kind i Living id) (Some (record { kind = k.Token; key = key })) so_far))
+  flows_keep n (a.Untoken client id) = for_undeclare now (FlowsThen n (a.Untoken client id)) n client k.Token id (m.Untoken id) (λ s found known e at_end unbroken.
+      said_flows acts w sound h f n (a.Untoken client id) client s found e at_end (m.Untoken id) (undeclaring s k.Token id) refl w.routers (λ x c kind i. refl)
+      (λ c kind i so_far. both (is_named c client) (is_same_id kind i Living id) None so_far))
   flows_keep n (a.Able client id key complete) = for_declare now (FlowsThen n (a.Able client id key complete)) n client (able_kind complete) id key (m.Able id key complete) (λ s found fresh e at_end unbroken r there room.
       said_flows acts w sound h f n (a.Able client id key complete) client s found e at_end (m.Able id key complete) (declaring s (able_kind complete) id) (home_of s (able_kind complete) id)
       (with_router w.routers s.router (weighing r key)) (λ x c kind i. says_kept w s.router r (weighing r key) there c kind i refl x)

@@ -55,6 +55,7 @@ module _ (acts : List Numbered) (now : Moment) (h : Homed acts now.world) where
   home_of s k.Sub id = refl
   home_of s k.Able id = refl
   home_of s k.Full id = refl
+  home_of s k.Token id = refl
 
   -- an act that brings no client, and changes interests, queries and requests alone
   same_homes : (n : ℕ) (act : Act) → ((c : Name) (so_far : Option Name) → home_by c so_far act ≡ so_far) → (clients : Clients) → SameClients w.clients clients → (c : Name) →
@@ -80,6 +81,10 @@ module _ (acts : List Numbered) (now : Moment) (h : Homed acts now.world) where
       home_more acts n (a.Sub client id key) c ∙ kept client s (declaring s k.Sub id) found refl c)
   homes_keep n (a.Unsub client id) = for_undeclare now (HomedThen n (a.Unsub client id)) n client k.Sub id (m.Unsub id) (λ s found known e at_end unbroken c.
       home_more acts n (a.Unsub client id) c ∙ kept client s (undeclaring s k.Sub id) found refl c)
+  homes_keep n (a.Token client id key) = for_declare now (HomedThen n (a.Token client id key)) n client k.Token id key (m.Token id key) (λ s found fresh e at_end unbroken r there room c.
+      home_more acts n (a.Token client id key) c ∙ kept client s (declaring s k.Token id) found refl c)
+  homes_keep n (a.Untoken client id) = for_undeclare now (HomedThen n (a.Untoken client id)) n client k.Token id (m.Untoken id) (λ s found known e at_end unbroken c.
+      home_more acts n (a.Untoken client id) c ∙ kept client s (undeclaring s k.Token id) found refl c)
   homes_keep n (a.Able client id key complete) = for_declare now (HomedThen n (a.Able client id key complete)) n client (able_kind complete) id key (m.Able id key complete) (λ s found fresh e at_end unbroken r there room c.
       home_more acts n (a.Able client id key complete) c ∙ kept client s (declaring s (able_kind complete) id) found (home_of s (able_kind complete) id) c)
   homes_keep n (a.Unable client id) = for_undeclare now (HomedThen n (a.Unable client id)) n client k.Able id (m.Unable id) (λ s found known e at_end unbroken c.

@@ -99,13 +99,17 @@ module _ (n : NodeState) where
   from_counts : (link : LinkNo) (msg : Msg) → own (after n (From link msg)).known ≡ own n.known + length (changes n.rows (after n (From link msg)).rows)
   from_counts link (m.Sub id key) = position_changes n.known (changes n.rows (rows_declared n link.0 (row link.0 id k.Sub key)))
   from_counts link (m.Unsub id) = position_changes n.known (changes n.rows (rows_undeclared n link.0 (key_of link.0 id k.Sub)))
+  from_counts link (m.Token id key) = position_changes n.known (changes n.rows (rows_declared n link.0 (row link.0 id k.Token key)))
+  from_counts link (m.Untoken id) = position_changes n.known (changes n.rows (rows_undeclared n link.0 (key_of link.0 id k.Token)))
   from_counts link (m.Able id key complete) = position_changes n.known (changes n.rows (rows_declared n link.0 (row link.0 id (able_kind complete) key)))
   from_counts link (m.Unable id) = position_changes n.known (changes n.rows (rows_undeclared n link.0 (key_of link.0 id k.Able)))
   from_counts link (m.Interest id current future kinds key aggregate) = quiet
   from_counts link (m.EndInterest id) = quiet
   from_counts link (m.ToldSub id key interest) = quiet
+  from_counts link (m.ToldToken id key interest) = quiet
   from_counts link (m.ToldAble id key complete interest) = quiet
   from_counts link (m.ToldUnsub id) = quiet
+  from_counts link (m.ToldUntoken id) = quiet
   from_counts link (m.ToldUnable id) = quiet
   from_counts link (m.ToldEnd interest) = quiet
   from_counts link (m.Push tree content) = quiet
@@ -183,6 +187,8 @@ module _ (now : Moment) (own_name : (x : Name) (r : RouterState) → router_of n
   acts_count n (a.Down router name) = for_down now CountsOn n router name (λ r found there s at_end up cut link number taken. hears router r found (Down link))
   acts_count n (a.Sub client id key) = for_declare now CountsOn n client k.Sub id key (m.Sub id key) (λ s found fresh e at_end unbroken r there room. weighs s.router r there key)
   acts_count n (a.Unsub client id) = for_undeclare now CountsOn n client k.Sub id (m.Unsub id) (λ s found known e at_end unbroken. stays)
+  acts_count n (a.Token client id key) = for_declare now CountsOn n client k.Token id key (m.Token id key) (λ s found fresh e at_end unbroken r there room. weighs s.router r there key)
+  acts_count n (a.Untoken client id) = for_undeclare now CountsOn n client k.Token id (m.Untoken id) (λ s found known e at_end unbroken. stays)
   acts_count n (a.Able client id key complete) =
       for_declare now CountsOn n client (able_kind complete) id key (m.Able id key complete) (λ s found fresh e at_end unbroken r there room. weighs s.router r there key)
   acts_count n (a.Unable client id) = for_undeclare now CountsOn n client k.Able id (m.Unable id) (λ s found known e at_end unbroken. stays)

@@ -58,13 +58,17 @@ module _ (node : NodeState) (h : AreInOrder node.rows) where
   from_ordered : (from : ℕ) (msg : Msg) → AreInOrder (after_from node from msg).rows
   from_ordered from (m.Sub id key) = declares from (row from id k.Sub key)
   from_ordered from (m.Unsub id) = undeclares from (key_of from id k.Sub)
+  from_ordered from (m.Token id key) = declares from (row from id k.Token key)
+  from_ordered from (m.Untoken id) = undeclares from (key_of from id k.Token)
   from_ordered from (m.Able id key complete) = declares from (row from id (able_kind complete) key)
   from_ordered from (m.Unable id) = undeclares from (key_of from id k.Able)
   from_ordered from (m.Interest id current future kinds key aggregate) = h
   from_ordered from (m.EndInterest id) = h
   from_ordered from (m.ToldSub id key interest) = h
+  from_ordered from (m.ToldToken id key interest) = h
   from_ordered from (m.ToldAble id key complete interest) = h
   from_ordered from (m.ToldUnsub id) = h
+  from_ordered from (m.ToldUntoken id) = h
   from_ordered from (m.ToldUnable id) = h
   from_ordered from (m.ToldEnd interest) = h
   from_ordered from (m.Push tree content) = h
@@ -135,6 +139,8 @@ module _ (now : Moment) (h : RowsAscend now.world) where
   ascend_keep n (a.Down router name) = for_down now AscendThen n router name (λ r found there s at_end up cut link number taken. heard_ordered router r (Down link) found)
   ascend_keep n (a.Sub client id key) = for_declare now AscendThen n client k.Sub id key (m.Sub id key) (λ s found fresh e at_end unbroken r there room. with_ordered s.router r (weighing r key) there (h s.router r there))
   ascend_keep n (a.Unsub client id) = for_undeclare now AscendThen n client k.Sub id (m.Unsub id) (λ s found known e at_end unbroken. h)
+  ascend_keep n (a.Token client id key) = for_declare now AscendThen n client k.Token id key (m.Token id key) (λ s found fresh e at_end unbroken r there room. with_ordered s.router r (weighing r key) there (h s.router r there))
+  ascend_keep n (a.Untoken client id) = for_undeclare now AscendThen n client k.Token id (m.Untoken id) (λ s found known e at_end unbroken. h)
   ascend_keep n (a.Able client id key complete) = for_declare now AscendThen n client (able_kind complete) id key (m.Able id key complete) (λ s found fresh e at_end unbroken r there room.
       with_ordered s.router r (weighing r key) there (h s.router r there))
   ascend_keep n (a.Unable client id) = for_undeclare now AscendThen n client k.Able id (m.Unable id) (λ s found known e at_end unbroken. h)

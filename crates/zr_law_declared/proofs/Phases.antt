@@ -16,6 +16,8 @@ phases_change_nothing (a.Break router neighbour) h = absurd (false≢true h)
 phases_change_nothing (a.Down router neighbour) h = absurd (false≢true h)
 phases_change_nothing (a.Sub client id key) h = absurd (false≢true h)
 phases_change_nothing (a.Unsub client id) h = absurd (false≢true h)
+phases_change_nothing (a.Token client id key) h = absurd (false≢true h)
+phases_change_nothing (a.Untoken client id) h = absurd (false≢true h)
 phases_change_nothing (a.Able client id key complete) h = absurd (false≢true h)
 phases_change_nothing (a.Unable client id) h = absurd (false≢true h)
 phases_change_nothing (a.Interest client id mode kinds key aggregate) h = record { router = refl; client = refl; broken = refl; declares = refl }

@@ -64,11 +64,13 @@ same_ids : (s t : ClientState) → idle_client s ≡ idle_client t → (kind : K
 same_ids s t same k.Sub = ap (λ (q : ClientState). q.subs) (sym same)
 same_ids s t same k.Able = ap (λ (q : ClientState). q.ables) (sym same)
 same_ids s t same k.Full = ap (λ (q : ClientState). q.ables) (sym same)
+same_ids s t same k.Token = ap (λ (q : ClientState). q.tokens) (sym same)
 
 no_ids : (router : Name) (kind : Kind) → ids_of (new_client router) kind ≡ []
 no_ids router k.Sub = refl
 no_ids router k.Able = refl
 no_ids router k.Full = refl
+no_ids router k.Token = refl
 
 -- whether two kinds are of one class
 abbrev is_one : Kind → Kind → Bool
@@ -79,29 +81,44 @@ one_class : (s : ClientState) (kind other : Kind) → is_one kind other ≡ true
 one_class s k.Sub k.Sub e = (refl, refl)
 one_class s k.Sub k.Able e = absurd (false≢true e)
 one_class s k.Sub k.Full e = absurd (false≢true e)
+one_class s k.Sub k.Token e = absurd (false≢true e)
 one_class s k.Able k.Sub e = absurd (false≢true e)
 one_class s k.Able k.Able e = (refl, refl)
 one_class s k.Able k.Full e = (refl, refl)
+one_class s k.Able k.Token e = absurd (false≢true e)
 one_class s k.Full k.Sub e = absurd (false≢true e)
 one_class s k.Full k.Able e = (refl, refl)
 one_class s k.Full k.Full e = (refl, refl)
+one_class s k.Full k.Token e = absurd (false≢true e)
+one_class s k.Token k.Sub e = absurd (false≢true e)
+one_class s k.Token k.Able e = absurd (false≢true e)
+one_class s k.Token k.Full e = absurd (false≢true e)
+one_class s k.Token k.Token e = (refl, refl)
 
 with_others : (change : List ℕ → List ℕ) (s : ClientState) (kind other : Kind) →
     ids_of (with_ids s kind (change (ids_of s kind))) other ≡ cond (is_one kind other) (change (ids_of s other)) (ids_of s other)
 with_others change s k.Sub k.Sub = refl
 with_others change s k.Sub k.Able = refl
 with_others change s k.Sub k.Full = refl
+with_others change s k.Sub k.Token = refl
 with_others change s k.Able k.Sub = refl
 with_others change s k.Able k.Able = refl
 with_others change s k.Able k.Full = refl
+with_others change s k.Able k.Token = refl
 with_others change s k.Full k.Sub = refl
 with_others change s k.Full k.Able = refl
 with_others change s k.Full k.Full = refl
+with_others change s k.Full k.Token = refl
+with_others change s k.Token k.Sub = refl
+with_others change s k.Token k.Able = refl
+with_others change s k.Token k.Full = refl
+with_others change s k.Token k.Token = refl
 
 same_home : (s : ClientState) (kind : Kind) (ids : List ℕ) → (with_ids s kind ids).router ≡ s.router
 same_home s k.Sub ids = refl
 same_home s k.Able ids = refl
 same_home s k.Full ids = refl
+same_home s k.Token ids = refl
 
 -- ---- one more act
 
@@ -419,6 +436,8 @@ module _ (acts : List Numbered) (now : Moment) (clients : ClientsHold now.world)
       ∙ keep_heard w.ends router r (Down link) n unbroken_at (t.router, c) (λ e ws. refl)))
   spoken_keep n (a.Sub client id key) = declares n (a.Sub client id key) client k.Sub id key (m.Sub id key) refl (λ c so_far. refl)
   spoken_keep n (a.Unsub client id) = withdraws n (a.Unsub client id) client k.Sub id (m.Unsub id) refl (λ c so_far. refl)
+  spoken_keep n (a.Token client id key) = declares n (a.Token client id key) client k.Token id key (m.Token id key) refl (λ c so_far. refl)
+  spoken_keep n (a.Untoken client id) = withdraws n (a.Untoken client id) client k.Token id (m.Untoken id) refl (λ c so_far. refl)
   spoken_keep n (a.Able client id key complete) = declares n (a.Able client id key complete) client (able_kind complete) id key (m.Able id key complete) (able_is client id key complete) (λ c so_far. refl)
   spoken_keep n (a.Unable client id) = withdraws n (a.Unable client id) client k.Able id (m.Unable id) refl (λ c so_far. refl)
   spoken_keep n (a.Interest client id mode kinds key aggregate) =

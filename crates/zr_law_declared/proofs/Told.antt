@@ -12,7 +12,7 @@ use Rattle.zr_msg.specs.declared.decl.Decl.{Decl}
 use Rattle.zr_msg.specs.declared.decl.Kind.{Kind}
 use Rattle.zr_msg.specs.declared.decl.Kind.TheVariants as k
 use Rattle.zr_msg.specs.declared.msg.Msg.{Msg}
-use Rattle.zr_msg.specs.declared.msg.Msg.TheVariants.{Sub, Unsub, Able, Unable, Interest, EndInterest, ToldSub, ToldAble, ToldUnsub, ToldUnable, ToldEnd, Push, Request, Response, Final, State, Step, Snap}
+use Rattle.zr_msg.specs.declared.msg.Msg.TheVariants.{Sub, Unsub, Token, Untoken, Able, Unable, Interest, EndInterest, ToldSub, ToldAble, ToldUnsub, ToldToken, ToldUntoken, ToldUnable, ToldEnd, Push, Request, Response, Final, State, Step, Snap}
 use Rattle.zr_msg.specs.declared.event.Event.TheVariants.{From}
 use Rattle.zr_lists.proofs.Order.{is_itself, is_same}
 use Rattle.zr_lists.proofs.Puts.{at-put, at-without}
@@ -24,7 +24,7 @@ use Rattle.zr_node_spec.specs.Tables.{leads_to_client}
 use Rattle.zr_node_spec.specs.State.{NodeState}
 use Rattle.zr_node_spec.specs.Table.{row, key_of, able_kind, after}
 use Rattle.zr_told_spec.specs.Place.{class_of}
-use Rattle.zr_told_spec.specs.declared.place.Class.TheVariants.{Subscriber, Queryable}
+use Rattle.zr_told_spec.specs.declared.place.Class.TheVariants.{Subscriber, Queryable, Living}
 use Rattle.zr_world_spec.specs.World.{Tagged, unsettles, is_calm}
 use Rattle.zr_law_settled.proofs.Declaring.{kind_rank, none_there}
 use Rattle.zr_law_declared.specs.Declared.{is_same_id}
@@ -36,13 +36,17 @@ use Rattle.zr_law_declared.specs.Rows.{row_of}
 abbrev pub told : Kind → ℕ → Option Decl → Msg → Option Decl
 told kind id so_far (Sub i key) = cond (is_same_id kind id Subscriber i) (Some (record { kind = k.Sub; key = key })) so_far
 told kind id so_far (Unsub i) = cond (is_same_id kind id Subscriber i) None so_far
+told kind id so_far (Token i key) = cond (is_same_id kind id Living i) (Some (record { kind = k.Token; key = key })) so_far
+told kind id so_far (Untoken i) = cond (is_same_id kind id Living i) None so_far
 told kind id so_far (Able i key complete) = cond (is_same_id kind id Queryable i) (Some (record { kind = able_kind complete; key = key })) so_far
 told kind id so_far (Unable i) = cond (is_same_id kind id Queryable i) None so_far
 told kind id so_far (Interest i current future kinds key aggregate) = so_far
 told kind id so_far (EndInterest i) = so_far
 told kind id so_far (ToldSub i key interest) = so_far
+told kind id so_far (ToldToken i key interest) = so_far
 told kind id so_far (ToldAble i key complete interest) = so_far
 told kind id so_far (ToldUnsub i) = so_far
+told kind id so_far (ToldUntoken i) = so_far
 told kind id so_far (ToldUnable i) = so_far
 told kind id so_far (ToldEnd interest) = so_far
 told kind id so_far (Push tree content) = so_far
@@ -63,13 +67,17 @@ told_more kind id so_far ws x = fold-append (λ (q : Option Decl) (y : Tagged). 
 calm_told : (kind : Kind) (id : ℕ) (so_far : Option Decl) (msg : Msg) → not (unsettles msg) ≡ true → told kind id so_far msg ≡ so_far
 calm_told kind id so_far (Sub i key) h = absurd (false≢true h)
 calm_told kind id so_far (Unsub i) h = absurd (false≢true h)
+calm_told kind id so_far (Token i key) h = absurd (false≢true h)
+calm_told kind id so_far (Untoken i) h = absurd (false≢true h)
 calm_told kind id so_far (Able i key complete) h = absurd (false≢true h)
 calm_told kind id so_far (Unable i) h = absurd (false≢true h)
 calm_told kind id so_far (Interest i current future kinds key aggregate) h = refl
 calm_told kind id so_far (EndInterest i) h = refl
 calm_told kind id so_far (ToldSub i key interest) h = refl
+calm_told kind id so_far (ToldToken i key interest) h = refl
 calm_told kind id so_far (ToldAble i key complete interest) h = refl
 calm_told kind id so_far (ToldUnsub i) h = refl
+calm_told kind id so_far (ToldUntoken i) h = refl
 calm_told kind id so_far (ToldUnable i) h = refl
 calm_told kind id so_far (ToldEnd interest) h = refl
 calm_told kind id so_far (Push tree content) h = refl
@@ -167,6 +175,8 @@ module _ (n : NodeState) (from : LinkNo) (kind : Kind) (id : ℕ) where
   pub heard_here : leads_to_client n.links from.0 ≡ true → (msg : Msg) → decl_at (after n (From from msg)).rows from.0 kind id ≡ told kind id (decl_at n.rows from.0 kind id) msg
   heard_here client (Sub i key) = ap (λ t. decl_at (cond t (declared n.rows (row from.0 i k.Sub key)) n.rows) from.0 kind id) client ∙ put_here n.rows from.0 kind id i k.Sub key
   heard_here client (Unsub i) = ap (λ t. decl_at (cond t (undeclared n.rows (key_of from.0 i k.Sub)) n.rows) from.0 kind id) client ∙ without_here n.rows from.0 kind id i k.Sub
+  heard_here client (Token i key) = ap (λ t. decl_at (cond t (declared n.rows (row from.0 i k.Token key)) n.rows) from.0 kind id) client ∙ put_here n.rows from.0 kind id i k.Token key
+  heard_here client (Untoken i) = ap (λ t. decl_at (cond t (undeclared n.rows (key_of from.0 i k.Token)) n.rows) from.0 kind id) client ∙ without_here n.rows from.0 kind id i k.Token
   heard_here client (Able i key complete) =
       ap (λ t. decl_at (cond t (declared n.rows (row from.0 i (able_kind complete) key)) n.rows) from.0 kind id) client ∙ put_here n.rows from.0 kind id i (able_kind complete) key
       ∙ ap (λ b. cond b (Some (record { kind = able_kind complete; key = key })) (decl_at n.rows from.0 kind id)) (able_is n.rows from.0 kind id i complete)
@@ -174,8 +184,10 @@ module _ (n : NodeState) (from : LinkNo) (kind : Kind) (id : ℕ) where
   heard_here client (Interest i current future kinds key aggregate) = refl
   heard_here client (EndInterest i) = refl
   heard_here client (ToldSub i key interest) = refl
+  heard_here client (ToldToken i key interest) = refl
   heard_here client (ToldAble i key complete interest) = refl
   heard_here client (ToldUnsub i) = refl
+  heard_here client (ToldUntoken i) = refl
   heard_here client (ToldUnable i) = refl
   heard_here client (ToldEnd interest) = refl
   heard_here client (Push tree content) = refl
@@ -195,14 +207,18 @@ module _ (n : NodeState) (from : LinkNo) (kind : Kind) (id : ℕ) where
     pub heard_there : (msg : Msg) → decl_at (after n (From from msg)).rows link kind id ≡ decl_at n.rows link kind id
     heard_there (Sub i key) = if_client (declared n.rows (row from.0 i k.Sub key)) (put_there n.rows link kind id from.0 apart (row from.0 i k.Sub key) refl) (leads_to_client n.links from.0)
     heard_there (Unsub i) = if_client (undeclared n.rows (key_of from.0 i k.Sub)) (without_there n.rows link kind id from.0 apart (key_of from.0 i k.Sub) refl) (leads_to_client n.links from.0)
+    heard_there (Token i key) = if_client (declared n.rows (row from.0 i k.Token key)) (put_there n.rows link kind id from.0 apart (row from.0 i k.Token key) refl) (leads_to_client n.links from.0)
+    heard_there (Untoken i) = if_client (undeclared n.rows (key_of from.0 i k.Token)) (without_there n.rows link kind id from.0 apart (key_of from.0 i k.Token) refl) (leads_to_client n.links from.0)
     heard_there (Able i key complete) =
         if_client (declared n.rows (row from.0 i (able_kind complete) key)) (put_there n.rows link kind id from.0 apart (row from.0 i (able_kind complete) key) refl) (leads_to_client n.links from.0)
     heard_there (Unable i) = if_client (undeclared n.rows (key_of from.0 i k.Able)) (without_there n.rows link kind id from.0 apart (key_of from.0 i k.Able) refl) (leads_to_client n.links from.0)
     heard_there (Interest i current future kinds key aggregate) = refl
     heard_there (EndInterest i) = refl
     heard_there (ToldSub i key interest) = refl
+    heard_there (ToldToken i key interest) = refl
     heard_there (ToldAble i key complete interest) = refl
     heard_there (ToldUnsub i) = refl
+    heard_there (ToldUntoken i) = refl
     heard_there (ToldUnable i) = refl
     heard_there (ToldEnd interest) = refl
     heard_there (Push tree content) = refl

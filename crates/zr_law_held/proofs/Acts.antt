@@ -16,7 +16,7 @@ use Rattle.zr_msg.specs.declared.decl.Kind.TheVariants as k
 use Rattle.zr_msg.specs.declared.event.Event.{Event}
 use Rattle.zr_msg.specs.declared.event.Event.TheVariants.{Down, From}
 use Rattle.zr_msg.specs.declared.msg.Msg.{Msg}
-use Rattle.zr_msg.specs.declared.msg.Msg.TheVariants.{Sub, Unsub, Able, Unable, Response}
+use Rattle.zr_msg.specs.declared.msg.Msg.TheVariants.{Sub, Unsub, Token, Untoken, Able, Unable, Response}
 use Rattle.zr_msg.specs.declared.peer.Role.TheVariants.{Client}
 use Rattle.zr_pend.specs.Held.{reply_weight, held_weight, most_held}
 use Rattle.zr_node_spec.specs.Table.{able_kind}
@@ -133,6 +133,8 @@ module _ (now : Moment) (g : Goes now.world) (rows : (x : Name) (r : RouterState
       omega (arith, hears w router r (Down l) line found refl g.sound.in_order (omega arith) (λ q f. sound.unique router q f), changed_weighs v.ends (router, name) lowered lowered_weighs))
   act_adds line (a.Sub client id key) = for_declare now (Adds 0) line client k.Sub id key (Sub id key) (λ s found fresh e at_end unbroken r there weighs sound. weighed line client (Sub id key) refl key s e at_end r there)
   act_adds line (a.Unsub client id) = for_undeclare now (Adds 0) line client k.Sub id (Unsub id) (λ s found known e at_end unbroken sound. said line client (Unsub id) refl s e at_end)
+  act_adds line (a.Token client id key) = for_declare now (Adds 0) line client k.Token id key (Token id key) (λ s found fresh e at_end unbroken r there weighs sound. weighed line client (Token id key) refl key s e at_end r there)
+  act_adds line (a.Untoken client id) = for_undeclare now (Adds 0) line client k.Token id (Untoken id) (λ s found known e at_end unbroken sound. said line client (Untoken id) refl s e at_end)
   act_adds line (a.Able client id key complete) = for_declare now (Adds 0) line client (able_kind complete) id key (Able id key complete) (λ s found fresh e at_end unbroken r there weighs sound. weighed line client (Able id key complete) refl key s e at_end r there)
   act_adds line (a.Unable client id) = for_undeclare now (Adds 0) line client k.Able id (Unable id) (λ s found known e at_end unbroken sound. said line client (Unable id) refl s e at_end)
   act_adds line (a.Interest client id mode kinds key aggregate) = interest_says now (Adds 0) line client id mode kinds key aggregate (λ s found e at_end unbroken clients same sound. said line client _ refl s e at_end)

@@ -14,7 +14,7 @@ use Rattle.zr_msg.specs.declared.event.Event.{Event}
 use Rattle.zr_msg.specs.declared.event.Event.TheVariants.{Up, Down, From}
 use Rattle.zr_msg.specs.declared.extras.Extras.{Extras}
 use Rattle.zr_msg.specs.declared.msg.Msg.{Msg}
-use Rattle.zr_msg.specs.declared.msg.Msg.TheVariants.{Sub, Unsub, Able, Unable, Interest, EndInterest, ToldSub, ToldAble, ToldUnsub, ToldUnable, ToldEnd, Push, Request, Response, Final, State, Step, Snap}
+use Rattle.zr_msg.specs.declared.msg.Msg.TheVariants.{Sub, Unsub, Token, Untoken, Able, Unable, Interest, EndInterest, ToldSub, ToldAble, ToldUnsub, ToldToken, ToldUntoken, ToldUnable, ToldEnd, Push, Request, Response, Final, State, Step, Snap}
 use Rattle.zr_msg.specs.declared.msg.Target.{Target}
 use Rattle.zr_pend.specs.declared.branch.Asker.{Asker}
 use Rattle.zr_pend.specs.Pending.{branch, asker_of, final_to, finals_of_drop}
@@ -121,13 +121,17 @@ endings_weigh held (a ∷ askers) =
 quiet_held : (node : NodeState) (from : ℕ) (msg : Msg) → handles_msg msg ≡ [] → (after_from node from msg).held ≡ node.held
 quiet_held node from (Sub id key) e = refl
 quiet_held node from (Unsub id) e = refl
+quiet_held node from (Token id key) e = refl
+quiet_held node from (Untoken id) e = refl
 quiet_held node from (Able id key complete) e = refl
 quiet_held node from (Unable id) e = refl
 quiet_held node from (Interest id current future kinds key aggregate) e = refl
 quiet_held node from (EndInterest id) e = refl
 quiet_held node from (ToldSub id key interest) e = refl
+quiet_held node from (ToldToken id key interest) e = refl
 quiet_held node from (ToldAble id key complete interest) e = refl
 quiet_held node from (ToldUnsub id) e = refl
+quiet_held node from (ToldUntoken id) e = refl
 quiet_held node from (ToldUnable id) e = refl
 quiet_held node from (ToldEnd interest) e = refl
 quiet_held node from (Push tree content) e = refl
@@ -231,13 +235,17 @@ module _ (node : NodeState) (of : AreOfLinks node) where
   from_carries : (link : LinkNo) (msg : Msg) → Carries node (From link msg)
   from_carries link (Sub id key) = quiet_carries link (Sub id key) refl
   from_carries link (Unsub id) = quiet_carries link (Unsub id) refl
+  from_carries link (Token id key) = quiet_carries link (Token id key) refl
+  from_carries link (Untoken id) = quiet_carries link (Untoken id) refl
   from_carries link (Able id key complete) = quiet_carries link (Able id key complete) refl
   from_carries link (Unable id) = quiet_carries link (Unable id) refl
   from_carries link (Interest id current future kinds key aggregate) = quiet_carries link (Interest id current future kinds key aggregate) refl
   from_carries link (EndInterest id) = quiet_carries link (EndInterest id) refl
   from_carries link (ToldSub id key interest) = quiet_carries link (ToldSub id key interest) refl
+  from_carries link (ToldToken id key interest) = quiet_carries link (ToldToken id key interest) refl
   from_carries link (ToldAble id key complete interest) = quiet_carries link (ToldAble id key complete interest) refl
   from_carries link (ToldUnsub id) = quiet_carries link (ToldUnsub id) refl
+  from_carries link (ToldUntoken id) = quiet_carries link (ToldUntoken id) refl
   from_carries link (ToldUnable id) = quiet_carries link (ToldUnable id) refl
   from_carries link (ToldEnd interest) = quiet_carries link (ToldEnd interest) refl
   from_carries link (Push tree content) = quiet_carries link (Push tree content) refl

@@ -15,7 +15,7 @@ use Rattle.zr_id.specs.declared.link.LinkNo.{LinkNo}
 use Rattle.zr_msg.specs.declared.content.Parts.{Parts}
 use Rattle.zr_msg.specs.declared.event.Event.{Event}
 use Rattle.zr_msg.specs.declared.msg.Msg.{Msg}
-use Rattle.zr_msg.specs.declared.msg.Msg.TheVariants.{Sub, Unsub, Able, Unable, Interest, EndInterest, ToldSub, ToldAble, ToldUnsub, ToldUnable, ToldEnd, Push, Request, Response, Final, State, Step, Snap}
+use Rattle.zr_msg.specs.declared.msg.Msg.TheVariants.{Sub, Unsub, Token, Untoken, Able, Unable, Interest, EndInterest, ToldSub, ToldAble, ToldUnsub, ToldToken, ToldUntoken, ToldUnable, ToldEnd, Push, Request, Response, Final, State, Step, Snap}
 use Rattle.zr_msg.specs.declared.peer.LinkPeer.{LinkPeer}
 use Rattle.zr_pend.specs.Held.{reply_weight, held_weight}
 use Rattle.zr_node_spec.specs.Tables.{link_at, link_to}
@@ -48,13 +48,17 @@ msgs_weight msgs = sum_by msg_weight msgs
 pub tagged_weighs : (msg : Msg) (tag : ℕ) → tagged_weight (record { msg = msg; tag = tag }) ≡ msg_weight msg
 tagged_weighs (Sub id key) tag = refl
 tagged_weighs (Unsub id) tag = refl
+tagged_weighs (Token id key) tag = refl
+tagged_weighs (Untoken id) tag = refl
 tagged_weighs (Able id key complete) tag = refl
 tagged_weighs (Unable id) tag = refl
 tagged_weighs (Interest id current future kinds key aggregate) tag = refl
 tagged_weighs (EndInterest id) tag = refl
 tagged_weighs (ToldSub id key interest) tag = refl
+tagged_weighs (ToldToken id key interest) tag = refl
 tagged_weighs (ToldAble id key complete interest) tag = refl
 tagged_weighs (ToldUnsub id) tag = refl
+tagged_weighs (ToldUntoken id) tag = refl
 tagged_weighs (ToldUnable id) tag = refl
 tagged_weighs (ToldEnd interest) tag = refl
 tagged_weighs (Push tree content) tag = refl
@@ -67,7 +71,7 @@ tagged_weighs (Snap source number decls) tag = refl
 
 -- what tells clients of others' declarations weighs nothing
 told_is_light : (msg : Msg) → is_told msg ≡ true → msg_weight msg ≡ 0
-told_is_light msg e = by_told (λ m. msg_weight m ≡ 0) (λ id key interest. refl) (λ id key complete interest. refl) (λ id. refl) (λ id. refl) (λ interest. refl) msg e
+told_is_light msg e = by_told (λ m. msg_weight m ≡ 0) (λ id key interest. refl) (λ id key interest. refl) (λ id key complete interest. refl) (λ id. refl) (λ id. refl) (λ id. refl) (λ interest. refl) msg e
 
 told_are_light : (msgs : List Msg) → list_all is_told msgs ≡ true → msgs_weight msgs ≡ 0
 told_are_light [] e = refl

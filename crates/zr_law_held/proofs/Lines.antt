@@ -66,6 +66,8 @@ step_says number (a.Break router neighbour) e = absurd (false≢true e)
 step_says number (a.Down router neighbour) e = absurd (false≢true e)
 step_says number (a.Sub client id key) e = absurd (false≢true e)
 step_says number (a.Unsub client id) e = absurd (false≢true e)
+step_says number (a.Token client id key) e = absurd (false≢true e)
+step_says number (a.Untoken client id) e = absurd (false≢true e)
 step_says number (a.Able client id key complete) e = absurd (false≢true e)
 step_says number (a.Unable client id) e = absurd (false≢true e)
 step_says number (a.Interest client id mode kinds key aggregate) e = absurd (false≢true e)
@@ -208,6 +210,8 @@ module _ (n : ℕ) (short : n ≤ most_line) where
     down = λ router neighbour. quiet n (a.Down router neighbour) (λ m. refl);
     sub = λ client id word key k. quiet n (a.Sub client id key) (λ m. refl);
     unsub = λ client id. quiet n (a.Unsub client id) (λ m. refl);
+    token = λ client id word key k. quiet n (a.Token client id key) (λ m. refl);
+    untoken = λ client id. quiet n (a.Untoken client id) (λ m. refl);
     able = λ client id word key complete k. quiet n (a.Able client id key complete) (λ m. refl);
     unable = λ client id. quiet n (a.Unable client id) (λ m. refl);
     interest = λ client id mode kinds word key aggregate k. quiet n (a.Interest client id mode kinds key aggregate) (λ m. refl);

@@ -12,7 +12,7 @@ use Rattle.zr_id.specs.Zid.{is_named}
 use Rattle.zr_graph.proofs.Names.{same_is, same_refl}
 use Rattle.zr_msg.specs.declared.content.Parts.{Parts}
 use Rattle.zr_msg.specs.declared.msg.Msg.{Msg}
-use Rattle.zr_msg.specs.declared.msg.Msg.TheVariants.{Sub, Unsub, Able, Unable, Interest, EndInterest, ToldSub, ToldAble, ToldUnsub, ToldUnable, ToldEnd, Push, Request, Response, Final, State, Step, Snap}
+use Rattle.zr_msg.specs.declared.msg.Msg.TheVariants.{Sub, Unsub, Token, Untoken, Able, Unable, Interest, EndInterest, ToldSub, ToldAble, ToldUnsub, ToldToken, ToldUntoken, ToldUnable, ToldEnd, Push, Request, Response, Final, State, Step, Snap}
 use Rattle.zr_msg.specs.declared.msg.Target.{Target}
 use Rattle.zr_msg.specs.Extras.{no_extras}
 use Rattle.zr_world_spec.specs.World.{Tagged, ClientState, EndState, End, Ends, WorldState, router_of, client_of, end_of, is_end, is_unbroken, with_end, with_queue, sent, changed}
@@ -141,13 +141,17 @@ end_deeds c s n number kept = record {
 pub receives : (c : List ℕ) (s : ClientState) (msg : Msg) → IsHalf (client_half c (receiving s msg)) (with_deeds (client_half c s) (handles_msg msg))
 receives c s (Sub id key) = record { keeps = λ m. refl; back = λ m. refl }
 receives c s (Unsub id) = record { keeps = λ m. refl; back = λ m. refl }
+receives c s (Token id key) = record { keeps = λ m. refl; back = λ m. refl }
+receives c s (Untoken id) = record { keeps = λ m. refl; back = λ m. refl }
 receives c s (Able id key complete) = record { keeps = λ m. refl; back = λ m. refl }
 receives c s (Unable id) = record { keeps = λ m. refl; back = λ m. refl }
 receives c s (Interest id current future kinds key aggregate) = record { keeps = λ m. refl; back = λ m. refl }
 receives c s (EndInterest id) = record { keeps = λ m. refl; back = λ m. refl }
 receives c s (ToldSub id key interest) = record { keeps = λ m. refl; back = λ m. refl }
+receives c s (ToldToken id key interest) = record { keeps = λ m. refl; back = λ m. refl }
 receives c s (ToldAble id key complete interest) = record { keeps = λ m. refl; back = λ m. refl }
 receives c s (ToldUnsub id) = record { keeps = λ m. refl; back = λ m. refl }
+receives c s (ToldUntoken id) = record { keeps = λ m. refl; back = λ m. refl }
 receives c s (ToldUnable id) = record { keeps = λ m. refl; back = λ m. refl }
 receives c s (ToldEnd interest) = record { keeps = λ m. refl; back = λ m. refl }
 receives c s (Push tree content) = record { keeps = λ m. refl; back = λ m. refl }

@@ -7,7 +7,7 @@ use Rattle.std.proofs.lemmas.Bool.{eqb-true, false_from_ne_true, false≢true}
 use Rattle.zr_id.specs.declared.link.LinkNo.{LinkNo}
 use Rattle.zr_msg.specs.declared.event.Event.TheVariants.{Up, From}
 use Rattle.zr_msg.specs.declared.msg.Msg.{Msg}
-use Rattle.zr_msg.specs.declared.msg.Msg.TheVariants.{Sub, Unsub, Able, Unable, Interest, EndInterest, ToldSub, ToldAble, ToldUnsub, ToldUnable, ToldEnd, Push, Request, Response, Final, State, Step, Snap}
+use Rattle.zr_msg.specs.declared.msg.Msg.TheVariants.{Sub, Unsub, Token, Untoken, Able, Unable, Interest, EndInterest, ToldSub, ToldAble, ToldUnsub, ToldToken, ToldUntoken, ToldUnable, ToldEnd, Push, Request, Response, Final, State, Step, Snap}
 use Rattle.zr_msg.specs.declared.peer.LinkPeer.{LinkPeer}
 use Rattle.zr_msg.specs.Peer.{PeerState}
 use Rattle.zr_pend.specs.declared.branch.Asker.{Asker}
@@ -33,13 +33,17 @@ use Rattle.zr_law_numbers.proofs.OfLinks.{IsUp}
 quiet_half : (node : NodeState) (from : ℕ) (msg : Msg) (l : LinkPeer) → handles_msg msg ≡ [] → IsHalf (half_of (after_from node from msg) l) (half_of node l)
 quiet_half node from (Sub id key) l e = record { keeps = λ n. refl; back = λ n. refl }
 quiet_half node from (Unsub id) l e = record { keeps = λ n. refl; back = λ n. refl }
+quiet_half node from (Token id key) l e = record { keeps = λ n. refl; back = λ n. refl }
+quiet_half node from (Untoken id) l e = record { keeps = λ n. refl; back = λ n. refl }
 quiet_half node from (Able id key complete) l e = record { keeps = λ n. refl; back = λ n. refl }
 quiet_half node from (Unable id) l e = record { keeps = λ n. refl; back = λ n. refl }
 quiet_half node from (Interest id current future kinds key aggregate) l e = record { keeps = λ n. refl; back = λ n. refl }
 quiet_half node from (EndInterest id) l e = record { keeps = λ n. refl; back = λ n. refl }
 quiet_half node from (ToldSub id key interest) l e = record { keeps = λ n. refl; back = λ n. refl }
+quiet_half node from (ToldToken id key interest) l e = record { keeps = λ n. refl; back = λ n. refl }
 quiet_half node from (ToldAble id key complete interest) l e = record { keeps = λ n. refl; back = λ n. refl }
 quiet_half node from (ToldUnsub id) l e = record { keeps = λ n. refl; back = λ n. refl }
+quiet_half node from (ToldUntoken id) l e = record { keeps = λ n. refl; back = λ n. refl }
 quiet_half node from (ToldUnable id) l e = record { keeps = λ n. refl; back = λ n. refl }
 quiet_half node from (ToldEnd interest) l e = record { keeps = λ n. refl; back = λ n. refl }
 quiet_half node from (Push tree content) l e = record { keeps = λ n. refl; back = λ n. refl }
@@ -68,13 +72,17 @@ quiet_done node link msg tag l e =
 pub links_stay : (node : NodeState) (from : ℕ) (msg : Msg) → (after_from node from msg).links ≡ node.links
 links_stay node from (Sub id key) = refl
 links_stay node from (Unsub id) = refl
+links_stay node from (Token id key) = refl
+links_stay node from (Untoken id) = refl
 links_stay node from (Able id key complete) = refl
 links_stay node from (Unable id) = refl
 links_stay node from (Interest id current future kinds key aggregate) = refl
 links_stay node from (EndInterest id) = refl
 links_stay node from (ToldSub id key interest) = refl
+links_stay node from (ToldToken id key interest) = refl
 links_stay node from (ToldAble id key complete interest) = refl
 links_stay node from (ToldUnsub id) = refl
+links_stay node from (ToldUntoken id) = refl
 links_stay node from (ToldUnable id) = refl
 links_stay node from (ToldEnd interest) = refl
 links_stay node from (Push tree content) = refl

@@ -3,7 +3,7 @@
 use Rattle.std.proofs.Common.{◌≡◌, ℕ, true, List, [], ◌++◌, Option, refl, sym, subst}
 use Rattle.std.specs.List.{AllByRecursion, flat_map, list_all}
 use Rattle.zr_msg.specs.declared.msg.Msg.{Msg}
-use Rattle.zr_msg.specs.declared.msg.Msg.TheVariants.{Sub, Unsub, Able, Unable, Interest, EndInterest, ToldSub, ToldAble, ToldUnsub, ToldUnable, ToldEnd, Push, Request, Response, Final, State, Step, Snap}
+use Rattle.zr_msg.specs.declared.msg.Msg.TheVariants.{Sub, Unsub, Token, Untoken, Able, Unable, Interest, EndInterest, ToldSub, ToldAble, ToldUnsub, ToldToken, ToldUntoken, ToldUnable, ToldEnd, Push, Request, Response, Final, State, Step, Snap}
 use Rattle.zr_world_spec.specs.World.{Tagged}
 use Rattle.zr_law_numbers.specs.Deeds.{Half, Deed, with_deeds, MayDoAll, asked_by_deed, answered_by_deed, handles_msg, is_own}
 use Rattle.zr_law_numbers.proofs.Leading.{Leads, Stays, Wire, link_is, led, handled, answered, requested, deeds_upper, deeds_lower}
@@ -60,13 +60,17 @@ moves_lead above below l m (Lower d) =
 pub may_handle : (h : Half) (msg : Msg) → MayDoAll h (handles_msg msg ++ [])
 may_handle h (Sub id key) = tt
 may_handle h (Unsub id) = tt
+may_handle h (Token id key) = tt
+may_handle h (Untoken id) = tt
 may_handle h (Able id key complete) = tt
 may_handle h (Unable id) = tt
 may_handle h (Interest id current future kinds key aggregate) = tt
 may_handle h (EndInterest id) = tt
 may_handle h (ToldSub id key interest) = tt
+may_handle h (ToldToken id key interest) = tt
 may_handle h (ToldAble id key complete interest) = tt
 may_handle h (ToldUnsub id) = tt
+may_handle h (ToldUntoken id) = tt
 may_handle h (ToldUnable id) = tt
 may_handle h (ToldEnd interest) = tt
 may_handle h (Push tree content) = tt

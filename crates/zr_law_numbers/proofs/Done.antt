@@ -4,7 +4,7 @@ use Rattle.std.proofs.lemmas.Option.{none-some}
 use Rattle.zr_id.specs.declared.link.LinkNo.{LinkNo}
 use Rattle.zr_msg.specs.declared.event.Event.TheVariants.{Up, Down, From}
 use Rattle.zr_msg.specs.declared.msg.Msg.{Msg}
-use Rattle.zr_msg.specs.declared.msg.Msg.TheVariants.{Sub, Unsub, Able, Unable, Interest, EndInterest, ToldSub, ToldAble, ToldUnsub, ToldUnable, ToldEnd, Push, Request, Response, Final, State, Step, Snap}
+use Rattle.zr_msg.specs.declared.msg.Msg.TheVariants.{Sub, Unsub, Token, Untoken, Able, Unable, Interest, EndInterest, ToldSub, ToldAble, ToldUnsub, ToldToken, ToldUntoken, ToldUnable, ToldEnd, Push, Request, Response, Final, State, Step, Snap}
 use Rattle.zr_msg.specs.declared.peer.LinkPeer.{LinkPeer}
 use Rattle.zr_node_spec.specs.Tables.{link_at}
 use Rattle.zr_node_spec.specs.State.{NodeState}
@@ -35,13 +35,17 @@ module _ (node : NodeState) (link : LinkNo) (h : AreOfLinks node) where
   from_done : (msg : Msg) → IsUp node.links link.0 → refuses_from node link.0 msg ≡ None → EventIsDone node (From link msg)
   from_done (Sub id key) up r = quiet (Sub id key) refl
   from_done (Unsub id) up r = quiet (Unsub id) refl
+  from_done (Token id key) up r = quiet (Token id key) refl
+  from_done (Untoken id) up r = quiet (Untoken id) refl
   from_done (Able id key complete) up r = quiet (Able id key complete) refl
   from_done (Unable id) up r = quiet (Unable id) refl
   from_done (Interest id current future kinds key aggregate) up r = quiet (Interest id current future kinds key aggregate) refl
   from_done (EndInterest id) up r = quiet (EndInterest id) refl
   from_done (ToldSub id key interest) up r = quiet (ToldSub id key interest) refl
+  from_done (ToldToken id key interest) up r = quiet (ToldToken id key interest) refl
   from_done (ToldAble id key complete interest) up r = quiet (ToldAble id key complete interest) refl
   from_done (ToldUnsub id) up r = quiet (ToldUnsub id) refl
+  from_done (ToldUntoken id) up r = quiet (ToldUntoken id) refl
   from_done (ToldUnable id) up r = quiet (ToldUnable id) refl
   from_done (ToldEnd interest) up r = quiet (ToldEnd interest) refl
   from_done (Push tree content) up r = quiet (Push tree content) refl

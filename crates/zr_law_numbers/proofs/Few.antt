@@ -14,7 +14,7 @@ use Rattle.zr_msg.specs.declared.decl.Kind.TheVariants as k
 use Rattle.zr_msg.specs.declared.event.Event.{Event}
 use Rattle.zr_msg.specs.declared.event.Event.TheVariants.{Up, Down, From}
 use Rattle.zr_msg.specs.declared.msg.Msg.{Msg}
-use Rattle.zr_msg.specs.declared.msg.Msg.TheVariants.{Sub, Unsub, Able, Unable, Interest, EndInterest, ToldSub, ToldAble, ToldUnsub, ToldUnable, ToldEnd, Push, Request, Response, Final, State, Step, Snap}
+use Rattle.zr_msg.specs.declared.msg.Msg.TheVariants.{Sub, Unsub, Token, Untoken, Able, Unable, Interest, EndInterest, ToldSub, ToldAble, ToldUnsub, ToldToken, ToldUntoken, ToldUnable, ToldEnd, Push, Request, Response, Final, State, Step, Snap}
 use Rattle.zr_id.specs.Zid.{is_named}
 use Rattle.zr_msg.specs.declared.peer.Role.TheVariants.{Client}
 use Rattle.zr_script_spec.specs.declared.command.Act.{Act}
@@ -113,13 +113,17 @@ module _ (n : ℕ) (node : NodeState) (up : AreNumbered node.links) (h : AreFew 
   few_from : (from : LinkNo) (msg : Msg) → AreFew (n + 1) (after node (From from msg))
   few_from from (Sub id key) = as_before
   few_from from (Unsub id) = as_before
+  few_from from (Token id key) = as_before
+  few_from from (Untoken id) = as_before
   few_from from (Able id key complete) = as_before
   few_from from (Unable id) = as_before
   few_from from (Interest id current future kinds key aggregate) = as_before
   few_from from (EndInterest id) = as_before
   few_from from (ToldSub id key interest) = as_before
+  few_from from (ToldToken id key interest) = as_before
   few_from from (ToldAble id key complete interest) = as_before
   few_from from (ToldUnsub id) = as_before
+  few_from from (ToldUntoken id) = as_before
   few_from from (ToldUnable id) = as_before
   few_from from (ToldEnd interest) = as_before
   few_from from (Push tree content) = as_before
@@ -189,6 +193,8 @@ module _ (n : ℕ) (now : Moment) (tables : (x : Name) (r : RouterState) → rou
   act_few line (a.Down router name) = for_down now Few (λ u v report t k. of_each u v t (λ x b. AreFew (n + 1) b) k) line router name (λ r found there s at_end up cut l number taken. hears router r found (Down l))
   act_few line (a.Sub client id key) = for_declare now Few line client k.Sub id key (Sub id key) (λ s found fresh e at_end unbroken r there weighs. heavier s.router key r there)
   act_few line (a.Unsub client id) = for_undeclare now Few line client k.Sub id (Unsub id) (λ s found known e at_end unbroken. stays)
+  act_few line (a.Token client id key) = for_declare now Few line client k.Token id key (Token id key) (λ s found fresh e at_end unbroken r there weighs. heavier s.router key r there)
+  act_few line (a.Untoken client id) = for_undeclare now Few line client k.Token id (Untoken id) (λ s found known e at_end unbroken. stays)
   act_few line (a.Able client id key complete) = for_declare now Few line client (able_kind complete) id key (Able id key complete) (λ s found fresh e at_end unbroken r there weighs. heavier s.router key r there)
   act_few line (a.Unable client id) = for_undeclare now Few line client k.Able id (Unable id) (λ s found known e at_end unbroken. stays)
   act_few line (a.Interest client id mode kinds key aggregate) = interest_says now Few line client id mode kinds key aggregate (λ s found e at_end unbroken clients same. stays)

@@ -119,13 +119,17 @@ received_apart : (s : ClientState) (msg : Msg) → IsApart s → ((tree : Option
     IsApart (receiving s msg)
 received_apart s (m.Sub id key) h new = h
 received_apart s (m.Unsub id) h new = h
+received_apart s (m.Token id key) h new = h
+received_apart s (m.Untoken id) h new = h
 received_apart s (m.Able id key complete) h new = h
 received_apart s (m.Unable id) h new = h
 received_apart s (m.Interest id current future kinds key aggregate) h new = h
 received_apart s (m.EndInterest id) h new = h
 received_apart s (m.ToldSub id key interest) h new = h
+received_apart s (m.ToldToken id key interest) h new = h
 received_apart s (m.ToldAble id key complete interest) h new = h
 received_apart s (m.ToldUnsub id) h new = h
+received_apart s (m.ToldUntoken id) h new = h
 received_apart s (m.ToldUnable id) h new = h
 received_apart s (m.ToldEnd interest) h new = h
 received_apart s (m.Push tree content) h new = h
@@ -141,6 +145,7 @@ pub ids_apart : (s : ClientState) (kind : Kind) (ids : List ℕ) → ((with_ids 
 ids_apart s sort.Sub ids = (refl, refl, refl)
 ids_apart s sort.Able ids = (refl, refl, refl)
 ids_apart s sort.Full ids = (refl, refl, refl)
+ids_apart s sort.Token ids = (refl, refl, refl)
 
 same_apart : (s s' : ClientState) → s'.queries ≡ s.queries → s'.requests ≡ s.requests → IsApart s → IsApart s'
 same_apart s s' queries requests h = record { queries = ap are_apart queries ∙ h.queries; requests = ap are_apart requests ∙ h.requests }
@@ -379,6 +384,8 @@ module _ (now : Moment) (g : Goes now.world) (h : NumbersGo now.world) where
       (downed router r er n name s es cut k.0 k.1) (down_may_come w g.sound router name r er l el) taken))
   act_numbers n (c.Sub client id key) = declares n client sort.Sub id key (m.Sub id key) refl refl
   act_numbers n (c.Unsub client id) = undeclares n client sort.Sub id (m.Unsub id) refl refl
+  act_numbers n (c.Token client id key) = declares n client sort.Token id key (m.Token id key) refl refl
+  act_numbers n (c.Untoken client id) = undeclares n client sort.Token id (m.Untoken id) refl refl
   act_numbers n (c.Able client id key complete) = declares n client (able_kind complete) id key (m.Able id key complete) refl refl
   act_numbers n (c.Unable client id) = undeclares n client sort.Able id (m.Unable id) refl refl
   act_numbers n (c.Interest client id mode kinds key aggregate) = for_interest now IsKept n client id mode kinds key aggregate

@@ -5,7 +5,7 @@ use Rattle.std.specs.List.{flat_map, list_all}
 use Rattle.std.specs.Option.{option_map_or}
 use Rattle.std.proofs.lemmas.Bool.{false≢true}
 use Rattle.zr_msg.specs.declared.msg.Msg.{Msg}
-use Rattle.zr_msg.specs.declared.msg.Msg.TheVariants.{Sub, Unsub, Able, Unable, Interest, EndInterest, ToldSub, ToldAble, ToldUnsub, ToldUnable, ToldEnd, Push, Request, Response, Final, State, Step, Snap}
+use Rattle.zr_msg.specs.declared.msg.Msg.TheVariants.{Sub, Unsub, Token, Untoken, Able, Unable, Interest, EndInterest, ToldSub, ToldAble, ToldUnsub, ToldToken, ToldUntoken, ToldUnable, ToldEnd, Push, Request, Response, Final, State, Step, Snap}
 use Rattle.zr_world_spec.specs.World.{Tagged}
 use Rattle.zr_law_queries.specs.Link.{Ask, Answer, Link, Hop, Shows, Event, Asking, Taking, Replying, Ending, Hearing, Closing, Leaving, ask, reply, final, asked, left, replied, ended, link_after, hops_after}
 use Rattle.zr_law_queries.proofs.Hops.{event_shows}
@@ -84,13 +84,17 @@ module _ (start l : Wire) (tag : ℕ) (h : Half) (c : Leads start l) where
   pub front_upper : (msg : Msg) (rest : List (Answer Said)) → l.answers ≡ answers_in tag msg ++ rest → ((n : ℕ) → l.back n ≡ h.back n) → Leads start (above msg rest)
   front_upper (Sub id key) rest first same = no_answer (Sub id key) rest first same
   front_upper (Unsub id) rest first same = no_answer (Unsub id) rest first same
+  front_upper (Token id key) rest first same = no_answer (Token id key) rest first same
+  front_upper (Untoken id) rest first same = no_answer (Untoken id) rest first same
   front_upper (Able id key complete) rest first same = no_answer (Able id key complete) rest first same
   front_upper (Unable id) rest first same = no_answer (Unable id) rest first same
   front_upper (Interest id current future kinds key aggregate) rest first same = no_answer (Interest id current future kinds key aggregate) rest first same
   front_upper (EndInterest id) rest first same = no_answer (EndInterest id) rest first same
   front_upper (ToldSub id key interest) rest first same = no_answer (ToldSub id key interest) rest first same
+  front_upper (ToldToken id key interest) rest first same = no_answer (ToldToken id key interest) rest first same
   front_upper (ToldAble id key complete interest) rest first same = no_answer (ToldAble id key complete interest) rest first same
   front_upper (ToldUnsub id) rest first same = no_answer (ToldUnsub id) rest first same
+  front_upper (ToldUntoken id) rest first same = no_answer (ToldUntoken id) rest first same
   front_upper (ToldUnable id) rest first same = no_answer (ToldUnable id) rest first same
   front_upper (ToldEnd interest) rest first same = no_answer (ToldEnd interest) rest first same
   front_upper (Push tree content) rest first same = no_answer (Push tree content) rest first same
@@ -116,13 +120,17 @@ module _ (start l : Wire) (tag : ℕ) (h : Half) (c : Leads start l) where
   pub front_lower : (msg : Msg) (rest : List (Ask Asked)) → l.asks ≡ asks_in tag msg ++ rest → ((n : ℕ) → l.keeps n ≡ h.keeps n) → Leads start (below msg rest)
   front_lower (Sub id key) rest first same = no_ask (Sub id key) rest first same
   front_lower (Unsub id) rest first same = no_ask (Unsub id) rest first same
+  front_lower (Token id key) rest first same = no_ask (Token id key) rest first same
+  front_lower (Untoken id) rest first same = no_ask (Untoken id) rest first same
   front_lower (Able id key complete) rest first same = no_ask (Able id key complete) rest first same
   front_lower (Unable id) rest first same = no_ask (Unable id) rest first same
   front_lower (Interest id current future kinds key aggregate) rest first same = no_ask (Interest id current future kinds key aggregate) rest first same
   front_lower (EndInterest id) rest first same = no_ask (EndInterest id) rest first same
   front_lower (ToldSub id key interest) rest first same = no_ask (ToldSub id key interest) rest first same
+  front_lower (ToldToken id key interest) rest first same = no_ask (ToldToken id key interest) rest first same
   front_lower (ToldAble id key complete interest) rest first same = no_ask (ToldAble id key complete interest) rest first same
   front_lower (ToldUnsub id) rest first same = no_ask (ToldUnsub id) rest first same
+  front_lower (ToldUntoken id) rest first same = no_ask (ToldUntoken id) rest first same
   front_lower (ToldUnable id) rest first same = no_ask (ToldUnable id) rest first same
   front_lower (ToldEnd interest) rest first same = no_ask (ToldEnd interest) rest first same
   front_lower (Push tree content) rest first same = no_ask (Push tree content) rest first same
@@ -160,13 +168,17 @@ may_append h (d ∷ ds) es may = may_append (with_deed h d) ds es may.1
 pub handling_is_silent : (msg : Msg) → (flat_map asked_by_deed (handles_msg msg) ≡ []) × (flat_map answered_by_deed (handles_msg msg) ≡ [])
 handling_is_silent (Sub id key) = (refl, refl)
 handling_is_silent (Unsub id) = (refl, refl)
+handling_is_silent (Token id key) = (refl, refl)
+handling_is_silent (Untoken id) = (refl, refl)
 handling_is_silent (Able id key complete) = (refl, refl)
 handling_is_silent (Unable id) = (refl, refl)
 handling_is_silent (Interest id current future kinds key aggregate) = (refl, refl)
 handling_is_silent (EndInterest id) = (refl, refl)
 handling_is_silent (ToldSub id key interest) = (refl, refl)
+handling_is_silent (ToldToken id key interest) = (refl, refl)
 handling_is_silent (ToldAble id key complete interest) = (refl, refl)
 handling_is_silent (ToldUnsub id) = (refl, refl)
+handling_is_silent (ToldUntoken id) = (refl, refl)
 handling_is_silent (ToldUnable id) = (refl, refl)
 handling_is_silent (ToldEnd interest) = (refl, refl)
 handling_is_silent (Push tree content) = (refl, refl)

@@ -6,7 +6,7 @@ use Rattle.std.specs.Option.{option_map_or, IfSome}
 use Rattle.std.proofs.lemmas.Bool.{eqb-true, false≢true, and_parts}
 use Rattle.zr_id.specs.declared.link.LinkNo.{LinkNo}
 use Rattle.zr_msg.specs.declared.msg.Msg.{Msg}
-use Rattle.zr_msg.specs.declared.msg.Msg.TheVariants.{Sub, Unsub, Able, Unable, Interest, EndInterest, ToldSub, ToldAble, ToldUnsub, ToldUnable, ToldEnd, Push, Request, Response, Final, State, Step, Snap}
+use Rattle.zr_msg.specs.declared.msg.Msg.TheVariants.{Sub, Unsub, Token, Untoken, Able, Unable, Interest, EndInterest, ToldSub, ToldAble, ToldUnsub, ToldToken, ToldUntoken, ToldUnable, ToldEnd, Push, Request, Response, Final, State, Step, Snap}
 use Rattle.zr_body.specs.Latest.{is_latest}
 use Rattle.zr_msg.specs.declared.content.Parts.{Parts}
 use Rattle.zr_msg.specs.declared.event.Event.TheVariants.{Up, Down}
@@ -49,13 +49,17 @@ OfClients links held = AllByRecursion (λ g. leads_to_client links g.asker.link.
 pub quiet_keeps : (node : NodeState) (from : ℕ) (msg : Msg) → handles_msg msg ≡ [] → AreOfLinks node → AreOfLinks (after_from node from msg)
 quiet_keeps node from (Sub id key) e h = record { numbered = h.numbered; sound = h.sound; askers = h.askers; branches = h.branches; gatherings = h.gatherings; of_clients = h.of_clients }
 quiet_keeps node from (Unsub id) e h = record { numbered = h.numbered; sound = h.sound; askers = h.askers; branches = h.branches; gatherings = h.gatherings; of_clients = h.of_clients }
+quiet_keeps node from (Token id key) e h = record { numbered = h.numbered; sound = h.sound; askers = h.askers; branches = h.branches; gatherings = h.gatherings; of_clients = h.of_clients }
+quiet_keeps node from (Untoken id) e h = record { numbered = h.numbered; sound = h.sound; askers = h.askers; branches = h.branches; gatherings = h.gatherings; of_clients = h.of_clients }
 quiet_keeps node from (Able id key complete) e h = record { numbered = h.numbered; sound = h.sound; askers = h.askers; branches = h.branches; gatherings = h.gatherings; of_clients = h.of_clients }
 quiet_keeps node from (Unable id) e h = record { numbered = h.numbered; sound = h.sound; askers = h.askers; branches = h.branches; gatherings = h.gatherings; of_clients = h.of_clients }
 quiet_keeps node from (Interest id current future kinds key aggregate) e h = record { numbered = h.numbered; sound = h.sound; askers = h.askers; branches = h.branches; gatherings = h.gatherings; of_clients = h.of_clients }
 quiet_keeps node from (EndInterest id) e h = record { numbered = h.numbered; sound = h.sound; askers = h.askers; branches = h.branches; gatherings = h.gatherings; of_clients = h.of_clients }
 quiet_keeps node from (ToldSub id key interest) e h = h
+quiet_keeps node from (ToldToken id key interest) e h = h
 quiet_keeps node from (ToldAble id key complete interest) e h = h
 quiet_keeps node from (ToldUnsub id) e h = h
+quiet_keeps node from (ToldUntoken id) e h = h
 quiet_keeps node from (ToldUnable id) e h = h
 quiet_keeps node from (ToldEnd interest) e h = h
 quiet_keeps node from (Push tree content) e h = h

@@ -11,7 +11,7 @@ use Rattle.zr_id.specs.Zid.{is_named}
 use Rattle.zr_msg.specs.declared.decl.Kind.{Kind}
 use Rattle.zr_msg.specs.declared.decl.Kind.TheVariants as k
 use Rattle.zr_msg.specs.declared.msg.Msg.{Msg}
-use Rattle.zr_msg.specs.declared.msg.Msg.TheVariants.{Sub, Unsub, Able, Unable, Interest, EndInterest, ToldSub, ToldAble, ToldUnsub, ToldUnable, ToldEnd, Push, Request, Response, Final, State, Step, Snap}
+use Rattle.zr_msg.specs.declared.msg.Msg.TheVariants.{Sub, Unsub, Token, Untoken, Able, Unable, Interest, EndInterest, ToldSub, ToldAble, ToldUnsub, ToldToken, ToldUntoken, ToldUnable, ToldEnd, Push, Request, Response, Final, State, Step, Snap}
 use Rattle.zr_script_spec.specs.declared.command.Act.{Act}
 use Rattle.zr_script_spec.specs.declared.command.Act.TheVariants as a
 use Rattle.zr_node_spec.specs.Table.{able_kind}
@@ -42,18 +42,23 @@ queries_with : (s : ClientState) (kind : Kind) (ids : List ℕ) → (with_ids s 
 queries_with s k.Sub ids = refl
 queries_with s k.Able ids = refl
 queries_with s k.Full ids = refl
+queries_with s k.Token ids = refl
 
 -- what a client is sent opens no query
 fewer_received : (s : ClientState) (msg : Msg) → length (receiving s msg).queries ≤ length s.queries
 fewer_received s (Sub id key) = omega arith
 fewer_received s (Unsub id) = omega arith
+fewer_received s (Token id key) = omega arith
+fewer_received s (Untoken id) = omega arith
 fewer_received s (Able id key complete) = omega arith
 fewer_received s (Unable id) = omega arith
 fewer_received s (Interest id current future kinds key aggregate) = omega arith
 fewer_received s (EndInterest id) = omega arith
 fewer_received s (ToldSub id key interest) = omega arith
+fewer_received s (ToldToken id key interest) = omega arith
 fewer_received s (ToldAble id key complete interest) = omega arith
 fewer_received s (ToldUnsub id) = omega arith
+fewer_received s (ToldUntoken id) = omega arith
 fewer_received s (ToldUnable id) = omega arith
 fewer_received s (ToldEnd interest) = omega arith
 fewer_received s (Push tree content) = omega arith
@@ -120,6 +125,8 @@ module _ (now : Moment) (h : AreOpen now.world.clients) where
   act_open line (a.Down router name) = for_down now Open line router name (λ r found there s at_end up cut l number taken. h)
   act_open line (a.Sub client id key) = for_declare now Open line client k.Sub id key (Sub id key) (λ s found fresh e at_end unbroken r there weighs. changes client s found k.Sub (ids_of s k.Sub ++ id ∷ []))
   act_open line (a.Unsub client id) = for_undeclare now Open line client k.Sub id (Unsub id) (λ s found known e at_end unbroken. changes client s found k.Sub (without_number (ids_of s k.Sub) id))
+  act_open line (a.Token client id key) = for_declare now Open line client k.Token id key (Token id key) (λ s found fresh e at_end unbroken r there weighs. changes client s found k.Token (ids_of s k.Token ++ id ∷ []))
+  act_open line (a.Untoken client id) = for_undeclare now Open line client k.Token id (Untoken id) (λ s found known e at_end unbroken. changes client s found k.Token (without_number (ids_of s k.Token) id))
   act_open line (a.Able client id key complete) =
       for_declare now Open line client (able_kind complete) id key (Able id key complete) (λ s found fresh e at_end unbroken r there weighs.
       changes client s found (able_kind complete) (ids_of s (able_kind complete) ++ id ∷ []))

@@ -10,7 +10,7 @@ use Rattle.zr_graph.specs.Record.{record_of}
 use Rattle.zr_msg.specs.declared.content.Parts.{Parts}
 use Rattle.zr_msg.specs.declared.decl.Decl.{Decl}
 use Rattle.zr_msg.specs.declared.msg.Msg.{Msg}
-use Rattle.zr_msg.specs.declared.msg.Msg.TheVariants.{Sub, Unsub, Able, Unable, Interest, EndInterest, ToldSub, ToldAble, ToldUnsub, ToldUnable, ToldEnd, Push, Request, Response, Final, State, Step, Snap}
+use Rattle.zr_msg.specs.declared.msg.Msg.TheVariants.{Sub, Unsub, Token, Untoken, Able, Unable, Interest, EndInterest, ToldSub, ToldAble, ToldUnsub, ToldToken, ToldUntoken, ToldUnable, ToldEnd, Push, Request, Response, Final, State, Step, Snap}
 use Rattle.zr_msg.specs.declared.event.Event.{Event}
 use Rattle.zr_msg.specs.declared.event.Event.TheVariants.{Down}
 use Rattle.zr_msg.specs.declared.peer.LinkPeer.{LinkPeer}
@@ -121,13 +121,17 @@ module _ {X : Type 0} (tells : Msg → List X) (none : IsOfQueries tells) where
     pub from_silent : (from : ℕ) (msg : Msg) (to : ℕ) → handles_msg msg ≡ [] → flat_map tells (sends_from n from msg to) ≡ []
     from_silent from (Sub id key) to e = rows_silent _ to
     from_silent from (Unsub id) to e = rows_silent _ to
+    from_silent from (Token id key) to e = rows_silent _ to
+    from_silent from (Untoken id) to e = rows_silent _ to
     from_silent from (Able id key complete) to e = rows_silent _ to
     from_silent from (Unable id) to e = rows_silent _ to
     from_silent from (Interest id current future kinds key aggregate) to e = refl
     from_silent from (EndInterest id) to e = refl
     from_silent from (ToldSub id key interest) to e = refl
+    from_silent from (ToldToken id key interest) to e = refl
     from_silent from (ToldAble id key complete interest) to e = refl
     from_silent from (ToldUnsub id) to e = refl
+    from_silent from (ToldUntoken id) to e = refl
     from_silent from (ToldUnable id) to e = refl
     from_silent from (ToldEnd interest) to e = refl
     from_silent from (Push tree content) to e = push_silent (tables n) from content (tree_of (tables n) (link_at n.links from) tree) to

@@ -15,10 +15,10 @@ use Rattle.zr_law_numbers.proofs.Waits.{wire_of, queue_of, router_holds, client_
 use Rattle.zr_law_numbers.proofs.Whole.{LinksStay, whole_same}
 
 told_asks : (tag : ℕ) (msg : Msg) → is_told msg ≡ true → asks_in tag msg ≡ []
-told_asks tag = by_told (λ msg. asks_in tag msg ≡ []) (λ id key interest. refl) (λ id key complete interest. refl) (λ id. refl) (λ id. refl) (λ interest. refl)
+told_asks tag = by_told (λ msg. asks_in tag msg ≡ []) (λ id key interest. refl) (λ id key interest. refl) (λ id key complete interest. refl) (λ id. refl) (λ id. refl) (λ id. refl) (λ interest. refl)
 
 told_answers : (tag : ℕ) (msg : Msg) → is_told msg ≡ true → answers_in tag msg ≡ []
-told_answers tag = by_told (λ msg. answers_in tag msg ≡ []) (λ id key interest. refl) (λ id key complete interest. refl) (λ id. refl) (λ id. refl) (λ interest. refl)
+told_answers tag = by_told (λ msg. answers_in tag msg ≡ []) (λ id key interest. refl) (λ id key interest. refl) (λ id key complete interest. refl) (λ id. refl) (λ id. refl) (λ id. refl) (λ interest. refl)
 
 module _ (w v : WorldState) (t : IsTold w v) where
   -- what waits is the same but for what is told

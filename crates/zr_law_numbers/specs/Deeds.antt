@@ -9,7 +9,7 @@ use Rattle.zr_msg.specs.declared.content.Parts.{Parts}
 use Rattle.zr_msg.specs.declared.event.Event.{Event}
 use Rattle.zr_msg.specs.declared.event.Event.TheVariants.{Up, Down, From}
 use Rattle.zr_msg.specs.declared.msg.Msg.{Msg}
-use Rattle.zr_msg.specs.declared.msg.Msg.TheVariants.{Sub, Unsub, Able, Unable, Interest, EndInterest, ToldSub, ToldAble, ToldUnsub, ToldUnable, ToldEnd, Push, Request, Response, Final, State, Step, Snap}
+use Rattle.zr_msg.specs.declared.msg.Msg.TheVariants.{Sub, Unsub, Token, Untoken, Able, Unable, Interest, EndInterest, ToldSub, ToldAble, ToldUnsub, ToldToken, ToldUntoken, ToldUnable, ToldEnd, Push, Request, Response, Final, State, Step, Snap}
 use Rattle.zr_msg.specs.declared.msg.Target.{Target}
 use Rattle.zr_msg.specs.declared.peer.LinkPeer.{LinkPeer}
 use Rattle.zr_pend.specs.declared.branch.Asker.{Asker}
@@ -114,13 +114,17 @@ pub record Does (node : NodeState) (event : Event) (tag : ℕ) (l : LinkPeer) (d
 abbrev pub handles_msg : Msg → List Deed
 handles_msg (Sub id key) = []
 handles_msg (Unsub id) = []
+handles_msg (Token id key) = []
+handles_msg (Untoken id) = []
 handles_msg (Able id key complete) = []
 handles_msg (Unable id) = []
 handles_msg (Interest id current future kinds key aggregate) = []
 handles_msg (EndInterest id) = []
 handles_msg (ToldSub id key interest) = []
+handles_msg (ToldToken id key interest) = []
 handles_msg (ToldAble id key complete interest) = []
 handles_msg (ToldUnsub id) = []
+handles_msg (ToldUntoken id) = []
 handles_msg (ToldUnable id) = []
 handles_msg (ToldEnd interest) = []
 handles_msg (Push tree content) = []
@@ -172,13 +176,17 @@ pub record IsPassedBack (node : NodeState) (event : Event) (tag : ℕ) (to : Lin
 abbrev pub is_ending_msg : Msg → Bool
 is_ending_msg (Sub id key) = false
 is_ending_msg (Unsub id) = false
+is_ending_msg (Token id key) = false
+is_ending_msg (Untoken id) = false
 is_ending_msg (Able id key complete) = false
 is_ending_msg (Unable id) = false
 is_ending_msg (Interest id current future kinds key aggregate) = false
 is_ending_msg (EndInterest id) = false
 is_ending_msg (ToldSub id key interest) = false
+is_ending_msg (ToldToken id key interest) = false
 is_ending_msg (ToldAble id key complete interest) = false
 is_ending_msg (ToldUnsub id) = false
+is_ending_msg (ToldUntoken id) = false
 is_ending_msg (ToldUnable id) = false
 is_ending_msg (ToldEnd interest) = false
 is_ending_msg (Push tree content) = false

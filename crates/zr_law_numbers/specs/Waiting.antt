@@ -5,7 +5,7 @@ use Rattle.std.specs.List.{flat_map}
 use Rattle.std.specs.Option.{option_map, option_map_or, option_and_then, option_or}
 use Rattle.zr_id.specs.Zid.{is_named}
 use Rattle.zr_msg.specs.declared.msg.Msg.{Msg}
-use Rattle.zr_msg.specs.declared.msg.Msg.TheVariants.{Sub, Unsub, Able, Unable, Interest, EndInterest, ToldSub, ToldAble, ToldUnsub, ToldUnable, ToldEnd, Push, Request, Response, Final, State, Step, Snap}
+use Rattle.zr_msg.specs.declared.msg.Msg.TheVariants.{Sub, Unsub, Token, Untoken, Able, Unable, Interest, EndInterest, ToldSub, ToldAble, ToldUnsub, ToldToken, ToldUntoken, ToldUnable, ToldEnd, Push, Request, Response, Final, State, Step, Snap}
 use Rattle.zr_pend.specs.declared.branch.Asker.{Asker}
 use Rattle.zr_pend.specs.Pending.{asked, branch}
 use Rattle.zr_node_spec.specs.Tables.{link_at, link_to}
@@ -46,13 +46,17 @@ waits w x y = wire_at w.ends (y, x) ++ queue_at w.ends (x, y)
 abbrev pub asks_in : ℕ → Msg → List (Ask Asked)
 asks_in tag (Sub id key) = []
 asks_in tag (Unsub id) = []
+asks_in tag (Token id key) = []
+asks_in tag (Untoken id) = []
 asks_in tag (Able id key complete) = []
 asks_in tag (Unable id) = []
 asks_in tag (Interest id current future kinds key aggregate) = []
 asks_in tag (EndInterest id) = []
 asks_in tag (ToldSub id key interest) = []
+asks_in tag (ToldToken id key interest) = []
 asks_in tag (ToldAble id key complete interest) = []
 asks_in tag (ToldUnsub id) = []
+asks_in tag (ToldUntoken id) = []
 asks_in tag (ToldUnable id) = []
 asks_in tag (ToldEnd interest) = []
 asks_in tag (Push tree content) = []
@@ -66,13 +70,17 @@ asks_in tag (Snap source number decls) = []
 abbrev pub answers_in : ℕ → Msg → List (Answer Said)
 answers_in tag (Sub id key) = []
 answers_in tag (Unsub id) = []
+answers_in tag (Token id key) = []
+answers_in tag (Untoken id) = []
 answers_in tag (Able id key complete) = []
 answers_in tag (Unable id) = []
 answers_in tag (Interest id current future kinds key aggregate) = []
 answers_in tag (EndInterest id) = []
 answers_in tag (ToldSub id key interest) = []
+answers_in tag (ToldToken id key interest) = []
 answers_in tag (ToldAble id key complete interest) = []
 answers_in tag (ToldUnsub id) = []
+answers_in tag (ToldUntoken id) = []
 answers_in tag (ToldUnable id) = []
 answers_in tag (ToldEnd interest) = []
 answers_in tag (Push tree content) = []

@@ -12,7 +12,7 @@ use Rattle.zr_id.specs.Zid.{is_named}
 use Rattle.zr_graph.proofs.Names.{same_is, same_refl}
 use Rattle.zr_msg.specs.declared.content.Parts.{Parts}
 use Rattle.zr_msg.specs.declared.msg.Msg.{Msg}
-use Rattle.zr_msg.specs.declared.msg.Msg.TheVariants.{Sub, Unsub, Able, Unable, Interest, EndInterest, ToldSub, ToldAble, ToldUnsub, ToldUnable, ToldEnd, Push, Request, Response, Final, State, Step, Snap}
+use Rattle.zr_msg.specs.declared.msg.Msg.TheVariants.{Sub, Unsub, Token, Untoken, Able, Unable, Interest, EndInterest, ToldSub, ToldAble, ToldUnsub, ToldToken, ToldUntoken, ToldUnable, ToldEnd, Push, Request, Response, Final, State, Step, Snap}
 use Rattle.zr_script_spec.specs.declared.command.Act.{Act}
 use Rattle.zr_script_spec.specs.declared.command.Act.TheVariants as c
 use Rattle.zr_script_spec.specs.declared.report.ReportLine.{ReportLine}
@@ -46,6 +46,8 @@ asks_publishes line (c.Break router neighbour) q e = absurd (none-some q e)
 asks_publishes line (c.Down router neighbour) q e = absurd (none-some q e)
 asks_publishes line (c.Sub client id key) q e = absurd (none-some q e)
 asks_publishes line (c.Unsub client id) q e = absurd (none-some q e)
+asks_publishes line (c.Token client id key) q e = absurd (none-some q e)
+asks_publishes line (c.Untoken client id) q e = absurd (none-some q e)
 asks_publishes line (c.Able client id key complete) q e = absurd (none-some q e)
 asks_publishes line (c.Unable client id) q e = absurd (none-some q e)
 asks_publishes line (c.Interest client id mode kinds key aggregate) q e = absurd (none-some q e)
@@ -63,13 +65,17 @@ request_item : (n tag : ℕ) (msg : Msg) → is_request n msg ≡ true → (i : 
 request_item n tag (Request tree id target content) e = (record { line = tag; carried = Query target content }, inl refl, refl)
 request_item n tag (Sub id key) e = absurd (false≢true e)
 request_item n tag (Unsub id) e = absurd (false≢true e)
+request_item n tag (Token id key) e = absurd (false≢true e)
+request_item n tag (Untoken id) e = absurd (false≢true e)
 request_item n tag (Able id key complete) e = absurd (false≢true e)
 request_item n tag (Unable id) e = absurd (false≢true e)
 request_item n tag (Interest id current future kinds key aggregate) e = absurd (false≢true e)
 request_item n tag (EndInterest id) e = absurd (false≢true e)
 request_item n tag (ToldSub id key interest) e = absurd (false≢true e)
+request_item n tag (ToldToken id key interest) e = absurd (false≢true e)
 request_item n tag (ToldAble id key complete interest) e = absurd (false≢true e)
 request_item n tag (ToldUnsub id) e = absurd (false≢true e)
+request_item n tag (ToldUntoken id) e = absurd (false≢true e)
 request_item n tag (ToldUnable id) e = absurd (false≢true e)
 request_item n tag (ToldEnd interest) e = absurd (false≢true e)
 request_item n tag (Push tree content) e = absurd (false≢true e)
@@ -106,6 +112,8 @@ attached_came name acts h = by (any acts false h)
     more b (c.Down router neighbour) e = inl e
     more b (c.Sub client id key) e = inl e
     more b (c.Unsub client id) e = inl e
+    more b (c.Token client id key) e = inl e
+    more b (c.Untoken client id) e = inl e
     more b (c.Able client id key complete) e = inl e
     more b (c.Unable client id) e = inl e
     more b (c.Interest client id mode kinds key aggregate) e = inl e

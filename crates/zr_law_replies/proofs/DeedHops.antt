@@ -4,7 +4,7 @@ use Rattle.std.proofs.Common.{◌≡◌, ℕ, ◌==◌, Bool, true, false, cond,
 use Rattle.std.specs.List.{flat_map, list_all}
 use Rattle.std.proofs.lemmas.Bool.{false≢true, eqb-true}
 use Rattle.zr_msg.specs.declared.msg.Msg.{Msg}
-use Rattle.zr_msg.specs.declared.msg.Msg.TheVariants.{Sub, Unsub, Able, Unable, Interest, EndInterest, ToldSub, ToldAble, ToldUnsub, ToldUnable, ToldEnd, Push, Request, Response, Final, State, Step, Snap}
+use Rattle.zr_msg.specs.declared.msg.Msg.TheVariants.{Sub, Unsub, Token, Untoken, Able, Unable, Interest, EndInterest, ToldSub, ToldAble, ToldUnsub, ToldToken, ToldUntoken, ToldUnable, ToldEnd, Push, Request, Response, Final, State, Step, Snap}
 use Rattle.zr_world_spec.specs.World.{Tagged}
 use Rattle.zr_law_queries.specs.Link.{Ask, Answer, ask, reply, final, Free, Asked as AskedHop, Shows, ShowsAt, Event, Asking, Taking, Replying, Ending, Hearing, Closing, Leaving, asked, left, replied, ended, put, link_after, hop_taken, hop_replied, hop_ended, hop_heard, hop_left}
 use Rattle.zr_law_queries.proofs.Hops.{event_shows}
@@ -120,13 +120,17 @@ module _ (l : Wire) (tag : ℕ) (h : Half) (hops : ℕ → HopState) (s : Shows 
   above_front : (msg : Msg) (rest : List (Answer Said)) → l.answers ≡ answers_in tag msg ++ rest → ((n : ℕ) → l.back n ≡ h.back n) → Shows (above msg rest) (λ n. above_hops n (handles_msg msg) (hops n))
   above_front (Sub id key) rest first same = no_answer (Sub id key) rest first same
   above_front (Unsub id) rest first same = no_answer (Unsub id) rest first same
+  above_front (Token id key) rest first same = no_answer (Token id key) rest first same
+  above_front (Untoken id) rest first same = no_answer (Untoken id) rest first same
   above_front (Able id key complete) rest first same = no_answer (Able id key complete) rest first same
   above_front (Unable id) rest first same = no_answer (Unable id) rest first same
   above_front (Interest id current future kinds key aggregate) rest first same = no_answer (Interest id current future kinds key aggregate) rest first same
   above_front (EndInterest id) rest first same = no_answer (EndInterest id) rest first same
   above_front (ToldSub id key interest) rest first same = no_answer (ToldSub id key interest) rest first same
+  above_front (ToldToken id key interest) rest first same = no_answer (ToldToken id key interest) rest first same
   above_front (ToldAble id key complete interest) rest first same = no_answer (ToldAble id key complete interest) rest first same
   above_front (ToldUnsub id) rest first same = no_answer (ToldUnsub id) rest first same
+  above_front (ToldUntoken id) rest first same = no_answer (ToldUntoken id) rest first same
   above_front (ToldUnable id) rest first same = no_answer (ToldUnable id) rest first same
   above_front (ToldEnd interest) rest first same = no_answer (ToldEnd interest) rest first same
   above_front (Push tree content) rest first same = no_answer (Push tree content) rest first same
@@ -153,13 +157,17 @@ module _ (l : Wire) (tag : ℕ) (h : Half) (hops : ℕ → HopState) (s : Shows 
   below_front : (msg : Msg) (rest : List (Ask Asked)) → l.asks ≡ asks_in tag msg ++ rest → ((n : ℕ) → l.keeps n ≡ h.keeps n) → Shows (below msg rest) (λ n. below_hops n (handles_msg msg) (hops n))
   below_front (Sub id key) rest first same = no_ask (Sub id key) rest first same
   below_front (Unsub id) rest first same = no_ask (Unsub id) rest first same
+  below_front (Token id key) rest first same = no_ask (Token id key) rest first same
+  below_front (Untoken id) rest first same = no_ask (Untoken id) rest first same
   below_front (Able id key complete) rest first same = no_ask (Able id key complete) rest first same
   below_front (Unable id) rest first same = no_ask (Unable id) rest first same
   below_front (Interest id current future kinds key aggregate) rest first same = no_ask (Interest id current future kinds key aggregate) rest first same
   below_front (EndInterest id) rest first same = no_ask (EndInterest id) rest first same
   below_front (ToldSub id key interest) rest first same = no_ask (ToldSub id key interest) rest first same
+  below_front (ToldToken id key interest) rest first same = no_ask (ToldToken id key interest) rest first same
   below_front (ToldAble id key complete interest) rest first same = no_ask (ToldAble id key complete interest) rest first same
   below_front (ToldUnsub id) rest first same = no_ask (ToldUnsub id) rest first same
+  below_front (ToldUntoken id) rest first same = no_ask (ToldUntoken id) rest first same
   below_front (ToldUnable id) rest first same = no_ask (ToldUnable id) rest first same
   below_front (ToldEnd interest) rest first same = no_ask (ToldEnd interest) rest first same
   below_front (Push tree content) rest first same = no_ask (Push tree content) rest first same

@@ -81,6 +81,8 @@ module _ (acts : List Numbered) (m : Moment) (lines : Lines) (h : Stands acts m 
   queries_kept n (c.Down router name) before = quiet acts m lines h n (c.Down router name) before all refl (outcome m.world n (c.Down router name))
   queries_kept n (c.Sub client id key) before = quiet acts m lines h n (c.Sub client id key) before all refl (outcome m.world n (c.Sub client id key))
   queries_kept n (c.Unsub client id) before = quiet acts m lines h n (c.Unsub client id) before all refl (outcome m.world n (c.Unsub client id))
+  queries_kept n (c.Token client id key) before = quiet acts m lines h n (c.Token client id key) before all refl (outcome m.world n (c.Token client id key))
+  queries_kept n (c.Untoken client id) before = quiet acts m lines h n (c.Untoken client id) before all refl (outcome m.world n (c.Untoken client id))
   queries_kept n (c.Able client id key complete) before = quiet acts m lines h n (c.Able client id key complete) before all refl (outcome m.world n (c.Able client id key complete))
   queries_kept n (c.Unable client id) before = quiet acts m lines h n (c.Unable client id) before all refl (outcome m.world n (c.Unable client id))
   queries_kept n (c.Interest client id mode kinds key aggregate) before =

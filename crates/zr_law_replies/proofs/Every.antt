@@ -85,6 +85,8 @@ module _ (acts : List Numbered) (m : Moment) (h : Holds acts m) where
       (new_other acts (n, c.Down router name) before refl (λ s e. absurd (none-some s e))) router name
   kept n (c.Sub client id key) before = declares n (c.Sub client id key) before (λ d k. record { ended = refl; asked = refl }) client sort.Sub id key (msgs.Sub id key) refl refl
   kept n (c.Unsub client id) before = undeclares n (c.Unsub client id) before (λ d k. record { ended = refl; asked = refl }) client sort.Sub id (msgs.Unsub id) refl refl
+  kept n (c.Token client id key) before = declares n (c.Token client id key) before (λ d k. record { ended = refl; asked = refl }) client sort.Token id key (msgs.Token id key) refl refl
+  kept n (c.Untoken client id) before = undeclares n (c.Untoken client id) before (λ d k. record { ended = refl; asked = refl }) client sort.Token id (msgs.Untoken id) refl refl
   kept n (c.Able client id key complete) before =
       declares n (c.Able client id key complete) before (λ d k. record { ended = refl; asked = refl }) client (able_kind complete) id key (msgs.Able id key complete) refl refl
   kept n (c.Unable client id) before = undeclares n (c.Unable client id) before (λ d k. record { ended = refl; asked = refl }) client sort.Able id (msgs.Unable id) refl refl

@@ -16,7 +16,7 @@ use Rattle.zr_msg.specs.declared.content.Parts.{Parts}
 use Rattle.zr_msg.specs.declared.event.Event.{Event}
 use Rattle.zr_msg.specs.declared.event.Event.TheVariants.{Up, Down, From}
 use Rattle.zr_msg.specs.declared.msg.Msg.{Msg}
-use Rattle.zr_msg.specs.declared.msg.Msg.TheVariants.{Sub, Unsub, Able, Unable, Interest, EndInterest, ToldSub, ToldAble, ToldUnsub, ToldUnable, ToldEnd, Push, Request, Response, Final, State, Step, Snap}
+use Rattle.zr_msg.specs.declared.msg.Msg.TheVariants.{Sub, Unsub, Token, Untoken, Able, Unable, Interest, EndInterest, ToldSub, ToldAble, ToldUnsub, ToldToken, ToldUntoken, ToldUnable, ToldEnd, Push, Request, Response, Final, State, Step, Snap}
 use Rattle.zr_msg.specs.declared.msg.Target.{Target}
 use Rattle.zr_pend.specs.declared.branch.Asker.{Asker}
 use Rattle.zr_pend.specs.Row.{RowState}
@@ -272,13 +272,17 @@ module _ (node : NodeState) (a : Asker) (hs : List Parts) where
       by : (msg : Msg) → held_list (after node (From link msg)).held a ≡ Some hs → IsGathering node (From link msg) a hs
       by (Sub id key) k = inl k
       by (Unsub id) k = inl k
+      by (Token id key) k = inl k
+      by (Untoken id) k = inl k
       by (Able id key complete) k = inl k
       by (Unable id) k = inl k
       by (Interest id current future kinds key aggregate) k = inl k
       by (EndInterest id) k = inl k
       by (ToldSub id key interest) k = inl k
+      by (ToldToken id key interest) k = inl k
       by (ToldAble id key complete interest) k = inl k
       by (ToldUnsub id) k = inl k
+      by (ToldUntoken id) k = inl k
       by (ToldUnable id) k = inl k
       by (ToldEnd interest) k = inl k
       by (Push tree content) k = inl k

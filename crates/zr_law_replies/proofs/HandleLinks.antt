@@ -6,7 +6,7 @@ use Rattle.std.specs.Option.{option_map_or}
 use Rattle.zr_id.specs.Zid.{is_named}
 use Rattle.zr_graph.proofs.Names.{same_is, same_refl}
 use Rattle.zr_msg.specs.declared.msg.Msg.{Msg}
-use Rattle.zr_msg.specs.declared.msg.Msg.TheVariants.{Sub, Unsub, Able, Unable, Interest, EndInterest, ToldSub, ToldAble, ToldUnsub, ToldUnable, ToldEnd, Push, Request, Response, Final, State, Step, Snap}
+use Rattle.zr_msg.specs.declared.msg.Msg.TheVariants.{Sub, Unsub, Token, Untoken, Able, Unable, Interest, EndInterest, ToldSub, ToldAble, ToldUnsub, ToldToken, ToldUntoken, ToldUnable, ToldEnd, Push, Request, Response, Final, State, Step, Snap}
 use Rattle.zr_msg.specs.declared.event.Event.{Event}
 use Rattle.zr_msg.specs.declared.event.Event.TheVariants.{From}
 use Rattle.zr_msg.specs.declared.peer.LinkPeer.{LinkPeer}
@@ -56,13 +56,17 @@ pub record IsQuiet (node : NodeState) (link : LinkNo) (msg : Msg) (tag : ℕ) : 
 pub quiet_is : (node : NodeState) (link : LinkNo) (tag : ℕ) (msg : Msg) → handles_msg msg ≡ [] → IsQuiet node link msg tag
 quiet_is node link tag (Sub id key) e = record { asks = refl; answers = refl; pending = refl }
 quiet_is node link tag (Unsub id) e = record { asks = refl; answers = refl; pending = refl }
+quiet_is node link tag (Token id key) e = record { asks = refl; answers = refl; pending = refl }
+quiet_is node link tag (Untoken id) e = record { asks = refl; answers = refl; pending = refl }
 quiet_is node link tag (Able id key complete) e = record { asks = refl; answers = refl; pending = refl }
 quiet_is node link tag (Unable id) e = record { asks = refl; answers = refl; pending = refl }
 quiet_is node link tag (Interest id current future kinds key aggregate) e = record { asks = refl; answers = refl; pending = refl }
 quiet_is node link tag (EndInterest id) e = record { asks = refl; answers = refl; pending = refl }
 quiet_is node link tag (ToldSub id key interest) e = record { asks = refl; answers = refl; pending = refl }
+quiet_is node link tag (ToldToken id key interest) e = record { asks = refl; answers = refl; pending = refl }
 quiet_is node link tag (ToldAble id key complete interest) e = record { asks = refl; answers = refl; pending = refl }
 quiet_is node link tag (ToldUnsub id) e = record { asks = refl; answers = refl; pending = refl }
+quiet_is node link tag (ToldUntoken id) e = record { asks = refl; answers = refl; pending = refl }
 quiet_is node link tag (ToldUnable id) e = record { asks = refl; answers = refl; pending = refl }
 quiet_is node link tag (ToldEnd interest) e = record { asks = refl; answers = refl; pending = refl }
 quiet_is node link tag (Push tree content) e = record { asks = refl; answers = refl; pending = refl }

@@ -5,7 +5,7 @@ use Rattle.std.specs.Prelude.{IfSome}
 use Rattle.zr_msg.specs.declared.content.Parts.{Parts}
 use Rattle.zr_msg.specs.declared.extras.Extras.{Extras}
 use Rattle.zr_msg.specs.declared.msg.Msg.{Msg}
-use Rattle.zr_msg.specs.declared.msg.Msg.TheVariants.{Sub, Unsub, Able, Unable, Interest, EndInterest, ToldSub, ToldAble, ToldUnsub, ToldUnable, ToldEnd, Push, Request, Response, Final, State, Step, Snap}
+use Rattle.zr_msg.specs.declared.msg.Msg.TheVariants.{Sub, Unsub, Token, Untoken, Able, Unable, Interest, EndInterest, ToldSub, ToldAble, ToldUnsub, ToldToken, ToldUntoken, ToldUnable, ToldEnd, Push, Request, Response, Final, State, Step, Snap}
 use Rattle.zr_msg.specs.declared.event.Event.TheVariants.{From}
 use Rattle.zr_script_spec.specs.declared.command.Act.TheVariants as c
 use Rattle.zr_world_spec.specs.Acts.{having_told, handle_step}
@@ -72,13 +72,17 @@ module _ (before : List Numbered) (mark : ℕ) (start : Moment) (q : Asked) (b :
     handled_then : (msg : Msg) (tag : ℕ) (h : Heard m.world x from msg tag) → Goes (after_heard m x from msg tag h)
     handled_then (Sub id key) tag h = other_then (Sub id key) tag h refl
     handled_then (Unsub id) tag h = other_then (Unsub id) tag h refl
+    handled_then (Token id key) tag h = other_then (Token id key) tag h refl
+    handled_then (Untoken id) tag h = other_then (Untoken id) tag h refl
     handled_then (Able id key complete) tag h = other_then (Able id key complete) tag h refl
     handled_then (Unable id) tag h = other_then (Unable id) tag h refl
     handled_then (Interest id current future kinds key aggregate) tag h = other_then (Interest id current future kinds key aggregate) tag h refl
     handled_then (EndInterest id) tag h = other_then (EndInterest id) tag h refl
     handled_then (ToldSub id key interest) tag h = other_then (ToldSub id key interest) tag h refl
+    handled_then (ToldToken id key interest) tag h = other_then (ToldToken id key interest) tag h refl
     handled_then (ToldAble id key complete interest) tag h = other_then (ToldAble id key complete interest) tag h refl
     handled_then (ToldUnsub id) tag h = other_then (ToldUnsub id) tag h refl
+    handled_then (ToldUntoken id) tag h = other_then (ToldUntoken id) tag h refl
     handled_then (ToldUnable id) tag h = other_then (ToldUnable id) tag h refl
     handled_then (ToldEnd interest) tag h = other_then (ToldEnd interest) tag h refl
     handled_then (Push tree content) tag h = other_then (Push tree content) tag h refl

@@ -8,7 +8,7 @@ use Rattle.std.proofs.lemmas.List.Elements.{filter-append}
 use Rattle.std.proofs.lemmas.Option.{none-some}
 use Rattle.zr_lists.proofs.Each.{All-append, All-back, All-each}
 use Rattle.zr_msg.specs.declared.msg.Msg.{Msg}
-use Rattle.zr_msg.specs.declared.msg.Msg.TheVariants.{Sub, Unsub, Able, Unable, Interest, EndInterest, ToldSub, ToldAble, ToldUnsub, ToldUnable, ToldEnd, Push, Request, Response, Final, State, Step, Snap}
+use Rattle.zr_msg.specs.declared.msg.Msg.TheVariants.{Sub, Unsub, Token, Untoken, Able, Unable, Interest, EndInterest, ToldSub, ToldAble, ToldUnsub, ToldToken, ToldUntoken, ToldUnable, ToldEnd, Push, Request, Response, Final, State, Step, Snap}
 use Rattle.zr_script_spec.specs.declared.report.ReportLine.{ReportLine}
 use Rattle.zr_world_spec.specs.World.{Tagged, WorldState}
 use Rattle.zr_world_spec.specs.Moments.{Numbered}
@@ -117,13 +117,17 @@ handled_some h (Some t) k by e = at t.msg e
     at : (msg : Msg) → (with_deeds h (handles_msg msg)).back k ≡ Some by → h.back k ≡ Some by
     at (Sub id key) f = f
     at (Unsub id) f = f
+    at (Token id key) f = f
+    at (Untoken id) f = f
     at (Able id key complete) f = f
     at (Unable id) f = f
     at (Interest id current future kinds key aggregate) f = f
     at (EndInterest id) f = f
     at (ToldSub id key interest) f = f
+    at (ToldToken id key interest) f = f
     at (ToldAble id key complete interest) f = f
     at (ToldUnsub id) f = f
+    at (ToldUntoken id) f = f
     at (ToldUnable id) f = f
     at (ToldEnd interest) f = f
     at (Push tree content) f = f

@@ -102,6 +102,8 @@ module _ (acts : List Numbered) (now : Moment) (h : Present acts now) where
       (位 r er there s es up cut l el taken. same n (c.Down router name) (on_down now n router name r l) (heard router r (Down l) er) (位 x. refl))
   act_present n (c.Sub client id key) = declares n (c.Sub client id key) (位 x. refl) client sort.Sub id key (m.Sub id key)
   act_present n (c.Unsub client id) = undeclares n (c.Unsub client id) (位 x. refl) client sort.Sub id (m.Unsub id)
+  act_present n (c.Token client id key) = declares n (c.Token client id key) (位 x. refl) client sort.Token id key (m.Token id key)
+  act_present n (c.Untoken client id) = undeclares n (c.Untoken client id) (位 x. refl) client sort.Token id (m.Untoken id)
   act_present n (c.Able client id key complete) = declares n (c.Able client id key complete) (位 x. refl) client (able_kind complete) id key (m.Able id key complete)
   act_present n (c.Unable client id) = undeclares n (c.Unable client id) (位 x. refl) client sort.Able id (m.Unable id)
   act_present n (c.Interest client id mode kinds key aggregate) =
@@ -152,6 +154,8 @@ home_stays acts x name h = ap is_some (fold-append (位 (so_far : Option (List 鈩
     by (c.Down router neighbour) = h
     by (c.Sub client id key) = h
     by (c.Unsub client id) = h
+    by (c.Token client id key) = h
+    by (c.Untoken client id) = h
     by (c.Able client id key complete) = h
     by (c.Unable client id) = h
     by (c.Interest client id mode kinds key aggregate) = h
@@ -197,6 +201,8 @@ module _ (acts : List Numbered) (now : Moment) (g : GoesDeclared acts now) (h : 
   act_says n (c.Down router name) = none n (c.Down router name) refl (went now (outcome now.world n (c.Down router name)))
   act_says n (c.Sub client id key) = none n (c.Sub client id key) refl (went now (outcome now.world n (c.Sub client id key)))
   act_says n (c.Unsub client id) = none n (c.Unsub client id) refl (went now (outcome now.world n (c.Unsub client id)))
+  act_says n (c.Token client id key) = none n (c.Token client id key) refl (went now (outcome now.world n (c.Token client id key)))
+  act_says n (c.Untoken client id) = none n (c.Untoken client id) refl (went now (outcome now.world n (c.Untoken client id)))
   act_says n (c.Able client id key complete) = none n (c.Able client id key complete) refl (went now (outcome now.world n (c.Able client id key complete)))
   act_says n (c.Unable client id) = none n (c.Unable client id) refl (went now (outcome now.world n (c.Unable client id)))
   act_says n (c.Interest client id mode kinds key aggregate) =

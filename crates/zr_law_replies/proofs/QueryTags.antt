@@ -16,7 +16,7 @@ use Rattle.zr_msg.specs.declared.event.Event.{Event}
 use Rattle.zr_msg.specs.declared.event.Event.TheVariants.{Down, From}
 use Rattle.zr_msg.specs.Extras.{no_extras}
 use Rattle.zr_msg.specs.declared.msg.Msg.{Msg}
-use Rattle.zr_msg.specs.declared.msg.Msg.TheVariants.{Sub, Unsub, Able, Unable, Interest, EndInterest, ToldSub, ToldAble, ToldUnsub, ToldUnable, ToldEnd, Push, Request, Response, Final, State, Step, Snap}
+use Rattle.zr_msg.specs.declared.msg.Msg.TheVariants.{Sub, Unsub, Token, Untoken, Able, Unable, Interest, EndInterest, ToldSub, ToldAble, ToldUnsub, ToldToken, ToldUntoken, ToldUnable, ToldEnd, Push, Request, Response, Final, State, Step, Snap}
 use Rattle.zr_msg.specs.declared.msg.Target.{Target}
 use Rattle.zr_msg.specs.declared.peer.LinkPeer.{LinkPeer}
 use Rattle.zr_msg.specs.declared.peer.Role.{Role}
@@ -59,13 +59,17 @@ use Rattle.zr_law_replies.proofs.OneLine.{one_act}
 abbrev pub may_end : Msg → Bool
 may_end (Sub id key) = false
 may_end (Unsub id) = false
+may_end (Token id key) = false
+may_end (Untoken id) = false
 may_end (Able id key complete) = false
 may_end (Unable id) = false
 may_end (Interest id current future kinds key aggregate) = false
 may_end (EndInterest id) = false
 may_end (ToldSub id key interest) = false
+may_end (ToldToken id key interest) = false
 may_end (ToldAble id key complete interest) = false
 may_end (ToldUnsub id) = false
+may_end (ToldUntoken id) = false
 may_end (ToldUnable id) = false
 may_end (ToldEnd interest) = false
 may_end (Push tree content) = false
@@ -122,13 +126,17 @@ module _ (n : NodeState) where
   ends_from : (from : ℕ) (msg : Msg) (to : ℕ) → may_end msg ≡ false → AllByRecursion EndsNot (sends_from n from msg to)
   ends_from from (Sub id key) to e = ends_rows _ to
   ends_from from (Unsub id) to e = ends_rows _ to
+  ends_from from (Token id key) to e = ends_rows _ to
+  ends_from from (Untoken id) to e = ends_rows _ to
   ends_from from (Able id key complete) to e = ends_rows _ to
   ends_from from (Unable id) to e = ends_rows _ to
   ends_from from (Interest id current future kinds key aggregate) to e = tt
   ends_from from (EndInterest id) to e = tt
   ends_from from (ToldSub id key interest) to e = tt
+  ends_from from (ToldToken id key interest) to e = tt
   ends_from from (ToldAble id key complete interest) to e = tt
   ends_from from (ToldUnsub id) to e = tt
+  ends_from from (ToldUntoken id) to e = tt
   ends_from from (ToldUnable id) to e = tt
   ends_from from (ToldEnd interest) to e = tt
   ends_from from (Push tree content) to e = ends_push (tables n) from tree content to
@@ -145,13 +153,17 @@ module _ (n : NodeState) where
 told_ends_not : (msg : Msg) → is_told msg ≡ true → may_end msg ≡ false
 told_ends_not (Sub id key) e = refl
 told_ends_not (Unsub id) e = refl
+told_ends_not (Token id key) e = refl
+told_ends_not (Untoken id) e = refl
 told_ends_not (Able id key complete) e = refl
 told_ends_not (Unable id) e = refl
 told_ends_not (Interest id current future kinds key aggregate) e = refl
 told_ends_not (EndInterest id) e = refl
 told_ends_not (ToldSub id key interest) e = refl
+told_ends_not (ToldToken id key interest) e = refl
 told_ends_not (ToldAble id key complete interest) e = refl
 told_ends_not (ToldUnsub id) e = refl
+told_ends_not (ToldUntoken id) e = refl
 told_ends_not (ToldUnable id) e = refl
 told_ends_not (ToldEnd interest) e = refl
 told_ends_not (Push tree content) e = refl
@@ -171,13 +183,17 @@ agree a b = cond a b (not b)
 abbrev pub asks_alike : List Numbered → ℕ → Msg → Bool
 asks_alike acts tag (Sub id key) = true
 asks_alike acts tag (Unsub id) = true
+asks_alike acts tag (Token id key) = true
+asks_alike acts tag (Untoken id) = true
 asks_alike acts tag (Able id key complete) = true
 asks_alike acts tag (Unable id) = true
 asks_alike acts tag (Interest id current future kinds key aggregate) = true
 asks_alike acts tag (EndInterest id) = true
 asks_alike acts tag (ToldSub id key interest) = true
+asks_alike acts tag (ToldToken id key interest) = true
 asks_alike acts tag (ToldAble id key complete interest) = true
 asks_alike acts tag (ToldUnsub id) = true
+asks_alike acts tag (ToldUntoken id) = true
 asks_alike acts tag (ToldUnable id) = true
 asks_alike acts tag (ToldEnd interest) = true
 asks_alike acts tag (Push tree content) = true
@@ -238,13 +254,17 @@ module _ (acts : List Numbered) where
     goes_from : (msg : Msg) → Well tag msg → (to : ℕ) → AllByRecursion (Well tag) (sends_from node link.0 msg to)
     goes_from (Sub id key) h to = wells tag _ (ends_from node link.0 (Sub id key) to refl)
     goes_from (Unsub id) h to = wells tag _ (ends_from node link.0 (Unsub id) to refl)
+    goes_from (Token id key) h to = wells tag _ (ends_from node link.0 (Token id key) to refl)
+    goes_from (Untoken id) h to = wells tag _ (ends_from node link.0 (Untoken id) to refl)
     goes_from (Able id key complete) h to = wells tag _ (ends_from node link.0 (Able id key complete) to refl)
     goes_from (Unable id) h to = wells tag _ (ends_from node link.0 (Unable id) to refl)
     goes_from (Interest id current future kinds key aggregate) h to = tt
     goes_from (EndInterest id) h to = tt
     goes_from (ToldSub id key interest) h to = tt
+    goes_from (ToldToken id key interest) h to = tt
     goes_from (ToldAble id key complete interest) h to = tt
     goes_from (ToldUnsub id) h to = tt
+    goes_from (ToldUntoken id) h to = tt
     goes_from (ToldUnable id) h to = tt
     goes_from (ToldEnd interest) h to = tt
     goes_from (Push tree content) h to = wells tag _ (ends_from node link.0 (Push tree content) to refl)
@@ -304,13 +324,17 @@ module _ (acts : List Numbered) where
         alike : (z : Msg) → asks_alike acts x.0 z ≡ true
         alike (Sub id key) = refl
         alike (Unsub id) = refl
+        alike (Token id key) = refl
+        alike (Untoken id) = refl
         alike (Able id key complete) = refl
         alike (Unable id) = refl
         alike (Interest id current future kinds key aggregate) = refl
         alike (EndInterest id) = refl
         alike (ToldSub id key interest) = refl
+        alike (ToldToken id key interest) = refl
         alike (ToldAble id key complete interest) = refl
         alike (ToldUnsub id) = refl
+        alike (ToldUntoken id) = refl
         alike (ToldUnable id) = refl
         alike (ToldEnd interest) = refl
         alike (Push tree content) = refl
@@ -341,6 +365,8 @@ module _ (acts : List Numbered) where
   allowed later n (c.Down router name) i = λ node link. any_event later (n, c.Down router name) i (any_msg later (n, c.Down router name) i refl (λ s e. absurd (none-some s e)) refl) node (Down link)
   allowed later n (c.Sub client id key) i = refl
   allowed later n (c.Unsub client id) i = refl
+  allowed later n (c.Token client id key) i = refl
+  allowed later n (c.Untoken client id) i = refl
   allowed later n (c.Able client id key complete) i = refl
   allowed later n (c.Unable client id) i = refl
   allowed later n (c.Interest client id mode kinds key aggregate) i = refl

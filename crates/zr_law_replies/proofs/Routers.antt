@@ -14,7 +14,7 @@ use Rattle.zr_msg.specs.declared.content.Parts.{Parts}
 use Rattle.zr_msg.specs.declared.event.Event.{Event}
 use Rattle.zr_msg.specs.declared.event.Event.TheVariants.{Up, Down, From}
 use Rattle.zr_msg.specs.declared.msg.Msg.{Msg}
-use Rattle.zr_msg.specs.declared.msg.Msg.TheVariants.{Sub, Unsub, Able, Unable, Interest, EndInterest, ToldSub, ToldAble, ToldUnsub, ToldUnable, ToldEnd, Push, Request, Response, Final, State, Step, Snap}
+use Rattle.zr_msg.specs.declared.msg.Msg.TheVariants.{Sub, Unsub, Token, Untoken, Able, Unable, Interest, EndInterest, ToldSub, ToldAble, ToldUnsub, ToldToken, ToldUntoken, ToldUnable, ToldEnd, Push, Request, Response, Final, State, Step, Snap}
 use Rattle.zr_msg.specs.declared.msg.Target.{Target}
 use Rattle.zr_msg.specs.declared.peer.LinkPeer.{LinkPeer}
 use Rattle.zr_id.specs.declared.link.LinkNo.{LinkNo}
@@ -224,13 +224,17 @@ module _ (acts : List Numbered) (report : List ReportLine) (acts' : List Numbere
       ends : (z : Msg) → is_ending (From k.link z) ≡ true → comes_well acts (record { msg = z; tag = tag }) ≡ true → is_other_line acts tag ≡ true
       ends (Sub id key) e h = absurd (false≢true e)
       ends (Unsub id) e h = absurd (false≢true e)
+      ends (Token id key) e h = absurd (false≢true e)
+      ends (Untoken id) e h = absurd (false≢true e)
       ends (Able id key complete) e h = absurd (false≢true e)
       ends (Unable id) e h = absurd (false≢true e)
       ends (Interest id current future kinds key aggregate) e h = absurd (false≢true e)
       ends (EndInterest id) e h = absurd (false≢true e)
       ends (ToldSub id key interest) e h = absurd (false≢true e)
+      ends (ToldToken id key interest) e h = absurd (false≢true e)
       ends (ToldAble id key complete interest) e h = absurd (false≢true e)
       ends (ToldUnsub id) e h = absurd (false≢true e)
+      ends (ToldUntoken id) e h = absurd (false≢true e)
       ends (ToldUnable id) e h = absurd (false≢true e)
       ends (ToldEnd interest) e h = absurd (false≢true e)
       ends (Push tree content) e h = absurd (false≢true e)

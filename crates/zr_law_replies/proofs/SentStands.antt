@@ -2,7 +2,7 @@
 use Rattle.std.proofs.Common.{◌≡◌, ℕ, ◌-◌, true, false, List, [], ◌∷◌, ◌++◌, filter, Some, is_some, refl, ap, ◌∙◌, subst}
 use Rattle.std.specs.Prelude.{IfSome}
 use Rattle.zr_msg.specs.declared.msg.Msg.{Msg}
-use Rattle.zr_msg.specs.declared.msg.Msg.TheVariants.{Sub, Unsub, Able, Unable, Interest, EndInterest, ToldSub, ToldAble, ToldUnsub, ToldUnable, ToldEnd, Push, Request, Response, Final, State, Step, Snap}
+use Rattle.zr_msg.specs.declared.msg.Msg.TheVariants.{Sub, Unsub, Token, Untoken, Able, Unable, Interest, EndInterest, ToldSub, ToldAble, ToldUnsub, ToldToken, ToldUntoken, ToldUnable, ToldEnd, Push, Request, Response, Final, State, Step, Snap}
 use Rattle.zr_script_spec.specs.declared.command.Act.TheVariants as c
 use Rattle.zr_world_spec.specs.World.{Tagged, ClientState, EndState, client_of, end_of}
 use Rattle.zr_world_spec.specs.Acts.{take_step}
@@ -53,13 +53,17 @@ module _ (before : List Numbered) (mark : ℕ) (start : Moment) (q : Query) (b :
     each_stands : (msg : Msg) (tag : ℕ) (k : Take start.world phase q acts m here to s msg tag) → StandsThen msg tag k
     each_stands (Sub id key) tag k = others_stand (Sub id key) tag k refl refl (λ j. refl)
     each_stands (Unsub id) tag k = others_stand (Unsub id) tag k refl refl (λ j. refl)
+    each_stands (Token id key) tag k = others_stand (Token id key) tag k refl refl (λ j. refl)
+    each_stands (Untoken id) tag k = others_stand (Untoken id) tag k refl refl (λ j. refl)
     each_stands (Able id key complete) tag k = others_stand (Able id key complete) tag k refl refl (λ j. refl)
     each_stands (Unable id) tag k = others_stand (Unable id) tag k refl refl (λ j. refl)
     each_stands (Interest id current future kinds key aggregate) tag k = others_stand (Interest id current future kinds key aggregate) tag k refl refl (λ j. refl)
     each_stands (EndInterest id) tag k = others_stand (EndInterest id) tag k refl refl (λ j. refl)
     each_stands (ToldSub id key interest) tag k = others_stand (ToldSub id key interest) tag k refl refl (λ j. refl)
+    each_stands (ToldToken id key interest) tag k = others_stand (ToldToken id key interest) tag k refl refl (λ j. refl)
     each_stands (ToldAble id key complete interest) tag k = others_stand (ToldAble id key complete interest) tag k refl refl (λ j. refl)
     each_stands (ToldUnsub id) tag k = others_stand (ToldUnsub id) tag k refl refl (λ j. refl)
+    each_stands (ToldUntoken id) tag k = others_stand (ToldUntoken id) tag k refl refl (λ j. refl)
     each_stands (ToldUnable id) tag k = others_stand (ToldUnable id) tag k refl refl (λ j. refl)
     each_stands (ToldEnd interest) tag k = others_stand (ToldEnd interest) tag k refl refl (λ j. refl)
     each_stands (Push tree content) tag k = others_stand (Push tree content) tag k refl refl (λ j. refl)

@@ -53,6 +53,8 @@ module _ (before : List Numbered) (mark : ℕ) (start : Moment) (q : Asked) (b :
   stands_at n (c.Down router name) earlier st fits = absurd (false≢true st)
   stands_at n (c.Sub client id key) earlier st fits = absurd (false≢true st)
   stands_at n (c.Unsub client id) earlier st fits = absurd (false≢true st)
+  stands_at n (c.Token client id key) earlier st fits = absurd (false≢true st)
+  stands_at n (c.Untoken client id) earlier st fits = absurd (false≢true st)
   stands_at n (c.Able client id key complete) earlier st fits = absurd (false≢true st)
   stands_at n (c.Unable client id) earlier st fits = absurd (false≢true st)
   stands_at n (c.Interest client id mode kinds key aggregate) earlier st fits = interest_stands before mark start q b phase acts m here n client id mode kinds key aggregate

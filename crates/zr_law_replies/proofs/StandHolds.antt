@@ -5,7 +5,7 @@ use Rattle.std.proofs.lemmas.Bool.{false≢true, and_right, or_left}
 use Rattle.zr_id.specs.declared.link.LinkNo.{LinkNo}
 use Rattle.zr_msg.specs.declared.event.Event.TheVariants.{From}
 use Rattle.zr_msg.specs.declared.msg.Msg.{Msg}
-use Rattle.zr_msg.specs.declared.msg.Msg.TheVariants.{Sub, Unsub, Able, Unable, Interest, EndInterest, ToldSub, ToldAble, ToldUnsub, ToldUnable, ToldEnd, Push, Request, Response, Final, State, Step, Snap}
+use Rattle.zr_msg.specs.declared.msg.Msg.TheVariants.{Sub, Unsub, Token, Untoken, Able, Unable, Interest, EndInterest, ToldSub, ToldAble, ToldUnsub, ToldToken, ToldUntoken, ToldUnable, ToldEnd, Push, Request, Response, Final, State, Step, Snap}
 use Rattle.zr_node_spec.specs.State.{NodeState}
 use Rattle.zr_node_spec.specs.Table.{after as heard}
 use Rattle.zr_law_queries.specs.Query.{Tree, IsTree, Stage, Here, Over, is_child, goes_nowhere, Sound, moved, with_one, Move, Begin, Say, End, Pass, Close, after, MayBegin, OnTheWay}
@@ -68,13 +68,17 @@ module _ {R : Type 0} (t : Tree (List ℕ)) (is : IsTree t) (stage : List ℕ �
 pub quiet_holds : (node : NodeState) (link : LinkNo) (msg : Msg) → handles_msg msg ≡ [] → (heard node (From link msg)).held ≡ node.held
 quiet_holds node link (Sub id key) e = refl
 quiet_holds node link (Unsub id) e = refl
+quiet_holds node link (Token id key) e = refl
+quiet_holds node link (Untoken id) e = refl
 quiet_holds node link (Able id key complete) e = refl
 quiet_holds node link (Unable id) e = refl
 quiet_holds node link (Interest id current future kinds key aggregate) e = refl
 quiet_holds node link (EndInterest id) e = refl
 quiet_holds node link (ToldSub id key interest) e = refl
+quiet_holds node link (ToldToken id key interest) e = refl
 quiet_holds node link (ToldAble id key complete interest) e = refl
 quiet_holds node link (ToldUnsub id) e = refl
+quiet_holds node link (ToldUntoken id) e = refl
 quiet_holds node link (ToldUnable id) e = refl
 quiet_holds node link (ToldEnd interest) e = refl
 quiet_holds node link (Push tree content) e = refl

@@ -53,6 +53,8 @@ module _ (es : Ends) where
     act_ends n (c.Down router name) st = absurd (false≢true st)
     act_ends n (c.Sub client id key) st = absurd (false≢true st)
     act_ends n (c.Unsub client id) st = absurd (false≢true st)
+    act_ends n (c.Token client id key) st = absurd (false≢true st)
+    act_ends n (c.Untoken client id) st = absurd (false≢true st)
     act_ends n (c.Able client id key complete) st = absurd (false≢true st)
     act_ends n (c.Unable client id) st = absurd (false≢true st)
     act_ends n (c.Interest client id mode kinds key aggregate) st =

@@ -10,7 +10,7 @@ use Rattle.std.proofs.lemmas.Option.{none-some}
 use Rattle.zr_id.specs.Zid.{is_named}
 use Rattle.zr_graph.proofs.Names.{same_is, same_refl}
 use Rattle.zr_msg.specs.declared.msg.Msg.{Msg}
-use Rattle.zr_msg.specs.declared.msg.Msg.TheVariants.{Sub, Unsub, Able, Unable, Interest, EndInterest, ToldSub, ToldAble, ToldUnsub, ToldUnable, ToldEnd, Push, Request, Response, Final, State, Step, Snap}
+use Rattle.zr_msg.specs.declared.msg.Msg.TheVariants.{Sub, Unsub, Token, Untoken, Able, Unable, Interest, EndInterest, ToldSub, ToldAble, ToldUnsub, ToldToken, ToldUntoken, ToldUnable, ToldEnd, Push, Request, Response, Final, State, Step, Snap}
 use Rattle.zr_script_spec.specs.declared.report.ReportLine.{ReportLine}
 use Rattle.zr_script_spec.specs.declared.report.ReportLine.TheVariants as line
 use Rattle.zr_world_spec.specs.World.{Tagged, RouterState, ClientState, EndState, WorldState, with_end, with_queue, sent, changed, router_of, client_of, end_of, is_taken, is_unbroken}
@@ -44,13 +44,17 @@ use Rattle.zr_law_replies.proofs.Standing.{Book, BookOf, NoBook, Stands, grows, 
 receiving_requests : (s : ClientState) (k : ℕ) (msg : Msg) → has_number (receiving s msg).requests k ≡ cond (is_request k msg) true (has_number s.requests k)
 receiving_requests s k (Sub id key) = refl
 receiving_requests s k (Unsub id) = refl
+receiving_requests s k (Token id key) = refl
+receiving_requests s k (Untoken id) = refl
 receiving_requests s k (Able id key complete) = refl
 receiving_requests s k (Unable id) = refl
 receiving_requests s k (Interest id current future kinds key aggregate) = refl
 receiving_requests s k (EndInterest id) = refl
 receiving_requests s k (ToldSub id key interest) = refl
+receiving_requests s k (ToldToken id key interest) = refl
 receiving_requests s k (ToldAble id key complete interest) = refl
 receiving_requests s k (ToldUnsub id) = refl
+receiving_requests s k (ToldUntoken id) = refl
 receiving_requests s k (ToldUnable id) = refl
 receiving_requests s k (ToldEnd interest) = refl
 receiving_requests s k (Push tree content) = refl
@@ -64,13 +68,17 @@ receiving_requests s k (Snap source number decls) = refl
 pub receiving_queries : (s : ClientState) (k : ℕ) (msg : Msg) → has_number (receiving s msg).queries k ≡ cond (is_final k msg) false (has_number s.queries k)
 receiving_queries s k (Sub id key) = refl
 receiving_queries s k (Unsub id) = refl
+receiving_queries s k (Token id key) = refl
+receiving_queries s k (Untoken id) = refl
 receiving_queries s k (Able id key complete) = refl
 receiving_queries s k (Unable id) = refl
 receiving_queries s k (Interest id current future kinds key aggregate) = refl
 receiving_queries s k (EndInterest id) = refl
 receiving_queries s k (ToldSub id key interest) = refl
+receiving_queries s k (ToldToken id key interest) = refl
 receiving_queries s k (ToldAble id key complete interest) = refl
 receiving_queries s k (ToldUnsub id) = refl
+receiving_queries s k (ToldUntoken id) = refl
 receiving_queries s k (ToldUnable id) = refl
 receiving_queries s k (ToldEnd interest) = refl
 receiving_queries s k (Push tree content) = refl
@@ -89,13 +97,17 @@ pub record IsAsk (k tag : ℕ) (msg : Msg) : Type 0 where
 ask_of : (k tag : ℕ) (msg : Msg) → is_request k msg ≡ true → IsAsk k tag msg
 ask_of k tag (Sub id key) e = absurd (false≢true e)
 ask_of k tag (Unsub id) e = absurd (false≢true e)
+ask_of k tag (Token id key) e = absurd (false≢true e)
+ask_of k tag (Untoken id) e = absurd (false≢true e)
 ask_of k tag (Able id key complete) e = absurd (false≢true e)
 ask_of k tag (Unable id) e = absurd (false≢true e)
 ask_of k tag (Interest id current future kinds key aggregate) e = absurd (false≢true e)
 ask_of k tag (EndInterest id) e = absurd (false≢true e)
 ask_of k tag (ToldSub id key interest) e = absurd (false≢true e)
+ask_of k tag (ToldToken id key interest) e = absurd (false≢true e)
 ask_of k tag (ToldAble id key complete interest) e = absurd (false≢true e)
 ask_of k tag (ToldUnsub id) e = absurd (false≢true e)
+ask_of k tag (ToldUntoken id) e = absurd (false≢true e)
 ask_of k tag (ToldUnable id) e = absurd (false≢true e)
 ask_of k tag (ToldEnd interest) e = absurd (false≢true e)
 ask_of k tag (Push tree content) e = absurd (false≢true e)
@@ -109,13 +121,17 @@ ask_of k tag (Snap source number decls) e = absurd (false≢true e)
 final_of : (k tag : ℕ) (msg : Msg) → is_final k msg ≡ true → answers_in tag msg ≡ final k ∷ []
 final_of k tag (Sub id key) e = absurd (false≢true e)
 final_of k tag (Unsub id) e = absurd (false≢true e)
+final_of k tag (Token id key) e = absurd (false≢true e)
+final_of k tag (Untoken id) e = absurd (false≢true e)
 final_of k tag (Able id key complete) e = absurd (false≢true e)
 final_of k tag (Unable id) e = absurd (false≢true e)
 final_of k tag (Interest id current future kinds key aggregate) e = absurd (false≢true e)
 final_of k tag (EndInterest id) e = absurd (false≢true e)
 final_of k tag (ToldSub id key interest) e = absurd (false≢true e)
+final_of k tag (ToldToken id key interest) e = absurd (false≢true e)
 final_of k tag (ToldAble id key complete interest) e = absurd (false≢true e)
 final_of k tag (ToldUnsub id) e = absurd (false≢true e)
+final_of k tag (ToldUntoken id) e = absurd (false≢true e)
 final_of k tag (ToldUnable id) e = absurd (false≢true e)
 final_of k tag (ToldEnd interest) e = absurd (false≢true e)
 final_of k tag (Push tree content) e = absurd (false≢true e)
@@ -136,13 +152,17 @@ reply_is o r e = let one : o ≡ r = cc in ap (λ (z : Reply). as_answer z ∷ [
 reply_of : (tag : ℕ) (msg : Msg) (r : Reply) → reply_in tag msg ≡ Some r → answers_in tag msg ≡ as_answer r ∷ []
 reply_of tag (Sub id key) r e = absurd (none-some r e)
 reply_of tag (Unsub id) r e = absurd (none-some r e)
+reply_of tag (Token id key) r e = absurd (none-some r e)
+reply_of tag (Untoken id) r e = absurd (none-some r e)
 reply_of tag (Able id key complete) r e = absurd (none-some r e)
 reply_of tag (Unable id) r e = absurd (none-some r e)
 reply_of tag (Interest id current future kinds key aggregate) r e = absurd (none-some r e)
 reply_of tag (EndInterest id) r e = absurd (none-some r e)
 reply_of tag (ToldSub id key interest) r e = absurd (none-some r e)
+reply_of tag (ToldToken id key interest) r e = absurd (none-some r e)
 reply_of tag (ToldAble id key complete interest) r e = absurd (none-some r e)
 reply_of tag (ToldUnsub id) r e = absurd (none-some r e)
+reply_of tag (ToldUntoken id) r e = absurd (none-some r e)
 reply_of tag (ToldUnable id) r e = absurd (none-some r e)
 reply_of tag (ToldEnd interest) r e = absurd (none-some r e)
 reply_of tag (Push tree content) r e = absurd (none-some r e)

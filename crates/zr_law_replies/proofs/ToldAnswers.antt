@@ -5,7 +5,7 @@ use Rattle.std.specs.List.{cons_option, filter_map, flat_map, list_any}
 use Rattle.std.proofs.lemmas.Bool.{true≢false, leb-true, false_from_ne_true}
 use Rattle.zr_lists.proofs.Finds.{In}
 use Rattle.zr_msg.specs.declared.msg.Msg.{Msg}
-use Rattle.zr_msg.specs.declared.msg.Msg.TheVariants.{Sub, Unsub, Able, Unable, Interest, EndInterest, ToldSub, ToldAble, ToldUnsub, ToldUnable, ToldEnd, Push, Request, Response, Final, State, Step, Snap}
+use Rattle.zr_msg.specs.declared.msg.Msg.TheVariants.{Sub, Unsub, Token, Untoken, Able, Unable, Interest, EndInterest, ToldSub, ToldAble, ToldUnsub, ToldToken, ToldUntoken, ToldUnable, ToldEnd, Push, Request, Response, Final, State, Step, Snap}
 use Rattle.zr_guarantee.specs.Item.{Reply}
 use Rattle.zr_guarantee.specs.Sent.{Told, reply_in, replies_in, is_final, finals_in}
 use Rattle.zr_law_queries.specs.Link.{Answer, Body, Replied, Ended, reply, final, answers_number, answers_with}
@@ -64,13 +64,17 @@ module _ (n : ℕ) where
           at false = ih
       by (Sub id key) ih = ih
       by (Unsub id) ih = ih
+      by (Token id key) ih = ih
+      by (Untoken id) ih = ih
       by (Able id key complete) ih = ih
       by (Unable id) ih = ih
       by (Interest id current future kinds key aggregate) ih = ih
       by (EndInterest id) ih = ih
       by (ToldSub id key interest) ih = ih
+      by (ToldToken id key interest) ih = ih
       by (ToldAble id key complete interest) ih = ih
       by (ToldUnsub id) ih = ih
+      by (ToldUntoken id) ih = ih
       by (ToldUnable id) ih = ih
       by (ToldEnd interest) ih = ih
       by (Push tree content) ih = ih
@@ -96,13 +100,17 @@ module _ (n : ℕ) where
           at false = ih
       by (Sub id key) ih = ih
       by (Unsub id) ih = ih
+      by (Token id key) ih = ih
+      by (Untoken id) ih = ih
       by (Able id key complete) ih = ih
       by (Unable id) ih = ih
       by (Interest id current future kinds key aggregate) ih = ih
       by (EndInterest id) ih = ih
       by (ToldSub id key interest) ih = ih
+      by (ToldToken id key interest) ih = ih
       by (ToldAble id key complete interest) ih = ih
       by (ToldUnsub id) ih = ih
+      by (ToldUntoken id) ih = ih
       by (ToldUnable id) ih = ih
       by (ToldEnd interest) ih = ih
       by (Push tree content) ih = ih

@@ -6,7 +6,7 @@ use Rattle.std.specs.List.{AllByRecursion, cons_option}
 use Rattle.std.proofs.lemmas.Bool.{false≢true, eq-eqb}
 use Rattle.std.proofs.lemmas.List.Sums.{sum_by-cons}
 use Rattle.zr_msg.specs.declared.msg.Msg.{Msg}
-use Rattle.zr_msg.specs.declared.msg.Msg.TheVariants.{Sub, Unsub, Able, Unable, Interest, EndInterest, ToldSub, ToldAble, ToldUnsub, ToldUnable, ToldEnd, Push, Request, Response, Final, State, Step, Snap}
+use Rattle.zr_msg.specs.declared.msg.Msg.TheVariants.{Sub, Unsub, Token, Untoken, Able, Unable, Interest, EndInterest, ToldSub, ToldAble, ToldUnsub, ToldToken, ToldUntoken, ToldUnable, ToldEnd, Push, Request, Response, Final, State, Step, Snap}
 use Rattle.zr_guarantee.specs.Item.{Reply}
 use Rattle.zr_guarantee.specs.Sent.{Told, reply_in, replies_in, is_final, finals_in, behind_finals}
 use Rattle.zr_law_replies.specs.Answers.{up_to_final, told_in_turn}
@@ -17,13 +17,17 @@ use Rattle.zr_law_replies.specs.Answers.{up_to_final, told_in_turn}
 pub final_is_none : (n tag : ℕ) (msg : Msg) → is_final n msg ≡ true → reply_in tag msg ≡ None
 final_is_none n tag (Sub id key) e = refl
 final_is_none n tag (Unsub id) e = refl
+final_is_none n tag (Token id key) e = refl
+final_is_none n tag (Untoken id) e = refl
 final_is_none n tag (Able id key complete) e = refl
 final_is_none n tag (Unable id) e = refl
 final_is_none n tag (Interest id current future kinds key aggregate) e = refl
 final_is_none n tag (EndInterest id) e = refl
 final_is_none n tag (ToldSub id key interest) e = refl
+final_is_none n tag (ToldToken id key interest) e = refl
 final_is_none n tag (ToldAble id key complete interest) e = refl
 final_is_none n tag (ToldUnsub id) e = refl
+final_is_none n tag (ToldUntoken id) e = refl
 final_is_none n tag (ToldUnable id) e = refl
 final_is_none n tag (ToldEnd interest) e = refl
 final_is_none n tag (Push tree content) e = refl

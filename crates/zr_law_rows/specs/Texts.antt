@@ -5,7 +5,7 @@ use Rattle.zr_msg.specs.Extras.{no_extras}
 use Rattle.zr_msg.specs.declared.decl.Kind.TheVariants as k
 use Rattle.zr_msg.specs.declared.decl.Decl.{Decl}
 use Rattle.zr_msg.specs.declared.msg.Target.TheVariants.{Best, All, Complete}
-use Rattle.zr_msg.specs.declared.msg.Msg.TheVariants.{Sub, Unsub, Able, Unable, Interest, EndInterest, ToldSub, ToldAble, ToldUnsub, ToldUnable, ToldEnd, Push, Request, Response, Final, State, Step, Snap}
+use Rattle.zr_msg.specs.declared.msg.Msg.TheVariants.{Sub, Unsub, Token, Untoken, Able, Unable, Interest, EndInterest, ToldSub, ToldAble, ToldUnsub, ToldToken, ToldUntoken, ToldUnable, ToldEnd, Push, Request, Response, Final, State, Step, Snap}
 use Rattle.zr_script_spec.specs.Command.{plain, query_body, latest_body, reply_body, timed_body}
 use Rattle.zr_script_spec.specs.Report.{msg_text}
 
@@ -19,7 +19,7 @@ two = 2 ∷ []
 abbrev pub three : List ℕ
 three = 3 ∷ []
 
--- a declaration
+-- declarations
 abbrev pub sub_a : Decl
 sub_a = record { kind = k.Sub; key = codes "a" }
 
@@ -28,6 +28,9 @@ able_b = record { kind = k.Able; key = codes "b" }
 
 abbrev pub full_ab : Decl
 full_ab = record { kind = k.Full; key = codes "a/b" }
+
+abbrev pub token_a : Decl
+token_a = record { kind = k.Token; key = codes "a" }
 
 -- the bodies of a reply with a deletion and of an error
 abbrev pub end_body : List ℕ
@@ -40,6 +43,8 @@ error_body = 5 ∷ 2 ∷ codes "no"
 pub record DeclarationsAreTold : Type 0 where
   pub sub : msg_text (Sub 1 (codes "a/b")) ≡ codes "sub 1 a/b"
   pub unsub : msg_text (Unsub 4294967295) ≡ codes "unsub 4294967295"
+  pub token : msg_text (Token 1 (codes "a/b")) ≡ codes "token 1 a/b"
+  pub untoken : msg_text (Untoken 1) ≡ codes "untoken 1"
   pub able : msg_text (Able 2 (codes "a/**") false) ≡ codes "able 2 a/**"
   pub full : msg_text (Able 2 (codes "a/**") true) ≡ codes "full 2 a/**"
   pub unable : msg_text (Unable 2) ≡ codes "unable 2"
@@ -49,11 +54,14 @@ pub record InterestsAreTold : Type 0 where
   pub now : msg_text (Interest 3 true false (record { 0 = 2 }) (Some (codes "a/*")) false) ≡ codes "interest 3 now sub a/*"
   pub later : msg_text (Interest 3 false true (record { 0 = 4 }) (Some (codes "a")) true) ≡ codes "interest 3 later able a aggregate"
   pub both : msg_text (Interest 3 true true (record { 0 = 6 }) None true) ≡ codes "interest 3 both all - aggregate"
+  pub tokens : msg_text (Interest 3 true true (record { 0 = 8 }) (Some (codes "a/*")) false) ≡ codes "interest 3 both token a/*"
   pub ended : msg_text (EndInterest 3) ≡ codes "uninterest 3"
   pub told_sub : msg_text (ToldSub 0 (codes "a/b") (Some 3)) ≡ codes "told sub 0 a/b 3"
   pub told_able : msg_text (ToldAble 5 (codes "a") false (Some 3)) ≡ codes "told able 5 a 3"
   pub told_full : msg_text (ToldAble 5 (codes "a") true None) ≡ codes "told full 5 a -"
+  pub told_token : msg_text (ToldToken 5 (codes "a/b") None) ≡ codes "told token 5 a/b -"
   pub told_unsub : msg_text (ToldUnsub 5) ≡ codes "told unsub 5"
+  pub told_untoken : msg_text (ToldUntoken 5) ≡ codes "told untoken 5"
   pub told_unable : msg_text (ToldUnable 5) ≡ codes "told unable 5"
   pub told_end : msg_text (ToldEnd 3) ≡ codes "told end 3"
 
@@ -78,6 +86,7 @@ pub record RoutersAreTold : Type 0 where
   pub weighted : msg_text (State (record { id = two; seq = 2; links = record { id = one; weight = 5 } ∷ record { id = three; weight = 1 } ∷ [] })) ≡ codes "record 02 2 01:5,03"
   pub alone : msg_text (State (record { id = two; seq = 0; links = [] })) ≡ codes "record 02 0 -"
   pub added : msg_text (Step two 1 true sub_a) ≡ codes "entry 02 1 + sub a"
+  pub lives : msg_text (Step two 1 true token_a) ≡ codes "entry 02 1 + token a"
   pub removed : msg_text (Step two 2 false full_ab) ≡ codes "entry 02 2 - full a/b"
   pub snap : msg_text (Snap two 3 (sub_a ∷ able_b ∷ [])) ≡ codes "snap 02 3 sub a able b"
   pub empty : msg_text (Snap two 2 []) ≡ codes "snap 02 2"

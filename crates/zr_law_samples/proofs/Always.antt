@@ -86,6 +86,8 @@ module _ (acts : List Numbered) (now : Moment) (h : Named acts now) where
       (λ r er there s es up cut l el taken. same_names n (c.Down router name) (on_down now n router name r l) (heard_names router r (Down l) er))
   act_named n (c.Sub client id key) = declares n (c.Sub client id key) client sort.Sub id key (m.Sub id key)
   act_named n (c.Unsub client id) = undeclares n (c.Unsub client id) client sort.Sub id (m.Unsub id)
+  act_named n (c.Token client id key) = declares n (c.Token client id key) client sort.Token id key (m.Token id key)
+  act_named n (c.Untoken client id) = undeclares n (c.Untoken client id) client sort.Token id (m.Untoken id)
   act_named n (c.Able client id key complete) = declares n (c.Able client id key complete) client (able_kind complete) id key (m.Able id key complete)
   act_named n (c.Unable client id) = undeclares n (c.Unable client id) client sort.Able id (m.Unable id)
   act_named n (c.Interest client id mode kinds key aggregate) =

@@ -128,27 +128,32 @@ subscriber_class : (kind : Kind) → is_subscriber kind ≡ true → class_of ki
 subscriber_class sort.Sub e = refl
 subscriber_class sort.Able e = absurd (false≢true e)
 subscriber_class sort.Full e = absurd (false≢true e)
+subscriber_class sort.Token e = absurd (false≢true e)
 
 class_subscriber : (kind : Kind) → class_of kind ≡ Subscriber → is_subscriber kind ≡ true
 class_subscriber sort.Sub e = refl
 class_subscriber sort.Able e = absurd (cc)
 class_subscriber sort.Full e = absurd (cc)
+class_subscriber sort.Token e = absurd (cc)
 
 -- and a queryable can answer a query, a complete one also where complete ones are asked
 queryable_class : (kind : Kind) → is_queryable kind ≡ true → class_of kind ≡ Queryable
 queryable_class sort.Sub e = absurd (false≢true e)
 queryable_class sort.Able e = refl
 queryable_class sort.Full e = refl
+queryable_class sort.Token e = absurd (false≢true e)
 
 class_queryable : (kind : Kind) → class_of kind ≡ Queryable → is_queryable kind ≡ true
 class_queryable sort.Sub e = absurd (cc)
 class_queryable sort.Able e = refl
 class_queryable sort.Full e = refl
+class_queryable sort.Token e = absurd (cc)
 
 complete_class : (kind : Kind) → is_complete kind ≡ true → class_of kind ≡ Queryable
 complete_class sort.Sub e = absurd (false≢true e)
 complete_class sort.Able e = absurd (false≢true e)
 complete_class sort.Full e = refl
+complete_class sort.Token e = absurd (false≢true e)
 
 answer_class : (target : Target) (key : List ℕ) (d : Decl) → can_answer target key d ≡ true → class_of d.kind ≡ Queryable
 answer_class Best key d h = queryable_class d.kind (and_parts (is_queryable d.kind) (texts_meet d.key key) h).0

@@ -7,7 +7,7 @@ use Rattle.std.proofs.lemmas.Bool.{true≢false, and_from}
 use Rattle.zr_id.specs.Record.{RecordState}
 use Rattle.zr_id.specs.declared.link.LinkNo.{LinkNo}
 use Rattle.zr_msg.specs.declared.msg.Msg.{Msg}
-use Rattle.zr_msg.specs.declared.msg.Msg.TheVariants.{Sub, Unsub, Able, Unable, Interest, EndInterest, ToldSub, ToldAble, ToldUnsub, ToldUnable, ToldEnd, Push, Request, Response, Final, State, Step, Snap}
+use Rattle.zr_msg.specs.declared.msg.Msg.TheVariants.{Sub, Unsub, Token, Untoken, Able, Unable, Interest, EndInterest, ToldSub, ToldAble, ToldUnsub, ToldToken, ToldUntoken, ToldUnable, ToldEnd, Push, Request, Response, Final, State, Step, Snap}
 use Rattle.zr_msg.specs.declared.event.Event.TheVariants.{From}
 use Rattle.zr_msg.specs.declared.peer.LinkPeer.{LinkPeer}
 use Rattle.zr_local.specs.declared.row.Row.{Row}
@@ -69,13 +69,17 @@ module _ (n : NodeState) where
   from_none : (from : ℕ) (msg : Msg) (to : ℕ) → carried_by msg ≡ None → AllByRecursion CarriesNone (sends_from n from msg to)
   from_none from (Sub id key) to e = rows_none _ to
   from_none from (Unsub id) to e = rows_none _ to
+  from_none from (Token id key) to e = rows_none _ to
+  from_none from (Untoken id) to e = rows_none _ to
   from_none from (Able id key complete) to e = rows_none _ to
   from_none from (Unable id) to e = rows_none _ to
   from_none from (Interest id current future kinds key aggregate) to e = tt
   from_none from (EndInterest id) to e = tt
   from_none from (ToldSub id key interest) to e = tt
+  from_none from (ToldToken id key interest) to e = tt
   from_none from (ToldAble id key complete interest) to e = tt
   from_none from (ToldUnsub id) to e = tt
+  from_none from (ToldUntoken id) to e = tt
   from_none from (ToldUnable id) to e = tt
   from_none from (ToldEnd interest) to e = tt
   from_none from (Push tree content) to e = absurd (true≢false (ap is_some e))

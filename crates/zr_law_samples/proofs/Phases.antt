@@ -37,6 +37,8 @@ module _ (p : Pair) (routed : IsRouted p) where
   act_flows done now h n (c.Down router name) st ag = absurd (false≢true st)
   act_flows done now h n (c.Sub client id key) st ag = absurd (false≢true st)
   act_flows done now h n (c.Unsub client id) st ag = absurd (false≢true st)
+  act_flows done now h n (c.Token client id key) st ag = absurd (false≢true st)
+  act_flows done now h n (c.Untoken client id) st ag = absurd (false≢true st)
   act_flows done now h n (c.Able client id key complete) st ag = absurd (false≢true st)
   act_flows done now h n (c.Unable client id) st ag = absurd (false≢true st)
   act_flows done now h n (c.Interest client id mode kinds key aggregate) st ag =

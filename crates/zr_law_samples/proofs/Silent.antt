@@ -69,6 +69,8 @@ module _ (publisher : List ℕ) (clients : Clients) (none : client_of clients pu
   act_mute done now h n (c.Down router name) st = absurd (false≢true st)
   act_mute done now h n (c.Sub client id key) st = absurd (false≢true st)
   act_mute done now h n (c.Unsub client id) st = absurd (false≢true st)
+  act_mute done now h n (c.Token client id key) st = absurd (false≢true st)
+  act_mute done now h n (c.Untoken client id) st = absurd (false≢true st)
   act_mute done now h n (c.Able client id key complete) st = absurd (false≢true st)
   act_mute done now h n (c.Unable client id) st = absurd (false≢true st)
   act_mute done now h n (c.Interest client id mode kinds key aggregate) st =
@@ -177,6 +179,8 @@ module _ (receiver : List ℕ) (by_line : ℕ → Bool) where
   act_unheard done now h n (c.Down router name) st = absurd (false≢true st)
   act_unheard done now h n (c.Sub client id key) st = absurd (false≢true st)
   act_unheard done now h n (c.Unsub client id) st = absurd (false≢true st)
+  act_unheard done now h n (c.Token client id key) st = absurd (false≢true st)
+  act_unheard done now h n (c.Untoken client id) st = absurd (false≢true st)
   act_unheard done now h n (c.Able client id key complete) st = absurd (false≢true st)
   act_unheard done now h n (c.Unable client id) st = absurd (false≢true st)
   act_unheard done now h n (c.Interest client id mode kinds key aggregate) st =

@@ -7,7 +7,7 @@ use Rattle.std.proofs.lemmas.Bool.{false≢true, and_parts}
 use Rattle.zr_id.specs.Zid.{is_named}
 use Rattle.zr_msg.specs.declared.event.Event.{Event}
 use Rattle.zr_msg.specs.declared.msg.Msg.{Msg}
-use Rattle.zr_msg.specs.declared.msg.Msg.TheVariants.{Sub, Unsub, Able, Unable, Interest, EndInterest, ToldSub, ToldAble, ToldUnsub, ToldUnable, ToldEnd, Push, Request, Response, Final, State, Step, Snap}
+use Rattle.zr_msg.specs.declared.msg.Msg.TheVariants.{Sub, Unsub, Token, Untoken, Able, Unable, Interest, EndInterest, ToldSub, ToldAble, ToldUnsub, ToldToken, ToldUntoken, ToldUnable, ToldEnd, Push, Request, Response, Final, State, Step, Snap}
 use Rattle.zr_world_spec.specs.World.{RouterState, EndState, Ends, end_of, queued, unsettles}
 use Rattle.zr_world_spec.specs.Acts.{told_to, all_told}
 use Rattle.zr_world_spec.proofs.Ends.{with_waiting, waiting_is}
@@ -19,13 +19,17 @@ use Rattle.zr_law_samples.proofs.Carried.{carried_in}
 pub told_idle : (msg : Msg) → is_told msg ≡ true → (unsettles msg ≡ false) × (carried_by msg ≡ None)
 told_idle (Sub id key) h = absurd (false≢true h)
 told_idle (Unsub id) h = absurd (false≢true h)
+told_idle (Token id key) h = absurd (false≢true h)
+told_idle (Untoken id) h = absurd (false≢true h)
 told_idle (Able id key complete) h = absurd (false≢true h)
 told_idle (Unable id) h = absurd (false≢true h)
 told_idle (Interest id current future kinds key aggregate) h = absurd (false≢true h)
 told_idle (EndInterest id) h = absurd (false≢true h)
 told_idle (ToldSub id key interest) h = (refl, refl)
+told_idle (ToldToken id key interest) h = (refl, refl)
 told_idle (ToldAble id key complete interest) h = (refl, refl)
 told_idle (ToldUnsub id) h = (refl, refl)
+told_idle (ToldUntoken id) h = (refl, refl)
 told_idle (ToldUnable id) h = (refl, refl)
 told_idle (ToldEnd interest) h = (refl, refl)
 told_idle (Push tree content) h = absurd (false≢true h)

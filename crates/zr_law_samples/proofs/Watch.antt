@@ -65,6 +65,8 @@ Allows t n (c.Break router neighbour) = Unit {0}
 Allows t n (c.Down router neighbour) = (node : NodeState) (link : LinkNo) → AllPass t n node (Down link)
 Allows t n (c.Sub client id key) = t (record { msg = m.Sub id key; tag = n }) ≡ true
 Allows t n (c.Unsub client id) = t (record { msg = m.Unsub id; tag = n }) ≡ true
+Allows t n (c.Token client id key) = t (record { msg = m.Token id key; tag = n }) ≡ true
+Allows t n (c.Untoken client id) = t (record { msg = m.Untoken id; tag = n }) ≡ true
 Allows t n (c.Able client id key complete) = t (record { msg = m.Able id key complete; tag = n }) ≡ true
 Allows t n (c.Unable client id) = t (record { msg = m.Unable id; tag = n }) ≡ true
 Allows t n (c.Interest client id mode kinds key aggregate) = t (record { msg = m.Interest id (is_current mode) (is_future mode) kinds key aggregate; tag = n }) ≡ true
@@ -203,6 +205,8 @@ module _ (t : Tagged → Bool) (i : Item → Bool) (carried : (msg : Msg) (tag :
         })
     act_watched n (c.Sub client id key) k = declares n client sort.Sub id key (m.Sub id key) k
     act_watched n (c.Unsub client id) k = undeclares n client sort.Sub id (m.Unsub id) k
+    act_watched n (c.Token client id key) k = declares n client sort.Token id key (m.Token id key) k
+    act_watched n (c.Untoken client id) k = undeclares n client sort.Token id (m.Untoken id) k
     act_watched n (c.Able client id key complete) k = declares n client (able_kind complete) id key (m.Able id key complete) k
     act_watched n (c.Unable client id) k = undeclares n client sort.Able id (m.Unable id) k
     act_watched n (c.Interest client id mode kinds key aggregate) k =

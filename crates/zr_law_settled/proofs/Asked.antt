@@ -2,7 +2,7 @@
 use Rattle.std.proofs.Common.{◌≡◌, ℕ, Bool, true, false, cond, List, [], ◌∷◌, Some, None, sym, ap, ◌∙◌, subst}
 use Rattle.zr_msg.specs.declared.decl.Kind.TheVariants as kind
 use Rattle.zr_msg.specs.declared.msg.Msg.{Msg}
-use Rattle.zr_msg.specs.declared.msg.Msg.TheVariants.{Unsub, Unable}
+use Rattle.zr_msg.specs.declared.msg.Msg.TheVariants.{Unsub, Untoken, Unable}
 use Rattle.zr_msg.specs.declared.peer.LinkPeer.{LinkPeer}
 use Rattle.zr_local.specs.Rows.{refuses_undeclare}
 use Rattle.zr_local.specs.declared.error.LocalError.TheVariants.{UnknownId}
@@ -29,6 +29,9 @@ module _ (w : WorldState) (h : ClientsHold w) (x name : Name) (r : RouterState) 
 
   pub unsub_taken : (id : ℕ) → e.wire ≡ record { msg = Unsub id; tag = tag } ∷ xs → refuses_undeclare r.node.rows (key_of l.link.0 id kind.Sub) ≡ None
   unsub_taken id front = ap (λ t. cond t None (Some UnknownId)) (oldest_asked (Unsub id) front)
+
+  pub untoken_taken : (id : ℕ) → e.wire ≡ record { msg = Untoken id; tag = tag } ∷ xs → refuses_undeclare r.node.rows (key_of l.link.0 id kind.Token) ≡ None
+  untoken_taken id front = ap (λ t. cond t None (Some UnknownId)) (oldest_asked (Untoken id) front)
 
   pub unable_taken : (id : ℕ) → e.wire ≡ record { msg = Unable id; tag = tag } ∷ xs → refuses_undeclare r.node.rows (key_of l.link.0 id kind.Able) ≡ None
   unable_taken id front = ap (λ t. cond t None (Some UnknownId)) (oldest_asked (Unable id) front)

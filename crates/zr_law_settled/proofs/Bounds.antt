@@ -10,7 +10,7 @@ use Rattle.zr_graph.specs.Base.{BaseState, own_seq, is_newer, kept, relinked, fr
 use Rattle.zr_graph.proofs.Names.{same_refl}
 use Rattle.zr_graph.proofs.Places.{record_of-put}
 use Rattle.zr_msg.specs.declared.msg.Msg.{Msg}
-use Rattle.zr_msg.specs.declared.msg.Msg.TheVariants.{Sub, Unsub, Able, Unable, Interest, EndInterest, ToldSub, ToldAble, ToldUnsub, ToldUnable, ToldEnd, Push, Request, Response, Final, State, Step, Snap}
+use Rattle.zr_msg.specs.declared.msg.Msg.TheVariants.{Sub, Unsub, Token, Untoken, Able, Unable, Interest, EndInterest, ToldSub, ToldAble, ToldUnsub, ToldToken, ToldUntoken, ToldUnable, ToldEnd, Push, Request, Response, Final, State, Step, Snap}
 use Rattle.zr_msg.specs.declared.event.Event.{Event}
 use Rattle.zr_msg.specs.declared.event.Event.TheVariants.{Up, Down, From}
 use Rattle.zr_msg.specs.Peer.{PeerState}
@@ -85,13 +85,17 @@ module _ (n : ℕ) (node : NodeState) (h : IsBounded n node.base) where
   bounded_from : (from : LinkNo) (msg : Msg) → IsBounded n (after node (From from msg)).base
   bounded_from from (Sub id key) = h
   bounded_from from (Unsub id) = h
+  bounded_from from (Token id key) = h
+  bounded_from from (Untoken id) = h
   bounded_from from (Able id key complete) = h
   bounded_from from (Unable id) = h
   bounded_from from (Interest id current future kinds key aggregate) = h
   bounded_from from (EndInterest id) = h
   bounded_from from (ToldSub id key interest) = h
+  bounded_from from (ToldToken id key interest) = h
   bounded_from from (ToldAble id key complete interest) = h
   bounded_from from (ToldUnsub id) = h
+  bounded_from from (ToldUntoken id) = h
   bounded_from from (ToldUnable id) = h
   bounded_from from (ToldEnd interest) = h
   bounded_from from (Push tree content) = h

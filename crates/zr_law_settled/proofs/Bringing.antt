@@ -15,7 +15,7 @@ use Rattle.zr_graph.proofs.Names.{same_is}
 use Rattle.zr_msg.specs.declared.decl.Decl.{Decl}
 use Rattle.zr_msg.specs.declared.decl.Kind.TheVariants as kind
 use Rattle.zr_msg.specs.declared.msg.Msg.{Msg}
-use Rattle.zr_msg.specs.declared.msg.Msg.TheVariants.{Sub, Unsub, Able, Unable, Interest, EndInterest, ToldSub, ToldAble, ToldUnsub, ToldUnable, ToldEnd, Push, Request, Response, Final, State, Step, Snap}
+use Rattle.zr_msg.specs.declared.msg.Msg.TheVariants.{Sub, Unsub, Token, Untoken, Able, Unable, Interest, EndInterest, ToldSub, ToldAble, ToldUnsub, ToldToken, ToldUntoken, ToldUnable, ToldEnd, Push, Request, Response, Final, State, Step, Snap}
 use Rattle.zr_msg.specs.declared.event.Event.{Event}
 use Rattle.zr_msg.specs.declared.event.Event.TheVariants.{Up, Down, From}
 use Rattle.zr_msg.specs.Peer.{PeerState}
@@ -231,13 +231,17 @@ module _ (n : NodeState) where
     pub from_brings : ((z : Name) (k : ℕ) → IsSet (made z k)) → (link : LinkNo) (msg : Msg) → AllMade made most (brings msg) → Brings n (From link msg) made most
     from_brings sets link (Sub id key) came = rows_bring (From link (Sub id key)) (rows_declared n link.0 (row link.0 id kind.Sub key)) refl refl (λ to. refl)
     from_brings sets link (Unsub id) came = rows_bring (From link (Unsub id)) (rows_undeclared n link.0 (key_of link.0 id kind.Sub)) refl refl (λ to. refl)
+    from_brings sets link (Token id key) came = rows_bring (From link (Token id key)) (rows_declared n link.0 (row link.0 id kind.Token key)) refl refl (λ to. refl)
+    from_brings sets link (Untoken id) came = rows_bring (From link (Untoken id)) (rows_undeclared n link.0 (key_of link.0 id kind.Token)) refl refl (λ to. refl)
     from_brings sets link (Able id key complete) came = rows_bring (From link (Able id key complete)) (rows_declared n link.0 (row link.0 id (able_kind complete) key)) refl refl (λ to. refl)
     from_brings sets link (Unable id) came = rows_bring (From link (Unable id)) (rows_undeclared n link.0 (key_of link.0 id kind.Able)) refl refl (λ to. refl)
     from_brings sets link (Interest id current future kinds key aggregate) came = keeps (From link (Interest id current future kinds key aggregate)) refl refl (λ to. refl)
     from_brings sets link (EndInterest id) came = keeps (From link (EndInterest id)) refl refl (λ to. refl)
     from_brings sets link (ToldSub id key interest) came = keeps (From link (ToldSub id key interest)) refl refl (λ to. refl)
+    from_brings sets link (ToldToken id key interest) came = keeps (From link (ToldToken id key interest)) refl refl (λ to. refl)
     from_brings sets link (ToldAble id key complete interest) came = keeps (From link (ToldAble id key complete interest)) refl refl (λ to. refl)
     from_brings sets link (ToldUnsub id) came = keeps (From link (ToldUnsub id)) refl refl (λ to. refl)
+    from_brings sets link (ToldUntoken id) came = keeps (From link (ToldUntoken id)) refl refl (λ to. refl)
     from_brings sets link (ToldUnable id) came = keeps (From link (ToldUnable id)) refl refl (λ to. refl)
     from_brings sets link (ToldEnd interest) came = keeps (From link (ToldEnd interest)) refl refl (λ to. refl)
     from_brings sets link (Push tree content) came =

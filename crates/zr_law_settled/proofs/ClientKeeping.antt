@@ -27,7 +27,7 @@ use Rattle.zr_node_spec.specs.State.{new_link, NodeState}
 use Rattle.zr_node_spec.specs.Table.{key_of, able_kind, with_link}
 use Rattle.zr_told_spec.specs.Place.{class_of}
 use Rattle.zr_told_spec.specs.declared.place.Class.{Class}
-use Rattle.zr_told_spec.specs.declared.place.Class.TheVariants.{Subscriber, Queryable}
+use Rattle.zr_told_spec.specs.declared.place.Class.TheVariants.{Subscriber, Queryable, Living}
 use Rattle.zr_world_spec.specs.World.{Tagged, RouterState, EndState, ClientState, End, Ends, WorldState, with_clients, with_ends, new_client, with_client, router_of, client_of, end_of, is_end, put_end, with_end, with_queue, new_end, is_up, is_unbroken, is_taken, empty_world, lifted, lowered, sent, changed, unsettles, is_calm, is_calm_end, is_met, with_routers, with_router}
 use Rattle.zr_world_spec.specs.Acts.{outcome, peer_of, hearing, sending, has_id, declaring, undeclaring, received, weighing}
 use Rattle.zr_world_spec.specs.Moments.{Numbered, Moment, beginning, went, onward, reached}
@@ -61,18 +61,23 @@ none_had router = λ t class i. at class i t
     at : (class : Class) (i : ℕ) → false ≡ has_ids (new_client router) class i
     at Subscriber i = refl
     at Queryable i = refl
+    at Living i = refl
 
 -- a message that may be under way where a world is settled says nothing of ids
 calm_said : (p : Ids) (msg : Msg) → not (unsettles msg) ≡ true → said p msg ≡ p
 calm_said p (m.Sub id key) h = absurd (false≢true h)
 calm_said p (m.Unsub id) h = absurd (false≢true h)
+calm_said p (m.Token id key) h = absurd (false≢true h)
+calm_said p (m.Untoken id) h = absurd (false≢true h)
 calm_said p (m.Able id key complete) h = absurd (false≢true h)
 calm_said p (m.Unable id) h = absurd (false≢true h)
 calm_said p (m.Interest id current future kinds key aggregate) h = refl
 calm_said p (m.EndInterest id) h = refl
 calm_said p (m.ToldSub id key interest) h = refl
+calm_said p (m.ToldToken id key interest) h = refl
 calm_said p (m.ToldAble id key complete interest) h = refl
 calm_said p (m.ToldUnsub id) h = refl
+calm_said p (m.ToldUntoken id) h = refl
 calm_said p (m.ToldUnable id) h = refl
 calm_said p (m.ToldEnd interest) h = refl
 calm_said p (m.Push tree content) h = refl
@@ -300,6 +305,7 @@ module _ (now : Moment) (sound : IsSound now.world) (h : ClientsHold now.world) 
   home_of s k.Sub id = refl
   home_of s k.Able id = refl
   home_of s k.Full id = refl
+  home_of s k.Token id = refl
 
   able_said : (s : ClientState) (id : ℕ) (key : List ℕ) (complete : Bool) → said (has_ids s) (m.Able id key complete) ≡ has_ids (declaring s (able_kind complete) id)
   able_said s id key true = sym (has_declaring s k.Full id)
@@ -319,6 +325,10 @@ module _ (now : Moment) (sound : IsSound now.world) (h : ClientsHold now.world) 
       declares n client k.Sub id key (m.Sub id key) s found e at_end unbroken r there refl tt (sym (has_declaring s k.Sub id)))
   clients_keep n (a.Unsub client id) = for_undeclare now KeptClients n client k.Sub id (m.Unsub id) (λ s found known e at_end unbroken.
       undeclares n client k.Sub id (m.Unsub id) s found e at_end unbroken refl (sym (has_is s k.Sub id) ∙ known) (sym (has_undeclaring s k.Sub id)))
+  clients_keep n (a.Token client id key) = for_declare now KeptClients n client k.Token id key (m.Token id key) (λ s found fresh e at_end unbroken r there room.
+      declares n client k.Token id key (m.Token id key) s found e at_end unbroken r there refl tt (sym (has_declaring s k.Token id)))
+  clients_keep n (a.Untoken client id) = for_undeclare now KeptClients n client k.Token id (m.Untoken id) (λ s found known e at_end unbroken.
+      undeclares n client k.Token id (m.Untoken id) s found e at_end unbroken refl (sym (has_is s k.Token id) ∙ known) (sym (has_undeclaring s k.Token id)))
   clients_keep n (a.Able client id key complete) = for_declare now KeptClients n client (able_kind complete) id key (m.Able id key complete) (λ s found fresh e at_end unbroken r there room.
       declares n client (able_kind complete) id key (m.Able id key complete) s found e at_end unbroken r there (home_of s (able_kind complete) id) tt (able_said s id key complete))
   clients_keep n (a.Unable client id) = for_undeclare now KeptClients n client k.Able id (m.Unable id) (λ s found known e at_end unbroken.

@@ -24,7 +24,7 @@ use Rattle.zr_node_spec.specs.Tables.{is_link, link_at, link_to, is_router, lead
 use Rattle.zr_node_spec.specs.State.{NodeState, new_link}
 use Rattle.zr_node_spec.specs.Table.{with_link, without_link, after}
 use Rattle.zr_told_spec.specs.declared.place.Class.{Class}
-use Rattle.zr_told_spec.specs.declared.place.Class.TheVariants.{Subscriber, Queryable}
+use Rattle.zr_told_spec.specs.declared.place.Class.TheVariants.{Subscriber, Queryable, Living}
 use Rattle.zr_world_spec.specs.World.{Tagged, RouterState, EndState, ClientState, End, Ends, Clients, WorldState, with_routers, with_clients, with_ends, new_router, new_client, with_router, with_client, router_of, client_of, end_of, is_end, put_end, with_end, with_wire, with_queue, new_end, is_up, is_unbroken, is_taken, broken, sent, queued, changed}
 use Rattle.zr_world_spec.specs.Acts.{weighing, hearing, sending, sends_to}
 use Rattle.zr_world_spec.specs.Sound.{IsSound}
@@ -94,6 +94,7 @@ idle_ids s = λ t class i. at class i t
     at : (class : Class) (i : ℕ) → has_ids (idle_client s) class i ≡ has_ids s class i
     at Subscriber i = refl
     at Queryable i = refl
+    at Living i = refl
 
 -- clients whose queries and requests alone are others
 pub same_hold : (w : WorldState) (clients : Clients) → SameClients w.clients clients → ClientsHold w → ClientsHold (with_clients w clients)

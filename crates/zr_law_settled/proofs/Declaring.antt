@@ -10,7 +10,7 @@ use Rattle.zr_id.specs.declared.link.LinkNo.{LinkNo}
 use Rattle.zr_msg.specs.declared.decl.Kind.{Kind}
 use Rattle.zr_msg.specs.declared.decl.Kind.TheVariants as kind
 use Rattle.zr_msg.specs.declared.msg.Msg.{Msg}
-use Rattle.zr_msg.specs.declared.msg.Msg.TheVariants.{Sub, Unsub, Able, Unable, Interest, EndInterest, ToldSub, ToldAble, ToldUnsub, ToldUnable, ToldEnd, Push, Request, Response, Final, State, Step, Snap}
+use Rattle.zr_msg.specs.declared.msg.Msg.TheVariants.{Sub, Unsub, Token, Untoken, Able, Unable, Interest, EndInterest, ToldSub, ToldAble, ToldUnsub, ToldToken, ToldUntoken, ToldUnable, ToldEnd, Push, Request, Response, Final, State, Step, Snap}
 use Rattle.zr_msg.specs.declared.event.Event.TheVariants.{From}
 use Rattle.zr_lists.proofs.Order.{is_itself, is_same}
 use Rattle.zr_lists.proofs.Puts.{at-put, at-without, All-put}
@@ -23,13 +23,13 @@ use Rattle.zr_node_spec.specs.State.{NodeState}
 use Rattle.zr_node_spec.specs.Table.{row, key_of, able_kind, after}
 use Rattle.zr_told_spec.specs.Place.{class_rank, class_of}
 use Rattle.zr_told_spec.specs.declared.place.Class.{Class}
-use Rattle.zr_told_spec.specs.declared.place.Class.TheVariants.{Subscriber, Queryable}
+use Rattle.zr_told_spec.specs.declared.place.Class.TheVariants.{Subscriber, Queryable, Living}
 use Rattle.zr_world_spec.specs.World.{Tagged, ClientState}
 use Rattle.zr_world_spec.specs.Acts.{has_id, declaring, undeclaring}
 
 -- ---- ids
 
--- a set of ids of each class: subscribers have ids of their own, and so have queryables
+-- a set of ids of each class: subscribers have ids of their own, and so have queryables and tokens
 abbrev pub Ids : Type 0
 Ids = Class → ℕ → Bool
 
@@ -38,6 +38,7 @@ pub kind_rank : (k : Kind) → id_kind k ≡ class_rank (class_of k)
 kind_rank kind.Sub = refl
 kind_rank kind.Able = refl
 kind_rank kind.Full = refl
+kind_rank kind.Token = refl
 
 -- the same but for one id
 abbrev pub set_id : Ids → Class → ℕ → Bool → Ids
@@ -47,13 +48,17 @@ set_id p class id v other i = cond (class_rank class == class_rank other && id =
 abbrev pub said : Ids → Msg → Ids
 said p (Sub id key) = set_id p Subscriber id true
 said p (Unsub id) = set_id p Subscriber id false
+said p (Token id key) = set_id p Living id true
+said p (Untoken id) = set_id p Living id false
 said p (Able id key complete) = set_id p Queryable id true
 said p (Unable id) = set_id p Queryable id false
 said p (Interest id current future kinds key aggregate) = p
 said p (EndInterest id) = p
 said p (ToldSub id key interest) = p
+said p (ToldToken id key interest) = p
 said p (ToldAble id key complete interest) = p
 said p (ToldUnsub id) = p
+said p (ToldUntoken id) = p
 said p (ToldUnable id) = p
 said p (ToldEnd interest) = p
 said p (Push tree content) = p
@@ -68,13 +73,17 @@ said p (Snap source number decls) = p
 abbrev pub IsAsked : Ids → Msg → Type 0
 IsAsked p (Sub id key) = Unit {0}
 IsAsked p (Unsub id) = p Subscriber id ≡ true
+IsAsked p (Token id key) = Unit {0}
+IsAsked p (Untoken id) = p Living id ≡ true
 IsAsked p (Able id key complete) = Unit {0}
 IsAsked p (Unable id) = p Queryable id ≡ true
 IsAsked p (Interest id current future kinds key aggregate) = Unit {0}
 IsAsked p (EndInterest id) = Unit {0}
 IsAsked p (ToldSub id key interest) = Unit {0}
+IsAsked p (ToldToken id key interest) = Unit {0}
 IsAsked p (ToldAble id key complete interest) = Unit {0}
 IsAsked p (ToldUnsub id) = Unit {0}
+IsAsked p (ToldUntoken id) = Unit {0}
 IsAsked p (ToldUnable id) = Unit {0}
 IsAsked p (ToldEnd interest) = Unit {0}
 IsAsked p (Push tree content) = Unit {0}
@@ -105,6 +114,7 @@ said_more ws p x = fold-append (λ (q : Ids) (y : Tagged). said q y.msg) p ws (x
 abbrev pub class_ids : ClientState → Class → List ℕ
 class_ids s Subscriber = s.subs
 class_ids s Queryable = s.ables
+class_ids s Living = s.tokens
 
 abbrev pub has_ids : ClientState → Ids
 has_ids s class id = list_any (λ i. i == id) (class_ids s class)
@@ -113,6 +123,7 @@ pub has_is : (s : ClientState) (k : Kind) (id : ℕ) → has_id s k id ≡ has_i
 has_is s kind.Sub id = refl
 has_is s kind.Able id = refl
 has_is s kind.Full id = refl
+has_is s kind.Token id = refl
 
 any_more : (ids : List ℕ) (id i : ℕ) → list_any (λ j. j == i) (ids ++ id ∷ []) ≡ cond (id == i) true (list_any (λ j. j == i) ids)
 any_more ids id i = list_any-append (λ j. j == i) ids (id ∷ []) ∙ by (list_any (λ j. j == i) ids) (id == i)
@@ -149,10 +160,16 @@ has_declaring s k id = λ t class i. at k class i t
     at : (k : Kind) (class : Class) (i : ℕ) → has_ids (declaring s k id) class i ≡ set_id (has_ids s) (class_of k) id true class i
     at kind.Sub Subscriber i = any_more s.subs id i
     at kind.Sub Queryable i = refl
+    at kind.Sub Living i = refl
     at kind.Able Subscriber i = refl
     at kind.Able Queryable i = any_more s.ables id i
+    at kind.Able Living i = refl
     at kind.Full Subscriber i = refl
     at kind.Full Queryable i = any_more s.ables id i
+    at kind.Full Living i = refl
+    at kind.Token Subscriber i = refl
+    at kind.Token Queryable i = refl
+    at kind.Token Living i = any_more s.tokens id i
 
 pub has_undeclaring : (s : ClientState) (k : Kind) (id : ℕ) → has_ids (undeclaring s k id) ≡ set_id (has_ids s) (class_of k) id false
 has_undeclaring s k id = λ t class i. at k class i t
@@ -160,10 +177,16 @@ has_undeclaring s k id = λ t class i. at k class i t
     at : (k : Kind) (class : Class) (i : ℕ) → has_ids (undeclaring s k id) class i ≡ set_id (has_ids s) (class_of k) id false class i
     at kind.Sub Subscriber i = any_less s.subs id i
     at kind.Sub Queryable i = refl
+    at kind.Sub Living i = refl
     at kind.Able Subscriber i = refl
     at kind.Able Queryable i = any_less s.ables id i
+    at kind.Able Living i = refl
     at kind.Full Subscriber i = refl
     at kind.Full Queryable i = any_less s.ables id i
+    at kind.Full Living i = refl
+    at kind.Token Subscriber i = refl
+    at kind.Token Queryable i = refl
+    at kind.Token Living i = any_less s.tokens id i
 
 -- ---- rows
 
@@ -243,13 +266,17 @@ module _ (n : NodeState) (link : LinkNo) where
   pub heard_here : leads_to_client n.links link.0 ≡ true → (msg : Msg) → has_rows (after n (From link msg)).rows link.0 ≡ said (has_rows n.rows link.0) msg
   heard_here client (Sub id k) = ap (λ t. has_rows (cond t (declared n.rows (row link.0 id kind.Sub k)) n.rows) link.0) client ∙ declared_here (row link.0 id kind.Sub k) Subscriber id refl
   heard_here client (Unsub id) = ap (λ t. has_rows (cond t (undeclared n.rows (key_of link.0 id kind.Sub)) n.rows) link.0) client ∙ undeclared_here Subscriber id
+  heard_here client (Token id k) = ap (λ t. has_rows (cond t (declared n.rows (row link.0 id kind.Token k)) n.rows) link.0) client ∙ declared_here (row link.0 id kind.Token k) Living id refl
+  heard_here client (Untoken id) = ap (λ t. has_rows (cond t (undeclared n.rows (key_of link.0 id kind.Token)) n.rows) link.0) client ∙ undeclared_here Living id
   heard_here client (Able id k complete) = ap (λ t. has_rows (cond t (declared n.rows (row link.0 id (able_kind complete) k)) n.rows) link.0) client ∙ declared_here (row link.0 id (able_kind complete) k) Queryable id (able_key id complete k)
   heard_here client (Unable id) = ap (λ t. has_rows (cond t (undeclared n.rows (key_of link.0 id kind.Able)) n.rows) link.0) client ∙ undeclared_here Queryable id
   heard_here client (Interest id current future kinds key aggregate) = refl
   heard_here client (EndInterest id) = refl
   heard_here client (ToldSub id key interest) = refl
+  heard_here client (ToldToken id key interest) = refl
   heard_here client (ToldAble id key complete interest) = refl
   heard_here client (ToldUnsub id) = refl
+  heard_here client (ToldUntoken id) = refl
   heard_here client (ToldUnable id) = refl
   heard_here client (ToldEnd interest) = refl
   heard_here client (Push tree content) = refl
@@ -268,13 +295,17 @@ module _ (n : NodeState) (link : LinkNo) where
   pub heard_there : (number : ℕ) → (link.0 ≡ number → ⊥) → (msg : Msg) → has_rows (after n (From link msg)).rows number ≡ has_rows n.rows number
   heard_there number apart (Sub id k) = apart_if number (declared n.rows (row link.0 id kind.Sub k)) (declared_there number apart (row link.0 id kind.Sub k) Subscriber id refl) (leads_to_client n.links link.0)
   heard_there number apart (Unsub id) = apart_if number (undeclared n.rows (key_of link.0 id kind.Sub)) (undeclared_there number apart Subscriber id) (leads_to_client n.links link.0)
+  heard_there number apart (Token id k) = apart_if number (declared n.rows (row link.0 id kind.Token k)) (declared_there number apart (row link.0 id kind.Token k) Living id refl) (leads_to_client n.links link.0)
+  heard_there number apart (Untoken id) = apart_if number (undeclared n.rows (key_of link.0 id kind.Token)) (undeclared_there number apart Living id) (leads_to_client n.links link.0)
   heard_there number apart (Able id k complete) = apart_if number (declared n.rows (row link.0 id (able_kind complete) k)) (declared_there number apart (row link.0 id (able_kind complete) k) Queryable id (able_key id complete k)) (leads_to_client n.links link.0)
   heard_there number apart (Unable id) = apart_if number (undeclared n.rows (key_of link.0 id kind.Able)) (undeclared_there number apart Queryable id) (leads_to_client n.links link.0)
   heard_there number apart (Interest id current future kinds key aggregate) = refl
   heard_there number apart (EndInterest id) = refl
   heard_there number apart (ToldSub id key interest) = refl
+  heard_there number apart (ToldToken id key interest) = refl
   heard_there number apart (ToldAble id key complete interest) = refl
   heard_there number apart (ToldUnsub id) = refl
+  heard_there number apart (ToldUntoken id) = refl
   heard_there number apart (ToldUnable id) = refl
   heard_there number apart (ToldEnd interest) = refl
   heard_there number apart (Push tree content) = refl
@@ -300,13 +331,17 @@ module _ (n : NodeState) (link : LinkNo) where
     pub rows_pass : (msg : Msg) → AllByRecursion (λ q. test q.link.0 ≡ true) (after n (From link msg)).rows
     rows_pass (Sub id k) = pass_if (declared n.rows (row link.0 id kind.Sub k)) (put_passes (row link.0 id kind.Sub k) refl) (leads_to_client n.links link.0) refl
     rows_pass (Unsub id) = pass_if (undeclared n.rows (key_of link.0 id kind.Sub)) (λ e. without_passes (key_of link.0 id kind.Sub)) (leads_to_client n.links link.0) refl
+    rows_pass (Token id k) = pass_if (declared n.rows (row link.0 id kind.Token k)) (put_passes (row link.0 id kind.Token k) refl) (leads_to_client n.links link.0) refl
+    rows_pass (Untoken id) = pass_if (undeclared n.rows (key_of link.0 id kind.Token)) (λ e. without_passes (key_of link.0 id kind.Token)) (leads_to_client n.links link.0) refl
     rows_pass (Able id k complete) = pass_if (declared n.rows (row link.0 id (able_kind complete) k)) (put_passes (row link.0 id (able_kind complete) k) refl) (leads_to_client n.links link.0) refl
     rows_pass (Unable id) = pass_if (undeclared n.rows (key_of link.0 id kind.Able)) (λ e. without_passes (key_of link.0 id kind.Able)) (leads_to_client n.links link.0) refl
     rows_pass (Interest id current future kinds key aggregate) = rows
     rows_pass (EndInterest id) = rows
     rows_pass (ToldSub id key interest) = rows
+    rows_pass (ToldToken id key interest) = rows
     rows_pass (ToldAble id key complete interest) = rows
     rows_pass (ToldUnsub id) = rows
+    rows_pass (ToldUntoken id) = rows
     rows_pass (ToldUnable id) = rows
     rows_pass (ToldEnd interest) = rows
     rows_pass (Push tree content) = rows

@@ -9,7 +9,7 @@ use Rattle.zr_id.specs.declared.link.LinkNo.{LinkNo}
 use Rattle.zr_graph.specs.Record.{record_of}
 use Rattle.zr_graph.specs.Base.{BaseState, is_newer}
 use Rattle.zr_msg.specs.declared.msg.Msg.{Msg}
-use Rattle.zr_msg.specs.declared.msg.Msg.TheVariants.{Sub, Unsub, Able, Unable, Interest, EndInterest, ToldSub, ToldAble, ToldUnsub, ToldUnable, ToldEnd, Push, Request, Response, Final, State, Step, Snap}
+use Rattle.zr_msg.specs.declared.msg.Msg.TheVariants.{Sub, Unsub, Token, Untoken, Able, Unable, Interest, EndInterest, ToldSub, ToldAble, ToldUnsub, ToldToken, ToldUntoken, ToldUnable, ToldEnd, Push, Request, Response, Final, State, Step, Snap}
 use Rattle.zr_msg.specs.declared.decl.Kind.TheVariants as kind
 use Rattle.zr_msg.specs.declared.event.Event.{Event}
 use Rattle.zr_msg.specs.declared.event.Event.TheVariants.{Up, Down, From}
@@ -191,13 +191,17 @@ module _ (n : NodeState) where
     pub from_follows : (link : LinkNo) (msg : Msg) → Follows n (From link msg)
     from_follows link (Sub id key) = rows_follow link (Sub id key) (rows_declared n link.0 (row link.0 id kind.Sub key)) refl (λ to. refl)
     from_follows link (Unsub id) = rows_follow link (Unsub id) (rows_undeclared n link.0 (key_of link.0 id kind.Sub)) refl (λ to. refl)
+    from_follows link (Token id key) = rows_follow link (Token id key) (rows_declared n link.0 (row link.0 id kind.Token key)) refl (λ to. refl)
+    from_follows link (Untoken id) = rows_follow link (Untoken id) (rows_undeclared n link.0 (key_of link.0 id kind.Token)) refl (λ to. refl)
     from_follows link (Able id key complete) = rows_follow link (Able id key complete) (rows_declared n link.0 (row link.0 id (able_kind complete) key)) refl (λ to. refl)
     from_follows link (Unable id) = rows_follow link (Unable id) (rows_undeclared n link.0 (key_of link.0 id kind.Able)) refl (λ to. refl)
     from_follows link (Interest id current future kinds key aggregate) = keeps (From link (Interest id current future kinds key aggregate)) refl (λ to. refl)
     from_follows link (EndInterest id) = keeps (From link (EndInterest id)) refl (λ to. refl)
     from_follows link (ToldSub id key interest) = keeps (From link (ToldSub id key interest)) refl (λ to. refl)
+    from_follows link (ToldToken id key interest) = keeps (From link (ToldToken id key interest)) refl (λ to. refl)
     from_follows link (ToldAble id key complete interest) = keeps (From link (ToldAble id key complete interest)) refl (λ to. refl)
     from_follows link (ToldUnsub id) = keeps (From link (ToldUnsub id)) refl (λ to. refl)
+    from_follows link (ToldUntoken id) = keeps (From link (ToldUntoken id)) refl (λ to. refl)
     from_follows link (ToldUnable id) = keeps (From link (ToldUnable id)) refl (λ to. refl)
     from_follows link (ToldEnd interest) = keeps (From link (ToldEnd interest)) refl (λ to. refl)
     from_follows link (Push tree content) = keeps (From link (Push tree content)) refl (λ to. push_silent places_in (tables n) link.0 content (λ tree. refl) (tree_of (tables n) (link_at n.links link.0) tree) to.0)

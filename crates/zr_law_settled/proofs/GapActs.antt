@@ -239,7 +239,7 @@ module _ (w : WorldState) (h : Holds w) (l : LogsHold w) (g : GapsHold w) (sound
 -- ---- clients are told
 
 told_brings : (msg : Msg) → is_told msg ≡ true → brings msg ≡ []
-told_brings = by_told (λ msg. brings msg ≡ []) (λ id key interest. refl) (λ id key complete interest. refl) (λ id. refl) (λ id. refl) (λ interest. refl)
+told_brings = by_told (λ msg. brings msg ≡ []) (λ id key interest. refl) (λ id key interest. refl) (λ id key complete interest. refl) (λ id. refl) (λ id. refl) (λ id. refl) (λ interest. refl)
 
 pub gaps_told : (w v : WorldState) → IsTold w v → GapsHold w → GapsHold v
 gaps_told w v t g = record {
@@ -297,6 +297,10 @@ module _ (now : Moment) (sound : IsSound now.world) (h : Holds now.world) (l : L
       let weighed = weighed_gaps (w_sent w n client s e (m.Sub id key)) (sent_gaps w g s.router client e at_end (m.Sub id key) n refl) s.router r key there in record { gapless = weighed.gapless })
   gaps_keep n (a.Unsub client id) = for_undeclare now KeptGaps n client k.Sub id (m.Unsub id) (λ s found known e at_end unbroken.
       let on = sent_gaps w g s.router client e at_end (m.Unsub id) n refl in record { gapless = on.gapless })
+  gaps_keep n (a.Token client id key) = for_declare now KeptGaps n client k.Token id key (m.Token id key) (λ s found fresh e at_end unbroken r there room.
+      let weighed = weighed_gaps (w_sent w n client s e (m.Token id key)) (sent_gaps w g s.router client e at_end (m.Token id key) n refl) s.router r key there in record { gapless = weighed.gapless })
+  gaps_keep n (a.Untoken client id) = for_undeclare now KeptGaps n client k.Token id (m.Untoken id) (λ s found known e at_end unbroken.
+      let on = sent_gaps w g s.router client e at_end (m.Untoken id) n refl in record { gapless = on.gapless })
   gaps_keep n (a.Able client id key complete) = for_declare now KeptGaps n client (able_kind complete) id key (m.Able id key complete) (λ s found fresh e at_end unbroken r there room.
       let weighed = weighed_gaps (w_sent w n client s e (m.Able id key complete)) (sent_gaps w g s.router client e at_end (m.Able id key complete) n refl) s.router r key there in record { gapless = weighed.gapless })
   gaps_keep n (a.Unable client id) = for_undeclare now KeptGaps n client k.Able id (m.Unable id) (λ s found known e at_end unbroken.

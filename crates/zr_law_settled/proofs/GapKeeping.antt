@@ -7,7 +7,7 @@ use Rattle.zr_id.specs.Zid.{is_named}
 use Rattle.zr_graph.proofs.Names.{same_is, same_refl}
 use Rattle.zr_lists.proofs.Finds.{In}
 use Rattle.zr_msg.specs.declared.msg.Msg.{Msg}
-use Rattle.zr_msg.specs.declared.msg.Msg.TheVariants.{Sub, Unsub, Able, Unable, Interest, EndInterest, ToldSub, ToldAble, ToldUnsub, ToldUnable, ToldEnd, Push, Request, Response, Final, State, Step, Snap}
+use Rattle.zr_msg.specs.declared.msg.Msg.TheVariants.{Sub, Unsub, Token, Untoken, Able, Unable, Interest, EndInterest, ToldSub, ToldAble, ToldUnsub, ToldToken, ToldUntoken, ToldUnable, ToldEnd, Push, Request, Response, Final, State, Step, Snap}
 use Rattle.zr_msg.specs.declared.event.Event.{Event}
 use Rattle.zr_msg.specs.declared.event.Event.TheVariants.{From}
 use Rattle.zr_msg.specs.declared.peer.LinkPeer.{LinkPeer}
@@ -46,13 +46,17 @@ pub record GapsHold (w : WorldState) : Type 0 where
 best_one : (z : Name) (msg : Msg) → best z (brings msg) ≡ best z (places_in msg)
 best_one z (Sub id key) = refl
 best_one z (Unsub id) = refl
+best_one z (Token id key) = refl
+best_one z (Untoken id) = refl
 best_one z (Able id key complete) = refl
 best_one z (Unable id) = refl
 best_one z (Interest id current future kinds key aggregate) = refl
 best_one z (EndInterest id) = refl
 best_one z (ToldSub id key interest) = refl
+best_one z (ToldToken id key interest) = refl
 best_one z (ToldAble id key complete interest) = refl
 best_one z (ToldUnsub id) = refl
+best_one z (ToldUntoken id) = refl
 best_one z (ToldUnable id) = refl
 best_one z (ToldEnd interest) = refl
 best_one z (Push tree content) = refl
@@ -84,13 +88,17 @@ best_ways z es x y =
 pub gapless_taken : (z : Name) (msg : Msg) (p : ℕ) (rest : List (Note Brought)) → Gapless z p (brings msg ++ rest) → Gapless z (max p (best z (brings msg))) rest
 gapless_taken z (Sub id key) p rest h = gapless_later z rest p (max p 0) (omega arith) h
 gapless_taken z (Unsub id) p rest h = gapless_later z rest p (max p 0) (omega arith) h
+gapless_taken z (Token id key) p rest h = gapless_later z rest p (max p 0) (omega arith) h
+gapless_taken z (Untoken id) p rest h = gapless_later z rest p (max p 0) (omega arith) h
 gapless_taken z (Able id key complete) p rest h = gapless_later z rest p (max p 0) (omega arith) h
 gapless_taken z (Unable id) p rest h = gapless_later z rest p (max p 0) (omega arith) h
 gapless_taken z (Interest id current future kinds key aggregate) p rest h = gapless_later z rest p (max p 0) (omega arith) h
 gapless_taken z (EndInterest id) p rest h = gapless_later z rest p (max p 0) (omega arith) h
 gapless_taken z (ToldSub id key interest) p rest h = gapless_later z rest p (max p 0) (omega arith) h
+gapless_taken z (ToldToken id key interest) p rest h = gapless_later z rest p (max p 0) (omega arith) h
 gapless_taken z (ToldAble id key complete interest) p rest h = gapless_later z rest p (max p 0) (omega arith) h
 gapless_taken z (ToldUnsub id) p rest h = gapless_later z rest p (max p 0) (omega arith) h
+gapless_taken z (ToldUntoken id) p rest h = gapless_later z rest p (max p 0) (omega arith) h
 gapless_taken z (ToldUnable id) p rest h = gapless_later z rest p (max p 0) (omega arith) h
 gapless_taken z (ToldEnd interest) p rest h = gapless_later z rest p (max p 0) (omega arith) h
 gapless_taken z (Push tree content) p rest h = gapless_later z rest p (max p 0) (omega arith) h

@@ -14,7 +14,7 @@ use Rattle.zr_graph.proofs.Names.{same_is, same_refl}
 use Rattle.zr_msg.specs.declared.decl.Decl.{Decl}
 use Rattle.zr_msg.specs.declared.decl.Kind.TheVariants as kind
 use Rattle.zr_msg.specs.declared.msg.Msg.{Msg}
-use Rattle.zr_msg.specs.declared.msg.Msg.TheVariants.{Sub, Unsub, Able, Unable, Interest, EndInterest, ToldSub, ToldAble, ToldUnsub, ToldUnable, ToldEnd, Push, Request, Response, Final, State, Step, Snap}
+use Rattle.zr_msg.specs.declared.msg.Msg.TheVariants.{Sub, Unsub, Token, Untoken, Able, Unable, Interest, EndInterest, ToldSub, ToldAble, ToldUnsub, ToldToken, ToldUntoken, ToldUnable, ToldEnd, Push, Request, Response, Final, State, Step, Snap}
 use Rattle.zr_msg.specs.declared.event.Event.{Event}
 use Rattle.zr_msg.specs.declared.event.Event.TheVariants.{Up, Down, From}
 use Rattle.zr_msg.specs.declared.peer.LinkPeer.{LinkPeer}
@@ -163,13 +163,17 @@ module _ (n : NodeState) (z : Name) (top : ℕ) where
     from_climbs : (link : LinkNo) (msg : Msg) → Gapless z top (flat_map brings (sends_first n (From link msg) to))
     from_climbs link (Sub id key) = rows_climb (rows_declared n link.0 (row link.0 id kind.Sub key))
     from_climbs link (Unsub id) = rows_climb (rows_undeclared n link.0 (key_of link.0 id kind.Sub))
+    from_climbs link (Token id key) = rows_climb (rows_declared n link.0 (row link.0 id kind.Token key))
+    from_climbs link (Untoken id) = rows_climb (rows_undeclared n link.0 (key_of link.0 id kind.Token))
     from_climbs link (Able id key complete) = rows_climb (rows_declared n link.0 (row link.0 id (able_kind complete) key))
     from_climbs link (Unable id) = rows_climb (rows_undeclared n link.0 (key_of link.0 id kind.Able))
     from_climbs link (Interest id current future kinds key aggregate) = tt
     from_climbs link (EndInterest id) = tt
     from_climbs link (ToldSub id key interest) = tt
+    from_climbs link (ToldToken id key interest) = tt
     from_climbs link (ToldAble id key complete interest) = tt
     from_climbs link (ToldUnsub id) = tt
+    from_climbs link (ToldUntoken id) = tt
     from_climbs link (ToldUnable id) = tt
     from_climbs link (ToldEnd interest) = tt
     from_climbs link (Push tree content) =

@@ -13,7 +13,7 @@ use Rattle.zr_graph.specs.Base.{BaseState, is_newer, kept}
 use Rattle.zr_graph.proofs.Names.{same_is}
 use Rattle.zr_lists.proofs.Finds.{In}
 use Rattle.zr_msg.specs.declared.msg.Msg.{Msg}
-use Rattle.zr_msg.specs.declared.msg.Msg.TheVariants.{Sub, Unsub, Able, Unable, Interest, EndInterest, ToldSub, ToldAble, ToldUnsub, ToldUnable, ToldEnd, Push, Request, Response, Final, State, Step, Snap}
+use Rattle.zr_msg.specs.declared.msg.Msg.TheVariants.{Sub, Unsub, Token, Untoken, Able, Unable, Interest, EndInterest, ToldSub, ToldAble, ToldUnsub, ToldToken, ToldUntoken, ToldUnable, ToldEnd, Push, Request, Response, Final, State, Step, Snap}
 use Rattle.zr_msg.specs.declared.event.Event.{Event}
 use Rattle.zr_msg.specs.declared.event.Event.TheVariants.{From}
 use Rattle.zr_node_spec.specs.Tables.{link_to, leads_to_router}
@@ -86,13 +86,17 @@ module _ (n : NodeState) (from : LinkNo) where
       ((m : Msg) → IsSilent n from m → (leads_to_router n.links from.0 ≡ true → AreOld n.base (notes_in m)) → P m) → P msg
   by_news (Sub id key) P news silent = by_nothing (Sub id key) P silent refl
   by_news (Unsub id) P news silent = by_nothing (Unsub id) P silent refl
+  by_news (Token id key) P news silent = by_nothing (Token id key) P silent refl
+  by_news (Untoken id) P news silent = by_nothing (Untoken id) P silent refl
   by_news (Able id key complete) P news silent = by_nothing (Able id key complete) P silent refl
   by_news (Unable id) P news silent = by_nothing (Unable id) P silent refl
   by_news (Interest id current future kinds key aggregate) P news silent = by_nothing (Interest id current future kinds key aggregate) P silent refl
   by_news (EndInterest id) P news silent = by_nothing (EndInterest id) P silent refl
   by_news (ToldSub id key interest) P news silent = by_nothing (ToldSub id key interest) P silent refl
+  by_news (ToldToken id key interest) P news silent = by_nothing (ToldToken id key interest) P silent refl
   by_news (ToldAble id key complete interest) P news silent = by_nothing (ToldAble id key complete interest) P silent refl
   by_news (ToldUnsub id) P news silent = by_nothing (ToldUnsub id) P silent refl
+  by_news (ToldUntoken id) P news silent = by_nothing (ToldUntoken id) P silent refl
   by_news (ToldUnable id) P news silent = by_nothing (ToldUnable id) P silent refl
   by_news (ToldEnd interest) P news silent = by_nothing (ToldEnd interest) P silent refl
   by_news (Push tree content) P news silent = by_nothing (Push tree content) P silent refl

@@ -9,7 +9,7 @@ use Rattle.zr_graph.proofs.Names.{same_is}
 use Rattle.zr_msg.specs.declared.decl.Decl.{Decl}
 use Rattle.zr_msg.specs.declared.decl.Kind.TheVariants as kind
 use Rattle.zr_msg.specs.declared.msg.Msg.{Msg}
-use Rattle.zr_msg.specs.declared.msg.Msg.TheVariants.{Sub, Unsub, Able, Unable, Interest, EndInterest, ToldSub, ToldAble, ToldUnsub, ToldUnable, ToldEnd, Push, Request, Response, Final, State, Step, Snap}
+use Rattle.zr_msg.specs.declared.msg.Msg.TheVariants.{Sub, Unsub, Token, Untoken, Able, Unable, Interest, EndInterest, ToldSub, ToldAble, ToldUnsub, ToldToken, ToldUntoken, ToldUnable, ToldEnd, Push, Request, Response, Final, State, Step, Snap}
 use Rattle.zr_msg.specs.declared.event.Event.{Event}
 use Rattle.zr_msg.specs.declared.event.Event.TheVariants.{Up, Down, From}
 use Rattle.zr_log_set.specs.Decls.{set_of}
@@ -75,13 +75,17 @@ module _ (n : NodeState) where
   from_stays : (link : LinkNo) (msg : Msg) → Stays n (after n (From link msg)).known
   from_stays link (Sub id key) = rows_stay (changes n.rows (rows_declared n link.0 (row link.0 id kind.Sub key)))
   from_stays link (Unsub id) = rows_stay (changes n.rows (rows_undeclared n link.0 (key_of link.0 id kind.Sub)))
+  from_stays link (Token id key) = rows_stay (changes n.rows (rows_declared n link.0 (row link.0 id kind.Token key)))
+  from_stays link (Untoken id) = rows_stay (changes n.rows (rows_undeclared n link.0 (key_of link.0 id kind.Token)))
   from_stays link (Able id key complete) = rows_stay (changes n.rows (rows_declared n link.0 (row link.0 id (able_kind complete) key)))
   from_stays link (Unable id) = rows_stay (changes n.rows (rows_undeclared n link.0 (key_of link.0 id kind.Able)))
   from_stays link (Interest id current future kinds key aggregate) = same_stays
   from_stays link (EndInterest id) = same_stays
   from_stays link (ToldSub id key interest) = same_stays
+  from_stays link (ToldToken id key interest) = same_stays
   from_stays link (ToldAble id key complete interest) = same_stays
   from_stays link (ToldUnsub id) = same_stays
+  from_stays link (ToldUntoken id) = same_stays
   from_stays link (ToldUnable id) = same_stays
   from_stays link (ToldEnd interest) = same_stays
   from_stays link (Push tree content) = same_stays
@@ -163,13 +167,17 @@ module _ (n : NodeState) (link : LinkNo) (router : leads_to_router n.links link.
   pub heard_known : (msg : Msg) → refuses n (From link msg) ≡ None → (z : Name) → is_named n.known.me z ≡ false → best z (places (msg ∷ [])) ≤ position (after n (From link msg)).known z
   heard_known (Sub id key) taken z other = omega arith
   heard_known (Unsub id) taken z other = omega arith
+  heard_known (Token id key) taken z other = omega arith
+  heard_known (Untoken id) taken z other = omega arith
   heard_known (Able id key complete) taken z other = omega arith
   heard_known (Unable id) taken z other = omega arith
   heard_known (Interest id current future kinds key aggregate) taken z other = omega arith
   heard_known (EndInterest id) taken z other = omega arith
   heard_known (ToldSub id key interest) taken z other = omega arith
+  heard_known (ToldToken id key interest) taken z other = omega arith
   heard_known (ToldAble id key complete interest) taken z other = omega arith
   heard_known (ToldUnsub id) taken z other = omega arith
+  heard_known (ToldUntoken id) taken z other = omega arith
   heard_known (ToldUnable id) taken z other = omega arith
   heard_known (ToldEnd interest) taken z other = omega arith
   heard_known (Push tree content) taken z other = omega arith
@@ -189,13 +197,17 @@ module _ (n : NodeState) (link : LinkNo) (router : leads_to_router n.links link.
 pub links_from : (n : NodeState) (link : LinkNo) (msg : Msg) → (after n (From link msg)).links ≡ n.links
 links_from n link (Sub id key) = refl
 links_from n link (Unsub id) = refl
+links_from n link (Token id key) = refl
+links_from n link (Untoken id) = refl
 links_from n link (Able id key complete) = refl
 links_from n link (Unable id) = refl
 links_from n link (Interest id current future kinds key aggregate) = refl
 links_from n link (EndInterest id) = refl
 links_from n link (ToldSub id key interest) = refl
+links_from n link (ToldToken id key interest) = refl
 links_from n link (ToldAble id key complete interest) = refl
 links_from n link (ToldUnsub id) = refl
+links_from n link (ToldUntoken id) = refl
 links_from n link (ToldUnable id) = refl
 links_from n link (ToldEnd interest) = refl
 links_from n link (Push tree content) = refl

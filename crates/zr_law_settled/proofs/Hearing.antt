@@ -12,7 +12,7 @@ use Rattle.zr_graph.proofs.Names.{same_refl}
 use Rattle.zr_graph.proofs.Ascending.{in_order_put}
 use Rattle.zr_lists.proofs.Finds.{In, in_find}
 use Rattle.zr_msg.specs.declared.msg.Msg.{Msg}
-use Rattle.zr_msg.specs.declared.msg.Msg.TheVariants.{Sub, Unsub, Able, Unable, Interest, EndInterest, ToldSub, ToldAble, ToldUnsub, ToldUnable, ToldEnd, Push, Request, Response, Final, State, Step, Snap}
+use Rattle.zr_msg.specs.declared.msg.Msg.TheVariants.{Sub, Unsub, Token, Untoken, Able, Unable, Interest, EndInterest, ToldSub, ToldAble, ToldUnsub, ToldToken, ToldUntoken, ToldUnable, ToldEnd, Push, Request, Response, Final, State, Step, Snap}
 use Rattle.zr_msg.specs.declared.event.Event.{Event}
 use Rattle.zr_msg.specs.declared.event.Event.TheVariants.{Up, Down, From}
 use Rattle.zr_msg.specs.Peer.{PeerState}
@@ -69,13 +69,17 @@ module _ (n : NodeState) where
   from_of : (from : LinkNo) (msg : Msg) (to : LinkNo) → AllOf (known_of (after n (From from msg)).base) (told (sends_first n (From from msg) to))
   from_of from (Sub id key) to = silent_of from (Sub id key) to refl
   from_of from (Unsub id) to = silent_of from (Unsub id) to refl
+  from_of from (Token id key) to = silent_of from (Token id key) to refl
+  from_of from (Untoken id) to = silent_of from (Untoken id) to refl
   from_of from (Able id key complete) to = silent_of from (Able id key complete) to refl
   from_of from (Unable id) to = silent_of from (Unable id) to refl
   from_of from (Interest id current future kinds key aggregate) to = tt
   from_of from (EndInterest id) to = tt
   from_of from (ToldSub id key interest) to = tt
+  from_of from (ToldToken id key interest) to = tt
   from_of from (ToldAble id key complete interest) to = tt
   from_of from (ToldUnsub id) to = tt
+  from_of from (ToldUntoken id) to = tt
   from_of from (ToldUnable id) to = tt
   from_of from (ToldEnd interest) to = tt
   from_of from (Push tree content) to = silent_of from (Push tree content) to refl
@@ -126,13 +130,17 @@ module _ (n : NodeState) where
   order_from : (from : LinkNo) (msg : Msg) → IsInOrder n.base → IsInOrder (after n (From from msg)).base
   order_from from (Sub id key) h = h
   order_from from (Unsub id) h = h
+  order_from from (Token id key) h = h
+  order_from from (Untoken id) h = h
   order_from from (Able id key complete) h = h
   order_from from (Unable id) h = h
   order_from from (Interest id current future kinds key aggregate) h = h
   order_from from (EndInterest id) h = h
   order_from from (ToldSub id key interest) h = h
+  order_from from (ToldToken id key interest) h = h
   order_from from (ToldAble id key complete interest) h = h
   order_from from (ToldUnsub id) h = h
+  order_from from (ToldUntoken id) h = h
   order_from from (ToldUnable id) h = h
   order_from from (ToldEnd interest) h = h
   order_from from (Push tree content) h = h

@@ -7,7 +7,7 @@ use Rattle.std.proofs.lemmas.Bool.{true≢false, not-true}
 use Rattle.zr_lists.proofs.Finds.{In}
 use Rattle.zr_msg.specs.declared.decl.Decl.{Decl}
 use Rattle.zr_msg.specs.declared.msg.Msg.{Msg}
-use Rattle.zr_msg.specs.declared.msg.Msg.TheVariants.{Sub, Unsub, Able, Unable, Interest, EndInterest, ToldSub, ToldAble, ToldUnsub, ToldUnable, ToldEnd, Push, Request, Response, Final, State, Step, Snap}
+use Rattle.zr_msg.specs.declared.msg.Msg.TheVariants.{Sub, Unsub, Token, Untoken, Able, Unable, Interest, EndInterest, ToldSub, ToldAble, ToldUnsub, ToldToken, ToldUntoken, ToldUnable, ToldEnd, Push, Request, Response, Final, State, Step, Snap}
 use Rattle.zr_msg.specs.declared.peer.LinkPeer.{LinkPeer}
 use Rattle.zr_log.specs.Known.{is_gap}
 use Rattle.zr_node_spec.specs.Tables.{is_router, link_to, leads_to_router, leads_to_client}
@@ -22,7 +22,7 @@ use Rattle.zr_law_settled.proofs.Changes.{links_known}
 use Rattle.zr_law_settled.proofs.Logs.{knows_logs, logs_of}
 use Rattle.zr_law_settled.proofs.Values.{brings}
 use Rattle.zr_law_settled.proofs.ClientRows.{ClientsHold}
-use Rattle.zr_law_settled.proofs.Asked.{unsub_taken, unable_taken}
+use Rattle.zr_law_settled.proofs.Asked.{unsub_taken, unable_taken, untoken_taken}
 use Rattle.zr_law_settled.proofs.Gaps.{Gapless, first_fits}
 use Rattle.zr_law_settled.proofs.GapKeeping.{GapsHold}
 use Rattle.zr_law_settled.proofs.Orderly.{Orderly, has_wire}
@@ -69,13 +69,17 @@ module _ (w : WorldState) (sound : IsSound w) (orderly : Orderly w) (clients : C
   pub in_turn : (msg : Msg) → e.wire ≡ record { msg = msg; tag = tag } ∷ xs → IsInTurn r.node l.link.0 msg
   in_turn (Sub id key) front = tt
   in_turn (Unsub id) front = λ leads. let c = from_client leads in unsub_taken w clients x y r c.0 l found c.1 linked e at_end tag xs id front
+  in_turn (Token id key) front = tt
+  in_turn (Untoken id) front = λ leads. let c = from_client leads in untoken_taken w clients x y r c.0 l found c.1 linked e at_end tag xs id front
   in_turn (Able id key complete) front = tt
   in_turn (Unable id) front = λ leads. let c = from_client leads in unable_taken w clients x y r c.0 l found c.1 linked e at_end tag xs id front
   in_turn (Interest id current future kinds key aggregate) front = tt
   in_turn (EndInterest id) front = tt
   in_turn (ToldSub id key interest) front = tt
+  in_turn (ToldToken id key interest) front = tt
   in_turn (ToldAble id key complete interest) front = tt
   in_turn (ToldUnsub id) front = tt
+  in_turn (ToldUntoken id) front = tt
   in_turn (ToldUnable id) front = tt
   in_turn (ToldEnd interest) front = tt
   in_turn (Push tree content) front = tt

@@ -78,7 +78,7 @@ clients_kept w clients h = record { made = h.made; spreads = h.spreads; lists = 
 -- ---- clients are told
 
 told_notes : (msg : Msg) → is_told msg ≡ true → notes_in msg ≡ []
-told_notes = by_told (λ msg. notes_in msg ≡ []) (λ id key interest. refl) (λ id key complete interest. refl) (λ id. refl) (λ id. refl) (λ interest. refl)
+told_notes = by_told (λ msg. notes_in msg ≡ []) (λ id key interest. refl) (λ id key interest. refl) (λ id key complete interest. refl) (λ id. refl) (λ id. refl) (λ id. refl) (λ interest. refl)
 
 pub holds_told : (w v : WorldState) → IsTold w v → Holds w → Holds v
 holds_told w v t h = quiet_kept w v h (record {
@@ -182,6 +182,9 @@ module _ (now : Moment) (sound : IsSound now.world) (h : Holds now.world) where
   acts_keep n (a.Sub client id key) = for_declare now Kept n client k.Sub id key (m.Sub id key) (λ s found fresh e at_end unbroken r there room sound'.
       client_declares n client k.Sub id key (m.Sub id key) refl s e at_end r there)
   acts_keep n (a.Unsub client id) = for_undeclare now Kept n client k.Sub id (m.Unsub id) (λ s found known e at_end unbroken sound'. clients_kept _ _ (on_wire n client s e at_end (m.Unsub id) refl))
+  acts_keep n (a.Token client id key) = for_declare now Kept n client k.Token id key (m.Token id key) (λ s found fresh e at_end unbroken r there room sound'.
+      client_declares n client k.Token id key (m.Token id key) refl s e at_end r there)
+  acts_keep n (a.Untoken client id) = for_undeclare now Kept n client k.Token id (m.Untoken id) (λ s found known e at_end unbroken sound'. clients_kept _ _ (on_wire n client s e at_end (m.Untoken id) refl))
   acts_keep n (a.Able client id key complete) = for_declare now Kept n client (able_kind complete) id key (m.Able id key complete) (λ s found fresh e at_end unbroken r there room sound'.
       client_declares n client (able_kind complete) id key (m.Able id key complete) refl s e at_end r there)
   acts_keep n (a.Unable client id) = for_undeclare now Kept n client k.Able id (m.Unable id) (λ s found known e at_end unbroken sound'. clients_kept _ _ (on_wire n client s e at_end (m.Unable id) refl))

@@ -127,6 +127,8 @@ module _ (n : ℕ) (now : Moment) (h : AreBounded n now.world.routers) where
   act_bounded line (a.Down router name) = for_down now (Bound (n + 1)) (bounded_told (n + 1)) line router name (λ r found there s at_end up cut l number taken. hears (n + 1) router r found (Down l) (omega arith))
   act_bounded line (a.Sub client id key) = for_declare now (Bound (n + 1)) line client k.Sub id key (m.Sub id key) (λ s found fresh e at_end unbroken r there weighs. heavier s.router key r there)
   act_bounded line (a.Unsub client id) = for_undeclare now (Bound (n + 1)) line client k.Sub id (m.Unsub id) (λ s found known e at_end unbroken. stays)
+  act_bounded line (a.Token client id key) = for_declare now (Bound (n + 1)) line client k.Token id key (m.Token id key) (λ s found fresh e at_end unbroken r there weighs. heavier s.router key r there)
+  act_bounded line (a.Untoken client id) = for_undeclare now (Bound (n + 1)) line client k.Token id (m.Untoken id) (λ s found known e at_end unbroken. stays)
   act_bounded line (a.Able client id key complete) = for_declare now (Bound (n + 1)) line client (able_kind complete) id key (m.Able id key complete) (λ s found fresh e at_end unbroken r there weighs. heavier s.router key r there)
   act_bounded line (a.Unable client id) = for_undeclare now (Bound (n + 1)) line client k.Able id (m.Unable id) (λ s found known e at_end unbroken. stays)
   act_bounded line (a.Interest client id mode kinds key aggregate) = interest_says now (Bound (n + 1)) line client id mode kinds key aggregate (λ s found e at_end unbroken clients same. stays)

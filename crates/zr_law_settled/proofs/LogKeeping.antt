@@ -128,7 +128,7 @@ clients_logs w clients l = record { spreads = l.spreads; in_order = l.in_order; 
 -- ---- clients are told
 
 told_places : (msg : Msg) → is_told msg ≡ true → places_in msg ≡ []
-told_places = by_told (λ msg. places_in msg ≡ []) (λ id key interest. refl) (λ id key complete interest. refl) (λ id. refl) (λ id. refl) (λ interest. refl)
+told_places = by_told (λ msg. places_in msg ≡ []) (λ id key interest. refl) (λ id key interest. refl) (λ id key complete interest. refl) (λ id. refl) (λ id. refl) (λ id. refl) (λ interest. refl)
 
 pub logs_told : (w v : WorldState) → IsTold w v → LogsHold w → LogsHold v
 logs_told w v t l = record {
@@ -195,6 +195,9 @@ module _ (now : Moment) (sound : IsSound now.world) (h : Holds now.world) (l : L
   logs_keep n (a.Sub client id key) = for_declare now KeptLogs n client k.Sub id key (m.Sub id key) (λ s found fresh e at_end unbroken r there room sound'.
       client_declares n client k.Sub id key (m.Sub id key) refl s e at_end r there)
   logs_keep n (a.Unsub client id) = for_undeclare now KeptLogs n client k.Sub id (m.Unsub id) (λ s found known e at_end unbroken sound'. clients_logs _ _ (on_wire n client s e at_end (m.Unsub id) refl))
+  logs_keep n (a.Token client id key) = for_declare now KeptLogs n client k.Token id key (m.Token id key) (λ s found fresh e at_end unbroken r there room sound'.
+      client_declares n client k.Token id key (m.Token id key) refl s e at_end r there)
+  logs_keep n (a.Untoken client id) = for_undeclare now KeptLogs n client k.Token id (m.Untoken id) (λ s found known e at_end unbroken sound'. clients_logs _ _ (on_wire n client s e at_end (m.Untoken id) refl))
   logs_keep n (a.Able client id key complete) = for_declare now KeptLogs n client (able_kind complete) id key (m.Able id key complete) (λ s found fresh e at_end unbroken r there room sound'.
       client_declares n client (able_kind complete) id key (m.Able id key complete) refl s e at_end r there)
   logs_keep n (a.Unable client id) = for_undeclare now KeptLogs n client k.Able id (m.Unable id) (λ s found known e at_end unbroken sound'. clients_logs _ _ (on_wire n client s e at_end (m.Unable id) refl))

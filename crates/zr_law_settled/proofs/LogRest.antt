@@ -20,7 +20,7 @@ use Rattle.zr_lists.proofs.Same.{same}
 use Rattle.zr_lists.proofs.Order.{name_order}
 use Rattle.zr_log.specs.Known.{position}
 use Rattle.zr_msg.specs.declared.msg.Msg.{Msg}
-use Rattle.zr_msg.specs.declared.msg.Msg.TheVariants.{Sub, Unsub, Able, Unable, Interest, EndInterest, ToldSub, ToldAble, ToldUnsub, ToldUnable, ToldEnd, Push, Request, Response, Final, State, Step, Snap}
+use Rattle.zr_msg.specs.declared.msg.Msg.TheVariants.{Sub, Unsub, Token, Untoken, Able, Unable, Interest, EndInterest, ToldSub, ToldAble, ToldUnsub, ToldToken, ToldUntoken, ToldUnable, ToldEnd, Push, Request, Response, Final, State, Step, Snap}
 use Rattle.zr_world_spec.specs.World.{RouterState, WorldState, router_of, is_up, is_unbroken, is_linked, is_settled, unsettles}
 use Rattle.zr_world_spec.specs.Joined.{graph}
 use Rattle.zr_world_spec.specs.Sound.{IsSound}
@@ -36,13 +36,17 @@ use Rattle.zr_law_settled.proofs.Logs.{knows_logs, logs_of, log_lane, child_at, 
 calm_places : (msg : Msg) → not (unsettles msg) ≡ true → places_in msg ≡ []
 calm_places (Sub id key) h = refl
 calm_places (Unsub id) h = refl
+calm_places (Token id key) h = refl
+calm_places (Untoken id) h = refl
 calm_places (Able id key complete) h = refl
 calm_places (Unable id) h = refl
 calm_places (Interest id current future kinds key aggregate) h = refl
 calm_places (EndInterest id) h = refl
 calm_places (ToldSub id key interest) h = refl
+calm_places (ToldToken id key interest) h = refl
 calm_places (ToldAble id key complete interest) h = refl
 calm_places (ToldUnsub id) h = refl
+calm_places (ToldUntoken id) h = refl
 calm_places (ToldUnable id) h = refl
 calm_places (ToldEnd interest) h = refl
 calm_places (Push tree content) h = refl

@@ -231,7 +231,7 @@ clients_sets w clients s = record { made = s.made; sets = s.sets; none = s.none;
 -- ---- clients are told
 
 told_brings : (msg : Msg) → is_told msg ≡ true → brings msg ≡ []
-told_brings = by_told (λ msg. brings msg ≡ []) (λ id key interest. refl) (λ id key complete interest. refl) (λ id. refl) (λ id. refl) (λ interest. refl)
+told_brings = by_told (λ msg. brings msg ≡ []) (λ id key interest. refl) (λ id key interest. refl) (λ id key complete interest. refl) (λ id. refl) (λ id. refl) (λ id. refl) (λ interest. refl)
 
 pub sets_told : (w v : WorldState) → IsTold w v → SetsHold w → SetsHold v
 sets_told w v t s = record {
@@ -336,6 +336,8 @@ module _ (now : Moment) (sound : IsSound now.world) (h : Holds now.world) (l : L
       sets_moved (sending w router r (Down link) n) _ part (emptied_part brings (sending w router r (Down link) n).ends router name))
   sets_keep n (a.Sub client id key) = for_declare now KeptSets n client k.Sub id key (m.Sub id key) (λ c found fresh e at_end unbroken r there room. client_declares n client k.Sub id key (m.Sub id key) refl c e at_end r there)
   sets_keep n (a.Unsub client id) = for_undeclare now KeptSets n client k.Sub id (m.Unsub id) (λ c found known e at_end unbroken. clients_sets _ _ (on_wire n client c e at_end (m.Unsub id) refl))
+  sets_keep n (a.Token client id key) = for_declare now KeptSets n client k.Token id key (m.Token id key) (λ c found fresh e at_end unbroken r there room. client_declares n client k.Token id key (m.Token id key) refl c e at_end r there)
+  sets_keep n (a.Untoken client id) = for_undeclare now KeptSets n client k.Token id (m.Untoken id) (λ c found known e at_end unbroken. clients_sets _ _ (on_wire n client c e at_end (m.Untoken id) refl))
   sets_keep n (a.Able client id key complete) =
       for_declare now KeptSets n client (able_kind complete) id key (m.Able id key complete) (λ c found fresh e at_end unbroken r there room. client_declares n client (able_kind complete) id key (m.Able id key complete) refl c e at_end r there)
   sets_keep n (a.Unable client id) = for_undeclare now KeptSets n client k.Able id (m.Unable id) (λ c found known e at_end unbroken. clients_sets _ _ (on_wire n client c e at_end (m.Unable id) refl))

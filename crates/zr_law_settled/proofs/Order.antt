@@ -41,6 +41,8 @@ act_ascends now h n (a.Break router name) = for_break now Ascend router name (λ
 act_ascends now h n (a.Down router name) = for_down now Ascend ascend_told n router name (λ r found there s at_end up cut l number taken. same_keys now.world.routers router _ h)
 act_ascends now h n (a.Sub client id key) = for_declare now Ascend n client k.Sub id key (m.Sub id key) (λ s found fresh e at_end unbroken r there room. same_keys now.world.routers s.router _ h)
 act_ascends now h n (a.Unsub client id) = for_undeclare now Ascend n client k.Sub id (m.Unsub id) (λ s found known e at_end unbroken. h)
+act_ascends now h n (a.Token client id key) = for_declare now Ascend n client k.Token id key (m.Token id key) (λ s found fresh e at_end unbroken r there room. same_keys now.world.routers s.router _ h)
+act_ascends now h n (a.Untoken client id) = for_undeclare now Ascend n client k.Token id (m.Untoken id) (λ s found known e at_end unbroken. h)
 act_ascends now h n (a.Able client id key complete) =
     for_declare now Ascend n client (able_kind complete) id key (m.Able id key complete) (λ s found fresh e at_end unbroken r there room. same_keys now.world.routers s.router _ h)
 act_ascends now h n (a.Unable client id) = for_undeclare now Ascend n client k.Able id (m.Unable id) (λ s found known e at_end unbroken. h)

@@ -599,6 +599,8 @@ module _ (now : Moment) (sound : IsSound now.world) (h : Orderly now.world) wher
   act_orderly n (c.Down router name) = for_down now IsKept (if_sound Orderly orderly_told) n router name (λ r er there s es up cut l el taken. went_down n router name r er s es cut l)
   act_orderly n (c.Sub client id key) = declares n client sort.Sub id key (m.Sub id key)
   act_orderly n (c.Unsub client id) = undeclares n client sort.Sub id (m.Unsub id)
+  act_orderly n (c.Token client id key) = declares n client sort.Token id key (m.Token id key)
+  act_orderly n (c.Untoken client id) = undeclares n client sort.Token id (m.Untoken id)
   act_orderly n (c.Able client id key complete) = declares n client (able_kind complete) id key (m.Able id key complete)
   act_orderly n (c.Unable client id) = undeclares n client sort.Able id (m.Unable id)
   act_orderly n (c.Interest client id mode kinds key aggregate) = interest_says now IsKept n client id mode kinds key aggregate

@@ -16,7 +16,7 @@ use Rattle.zr_id.specs.Record.{RecordState}
 use Rattle.zr_graph.proofs.Names.{same_is, same_refl}
 use Rattle.zr_msg.specs.declared.decl.Decl.{Decl}
 use Rattle.zr_msg.specs.declared.msg.Msg.{Msg}
-use Rattle.zr_msg.specs.declared.msg.Msg.TheVariants.{Sub, Unsub, Able, Unable, Interest, EndInterest, ToldSub, ToldAble, ToldUnsub, ToldUnable, ToldEnd, Push, Request, Response, Final, State, Step, Snap}
+use Rattle.zr_msg.specs.declared.msg.Msg.TheVariants.{Sub, Unsub, Token, Untoken, Able, Unable, Interest, EndInterest, ToldSub, ToldAble, ToldUnsub, ToldToken, ToldUntoken, ToldUnable, ToldEnd, Push, Request, Response, Final, State, Step, Snap}
 use Rattle.zr_lists.specs.Ascending.{IsAscending, at_key}
 use Rattle.zr_lists.proofs.Order.{IsExactOrder, comes, is_itself, name_order}
 use Rattle.zr_lists.proofs.Puts.{at-put}
@@ -42,13 +42,17 @@ placed n = record { number = n; value = tt }
 abbrev pub places_in : Msg → List (Note Place)
 places_in (Sub id key) = []
 places_in (Unsub id) = []
+places_in (Token id key) = []
+places_in (Untoken id) = []
 places_in (Able id key complete) = []
 places_in (Unable id) = []
 places_in (Interest id current future kinds key aggregate) = []
 places_in (EndInterest id) = []
 places_in (ToldSub id key interest) = []
+places_in (ToldToken id key interest) = []
 places_in (ToldAble id key complete interest) = []
 places_in (ToldUnsub id) = []
+places_in (ToldUntoken id) = []
 places_in (ToldUnable id) = []
 places_in (ToldEnd interest) = []
 places_in (Push tree content) = []

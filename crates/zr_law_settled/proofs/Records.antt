@@ -18,7 +18,7 @@ use Rattle.zr_graph.proofs.Places.{record_of-put}
 use Rattle.zr_lists.proofs.Finds.{find_in}
 use Rattle.zr_lists.proofs.Options.{read_cond}
 use Rattle.zr_msg.specs.declared.msg.Msg.{Msg}
-use Rattle.zr_msg.specs.declared.msg.Msg.TheVariants.{Sub, Unsub, Able, Unable, Interest, EndInterest, ToldSub, ToldAble, ToldUnsub, ToldUnable, ToldEnd, Push, Request, Response, Final, State, Step, Snap}
+use Rattle.zr_msg.specs.declared.msg.Msg.TheVariants.{Sub, Unsub, Token, Untoken, Able, Unable, Interest, EndInterest, ToldSub, ToldAble, ToldUnsub, ToldToken, ToldUntoken, ToldUnable, ToldEnd, Push, Request, Response, Final, State, Step, Snap}
 use Rattle.zr_node_spec.specs.Table.{own_links, own_record, all_records}
 use Rattle.zr_law_settled.proofs.Spreading.{Name, Known, Note, best, AllOf}
 
@@ -43,13 +43,17 @@ note_of r = record { source = r.id; known = record { number = r.seq + 1; value =
 abbrev pub notes_in : Msg → List (Note Links)
 notes_in (Sub id key) = []
 notes_in (Unsub id) = []
+notes_in (Token id key) = []
+notes_in (Untoken id) = []
 notes_in (Able id key complete) = []
 notes_in (Unable id) = []
 notes_in (Interest id current future kinds key aggregate) = []
 notes_in (EndInterest id) = []
 notes_in (ToldSub id key interest) = []
+notes_in (ToldToken id key interest) = []
 notes_in (ToldAble id key complete interest) = []
 notes_in (ToldUnsub id) = []
+notes_in (ToldUntoken id) = []
 notes_in (ToldUnable id) = []
 notes_in (ToldEnd interest) = []
 notes_in (Push tree content) = []

@@ -13,7 +13,7 @@ use Rattle.zr_graph.proofs.Names.{same_is}
 use Rattle.zr_tree.specs.Walk.{IsWalk}
 use Rattle.zr_lists.proofs.Finds.{find_in}
 use Rattle.zr_msg.specs.declared.msg.Msg.{Msg}
-use Rattle.zr_msg.specs.declared.msg.Msg.TheVariants.{Sub, Unsub, Able, Unable, Interest, EndInterest, ToldSub, ToldAble, ToldUnsub, ToldUnable, ToldEnd, Push, Request, Response, Final, State, Step, Snap}
+use Rattle.zr_msg.specs.declared.msg.Msg.TheVariants.{Sub, Unsub, Token, Untoken, Able, Unable, Interest, EndInterest, ToldSub, ToldAble, ToldUnsub, ToldToken, ToldUntoken, ToldUnable, ToldEnd, Push, Request, Response, Final, State, Step, Snap}
 use Rattle.zr_world_spec.specs.World.{Tagged, RouterState, EndState, End, Ends, WorldState, end_weight, router_of, end_of, is_up, is_unbroken, is_linked, unsettles, is_calm, is_calm_end, is_met, is_settled}
 use Rattle.zr_world_spec.specs.Joined.{linked_weight, graph}
 use Rattle.zr_world_spec.specs.Sound.{IsSound}
@@ -29,13 +29,17 @@ use Rattle.zr_law_settled.proofs.Quiet.{passes_there}
 calm_notes : (msg : Msg) → not (unsettles msg) ≡ true → notes_in msg ≡ []
 calm_notes (Sub id key) h = refl
 calm_notes (Unsub id) h = refl
+calm_notes (Token id key) h = refl
+calm_notes (Untoken id) h = refl
 calm_notes (Able id key complete) h = refl
 calm_notes (Unable id) h = refl
 calm_notes (Interest id current future kinds key aggregate) h = refl
 calm_notes (EndInterest id) h = refl
 calm_notes (ToldSub id key interest) h = refl
+calm_notes (ToldToken id key interest) h = refl
 calm_notes (ToldAble id key complete interest) h = refl
 calm_notes (ToldUnsub id) h = refl
+calm_notes (ToldUntoken id) h = refl
 calm_notes (ToldUnable id) h = refl
 calm_notes (ToldEnd interest) h = refl
 calm_notes (Push tree content) h = refl

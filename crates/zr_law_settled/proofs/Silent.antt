@@ -8,7 +8,7 @@ use Rattle.zr_id.specs.Record.{RecordState}
 use Rattle.zr_id.specs.declared.link.LinkNo.{LinkNo}
 use Rattle.zr_msg.specs.declared.content.Parts.{Parts}
 use Rattle.zr_msg.specs.declared.msg.Msg.{Msg}
-use Rattle.zr_msg.specs.declared.msg.Msg.TheVariants.{Sub, Unsub, Able, Unable, Interest, EndInterest, ToldSub, ToldAble, ToldUnsub, ToldUnable, ToldEnd, Push, Request, Response, Final, State, Step, Snap}
+use Rattle.zr_msg.specs.declared.msg.Msg.TheVariants.{Sub, Unsub, Token, Untoken, Able, Unable, Interest, EndInterest, ToldSub, ToldAble, ToldUnsub, ToldToken, ToldUntoken, ToldUnable, ToldEnd, Push, Request, Response, Final, State, Step, Snap}
 use Rattle.zr_msg.specs.declared.event.Event.{Event}
 use Rattle.zr_msg.specs.declared.event.Event.TheVariants.{Down}
 use Rattle.zr_msg.specs.declared.peer.LinkPeer.{LinkPeer}
@@ -90,13 +90,17 @@ module _ (n : NodeState) where
   pub from_silent : (from : ℕ) (msg : Msg) (to : ℕ) → notes_in msg ≡ [] → told (sends_from n from msg to) ≡ []
   from_silent from (Sub id key) to e = rows_silent _ to
   from_silent from (Unsub id) to e = rows_silent _ to
+  from_silent from (Token id key) to e = rows_silent _ to
+  from_silent from (Untoken id) to e = rows_silent _ to
   from_silent from (Able id key complete) to e = rows_silent _ to
   from_silent from (Unable id) to e = rows_silent _ to
   from_silent from (Interest id current future kinds key aggregate) to e = refl
   from_silent from (EndInterest id) to e = refl
   from_silent from (ToldSub id key interest) to e = refl
+  from_silent from (ToldToken id key interest) to e = refl
   from_silent from (ToldAble id key complete interest) to e = refl
   from_silent from (ToldUnsub id) to e = refl
+  from_silent from (ToldUntoken id) to e = refl
   from_silent from (ToldUnable id) to e = refl
   from_silent from (ToldEnd interest) to e = refl
   from_silent from (Push tree content) to e = push_silent notes_in (tables n) from content (λ tree. refl) (tree_of (tables n) (link_at n.links from) tree) to
@@ -113,13 +117,17 @@ module _ (n : NodeState) where
   pub base_silent : (from : ℕ) (msg : Msg) → notes_in msg ≡ [] → (after_from n from msg).base ≡ n.base
   base_silent from (Sub id key) e = refl
   base_silent from (Unsub id) e = refl
+  base_silent from (Token id key) e = refl
+  base_silent from (Untoken id) e = refl
   base_silent from (Able id key complete) e = refl
   base_silent from (Unable id) e = refl
   base_silent from (Interest id current future kinds key aggregate) e = refl
   base_silent from (EndInterest id) e = refl
   base_silent from (ToldSub id key interest) e = refl
+  base_silent from (ToldToken id key interest) e = refl
   base_silent from (ToldAble id key complete interest) e = refl
   base_silent from (ToldUnsub id) e = refl
+  base_silent from (ToldUntoken id) e = refl
   base_silent from (ToldUnable id) e = refl
   base_silent from (ToldEnd interest) e = refl
   base_silent from (Push tree content) e = refl

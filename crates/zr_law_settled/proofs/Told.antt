@@ -18,7 +18,7 @@ use Rattle.zr_id.specs.Zid.{is_named}
 use Rattle.zr_id.specs.declared.link.LinkNo.{LinkNo}
 use Rattle.zr_graph.proofs.Names.{same_refl}
 use Rattle.zr_msg.specs.declared.msg.Msg.{Msg}
-use Rattle.zr_msg.specs.declared.msg.Msg.TheVariants.{Sub, Unsub, Able, Unable, Interest, EndInterest, ToldSub, ToldAble, ToldUnsub, ToldUnable, ToldEnd, Push, Request, Response, Final, State, Step, Snap}
+use Rattle.zr_msg.specs.declared.msg.Msg.TheVariants.{Sub, Unsub, Token, Untoken, Able, Unable, Interest, EndInterest, ToldSub, ToldAble, ToldUnsub, ToldToken, ToldUntoken, ToldUnable, ToldEnd, Push, Request, Response, Final, State, Step, Snap}
 use Rattle.zr_msg.specs.declared.event.Event.{Event}
 use Rattle.zr_msg.specs.declared.event.Event.TheVariants.{Down, From}
 use Rattle.zr_msg.specs.declared.peer.Role.TheVariants as role
@@ -45,18 +45,23 @@ use Rattle.zr_law_settled.proofs.Moving.{up_at, unbroken_at, both_ways}
 -- ---- told messages
 
 -- what is shown of each message that tells a client of what others declare
-module _ (P : Msg → Type 0) (sub : (id : ℕ) (key : List ℕ) (interest : Option ℕ) → P (ToldSub id key interest)) (able : (id : ℕ) (key : List ℕ) (complete : Bool) (interest : Option ℕ) → P (ToldAble id key complete interest))
-    (unsub : (id : ℕ) → P (ToldUnsub id)) (unable : (id : ℕ) → P (ToldUnable id)) (end : (interest : ℕ) → P (ToldEnd interest)) where
+module _ (P : Msg → Type 0) (sub : (id : ℕ) (key : List ℕ) (interest : Option ℕ) → P (ToldSub id key interest)) (token : (id : ℕ) (key : List ℕ) (interest : Option ℕ) → P (ToldToken id key interest))
+    (able : (id : ℕ) (key : List ℕ) (complete : Bool) (interest : Option ℕ) → P (ToldAble id key complete interest))
+    (unsub : (id : ℕ) → P (ToldUnsub id)) (untoken : (id : ℕ) → P (ToldUntoken id)) (unable : (id : ℕ) → P (ToldUnable id)) (end : (interest : ℕ) → P (ToldEnd interest)) where
   pub by_told : (msg : Msg) → is_told msg ≡ true → P msg
   by_told (Sub id key) e = absurd (false≢true e)
   by_told (Unsub id) e = absurd (false≢true e)
+  by_told (Token id key) e = absurd (false≢true e)
+  by_told (Untoken id) e = absurd (false≢true e)
   by_told (Able id key complete) e = absurd (false≢true e)
   by_told (Unable id) e = absurd (false≢true e)
   by_told (Interest id current future kinds key aggregate) e = absurd (false≢true e)
   by_told (EndInterest id) e = absurd (false≢true e)
   by_told (ToldSub id key interest) e = sub id key interest
+  by_told (ToldToken id key interest) e = token id key interest
   by_told (ToldAble id key complete interest) e = able id key complete interest
   by_told (ToldUnsub id) e = unsub id
+  by_told (ToldUntoken id) e = untoken id
   by_told (ToldUnable id) e = unable id
   by_told (ToldEnd interest) e = end interest
   by_told (Push tree content) e = absurd (false≢true e)

@@ -12,7 +12,7 @@ use Rattle.zr_id.specs.Record.{RecordState}
 use Rattle.zr_graph.proofs.Names.{same_refl}
 use Rattle.zr_msg.specs.declared.decl.Decl.{Decl}
 use Rattle.zr_msg.specs.declared.msg.Msg.{Msg}
-use Rattle.zr_msg.specs.declared.msg.Msg.TheVariants.{Sub, Unsub, Able, Unable, Interest, EndInterest, ToldSub, ToldAble, ToldUnsub, ToldUnable, ToldEnd, Push, Request, Response, Final, State, Step, Snap}
+use Rattle.zr_msg.specs.declared.msg.Msg.TheVariants.{Sub, Unsub, Token, Untoken, Able, Unable, Interest, EndInterest, ToldSub, ToldAble, ToldUnsub, ToldToken, ToldUntoken, ToldUnable, ToldEnd, Push, Request, Response, Final, State, Step, Snap}
 use Rattle.zr_log_set.specs.Decls.{IsSet, with_decl, without_decl, set_of}
 use Rattle.zr_log_set.proofs.Decls.{sets_same, set_all, has_all}
 use Rattle.zr_local.specs.Rows.{declared_set, gone, came}
@@ -39,13 +39,17 @@ Brought = Change ⊎ List Decl
 abbrev pub brings : Msg → List (Note Brought)
 brings (Sub id key) = []
 brings (Unsub id) = []
+brings (Token id key) = []
+brings (Untoken id) = []
 brings (Able id key complete) = []
 brings (Unable id) = []
 brings (Interest id current future kinds key aggregate) = []
 brings (EndInterest id) = []
 brings (ToldSub id key interest) = []
+brings (ToldToken id key interest) = []
 brings (ToldAble id key complete interest) = []
 brings (ToldUnsub id) = []
+brings (ToldUntoken id) = []
 brings (ToldUnable id) = []
 brings (ToldEnd interest) = []
 brings (Push tree content) = []

@@ -9,7 +9,7 @@ use Rattle.zr_id.specs.Zid.{is_named}
 use Rattle.zr_msg.specs.declared.decl.Decl.{Decl}
 use Rattle.zr_msg.specs.declared.decl.Kind.TheVariants as kind
 use Rattle.zr_msg.specs.declared.msg.Msg.{Msg}
-use Rattle.zr_msg.specs.declared.msg.Msg.TheVariants.{Sub, Unsub, Able, Unable, Interest, EndInterest, ToldSub, ToldAble, ToldUnsub, ToldUnable, ToldEnd, Push, Request, Response, Final, State, Step, Snap}
+use Rattle.zr_msg.specs.declared.msg.Msg.TheVariants.{Sub, Unsub, Token, Untoken, Able, Unable, Interest, EndInterest, ToldSub, ToldAble, ToldUnsub, ToldToken, ToldUntoken, ToldUnable, ToldEnd, Push, Request, Response, Final, State, Step, Snap}
 use Rattle.zr_log_set.specs.Decls.{IsSet, has, weight}
 use Rattle.zr_local.specs.Interests.{interest_weight}
 use Rattle.zr_local.specs.Rows.{refuses_undeclare}
@@ -37,13 +37,17 @@ live_weight o = option_map_or (λ i. interest_weight i) o 0
 abbrev pub weighs : Msg → ℕ
 weighs (Sub id key) = world.weight_of key
 weighs (Unsub id) = 0
+weighs (Token id key) = world.weight_of key
+weighs (Untoken id) = 0
 weighs (Able id key complete) = world.weight_of key
 weighs (Unable id) = 0
 weighs (Interest id current future kinds key aggregate) = live_weight (live future (record { id = id; kinds = kinds; key = key; aggregate = aggregate }))
 weighs (EndInterest id) = 0
 weighs (ToldSub id key interest) = 0
+weighs (ToldToken id key interest) = 0
 weighs (ToldAble id key complete interest) = 0
 weighs (ToldUnsub id) = 0
+weighs (ToldUntoken id) = 0
 weighs (ToldUnable id) = 0
 weighs (ToldEnd interest) = 0
 weighs (Push tree content) = 0
@@ -75,13 +79,17 @@ Ever = Name → List Decl
 abbrev pub gained : Msg → List Decl
 gained (Sub id key) = record { kind = kind.Sub; key = key } ∷ []
 gained (Unsub id) = []
+gained (Token id key) = record { kind = kind.Token; key = key } ∷ []
+gained (Untoken id) = []
 gained (Able id key complete) = record { kind = able_kind complete; key = key } ∷ []
 gained (Unable id) = []
 gained (Interest id current future kinds key aggregate) = []
 gained (EndInterest id) = []
 gained (ToldSub id key interest) = []
+gained (ToldToken id key interest) = []
 gained (ToldAble id key complete interest) = []
 gained (ToldUnsub id) = []
+gained (ToldUntoken id) = []
 gained (ToldUnable id) = []
 gained (ToldEnd interest) = []
 gained (Push tree content) = []
@@ -99,13 +107,17 @@ ever_more ever x more z = cond (is_named x z) (more ++ ever z) (ever z)
 abbrev pub IsTold : Ever → Msg → Type 0
 IsTold ever (Sub id key) = Unit {0}
 IsTold ever (Unsub id) = Unit {0}
+IsTold ever (Token id key) = Unit {0}
+IsTold ever (Untoken id) = Unit {0}
 IsTold ever (Able id key complete) = Unit {0}
 IsTold ever (Unable id) = Unit {0}
 IsTold ever (Interest id current future kinds key aggregate) = Unit {0}
 IsTold ever (EndInterest id) = Unit {0}
 IsTold ever (ToldSub id key interest) = Unit {0}
+IsTold ever (ToldToken id key interest) = Unit {0}
 IsTold ever (ToldAble id key complete interest) = Unit {0}
 IsTold ever (ToldUnsub id) = Unit {0}
+IsTold ever (ToldUntoken id) = Unit {0}
 IsTold ever (ToldUnable id) = Unit {0}
 IsTold ever (ToldEnd interest) = Unit {0}
 IsTold ever (Push tree content) = Unit {0}
@@ -167,13 +179,17 @@ pub record WeightsHold (w : WorldState) : Type 0 where
 abbrev pub IsInTurn : NodeState → ℕ → Msg → Type 0
 IsInTurn n from (Sub id key) = Unit {0}
 IsInTurn n from (Unsub id) = leads_to_client n.links from ≡ true → refuses_undeclare n.rows (key_of from id kind.Sub) ≡ None
+IsInTurn n from (Token id key) = Unit {0}
+IsInTurn n from (Untoken id) = leads_to_client n.links from ≡ true → refuses_undeclare n.rows (key_of from id kind.Token) ≡ None
 IsInTurn n from (Able id key complete) = Unit {0}
 IsInTurn n from (Unable id) = leads_to_client n.links from ≡ true → refuses_undeclare n.rows (key_of from id kind.Able) ≡ None
 IsInTurn n from (Interest id current future kinds key aggregate) = Unit {0}
 IsInTurn n from (EndInterest id) = Unit {0}
 IsInTurn n from (ToldSub id key interest) = Unit {0}
+IsInTurn n from (ToldToken id key interest) = Unit {0}
 IsInTurn n from (ToldAble id key complete interest) = Unit {0}
 IsInTurn n from (ToldUnsub id) = Unit {0}
+IsInTurn n from (ToldUntoken id) = Unit {0}
 IsInTurn n from (ToldUnable id) = Unit {0}
 IsInTurn n from (ToldEnd interest) = Unit {0}
 IsInTurn n from (Push tree content) = Unit {0}

@@ -246,6 +246,9 @@ module _ (now : Moment) (h : WeightsHold now.world) where
   weights_kept n (a.Sub client id key) = for_declare now KeptWeights n client k.Sub id key (m.Sub id key) (λ s found fresh e at unbroken r there room. declare_holds w h n client k.Sub id key (m.Sub id key) s e at r there room tt refl)
   weights_kept n (a.Unsub client id) = for_undeclare now KeptWeights n client k.Sub id (m.Unsub id) (λ s found known e at unbroken.
       clients_hold _ (with_client w.clients client (undeclaring s k.Sub id)) (says_holds w h n client s e at (m.Unsub id) tt refl))
+  weights_kept n (a.Token client id key) = for_declare now KeptWeights n client k.Token id key (m.Token id key) (λ s found fresh e at unbroken r there room. declare_holds w h n client k.Token id key (m.Token id key) s e at r there room tt refl)
+  weights_kept n (a.Untoken client id) = for_undeclare now KeptWeights n client k.Token id (m.Untoken id) (λ s found known e at unbroken.
+      clients_hold _ (with_client w.clients client (undeclaring s k.Token id)) (says_holds w h n client s e at (m.Untoken id) tt refl))
   weights_kept n (a.Able client id key complete) = for_declare now KeptWeights n client (able_kind complete) id key (m.Able id key complete) (λ s found fresh e at unbroken r there room.
       declare_holds w h n client (able_kind complete) id key (m.Able id key complete) s e at r there room tt refl)
   weights_kept n (a.Unable client id) = for_undeclare now KeptWeights n client k.Able id (m.Unable id) (λ s found known e at unbroken.

@@ -92,7 +92,7 @@ router_holds w h id free = record {
 -- ---- clients are told
 
 told_sent : (ever : Ever) (msg : Msg) → is_told msg ≡ true → IsSent ever msg
-told_sent ever = told.by_told (λ msg. IsSent ever msg) (λ id key interest. (tt, refl)) (λ id key complete interest. (tt, refl)) (λ id. (tt, refl)) (λ id. (tt, refl)) (λ interest. (tt, refl))
+told_sent ever = told.by_told (λ msg. IsSent ever msg) (λ id key interest. (tt, refl)) (λ id key interest. (tt, refl)) (λ id key complete interest. (tt, refl)) (λ id. (tt, refl)) (λ id. (tt, refl)) (λ id. (tt, refl)) (λ interest. (tt, refl))
 
 pub weights_told : (w v : WorldState) → told.IsTold w v → WeightsHold w → WeightsHold v
 weights_told w v t h = record {

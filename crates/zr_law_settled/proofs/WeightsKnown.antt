@@ -14,7 +14,7 @@ use Rattle.zr_graph.proofs.Names.{same_is, same_refl}
 use Rattle.zr_lists.proofs.Finds.{find_in}
 use Rattle.zr_msg.specs.declared.decl.Decl.{Decl}
 use Rattle.zr_msg.specs.declared.msg.Msg.{Msg}
-use Rattle.zr_msg.specs.declared.msg.Msg.TheVariants.{Sub, Unsub, Able, Unable, Interest, EndInterest, ToldSub, ToldAble, ToldUnsub, ToldUnable, ToldEnd, Push, Request, Response, Final, State, Step, Snap}
+use Rattle.zr_msg.specs.declared.msg.Msg.TheVariants.{Sub, Unsub, Token, Untoken, Able, Unable, Interest, EndInterest, ToldSub, ToldAble, ToldUnsub, ToldToken, ToldUntoken, ToldUnable, ToldEnd, Push, Request, Response, Final, State, Step, Snap}
 use Rattle.zr_log_set.specs.Decls.{is_decl, IsSet, has, set_of, decl_weight, weight, most_weight, with_decl, without_decl}
 use Rattle.zr_lists.proofs.Puts.{All-put}
 use Rattle.zr_log_set.proofs.Decls.{decl_order, set_none, set_all}
@@ -53,13 +53,17 @@ module _ (ever ever' : Ever) (on : GoesOn ever ever') where
   pub told_later : (msg : Msg) → IsTold ever msg → IsTold ever' msg
   told_later (Sub id key) h = tt
   told_later (Unsub id) h = tt
+  told_later (Token id key) h = tt
+  told_later (Untoken id) h = tt
   told_later (Able id key complete) h = tt
   told_later (Unable id) h = tt
   told_later (Interest id current future kinds key aggregate) h = tt
   told_later (EndInterest id) h = tt
   told_later (ToldSub id key interest) h = tt
+  told_later (ToldToken id key interest) h = tt
   told_later (ToldAble id key complete interest) h = tt
   told_later (ToldUnsub id) h = tt
+  told_later (ToldUntoken id) h = tt
   told_later (ToldUnable id) h = tt
   told_later (ToldEnd interest) h = tt
   told_later (Push tree content) h = tt

@@ -14,7 +14,7 @@ use Rattle.zr_msg.specs.Decl.{decl_cmp}
 use Rattle.zr_msg.specs.declared.decl.Decl.{Decl}
 use Rattle.zr_msg.specs.declared.decl.Kind.TheVariants as kind
 use Rattle.zr_msg.specs.declared.msg.Msg.{Msg}
-use Rattle.zr_msg.specs.declared.msg.Msg.TheVariants.{Sub, Unsub, Able, Unable, Interest, EndInterest, ToldSub, ToldAble, ToldUnsub, ToldUnable, ToldEnd, Push, Request, Response, Final, State, Step, Snap}
+use Rattle.zr_msg.specs.declared.msg.Msg.TheVariants.{Sub, Unsub, Token, Untoken, Able, Unable, Interest, EndInterest, ToldSub, ToldAble, ToldUnsub, ToldToken, ToldUntoken, ToldUnable, ToldEnd, Push, Request, Response, Final, State, Step, Snap}
 use Rattle.zr_msg.specs.declared.error.NodeError.{NodeError}
 use Rattle.zr_msg.specs.declared.error.NodeError.TheVariants as e
 use Rattle.zr_msg.specs.declared.event.Event.{Event}
@@ -206,14 +206,18 @@ module _ (ever : Ever) (x : Name) (n : NodeState) (h : IsWithin ever x n) where
   pub from_weighs : (link : LinkNo) (msg : Msg) → AllByRecursion (λ d. has (ever x) d ≡ true) (gained msg) → IsTold ever msg → Weighs ever x n (From link msg) (weighs msg)
   from_weighs link (Sub id key) g t = declare_weighs (From link (Sub id key)) link.0 (row link.0 id kind.Sub key) g.0 refl refl (omega arith) (λ to s. s)
   from_weighs link (Unsub id) g t = undeclare_weighs (From link (Unsub id)) link.0 (key_of link.0 id kind.Sub) refl refl (omega arith) (λ to s. s)
+  from_weighs link (Token id key) g t = declare_weighs (From link (Token id key)) link.0 (row link.0 id kind.Token key) g.0 refl refl (omega arith) (λ to s. s)
+  from_weighs link (Untoken id) g t = undeclare_weighs (From link (Untoken id)) link.0 (key_of link.0 id kind.Token) refl refl (omega arith) (λ to s. s)
   from_weighs link (Able id key complete) g t = declare_weighs (From link (Able id key complete)) link.0 (row link.0 id (able_kind complete) key) g.0 refl refl (omega arith) (λ to s. s)
   from_weighs link (Unable id) g t = undeclare_weighs (From link (Unable id)) link.0 (key_of link.0 id kind.Able) refl refl (omega arith) (λ to s. s)
   from_weighs link (Interest id current future kinds key aggregate) g t = interest_weighs (From link (Interest id current future kinds key aggregate)) link.0 id
       (live future (record { id = id; kinds = kinds; key = key; aggregate = aggregate })) refl refl refl (λ to. tt)
   from_weighs link (EndInterest id) g t = interest_weighs (From link (EndInterest id)) link.0 id None refl refl refl (λ to. tt)
   from_weighs link (ToldSub id key interest) g t = quiet_weigh (From link (ToldSub id key interest)) refl refl refl (λ to. tt)
+  from_weighs link (ToldToken id key interest) g t = quiet_weigh (From link (ToldToken id key interest)) refl refl refl (λ to. tt)
   from_weighs link (ToldAble id key complete interest) g t = quiet_weigh (From link (ToldAble id key complete interest)) refl refl refl (λ to. tt)
   from_weighs link (ToldUnsub id) g t = quiet_weigh (From link (ToldUnsub id)) refl refl refl (λ to. tt)
+  from_weighs link (ToldUntoken id) g t = quiet_weigh (From link (ToldUntoken id)) refl refl refl (λ to. tt)
   from_weighs link (ToldUnable id) g t = quiet_weigh (From link (ToldUnable id)) refl refl refl (λ to. tt)
   from_weighs link (ToldEnd interest) g t = quiet_weigh (From link (ToldEnd interest)) refl refl refl (λ to. tt)
   from_weighs link (Push tree content) g t = quiet_weigh (From link (Push tree content)) refl refl refl (λ to. push_sent ever (tables n) link.0 content (tree_of (tables n) (link_at n.links link.0) tree) to.0)
@@ -252,13 +256,17 @@ within_later ever ever' x n on h = record {
 pub gained_weigh : (msg : Msg) → weight (gained msg) ≤ weighs msg
 gained_weigh (Sub id key) = omega (arith, sum_by-cons decl_weight (record { kind = kind.Sub; key = key }) [])
 gained_weigh (Unsub id) = omega arith
+gained_weigh (Token id key) = omega (arith, sum_by-cons decl_weight (record { kind = kind.Token; key = key }) [])
+gained_weigh (Untoken id) = omega arith
 gained_weigh (Able id key complete) = omega (arith, sum_by-cons decl_weight (record { kind = able_kind complete; key = key }) [])
 gained_weigh (Unable id) = omega arith
 gained_weigh (Interest id current future kinds key aggregate) = omega arith
 gained_weigh (EndInterest id) = omega arith
 gained_weigh (ToldSub id key interest) = omega arith
+gained_weigh (ToldToken id key interest) = omega arith
 gained_weigh (ToldAble id key complete interest) = omega arith
 gained_weigh (ToldUnsub id) = omega arith
+gained_weigh (ToldUntoken id) = omega arith
 gained_weigh (ToldUnable id) = omega arith
 gained_weigh (ToldEnd interest) = omega arith
 gained_weigh (Push tree content) = omega arith
@@ -338,13 +346,17 @@ module _ (ever : Ever) (x : Name) (n : NodeState) (h : IsWithin ever x n) where
   pub takes : ((z : Name) → weight (ever z) ≤ most_weight) → (link : LinkNo) (msg : Msg) → HasRoom n (weighs msg) → IsTold ever msg → IsInTurn n link.0 msg → refuses n (From link msg) ≡ None
   takes most link (Sub id key) room t g = declare_taken link.0 (row link.0 id kind.Sub key) room
   takes most link (Unsub id) room t g = undeclare_taken link.0 (key_of link.0 id kind.Sub) room g
+  takes most link (Token id key) room t g = declare_taken link.0 (row link.0 id kind.Token key) room
+  takes most link (Untoken id) room t g = undeclare_taken link.0 (key_of link.0 id kind.Token) room g
   takes most link (Able id key complete) room t g = declare_taken link.0 (row link.0 id (able_kind complete) key) room
   takes most link (Unable id) room t g = undeclare_taken link.0 (key_of link.0 id kind.Able) room g
   takes most link (Interest id current future kinds key aggregate) room t g = note_taken link.0 id (live future (record { id = id; kinds = kinds; key = key; aggregate = aggregate })) room
   takes most link (EndInterest id) room t g = refl
   takes most link (ToldSub id key interest) room t g = refl
+  takes most link (ToldToken id key interest) room t g = refl
   takes most link (ToldAble id key complete interest) room t g = refl
   takes most link (ToldUnsub id) room t g = refl
+  takes most link (ToldUntoken id) room t g = refl
   takes most link (ToldUnable id) room t g = refl
   takes most link (ToldEnd interest) room t g = refl
   takes most link (Push tree content) room t g = refl

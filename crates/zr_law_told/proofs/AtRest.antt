@@ -77,7 +77,7 @@ use Rattle.zr_law_told.proofs.Informed.{Informed, informed}
 
 -- ---- what is wanted depends on which declarations and which interests there are, and on nothing else of their lists
 
-want_same : (xs ys : List Decl) (is js : List Interest) → SameTests xs ys → SameTests is js → (p : Place) → want xs is p ≡ want ys js p
+pub want_same : (xs ys : List Decl) (is js : List Interest) → SameTests xs ys → SameTests is js → (p : Place) → want xs is p ≡ want ys js p
 want_same xs ys is js decls_same interests_same p =
     ap (λ b. cond b (Some (is_complete_at xs p)) None) (interests_same (λ i. asked xs i p) ∙ same_any (λ i. asked xs i p) (λ i. asked ys i p) js (λ i j. decls_same (λ d. fits i (place_of d) && same p (told_as i (place_of d)))))
     ∙ ap (λ b. cond (wants ys js p) (Some b) None) (decls_same (λ d. same p (place_of d) && is_complete d.kind))

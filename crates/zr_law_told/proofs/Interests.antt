@@ -14,7 +14,7 @@ use Rattle.zr_id.specs.declared.link.LinkNo.{LinkNo}
 use Rattle.zr_lists.proofs.Finds.{same_any, any_none}
 use Rattle.zr_msg.specs.declared.event.Event.TheVariants.{Down, From}
 use Rattle.zr_msg.specs.declared.msg.Msg.{Msg}
-use Rattle.zr_msg.specs.declared.msg.Msg.TheVariants.{Sub, Unsub, Able, Unable, Interest, EndInterest, ToldSub, ToldAble, ToldUnsub, ToldUnable, ToldEnd, Push, Request, Response, Final, State, Step, Snap}
+use Rattle.zr_msg.specs.declared.msg.Msg.TheVariants.{Sub, Unsub, Token, Untoken, Able, Unable, Interest, EndInterest, ToldSub, ToldAble, ToldUnsub, ToldToken, ToldUntoken, ToldUnable, ToldEnd, Push, Request, Response, Final, State, Step, Snap}
 use Rattle.zr_lists.specs.Ascending.{at_key, has_key, before_key, behind_key, put, without}
 use Rattle.zr_lists.proofs.Puts.{at-put, at-without, has_at}
 use Rattle.zr_lists.proofs.Numbers.{nat_eq_is}
@@ -40,13 +40,17 @@ noted_in is id (Some i) = put nat_cmp interest_id is i
 abbrev pub noted_by : List LiveInterest → Msg → List LiveInterest
 noted_by is (Sub id key) = is
 noted_by is (Unsub id) = is
+noted_by is (Token id key) = is
+noted_by is (Untoken id) = is
 noted_by is (Able id key complete) = is
 noted_by is (Unable id) = is
 noted_by is (Interest id current future kinds key aggregate) = noted_in is id (live future (record { id = id; kinds = kinds; key = key; aggregate = aggregate }))
 noted_by is (EndInterest id) = noted_in is id None
 noted_by is (ToldSub id key interest) = is
+noted_by is (ToldToken id key interest) = is
 noted_by is (ToldAble id key complete interest) = is
 noted_by is (ToldUnsub id) = is
+noted_by is (ToldUntoken id) = is
 noted_by is (ToldUnable id) = is
 noted_by is (ToldEnd interest) = is
 noted_by is (Push tree content) = is
@@ -122,6 +126,8 @@ module _ (n : NodeState) (from : LinkNo) where
   pub heard_here : leads_to_client n.links from.0 ≡ true → (msg : Msg) → interests_on (after n (From from msg)).clients from.0 ≡ noted_by (interests_on n.clients from.0) msg
   heard_here client (Sub id key) = refl
   heard_here client (Unsub id) = refl
+  heard_here client (Token id key) = refl
+  heard_here client (Untoken id) = refl
   heard_here client (Able id key complete) = refl
   heard_here client (Unable id) = refl
   heard_here client (Interest id current future kinds key aggregate) =
@@ -129,8 +135,10 @@ module _ (n : NodeState) (from : LinkNo) where
       ap (λ t. interests_on (cond t (noted n.clients (link_no from.0) id o) n.clients) from.0) client ∙ noted_here n.clients (link_no from.0) id o
   heard_here client (EndInterest id) = ap (λ t. interests_on (cond t (noted n.clients (link_no from.0) id None) n.clients) from.0) client ∙ noted_here n.clients (link_no from.0) id None
   heard_here client (ToldSub id key interest) = refl
+  heard_here client (ToldToken id key interest) = refl
   heard_here client (ToldAble id key complete interest) = refl
   heard_here client (ToldUnsub id) = refl
+  heard_here client (ToldUntoken id) = refl
   heard_here client (ToldUnable id) = refl
   heard_here client (ToldEnd interest) = refl
   heard_here client (Push tree content) = refl
@@ -153,13 +161,17 @@ module _ (n : NodeState) (from : LinkNo) where
     pub heard_there : (msg : Msg) → interests_on (after n (From from msg)).clients k ≡ interests_on n.clients k
     heard_there (Sub id key) = refl
     heard_there (Unsub id) = refl
+    heard_there (Token id key) = refl
+    heard_there (Untoken id) = refl
     heard_there (Able id key complete) = refl
     heard_there (Unable id) = refl
     heard_there (Interest id current future kinds key aggregate) = noted_apart id (live future (record { id = id; kinds = kinds; key = key; aggregate = aggregate }))
     heard_there (EndInterest id) = noted_apart id None
     heard_there (ToldSub id key interest) = refl
+    heard_there (ToldToken id key interest) = refl
     heard_there (ToldAble id key complete interest) = refl
     heard_there (ToldUnsub id) = refl
+    heard_there (ToldUntoken id) = refl
     heard_there (ToldUnable id) = refl
     heard_there (ToldEnd interest) = refl
     heard_there (Push tree content) = refl

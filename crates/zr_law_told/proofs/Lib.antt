@@ -10,3 +10,4 @@ pub mod Informed
 pub mod Lists
 pub mod Standing
 pub mod AtRest
+pub mod Tokens

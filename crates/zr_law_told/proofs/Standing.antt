@@ -15,7 +15,7 @@ use Rattle.zr_script_spec.specs.declared.command.Act.{Act}
 use Rattle.zr_script_spec.specs.declared.command.Act.TheVariants as a
 use Rattle.zr_told_spec.specs.Place.{class_of}
 use Rattle.zr_told_spec.specs.declared.place.Class.{Class}
-use Rattle.zr_told_spec.specs.declared.place.Class.TheVariants.{Subscriber, Queryable}
+use Rattle.zr_told_spec.specs.declared.place.Class.TheVariants.{Subscriber, Queryable, Living}
 use Rattle.zr_world_spec.specs.World.{ClientState, WorldState}
 use Rattle.zr_world_spec.specs.Moments.{Numbered}
 use Rattle.zr_guarantee.specs.Broker.{attached_by, is_attached, Standing, standing}
@@ -48,6 +48,8 @@ client_found n (x ∷ acts) b none h = by x.1 h (client_found n acts)
     by (a.Down router neighbour) k ih = ih b none k
     by (a.Sub client id key) k ih = ih b none k
     by (a.Unsub client id) k ih = ih b none k
+    by (a.Token client id key) k ih = ih b none k
+    by (a.Untoken client id) k ih = ih b none k
     by (a.Able client id key complete) k ih = ih b none k
     by (a.Unable client id) k ih = ih b none k
     by (a.Interest client id mode kinds key aggregate) k ih = ih b none k
@@ -82,10 +84,17 @@ module _ (acts : List Numbered) (w : WorldState) (c : Name) (s : ClientState) (h
   abbrev ables : List Standing
   ables = standing acts c Queryable
 
+  abbrev tokens : List Standing
+  tokens = standing acts c Living
+
+  abbrev all : List Standing
+  all = subs ++ ables ++ tokens
+
   -- what stands is declared, of each class
   is_declared : (class : Class) (x : Standing) → In x (standing acts c class) → In x.decl (declared acts c)
-  is_declared Subscriber x i = map_in (λ (x : Standing). x.decl) (subs ++ ables) x (in_front subs ables x i)
-  is_declared Queryable x i = map_in (λ (x : Standing). x.decl) (subs ++ ables) x (in_behind subs ables x i)
+  is_declared Subscriber x i = map_in (λ (x : Standing). x.decl) all x (in_front (subs ++ ables) tokens x (in_front subs ables x i))
+  is_declared Queryable x i = map_in (λ (x : Standing). x.decl) all x (in_front (subs ++ ables) tokens x (in_behind subs ables x i))
+  is_declared Living x i = map_in (λ (x : Standing). x.decl) all x (in_behind (subs ++ ables) tokens x i)
 
   pub stands_in : (kind : Kind) (id : ℕ) (d : Decl) → stands acts c kind id ≡ Some d → In d (declared acts c)
   stands_in kind id d e =
@@ -93,14 +102,18 @@ module _ (acts : List Numbered) (w : WorldState) (c : Name) (s : ClientState) (h
       subst (λ z. In z (declared acts c)) x.2 (is_declared (class_of kind) x.0 x.1)
 
   pub in_stands : (d : Decl) → In d (declared acts c) → (kind : Kind) × (id : ℕ) × (stands acts c kind id ≡ Some d)
-  in_stands d i = by (in_either subs ables x.0 x.1)
+  in_stands d i = by (in_either (subs ++ ables) tokens x.0 x.1)
     where
-      x : (x : Standing) × In x (subs ++ ables) × (x.decl ≡ d)
-      x = in_map (λ (x : Standing). x.decl) (subs ++ ables) d i
+      x : (x : Standing) × In x all × (x.decl ≡ d)
+      x = in_map (λ (x : Standing). x.decl) all d i
 
       its : (kind : Kind) → In x.0 (standing acts c (class_of kind)) → (kind : Kind) × (id : ℕ) × (stands acts c kind id ≡ Some d)
       its kind j = (kind, x.0.id, (h.listed kind).stand x.0.id ∙ (h.listed kind).apart x.0 j ∙ ap Some x.2)
 
-      by : In x.0 subs ⊎ In x.0 ables → (kind : Kind) × (id : ℕ) × (stands acts c kind id ≡ Some d)
-      by (inl j) = its k.Sub j
-      by (inr j) = its k.Able j
+      others : In x.0 subs ⊎ In x.0 ables → (kind : Kind) × (id : ℕ) × (stands acts c kind id ≡ Some d)
+      others (inl j) = its k.Sub j
+      others (inr j) = its k.Able j
+
+      by : In x.0 (subs ++ ables) ⊎ In x.0 tokens → (kind : Kind) × (id : ℕ) × (stands acts c kind id ≡ Some d)
+      by (inl j) = others (in_either subs ables x.0 j)
+      by (inr j) = its k.Token j

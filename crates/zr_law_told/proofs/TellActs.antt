@@ -201,6 +201,7 @@ module _ (now : Moment) (sound : IsSound now.world) (h : ClientsHold now.world) 
   home_of s k.Sub id = (refl, refl)
   home_of s k.Able id = (refl, refl)
   home_of s k.Full id = (refl, refl)
+  home_of s k.Token id = (refl, refl)
 
   says : (n : ℕ) (client : Name) (msg : Msg) → Says now TellsThen n client msg
   says n client msg s found e at_end unbroken clients same = alone _ (unweighed n client s e at_end msg clients (same_homes w.clients clients same))
@@ -444,6 +445,10 @@ module _ (now : Moment) (sound : IsSound now.world) (h : ClientsHold now.world) 
       alone _ (weighed n client s e at_end (m.Sub id key) key r there (with_client w.clients client (declaring s k.Sub id)) (one_home client s (declaring s k.Sub id) found refl)))
   tells_keep n (a.Unsub client id) = for_undeclare now TellsThen n client k.Sub id (m.Unsub id) (λ s found known e at_end unbroken.
       alone _ (unweighed n client s e at_end (m.Unsub id) (with_client w.clients client (undeclaring s k.Sub id)) (one_home client s (undeclaring s k.Sub id) found refl)))
+  tells_keep n (a.Token client id key) = for_declare now TellsThen n client k.Token id key (m.Token id key) (λ s found fresh e at_end unbroken r there room.
+      alone _ (weighed n client s e at_end (m.Token id key) key r there (with_client w.clients client (declaring s k.Token id)) (one_home client s (declaring s k.Token id) found refl)))
+  tells_keep n (a.Untoken client id) = for_undeclare now TellsThen n client k.Token id (m.Untoken id) (λ s found known e at_end unbroken.
+      alone _ (unweighed n client s e at_end (m.Untoken id) (with_client w.clients client (undeclaring s k.Token id)) (one_home client s (undeclaring s k.Token id) found refl)))
   tells_keep n (a.Able client id key complete) = for_declare now TellsThen n client (able_kind complete) id key (m.Able id key complete) (λ s found fresh e at_end unbroken r there room.
       alone _ (weighed n client s e at_end (m.Able id key complete) key r there (with_client w.clients client (declaring s (able_kind complete) id))
       (one_home client s (declaring s (able_kind complete) id) found (home_of s (able_kind complete) id).0)))

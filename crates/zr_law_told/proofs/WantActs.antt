@@ -39,13 +39,17 @@ use Rattle.zr_law_told.proofs.Wanting.{Wanting, IsQuiet, Lasts, no_news, by_ends
 lasts_receiving : (s : ClientState) (msg : Msg) → Lasts s (receiving s msg)
 lasts_receiving s (m.Sub id key) = record { router = refl; interests = refl }
 lasts_receiving s (m.Unsub id) = record { router = refl; interests = refl }
+lasts_receiving s (m.Token id key) = record { router = refl; interests = refl }
+lasts_receiving s (m.Untoken id) = record { router = refl; interests = refl }
 lasts_receiving s (m.Able id key complete) = record { router = refl; interests = refl }
 lasts_receiving s (m.Unable id) = record { router = refl; interests = refl }
 lasts_receiving s (m.Interest id current future kinds key aggregate) = record { router = refl; interests = refl }
 lasts_receiving s (m.EndInterest id) = record { router = refl; interests = refl }
 lasts_receiving s (m.ToldSub id key interest) = record { router = refl; interests = refl }
+lasts_receiving s (m.ToldToken id key interest) = record { router = refl; interests = refl }
 lasts_receiving s (m.ToldAble id key complete interest) = record { router = refl; interests = refl }
 lasts_receiving s (m.ToldUnsub id) = record { router = refl; interests = refl }
+lasts_receiving s (m.ToldUntoken id) = record { router = refl; interests = refl }
 lasts_receiving s (m.ToldUnable id) = record { router = refl; interests = refl }
 lasts_receiving s (m.ToldEnd interest) = record { router = refl; interests = refl }
 lasts_receiving s (m.Push tree content) = record { router = refl; interests = refl }
@@ -60,6 +64,7 @@ lasts_declaring : (s : ClientState) (kind : Kind) (id : ℕ) → Lasts s (declar
 lasts_declaring s k.Sub id = record { router = refl; interests = refl }
 lasts_declaring s k.Able id = record { router = refl; interests = refl }
 lasts_declaring s k.Full id = record { router = refl; interests = refl }
+lasts_declaring s k.Token id = record { router = refl; interests = refl }
 
 module _ (acts : List Numbered) (now : Moment) (sound : IsSound now.world) (h : ClientsHold now.world) (f : Wanting acts now.world) where
   abbrev w : WorldState
@@ -212,6 +217,10 @@ module _ (acts : List Numbered) (now : Moment) (sound : IsSound now.world) (h : 
       heavy client s found n (a.Sub client id key) e at_end (m.Sub id key) (λ c so_far. refl) (λ A. refl) (declaring s k.Sub id) (lasts_declaring s k.Sub id) key r there)
   wants_keep n (a.Unsub client id) = for_undeclare now (WantsThen n (a.Unsub client id)) n client k.Sub id (m.Unsub id) (λ s found known e at_end unbroken.
       light client s found n (a.Unsub client id) e at_end (m.Unsub id) (λ c so_far. refl) (λ A. refl) (undeclaring s k.Sub id) (record { router = refl; interests = refl }))
+  wants_keep n (a.Token client id key) = for_declare now (WantsThen n (a.Token client id key)) n client k.Token id key (m.Token id key) (λ s found fresh e at_end unbroken r there room.
+      heavy client s found n (a.Token client id key) e at_end (m.Token id key) (λ c so_far. refl) (λ A. refl) (declaring s k.Token id) (lasts_declaring s k.Token id) key r there)
+  wants_keep n (a.Untoken client id) = for_undeclare now (WantsThen n (a.Untoken client id)) n client k.Token id (m.Untoken id) (λ s found known e at_end unbroken.
+      light client s found n (a.Untoken client id) e at_end (m.Untoken id) (λ c so_far. refl) (λ A. refl) (undeclaring s k.Token id) (record { router = refl; interests = refl }))
   wants_keep n (a.Able client id key complete) = for_declare now (WantsThen n (a.Able client id key complete)) n client (able_kind complete) id key (m.Able id key complete) (λ s found fresh e at_end unbroken r there room.
       heavy client s found n (a.Able client id key complete) e at_end (m.Able id key complete) (λ c so_far. refl) (λ A. refl) (declaring s (able_kind complete) id) (lasts_declaring s (able_kind complete) id) key r there)
   wants_keep n (a.Unable client id) = for_undeclare now (WantsThen n (a.Unable client id)) n client k.Able id (m.Unable id) (λ s found known e at_end unbroken.

@@ -2,8 +2,8 @@
 //! its function.
 #![tactic(auto)]
 
-ghost use Rattle.zr_guarantee.specs.Interests.{ClientsAreTold};
-ghost use Rattle.zr_guarantee.specs.Scripts.{LinesTellClients};
+ghost use Rattle.zr_guarantee.specs.Interests.{ClientsAreTold, TokensAreTold};
+ghost use Rattle.zr_guarantee.specs.Scripts.{LinesTellClients, LinesTellTokens};
 
 /// At each moment to which acts lead: where the network is at rest, each attached client was told, by the messages that it was sent, just what its
 /// interests want of what all other attached clients have declared.
@@ -14,4 +14,15 @@ pub fn clients_are_told()
 /// So it is at each moment of each script, also within a run.
 pub fn lines_tell_clients()
     ensures { LinesTellClients }
+{}
+
+/// Of liveliness tokens each attached client was told, at each such moment, just what its interests want of those that live: that other clients have
+/// declared whose links aren't broken.
+pub fn tokens_are_told()
+    ensures { TokensAreTold }
+{}
+
+/// So it is at each moment of each script, also within a run.
+pub fn lines_tell_tokens()
+    ensures { LinesTellTokens }
 {}

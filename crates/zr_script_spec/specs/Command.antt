@@ -27,7 +27,7 @@ use Rattle.zr_msg.specs.declared.content.Parts.{Parts}
 use Rattle.zr_msg.specs.Extras.{no_extras}
 use Rattle.zr_script_spec.specs.declared.error.ScriptError.{ScriptError}
 use Rattle.zr_script_spec.specs.declared.error.ScriptError.TheVariants.{UnknownCommand, BadWords, Limit}
-use Rattle.zr_script_spec.specs.declared.command.Act.TheVariants.{Router, Client, Link, Up, Break, Down, Show, Sub, Unsub, Able, Unable, Interest, Uninterest, Publish, Get, Reply, End, Handle, Take, Mark}
+use Rattle.zr_script_spec.specs.declared.command.Act.TheVariants.{Router, Client, Link, Up, Break, Down, Show, Sub, Unsub, Token, Untoken, Able, Unable, Interest, Uninterest, Publish, Get, Reply, End, Handle, Take, Mark}
 use Rattle.zr_script_spec.specs.declared.command.Command.{Command}
 use Rattle.zr_script_spec.specs.declared.command.Command.TheVariants.{Act, Run}
 use Rattle.zr_script_spec.specs.Step.{◌>>=◌}
@@ -100,6 +100,23 @@ unsub_line args = do
   client ← zid_at w.0
   id ← number_at w.1
   Ok (Act (Unsub client id))
+
+-- token CLIENT N KEY
+unfoldable pub token_line : List (List ℕ) → Result Command ScriptError
+token_line args = do
+  w ← three_of args
+  client ← zid_at w.0
+  id ← number_at w.1
+  key ← key_at w.2
+  Ok (Act (Token client id key))
+
+-- untoken CLIENT N
+unfoldable pub untoken_line : List (List ℕ) → Result Command ScriptError
+untoken_line args = do
+  w ← two_of args
+  client ← zid_at w.0
+  id ← number_at w.1
+  Ok (Act (Untoken client id))
 
 -- able CLIENT N KEY, or full CLIENT N KEY of a complete queryable
 unfoldable pub able_line : Bool → List (List ℕ) → Result Command ScriptError
@@ -260,6 +277,7 @@ abbrev pub is_later_command : List ℕ → Bool
 is_later_command name =
     is_word name (codes "sub") || is_word name (codes "unsub")
     || is_word name (codes "able") || is_word name (codes "full") || is_word name (codes "unable")
+    || is_word name (codes "token") || is_word name (codes "untoken")
     || is_word name (codes "interest") || is_word name (codes "uninterest")
     || is_last_command name
 
@@ -293,6 +311,8 @@ by_later_name name args =
     else if is_word name (codes "able") then able_line false args
     else if is_word name (codes "full") then able_line true args
     else if is_word name (codes "unable") then unable_line args
+    else if is_word name (codes "token") then token_line args
+    else if is_word name (codes "untoken") then untoken_line args
     else if is_word name (codes "interest") then interest_line args
     else if is_word name (codes "uninterest") then uninterest_line args
     else by_last_name name args

@@ -6,7 +6,7 @@ use Rattle.hex.specs.Hex.{encode_lower}
 use Rattle.zr_id.specs.Record.{LinkedState, RecordState}
 use Rattle.zr_body.specs.Latest.{StampState, is_latest, stamp_of}
 use Rattle.zr_body.specs.Payload.{payload_of, is_del}
-use Rattle.zr_msg.specs.Kinds.{in_subs, in_ables}
+use Rattle.zr_msg.specs.Kinds.{in_subs, in_ables, in_tokens}
 use Rattle.zr_msg.specs.declared.decl.Kind.{Kind}
 use Rattle.zr_msg.specs.declared.decl.Kind.TheVariants as k
 use Rattle.zr_msg.specs.declared.decl.Decl.{Decl}
@@ -14,7 +14,7 @@ use Rattle.zr_msg.specs.declared.msg.Kinds.{Kinds}
 use Rattle.zr_msg.specs.declared.msg.Target.{Target}
 use Rattle.zr_msg.specs.declared.msg.Target.TheVariants as t
 use Rattle.zr_msg.specs.declared.msg.Msg.{Msg}
-use Rattle.zr_msg.specs.declared.msg.Msg.TheVariants.{Sub, Unsub, Able, Unable, Interest, EndInterest, ToldSub, ToldAble, ToldUnsub, ToldUnable, ToldEnd, Push, Request, Response, Final, State, Step, Snap}
+use Rattle.zr_msg.specs.declared.msg.Msg.TheVariants.{Sub, Unsub, Token, Untoken, Able, Unable, Interest, EndInterest, ToldSub, ToldAble, ToldUnsub, ToldToken, ToldUntoken, ToldUnable, ToldEnd, Push, Request, Response, Final, State, Step, Snap}
 use Rattle.zr_script_spec.specs.declared.report.ReportLine.{ReportLine}
 use Rattle.zr_script_spec.specs.declared.report.ReportLine.TheVariants.{Handled, Taken, Ran, Mark, Show, Record, Parent, Source}
 use Rattle.zr_script_spec.specs.declared.error.ScriptError.{ScriptError}
@@ -66,15 +66,19 @@ mode_text true false = codes "now"
 mode_text false true = codes "later"
 mode_text false false = nothing_text
 
--- the kinds of declarations in which an interest is
+-- the kinds of declarations in which an interest is, where a script has a word for them
 abbrev pub kinds_text : Kinds → List ℕ
-kinds_text kinds = by (in_subs kinds) (in_ables kinds)
+kinds_text kinds = by (in_subs kinds) (in_ables kinds) (in_tokens kinds)
   where
-    by : Bool → Bool → List ℕ
-    by true true = codes "all"
-    by true false = codes "sub"
-    by false true = codes "able"
-    by false false = nothing_text
+    by : Bool → Bool → Bool → List ℕ
+    by true true false = codes "all"
+    by true false false = codes "sub"
+    by false true false = codes "able"
+    by false false true = codes "token"
+    by true true true = nothing_text
+    by true false true = nothing_text
+    by false true true = nothing_text
+    by false false false = nothing_text
 
 -- a word that is there where a test holds, behind a space
 abbrev pub if_so : Bool → List ℕ → List ℕ
@@ -110,6 +114,7 @@ abbrev pub kind_text : Kind → List ℕ
 kind_text k.Sub = codes "sub"
 kind_text k.Able = codes "able"
 kind_text k.Full = codes "full"
+kind_text k.Token = codes "token"
 
 -- a declaration, behind a space
 abbrev pub decl_text : Decl → List ℕ
@@ -130,6 +135,8 @@ sample_text false tree key payload = codes "put " ++ tree ++ codes " " ++ key ++
 abbrev pub msg_text : Msg → List ℕ
 msg_text (Sub id key) = codes "sub " ++ decimal id ++ codes " " ++ key
 msg_text (Unsub id) = codes "unsub " ++ decimal id
+msg_text (Token id key) = codes "token " ++ decimal id ++ codes " " ++ key
+msg_text (Untoken id) = codes "untoken " ++ decimal id
 msg_text (Able id key complete) = able_text complete ++ codes " " ++ decimal id ++ codes " " ++ key
 msg_text (Unable id) = codes "unable " ++ decimal id
 msg_text (Interest id current future kinds key aggregate) =
@@ -137,9 +144,11 @@ msg_text (Interest id current future kinds key aggregate) =
     ++ if_so aggregate (codes "aggregate")
 msg_text (EndInterest id) = codes "uninterest " ++ decimal id
 msg_text (ToldSub id key interest) = codes "told sub " ++ decimal id ++ codes " " ++ key ++ codes " " ++ interest_text interest
+msg_text (ToldToken id key interest) = codes "told token " ++ decimal id ++ codes " " ++ key ++ codes " " ++ interest_text interest
 msg_text (ToldAble id key complete interest) =
     codes "told " ++ able_text complete ++ codes " " ++ decimal id ++ codes " " ++ key ++ codes " " ++ interest_text interest
 msg_text (ToldUnsub id) = codes "told unsub " ++ decimal id
+msg_text (ToldUntoken id) = codes "told untoken " ++ decimal id
 msg_text (ToldUnable id) = codes "told unable " ++ decimal id
 msg_text (ToldEnd interest) = codes "told end " ++ decimal interest
 msg_text (Push tree content) = sample_text (is_del content.body) (optional_id_text tree) content.key (payload_text (payload_of content.body))

@@ -6,7 +6,7 @@ use Rattle.zr_id.specs.Zid.{zid_of_hex}
 use Rattle.zr_key.specs.Key.{read_key}
 use Rattle.zr_key.specs.declared.key.KeyError.{KeyError}
 use Rattle.zr_msg.specs.declared.msg.Kinds.{Kinds}
-use Rattle.zr_msg.specs.declared.msg.TheConstants.{SUBSCRIBERS, QUERYABLES}
+use Rattle.zr_msg.specs.declared.msg.TheConstants.{SUBSCRIBERS, QUERYABLES, TOKENS}
 use Rattle.zr_msg.specs.declared.msg.Target.{Target}
 use Rattle.zr_msg.specs.declared.msg.Target.TheVariants.{Best, All, Complete}
 use Rattle.zr_script_spec.specs.declared.command.Mode.{Mode}
@@ -161,12 +161,13 @@ mode_at word =
     else if is_word word (codes "both") then Ok Both
     else Err BadWords
 
--- of which kinds: of subscribers, of queryables, or of all
+-- of which kinds: of subscribers, of queryables, of both together (`all`), or of liveliness tokens
 abbrev pub kinds_at : List ℕ → Result Kinds ScriptError
 kinds_at word =
     if is_word word (codes "sub") then Ok (record { 0 = SUBSCRIBERS })
     else if is_word word (codes "able") then Ok (record { 0 = QUERYABLES })
     else if is_word word (codes "all") then Ok (record { 0 = bit_or SUBSCRIBERS QUERYABLES })
+    else if is_word word (codes "token") then Ok (record { 0 = TOKENS })
     else Err BadWords
 
 -- whether the words behind the key ask that all is told as one

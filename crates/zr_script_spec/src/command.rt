@@ -73,6 +73,17 @@ pub enum Act {
         client: Zid,
         id: u32,
     },
+    /// A client declares a liveliness token under an id.
+    Token {
+        client: Zid,
+        id: u32,
+        key: KeyExpr,
+    },
+    /// A client takes back the token that it declared under an id.
+    Untoken {
+        client: Zid,
+        id: u32,
+    },
     /// A client declares a queryable under an id, complete or not.
     Able {
         client: Zid,

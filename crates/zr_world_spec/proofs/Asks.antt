@@ -14,7 +14,7 @@ use Rattle.zr_script_spec.specs.declared.command.Mode.{Mode}
 use Rattle.zr_script_spec.specs.Step.{◌>>=◌}
 use Rattle.zr_script_spec.specs.Lines.{most_line}
 use Rattle.zr_script_spec.specs.Words.{words, is_word, is_clean, one_of, two_of, some_two_of, three_of, four_of, five_of, zid_at, number_at, time_at, link_weight_at, target_at, latest_at, mode_at, kinds_at, aggregate_at, key_at, optional_key_at, payload_at}
-use Rattle.zr_script_spec.specs.Command.{router_line, client_line, link_line, up_line, break_line, down_line, sub_line, unsub_line, able_line, unable_line, interest_line, uninterest_line, plain, put_line, del_line, asking_body, answer_body, get_line, reply_line, end_line, handle_line, take_line, run_line, mark_line, show_line, is_command, by_last_name, by_later_name, by_name, by_words, is_silent, command_of}
+use Rattle.zr_script_spec.specs.Command.{router_line, client_line, link_line, up_line, break_line, down_line, sub_line, unsub_line, able_line, unable_line, token_line, untoken_line, interest_line, uninterest_line, plain, put_line, del_line, asking_body, answer_body, get_line, reply_line, end_line, handle_line, take_line, run_line, mark_line, show_line, is_command, by_last_name, by_later_name, by_name, by_words, is_silent, command_of}
 
 -- ---- steps that may be refused
 
@@ -52,6 +52,8 @@ pub record Forms (P : Command → Type 0) (ws : List (List ℕ)) : Type 0 where
   pub unsub : (client : List ℕ) (id : ℕ) → P (Act (a.Unsub client id))
   pub able : (client : List ℕ) (id : ℕ) (word key : List ℕ) (complete : Bool) → key_at word ≡ Ok key → P (Act (a.Able client id key complete))
   pub unable : (client : List ℕ) (id : ℕ) → P (Act (a.Unable client id))
+  pub token : (client : List ℕ) (id : ℕ) (word key : List ℕ) → key_at word ≡ Ok key → P (Act (a.Token client id key))
+  pub untoken : (client : List ℕ) (id : ℕ) → P (Act (a.Untoken client id))
   pub interest : (client : List ℕ) (id : ℕ) (mode : Mode) (kinds : Kinds) (word : List ℕ) (key : Option (List ℕ)) (aggregate : Bool) → optional_key_at word ≡ Ok key →
       P (Act (a.Interest client id mode kinds key aggregate))
   pub uninterest : (client : List ℕ) (id : ℕ) → P (Act (a.Uninterest client id))
@@ -114,6 +116,14 @@ module _ (P : Command → Type 0) (name : List ℕ) (args : List (List ℕ)) (f 
   unable_asks : Asks (unable_line args)
   unfolding unable_line
   unable_asks = step P (two_of args) _ (λ w e. step P (zid_at w.0) _ (λ client i. step P (number_at w.1) _ (λ id j. f.unable client id)))
+
+  token_asks : Asks (token_line args)
+  unfolding token_line
+  token_asks = step P (three_of args) _ (λ w e. step P (zid_at w.0) _ (λ client i. step P (number_at w.1) _ (λ id j. step P (key_at w.2) _ (λ key k. f.token client id w.2 key k))))
+
+  untoken_asks : Asks (untoken_line args)
+  unfolding untoken_line
+  untoken_asks = step P (two_of args) _ (λ w e. step P (zid_at w.0) _ (λ client i. step P (number_at w.1) _ (λ id j. f.untoken client id)))
 
   interest_asks : Asks (interest_line args)
   unfolding interest_line
@@ -194,8 +204,10 @@ module _ (P : Command → Type 0) (name : List ℕ) (args : List (List ℕ)) (f 
       (either P (is_word name (codes "able")) _ _ (λ e. able_asks false)
       (either P (is_word name (codes "full")) _ _ (λ e. able_asks true)
       (either P (is_word name (codes "unable")) _ _ (λ e. unable_asks)
+      (either P (is_word name (codes "token")) _ _ (λ e. token_asks)
+      (either P (is_word name (codes "untoken")) _ _ (λ e. untoken_asks)
       (either P (is_word name (codes "interest")) _ _ (λ e. interest_asks)
-      (either P (is_word name (codes "uninterest")) _ _ (λ e. uninterest_asks) last_asks))))))
+      (either P (is_word name (codes "uninterest")) _ _ (λ e. uninterest_asks) last_asks))))))))
 
   name_asks : Asks (by_name name args)
   unfolding by_name

@@ -9,14 +9,14 @@ use Rattle.std.proofs.lemmas.Map.{keys-set_value}
 use Rattle.zr_lists.proofs.Options.{there_changed}
 use Rattle.zr_id.specs.Zid.{is_named}
 use Rattle.zr_msg.specs.declared.msg.Msg.{Msg}
-use Rattle.zr_msg.specs.declared.msg.Msg.TheVariants.{Sub, Unsub, Able, Unable, Interest, EndInterest, ToldSub, ToldAble, ToldUnsub, ToldUnable, ToldEnd, Push, Request, Response, Final, State, Step, Snap}
+use Rattle.zr_msg.specs.declared.msg.Msg.TheVariants.{Sub, Unsub, Token, Untoken, Able, Unable, Interest, EndInterest, ToldSub, ToldAble, ToldUnsub, ToldToken, ToldUntoken, ToldUnable, ToldEnd, Push, Request, Response, Final, State, Step, Snap}
 use Rattle.zr_world_spec.specs.World.{ClientState, Clients, client_of, with_client}
 use Rattle.zr_world_spec.specs.Acts.{receiving, received}
 use Rattle.zr_world_spec.proofs.Names.{read_kept}
 
 -- a client without interests, queries and requests: its router and what it has declared
 abbrev pub idle_client : ClientState → ClientState
-idle_client s = record { router = s.router; subs = s.subs; ables = s.ables; interests = []; queries = []; requests = [] }
+idle_client s = record s { interests = []; queries = []; requests = [] }
 
 -- the same clients, but for interests, queries and requests
 pub record SameClients (clients more : Clients) : Type 0 where
@@ -37,13 +37,17 @@ same_with_client clients name s s' found same = record {
 pub idle_receiving : (s : ClientState) (msg : Msg) → idle_client (receiving s msg) ≡ idle_client s
 idle_receiving s (Sub id key) = refl
 idle_receiving s (Unsub id) = refl
+idle_receiving s (Token id key) = refl
+idle_receiving s (Untoken id) = refl
 idle_receiving s (Able id key complete) = refl
 idle_receiving s (Unable id) = refl
 idle_receiving s (Interest id current future kinds key aggregate) = refl
 idle_receiving s (EndInterest id) = refl
 idle_receiving s (ToldSub id key interest) = refl
+idle_receiving s (ToldToken id key interest) = refl
 idle_receiving s (ToldAble id key complete interest) = refl
 idle_receiving s (ToldUnsub id) = refl
+idle_receiving s (ToldUntoken id) = refl
 idle_receiving s (ToldUnable id) = refl
 idle_receiving s (ToldEnd interest) = refl
 idle_receiving s (Push tree content) = refl

@@ -132,6 +132,8 @@ module _ (w : WorldState) (booked : ℕ) where
       bind_recounted (up_at s) _ _ (λ b. bind_recounted (unless s.unbroken NotLinked) _ _ (λ c. bind_recounted (number_to r name) _ _ (λ l. hears_recounted w router r (Down l) n _ _ (λ v. refl)))))))
   outcome_recounted n (c.Sub client id key) = declare_recounted n client k.Sub id key (m.Sub id key)
   outcome_recounted n (c.Unsub client id) = undeclare_recounted n client k.Sub id (m.Unsub id)
+  outcome_recounted n (c.Token client id key) = declare_recounted n client k.Token id key (m.Token id key)
+  outcome_recounted n (c.Untoken client id) = undeclare_recounted n client k.Token id (m.Untoken id)
   outcome_recounted n (c.Able client id key complete) = declare_recounted n client (able_kind complete) id key (m.Able id key complete)
   outcome_recounted n (c.Unable client id) = undeclare_recounted n client k.Able id (m.Unable id)
   outcome_recounted n (c.Interest client id mode kinds key aggregate) = interest_recounted n client id mode kinds key aggregate

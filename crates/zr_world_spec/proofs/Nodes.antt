@@ -7,7 +7,7 @@ use Rattle.zr_id.specs.Zid.{is_named}
 use Rattle.zr_id.specs.declared.link.LinkNo.{LinkNo}
 use Rattle.zr_graph.specs.Base.{BaseState, is_newer, kept as with_record, after_record}
 use Rattle.zr_msg.specs.declared.msg.Msg.{Msg}
-use Rattle.zr_msg.specs.declared.msg.Msg.TheVariants.{Sub, Unsub, Able, Unable, Interest, EndInterest, ToldSub, ToldAble, ToldUnsub, ToldUnable, ToldEnd, Push, Request, Response, Final, State, Step, Snap}
+use Rattle.zr_msg.specs.declared.msg.Msg.TheVariants.{Sub, Unsub, Token, Untoken, Able, Unable, Interest, EndInterest, ToldSub, ToldAble, ToldUnsub, ToldToken, ToldUntoken, ToldUnable, ToldEnd, Push, Request, Response, Final, State, Step, Snap}
 use Rattle.zr_msg.specs.declared.event.Event.{Event}
 use Rattle.zr_msg.specs.declared.event.Event.TheVariants.{Up, Down, From}
 use Rattle.zr_msg.specs.Peer.{PeerState}
@@ -51,13 +51,17 @@ me_told node from r = by (leads_to_router node.links from)
 me_from : (node : NodeState) (from : ℕ) (msg : Msg) → (after_from node from msg).base.me ≡ node.base.me
 me_from node from (Sub id key) = refl
 me_from node from (Unsub id) = refl
+me_from node from (Token id key) = refl
+me_from node from (Untoken id) = refl
 me_from node from (Able id key complete) = refl
 me_from node from (Unable id) = refl
 me_from node from (Interest id current future kinds key aggregate) = refl
 me_from node from (EndInterest id) = refl
 me_from node from (ToldSub id key interest) = refl
+me_from node from (ToldToken id key interest) = refl
 me_from node from (ToldAble id key complete interest) = refl
 me_from node from (ToldUnsub id) = refl
+me_from node from (ToldUntoken id) = refl
 me_from node from (ToldUnable id) = refl
 me_from node from (ToldEnd interest) = refl
 me_from node from (Push tree content) = refl
@@ -93,13 +97,17 @@ same_links links h = (h, λ q. refl)
 pub peers_from : (node : NodeState) (from : ℕ) (msg : Msg) → AreUnique node.links → SamePeers node.links (after_from node from msg).links
 peers_from node from (Sub id key) h = same_links node.links h
 peers_from node from (Unsub id) h = same_links node.links h
+peers_from node from (Token id key) h = same_links node.links h
+peers_from node from (Untoken id) h = same_links node.links h
 peers_from node from (Able id key complete) h = same_links node.links h
 peers_from node from (Unable id) h = same_links node.links h
 peers_from node from (Interest id current future kinds key aggregate) h = same_links node.links h
 peers_from node from (EndInterest id) h = same_links node.links h
 peers_from node from (ToldSub id key interest) h = same_links node.links h
+peers_from node from (ToldToken id key interest) h = same_links node.links h
 peers_from node from (ToldAble id key complete interest) h = same_links node.links h
 peers_from node from (ToldUnsub id) h = same_links node.links h
+peers_from node from (ToldUntoken id) h = same_links node.links h
 peers_from node from (ToldUnable id) h = same_links node.links h
 peers_from node from (ToldEnd interest) h = same_links node.links h
 peers_from node from (Push tree content) h = same_links node.links h

@@ -100,6 +100,7 @@ module _ (w : WorldState) (line : ℕ) (h : IsSound w) where
   same_home s k.Sub ids = refl
   same_home s k.Able ids = refl
   same_home s k.Full ids = refl
+  same_home s k.Token ids = refl
 
   declare_sound : (name : List ℕ) (kind : Kind) (id : ℕ) (key : List ℕ) (msg : Msg) (s : ClientState) → client_of w.clients name ≡ Some s → (e : EndState) → end_of w.ends (s.router, name) ≡ Some e →
       (r : RouterState) → router_of w.routers s.router ≡ Some r → IsSound (w_declare w line name kind id key msg s e r)
@@ -396,6 +397,8 @@ module _ (w : WorldState) (line : ℕ) (h : IsSound w) where
   each_act (a.Down router name) = kept (outcome w line (a.Down router name)) (for_down now sound line router name (λ r er there s es up cut l el taken. down_sound router name r er l el))
   each_act (a.Sub client id key) = kept (outcome w line (a.Sub client id key)) (for_declare now sound line client k.Sub id key (m.Sub id key) (λ s es fresh e ee unbroken r er room. declare_sound client k.Sub id key (m.Sub id key) s es e ee r er))
   each_act (a.Unsub client id) = kept (outcome w line (a.Unsub client id)) (for_undeclare now sound line client k.Sub id (m.Unsub id) (λ s es known e ee unbroken. undeclare_sound client k.Sub id (m.Unsub id) s es e ee))
+  each_act (a.Token client id key) = kept (outcome w line (a.Token client id key)) (for_declare now sound line client k.Token id key (m.Token id key) (λ s es fresh e ee unbroken r er room. declare_sound client k.Token id key (m.Token id key) s es e ee r er))
+  each_act (a.Untoken client id) = kept (outcome w line (a.Untoken client id)) (for_undeclare now sound line client k.Token id (m.Untoken id) (λ s es known e ee unbroken. undeclare_sound client k.Token id (m.Untoken id) s es e ee))
   each_act (a.Able client id key complete) =
       kept (outcome w line (a.Able client id key complete)) (for_declare now sound line client (able_kind complete) id key (m.Able id key complete)
       (λ s es fresh e ee unbroken r er room. declare_sound client (able_kind complete) id key (m.Able id key complete) s es e ee r er))

@@ -12,7 +12,7 @@ use Rattle.zr_id.specs.Zid.{is_named}
 use Rattle.zr_msg.specs.declared.decl.Decl.{Decl}
 use Rattle.zr_msg.specs.declared.event.Event.{Event}
 use Rattle.zr_msg.specs.declared.msg.Msg.{Msg}
-use Rattle.zr_msg.specs.declared.msg.Msg.TheVariants.{Sub, Unsub, Able, Unable, Interest, EndInterest, ToldSub, ToldAble, ToldUnsub, ToldUnable, ToldEnd, Push, Request, Response, Final, State, Step, Snap}
+use Rattle.zr_msg.specs.declared.msg.Msg.TheVariants.{Sub, Unsub, Token, Untoken, Able, Unable, Interest, EndInterest, ToldSub, ToldAble, ToldUnsub, ToldToken, ToldUntoken, ToldUnable, ToldEnd, Push, Request, Response, Final, State, Step, Snap}
 use Rattle.zr_msg.specs.declared.peer.LinkPeer.{LinkPeer}
 use Rattle.zr_local.specs.Clients.{interests_on}
 use Rattle.zr_local.specs.declared.interest.Interest.{Interest as LiveInterest}
@@ -24,7 +24,7 @@ use Rattle.zr_told_spec.specs.Rows.{map_on, others, is_again, answered, closing,
 use Rattle.zr_told_spec.specs.Told.{ToldMap, id_at, id_for, entered, declares, undeclares, declared, undeclared, gone, kept, fresh, retell}
 use Rattle.zr_told_spec.specs.Wanted.{Wanted, wanted}
 use Rattle.zr_told_spec.specs.declared.place.Class.{Class}
-use Rattle.zr_told_spec.specs.declared.place.Class.TheVariants.{Subscriber, Queryable}
+use Rattle.zr_told_spec.specs.declared.place.Class.TheVariants.{Subscriber, Queryable, Living}
 use Rattle.zr_told_spec.specs.declared.place.Place.{Place}
 use Rattle.zr_world_spec.specs.World.{Tagged, RouterState, EndState, End, Routers, WorldState, router_of, end_of, with_routers, with_ends, with_router, with_queue, queued}
 use Rattle.zr_world_spec.specs.Acts.{all_queued, hearing, told_to, having_told, all_told, telling, heard}
@@ -48,13 +48,17 @@ heard_is w x r event tag =
 abbrev pub is_told : Msg → Bool
 is_told (Sub id key) = false
 is_told (Unsub id) = false
+is_told (Token id key) = false
+is_told (Untoken id) = false
 is_told (Able id key complete) = false
 is_told (Unable id) = false
 is_told (Interest id current future kinds key aggregate) = false
 is_told (EndInterest id) = false
 is_told (ToldSub id key interest) = true
+is_told (ToldToken id key interest) = true
 is_told (ToldAble id key complete interest) = true
 is_told (ToldUnsub id) = true
+is_told (ToldUntoken id) = true
 is_told (ToldUnable id) = true
 is_told (ToldEnd interest) = true
 is_told (Push tree content) = false
@@ -68,10 +72,12 @@ is_told (Snap source number decls) = false
 undeclares_told : (id : ℕ) (class : Class) → is_told (undeclares id class) ≡ true
 undeclares_told id Subscriber = refl
 undeclares_told id Queryable = refl
+undeclares_told id Living = refl
 
 declares_told : (id : ℕ) (class : Class) (key : List ℕ) (complete : Bool) (interest : Option ℕ) → is_told (declares id class key complete interest) ≡ true
 declares_told id Subscriber key complete interest = refl
 declares_told id Queryable key complete interest = refl
+declares_told id Living key complete interest = refl
 
 undeclared_told : (m : ToldMap) (ps : List Place) → list_all is_told (undeclared m ps) ≡ true
 undeclared_told m [] = refl

@@ -85,6 +85,7 @@ abbrev pub ids_of : ClientState → Kind → List ℕ
 ids_of s k.Sub = s.subs
 ids_of s k.Able = s.ables
 ids_of s k.Full = s.ables
+ids_of s k.Token = s.tokens
 
 -- a number is among some
 abbrev pub has_number : List ℕ → ℕ → Bool
@@ -110,9 +111,10 @@ weighed routers name key (Some r) =
 
 -- the same client with other ids of a sort
 abbrev pub with_ids : ClientState → Kind → List ℕ → ClientState
-with_ids s k.Sub ids = record { router = s.router; subs = ids; ables = s.ables; interests = s.interests; queries = s.queries; requests = s.requests }
-with_ids s k.Able ids = record { router = s.router; subs = s.subs; ables = ids; interests = s.interests; queries = s.queries; requests = s.requests }
-with_ids s k.Full ids = record { router = s.router; subs = s.subs; ables = ids; interests = s.interests; queries = s.queries; requests = s.requests }
+with_ids s k.Sub ids = record s { subs = ids }
+with_ids s k.Able ids = record s { ables = ids }
+with_ids s k.Full ids = record s { ables = ids }
+with_ids s k.Token ids = record s { tokens = ids }
 
 -- the client has declared the id
 abbrev pub declaring : ClientState → Kind → ℕ → ClientState
@@ -124,13 +126,13 @@ undeclaring s kind id = with_ids s kind (without_number (ids_of s kind) id)
 
 -- the same client with other interests, with other open queries, and with other requests
 abbrev pub with_interests : ClientState → List ℕ → ClientState
-with_interests s interests = record { router = s.router; subs = s.subs; ables = s.ables; interests = interests; queries = s.queries; requests = s.requests }
+with_interests s interests = record s { interests = interests }
 
 abbrev pub with_queries : ClientState → List ℕ → ClientState
-with_queries s queries = record { router = s.router; subs = s.subs; ables = s.ables; interests = s.interests; queries = queries; requests = s.requests }
+with_queries s queries = record s { queries = queries }
 
 abbrev pub with_requests : ClientState → List ℕ → ClientState
-with_requests s requests = record { router = s.router; subs = s.subs; ables = s.ables; interests = s.interests; queries = s.queries; requests = requests }
+with_requests s requests = record s { requests = requests }
 
 -- the client has an interest of the id, which goes on until it ends it
 abbrev pub wanting : ClientState → ℕ → ClientState
@@ -152,13 +154,17 @@ ending s number = with_requests s (without_number s.requests number)
 abbrev pub receiving : ClientState → Msg → ClientState
 receiving s (m.Sub id key) = s
 receiving s (m.Unsub id) = s
+receiving s (m.Token id key) = s
+receiving s (m.Untoken id) = s
 receiving s (m.Able id key complete) = s
 receiving s (m.Unable id) = s
 receiving s (m.Interest id current future kinds key aggregate) = s
 receiving s (m.EndInterest id) = s
 receiving s (m.ToldSub id key interest) = s
+receiving s (m.ToldToken id key interest) = s
 receiving s (m.ToldAble id key complete interest) = s
 receiving s (m.ToldUnsub id) = s
+receiving s (m.ToldUntoken id) = s
 receiving s (m.ToldUnable id) = s
 receiving s (m.ToldEnd interest) = s
 receiving s (m.Push tree content) = s
@@ -446,6 +452,8 @@ outcome w line (a.Break router neighbour) = break_step w router neighbour
 outcome w line (a.Down router neighbour) = down_step w line router neighbour
 outcome w line (a.Sub client id key) = declare_step w line client k.Sub id key (m.Sub id key)
 outcome w line (a.Unsub client id) = undeclare_step w line client k.Sub id (m.Unsub id)
+outcome w line (a.Token client id key) = declare_step w line client k.Token id key (m.Token id key)
+outcome w line (a.Untoken client id) = undeclare_step w line client k.Token id (m.Untoken id)
 outcome w line (a.Able client id key complete) = declare_step w line client (able_kind complete) id key (m.Able id key complete)
 outcome w line (a.Unable client id) = undeclare_step w line client k.Able id (m.Unable id)
 outcome w line (a.Interest client id mode kinds key aggregate) = interest_step w line client id mode kinds key aggregate

@@ -11,7 +11,7 @@ use Rattle.std.specs.BTreeMap.{insert_entry}
 use Rattle.zr_id.specs.Record.{is_before}
 use Rattle.zr_id.specs.Zid.{is_named}
 use Rattle.zr_msg.specs.declared.msg.Msg.{Msg}
-use Rattle.zr_msg.specs.declared.msg.Msg.TheVariants.{Sub, Unsub, Able, Unable, Interest, EndInterest, ToldSub, ToldAble, ToldUnsub, ToldUnable, ToldEnd, Push, Request, Response, Final, State, Step, Snap}
+use Rattle.zr_msg.specs.declared.msg.Msg.TheVariants.{Sub, Unsub, Token, Untoken, Able, Unable, Interest, EndInterest, ToldSub, ToldAble, ToldUnsub, ToldToken, ToldUntoken, ToldUnable, ToldEnd, Push, Request, Response, Final, State, Step, Snap}
 use Rattle.zr_node_spec.specs.State.{NodeState, new_node}
 use Rattle.zr_told_spec.specs.Rows.{Maps}
 
@@ -28,12 +28,13 @@ pub record RouterState : Type 0 where
   pub told : Maps
   pub weight : ℕ
 
--- a client: its router, the ids under which it has a subscriber, those under which it has a queryable declared and those of its interests that
--- it has not ended, the numbers of its queries whose final was not sent yet, and those of the requests that it was sent and has not ended
+-- a client: its router, the ids under which it has a subscriber, a queryable and a token declared and those of its interests that it has not
+-- ended, the numbers of its queries whose final was not sent yet, and those of the requests that it was sent and has not ended
 pub record ClientState : Type 0 where
   pub router : List ℕ
   pub subs : List ℕ
   pub ables : List ℕ
+  pub tokens : List ℕ
   pub interests : List ℕ
   pub queries : List ℕ
   pub requests : List ℕ
@@ -89,7 +90,7 @@ new_router id = record { node = new_node id; told = []; weight = 0 }
 
 -- a client that has declared nothing and has asked nothing
 abbrev pub new_client : List ℕ → ClientState
-new_client router = record { router = router; subs = []; ables = []; interests = []; queries = []; requests = [] }
+new_client router = record { router = router; subs = []; ables = []; tokens = []; interests = []; queries = []; requests = [] }
 
 -- the end of a new link of this weight: nothing waits there
 abbrev pub new_end : ℕ → EndState
@@ -249,13 +250,17 @@ is_quiet w = list_all is_idle (values_of w.ends)
 abbrev pub unsettles : Msg → Bool
 unsettles (Sub id key) = true
 unsettles (Unsub id) = true
+unsettles (Token id key) = true
+unsettles (Untoken id) = true
 unsettles (Able id key complete) = true
 unsettles (Unable id) = true
 unsettles (Interest id current future kinds key aggregate) = false
 unsettles (EndInterest id) = false
 unsettles (ToldSub id key interest) = false
+unsettles (ToldToken id key interest) = false
 unsettles (ToldAble id key complete interest) = false
 unsettles (ToldUnsub id) = false
+unsettles (ToldUntoken id) = false
 unsettles (ToldUnable id) = false
 unsettles (ToldEnd interest) = false
 unsettles (Push tree content) = false
