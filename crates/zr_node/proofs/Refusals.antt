@@ -148,13 +148,17 @@ module _ (n : NodeState) (from : ℕ) where
   of_message : (m : Msg) → AreOfTable (refuses_from n from m)
   of_message (msg.Sub id key) = of_declared (row from id kind.Sub key)
   of_message (msg.Unsub id) = of_undeclared (key_of from id kind.Sub)
+  of_message (msg.Token id key) = of_declared (row from id kind.Token key)
+  of_message (msg.Untoken id) = of_undeclared (key_of from id kind.Token)
   of_message (msg.Able id key complete) = of_declared (row from id (able_kind complete) key)
   of_message (msg.Unable id) = of_undeclared (key_of from id kind.Able)
   of_message (msg.Interest id current future kinds key aggregate) = of_noted id (live future (record { id = id; kinds = kinds; key = key; aggregate = aggregate }))
   of_message (msg.EndInterest id) = tt
   of_message (msg.ToldSub id key interest) = tt
+  of_message (msg.ToldToken id key interest) = tt
   of_message (msg.ToldAble id key complete interest) = tt
   of_message (msg.ToldUnsub id) = tt
+  of_message (msg.ToldUntoken id) = tt
   of_message (msg.ToldUnable id) = tt
   of_message (msg.ToldEnd interest) = tt
   of_message (msg.Push tree content) = tt

@@ -1,9 +1,11 @@
 -- What a sample or a request seeks of declarations, and where it was declared.
-use Rattle.std.specs.Prelude.{ℕ, ◌==◌, ◌&&◌, Bool, List}
+use Rattle.std.specs.Prelude.{ℕ, ◌==◌, ◌&&◌, nat_lt, Bool, List}
 use Rattle.std.specs.List.{list_any}
 use Rattle.zr_local.specs.declared.row.Row.{Row}
 use Rattle.zr_log.specs.declared.log.Log.{Log}
+use Rattle.zr_msg.specs.Decl.{kind_rank}
 use Rattle.zr_msg.specs.declared.decl.Decl.{Decl}
+use Rattle.zr_msg.specs.declared.decl.Kind.{Kind}
 use Rattle.zr_msg.specs.declared.msg.Target.{Target}
 use Rattle.zr_msg.specs.declared.msg.Target.TheVariants as target
 use Rattle.zr_push_sought.specs.declared.sought.Sought.{Sought}
@@ -17,6 +19,10 @@ abbrev pub is_sought : Sought → List ℕ → Decl → Bool
 is_sought Subscribers key d = is_for key d
 is_sought Queryables key d = can_answer target.Best key d
 is_sought Complete key d = can_answer target.Complete key d
+
+-- a kind stands before another in the order of kinds
+abbrev pub is_lower : Kind → Kind → Bool
+is_lower one other = nat_lt (kind_rank one) (kind_rank other)
 
 -- what a request with a target seeks
 abbrev pub sought_by : Target → Sought

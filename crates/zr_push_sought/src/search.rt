@@ -2,11 +2,13 @@
 
 ghost use Rattle.std.specs.Prelude.{◌≡◌, ◌≤◌, ℕ, List, true, false, length};
 ghost use Rattle.std.specs.List.{list_any};
-ghost use Rattle.std.specs.List.Sorted.{IsPartitionPoint};
+ghost use Rattle.std.specs.List.Sorted.{IsNonDecreasingBy, IsPartitionPoint};
 ghost use Rattle.zr_node_spec.specs.Queries.{is_queryable, is_complete};
 ghost use Rattle.zr_node_spec.specs.Samples.{is_subscriber};
-ghost use Rattle.zr_push_sought.specs.Sought.{is_sought, has_declared, is_in_log};
+ghost use Rattle.zr_push_sought.specs.Sought.{is_sought, is_lower, has_declared, is_in_log};
+ghost use Rattle.zr_push_sought.specs.declared.sought.Sought.{Sought};
 ghost use Rattle.zr_log_set.specs.Decls.{IsSet};
+ghost use Rattle.zr_msg.specs.Decl.{kind_rank};
 
 use crate::client_rows::ClientRows;
 use crate::sought::Sought;
@@ -39,34 +41,39 @@ fn has_sought(decls: &[Decl], sought: Sought, key: &KeyExpr) -> bool
     decls.iter().any(|decl| is_sought(sought, key, decl))
 }
 
-// The declarations of a log that may be sought: subscribers stand first, and complete queryables last.
+// The declarations of a log that may be sought. They are in the order of their kinds, so those of some kinds stand together.
 fn of_kind(decls: &[Decl], sought: Sought) -> &[Decl]
     requires { IsSet decls.now }
     ensures { (key : List ℕ) → list_any (λ d. is_sought sought key d) result.now ≡ list_any (λ d. is_sought sought key d) decls.now }
 {
     match sought {
-        Sought::Subscribers => &decls[..subscribers(decls)],
-        Sought::Queryables => &decls[subscribers(decls)..],
-        Sought::Complete => &decls[incomplete(decls)..],
+        Sought::Subscribers => &decls[..lower(decls, Kind::Able)],
+        Sought::Queryables => below_tokens(&decls[lower(decls, Kind::Able)..]),
+        Sought::Complete => below_tokens(&decls[lower(decls, Kind::Full)..]),
     }
 }
 
-// How many declarations are of subscribers: they stand before the others.
-fn subscribers(decls: &[Decl]) -> usize
-    requires { IsSet decls.now }
-    ensures within { result ≤ length decls.now }
-    ensures parted { IsPartitionPoint (λ d. is_subscriber d.kind ≡ true) (λ d. is_subscriber d.kind ≡ false) decls.now result }
+// Those before the tokens, which stand last and are never sought.
+fn below_tokens(decls: &[Decl]) -> &[Decl]
+    requires { IsNonDecreasingBy (λ d. kind_rank d.kind) decls.now }
+    ensures { (sought : Sought) (key : List ℕ) → list_any (λ d. is_sought sought key d) result.now ≡ list_any (λ d. is_sought sought key d) decls.now }
 {
-    decls.partition_point(|decl| is_subscriber(decl.kind))
+    &decls[..lower(decls, Kind::Token)]
 }
 
-// How many declarations are of no complete queryable: they stand before those.
-fn incomplete(decls: &[Decl]) -> usize
-    requires { IsSet decls.now }
+// How many declarations are of lower kinds than this one: they stand before the others.
+fn lower(decls: &[Decl], kind: Kind) -> usize
+    requires { IsNonDecreasingBy (λ d. kind_rank d.kind) decls.now }
     ensures within { result ≤ length decls.now }
-    ensures parted { IsPartitionPoint (λ d. is_complete d.kind ≡ false) (λ d. is_complete d.kind ≡ true) decls.now result }
+    ensures parted { IsPartitionPoint (λ d. is_lower d.kind kind ≡ true) (λ d. is_lower d.kind kind ≡ false) decls.now result }
 {
-    decls.partition_point(|decl| !is_complete(decl.kind))
+    decls.partition_point(|decl| is_lower(decl.kind, kind))
+}
+
+fn is_lower(one: Kind, other: Kind) -> bool
+    ensures { result ≡ is_lower one other }
+{
+    one < other
 }
 
 fn any_is_sought(rows: &[Row], sought: Sought, key: &KeyExpr) -> bool
@@ -90,7 +97,7 @@ fn is_subscriber(kind: Kind) -> bool
 {
     match kind {
         Kind::Sub => true,
-        Kind::Able | Kind::Full => false,
+        Kind::Able | Kind::Full | Kind::Token => false,
     }
 }
 
@@ -98,7 +105,7 @@ fn is_queryable(kind: Kind) -> bool
     ensures { result ≡ is_queryable kind }
 {
     match kind {
-        Kind::Sub => false,
+        Kind::Sub | Kind::Token => false,
         Kind::Able | Kind::Full => true,
     }
 }

@@ -25,7 +25,7 @@ use Rattle.zr_msg.specs.declared.decl.Kind.TheVariants as kind
 use Rattle.zr_msg.specs.declared.event.Event.{Event}
 use Rattle.zr_msg.specs.declared.event.Event.TheVariants.{Up, Down, From}
 use Rattle.zr_msg.specs.declared.msg.Msg.{Msg}
-use Rattle.zr_msg.specs.declared.msg.Msg.TheVariants.{Sub, Unsub, Able, Unable, Interest, EndInterest, ToldSub, ToldAble, ToldUnsub, ToldUnable, ToldEnd, Push, Request, Response, Final, State, Step, Snap}
+use Rattle.zr_msg.specs.declared.msg.Msg.TheVariants.{Sub, Unsub, Token, Untoken, Able, Unable, Interest, EndInterest, ToldSub, ToldAble, ToldUnsub, ToldToken, ToldUntoken, ToldUnable, ToldEnd, Push, Request, Response, Final, State, Step, Snap}
 use Rattle.zr_msg.specs.declared.peer.LinkPeer.{LinkPeer}
 use Rattle.zr_msg.specs.Peer.{PeerState}
 use Rattle.zr_msg.specs.declared.peer.Role.{Role}
@@ -214,13 +214,17 @@ module _ (n : NodeState) (own : n.known.me ≡ n.base.me) where
   from_count : (link : LinkNo) (msg : Msg) → decl_count (tables (after n (From link msg))) ≤ decl_count (tables n) + more_from msg
   from_count link (Sub id key) = declared_count link.0 (row link.0 id kind.Sub key)
   from_count link (Unsub id) = undeclared_count link.0 (key_of link.0 id kind.Sub)
+  from_count link (Token id key) = declared_count link.0 (row link.0 id kind.Token key)
+  from_count link (Untoken id) = undeclared_count link.0 (key_of link.0 id kind.Token)
   from_count link (Able id key complete) = declared_count link.0 (row link.0 id (able_kind complete) key)
   from_count link (Unable id) = undeclared_count link.0 (key_of link.0 id kind.Able)
   from_count link (Interest id current future kinds key aggregate) = same_count
   from_count link (EndInterest id) = same_count
   from_count link (ToldSub id key interest) = same_count
+  from_count link (ToldToken id key interest) = same_count
   from_count link (ToldAble id key complete interest) = same_count
   from_count link (ToldUnsub id) = same_count
+  from_count link (ToldUntoken id) = same_count
   from_count link (ToldUnable id) = same_count
   from_count link (ToldEnd interest) = same_count
   from_count link (Push tree content) = same_count
@@ -286,13 +290,17 @@ module _ (n : NodeState) (m : ℕ) (h : HaveAtMost m n.clients) where
   from_most : (link : LinkNo) (msg : Msg) → HaveAtMost (m + 1) (after n (From link msg)).clients
   from_most link (Sub id key) = same_most
   from_most link (Unsub id) = same_most
+  from_most link (Token id key) = same_most
+  from_most link (Untoken id) = same_most
   from_most link (Able id key complete) = same_most
   from_most link (Unable id) = same_most
   from_most link (Interest id current future kinds key aggregate) = asked_most link.0 id (live future (record { id = id; kinds = kinds; key = key; aggregate = aggregate }))
   from_most link (EndInterest id) = asked_most link.0 id None
   from_most link (ToldSub id key interest) = same_most
+  from_most link (ToldToken id key interest) = same_most
   from_most link (ToldAble id key complete interest) = same_most
   from_most link (ToldUnsub id) = same_most
+  from_most link (ToldUntoken id) = same_most
   from_most link (ToldUnable id) = same_most
   from_most link (ToldEnd interest) = same_most
   from_most link (Push tree content) = same_most
@@ -310,7 +318,7 @@ module _ (n : NodeState) (m : ℕ) (h : HaveAtMost m n.clients) where
 
 -- ---- ids last
 
-none_lacks : (t : TableState) (m : ℕ) (cs : List ClientInterests) → HaveAtMost m cs → decl_count t + 2 * m ≤ most_id → one_lacks_ids t cs ≡ false
+none_lacks : (t : TableState) (m : ℕ) (cs : List ClientInterests) → HaveAtMost m cs → decl_count t + 3 * m ≤ most_id → one_lacks_ids t cs ≡ false
 none_lacks t m [] h le = refl
 none_lacks t m (c ∷ cs) h le = rw (enough c h.0) (none_lacks t m cs h.1 le)
   where
@@ -323,6 +331,6 @@ none_lacks t m (c ∷ cs) h le = rw (enough c h.0) (none_lacks t m cs h.1 le)
         let o = others_few t c.link.0 in
         not_less (length (wanted (others t c.link.0) c.interests)) (omega (arith, w, o, e, le))
 
-pub room : (n : NodeState) (event : Event) (m : ℕ) → n.known.me ≡ n.base.me → HaveAtMost m n.clients → decl_count (tables n) + more_decls event + 2 * (m + 1) ≤ most_id → have_ids n event
+pub room : (n : NodeState) (event : Event) (m : ℕ) → n.known.me ≡ n.base.me → HaveAtMost m n.clients → decl_count (tables n) + more_decls event + 3 * (m + 1) ≤ most_id → have_ids n event
 room n event m own h le =
     none_lacks (tables (after n event)) (m + 1) (after n event).clients (after_most n m h event) (let c = after_count n own event in omega (arith, c, le))

@@ -17,7 +17,7 @@ use Rattle.zr_msg.specs.declared.decl.Kind.TheVariants as kind
 use Rattle.zr_msg.specs.declared.event.Event.{Event}
 use Rattle.zr_msg.specs.declared.event.Event.TheVariants.{Up, Down, From}
 use Rattle.zr_msg.specs.declared.msg.Msg.{Msg}
-use Rattle.zr_msg.specs.declared.msg.Msg.TheVariants.{Sub, Unsub, Able, Unable, Interest, EndInterest, ToldSub, ToldAble, ToldUnsub, ToldUnable, ToldEnd, Push, Request, Response, Final, State, Step, Snap}
+use Rattle.zr_msg.specs.declared.msg.Msg.TheVariants.{Sub, Unsub, Token, Untoken, Able, Unable, Interest, EndInterest, ToldSub, ToldAble, ToldUnsub, ToldToken, ToldUntoken, ToldUnable, ToldEnd, Push, Request, Response, Final, State, Step, Snap}
 use Rattle.zr_msg.specs.Peer.{PeerState}
 use Rattle.zr_msg.specs.declared.peer.LinkPeer.{LinkPeer}
 use Rattle.zr_msg.specs.declared.peer.Role.{Role}
@@ -132,13 +132,17 @@ module _ (n : NodeState) (h : AreOrdered n) (k : ℕ) where
   from_same : (link : LinkNo) (msg : Msg) (qs : List Place) → places_from n link.0 msg ≡ Some qs → IsLeft qs (tables (after n (From link msg)))
   from_same link (Sub id key) qs e = these _ qs (tables (after n (From link (Sub id key)))) e (declared_same link.0 (row link.0 id kind.Sub key))
   from_same link (Unsub id) qs e = these _ qs (tables (after n (From link (Unsub id)))) e (undeclared_same link.0 (key_of link.0 id kind.Sub))
+  from_same link (Token id key) qs e = these _ qs (tables (after n (From link (Token id key)))) e (declared_same link.0 (row link.0 id kind.Token key))
+  from_same link (Untoken id) qs e = these _ qs (tables (after n (From link (Untoken id)))) e (undeclared_same link.0 (key_of link.0 id kind.Token))
   from_same link (Able id key complete) qs e = these _ qs (tables (after n (From link (Able id key complete)))) e (declared_same link.0 (row link.0 id (able_kind complete) key))
   from_same link (Unable id) qs e = these _ qs (tables (after n (From link (Unable id)))) e (undeclared_same link.0 (key_of link.0 id kind.Able))
   from_same link (Interest id current future kinds key aggregate) qs e = λ f. refl
   from_same link (EndInterest id) qs e = λ f. refl
   from_same link (ToldSub id key interest) qs e = λ f. refl
+  from_same link (ToldToken id key interest) qs e = λ f. refl
   from_same link (ToldAble id key complete interest) qs e = λ f. refl
   from_same link (ToldUnsub id) qs e = λ f. refl
+  from_same link (ToldUntoken id) qs e = λ f. refl
   from_same link (ToldUnable id) qs e = λ f. refl
   from_same link (ToldEnd interest) qs e = λ f. refl
   from_same link (Push tree content) qs e = λ f. refl
@@ -159,13 +163,17 @@ module _ (n : NodeState) (h : AreOrdered n) (k : ℕ) where
 quiet_from : (n : NodeState) (link : LinkNo) (msg : Msg) → is_quiet_msg msg ≡ true → tables (after n (From link msg)) ≡ tables n
 quiet_from n link (Sub id key) h = cc
 quiet_from n link (Unsub id) h = cc
+quiet_from n link (Token id key) h = cc
+quiet_from n link (Untoken id) h = cc
 quiet_from n link (Able id key complete) h = cc
 quiet_from n link (Unable id) h = cc
 quiet_from n link (Interest id current future kinds key aggregate) h = cc
 quiet_from n link (EndInterest id) h = cc
 quiet_from n link (ToldSub id key interest) h = refl
+quiet_from n link (ToldToken id key interest) h = refl
 quiet_from n link (ToldAble id key complete interest) h = refl
 quiet_from n link (ToldUnsub id) h = refl
+quiet_from n link (ToldUntoken id) h = refl
 quiet_from n link (ToldUnable id) h = refl
 quiet_from n link (ToldEnd interest) h = refl
 quiet_from n link (Push tree content) h = refl
@@ -184,13 +192,17 @@ quiet_tables n (From link msg) h = quiet_from n link msg h
 quiet_own_msg : (msg : Msg) → is_quiet_msg msg ≡ true → is_own_msg msg ≡ false
 quiet_own_msg (Sub id key) h = refl
 quiet_own_msg (Unsub id) h = refl
+quiet_own_msg (Token id key) h = refl
+quiet_own_msg (Untoken id) h = refl
 quiet_own_msg (Able id key complete) h = refl
 quiet_own_msg (Unable id) h = refl
 quiet_own_msg (Interest id current future kinds key aggregate) h = cc
 quiet_own_msg (EndInterest id) h = cc
 quiet_own_msg (ToldSub id key interest) h = refl
+quiet_own_msg (ToldToken id key interest) h = refl
 quiet_own_msg (ToldAble id key complete interest) h = refl
 quiet_own_msg (ToldUnsub id) h = refl
+quiet_own_msg (ToldUntoken id) h = refl
 quiet_own_msg (ToldUnable id) h = refl
 quiet_own_msg (ToldEnd interest) h = refl
 quiet_own_msg (Push tree content) h = refl
@@ -211,13 +223,17 @@ quiet_own (From link msg) h = quiet_own_msg msg h
 none_from : (n : NodeState) (link : LinkNo) (msg : Msg) → n.clients ≡ [] → is_own_msg msg ≡ false → (after n (From link msg)).clients ≡ []
 none_from n link (Sub id key) e h = e
 none_from n link (Unsub id) e h = e
+none_from n link (Token id key) e h = e
+none_from n link (Untoken id) e h = e
 none_from n link (Able id key complete) e h = e
 none_from n link (Unable id) e h = e
 none_from n link (Interest id current future kinds key aggregate) e h = cc
 none_from n link (EndInterest id) e h = cc
 none_from n link (ToldSub id key interest) e h = e
+none_from n link (ToldToken id key interest) e h = e
 none_from n link (ToldAble id key complete interest) e h = e
 none_from n link (ToldUnsub id) e h = e
+none_from n link (ToldUntoken id) e h = e
 none_from n link (ToldUnable id) e h = e
 none_from n link (ToldEnd interest) e h = e
 none_from n link (Push tree content) e h = e
@@ -253,13 +269,17 @@ after_spent n (From link msg) = by msg
     by : (m : Msg) → (after n (From link m)).spent ≡ n.spent
     by (Sub id key) = refl
     by (Unsub id) = refl
+    by (Token id key) = refl
+    by (Untoken id) = refl
     by (Able id key complete) = refl
     by (Unable id) = refl
     by (Interest id current future kinds key aggregate) = refl
     by (EndInterest id) = refl
     by (ToldSub id key interest) = refl
+    by (ToldToken id key interest) = refl
     by (ToldAble id key complete interest) = refl
     by (ToldUnsub id) = refl
+    by (ToldUntoken id) = refl
     by (ToldUnable id) = refl
     by (ToldEnd interest) = refl
     by (Push tree content) = refl

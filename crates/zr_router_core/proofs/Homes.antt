@@ -17,7 +17,7 @@ use Rattle.zr_local.specs.declared.interest.Interest.{Interest as LiveInterest}
 use Rattle.zr_msg.specs.declared.event.Event.{Event}
 use Rattle.zr_msg.specs.declared.event.Event.TheVariants.{Up, Down, From}
 use Rattle.zr_msg.specs.declared.msg.Msg.{Msg}
-use Rattle.zr_msg.specs.declared.msg.Msg.TheVariants.{Sub, Unsub, Able, Unable, Interest, EndInterest, ToldSub, ToldAble, ToldUnsub, ToldUnable, ToldEnd, Push, Request, Response, Final, State, Step, Snap}
+use Rattle.zr_msg.specs.declared.msg.Msg.TheVariants.{Sub, Unsub, Token, Untoken, Able, Unable, Interest, EndInterest, ToldSub, ToldAble, ToldUnsub, ToldToken, ToldUntoken, ToldUnable, ToldEnd, Push, Request, Response, Final, State, Step, Snap}
 use Rattle.zr_msg.specs.declared.peer.LinkPeer.{LinkPeer}
 use Rattle.zr_msg.specs.Peer.{PeerState}
 use Rattle.zr_node_spec.specs.Queries.{link_no}
@@ -127,13 +127,17 @@ down_home n link home k away = by (leads_to_client n.links link) (link == k) ref
 from_home : (n : NodeState) (link : LinkNo) (msg : Msg) → AreHome n → AreHome (after n (From link msg))
 from_home n link (Sub id key) home = home
 from_home n link (Unsub id) home = home
+from_home n link (Token id key) home = home
+from_home n link (Untoken id) home = home
 from_home n link (Able id key complete) home = home
 from_home n link (Unable id) home = home
 from_home n link (Interest id current future kinds key aggregate) home = noted_home n link.0 id (live future (record { id = id; kinds = kinds; key = key; aggregate = aggregate })) home
 from_home n link (EndInterest id) home = noted_home n link.0 id None home
 from_home n link (ToldSub id key interest) home = home
+from_home n link (ToldToken id key interest) home = home
 from_home n link (ToldAble id key complete interest) home = home
 from_home n link (ToldUnsub id) home = home
+from_home n link (ToldUntoken id) home = home
 from_home n link (ToldUnable id) home = home
 from_home n link (ToldEnd interest) home = home
 from_home n link (Push tree content) home = home
@@ -161,13 +165,17 @@ noted_else n from id o k h = by (leads_to_client n.links from)
 from_else : (n : NodeState) (link : LinkNo) (msg : Msg) (k : ℕ) → (link.0 == k && is_own_msg msg) ≡ false → interests_on (after n (From link msg)).clients k ≡ interests_on n.clients k
 from_else n link (Sub id key) k h = refl
 from_else n link (Unsub id) k h = refl
+from_else n link (Token id key) k h = refl
+from_else n link (Untoken id) k h = refl
 from_else n link (Able id key complete) k h = refl
 from_else n link (Unable id) k h = refl
 from_else n link (Interest id current future kinds key aggregate) k h = noted_else n link.0 id (live future (record { id = id; kinds = kinds; key = key; aggregate = aggregate })) k (sym (and_true (link.0 == k)) ∙ h)
 from_else n link (EndInterest id) k h = noted_else n link.0 id None k (sym (and_true (link.0 == k)) ∙ h)
 from_else n link (ToldSub id key interest) k h = refl
+from_else n link (ToldToken id key interest) k h = refl
 from_else n link (ToldAble id key complete interest) k h = refl
 from_else n link (ToldUnsub id) k h = refl
+from_else n link (ToldUntoken id) k h = refl
 from_else n link (ToldUnable id) k h = refl
 from_else n link (ToldEnd interest) k h = refl
 from_else n link (Push tree content) k h = refl
@@ -200,13 +208,17 @@ gone_away n (From link msg) k h = absurd (false≢true h)
 links_from : (n : NodeState) (link : LinkNo) (msg : Msg) → (after n (From link msg)).links ≡ n.links
 links_from n link (Sub id key) = refl
 links_from n link (Unsub id) = refl
+links_from n link (Token id key) = refl
+links_from n link (Untoken id) = refl
 links_from n link (Able id key complete) = refl
 links_from n link (Unable id) = refl
 links_from n link (Interest id current future kinds key aggregate) = refl
 links_from n link (EndInterest id) = refl
 links_from n link (ToldSub id key interest) = refl
+links_from n link (ToldToken id key interest) = refl
 links_from n link (ToldAble id key complete interest) = refl
 links_from n link (ToldUnsub id) = refl
+links_from n link (ToldUntoken id) = refl
 links_from n link (ToldUnable id) = refl
 links_from n link (ToldEnd interest) = refl
 links_from n link (Push tree content) = refl

@@ -9,7 +9,7 @@ use Rattle.zr_msg.specs.declared.decl.Decl.{Decl}
 use Rattle.zr_msg.specs.declared.event.Event.{Event}
 use Rattle.zr_msg.specs.declared.event.Event.TheVariants.{Up, Down, From}
 use Rattle.zr_msg.specs.declared.msg.Msg.{Msg}
-use Rattle.zr_msg.specs.declared.msg.Msg.TheVariants.{Sub, Unsub, Able, Unable, Interest, EndInterest, ToldSub, ToldAble, ToldUnsub, ToldUnable, ToldEnd, Push, Request, Response, Final, State, Step, Snap}
+use Rattle.zr_msg.specs.declared.msg.Msg.TheVariants.{Sub, Unsub, Token, Untoken, Able, Unable, Interest, EndInterest, ToldSub, ToldAble, ToldUnsub, ToldToken, ToldUntoken, ToldUnable, ToldEnd, Push, Request, Response, Final, State, Step, Snap}
 use Rattle.zr_node_spec.specs.Queries.{link_no}
 use Rattle.zr_node_spec.specs.Tables.{TableState, leads_to_client}
 use Rattle.zr_node_spec.specs.State.{NodeState, tables}
@@ -79,13 +79,17 @@ module _ (n : NodeState) (event : Event) (told : ℕ → ToldMap) (b : IsBefore 
 calm_from : (n : NodeState) (link : LinkNo) (msg : Msg) → is_own_msg msg ≡ true → changed_places n (From link msg) ≡ Some []
 calm_from n link (Sub id key) h = cc
 calm_from n link (Unsub id) h = cc
+calm_from n link (Token id key) h = cc
+calm_from n link (Untoken id) h = cc
 calm_from n link (Able id key complete) h = cc
 calm_from n link (Unable id) h = cc
 calm_from n link (Interest id current future kinds key aggregate) h = refl
 calm_from n link (EndInterest id) h = refl
 calm_from n link (ToldSub id key interest) h = refl
+calm_from n link (ToldToken id key interest) h = refl
 calm_from n link (ToldAble id key complete interest) h = refl
 calm_from n link (ToldUnsub id) h = refl
+calm_from n link (ToldUntoken id) h = refl
 calm_from n link (ToldUnable id) h = refl
 calm_from n link (ToldEnd interest) h = refl
 calm_from n link (Push tree content) h = refl
@@ -110,6 +114,8 @@ noted_from : (n : NodeState) (link : LinkNo) (msg : Msg) (a : Asking) → asking
     IsNoted a.future a.interest (interests_on (after n (From link msg)).clients link.0)
 noted_from n link (Sub id key) a e = absurd (none-some a e)
 noted_from n link (Unsub id) a e = absurd (none-some a e)
+noted_from n link (Token id key) a e = absurd (none-some a e)
+noted_from n link (Untoken id) a e = absurd (none-some a e)
 noted_from n link (Able id key complete) a e = absurd (none-some a e)
 noted_from n link (Unable id) a e = absurd (none-some a e)
 noted_from n link (Interest id current future kinds key aggregate) a e =
@@ -117,8 +123,10 @@ noted_from n link (Interest id current future kinds key aggregate) a e =
     (noted_there n link.0 future (record { id = id; kinds = kinds; key = key; aggregate = aggregate }))
 noted_from n link (EndInterest id) a e = absurd (none-some a e)
 noted_from n link (ToldSub id key interest) a e = absurd (none-some a e)
+noted_from n link (ToldToken id key interest) a e = absurd (none-some a e)
 noted_from n link (ToldAble id key complete interest) a e = absurd (none-some a e)
 noted_from n link (ToldUnsub id) a e = absurd (none-some a e)
+noted_from n link (ToldUntoken id) a e = absurd (none-some a e)
 noted_from n link (ToldUnable id) a e = absurd (none-some a e)
 noted_from n link (ToldEnd interest) a e = absurd (none-some a e)
 noted_from n link (Push tree content) a e = absurd (none-some a e)

@@ -15,7 +15,7 @@ use Rattle.zr_msg.specs.declared.event.Event.{Event}
 use Rattle.zr_msg.specs.declared.event.Event.TheVariants.{Up, Down, From}
 use Rattle.zr_msg.specs.declared.msg.Kinds.{Kinds}
 use Rattle.zr_msg.specs.declared.msg.Msg.{Msg}
-use Rattle.zr_msg.specs.declared.msg.Msg.TheVariants.{Sub, Unsub, Able, Unable, Interest, EndInterest, ToldSub, ToldAble, ToldUnsub, ToldUnable, ToldEnd, Push, Request, Response, Final, State, Step, Snap}
+use Rattle.zr_msg.specs.declared.msg.Msg.TheVariants.{Sub, Unsub, Token, Untoken, Able, Unable, Interest, EndInterest, ToldSub, ToldAble, ToldUnsub, ToldToken, ToldUntoken, ToldUnable, ToldEnd, Push, Request, Response, Final, State, Step, Snap}
 use Rattle.zr_node_spec.specs.Tables.{TableState, leads_to_client}
 use Rattle.zr_node_spec.specs.Event.{on_link, TellsPrefix}
 use Rattle.zr_lists.specs.Prefix.{IsPrefixBehind}
@@ -35,13 +35,17 @@ use Rattle.zr_router_core.specs.Ready.{is_own_msg, is_own, is_own_on, still_told
 unasked_msg : (msg : Msg) → is_own_msg msg ≡ false → asking_of msg ≡ None
 unasked_msg (Sub id key) h = refl
 unasked_msg (Unsub id) h = refl
+unasked_msg (Token id key) h = refl
+unasked_msg (Untoken id) h = refl
 unasked_msg (Able id key complete) h = refl
 unasked_msg (Unable id) h = refl
 unasked_msg (Interest id current future kinds key aggregate) h = absurd (true≢false h)
 unasked_msg (EndInterest id) h = refl
 unasked_msg (ToldSub id key interest) h = refl
+unasked_msg (ToldToken id key interest) h = refl
 unasked_msg (ToldAble id key complete interest) h = refl
 unasked_msg (ToldUnsub id) h = refl
+unasked_msg (ToldUntoken id) h = refl
 unasked_msg (ToldUnable id) h = refl
 unasked_msg (ToldEnd interest) h = refl
 unasked_msg (Push tree content) h = refl
@@ -311,13 +315,17 @@ noted_here t link msg told r leads a e = r.noted link.0 a (ap (λ b. cond b (ask
 pub ended_is : (msg : Msg) → is_own_msg msg ≡ true → ((id : ℕ) (current future : Bool) (kinds : Kinds) (key : Option (List ℕ)) (aggregate : Bool) → msg ≡ Interest id current future kinds key aggregate → ⊥) → asking_of msg ≡ None
 ended_is (Sub id key) h n = refl
 ended_is (Unsub id) h n = refl
+ended_is (Token id key) h n = refl
+ended_is (Untoken id) h n = refl
 ended_is (Able id key complete) h n = refl
 ended_is (Unable id) h n = refl
 ended_is (Interest id current future kinds key aggregate) h n = absurd (n id current future kinds key aggregate refl)
 ended_is (EndInterest id) h n = refl
 ended_is (ToldSub id key interest) h n = refl
+ended_is (ToldToken id key interest) h n = refl
 ended_is (ToldAble id key complete interest) h n = refl
 ended_is (ToldUnsub id) h n = refl
+ended_is (ToldUntoken id) h n = refl
 ended_is (ToldUnable id) h n = refl
 ended_is (ToldEnd interest) h n = refl
 ended_is (Push tree content) h n = refl

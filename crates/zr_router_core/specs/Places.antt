@@ -12,7 +12,7 @@ use Rattle.zr_msg.specs.declared.decl.Kind.TheVariants as kind
 use Rattle.zr_msg.specs.declared.event.Event.{Event}
 use Rattle.zr_msg.specs.declared.event.Event.TheVariants.{Up, Down, From}
 use Rattle.zr_msg.specs.declared.msg.Msg.{Msg}
-use Rattle.zr_msg.specs.declared.msg.Msg.TheVariants.{Sub, Unsub, Able, Unable, Interest, EndInterest, ToldSub, ToldAble, ToldUnsub, ToldUnable, ToldEnd, Push, Request, Response, Final, State, Step, Snap}
+use Rattle.zr_msg.specs.declared.msg.Msg.TheVariants.{Sub, Unsub, Token, Untoken, Able, Unable, Interest, EndInterest, ToldSub, ToldAble, ToldUnsub, ToldToken, ToldUntoken, ToldUnable, ToldEnd, Push, Request, Response, Final, State, Step, Snap}
 use Rattle.zr_msg.specs.declared.peer.LinkPeer.{LinkPeer}
 use Rattle.zr_msg.specs.declared.peer.Role.{Role}
 use Rattle.zr_msg.specs.declared.peer.Role.TheVariants.{Client, Router}
@@ -28,13 +28,17 @@ use Rattle.zr_told_spec.specs.declared.place.Place.{Place}
 abbrev pub is_quiet_msg : Msg → Bool
 is_quiet_msg (Sub id key) = false
 is_quiet_msg (Unsub id) = false
+is_quiet_msg (Token id key) = false
+is_quiet_msg (Untoken id) = false
 is_quiet_msg (Able id key complete) = false
 is_quiet_msg (Unable id) = false
 is_quiet_msg (Interest id current future kinds key aggregate) = false
 is_quiet_msg (EndInterest id) = false
 is_quiet_msg (ToldSub id key interest) = true
+is_quiet_msg (ToldToken id key interest) = true
 is_quiet_msg (ToldAble id key complete interest) = true
 is_quiet_msg (ToldUnsub id) = true
+is_quiet_msg (ToldUntoken id) = true
 is_quiet_msg (ToldUnable id) = true
 is_quiet_msg (ToldEnd interest) = true
 is_quiet_msg (Push tree content) = true
@@ -79,13 +83,17 @@ places_told b r = if is_newer b r then None else Some []
 abbrev pub places_from : NodeState → ℕ → Msg → Option (List Place)
 places_from node from (Sub id key) = Some (places_declared node.rows (row from id kind.Sub key))
 places_from node from (Unsub id) = Some (places_under node.rows (key_of from id kind.Sub))
+places_from node from (Token id key) = Some (places_declared node.rows (row from id kind.Token key))
+places_from node from (Untoken id) = Some (places_under node.rows (key_of from id kind.Token))
 places_from node from (Able id key complete) = Some (places_declared node.rows (row from id (able_kind complete) key))
 places_from node from (Unable id) = Some (places_under node.rows (key_of from id kind.Able))
 places_from node from (Interest id current future kinds key aggregate) = Some []
 places_from node from (EndInterest id) = Some []
 places_from node from (ToldSub id key interest) = Some []
+places_from node from (ToldToken id key interest) = Some []
 places_from node from (ToldAble id key complete interest) = Some []
 places_from node from (ToldUnsub id) = Some []
+places_from node from (ToldUntoken id) = Some []
 places_from node from (ToldUnable id) = Some []
 places_from node from (ToldEnd interest) = Some []
 places_from node from (Push tree content) = Some []

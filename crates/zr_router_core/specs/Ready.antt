@@ -7,7 +7,7 @@ use Rattle.zr_msg.specs.declared.decl.Decl.{Decl}
 use Rattle.zr_msg.specs.declared.event.Event.{Event}
 use Rattle.zr_msg.specs.declared.event.Event.TheVariants.{Up, Down, From}
 use Rattle.zr_msg.specs.declared.msg.Msg.{Msg}
-use Rattle.zr_msg.specs.declared.msg.Msg.TheVariants.{Sub, Unsub, Able, Unable, Interest, EndInterest, ToldSub, ToldAble, ToldUnsub, ToldUnable, ToldEnd, Push, Request, Response, Final, State, Step, Snap}
+use Rattle.zr_msg.specs.declared.msg.Msg.TheVariants.{Sub, Unsub, Token, Untoken, Able, Unable, Interest, EndInterest, ToldSub, ToldAble, ToldUnsub, ToldToken, ToldUntoken, ToldUnable, ToldEnd, Push, Request, Response, Final, State, Step, Snap}
 use Rattle.zr_node_spec.specs.Tables.{TableState, leads_to_client}
 use Rattle.zr_told_spec.specs.Hub.{Asking, asking_on}
 use Rattle.zr_told_spec.specs.Rows.{others, IsAsWantedBut, IsNoted, one_lacks_ids}
@@ -21,13 +21,17 @@ use Rattle.zr_router_core.specs.Places.{is_quiet}
 abbrev pub is_own_msg : Msg → Bool
 is_own_msg (Sub id key) = false
 is_own_msg (Unsub id) = false
+is_own_msg (Token id key) = false
+is_own_msg (Untoken id) = false
 is_own_msg (Able id key complete) = false
 is_own_msg (Unable id) = false
 is_own_msg (Interest id current future kinds key aggregate) = true
 is_own_msg (EndInterest id) = true
 is_own_msg (ToldSub id key interest) = false
+is_own_msg (ToldToken id key interest) = false
 is_own_msg (ToldAble id key complete interest) = false
 is_own_msg (ToldUnsub id) = false
+is_own_msg (ToldUntoken id) = false
 is_own_msg (ToldUnable id) = false
 is_own_msg (ToldEnd interest) = false
 is_own_msg (Push tree content) = false

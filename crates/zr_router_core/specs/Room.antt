@@ -7,7 +7,7 @@ use Rattle.zr_log.specs.declared.log.Log.{Log}
 use Rattle.zr_msg.specs.declared.event.Event.{Event}
 use Rattle.zr_msg.specs.declared.event.Event.TheVariants.{Up, Down, From}
 use Rattle.zr_msg.specs.declared.msg.Msg.{Msg}
-use Rattle.zr_msg.specs.declared.msg.Msg.TheVariants.{Sub, Unsub, Able, Unable, Interest, EndInterest, ToldSub, ToldAble, ToldUnsub, ToldUnable, ToldEnd, Push, Request, Response, Final, State, Step, Snap}
+use Rattle.zr_msg.specs.declared.msg.Msg.TheVariants.{Sub, Unsub, Token, Untoken, Able, Unable, Interest, EndInterest, ToldSub, ToldAble, ToldUnsub, ToldToken, ToldUntoken, ToldUnable, ToldEnd, Push, Request, Response, Final, State, Step, Snap}
 use Rattle.zr_node_spec.specs.Tables.{TableState}
 
 -- how many declarations the log of another router has; those of the own one stand in rows
@@ -22,13 +22,17 @@ decl_count t = length t.rows + sum_by (foreign_count t.base.me) t.known.logs
 abbrev pub more_from : Msg → ℕ
 more_from (Sub id key) = 1
 more_from (Unsub id) = 0
+more_from (Token id key) = 1
+more_from (Untoken id) = 0
 more_from (Able id key complete) = 1
 more_from (Unable id) = 0
 more_from (Interest id current future kinds key aggregate) = 0
 more_from (EndInterest id) = 0
 more_from (ToldSub id key interest) = 0
+more_from (ToldToken id key interest) = 0
 more_from (ToldAble id key complete interest) = 0
 more_from (ToldUnsub id) = 0
+more_from (ToldUntoken id) = 0
 more_from (ToldUnable id) = 0
 more_from (ToldEnd interest) = 0
 more_from (Push tree content) = 0

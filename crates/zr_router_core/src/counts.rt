@@ -55,16 +55,19 @@ fn more_from(msg: &Msg) -> u64
     ensures { result ≡ more_from msg.now }
 {
     match msg {
-        Msg::Sub { .. } | Msg::Able { .. } | Msg::Step { .. } => 1,
+        Msg::Sub { .. } | Msg::Able { .. } | Msg::Token { .. } | Msg::Step { .. } => 1,
         Msg::Snap { decls, .. } => decls.as_slice().len() as u64,
         Msg::Unsub { .. }
         | Msg::Unable { .. }
+        | Msg::Untoken { .. }
         | Msg::Interest { .. }
         | Msg::EndInterest { .. }
         | Msg::ToldSub { .. }
         | Msg::ToldAble { .. }
         | Msg::ToldUnsub { .. }
         | Msg::ToldUnable { .. }
+        | Msg::ToldToken { .. }
+        | Msg::ToldUntoken { .. }
         | Msg::ToldEnd { .. }
         | Msg::Push { .. }
         | Msg::Request { .. }

@@ -100,6 +100,15 @@ fn places_from(
             some(places_declared(alloc, node.rows(), link, *id, kind, key))
         }
         Msg::Unable { id } => some(places_under(alloc, node.rows(), link, *id, Kind::Able)),
+        Msg::Token { id, key } => some(places_declared(
+            alloc,
+            node.rows(),
+            link,
+            *id,
+            Kind::Token,
+            key,
+        )),
+        Msg::Untoken { id } => some(places_under(alloc, node.rows(), link, *id, Kind::Token)),
         Msg::Step { decl, .. } => some(place_alone(alloc, decl.get())),
         Msg::State { links } => Ok(places_told(alloc, node.base(), links.get())),
         Msg::Snap { .. } => Ok(None),
@@ -109,6 +118,8 @@ fn places_from(
         | Msg::ToldAble { .. }
         | Msg::ToldUnsub { .. }
         | Msg::ToldUnable { .. }
+        | Msg::ToldToken { .. }
+        | Msg::ToldUntoken { .. }
         | Msg::ToldEnd { .. }
         | Msg::Push { .. }
         | Msg::Request { .. }

@@ -26,6 +26,8 @@ fn is_quiet_msg(msg: &Msg) -> bool
         | Msg::Unsub { .. }
         | Msg::Able { .. }
         | Msg::Unable { .. }
+        | Msg::Token { .. }
+        | Msg::Untoken { .. }
         | Msg::Interest { .. }
         | Msg::EndInterest { .. }
         | Msg::State { .. }
@@ -35,6 +37,8 @@ fn is_quiet_msg(msg: &Msg) -> bool
         | Msg::ToldAble { .. }
         | Msg::ToldUnsub { .. }
         | Msg::ToldUnable { .. }
+        | Msg::ToldToken { .. }
+        | Msg::ToldUntoken { .. }
         | Msg::ToldEnd { .. }
         | Msg::Push { .. }
         | Msg::Request { .. }
@@ -62,10 +66,14 @@ fn is_own_msg(msg: &Msg) -> bool
         | Msg::Unsub { .. }
         | Msg::Able { .. }
         | Msg::Unable { .. }
+        | Msg::Token { .. }
+        | Msg::Untoken { .. }
         | Msg::ToldSub { .. }
         | Msg::ToldAble { .. }
         | Msg::ToldUnsub { .. }
         | Msg::ToldUnable { .. }
+        | Msg::ToldToken { .. }
+        | Msg::ToldUntoken { .. }
         | Msg::ToldEnd { .. }
         | Msg::Push { .. }
         | Msg::Request { .. }

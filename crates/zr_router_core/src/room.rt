@@ -34,14 +34,14 @@ pub fn judge(alloc: Global, node: &Node, event: &Event) -> Result<(), HubFailure
 }
 
 // Whether ids may be lacking after an event. A client wants to be told of each place at most once: of places of declarations, and for each of
-// its interests of the two places of the interest's key.
+// its interests of the three places of the interest's key, one a class.
 fn may_lack(node: &Node, event: &Event) -> bool
     ensures { result ≡ false → have_ids node.now event.now }
 {
     let interests = most_interests(node.clients()).saturating_add(1);
     let known = count_foreign(node.me(), node.logs(), node.rows().len() as u64);
     let places = known.saturating_add(more_decls(event));
-    places.saturating_add(interests.saturating_mul(2)) > u32::MAX as u64
+    places.saturating_add(interests.saturating_mul(3)) > u32::MAX as u64
 }
 
 // The copy handles the event, and is asked then.

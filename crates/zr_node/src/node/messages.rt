@@ -45,6 +45,8 @@ impl Node {
         match msg {
             Msg::Sub { id, key } => self.declare(alloc, link, *id, Kind::Sub, key, out),
             Msg::Unsub { id } => self.undeclare(alloc, link, *id, Kind::Sub, out),
+            Msg::Token { id, key } => self.declare(alloc, link, *id, Kind::Token, key, out),
+            Msg::Untoken { id } => self.undeclare(alloc, link, *id, Kind::Token, out),
             Msg::Able { id, key, complete } => {
                 self.declare(alloc, link, *id, able_kind(*complete), key, out)
             }

@@ -12,6 +12,12 @@ returns-in-Sub c = message_done c.args.self.now c.args.link.0 _ c.args.msg.now c
 pub returns-in-Unsub : goal.returns-in-Unsub
 returns-in-Unsub c = message_done c.args.self.now c.args.link.0 _ c.args.msg.now c.in-Unsub.is c.undeclare.result c.undeclare.new.self c.args.out.now.items c.undeclare.new.out.items _ c.undeclare.ensures refl refl (λ to. refl) refl refl
 
+pub returns-in-Token : goal.returns-in-Token
+returns-in-Token c = message_done c.args.self.now c.args.link.0 _ c.args.msg.now c.in-Token.is c.declare-in-Token.result c.declare-in-Token.new.self c.args.out.now.items c.declare-in-Token.new.out.items _ c.declare-in-Token.ensures refl refl (λ to. refl) refl refl
+
+pub returns-in-Untoken : goal.returns-in-Untoken
+returns-in-Untoken c = message_done c.args.self.now c.args.link.0 _ c.args.msg.now c.in-Untoken.is c.undeclare-in-Untoken.result c.undeclare-in-Untoken.new.self c.args.out.now.items c.undeclare-in-Untoken.new.out.items _ c.undeclare-in-Untoken.ensures refl refl (λ to. refl) refl refl
+
 pub returns-in-Able : goal.returns-in-Able
 returns-in-Able c =
     message_done c.args.self.now c.args.link.0 _ c.args.msg.now c.in-Able.is c.declare-in-Able.result c.declare-in-Able.new.self c.args.out.now.items c.declare-in-Able.new.out.items _
