@@ -199,6 +199,8 @@ act_keeps m n act = by act
         still (w_down w n router name r l) (same_heard w.routers router r (Down l) er) (λ q. refl))
     by (c.Sub client id key) = declares client k.Sub id key (message.Sub id key)
     by (c.Unsub client id) = undeclares client k.Sub id (message.Unsub id)
+    by (c.Token client id key) = declares client k.Token id key (message.Token id key)
+    by (c.Untoken client id) = undeclares client k.Token id (message.Untoken id)
     by (c.Able client id key complete) = declares client (able_kind complete) id key (message.Able id key complete)
     by (c.Unable client id) = undeclares client k.Able id (message.Unable id)
     by (c.Interest client id mode kinds key aggregate) =

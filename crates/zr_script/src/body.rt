@@ -51,7 +51,8 @@ pub fn reply_body(
     }
 }
 
-fn plain_reply(alloc: Global, payload: &[u8]) -> Result<Body, AllocError>
+/// A reply of a payload, without a time.
+pub fn plain_reply(alloc: Global, payload: &[u8]) -> Result<Body, AllocError>
     requires { length payload.now < 2 ^ 32 }
     ensures { IfOk result (λ b. b ≡ reply_body payload.now) }
 {

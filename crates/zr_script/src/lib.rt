@@ -3,9 +3,9 @@
 #![tactic(auto)]
 
 mod args;
-mod body;
+pub mod body;
 pub mod line;
-mod message;
-mod part;
+pub mod message;
+pub mod part;
 pub mod text;
 pub mod word;

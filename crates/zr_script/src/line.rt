@@ -3,7 +3,7 @@
 ghost use Rattle.std.specs.Prelude.{◌≡◌, ◌≤◌, ◌<◌, ◌^◌, length, true, Ok};
 ghost use Rattle.zr_script_spec.specs.Lines.{most_line};
 ghost use Rattle.zr_script_spec.specs.Step.{IsSaid};
-ghost use Rattle.zr_script_spec.specs.Command.{command_of, by_words, by_name, by_later_name, by_last_name, is_command, is_later_command, is_last_command, is_silent, plain, asking_body, answer_body, router_line, client_line, link_line, up_line, break_line, down_line, sub_line, unsub_line, able_line, unable_line, interest_line, uninterest_line, put_line, del_line, get_line, reply_line, end_line, handle_line, take_line, run_line, mark_line, show_line};
+ghost use Rattle.zr_script_spec.specs.Command.{command_of, by_words, by_name, by_later_name, by_last_name, is_command, is_later_command, is_last_command, is_silent, plain, asking_body, answer_body, router_line, client_line, link_line, up_line, break_line, down_line, sub_line, unsub_line, able_line, unable_line, token_line, untoken_line, interest_line, uninterest_line, put_line, del_line, get_line, reply_line, end_line, handle_line, take_line, run_line, mark_line, show_line};
 ghost use Rattle.zr_script_spec.specs.Words.{words, is_clean};
 ghost use Rattle.zr_script.specs.Args.{LeadsOn, names_then, linked_then, pair_then, numbered_then, keyed_then, terms_then};
 ghost use Rattle.zr_script.specs.Short.{are_short};
@@ -92,6 +92,8 @@ fn is_later_command(name: &[u8]) -> bool
         || is_word(name, b"able")
         || is_word(name, b"full")
         || is_word(name, b"unable")
+        || is_word(name, b"token")
+        || is_word(name, b"untoken")
         || is_word(name, b"interest")
         || is_word(name, b"uninterest")
         || is_last_command(name)
@@ -151,6 +153,10 @@ fn by_later_name(alloc: Global, name: &[u8], args: &[u8]) -> Result<Command, Scr
         able(alloc, true, args)
     } else if is_word(name, b"unable") {
         unable(args)
+    } else if is_word(name, b"token") {
+        token(alloc, args)
+    } else if is_word(name, b"untoken") {
+        untoken(args)
     } else if is_word(name, b"interest") {
         interest(alloc, args)
     } else if is_word(name, b"uninterest") {
@@ -335,6 +341,24 @@ fn unable(args: &[u8]) -> Result<Command, ScriptError>
 {
     let (client, id) = numbered(args)?;
     let act = Act::Unable { client, id };
+    Ok(Command::Act { act })
+}
+
+#[tactic(auto, unfolding(zr_script_spec::specs::Command::token_line))]
+fn token(alloc: Global, args: &[u8]) -> Result<Command, ScriptError>
+    ensures { IsSaid result (token_line (words args.now)) }
+{
+    let (client, id, key) = keyed(alloc, args)?;
+    let act = Act::Token { client, id, key };
+    Ok(Command::Act { act })
+}
+
+#[tactic(auto, unfolding(zr_script_spec::specs::Command::untoken_line))]
+fn untoken(args: &[u8]) -> Result<Command, ScriptError>
+    ensures { IsSaid result (untoken_line (words args.now)) }
+{
+    let (client, id) = numbered(args)?;
+    let act = Act::Untoken { client, id };
     Ok(Command::Act { act })
 }
 

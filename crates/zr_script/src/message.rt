@@ -43,6 +43,8 @@ fn put_declaration(msg: &Msg, out: &mut Vec<u8>) -> Result<(), AllocError>
         Msg::Unsub { id } => put_under(b"unsub ", *id, out),
         Msg::Able { id, key, complete } => put_declared(able_text(*complete), *id, key, out),
         Msg::Unable { id } => put_under(b"unable ", *id, out),
+        Msg::Token { id, key } => put_declared(b"token", *id, key, out),
+        Msg::Untoken { id } => put_under(b"untoken ", *id, out),
         Msg::Interest {
             id,
             current,
@@ -77,6 +79,8 @@ fn put_told_message(msg: &Msg, out: &mut Vec<u8>) -> Result<(), AllocError>
         } => put_told(told_able_text(*complete), *id, key, *interest, out),
         Msg::ToldUnsub { id } => put_under(b"told unsub ", *id, out),
         Msg::ToldUnable { id } => put_under(b"told unable ", *id, out),
+        Msg::ToldToken { id, key, interest } => put_told(b"told token", *id, key, *interest, out),
+        Msg::ToldUntoken { id } => put_under(b"told untoken ", *id, out),
         Msg::ToldEnd { interest } => put_under(b"told end ", *interest, out),
         _ => unreachable!(),
     }
@@ -259,7 +263,8 @@ pub fn put_record(state: &LinkRecord, out: &mut Vec<u8>) -> Result<(), AllocErro
     put_links(state.links(), out)
 }
 
-fn put_links(links: &[Linked], out: &mut Vec<u8>) -> Result<(), AllocError>
+/// Appends the links of a record, parted by commas; `-` where there are none.
+pub fn put_links(links: &[Linked], out: &mut Vec<u8>) -> Result<(), AllocError>
     ensures { OnOk result (out.new.items ≡ out.old.items ++ links_text links.now) }
 {
     match links {

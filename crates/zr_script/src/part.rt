@@ -2,7 +2,7 @@
 
 ghost use Rattle.std.specs.Prelude.{◌≡◌, ◌++◌, codes, OnOk};
 ghost use Rattle.std.specs.Fmt.{decimal};
-ghost use Rattle.zr_msg.specs.Kinds.{in_subs, in_ables};
+ghost use Rattle.zr_msg.specs.Kinds.{in_subs, in_ables, in_tokens};
 ghost use Rattle.zr_script_spec.specs.Report.{line_end, id_text, optional_id_text, payload_text, key_text, interest_text, mode_text, kinds_text, if_so, able_text, target_text, kind_text, sign_text};
 
 use itoa::{Buffer, write_digits};
@@ -10,7 +10,7 @@ use std::alloc::AllocError;
 use zr_id::zid::{MOST_BYTES, Zid};
 use zr_key::key::KeyExpr;
 use zr_msg::decl::Kind;
-use zr_msg::msg::{Kinds, QUERYABLES, SUBSCRIBERS, Target};
+use zr_msg::msg::{Kinds, QUERYABLES, SUBSCRIBERS, TOKENS, Target};
 
 /// How many digits the text of an identifier has at most.
 const MOST_DIGITS: usize = 2 * MOST_BYTES;
@@ -138,14 +138,13 @@ pub fn mode_text(current: bool, future: bool) -> &'static [u8]
 pub fn kinds_text(kinds: Kinds) -> &'static [u8]
     ensures { result.now ≡ kinds_text kinds }
 {
-    let subs = in_subs(kinds);
-    let ables = in_ables(kinds);
-    if subs {
-        if ables { b"all" } else { b"sub" }
-    } else if ables {
-        b"able"
-    } else {
-        b"-"
+    let (subs, ables, tokens) = (in_subs(kinds), in_ables(kinds), in_tokens(kinds));
+    match (subs, ables, tokens) {
+        (true, true, false) => b"all",
+        (true, false, false) => b"sub",
+        (false, true, false) => b"able",
+        (false, false, true) => b"token",
+        _ => b"-",
     }
 }
 
@@ -159,6 +158,12 @@ fn in_ables(kinds: Kinds) -> bool
     ensures { result ≡ in_ables kinds }
 {
     kinds.0 & QUERYABLES != 0
+}
+
+fn in_tokens(kinds: Kinds) -> bool
+    ensures { result ≡ in_tokens kinds }
+{
+    kinds.0 & TOKENS != 0
 }
 
 /// The word behind an interest that is told one declaration for many, with the space before it.
@@ -201,6 +206,7 @@ pub fn kind_text(kind: Kind) -> &'static [u8]
         Kind::Sub => b" sub ",
         Kind::Able => b" able ",
         Kind::Full => b" full ",
+        Kind::Token => b" token ",
     }
 }
 

@@ -9,7 +9,7 @@ ghost use Rattle.zr_script_spec.specs.Words.{words, is_word, is_clean, is_space,
 use std::alloc::{AllocError, Global};
 use zr_id::zid::Zid;
 use zr_key::key::{KeyError, KeyExpr};
-use zr_msg::msg::{Kinds, QUERYABLES, SUBSCRIBERS, Target};
+use zr_msg::msg::{Kinds, QUERYABLES, SUBSCRIBERS, TOKENS, Target};
 use zr_msg::peer::Weight;
 use zr_script_spec::command::Mode;
 use zr_script_spec::error::ScriptError;
@@ -118,6 +118,8 @@ pub fn kinds(word: &[u8]) -> Result<Kinds, ScriptError>
         Ok(Kinds(QUERYABLES))
     } else if word == b"all".as_slice() {
         Ok(Kinds(SUBSCRIBERS | QUERYABLES))
+    } else if word == b"token".as_slice() {
+        Ok(Kinds(TOKENS))
     } else {
         Err(ScriptError::BadWords)
     }

@@ -2,7 +2,7 @@
 use Rattle.std.specs.Prelude.{◌≡◌, ℕ, suc, ◌&&◌, ◌||◌, not, nat_lt, nat_le, Bool, true, false, List, [], ◌∷◌, ◌++◌, length, ◌↔◌, filter, Option, Some, None}
 use Rattle.std.specs.List.{list_all, starts_with}
 use Rattle.zr_msg.specs.declared.msg.Msg.{Msg}
-use Rattle.zr_msg.specs.declared.msg.Msg.TheVariants.{Sub, Unsub, Able, Unable, Interest, EndInterest, ToldSub, ToldAble, ToldUnsub, ToldUnable, ToldEnd, Push, Request, Response, Final, State, Step, Snap}
+use Rattle.zr_msg.specs.declared.msg.Msg.TheVariants.{Sub, Unsub, Token, Untoken, Able, Unable, Interest, EndInterest, ToldSub, ToldAble, ToldUnsub, ToldToken, ToldUntoken, ToldUnable, ToldEnd, Push, Request, Response, Final, State, Step, Snap}
 use Rattle.zr_script_spec.specs.declared.command.Act.{Act}
 use Rattle.zr_script_spec.specs.declared.command.Act.TheVariants as a
 use Rattle.zr_script_spec.specs.declared.report.ReportLine.{ReportLine}
@@ -58,6 +58,8 @@ holds_for_client j publisher (a.Break router neighbour) = true
 holds_for_client j publisher (a.Down router neighbour) = true
 holds_for_client j publisher (a.Sub client id key) = true
 holds_for_client j publisher (a.Unsub client id) = true
+holds_for_client j publisher (a.Token client id key) = true
+holds_for_client j publisher (a.Untoken client id) = true
 holds_for_client j publisher (a.Able client id key complete) = true
 holds_for_client j publisher (a.Unable client id) = true
 holds_for_client j publisher (a.Interest client id mode kinds key aggregate) = true
@@ -189,13 +191,17 @@ replies_hold j receiver = all_may_come (acts_of j) j.report receiver [] (told_to
 abbrev pub requests_hold : Judged → List ℕ → Msg → Bool
 requests_hold j receiver (Sub id key) = true
 requests_hold j receiver (Unsub id) = true
+requests_hold j receiver (Token id key) = true
+requests_hold j receiver (Untoken id) = true
 requests_hold j receiver (Able id key complete) = true
 requests_hold j receiver (Unable id) = true
 requests_hold j receiver (Interest id current future kinds key aggregate) = true
 requests_hold j receiver (EndInterest id) = true
 requests_hold j receiver (ToldSub id key interest) = true
+requests_hold j receiver (ToldToken id key interest) = true
 requests_hold j receiver (ToldAble id key complete interest) = true
 requests_hold j receiver (ToldUnsub id) = true
+requests_hold j receiver (ToldUntoken id) = true
 requests_hold j receiver (ToldUnable id) = true
 requests_hold j receiver (ToldEnd interest) = true
 requests_hold j receiver (Push tree content) = true
@@ -210,13 +216,17 @@ requests_hold j receiver (Snap source number decls) = true
 abbrev pub finals_hold : Judged → List ℕ → Msg → Bool
 finals_hold j receiver (Sub id key) = true
 finals_hold j receiver (Unsub id) = true
+finals_hold j receiver (Token id key) = true
+finals_hold j receiver (Untoken id) = true
 finals_hold j receiver (Able id key complete) = true
 finals_hold j receiver (Unable id) = true
 finals_hold j receiver (Interest id current future kinds key aggregate) = true
 finals_hold j receiver (EndInterest id) = true
 finals_hold j receiver (ToldSub id key interest) = true
+finals_hold j receiver (ToldToken id key interest) = true
 finals_hold j receiver (ToldAble id key complete interest) = true
 finals_hold j receiver (ToldUnsub id) = true
+finals_hold j receiver (ToldUntoken id) = true
 finals_hold j receiver (ToldUnable id) = true
 finals_hold j receiver (ToldEnd interest) = true
 finals_hold j receiver (Push tree content) = true

@@ -306,6 +306,16 @@ fn declare<'a>(
         Act::Unable { client, id } if is_own(name, class, client, Class::Queryable) => {
             forget(so_far, *id);
         }
+        Act::Token { client, id, key } if is_own(name, class, client, Class::Living) => {
+            so_far.push(Declaration {
+                id: *id,
+                kind: Kind::Token,
+                key,
+            })?;
+        }
+        Act::Untoken { client, id } if is_own(name, class, client, Class::Living) => {
+            forget(so_far, *id);
+        }
         _ => {}
     }
     Ok(())
@@ -324,11 +334,15 @@ fn is_class(one: Class, other: Class) -> bool
     match one {
         Class::Subscriber => match other {
             Class::Subscriber => true,
-            Class::Queryable => false,
+            Class::Queryable | Class::Living => false,
         },
         Class::Queryable => match other {
-            Class::Subscriber => false,
             Class::Queryable => true,
+            Class::Subscriber | Class::Living => false,
+        },
+        Class::Living => match other {
+            Class::Living => true,
+            Class::Subscriber | Class::Queryable => false,
         },
     }
 }

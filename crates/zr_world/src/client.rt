@@ -20,6 +20,7 @@ pub struct Client {
     router: Zid,
     subs: Vec<u32>,
     ables: Vec<u32>,
+    tokens: Vec<u32>,
     interests: Vec<u32>,
     queries: Vec<u32>,
     requests: Vec<u32>,
@@ -30,7 +31,7 @@ impl Model for Client {
 
     ghost Value = { ClientState };
 
-    ghost view = { λ c. record { router = c.router; subs = c.subs.items; ables = c.ables.items; interests = c.interests.items; queries = c.queries.items; requests = c.requests.items } };
+    ghost view = { λ c. record { router = c.router; subs = c.subs.items; ables = c.ables.items; tokens = c.tokens.items; interests = c.interests.items; queries = c.queries.items; requests = c.requests.items } };
 }
 
 impl Client {
@@ -42,6 +43,7 @@ impl Client {
             router,
             subs: Vec::new(alloc),
             ables: Vec::new(alloc),
+            tokens: Vec::new(alloc),
             interests: Vec::new(alloc),
             queries: Vec::new(alloc),
             requests: Vec::new(alloc),
@@ -68,6 +70,7 @@ impl Client {
         match kind {
             Kind::Sub => self.subs.as_slice(),
             Kind::Able | Kind::Full => self.ables.as_slice(),
+            Kind::Token => self.tokens.as_slice(),
         }
     }
 
@@ -78,6 +81,7 @@ impl Client {
         match kind {
             Kind::Sub => keep(&mut self.subs, id),
             Kind::Able | Kind::Full => keep(&mut self.ables, id),
+            Kind::Token => keep(&mut self.tokens, id),
         }
     }
 
@@ -88,6 +92,7 @@ impl Client {
         match kind {
             Kind::Sub => forget(&mut self.subs, id),
             Kind::Able | Kind::Full => forget(&mut self.ables, id),
+            Kind::Token => forget(&mut self.tokens, id),
         }
     }
 

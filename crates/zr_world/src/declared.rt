@@ -146,6 +146,7 @@ fn declaration(kind: Kind, id: u32, key: KeyExpr) -> Msg
             key,
             complete: true,
         },
+        Kind::Token => Msg::Token { id, key },
     }
 }
 
@@ -156,5 +157,6 @@ fn withdrawal(kind: Kind, id: u32) -> Msg
     match kind {
         Kind::Sub => Msg::Unsub { id },
         Kind::Able | Kind::Full => Msg::Unable { id },
+        Kind::Token => Msg::Untoken { id },
     }
 }

@@ -80,6 +80,8 @@ impl WorldTables {
                 complete,
             } => self.able(line, client, id, key, complete),
             Act::Unable { client, id } => self.undeclare(line, client, Kind::Able, id),
+            Act::Token { client, id, key } => self.declare(line, client, Kind::Token, id, key),
+            Act::Untoken { client, id } => self.undeclare(line, client, Kind::Token, id),
             Act::Interest {
                 client,
                 id,

@@ -198,6 +198,8 @@ fn unsettles(msg: &Msg) -> bool
         | Msg::Unsub { .. }
         | Msg::Able { .. }
         | Msg::Unable { .. }
+        | Msg::Token { .. }
+        | Msg::Untoken { .. }
         | Msg::State { .. }
         | Msg::Step { .. }
         | Msg::Snap { .. } => true,
@@ -207,6 +209,8 @@ fn unsettles(msg: &Msg) -> bool
         | Msg::ToldAble { .. }
         | Msg::ToldUnsub { .. }
         | Msg::ToldUnable { .. }
+        | Msg::ToldToken { .. }
+        | Msg::ToldUntoken { .. }
         | Msg::ToldEnd { .. }
         | Msg::Push { .. }
         | Msg::Request { .. }

@@ -1,0 +1,16 @@
+use Rattle.std.proofs.Common.{Ok}
+use Rattle.std.proofs.lemmas.Result.{err_from_is_err_and}
+use Rattle.zr_script_spec.specs.declared.command.Act.TheVariants.{Token}
+use Rattle.zr_script_spec.specs.declared.command.Command.TheVariants.{Act}
+use Rattle.zr_script_spec.specs.Command.{token_line}
+use Rattle.zr_script.proofs.line.token.Goals as goal
+
+pub returns : goal.returns
+unfolding token_line
+returns c = c.in_ok-client.ensures (λ x. Ok (Act (Token x.0 x.1 x.2)))
+
+pub returns-in_err-client : goal.returns-in_err-client
+unfolding token_line
+returns-in_err-client c =
+    let p = err_from_is_err_and c.from_residual.result c.from_residual.ensures.1 in
+    rw (p.1, p.2) (c.in_err-client.ensures (λ x. Ok (Act (Token x.0 x.1 x.2))))
