@@ -12,7 +12,7 @@ use Rattle.zr_key.proofs.Reading.{Sound-from_read, read_again}
 use Rattle.zr_wirekey.specs.Scopes.{Texts}
 use Rattle.zr_wirekey.specs.Spelling.{or_bad_key}
 use Rattle.zr_msg.specs.declared.msg.Msg.{Msg}
-use Rattle.zr_msg.specs.declared.msg.Msg.TheVariants.{Sub, Unsub, Able, Unable, Interest, EndInterest, ToldSub, ToldAble, ToldUnsub, ToldUnable, ToldEnd, Push, Request, Response, Final, State, Step, Snap}
+use Rattle.zr_msg.specs.declared.msg.Msg.TheVariants.{Sub, Unsub, Token, Untoken, Able, Unable, Interest, EndInterest, ToldSub, ToldAble, ToldUnsub, ToldToken, ToldUntoken, ToldUnable, ToldEnd, Push, Request, Response, Final, State, Step, Snap}
 use Rattle.zr_decl.specs.declared.declared.Declared.{Declared}
 use Rattle.zr_decl.specs.declared.declared.Declared.TheVariants.{Told, Number, Unnumber, Ignored}
 use Rattle.zr_decl.specs.Declare.{wire_key, keyexpr, undeclared_keyexpr, subscriber, queryable, token, undeclared, unsubscriber, unqueryable, untoken, final, declaration, declare, declare_format, wanted, ended, interest, interest_format}
@@ -100,8 +100,8 @@ declaration_holds theirs ours h =
     (chosen_holds DeclaredHolds (has_id h 0x03) (unsubscriber h) _ (λ d bytes s. subst DeclaredHolds (sym s.5.0) (undeclared_id h s.0 s.1 s.4))
     (chosen_holds DeclaredHolds (has_id h 0x04) (queryable theirs ours h) _ (λ d bytes s. subst DeclaredHolds (sym s.5.5.5.0) (s.4.0, wire_key_is theirs ours h s.5.0 s.5.1 s.5.4))
     (chosen_holds DeclaredHolds (has_id h 0x05) (unqueryable h) _ (λ d bytes s. subst DeclaredHolds (sym s.5.0) (undeclared_id h s.0 s.1 s.4))
-    (chosen_holds DeclaredHolds (has_id h 0x06) (token theirs ours h) _ (λ d bytes s. subst DeclaredHolds (sym s.5.5.5.0) tt)
-    (chosen_holds DeclaredHolds (has_id h 0x07) (untoken h) _ (λ d bytes s. subst DeclaredHolds (sym s.5.0) tt)
+    (chosen_holds DeclaredHolds (has_id h 0x06) (token theirs ours h) _ (λ d bytes s. subst DeclaredHolds (sym s.5.5.5.0) (s.4.0, wire_key_is theirs ours h s.5.0 s.5.1 s.5.4))
+    (chosen_holds DeclaredHolds (has_id h 0x07) (untoken h) _ (λ d bytes s. subst DeclaredHolds (sym s.5.0) (undeclared_id h s.0 s.1 s.4))
     (chosen_holds DeclaredHolds (has_id h 0x1A) (final h) unknown (λ d bytes s. subst DeclaredHolds (sym s.5.0) tt) (λ d bytes s. absurd s)))))))))
 
 abbrev AnswerHolds : Declared × Option ℕ → Type 0
@@ -118,11 +118,15 @@ answer_holds theirs ours x bytes s = chosen_holds AnswerHolds (has_id s.0 0x1E) 
 pub declaration_can_be_written : (theirs ours : Texts) (m : Msg) → HasSpelling (declare_format theirs ours) (tells m) → IsDeclaration m → Declares m
 declaration_can_be_written theirs ours (Sub id key) s k = (answer_holds theirs ours _ s.0 s.1).0
 declaration_can_be_written theirs ours (Unsub id) s k = (answer_holds theirs ours _ s.0 s.1).0
+declaration_can_be_written theirs ours (Token id key) s k = (answer_holds theirs ours _ s.0 s.1).0
+declaration_can_be_written theirs ours (Untoken id) s k = (answer_holds theirs ours _ s.0 s.1).0
 declaration_can_be_written theirs ours (Able id key complete) s k = (answer_holds theirs ours _ s.0 s.1).0
 declaration_can_be_written theirs ours (Unable id) s k = (answer_holds theirs ours _ s.0 s.1).0
 declaration_can_be_written theirs ours (ToldSub id key interest) s k = let a = answer_holds theirs ours (Told (Sub id key), interest) s.0 s.1 in (a.0.0, a.0.1, a.1)
+declaration_can_be_written theirs ours (ToldToken id key interest) s k = let a = answer_holds theirs ours (Told (Token id key), interest) s.0 s.1 in (a.0.0, a.0.1, a.1)
 declaration_can_be_written theirs ours (ToldAble id key complete interest) s k = let a = answer_holds theirs ours (Told (Able id key complete), interest) s.0 s.1 in (a.0.0, a.0.1, a.1)
 declaration_can_be_written theirs ours (ToldUnsub id) s k = (answer_holds theirs ours _ s.0 s.1).0
+declaration_can_be_written theirs ours (ToldUntoken id) s k = (answer_holds theirs ours _ s.0 s.1).0
 declaration_can_be_written theirs ours (ToldUnable id) s k = (answer_holds theirs ours _ s.0 s.1).0
 declaration_can_be_written theirs ours (ToldEnd interest) s k = (answer_holds theirs ours _ s.0 s.1).1
 declaration_can_be_written theirs ours (Interest id current future kinds key aggregate) s k = absurd k

@@ -12,7 +12,7 @@ use Rattle.zr_wirekey.specs.Scopes.{Texts}
 use Rattle.zr_wirekey.specs.Spelling.{key_parts}
 use Rattle.zr_wirekey.specs.Reading.{parts_of}
 use Rattle.zr_wirekey.proofs.Keys.{follows_parts, follows_key}
-use Rattle.zr_msg.specs.declared.msg.Msg.TheVariants.{Sub, Unsub, Able, Unable, Interest, EndInterest}
+use Rattle.zr_msg.specs.declared.msg.Msg.TheVariants.{Sub, Unsub, Token, Untoken, Able, Unable, Interest, EndInterest}
 use Rattle.zr_decl.specs.declared.declared.Declared.TheVariants.{Told, Number, Unnumber, Ignored}
 use Rattle.zr_decl.specs.Declare.{message_exts, info_ext, undeclared_ext, says_complete, wire_key, keyexpr, undeclared_keyexpr, subscriber, queryable, token, undeclared, unsubscriber, unqueryable, untoken, final, declaration, declare, declare_format, wanted, ended, interest, interest_format}
 use Rattle.zr_decl.specs.Reading.{wire_key_of, number_of, text_of, keyexpr_of, undeclared_keyexpr_of, subscriber_of, queryable_of, token_of, undeclared_of, unsubscriber_of, unqueryable_of, untoken_of, final_of, declaration_of, declare_of, message_of, wanted_of, ended_of, asked_of, interest_of}
@@ -71,7 +71,7 @@ follows_token theirs ours header =
     follows_then anywhere (below (2 ^ 32)) _ (number_below (2 ^ 32)) _ (follows_below (2 ^ 32)) (λ id.
     follows_then anywhere (wire_key theirs ours header) _ (wire_key_of theirs ours header) _ (follows_wire_key theirs ours header) (λ key.
     follows_then anywhere (extensions [] header) _ (exts_of [] header) _ (follows_extensions [] header) (λ exts.
-    follows_gives anywhere Ignored (λ rest. tt))))
+    follows_gives anywhere (Told (Token id key)) (λ rest. tt))))
 
 follows_undeclared : (header : ℕ) → Follows anywhere (undeclared header) (undeclared_of header)
 unfolding undeclared_of
@@ -93,7 +93,7 @@ follows_unqueryable header =
 follows_untoken : (header : ℕ) → Follows anywhere (untoken header) (untoken_of header)
 unfolding untoken_of
 follows_untoken header =
-    follows_then anywhere (undeclared header) _ (undeclared_of header) _ (follows_undeclared header) (λ id. follows_gives anywhere Ignored (λ rest. tt))
+    follows_then anywhere (undeclared header) _ (undeclared_of header) _ (follows_undeclared header) (λ id. follows_gives anywhere (Told (Untoken id)) (λ rest. tt))
 
 follows_final : (header : ℕ) → Follows anywhere (final header) (final_of header)
 unfolding final_of

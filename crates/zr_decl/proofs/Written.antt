@@ -16,7 +16,7 @@ use Rattle.zr_wirekey.specs.Writing.{writes_key}
 use Rattle.zr_wirekey.proofs.Keys.{whole_is_read}
 use Rattle.zr_msg.specs.declared.msg.Kinds.{Kinds}
 use Rattle.zr_msg.specs.declared.msg.Msg.{Msg}
-use Rattle.zr_msg.specs.declared.msg.Msg.TheVariants.{Sub, Unsub, Able, Unable, Interest, EndInterest, ToldSub, ToldAble, ToldUnsub, ToldUnable, ToldEnd, Push, Request, Response, Final, State, Step, Snap}
+use Rattle.zr_msg.specs.declared.msg.Msg.TheVariants.{Sub, Unsub, Token, Untoken, Able, Unable, Interest, EndInterest, ToldSub, ToldAble, ToldUnsub, ToldToken, ToldUntoken, ToldUnable, ToldEnd, Push, Request, Response, Final, State, Step, Snap}
 use Rattle.zr_decl.specs.declared.declared.Declared.{Declared}
 use Rattle.zr_decl.specs.declared.declared.Declared.TheVariants.{Told, Ignored}
 use Rattle.zr_decl.specs.Declare.{message_exts, info_ext, says_complete, wire_key, declaration, declare_format, wanted, interest_format}
@@ -56,6 +56,10 @@ subscriber_spelled : (theirs ours : Texts) (id : ℕ) (key : List ℕ) → IsId 
 subscriber_spelled theirs ours id key small canonical =
     (id, writes id, writes_key key 0, refl, (small, written_spells 8 id), (key, writes_key key 0, [], sym (append-nil (writes_key key 0)), key_spelled theirs ours key canonical, ([], [], [], refl, (refl, refl), (refl, refl))))
 
+token_spelled : (theirs ours : Texts) (id : ℕ) (key : List ℕ) → IsId id → IsKey key → (declaration theirs ours 0x26).spelled (Told (Token id key)) (writes id ++ writes_key key 0)
+token_spelled theirs ours id key small canonical =
+    (id, writes id, writes_key key 0, refl, (small, written_spells 8 id), (key, writes_key key 0, [], sym (append-nil (writes_key key 0)), key_spelled theirs ours key canonical, ([], [], [], refl, (refl, refl), (refl, refl))))
+
 plain_spelled : (theirs ours : Texts) (id : ℕ) (key : List ℕ) → IsId id → IsKey key → (declaration theirs ours 0x24).spelled (Told (Able id key false)) (writes id ++ (writes_key key 0 ++ []))
 plain_spelled theirs ours id key small canonical =
     (id, writes id, writes_key key 0 ++ [], refl, (small, written_spells 8 id), (key, writes_key key 0, [], refl, key_spelled theirs ours key canonical, ([], [], [], refl, (refl, refl), (refl, refl))))
@@ -77,6 +81,11 @@ unsubscriber_spelled theirs ours id small =
     declare_spelled theirs ours None 0x03 (Told (Unsub id)) (writes id) tt
     (id, writes id, [], sym (append-nil (writes id)), (id, writes id, [], sym (append-nil (writes id)), (small, written_spells 8 id), ([], [], [], refl, (refl, refl), (refl, refl))), (refl, refl))
 
+untoken_spelled : (theirs ours : Texts) (id : ℕ) → IsId id → (declare_format theirs ours).spelled (Told (Untoken id), None) (writes_declare None ++ writes_undeclared 0x07 id)
+untoken_spelled theirs ours id small =
+    declare_spelled theirs ours None 0x07 (Told (Untoken id)) (writes id) tt
+    (id, writes id, [], sym (append-nil (writes id)), (id, writes id, [], sym (append-nil (writes id)), (small, written_spells 8 id), ([], [], [], refl, (refl, refl), (refl, refl))), (refl, refl))
+
 unqueryable_spelled : (theirs ours : Texts) (id : ℕ) → IsId id → (declare_format theirs ours).spelled (Told (Unable id), None) (writes_declare None ++ writes_undeclared 0x05 id)
 unqueryable_spelled theirs ours id small =
     declare_spelled theirs ours None 0x05 (Told (Unable id)) (writes id) tt
@@ -85,11 +94,15 @@ unqueryable_spelled theirs ours id small =
 pub declaration_spelled : (theirs ours : Texts) (m : Msg) → Declares m → (declare_format theirs ours).spelled (tells m) (writes_decl m)
 declaration_spelled theirs ours (Sub id key) h = declare_spelled theirs ours None 0x22 (Told (Sub id key)) _ tt (subscriber_spelled theirs ours id key h.0 h.1)
 declaration_spelled theirs ours (Unsub id) h = unsubscriber_spelled theirs ours id h
+declaration_spelled theirs ours (Token id key) h = declare_spelled theirs ours None 0x26 (Told (Token id key)) _ tt (token_spelled theirs ours id key h.0 h.1)
+declaration_spelled theirs ours (Untoken id) h = untoken_spelled theirs ours id h
 declaration_spelled theirs ours (Able id key complete) h = queryable_spelled theirs ours None id key complete tt h.0 h.1
 declaration_spelled theirs ours (Unable id) h = unqueryable_spelled theirs ours id h
 declaration_spelled theirs ours (ToldSub id key interest) h = declare_spelled theirs ours interest 0x22 (Told (Sub id key)) _ h.2 (subscriber_spelled theirs ours id key h.0 h.1)
+declaration_spelled theirs ours (ToldToken id key interest) h = declare_spelled theirs ours interest 0x26 (Told (Token id key)) _ h.2 (token_spelled theirs ours id key h.0 h.1)
 declaration_spelled theirs ours (ToldAble id key complete interest) h = queryable_spelled theirs ours interest id key complete h.2 h.0 h.1
 declaration_spelled theirs ours (ToldUnsub id) h = unsubscriber_spelled theirs ours id h
+declaration_spelled theirs ours (ToldUntoken id) h = untoken_spelled theirs ours id h
 declaration_spelled theirs ours (ToldUnable id) h = unqueryable_spelled theirs ours id h
 declaration_spelled theirs ours (ToldEnd interest) h = declare_spelled theirs ours (Some interest) 0x1A Ignored [] h ([], [], [], refl, (refl, refl), (refl, refl))
 declaration_spelled theirs ours (Interest id current future kinds key aggregate) h = absurd h
@@ -188,11 +201,15 @@ interest_spelled theirs ours (Interest id current future kinds key aggregate) h 
 interest_spelled theirs ours (EndInterest id) h = (0x19, 0x19 ∷ [], writes id, refl, refl, (id, writes id, [], sym (append-nil (writes id)), (h, written_spells 8 id), ([], [], [], refl, (refl, refl), (refl, refl))))
 interest_spelled theirs ours (Sub id key) h = absurd h
 interest_spelled theirs ours (Unsub id) h = absurd h
+interest_spelled theirs ours (Token id key) h = absurd h
+interest_spelled theirs ours (Untoken id) h = absurd h
 interest_spelled theirs ours (Able id key complete) h = absurd h
 interest_spelled theirs ours (Unable id) h = absurd h
 interest_spelled theirs ours (ToldSub id key interest) h = absurd h
+interest_spelled theirs ours (ToldToken id key interest) h = absurd h
 interest_spelled theirs ours (ToldAble id key complete interest) h = absurd h
 interest_spelled theirs ours (ToldUnsub id) h = absurd h
+interest_spelled theirs ours (ToldUntoken id) h = absurd h
 interest_spelled theirs ours (ToldUnable id) h = absurd h
 interest_spelled theirs ours (ToldEnd interest) h = absurd h
 interest_spelled theirs ours (Push tree content) h = absurd h

@@ -12,7 +12,7 @@ use Rattle.zr_format_spec.specs.Format.{Format, gives, unknown, choose, ◌then�
 use Rattle.zr_wirekey.specs.Scopes.{Texts}
 use Rattle.zr_wirekey.specs.Spelling.{key_parts, key_format}
 use Rattle.zr_msg.specs.declared.msg.Msg.{Msg}
-use Rattle.zr_msg.specs.declared.msg.Msg.TheVariants.{Sub, Unsub, Able, Unable, Interest, EndInterest}
+use Rattle.zr_msg.specs.declared.msg.Msg.TheVariants.{Sub, Unsub, Token, Untoken, Able, Unable, Interest, EndInterest}
 use Rattle.zr_decl.specs.declared.declared.Declared.{Declared}
 use Rattle.zr_decl.specs.declared.declared.Declared.TheVariants.{Told, Number, Unnumber, Ignored}
 
@@ -69,9 +69,9 @@ subscriber theirs ours header = below (2 ^ 32) then λ id. wire_key theirs ours 
 abbrev pub queryable : Texts → Texts → ℕ → Format Declared
 queryable theirs ours header = below (2 ^ 32) then λ id. wire_key theirs ours header then λ key. extensions info_ext header then λ exts. gives (Told (Able id key (says_complete exts)))
 
--- D_TOKEN, which is ignored for now
+-- D_TOKEN
 abbrev pub token : Texts → Texts → ℕ → Format Declared
-token theirs ours header = below (2 ^ 32) then λ id. wire_key theirs ours header then λ key. extensions [] header then λ exts. gives Ignored
+token theirs ours header = below (2 ^ 32) then λ id. wire_key theirs ours header then λ key. extensions [] header then λ exts. gives (Told (Token id key))
 
 -- the id of what is undeclared
 abbrev pub undeclared : ℕ → Format ℕ
@@ -85,9 +85,9 @@ unsubscriber header = undeclared header then λ id. gives (Told (Unsub id))
 abbrev pub unqueryable : ℕ → Format Declared
 unqueryable header = undeclared header then λ id. gives (Told (Unable id))
 
--- U_TOKEN, which is ignored for now
+-- U_TOKEN
 abbrev pub untoken : ℕ → Format Declared
-untoken header = undeclared header then λ id. gives Ignored
+untoken header = undeclared header then λ id. gives (Told (Untoken id))
 
 -- D_FINAL: all that an interest asked for was told
 abbrev pub final : ℕ → Format Declared

@@ -7,7 +7,7 @@ use Rattle.zr_format_spec.specs.Reading.{Reader, checked_of, optional_of, exts_o
 use Rattle.zr_wirekey.specs.Scopes.{Texts}
 use Rattle.zr_wirekey.specs.Reading.{parts_of, key_of}
 use Rattle.zr_msg.specs.declared.msg.Msg.{Msg}
-use Rattle.zr_msg.specs.declared.msg.Msg.TheVariants.{Sub, Unsub, Able, Unable, Interest, EndInterest}
+use Rattle.zr_msg.specs.declared.msg.Msg.TheVariants.{Sub, Unsub, Token, Untoken, Able, Unable, Interest, EndInterest}
 use Rattle.zr_decl.specs.declared.declared.Declared.{Declared}
 use Rattle.zr_decl.specs.declared.declared.Declared.TheVariants.{Told, Number, Unnumber, Ignored}
 use Rattle.zr_decl.specs.Declare.{message_exts, info_ext, undeclared_ext, says_complete}
@@ -53,7 +53,7 @@ token_of theirs ours header bytes = do
   id ← number_below (2 ^ 32) bytes
   key ← wire_key_of theirs ours header id.1
   exts ← exts_of [] header key.1
-  Ok (Ignored, exts.1)
+  Ok (Told (Token id.0 key.0), exts.1)
 
 -- the id of what is undeclared
 unfoldable pub undeclared_of : ℕ → Reader ℕ
@@ -75,7 +75,7 @@ unqueryable_of header bytes = do
 unfoldable pub untoken_of : ℕ → Reader Declared
 untoken_of header bytes = do
   id ← undeclared_of header bytes
-  Ok (Ignored, id.1)
+  Ok (Told (Untoken id.0), id.1)
 
 unfoldable pub final_of : ℕ → Reader Declared
 final_of header bytes = do

@@ -8,7 +8,7 @@ use Rattle.zr_format_spec.specs.Writing.{writes_header}
 use Rattle.zr_key.specs.Key.{read_key}
 use Rattle.zr_wirekey.specs.Writing.{writes_key}
 use Rattle.zr_msg.specs.declared.msg.Msg.{Msg}
-use Rattle.zr_msg.specs.declared.msg.Msg.TheVariants.{Sub, Unsub, Able, Unable, Interest, EndInterest, ToldSub, ToldAble, ToldUnsub, ToldUnable, ToldEnd, Push, Request, Response, Final, State, Step, Snap}
+use Rattle.zr_msg.specs.declared.msg.Msg.TheVariants.{Sub, Unsub, Token, Untoken, Able, Unable, Interest, EndInterest, ToldSub, ToldAble, ToldUnsub, ToldToken, ToldUntoken, ToldUnable, ToldEnd, Push, Request, Response, Final, State, Step, Snap}
 use Rattle.zr_decl.specs.declared.declared.Declared.{Declared}
 use Rattle.zr_decl.specs.declared.declared.Declared.TheVariants.{Told, Number, Unnumber, Ignored}
 
@@ -22,9 +22,9 @@ writes_some (Some n) = writes n
 abbrev pub writes_declare : Option ℕ → List ℕ
 writes_declare interest = writes_header 0x1E (is_some interest) false false ∷ writes_some interest
 
--- D_SUBSCRIBER, with the whole key
-abbrev pub writes_subscriber : ℕ → List ℕ → List ℕ
-writes_subscriber id key = writes_header 0x02 true false false ∷ (writes id ++ writes_key key 0)
+-- D_SUBSCRIBER or D_TOKEN, with the whole key
+abbrev pub writes_keyed : ℕ → ℕ → List ℕ → List ℕ
+writes_keyed header id key = writes_header header true false false ∷ (writes id ++ writes_key key 0)
 
 -- the info of a complete queryable, which is not mandatory
 abbrev pub complete_ext : Ext
@@ -38,7 +38,7 @@ writes_complete false = []
 abbrev pub writes_queryable : ℕ → List ℕ → Bool → List ℕ
 writes_queryable id key complete = writes_header 0x04 true false complete ∷ (writes id ++ (writes_key key 0 ++ writes_complete complete))
 
--- U_SUBSCRIBER or U_QUERYABLE
+-- U_SUBSCRIBER, U_QUERYABLE or U_TOKEN
 abbrev pub writes_undeclared : ℕ → ℕ → List ℕ
 writes_undeclared header id = writes_header header false false false ∷ writes id
 
@@ -67,13 +67,17 @@ writes_end id = writes_header 0x19 false false false ∷ writes id
 
 -- what is written of a message; other messages go elsewhere
 abbrev pub writes_decl : Msg → List ℕ
-writes_decl (Sub id key) = writes_declare None ++ writes_subscriber id key
+writes_decl (Sub id key) = writes_declare None ++ writes_keyed 0x02 id key
 writes_decl (Unsub id) = writes_declare None ++ writes_undeclared 0x03 id
+writes_decl (Token id key) = writes_declare None ++ writes_keyed 0x06 id key
+writes_decl (Untoken id) = writes_declare None ++ writes_undeclared 0x07 id
 writes_decl (Able id key complete) = writes_declare None ++ writes_queryable id key complete
 writes_decl (Unable id) = writes_declare None ++ writes_undeclared 0x05 id
-writes_decl (ToldSub id key interest) = writes_declare interest ++ writes_subscriber id key
+writes_decl (ToldSub id key interest) = writes_declare interest ++ writes_keyed 0x02 id key
+writes_decl (ToldToken id key interest) = writes_declare interest ++ writes_keyed 0x06 id key
 writes_decl (ToldAble id key complete interest) = writes_declare interest ++ writes_queryable id key complete
 writes_decl (ToldUnsub id) = writes_declare None ++ writes_undeclared 0x03 id
+writes_decl (ToldUntoken id) = writes_declare None ++ writes_undeclared 0x07 id
 writes_decl (ToldUnable id) = writes_declare None ++ writes_undeclared 0x05 id
 writes_decl (ToldEnd interest) = writes_declare (Some interest) ++ writes_final
 writes_decl (Interest id current future kinds key aggregate) = writes_interest id current future kinds.0 key aggregate
@@ -90,11 +94,15 @@ writes_decl (Snap _ _ _) = []
 abbrev pub tells : Msg → Declared × Option ℕ
 tells (Sub id key) = (Told (Sub id key), None)
 tells (Unsub id) = (Told (Unsub id), None)
+tells (Token id key) = (Told (Token id key), None)
+tells (Untoken id) = (Told (Untoken id), None)
 tells (Able id key complete) = (Told (Able id key complete), None)
 tells (Unable id) = (Told (Unable id), None)
 tells (ToldSub id key interest) = (Told (Sub id key), interest)
+tells (ToldToken id key interest) = (Told (Token id key), interest)
 tells (ToldAble id key complete interest) = (Told (Able id key complete), interest)
 tells (ToldUnsub id) = (Told (Unsub id), None)
+tells (ToldUntoken id) = (Told (Untoken id), None)
 tells (ToldUnable id) = (Told (Unable id), None)
 tells (ToldEnd interest) = (Ignored, Some interest)
 tells (Interest _ _ _ _ _ _) = (Ignored, None)
@@ -115,11 +123,15 @@ Fits (Interest id current future kinds key aggregate) = (kinds.0 < 16) × ((curr
 Fits (EndInterest id) = Unit {0}
 Fits (Sub _ _) = Unit {0}
 Fits (Unsub _) = Unit {0}
+Fits (Token _ _) = Unit {0}
+Fits (Untoken _) = Unit {0}
 Fits (Able _ _ _) = Unit {0}
 Fits (Unable _) = Unit {0}
 Fits (ToldSub _ _ _) = Unit {0}
+Fits (ToldToken _ _ _) = Unit {0}
 Fits (ToldAble _ _ _ _) = Unit {0}
 Fits (ToldUnsub _) = Unit {0}
+Fits (ToldUntoken _) = Unit {0}
 Fits (ToldUnable _) = Unit {0}
 Fits (ToldEnd _) = Unit {0}
 Fits (Push _ _) = ⊥
@@ -149,11 +161,15 @@ IsSomeKey (Some key) = IsKey key
 abbrev pub IsDeclaration : Msg → Type 0
 IsDeclaration (Sub _ _) = Unit {0}
 IsDeclaration (Unsub _) = Unit {0}
+IsDeclaration (Token _ _) = Unit {0}
+IsDeclaration (Untoken _) = Unit {0}
 IsDeclaration (Able _ _ _) = Unit {0}
 IsDeclaration (Unable _) = Unit {0}
 IsDeclaration (ToldSub _ _ _) = Unit {0}
+IsDeclaration (ToldToken _ _ _) = Unit {0}
 IsDeclaration (ToldAble _ _ _ _) = Unit {0}
 IsDeclaration (ToldUnsub _) = Unit {0}
+IsDeclaration (ToldUntoken _) = Unit {0}
 IsDeclaration (ToldUnable _) = Unit {0}
 IsDeclaration (ToldEnd _) = Unit {0}
 IsDeclaration (Interest _ _ _ _ _ _) = ⊥
@@ -170,11 +186,15 @@ IsDeclaration (Snap _ _ _) = ⊥
 abbrev pub Declares : Msg → Type 0
 Declares (Sub id key) = IsId id × IsKey key
 Declares (Unsub id) = IsId id
+Declares (Token id key) = IsId id × IsKey key
+Declares (Untoken id) = IsId id
 Declares (Able id key complete) = IsId id × IsKey key
 Declares (Unable id) = IsId id
 Declares (ToldSub id key interest) = IsId id × IsKey key × IsSomeId interest
+Declares (ToldToken id key interest) = IsId id × IsKey key × IsSomeId interest
 Declares (ToldAble id key complete interest) = IsId id × IsKey key × IsSomeId interest
 Declares (ToldUnsub id) = IsId id
+Declares (ToldUntoken id) = IsId id
 Declares (ToldUnable id) = IsId id
 Declares (ToldEnd interest) = IsId interest
 Declares (Interest _ _ _ _ _ _) = ⊥
@@ -193,11 +213,15 @@ Asks (Interest id current future kinds key aggregate) = IsId id × IsSomeKey key
 Asks (EndInterest id) = IsId id
 Asks (Sub _ _) = ⊥
 Asks (Unsub _) = ⊥
+Asks (Token _ _) = ⊥
+Asks (Untoken _) = ⊥
 Asks (Able _ _ _) = ⊥
 Asks (Unable _) = ⊥
 Asks (ToldSub _ _ _) = ⊥
+Asks (ToldToken _ _ _) = ⊥
 Asks (ToldAble _ _ _ _) = ⊥
 Asks (ToldUnsub _) = ⊥
+Asks (ToldUntoken _) = ⊥
 Asks (ToldUnable _) = ⊥
 Asks (ToldEnd _) = ⊥
 Asks (Push _ _) = ⊥

@@ -12,6 +12,6 @@ pub enum Declared {
     Number(u16, ByteString),
     /// A number stands for nothing any more.
     Unnumber(u16),
-    /// Nothing: the end of what an interest asked for, and tokens for now.
+    /// Nothing: the end of what an interest asked for.
     Ignored,
 }

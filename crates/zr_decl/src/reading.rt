@@ -24,8 +24,7 @@ use zr_msg::msg::Msg;
 use zr_wirekey::{Scopes, read_key, read_parts};
 
 /// The declaration at the front (Zenoh protocol 1.0, "DECLARE"), of a sender that declared `theirs` to a receiver that declared `ours`. An
-/// interest that it answers is passed over. `Ignored` is for the end of what an interest asked for and, for now, for tokens. What was told can be
-/// written.
+/// interest that it answers is passed over. `Ignored` is for the end of what an interest asked for. What was told can be written.
 pub fn read_decl(
     alloc: Global,
     c: &mut Cursor<'_>,
@@ -268,10 +267,10 @@ fn token(
 ) -> Result<Declared, ReadError>
     ensures { Steps (λ d. d) result (token_of theirs.now ours.now header c.old) c.new }
 {
-    c.z32()?;
-    read_wire_key(alloc, c, theirs, ours, header)?;
+    let id = c.z32()?;
+    let key = read_wire_key(alloc, c, theirs, ours, header)?;
     read_extensions(alloc, c, header, &[])?;
-    Ok(Declared::Ignored)
+    Ok(Declared::Told(Msg::Token { id, key }))
 }
 
 /// The key of a message or of a declaration, by its header, or of an interest, by its options. After a refusal the cursor may stand anywhere.
@@ -315,8 +314,8 @@ fn unqueryable(alloc: Global, c: &mut Cursor<'_>, header: u8) -> Result<Declared
 fn untoken(alloc: Global, c: &mut Cursor<'_>, header: u8) -> Result<Declared, ReadError>
     ensures { Steps (λ d. d) result (untoken_of header c.old) c.new }
 {
-    undeclared(alloc, c, header)?;
-    Ok(Declared::Ignored)
+    let id = undeclared(alloc, c, header)?;
+    Ok(Declared::Told(Msg::Untoken { id }))
 }
 
 /// The id of what is undeclared. Its key may follow as an extension, and is ignored.

@@ -3,11 +3,11 @@
 ghost use Rattle.std.specs.Prelude.{◌≡◌, ◌<◌, ◌∷◌, ◌++◌, Some, None, OnOk, OnErr};
 ghost use Rattle.zr_bytes.specs.Number.{writes};
 ghost use Rattle.zr_bytes.specs.Writing.{KeepsFront};
-ghost use Rattle.zr_decl.specs.Writing.{Fits, writes_some, writes_declare, writes_subscriber, writes_queryable, writes_complete, writes_undeclared, writes_final, writes_restriction, options_of, writes_interest, writes_end, writes_decl};
+ghost use Rattle.zr_decl.specs.Writing.{Fits, writes_some, writes_declare, writes_keyed, writes_queryable, writes_complete, writes_undeclared, writes_final, writes_restriction, options_of, writes_interest, writes_end, writes_decl};
 
 use crate::parts::{
-    AGGREGATE, COMPLETE, D_FINAL, D_QUERYABLE, D_SUBSCRIBER, DECLARE, INFO, INTEREST, NAMED,
-    RESTRICTED, U_QUERYABLE, U_SUBSCRIBER,
+    AGGREGATE, COMPLETE, D_FINAL, D_QUERYABLE, D_SUBSCRIBER, D_TOKEN, DECLARE, INFO, INTEREST,
+    NAMED, RESTRICTED, U_QUERYABLE, U_SUBSCRIBER, U_TOKEN,
 };
 use std::alloc::AllocError;
 use zr_bytes::{all_or_nothing, put_zint};
@@ -35,8 +35,10 @@ fn put_decl(out: &mut Vec<u8>, msg: &Msg) -> Result<(), AllocError>
     ensures err { OnErr result (KeepsFront out.old.items out.new.items) }
 {
     match msg {
-        Msg::Sub { id, key } => put_subscriber(out, None, *id, key),
+        Msg::Sub { id, key } => put_keyed(out, None, D_SUBSCRIBER, *id, key),
         Msg::Unsub { id } => put_undeclared(out, U_SUBSCRIBER, *id),
+        Msg::Token { id, key } => put_keyed(out, None, D_TOKEN, *id, key),
+        Msg::Untoken { id } => put_undeclared(out, U_TOKEN, *id),
         Msg::Able { id, key, complete } => put_queryable(out, None, *id, key, *complete),
         Msg::Unable { id } => put_undeclared(out, U_QUERYABLE, *id),
         Msg::Interest {
@@ -48,7 +50,8 @@ fn put_decl(out: &mut Vec<u8>, msg: &Msg) -> Result<(), AllocError>
             aggregate,
         } => put_interest(out, *id, *current, *future, kinds.0, key, *aggregate),
         Msg::EndInterest { id } => put_end(out, *id),
-        Msg::ToldSub { id, key, interest } => put_subscriber(out, *interest, *id, key),
+        Msg::ToldSub { id, key, interest } => put_keyed(out, *interest, D_SUBSCRIBER, *id, key),
+        Msg::ToldToken { id, key, interest } => put_keyed(out, *interest, D_TOKEN, *id, key),
         Msg::ToldAble {
             id,
             key,
@@ -56,6 +59,7 @@ fn put_decl(out: &mut Vec<u8>, msg: &Msg) -> Result<(), AllocError>
             interest,
         } => put_queryable(out, *interest, *id, key, *complete),
         Msg::ToldUnsub { id } => put_undeclared(out, U_SUBSCRIBER, *id),
+        Msg::ToldUntoken { id } => put_undeclared(out, U_TOKEN, *id),
         Msg::ToldUnable { id } => put_undeclared(out, U_QUERYABLE, *id),
         Msg::ToldEnd { interest } => put_final(out, *interest),
         Msg::Push { .. }
@@ -80,16 +84,18 @@ fn put_declare(out: &mut Vec<u8>, interest: Option<u32>) -> Result<(), AllocErro
     }
 }
 
-fn put_subscriber(
+/// A subscriber or a token.
+fn put_keyed(
     out: &mut Vec<u8>,
     interest: Option<u32>,
+    header: u8,
     id: u32,
     key: &KeyExpr,
 ) -> Result<(), AllocError>
-    ensures ok { OnOk result (out.new.items ≡ out.old.items ++ (writes_declare interest ++ writes_subscriber id key.now)) }
+    ensures ok { OnOk result (out.new.items ≡ out.old.items ++ (writes_declare interest ++ writes_keyed header id key.now)) }
     ensures err { OnErr result (KeepsFront out.old.items out.new.items) }
 {
-    let header = header_byte(D_SUBSCRIBER, true, false, false);
+    let header = header_byte(header, true, false, false);
     put_declaration(out, interest, header, id)?;
     write_key(out, key, 0)
 }

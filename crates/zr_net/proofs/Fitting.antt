@@ -27,7 +27,7 @@ use Rattle.zr_msg.specs.declared.extras.Extras.{Extras}
 use Rattle.zr_msg.specs.declared.msg.Target.{Target}
 use Rattle.zr_msg.specs.declared.msg.Target.TheVariants.{Best, All, Complete}
 use Rattle.zr_msg.specs.declared.msg.Msg.{Msg}
-use Rattle.zr_msg.specs.declared.msg.Msg.TheVariants.{Sub, Unsub, Able, Unable, Interest, EndInterest, ToldSub, ToldAble, ToldUnsub, ToldUnable, ToldEnd, Push, Request, Response, Final, State, Step, Snap}
+use Rattle.zr_msg.specs.declared.msg.Msg.TheVariants.{Sub, Unsub, Token, Untoken, Able, Unable, Interest, EndInterest, ToldSub, ToldAble, ToldUnsub, ToldToken, ToldUntoken, ToldUnable, ToldEnd, Push, Request, Response, Final, State, Step, Snap}
 use Rattle.zr_msg.specs.declared.peer.Role.{Role}
 use Rattle.zr_msg.specs.declared.peer.Role.TheVariants.{Client, Router}
 use Rattle.zr_decl.specs.declared.declared.Declared.{Declared}
@@ -171,13 +171,17 @@ final_fits h d bytes s =
 any_fits : (m : Msg) → decl.Fits m → AnyFits m
 any_fits (Sub id key) h = h
 any_fits (Unsub id) h = h
+any_fits (Token id key) h = h
+any_fits (Untoken id) h = h
 any_fits (Able id key complete) h = h
 any_fits (Unable id) h = h
 any_fits (Interest id current future kinds key aggregate) h = h
 any_fits (EndInterest id) h = h
 any_fits (ToldSub id key interest) h = h
+any_fits (ToldToken id key interest) h = h
 any_fits (ToldAble id key complete interest) h = h
 any_fits (ToldUnsub id) h = h
+any_fits (ToldUntoken id) h = h
 any_fits (ToldUnable id) h = h
 any_fits (ToldEnd interest) h = h
 any_fits (Push tree content) h = absurd h
@@ -301,13 +305,17 @@ final_sent role theirs h d bytes s =
 not_sent : (role : Role) (theirs : Texts) (m : Msg) → decl.Fits m → IsOfNumbers m → CanBeSent role theirs 0 m
 not_sent role theirs (Sub id key) h k = absurd k
 not_sent role theirs (Unsub id) h k = absurd k
+not_sent role theirs (Token id key) h k = absurd k
+not_sent role theirs (Untoken id) h k = absurd k
 not_sent role theirs (Able id key complete) h k = absurd k
 not_sent role theirs (Unable id) h k = absurd k
 not_sent role theirs (Interest id current future kinds key aggregate) h k = absurd k
 not_sent role theirs (EndInterest id) h k = absurd k
 not_sent role theirs (ToldSub id key interest) h k = absurd k
+not_sent role theirs (ToldToken id key interest) h k = absurd k
 not_sent role theirs (ToldAble id key complete interest) h k = absurd k
 not_sent role theirs (ToldUnsub id) h k = absurd k
+not_sent role theirs (ToldUntoken id) h k = absurd k
 not_sent role theirs (ToldUnable id) h k = absurd k
 not_sent role theirs (ToldEnd interest) h k = absurd k
 not_sent role theirs (Push tree content) h k = absurd h

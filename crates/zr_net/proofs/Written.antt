@@ -26,7 +26,7 @@ use Rattle.zr_msg.specs.declared.extras.Extras.{Extras}
 use Rattle.zr_msg.specs.declared.msg.Target.{Target}
 use Rattle.zr_msg.specs.declared.msg.Target.TheVariants.{Best}
 use Rattle.zr_msg.specs.declared.msg.Msg.{Msg}
-use Rattle.zr_msg.specs.declared.msg.Msg.TheVariants.{Sub, Unsub, Able, Unable, Interest, EndInterest, ToldSub, ToldAble, ToldUnsub, ToldUnable, ToldEnd, Push, Request, Response, Final, State, Step, Snap}
+use Rattle.zr_msg.specs.declared.msg.Msg.TheVariants.{Sub, Unsub, Token, Untoken, Able, Unable, Interest, EndInterest, ToldSub, ToldAble, ToldUnsub, ToldToken, ToldUntoken, ToldUnable, ToldEnd, Push, Request, Response, Final, State, Step, Snap}
 use Rattle.zr_msg.specs.declared.peer.Role.{Role}
 use Rattle.zr_msg.specs.declared.peer.Role.TheVariants.{Client, Router}
 use Rattle.zr_decl.specs.declared.declared.Declared.{Declared}
@@ -222,13 +222,17 @@ message_spelled role theirs ours number (Response id content) h = response_spell
 message_spelled role theirs ours number (Final id extras) h = final_spelled role theirs ours number id extras h
 message_spelled role theirs ours number (Sub id key) h = absurd h
 message_spelled role theirs ours number (Unsub id) h = absurd h
+message_spelled role theirs ours number (Token id key) h = absurd h
+message_spelled role theirs ours number (Untoken id) h = absurd h
 message_spelled role theirs ours number (Able id key complete) h = absurd h
 message_spelled role theirs ours number (Unable id) h = absurd h
 message_spelled role theirs ours number (Interest id current future kinds key aggregate) h = absurd h
 message_spelled role theirs ours number (EndInterest id) h = absurd h
 message_spelled role theirs ours number (ToldSub id key interest) h = absurd h
+message_spelled role theirs ours number (ToldToken id key interest) h = absurd h
 message_spelled role theirs ours number (ToldAble id key complete interest) h = absurd h
 message_spelled role theirs ours number (ToldUnsub id) h = absurd h
+message_spelled role theirs ours number (ToldUntoken id) h = absurd h
 message_spelled role theirs ours number (ToldUnable id) h = absurd h
 message_spelled role theirs ours number (ToldEnd interest) h = absurd h
 message_spelled role theirs ours number (State links) h = absurd h

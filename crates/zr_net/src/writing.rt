@@ -54,6 +54,8 @@ fn put_net(out: &mut Vec<u8>, msg: &Msg, number: u16) -> Result<(), AllocError>
         Msg::Final { id, extras } => put_final(out, *id, extras.get()),
         Msg::Sub { .. }
         | Msg::Unsub { .. }
+        | Msg::Token { .. }
+        | Msg::Untoken { .. }
         | Msg::Able { .. }
         | Msg::Unable { .. }
         | Msg::Interest { .. }
@@ -61,6 +63,8 @@ fn put_net(out: &mut Vec<u8>, msg: &Msg, number: u16) -> Result<(), AllocError>
         | Msg::ToldSub { .. }
         | Msg::ToldAble { .. }
         | Msg::ToldUnsub { .. }
+        | Msg::ToldToken { .. }
+        | Msg::ToldUntoken { .. }
         | Msg::ToldUnable { .. }
         | Msg::ToldEnd { .. }
         | Msg::State { .. }

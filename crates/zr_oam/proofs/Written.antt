@@ -17,7 +17,7 @@ use Rattle.zr_msg.specs.declared.decl.Decl.{Decl}
 use Rattle.zr_msg.specs.declared.decl.Kind.{Kind}
 use Rattle.zr_msg.specs.declared.decl.Kind.TheVariants as kind
 use Rattle.zr_msg.specs.declared.msg.Msg.{Msg}
-use Rattle.zr_msg.specs.declared.msg.Msg.TheVariants.{Sub, Unsub, Able, Unable, Interest, EndInterest, ToldSub, ToldAble, ToldUnsub, ToldUnable, ToldEnd, Push, Request, Response, Final, State, Step, Snap}
+use Rattle.zr_msg.specs.declared.msg.Msg.TheVariants.{Sub, Unsub, Token, Untoken, Able, Unable, Interest, EndInterest, ToldSub, ToldAble, ToldUnsub, ToldToken, ToldUntoken, ToldUnable, ToldEnd, Push, Request, Response, Final, State, Step, Snap}
 use Rattle.zr_oam.specs.Oam.{zid, kind_byte, kind_of, is_canonical, decl, decl_may_follow, last_id, weight, link, record_format, next_decl, snapshot, change, declarations, own, state, oam_format}
 use Rattle.zr_oam.specs.Writing.{writes_decl, writes_linked, writes_record, weigh_one, is_linked, writes_head, writes_step, writes_snap, writes_own, writes_oam, decls_in_order, is_decl, Fits, IsMade, CanBeWritten}
 use Rattle.zr_oam.proofs.Keys.{zid_small, key_small}
@@ -32,6 +32,7 @@ kind_back : (k : Kind) → kind_of (kind_byte k) ≡ Ok k
 kind_back kind.Sub = refl
 kind_back kind.Able = refl
 kind_back kind.Full = refl
+kind_back kind.Token = refl
 
 decl_spelled : (d : Decl) → is_decl d ≡ true → decl.spelled d (writes_decl d)
 decl_spelled d canonical =
@@ -226,13 +227,17 @@ said (Snap source n decls) fits made =
     entry_message (Snap source n decls) (writes_snap source n decls) (own_spelled declarations (Snap source n decls) (writes_snap source n decls) (omega (arith, fits.3)) (snap_spelled source n decls fits.0 fits.1 fits.2 made))
 said (Sub id key) fits made = absurd fits
 said (Unsub id) fits made = absurd fits
+said (Token id key) fits made = absurd fits
+said (Untoken id) fits made = absurd fits
 said (Able id key complete) fits made = absurd fits
 said (Unable id) fits made = absurd fits
 said (Interest id current future kinds key aggregate) fits made = absurd fits
 said (EndInterest id) fits made = absurd fits
 said (ToldSub id key interest) fits made = absurd fits
+said (ToldToken id key interest) fits made = absurd fits
 said (ToldAble id key complete interest) fits made = absurd fits
 said (ToldUnsub id) fits made = absurd fits
+said (ToldUntoken id) fits made = absurd fits
 said (ToldUnable id) fits made = absurd fits
 said (ToldEnd interest) fits made = absurd fits
 said (Push tree content) fits made = absurd fits

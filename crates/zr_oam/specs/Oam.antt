@@ -15,7 +15,7 @@ use Rattle.zr_key.specs.declared.key.KeyError.{KeyError}
 use Rattle.zr_key.specs.Key.{read_key}
 use Rattle.zr_msg.specs.declared.decl.Decl.{Decl}
 use Rattle.zr_msg.specs.declared.decl.Kind.{Kind}
-use Rattle.zr_msg.specs.declared.decl.Kind.TheVariants.{Sub, Able, Full}
+use Rattle.zr_msg.specs.declared.decl.Kind.TheVariants.{Sub, Able, Full, Token}
 use Rattle.zr_msg.specs.declared.msg.Msg.{Msg}
 use Rattle.zr_msg.specs.declared.msg.Msg.TheVariants.{State, Step, Snap}
 
@@ -30,9 +30,10 @@ abbrev pub kind_byte : Kind → ℕ
 kind_byte Sub = 0
 kind_byte Able = 1
 kind_byte Full = 2
+kind_byte Token = 3
 
 abbrev pub kind_of : ℕ → Result Kind ReadError
-kind_of b = if b == 0 then Ok Sub else (if b == 1 then Ok Able else (if b == 2 then Ok Full else Err BadText))
+kind_of b = if b == 0 then Ok Sub else (if b == 1 then Ok Able else (if b == 2 then Ok Full else (if b == 3 then Ok Token else Err BadText)))
 
 -- a text that is read as itself is canonical
 abbrev pub is_reading : List ℕ → Result (List ℕ) KeyError → Bool

@@ -7,7 +7,7 @@ use Rattle.zr_id.specs.Zid.{is_zid}
 use Rattle.zr_id.specs.Record.{LinkedState, RecordState, are_links}
 use Rattle.zr_msg.specs.declared.decl.Decl.{Decl}
 use Rattle.zr_msg.specs.declared.msg.Msg.{Msg}
-use Rattle.zr_msg.specs.declared.msg.Msg.TheVariants.{Sub, Unsub, Able, Unable, Interest, EndInterest, ToldSub, ToldAble, ToldUnsub, ToldUnable, ToldEnd, Push, Request, Response, Final, State, Step, Snap}
+use Rattle.zr_msg.specs.declared.msg.Msg.TheVariants.{Sub, Unsub, Token, Untoken, Able, Unable, Interest, EndInterest, ToldSub, ToldAble, ToldUnsub, ToldToken, ToldUntoken, ToldUnable, ToldEnd, Push, Request, Response, Final, State, Step, Snap}
 use Rattle.zr_oam.specs.Oam.{kind_byte, is_canonical, decl_may_follow}
 
 abbrev pub writes_decl : Decl → List ℕ
@@ -45,13 +45,17 @@ writes_oam (Step source n added d) = writes_own 0x5A02 (writes_step source n add
 writes_oam (Snap source n decls) = writes_own 0x5A02 (writes_snap source n decls)
 writes_oam (Sub _ _) = []
 writes_oam (Unsub _) = []
+writes_oam (Token _ _) = []
+writes_oam (Untoken _) = []
 writes_oam (Able _ _ _) = []
 writes_oam (Unable _) = []
 writes_oam (Interest _ _ _ _ _ _) = []
 writes_oam (EndInterest _) = []
 writes_oam (ToldSub _ _ _) = []
+writes_oam (ToldToken _ _ _) = []
 writes_oam (ToldAble _ _ _ _) = []
 writes_oam (ToldUnsub _) = []
+writes_oam (ToldUntoken _) = []
 writes_oam (ToldUnable _) = []
 writes_oam (ToldEnd _) = []
 writes_oam (Push _ _) = []
@@ -72,13 +76,17 @@ Fits (Step source n added d) = 0 < n
 Fits (Snap source n decls) = (0 < n) × (length decls < 2 ^ 32) × (decls_in_order None decls ≡ true) × (length (writes_snap source n decls) < 2 ^ 32)
 Fits (Sub _ _) = ⊥
 Fits (Unsub _) = ⊥
+Fits (Token _ _) = ⊥
+Fits (Untoken _) = ⊥
 Fits (Able _ _ _) = ⊥
 Fits (Unable _) = ⊥
 Fits (Interest _ _ _ _ _ _) = ⊥
 Fits (EndInterest _) = ⊥
 Fits (ToldSub _ _ _) = ⊥
+Fits (ToldToken _ _ _) = ⊥
 Fits (ToldAble _ _ _ _) = ⊥
 Fits (ToldUnsub _) = ⊥
+Fits (ToldUntoken _) = ⊥
 Fits (ToldUnable _) = ⊥
 Fits (ToldEnd _) = ⊥
 Fits (Push _ _) = ⊥
@@ -99,13 +107,17 @@ IsMade (Step source n added d) = (is_zid source ≡ true) × (is_decl d ≡ true
 IsMade (Snap source n decls) = (is_zid source ≡ true) × (list_all is_decl decls ≡ true)
 IsMade (Sub _ _) = Unit {0}
 IsMade (Unsub _) = Unit {0}
+IsMade (Token _ _) = Unit {0}
+IsMade (Untoken _) = Unit {0}
 IsMade (Able _ _ _) = Unit {0}
 IsMade (Unable _) = Unit {0}
 IsMade (Interest _ _ _ _ _ _) = Unit {0}
 IsMade (EndInterest _) = Unit {0}
 IsMade (ToldSub _ _ _) = Unit {0}
+IsMade (ToldToken _ _ _) = Unit {0}
 IsMade (ToldAble _ _ _ _) = Unit {0}
 IsMade (ToldUnsub _) = Unit {0}
+IsMade (ToldUntoken _) = Unit {0}
 IsMade (ToldUnable _) = Unit {0}
 IsMade (ToldEnd _) = Unit {0}
 IsMade (Push _ _) = Unit {0}

@@ -149,6 +149,7 @@ pub(crate) fn kind_byte(kind: Kind) -> u8
         Kind::Sub => 0,
         Kind::Able => 1,
         Kind::Full => 2,
+        Kind::Token => 3,
     }
 }
 
@@ -168,6 +169,7 @@ fn kind(byte: u8) -> Result<Kind, ReadError>
         0 => Ok(Kind::Sub),
         1 => Ok(Kind::Able),
         2 => Ok(Kind::Full),
+        3 => Ok(Kind::Token),
         _ => Err(ReadError::BadText),
     }
 }

@@ -48,6 +48,8 @@ fn put_oam(out: &mut Vec<u8>, msg: &Msg) -> Result<(), AllocError>
         } => put_snap(out, source, *number, decls.as_slice()),
         Msg::Sub { .. }
         | Msg::Unsub { .. }
+        | Msg::Token { .. }
+        | Msg::Untoken { .. }
         | Msg::Able { .. }
         | Msg::Unable { .. }
         | Msg::Interest { .. }
@@ -55,6 +57,8 @@ fn put_oam(out: &mut Vec<u8>, msg: &Msg) -> Result<(), AllocError>
         | Msg::ToldSub { .. }
         | Msg::ToldAble { .. }
         | Msg::ToldUnsub { .. }
+        | Msg::ToldToken { .. }
+        | Msg::ToldUntoken { .. }
         | Msg::ToldUnable { .. }
         | Msg::ToldEnd { .. }
         | Msg::Push { .. }

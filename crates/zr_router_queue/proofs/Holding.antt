@@ -13,7 +13,7 @@ use Rattle.zr_msg.specs.declared.content.Parts.{Parts}
 use Rattle.zr_msg.specs.declared.event.Event.{Event}
 use Rattle.zr_msg.specs.declared.event.Event.TheVariants.{Up, Down, From}
 use Rattle.zr_msg.specs.declared.msg.Msg.{Msg}
-use Rattle.zr_msg.specs.declared.msg.Msg.TheVariants.{Sub, Unsub, Able, Unable, Interest, EndInterest, ToldSub, ToldAble, ToldUnsub, ToldUnable, ToldEnd, Push, Request, Response, Final, State, Step, Snap}
+use Rattle.zr_msg.specs.declared.msg.Msg.TheVariants.{Sub, Unsub, Token, Untoken, Able, Unable, Interest, EndInterest, ToldSub, ToldAble, ToldUnsub, ToldToken, ToldUntoken, ToldUnable, ToldEnd, Push, Request, Response, Final, State, Step, Snap}
 use Rattle.zr_pend.specs.declared.branch.Asker.{Asker}
 use Rattle.zr_pend.specs.Held.{GatheringState, gatherings_left, gatherings_off, gatherings_with, gatherings_without, held_for, held_with, is_for, put_reply, takes_place}
 use Rattle.zr_pend.specs.Pending.{branch, final_to, finals_of_drop}
@@ -78,13 +78,17 @@ begun_spelled held false a (l ∷ links) h = h
 from_spelled : (node : NodeState) (link : LinkNo) (msg : Msg) → HoldsSpelled node.held → IsSpelled msg → HoldsSpelled (after node (From link msg)).held
 from_spelled node link (Sub id key) h k = h
 from_spelled node link (Unsub id) h k = h
+from_spelled node link (Token id key) h k = h
+from_spelled node link (Untoken id) h k = h
 from_spelled node link (Able id key complete) h k = h
 from_spelled node link (Unable id) h k = h
 from_spelled node link (Interest id current future kinds key aggregate) h k = h
 from_spelled node link (EndInterest id) h k = h
 from_spelled node link (ToldSub id key interest) h k = h
+from_spelled node link (ToldToken id key interest) h k = h
 from_spelled node link (ToldAble id key complete interest) h k = h
 from_spelled node link (ToldUnsub id) h k = h
+from_spelled node link (ToldUntoken id) h k = h
 from_spelled node link (ToldUnable id) h k = h
 from_spelled node link (ToldEnd interest) h k = h
 from_spelled node link (Push tree content) h k = h

@@ -12,7 +12,7 @@ use Rattle.std.proofs.Math.Bool.{or-false, or-true}
 use Rattle.zr_lists.proofs.Options.{there_changed}
 use Rattle.zr_id.specs.declared.link.LinkNo.{LinkNo}
 use Rattle.zr_msg.specs.declared.msg.Msg.{Msg}
-use Rattle.zr_msg.specs.declared.msg.Msg.TheVariants.{Sub, Unsub, Able, Unable, Interest, EndInterest, ToldSub, ToldAble, ToldUnsub, ToldUnable, ToldEnd, Push, Request, Response, Final, State, Step, Snap}
+use Rattle.zr_msg.specs.declared.msg.Msg.TheVariants.{Sub, Unsub, Token, Untoken, Able, Unable, Interest, EndInterest, ToldSub, ToldAble, ToldUnsub, ToldToken, ToldUntoken, ToldUnable, ToldEnd, Push, Request, Response, Final, State, Step, Snap}
 use Rattle.zr_msg.specs.declared.event.Event.{Event}
 use Rattle.zr_msg.specs.declared.event.Event.TheVariants.{Up, Down, From}
 use Rattle.zr_node_spec.specs.Tables.{link_at, is_link}
@@ -131,13 +131,17 @@ find_mapped test f same xs = ap is_some (find_changed test f same xs) ∙ there_
 pub from_links : (node : NodeState) (from : ℕ) (msg : Msg) (n : ℕ) → is_some (link_at (after_from node from msg).links n) ≡ is_some (link_at node.links n)
 from_links node from (Sub id key) n = refl
 from_links node from (Unsub id) n = refl
+from_links node from (Token id key) n = refl
+from_links node from (Untoken id) n = refl
 from_links node from (Able id key complete) n = refl
 from_links node from (Unable id) n = refl
 from_links node from (Interest id current future kinds key aggregate) n = refl
 from_links node from (EndInterest id) n = refl
 from_links node from (ToldSub id key interest) n = refl
+from_links node from (ToldToken id key interest) n = refl
 from_links node from (ToldAble id key complete interest) n = refl
 from_links node from (ToldUnsub id) n = refl
+from_links node from (ToldUntoken id) n = refl
 from_links node from (ToldUnable id) n = refl
 from_links node from (ToldEnd interest) n = refl
 from_links node from (Push tree content) n = refl

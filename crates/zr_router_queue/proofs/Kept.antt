@@ -8,7 +8,7 @@ use Rattle.zr_msg.specs.declared.error.NodeError.{NodeError}
 use Rattle.zr_msg.specs.declared.event.Event.{Event}
 use Rattle.zr_msg.specs.declared.event.Event.TheVariants.{Up, Down, From}
 use Rattle.zr_msg.specs.declared.msg.Msg.{Msg}
-use Rattle.zr_msg.specs.declared.msg.Msg.TheVariants.{Sub, Unsub, Able, Unable, Interest, EndInterest, ToldSub, ToldAble, ToldUnsub, ToldUnable, ToldEnd, Push, Request, Response, Final, State, Step, Snap}
+use Rattle.zr_msg.specs.declared.msg.Msg.TheVariants.{Sub, Unsub, Token, Untoken, Able, Unable, Interest, EndInterest, ToldSub, ToldAble, ToldUnsub, ToldToken, ToldUntoken, ToldUnable, ToldEnd, Push, Request, Response, Final, State, Step, Snap}
 use Rattle.zr_log_set.specs.Decls.{decl_weight, most_weight}
 use Rattle.zr_local.specs.Clients.{clients_left, clients_weight, noted, weight_but}
 use Rattle.zr_local.specs.Interests.{interest_weight}
@@ -142,14 +142,18 @@ snap_kept node source number ds true h may =
 from_kept : (node : NodeState) (from : ℕ) (msg : Msg) → IsKept node → refuses_from node from msg ≡ None → IsKept (after_from node from msg)
 from_kept node from (Sub id key) h may = declared_kept node from (row from id kind.Sub key) h may
 from_kept node from (Unsub id) h may = undeclared_kept node from (key_of from id kind.Sub) h
+from_kept node from (Token id key) h may = declared_kept node from (row from id kind.Token key) h may
+from_kept node from (Untoken id) h may = undeclared_kept node from (key_of from id kind.Token) h
 from_kept node from (Able id key complete) h may = declared_kept node from (row from id (able_kind complete) key) h may
 from_kept node from (Unable id) h may = undeclared_kept node from (key_of from id kind.Able) h
 from_kept node from (Interest id current future kinds key aggregate) h may =
     interest_kept node from (record { id = id; kinds = kinds; key = key; aggregate = aggregate }) future h may
 from_kept node from (EndInterest id) h may = ended_kept node from id h
 from_kept node from (ToldSub id key interest) h may = h
+from_kept node from (ToldToken id key interest) h may = h
 from_kept node from (ToldAble id key complete interest) h may = h
 from_kept node from (ToldUnsub id) h may = h
+from_kept node from (ToldUntoken id) h may = h
 from_kept node from (ToldUnable id) h may = h
 from_kept node from (ToldEnd interest) h may = h
 from_kept node from (Push tree content) h may = h

@@ -14,7 +14,7 @@ use Rattle.zr_msg.specs.declared.decl.Decl.{Decl}
 use Rattle.zr_msg.specs.declared.decl.Kind.{Kind}
 use Rattle.zr_msg.specs.declared.decl.Kind.TheVariants as kind
 use Rattle.zr_msg.specs.declared.msg.Msg.{Msg}
-use Rattle.zr_msg.specs.declared.msg.Msg.TheVariants.{Sub, Unsub, Able, Unable, Interest, EndInterest, ToldSub, ToldAble, ToldUnsub, ToldUnable, ToldEnd, Push, Request, Response, Final, State, Step, Snap}
+use Rattle.zr_msg.specs.declared.msg.Msg.TheVariants.{Sub, Unsub, Token, Untoken, Able, Unable, Interest, EndInterest, ToldSub, ToldAble, ToldUnsub, ToldToken, ToldUntoken, ToldUnable, ToldEnd, Push, Request, Response, Final, State, Step, Snap}
 use Rattle.zr_oam.proofs.Keys.{zid_small}
 use Rattle.zr_oam.specs.Oam.{decl_before}
 use Rattle.zr_oam.specs.Writing.{writes_decl, writes_snap, decls_in_order}
@@ -30,12 +30,19 @@ before_so : (a b : Kind) (r : Ordering) (x y : List ℕ) → slice_cmp nat_cmp x
 before_so kind.Sub kind.Sub r x y e h = ap is_lt h
 before_so kind.Sub kind.Able r x y e h = refl
 before_so kind.Sub kind.Full r x y e h = refl
+before_so kind.Sub kind.Token r x y e h = refl
 before_so kind.Able kind.Sub r x y e h = cc
 before_so kind.Able kind.Able r x y e h = ap is_lt h
 before_so kind.Able kind.Full r x y e h = refl
+before_so kind.Able kind.Token r x y e h = refl
 before_so kind.Full kind.Sub r x y e h = cc
 before_so kind.Full kind.Able r x y e h = cc
 before_so kind.Full kind.Full r x y e h = ap is_lt h
+before_so kind.Full kind.Token r x y e h = refl
+before_so kind.Token kind.Sub r x y e h = cc
+before_so kind.Token kind.Able r x y e h = cc
+before_so kind.Token kind.Full r x y e h = cc
+before_so kind.Token kind.Token r x y e h = ap is_lt h
 
 before_is : (a b : Decl) → decl_cmp a b ≡ Less → decl_before a b ≡ true
 before_is a b h = before_so a.kind b.kind (slice_cmp nat_cmp a.key b.key) a.key b.key refl h
@@ -87,13 +94,17 @@ light_spelled (Snap source number decls) h s =
     (h.0, (let few = decls_few decls in omega (arith, few, h.2)), in_order decls h.1, snap_long source number decls (zid_small source s) h.2)
 light_spelled (Sub id key) h s = absurd h
 light_spelled (Unsub id) h s = absurd h
+light_spelled (Token id key) h s = absurd h
+light_spelled (Untoken id) h s = absurd h
 light_spelled (Able id key complete) h s = absurd h
 light_spelled (Unable id) h s = absurd h
 light_spelled (Interest id current future kinds key aggregate) h s = absurd h
 light_spelled (EndInterest id) h s = absurd h
 light_spelled (ToldSub id key interest) h s = absurd h
+light_spelled (ToldToken id key interest) h s = absurd h
 light_spelled (ToldAble id key complete interest) h s = absurd h
 light_spelled (ToldUnsub id) h s = absurd h
+light_spelled (ToldUntoken id) h s = absurd h
 light_spelled (ToldUnable id) h s = absurd h
 light_spelled (ToldEnd interest) h s = absurd h
 light_spelled (Push tree content) h s = absurd h

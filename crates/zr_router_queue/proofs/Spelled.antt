@@ -18,7 +18,7 @@ use Rattle.zr_msg.specs.declared.content.Parts.{Parts}
 use Rattle.zr_msg.specs.declared.decl.Decl.{Decl}
 use Rattle.zr_msg.specs.declared.decl.Kind.TheVariants as kind
 use Rattle.zr_msg.specs.declared.msg.Msg.{Msg}
-use Rattle.zr_msg.specs.declared.msg.Msg.TheVariants.{Sub, Unsub, Able, Unable, Interest, EndInterest, ToldSub, ToldAble, ToldUnsub, ToldUnable, ToldEnd, Push, Request, Response, Final, State, Step, Snap}
+use Rattle.zr_msg.specs.declared.msg.Msg.TheVariants.{Sub, Unsub, Token, Untoken, Able, Unable, Interest, EndInterest, ToldSub, ToldAble, ToldUnsub, ToldToken, ToldUntoken, ToldUnable, ToldEnd, Push, Request, Response, Final, State, Step, Snap}
 use Rattle.zr_msg.specs.declared.event.Event.{Event}
 use Rattle.zr_msg.specs.declared.event.Event.TheVariants.{Up, Down, From}
 use Rattle.zr_msg.specs.declared.peer.LinkPeer.{LinkPeer}
@@ -47,7 +47,7 @@ use Rattle.zr_told_spec.specs.Rows.{answered, closing, is_again, map_on, once, o
 use Rattle.zr_told_spec.specs.Told.{ToldMap, declared, declares, entered, fresh, gone, id_at, id_for, kept, retell, undeclared, undeclares}
 use Rattle.zr_told_spec.specs.Wanted.{Wanted, wanted}
 use Rattle.zr_told_spec.specs.declared.place.Class.{Class}
-use Rattle.zr_told_spec.specs.declared.place.Class.TheVariants.{Queryable, Subscriber}
+use Rattle.zr_told_spec.specs.declared.place.Class.TheVariants.{Subscriber, Queryable, Living}
 use Rattle.zr_told_spec.specs.declared.place.Place.{Place}
 use Rattle.zr_wire.specs.Writing.{IsSpelled}
 use Rattle.zr_router_queue.specs.Writable.{HoldsSpelled, IsReplySpelled, IsWritable}
@@ -205,13 +205,17 @@ ends_written pending held link to h = by (finals_of_drop (link_no link) pending)
 from_written : (node : NodeState) (from : ℕ) (msg : Msg) (to : ℕ) → HoldsSpelled node.held → IsSpelled msg → AreWritable (sends_from node from msg to)
 from_written node from (Sub id key) to spelled h = rows_written node (rows_declared node from (row from id kind.Sub key)) to
 from_written node from (Unsub id) to spelled h = rows_written node (rows_undeclared node from (key_of from id kind.Sub)) to
+from_written node from (Token id key) to spelled h = rows_written node (rows_declared node from (row from id kind.Token key)) to
+from_written node from (Untoken id) to spelled h = rows_written node (rows_undeclared node from (key_of from id kind.Token)) to
 from_written node from (Able id key complete) to spelled h = rows_written node (rows_declared node from (row from id (able_kind complete) key)) to
 from_written node from (Unable id) to spelled h = rows_written node (rows_undeclared node from (key_of from id kind.Able)) to
 from_written node from (Interest id current future kinds key aggregate) to spelled h = tt
 from_written node from (EndInterest id) to spelled h = tt
 from_written node from (ToldSub id key interest) to spelled h = tt
+from_written node from (ToldToken id key interest) to spelled h = tt
 from_written node from (ToldAble id key complete interest) to spelled h = tt
 from_written node from (ToldUnsub id) to spelled h = tt
+from_written node from (ToldUntoken id) to spelled h = tt
 from_written node from (ToldUnable id) to spelled h = tt
 from_written node from (ToldEnd interest) to spelled h = tt
 from_written node from (Push tree content) to spelled h = push_written (tables node) from tree content to h
@@ -244,10 +248,12 @@ sends_written node event to kept spelled taken h =
 declares_written : (id : ℕ) (class : Class) (key : List ℕ) (complete : Bool) (interest : Option ℕ) → IsWritable (declares id class key complete interest)
 declares_written id Subscriber key complete interest = inl tt
 declares_written id Queryable key complete interest = inl tt
+declares_written id Living key complete interest = inl tt
 
 undeclares_written : (id : ℕ) (class : Class) → IsWritable (undeclares id class)
 undeclares_written id Subscriber = inl tt
 undeclares_written id Queryable = inl tt
+undeclares_written id Living = inl tt
 
 undeclared_written : (m : ToldMap) (ps : List Place) → AreWritable (undeclared m ps)
 undeclared_written m [] = tt

@@ -5,7 +5,7 @@ use Rattle.std.specs.List.{list_any, find}
 use Rattle.std.specs.Option.{option_map_or}
 use Rattle.zr_id.specs.declared.link.LinkNo.{LinkNo}
 use Rattle.zr_msg.specs.declared.msg.Msg.{Msg}
-use Rattle.zr_msg.specs.declared.msg.Msg.TheVariants.{Sub, Unsub, Able, Unable, Interest, EndInterest, ToldSub, ToldAble, ToldUnsub, ToldUnable, ToldEnd, Push, Request, Response, Final, State, Step, Snap}
+use Rattle.zr_msg.specs.declared.msg.Msg.TheVariants.{Sub, Unsub, Token, Untoken, Able, Unable, Interest, EndInterest, ToldSub, ToldAble, ToldUnsub, ToldToken, ToldUntoken, ToldUnable, ToldEnd, Push, Request, Response, Final, State, Step, Snap}
 use Rattle.zr_msg.specs.declared.peer.Role.{Role}
 use Rattle.zr_msg.specs.declared.peer.Role.TheVariants as role
 use Rattle.zr_msg.specs.declared.event.Event.{Event}
@@ -124,13 +124,17 @@ abbrev pub may_drop : Msg → Bool
 may_drop (Push tree content) = option_map_or (λ qos. bit_and qos 0x08 == 0) content.extras.qos true
 may_drop (Sub id key) = false
 may_drop (Unsub id) = false
+may_drop (Token id key) = false
+may_drop (Untoken id) = false
 may_drop (Able id key complete) = false
 may_drop (Unable id) = false
 may_drop (Interest id current future kinds key aggregate) = false
 may_drop (EndInterest id) = false
 may_drop (ToldSub id key interest) = false
+may_drop (ToldToken id key interest) = false
 may_drop (ToldAble id key complete interest) = false
 may_drop (ToldUnsub id) = false
+may_drop (ToldUntoken id) = false
 may_drop (ToldUnable id) = false
 may_drop (ToldEnd interest) = false
 may_drop (Request tree id target content) = false

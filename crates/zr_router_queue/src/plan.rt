@@ -89,6 +89,8 @@ fn may_drop(msg: &Msg) -> bool
         },
         Msg::Sub { .. }
         | Msg::Unsub { .. }
+        | Msg::Token { .. }
+        | Msg::Untoken { .. }
         | Msg::Able { .. }
         | Msg::Unable { .. }
         | Msg::Interest { .. }
@@ -96,6 +98,8 @@ fn may_drop(msg: &Msg) -> bool
         | Msg::ToldSub { .. }
         | Msg::ToldAble { .. }
         | Msg::ToldUnsub { .. }
+        | Msg::ToldToken { .. }
+        | Msg::ToldUntoken { .. }
         | Msg::ToldUnable { .. }
         | Msg::ToldEnd { .. }
         | Msg::Request { .. }

@@ -6,7 +6,7 @@ use Rattle.zr_bytes.specs.Reading.{Read, ◌>>=◌, byte_of}
 use Rattle.zr_format_spec.specs.Writing.{writes_header}
 use Rattle.zr_wirekey.specs.Scopes.{Texts}
 use Rattle.zr_msg.specs.declared.msg.Msg.{Msg}
-use Rattle.zr_msg.specs.declared.msg.Msg.TheVariants.{Sub, Unsub, Able, Unable, Interest, EndInterest, ToldSub, ToldAble, ToldUnsub, ToldUnable, ToldEnd, Push, Request, Response, Final, State, Step, Snap}
+use Rattle.zr_msg.specs.declared.msg.Msg.TheVariants.{Sub, Unsub, Token, Untoken, Able, Unable, Interest, EndInterest, ToldSub, ToldAble, ToldUnsub, ToldToken, ToldUntoken, ToldUnable, ToldEnd, Push, Request, Response, Final, State, Step, Snap}
 use Rattle.zr_msg.specs.declared.peer.Role.{Role}
 use Rattle.zr_msg.specs.declared.peer.Role.TheVariants.{Client, Router}
 use Rattle.zr_decl.specs.declared.declared.Declared.{Declared}
@@ -158,6 +158,8 @@ final_heard law role id extras h =
 client_heard : AreRead → (m : Msg) → MayBeSent Client m → IsHeard Client m (writes_message m)
 client_heard law (Sub id key) h = declares (Sub id key) _ refl (λ keys rest. (law.declarations keys []).again (Sub id key) rest h.spelled tt)
 client_heard law (Unsub id) h = declares (Unsub id) _ refl (λ keys rest. (law.declarations keys []).again (Unsub id) rest h.spelled tt)
+client_heard law (Token id key) h = declares (Token id key) _ refl (λ keys rest. (law.declarations keys []).again (Token id key) rest h.spelled tt)
+client_heard law (Untoken id) h = declares (Untoken id) _ refl (λ keys rest. (law.declarations keys []).again (Untoken id) rest h.spelled tt)
 client_heard law (Able id key complete) h = declares (Able id key complete) _ refl (λ keys rest. (law.declarations keys []).again (Able id key complete) rest h.spelled tt)
 client_heard law (Unable id) h = declares (Unable id) _ refl (λ keys rest. (law.declarations keys []).again (Unable id) rest h.spelled tt)
 client_heard law (Interest id true true kinds key aggregate) h =
@@ -169,8 +171,10 @@ client_heard law (Interest id false true kinds key aggregate) h =
 client_heard law (Interest id false false kinds key aggregate) h = impossible h.spelled.3
 client_heard law (EndInterest id) h = asks (EndInterest id) 0x19 _ refl refl (λ keys rest. (law.interests keys []).again (EndInterest id) rest h.spelled tt)
 client_heard law (ToldSub id key interest) h = impossible h.admitted
+client_heard law (ToldToken id key interest) h = impossible h.admitted
 client_heard law (ToldAble id key complete interest) h = impossible h.admitted
 client_heard law (ToldUnsub id) h = impossible h.admitted
+client_heard law (ToldUntoken id) h = impossible h.admitted
 client_heard law (ToldUnable id) h = impossible h.admitted
 client_heard law (ToldEnd interest) h = impossible h.admitted
 client_heard law (Push tree content) h = push_heard law Client tree content h
@@ -192,13 +196,17 @@ state_heard links false reads = between (State links) _ refl reads
 router_heard : AreRead → (m : Msg) → MayBeSent Router m → IsHeard Router m (writes_message m)
 router_heard law (Sub id key) h = impossible h.admitted
 router_heard law (Unsub id) h = impossible h.admitted
+router_heard law (Token id key) h = impossible h.admitted
+router_heard law (Untoken id) h = impossible h.admitted
 router_heard law (Able id key complete) h = impossible h.admitted
 router_heard law (Unable id) h = impossible h.admitted
 router_heard law (Interest id current future kinds key aggregate) h = impossible h.admitted
 router_heard law (EndInterest id) h = impossible h.admitted
 router_heard law (ToldSub id key interest) h = impossible h.admitted
+router_heard law (ToldToken id key interest) h = impossible h.admitted
 router_heard law (ToldAble id key complete interest) h = impossible h.admitted
 router_heard law (ToldUnsub id) h = impossible h.admitted
+router_heard law (ToldUntoken id) h = impossible h.admitted
 router_heard law (ToldUnable id) h = impossible h.admitted
 router_heard law (ToldEnd interest) h = impossible h.admitted
 router_heard law (Push tree content) h = push_heard law Router tree content h

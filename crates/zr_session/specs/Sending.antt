@@ -1,7 +1,7 @@
 -- What a peer sends by its outbox, and what is heard of it.
 use Rattle.std.specs.Prelude.{◌≡◌, ◌≤◌, true, List, [], ◌∷◌, ◌++◌, length, map, None}
 use Rattle.zr_msg.specs.declared.msg.Msg.{Msg}
-use Rattle.zr_msg.specs.declared.msg.Msg.TheVariants.{Sub, Unsub, Able, Unable, Interest, EndInterest, ToldSub, ToldAble, ToldUnsub, ToldUnable, ToldEnd, Push, Request, Response, Final, State, Step, Snap}
+use Rattle.zr_msg.specs.declared.msg.Msg.TheVariants.{Sub, Unsub, Token, Untoken, Able, Unable, Interest, EndInterest, ToldSub, ToldAble, ToldUnsub, ToldToken, ToldUntoken, ToldUnable, ToldEnd, Push, Request, Response, Final, State, Step, Snap}
 use Rattle.zr_msg.specs.declared.peer.Role.{Role}
 use Rattle.zr_decl.specs.Writing as decl
 use Rattle.zr_net.specs.Writing as net
@@ -27,11 +27,15 @@ use Rattle.zr_session.specs.Step.{with_channels}
 abbrev pub CanBeSent : Role → Msg → Type 0
 CanBeSent role (Sub id key) = decl.Declares (Sub id key)
 CanBeSent role (Unsub id) = decl.Declares (Unsub id)
+CanBeSent role (Token id key) = decl.Declares (Token id key)
+CanBeSent role (Untoken id) = decl.Declares (Untoken id)
 CanBeSent role (Able id key complete) = decl.Declares (Able id key complete)
 CanBeSent role (Unable id) = decl.Declares (Unable id)
 CanBeSent role (ToldSub id key interest) = decl.Declares (ToldSub id key interest)
+CanBeSent role (ToldToken id key interest) = decl.Declares (ToldToken id key interest)
 CanBeSent role (ToldAble id key complete interest) = decl.Declares (ToldAble id key complete interest)
 CanBeSent role (ToldUnsub id) = decl.Declares (ToldUnsub id)
+CanBeSent role (ToldUntoken id) = decl.Declares (ToldUntoken id)
 CanBeSent role (ToldUnable id) = decl.Declares (ToldUnable id)
 CanBeSent role (ToldEnd interest) = decl.Declares (ToldEnd interest)
 CanBeSent role (Interest id current future kinds key aggregate) = decl.Asks (Interest id current future kinds key aggregate)

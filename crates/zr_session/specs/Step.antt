@@ -55,7 +55,7 @@ with_keys s keys = record { role = s.role; lease = s.lease; answer = s.answer; c
 abbrev pub numbered : session.Established → Texts → Course
 numbered s keys = if nat_lt 1048576 (bytes_of keys) then closed Generic s else going (phase.Established (with_keys s keys))
 
--- tokens and the ends of what interests asked for: a client's are ignored, a router has none
+-- the ends of what interests asked for: a client's are ignored, a router has none
 abbrev pub ignored : Role → session.Established → Course
 ignored Client s = going (phase.Established s)
 ignored Router s = closed Invalid s

@@ -202,7 +202,7 @@ impl Established {
         }
     }
 
-    /// A token, or the end of what an interest asked for.
+    /// The end of what an interest asked for.
     fn ignore(&self) -> Result<(), ReadStop>
         ensures { (out : Fed) → Steps result (ignored self.now.role self.now) (phase.Established self.now) out out }
     {

@@ -1,6 +1,8 @@
 //! Network messages, declarations and messages between routers: which bytes are read as which, which are refused, and how messages are
 //! written. They come from a sender that declared `a/b` as 1.
 
+ghost use Rattle.zr_decl.specs.Writing.{Fits};
+
 use crate::keys::declared;
 use crate::row::{self, Fault};
 use crate::texts;
@@ -23,10 +25,18 @@ use zr_wirekey::Scopes;
 pub fn answer(alloc: Global, words: &[&str]) -> Result<String, Fault> {
     match row::word(words, 0) {
         "cut" => cut(alloc, words),
-        "told" => told(alloc),
+        "told" => told(alloc, kind_of(row::word(words, 1))?),
         "push" => push(alloc, row::parsed(words, 1)?),
-        "entry" => entry(alloc),
+        "entry" => entry(alloc, kind_of(row::word(words, 1))?),
         word => shown(alloc, word, &row::bytes(alloc, words, 1)?),
+    }
+}
+
+fn kind_of(word: &str) -> Result<Kind, Fault> {
+    match word {
+        "sub" => Ok(Kind::Sub),
+        "token" => Ok(Kind::Token),
+        _ => Err(Fault::Row),
     }
 }
 
@@ -126,11 +136,11 @@ fn is_short(alloc: Global, sort: &str, bytes: &[u8], theirs: &Scopes) -> bool {
     is_short
 }
 
-// A subscriber in answer to an interest, and the end of the answers.
-fn told(alloc: Global) -> Result<String, Fault> {
+// A subscriber or a token in answer to an interest, and the end of the answers.
+fn told(alloc: Global, kind: Kind) -> Result<String, Fault> {
     let key = KeyExpr::read(alloc, b"a/b")?;
     let mut out = Vec::new(alloc);
-    put_told(&mut out, key)?;
+    put_told(&mut out, kind, key)?;
     put_end(&mut out)?;
     row::or_fault(row::digits(alloc, &out))
 }
@@ -142,15 +152,21 @@ fn put_end(out: &mut Vec<u8>) -> Result<(), AllocError> {
     written
 }
 
-fn put_told(out: &mut Vec<u8>, key: KeyExpr) -> Result<(), AllocError> {
-    let msg = Msg::ToldSub {
-        id: 1,
-        key,
-        interest: Some(1),
-    };
+fn put_told(out: &mut Vec<u8>, kind: Kind, key: KeyExpr) -> Result<(), AllocError> {
+    let msg = told_of(kind, key);
     let written = write_decl(out, &msg);
     drop(msg);
     written
+}
+
+fn told_of(kind: Kind, key: KeyExpr) -> Msg
+    ensures { Fits result }
+{
+    let (id, interest) = (1, Some(1));
+    match kind {
+        Kind::Token => Msg::ToldToken { id, key, interest },
+        Kind::Sub | Kind::Able | Kind::Full => Msg::ToldSub { id, key, interest },
+    }
 }
 
 // The value `hi` on `a/b`, for which a number may stand.
@@ -173,10 +189,10 @@ fn put_push(alloc: Global, out: &mut Vec<u8>, key: KeyExpr, number: u16) -> Resu
     written
 }
 
-// The first entry of 02, which adds the subscriber `a`.
-fn entry(alloc: Global) -> Result<String, Fault> {
+// The first entry of 02, which adds the subscriber or the token `a`.
+fn entry(alloc: Global, kind: Kind) -> Result<String, Fault> {
     let decl = Decl {
-        kind: Kind::Sub,
+        kind,
         key: KeyExpr::read(alloc, b"a")?,
     };
     let source = Zid::from_bytes(&[2])?;

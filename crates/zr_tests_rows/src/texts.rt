@@ -43,6 +43,8 @@ pub fn message(alloc: Global, msg: &Msg) -> Result<String, AllocError> {
         Msg::State { .. } | Msg::Step { .. } | Msg::Snap { .. } => between_routers(alloc, msg),
         Msg::Sub { .. }
         | Msg::Unsub { .. }
+        | Msg::Token { .. }
+        | Msg::Untoken { .. }
         | Msg::Able { .. }
         | Msg::Unable { .. }
         | Msg::Interest { .. }
@@ -50,6 +52,8 @@ pub fn message(alloc: Global, msg: &Msg) -> Result<String, AllocError> {
         | Msg::ToldSub { .. }
         | Msg::ToldAble { .. }
         | Msg::ToldUnsub { .. }
+        | Msg::ToldToken { .. }
+        | Msg::ToldUntoken { .. }
         | Msg::ToldUnable { .. }
         | Msg::ToldEnd { .. } => declared(alloc, msg),
     }
@@ -86,6 +90,8 @@ fn declared(alloc: Global, msg: &Msg) -> Result<String, AllocError> {
     match msg {
         Msg::Sub { id, key } => keyed(alloc, "sub", *id, key),
         Msg::Unsub { id } => numbered(alloc, "unsub", *id),
+        Msg::Token { id, key } => keyed(alloc, "token", *id, key),
+        Msg::Untoken { id } => numbered(alloc, "untoken", *id),
         Msg::Able { id, key, complete } => able(alloc, *id, key, *complete),
         Msg::Unable { id } => numbered(alloc, "unable", *id),
         Msg::Interest {

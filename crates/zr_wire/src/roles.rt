@@ -23,6 +23,8 @@ fn client_may_send(msg: &Msg) -> bool
     match msg {
         Msg::Sub { .. }
         | Msg::Unsub { .. }
+        | Msg::Token { .. }
+        | Msg::Untoken { .. }
         | Msg::Able { .. }
         | Msg::Unable { .. }
         | Msg::Interest { .. }
@@ -33,6 +35,8 @@ fn client_may_send(msg: &Msg) -> bool
         Msg::ToldSub { .. }
         | Msg::ToldAble { .. }
         | Msg::ToldUnsub { .. }
+        | Msg::ToldToken { .. }
+        | Msg::ToldUntoken { .. }
         | Msg::ToldUnable { .. }
         | Msg::ToldEnd { .. }
         | Msg::State { .. }
@@ -54,6 +58,8 @@ fn router_may_send(msg: &Msg) -> bool
         Msg::Push { tree, .. } | Msg::Request { tree, .. } => tree.is_some(),
         Msg::Sub { .. }
         | Msg::Unsub { .. }
+        | Msg::Token { .. }
+        | Msg::Untoken { .. }
         | Msg::Able { .. }
         | Msg::Unable { .. }
         | Msg::Interest { .. }
@@ -61,6 +67,8 @@ fn router_may_send(msg: &Msg) -> bool
         | Msg::ToldSub { .. }
         | Msg::ToldAble { .. }
         | Msg::ToldUnsub { .. }
+        | Msg::ToldToken { .. }
+        | Msg::ToldUntoken { .. }
         | Msg::ToldUnable { .. }
         | Msg::ToldEnd { .. } => false,
     }

@@ -21,6 +21,8 @@ pub fn write_message(out: &mut Vec<u8>, msg: &Msg) -> Result<(), AllocError>
     match msg {
         Msg::Sub { .. }
         | Msg::Unsub { .. }
+        | Msg::Token { .. }
+        | Msg::Untoken { .. }
         | Msg::Able { .. }
         | Msg::Unable { .. }
         | Msg::Interest { .. }
@@ -28,6 +30,8 @@ pub fn write_message(out: &mut Vec<u8>, msg: &Msg) -> Result<(), AllocError>
         | Msg::ToldSub { .. }
         | Msg::ToldAble { .. }
         | Msg::ToldUnsub { .. }
+        | Msg::ToldToken { .. }
+        | Msg::ToldUntoken { .. }
         | Msg::ToldUnable { .. }
         | Msg::ToldEnd { .. } => write_decl(out, msg),
         Msg::Push { .. } | Msg::Request { .. } | Msg::Response { .. } | Msg::Final { .. } => {
