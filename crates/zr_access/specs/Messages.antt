@@ -7,7 +7,7 @@ use Rattle.zr_msg.specs.Peer.{PeerState}
 use Rattle.zr_msg.specs.declared.peer.Role.{Role}
 use Rattle.zr_msg.specs.declared.peer.Role.TheVariants.{Client, Router}
 use Rattle.zr_access.specs.declared.policy.Act.{Act}
-use Rattle.zr_access.specs.declared.policy.Act.TheVariants.{Sub, Able, Interest, Put, Del, Get, Reply}
+use Rattle.zr_access.specs.declared.policy.Act.TheVariants.{Sub, Able, Token, Interest, Put, Del, Get, Reply}
 use Rattle.zr_access.specs.declared.policy.Verdict.{Verdict}
 use Rattle.zr_access.specs.declared.policy.Verdict.TheVariants.{Allowed, Denied}
 use Rattle.zr_access.specs.Rules.{PolicyState, judged}
@@ -29,13 +29,17 @@ sample_act body = if is_del body then Del else Put
 abbrev pub deed_of : Msg → Option Deed
 deed_of (msg.Sub id key) = deed Sub key
 deed_of (msg.Unsub id) = None
+deed_of (msg.Token id key) = deed Token key
+deed_of (msg.Untoken id) = None
 deed_of (msg.Able id key complete) = deed Able key
 deed_of (msg.Unable id) = None
 deed_of (msg.Interest id current future kinds key aggregate) = Some (record { act = Interest; key = key })
 deed_of (msg.EndInterest id) = None
 deed_of (msg.ToldSub id key interest) = None
+deed_of (msg.ToldToken id key interest) = None
 deed_of (msg.ToldAble id key complete interest) = None
 deed_of (msg.ToldUnsub id) = None
+deed_of (msg.ToldUntoken id) = None
 deed_of (msg.ToldUnable id) = None
 deed_of (msg.ToldEnd interest) = None
 deed_of (msg.Push tree content) = deed (sample_act content.body) content.key

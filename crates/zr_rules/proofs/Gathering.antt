@@ -24,7 +24,7 @@ pub of_gathered : (P : List ℕ → Type 0) (bytes : List ℕ) (a b : Option (Li
 of_gathered P bytes a b h p = (bytes, h, p)
 
 pub fails_gathered : (Ended : Type 0) (e : RulesError) (a b : Option (List ℕ)) → OfBytes a b (IsGathered Ended (Err e)) → OfBytes a b (GivesRules Ended (Err e))
-fails_gathered Ended (Refused line fault) a b h = absurd h.2
+fails_gathered Ended (Refused line fault shown) a b h = absurd h.2
 fails_gathered Ended TooLong a b h = h
 fails_gathered Ended ReadFault a b h = h
 fails_gathered Ended NoMemory a b h = h

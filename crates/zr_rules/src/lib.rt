@@ -1,6 +1,7 @@
 //! The rules of a router, read from an input, and what is told where it gives none.
 #![tactic(auto)]
 
+mod explaining;
 mod rules;
 mod telling;
 

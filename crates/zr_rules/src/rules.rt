@@ -3,9 +3,10 @@
 ghost use Rattle.std.specs.Prelude.{◌≡◌, ◌<◌, ◌≤◌, [], Err, OnOk, length};
 ghost use Rattle.zr_outside.specs.Counts.{Rose};
 ghost use Rattle.zr_outside.specs.Piece.{IsReadToEnd};
-ghost use Rattle.zr_rules.specs.Given.{Gathers, GivesRules, IsGathered, OfBytes, most_bytes};
+ghost use Rattle.zr_rules.specs.Given.{Gathers, GivesRules, IsGathered, IsRefusal, OfBytes, most_bytes};
 
-use std::alloc::Global;
+use crate::explaining::line_at;
+use std::alloc::{AllocError, Global};
 use zr_access::{Policy, PolicyError, PolicyFault};
 use zr_outside::piece::{Piece, next_piece};
 use zr_outside::source::Source;
@@ -16,11 +17,18 @@ const MOST_BYTES: usize = 1_048_576;
 /// How many bytes are asked for in a read.
 const MOST_A_READ: usize = 4_096;
 
+/// How many bytes of a faulty line are kept at most: one more than a line may have.
+const MOST_SHOWN: usize = 4_097;
+
 /// Why there are no rules.
-#[derive(Clone, Copy)]
+#[derive(Drop)]
 pub enum RulesError {
-    /// The first faulty line, and what is wrong with it.
-    Refused { line: u64, fault: PolicyFault },
+    /// The first faulty line, what is wrong with it, and its bytes, as far as they are shown.
+    Refused {
+        line: u64,
+        fault: PolicyFault,
+        shown: Vec<u8>,
+    },
     /// More than 1,048,576 bytes were read.
     TooLong,
     /// A read failed.
@@ -44,8 +52,25 @@ pub fn read_rules<S: Source>(alloc: Global, input: &mut S) -> Result<Policy, Rul
     }
     match Policy::read(alloc, text.as_slice()) {
         Ok(policy) => Ok(policy),
-        Err(PolicyError::Refused { line, fault }) => Err(RulesError::Refused { line, fault }),
+        Err(PolicyError::Refused { line, fault }) => Err(refused(
+            alloc,
+            text.as_slice(),
+            line,
+            fault,
+        )),
         Err(PolicyError::NoMemory) => Err(RulesError::NoMemory),
+    }
+}
+
+// The refusal for a faulty line of a text.
+#[tactic(auto, using(std::proofs::lemmas::List::take_min))]
+fn refused(alloc: Global, text: &[u8], line: u64, fault: PolicyFault) -> RulesError
+    ensures { IsRefusal line fault text.now result }
+{
+    let bytes = line_at(line, text);
+    match bytes[..MOST_SHOWN.min(bytes.len())].to_vec(alloc) {
+        Ok(shown) => RulesError::Refused { line, fault, shown },
+        Err(AllocError) => RulesError::NoMemory,
     }
 }
 

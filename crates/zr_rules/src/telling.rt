@@ -2,8 +2,9 @@
 
 ghost use Rattle.std.specs.Prelude.{◌≡◌, ◌≤◌, ◌++◌, IfOk};
 ghost use Rattle.zr_outside.specs.Counts.{Rose};
-ghost use Rattle.zr_rules.specs.Given.{Complains, TellsRules, fault_text, refusal_text};
+ghost use Rattle.zr_rules.specs.Given.{Complains, TellsRules, fault_text, refusal_text, refusal_told};
 
+use crate::explaining::put_explanation;
 use crate::rules::RulesError;
 use itoa::Buffer;
 use std::alloc::{AllocError, Global};
@@ -23,20 +24,27 @@ pub enum RulesEnd {
     WriteFault,
 }
 
-/// Tells why an input gave no rules, where its text is the cause: `rules line N: NUMBER NAME` of the first faulty line, or `rules too long`. The end says
-/// whether it was told, or why it wasn't.
-pub fn tell_refusal<E: Sink>(alloc: Global, error: RulesError, err: &mut E) -> RulesEnd
-    ensures tells { TellsRules error result (E.held err.old) (E.held err.new) }
+/// Tells why an input gave no rules, where its text is the cause: `rules line N: NUMBER NAME` of the first faulty line, or `rules too long`. Where that is
+/// asked for, the faulty line follows with a caret under what is wrong, and what is expected. The end says whether it was told, or why it wasn't.
+pub fn tell_refusal<E: Sink>(
+    alloc: Global,
+    explain: bool,
+    error: RulesError,
+    err: &mut E,
+) -> RulesEnd
+    ensures tells { TellsRules explain error result (E.held err.old) (E.held err.new) }
     ensures write { result ≡ RulesEnd.WriteFault → Rose (E.faults err.old) (E.faults err.new) }
     ensures read { result ≡ RulesEnd.ReadFault → error ≡ RulesError.ReadFault }
     ensures quiet { result ≡ RulesEnd.Refused → E.faults err.new ≡ E.faults err.old }
     ensures later { E.faults err.old ≤ E.faults err.new }
 {
     match error {
-        RulesError::Refused { line, fault } => match refusal_line(alloc, line, fault) {
-            Ok(text) => complain(text.as_slice(), err),
-            Err(AllocError) => RulesEnd::NoMemory,
-        },
+        RulesError::Refused { line, fault, shown } => {
+            match refusal_told(alloc, explain, line, fault, shown.as_slice()) {
+                Ok(text) => complain(text.as_slice(), err),
+                Err(AllocError) => RulesEnd::NoMemory,
+            }
+        }
         RulesError::TooLong => complain(b"rules too long\n", err),
         RulesError::ReadFault => RulesEnd::ReadFault,
         RulesError::NoMemory => RulesEnd::NoMemory,
@@ -54,6 +62,22 @@ fn complain<E: Sink>(text: &[u8], err: &mut E) -> RulesEnd
         Ok(()) => RulesEnd::Refused,
         Err(_) => RulesEnd::WriteFault,
     }
+}
+
+fn refusal_told(
+    alloc: Global,
+    explain: bool,
+    line: u64,
+    fault: PolicyFault,
+    shown: &[u8],
+) -> Result<Vec<u8>, AllocError>
+    ensures { IfOk result (λ text. text.items ≡ refusal_told explain line fault shown.now) }
+{
+    let mut text = refusal_line(alloc, line, fault)?;
+    if explain {
+        put_explanation(alloc, shown, fault, &mut text)?;
+    }
+    Ok(text)
 }
 
 fn refusal_line(alloc: Global, line: u64, fault: PolicyFault) -> Result<Vec<u8>, AllocError>

@@ -2,6 +2,7 @@
 use Rattle.std.specs.Prelude.{ℕ, ◌||◌, not, nat_eq, nat_lt, Bool, if◌then◌else◌, List, [], ◌∷◌, ◌++◌, length, map, drop, codes, Option, Some, None, Result, Ok, Err}
 use Rattle.std.specs.List.{slice_get}
 use Rattle.std.specs.Cmp.Lexicographic.{pointwise}
+use Rattle.zr_caret.specs.Shown.{shown}
 use Rattle.zr_key.specs.Key.{read_key}
 use Rattle.zr_key.specs.declared.key.KeyError.{KeyError}
 use Rattle.zr_key.specs.declared.key.KeyError.TheVariants as k
@@ -12,14 +13,7 @@ use Rattle.zr_script_spec.specs.Words.{is_word, is_clean, is_printable, is_space
 use Rattle.zr_script_explain.specs.Forms.{word_at, declares, undeclares, is_query, is_interest, ends_interest, is_of_client, is_numbered, key_number, form}
 use Rattle.zr_script_explain.specs.Places.{has_all, is_first_good, is_name, is_target, is_mode, is_kind, is_query_bad, is_time_bad, is_interest_bad, is_weight_bad, odd_byte}
 
--- ---- bytes as they are shown
-
--- a byte that is not printable is shown as `?`
-abbrev pub shown_byte : ℕ → ℕ
-shown_byte b = if is_printable b then b else 63
-
-abbrev pub shown : List ℕ → List ℕ
-shown bytes = map shown_byte bytes
+-- ---- words as they are shown
 
 -- the word of this number, as it is shown
 abbrev pub told : ℕ → List (List ℕ) → List ℕ
@@ -77,7 +71,7 @@ query_cause ws =
 abbrev pub interest_cause : List (List ℕ) → List ℕ
 interest_cause ws =
     if not (is_mode (word_at 3 ws)) then told 3 ws ++ codes " is no mode, which is now, later or both"
-    else if not (is_kind (word_at 4 ws)) then told 4 ws ++ codes " is no kind, which is sub, able or all"
+    else if not (is_kind (word_at 4 ws)) then told 4 ws ++ codes " is no kind, which is sub, able, token or all"
     else told 6 ws ++ codes " is not aggregate, which alone may stand behind the key"
 
 -- a word that must be a weight, and is none

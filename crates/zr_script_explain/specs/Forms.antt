@@ -9,11 +9,11 @@ word_at number (word ∷ more) = if number == 0 then word else word_at (number -
 
 -- a command that declares: `CLIENT N KEY` stands behind it
 abbrev pub declares : List ℕ → Bool
-declares name = is_word name (codes "sub") || is_word name (codes "able") || is_word name (codes "full")
+declares name = is_word name (codes "sub") || is_word name (codes "able") || is_word name (codes "full") || is_word name (codes "token")
 
 -- a command that takes a declaration back: `CLIENT N` stands behind it
 abbrev pub undeclares : List ℕ → Bool
-undeclares name = is_word name (codes "unsub") || is_word name (codes "unable")
+undeclares name = is_word name (codes "unsub") || is_word name (codes "unable") || is_word name (codes "untoken")
 
 -- a command that publishes: `CLIENT KEY` stands behind it
 abbrev pub publishes : List ℕ → Bool
@@ -102,6 +102,8 @@ later_form name =
     else if is_word name (codes "able") then codes "able CLIENT N KEY"
     else if is_word name (codes "full") then codes "full CLIENT N KEY"
     else if is_word name (codes "unable") then codes "unable CLIENT N"
+    else if is_word name (codes "token") then codes "token CLIENT N KEY"
+    else if is_word name (codes "untoken") then codes "untoken CLIENT N"
     else if is_word name (codes "interest") then codes "interest CLIENT N MODE KIND KEY [aggregate]"
     else if is_word name (codes "uninterest") then codes "uninterest CLIENT N"
     else last_form name

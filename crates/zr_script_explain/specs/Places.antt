@@ -1,6 +1,7 @@
 -- Where a refused line is wrong: at which word, or at which byte.
 use Rattle.std.specs.Prelude.{ℕ, ◌+◌, ◌-◌, ◌^◌, ◌==◌, ◌&&◌, ◌||◌, not, nat_lt, nat_le, Bool, true, false, if◌then◌else◌, List, [], ◌∷◌, length, codes, position, Option, Some, None, is_some}
 use Rattle.std.specs.List.{slice_get}
+use Rattle.zr_caret.specs.Shown.{place_of_word}
 use Rattle.zr_id.specs.Zid.{zid_of_hex}
 use Rattle.zr_script_spec.specs.declared.error.ScriptError.{ScriptError}
 use Rattle.zr_script_spec.specs.declared.error.ScriptError.TheVariants.{UnknownCommand, BadWords, BadKey, UnknownName, NameTaken, NotLinked, AlreadyLinked, NothingThere, NotAsked, NotSettled, NotJoined, Limit, NoMemory}
@@ -27,7 +28,7 @@ abbrev pub is_mode : List ℕ → Bool
 is_mode word = is_word word (codes "now") || is_word word (codes "later") || is_word word (codes "both")
 
 abbrev pub is_kind : List ℕ → Bool
-is_kind word = is_word word (codes "sub") || is_word word (codes "able") || is_word word (codes "all")
+is_kind word = is_word word (codes "sub") || is_word word (codes "able") || is_word word (codes "token") || is_word word (codes "all")
 
 -- a word that is a weight
 abbrev pub is_weight : List ℕ → Bool
@@ -93,17 +94,6 @@ abbrev pub linked_word : List ℕ → ℕ
 linked_word name = if is_of_client name then 1 else 2
 
 -- ---- places
-
--- how many bytes stand in front of the word of this number; all of them where there is none. The flag says whether a word has begun
-abbrev pub place_from : Bool → ℕ → List ℕ → ℕ
-place_from inside number [] = 0
-place_from true number (b ∷ bs) = if b == 32 then place_from false number bs + 1 else place_from true number bs + 1
-place_from false number (b ∷ bs) =
-    if b == 32 then place_from false number bs + 1 else if number == 0 then 0 else place_from true (number - 1) bs + 1
-
--- the place of the word of this number
-abbrev pub place_of_word : ℕ → List ℕ → ℕ
-place_of_word number line = place_from false number line
 
 -- the place of the first byte that is not printable
 abbrev pub odd_byte : List ℕ → Option ℕ

@@ -13,8 +13,9 @@ use crate::places::{
     begins_with_space, has_all, is_first_good, is_interest_bad, is_kind, is_mode, is_name,
     is_query_bad, is_target, is_time_bad, is_weight_bad, odd_byte,
 };
-use crate::put::{put_one, put_shown, put_told, put_two};
+use crate::put::{put_one, put_told, put_two};
 use std::alloc::{AllocError, Global};
+use zr_caret::put_shown;
 use zr_key::key::{KeyError, KeyExpr};
 use zr_script::line::MOST_LINE;
 use zr_script::word::{is_clean, is_word};
@@ -158,7 +159,12 @@ fn put_interest_cause(words: &[&[u8]], text: &mut Vec<u8>) -> Result<(), AllocEr
     if !is_mode(word_at(3, words)) {
         put_word(3, b" is no mode, which is now, later or both", words, text)
     } else if !is_kind(word_at(4, words)) {
-        put_word(4, b" is no kind, which is sub, able or all", words, text)
+        put_word(
+            4,
+            b" is no kind, which is sub, able, token or all",
+            words,
+            text,
+        )
     } else {
         put_word(
             6,

@@ -5,8 +5,8 @@ ghost use Rattle.zr_script_explain.specs.Explained.{explanation};
 
 use crate::causes::put_cause;
 use crate::places::place;
-use crate::put::{put_caret, put_shown};
 use std::alloc::{AllocError, Global};
+use zr_caret::{put_caret, put_shown};
 use zr_script::word::words_of;
 use zr_script_spec::error::ScriptError;
 

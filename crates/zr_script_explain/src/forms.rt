@@ -25,14 +25,17 @@ pub(crate) fn word_at<'a>(number: usize, words: &[&'a [u8]]) -> &'a [u8]
 pub(crate) fn declares(name: &[u8]) -> bool
     ensures { result ≡ declares name.now }
 {
-    is_word(name, b"sub") || is_word(name, b"able") || is_word(name, b"full")
+    is_word(name, b"sub")
+        || is_word(name, b"able")
+        || is_word(name, b"full")
+        || is_word(name, b"token")
 }
 
 /// Whether a command takes a declaration back.
 pub(crate) fn undeclares(name: &[u8]) -> bool
     ensures { result ≡ undeclares name.now }
 {
-    is_word(name, b"unsub") || is_word(name, b"unable")
+    is_word(name, b"unsub") || is_word(name, b"unable") || is_word(name, b"untoken")
 }
 
 fn publishes(name: &[u8]) -> bool
@@ -198,6 +201,10 @@ fn later_form(name: &[u8]) -> &'static [u8]
         b"full CLIENT N KEY"
     } else if is_word(name, b"unable") {
         b"unable CLIENT N"
+    } else if is_word(name, b"token") {
+        b"token CLIENT N KEY"
+    } else if is_word(name, b"untoken") {
+        b"untoken CLIENT N"
     } else if is_word(name, b"interest") {
         b"interest CLIENT N MODE KIND KEY [aggregate]"
     } else if is_word(name, b"uninterest") {

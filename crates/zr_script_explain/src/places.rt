@@ -2,12 +2,13 @@
 
 ghost use Rattle.std.specs.Prelude.{◌≡◌, map, slice_get};
 ghost use Rattle.zr_script_spec.specs.Words.{is_space};
-ghost use Rattle.zr_script_explain.specs.Places.{bad_word, has_all, interest_word, is_count, is_first_good, is_interest_bad, is_kind, is_mode, is_name, is_query_bad, is_target, is_time_bad, is_weight, is_weight_bad, later_word, linked_word, odd_byte, place, place_of_byte, place_of_limit, place_of_space, place_of_word, query_word, taken_word, unknown_word};
+ghost use Rattle.zr_script_explain.specs.Places.{bad_word, has_all, interest_word, is_count, is_first_good, is_interest_bad, is_kind, is_mode, is_name, is_query_bad, is_target, is_time_bad, is_weight, is_weight_bad, later_word, linked_word, odd_byte, place, place_of_byte, place_of_limit, place_of_space, query_word, taken_word, unknown_word};
 
 use crate::forms::{
     gives_number, is_interest, is_of_client, is_query, is_reply, key_number, links, most_behind,
     word_at, words_behind,
 };
+use zr_caret::place_of_word;
 use zr_id::zid::Zid;
 use zr_script::line::MOST_LINE;
 use zr_script::word::{is_clean, is_number, is_word, value};
@@ -184,7 +185,10 @@ pub(crate) fn is_mode(word: &[u8]) -> bool
 pub(crate) fn is_kind(word: &[u8]) -> bool
     ensures { result ≡ is_kind word.now }
 {
-    is_word(word, b"sub") || is_word(word, b"able") || is_word(word, b"all")
+    is_word(word, b"sub")
+        || is_word(word, b"able")
+        || is_word(word, b"token")
+        || is_word(word, b"all")
 }
 
 /// Whether a line has as many words as its command takes.
@@ -217,26 +221,6 @@ fn is_count(word: &[u8]) -> bool
     ensures { result ≡ is_count word.now }
 {
     is_number(word) && value(word).is_some()
-}
-
-// How many bytes stand in front of the word of this number; all of them where there is none.
-fn place_of_word(number: usize, line: &[u8]) -> usize
-    ensures { result ≡ place_of_word number line.now }
-{
-    let mut left = number;
-    let mut inside = false;
-    for place in 0..line.len() {
-        if line[place] == b' ' {
-            inside = false;
-        } else if !inside {
-            if left == 0 {
-                return place;
-            }
-            left -= 1;
-            inside = true;
-        }
-    }
-    line.len()
 }
 
 // Where a line is not clean: at its first byte that is not printable, or else at a space with which it begins or ends.

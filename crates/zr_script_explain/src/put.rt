@@ -1,52 +1,11 @@
-//! The parts of an explanation, each appended: bytes as they are shown, words in a text, and the line with the caret.
+//! Words of a line, each appended as it is shown, with texts around them.
 
-ghost use Rattle.std.specs.Prelude.{◌≡◌, ◌++◌, codes, map, replicate, OnOk};
-ghost use Rattle.zr_script_explain.specs.Causes.{of_two, shown, shown_byte, told};
-ghost use Rattle.zr_script_explain.specs.Explained.{caret_line};
+ghost use Rattle.std.specs.Prelude.{◌≡◌, ◌++◌, map, OnOk};
+ghost use Rattle.zr_script_explain.specs.Causes.{of_two, told};
 
 use crate::forms::word_at;
 use std::alloc::AllocError;
-
-/// What stands in the place of a byte that is not printable.
-const UNPRINTABLE: u8 = b'?';
-
-/// Bytes, of which those that are not printable are shown as `?`.
-pub(crate) fn put_shown(bytes: &[u8], text: &mut Vec<u8>) -> Result<(), AllocError>
-    ensures { OnOk result (text.new.items ≡ text.old.items ++ shown bytes.now) }
-{
-    for byte in bytes {
-        text.push(shown_byte(*byte))?;
-    }
-    Ok(())
-}
-
-fn shown_byte(byte: u8) -> u8
-    ensures { result ≡ shown_byte byte }
-{
-    if (b' '..=b'~').contains(&byte) {
-        byte
-    } else {
-        UNPRINTABLE
-    }
-}
-
-/// A caret behind so many spaces.
-pub(crate) fn put_caret(place: usize, text: &mut Vec<u8>) -> Result<(), AllocError>
-    ensures { OnOk result (text.new.items ≡ text.old.items ++ caret_line place) }
-{
-    put_spaces(place, text)?;
-    text.extend_from_slice(b"^")?;
-    text.extend_from_slice(b"\n")
-}
-
-fn put_spaces(count: usize, text: &mut Vec<u8>) -> Result<(), AllocError>
-    ensures { OnOk result (text.new.items ≡ text.old.items ++ replicate count 32) }
-{
-    'spaces: for _ in 0..count {
-        text.push(b' ')?;
-    }
-    Ok(())
-}
+use zr_caret::put_shown;
 
 /// The word of this number, as it is shown.
 pub(crate) fn put_told(number: usize, words: &[&[u8]], text: &mut Vec<u8>) -> Result<(), AllocError>
