@@ -4,4 +4,6 @@ pub mod Written
 pub mod Acts
 pub mod Run
 pub mod Log
+pub mod Denied
+pub mod Logged
 pub mod Complete

@@ -15,10 +15,12 @@ ghost use Rattle.zr_link.specs.declared.end.LinkEnd.TheVariants as end;
 ghost use Rattle.zr_link.specs.Heard.{AreMessages, IsLate, IsOpen, IsIn};
 ghost use Rattle.zr_link.specs.Heard as heard;
 ghost use Rattle.zr_port.specs.Coming.{Came, Through, sight};
+ghost use Rattle.zr_link.specs.Logged.{TellsDenials};
 ghost use Rattle.zr_link.specs.Run.{Delivers, Stops, EndIs, Follows};
 
 use crate::end::LinkEnd;
 use crate::intake::Intake;
+use crate::log::LinkLog;
 use crate::opening::ended;
 use std::alloc::{AllocError, Global};
 use std::vec;
@@ -26,12 +28,13 @@ use zr_hist::Pass;
 use zr_id::link::LinkNo;
 use zr_msg::msg::Msg;
 use zr_outside::clock::Clock;
+use zr_outside::log::Log;
 use zr_outside::source::Source;
-use zr_port::{DeliverError, Entry, Port};
+use zr_port::{Entry, Port};
 use zr_session::{Fate, SessionEvent};
 
-/// Reads so often at most, and delivers what comes, until the session ends. Where a message is refused, `refused` is told why.
-pub(crate) fn go_on<S: Source, P: Port, C: Clock>(
+/// Reads so often at most, and delivers what comes, until the session ends. The log is told what the rules deny, and why a message is refused otherwise.
+pub(crate) fn go_on<S: Source, P: Port, C: Clock, L: Log + Drop>(
     alloc: Global,
     intake: &mut Intake,
     source: &mut S,
@@ -40,7 +43,7 @@ pub(crate) fn go_on<S: Source, P: Port, C: Clock>(
     pass: &mut Pass<Entry>,
     link: LinkNo,
     turns: u64,
-    refused: &mut Option<DeliverError>,
+    log: &mut LinkLog<L>,
 ) -> LinkEnd
     requires pass { pass_name pass.old ≡ P.history port.now }
     requires running { is_running intake.old.session.state ≡ true }
@@ -52,6 +55,7 @@ pub(crate) fn go_on<S: Source, P: Port, C: Clock>(
     ensures ended { Counted (S.ends source.old) (S.ends source.new) (result ≡ end.PeerEnded) }
     ensures turns { result ≡ end.Turns → RoseBy turns (S.reads source.old) (S.reads source.new) }
     ensures later { (S.quiets source.old ≤ S.quiets source.new) × (C.last clock.old ≤ C.last clock.new) }
+    ensures logged { TellsDenials (λ l. L.held l) log.old log.new }
 {
     for _ in 0..turns {
         let fate = match intake.next(source, clock) {
@@ -59,22 +63,24 @@ pub(crate) fn go_on<S: Source, P: Port, C: Clock>(
             Err(end) => return end,
         };
         let events = intake.take_events(alloc).into_iter();
-        if let Err(end) = settle(alloc, port, pass, link, events, fate, refused) {
+        if let Err(end) = settle(alloc, port, pass, link, events, fate, intake.moment, log) {
             return end;
         }
     }
     LinkEnd::Turns
 }
 
-/// Delivers these messages, and tells the end where the session has come to it. Where a message is refused, `refused` is told why.
-pub(crate) fn settle<P: Port>(
+/// Delivers these messages, which have come by then, and tells the end where the session has come to it. The log is told what the rules deny, and why a
+/// message is refused otherwise.
+pub(crate) fn settle<P: Port, L: Log + Drop>(
     alloc: Global,
     port: &P,
     pass: &mut Pass<Entry>,
     link: LinkNo,
     messages: vec::IntoIter<SessionEvent>,
     fate: Fate,
-    refused: &mut Option<DeliverError>,
+    now: u64,
+    log: &mut LinkLog<L>,
 ) -> Result<(), LinkEnd>
     requires pass { pass_name pass.old ≡ P.history port.now }
     requires messages { AreMessages IsSpelled (into_iter_items messages) }
@@ -82,21 +88,23 @@ pub(crate) fn settle<P: Port>(
     ensures prefix { IsPrefix (seen pass.old) (seen pass.new) }
     ensures ok { OnOk result ((fate ≡ fates.Going) × Delivers link (λ h m x. P.refuses_message port.now h link m x) (into_iter_items messages) [] (sight pass.old) (sight pass.new)) }
     ensures err { IfErr result (λ e. (rest : List SessionEvent) × Delivers link (λ h m x. P.refuses_message port.now h link m x) (into_iter_items messages) rest (sight pass.old) (sight pass.new) × (Stops (λ m x. P.refuses_message port.now (seen pass.new) link m x) rest e ⊎ ((rest ≡ []) × EndIs fate e))) }
+    ensures logged { TellsDenials (λ l. L.held l) log.old log.new }
 {
-    match deliver_all(alloc, port, pass, link, messages, refused) {
+    match deliver_all(alloc, port, pass, link, messages, now, log) {
         Ok(()) => ended(fate),
         Err(end) => Err(end),
     }
 }
 
 // Delivers the messages of these events, in order, but those that the port passes over.
-fn deliver_all<P: Port>(
+fn deliver_all<P: Port, L: Log + Drop>(
     alloc: Global,
     port: &P,
     pass: &mut Pass<Entry>,
     link: LinkNo,
     events: vec::IntoIter<SessionEvent>,
-    refused: &mut Option<DeliverError>,
+    now: u64,
+    log: &mut LinkLog<L>,
 ) -> Result<(), LinkEnd>
     requires pass { pass_name pass.old ≡ P.history port.now }
     requires messages { AreMessages IsSpelled (into_iter_items events) }
@@ -104,20 +112,21 @@ fn deliver_all<P: Port>(
     ensures prefix { IsPrefix (seen pass.old) (seen pass.new) }
     ensures all { OnOk result (Delivers link (λ h m x. P.refuses_message port.now h link m x) (into_iter_items events) [] (sight pass.old) (sight pass.new)) }
     ensures stopped { IfErr result (λ e. (rest : List SessionEvent) × Delivers link (λ h m x. P.refuses_message port.now h link m x) (into_iter_items events) rest (sight pass.old) (sight pass.new) × Stops (λ m x. P.refuses_message port.now (seen pass.new) link m x) rest e) }
+    ensures logged { TellsDenials (λ l. L.held l) log.old log.new }
 {
     let Ok(messages) = messages_of(alloc, events) else {
         return Err(LinkEnd::NoMemory);
     };
+    let denial = log.denial(now, messages.as_slice());
     if let Err(e) = port.deliver_all(pass, link, messages) {
-        keep(refused, &e);
+        // whether the message that was denied came before the one that was refused isn't known
+        drop(denial);
+        log.refused(&e);
         return Err(LinkEnd::of_delivery(e));
     }
+    log.denied(&denial);
+    drop(denial);
     Ok(())
-}
-
-// A message was refused for this.
-fn keep(refused: &mut Option<DeliverError>, e: &DeliverError) {
-    *refused = Some(*e);
 }
 
 // The messages of these events. Where there are none it takes no memory.

@@ -21,7 +21,8 @@ ghost use Rattle.zr_link_writer.specs.Parts.{close_bytes};
 ghost use Rattle.zr_link.specs.Complete.{IsComplete};
 ghost use Rattle.zr_link.specs.Run.{Follows, Enters, Runs, Starts, GoesDown};
 ghost use Rattle.zr_link.specs.declared.log.Stage.TheVariants as stages;
-ghost use Rattle.zr_link.specs.Log.{IsLogged, stage_of};
+ghost use Rattle.zr_link.specs.Log.{stage_of};
+ghost use Rattle.zr_link.specs.Logged.{IsLogged, TellsDenials};
 ghost use Rattle.zr_link.specs.Ends.{IsEarly, IsStarted, IsCrewRefused};
 
 use crate::cause::cause;
@@ -46,7 +47,7 @@ use zr_outside::log::Log;
 use zr_outside::sink::{Sink, write_all};
 use zr_outside::source::Source;
 use zr_outside_crew::Crew;
-use zr_port::{DeliverError, Entry, Port};
+use zr_port::{Entry, Port};
 use zr_ring::Taker;
 use zr_session::{Fate, Session, SessionEvent};
 
@@ -67,7 +68,8 @@ pub struct Outward<K: Sink + Drop, P: Port + Drop, C: Clock + Drop, L: Log + Dro
 impl Reader {
     /// Opens a session on a link, brings the link up by the port, starts its writer, and delivers each message that comes, in order, until the session
     /// ends or so many reads were made; then the link goes down. The sink comes back exactly where no writer was started. `first` is what the
-    /// session asks to be written before anything is read. The crew tells a started writer by its link, and `log` is told that the link has come up.
+    /// session asks to be written before anything is read. The crew tells a started writer by its link. `log` is told that the link has come up, and what of
+    /// its messages the log's rules deny.
     pub fn run<
         S: Source,
         K: Sink + Send + Drop + 'static,
@@ -196,20 +198,10 @@ where
     log.up(&known);
     match begin(alloc, intake, out, crew, link, known, taker) {
         Ok(()) => {
-            let mut refused = None;
             let end = follow(
-                alloc,
-                intake,
-                messages,
-                fate,
-                source,
-                clock,
-                port,
-                pass,
-                link,
-                left,
-                &mut refused,
+                alloc, intake, messages, fate, source, clock, port, pass, link, left, log,
             );
+            let refused = log.refusal();
             log.because(cause(alloc, &intake.session, refused));
             leave(port, pass, link, end);
             (end, None)
@@ -240,8 +232,8 @@ fn leave<P: Port>(port: &P, pass: &mut Pass<Entry>, link: LinkNo, end: LinkEnd)
     let _ = port.down(pass, link, end.reason());
 }
 
-// The writer is started: delivers what waits, and goes on. Where a message is refused, `refused` is told why.
-fn follow<S: Source, P: Port, C: Clock>(
+// The writer is started: delivers what waits, and goes on. The log is told what the rules deny, and why a message is refused otherwise.
+fn follow<S: Source, P: Port, C: Clock, L: Log + Drop>(
     alloc: Global,
     intake: &mut Intake,
     waiting: vec::IntoIter<SessionEvent>,
@@ -252,7 +244,7 @@ fn follow<S: Source, P: Port, C: Clock>(
     pass: &mut Pass<Entry>,
     link: LinkNo,
     turns: u64,
-    refused: &mut Option<DeliverError>,
+    log: &mut LinkLog<L>,
 ) -> LinkEnd
     requires pass { pass_name pass.old ≡ P.history port.now }
     requires messages { AreMessages IsSpelled (into_iter_items waiting) }
@@ -265,11 +257,11 @@ fn follow<S: Source, P: Port, C: Clock>(
     ensures ended { Counted (S.ends source.old) (S.ends source.new) (result ≡ end.PeerEnded) }
     ensures turns { result ≡ end.Turns → RoseBy turns (S.reads source.old) (S.reads source.new) }
     ensures later { (S.quiets source.old ≤ S.quiets source.new) × (C.last clock.old ≤ C.last clock.new) }
+    ensures logged { TellsDenials (λ l. L.held l) log.old log.new }
 {
-    match settle(alloc, port, pass, link, waiting, fate, refused) {
-        Ok(()) => go_on(
-            alloc, intake, source, clock, port, pass, link, turns, refused,
-        ),
+    let now = intake.moment;
+    match settle(alloc, port, pass, link, waiting, fate, now, log) {
+        Ok(()) => go_on(alloc, intake, source, clock, port, pass, link, turns, log),
         Err(end) => end,
     }
 }

@@ -1,7 +1,8 @@
 //! What the thread of a link's reader owns, and does.
 
-ghost use Rattle.std.specs.Prelude.{◌≡◌, ◌⊎◌, ◌++◌, ℕ, Option, [], ◌∷◌, IfOk, is_some};
+ghost use Rattle.std.specs.Prelude.{◌≡◌, ◌⊎◌, ◌++◌, ℕ, Option, [], ◌∷◌, IfOk, IfSome, is_some};
 ghost use Rattle.std.specs.Arc.{arc_value};
+ghost use Rattle.std.proofs.Props.{props};
 ghost use Rattle.zr_outside_crew.specs.Crew.{crew_faults, crew_told};
 ghost use Rattle.zr_hist.specs.Words.{pass_name};
 ghost use Rattle.zr_link_job.specs.Begins.{expects, greets, opening_of};
@@ -19,10 +20,12 @@ use crate::job::{LinkJob, LinkStart, Side};
 use std::alloc::{AllocError, Global};
 use std::sync::Arc;
 use std::thread::Threads;
+use zr_access::Policy;
 use zr_hist::Pass;
 use zr_id::link::LinkNo;
 use zr_link::{LinkEnd, LinkLog, Outward, Reader, Stage};
 use zr_link_writer::close_batch;
+use zr_msg::shared::Shared;
 use zr_open::{Opening, Reason};
 use zr_outside::clock::Clock;
 use zr_outside::log::Log;
@@ -60,7 +63,7 @@ pub struct Reading<
     ghost ruled: { job.policy ≡ P.policy (arc_value port) },
 }
 
-// The same, once the crew has its job: how the link begins is all that its thread needs.
+// The same, once the crew has its job: how the link begins, and the rules whose denials the log tells, if it does, are all that its thread needs.
 #[derive(Drop)]
 struct Hearing<
     S: Source + Drop,
@@ -81,7 +84,9 @@ struct Hearing<
     port: Arc<P>,
     pass: Pass<Entry>,
     crew: Crew<R, LinkNo>,
+    rules: Option<Shared<Policy>>,
     ghost ours: { pass_name pass ≡ P.history (arc_value port) },
+    ghost ruled: { IfSome rules (λ p. p ≡ P.policy (arc_value port)) } by { Prim.hlevel props },
 }
 
 /// Starts the reader of a link by the crew, which tells its job. A reader that the crew hands back is let go: its peer is told so by a CLOSE, where it
@@ -112,6 +117,7 @@ where
         pass,
         crew: inner,
     } = reading;
+    let rules = told_rules(&job);
     let hearing = Hearing {
         alloc,
         start: job.start,
@@ -124,11 +130,22 @@ where
         port,
         pass,
         crew: inner,
+        rules,
     };
     let run = |hearing: Hearing<S, K, C, L, P, R>| read(hearing);
     if let Err(hearing) = crew.start(hearing, job, run) {
         give_up(hearing);
     }
+}
+
+// The rules whose denials the log of a link tells: none without a log, or where there are no rules.
+fn told_rules(job: &LinkJob) -> Option<Shared<Policy>>
+    ensures { IfSome result (λ p. p ≡ job.now.policy) }
+{
+    if !job.start.log || job.policy.get().is_open() {
+        return None;
+    }
+    job.policy.copy().ok()
 }
 
 // Runs the reader of a link. How it ended is seen by the peer and the log alone.
@@ -155,8 +172,10 @@ where
         port,
         mut pass,
         mut crew,
+        rules,
     } = hearing;
     let mut log = LinkLog::new(alloc, log, Stage::Unopened);
+    log.judge_by(rules);
     let out = Outward {
         sink,
         port,

@@ -6,6 +6,7 @@ use Rattle.zr_port.specs.Coming.{sight}
 use Rattle.zr_wire.specs.Writing.{IsSpelled}
 use Rattle.zr_link.specs.Heard.{messages}
 use Rattle.zr_link.proofs.Going.{delivers_none, delivers_of, stops_memory, stops_of}
+use Rattle.zr_link.proofs.Logged.{tells_none, tells_then}
 use Rattle.zr_link.proofs.delivery.deliver_all.Goals as goal
 
 pub returns-in_default-clause-stopped : goal.returns-in_default-clause-stopped
@@ -28,3 +29,15 @@ pub returns-clause-all : goal.returns-clause-all
 returns-clause-all g c =
     delivers_of c.args.link (λ h m e. g.P.Port.refuses_message c.args.port.now h c.args.link m e) (into_iter_items c.args.events) c.in-Ok.messages.items [] (sight c.args.pass.now) (sight c.deliver_all.new.pass)
     c.in-Ok.ensures.are c.in_default-deliver_all.ensures.all
+
+-- the log is told of no denial, or of one
+pub returns-in_default-clause-logged : goal.returns-in_default-clause-logged
+returns-in_default-clause-logged g c = tells_none (λ x. g.L.Log.held x) c.args.log.now
+
+pub returns-in-Err-clause-logged : goal.returns-in-Err-clause-logged
+returns-in-Err-clause-logged g c =
+    tells_then (λ x. g.L.Log.held x) c.args.log.now c.denial-denial.new.self c.refused.new.self c.denial-denial.ensures.tells c.refused.ensures.tells
+
+pub returns-clause-logged : goal.returns-clause-logged
+returns-clause-logged g c =
+    tells_then (λ x. g.L.Log.held x) c.args.log.now c.denial-denial.new.self c.denied.new.self c.denial-denial.ensures.tells c.denied.ensures

@@ -14,7 +14,7 @@ use Rattle.zr_port.specs.Coming.{sight, delivered}
 use Rattle.zr_port.proofs.Coming.{adds_one}
 use Rattle.zr_link.proofs.Going.{Followed, through_does, does_entry, does_then}
 use Rattle.zr_link.specs.Log.{IsNotUp}
-use Rattle.zr_link.proofs.Logged.{logged_kept, logged_up}
+use Rattle.zr_link.proofs.Logged.{logged_up, tells_none, tells_same, tells_then}
 use Rattle.zr_link.proofs.Running.{enters_followed, enters_early, up_not_refused}
 use Rattle.zr_link.proofs.reader.enter.Goals as goal
 
@@ -98,10 +98,11 @@ returns-in-Ok-begin-clause-logged g c =
     let on = c.follow-end.ensures.followed in
     let down = c.leave.ensures.left in
     let rest = does_then (froms link (delivered on.0)) down.0 (mine c.up.new.pass) (mine c.follow-end.new.pass) (mine c.leave.new.pass) (through_does link (λ h m x. g.P.Port.refuses_message c.args.port.now h link m x) on.0 (sight c.up.new.pass) (sight c.follow-end.new.pass) on.1) down.2 in
-    logged_kept (λ l. g.L.Log.held l) _ _ c.args.log.now c.up-2.new.self c.because.new.self c.because.ensures.stage c.because.ensures.held
-    (logged_up (λ l. g.L.Log.held l) link c.args.opened.peer _ c.args.opened.outbox (froms link (delivered on.0) ++ down.0) _ _ c.args.log.now c.opened.new.self c.up-2.new.self c.same_peer-known.ensures
+    logged_up (λ l. g.L.Log.held l) link c.args.opened.peer _ c.args.opened.outbox (froms link (delivered on.0) ++ down.0) _ _ c.args.log.now c.opened.new.self c.up-2.new.self c.because.new.self c.same_peer-known.ensures
     (does_then (up link c.args.opened.peer c.args.opened.outbox ∷ []) (froms link (delivered on.0) ++ down.0) (mine c.args.pass.now) (mine c.up.new.pass) (mine c.leave.new.pass) first rest)
-    c.opened.ensures.held c.up-2.ensures.stage c.up-2.ensures.told)
+    c.opened.ensures.held c.opened.ensures.rules c.up-2.ensures.stage c.up-2.ensures.rules c.up-2.ensures.told
+    (tells_then (λ l. g.L.Log.held l) c.up-2.new.self c.follow-end.new.log c.because.new.self c.follow-end.ensures.logged
+    (tells_same (λ l. g.L.Log.held l) c.follow-end.new.log c.because.new.self c.because.ensures.stage c.because.ensures.rules c.because.ensures.held))
 
 pub returns-in-Err-begin-clause-logged : goal.returns-in-Err-begin-clause-logged
 returns-in-Err-begin-clause-logged g c =
@@ -109,6 +110,6 @@ returns-in-Err-begin-clause-logged g c =
     let added = c.in-Ok.ensures.added in
     let first = does_entry (mine c.args.pass.now) (mine c.up.new.pass) added.entry (event.Up link c.args.opened.peer) (Some c.args.opened.outbox) None added.own added.says.0 in
     let down = c.leave-in-Err-begin.ensures.left in
-    logged_up (λ l. g.L.Log.held l) link c.args.opened.peer _ c.args.opened.outbox down.0 _ _ c.args.log.now c.opened.new.self c.up-2.new.self c.same_peer-known.ensures
+    logged_up (λ l. g.L.Log.held l) link c.args.opened.peer _ c.args.opened.outbox down.0 _ _ c.args.log.now c.opened.new.self c.up-2.new.self c.up-2.new.self c.same_peer-known.ensures
     (does_then (up link c.args.opened.peer c.args.opened.outbox ∷ []) down.0 (mine c.args.pass.now) (mine c.up.new.pass) (mine c.leave-in-Err-begin.new.pass) first down.2)
-    c.opened.ensures.held c.up-2.ensures.stage c.up-2.ensures.told
+    c.opened.ensures.held c.opened.ensures.rules c.up-2.ensures.stage c.up-2.ensures.rules c.up-2.ensures.told (tells_none (λ l. g.L.Log.held l) c.up-2.new.self)
