@@ -7,3 +7,4 @@ pub mod Replayed
 pub mod Words
 pub mod Failures
 pub mod Runs
+pub mod Glance

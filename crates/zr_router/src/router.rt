@@ -13,6 +13,7 @@ use std::thread::Parker;
 use std::time::Duration;
 use zr_access::Policy;
 use zr_frame::Outbox;
+use zr_glance::Glance;
 use zr_hist::{History, Kept, Pass};
 use zr_id::link::LinkNo;
 use zr_id::zid::Zid;
@@ -20,6 +21,7 @@ use zr_msg::msg::Msg;
 use zr_msg::peer::Peer;
 use zr_msg::shared::Shared;
 use zr_port::{DeliverError, DownError, Entry, Naming, Port, UpError};
+use zr_port_glance::Glancing;
 use zr_ring::Taker;
 use zr_router_queue::Queued;
 
@@ -216,5 +218,19 @@ impl<B: Naming, R: Wait + Drop> Port for Router<B, R> {
         if let Some(bell) = self.bells.get(link.0 as usize) {
             bell.park_timeout(&self.rt, Duration::from_millis(most));
         }
+    }
+}
+
+impl<B: Naming, R: Wait + Drop> Glancing for Router<B, R> {
+    ghost use Rattle.zr_router_queue.specs.Tables as tables;
+    ghost use Rattle.zr_router.specs.Glance as glances;
+
+    ghost glance_of = { λ _ h. glances.glance (tables.replay B.me h).hub.node };
+
+    fn glance(&self, pass: &mut Pass<Entry>) -> Result<Glance, AllocError> {
+        let mut tables = self.tables.lock(&self.rt);
+        let result = tables.glance(self.alloc, &self.history, pass);
+        drop(tables);
+        result
     }
 }

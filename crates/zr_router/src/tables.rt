@@ -21,6 +21,7 @@ ghost use Rattle.zr_router_queue.specs.History.{is_legal};
 ghost use Rattle.zr_router_queue.specs.Tables.{is_up, new_queue, replay};
 ghost use Rattle.zr_router.specs.Allowed.{are_allowed, is_allowed};
 ghost use Rattle.zr_router.specs.Failures.{HasFailed};
+ghost use Rattle.zr_router.specs.Glance.{glance};
 ghost use Rattle.zr_router.specs.Handled.{IsHandled};
 ghost use Rattle.zr_router.specs.Ended.{HasEnded};
 ghost use Rattle.zr_router.specs.Replayed.{IsReplay-prop, HoldsSpelled-prop};
@@ -36,6 +37,7 @@ use std::marker::PhantomData;
 use std::vec;
 use zr_access::Policy;
 use zr_frame::Outbox;
+use zr_glance::Glance;
 use zr_hist::{History, Kept, Pass};
 use zr_id::link::LinkNo;
 use zr_id::zid::Zid;
@@ -46,6 +48,7 @@ use zr_msg::shared::Shared;
 use zr_port::{DeliverError, DownError, Entry, Naming, UpError};
 use zr_ring::{Giver, Taker};
 use zr_router_core::hub::Hub;
+use zr_router_glance::glance_at;
 use zr_router_queue::{LinkSender, Queued, enter, prepare};
 
 /// How many entries a history has at most.
@@ -452,6 +455,29 @@ impl<B: Naming> Tables<B> {
         due
     }
 
+    /// What the router shows of itself. Nothing changes, nor where memory runs out: a call that only looks spends nothing.
+    pub fn glance(
+        &mut self,
+        alloc: Global,
+        history: &History<Entry>,
+        pass: &mut Pass<Entry>,
+    ) -> Result<Glance, AllocError>
+        requires history { name history.now ≡ B.history }
+        requires pass { pass_name pass.old ≡ B.history }
+        ensures same { IsSamePass pass.old pass.new × (mine pass.new ≡ mine pass.old) }
+        ensures prefix { IsPrefix (seen pass.old) (seen pass.new) }
+        ensures seen { seen pass.new ≡ entries self.new }
+        ensures legal { is_legal B.me (seen pass.new) ≡ true }
+        ensures allowed { are_allowed B.policy B.me (seen pass.new) ≡ true }
+        ensures unchanged { (entries self.new ≡ entries self.old) × (is_spent self.new ≡ is_spent self.old) × (open_links self.new ≡ open_links self.old) }
+        ensures glance { IfOk result (λ g. g ≡ glance (replay B.me (seen pass.new)).hub.node) }
+    {
+        let Ok(_) = self.look(history, pass) else {
+            return Err(AllocError);
+        };
+        glance_of(alloc, &self.hub)
+    }
+
     // The end of a link that has come up is the last one.
     fn add_end(
         &mut self,
@@ -554,6 +580,12 @@ impl<B: Naming> Tables<B> {
         self.presses = presses;
         Ok(())
     }
+}
+
+fn glance_of(alloc: Global, hub: &Hub) -> Result<Glance, AllocError>
+    ensures { IfOk result (λ g. g ≡ glance hub.now.node) }
+{
+    glance_at(alloc, hub.links(), hub.base(), hub.known())
 }
 
 // For how long at most who reads from a link to a peer of that role rests for all that one read gave, in milliseconds. A client waits as long as its

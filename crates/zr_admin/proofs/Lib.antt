@@ -1,0 +1,6 @@
+mod Asking
+mod Answered
+mod Sending
+mod Opening
+mod Stepping
+mod Running

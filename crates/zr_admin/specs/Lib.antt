@@ -1,0 +1,4 @@
+pub mod Hearing
+pub mod Asked
+pub mod Answers
+pub mod Inner
