@@ -105,6 +105,9 @@ pub enum Say {
     /// The client subscribes to `secret/a` under id 4, and no longer does so.
     Secret,
     Unsecret,
+    /// The same of a liveliness token.
+    SecretToken,
+    UnsecretToken,
     /// The end of request 9.
     Final,
     /// What a router tells of its links or of its clients, in these bytes.
@@ -126,6 +129,8 @@ fn message(alloc: Global, say: Say) -> Result<Msg, AllocError>
         Say::Unsub => Ok(Msg::Unsub { id: 1 }),
         Say::Secret => secret(alloc),
         Say::Unsecret => Ok(Msg::Unsub { id: 4 }),
+        Say::SecretToken => secret_token(alloc),
+        Say::UnsecretToken => Ok(Msg::Untoken { id: 4 }),
         Say::Final => end_of_request(alloc),
         Say::Tells(bytes) => told(alloc, bytes),
         Say::Sample | Say::Keep | Say::Express | Say::Long | Say::LongKeep | Say::Along => {
@@ -144,10 +149,15 @@ fn sub(alloc: Global) -> Result<Msg, AllocError>
 fn secret(alloc: Global) -> Result<Msg, AllocError>
     ensures { IfOk result (λ m. IsSpelled m) }
 {
-    match KeyExpr::read(alloc, b"secret/a".as_slice()) {
-        Ok(key) => Ok(Msg::Sub { id: 4, key }),
-        Err(_) => Err(AllocError),
-    }
+    let key = key_of(alloc, b"secret/a".as_slice())?;
+    Ok(Msg::Sub { id: 4, key })
+}
+
+fn secret_token(alloc: Global) -> Result<Msg, AllocError>
+    ensures { IfOk result (λ m. IsSpelled m) }
+{
+    let key = key_of(alloc, b"secret/a".as_slice())?;
+    Ok(Msg::Token { id: 4, key })
 }
 
 fn end_of_request(alloc: Global) -> Result<Msg, AllocError>
@@ -180,7 +190,11 @@ fn told(alloc: Global, bytes: &[u8]) -> Result<Msg, AllocError>
 }
 
 fn key(alloc: Global) -> Result<KeyExpr, AllocError> {
-    match KeyExpr::read(alloc, b"a/b".as_slice()) {
+    key_of(alloc, b"a/b".as_slice())
+}
+
+fn key_of(alloc: Global, text: &[u8]) -> Result<KeyExpr, AllocError> {
+    match KeyExpr::read(alloc, text) {
         Ok(key) => Ok(key),
         Err(_) => Err(AllocError),
     }

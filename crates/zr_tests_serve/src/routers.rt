@@ -252,13 +252,16 @@ static RULED: [Row; 12] = [
     (Call::Say(2, Say::Sub), Told::NotUp(2)),
 ];
 
-/// Rules under which nobody subscribes to what is secret.
-const SECRET_RULES: &[u8] = b"allow 0a put robot/**\ndeny * put **\ndeny * sub secret/*\n";
+/// Rules under which nobody subscribes to what is secret, nor is alive there.
+const SECRET_RULES: &[u8] =
+    b"allow 0a put robot/**\ndeny * put **\ndeny * sub secret/*\ndeny * token secret/*\n";
 
-static SECRET: [Row; 4] = [
+static SECRET: [Row; 6] = [
     (Call::Client(0x0c), Told::Link(0)),
     (Call::Say(0, Say::Secret), Told::Denied(3)),
     (Call::Say(0, Say::Unsecret), Told::Ignored(4)),
+    (Call::Say(0, Say::SecretToken), Told::Denied(4)),
+    (Call::Say(0, Say::UnsecretToken), Told::Ignored(4)),
     (Call::Say(0, Say::Final), Told::Ok),
 ];
 

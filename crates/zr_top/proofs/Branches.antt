@@ -100,8 +100,8 @@ no_router s left Ended calls told faults o =
 -- ---- a read of the rules failed
 
 -- nothing is told of that but the end
-pub read_fault_kept : (e : RulesError) (how : RulesEnd) (err err' : Option (List ℕ)) → e ≡ rules_error.ReadFault → TellsRules e how err err' → how ≡ rules_end.ReadFault
-read_fault_kept e how err err' is h = (subst (λ (z : RulesError). TellsRules z how err err') is h).0
+pub read_fault_kept : (explains : Bool) (e : RulesError) (how : RulesEnd) (err err' : Option (List ℕ)) → e ≡ rules_error.ReadFault → TellsRules explains e how err err' → how ≡ rules_end.ReadFault
+read_fault_kept explains e how err err' is h = (subst (λ (z : RulesError). TellsRules explains z how err err') is h).0
 
 -- ---- where nothing fails
 

@@ -27,7 +27,7 @@ status_of_rules rules_end.NoMemory = status.NoMemory
 status_of_rules rules_end.ReadFault = status.ReadFault
 status_of_rules rules_end.WriteFault = status.WriteFault
 
--- A router was served as the words ask for, under these rules, and ended so; or memory ran out before anything was done
+-- A router was served as the words ask for, under these rules, and ended so
 pub record IsServing (s : Served) (policy : PolicyState) (end : Status) (calls calls' : Option (List Call)) (told told' : Option (List LinkJob)) (faults faults' : ℕ) (o p : Outputs) : Type 0 where
   pub how : ServeEnd
   pub end_is : end ≡ status_of how
@@ -42,7 +42,7 @@ HasRules true left left' Ended given = OfBytes left left' (GivesRules Ended give
 abbrev pub Answers : Result PolicyState RulesError → Served → Status → Option (List Call) → Option (List Call) → Option (List LinkJob) → Option (List LinkJob) → ℕ → ℕ → Outputs → Outputs → Type 0
 Answers (Ok policy) s end calls calls' told told' faults faults' o p = IsServing s policy end calls calls' told told' faults faults' o p
 Answers (Err e) s end calls calls' told told' faults faults' o p =
-    (calls' ≡ calls) × (told' ≡ told) × (faults' ≡ faults) × (p.out ≡ o.out) × ((how : RulesEnd) × (end ≡ status_of_rules how) × TellsRules e how o.err p.err)
+    (calls' ≡ calls) × (told' ≡ told) × (faults' ≡ faults) × (p.out ≡ o.out) × ((how : RulesEnd) × (end ≡ status_of_rules how) × TellsRules s.explain e how o.err p.err)
 
 -- what the words `serve ..` ask for was done: from the old bytes of the input, calls, jobs, failed starts and outputs to the new ones
 pub record IsServingBy (s : Served) (end : Status) (left left' : Option (List ℕ)) (Ended : Type 0) (calls calls' : Option (List Call)) (told told' : Option (List LinkJob)) (faults faults' : ℕ) (o p : Outputs) : Type 0 where

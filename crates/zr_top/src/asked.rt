@@ -135,7 +135,7 @@ where
 {
     match rules_for(alloc, words.rules, input) {
         Ok(policy) => serve_by(rt, alloc, words, policy, out, err, host, crew),
-        Err(error) => status_of_rules(tell_refusal(alloc, error, err)),
+        Err(error) => status_of_rules(tell_refusal(alloc, words.explain, error, err)),
     }
 }
 

@@ -6,13 +6,14 @@ ghost use Rattle.zr_key.specs.Laws.{IsReading, ReadingKeepsKeys, ReadsEach};
 ghost use Rattle.zr_tree.specs.Laws.{DistancesAreOfShortestWalks, RecordsMakeGraphs};
 ghost use Rattle.zr_outside.specs.Counts.{Rose};
 ghost use Rattle.zr_outside.specs.Piece.{IsReadToEnd};
-ghost use Rattle.zr_guarantee.specs.Scripts.{IsRefined, TellsClients};
+ghost use Rattle.zr_guarantee.specs.Scripts.{IsRefined, TellsClients, TellsTokens};
 ghost use Rattle.zr_law_samples.specs.Keys.{AnsweringIsCovering, AnsweringIsMeeting, AskingIsMeeting};
 ghost use Rattle.zr_law_samples.specs.Runs.{RestIsQuiet};
 ghost use Rattle.zr_law_declared.specs.Logs.{SettledLogsAreKnown};
 ghost use Rattle.zr_law_declared.specs.Rows.{SettledRowsAreDeclared};
 ghost use Rattle.zr_law_declared.specs.Sets.{SettledSetsAreDeclared};
 ghost use Rattle.zr_law_replies.specs.Answers.{AnswersAlwaysHold};
+ghost use Rattle.zr_law_keys.specs.Laws.{MatchingIsOfCharacters, MeetingIsOfCharacters};
 ghost use Rattle.zr_law_numbers.specs.Numbers.{NumbersAlwaysHold};
 ghost use Rattle.zr_law_settled.specs.Events.{NoEventIsRefused};
 ghost use Rattle.zr_law_settled.specs.Tables.{AgreeWhereSettled, SettledLogsAgree};
@@ -38,6 +39,7 @@ use zr_law_declared::{
     settled_logs_are_known, settled_rows_are_declared, settled_sets_are_declared,
 };
 use zr_law_held::{lines_are_within, lines_fit};
+use zr_law_keys::{matching_is_of_characters, meeting_is_of_characters};
 use zr_law_numbers::{no_event_is_refused, numbers_always_hold};
 use zr_law_replies::{answers_always_hold, lines_refine};
 use zr_law_samples::keys::{
@@ -46,7 +48,7 @@ use zr_law_samples::keys::{
 use zr_law_samples::refines::lines_are_moments;
 use zr_law_samples::runs::rest_is_quiet;
 use zr_law_settled::{settled_logs_agree, settled_tables_agree};
-use zr_law_told::lines_tell_clients;
+use zr_law_told::{lines_tell_clients, lines_tell_tokens};
 use zr_link_job::LinkJob;
 use zr_netrun::status::Status;
 use zr_outside::host::Host;
@@ -60,9 +62,10 @@ use zr_tree::laws::{distances_are_of_shortest_walks, records_make_graphs};
 /// The whole program. Its words, without its name, are read by `clap`, and ask for one of four things. `net` reads a script from `input`, and writes the
 /// report to `out`; with `--summary` it writes, at the script's end, four counts of the report in its place. With `--explain` `err` has the explanation
 /// of a refused line behind the line that tells its refusal, and all else is the same.
-/// `serve --id ID --listen ADDRESS [--log] [--rules] [DIAL]...` runs a router of that identifier, which listens at the address and dials each of the others
+/// `serve --id ID --listen ADDRESS [--log] [--rules] [--explain] [DIAL]...` runs a router of that identifier, which listens at the address and dials each of the others
 /// once, until the host gives no more links: the crew starts the reader of each link, with a log where the words say so. With `--rules` the whole `input`
-/// is read first. It has the access rules of the router, and where it has none `err` is told why, and nothing is served.
+/// is read first. It has the access rules of the router, and where it has none `err` is told why, and nothing is served; with
+/// `--explain` a faulty line of them is shown behind that.
 /// `make --number N --routers R --clients C --messages M` writes a script that is made from the number. Help and the version are told to `out`.
 ///
 /// The status is `Words` only where the words are none that `clap` promises to take, and it refuses them for another cause than memory, or where a value is
@@ -75,11 +78,11 @@ use zr_tree::laws::{distances_are_of_shortest_walks, records_make_graphs};
 /// expressions (`meeting`), and asks a queryable exactly there (`answering`) or where a complete one covers the key (`covering`), of each key it sends for a query
 /// of the latest the reply than which none is later (`best`), and in a phase nothing is under way exactly where no step is possible, which a run tells by `quiet` (`rest`).
 /// What is read of a key's text is the canonical form of what it spells, each text that spells one is read (`readings`), and it matches the same keys
-/// (`kept`). Along trees distances are those of shortest walks (`walks`).
+/// (`kept`). Byte by byte expressions match and meet as their characters do (`characters`). Along trees distances are those of shortest walks (`walks`).
 ///
 /// The clause `interests` says what clients were told of each other: at each moment of the lines that were read, also between two steps of a run, at which
 /// the network is settled and joined and nothing is under way, each attached client was told just what its interests want of what all other attached
-/// clients have declared.
+/// clients have declared. Of tokens it was told just those that it wants of the living ones: those of clients whose links aren't broken (`tokens`).
 ///
 /// The clause `tables` says what routers know of links: at each moment of the lines that were read, also between two steps of a run, at
 /// which the network is settled, each router sees exactly the links that are up at both ends, as far as it reaches, whatever links came,
@@ -119,6 +122,7 @@ where
     ensures report { IfSome (net_of (map string_bytes words.now)) (λ plan. WritesAsAsked (options_by plan) (S.left input.old) (S.left input.new) (IsReadToEnd (S.ends input.old) (S.ends input.new) (S.quiets input.old) (S.quiets input.new)) result (K.held out.old) (K.held out.new) (E.held err.old) (E.held err.new)) }
     ensures headline { is_net (map string_bytes words.now) ≡ true → OfScriptLines (S.left input.old) (S.left input.new) IsRefined }
     ensures interests { is_net (map string_bytes words.now) ≡ true → OfLines (S.left input.old) (S.left input.new) TellsClients }
+    ensures tokens { is_net (map string_bytes words.now) ≡ true → OfLines (S.left input.old) (S.left input.new) TellsTokens }
     ensures told { is_net (map string_bytes words.now) ≡ true → OfLines (S.left input.old) (S.left input.new) LeadToTheirReport }
     ensures keys { is_net (map string_bytes words.now) ≡ true → OfLines (S.left input.old) (S.left input.new) HaveKeyTexts }
     ensures tables { is_net (map string_bytes words.now) ≡ true → OfLines (S.left input.old) (S.left input.new) AgreeWhereSettled }
@@ -136,6 +140,7 @@ where
     ensures rest { RestIsQuiet }
     ensures readings { IsReading × ReadsEach }
     ensures kept { ReadingKeepsKeys }
+    ensures characters { MatchingIsOfCharacters × MeetingIsOfCharacters }
     ensures walks { RecordsMakeGraphs × DistancesAreOfShortestWalks }
     ensures served { IfSome (served_of (map string_bytes words.now)) (λ s. IsServingBy s result (S.left input.old) (S.left input.new) (IsReadToEnd (S.ends input.old) (S.ends input.new) (S.quiets input.old) (S.quiets input.new)) (H.calls host.old) (H.calls host.new) (crew_told crew.old) (crew_told crew.new) (crew_faults crew.old) (crew_faults crew.new) (outputs (K.held out.old) (E.held err.old) (E.faults err.old)) (outputs (K.held out.new) (E.held err.new) (E.faults err.new))) }
     ensures unserved { is_some (served_of (map string_bytes words.now)) ≡ false → (host.new ≡ host.old) × (crew.new ≡ crew.old) }
@@ -165,6 +170,8 @@ where
     answering_is_covering();
     gathered_is_best();
     rest_is_quiet();
+    matching_is_of_characters();
+    meeting_is_of_characters();
     reading_is_canonical();
     each_expression_is_read();
     reading_keeps_keys();
@@ -181,6 +188,7 @@ where
     lines_fit();
     lines_are_within();
     lines_tell_clients();
+    lines_tell_tokens();
     lines_are_moments();
     keys_are_texts();
     settled_tables_agree();

@@ -306,21 +306,21 @@ module _ (id listen : Text) (pid : is_plain id ≡ true) (plisten : is_plain lis
   -- what is asked for at those ends
   asks_none : (rules : Bool) (zid : Text) → zid_of_hex id ≡ Some zid
       → asked_by (serve_built.name, finished serve_built.rules (listening rules).held)
-      ≡ Some (asks_serve (record { id = zid; listen = listen; log = false; rules = rules; dials = [] }))
+      ≡ Some (asks_serve (record { id = zid; listen = listen; log = false; rules = rules; explain = false; dials = [] }))
   asks_none true zid is = ap (λ (z : Option Text). option_map asks_serve (option_and_then (served_as_named (finished serve_built.rules (listening true).held) listen) z)) is
   asks_none false zid is = ap (λ (z : Option Text). option_map asks_serve (option_and_then (served_as_named (finished serve_built.rules (listening false).held) listen) z)) is
 
   -- with some words to dial: those that were found come to these dials
   asks_found : (rows : List Row) (rules : Bool) (zid : Text) (ds : List DialState) → zid_of_hex id ≡ Some zid
-      → served_as_named rows listen zid ≡ Some (record { id = zid; listen = listen; log = false; rules = rules; dials = ds })
+      → served_as_named rows listen zid ≡ Some (record { id = zid; listen = listen; log = false; rules = rules; explain = false; dials = ds })
       → option_map asks_serve (option_and_then (served_as_named rows listen) (zid_of_hex id))
-      ≡ Some (asks_serve (record { id = zid; listen = listen; log = false; rules = rules; dials = ds }))
+      ≡ Some (asks_serve (record { id = zid; listen = listen; log = false; rules = rules; explain = false; dials = ds }))
   asks_found rows rules zid ds is named =
       ap (λ (z : Option Text). option_map asks_serve (option_and_then (served_as_named rows listen) z)) is ∙ ap (λ (z : Option Served). option_map asks_serve z) named
 
   asks_dials : (rules : Bool) (vs : List Text) (last zid : Text) (ds : List DialState) → zid_of_hex id ≡ Some zid → dials_of (vs ++ last ∷ []) ≡ Some ds
       → asked_by (serve_built.name, finished serve_built.rules (dialling rules vs last).held)
-      ≡ Some (asks_serve (record { id = zid; listen = listen; log = false; rules = rules; dials = ds }))
+      ≡ Some (asks_serve (record { id = zid; listen = listen; log = false; rules = rules; explain = false; dials = ds }))
   asks_dials true [] last zid ds is reads =
       asks_found (finished serve_built.rules (dialling true [] last).held) true zid ds is
       (ap (λ (z : Option (List DialState)). option_map (served_at (finished serve_built.rules (dialling true [] last).held) listen zid) z) reads)
@@ -336,11 +336,11 @@ module _ (id listen : Text) (pid : is_plain id ≡ true) (plisten : is_plain lis
 
   serves : (zid : Text) (rules : Bool) (words : List Text) (ds : List DialState) → zid_of_hex id ≡ Some zid → list_all is_plain words ≡ true → dials_of words ≡ Some ds
       → asked_of (codes "serve" ∷ codes "--id" ∷ id ∷ codes "--listen" ∷ listen ∷ (flag_words (codes "--rules") rules ++ words))
-      ≡ Some (asks_serve (record { id = zid; listen = listen; log = false; rules = rules; dials = ds }))
+      ≡ Some (asks_serve (record { id = zid; listen = listen; log = false; rules = rules; explain = false; dials = ds }))
   serves zid rules [] ds is p reads =
       asked_is (codes "serve") (codes "serve") serve_built _ serve_enters (listening rules) (starts rules [] (listening rules) (stays serve_built (listening rules))) (listening_fine rules)
       ∙ asks_none rules zid is
-      ∙ ap (λ (z : Option (List DialState)). option_map asks_serve (option_map (λ (ds : List DialState). record { id = zid; listen = listen; log = false; rules = rules; dials = ds }) z)) reads
+      ∙ ap (λ (z : Option (List DialState)). option_map asks_serve (option_map (λ (ds : List DialState). record { id = zid; listen = listen; log = false; rules = rules; explain = false; dials = ds }) z)) reads
   serves zid rules (word ∷ rest) ds is p reads =
       let h = both_hold (is_plain word) (list_all is_plain rest) p in
       let d = dials rules [] word rest h.1 in

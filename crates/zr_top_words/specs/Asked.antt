@@ -36,12 +36,14 @@ abbrev pub dials_of : List (List ℕ) → Option (List DialState)
 dials_of [] = Some []
 dials_of (word ∷ words) = option_and_then (λ dial. option_map (λ dials. dial ∷ dials) (dials_of words)) (dial_of word)
 
--- what `serve` asks for: an identifier, the address at which it listens, whether its links have logs, whether rules are read, and what it dials
+-- what `serve` asks for: an identifier, the address at which it listens, whether its links have logs, whether rules are read, whether a faulty line of
+-- them is explained, and what it dials
 pub record Served : Type 0 where
   pub id : List ℕ
   pub listen : List ℕ
   pub log : Bool
   pub rules : Bool
+  pub explain : Bool
   pub dials : List DialState
 
 abbrev pub net_by : List Row → NetPlan
@@ -51,7 +53,14 @@ abbrev pub dials_at : List Row → Option (List DialState)
 dials_at rows = dials_of (unwrap_or (all_of (codes "dial") rows) [])
 
 abbrev pub served_at : List Row → List ℕ → List ℕ → List DialState → Served
-served_at rows listen id dials = record { id = id; listen = listen; log = is_given (codes "log") rows; rules = is_given (codes "rules") rows; dials = dials }
+served_at rows listen id dials = record {
+  id = id;
+  listen = listen;
+  log = is_given (codes "log") rows;
+  rules = is_given (codes "rules") rows;
+  explain = is_given (codes "explain") rows;
+  dials = dials;
+}
 
 -- a router of this identifier, where each word asks for a dial
 abbrev pub served_as_named : List Row → List ℕ → List ℕ → Option Served

@@ -27,7 +27,7 @@ abbrev pub ServeIsTaken : Type 0
 ServeIsTaken = (id zid listen : List ℕ) (rules : Bool) (words : List (List ℕ)) (dials : List DialState) → zid_of_hex id ≡ Some zid → is_plain listen ≡ true
     → list_all is_plain words ≡ true → dials_of words ≡ Some dials
     → asked_of (codes "serve" ∷ codes "--id" ∷ id ∷ codes "--listen" ∷ listen ∷ (flag_words (codes "--rules") rules ++ words))
-    ≡ Some (serve (record { id = zid; listen = listen; log = false; rules = rules; dials = dials }))
+    ≡ Some (serve (record { id = zid; listen = listen; log = false; rules = rules; explain = false; dials = dials }))
 
 -- `make --number N --routers R --clients C --messages M`: each is a number without leading zeros, and a script can be made of them
 abbrev pub MakeIsTaken : Type 0

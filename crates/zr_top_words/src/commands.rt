@@ -71,6 +71,11 @@ fn serve<'a>(alloc: Global) -> Result<Command<'a>, AllocError>
             "rules",
             "Reads from standard input what each client may do, before it listens",
         ))?
+        .arg(flag(
+            alloc,
+            "explain",
+            "With --rules, shows a faulty line, where it is wrong and what is expected",
+        ))?
         .arg(words_beside(
             alloc,
             "dial",

@@ -37,6 +37,8 @@ pub struct ServeWords {
     pub log: bool,
     /// Whether access rules are read from the input.
     pub rules: bool,
+    /// Whether a faulty line of the rules is shown with its explanation.
+    pub explain: bool,
 }
 
 /// Why the words gave no plan.

@@ -128,6 +128,7 @@ fn serve_by(alloc: Global, options: &ArgMatches<'_>) -> Result<Option<ServeWords
         dials,
         log: is_given(options, "log"),
         rules: is_given(options, "rules"),
+        explain: is_given(options, "explain"),
     }))
 }
 

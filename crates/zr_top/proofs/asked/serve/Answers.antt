@@ -25,4 +25,4 @@ pub returns-in-Err-clause-read_told : goal.returns-in-Err-clause-read_told
 returns-in-Err-clause-read_told g c = λ rose.
     let told = c.in-Err.ensures.only rose in
     let is : c.in-Err.error ≡ ReadFault = cc in
-    c.status_of_rules.ensures.is ∙ ap status_of_rules (read_fault_kept _ _ _ _ is c.tell_refusal.ensures.tells)
+    c.status_of_rules.ensures.is ∙ ap status_of_rules (read_fault_kept _ _ _ _ _ is c.tell_refusal.ensures.tells)

@@ -11,4 +11,5 @@ returns c =
     let two = adds c.in_ok-arg-2.ensures c.wanted.ensures.local one c.wanted.ensures.rule in
     let three = adds c.in_ok-arg-3.ensures c.flag.ensures.local two c.flag.ensures.rule in
     let four = adds c.in_ok-arg-4.ensures c.flag-2.ensures.local three c.flag-2.ensures.rule in
-    IfOk-weaker c.arg-5.result _ _ (λ r h. ap (λ (a : App). a.top) (adds h c.words_beside.ensures.local four c.words_beside.ensures.rule)) c.arg-5.ensures
+    let five = adds c.in_ok-arg-5.ensures c.flag-3.ensures.local four c.flag-3.ensures.rule in
+    IfOk-weaker c.arg-6.result _ _ (λ r h. ap (λ (a : App). a.top) (adds h c.words_beside.ensures.local five c.words_beside.ensures.rule)) c.arg-6.ensures
