@@ -185,7 +185,7 @@ class Client:
 
     def take_back(self, sort, number):
         del self.declared[sort, number]
-        return pubsub.no_subscription(number) if sort == "sub" else pubsub.no_queryable(number)
+        return pubsub.undeclared(pubsub.NO_SUBSCRIBER if sort == "sub" else pubsub.NO_QUERYABLE, number)
 
     def interest(self, key, kinds, mode, is_aggregated=False):
         number = self.number("interest")

@@ -231,7 +231,7 @@ def changes(form, source, position, entries):
 
 def router_units(rng, group, own):
     """The same in the session of a router; positions go on from unit to unit."""
-    entries = [(rng.randrange(3), f"f{group}/{text}".encode()) for text in ("a", "b", "c/*")]
+    entries = [(rng.randrange(4), f"f{group}/{text}".encode()) for text in ("a", "b", "c/*")]
     seq = [1]
     position = [0]
 

@@ -13,6 +13,8 @@ CONNECTED_ALREADY = 4
 INVALID = "closed here, it sent what may not come"  # what the log tells with reason 2
 LONG_LEASE = 120  # seconds: it does not run out
 REFUSED = 20  # peers one behind another
+DENIED = 20  # messages one behind another
+QUIET = 1.1  # seconds: a line may come again
 UNREAD = 2_000  # links whose lines in the log are more than a pipe and the router keep
 NO_NAMES = "127.83.71.1"  # where no server of names answers
 IDENT = "0c"
@@ -60,6 +62,7 @@ BREAKS = [
     (lambda client: client.declare_interest("a/#"), f'{INVALID}: a key expression is out of form: "a/#"'),
     (lambda client: client.put("a" * 3_000, b"hi"), f'{INVALID}: a key expression is out of form: "{"a" * 100}"..'),
     (lambda client: client.unsubscribe(7), f"{INVALID}: it takes back 7, which it has not declared"),
+    (lambda client: client.undeclare_token(7), f"{INVALID}: it takes back 7, which it has not declared"),
     (lambda client: send_at_once(client, [pubsub.request(7, "a", None, pubsub.BEST_MATCHING)] * 2), f"{INVALID}: its query 7 is pending already"),
     (lambda client: send_batch(client, 7), f"{INVALID}: no message or body has this id here"),
     (lambda client: send_batch(client, 0x01, pubsub.VERSION, 0x02, 0x0A), f"{INVALID}: the session is open already"),
@@ -85,6 +88,35 @@ def broken_rules():
             until(lambda: router.logged()[1].endswith(f"end, client 0a: {cause}"), cause)
             client.link.close()
             until(lambda: takes(router, "0a"), "the identifier can come again")
+
+
+def denials():
+    """The log names a message that the rules deny, a line a second at most, and how many were left out before it."""
+    rules = "deny * put secret/**\ndeny 0a sub secret/*\ndeny 0a interest **\n"
+    with Router("01", options=["--log"], rules=rules) as router:
+        client = router.client("0a", LONG_LEASE)
+        at = "link {}:{}: ".format(*client.link.getsockname())
+        head = f"{at}denied, client 0a: "
+        until(lambda: router.logged()[1] == f"{at}up, client 0a", "the link comes up")
+        for act, cause in [
+            (lambda: client.put("secret/x", b"hi"), 'put "secret/x", rule 1'),
+            (lambda: client.subscribe("**"), 'sub "**", rule 2'),
+            (lambda: client.declare_interest(None), "interest, rule 3"),
+            (lambda: client.put("secret/" + "a" * 300, b"hi"), f'put "secret/{"a" * 193}".., rule 1'),
+        ]:
+            time.sleep(QUIET)
+            act()
+            must(router.logged(), ("info", head + cause), "what is told of a denial")
+        for _ in range(DENIED):
+            client.put("secret/x", b"hi")
+            time.sleep(0.01)  # so that not all come by one read
+        time.sleep(QUIET)
+        client.put("secret/y", b"hi")
+        left_out, told = 0, ""
+        while not told.startswith('put "secret/y"'):
+            told = router.logged()[1].removeprefix(head)
+            left_out += 1 if "left out" not in told else 1 + int(told.rsplit(" ", 1)[1])
+        must(left_out, DENIED + 1, "the denials told of, and those left out")
 
 
 def refused_peers():

@@ -146,7 +146,7 @@ class Session:
         self.own, self.answers = own, []
         self.read_transport, self.cookie = self.read_init, None
         self.texts, self.positions = {0: b""}, {}
-        self.declared, self.interests = {2: {}, 4: {}}, {}
+        self.declared, self.interests = {0x02: {}, 0x04: {}, 0x06: {}}, {}
 
     # ---- bytes to batches, batches to messages
 
@@ -371,7 +371,7 @@ class Session:
         return lambda: self.all_told(interest)
 
     def take_end(self, kind, ident):
-        if kind != 0x06 and self.declared[kind].pop(ident, None) is None:
+        if self.declared[kind].pop(ident, None) is None:
             raise refused()
 
     def all_told(self, interest):
@@ -397,9 +397,8 @@ class Session:
         return lambda: self.take_declaration(kind, ident, length + 16)
 
     def take_declaration(self, kind, ident, weight):
-        if kind != 0x06:
-            self.declared[kind][ident] = weight
-            self.weigh()
+        self.declared[kind][ident] = weight
+        self.weigh()
 
     # ---- messages between routers
 
@@ -439,7 +438,7 @@ class Session:
         last = (-1, b"")
         for _ in range(content.number(32) if form == 0 else 1):
             kind, text = content.byte(), content.string(16)
-            self.admit(kind <= 2 and expression(text) == len(text) and is_canonical(text) and (kind, text) > last)
+            self.admit(kind <= 3 and expression(text) == len(text) and is_canonical(text) and (kind, text) > last)
             last = (kind, text)
         return lambda: self.take_step(form, source, number)
 
