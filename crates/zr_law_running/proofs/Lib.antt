@@ -1,0 +1,14 @@
+pub mod Steps
+pub mod Holding
+pub mod Hearing
+pub mod Draining
+pub mod Counting
+pub mod Coming
+pub mod Linking
+pub mod Going
+pub mod Handling
+pub mod Passing
+pub mod Speaking
+pub mod Running
+pub mod Phases
+pub mod Example

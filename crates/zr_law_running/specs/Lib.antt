@@ -1,0 +1,5 @@
+pub mod Runs
+pub mod Allowed
+pub mod Deeds
+pub mod Laws
+pub mod Example

@@ -1,0 +1,35 @@
+//! Laws of several routers that run each on its own: their run is the run of a script's world, so all that is proved of scripts is so of it.
+//!
+//! A run is a list of what routers hear of, one event after another, in any order that a clock at the wall could have had. What is asked of it stands
+//! in `specs/Allowed`, each premise by itself:
+//!
+//! - of the routers: no two have one identifier, and each refuses none of its events;
+//! - of their links: a router hears of another one's messages in the order in which they were queued, with none left out, while both ends are up and
+//!   none has gone down since; both ends bring one weight; and a link comes up anew only once it is down at both ends. Such is a connection that loses
+//!   nothing, but for what is on it as one end goes down: a script's link loses that too;
+//! - of clients: each has an identifier of its own, comes once, and says what a client of a script may say;
+//! - of numbers: a script's world has room for 64 routers, 1,024 clients and 512 links, for what declarations weigh and for queries.
+//!
+//! Each law is the `ensures` of a function without parameters and with an empty body. Who needs a law calls its function.
+#![tactic(auto)]
+
+ghost use Rattle.zr_law_running.specs.Example.{ExampleIsARun};
+ghost use Rattle.zr_law_running.specs.Laws.{RunsAreOfAWorld, RunsHavePhases};
+
+/// Each run of several routers is the run of a script's world: acts that are all accepted lead to it, and by them clients come, part and say just what they
+/// do in the run. There each router has come to its tables by its own part alone. What is queued for a router waits until it is heard of, and a client
+/// was sent all that was queued for it.
+pub fn runs_are_of_a_world()
+    ensures { RunsAreOfAWorld }
+{}
+
+/// Where that world is settled and its routers are joined, all that follows without a change of links or declarations is a phase of it. So what was
+/// queued for each client of samples and requests is, publisher by publisher, a prefix of what one broker sends it.
+pub fn runs_have_phases()
+    ensures { RunsHavePhases }
+{}
+
+/// A small run of two routers and two clients is one.
+pub fn example_is_a_run()
+    ensures { ExampleIsARun }
+{}
