@@ -1,4 +1,6 @@
 pub mod Ends
+pub mod Failed
+pub mod Gone
 pub mod Heard
 pub mod Written
 pub mod Acts

@@ -1,10 +1,11 @@
 //! `Reader`: the loop of a link's reader.
 
-ghost use Rattle.std.specs.Prelude.{◌≡◌, ◌≢◌, ◌≤◌, ◌++◌, ℕ, true, List, [], Some, None, IfErr, OnOk, OnErr};
+ghost use Rattle.std.specs.Prelude.{◌≡◌, ◌≢◌, ◌<◌, ◌≤◌, ◌++◌, ℕ, true, List, [], Some, None, IfErr, OnOk, OnErr};
 ghost use mathlib.Core.List.{IsPrefix};
 ghost use Rattle.std.specs.Arc.{arc_value};
 ghost use Rattle.std.specs.Vec.Iter.{into_iter_items};
 ghost use Rattle.zr_outside.specs.Counts.{Counted, Rose, RoseBy};
+ghost use Rattle.zr_outside.specs.Told.{Appends};
 ghost use Rattle.zr_msg.specs.declared.msg.Msg.{Msg};
 ghost use Rattle.zr_hist.specs.Words.{pass_name, IsSamePass, seen, mine};
 ghost use Rattle.zr_outside_crew.specs.Crew.{crew_faults, crew_told};
@@ -23,14 +24,16 @@ ghost use Rattle.zr_link.specs.Run.{Follows, Enters, Runs, Starts, GoesDown};
 ghost use Rattle.zr_link.specs.declared.log.Stage.TheVariants as stages;
 ghost use Rattle.zr_link.specs.Log.{stage_of};
 ghost use Rattle.zr_link.specs.Logged.{IsLogged, TellsDenials};
-ghost use Rattle.zr_link.specs.Ends.{IsEarly, IsStarted, IsCrewRefused};
+ghost use Rattle.zr_link.specs.Failed.{MayHaveFailed};
+ghost use Rattle.zr_link.specs.Gone.{is_gone};
+ghost use Rattle.zr_link.specs.Ends.{IsEarly, IsStarted, IsCrewRefused, end_of_up};
 
 use crate::cause::cause;
-use crate::clock::PortClock;
 use crate::delivery::{go_on, settle};
 use crate::end::LinkEnd;
+use crate::gone::is_gone;
 use crate::intake::Intake;
-use crate::log::{LinkLog, Stage};
+use crate::log::LinkLog;
 use crate::opening::{Opened, open};
 use crate::writing::{Writing, write};
 use std::alloc::Global;
@@ -47,7 +50,7 @@ use zr_outside::log::Log;
 use zr_outside::sink::{Sink, write_all};
 use zr_outside::source::Source;
 use zr_outside_crew::Crew;
-use zr_port::{Entry, Port};
+use zr_port::{DeliverError, Entry, Port, UpError};
 use zr_ring::Taker;
 use zr_session::{Fate, Session, SessionEvent};
 
@@ -104,6 +107,7 @@ impl Reader {
         ensures refused { Counted (crew_faults crew.old) (crew_faults crew.new) (result.0 ≡ end.CrewRefused) }
         ensures writer { Starts result.1 (crew_told crew.old) (crew_told crew.new) (mine pass.old) (mine pass.new) }
         ensures logged { IsLogged (λ l. L.held l) (mine pass.old) (mine pass.new) log.old log.new }
+        ensures told { (sink : K) → result.1 ≡ Some sink → K.faults out.sink < K.faults sink → MayHaveFailed result.0 }
     {
         let mut out = out;
         let Ok(port) = Arc::try_clone(&out.port) else {
@@ -174,6 +178,7 @@ where
     ensures writer { Starts result.1 (crew_told crew.old) (crew_told crew.new) (mine pass.old) (mine pass.new) }
     ensures logged { IsLogged (λ l. L.held l) (mine pass.old) (mine pass.new) log.old log.new }
     ensures later { (S.quiets source.old ≤ S.quiets source.new) × (C.last clock.old ≤ C.last clock.new) }
+    ensures told { (sink : K) → result.1 ≡ Some sink → K.faults out.sink < K.faults sink → MayHaveFailed result.0 }
 {
     let mut out = out;
     let Opened {
@@ -190,8 +195,7 @@ where
         Ok(up) => up,
         Err(e) => {
             drop(messages);
-            let end = LinkEnd::of_up(e);
-            refuse(intake, &mut out.sink, end);
+            let end = refuse(intake, &mut out.sink, e);
             return (end, Some(out.sink));
         }
     };
@@ -203,12 +207,12 @@ where
             );
             let refused = log.refusal();
             log.because(cause(alloc, &intake.session, refused));
-            leave(port, pass, link, end);
+            leave(port, pass, link, end, log.refusal());
             (end, None)
         }
         Err((end, sink)) => {
             drop(messages);
-            leave(port, pass, link, end);
+            leave(port, pass, link, end, None);
             (end, Some(sink))
         }
     }
@@ -221,14 +225,25 @@ fn same_peer(peer: &Peer) -> Peer
     *peer
 }
 
-// The reader has ended so: its link goes down.
-fn leave<P: Port>(port: &P, pass: &mut Pass<Entry>, link: LinkNo, end: LinkEnd)
+// The reader has ended so: its link goes down. Where a message was refused since it isn't up any more, another caller took it down, and its number may be
+// that of another link by now.
+fn leave<P: Port>(
+    port: &P,
+    pass: &mut Pass<Entry>,
+    link: LinkNo,
+    end: LinkEnd,
+    refused: Option<DeliverError>,
+)
     requires { pass_name pass.old ≡ P.history port.now }
     ensures same { IsSamePass pass.old pass.new }
     ensures prefix { IsPrefix (seen pass.old) (seen pass.new) }
     ensures left { (downs : List Act) × GoesDown link end (λ e. P.refuses_down port.now (seen pass.new) link e) downs (sight pass.old) (sight pass.new) × Does downs (mine pass.old) (mine pass.new) }
+    ensures gone { is_gone refused ≡ true → mine pass.new ≡ mine pass.old }
 {
-    // a link that another caller took down, or memory that ran out, changes nothing of how the reader ends
+    if is_gone(refused) {
+        return;
+    }
+    // memory that ran out changes nothing of how the reader ends
     let _ = port.down(pass, link, end.reason());
 }
 
@@ -291,28 +306,13 @@ where
     ensures refused { Counted (crew_faults crew.old) (crew_faults crew.new) (IsCrewRefused result) }
     ensures told { OnOk result (crew_told crew.new ≡ with_last link (crew_told crew.old)) }
     ensures untold { OnErr result (crew_told crew.new ≡ crew_told crew.old) }
+    ensures failed { IfErr result (λ e. K.faults out.sink < K.faults e.1 → MayHaveFailed e.0) }
 {
-    let Outward {
-        mut sink,
-        port,
-        clock,
-        turns,
-        log,
-    } = out;
-    let Ok(()) = intake.confirm() else {
-        return Err((LinkEnd::NoMemory, sink));
-    };
-    let Ok(()) = write_all(&mut sink, intake.answers()) else {
-        return Err((LinkEnd::WriteFault, sink));
-    };
-    let job = Writing {
-        alloc,
-        sink,
-        taker,
-        clock: PortClock::new(clock, port, link),
-        turns,
-        log: LinkLog::new(alloc, log, Stage::Up(peer)),
-    };
+    let mut out = out;
+    if let Err(end) = answer_open(intake, &mut out.sink) {
+        return Err((end, out.sink));
+    }
+    let job = Writing::new(alloc, out, link, peer, taker);
     match crew.start(job, link, |job: Writing<K, P, C, L>| write(job)) {
         Ok(()) => Ok(()),
         Err(job) => {
@@ -323,16 +323,42 @@ where
     }
 }
 
-// The peer isn't taken: writes what was answered before, and the CLOSE.
-fn refuse<K: Sink>(intake: &Intake, sink: &mut K, how: LinkEnd)
-    ensures { how ≢ end.CrewRefused → IsWritten how intake.now.fed.bytes.items (K.held sink.old) (K.held sink.new) (Rose (K.faults sink.old) (K.faults sink.new)) }
+// Writes the answer to OPEN, behind what was answered before.
+fn answer_open<K: Sink>(intake: &mut Intake, sink: &mut K) -> Result<(), LinkEnd>
+    ensures same { OnOk result (intake.new.session ≡ with_confirmed intake.old.session) }
+    ensures wrote { OnOk result (Appends (intake.old.fed.bytes.items ++ owed_bytes intake.old.session) (K.held sink.old) (K.held sink.new)) }
+    ensures part { IfErr result (λ e. IsWritten e (intake.old.fed.bytes.items ++ owed_bytes intake.old.session) (K.held sink.old) (K.held sink.new) (Rose (K.faults sink.old) (K.faults sink.new))) }
+    ensures early { IfErr result (λ e. IsEarly e) }
+    ensures crewless { IfErr result (λ e. e ≢ end.CrewRefused) }
+    ensures unwritten { IfErr result (λ e. e ≡ end.WriteFault → Rose (K.faults sink.old) (K.faults sink.new)) }
+    ensures quiet { OnOk result (K.faults sink.new ≡ K.faults sink.old) }
+    ensures told { IfErr result (λ e. K.faults sink.old < K.faults sink.new → MayHaveFailed e) }
 {
-    let Ok(()) = write_all(sink, intake.answers()) else {
-        return;
+    let Ok(()) = intake.confirm() else {
+        return Err(LinkEnd::NoMemory);
     };
-    if let Some(reason) = how.reason() {
-        close(sink, reason);
+    match write_all(sink, intake.answers()) {
+        Ok(()) => Ok(()),
+        Err(_) => Err(LinkEnd::WriteFault),
     }
+}
+
+// The peer isn't taken: writes what was answered before, and the CLOSE. Where memory ran out nothing is written, so that no write that fails is taken for
+// that.
+fn refuse<K: Sink>(intake: &Intake, sink: &mut K, e: UpError) -> LinkEnd
+    ensures end { result ≡ end_of_up e }
+    ensures wrote { IsWritten result intake.now.fed.bytes.items (K.held sink.old) (K.held sink.new) (Rose (K.faults sink.old) (K.faults sink.new)) }
+    ensures told { K.faults sink.old < K.faults sink.new → MayHaveFailed result }
+{
+    let end = LinkEnd::of_up(e);
+    let Some(reason) = end.reason() else {
+        return end;
+    };
+    let Ok(()) = write_all(sink, intake.answers()) else {
+        return end;
+    };
+    close(sink, reason);
+    end
 }
 
 // Writes a CLOSE. The end is decided, so a write that fails changes nothing of it.

@@ -64,6 +64,8 @@ impl Joined {
         ensures later { K.faults sink.old ≤ K.faults sink.new }
         ensures moment { (self.old.moment ≤ self.new.moment) × (self.new.moment ≤ C.last clock.new) }
         ensures clock { C.last clock.old ≤ C.last clock.new }
+        ensures told { K.faults sink.old < K.faults sink.new → result ≡ Err Fault }
+        ensures quiet { OnOk result (K.faults sink.new ≡ K.faults sink.old) }
     {
         if head.len() + body.len() + LENGTH_BYTES > MOST_JOINED.saturating_sub(self.bytes.len()) {
             self.flush(sink, clock)?;
@@ -89,6 +91,7 @@ impl Joined {
         ensures later { K.faults sink.old ≤ K.faults sink.new }
         ensures moment { (self.old.moment ≤ self.new.moment) × (self.new.moment ≤ C.last clock.new) }
         ensures clock { C.last clock.old ≤ C.last clock.new }
+        ensures quiet { OnOk result (K.faults sink.new ≡ K.faults sink.old) }
     {
         self.catch_up(sink, clock)?;
         clock.pause();
@@ -107,6 +110,7 @@ impl Joined {
         ensures later { K.faults sink.old ≤ K.faults sink.new }
         ensures moment { (self.old.moment ≤ self.new.moment) × (self.new.moment ≤ C.last clock.new) }
         ensures clock { C.last clock.old ≤ C.last clock.new }
+        ensures quiet { OnOk result (K.faults sink.new ≡ K.faults sink.old) }
     {
         if !self.bytes.is_empty() {
             self.flush(sink, clock)?;
@@ -134,6 +138,7 @@ impl Joined {
         ensures fault { IfErr result (λ e. e ≡ Fault) }
         ensures later { K.faults sink.old ≤ K.faults sink.new }
         ensures clock { C.last clock.old ≤ C.last clock.new }
+        ensures quiet { OnOk result (K.faults sink.new ≡ K.faults sink.old) }
     {
         self.flush(sink, clock)?;
         match reason {
@@ -158,6 +163,7 @@ impl Joined {
         ensures later { K.faults sink.old ≤ K.faults sink.new }
         ensures moment { (self.old.moment ≤ self.new.moment) × (self.new.moment ≤ C.last clock.new) }
         ensures clock { C.last clock.old ≤ C.last clock.new }
+        ensures quiet { OnOk result (K.faults sink.new ≡ K.faults sink.old) }
     {
         if self.bytes.is_empty() {
             return Ok(());
@@ -187,6 +193,7 @@ impl Joined {
         ensures now { OnOk result ((C.last clock.old ≤ self.new.moment) × (self.new.moment ≡ C.last clock.new)) }
         ensures moment { (self.old.moment ≤ self.new.moment) × (self.new.moment ≤ C.last clock.new) }
         ensures clock { C.last clock.old ≤ C.last clock.new }
+        ensures quiet { OnOk result (K.faults sink.new ≡ K.faults sink.old) }
     {
         if write_all(sink, batch).is_err() {
             return Err(Stop::Fault);

@@ -1,6 +1,6 @@
 //! `Writer`: the loop of a link's writer.
 
-ghost use Rattle.std.specs.Prelude.{◌≡◌, ◌≤◌, ◌+◌, ℕ, Option, Some, []};
+ghost use Rattle.std.specs.Prelude.{◌≡◌, ◌<◌, ◌≤◌, ◌+◌, ℕ, Option, Some, []};
 ghost use Rattle.zr_outside.specs.Counts.{Rose};
 ghost use Rattle.zr_outside.specs.Told.{Appends, AppendsPrefix};
 ghost use Rattle.zr_ring.specs.Items.{end_of};
@@ -39,6 +39,7 @@ impl Writer {
         ensures fault { result ≡ WriteFault → Rose (K.faults sink.old) (K.faults sink.new) }
         ensures later { (K.faults sink.old ≤ K.faults sink.new) × (C.last clock.old ≤ C.last clock.new) }
         ensures same { IsSameTaker taker.old taker.new }
+        ensures told { K.faults sink.old < K.faults sink.new → result ≡ WriteFault }
     {
         let mut joined = Joined::new(alloc, clock);
         for _ in 0..turns {

@@ -57,6 +57,11 @@ not_spent o a e b is h s = let x : o ≡ Err e = h.1 s in absurd cc
 pub spent_neither : {A E : Type 0} (o : Result A E) (a : A) (e : E) (b : Bool) → o ≡ Ok a → (b ≡ true → ⊥) → (o ≡ Err e) ↔ (b ≡ true)
 spent_neither o a e b is never = (λ x. absurd cc, λ s. absurd (never s))
 
+-- memory had run out before, or something is so where it hadn't
+pub spent_or : (spent before : Bool) (Q : Type 0) → (spent ≡ true → before ≡ true) → (spent ≡ false → Q) → (before ≡ true) ⊎ Q
+spent_or true before Q was else_so = inl (was refl)
+spent_or false before Q was else_so = inr (else_so refl)
+
 -- what the history has more is what the pass has appended
 abbrev pub Owns : List Entry → List Entry → List Entry → List Entry → Type 0
 Owns h more before after = (own : List Entry) × (more ≡ h ++ own) × (after ≡ before ++ own)

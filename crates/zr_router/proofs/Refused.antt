@@ -22,6 +22,7 @@ use Rattle.zr_router_queue.specs.declared.link_end.Closing.{Closing}
 use Rattle.zr_router_queue.specs.Tables.{LinkQueue, Tables, new_tables, advanced, replay_from, replay}
 use Rattle.zr_router_queue.specs.Ends.{EndState, IsReplay}
 use Rattle.zr_router.specs.Before.{message_refusal, open_refusal}
+use Rattle.zr_router.specs.Judged.{is_judged}
 use Rattle.zr_router.specs.Refusals.{IsClosed, RefusesAt, RefusesOn, RefusesMessage, closing_of, denied_or, is_worn, node_refusal, refused_by, refuses_on}
 use Rattle.zr_router.specs.Allowed.{is_allowed, are_allowed_from, are_allowed}
 use Rattle.zr_access.specs.Rules.{PolicyState, is_open}
@@ -53,6 +54,25 @@ find_closed link (x ∷ xs) = by (x.queue.link.0 == link.0) (find_closed link xs
         ≡ option_and_then (λ (y : EndState). y.queue.closed) (cond b (Some x) (find (λ y. y.queue.link.0 == link.0) xs))
     by true ih = refl
     by false ih = ih
+
+-- a refusal by the router may need memory
+unjudged : (ruled : Bool) (x : NodeError) → is_judged (node_refusal ruled x) ≡ false
+unjudged true (error.NotDeclared id) = refl
+unjudged true (error.Gap router has came) = refl
+unjudged true (error.TextLimit held more) = refl
+unjudged true (error.NumberTaken id) = refl
+unjudged true (error.TooMany pending) = refl
+unjudged true error.Worn = refl
+unjudged true error.Spent = refl
+unjudged true error.NoMemory = refl
+unjudged false x = refl
+
+router_judged : (ruled : Bool) (o : Option NodeError) (e : DeliverError) → refused_by ruled false o ≡ Some e → is_judged e ≡ true → ⊥
+router_judged ruled None e is judged = cc
+router_judged ruled (Some x) e is judged =
+    let same : node_refusal ruled x ≡ e = cc in
+    let never : false ≡ true = sym (unjudged ruled x) ∙ ap is_judged same ∙ judged in
+    cc
 
 module _ (policy : PolicyState) (me : List ℕ) (h : List Entry) (hub : HubState) (ends : List EndState) (r : IsReplay me h hub ends) (link : LinkNo) (msg : Msg) where
   here : (o : Option LinkPeer) → link_at hub.node.links link.0 ≡ o → link_at (replay me h).hub.node.links link.0 ≡ o
@@ -136,6 +156,17 @@ module _ (policy : PolicyState) (me : List ℕ) (h : List Entry) (hub : HubState
         let none : refuses_on policy hub h link u.0.peer msg ≡ None =
         (none_more (admits u.0.peer.role msg) (peer_denial policy u.0.peer msg) (not (is_open policy)) (is_worn h) u.0.peer.role (hub_refuses hub (From link msg)) u.3).3 ∙ ap (λ o. refused_by (not (is_open policy)) false o) takes in
         cc
+
+    -- and then each refusal is the router's
+    pub message_judged : (e : DeliverError) → is_judged e ≡ true → RefusesMessage policy me h link msg e → ⊥
+    message_judged e judged refused =
+        let u = unshut p c at shut is in
+        let on : RefusesAt policy (replay me h) h link msg (Some u.0) e = subst (λ o. RefusesAt policy (replay me h) h link msg o e) (here (Some u.0) u.1) refused in
+        let there : refuses_on policy (replay me h).hub h link u.0.peer msg ≡ Some e = subst (λ o. RefusesOn policy (replay me h) h link u.0.peer msg o e) (closing None u.2) on in
+        let same : refuses_on policy hub h link u.0.peer msg ≡ Some e = subst (λ n. refuses_on policy n h link u.0.peer msg ≡ Some e) (sym r.hub_is) there in
+        let node : refuses_on policy hub h link u.0.peer msg ≡ refused_by (not (is_open policy)) false (hub_refuses hub (From link msg)) =
+        (none_more (admits u.0.peer.role msg) (peer_denial policy u.0.peer msg) (not (is_open policy)) (is_worn h) u.0.peer.role (hub_refuses hub (From link msg)) u.3).3 in
+        router_judged (not (is_open policy)) (hub_refuses hub (From link msg)) e (sym node ∙ same) judged
 
 -- out of memory is no cause of these
 pub never_memory : (policy : PolicyState) (p : Option PeerState) (c : Option Closing) (link : LinkNo) (msg : Msg) (w : Bool) → message_refusal policy p c link msg w ≡ Some deliver.NoMemory → ⊥

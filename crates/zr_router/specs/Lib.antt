@@ -1,4 +1,5 @@
 pub mod Refusals
+pub mod Judged
 pub mod Before
 pub mod Allowed
 pub mod Handled

@@ -1,7 +1,7 @@
 //! The tables under a router's lock, and the three calls on them. Each looks at the history first, so that every refusal speaks of all that has
 //! happened.
 
-ghost use Rattle.std.specs.Prelude.{◌≡◌, ◌≢◌, ◌↔◌, ◌<◌, ◌==◌, ◌++◌, ◌∷◌, [], not, filter, false, true, length, Err, IfErr, IfOk, OnErr, OnOk, List, Some, None, is_err};
+ghost use Rattle.std.specs.Prelude.{◌≡◌, ◌≢◌, ◌↔◌, ◌⊎◌, ◌<◌, ◌==◌, ◌++◌, ◌∷◌, [], not, filter, false, true, length, Err, IfErr, IfOk, OnErr, OnOk, List, Some, None, is_err};
 ghost use mathlib.Core.List.{IsPrefix};
 ghost use Rattle.std.specs.List.{AllByRecursion};
 ghost use Rattle.std.specs.Vec.Iter.{into_iter_items, into_iter_len};
@@ -12,11 +12,14 @@ ghost use Rattle.zr_msg.specs.declared.msg.Msg.{Msg};
 ghost use Rattle.zr_port.specs.Adding.{Adds, IsAdmitted, IsEntryOf, IsLeastFree};
 ghost use Rattle.zr_port.specs.Coming.{Came, ComesUpTo, Makes, StopsAt, is_passed, message_of, sight};
 ghost use Rattle.zr_port.specs.declared.entry.Entry.{Entry};
+ghost use Rattle.zr_port.specs.declared.error.DeliverError.{DeliverError};
+ghost use Rattle.zr_port.specs.declared.error.DownError.{DownError};
+ghost use Rattle.zr_port.specs.declared.error.UpError.{UpError};
 ghost use Rattle.zr_ring.specs.Taker.{taken, take_calls};
 ghost use Rattle.zr_node_spec.specs.Event.{MayCome, on_link};
 ghost use Rattle.zr_told_spec.specs.Hub.{hub_after, hub_refuses, hub_sends};
 ghost use Rattle.zr_wire.specs.Writing.{IsSpelled};
-ghost use Rattle.zr_router_queue.specs.Ends.{GoesByRings, IsReplay, new_end, taker_ring};
+ghost use Rattle.zr_router_queue.specs.Ends.{EndState, GoesByRings, IsReplay, new_end, taker_ring};
 ghost use Rattle.zr_router_queue.specs.History.{is_legal};
 ghost use Rattle.zr_router_queue.specs.Tables.{is_up, new_queue, replay};
 ghost use Rattle.zr_router.specs.Allowed.{are_allowed, is_allowed};
@@ -26,8 +29,9 @@ ghost use Rattle.zr_router.specs.Handled.{IsHandled};
 ghost use Rattle.zr_router.specs.Ended.{HasEnded};
 ghost use Rattle.zr_router.specs.Replayed.{IsReplay-prop, HoldsSpelled-prop};
 ghost use Rattle.zr_router_queue.specs.Writable.{HoldsSpelled};
+ghost use Rattle.zr_router.specs.Judged.{is_judged};
 ghost use Rattle.zr_router.specs.Runs.{IsStep, RunsUpTo};
-ghost use Rattle.zr_router.specs.Refusals.{RefusesDown, RefusesMessage, RefusesUp, is_worn, most_sessions};
+ghost use Rattle.zr_router.specs.Refusals.{RefusesDown, RefusesMessage, RefusesUp, down_refusal, is_worn, most_sessions, peer_refusal};
 
 use crate::admit::{MOST_SESSIONS, node_refusal, refuses_down, refuses_message, refuses_peer};
 use crate::ends::{closing_of, taken_out};
@@ -174,6 +178,7 @@ impl<B: Naming> Tables<B> {
         ensures unasked { IfErr result (λ r. r ≢ DeliverError.NoMemory → open_links self.new ≡ open_links self.old) }
         ensures spent { (result ≡ Err DeliverError.NoMemory) ↔ (is_spent self.new ≡ true) }
         ensures stays { is_spent self.old ≡ true → is_spent self.new ≡ true }
+        ensures judged { is_spent self.old ≡ false → (r : DeliverError) → is_judged r ≡ true → RefusesMessage B.policy B.me (entries self.old) link msg r → result ≢ Err DeliverError.NoMemory }
     {
         let Ok(worn) = self.look(history, pass) else {
             drop(msg);
@@ -243,6 +248,7 @@ impl<B: Naming> Tables<B> {
         ensures stopped { IfErr result (λ e. (rest : List Msg) × ComesUpTo link (λ h m x. RefusesMessage B.policy B.me h link m x) (into_iter_items messages.old) rest (sight pass.old) (sight pass.new) × StopsAt (λ m x. RefusesMessage B.policy B.me (seen pass.new) link m x) rest e) }
         ensures spent { (result ≡ Err DeliverError.NoMemory) ↔ (is_spent self.new ≡ true) }
         ensures stays { is_spent self.old ≡ true → is_spent self.new ≡ true }
+        ensures memory { result ≡ Err DeliverError.NoMemory → (is_spent self.old ≡ true) ⊎ ((msg : Msg) × (there : List EndState) × RunsUpTo B.policy B.me link (into_iter_items messages.old) (msg ∷ into_iter_items messages.new) (entries self.old) (open_links self.old) (entries self.new) there × ((r : DeliverError) → is_judged r ≡ true → RefusesMessage B.policy B.me (entries self.new) link msg r → ⊥)) }
     {
         for _ in 0..MOST_HELD {
             let Some(msg) = messages.next() else {
@@ -283,6 +289,7 @@ impl<B: Naming> Tables<B> {
         ensures unasked { IfErr result (λ r. r ≢ DeliverError.NoMemory → open_links self.new ≡ open_links self.old) }
         ensures spent { (result ≡ Err DeliverError.NoMemory) ↔ (is_spent self.new ≡ true) }
         ensures stays { is_spent self.old ≡ true → is_spent self.new ≡ true }
+        ensures judged { is_spent self.old ≡ false → (r : DeliverError) → is_judged r ≡ true → RefusesMessage B.policy B.me (entries self.old) link msg r → result ≢ Err DeliverError.NoMemory }
     {
         match self.deliver(alloc, history, pass, link, msg) {
             Ok(()) => Ok(()),
@@ -331,12 +338,13 @@ impl<B: Naming> Tables<B> {
         ensures unasked { IfErr result (λ e. e ≢ UpError.NoMemory → open_links self.new ≡ open_links self.old) }
         ensures spent { (result ≡ Err UpError.NoMemory) ↔ (is_spent self.new ≡ true) }
         ensures stays { is_spent self.old ≡ true → is_spent self.new ≡ true }
+        ensures judged { is_spent self.old ≡ false → (e : UpError) → peer_refusal (replay B.me (entries self.old)).hub.node peer (is_worn (entries self.old)) ≡ Some e → result ≡ Err e }
     {
         let Ok(worn) = self.look(history, pass) else {
             return Err(UpError::NoMemory);
         };
         if let Some(refused) = refuses_peer(&self.hub, worn, &peer) {
-            return Err(refused);
+            return Err(refused); // a peer that isn't taken costs no memory
         }
         let link = self.hub.free_link();
         let event = Event::Up { link, peer };
@@ -399,12 +407,13 @@ impl<B: Naming> Tables<B> {
         ensures unasked { IfErr result (λ e. e ≢ DownError.NoMemory → open_links self.new ≡ open_links self.old) }
         ensures spent { (result ≡ Err DownError.NoMemory) ↔ (is_spent self.new ≡ true) }
         ensures stays { is_spent self.old ≡ true → is_spent self.new ≡ true }
+        ensures judged { is_spent self.old ≡ false → (e : DownError) → down_refusal (replay B.me (entries self.old)).hub.node link (is_worn (entries self.old)) ≡ Some e → result ≡ Err e }
     {
         let Ok(worn) = self.look(history, pass) else {
             return Err(DownError::NoMemory);
         };
         if let Some(refused) = refuses_down(&self.hub, worn, link) {
-            return Err(refused);
+            return Err(refused); // nor does a link that isn't up
         }
         let event = Event::Down { link };
         let sent = match self.handle(alloc, &event) {

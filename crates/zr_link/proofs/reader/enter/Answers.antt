@@ -12,18 +12,19 @@ use Rattle.zr_link.specs.Acts.{up, froms}
 use Rattle.zr_link.specs.Ends.{IsStarted}
 use Rattle.zr_port.specs.Coming.{sight, delivered}
 use Rattle.zr_port.proofs.Coming.{adds_one}
+use Rattle.zr_link.proofs.Failed.{told_by}
 use Rattle.zr_link.proofs.Going.{Followed, through_does, does_entry, does_then}
 use Rattle.zr_link.specs.Log.{IsNotUp}
 use Rattle.zr_link.proofs.Logged.{logged_up, tells_none, tells_same, tells_then}
-use Rattle.zr_link.proofs.Running.{enters_followed, enters_early, up_not_refused}
+use Rattle.zr_link.proofs.Running.{enters_followed, enters_early}
 use Rattle.zr_link.proofs.reader.enter.Goals as goal
 
 pub returns-in-Err-clause-entered : goal.returns-in-Err-clause-entered
 returns-in-Err-clause-entered g c =
-    let wrote = c.refuse.ensures (λ is. up_not_refused c.in-Err.e (sym c.of_up-end.ensures ∙ is)) in inl (
+    let wrote = c.refuse-end.ensures.wrote in inl (
       c.in-Err.ensures.unchanged,
       refl,
-      (c.in-Err.e, c.in-Err.ensures.refused, c.of_up-end.ensures),
+      (c.in-Err.e, c.in-Err.ensures.refused, c.refuse-end.ensures.end),
       λ answers is. rw (append-nil answers) (rw (c.without_close.ensures.without answers is) at wrote),
     )
 
@@ -113,3 +114,12 @@ returns-in-Err-begin-clause-logged g c =
     logged_up (λ l. g.L.Log.held l) link c.args.opened.peer _ c.args.opened.outbox down.0 _ _ c.args.log.now c.opened.new.self c.up-2.new.self c.up-2.new.self c.same_peer-known.ensures
     (does_then (up link c.args.opened.peer c.args.opened.outbox ∷ []) down.0 (mine c.args.pass.now) (mine c.up.new.pass) (mine c.leave-in-Err-begin.new.pass) first down.2)
     c.opened.ensures.held c.opened.ensures.rules c.up-2.ensures.stage c.up-2.ensures.rules c.up-2.ensures.told (tells_none (λ l. g.L.Log.held l) c.up-2.new.self)
+
+pub returns-in-Err-clause-told : goal.returns-in-Err-clause-told
+returns-in-Err-clause-told g c sink is rose = told_by (λ k. g.K.Sink.faults k) _ _ sink _ c.refuse-end.ensures.told is rose
+
+pub returns-in-Ok-begin-clause-told : goal.returns-in-Ok-begin-clause-told
+returns-in-Ok-begin-clause-told g c sink is rose = absurd cc
+
+pub returns-in-Err-begin-clause-told : goal.returns-in-Err-begin-clause-told
+returns-in-Err-begin-clause-told g c sink is rose = told_by (λ k. g.K.Sink.faults k) _ _ sink _ c.in-Err-begin.ensures.failed is rose

@@ -1,4 +1,4 @@
-use Rattle.std.proofs.Common.{rules, ◌≤◌, ◌++◌, sym, subst, refl, arith}
+use Rattle.std.proofs.Common.{rules, ◌≤◌, ◌++◌, ◌∙◌, sym, subst, refl, arith}
 use Rattle.zr_frame_batch.specs.Framing.{framed}
 use Rattle.zr_outside.specs.Told.{AppendsPrefix}
 use Rattle.zr_ring.specs.Taker.{taken}
@@ -12,7 +12,7 @@ pub loop-init : goal.loop-init
 loop-init g c = (
   omega arith,
   refl,
-  omega arith,
+  refl,
   omega (arith, c.new-joined.ensures.now),
   omega (arith, c.new-joined.ensures.now.1),
   subst (λ w. Goes (taken c.args.taker.now) (taken c.args.taker.now) (g.C.Clock.last c.args.clock.now) c.new-joined.result.moment w (g.K.Sink.held c.args.sink.now) (g.K.Sink.held c.args.sink.now))
@@ -64,7 +64,7 @@ loop-preserved g c =
           rw (w.sink-is, w.clock-is, w.joined-is) (
             omega (arith, c.take.ensures.called, inv.0),
             search rules,
-            omega (arith, w.add.ensures.later, inv.2),
+            w.in_default.ensures.quiet ∙ inv.2,
             omega (arith, w.add.ensures.clock, inv.3),
             omega (arith, w.add.ensures.moment),
             goes_parcel _ (taken c.loop.taker) _ _ c.loop.joined.moment _ c.loop.joined.bytes.items _ _ (g.K.Sink.held c.loop.sink) _ w.in-Parcel.parcel inv.5 w.in-Parcel.ensures.tells.0 joined w.add.ensures.moment.0,
@@ -73,7 +73,7 @@ loop-preserved g c =
           rw (w.sink-is, w.clock-is, w.joined-is) (
             omega (arith, c.take.ensures.called, inv.0),
             search rules,
-            omega (arith, w.rest.ensures.later, inv.2),
+            w.in_default-rest.ensures.quiet ∙ inv.2,
             omega (arith, w.rest.ensures.clock, inv.3),
             omega (arith, w.rest.ensures.moment),
             subst (λ v. Goes (taken c.args.taker.now) (taken c.take.new.self) (g.C.Clock.last c.args.clock.now) w.rest.new.self.moment v (g.K.Sink.held c.args.sink.now) (g.K.Sink.held w.rest.new.sink))

@@ -14,7 +14,7 @@ use Rattle.zr_router.specs.declared.failure.Failure.TheVariants.{Refused}
 use Rattle.zr_router.specs.Refusals.{RefusesMessage, is_worn, node_refusal}
 use Rattle.zr_access.specs.Rules.{is_open}
 use Rattle.zr_router.proofs.Entered.{added, added_beside, handled}
-use Rattle.zr_router.proofs.Refused.{closed_at, message_allowed, message_admitted, message_comes, message_node, message_refused, message_room, never_memory}
+use Rattle.zr_router.proofs.Refused.{closed_at, message_allowed, message_admitted, message_comes, message_judged, message_node, message_refused, message_room, never_memory}
 use Rattle.zr_router.proofs.tables.Tables.deliver.Goals as goal
 
 pub returns-in-Some-clause-refused : goal.returns-in-Some-clause-refused
@@ -165,3 +165,64 @@ returns-in-Ok-enter-clause-rings g c =
     added_beside c.args.pass.now c.look.new.pass c.enter.new.pass (list_of t.kept) (list_of c.enter.new.self.kept) (λ before e. GoesByRings me before e t.ends.items left)
     c.look.ensures.pass.1 c.look.ensures.prefix a.0 (a.2 ∙ ap (λ x. x ++ a.0 ∷ []) kept) a.3 a.4
     (subst (λ (xs : List EndState). GoesByRings me (list_of t.kept) a.0 xs left) ends (subst (λ h. GoesByRings me h a.0 n.ends.items left) kept a.5))
+
+-- ---- a refusal that needs no memory
+
+pub returns-in-Err-NoMemory-clause-judged : goal.returns-in-Err-NoMemory-clause-judged
+returns-in-Err-NoMemory-clause-judged g c =
+    let t = c.args.self.now in
+    let me = g.B.Naming.me in
+    let pol = g.B.Naming.policy in
+    let l = c.look.new.self in
+    let h = list_of l.kept in
+    let open_now : l.is_spent ≡ false = c.look.ensures.same.2 ∙ sym c.in-Ok.ensures.spent in
+    let r : IsReplay me h l.hub l.ends.items = l.replayed open_now in
+    let w : is_worn h ≡ c.in-Ok.worn = ap (λ x. is_worn x) c.look.ensures.kept ∙ sym c.in-Ok.ensures.worn in
+    let p = c.peer_at-peer.result in
+    let k = c.closing_of-closing.result in
+    let at = c.peer_at-peer.ensures in
+    let shut = c.closing_of-closing.ensures ∙ ap (λ xs. closed_at xs c.args.link) c.as_slice.ensures.value in
+    let none : message_refusal pol p k c.args.link c.args.msg (is_worn h) ≡ None =
+    ap (λ b. message_refusal pol p k c.args.link c.args.msg b) w ∙ ap (λ z. message_refusal z p k c.args.link c.args.msg c.in-Ok.worn) (sym l.ruled) ∙ sym c.refuses_message.ensures ∙ c.in_default-refuses_message.is in
+    λ unspent x judged refused is. message_judged pol me h l.hub l.ends.items r c.args.link c.args.msg p k at shut none x judged (subst (λ z. RefusesMessage pol me z c.args.link c.args.msg x) (sym c.look.ensures.kept) refused)
+
+pub returns-in-Err-Refused-clause-judged : goal.returns-in-Err-Refused-clause-judged
+returns-in-Err-Refused-clause-judged g c =
+    let t = c.args.self.now in
+    let me = g.B.Naming.me in
+    let pol = g.B.Naming.policy in
+    let l = c.look.new.self in
+    let h = list_of l.kept in
+    let open_now : l.is_spent ≡ false = c.look.ensures.same.2 ∙ sym c.in-Ok.ensures.spent in
+    let r : IsReplay me h l.hub l.ends.items = l.replayed open_now in
+    let w : is_worn h ≡ c.in-Ok.worn = ap (λ x. is_worn x) c.look.ensures.kept ∙ sym c.in-Ok.ensures.worn in
+    let p = c.peer_at-peer.result in
+    let k = c.closing_of-closing.result in
+    let at = c.peer_at-peer.ensures in
+    let shut = c.closing_of-closing.ensures ∙ ap (λ xs. closed_at xs c.args.link) c.as_slice.ensures.value in
+    let none : message_refusal pol p k c.args.link c.args.msg (is_worn h) ≡ None =
+    ap (λ b. message_refusal pol p k c.args.link c.args.msg b) w ∙ ap (λ z. message_refusal z p k c.args.link c.args.msg c.in-Ok.worn) (sym l.ruled) ∙ sym c.refuses_message.ensures ∙ c.in_default-refuses_message.is in
+    λ unspent x judged refused is. message_judged pol me h l.hub l.ends.items r c.args.link c.args.msg p k at shut none x judged (subst (λ z. RefusesMessage pol me z c.args.link c.args.msg x) (sym c.look.ensures.kept) refused)
+
+pub returns-in-Err-clause-judged : goal.returns-in-Err-clause-judged
+returns-in-Err-clause-judged g c =
+    let t = c.args.self.now in
+    let me = g.B.Naming.me in
+    let pol = g.B.Naming.policy in
+    let l = c.look.new.self in
+    let h = list_of l.kept in
+    let open_now : l.is_spent ≡ false = c.look.ensures.same.2 ∙ sym c.in-Ok.ensures.spent in
+    let r : IsReplay me h l.hub l.ends.items = l.replayed open_now in
+    let w : is_worn h ≡ c.in-Ok.worn = ap (λ x. is_worn x) c.look.ensures.kept ∙ sym c.in-Ok.ensures.worn in
+    let p = c.peer_at-peer.result in
+    let k = c.closing_of-closing.result in
+    let at = c.peer_at-peer.ensures in
+    let shut = c.closing_of-closing.ensures ∙ ap (λ xs. closed_at xs c.args.link) c.as_slice.ensures.value in
+    let none : message_refusal pol p k c.args.link c.args.msg (is_worn h) ≡ None =
+    ap (λ b. message_refusal pol p k c.args.link c.args.msg b) w ∙ ap (λ z. message_refusal z p k c.args.link c.args.msg c.in-Ok.worn) (sym l.ruled) ∙ sym c.refuses_message.ensures ∙ c.in_default-refuses_message.is in
+    λ unspent x judged refused is. message_judged pol me h l.hub l.ends.items r c.args.link c.args.msg p k at shut none x judged (subst (λ z. RefusesMessage pol me z c.args.link c.args.msg x) (sym c.look.ensures.kept) refused)
+
+pub returns-in-Some-clause-judged : goal.returns-in-Some-clause-judged
+returns-in-Some-clause-judged g c =
+    let is = sym c.refuses_message.ensures ∙ c.in-Some.is in
+    λ unspent x judged refused e. never_memory c.look.new.self.policy c.peer_at-peer.result c.closing_of-closing.result c.args.link c.args.msg c.in-Ok.worn (is ∙ cc)

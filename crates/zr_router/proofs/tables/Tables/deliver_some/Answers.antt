@@ -10,7 +10,7 @@ use Rattle.zr_router_queue.specs.History.{is_legal}
 use Rattle.zr_wire.specs.Writing.{IsSpelled}
 use Rattle.zr_router.specs.Allowed.{are_allowed}
 use Rattle.zr_router.specs.Refusals.{RefusesMessage}
-use Rattle.zr_router.proofs.Delivered.{moved_of, none_next, not_spent, owns_then, owns_none, runs_begun, runs_more, runs_still, spent_neither, stands_fewer, stands_prefix}
+use Rattle.zr_router.proofs.Delivered.{moved_of, none_next, not_spent, owns_then, owns_none, runs_begun, runs_more, runs_still, spent_neither, spent_or, stands_fewer, stands_prefix}
 use Rattle.zr_router.proofs.tables.Tables.deliver_some.Goals as goal
 
 pub loop-init : goal.loop-init
@@ -22,6 +22,7 @@ loop-init g c = record {
   spelled = c.requires.spelled;
   counted = c.requires.counted;
   stays = λ s. s;
+  was = λ s. s;
   stands = inl (refl, refl, refl, refl);
 }
 
@@ -44,6 +45,18 @@ returns-in-Err-clause-run_so_far g c =
 
 pub returns-in-Err-clause-stays : goal.returns-in-Err-clause-stays
 returns-in-Err-clause-stays g c = λ s. c.in-Err.ensures.stays (c.loop.invariant.stays s)
+
+pub returns-in-Err-clause-memory : goal.returns-in-Err-clause-memory
+returns-in-Err-clause-memory g c =
+    let told = c.in-Err.ensures in
+    let policy = g.B.Naming.policy in
+    let me = g.B.Naming.me in
+    λ is. spent_or c.loop.self.is_spent c.args.self.now.is_spent _ c.loop.invariant.was (λ open_now. (
+      c.in-Some.msg,
+      c.loop.self.ends.items,
+      runs_still policy me c.args.link _ _ _ _ _ _ _ _ _ c.loop.invariant.run c.in-Some.ensures.items told.unchanged.0 refl,
+      λ r judged refused. told.judged open_now r judged (subst (λ h. RefusesMessage policy me h c.args.link c.in-Some.msg r) told.unchanged.0 refused) is,
+    ))
 
 pub returns-in-Err-clause-stopped : goal.returns-in-Err-clause-stopped
 returns-in-Err-clause-stopped g c =
@@ -174,6 +187,7 @@ loop-preserved g c =
       spelled = (subst (λ xs. AllByRecursion IsSpelled xs) is inv.spelled).1;
       counted = omega (arith, c.in-Some.ensures.len, inv.counted, ap length is);
       stays = λ s. done.stays (inv.stays s);
+      was = λ s. absurd (not_spent _ _ _ _ refl done.spent s);
       stands = inr (record {
         fewer = stands_fewer c.loop.counter _ _ _ _ _ _ _ (λ h. (is_legal g.B.Naming.me h ≡ true) × (are_allowed g.B.Naming.policy g.B.Naming.me h ≡ true)) c.loop.self.is_spent inv.stands c.in-Some.ensures.len;
         legal = (subst (λ h. is_legal g.B.Naming.me h ≡ true) (sym done.seen) done.legal, subst (λ h. are_allowed g.B.Naming.policy g.B.Naming.me h ≡ true) (sym done.seen) done.allowed);

@@ -20,5 +20,6 @@ invariant-loop g l = record {
   spelled : AllByRecursion IsSpelled (into_iter_items l.messages);
   counted : into_iter_len l.messages ≡ length (into_iter_items l.messages);
   stays : l.fn.self.is_spent ≡ true → l.self.is_spent ≡ true;
+  was : l.self.is_spent ≡ true → l.fn.self.is_spent ≡ true;
   stands : Stands l.counter (into_iter_len l.messages) (into_iter_len l.fn.messages) (seen l.pass) (seen l.fn.pass) (list_of l.self.kept) (list_of l.fn.self.kept) (λ h. (is_legal g.B.Naming.me h ≡ true) × (are_allowed g.B.Naming.policy g.B.Naming.me h ≡ true)) l.self.is_spent;
 }

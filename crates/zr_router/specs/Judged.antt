@@ -1,0 +1,15 @@
+-- Which refusals of a message need no memory.
+use Rattle.std.specs.Prelude.{Bool, true, false}
+use Rattle.zr_port.specs.declared.error.DeliverError.{DeliverError}
+use Rattle.zr_port.specs.declared.error.DeliverError.TheVariants as deliver
+
+-- all but those by the router itself: none of them may turn into want of memory
+abbrev pub is_judged : DeliverError → Bool
+is_judged (deliver.NotUp link) = true
+is_judged (deliver.Misplaced role) = true
+is_judged (deliver.Denied rule) = true
+is_judged (deliver.Ignored id) = false
+is_judged (deliver.Node e) = false
+is_judged (deliver.Full asked free) = true
+is_judged deliver.Worn = true
+is_judged deliver.NoMemory = false
