@@ -3,3 +3,4 @@ pub mod Reading
 pub mod Telling
 pub mod Summing
 pub mod Asked
+pub mod Failing

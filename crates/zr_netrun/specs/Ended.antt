@@ -1,5 +1,5 @@
 -- How the run of a script ends, whatever its bytes are.
-use Rattle.std.specs.Prelude.{◌≡◌, ℕ, ◌≤◌, ◌⊎◌}
+use Rattle.std.specs.Prelude.{◌≡◌, ℕ, ◌<◌, ◌≤◌, ◌⊎◌}
 use Rattle.zr_outside.specs.Counts.{Rose}
 use Rattle.zr_netrun.specs.declared.status.Status.{Status}
 use Rattle.zr_netrun.specs.declared.status.Status.TheVariants.{Done, Words, ReadFault, WriteFault, HostFault}
@@ -15,3 +15,7 @@ pub record IsEnded (InputEnded : Type 0) (status : Status) (input input' out out
   pub input_later : input ≤ input'
   pub out_later : out ≤ out'
   pub err_later : err ≤ err'
+
+-- a write that failed, of the output or of the error output, is told as that
+abbrev pub TellsFailedWrites : Status → ℕ → ℕ → ℕ → ℕ → Type 0
+TellsFailedWrites status out out' err err' = (out < out' → status ≡ WriteFault) × (err < err' → status ≡ WriteFault)

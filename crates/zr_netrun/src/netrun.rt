@@ -8,7 +8,7 @@ ghost use Rattle.zr_netrun_lines.specs.Possible.{StepsGo};
 ghost use Rattle.zr_netrun_lines.specs.Kept.{begun, seen, writes};
 ghost use Rattle.zr_netrun.specs.Told.{Tells, Complains};
 ghost use Rattle.zr_netrun.specs.Clauses.{OfRead, IsSummedUp, WritesAsAsked};
-ghost use Rattle.zr_netrun.specs.Ended.{IsEnded};
+ghost use Rattle.zr_netrun.specs.Ended.{IsEnded, TellsFailedWrites};
 ghost use Rattle.zr_netrun.specs.Judged.{refusal_told};
 ghost use Rattle.zr_netrun.specs.Counted.{CountsFromNone, IsRun, TellsSummary};
 
@@ -40,7 +40,7 @@ const MOST_A_READ: usize = 65_536;
 ///
 /// A refused line ends the run: `err` then has `line N: NUMBER NAME`, and its explanation behind it where that is asked for. So does a
 /// script of more than 67,108,864 bytes, none of whose lines within them is refused: `err` has `script too long`. A status of fault comes
-/// only where that count rose in this call, and a read that fails ends the run by that status.
+/// only where that count rose in this call, and a read or a write that fails ends the run by that status.
 #[tactic(auto, using(crate::proofs::Starting::from_start, crate::proofs::Asked::writes_report, crate::proofs::Asked::writes_summary))]
 pub fn run_script<S: Source, K: Sink, E: Sink>(
     alloc: Global,
@@ -52,6 +52,7 @@ pub fn run_script<S: Source, K: Sink, E: Sink>(
     ensures writes { WritesAsAsked options (S.left input.old) (S.left input.new) (IsReadToEnd (S.ends input.old) (S.ends input.new) (S.quiets input.old) (S.quiets input.new)) result (K.held out.old) (K.held out.new) (E.held err.old) (E.held err.new) }
     ensures ends { IsEnded (IsReadToEnd (S.ends input.old) (S.ends input.new) (S.quiets input.old) (S.quiets input.new)) result (S.faults input.old) (S.faults input.new) (K.faults out.old) (K.faults out.new) (E.faults err.old) (E.faults err.new) }
     ensures only { S.faults input.old < S.faults input.new → result ≡ Status.ReadFault }
+    ensures only_write { TellsFailedWrites result (K.faults out.old) (K.faults out.new) (E.faults err.old) (E.faults err.new) }
 {
     if options.summary {
         return sum_up(alloc, options, input, out, err);
@@ -73,6 +74,7 @@ fn sum_up<S: Source, K: Sink, E: Sink>(
     ensures summed_up { OfRead (S.left input.old) (S.left input.new) (IsSummedUp options.explain (IsReadToEnd (S.ends input.old) (S.ends input.new) (S.quiets input.old) (S.quiets input.new)) result (K.held out.old) (K.held out.new) (E.held err.old) (E.held err.new)) }
     ensures ends { IsEnded (IsReadToEnd (S.ends input.old) (S.ends input.new) (S.quiets input.old) (S.quiets input.new)) result (S.faults input.old) (S.faults input.new) (K.faults out.old) (K.faults out.new) (E.faults err.old) (E.faults err.new) }
     ensures only { S.faults input.old < S.faults input.new → result ≡ Status.ReadFault }
+    ensures only_write { TellsFailedWrites result (K.faults out.old) (K.faults out.new) (E.faults err.old) (E.faults err.new) }
 {
     steps_are_possible();
     let mut runner = Runner::new(alloc, Some(Counts::new()));
@@ -86,6 +88,7 @@ fn tell_summary<K: Sink>(alloc: Global, counts: Option<Counts>, out: &mut K) -> 
     ensures tells { TellsSummary result counts (K.held out.old) (K.held out.new) }
     ensures write { result ≡ Status.WriteFault → Rose (K.faults out.old) (K.faults out.new) }
     ensures later { K.faults out.old ≤ K.faults out.new }
+    ensures only_write { K.faults out.old < K.faults out.new → result ≡ Status.WriteFault }
 {
     let Some(counts) = counts else {
         return Status::Done;
@@ -116,6 +119,7 @@ fn run_lines<S: Source, K: Sink, E: Sink>(
     ensures report { OfRead (S.left input.old) (S.left input.new) (IsRun options.explain (IsReadToEnd (S.ends input.old) (S.ends input.new) (S.quiets input.old) (S.quiets input.new)) result (seen (writes runner.old) (K.held out.old)) (seen (writes runner.old) (K.held out.new)) (E.held err.old) (E.held err.new) runner.new) }
     ensures ends { IsEnded (IsReadToEnd (S.ends input.old) (S.ends input.new) (S.quiets input.old) (S.quiets input.new)) result (S.faults input.old) (S.faults input.new) (K.faults out.old) (K.faults out.new) (E.faults err.old) (E.faults err.new) }
     ensures only { S.faults input.old < S.faults input.new → result ≡ Status.ReadFault }
+    ensures only_write { TellsFailedWrites result (K.faults out.old) (K.faults out.new) (E.faults err.old) (E.faults err.new) }
 {
     let mut piece = [0; MOST_A_READ];
     let mut total: usize = 0;
@@ -156,6 +160,8 @@ fn tell<K: Sink, E: Sink>(
     ensures write { result ≡ Status.WriteFault → (stop ≡ RunStop.WriteFault) ⊎ (Rose (K.faults out.old) (K.faults out.new) ⊎ Rose (E.faults err.old) (E.faults err.new)) }
     ensures out_later { K.faults out.old ≤ K.faults out.new }
     ensures err_later { E.faults err.old ≤ E.faults err.new }
+    ensures fault { stop ≡ RunStop.WriteFault → result ≡ Status.WriteFault }
+    ensures only_write { TellsFailedWrites result (K.faults out.old) (K.faults out.new) (E.faults err.old) (E.faults err.new) }
 {
     match stop {
         RunStop::NoMemory => Status::NoMemory,
@@ -197,6 +203,7 @@ fn tell_refusal<E: Sink>(
     ensures tells { Complains result (refusal_told options.explain runner.now.number runner.now.line error) (E.held err.old) (E.held err.new) }
     ensures write { result ≡ Status.WriteFault → Rose (E.faults err.old) (E.faults err.new) }
     ensures later { E.faults err.old ≤ E.faults err.new }
+    ensures only_write { E.faults err.old < E.faults err.new → result ≡ Status.WriteFault }
 {
     match refusal_told(alloc, options, runner, error) {
         Ok(text) => complain(&text, err),
@@ -211,6 +218,7 @@ fn complain<E: Sink>(text: &[u8], err: &mut E) -> Status
     ensures write { result ≡ Status.WriteFault → Rose (E.faults err.old) (E.faults err.new) }
     ensures memory { result ≡ Status.NoMemory → ⊥ }
     ensures later { E.faults err.old ≤ E.faults err.new }
+    ensures only_write { E.faults err.old < E.faults err.new → result ≡ Status.WriteFault }
 {
     match write_all(err, text) {
         Ok(()) => Status::Refused,

@@ -1,12 +1,13 @@
 -- Which line is refused: it is the same behind a run whatever text was written before, whatever lines went before that were not refused, and of a
 -- line that is not whole yet the prefix of 4,097 bytes is enough. So the line that is kept is that of the script.
-use Rattle.std.proofs.Common.{◌≡◌, ℕ, Bool, true, false, cond, List, [], ◌∷◌, ◌++◌, take, Option, Some, None, is_some, Result, Ok, Err, refl, sym, ap, ◌∙◌, append-nil, arith, inl, inr}
+use Rattle.std.proofs.Common.{◌≡◌, ℕ, Bool, true, false, cond, List, [], ◌∷◌, ◌++◌, take, Option, Some, None, is_some, Result, Ok, Err, refl, sym, ap, ◌∙◌, append-nil, arith, inl, inr, subst}
 use Rattle.std.specs.Prelude.{OnOk, OnErr}
 use Rattle.std.specs.List.{fold}
 use Rattle.std.proofs.lemmas.Bool.{false≢true}
 use Rattle.std.proofs.lemmas.List.{take_all, take-take}
 use Rattle.zr_script_spec.specs.declared.error.ScriptError.{ScriptError}
 use Rattle.zr_script_spec.specs.Lines.{most_kept, parts, all_but_last, ended_lines, open_line, unless_empty, lines}
+use Rattle.zr_outside.specs.Counts.{RoseOnlyBy}
 use Rattle.zr_world_spec.specs.Run.{Run, start, on_line, run_of_ended}
 use Rattle.zr_world.specs.Living.{Living}
 use Rattle.zr_netrun_lines.specs.declared.runner.RunStop.{RunStop}
@@ -201,3 +202,12 @@ kept_fault (Err NoMemory) result line old new h f =
     let is = h.0 in
     absurd (cc)
 kept_fault (Err WriteFault) result line old new h f = refl
+
+-- keeping a refused line writes nothing, and tells no fault in the place of another
+pub kept_only : (done result : Result (Unit {0}) RunStop) (line : List ℕ) (old new : Kept) (a b : ℕ) → IsKeptIf done result line old new → RoseOnlyBy WriteFault done a b
+    → RoseOnlyBy WriteFault result a b
+kept_only (Ok u) result line old new a b h k = subst (λ (r : Result (Unit {0}) RunStop). RoseOnlyBy WriteFault r a b) (sym h.0) k
+kept_only (Err (Refused e)) (Ok u) line old new a b h k = absurd h
+kept_only (Err (Refused e)) (Err stop) line old new a b h k = λ rose. let no = k rose in absurd (cc)
+kept_only (Err NoMemory) result line old new a b h k = subst (λ (r : Result (Unit {0}) RunStop). RoseOnlyBy WriteFault r a b) (sym h.0) k
+kept_only (Err WriteFault) result line old new a b h k = subst (λ (r : Result (Unit {0}) RunStop). RoseOnlyBy WriteFault r a b) (sym h.0) k

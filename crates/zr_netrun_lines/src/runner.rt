@@ -7,7 +7,7 @@ ghost use Rattle.zr_script_spec.specs.Report.{line_text};
 ghost use Rattle.zr_world_spec.specs.Accepted.{accepted_from};
 ghost use Rattle.zr_world_spec.specs.Next.{applied, book_step, next};
 ghost use Rattle.zr_world_spec.specs.Run.{on_line};
-ghost use Rattle.zr_outside.specs.Counts.{Rose};
+ghost use Rattle.zr_outside.specs.Counts.{Rose, RoseOnlyBy};
 ghost use Rattle.zr_outside.specs.Told.{Appends, AppendsPrefix};
 ghost use Rattle.zr_world.specs.Living.{Books};
 ghost use Rattle.zr_netrun_report.specs.Waiting.{most_pending};
@@ -132,6 +132,7 @@ impl Runner {
         ensures flushed { OnOk result (self.new.pending ≡ []) }
         ensures refused { KeepsRefused result (refused_line (fresh self.old) (ended_lines (self.old.line ++ piece.now))) self.new }
         ensures fault { result ≡ Err RunStop.WriteFault → Rose (K.faults out.old) (K.faults out.new) }
+        ensures only { RoseOnlyBy RunStop.WriteFault result (K.faults out.old) (K.faults out.new) }
         ensures count { self.new.number ≤ self.old.number + length piece.now }
         ensures later { K.faults out.old ≤ K.faults out.new }
     {
@@ -149,6 +150,7 @@ impl Runner {
         ensures flushed { OnOk result (self.new.pending ≡ []) }
         ensures refused { KeepsRefused result (refused_line (fresh self.old) (unless_empty self.old.line)) self.new }
         ensures fault { result ≡ Err RunStop.WriteFault → Rose (K.faults out.old) (K.faults out.new) }
+        ensures only { RoseOnlyBy RunStop.WriteFault result (K.faults out.old) (K.faults out.new) }
         ensures later { K.faults out.old ≤ K.faults out.new }
     {
         self.end_last_line(out)?;
@@ -161,6 +163,7 @@ impl Runner {
         ensures ok { OnOk result (Appends self.old.pending (K.held out.old) (K.held out.new)) }
         ensures err { OnErr result ((result ≡ Err RunStop.WriteFault) × AppendsPrefix self.old.pending (K.held out.old) (K.held out.new)) }
         ensures fault { OnErr result (Rose (K.faults out.old) (K.faults out.new)) }
+        ensures only { RoseOnlyBy RunStop.WriteFault result (K.faults out.old) (K.faults out.new) }
         ensures later { K.faults out.old ≤ K.faults out.new }
     {
         write_out(&mut self.pending, out)?;
@@ -176,6 +179,7 @@ impl Runner {
         ensures counts { OnOk result (CountsOn (accepted_from (fresh self.old) (ended_lines (self.old.line ++ piece.now))) self.old self.new) }
         ensures refused { KeepsRefused result (refused_line (fresh self.old) (ended_lines (self.old.line ++ piece.now))) self.new }
         ensures fault { result ≡ Err RunStop.WriteFault → Rose (K.faults out.old) (K.faults out.new) }
+        ensures only { RoseOnlyBy RunStop.WriteFault result (K.faults out.old) (K.faults out.new) }
         ensures count { self.new.number ≤ self.old.number + length piece.now }
         ensures later { K.faults out.old ≤ K.faults out.new }
     {
@@ -198,6 +202,7 @@ impl Runner {
         ensures counts { OnOk result (CountsOn (accepted_from (fresh self.old) (unless_empty self.old.line)) self.old self.new) }
         ensures refused { KeepsRefused result (refused_line (fresh self.old) (unless_empty self.old.line)) self.new }
         ensures fault { result ≡ Err RunStop.WriteFault → Rose (K.faults out.old) (K.faults out.new) }
+        ensures only { RoseOnlyBy RunStop.WriteFault result (K.faults out.old) (K.faults out.new) }
         ensures later { K.faults out.old ≤ K.faults out.new }
     {
         if self.line.is_empty() {
@@ -218,6 +223,7 @@ impl Runner {
         ensures counts { OnOk result (CountsOn (accepted_from (fresh self.old) ((self.old.line ++ part.now) ∷ [])) self.old self.new) }
         ensures refused { KeepsRefused result (self.old.line ++ part.now) self.new }
         ensures fault { result ≡ Err RunStop.WriteFault → Rose (K.faults out.old) (K.faults out.new) }
+        ensures only { RoseOnlyBy RunStop.WriteFault result (K.faults out.old) (K.faults out.new) }
         ensures count { self.new.number ≤ self.old.number + 1 }
         ensures later { K.faults out.old ≤ K.faults out.new }
     {
@@ -240,6 +246,7 @@ impl Runner {
         ensures counts { OnOk result (CountsOn (accepted_from (fresh self.old) (line.now ∷ [])) self.old self.new) }
         ensures refused { KeepsRefused result line.now self.new }
         ensures fault { result ≡ Err RunStop.WriteFault → Rose (K.faults out.old) (K.faults out.new) }
+        ensures only { RoseOnlyBy RunStop.WriteFault result (K.faults out.old) (K.faults out.new) }
         ensures count { self.new.number ≤ self.old.number + 1 }
         ensures later { K.faults out.old ≤ K.faults out.new }
     {
@@ -255,6 +262,7 @@ impl Runner {
         ensures turn { Turns result (on_line (fresh self.old) line.now) self.old.line self.old.pending self.new (seen (writes self.old) (K.held out.old)) (seen (writes self.old) (K.held out.new)) }
         ensures counts { OnOk result (CountsOn (accepted_from (fresh self.old) (line.now ∷ [])) self.old self.new) }
         ensures fault { result ≡ Err RunStop.WriteFault → Rose (K.faults out.old) (K.faults out.new) }
+        ensures only { RoseOnlyBy RunStop.WriteFault result (K.faults out.old) (K.faults out.new) }
         ensures count { self.new.number ≤ self.old.number + 1 }
         ensures later { K.faults out.old ≤ K.faults out.new }
     {
@@ -281,6 +289,7 @@ impl Runner {
         ensures counts { OnOk result (CountsOn (acts_by self.old (Command.Act act)) self.old self.new) }
         ensures waits { length self.new.pending < most_pending }
         ensures fault { result ≡ Err RunStop.WriteFault → Rose (K.faults out.old) (K.faults out.new) }
+        ensures only { RoseOnlyBy RunStop.WriteFault result (K.faults out.old) (K.faults out.new) }
         ensures count { self.new.number ≡ self.old.number }
         ensures later { K.faults out.old ≤ K.faults out.new }
     {
@@ -305,6 +314,7 @@ impl Runner {
         ensures turn { Turns result (run_behind self.old (applied self.old.world.state self.old.number (Command.Run steps))) self.old.line self.old.pending self.new (seen (writes self.old) (K.held out.old)) (seen (writes self.old) (K.held out.new)) }
         ensures counts { OnOk result (CountsOn (acts_by self.old (Command.Run steps)) self.old self.new) }
         ensures fault { result ≡ Err RunStop.WriteFault → Rose (K.faults out.old) (K.faults out.new) }
+        ensures only { RoseOnlyBy RunStop.WriteFault result (K.faults out.old) (K.faults out.new) }
         ensures count { self.new.number ≡ self.old.number }
         ensures later { K.faults out.old ≤ K.faults out.new }
     {
@@ -334,6 +344,7 @@ impl Runner {
         ensures steps { StepsOn (next self.old.world.state) result self.old self.new (seen (writes self.old) (K.held out.old)) (seen (writes self.old) (K.held out.new)) }
         ensures counts { OnOk result (CountsOn (step_by self.old (next self.old.world.state)) self.old self.new) }
         ensures fault { result ≡ Err RunStop.WriteFault → Rose (K.faults out.old) (K.faults out.new) }
+        ensures only { RoseOnlyBy RunStop.WriteFault result (K.faults out.old) (K.faults out.new) }
         ensures count { self.new.number ≡ self.old.number }
         ensures later { K.faults out.old ≤ K.faults out.new }
     {
@@ -352,6 +363,7 @@ impl Runner {
         ensures turn { Turns result (run_behind self.old (Ok (ReportLine.Ran done (is_none (next self.old.world.state)) ∷ [], self.old.world.state))) self.old.line self.old.pending self.new (seen (writes self.old) (K.held out.old)) (seen (writes self.old) (K.held out.new)) }
         ensures counts { (self.new.counts ≡ self.old.counts) × (self.new.world ≡ self.old.world) }
         ensures fault { result ≡ Err RunStop.WriteFault → Rose (K.faults out.old) (K.faults out.new) }
+        ensures only { RoseOnlyBy RunStop.WriteFault result (K.faults out.old) (K.faults out.new) }
         ensures count { self.new.number ≡ self.old.number }
         ensures later { K.faults out.old ≤ K.faults out.new }
     {

@@ -80,6 +80,7 @@ pub fn write_out<K: Sink>(pending: &mut Vec<u8>, out: &mut K) -> Result<(), Writ
     ensures ok { OnOk result (Appends pending.old.items (K.held out.old) (K.held out.new)) }
     ensures err { OnErr result (AppendsPrefix pending.old.items (K.held out.old) (K.held out.new)) }
     ensures fault { OnErr result (Rose (K.faults out.old) (K.faults out.new)) }
+    ensures quiet { OnOk result (K.faults out.new ≡ K.faults out.old) }
     ensures later { K.faults out.old ≤ K.faults out.new }
 {
     let written = write_all(out, pending);
@@ -93,6 +94,7 @@ pub fn write_if_enough<K: Sink>(pending: &mut Vec<u8>, out: &mut K) -> Result<()
     ensures ok { OnOk result (Written pending.old.items pending.new.items (K.held out.old) (K.held out.new)) }
     ensures err { OnErr result (AppendsPrefix pending.old.items (K.held out.old) (K.held out.new)) }
     ensures fault { OnErr result (Rose (K.faults out.old) (K.faults out.new)) }
+    ensures quiet { OnOk result (K.faults out.new ≡ K.faults out.old) }
     ensures later { K.faults out.old ≤ K.faults out.new }
 {
     if is_enough(pending) {

@@ -14,6 +14,7 @@ use Rattle.zr_netrun.specs.Told.{Tells, Complains}
 use Rattle.zr_netrun.specs.Judged.{refusal_told}
 use Rattle.zr_netrun.proofs.Reading.{after_nothing, reads_piece, seen_tells}
 use Rattle.zr_netrun.proofs.Telling.{stops_reading, passes_limit, still_after, fails_reading, ended_later, ends_done, ends_reading, stops_at_end, not_done, fault_not_done}
+use Rattle.zr_netrun.proofs.Failing.{rose_not, stop_told}
 use Rattle.zr_netrun.proofs.netrun.run_lines.Goals as goal
 
 pub reading-init : goal.reading-init
@@ -30,8 +31,8 @@ reading-init g c =
       quiets = omega arith;
       ends = omega arith;
       input = refl;
-      out = omega arith;
-      err = omega arith;
+      out = refl;
+      err = refl;
       err_same = refl;
       read = after_nothing _ _ _ begins c.requires.counts;
     }
@@ -75,7 +76,7 @@ reading-preserved g c =
       quiets = omega (arith, c.in-Bytes.ensures.quiets.0, c.reading.invariant.quiets);
       ends = omega (arith, c.in-Bytes.ensures.ends.0, c.reading.invariant.ends);
       input = counted_same _ _ _ c.in-Bytes.ensures.failed (λ e. cc) ∙ c.reading.invariant.input;
-      out = omega (arith, c.in-Ok.ensures.later, c.reading.invariant.out);
+      out = c.in-Ok.ensures.only ∙ c.reading.invariant.out;
       err = c.reading.invariant.err;
       err_same = c.reading.invariant.err_same;
       read = reads_piece _ _ _ c.min-used.result c.reading.total c.next_piece.new.into c.reading.runner c.feed.new.self _ _ _ c.in-Ok.field-0
@@ -92,7 +93,7 @@ returns-in-Ok-finish-clause-report g c =
 pub returns-in-Ok-finish-clause-ends : goal.returns-in-Ok-finish-clause-ends
 returns-in-Ok-finish-clause-ends g c = ends_done _ _ _ _ _ _ _
     (ended_later _ _ _ _ _ _ c.reading.invariant.ends c.reading.invariant.quiets (c.in-End.ensures.whole refl))
-    (omega (arith, c.in-End.ensures.failed.later, c.reading.invariant.input)) (omega (arith, c.in-Ok-finish.ensures.later, c.reading.invariant.out)) c.reading.invariant.err
+    (omega (arith, c.in-End.ensures.failed.later, c.reading.invariant.input)) (omega (arith, c.in-Ok-finish.ensures.later, c.reading.invariant.out)) (omega (arith, c.reading.invariant.err))
 
 pub returns-in-Err-finish-clause-report : goal.returns-in-Err-finish-clause-report
 returns-in-Err-finish-clause-report g c =
@@ -133,3 +134,27 @@ returns-in-Err-finish-clause-only g c = λ rose.
     let same = counted_same _ _ _ c.in-End.ensures.failed (λ e. cc) in
     let before = c.reading.invariant.input in
     absurd (omega (arith, same, before, rose))
+
+pub returns-in-Err-clause-only_write : goal.returns-in-Err-clause-only_write
+returns-in-Err-clause-only_write g c =
+    stop_told c.in-Err.stop c.tell.result _ _ _ _ _ _ _ c.reading.invariant.out c.in-Err.ensures.later c.in-Err.ensures.only c.reading.invariant.err c.tell.ensures.fault c.tell.ensures.only_write
+
+pub returns-then-used-count-clause-only_write : goal.returns-then-used-count-clause-only_write
+returns-then-used-count-clause-only_write g c = (
+  λ rose. rose_not _ _ (c.in-Ok.ensures.only ∙ c.reading.invariant.out) rose,
+  λ rose. c.complain.ensures.only_write (omega (arith, c.reading.invariant.err, rose)),
+)
+
+pub returns-in-Failed-clause-only_write : goal.returns-in-Failed-clause-only_write
+returns-in-Failed-clause-only_write g c = (λ rose. rose_not _ _ c.reading.invariant.out rose, λ rose. rose_not _ _ c.reading.invariant.err rose)
+
+pub returns-in-Ok-finish-clause-only_write : goal.returns-in-Ok-finish-clause-only_write
+returns-in-Ok-finish-clause-only_write g c = (
+  λ rose. rose_not _ _ (c.in-Ok-finish.ensures.only ∙ c.reading.invariant.out) rose,
+  λ rose. rose_not _ _ c.reading.invariant.err rose,
+)
+
+pub returns-in-Err-finish-clause-only_write : goal.returns-in-Err-finish-clause-only_write
+returns-in-Err-finish-clause-only_write g c =
+    stop_told c.in-Err-finish.stop c.tell-in-Err-finish.result _ _ _ _ _ _ _ c.reading.invariant.out c.in-Err-finish.ensures.later c.in-Err-finish.ensures.only c.reading.invariant.err
+    c.tell-in-Err-finish.ensures.fault c.tell-in-Err-finish.ensures.only_write

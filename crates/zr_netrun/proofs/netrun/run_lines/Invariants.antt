@@ -17,8 +17,8 @@ invariant-reading g l = record {
   quiets : g.S.Source.quiets l.fn.input ≤ g.S.Source.quiets l.input;
   ends : g.S.Source.ends l.fn.input ≤ g.S.Source.ends l.input;
   input : g.S.Source.faults l.input ≡ g.S.Source.faults l.fn.input;
-  out : g.K.Sink.faults l.fn.out ≤ g.K.Sink.faults l.out;
-  err : g.E.Sink.faults l.fn.err ≤ g.E.Sink.faults l.err;
+  out : g.K.Sink.faults l.out ≡ g.K.Sink.faults l.fn.out;
+  err : g.E.Sink.faults l.err ≡ g.E.Sink.faults l.fn.err;
   err_same : g.E.Sink.held l.err ≡ g.E.Sink.held l.fn.err;
   read : OfRead (g.S.Source.left l.fn.input) (g.S.Source.left l.input) (IsAfter l.runner l.total (seen (writes l.fn.runner) (g.K.Sink.held l.fn.out)) (seen (writes l.fn.runner) (g.K.Sink.held l.out)));
 }

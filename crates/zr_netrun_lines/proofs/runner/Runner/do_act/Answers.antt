@@ -8,6 +8,8 @@ use Rattle.zr_netrun_report.specs.Counted.{with_lines}
 use Rattle.zr_netrun_lines.specs.Kept.{Kept}
 use Rattle.zr_netrun_lines.proofs.Counting.{act_counts}
 use Rattle.zr_netrun_lines.proofs.Acting.{act_stops}
+use Rattle.zr_outside.proofs.Counting.{only_still}
+use Rattle.zr_netrun_lines.specs.declared.runner.RunStop.TheVariants as stop
 use Rattle.zr_netrun_lines.proofs.runner.Runner.do_act.Goals as goal
 
 pub returns-in_err-apply-clause-turn : goal.returns-in_err-apply-clause-turn
@@ -26,3 +28,6 @@ returns-clause-counts g c =
     let applies = subst (λ (z : List ReportLine). Applies (Ok c.in_ok-apply.field-0) (outcome k.world.state k.number c.args.act) k.world m.world z c.apply.new.report.items) c.clear.ensures.items (c.in_ok-apply.ensures.applies alive) in
     let told = subst (λ (z : List ReportLine). c.tell_lines.new.counts ≡ option_map (λ x. with_lines c.apply.new.self.state.routers x z) c.self.inside.counts) c.deref.ensures.value c.tell_lines.ensures.counts in
     rw (← c.self.view_is) (act_counts k m c.args.act c.apply.new.report.items c.in_ok-apply.field-0 applies told)
+
+pub returns-in_err-apply-clause-only : goal.returns-in_err-apply-clause-only
+returns-in_err-apply-clause-only g c = only_still stop.WriteFault c.from_residual.result _ _ refl

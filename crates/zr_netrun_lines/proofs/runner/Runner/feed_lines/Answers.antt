@@ -1,4 +1,4 @@
-use Rattle.std.proofs.Common.{◌≡◌, ◌+◌, ◌-◌, ◌<◌, ◌==◌, [], length, take, drop, None, refl, sym, ap, rules, arith, subst}
+use Rattle.std.proofs.Common.{◌∙◌, ◌≡◌, ◌+◌, ◌-◌, ◌<◌, ◌==◌, [], length, take, drop, None, refl, sym, ap, rules, arith, subst}
 use Rattle.std.specs.List.{position}
 use Rattle.std.proofs.lemmas.Result.{err_from_is_err_and}
 use Rattle.std.proofs.Math.Nat.{le_trans}
@@ -12,6 +12,8 @@ use Rattle.zr_netrun_lines.proofs.Going.{goes_past}
 use Rattle.zr_netrun_lines.proofs.Lines.{IsOpen}
 use Rattle.zr_netrun_lines.proofs.Refusing.{refused_next, refused_stop, no_memory_keeps}
 use Rattle.zr_netrun_lines.proofs.Feeding.{left_shorter, start_at, cut_rest, place_within, next_at, stops_at, keeps_at}
+use Rattle.zr_outside.proofs.Counting.{only_still, only_stopped}
+use Rattle.zr_netrun_lines.specs.declared.runner.RunStop.TheVariants as stop
 use Rattle.zr_netrun_lines.proofs.runner.Runner.feed_lines.Goals as goal
 
 pub loop-place-init : goal.loop-place-init
@@ -21,6 +23,7 @@ loop-place-init g c = record {
   is_open = rw (← c.self.view_is) c.self.invariant.1;
   count = omega arith;
   later = omega arith;
+  quiet = refl;
   counted = ahead_start c.args.self.now _;
   refused = refl;
   at = (fresh c.args.self.now, start_at c.args.self.now _ c.requires.alive, refl, refl);
@@ -49,6 +52,7 @@ loop-place-preserved g c =
       count = le_trans (left_shorter c.end_line.new.self.number c.loop-place.self.number c.in-Some.place _ c.loop-place.rest.now within c.in_ok-end_line.ensures.count)
           c.loop-place.invariant.count;
       later = omega (arith, c.in_ok-end_line.ensures.later);
+      quiet = c.in_ok-end_line.ensures.only ∙ c.loop-place.invariant.quiet;
       counted = next_counts _ c.loop-place.self c.end_line.new.self _ c.loop-place.rest.now _ _ _ _ _ c.loop-place.invariant.is_open cut turn c.loop-place.invariant.counted c.in_ok-end_line.ensures.counts;
       refused = refused_next c.loop-place.self c.end_line.new.self c.loop-place.rest.now _ _ _ _ _ c.loop-place.invariant.refused c.loop-place.invariant.is_open cut turn;
       at = next_at _ _ _ _ c.loop-place.self c.end_line.new.self c.loop-place.rest.now _ _ _ _ c.loop-place.invariant.at c.loop-place.invariant.is_open
@@ -81,3 +85,9 @@ returns-clause-counts g c =
 
 pub returns-clause-refused : goal.returns-clause-refused
 returns-clause-refused g c = no_memory_keeps c.keep_part.result _ c.keep_part.new.self c.keep_part.ensures.err
+
+pub returns-in_err-end_line-clause-only : goal.returns-in_err-end_line-clause-only
+returns-in_err-end_line-clause-only g c = only_stopped stop.WriteFault c.from_residual.result c.in_err-end_line.field-0.0 _ _ _ c.from_residual.ensures.1 c.loop-place.invariant.quiet c.in_err-end_line.ensures.only
+
+pub returns-clause-only : goal.returns-clause-only
+returns-clause-only g c = only_still stop.WriteFault c.keep_part.result _ _ c.loop-place.invariant.quiet

@@ -17,6 +17,7 @@ invariant-loop-place g l = record {
   is_open : IsOpen l.self.line;
   count : l.self.number + length l.rest ≤ l.fn.self.number + length l.fn.piece;
   later : g.K.Sink.faults l.fn.out ≤ g.K.Sink.faults l.out;
+  quiet : g.K.Sink.faults l.out ≡ g.K.Sink.faults l.fn.out;
   counted : CountsAhead l.fn.self (accepted_from (fresh l.fn.self) (ended_lines (l.fn.self.line ++ l.fn.piece))) (accepted_from (fresh l.self) (ended_lines (l.self.line ++ l.rest))) l.self;
   refused : refused_line (fresh l.self) (ended_lines (l.self.line ++ l.rest)) ≡ refused_line (fresh l.fn.self) (ended_lines (l.fn.self.line ++ l.fn.piece));
   at : (run : Run) × IsAt run l.self.line l.fn.self.pending l.self (seen (writes l.fn.self) (g.K.Sink.held l.fn.out)) (seen (writes l.fn.self) (g.K.Sink.held l.out))

@@ -1,4 +1,4 @@
-use Rattle.std.proofs.Common.{◌≡◌, ◌≤◌, ◌+◌, [], Some, None, Ok, sym, rules, arith, subst}
+use Rattle.std.proofs.Common.{refl, ◌≡◌, ◌≤◌, ◌+◌, [], Some, None, Ok, sym, rules, arith, subst}
 use Rattle.std.proofs.lemmas.Result.{err_from_is_err_and}
 use Rattle.zr_script_spec.specs.declared.command.Command.TheVariants as k
 use Rattle.zr_script_spec.specs.Command.{command_of}
@@ -7,6 +7,8 @@ use Rattle.zr_netrun_lines.specs.Kept.{Kept}
 use Rattle.zr_netrun_lines.specs.Possible.{RunsGo}
 use Rattle.zr_netrun_lines.proofs.Stepping.{reading_stops, act_line_turns, line_turns}
 use Rattle.zr_netrun_lines.proofs.Counting.{silent_counts, line_counts_if}
+use Rattle.zr_outside.proofs.Counting.{only_still}
+use Rattle.zr_netrun_lines.specs.declared.runner.RunStop.TheVariants as stop
 use Rattle.zr_netrun_lines.proofs.runner.Runner.on_line.Goals as goal
 
 pub returns-in_err-read_line-clause-turn : goal.returns-in_err-read_line-clause-turn
@@ -47,3 +49,6 @@ returns-in-Some-Run-clause-counts g c =
     line_counts_if c.args.self.now c.count_line.new.self c.run.new.self c.args.line.now _ _ (k.Run c.in-Some-Run.steps) _ _ c.run.result asks c.count_line.ensures
     (line_turns c.args.self.now c.count_line.new.self c.run.new.self c.args.line.now (k.Run c.in-Some-Run.steps) (g.K.Sink.held c.args.out.now) (g.K.Sink.held c.run.new.out) c.run.result asks c.count_line.ensures c.run.ensures.turn)
     c.run.ensures.counts
+
+pub returns-in_err-read_line-clause-only : goal.returns-in_err-read_line-clause-only
+returns-in_err-read_line-clause-only g c = only_still stop.WriteFault c.from_residual.result _ _ refl

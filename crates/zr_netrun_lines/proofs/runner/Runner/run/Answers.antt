@@ -7,6 +7,8 @@ use Rattle.zr_netrun_lines.specs.Kept.{Kept, run_behind, seen, writes, StepsOn}
 use Rattle.zr_netrun_lines.proofs.Writing.{seen_turns}
 use Rattle.zr_netrun_lines.proofs.Counting.{counts_start, counts_step, counts_end, counts_rest, on_ok}
 use Rattle.zr_netrun_lines.proofs.Stepping.{IsRunning, begins_not, starts, lives, goes_on, rests, stops, ends}
+use Rattle.zr_outside.proofs.Counting.{only_behind, only_still, only_stopped}
+use Rattle.zr_netrun_lines.specs.declared.runner.RunStop.TheVariants as stop
 use Rattle.zr_netrun_lines.proofs.runner.Runner.run.Goals as goal
 
 pub returns-in_err-count_steps-clause-turn : goal.returns-in_err-count_steps-clause-turn
@@ -21,6 +23,7 @@ loop-done-init g c =
       alive = lives c.args.self.now c.args.steps (seen (writes c.args.self.now) (g.K.Sink.held c.args.out.now)) 0 c.count_steps.new.self _ h;
       number = h.at.number;
       later = omega arith;
+      quiet = refl;
       counted = counts_start c.args.self.now c.count_steps.new.self c.args.steps c.in_ok-count_steps.field-0 c.in_ok-count_steps.ensures.books (ap (λ (z : Kept). z.counts) c.in_ok-count_steps.ensures.rest);
       running = h;
     }
@@ -57,6 +60,7 @@ loop-done-preserved g c =
       alive = lives c.args.self.now c.args.steps (seen (writes c.args.self.now) (g.K.Sink.held c.args.out.now)) (c.loop-done.done + 1) c.do_next_step.new.self _ h;
       number = h.at.number;
       later = omega (arith, c.in_ok-do_next_step.ensures.later, c.loop-done.invariant.later);
+      quiet = c.in_ok-do_next_step.ensures.only ∙ c.loop-done.invariant.quiet;
       counted = counts_step c.args.self.now c.loop-done.self c.do_next_step.new.self c.args.steps c.loop-done.done _ _ _ _ c.loop-done.invariant.running (omega arith) moves c.loop-done.invariant.counted c.in_ok-do_next_step.ensures.counts;
       running = h;
     }
@@ -83,3 +87,15 @@ pub returns-clause-counts : goal.returns-clause-counts
 returns-clause-counts g c =
     on_ok _ c.end_run-2.new.self _ c.end_run-2.result
     (counts_end c.args.self.now c.loop-done.self c.end_run-2.new.self _ (c.args.steps - c.loop-done.done) c.loop-done.invariant.counted (inr (omega arith)) c.end_run-2.ensures.counts.1 c.end_run-2.ensures.counts.0)
+
+pub returns-in_err-count_steps-clause-only : goal.returns-in_err-count_steps-clause-only
+returns-in_err-count_steps-clause-only g c = only_still stop.WriteFault c.from_residual.result _ _ refl
+
+pub returns-in_err-do_next_step-clause-only : goal.returns-in_err-do_next_step-clause-only
+returns-in_err-do_next_step-clause-only g c = only_stopped stop.WriteFault c.from_residual-in_err-do_next_step.result c.in_err-do_next_step.field-0.0 _ _ _ c.from_residual-in_err-do_next_step.ensures.1 c.loop-done.invariant.quiet c.in_err-do_next_step.ensures.only
+
+pub returns-then-not-branch-clause-only : goal.returns-then-not-branch-clause-only
+returns-then-not-branch-clause-only g c = only_behind stop.WriteFault c.end_run.result _ _ _ (c.in_ok-do_next_step.ensures.only ∙ c.loop-done.invariant.quiet) c.end_run.ensures.only
+
+pub returns-clause-only : goal.returns-clause-only
+returns-clause-only g c = only_behind stop.WriteFault c.end_run-2.result _ _ _ c.loop-done.invariant.quiet c.end_run-2.ensures.only

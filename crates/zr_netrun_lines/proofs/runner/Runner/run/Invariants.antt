@@ -12,6 +12,7 @@ invariant-loop-done g l = record {
   alive : l.self.world.spent ≡ false;
   number : l.self.number ≡ l.fn.self.number;
   later : g.K.Sink.faults l.fn.out ≤ g.K.Sink.faults l.out;
+  quiet : g.K.Sink.faults l.out ≡ g.K.Sink.faults l.fn.out;
   counted : CountsAhead l.fn.self (acts_by l.fn.self (c.Run l.fn.steps)) (steps_left l.fn.self (l.fn.steps - l.done) l.self.world.state) l.self;
   running : IsRunning l.fn.self l.fn.steps l.done l.self (seen (writes l.fn.self) (g.K.Sink.held l.fn.out)) (seen (writes l.fn.self) (g.K.Sink.held l.out));
 }
