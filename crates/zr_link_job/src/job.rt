@@ -34,3 +34,10 @@ pub struct LinkJob {
     pub start: LinkStart,
     pub policy: Shared<Policy>,
 }
+
+/// What a crew has started for a router that is served: the reader of a link, or the inner client of its administration space.
+#[derive(Drop)]
+pub enum ServeJob {
+    Link { job: LinkJob },
+    Inner,
+}

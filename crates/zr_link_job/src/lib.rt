@@ -5,5 +5,5 @@
 mod job;
 mod reading;
 
-pub use job::{LinkJob, LinkStart, Side};
+pub use job::{LinkJob, LinkStart, ServeJob, Side};
 pub use reading::{Reading, hand_over, turn_away};

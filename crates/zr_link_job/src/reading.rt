@@ -1,22 +1,25 @@
 //! What the thread of a link's reader owns, and does.
 
-ghost use Rattle.std.specs.Prelude.{◌≡◌, ◌⊎◌, ◌++◌, ℕ, Option, [], ◌∷◌, IfOk, IfSome, is_some};
+ghost use Rattle.std.specs.Prelude.{◌≡◌, ◌≤◌, ◌⊎◌, ◌++◌, ℕ, Option, [], ◌∷◌, IfErr, IfOk, IfSome, is_err, is_some, true};
 ghost use Rattle.std.specs.Arc.{arc_value};
 ghost use Rattle.std.proofs.Props.{props};
 ghost use Rattle.zr_outside_crew.specs.Crew.{crew_faults, crew_told};
 ghost use Rattle.zr_hist.specs.Words.{pass_name};
 ghost use Rattle.zr_link_job.specs.Begins.{expects, greets, opening_of};
 ghost use Rattle.zr_link_job.specs.Starts.{Starts};
-ghost use Rattle.zr_outside.specs.Counts.{RoseBy};
+ghost use Rattle.zr_link_job.specs.declared.job.ServeJob.TheVariants.{Link};
+ghost use Rattle.zr_open.specs.declared.error.Reason.TheVariants.{Generic};
+ghost use Rattle.zr_outside.specs.Counts.{Counted, Rose, RoseBy};
 ghost use Rattle.zr_link.specs.Heard.{IsLate};
 ghost use Rattle.zr_link.specs.Log.{stage_of};
 ghost use Rattle.zr_link.specs.Run.{Runs};
-ghost use Rattle.zr_link.specs.Written.{Wrote};
+ghost use Rattle.zr_link.specs.Written.{Puts, Wrote};
 ghost use Rattle.zr_link.specs.declared.end.LinkEnd.TheVariants as end;
 ghost use Rattle.zr_link.specs.declared.log.Stage.TheVariants as stages;
-ghost use Rattle.zr_session.specs.Session.{begun};
+ghost use Rattle.zr_session.specs.Session.{begun, close_of};
+ghost use Rattle.zr_session.specs.declared.fate.End.TheVariants as how;
 
-use crate::job::{LinkJob, LinkStart, Side};
+use crate::job::{LinkJob, LinkStart, ServeJob, Side};
 use std::alloc::{AllocError, Global};
 use std::sync::Arc;
 use std::thread::Threads;
@@ -90,7 +93,7 @@ struct Hearing<
 }
 
 /// Starts the reader of a link by the crew, which tells its job. A reader that the crew hands back is let go: its peer is told so by a CLOSE, where it
-/// still reads, and its log. The count of the crew's failed starts says that there was one.
+/// still reads, and its log. Its sink comes back then, and the count of the crew's failed starts says that there was one.
 #[tactic(auto, using(crate::proofs::Starting::starts_one))]
 pub fn hand_over<
     S: Source + Send + Drop + 'static,
@@ -99,10 +102,12 @@ pub fn hand_over<
     L: Log + Send + Drop + 'static,
     P: Port + Send + Sync + Drop + 'static,
     R: Threads + Copy + Send + Sync + Drop + 'static,
->(crew: &mut Crew<R, LinkJob>, reading: Reading<S, K, C, L, P, R>)
+>(crew: &mut Crew<R, ServeJob>, reading: Reading<S, K, C, L, P, R>) -> Result<(), K>
 where
     P::Note: Send + 'static,
-    ensures { Starts (reading.job ∷ []) (crew_told crew.old) (crew_told crew.new) (crew_faults crew.old) (crew_faults crew.new) }
+    ensures started { Starts (Link reading.job ∷ []) (crew_told crew.old) (crew_told crew.new) (crew_faults crew.old) (crew_faults crew.new) }
+    ensures failed { Counted (crew_faults crew.old) (crew_faults crew.new) (is_err result ≡ true) }
+    ensures closed { IfErr result (λ k. Puts (close_of (how.Closed Generic)) (K.held reading.sink) (K.held k) (Rose (K.faults reading.sink) (K.faults k))) }
 {
     let Reading {
         alloc,
@@ -133,8 +138,9 @@ where
         rules,
     };
     let run = |hearing: Hearing<S, K, C, L, P, R>| read(hearing);
-    if let Err(hearing) = crew.start(hearing, job, run) {
-        give_up(hearing);
+    match crew.start(hearing, ServeJob::Link { job }, run) {
+        Ok(()) => Ok(()),
+        Err(hearing) => Err(give_up(hearing)),
     }
 }
 
@@ -263,12 +269,15 @@ fn begin(alloc: Global, start: &LinkStart, now: u64) -> Result<(Session, Vec<u8>
 }
 
 /// The reader of a link can't be started: its peer is told so by a CLOSE, where it still reads.
-pub fn turn_away<K: Sink>(sink: &mut K) {
+pub fn turn_away<K: Sink>(sink: &mut K)
+    ensures puts { Puts (close_of (how.Closed Generic)) (K.held sink.old) (K.held sink.new) (Rose (K.faults sink.old) (K.faults sink.new)) }
+    ensures later { K.faults sink.old ≤ K.faults sink.new }
+{
     // where the peer has gone there is nobody to be told
     let _ = write_all(sink, &close_batch(Reason::Generic.byte()));
 }
 
-// The link's reader could not be started: its peer is told so, and its log.
+// The link's reader could not be started: its peer is told so, and its log. The sink comes back.
 fn give_up<
     S: Source + Drop,
     K: Sink + Drop,
@@ -276,7 +285,9 @@ fn give_up<
     L: Log + Drop,
     P: Port + Drop,
     R: Threads + Drop,
->(hearing: Hearing<S, K, C, L, P, R>) {
+>(hearing: Hearing<S, K, C, L, P, R>) -> K
+    ensures puts { Puts (close_of (how.Closed Generic)) (K.held hearing.sink) (K.held result) (Rose (K.faults hearing.sink) (K.faults result)) }
+{
     let Hearing {
         alloc,
         mut sink,
@@ -285,4 +296,5 @@ fn give_up<
     } = hearing;
     turn_away(&mut sink);
     LinkLog::new(alloc, log, Stage::Unopened).read(LinkEnd::CrewRefused);
+    sink
 }

@@ -2,3 +2,4 @@ pub mod Words
 pub mod Stepping
 pub mod Reaching
 pub mod Served
+pub mod Opening

@@ -1,8 +1,8 @@
 -- One call of the host, and what serving makes of it.
-use Rattle.std.proofs.Common.{arith, zero, suc, ◌≡◌, ℕ, ◌+◌, ◌<◌, ◌≤◌, Bool, true, false, List, [], ◌∷◌, ◌++◌, length, map, take, get_or, Option, refl, sym, ap, subst, ◌∙◌, inl, inr}
+use Rattle.std.proofs.Common.{arith, zero, suc, ◌≡◌, ℕ, ◌+◌, ◌<◌, ◌≤◌, Bool, true, false, List, [], ◌∷◌, ◌++◌, length, take, get_or, Option, refl, sym, ap, subst, ◌∙◌, inl, inr}
 use Rattle.std.proofs.lemmas.Bool.{false≢true, true≢false}
 use Rattle.std.proofs.Math.Seq.{take-suc, take-length}
-use Rattle.std.proofs.lemmas.List.{append-nil, get_or-map, length-append, length-map, length-take-le}
+use Rattle.std.proofs.lemmas.List.{append-nil, length-append, length-take-le}
 use Rattle.std.proofs.lemmas.List.Elements.{All-append, All-cons, All-nil}
 use Rattle.zr_outside.specs.Counts.{Rose}
 use Rattle.zr_outside.specs.Host as host
@@ -11,9 +11,9 @@ use Rattle.zr_outside.specs.declared.host.Answer.{Answer}
 use Rattle.zr_outside.specs.declared.host.Answer.TheVariants as answer
 use Rattle.zr_outside.specs.declared.host.Call.{Call}
 use Rattle.zr_outside.specs.declared.host.Call.TheVariants.{Listen, Dial, Accept}
-use Rattle.zr_link_writer.proofs.Carrying.{appends_none, appends_nothing_more, prefix_none, prefix_more, prefix_whole}
+use Rattle.zr_link_writer.proofs.Carrying.{appends_none, appends_nothing_more, prefix_more, prefix_whole}
 use Rattle.zr_link_job.specs.Starts.{Starts}
-use Rattle.zr_link_job.specs.declared.job.LinkJob.{LinkJob}
+use Rattle.zr_link_job.specs.declared.job.ServeJob.{ServeJob}
 use Rattle.zr_link_job.specs.declared.job.Side.TheVariants.{Accepting, Dialling}
 use Rattle.zr_serve.specs.Calls.{Records, listen_call, dial_call, accept_call, link_of, dials, accepts, IsGoing}
 use Rattle.zr_dial.specs.Dial.{DialState}
@@ -31,7 +31,7 @@ rose_later a b c le rose = omega arith
 
 -- ---- a dial
 
-pub dial_linked : (d : DialState) (is : Bool) (calls mid calls' : Option (List Call)) (told told' : Option (List LinkJob)) (faults faults' : ℕ) (held : Option (List ℕ)) (l l' : LinksState)
+pub dial_linked : (d : DialState) (is : Bool) (calls mid calls' : Option (List Call)) (told told' : Option (List ServeJob)) (faults faults' : ℕ) (held : Option (List ℕ)) (l l' : LinksState)
     → host.Records (Dial d.address is) calls mid → is ≡ true → calls' ≡ mid → Starts (next_job l (record { side = Dialling; weight = d.weight }) ∷ []) told told' faults faults' → l' ≡ with_next l
     → (is_link : Bool) × Serves (dial_call d is_link ∷ []) (moment calls told faults held l) (moment calls' told' faults' held l')
 dial_linked d false calls mid calls' told told' faults faults' held l l' recorded e same started links = absurd (false≢true e)
@@ -45,7 +45,7 @@ dial_linked d true calls mid calls' told told' faults faults' held l l' recorded
   },
 )
 
-pub dial_lost : (d : DialState) (is : Bool) (calls mid : Option (List Call)) (told : Option (List LinkJob)) (faults : ℕ) (held held' : Option (List ℕ)) (l : LinksState)
+pub dial_lost : (d : DialState) (is : Bool) (calls mid : Option (List Call)) (told : Option (List ServeJob)) (faults : ℕ) (held held' : Option (List ℕ)) (l : LinksState)
     → host.Records (Dial d.address is) calls mid → is ≡ false → Appends (dial_text d.address) held held'
     → (is_link : Bool) × Serves (dial_call d is_link ∷ []) (moment calls told faults held l) (moment mid told faults held' l)
 dial_lost d true calls mid told faults held held' l recorded e said = absurd (true≢false e)
@@ -59,7 +59,7 @@ dial_lost d false calls mid told faults held held' l recorded e said = (
   },
 )
 
-pub dial_untold : (d : DialState) (is : Bool) (calls mid : Option (List Call)) (told : Option (List LinkJob)) (faults : ℕ) (held held' : Option (List ℕ)) (l : LinksState)
+pub dial_untold : (d : DialState) (is : Bool) (calls mid : Option (List Call)) (told : Option (List ServeJob)) (faults : ℕ) (held held' : Option (List ℕ)) (l : LinksState)
     → host.Records (Dial d.address is) calls mid → is ≡ false → AppendsPrefix (dial_text d.address) held held'
     → (is_link : Bool) × BreaksOff (dial_call d is_link ∷ []) (moment calls told faults held l) (moment mid told faults held' l)
 dial_untold d true calls mid told faults held held' l recorded e said = absurd (true≢false e)
@@ -74,7 +74,7 @@ dial_untold d false calls mid told faults held held' l recorded e said = (
 
 -- ---- an accept
 
-pub accept_linked : (calls mid calls' : Option (List Call)) (told told' : Option (List LinkJob)) (faults faults' : ℕ) (held : Option (List ℕ)) (l l' : LinksState)
+pub accept_linked : (calls mid calls' : Option (List Call)) (told told' : Option (List ServeJob)) (faults faults' : ℕ) (held : Option (List ℕ)) (l l' : LinksState)
     → host.Records (Accept answer.Link) calls mid → calls' ≡ mid → Starts (next_job l (record { side = Accepting; weight = 1 }) ∷ []) told told' faults faults' → l' ≡ with_next l
     → Serves (accepts (answer.Link ∷ [])) (moment calls told faults held l) (moment calls' told' faults' held l')
 accept_linked calls mid calls' told told' faults faults' held l l' recorded same started links = record {
@@ -85,7 +85,7 @@ accept_linked calls mid calls' told told' faults faults' held l l' recorded same
 }
 
 -- an accept that gave no link
-pub accept_other : (a : Answer) (calls mid : Option (List Call)) (told : Option (List LinkJob)) (faults : ℕ) (held : Option (List ℕ)) (l : LinksState)
+pub accept_other : (a : Answer) (calls mid : Option (List Call)) (told : Option (List ServeJob)) (faults : ℕ) (held : Option (List ℕ)) (l : LinksState)
     → link_of 1 (Accept a) ≡ [] → host.Records (Accept a) calls mid
     → Serves (accepts (a ∷ [])) (moment calls told faults held l) (moment mid told faults held l)
 accept_other answer.Link calls mid told faults held l none recorded = absurd (none_is_one (ap (λ s. length s) none))
@@ -112,24 +112,24 @@ accept_other answer.Failed calls mid told faults held l none recorded = record {
 }
 
 -- what an accept that lets serving go on is
-pub accept_gives : (a : Answer) (calls mid calls' : Option (List Call)) (told told' : Option (List LinkJob)) (faults faults' : ℕ) (held : Option (List ℕ)) (l l' : LinksState)
+pub accept_gives : (a : Answer) (calls mid calls' : Option (List Call)) (told told' : Option (List ServeJob)) (faults faults' : ℕ) (held : Option (List ℕ)) (l l' : LinksState)
     → host.Records (Accept a) calls mid → a ≡ answer.Link → calls' ≡ mid → Starts (next_job l (record { side = Accepting; weight = 1 }) ∷ []) told told' faults faults' → l' ≡ with_next l
     → (x : Answer) × IsGoing x × Serves (accepts (x ∷ [])) (moment calls told faults held l) (moment calls' told' faults' held l')
 accept_gives a calls mid calls' told told' faults faults' held l l' recorded is same started links =
     (answer.Link, tt, accept_linked calls mid calls' told told' faults faults' held l l' (subst (λ z. host.Records (Accept z) calls mid) is recorded) same started links)
 
-pub accept_waits : (a : Answer) (calls mid : Option (List Call)) (told : Option (List LinkJob)) (faults : ℕ) (held : Option (List ℕ)) (l : LinksState)
+pub accept_waits : (a : Answer) (calls mid : Option (List Call)) (told : Option (List ServeJob)) (faults : ℕ) (held : Option (List ℕ)) (l : LinksState)
     → host.Records (Accept a) calls mid → a ≡ answer.Quiet
     → (x : Answer) × IsGoing x × Serves (accepts (x ∷ [])) (moment calls told faults held l) (moment mid told faults held l)
 accept_waits a calls mid told faults held l recorded is =
     (answer.Quiet, tt, accept_other answer.Quiet calls mid told faults held l refl (subst (λ z. host.Records (Accept z) calls mid) is recorded))
 
-pub accept_ends : (a : Answer) (calls mid : Option (List Call)) (told : Option (List LinkJob)) (faults : ℕ) (held : Option (List ℕ)) (l : LinksState)
+pub accept_ends : (a : Answer) (calls mid : Option (List Call)) (told : Option (List ServeJob)) (faults : ℕ) (held : Option (List ℕ)) (l : LinksState)
     → host.Records (Accept a) calls mid → a ≡ answer.End → Serves (accepts (answer.End ∷ [])) (moment calls told faults held l) (moment mid told faults held l)
 accept_ends a calls mid told faults held l recorded is =
     accept_other answer.End calls mid told faults held l refl (subst (λ z. host.Records (Accept z) calls mid) is recorded)
 
-pub accept_fails : (a : Answer) (calls mid : Option (List Call)) (told : Option (List LinkJob)) (faults : ℕ) (held : Option (List ℕ)) (l : LinksState)
+pub accept_fails : (a : Answer) (calls mid : Option (List Call)) (told : Option (List ServeJob)) (faults : ℕ) (held : Option (List ℕ)) (l : LinksState)
     → host.Records (Accept a) calls mid → a ≡ answer.Failed → Serves (accepts (answer.Failed ∷ [])) (moment calls told faults held l) (moment mid told faults held l)
 accept_fails a calls mid told faults held l recorded is =
     accept_other answer.Failed calls mid told faults held l refl (subst (λ z. host.Records (Accept z) calls mid) is recorded)
@@ -161,7 +161,7 @@ dials_one x (y ∷ others) is = refl
 
 -- ---- accepting goes on
 
-pub goes_none : (calls : Option (List Call)) (told : Option (List LinkJob)) (faults : ℕ) (l : LinksState) (held : Option (List ℕ)) → Goes (moment calls told faults held l) (moment calls told faults held l)
+pub goes_none : (calls : Option (List Call)) (told : Option (List ServeJob)) (faults : ℕ) (l : LinksState) (held : Option (List ℕ)) → Goes (moment calls told faults held l) (moment calls told faults held l)
 goes_none calls told faults l held = record { answers = []; going = All-nil IsGoing; serves = serves_none (moment calls told faults held l) }
 
 pub goes_more : (a b c : Moment) → Goes a b → (answer : Answer) × IsGoing answer × Serves (accepts (answer ∷ [])) b c → Goes a c
@@ -233,7 +233,7 @@ dials_all texts a b p = (p.gave, p.all, subst (λ z. Serves (dials z p.gave) a b
 
 -- ---- the whole
 
-pub listened : (address : List ℕ) (is : Bool) (calls mid : Option (List Call)) (told : Option (List LinkJob)) (faults : ℕ) (held : Option (List ℕ)) (l : LinksState)
+pub listened : (address : List ℕ) (is : Bool) (calls mid : Option (List Call)) (told : Option (List ServeJob)) (faults : ℕ) (held : Option (List ℕ)) (l : LinksState)
     → host.Records (Listen address is) calls mid → Serves (listen_call address is ∷ []) (moment calls told faults held l) (moment mid told faults held l)
 listened address is calls mid told faults held l recorded = record {
   recorded = records_one (listen_call address is) calls mid recorded;
@@ -246,13 +246,13 @@ module _ (id address : List ℕ) (texts : List DialState) (a m n : Moment) (o p 
   pub cut_off_dialling : (gave : List Bool) × BreaksOff (dials texts gave) m n → AppendsPrefix (serving_text id) o.out p.out → CutsOff id address texts a n o p
   cut_off_dialling q said = record {
     made = listen_call address true ∷ dials texts q.0;
-    ends = inr (record {
+    ends = record {
       gave = q.0;
       answers = [];
       going = All-nil IsGoing;
       order = inl refl;
       calls_are = ap (λ z. listen_call address true ∷ z) (sym (append-nil (dials texts q.0)));
-    });
+    };
     breaks = breaks_both (listen_call address true ∷ []) (dials texts q.0) a m n listens q.1;
     said = said;
   }
@@ -279,7 +279,7 @@ module _ (id address : List ℕ) (texts : List DialState) (a m n : Moment) (o p 
       made = listening address texts dialled.0 (q.0 ++ answer.Failed ∷ []);
       text = serving_text id;
       line = accept_text;
-      fails = inr (inr (record { gave = dialled.0; answers = q.0; all = dialled.1; going = q.1; calls_are = refl }, refl, refl));
+      fails = inr (record { gave = dialled.0; answers = q.0; all = dialled.1; going = q.1; calls_are = refl }, refl, refl);
       serves = over (q.0 ++ answer.Failed ∷ []) q.2;
       said = said;
       told = last refl;
@@ -287,7 +287,7 @@ module _ (id address : List ℕ) (texts : List DialState) (a m n : Moment) (o p 
     comes e.NoMemory q said last same = (
       record {
         made = listening address texts dialled.0 q.0;
-        ends = inr (record { gave = dialled.0; answers = q.0; going = q.1; order = inr dialled.1; calls_are = refl });
+        ends = record { gave = dialled.0; answers = q.0; going = q.1; order = inr dialled.1; calls_are = refl };
         breaks = whole_is_part _ a b (over q.0 q.2);
         said = prefix_whole (serving_text id) o.out p.out said;
       },

@@ -1,6 +1,5 @@
 -- Serving as a whole, return by return.
-use Rattle.std.proofs.Common.{arith, ◌≡◌, ℕ, ◌≤◌, Bool, true, false, List, [], ◌∷◌, ◌++◌, length, map, Option, refl, sym, ap, subst, ◌∙◌, inl, inr}
-use Rattle.std.proofs.lemmas.List.{append-nil}
+use Rattle.std.proofs.Common.{arith, le_refl, ◌≡◌, ◌⊎◌, ℕ, ◌<◌, ◌≤◌, Bool, true, false, List, [], ◌∷◌, ◌++◌, length, Option, refl, sym, ap, subst, inl, inr}
 use Rattle.std.proofs.lemmas.Bool.{false≢true, true≢false}
 use Rattle.std.proofs.lemmas.List.Elements.{All-nil}
 use Rattle.rand_core.specs.Stream.{Stream}
@@ -10,33 +9,62 @@ use Rattle.zr_outside.specs.Host as host
 use Rattle.zr_outside.specs.Told.{Appends, AppendsPrefix}
 use Rattle.zr_outside.specs.declared.host.Call.{Call}
 use Rattle.zr_outside.specs.declared.host.Call.TheVariants.{Listen}
-use Rattle.zr_link_writer.proofs.Carrying.{appends_none, prefix_none, prefix_whole}
+use Rattle.zr_link_writer.proofs.Carrying.{appends_none, prefix_whole}
 use Rattle.zr_serve.specs.declared.end.ServeEnd.{ServeEnd}
 use Rattle.zr_serve.specs.declared.end.ServeEnd.TheVariants as e
-use Rattle.zr_link_job.specs.declared.job.LinkJob.{LinkJob}
+use Rattle.zr_link_job.specs.declared.job.ServeJob.{ServeJob}
 use Rattle.zr_serve.specs.declared.lines.Unsaid.{Unsaid}
 use Rattle.zr_serve.specs.declared.lines.Unsaid.TheVariants.{Fault, NoMemory}
-use Rattle.zr_serve.specs.Calls.{Made, listen_call, new_links, dials, IsGoing}
+use Rattle.zr_serve.specs.Calls.{listen_call, dials, IsGoing}
 use Rattle.zr_dial.specs.Dial.{DialState}
-use Rattle.zr_serve.specs.Jobs.{LinksState, first_links, jobs_of}
+use Rattle.zr_serve.specs.Jobs.{LinksState, first_links}
 use Rattle.zr_serve.specs.Lines.{serving_text, no_words_text, listen_text, accept_text}
 use Rattle.zr_serve.specs.Moments.{Moment, moment, Serves, BreaksOff}
-use Rattle.zr_serve.specs.Serving.{Says, Outputs, CutsOff, Comes, IsServed, Accepts}
+use Rattle.zr_serve.specs.Serving.{Says, Outputs, outputs, CutsOff, Comes, IsServed, IsServedFrom, EndsBefore, Accepts}
+use Rattle.zr_serve.specs.Space.{Space, Begins}
 use Rattle.zr_serve.specs.Unsaid.{end_of_unsaid}
 use Rattle.zr_serve.proofs.Reaching.{listened, rose_later, cut_off_dialling, comes}
-use Rattle.zr_serve.proofs.Stepping.{serves_none, whole_is_part}
+use Rattle.zr_serve.proofs.Stepping.{whole_is_part}
 
 says_later : (line : List ℕ) (h h' : Option (List ℕ)) (a b c : ℕ) → a ≤ b → Says line h h' b c → Says line h h' a c
 says_later line h h' a b c le (inl said) = inl said
 says_later line h h' a b c le (inr part) = inr (part.0, rose_later a b c le part.1)
 
--- a count that stood still twice, never fell and then rose
-pub rose_behind : (a b c d f : ℕ) → b ≡ a → c ≡ b → c ≤ d → Rose d f → Rose a f
-rose_behind a b c d f same same_too le rose = omega arith
+-- a count that stood still, never fell and then rose
+pub rose_behind : (a b c d : ℕ) → b ≡ a → b ≤ c → Rose c d → Rose a d
+rose_behind a b c d same le rose = omega arith
 
 -- a count that never fell and then rose
-pub rose_far : (a b c d f : ℕ) → a ≤ b → b ≤ c → c ≤ d → Rose d f → Rose a f
-rose_far a b c d f le le_too le_more rose = omega arith
+pub rose_far : (a b c d : ℕ) → a ≤ b → b ≤ c → Rose c d → Rose a d
+rose_far a b c d le le_too rose = omega arith
+
+-- a count that never fell, stood still and then rose
+pub rose_past : (a b c d : ℕ) → a ≤ b → c ≡ b → Rose c d → Rose a d
+rose_past a b c d le same rose = omega arith
+
+-- a count that stood still and then rose
+pub rose_same : (a b c d : ℕ) → b ≡ a → c ≡ b → Rose c d → Rose a d
+rose_same a b c d same same_too rose = omega arith
+
+-- one of two outputs failed, of which one has also served before
+pub rose_either : (a b c f g : ℕ) → f ≤ g → Rose a b ⊎ Rose g c → Rose a b ⊎ Rose f c
+rose_either a b c f g le (inl out) = inl out
+rose_either a b c f g le (inr err) = inr (rose_later f g c le err)
+
+-- a count that stood still didn't rise
+pub rose_not : (a b : ℕ) → b ≡ a → a < b → ⊥
+rose_not a b same rose = omega arith
+
+-- where neither count has changed
+pub none_rose : {A B : Type 0} (a b : ℕ) → (a < a → A) × (b < b → B)
+none_rose a b = (λ rose. absurd (rose_not a a refl rose), λ rose. absurd (rose_not b b refl rose))
+
+-- where a count rose that stands still but for one end, that is the end
+pub ends_by_writes : (end : ServeEnd) (a b : ℕ) → ((end ≡ e.HostFault → ⊥) → b ≡ a) → a < b → end ≡ e.HostFault
+ends_by_writes e.HostFault a b still rose = refl
+ends_by_writes e.Done a b still rose = absurd (rose_not a b (still (λ it. cc it)) rose)
+ends_by_writes e.NoMemory a b still rose = absurd (rose_not a b (still (λ it. cc it)) rose)
+ends_by_writes e.WriteFault a b still rose = absurd (rose_not a b (still (λ it. cc it)) rose)
 
 no_stream : Stream
 no_stream = record { u32_after = λ calls. 0; u64_after = λ calls. 0; bytes_after = λ calls n. [] }
@@ -45,121 +73,147 @@ no_dials : (texts : List DialState) → dials texts [] ≡ []
 no_dials [] = refl
 no_dials (x ∷ texts) = refl
 
-module _ (id : List ℕ) (policy : PolicyState) (log : Bool) (address : List ℕ) (texts : List DialState) (calls calls' : Option (List Call)) (told : Option (List LinkJob)) (faults : ℕ) (out : Option (List ℕ)) where
-  pub without_words : (err err' : Option (List ℕ)) (errs errs' : ℕ) → calls' ≡ calls → Says no_words_text err err' errs errs'
-      → IsServed e.HostFault id policy log address texts calls calls' told told faults faults (record { out = out; err = err; faults = errs }) (record { out = out; err = err'; faults = errs' })
-  without_words err err' errs errs' same says = record {
-    words = no_stream;
-    held = err;
-    links = first_links id policy log no_stream;
-    comes = record {
-      made = [];
-      text = [];
-      line = no_words_text;
-      fails = inl (refl, refl, refl);
-      serves = subst (λ z. Serves [] (moment calls told faults err (first_links id policy log no_stream)) (moment z told faults err (first_links id policy log no_stream))) (sym same)
-          (serves_none (moment calls told faults err (first_links id policy log no_stream)));
-      said = appends_none out;
-      told = says;
-    };
+-- what was said and failed before doesn't matter for how serving goes
+comes_later : (end : ServeEnd) (id address : List ℕ) (texts : List DialState) (a b : Moment) (o q p : Outputs) → q.out ≡ o.out → o.faults ≤ q.faults
+    → Comes end id address texts a b q p → Comes end id address texts a b o p
+comes_later e.Done id address texts a b o q p same later (done, held) =
+    (record { made = done.made; ends = done.ends; serves = done.serves; said = subst (λ z. Appends (serving_text id) z p.out) same done.said }, held)
+comes_later e.HostFault id address texts a b o q p same later fails = record {
+  made = fails.made;
+  text = fails.text;
+  line = fails.line;
+  fails = fails.fails;
+  serves = fails.serves;
+  said = subst (λ z. Appends fails.text z p.out) same fails.said;
+  told = says_later fails.line b.held p.err o.faults q.faults p.faults later fails.told;
+}
+comes_later e.NoMemory id address texts a b o q p same later (cut, held) =
+    (record { made = cut.made; ends = cut.ends; breaks = cut.breaks; said = subst (λ z. AppendsPrefix (serving_text id) z p.out) same cut.said }, held)
+comes_later e.WriteFault id address texts a b o q p same later (cut, held) =
+    (record { made = cut.made; ends = cut.ends; breaks = cut.breaks; said = subst (λ z. AppendsPrefix (serving_text id) z p.out) same cut.said }, held)
+
+-- ---- before it listens
+
+-- the host has no random words
+pub without_words : (admin : Bool) (calls calls' : Option (List Call)) (told : Option (List ServeJob)) (faults : ℕ) (out err err' : Option (List ℕ)) (errs errs' : ℕ)
+    → calls' ≡ calls → Says no_words_text err err' errs errs'
+    → EndsBefore e.HostFault admin calls calls' told told faults faults (outputs out err errs) (outputs out err' errs')
+without_words admin calls calls' told faults out err err' errs errs' same says =
+    record { recorded = same; started = refl; counted = le_refl _; unsaid = refl; tells = says }
+
+module _ (end : ServeEnd) (id : List ℕ) (policy : PolicyState) (log admin : Bool) (Opened Refused : ℕ → Type 0) (address : List ℕ) (texts : List DialState)
+    (calls calls' : Option (List Call)) (told told' : Option (List ServeJob)) (faults faults' : ℕ) (o p : Outputs) where
+  pub ended_before : EndsBefore end admin calls calls' told told' faults faults' o p → IsServed end id policy log admin Opened Refused address texts calls calls' told told' faults faults' o p
+  ended_before before = record { words = no_stream; goes = inr before }
+
+  -- it ended while it dealt with its administration space, once it had random words
+  pub ended_within : (mid : Option (List Call)) → mid ≡ calls → EndsBefore end admin mid calls' told told' faults faults' o p
+      → IsServed end id policy log admin Opened Refused address texts calls calls' told told' faults faults' o p
+  ended_within mid same before = ended_before (subst (λ z. EndsBefore end admin z calls' told told' faults faults' o p) same before)
+
+  -- something became of its administration space, and it was served from there
+  pub passed : (s : Stream) (l m : LinksState) (mid between : Option (List Call)) (started : Option (List ServeJob)) (lost : ℕ) (held : Option (List ℕ)) (q : Outputs)
+      → l ≡ first_links id policy log s → mid ≡ calls
+      → (space : Space) × Begins admin Opened Refused space (moment mid told faults o.err l) (moment between started lost held m)
+      → q.out ≡ o.out → o.faults ≤ q.faults
+      → IsServedFrom end id address texts (moment between started lost held m) calls' told' faults' q p
+      → IsServed end id policy log admin Opened Refused address texts calls calls' told told' faults faults' o p
+  passed s l m mid between started lost held q links same begun unsaid later served = record {
+    words = s;
+    goes = inl (record {
+      space = begun.0;
+      between = moment between started lost held m;
+      begins = subst (λ z. Begins admin Opened Refused begun.0 (moment z told faults o.err (first_links id policy log s)) (moment between started lost held m)) same
+          (subst (λ z. Begins admin Opened Refused begun.0 (moment mid told faults o.err z) (moment between started lost held m)) links begun.1);
+      served = record { held = served.held; links = served.links; comes = comes_later end id address texts _ _ o q p unsaid later served.comes };
+    });
   }
 
-  pub deaf : (is : Bool) (mid : Option (List Call)) (s : Stream) (err err' : Option (List ℕ)) (errs errs' : ℕ) → mid ≡ calls → host.Records (Listen address is) mid calls' → is ≡ false
+-- ---- from the moment on at which it comes to listen
+
+module _ (id : List ℕ) (l : LinksState) (address : List ℕ) (texts : List DialState) (calls calls' : Option (List Call)) (told : Option (List ServeJob)) (faults : ℕ) (out : Option (List ℕ)) where
+  pub deaf : (is : Bool) (err err' : Option (List ℕ)) (errs errs' : ℕ) → host.Records (Listen address is) calls calls' → is ≡ false
       → Says (listen_text address) err err' errs errs'
-      → IsServed e.HostFault id policy log address texts calls calls' told told faults faults (record { out = out; err = err; faults = errs }) (record { out = out; err = err'; faults = errs' })
-  deaf true mid s err err' errs errs' same recorded no_link says = absurd (true≢false no_link)
-  deaf false mid s err err' errs errs' same recorded no_link says = record {
-    words = s;
+      → IsServedFrom e.HostFault id address texts (moment calls told faults err l) calls' told faults (outputs out err errs) (outputs out err' errs')
+  deaf true err err' errs errs' recorded no_link says = absurd (true≢false no_link)
+  deaf false err err' errs errs' recorded no_link says = record {
     held = err;
-    links = first_links id policy log s;
+    links = l;
     comes = record {
       made = listen_call address false ∷ [];
       text = [];
       line = listen_text address;
-      fails = inr (inl (refl, refl, refl));
-      serves = listened address false calls calls' told faults err (first_links id policy log s) (subst (λ z. host.Records (Listen address false) z calls') same recorded);
+      fails = inl (refl, refl, refl);
+      serves = listened address false calls calls' told faults err l recorded;
       said = appends_none out;
       told = says;
     };
   }
 
 -- it listens
-hears : (id : List ℕ) (policy : PolicyState) (log : Bool) (address : List ℕ) (s : Stream) (is : Bool) (calls mid calls' : Option (List Call)) (told : Option (List LinkJob)) (faults : ℕ) (err : Option (List ℕ)) (l : LinksState)
-    → mid ≡ calls → host.Records (Listen address is) mid calls' → is ≡ true → l ≡ first_links id policy log s
-    → Serves (listen_call address true ∷ []) (moment calls told faults err (first_links id policy log s)) (moment calls' told faults err l)
-hears id policy log address s false calls mid calls' told faults err l same recorded is links = absurd (false≢true is)
-hears id policy log address s true calls mid calls' told faults err l same recorded is links =
-    subst (λ z. Serves (listen_call address true ∷ []) (moment calls told faults err (first_links id policy log s)) (moment calls' told faults err z)) (sym links)
-    (listened address true calls calls' told faults err (first_links id policy log s) (subst (λ z. host.Records (Listen address true) z calls') same recorded))
+hears : (address : List ℕ) (is : Bool) (calls calls' : Option (List Call)) (told : Option (List ServeJob)) (faults : ℕ) (err : Option (List ℕ)) (l : LinksState)
+    → host.Records (Listen address is) calls calls' → is ≡ true
+    → Serves (listen_call address true ∷ []) (moment calls told faults err l) (moment calls' told faults err l)
+hears address false calls calls' told faults err l recorded is = absurd (false≢true is)
+hears address true calls calls' told faults err l recorded is = listened address true calls calls' told faults err l recorded
 
-pub unsaid_serves : (u : Unsaid) (id : List ℕ) (policy : PolicyState) (log : Bool) (address : List ℕ) (texts : List DialState) (s : Stream) (is : Bool) (calls mid calls' : Option (List Call)) (told : Option (List LinkJob)) (faults : ℕ)
-    (out out' err : Option (List ℕ)) (errs : ℕ) → mid ≡ calls → host.Records (Listen address is) mid calls' → is ≡ true → AppendsPrefix (serving_text id) out out'
-    → IsServed (end_of_unsaid u) id policy log address texts calls calls' told told faults faults (record { out = out; err = err; faults = errs }) (record { out = out'; err = err; faults = errs })
-unsaid_serves u id policy log address texts s is calls mid calls' told faults out out' err errs same recorded listens part = record {
-  words = s;
-  held = err;
-  links = first_links id policy log s;
-  comes = by u;
-}
+pub unsaid_serves : (u : Unsaid) (id : List ℕ) (l : LinksState) (address : List ℕ) (texts : List DialState) (is : Bool) (calls calls' : Option (List Call)) (told : Option (List ServeJob)) (faults : ℕ)
+    (out out' err : Option (List ℕ)) (errs : ℕ) → host.Records (Listen address is) calls calls' → is ≡ true → AppendsPrefix (serving_text id) out out'
+    → IsServedFrom (end_of_unsaid u) id address texts (moment calls told faults err l) calls' told faults (outputs out err errs) (outputs out' err errs)
+unsaid_serves u id l address texts is calls calls' told faults out out' err errs recorded listens part = record { held = err; links = l; comes = by u }
   where
     a : Moment
-    a = moment calls told faults err (first_links id policy log s)
+    a = moment calls told faults err l
 
     b : Moment
-    b = moment calls' told faults err (first_links id policy log s)
+    b = moment calls' told faults err l
 
-    cut : CutsOff id address texts a b (record { out = out; err = err; faults = errs }) (record { out = out'; err = err; faults = errs })
+    cut : CutsOff id address texts a b (outputs out err errs) (outputs out' err errs)
     cut = record {
       made = listen_call address true ∷ [];
-      ends = inr (record {
+      ends = record {
         gave = [];
         answers = [];
         going = All-nil IsGoing;
         order = inl refl;
         calls_are = ap (λ z. listen_call address true ∷ (z ++ [])) (sym (no_dials texts));
-      });
-      breaks = whole_is_part (listen_call address true ∷ []) a b (hears id policy log address s is calls mid calls' told faults err (first_links id policy log s) same recorded listens refl);
+      };
+      breaks = whole_is_part (listen_call address true ∷ []) a b (hears address is calls calls' told faults err l recorded listens);
       said = part;
     }
 
-    by : (u : Unsaid) → Comes (end_of_unsaid u) id address texts a b (record { out = out; err = err; faults = errs }) (record { out = out'; err = err; faults = errs })
+    by : (u : Unsaid) → Comes (end_of_unsaid u) id address texts a b (outputs out err errs) (outputs out' err errs)
     by Fault = (cut, refl)
     by NoMemory = (cut, refl)
 
-cut_serves : (end : ServeEnd) (id : List ℕ) (policy : PolicyState) (log : Bool) (address : List ℕ) (texts : List DialState) (s : Stream) (is : Bool) (calls mid heard calls' : Option (List Call)) (told told' : Option (List LinkJob)) (faults faults' : ℕ)
-    (l l' : LinksState) (o p : Outputs) → mid ≡ calls → host.Records (Listen address is) mid heard → is ≡ true → l ≡ first_links id policy log s
+cut_serves : (end : ServeEnd) (id address : List ℕ) (texts : List DialState) (is : Bool) (calls heard calls' : Option (List Call)) (told told' : Option (List ServeJob)) (faults faults' : ℕ)
+    (l l' : LinksState) (o p : Outputs) → host.Records (Listen address is) calls heard → is ≡ true
     → (gave : List Bool) × BreaksOff (dials texts gave) (moment heard told faults o.err l) (moment calls' told' faults' p.err l')
     → Appends (serving_text id) o.out p.out → (end ≡ e.Done → ⊥) → (end ≡ e.HostFault → ⊥)
-    → IsServed end id policy log address texts calls calls' told told' faults faults' o p
-cut_serves end id policy log address texts s is calls mid heard calls' told told' faults faults' l l' o p same recorded listens links broken said not_done not_host = record {
-  words = s;
-  held = p.err;
-  links = l';
-  comes = by end not_done not_host;
-}
+    → IsServedFrom end id address texts (moment calls told faults o.err l) calls' told' faults' o p
+cut_serves end id address texts is calls heard calls' told told' faults faults' l l' o p recorded listens broken said not_done not_host =
+    record { held = p.err; links = l'; comes = by end not_done not_host }
   where
-    cut : CutsOff id address texts (moment calls told faults o.err (first_links id policy log s)) (moment calls' told' faults' p.err l') o p
-    cut = cut_off_dialling id address texts _ (moment heard told faults o.err l) _ o p (hears id policy log address s is calls mid heard told faults o.err l same recorded listens links) broken
-        (prefix_whole _ o.out p.out said)
+    cut : CutsOff id address texts (moment calls told faults o.err l) (moment calls' told' faults' p.err l') o p
+    cut = cut_off_dialling id address texts _ (moment heard told faults o.err l) _ o p (hears address is calls heard told faults o.err l recorded listens) broken (prefix_whole _ o.out p.out said)
 
     by : (end : ServeEnd) → (end ≡ e.Done → ⊥) → (end ≡ e.HostFault → ⊥)
-        → Comes end id address texts (moment calls told faults o.err (first_links id policy log s)) (moment calls' told' faults' p.err l') o p
+        → Comes end id address texts (moment calls told faults o.err l) (moment calls' told' faults' p.err l') o p
     by e.Done d h = absurd (d refl)
     by e.HostFault d h = absurd (h refl)
     by e.NoMemory d h = (cut, refl)
     by e.WriteFault d h = (cut, refl)
 
-whole_serves : (end : ServeEnd) (id : List ℕ) (policy : PolicyState) (log : Bool) (address : List ℕ) (texts : List DialState) (s : Stream) (is : Bool) (calls mid heard dialled calls' : Option (List Call)) (told told' told'' : Option (List LinkJob))
-    (faults faults' faults'' : ℕ) (held : Option (List ℕ)) (errs : ℕ) (l l' l'' : LinksState) (o p : Outputs) → mid ≡ calls → host.Records (Listen address is) mid heard → is ≡ true → l ≡ first_links id policy log s
+whole_serves : (end : ServeEnd) (id address : List ℕ) (texts : List DialState) (is : Bool) (calls heard dialled calls' : Option (List Call)) (told told' told'' : Option (List ServeJob))
+    (faults faults' faults'' : ℕ) (held : Option (List ℕ)) (errs : ℕ) (l l' l'' : LinksState) (o p : Outputs) → host.Records (Listen address is) calls heard → is ≡ true
     → (gave : List Bool) × (length gave ≡ length texts) × Serves (dials texts gave) (moment heard told faults o.err l) (moment dialled told' faults' held l')
     → Accepts end (moment dialled told' faults' held l') (moment calls' told'' faults'' held l'')
     → Appends (serving_text id) o.out p.out → o.faults ≤ errs → (end ≡ e.HostFault → Says accept_text held p.err errs p.faults) → ((end ≡ e.HostFault → ⊥) → p.err ≡ held)
-    → IsServed end id policy log address texts calls calls' told told'' faults faults'' o p
-whole_serves end id policy log address texts s is calls mid heard dialled calls' told told' told'' faults faults' faults'' held errs l l' l'' o p same recorded listens links gave accepted said later last quiet = record {
-  words = s;
+    → IsServedFrom end id address texts (moment calls told faults o.err l) calls' told'' faults'' o p
+whole_serves end id address texts is calls heard dialled calls' told told' told'' faults faults' faults'' held errs l l' l'' o p recorded listens gave accepted said later last quiet = record {
   held = held;
   links = l'';
-  comes = comes id address texts _ (moment heard told faults o.err l) _ o p (hears id policy log address s is calls mid heard told faults o.err l same recorded listens links) (moment calls' told'' faults'' held l'') gave end accepted said
+  comes = comes id address texts _ (moment heard told faults o.err l) _ o p (hears address is calls heard told faults o.err l recorded listens) (moment calls' told'' faults'' held l'') gave end accepted said
       (λ it. says_later _ _ _ o.faults errs p.faults later (last it)) (λ not. sym (quiet not));
 }
 
@@ -168,24 +222,24 @@ whole_serves end id policy log address texts s is calls mid heard dialled calls'
 named_listen : (shown address : List ℕ) (is : Bool) (a b : Option (List Call)) → shown ≡ address → host.Records (Listen shown is) a b → host.Records (Listen address is) a b
 named_listen shown address is a b e recorded = subst (λ z. host.Records (Listen z is) a b) e recorded
 
-pub cut_serves_at : (named xs : List DialState) (shown address : List ℕ) (end : ServeEnd) (id : List ℕ) (policy : PolicyState) (log : Bool) (s : Stream) (is : Bool) (calls mid heard calls' : Option (List Call))
-    (told told' : Option (List LinkJob)) (faults faults' : ℕ) (l l' : LinksState) (o p : Outputs) → named ≡ xs → shown ≡ address → mid ≡ calls → host.Records (Listen shown is) mid heard → is ≡ true
-    → l ≡ first_links id policy log s → (gave : List Bool) × BreaksOff (dials named gave) (moment heard told faults o.err l) (moment calls' told' faults' p.err l')
+pub cut_serves_at : (named xs : List DialState) (shown address : List ℕ) (end : ServeEnd) (id : List ℕ) (is : Bool) (calls heard calls' : Option (List Call))
+    (told told' : Option (List ServeJob)) (faults faults' : ℕ) (l l' : LinksState) (o p : Outputs) → named ≡ xs → shown ≡ address → host.Records (Listen shown is) calls heard → is ≡ true
+    → (gave : List Bool) × BreaksOff (dials named gave) (moment heard told faults o.err l) (moment calls' told' faults' p.err l')
     → Appends (serving_text id) o.out p.out → (end ≡ e.Done → ⊥) → (end ≡ e.HostFault → ⊥)
-    → IsServed end id policy log address xs calls calls' told told' faults faults' o p
-cut_serves_at named xs shown address end id policy log s is calls mid heard calls' told told' faults faults' l l' o p names as_shown same recorded listens links broken said not_done not_host =
-    cut_serves end id policy log address xs s is calls mid heard calls' told told' faults faults' l l' o p same (named_listen shown address is mid heard as_shown recorded) listens links
+    → IsServedFrom end id address xs (moment calls told faults o.err l) calls' told' faults' o p
+cut_serves_at named xs shown address end id is calls heard calls' told told' faults faults' l l' o p names as_shown recorded listens broken said not_done not_host =
+    cut_serves end id address xs is calls heard calls' told told' faults faults' l l' o p (named_listen shown address is calls heard as_shown recorded) listens
     (subst (λ z. (gave : List Bool) × BreaksOff (dials z gave) (moment heard told faults o.err l) (moment calls' told' faults' p.err l')) names broken) said not_done not_host
 
-pub whole_serves_at : (named xs : List DialState) (shown address : List ℕ) (end : ServeEnd) (id : List ℕ) (policy : PolicyState) (log : Bool) (s : Stream) (is : Bool) (calls mid heard dialled calls' : Option (List Call))
-    (told told' told'' : Option (List LinkJob)) (faults faults' faults'' : ℕ) (held : Option (List ℕ)) (errs : ℕ) (l l' l'' : LinksState) (o p : Outputs) → named ≡ xs → shown ≡ address → mid ≡ calls
-    → host.Records (Listen shown is) mid heard → is ≡ true → l ≡ first_links id policy log s
+pub whole_serves_at : (named xs : List DialState) (shown address : List ℕ) (end : ServeEnd) (id : List ℕ) (is : Bool) (calls heard dialled calls' : Option (List Call))
+    (told told' told'' : Option (List ServeJob)) (faults faults' faults'' : ℕ) (held : Option (List ℕ)) (errs : ℕ) (l l' l'' : LinksState) (o p : Outputs) → named ≡ xs → shown ≡ address
+    → host.Records (Listen shown is) calls heard → is ≡ true
     → (gave : List Bool) × (length gave ≡ length named) × Serves (dials named gave) (moment heard told faults o.err l) (moment dialled told' faults' held l')
     → ((h : Option (List ℕ)) → Accepts end (moment dialled told' faults' h l') (moment calls' told'' faults'' h l''))
     → Appends (serving_text id) o.out p.out → o.faults ≤ errs → (end ≡ e.HostFault → Says accept_text held p.err errs p.faults) → ((end ≡ e.HostFault → ⊥) → p.err ≡ held)
-    → IsServed end id policy log address xs calls calls' told told'' faults faults'' o p
-whole_serves_at named xs shown address end id policy log s is calls mid heard dialled calls' told told' told'' faults faults' faults'' held errs l l' l'' o p names as_shown same recorded listens links gave accepted said later last quiet =
-    whole_serves end id policy log address xs s is calls mid heard dialled calls' told told' told'' faults faults' faults'' held errs l l' l'' o p same (named_listen shown address is mid heard as_shown recorded) listens links
+    → IsServedFrom end id address xs (moment calls told faults o.err l) calls' told'' faults'' o p
+whole_serves_at named xs shown address end id is calls heard dialled calls' told told' told'' faults faults' faults'' held errs l l' l'' o p names as_shown recorded listens gave accepted said later last quiet =
+    whole_serves end id address xs is calls heard dialled calls' told told' told'' faults faults' faults'' held errs l l' l'' o p (named_listen shown address is calls heard as_shown recorded) listens
     (subst (λ z. (gave : List Bool) × (length gave ≡ length z) × Serves (dials z gave) (moment heard told faults o.err l) (moment dialled told' faults' held l')) names gave) (accepted held) said later last quiet
 
 pub no_write_fault : (end : ServeEnd) (a b : Moment) → Accepts end a b → end ≡ e.WriteFault → ⊥
@@ -195,22 +249,9 @@ no_write_fault e.HostFault a b h it = cc it
 no_write_fault e.NoMemory a b h it = cc it
 
 -- memory ran out before anything was called
-pub not_begun : (id : List ℕ) (policy : PolicyState) (log : Bool) (address : List ℕ) (texts : List DialState) (calls : Option (List Call)) (told : Option (List LinkJob)) (faults : ℕ) (o : Outputs)
-    → IsServed e.NoMemory id policy log address texts calls calls told told faults faults o o
-not_begun id policy log address texts calls told faults o = record {
+pub not_begun : (id : List ℕ) (policy : PolicyState) (log admin : Bool) (Opened Refused : ℕ → Type 0) (address : List ℕ) (texts : List DialState) (calls : Option (List Call)) (told : Option (List ServeJob)) (faults : ℕ) (o : Outputs)
+    → IsServed e.NoMemory id policy log admin Opened Refused address texts calls calls told told faults faults o o
+not_begun id policy log admin Opened Refused address texts calls told faults o = record {
   words = no_stream;
-  held = o.err;
-  links = first_links id policy log no_stream;
-  comes = (
-    record {
-      made = [];
-      ends = inl refl;
-      breaks = whole_is_part [] a a (serves_none a);
-      said = prefix_none (serving_text id) o.out;
-    },
-    refl,
-  );
+  goes = inr (record { recorded = refl; started = refl; counted = le_refl _; unsaid = refl; tells = refl });
 }
-  where
-    a : Moment
-    a = moment calls told faults o.err (first_links id policy log no_stream)

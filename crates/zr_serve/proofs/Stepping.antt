@@ -7,7 +7,7 @@ use Rattle.zr_outside.specs.Told.{Appends, AppendsPrefix}
 use Rattle.zr_outside.specs.declared.host.Call.{Call}
 use Rattle.zr_link_writer.proofs.Carrying.{appends_none, appends_both, prefix_behind, prefix_whole}
 use Rattle.zr_link_job.specs.Starts.{marked, unmarked, Tells, Starts}
-use Rattle.zr_link_job.specs.declared.job.LinkJob.{LinkJob}
+use Rattle.zr_link_job.specs.declared.job.ServeJob.{ServeJob}
 use Rattle.zr_link_job.proofs.Starting.{tells_none}
 use Rattle.zr_serve.specs.Calls.{Made, Records, calls_of, link_of, new_links}
 use Rattle.zr_serve.specs.Jobs.{LinksState, NewLink, next_job, with_next, jobs_of, behind}
@@ -56,7 +56,7 @@ records_both xs ys (Some x) (Some y) (Some z) h k =
 
 -- ---- the jobs that are started
 
-pub marked_both : (ms ns : List Bool) (js ks : List LinkJob) → length ms ≡ length js → marked (ms ++ ns) (js ++ ks) ≡ marked ms js ++ marked ns ks
+pub marked_both : (ms ns : List Bool) (js ks : List ServeJob) → length ms ≡ length js → marked (ms ++ ns) (js ++ ks) ≡ marked ms js ++ marked ns ks
 marked_both [] ns [] ks e = refl
 marked_both [] ns (j ∷ js) ks e = absurd (by e)
   where
@@ -74,20 +74,20 @@ unmarked_both [] ns = omega arith
 unmarked_both (true ∷ ms) ns = unmarked_both ms ns
 unmarked_both (false ∷ ms) ns = omega (arith, unmarked_both ms ns)
 
-tells_both : (js ks : List LinkJob) (a b c : Option (List LinkJob)) → Tells js a b → Tells ks b c → Tells (js ++ ks) a c
+tells_both : (js ks : List ServeJob) (a b c : Option (List ServeJob)) → Tells js a b → Tells ks b c → Tells (js ++ ks) a c
 tells_both js ks None b c h k = rw h at k
 tells_both js ks (Some told) b c h k = rw h at k ∙ ap Some (append_assoc told js ks)
 
 back_both : (f g h u v : ℕ) → min (f + u) (2 ^ 64 - 1) ≤ g → min (g + v) (2 ^ 64 - 1) ≤ h → min (f + (u + v)) (2 ^ 64 - 1) ≤ h
 back_both f g h u v p q = omega arith
 
-pub starts_none : (t : Option (List LinkJob)) (f : ℕ) → Starts [] t t f f
+pub starts_none : (t : Option (List ServeJob)) (f : ℕ) → Starts [] t t f f
 starts_none t f = record { marks = []; each = refl; are_told = tells_none t; back = by f }
   where
     by : (f : ℕ) → min (f + 0) (2 ^ 64 - 1) ≤ f
     by f = omega arith
 
-pub starts_both : (js ks : List LinkJob) (a b c : Option (List LinkJob)) (f g h : ℕ) → Starts js a b f g → Starts ks b c g h → Starts (js ++ ks) a c f h
+pub starts_both : (js ks : List ServeJob) (a b c : Option (List ServeJob)) (f g h : ℕ) → Starts js a b f g → Starts ks b c g h → Starts (js ++ ks) a c f h
 starts_both js ks a b c f g h p q = record {
   marks = p.marks ++ q.marks;
   each = length-append p.marks q.marks ∙ (ap (λ n. n + length q.marks) p.each ∙ (ap (λ n. length js + n) q.each ∙ sym (length-append js ks)));

@@ -5,3 +5,4 @@ pub mod Moments
 pub mod Serving
 pub mod Unsaid
 pub mod Links
+pub mod Space

@@ -25,6 +25,10 @@ no_words_text = codes "no random words\n"
 abbrev pub accept_text : List ℕ
 accept_text = codes "accept failed\n"
 
+-- the administration space isn't open
+abbrev pub refused_text : List ℕ
+refused_text = codes "admin refused\n"
+
 -- what is told of a call while serving goes on: the dials that gave no link
 abbrev pub complaint : Call → List ℕ
 complaint (Listen address is_listening) = []

@@ -1,7 +1,7 @@
 -- What is told of serving at a moment, and what calls of the host make of it.
-use Rattle.std.specs.Prelude.{◌≡◌, ℕ, ◌≤◌, List, ◌++◌, length, Option}
+use Rattle.std.specs.Prelude.{◌≡◌, ℕ, List, Option}
 use Rattle.zr_link_job.specs.Starts.{Starts}
-use Rattle.zr_link_job.specs.declared.job.LinkJob.{LinkJob}
+use Rattle.zr_link_job.specs.declared.job.ServeJob.{ServeJob}
 use Rattle.zr_outside.specs.Told.{Appends, AppendsPrefix}
 use Rattle.zr_outside.specs.declared.host.Call.{Call}
 use Rattle.zr_serve.specs.Jobs.{LinksState, jobs_of, behind}
@@ -11,12 +11,12 @@ use Rattle.zr_serve.specs.Lines.{complaints}
 -- the calls of the host, the jobs that the crew started and how many starts failed, what the error output holds, and what the next links begin with
 pub record Moment : Type 0 where
   pub calls : Option (List Call)
-  pub told : Option (List LinkJob)
+  pub told : Option (List ServeJob)
   pub faults : ℕ
   pub held : Option (List ℕ)
   pub links : LinksState
 
-abbrev pub moment : Option (List Call) → Option (List LinkJob) → ℕ → Option (List ℕ) → LinksState → Moment
+abbrev pub moment : Option (List Call) → Option (List ServeJob) → ℕ → Option (List ℕ) → LinksState → Moment
 moment calls told faults held links = record { calls = calls; told = told; faults = faults; held = held; links = links }
 
 -- These calls were made: the job of each link that they gave was started, or that was counted as a start that failed, and what is to be told of them was

@@ -1,20 +1,21 @@
 -- How serving goes, end by end.
-use Rattle.std.specs.Prelude.{◌≡◌, ℕ, ◌⊎◌, Bool, true, false, List, [], ◌∷◌, ◌++◌, All, length, take, Option}
+use Rattle.std.specs.Prelude.{◌≡◌, ℕ, ◌⊎◌, ◌≤◌, Bool, true, false, List, [], ◌∷◌, ◌++◌, All, length, take, Option}
 use Rattle.rand_core.specs.Stream.{Stream}
 use Rattle.zr_access.specs.Rules.{PolicyState}
 use Rattle.zr_outside.specs.Counts.{Rose}
 use Rattle.zr_outside.specs.Told.{Appends, AppendsPrefix}
 use Rattle.zr_outside.specs.declared.host.Answer.{Answer}
-use Rattle.zr_outside.specs.declared.host.Answer.TheVariants.{Link, End, Failed}
+use Rattle.zr_outside.specs.declared.host.Answer.TheVariants.{End, Failed}
 use Rattle.zr_outside.specs.declared.host.Call.{Call}
 use Rattle.zr_serve.specs.declared.end.ServeEnd.{ServeEnd}
 use Rattle.zr_serve.specs.declared.end.ServeEnd.TheVariants.{Done, NoMemory, WriteFault, HostFault}
 use Rattle.zr_serve.specs.Calls.{Made, listen_call, dials, accepts, IsGoing}
 use Rattle.zr_dial.specs.Dial.{DialState}
-use Rattle.zr_link_job.specs.declared.job.LinkJob.{LinkJob}
+use Rattle.zr_link_job.specs.declared.job.ServeJob.{ServeJob}
 use Rattle.zr_serve.specs.Jobs.{LinksState, first_links}
-use Rattle.zr_serve.specs.Lines.{serving_text, no_words_text, accept_text, listen_text}
+use Rattle.zr_serve.specs.Lines.{serving_text, no_words_text, accept_text, listen_text, refused_text}
 use Rattle.zr_serve.specs.Moments.{Moment, moment, Serves, BreaksOff}
+use Rattle.zr_serve.specs.Space.{Space, Begins}
 
 -- a line was written, or a prefix of it and a write failed
 abbrev pub Says : List ℕ → Option (List ℕ) → Option (List ℕ) → ℕ → ℕ → Type 0
@@ -40,10 +41,6 @@ pub record EndsWithin (address : List ℕ) (ds : List DialState) (made : List Ma
   pub order : (answers ≡ []) ⊎ (length gave ≡ length ds)
   pub calls_are : made ≡ listening address ds gave answers
 
--- the same, or before anything was called
-abbrev pub EndsSooner : List ℕ → List DialState → List Made → Type 0
-EndsSooner address ds made = (made ≡ []) ⊎ EndsWithin address ds made
-
 -- accepting goes on
 pub record Goes (a b : Moment) : Type 0 where
   pub answers : List Answer
@@ -64,12 +61,11 @@ Accepts HostFault a b = (answers : List Answer) × All IsGoing answers × Serves
 Accepts NoMemory a b = (answers : List Answer) × All IsGoing answers × Serves (accepts answers) a b
 Accepts WriteFault a b = ⊥
 
--- The host has no random words, can't listen, or can't accept any more: which calls were made, what was said before, and the line that tells why
+-- The host can't listen, or can't accept any more: which calls were made, what was said before, and the line that tells why
 abbrev pub Fails : List ℕ → List ℕ → List DialState → List Made → List ℕ → List ℕ → Type 0
 Fails id address ds made said line =
-    ((made ≡ []) × (said ≡ []) × (line ≡ no_words_text))
-    ⊎ (((made ≡ listen_call address false ∷ []) × (said ≡ []) × (line ≡ listen_text address))
-    ⊎ (Ends Failed address ds made × (said ≡ serving_text id) × (line ≡ accept_text)))
+    ((made ≡ listen_call address false ∷ []) × (said ≡ []) × (line ≡ listen_text address))
+    ⊎ (Ends Failed address ds made × (said ≡ serving_text id) × (line ≡ accept_text))
 
 -- What the two outputs hold, and how often a write to the error output failed
 pub record Outputs : Type 0 where
@@ -100,7 +96,7 @@ pub record FailsAt (id address : List ℕ) (ds : List DialState) (a b : Moment) 
 -- A write failed, or memory ran out
 pub record CutsOff (id address : List ℕ) (ds : List DialState) (a b : Moment) (o p : Outputs) : Type 0 where
   pub made : List Made
-  pub ends : EndsSooner address ds made
+  pub ends : EndsWithin address ds made
   pub breaks : BreaksOff made a b
   pub said : AppendsPrefix (serving_text id) o.out p.out
 
@@ -110,14 +106,44 @@ Comes HostFault id address ds a b o p = FailsAt id address ds a b o p
 Comes NoMemory id address ds a b o p = CutsOff id address ds a b o p × (b.held ≡ p.err)
 Comes WriteFault id address ds a b o p = CutsOff id address ds a b o p × (b.held ≡ p.err)
 
--- A router of this identifier was served at this address under these rules, its links with logs or without, and these were to be dialled: from the old calls
--- of the host, jobs told and failed starts of the crew to the new ones, for some random words of the host
-pub record IsServed (end : ServeEnd) (id : List ℕ) (policy : PolicyState) (log : Bool) (address : List ℕ) (ds : List DialState) (calls calls' : Option (List Call))
-    (told told' : Option (List LinkJob)) (faults faults' : ℕ) (o p : Outputs) : Type 0 where
-  pub words : Stream
+-- The router was served from this moment on: to these calls of the host, these jobs told and failed starts of the crew
+pub record IsServedFrom (end : ServeEnd) (id address : List ℕ) (ds : List DialState) (a : Moment) (calls : Option (List Call)) (told : Option (List ServeJob)) (faults : ℕ) (o p : Outputs) : Type 0 where
   pub held : Option (List ℕ)
   pub links : LinksState
-  pub comes : Comes end id address ds (moment calls told faults o.err (first_links id policy log words)) (moment calls' told' faults' held links) o p
+  pub comes : Comes end id address ds a (moment calls told faults held links) o p
+
+-- what is told where it ended before it came to listen: the host has no random words, memory ran out, or the line that the administration space isn't open
+-- could not be written
+abbrev pub TellsBefore : ServeEnd → Bool → Outputs → Outputs → Type 0
+TellsBefore Done admin o p = ⊥
+TellsBefore HostFault admin o p = Says no_words_text o.err p.err o.faults p.faults
+TellsBefore NoMemory admin o p = p.err ≡ o.err
+TellsBefore WriteFault admin o p = (admin ≡ true) × AppendsPrefix refused_text o.err p.err
+
+-- It ended before it came to listen: nothing was called, nothing was started, and nothing is served
+pub record EndsBefore (end : ServeEnd) (admin : Bool) (calls calls' : Option (List Call)) (told told' : Option (List ServeJob)) (faults faults' : ℕ) (o p : Outputs) : Type 0 where
+  pub recorded : calls' ≡ calls
+  pub started : told' ≡ told
+  pub counted : faults ≤ faults'
+  pub unsaid : p.out ≡ o.out
+  pub tells : TellsBefore end admin o p
+
+-- First something became of the administration space, and then the router was served
+pub record Passes (end : ServeEnd) (admin : Bool) (Opened Refused : ℕ → Type 0) (id address : List ℕ) (ds : List DialState) (a : Moment) (calls : Option (List Call))
+    (told : Option (List ServeJob)) (faults : ℕ) (o p : Outputs) : Type 0 where
+  pub space : Space
+  pub between : Moment
+  pub begins : Begins admin Opened Refused space a between
+  pub served : IsServedFrom end id address ds between calls told faults o p
+
+-- A router of this identifier was served at this address under these rules, its links with logs or without, with an administration space or without, and these
+-- were to be dialled: from the old calls of the host, jobs told and failed starts of the crew to the new ones, for some random words of the host. `Opened` and
+-- `Refused` say of a random word that the inner client with it was opened, or that the router refused it
+pub record IsServed (end : ServeEnd) (id : List ℕ) (policy : PolicyState) (log admin : Bool) (Opened Refused : ℕ → Type 0) (address : List ℕ) (ds : List DialState)
+    (calls calls' : Option (List Call)) (told told' : Option (List ServeJob)) (faults faults' : ℕ) (o p : Outputs) : Type 0 where
+  pub words : Stream
+  pub goes : Passes end admin Opened Refused id address ds (moment calls told faults o.err (first_links id policy log words)) calls' told' faults' o p
+      ⊎ EndsBefore end admin calls calls' told told' faults faults' o p
 
 -- so many of the addresses were dialled
 pub record Dials (ds : List DialState) (count : ℕ) (a b : Moment) : Type 0 where

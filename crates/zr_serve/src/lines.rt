@@ -1,10 +1,10 @@
 //! The lines that serving writes.
 
-ghost use Rattle.std.specs.Prelude.{◌≡◌, ◌≤◌, Err, IfOk, OnErr, OnOk};
+ghost use Rattle.std.specs.Prelude.{◌≡◌, ◌≤◌, Err, IfErr, IfOk, OnErr, OnOk};
 ghost use Rattle.std.specs.String.{string_bytes};
-ghost use Rattle.zr_outside.specs.Counts.{Rose};
+ghost use Rattle.zr_outside.specs.Counts.{Rose, RoseOnlyBy};
 ghost use Rattle.zr_outside.specs.Told.{Appends, AppendsPrefix};
-ghost use Rattle.zr_serve.specs.Lines.{dial_text, failed_text, listen_text, serving_text};
+ghost use Rattle.zr_serve.specs.Lines.{dial_text, failed_text, listen_text, refused_text, serving_text};
 ghost use Rattle.zr_serve.specs.Serving.{Says};
 ghost use Rattle.zr_serve.specs.Unsaid.{end_of_unsaid};
 ghost use Rattle.zr_serve.specs.declared.lines.Unsaid.TheVariants.{Fault};
@@ -38,6 +38,7 @@ pub(crate) fn say_serving<K: Sink>(alloc: Global, id: &Zid, out: &mut K) -> Resu
     ensures said { OnOk result (Appends (serving_text id.now) (K.held out.old) (K.held out.new)) }
     ensures part { OnErr result (AppendsPrefix (serving_text id.now) (K.held out.old) (K.held out.new)) }
     ensures fault { result ≡ Err Fault → Rose (K.faults out.old) (K.faults out.new) }
+    ensures only { RoseOnlyBy Fault result (K.faults out.old) (K.faults out.new) }
     ensures later { K.faults out.old ≤ K.faults out.new }
 {
     match serving_line(alloc, id) {
@@ -56,6 +57,7 @@ pub(crate) fn say_not_dialled<K: Sink>(
     ensures said { OnOk result (Appends (dial_text address.now) (K.held out.old) (K.held out.new)) }
     ensures part { OnErr result (AppendsPrefix (dial_text address.now) (K.held out.old) (K.held out.new)) }
     ensures fault { result ≡ Err Fault → Rose (K.faults out.old) (K.faults out.new) }
+    ensures only { RoseOnlyBy Fault result (K.faults out.old) (K.faults out.new) }
     ensures later { K.faults out.old ≤ K.faults out.new }
 {
     match dial_line(alloc, address) {
@@ -97,10 +99,25 @@ pub(crate) fn say_last<K: Sink>(line: &str, out: &mut K)
     let _ = write_all(out, line.as_bytes());
 }
 
+/// The line that the administration space isn't open. It is one write.
+pub(crate) fn say_refused<K: Sink>(out: &mut K) -> Result<(), ServeEnd>
+    ensures said { OnOk result (Appends refused_text (K.held out.old) (K.held out.new)) }
+    ensures part { OnErr result (AppendsPrefix refused_text (K.held out.old) (K.held out.new)) }
+    ensures cause { IfErr result (λ e. (e ≡ ServeEnd.WriteFault) × Rose (K.faults out.old) (K.faults out.new)) }
+    ensures only { RoseOnlyBy ServeEnd.WriteFault result (K.faults out.old) (K.faults out.new) }
+    ensures later { K.faults out.old ≤ K.faults out.new }
+{
+    match write_all(out, b"admin refused\n") {
+        Ok(()) => Ok(()),
+        Err(_) => Err(ServeEnd::WriteFault),
+    }
+}
+
 fn say<K: Sink>(line: &[u8], out: &mut K) -> Result<(), Unsaid>
     ensures said { OnOk result (Appends line.now (K.held out.old) (K.held out.new)) }
     ensures part { OnErr result (AppendsPrefix line.now (K.held out.old) (K.held out.new)) }
     ensures fault { OnErr result (Rose (K.faults out.old) (K.faults out.new)) }
+    ensures only { RoseOnlyBy Fault result (K.faults out.old) (K.faults out.new) }
     ensures later { K.faults out.old ≤ K.faults out.new }
 {
     match write_all(out, line) {

@@ -2,7 +2,7 @@
 
 ghost use Rattle.std.specs.Prelude.{◌≡◌, ◌≤◌, ◌+◌, ◌%◌, ◌^◌, ◌++◌, drop, length, take};
 ghost use Rattle.zr_access.specs.Rules.{PolicyState};
-ghost use Rattle.zr_serve.specs.Jobs.{first_links, next_start, with_next};
+ghost use Rattle.zr_serve.specs.Jobs.{drawn, first_links, next_start, with_next, word};
 ghost use Rattle.zr_serve.specs.Links.{links_of};
 
 use rand_core::Rng;
@@ -39,6 +39,14 @@ impl<W: Rng + Drop> Links<W> {
             words,
             count: 0,
         }
+    }
+
+    /// The next random word, for another use than a link's.
+    pub(crate) fn draw(&mut self) -> u64
+        ensures word { (rules : PolicyState) → result ≡ word (links_of (λ w. W.stream w) rules self.old).words }
+        ensures next { (rules : PolicyState) → links_of (λ w. W.stream w) rules self.new ≡ drawn (links_of (λ w. W.stream w) rules self.old) }
+    {
+        self.words.next_u64()
     }
 
     /// How the next link begins, which weighs so much if the peer is a router.

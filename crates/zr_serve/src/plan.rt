@@ -10,4 +10,6 @@ pub struct ServePlan {
     pub listen: String,
     pub dials: Vec<Dial>,
     pub log: bool,
+    /// Whether its administration space is open.
+    pub admin: bool,
 }

@@ -10,7 +10,7 @@ use std::thread::Threads;
 use zr_access::Policy;
 use zr_dial::{Dial, read_dial};
 use zr_id::zid::Zid;
-use zr_link_job::{LinkJob, Side};
+use zr_link_job::{LinkJob, ServeJob, Side};
 use zr_outside::host::Host;
 use zr_outside_crew::Crew;
 use zr_outside_mem::mem_host::MemHost;
@@ -131,7 +131,20 @@ fn plan(alloc: Global, dials: &[&str], log: bool) -> Result<ServePlan, AllocErro
         listen,
         dials,
         log,
+        admin: false,
     })
+}
+
+// Whether a job has that letter, and that weight under rules that allow everything.
+fn is_job(job: &ServeJob, letter_of_job: u8, weight: u16) -> bool {
+    match job {
+        ServeJob::Link { job } => {
+            letter(job) == letter_of_job
+                && job.start.weight.get() == weight
+                && job.policy.get().is_open()
+        }
+        ServeJob::Inner => letter_of_job == b'i',
+    }
 }
 
 fn letter(job: &LinkJob) -> u8 {
@@ -144,16 +157,13 @@ fn letter(job: &LinkJob) -> u8 {
 }
 
 // Whether these are the jobs of a text, which has two bytes for each.
-fn are_jobs(jobs: &[LinkJob], text: &[u8]) -> bool {
+fn are_jobs(jobs: &[ServeJob], text: &[u8]) -> bool {
     let mut rest = text;
     for job in jobs {
         let [letter_of_job, weight, behind @ ..] = rest else {
             return false;
         };
-        if letter(job) != *letter_of_job
-            || job.start.weight.get() != u16::from(weight.saturating_sub(b'0'))
-            || !job.policy.get().is_open()
-        {
+        if !is_job(job, *letter_of_job, u16::from(weight.saturating_sub(b'0'))) {
             return false;
         }
         rest = behind;
@@ -169,7 +179,7 @@ fn ended<H: Host, R: Threads + Wait + Copy + Send + Sync + Drop + 'static>(
     out: &mut MemSink,
     err: &mut MemSink,
     host: &mut H,
-    crew: &mut Crew<R, LinkJob>,
+    crew: &mut Crew<R, ServeJob>,
 ) -> ServeEnd
 where
     H::In: 'static,
@@ -187,7 +197,7 @@ fn serves<R: Threads + Wait + Copy + Send + Sync + Drop + 'static>(
     plan: &ServePlan,
     err: &mut MemSink,
     host: &mut TestHost,
-    crew: &mut Crew<R, LinkJob>,
+    crew: &mut Crew<R, ServeJob>,
     row: &Row,
 ) -> bool {
     let (_, _, _, _, _, end, out_text, err_text, jobs) = *row;
@@ -260,7 +270,7 @@ fn serve_links<R: Threads + Wait + Copy + Send + Sync + Drop + 'static>(
     alloc: Global,
     plan: &ServePlan,
     host: &mut SharedHost<R>,
-    crew: &mut Crew<R, LinkJob>,
+    crew: &mut Crew<R, ServeJob>,
 ) {
     let mut out = sink(alloc);
     let mut err = sink(alloc);

@@ -186,29 +186,33 @@ abbrev dialled : List Text → List Row
 dialled [] = []
 dialled (v ∷ vs) = given (codes "dial") (v ∷ vs) ∷ []
 
--- what was found of `--rules`, where it stands, before other rows
-abbrev ruled : Bool → List Row → List Row
-ruled true rows = given (codes "rules") (codes "true" ∷ []) ∷ rows
-ruled false rows = rows
+-- what was found of `--rules` and `--admin`, where they stand, before other rows
+abbrev ruled : Bool → Bool → List Row → List Row
+ruled true true rows = given (codes "rules") (codes "true" ∷ []) ∷ given (codes "admin") (codes "true" ∷ []) ∷ rows
+ruled true false rows = given (codes "rules") (codes "true" ∷ []) ∷ rows
+ruled false true rows = given (codes "admin") (codes "true" ∷ []) ∷ rows
+ruled false false rows = rows
 
 module _ (id listen : Text) (pid : is_plain id ≡ true) (plisten : is_plain listen ≡ true) where
   abbrev id_found : List Row
   id_found = given (codes "id") (id ∷ []) ∷ []
 
-  abbrev all_found : Bool → List Text → List Row
-  all_found rules vs = given (codes "id") (id ∷ []) ∷ given (codes "listen") (listen ∷ []) ∷ ruled rules (dialled vs)
+  abbrev all_found : Bool → Bool → List Text → List Row
+  all_found rules admin vs = given (codes "id") (id ∷ []) ∷ given (codes "listen") (listen ∷ []) ∷ ruled rules admin (dialled vs)
 
-  -- the walk behind the address, and behind `--rules`
-  abbrev behind_options : Bool → Held
-  behind_options true = record { rows = all_found true []; pending = None; skip = 0 }
-  behind_options false = holding id_found (codes "listen") (listen ∷ [])
+  -- the walk behind the address, and behind `--rules` and `--admin`
+  abbrev behind_options : Bool → Bool → Held
+  behind_options true true = record { rows = all_found true true []; pending = None; skip = 0 }
+  behind_options true false = record { rows = all_found true false []; pending = None; skip = 0 }
+  behind_options false true = record { rows = all_found false true []; pending = None; skip = 0 }
+  behind_options false false = holding id_found (codes "listen") (listen ∷ [])
 
-  abbrev listening : Bool → Walk
-  listening rules = between (behind_options rules) idle
+  abbrev listening : Bool → Bool → Walk
+  listening rules admin = between (behind_options rules admin) idle
 
   -- the walk behind some addresses to dial, of which the last is not noted yet
-  abbrev dialling : Bool → List Text → Text → Walk
-  dialling rules vs last = between (holding (all_found rules vs) (codes "dial") (last ∷ [])) positional
+  abbrev dialling : Bool → Bool → List Text → Text → Walk
+  dialling rules admin vs last = between (holding (all_found rules admin vs) (codes "dial") (last ∷ [])) positional
 
   id_named : walked serve_built.rules [] (between nothing_held idle) (codes "--id") ≡ between (holding [] (codes "id") []) (option (codes "id"))
   unfolding clap_on_literals
@@ -227,131 +231,185 @@ module _ (id listen : Text) (pid : is_plain id ≡ true) (plisten : is_plain lis
   unfolding clap_on_literals
   listen_fine = refl
 
-  rules_named : walked serve_built.rules [] (listening false) (codes "--rules") ≡ listening true
+  rules_named : walked serve_built.rules [] (listening false false) (codes "--rules") ≡ listening true false
   unfolding clap_on_literals
   rules_named = refl
 
-  rules_fine : turn_fault serve_built [] (listening false) (codes "--rules") ≡ []
+  rules_fine : turn_fault serve_built [] (listening false false) (codes "--rules") ≡ []
   unfolding clap_on_literals
   rules_fine = refl
 
-  listens : (rest : List Text) (end : Walk) → Goes serve_built (listening false) rest end
+  admin_named : (rules : Bool) → walked serve_built.rules [] (listening rules false) (codes "--admin") ≡ listening rules true
+  unfolding clap_on_literals
+  admin_named true = refl
+  admin_named false = refl
+
+  admin_fine : (rules : Bool) → turn_fault serve_built [] (listening rules false) (codes "--admin") ≡ []
+  unfolding clap_on_literals
+  admin_fine true = refl
+  admin_fine false = refl
+
+  listens : (rest : List Text) (end : Walk) → Goes serve_built (listening false false) rest end
       → Goes serve_built (walk_from nothing_held) (codes "--id" ∷ id ∷ codes "--listen" ∷ listen ∷ rest) end
   listens rest end go =
       valued serve_built _ [] _ (codes "id") id _ end id_named id_fine (value_walked serve_built (holding [] (codes "id") []) (codes "id") id pid) pid
       (valued serve_built _ id_found _ (codes "listen") listen _ end listen_named listen_fine
       (value_walked serve_built (holding id_found (codes "listen") []) (codes "listen") listen plisten) plisten go)
 
-  starts : (rules : Bool) (rest : List Text) (end : Walk) → Goes serve_built (listening rules) rest end
-      → Goes serve_built (walk_from nothing_held) (codes "--id" ∷ id ∷ codes "--listen" ∷ listen ∷ (flag_words (codes "--rules") rules ++ rest)) end
-  starts true rest end go =
-      listens (codes "--rules" ∷ rest) end (goes_on serve_built (listening false) (listening true) (codes "--rules") rest end rules_named rules_fine go)
-  starts false rest end go = listens rest end go
+  -- the walk goes on behind `--admin`, where it stands
+  admits : (rules admin : Bool) (rest : List Text) (end : Walk) → Goes serve_built (listening rules admin) rest end
+      → Goes serve_built (listening rules false) (flag_words (codes "--admin") admin ++ rest) end
+  admits rules true rest end go =
+      goes_on serve_built (listening rules false) (listening rules true) (codes "--admin") rest end (admin_named rules) (admin_fine rules) go
+  admits rules false rest end go = go
+
+  starts : (rules admin : Bool) (rest : List Text) (end : Walk) → Goes serve_built (listening rules admin) rest end
+      → Goes serve_built (walk_from nothing_held) (codes "--id" ∷ id ∷ codes "--listen" ∷ listen ∷ (flag_words (codes "--rules") rules ++ (flag_words (codes "--admin") admin ++ rest))) end
+  starts true admin rest end go =
+      let more = flag_words (codes "--admin") admin ++ rest in
+      listens (codes "--rules" ∷ more) end
+      (goes_on serve_built (listening false false) (listening true false) (codes "--rules") more end rules_named rules_fine (admits true admin rest end go))
+  starts false admin rest end go = listens (flag_words (codes "--admin") admin ++ rest) end (admits false admin rest end go)
 
   -- one address more
-  notes : (rules : Bool) (vs : List Text) (last word : Text) → is_plain word ≡ true
-      → walked serve_built.rules [] (dialling rules vs last) word ≡ dialling rules (vs ++ last ∷ []) word
-  notes true [] last word p = more_walked serve_built (holding (all_found true []) (codes "dial") (last ∷ [])) word p
-  notes true (v ∷ vs) last word p = more_walked serve_built (holding (all_found true (v ∷ vs)) (codes "dial") (last ∷ [])) word p
-  notes false [] last word p = more_walked serve_built (holding (all_found false []) (codes "dial") (last ∷ [])) word p
-  notes false (v ∷ vs) last word p = more_walked serve_built (holding (all_found false (v ∷ vs)) (codes "dial") (last ∷ [])) word p
+  notes : (rules admin : Bool) (vs : List Text) (last word : Text) → is_plain word ≡ true
+      → walked serve_built.rules [] (dialling rules admin vs last) word ≡ dialling rules admin (vs ++ last ∷ []) word
+  notes true true [] last word p = more_walked serve_built (holding (all_found true true []) (codes "dial") (last ∷ [])) word p
+  notes true true (v ∷ vs) last word p = more_walked serve_built (holding (all_found true true (v ∷ vs)) (codes "dial") (last ∷ [])) word p
+  notes true false [] last word p = more_walked serve_built (holding (all_found true false []) (codes "dial") (last ∷ [])) word p
+  notes true false (v ∷ vs) last word p = more_walked serve_built (holding (all_found true false (v ∷ vs)) (codes "dial") (last ∷ [])) word p
+  notes false true [] last word p = more_walked serve_built (holding (all_found false true []) (codes "dial") (last ∷ [])) word p
+  notes false true (v ∷ vs) last word p = more_walked serve_built (holding (all_found false true (v ∷ vs)) (codes "dial") (last ∷ [])) word p
+  notes false false [] last word p = more_walked serve_built (holding (all_found false false []) (codes "dial") (last ∷ [])) word p
+  notes false false (v ∷ vs) last word p = more_walked serve_built (holding (all_found false false (v ∷ vs)) (codes "dial") (last ∷ [])) word p
 
-  notes_fine : (rules : Bool) (vs : List Text) (last word : Text) → is_plain word ≡ true → turn_fault serve_built [] (dialling rules vs last) word ≡ []
-  notes_fine true [] last word p = more_fault serve_built (holding (all_found true []) (codes "dial") (last ∷ [])) word p
-  notes_fine true (v ∷ vs) last word p = more_fault serve_built (holding (all_found true (v ∷ vs)) (codes "dial") (last ∷ [])) word p
-  notes_fine false [] last word p = more_fault serve_built (holding (all_found false []) (codes "dial") (last ∷ [])) word p
-  notes_fine false (v ∷ vs) last word p = more_fault serve_built (holding (all_found false (v ∷ vs)) (codes "dial") (last ∷ [])) word p
+  notes_fine : (rules admin : Bool) (vs : List Text) (last word : Text) → is_plain word ≡ true → turn_fault serve_built [] (dialling rules admin vs last) word ≡ []
+  notes_fine true true [] last word p = more_fault serve_built (holding (all_found true true []) (codes "dial") (last ∷ [])) word p
+  notes_fine true true (v ∷ vs) last word p = more_fault serve_built (holding (all_found true true (v ∷ vs)) (codes "dial") (last ∷ [])) word p
+  notes_fine true false [] last word p = more_fault serve_built (holding (all_found true false []) (codes "dial") (last ∷ [])) word p
+  notes_fine true false (v ∷ vs) last word p = more_fault serve_built (holding (all_found true false (v ∷ vs)) (codes "dial") (last ∷ [])) word p
+  notes_fine false true [] last word p = more_fault serve_built (holding (all_found false true []) (codes "dial") (last ∷ [])) word p
+  notes_fine false true (v ∷ vs) last word p = more_fault serve_built (holding (all_found false true (v ∷ vs)) (codes "dial") (last ∷ [])) word p
+  notes_fine false false [] last word p = more_fault serve_built (holding (all_found false false []) (codes "dial") (last ∷ [])) word p
+  notes_fine false false (v ∷ vs) last word p = more_fault serve_built (holding (all_found false false (v ∷ vs)) (codes "dial") (last ∷ [])) word p
 
   -- all addresses: of those noted and the last one, and those behind them, the last is not noted in the end
-  record Dials (rules : Bool) (vs : List Text) (last : Text) (rest : List Text) : Type 0 where
+  record Dials (rules admin : Bool) (vs : List Text) (last : Text) (rest : List Text) : Type 0 where
     noted : List Text
     final : Text
     all : noted ++ final ∷ [] ≡ vs ++ last ∷ rest
-    goes : Goes serve_built (dialling rules vs last) rest (dialling rules noted final)
+    goes : Goes serve_built (dialling rules admin vs last) rest (dialling rules admin noted final)
 
-  dials : (rules : Bool) (vs : List Text) (last : Text) (rest : List Text) → list_all is_plain rest ≡ true → Dials rules vs last rest
-  dials rules vs last [] p = record { noted = vs; final = last; all = refl; goes = stays serve_built (dialling rules vs last) }
-  dials rules vs last (word ∷ rest) p =
+  dials : (rules admin : Bool) (vs : List Text) (last : Text) (rest : List Text) → list_all is_plain rest ≡ true → Dials rules admin vs last rest
+  dials rules admin vs last [] p = record { noted = vs; final = last; all = refl; goes = stays serve_built (dialling rules admin vs last) }
+  dials rules admin vs last (word ∷ rest) p =
       let h = both_hold (is_plain word) (list_all is_plain rest) p in
-      let more = dials rules (vs ++ last ∷ []) word rest h.1 in
+      let more = dials rules admin (vs ++ last ∷ []) word rest h.1 in
       record {
         noted = more.noted;
         final = more.final;
         all = more.all ∙ append_assoc vs (last ∷ []) (word ∷ rest);
-        goes = goes_on serve_built (dialling rules vs last) (dialling rules (vs ++ last ∷ []) word) word rest (dialling rules more.noted more.final)
-            (notes rules vs last word h.0) (notes_fine rules vs last word h.0) more.goes;
+        goes = goes_on serve_built (dialling rules admin vs last) (dialling rules admin (vs ++ last ∷ []) word) word rest (dialling rules admin more.noted more.final)
+            (notes rules admin vs last word h.0) (notes_fine rules admin vs last word h.0) more.goes;
       }
 
-  first_dial : (rules : Bool) (word : Text) → is_plain word ≡ true → walked serve_built.rules [] (listening rules) word ≡ dialling rules [] word
-  first_dial true word p = idle_walked serve_built (behind_options true) word p
-  first_dial false word p = idle_walked serve_built (behind_options false) word p
+  first_dial : (rules admin : Bool) (word : Text) → is_plain word ≡ true → walked serve_built.rules [] (listening rules admin) word ≡ dialling rules admin [] word
+  first_dial true true word p = idle_walked serve_built (behind_options true true) word p
+  first_dial true false word p = idle_walked serve_built (behind_options true false) word p
+  first_dial false true word p = idle_walked serve_built (behind_options false true) word p
+  first_dial false false word p = idle_walked serve_built (behind_options false false) word p
 
-  first_fine : (rules : Bool) (word : Text) → is_plain word ≡ true → turn_fault serve_built [] (listening rules) word ≡ []
-  first_fine true word p = idle_fault serve_built (behind_options true) word p
-  first_fine false word p = idle_fault serve_built (behind_options false) word p
+  first_fine : (rules admin : Bool) (word : Text) → is_plain word ≡ true → turn_fault serve_built [] (listening rules admin) word ≡ []
+  first_fine true true word p = idle_fault serve_built (behind_options true true) word p
+  first_fine true false word p = idle_fault serve_built (behind_options true false) word p
+  first_fine false true word p = idle_fault serve_built (behind_options false true) word p
+  first_fine false false word p = idle_fault serve_built (behind_options false false) word p
 
   -- where the walk ends: behind the options, or behind the addresses to dial
-  listening_fine : (rules : Bool) → fault_behind serve_built (listening rules) ≡ []
+  listening_fine : (rules admin : Bool) → fault_behind serve_built (listening rules admin) ≡ []
   unfolding clap_on_literals
-  listening_fine true = refl
-  listening_fine false = refl
+  listening_fine true true = refl
+  listening_fine true false = refl
+  listening_fine false true = refl
+  listening_fine false false = refl
 
-  dialling_fine : (rules : Bool) (vs : List Text) (last : Text) → fault_behind serve_built (dialling rules vs last) ≡ []
+  dialling_fine : (rules admin : Bool) (vs : List Text) (last : Text) → fault_behind serve_built (dialling rules admin vs last) ≡ []
   unfolding clap_on_literals
-  dialling_fine true [] last = refl
-  dialling_fine true (v ∷ vs) last = refl
-  dialling_fine false [] last = refl
-  dialling_fine false (v ∷ vs) last = refl
+  dialling_fine true true [] last = refl
+  dialling_fine true true (v ∷ vs) last = refl
+  dialling_fine true false [] last = refl
+  dialling_fine true false (v ∷ vs) last = refl
+  dialling_fine false true [] last = refl
+  dialling_fine false true (v ∷ vs) last = refl
+  dialling_fine false false [] last = refl
+  dialling_fine false false (v ∷ vs) last = refl
+
+  -- what the words ask for with these dials
+  abbrev asked_with : Bool → Bool → Text → List DialState → Served
+  asked_with rules admin zid ds = record { id = zid; listen = listen; log = false; rules = rules; explain = false; admin = admin; dials = ds }
 
   -- what is asked for at those ends
-  asks_none : (rules : Bool) (zid : Text) → zid_of_hex id ≡ Some zid
-      → asked_by (serve_built.name, finished serve_built.rules (listening rules).held)
-      ≡ Some (asks_serve (record { id = zid; listen = listen; log = false; rules = rules; explain = false; dials = [] }))
-  asks_none true zid is = ap (λ (z : Option Text). option_map asks_serve (option_and_then (served_as_named (finished serve_built.rules (listening true).held) listen) z)) is
-  asks_none false zid is = ap (λ (z : Option Text). option_map asks_serve (option_and_then (served_as_named (finished serve_built.rules (listening false).held) listen) z)) is
+  asks_none : (rules admin : Bool) (zid : Text) → zid_of_hex id ≡ Some zid
+      → asked_by (serve_built.name, finished serve_built.rules (listening rules admin).held) ≡ Some (asks_serve (asked_with rules admin zid []))
+  asks_none true true zid is = ap (λ (z : Option Text). option_map asks_serve (option_and_then (served_as_named (finished serve_built.rules (listening true true).held) listen) z)) is
+  asks_none true false zid is = ap (λ (z : Option Text). option_map asks_serve (option_and_then (served_as_named (finished serve_built.rules (listening true false).held) listen) z)) is
+  asks_none false true zid is = ap (λ (z : Option Text). option_map asks_serve (option_and_then (served_as_named (finished serve_built.rules (listening false true).held) listen) z)) is
+  asks_none false false zid is = ap (λ (z : Option Text). option_map asks_serve (option_and_then (served_as_named (finished serve_built.rules (listening false false).held) listen) z)) is
 
   -- with some words to dial: those that were found come to these dials
-  asks_found : (rows : List Row) (rules : Bool) (zid : Text) (ds : List DialState) → zid_of_hex id ≡ Some zid
-      → served_as_named rows listen zid ≡ Some (record { id = zid; listen = listen; log = false; rules = rules; explain = false; dials = ds })
-      → option_map asks_serve (option_and_then (served_as_named rows listen) (zid_of_hex id))
-      ≡ Some (asks_serve (record { id = zid; listen = listen; log = false; rules = rules; explain = false; dials = ds }))
-  asks_found rows rules zid ds is named =
+  asks_found : (rows : List Row) (rules admin : Bool) (zid : Text) (ds : List DialState) → zid_of_hex id ≡ Some zid
+      → served_as_named rows listen zid ≡ Some (asked_with rules admin zid ds)
+      → option_map asks_serve (option_and_then (served_as_named rows listen) (zid_of_hex id)) ≡ Some (asks_serve (asked_with rules admin zid ds))
+  asks_found rows rules admin zid ds is named =
       ap (λ (z : Option Text). option_map asks_serve (option_and_then (served_as_named rows listen) z)) is ∙ ap (λ (z : Option Served). option_map asks_serve z) named
 
-  asks_dials : (rules : Bool) (vs : List Text) (last zid : Text) (ds : List DialState) → zid_of_hex id ≡ Some zid → dials_of (vs ++ last ∷ []) ≡ Some ds
-      → asked_by (serve_built.name, finished serve_built.rules (dialling rules vs last).held)
-      ≡ Some (asks_serve (record { id = zid; listen = listen; log = false; rules = rules; explain = false; dials = ds }))
-  asks_dials true [] last zid ds is reads =
-      asks_found (finished serve_built.rules (dialling true [] last).held) true zid ds is
-      (ap (λ (z : Option (List DialState)). option_map (served_at (finished serve_built.rules (dialling true [] last).held) listen zid) z) reads)
-  asks_dials true (v ∷ vs) last zid ds is reads =
-      asks_found (finished serve_built.rules (dialling true (v ∷ vs) last).held) true zid ds is
-      (ap (λ (z : Option (List DialState)). option_map (served_at (finished serve_built.rules (dialling true (v ∷ vs) last).held) listen zid) z) reads)
-  asks_dials false [] last zid ds is reads =
-      asks_found (finished serve_built.rules (dialling false [] last).held) false zid ds is
-      (ap (λ (z : Option (List DialState)). option_map (served_at (finished serve_built.rules (dialling false [] last).held) listen zid) z) reads)
-  asks_dials false (v ∷ vs) last zid ds is reads =
-      asks_found (finished serve_built.rules (dialling false (v ∷ vs) last).held) false zid ds is
-      (ap (λ (z : Option (List DialState)). option_map (served_at (finished serve_built.rules (dialling false (v ∷ vs) last).held) listen zid) z) reads)
+  asks_dials : (rules admin : Bool) (vs : List Text) (last zid : Text) (ds : List DialState) → zid_of_hex id ≡ Some zid → dials_of (vs ++ last ∷ []) ≡ Some ds
+      → asked_by (serve_built.name, finished serve_built.rules (dialling rules admin vs last).held) ≡ Some (asks_serve (asked_with rules admin zid ds))
+  asks_dials true true [] last zid ds is reads =
+      asks_found (finished serve_built.rules (dialling true true [] last).held) true true zid ds is
+      (ap (λ (z : Option (List DialState)). option_map (served_at (finished serve_built.rules (dialling true true [] last).held) listen zid) z) reads)
+  asks_dials true true (v ∷ vs) last zid ds is reads =
+      asks_found (finished serve_built.rules (dialling true true (v ∷ vs) last).held) true true zid ds is
+      (ap (λ (z : Option (List DialState)). option_map (served_at (finished serve_built.rules (dialling true true (v ∷ vs) last).held) listen zid) z) reads)
+  asks_dials true false [] last zid ds is reads =
+      asks_found (finished serve_built.rules (dialling true false [] last).held) true false zid ds is
+      (ap (λ (z : Option (List DialState)). option_map (served_at (finished serve_built.rules (dialling true false [] last).held) listen zid) z) reads)
+  asks_dials true false (v ∷ vs) last zid ds is reads =
+      asks_found (finished serve_built.rules (dialling true false (v ∷ vs) last).held) true false zid ds is
+      (ap (λ (z : Option (List DialState)). option_map (served_at (finished serve_built.rules (dialling true false (v ∷ vs) last).held) listen zid) z) reads)
+  asks_dials false true [] last zid ds is reads =
+      asks_found (finished serve_built.rules (dialling false true [] last).held) false true zid ds is
+      (ap (λ (z : Option (List DialState)). option_map (served_at (finished serve_built.rules (dialling false true [] last).held) listen zid) z) reads)
+  asks_dials false true (v ∷ vs) last zid ds is reads =
+      asks_found (finished serve_built.rules (dialling false true (v ∷ vs) last).held) false true zid ds is
+      (ap (λ (z : Option (List DialState)). option_map (served_at (finished serve_built.rules (dialling false true (v ∷ vs) last).held) listen zid) z) reads)
+  asks_dials false false [] last zid ds is reads =
+      asks_found (finished serve_built.rules (dialling false false [] last).held) false false zid ds is
+      (ap (λ (z : Option (List DialState)). option_map (served_at (finished serve_built.rules (dialling false false [] last).held) listen zid) z) reads)
+  asks_dials false false (v ∷ vs) last zid ds is reads =
+      asks_found (finished serve_built.rules (dialling false false (v ∷ vs) last).held) false false zid ds is
+      (ap (λ (z : Option (List DialState)). option_map (served_at (finished serve_built.rules (dialling false false (v ∷ vs) last).held) listen zid) z) reads)
 
-  serves : (zid : Text) (rules : Bool) (words : List Text) (ds : List DialState) → zid_of_hex id ≡ Some zid → list_all is_plain words ≡ true → dials_of words ≡ Some ds
-      → asked_of (codes "serve" ∷ codes "--id" ∷ id ∷ codes "--listen" ∷ listen ∷ (flag_words (codes "--rules") rules ++ words))
-      ≡ Some (asks_serve (record { id = zid; listen = listen; log = false; rules = rules; explain = false; dials = ds }))
-  serves zid rules [] ds is p reads =
-      asked_is (codes "serve") (codes "serve") serve_built _ serve_enters (listening rules) (starts rules [] (listening rules) (stays serve_built (listening rules))) (listening_fine rules)
-      ∙ asks_none rules zid is
-      ∙ ap (λ (z : Option (List DialState)). option_map asks_serve (option_map (λ (ds : List DialState). record { id = zid; listen = listen; log = false; rules = rules; explain = false; dials = ds }) z)) reads
-  serves zid rules (word ∷ rest) ds is p reads =
+  serves : (zid : Text) (rules admin : Bool) (words : List Text) (ds : List DialState) → zid_of_hex id ≡ Some zid → list_all is_plain words ≡ true → dials_of words ≡ Some ds
+      → asked_of (codes "serve" ∷ codes "--id" ∷ id ∷ codes "--listen" ∷ listen ∷ (flag_words (codes "--rules") rules ++ (flag_words (codes "--admin") admin ++ words)))
+      ≡ Some (asks_serve (asked_with rules admin zid ds))
+  serves zid rules admin [] ds is p reads =
+      let end = listening rules admin in
+      asked_is (codes "serve") (codes "serve") serve_built _ serve_enters end (starts rules admin [] end (stays serve_built end)) (listening_fine rules admin)
+      ∙ asks_none rules admin zid is
+      ∙ ap (λ (z : Option (List DialState)). option_map asks_serve (option_map (λ (ds : List DialState). asked_with rules admin zid ds) z)) reads
+  serves zid rules admin (word ∷ rest) ds is p reads =
       let h = both_hold (is_plain word) (list_all is_plain rest) p in
-      let d = dials rules [] word rest h.1 in
-      let end = dialling rules d.noted d.final in
+      let d = dials rules admin [] word rest h.1 in
+      let end = dialling rules admin d.noted d.final in
       asked_is (codes "serve") (codes "serve") serve_built _ serve_enters end
-      (starts rules (word ∷ rest) end (goes_on serve_built (listening rules) (dialling rules [] word) word rest end (first_dial rules word h.0) (first_fine rules word h.0) d.goes))
-      (dialling_fine rules d.noted d.final)
-      ∙ asks_dials rules d.noted d.final zid ds is (ap dials_of d.all ∙ reads)
+      (starts rules admin (word ∷ rest) end
+      (goes_on serve_built (listening rules admin) (dialling rules admin [] word) word rest end (first_dial rules admin word h.0) (first_fine rules admin word h.0) d.goes))
+      (dialling_fine rules admin d.noted d.final)
+      ∙ asks_dials rules admin d.noted d.final zid ds is (ap dials_of d.all ∙ reads)
 
 serve_taken : ServeIsTaken
-serve_taken id zid listen rules words ds is plain plains reads = serves id listen (zid_plain id zid is) plain zid rules words ds is plains reads
+serve_taken id zid listen rules admin words ds is plain plains reads = serves id listen (zid_plain id zid is) plain zid rules admin words ds is plains reads
 
 pub forms_taken : FormsAreTaken
 forms_taken = (net_taken, serve_taken, make_taken)

@@ -27,7 +27,8 @@ abbrev pub net : Shape
 net = command (codes "net") (flag (codes "summary") ∷ flag (codes "explain") ∷ [])
 
 abbrev pub serve : Shape
-serve = command (codes "serve") (optional (codes "id") ∷ wanted (codes "listen") ∷ flag (codes "log") ∷ flag (codes "rules") ∷ flag (codes "explain") ∷ words_beside (codes "dial") ∷ [])
+serve = command (codes "serve")
+    (optional (codes "id") ∷ wanted (codes "listen") ∷ flag (codes "log") ∷ flag (codes "rules") ∷ flag (codes "explain") ∷ flag (codes "admin") ∷ words_beside (codes "dial") ∷ [])
 
 abbrev pub make : Shape
 make = command (codes "make")

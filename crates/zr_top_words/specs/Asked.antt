@@ -37,13 +37,14 @@ dials_of [] = Some []
 dials_of (word ∷ words) = option_and_then (λ dial. option_map (λ dials. dial ∷ dials) (dials_of words)) (dial_of word)
 
 -- what `serve` asks for: an identifier, the address at which it listens, whether its links have logs, whether rules are read, whether a faulty line of
--- them is explained, and what it dials
+-- them is explained, whether it has an administration space, and what it dials
 pub record Served : Type 0 where
   pub id : List ℕ
   pub listen : List ℕ
   pub log : Bool
   pub rules : Bool
   pub explain : Bool
+  pub admin : Bool
   pub dials : List DialState
 
 abbrev pub net_by : List Row → NetPlan
@@ -59,6 +60,7 @@ served_at rows listen id dials = record {
   log = is_given (codes "log") rows;
   rules = is_given (codes "rules") rows;
   explain = is_given (codes "explain") rows;
+  admin = is_given (codes "admin") rows;
   dials = dials;
 }
 

@@ -21,13 +21,13 @@ abbrev pub flag_words : List ℕ → Bool → List (List ℕ)
 flag_words word true = word ∷ []
 flag_words word false = []
 
--- `serve --id ID --listen ADDRESS [--rules] [DIAL]...`: ID spells an identifier, no address begins with a hyphen, and each DIAL is `ADDRESS` or
+-- `serve --id ID --listen ADDRESS [--rules] [--admin] [DIAL]...`: ID spells an identifier, no address begins with a hyphen, and each DIAL is `ADDRESS` or
 -- `ADDRESS,W`
 abbrev pub ServeIsTaken : Type 0
-ServeIsTaken = (id zid listen : List ℕ) (rules : Bool) (words : List (List ℕ)) (dials : List DialState) → zid_of_hex id ≡ Some zid → is_plain listen ≡ true
+ServeIsTaken = (id zid listen : List ℕ) (rules admin : Bool) (words : List (List ℕ)) (dials : List DialState) → zid_of_hex id ≡ Some zid → is_plain listen ≡ true
     → list_all is_plain words ≡ true → dials_of words ≡ Some dials
-    → asked_of (codes "serve" ∷ codes "--id" ∷ id ∷ codes "--listen" ∷ listen ∷ (flag_words (codes "--rules") rules ++ words))
-    ≡ Some (serve (record { id = zid; listen = listen; log = false; rules = rules; explain = false; dials = dials }))
+    → asked_of (codes "serve" ∷ codes "--id" ∷ id ∷ codes "--listen" ∷ listen ∷ (flag_words (codes "--rules") rules ++ (flag_words (codes "--admin") admin ++ words)))
+    ≡ Some (serve (record { id = zid; listen = listen; log = false; rules = rules; explain = false; admin = admin; dials = dials }))
 
 -- `make --number N --routers R --clients C --messages M`: each is a number without leading zeros, and a script can be made of them
 abbrev pub MakeIsTaken : Type 0

@@ -15,7 +15,7 @@ use Rattle.zr_top_words.specs.Asked.{Asked, Served, net, serve, make, asked_by, 
 
 -- what a plan asks for
 abbrev pub served_as : ServeWords → Served
-served_as plan = record { id = plan.id; listen = string_bytes plan.listen; log = plan.log; rules = plan.rules; explain = plan.explain; dials = plan.dials.items }
+served_as plan = record { id = plan.id; listen = string_bytes plan.listen; log = plan.log; rules = plan.rules; explain = plan.explain; admin = plan.admin; dials = plan.dials.items }
 
 abbrev pub asked_as : Plan → Asked
 asked_as (plan.Net p) = net p

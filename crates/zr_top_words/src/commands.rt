@@ -76,6 +76,11 @@ fn serve<'a>(alloc: Global) -> Result<Command<'a>, AllocError>
             "explain",
             "With --rules, shows a faulty line, where it is wrong and what is expected",
         ))?
+        .arg(flag(
+            alloc,
+            "admin",
+            "Answers queries for its links, records, parents and sources on `@/ID/router/**`",
+        ))?
         .arg(words_beside(
             alloc,
             "dial",

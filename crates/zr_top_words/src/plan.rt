@@ -39,6 +39,8 @@ pub struct ServeWords {
     pub rules: bool,
     /// Whether a faulty line of the rules is shown with its explanation.
     pub explain: bool,
+    /// Whether its administration space is open.
+    pub admin: bool,
 }
 
 /// Why the words gave no plan.

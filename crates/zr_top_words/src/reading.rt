@@ -129,6 +129,7 @@ fn serve_by(alloc: Global, options: &ArgMatches<'_>) -> Result<Option<ServeWords
         log: is_given(options, "log"),
         rules: is_given(options, "rules"),
         explain: is_given(options, "explain"),
+        admin: is_given(options, "admin"),
     }))
 }
 

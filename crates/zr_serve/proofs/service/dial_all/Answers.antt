@@ -1,4 +1,4 @@
-use Rattle.std.proofs.Common.{◌≡◌, length, le_trans, arith}
+use Rattle.std.proofs.Common.{◌<◌, ◌≡◌, ◌∙◌, length, le_trans, arith, subst, sym}
 use Rattle.zr_serve.proofs.Reaching.{dials_all_at, dials_more_at, dials_stop, rose_later}
 use Rattle.zr_serve.proofs.service.dial_all.Goals as goal
 
@@ -14,6 +14,7 @@ loop-target-preserved g c = (
   le_trans c.loop-target.invariant.1 c.in_default.ensures.later.0,
   le_trans c.loop-target.invariant.2 c.in_default.ensures.later.1,
   le_trans c.loop-target.invariant.3 c.in_default.ensures.later.2,
+  c.in_default.ensures.only ∙ c.loop-target.invariant.4,
 )
 
 pub returns-in-Err-clause-cause : goal.returns-in-Err-clause-cause
@@ -33,3 +34,10 @@ returns-clause-dialled g c =
 
 pub returns-clause-later : goal.returns-clause-later
 returns-clause-later g c = (c.loop-target.invariant.1, c.loop-target.invariant.2, c.loop-target.invariant.3)
+
+pub returns-in-Err-clause-only : goal.returns-in-Err-clause-only
+returns-in-Err-clause-only g c =
+    λ rose. c.in-Err.ensures.only (subst (λ n. n < g.E.Sink.faults c.dial.new.err) (sym c.loop-target.invariant.4) rose)
+
+pub returns-clause-only : goal.returns-clause-only
+returns-clause-only g c = c.loop-target.invariant.4

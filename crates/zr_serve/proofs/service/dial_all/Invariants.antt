@@ -1,4 +1,4 @@
-use Rattle.std.proofs.Common.{◌≤◌}
+use Rattle.std.proofs.Common.{◌≡◌, ◌≤◌}
 use Rattle.zr_outside_crew.specs.Crew.{crew_faults, crew_told}
 use Rattle.zr_serve.specs.Links.{links_of}
 use Rattle.zr_serve.specs.Moments.{moment}
@@ -13,3 +13,4 @@ invariant-loop-target g l =
     × (g.E.Sink.faults l.fn.err ≤ g.E.Sink.faults l.err)
     × (g.H.Host.faults l.fn.host ≤ g.H.Host.faults l.host)
     × (g.H.Host.ends l.fn.host ≤ g.H.Host.ends l.host)
+    × (g.E.Sink.faults l.err ≡ g.E.Sink.faults l.fn.err)

@@ -1,51 +1,49 @@
-use Rattle.std.proofs.Common.{ap, Err, true, false, refl, le_trans, inr}
-use Rattle.zr_serve.proofs.Served.{without_words, deaf, unsaid_serves, cut_serves_at, whole_serves_at, no_write_fault, rose_behind, rose_far}
+use Rattle.std.proofs.Common.{ap, Err, le_trans, inl, inr, refl, subst, sym}
+use Rattle.std.specs.Prelude.{◌<◌}
+use Rattle.zr_serve.proofs.Served.{without_words, ended_before, ended_within, passed, rose_either, rose_not, rose_past, rose_same}
 use Rattle.zr_serve.proofs.service.serve.Goals as goal
 
 pub returns-in_default-clause-served : goal.returns-in_default-clause-served
-returns-in_default-clause-served g c = without_words _ _ _ _ _ _ _ _ _ _ _ _ _ _ c.in_default.ensures.told c.say_last.ensures.says
-
-pub returns-then-not-listen-clause-served : goal.returns-then-not-listen-clause-served
-returns-then-not-listen-clause-served g c =
-    deaf _ _ _ _ _ _ _ _ _ _ false _ (g.H.Words.Rng.stream c.in-Some.words) _ _ _ _ c.in-Some.ensures.told (rw c.as_str.ensures.value at c.if-not-listen.ensures.told) refl
-    (rw c.as_str-then-not-listen.ensures.value at c.say_not_listening.ensures.says)
+returns-in_default-clause-served g c =
+    ended_before _ _ _ _ _ _ _ _ _ _ _ _ _ _ _ _ _ (without_words _ _ _ _ _ _ _ _ _ _ c.in_default.ensures.told c.say_last.ensures.says)
 
 pub returns-in-Err-clause-served : goal.returns-in-Err-clause-served
-returns-in-Err-clause-served g c =
-    rw c.end.ensures (unsaid_serves c.in-Err.unsaid _ _ _ _ _ (g.H.Words.Rng.stream c.in-Some.words) true _ _ _ _ _ _ _ _ _ c.in-Some.ensures.told
-    (rw c.as_str.ensures.value at c.if-not-listen.ensures.told) refl c.in-Err.ensures.part)
-
-pub returns-in-Err-dial_all-clause-served : goal.returns-in-Err-dial_all-clause-served
-returns-in-Err-dial_all-clause-served g c =
-    cut_serves_at _ _ _ _ c.in-Err-dial_all.end _ _ _ (g.H.Words.Rng.stream c.in-Some.words) true _ _ _ _ _ _ _ _ _ _ _ _ c.as_slice.ensures.value
-    c.as_str.ensures.value c.in-Some.ensures.told c.if-not-listen.ensures.told refl (c.new-links.ensures _) c.in-Err-dial_all.ensures.stopped
-    c.in_default-say_serving.ensures.said (λ it. c.in-Err-dial_all.ensures.cause.0 (ap Err it)) (λ it. c.in-Err-dial_all.ensures.cause.1 (ap Err it))
+returns-in-Err-clause-served g c = ended_within _ _ _ _ _ _ _ _ _ _ _ _ _ _ _ _ _ _ c.in-Some.ensures.told (c.in-Err.ensures.ended _)
 
 pub returns-clause-served : goal.returns-clause-served
 returns-clause-served g c =
-    whole_serves_at _ _ _ _ c.accept_all-end.result _ _ _ (g.H.Words.Rng.stream c.in-Some.words) true _ _ _ _ _ _ _ _ _ _ _ (g.E.Sink.held c.dial_all.new.err) _ _ _ _ _ _
-    c.as_slice.ensures.value c.as_str.ensures.value c.in-Some.ensures.told c.if-not-listen.ensures.told refl (c.new-links.ensures _) c.in_default-dial_all.ensures.dialled
-    c.accept_all-end.ensures.ended c.in_default-say_serving.ensures.said c.dial_all.ensures.later.0 c.tell_end.ensures.fault c.tell_end.ensures.quiet
+    passed _ _ _ _ _ _ _ _ _ _ _ _ _ _ _ _ _ (g.H.Words.Rng.stream c.in-Some.words) _ _ _ _ _ _ _ _ (c.new-links.ensures _) c.in-Some.ensures.told
+    c.in_default-open_space.ensures.begun refl c.open_space.ensures.later c.serve_links.ensures.served
 
-pub returns-clause-write : goal.returns-clause-write
-returns-clause-write g c = λ it. absurd (no_write_fault _ _ _ (c.accept_all-end.ensures.ended (g.E.Sink.held c.dial_all.new.err)) it)
+pub returns-in-Err-clause-done : goal.returns-in-Err-clause-done
+returns-in-Err-clause-done g c = λ it. absurd (c.in-Err.ensures.cause.0 (ap Err it))
 
-pub returns-in-Err-dial_all-clause-done : goal.returns-in-Err-dial_all-clause-done
-returns-in-Err-dial_all-clause-done g c = λ it. absurd (c.in-Err-dial_all.ensures.cause.0 (ap Err it))
+pub returns-in-Err-clause-host : goal.returns-in-Err-clause-host
+returns-in-Err-clause-host g c = λ it. absurd (c.in-Err.ensures.cause.1 (ap Err it))
 
-pub returns-in-Err-dial_all-clause-host : goal.returns-in-Err-dial_all-clause-host
-returns-in-Err-dial_all-clause-host g c = λ it. absurd (c.in-Err-dial_all.ensures.cause.1 (ap Err it))
-
-pub returns-in-Err-dial_all-clause-write : goal.returns-in-Err-dial_all-clause-write
-returns-in-Err-dial_all-clause-write g c = λ it. inr (c.in-Err-dial_all.ensures.cause.2 (ap Err it))
+pub returns-in-Err-clause-write : goal.returns-in-Err-clause-write
+returns-in-Err-clause-write g c = λ it. inr (c.in-Err.ensures.cause.2 (ap Err it))
 
 pub returns-clause-done : goal.returns-clause-done
-returns-clause-done g c =
-    λ it. rose_behind _ _ _ _ _ c.in-Some.ensures.others.1 c.if-not-listen.ensures.others.1 c.dial_all.ensures.later.2 (c.accept_all-end.ensures.cause.0 it)
+returns-clause-done g c = λ it. rose_same _ _ _ _ c.in-Some.ensures.others.1 c.open_space.ensures.counts.1 (c.serve_links.ensures.done it)
 
 pub returns-clause-host : goal.returns-clause-host
-returns-clause-host g c =
-    λ it. rose_far _ _ _ _ _ c.in-Some.ensures.failed.later c.if-not-listen.ensures.failed.later c.dial_all.ensures.later.1 (c.accept_all-end.ensures.cause.1 it)
+returns-clause-host g c = λ it. rose_past _ _ _ _ c.in-Some.ensures.failed.later c.open_space.ensures.counts.0 (c.serve_links.ensures.host it)
+
+pub returns-clause-write : goal.returns-clause-write
+returns-clause-write g c = λ it. rose_either _ _ _ _ _ c.open_space.ensures.later (c.serve_links.ensures.write it)
 
 pub returns-clause-later : goal.returns-clause-later
-returns-clause-later g c = (c.say_serving.ensures.later, le_trans c.dial_all.ensures.later.0 c.tell_end.ensures.later)
+returns-clause-later g c = (c.serve_links.ensures.later.0, le_trans c.open_space.ensures.later c.serve_links.ensures.later.1)
+
+pub returns-in_default-clause-only : goal.returns-in_default-clause-only
+returns-in_default-clause-only g c = (λ rose. absurd (rose_not _ _ refl rose), λ rose. inr refl)
+
+pub returns-in-Err-clause-only : goal.returns-in-Err-clause-only
+returns-in-Err-clause-only g c = (λ rose. absurd (rose_not _ _ refl rose), λ rose. inl (c.in-Err.ensures.only rose))
+
+pub returns-clause-only : goal.returns-clause-only
+returns-clause-only g c = (
+  c.serve_links.ensures.only.0,
+  λ rose. c.serve_links.ensures.only.1 (subst (λ n. n < g.E.Sink.faults c.serve_links.new.err) (sym c.in_default-open_space.ensures.only) rose),
+)

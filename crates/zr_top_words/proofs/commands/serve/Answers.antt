@@ -12,4 +12,5 @@ returns c =
     let three = adds c.in_ok-arg-3.ensures c.flag.ensures.local two c.flag.ensures.rule in
     let four = adds c.in_ok-arg-4.ensures c.flag-2.ensures.local three c.flag-2.ensures.rule in
     let five = adds c.in_ok-arg-5.ensures c.flag-3.ensures.local four c.flag-3.ensures.rule in
-    IfOk-weaker c.arg-6.result _ _ (λ r h. ap (λ (a : App). a.top) (adds h c.words_beside.ensures.local five c.words_beside.ensures.rule)) c.arg-6.ensures
+    let six = adds c.in_ok-arg-6.ensures c.flag-4.ensures.local five c.flag-4.ensures.rule in
+    IfOk-weaker c.arg-7.result _ _ (λ r h. ap (λ (a : App). a.top) (adds h c.words_beside.ensures.local six c.words_beside.ensures.rule)) c.arg-7.ensures
