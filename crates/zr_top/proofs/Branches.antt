@@ -13,7 +13,8 @@ use Rattle.zr_netrun.specs.Clauses.{IsReported, IsSummedUp, OfRead, WritesAsAske
 use Rattle.zr_netrun.specs.Judged.{judged}
 use Rattle.zr_netrun.proofs.Reading.{as_before}
 use Rattle.zr_netrun_lines.proofs.Writing.{prefix_none}
-use Rattle.zr_link_job.specs.declared.job.LinkJob.{LinkJob}
+use Rattle.zr_link_job.specs.declared.job.ServeJob.{ServeJob}
+use Rattle.zr_serve_router.specs.Space.{Opened, Refused}
 use Rattle.zr_outside.specs.declared.host.Call.{Call}
 use Rattle.zr_serve.proofs.Served.{not_begun}
 use Rattle.zr_serve.specs.Serving.{Outputs}
@@ -84,14 +85,14 @@ no_bytes None = ([], tt, tt)
 no_bytes (Some all) = ([], (all, refl, refl), tt)
 
 -- no router was served, and no rules were read
-asked_none : (rules : Bool) (s : Served) (left : Option (List ℕ)) (Ended : Type 0) (calls : Option (List Call)) (told : Option (List LinkJob)) (faults : ℕ) (o : Outputs)
+asked_none : (rules : Bool) (s : Served) (left : Option (List ℕ)) (Ended : Type 0) (calls : Option (List Call)) (told : Option (List ServeJob)) (faults : ℕ) (o : Outputs)
     → (given : Result PolicyState RulesError) × HasRules rules left left Ended given × Answers given s NoMemory calls calls told told faults faults o o
 asked_none false s left Ended calls told faults o =
-    (Ok open_policy, (refl, refl), record { how = end.NoMemory; end_is = refl; served = not_begun s.id open_policy s.log s.listen s.dials calls told faults o })
+    (Ok open_policy, (refl, refl), record { how = end.NoMemory; end_is = refl; served = not_begun s.id open_policy s.log s.admin (Opened open_policy s.id) (Refused open_policy s.id) s.listen s.dials calls told faults o })
 asked_none true s left Ended calls told faults o =
     (Err rules_error.NoMemory, no_bytes left, (refl, refl, refl, refl, (rules_end.NoMemory, refl, (refl, refl))))
 
-pub no_router : (s : Served) (left : Option (List ℕ)) (Ended : Type 0) (calls : Option (List Call)) (told : Option (List LinkJob)) (faults : ℕ) (o : Outputs)
+pub no_router : (s : Served) (left : Option (List ℕ)) (Ended : Type 0) (calls : Option (List Call)) (told : Option (List ServeJob)) (faults : ℕ) (o : Outputs)
     → IsServingBy s NoMemory left left Ended calls calls told told faults faults o o
 no_router s left Ended calls told faults o =
     let none = asked_none s.rules s left Ended calls told faults o in
@@ -135,3 +136,7 @@ pub serve_plan_reads : (words : List (List ℕ)) (p : Plan) (q : ServeWords) →
     → p ≡ plan.Serve q → reads_input words ≡ q.rules
 serve_plan_reads words p q net serve is =
     served_reads words (served_as q) (sym net ∙ ap (λ z. net_part (asked_as z)) is) (sym serve ∙ ap (λ z. serve_part (asked_as z)) is)
+
+-- a plan of `serve` is one that the words ask for
+pub serve_plan_asked : (words : List (List ℕ)) (p : Plan) (q : ServeWords) → serve_part (asked_as p) ≡ served_of words → p ≡ plan.Serve q → is_some (served_of words) ≡ true
+serve_plan_asked words p q serve is = ap is_some (sym serve ∙ ap (λ z. serve_part (asked_as z)) is)

@@ -20,7 +20,7 @@ use std::alloc::Global;
 use std::sync::Wait;
 use std::thread::Threads;
 use zr_access::Policy;
-use zr_link_job::LinkJob;
+use zr_link_job::ServeJob;
 use zr_make::{MakeError, MakePlan, make};
 use zr_netrun::netrun::run_script;
 use zr_netrun::options::NetOptions;
@@ -51,7 +51,7 @@ pub fn run_asked<
     out: &mut K,
     err: &mut E,
     host: &mut H,
-    crew: &mut Crew<R, LinkJob>,
+    crew: &mut Crew<R, ServeJob>,
 ) -> Status
 where
     H::In: 'static,
@@ -74,6 +74,7 @@ where
     ensures read { result ≡ Status.ReadFault → Rose (S.faults input.old) (S.faults input.new) }
     ensures read_told { S.faults input.old < S.faults input.new → result ≡ Status.ReadFault }
     ensures write { result ≡ Status.WriteFault → Rose (K.faults out.old) (K.faults out.new) ⊎ Rose (E.faults err.old) (E.faults err.new) }
+    ensures write_told { is_some (served_of (map string_bytes words.now)) ≡ false → (K.faults out.old < K.faults out.new → result ≡ Status.WriteFault) × (E.faults err.old < E.faults err.new → (result ≡ Status.WriteFault) ⊎ (result ≡ Status.Words)) }
     ensures words { (result ≡ Status.Words → IsWrong (map string_bytes words.now)) × (IsRefused (map string_bytes words.now) → (result ≡ Status.Words) ⊎ (result ≡ Status.NoMemory)) }
     ensures input_later { S.faults input.old ≤ S.faults input.new }
     ensures out_later { K.faults out.old ≤ K.faults out.new }
@@ -114,7 +115,7 @@ fn serve<
     out: &mut K,
     err: &mut E,
     host: &mut H,
-    crew: &mut Crew<R, LinkJob>,
+    crew: &mut Crew<R, ServeJob>,
 ) -> Status
 where
     H::In: 'static,
@@ -164,7 +165,7 @@ fn serve_by<K: Sink, E: Sink, H: Host, R: Threads + Wait + Copy + Send + Sync + 
     out: &mut K,
     err: &mut E,
     host: &mut H,
-    crew: &mut Crew<R, LinkJob>,
+    crew: &mut Crew<R, ServeJob>,
 ) -> Status
 where
     H::In: 'static,
@@ -183,6 +184,7 @@ where
         listen: words.listen,
         dials: words.dials,
         log: words.log,
+        admin: words.admin,
     };
     status_of(serve_router(rt, alloc, &plan, policy, out, err, host, crew))
 }
@@ -218,6 +220,7 @@ fn make_script<K: Sink>(alloc: Global, plan: &MakePlan, out: &mut K) -> Status
     ensures written { IsWritten result (text_of (script plan.now)) (K.held out.old) (K.held out.new) (K.faults out.old) (K.faults out.new) }
     ensures none { result ≡ Status.Words → ⊥ }
     ensures later { K.faults out.old ≤ K.faults out.new }
+    ensures only { K.faults out.old < K.faults out.new → result ≡ Status.WriteFault }
 {
     match make(alloc, plan, out) {
         Ok(()) => Status::Done,

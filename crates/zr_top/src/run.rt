@@ -6,6 +6,7 @@ ghost use Rattle.zr_key.specs.Laws.{IsReading, ReadingKeepsKeys, ReadsEach};
 ghost use Rattle.zr_tree.specs.Laws.{DistancesAreOfShortestWalks, RecordsMakeGraphs};
 ghost use Rattle.zr_outside.specs.Counts.{Rose};
 ghost use Rattle.zr_outside.specs.Piece.{IsReadToEnd};
+ghost use Rattle.zr_guarantee.specs.Refines.{PhasesDeliver, PhasesRefine};
 ghost use Rattle.zr_guarantee.specs.Scripts.{IsRefined, TellsClients, TellsTokens};
 ghost use Rattle.zr_law_samples.specs.Keys.{AnsweringIsCovering, AnsweringIsMeeting, AskingIsMeeting};
 ghost use Rattle.zr_law_samples.specs.Runs.{RestIsQuiet};
@@ -13,8 +14,11 @@ ghost use Rattle.zr_law_declared.specs.Logs.{SettledLogsAreKnown};
 ghost use Rattle.zr_law_declared.specs.Rows.{SettledRowsAreDeclared};
 ghost use Rattle.zr_law_declared.specs.Sets.{SettledSetsAreDeclared};
 ghost use Rattle.zr_law_replies.specs.Answers.{AnswersAlwaysHold};
+ghost use Rattle.zr_law_histories.specs.Histories.{RunningRoutersAreAWorld};
+ghost use Rattle.zr_law_histories.specs.Packing.{QueuesArePacked};
 ghost use Rattle.zr_law_keys.specs.Laws.{MatchingIsOfCharacters, MeetingIsOfCharacters};
 ghost use Rattle.zr_law_numbers.specs.Numbers.{NumbersAlwaysHold};
+ghost use Rattle.zr_law_running.specs.Laws.{RunsAreOfAWorld, RunsHavePhases};
 ghost use Rattle.zr_law_settled.specs.Events.{NoEventIsRefused};
 ghost use Rattle.zr_law_settled.specs.Tables.{AgreeWhereSettled, SettledLogsAgree};
 ghost use Rattle.zr_netrun.specs.Clauses.{OfLines, OfScriptLines, WritesAsAsked};
@@ -39,17 +43,19 @@ use zr_law_declared::{
     settled_logs_are_known, settled_rows_are_declared, settled_sets_are_declared,
 };
 use zr_law_held::{lines_are_within, lines_fit};
+use zr_law_histories::{queues_are_packed, running_routers_are_a_world};
 use zr_law_keys::{matching_is_of_characters, meeting_is_of_characters};
 use zr_law_numbers::{no_event_is_refused, numbers_always_hold};
-use zr_law_replies::{answers_always_hold, lines_refine};
+use zr_law_replies::{answers_always_hold, lines_refine, phases_refine};
+use zr_law_running::{runs_are_of_a_world, runs_have_phases};
 use zr_law_samples::keys::{
     answering_is_covering, answering_is_meeting, asking_is_meeting, keys_are_texts,
 };
-use zr_law_samples::refines::lines_are_moments;
+use zr_law_samples::refines::{lines_are_moments, phases_deliver};
 use zr_law_samples::runs::rest_is_quiet;
 use zr_law_settled::{settled_logs_agree, settled_tables_agree};
 use zr_law_told::{lines_tell_clients, lines_tell_tokens};
-use zr_link_job::LinkJob;
+use zr_link_job::ServeJob;
 use zr_netrun::status::Status;
 use zr_outside::host::Host;
 use zr_outside::sink::Sink;
@@ -62,7 +68,7 @@ use zr_tree::laws::{distances_are_of_shortest_walks, records_make_graphs};
 /// The whole program. Its words, without its name, are read by `clap`, and ask for one of four things. `net` reads a script from `input`, and writes the
 /// report to `out`; with `--summary` it writes, at the script's end, four counts of the report in its place. With `--explain` `err` has the explanation
 /// of a refused line behind the line that tells its refusal, and all else is the same.
-/// `serve --id ID --listen ADDRESS [--log] [--rules] [--explain] [DIAL]...` runs a router of that identifier, which listens at the address and dials each of the others
+/// `serve --id ID --listen ADDRESS [--log] [--rules] [--explain] [--admin] [DIAL]...` runs a router of that identifier, which listens at the address and dials each of the others
 /// once, until the host gives no more links: the crew starts the reader of each link, with a log where the words say so. With `--rules` the whole `input`
 /// is read first. It has the access rules of the router, and where it has none `err` is told why, and nothing is served; with
 /// `--explain` a faulty line of them is shown behind that.
@@ -92,12 +98,19 @@ use zr_tree::laws::{distances_are_of_shortest_walks, records_make_graphs};
 /// it is free, or asked, or kept with some replies on their way back, or ended with the final behind them; and each reply and each final that a client was sent
 /// is that of its query of that turn (`answers`).
 ///
+/// Of several routers that run, each on its own, the clause `running` says that what they do is the run of a script's world, as long as their links keep order
+/// and lose nothing, and their histories leave nothing out and close no link. There each router's tables are the replay of its own history. From a moment
+/// at which that world is settled and its routers are joined, what was queued for each client is, publisher by publisher, a prefix of what one broker
+/// sends it (`phases`). The parcels of a link are those of these messages (`packed`). The premises stand in `zr_law_running` (`specs/Allowed`).
+///
 /// The clause `served` says which rules were read, and where a router was served under them, what was called of the host, which jobs the crew started, and what
 /// was written. Where the rules are refused, or can't be read, the host and the crew are as they were (`untouched`). The clause
 /// `made` says which text was written, where a script was made: all of it at `Done`, and else a prefix. Where `clap` may answer with help or the version,
 /// that is told whole, or else in part, or the words are wrong (`helped`).
 /// With all other words than those of `serve` the host and the crew are as they were (`unserved`), and with all other words than those of `net` and of `serve` with `--rules` the input is (`unread`).
 /// Where nothing outside fails, all was done, a line or the words were refused, or memory ran out (`complete`).
+/// Where a read of the input failed the status says so (`read_told`), and with all other words than those of `serve` where a write failed (`write_told`):
+/// but the usage line tells wrong words, and where it can't be written they are wrong all the same.
 pub fn run<
     S: Source,
     K: Sink,
@@ -112,7 +125,7 @@ pub fn run<
     out: &mut K,
     err: &mut E,
     host: &mut H,
-    crew: &mut Crew<R, LinkJob>,
+    crew: &mut Crew<R, ServeJob>,
 ) -> Status
 where
     H::In: 'static,
@@ -142,6 +155,9 @@ where
     ensures kept { ReadingKeepsKeys }
     ensures characters { MatchingIsOfCharacters × MeetingIsOfCharacters }
     ensures walks { RecordsMakeGraphs × DistancesAreOfShortestWalks }
+    ensures running { RunsAreOfAWorld × RunningRoutersAreAWorld }
+    ensures phases { RunsHavePhases × PhasesDeliver × PhasesRefine }
+    ensures packed { QueuesArePacked }
     ensures served { IfSome (served_of (map string_bytes words.now)) (λ s. IsServingBy s result (S.left input.old) (S.left input.new) (IsReadToEnd (S.ends input.old) (S.ends input.new) (S.quiets input.old) (S.quiets input.new)) (H.calls host.old) (H.calls host.new) (crew_told crew.old) (crew_told crew.new) (crew_faults crew.old) (crew_faults crew.new) (outputs (K.held out.old) (E.held err.old) (E.faults err.old)) (outputs (K.held out.new) (E.held err.new) (E.faults err.new))) }
     ensures unserved { is_some (served_of (map string_bytes words.now)) ≡ false → (host.new ≡ host.old) × (crew.new ≡ crew.old) }
     ensures unread { reads_input (map string_bytes words.now) ≡ false → input.new ≡ input.old }
@@ -156,6 +172,7 @@ where
     ensures read { result ≡ Status.ReadFault → Rose (S.faults input.old) (S.faults input.new) }
     ensures read_told { S.faults input.old < S.faults input.new → result ≡ Status.ReadFault }
     ensures write { result ≡ Status.WriteFault → Rose (K.faults out.old) (K.faults out.new) ⊎ Rose (E.faults err.old) (E.faults err.new) }
+    ensures write_told { is_some (served_of (map string_bytes words.now)) ≡ false → (K.faults out.old < K.faults out.new → result ≡ Status.WriteFault) × (E.faults err.old < E.faults err.new → (result ≡ Status.WriteFault) ⊎ (result ≡ Status.Words)) }
     ensures complete { (Rose (S.faults input.old) (S.faults input.new) → ⊥) → (Rose (K.faults out.old) (K.faults out.new) → ⊥) → (Rose (E.faults err.old) (E.faults err.new) → ⊥) → (Rose (H.faults host.old) (H.faults host.new) → ⊥) → IsUnhindered result }
     ensures words { (result ≡ Status.Words → IsWrong (map string_bytes words.now)) × (IsRefused (map string_bytes words.now) → (result ≡ Status.Words) ⊎ (result ≡ Status.NoMemory)) }
     ensures forms { FormsAreTaken }
@@ -183,6 +200,12 @@ where
     settled_sets_are_declared();
     no_event_is_refused();
     numbers_always_hold();
+    runs_are_of_a_world();
+    running_routers_are_a_world();
+    runs_have_phases();
+    phases_deliver();
+    phases_refine();
+    queues_are_packed();
     answers_always_hold();
     lines_refine();
     lines_fit();
