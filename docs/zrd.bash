@@ -8,7 +8,7 @@ _zrd() {
     case ${before[1]-} in
     '') words=' net serve make help --help --version ' ;;
     net) words=' --summary --explain --help ' ;;
-    serve) words=' --id --listen --log --rules --explain --help ' ;;
+    serve) words=' --id --listen --log --rules --explain --admin --help ' ;;
     make) words=' --number --routers --clients --messages --help ' ;;
     help) words=' net serve make ' ;;
     *) words= ;;
