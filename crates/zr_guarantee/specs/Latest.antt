@@ -7,8 +7,8 @@ use Rattle.std.specs.Ordering.{is_eq, nat_cmp}
 use Rattle.zr_body.specs.Latest.{is_latest, is_reply}
 use Rattle.zr_lists.specs.Prefix.{IsPrefixOf}
 use Rattle.zr_msg.specs.declared.content.Parts.{Parts}
-use Rattle.zr_pend.specs.Held.{gathered, reply_weight, most_held}
-use Rattle.zr_pend.specs.Best.{key_body}
+use Rattle.zr_pend_spec.specs.Held.{gathered, reply_weight, most_held}
+use Rattle.zr_pend_spec.specs.Best.{key_body}
 use Rattle.zr_script_spec.specs.declared.report.ReportLine.{ReportLine}
 use Rattle.zr_world_spec.specs.World.{is_quiet}
 use Rattle.zr_world_spec.specs.Moments.{Numbered, Moment}

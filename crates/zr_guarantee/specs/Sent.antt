@@ -53,6 +53,7 @@ abbrev pub told_in : List ℕ → ReportLine → Option Told
 told_in receiver (r.Handled router from msg tag) = None
 told_in receiver (r.Taken router to msg tag) = if is_named receiver to then Some (record { msg = msg; tag = tag }) else None
 told_in receiver (r.Ran steps quiet) = None
+told_in receiver (r.Fanned lines steps kinds) = None
 told_in receiver (r.Mark line) = None
 told_in receiver (r.Show router) = None
 told_in receiver (r.Record links) = None

@@ -18,7 +18,7 @@ use Rattle.zr_msg.specs.declared.event.Event.TheVariants.{Down, From}
 use Rattle.zr_msg.specs.declared.msg.Msg.{Msg}
 use Rattle.zr_msg.specs.declared.msg.Msg.TheVariants.{Sub, Unsub, Token, Untoken, Able, Unable, Response}
 use Rattle.zr_msg.specs.declared.peer.Role.TheVariants.{Client}
-use Rattle.zr_pend.specs.Held.{reply_weight, held_weight, most_held}
+use Rattle.zr_pend_spec.specs.Held.{reply_weight, held_weight, most_held}
 use Rattle.zr_node_spec.specs.Table.{able_kind}
 use Rattle.zr_script_spec.specs.declared.command.Act.{Act}
 use Rattle.zr_script_spec.specs.declared.command.Act.TheVariants as a

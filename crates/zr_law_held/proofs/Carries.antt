@@ -16,9 +16,9 @@ use Rattle.zr_msg.specs.declared.extras.Extras.{Extras}
 use Rattle.zr_msg.specs.declared.msg.Msg.{Msg}
 use Rattle.zr_msg.specs.declared.msg.Msg.TheVariants.{Sub, Unsub, Token, Untoken, Able, Unable, Interest, EndInterest, ToldSub, ToldAble, ToldUnsub, ToldToken, ToldUntoken, ToldUnable, ToldEnd, Push, Request, Response, Final, State, Step, Snap}
 use Rattle.zr_msg.specs.declared.msg.Target.{Target}
-use Rattle.zr_pend.specs.declared.branch.Asker.{Asker}
-use Rattle.zr_pend.specs.Pending.{branch, asker_of, final_to, finals_of_drop}
-use Rattle.zr_pend.specs.Held.{GatheringState, held_for, ending, reply_weight, gathering_weight, held_weight, gatherings_with, gatherings_without}
+use Rattle.zr_pend_spec.specs.declared.branch.Asker.{Asker}
+use Rattle.zr_pend_spec.specs.Pending.{branch, asker_of, final_to, finals_of_drop}
+use Rattle.zr_pend_spec.specs.Held.{GatheringState, held_for, ending, reply_weight, gathering_weight, held_weight, gatherings_with, gatherings_without}
 use Rattle.zr_node_spec.specs.Tables.{leads_to_client}
 use Rattle.zr_node_spec.specs.Queries.{link_no, asker, asked_links, reply_to, final_for, held_at, passes_reply, held_to, ending_for, gathering_if}
 use Rattle.zr_node_spec.specs.State.{NodeState, tables}

@@ -9,14 +9,14 @@ use Rattle.std.proofs.lemmas.List.Sums.{sum_by-cons}
 use Rattle.zr_id.specs.declared.link.LinkNo.{LinkNo}
 use Rattle.zr_body.specs.Latest.{is_later}
 use Rattle.zr_msg.specs.declared.content.Parts.{Parts}
-use Rattle.zr_pend.specs.declared.branch.Asker.{Asker}
-use Rattle.zr_pend.specs.Row.{RowState}
-use Rattle.zr_pend.specs.Pending.{IsSound, all_orphaned, branches_on, finals_of_drop}
-use Rattle.zr_pend.specs.Held.{GatheringState, is_asker, is_for, gathers_for, held_for, ending, held_with, are_apart, reply_weight, gathering_weight, held_weight, gathering_begun, regathered, gatherings_with, gatherings_without, gatherings_off, gatherings_left, gatherings_differ}
-use Rattle.zr_pend.proofs.Sums.{filter_sum}
-use Rattle.zr_pend.proofs.Sound.{all_orphaned_sound}
-use Rattle.zr_pend.proofs.Gathered.{same_asker, endings_else, weighs_if}
-use Rattle.zr_pend.proofs.Askers.{finals_apart, dropped_endings}
+use Rattle.zr_pend_spec.specs.declared.branch.Asker.{Asker}
+use Rattle.zr_pend_spec.specs.Row.{RowState}
+use Rattle.zr_pend_spec.specs.Pending.{IsSound, all_orphaned, branches_on, finals_of_drop}
+use Rattle.zr_pend_spec.specs.Held.{GatheringState, is_asker, is_for, gathers_for, held_for, ending, held_with, are_apart, reply_weight, gathering_weight, held_weight, gathering_begun, regathered, gatherings_with, gatherings_without, gatherings_off, gatherings_left, gatherings_differ}
+use Rattle.zr_pend_spec.proofs.Sums.{filter_sum}
+use Rattle.zr_pend_spec.proofs.Sound.{all_orphaned_sound}
+use Rattle.zr_pend_spec.proofs.Gathered.{same_asker, endings_else, weighs_if}
+use Rattle.zr_pend_spec.proofs.Askers.{finals_apart, dropped_endings}
 
 abbrev Held : Type 0
 Held = List GatheringState

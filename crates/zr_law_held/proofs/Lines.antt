@@ -15,7 +15,7 @@ use Rattle.zr_body.specs.Payload.{put_body, del_body}
 use Rattle.zr_key.specs.Key.{read_key}
 use Rattle.zr_key.specs.declared.key.KeyError.{KeyError}
 use Rattle.zr_msg.specs.declared.content.Parts.{Parts}
-use Rattle.zr_pend.specs.Held.{reply_weight}
+use Rattle.zr_pend_spec.specs.Held.{reply_weight}
 use Rattle.zr_script_spec.specs.declared.error.ScriptError.{ScriptError}
 use Rattle.zr_script_spec.specs.declared.error.ScriptError.TheVariants.{BadWords}
 use Rattle.zr_script_spec.specs.declared.command.Act.{Act}
@@ -28,6 +28,7 @@ use Rattle.zr_script_spec.specs.Words.{words, is_word, zid_of_word, zid_at, is_n
 use Rattle.zr_script_spec.specs.Command.{plain, asking_body, answer_body, command_of}
 use Rattle.zr_world_spec.specs.World.{WorldState}
 use Rattle.zr_world_spec.specs.Moments.{Numbered, is_step}
+use Rattle.zr_world_spec.specs.Fan.{most_fan_steps}
 use Rattle.zr_world_spec.specs.Next.{run_steps, acts}
 use Rattle.zr_world_spec.specs.Run.{Run, start, on_line}
 use Rattle.zr_world_spec.specs.Accepted.{entries, accepted_from}
@@ -104,6 +105,9 @@ module _ (n : ℕ) where
   run_fits steps w number =
       let nothing : sayings (numbered number (run_steps number steps w)) ≡ [] = steps_say number (run_steps number steps w) (all_steps number steps w) in
       record { light = omega (arith, ap (sum_by saying_weight) nothing); bodies = ap (list_all reply_bodies) nothing }
+
+  fan_fits : CommandFits n c.Fan
+  fan_fits w = run_fits most_fan_steps w
 
   end_fits : (client : List ℕ) (number : ℕ) → CommandFits n (c.Act (a.End client number))
   end_fits client number w line = record { light = omega arith; bodies = refl }
@@ -224,6 +228,7 @@ module _ (n : ℕ) (short : n ≤ most_line) where
     handle = λ router from. quiet n (a.Handle router from) (λ m. refl);
     take = λ router to. quiet n (a.Take router to) (λ m. refl);
     run = λ steps. run_fits n steps;
+    fan = fan_fits n;
     mark = quiet n a.Mark (λ m. refl);
     show = λ router. quiet n (a.Show router) (λ m. refl);
   }

@@ -5,7 +5,7 @@ use Rattle.std.specs.List.{sum_by}
 use Rattle.std.specs.Option.{option_map_or}
 use Rattle.zr_msg.specs.declared.content.Parts.{Parts}
 use Rattle.zr_msg.specs.declared.msg.Msg.TheVariants.{Response}
-use Rattle.zr_pend.specs.Held.{reply_weight, held_weight, has_room, most_held}
+use Rattle.zr_pend_spec.specs.Held.{reply_weight, held_weight, has_room, most_held}
 use Rattle.zr_world_spec.specs.World.{Tagged, RouterState, EndState, WorldState, router_of, end_of}
 use Rattle.zr_world_spec.specs.Moments.{Numbered, Moment, reached}
 use Rattle.zr_guarantee.specs.Sent.{reply_in}

@@ -4,7 +4,7 @@ use Rattle.std.specs.Prelude.{map, filter}
 use Rattle.std.specs.List.{list_any}
 use Rattle.zr_msg.specs.declared.msg.Target.{Target}
 use Rattle.zr_msg.specs.declared.peer.LinkPeer.{LinkPeer}
-use Rattle.zr_pend.specs.Pending.{differ}
+use Rattle.zr_pend_spec.specs.Pending.{differ}
 use Rattle.zr_node_spec.specs.Tables.{TableState, AreNumbered, link_at}
 use Rattle.zr_node_spec.specs.Samples.{tree_of}
 use Rattle.zr_node_spec.specs.Queries.{is_asked, links_along, asked_links}

@@ -1,11 +1,11 @@
 -- The steps of a run are possible behind any lines of a script, where something holds of every world that so many acts led to, and says of so many
 -- that the world is sound and its routers take what waits for them. Each line counts one, and each run as many as it asks for.
-use Rattle.std.proofs.Common.{◌≡◌, ◌≤◌, ◌+◌, ℕ, zero, suc, Bool, true, false, cond, List, [], ◌∷◌, ◌++◌, length, Option, Some, None, Result, Ok, Err, refl, ap, ◌∙◌, subst, arith}
-use Rattle.std.specs.Prelude.{nat_le, is_some, is_none, is_ok, IfOk}
-use Rattle.std.specs.List.{fold}
-use Rattle.std.proofs.lemmas.Bool.{leb-true}
+use Rattle.std.proofs.Common.{◌≡◌, ◌≤◌, ◌+◌, ℕ, zero, suc, Bool, true, false, cond, List, [], ◌∷◌, ◌++◌, length, Option, Some, None, Result, Ok, Err, refl, sym, ap, ◌∙◌, subst, arith}
+use Rattle.std.specs.Prelude.{◌||◌, not, nat_le, is_some, is_none, is_ok, IfOk}
+use Rattle.std.specs.List.{fold, list_all}
+use Rattle.std.proofs.lemmas.Bool.{leb-true, and_parts}
 use Rattle.zr_script_spec.specs.declared.error.ScriptError.{ScriptError}
-use Rattle.zr_script_spec.specs.declared.error.ScriptError.TheVariants.{Limit}
+use Rattle.zr_script_spec.specs.declared.error.ScriptError.TheVariants.{Limit, NotSamples, NotSettled}
 use Rattle.zr_script_spec.specs.declared.command.Act.{Act}
 use Rattle.zr_script_spec.specs.declared.command.Command.{Command}
 use Rattle.zr_script_spec.specs.declared.command.Command.TheVariants as c
@@ -14,10 +14,13 @@ use Rattle.zr_script_spec.specs.declared.report.ReportLine.TheVariants.{Ran}
 use Rattle.zr_script_spec.specs.Command.{command_of}
 use Rattle.zr_script_spec.specs.Lines.{most_bytes}
 use Rattle.zr_script_spec.specs.Step.{◌>>=◌}
-use Rattle.zr_world_spec.specs.World.{WorldState, empty_world, with_booked, most_steps}
-use Rattle.zr_world_spec.specs.Acts.{Outcome, outcome}
+use Rattle.zr_world_spec.specs.World.{WorldState, empty_world, with_booked, most_steps, is_settled}
+use Rattle.zr_world_spec.specs.Fan.{are_samples, are_many, are_long, most_fan_steps, fanned}
+use Rattle.zr_world_spec.specs.Acts.{Outcome, unless, outcome}
 use Rattle.zr_world_spec.specs.Sound.{IsSound, AllAreTaken}
-use Rattle.zr_world_spec.specs.Next.{Done, next, with_more, world_after, run_steps, all_done, booking, book_step, run_done, applied}
+use Rattle.zr_world_spec.specs.Next.{Done, next, with_more, world_after, run_steps, all_done, booking, book_step, run_done, fan_steps, fan_done, fan_step, applied}
+use Rattle.zr_world_spec.specs.Moments.{is_step}
+use Rattle.zr_world_spec.proofs.Lines.{all_steps}
 use Rattle.zr_world_spec.specs.Run.{Run, start, stepped, commanded, on_line, run_lines}
 use Rattle.zr_world_spec.proofs.Counting.{recounted, outcome_recounted}
 use Rattle.zr_world_spec.proofs.Sound.{next_goes}
@@ -55,7 +58,9 @@ few_steps line (suc n) w = by (next w) (λ v. few_steps line n v)
 
 module _ (P : ℕ → WorldState → Type 0) (begins : P 0 empty_world) (later : (k m : ℕ) (w : WorldState) → k ≤ m → P k w → P m w)
     (keeps : (k : ℕ) (w : WorldState) (line : ℕ) (act : Act) → P k w → IfOk (outcome w line act) (λ x. P (k + 1) x.1))
-    (counts : (k : ℕ) (w : WorldState) (booked : ℕ) → P k w → P k (with_booked w booked)) where
+    (counts : (k : ℕ) (w : WorldState) (booked : ℕ) → P k w → P k (with_booked w booked))
+    (Q : WorldState → Type 0) (samples : (w : WorldState) → are_samples w ≡ true → Q w)
+    (light : (k : ℕ) (w : WorldState) (line : ℕ) (act : Act) → is_step act ≡ true → P k w → Q w → IfOk (outcome w line act) (λ x. P k x.1 × Q x.1)) where
   -- some acts, and the count stays
   abbrev Led : ℕ → ℕ → List ReportLine × WorldState → Type 0
   Led k booked x = P k x.1 × (x.1.booked ≡ booked)
@@ -107,6 +112,42 @@ module _ (P : ℕ → WorldState → Type 0) (begins : P 0 empty_world) (later :
           let le : (lines + w.booked) + length several ≤ lines + y.1.booked = omega (arith, e, few) in
           (later ((lines + w.booked) + length several) (lines + y.1.booked) y.1 le m.0, omega (arith, e, room))
 
+  -- the steps of a fan count nothing, since they are all on samples
+  light_lead : (line : ℕ) (several : List Act) (k booked : ℕ) (w : WorldState) → list_all is_step several ≡ true → P k w → Q w → w.booked ≡ booked → IfOk (all_done w line several) (Led k booked)
+  light_lead line [] k booked w ok h q e = (h, e)
+  light_lead line (a ∷ more) k booked w ok h q e =
+      let parts = and_parts (is_step a) (list_all is_step more) ok in
+      by (outcome w line a) (light k w line a parts.0 h q) (same_count w line a) (λ v. light_lead line more k booked v parts.1)
+    where
+      by : (o : Outcome) → IfOk o (λ x. P k x.1 × Q x.1) → IfOk o (λ x. x.1.booked ≡ w.booked) → ((v : WorldState) → P k v → Q v → v.booked ≡ booked → IfOk (all_done v line more) (Led k booked)) →
+          IfOk (o >>= (λ x. all_done x.1 line more >>= (said_first x.0))) (Led k booked)
+      by (Err f) p c ih = tt
+      by (Ok x) p c ih = at (all_done x.1 line more) (ih x.1 p.0 p.1 (c ∙ e))
+        where
+          at : (d : Done) → IfOk d (Led k booked) → IfOk (d >>= (said_first x.0)) (Led k booked)
+          at (Err f) m = tt
+          at (Ok y) m = m
+
+  fan_leads : (lines line : ℕ) (w : WorldState) → Behind lines w → IfOk (fan_step w line) (λ x. Behind lines x.1)
+  unfolding fan_step fan_done
+  fan_leads lines line w h = by (is_settled w) (are_samples w) refl (are_many w || are_long w)
+    where
+      tells : List ReportLine × WorldState → Done
+      tells x = Ok (fanned x.1.routers x.0 ∷ [], x.1)
+
+      done : (d : Done) → IfOk d (Led (lines + w.booked) w.booked) → IfOk (d >>= tells) (λ x. Behind lines x.1)
+      done (Err e) m = tt
+      done (Ok y) m =
+          let e = m.1 in
+          let most = h.1 in
+          (subst (λ n. P (lines + n) y.1) (sym e) m.0, omega (arith, e, most))
+
+      by : (a b : Bool) → are_samples w ≡ b → (c : Bool) → IfOk (unless (not a) NotSettled >>= (λ u. unless (not b) NotSamples >>= (λ v. unless c Limit >>= (λ z. fan_done line w)))) (λ x. Behind lines x.1)
+      by false b is c = tt
+      by true false is c = tt
+      by true true is true = tt
+      by true true is false = done (all_done w line (fan_steps line w)) (light_lead line (fan_steps line w) (lines + w.booked) w.booked w (all_steps line most_fan_steps w) h.0 (samples w is) refl)
+
   applied_leads : (lines : ℕ) (w : WorldState) (line : ℕ) (command : Command) → Behind lines w → IfOk (applied w line command) (λ x. Behind (lines + 1) x.1)
   unfolding applied book_step
   applied_leads lines w line (c.Act act) h = by (outcome w line act) (keeps (lines + w.booked) w line act h.0) (same_count w line act)
@@ -123,6 +164,11 @@ module _ (P : ℕ → WorldState → Type 0) (begins : P 0 empty_world) (later :
       by : (b : Bool) → nat_le (w.booked + steps) most_steps ≡ b → IfOk (cond b (Ok (booking w steps)) (Err Limit) >>= run_done line steps) (λ x. Behind (lines + 1) x.1)
       by true room = more (run_done line steps (booking w steps)) (run_leads lines line steps w h (leb-true (w.booked + steps) most_steps room))
       by false room = tt
+  applied_leads lines w line c.Fan h = more (fan_step w line) (fan_leads lines line w h)
+    where
+      more : (d : Done) → IfOk d (λ x. Behind lines x.1) → IfOk d (λ x. Behind (lines + 1) x.1)
+      more (Err e) k = tt
+      more (Ok x) k = behind_more lines x.1 k
 
   line_leads : (lines : ℕ) (r : Run) (line : List ℕ) → Behind lines r.world → Behind (lines + 1) (on_line r line).world
   line_leads lines r line h = by (is_some r.refusal)

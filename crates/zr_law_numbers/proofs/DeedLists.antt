@@ -7,11 +7,11 @@ use Rattle.std.proofs.lemmas.Bool.{eqb-true, eq-eqb, false_from_ne_true, falseâ‰
 use Rattle.std.proofs.lemmas.Grind.{flat_map-append}
 use Rattle.std.proofs.lemmas.List.Folds.{list_all-append}
 use Rattle.zr_id.specs.declared.link.LinkNo.{LinkNo}
-use Rattle.zr_pend.specs.declared.branch.Asker.{Asker}
-use Rattle.zr_pend.specs.declared.branch.Branch.{Branch}
-use Rattle.zr_pend.specs.Row.{RowState, is_last}
-use Rattle.zr_pend.specs.Pending.{IsSound, asked, finished, final_to, all_finished, finals}
-use Rattle.zr_pend.proofs.Sound.{finished_sound}
+use Rattle.zr_pend_spec.specs.declared.branch.Asker.{Asker}
+use Rattle.zr_pend_spec.specs.declared.branch.Branch.{Branch}
+use Rattle.zr_pend_spec.specs.Row.{RowState, is_last}
+use Rattle.zr_pend_spec.specs.Pending.{IsSound, asked, finished, final_to, all_finished, finals}
+use Rattle.zr_pend_spec.proofs.Sound.{finished_sound}
 use Rattle.zr_law_queries.specs.Link.{reply}
 use Rattle.zr_law_numbers.specs.Waiting.{Place, Said}
 use Rattle.zr_law_numbers.specs.Deeds.{Half, Deed, Replies, Ends, IsHalf, with_deed, with_deeds, MayDoAll, is_own, asked_by_deed, answered_by_deed}

@@ -14,10 +14,10 @@ use Rattle.zr_msg.specs.declared.content.Parts.{Parts}
 use Rattle.std.proofs.lemmas.Bool.{eqb-true}
 use Rattle.zr_msg.specs.declared.extras.Extras.{Extras}
 use Rattle.zr_msg.specs.declared.peer.LinkPeer.{LinkPeer}
-use Rattle.zr_pend.specs.declared.branch.Asker.{Asker}
-use Rattle.zr_pend.specs.Pending.{branch}
-use Rattle.zr_pend.specs.Readings.{back}
-use Rattle.zr_pend.specs.Held.{held_for}
+use Rattle.zr_pend_spec.specs.declared.branch.Asker.{Asker}
+use Rattle.zr_pend_spec.specs.Pending.{branch}
+use Rattle.zr_pend_spec.specs.Readings.{back}
+use Rattle.zr_pend_spec.specs.Held.{held_for}
 use Rattle.zr_node_spec.specs.Queries.{ending_for}
 use Rattle.zr_node_spec.specs.State.{NodeState}
 use Rattle.zr_node_spec.specs.Table.{sends_first, after}

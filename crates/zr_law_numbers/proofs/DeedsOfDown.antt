@@ -10,13 +10,13 @@ use Rattle.zr_id.specs.declared.link.LinkNo.{LinkNo}
 use Rattle.zr_msg.specs.Extras.{no_extras}
 use Rattle.zr_msg.specs.declared.event.Event.TheVariants.{Down}
 use Rattle.zr_msg.specs.declared.peer.LinkPeer.{LinkPeer}
-use Rattle.zr_pend.specs.declared.branch.Asker.{Asker}
-use Rattle.zr_pend.specs.Row.{RowState, is_asked_by}
-use Rattle.zr_pend.specs.Pending.{IsSound, asked, is_pending, numbers_on, branch, branches_on, all_orphaned, finals_of_drop}
-use Rattle.zr_pend.specs.Readings.{back, but_link}
-use Rattle.zr_pend.proofs.Free.{is_in, pending_is_in}
-use Rattle.zr_pend.proofs.Sound.{all_orphaned_sound}
-use Rattle.zr_pend.proofs.ReadingsOfDrop.{dropped_back}
+use Rattle.zr_pend_spec.specs.declared.branch.Asker.{Asker}
+use Rattle.zr_pend_spec.specs.Row.{RowState, is_asked_by}
+use Rattle.zr_pend_spec.specs.Pending.{IsSound, asked, is_pending, numbers_on, branch, branches_on, all_orphaned, finals_of_drop}
+use Rattle.zr_pend_spec.specs.Readings.{back, but_link}
+use Rattle.zr_pend_spec.proofs.Free.{is_in, pending_is_in}
+use Rattle.zr_pend_spec.proofs.Sound.{all_orphaned_sound}
+use Rattle.zr_pend_spec.proofs.ReadingsOfDrop.{dropped_back}
 use Rattle.zr_node_spec.specs.Tables.{link_at}
 use Rattle.zr_node_spec.specs.Queries.{ending_for}
 use Rattle.zr_lists.proofs.Each.{All-append}

@@ -10,12 +10,12 @@ use Rattle.zr_msg.specs.declared.event.Event.TheVariants.{From}
 use Rattle.zr_msg.specs.declared.extras.Extras.{Extras}
 use Rattle.zr_msg.specs.declared.msg.Msg.TheVariants.{Response, Final}
 use Rattle.zr_msg.specs.declared.peer.LinkPeer.{LinkPeer}
-use Rattle.zr_pend.specs.declared.branch.Asker.{Asker}
-use Rattle.zr_pend.specs.declared.branch.Branch.{Branch}
-use Rattle.zr_pend.specs.Row.{has}
-use Rattle.zr_pend.specs.Pending.{IsSound, asked, branch, asker_of, finished, final_to}
-use Rattle.zr_pend.specs.Readings.{back}
-use Rattle.zr_pend.proofs.Readings.{finished_back}
+use Rattle.zr_pend_spec.specs.declared.branch.Asker.{Asker}
+use Rattle.zr_pend_spec.specs.declared.branch.Branch.{Branch}
+use Rattle.zr_pend_spec.specs.Row.{has}
+use Rattle.zr_pend_spec.specs.Pending.{IsSound, asked, branch, asker_of, finished, final_to}
+use Rattle.zr_pend_spec.specs.Readings.{back}
+use Rattle.zr_pend_spec.proofs.Readings.{finished_back}
 use Rattle.zr_node_spec.specs.Queries.{link_no, reply_to, held_at, ending_for}
 use Rattle.zr_node_spec.specs.State.{NodeState}
 use Rattle.zr_node_spec.specs.Table.{after}

@@ -15,10 +15,10 @@ use Rattle.zr_msg.specs.declared.msg.Msg.TheVariants.{Request, Final}
 use Rattle.zr_msg.specs.declared.msg.Target.{Target}
 use Rattle.zr_msg.specs.declared.peer.LinkPeer.{LinkPeer}
 use Rattle.zr_msg.specs.declared.peer.Role.{Role}
-use Rattle.zr_pend.specs.Row.{RowState}
-use Rattle.zr_pend.specs.Pending.{asked, branch, free_number, begun}
-use Rattle.zr_pend.specs.Readings.{back}
-use Rattle.zr_pend.proofs.Readings.{begun_kept}
+use Rattle.zr_pend_spec.specs.Row.{RowState}
+use Rattle.zr_pend_spec.specs.Pending.{asked, branch, free_number, begun}
+use Rattle.zr_pend_spec.specs.Readings.{back}
+use Rattle.zr_pend_spec.proofs.Readings.{begun_kept}
 use Rattle.zr_node_spec.specs.Tables.{TableState, AreNumbered, link_at, leads_to_client}
 use Rattle.zr_node_spec.specs.Samples.{tree_of}
 use Rattle.zr_node_spec.specs.Queries.{asker, is_asked, links_along, asked_links, tree_for, request_along, final_at_once, asked_over, asks_most, has_no_number, most_pending}

@@ -1,13 +1,13 @@
 -- All that holds of every world that so many acts led to (`Holds`): each act keeps it, and by it routers take what waits. So no event of a script's world
 -- is refused (`events_go`), no step of a run (`steps_go`), and no message that waits (`always_go`).
-use Rattle.std.proofs.Common.{◌≡◌, ◌≤◌, ◌+◌, ℕ, suc, List, [], ◌∷◌, length, Option, Some, None, Ok, Err, subst, arith}
+use Rattle.std.proofs.Common.{◌≡◌, ◌≤◌, ◌+◌, ℕ, suc, true, List, [], ◌∷◌, length, Option, Some, None, Ok, Err, subst, arith}
 use Rattle.std.specs.Prelude.{IfOk, IfSome}
 use Rattle.std.specs.List.{fold}
 use Rattle.zr_script_spec.specs.declared.command.Act.{Act}
 use Rattle.zr_script_spec.specs.Lines.{most_bytes}
 use Rattle.zr_world_spec.specs.World.{WorldState, empty_world, with_booked, most_steps}
 use Rattle.zr_world_spec.specs.Acts.{Outcome, outcome}
-use Rattle.zr_world_spec.specs.Moments.{Numbered, Moment, beginning, went, onward, reached}
+use Rattle.zr_world_spec.specs.Moments.{Numbered, Moment, is_step, beginning, went, onward, reached}
 use Rattle.zr_world_spec.specs.Run.{run_lines}
 use Rattle.zr_world_spec.proofs.Lines.{at_some}
 use Rattle.zr_law_settled.specs.Events.{RequestsAreTaken, NoEventIsRefused}
@@ -19,6 +19,7 @@ use Rattle.zr_law_numbers.specs.Waiting.{Said, Place}
 use Rattle.zr_law_numbers.specs.Numbers.{NumbersHold}
 use Rattle.zr_law_numbers.specs.Taken.{most_acts, StepsArePossible, AlwaysTaken}
 use Rattle.zr_law_numbers.proofs.Few.{FewHold, few_later, few_first, act_few}
+use Rattle.zr_law_numbers.proofs.Light.{IsLight, samples_light, light_goes, light_few}
 use Rattle.zr_law_numbers.proofs.Open.{AreOpen, open_first, act_open}
 use Rattle.zr_law_numbers.proofs.Taken.{requests_taken}
 use Rattle.zr_law_numbers.proofs.Counted.{behind_lines, steps_are_possible}
@@ -58,6 +59,19 @@ holds_on k w line act g =
     by (Err e) goes numbers room few = tt
     by (Ok x) goes numbers room few = record { goes = goes; hops = numbers.0; numbers = numbers.1; room = room; few = few }
 
+-- where nothing of a request is under way a step counts nothing
+light_holds : (k : ℕ) (w : WorldState) (line : ℕ) (act : Act) → is_step act ≡ true → Holds k w → IsLight w → IfOk (outcome w line act) (λ x. Holds k x.1 × IsLight x.1)
+light_holds k w line act ok g light =
+    by (outcome w line act) (goes_on w line act g.goes) (numbers_kept w line act g.hops g.goes g.numbers) (act_open now g.room line act) (light_few now light k g.few line act ok) (light_goes now light line act ok)
+  where
+    now : Moment
+    now = record { world = w; report = [] }
+
+    by : (o : Outcome) → IfOk o (λ x. Goes x.1) → IfOk o (λ x. (hops : Hops) × NumbersHold hops x.1) → IfSome (went now o) (λ next. AreOpen next.world.clients) →
+        IfSome (went now o) (λ next. FewHold k next.world.routers) → IfSome (went now o) (λ next. IsLight next.world) → IfOk o (λ x. Holds k x.1 × IsLight x.1)
+    by (Err e) goes numbers room few clear = tt
+    by (Ok x) goes numbers room few clear = (record { goes = goes; hops = numbers.0; numbers = numbers.1; room = room; few = few }, clear)
+
 -- ---- moments
 
 act_holds : (k : ℕ) (x : Numbered) (o : Option Moment) → IfSome o (λ m. Holds k m.world) → IfSome (onward o x) (λ m. Holds (k + 1) m.world)
@@ -80,10 +94,10 @@ taken_where : (k : ℕ) (w : WorldState) → k ≤ most_acts → Holds k w → R
 taken_where k w most g = requests_taken (fronts waiting.Asked Place Said) k (omega (arith, most)) w g.goes g.hops g.numbers g.room g.few
 
 pub steps_go : StepsArePossible
-steps_go = steps_are_possible Holds first_holds holds_later holds_on holds_counted (λ k w most g. (g.goes.sound, all_taken w g.goes (taken_where k w most g)))
+steps_go = steps_are_possible Holds first_holds holds_later holds_on holds_counted IsLight samples_light light_holds (λ k w most g. (g.goes.sound, all_taken w g.goes (taken_where k w most g)))
 
 pub events_go : NoEventIsRefused
-events_go = refused.no_event_is_refused (λ ls few. taken_where (most_bytes + most_steps) (run_lines ls).world (omega arith) (behind_lines Holds first_holds holds_later holds_on holds_counted ls few))
+events_go = refused.no_event_is_refused (λ ls few. taken_where (most_bytes + most_steps) (run_lines ls).world (omega arith) (behind_lines Holds first_holds holds_later holds_on holds_counted IsLight samples_light light_holds ls few))
 
 pub always_go : AlwaysTaken
 always_go acts m few reaches =

@@ -19,12 +19,12 @@ use Rattle.zr_id.specs.Zid.{is_named}
 use Rattle.zr_msg.specs.declared.peer.Role.TheVariants.{Client}
 use Rattle.zr_script_spec.specs.declared.command.Act.{Act}
 use Rattle.zr_script_spec.specs.declared.command.Act.TheVariants as a
-use Rattle.zr_pend.specs.declared.branch.Asker.{Asker}
-use Rattle.zr_pend.specs.declared.branch.Branch.{Branch}
-use Rattle.zr_pend.specs.Row.{RowState, is_branch, branches_of, numbers_of}
-use Rattle.zr_pend.specs.Pending.{numbers_on, free_number, branches, begun, finished, all_finished, all_orphaned, branches_on, dropped, differ}
-use Rattle.zr_pend.proofs.Readings.{begun_numbers}
-use Rattle.zr_pend.proofs.Sound.{finished_branches, all_orphaned_branches}
+use Rattle.zr_pend_spec.specs.declared.branch.Asker.{Asker}
+use Rattle.zr_pend_spec.specs.declared.branch.Branch.{Branch}
+use Rattle.zr_pend_spec.specs.Row.{RowState, is_branch, branches_of, numbers_of}
+use Rattle.zr_pend_spec.specs.Pending.{numbers_on, free_number, branches, begun, finished, all_finished, all_orphaned, branches_on, dropped, differ}
+use Rattle.zr_pend_spec.proofs.Readings.{begun_numbers}
+use Rattle.zr_pend_spec.proofs.Sound.{finished_branches, all_orphaned_branches}
 use Rattle.zr_node_spec.specs.Tables.{AreNumbered}
 use Rattle.zr_node_spec.specs.Queries.{asker, link_no, asked_links, asked_over}
 use Rattle.zr_node_spec.specs.State.{NodeState, tables}

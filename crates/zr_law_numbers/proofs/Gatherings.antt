@@ -6,13 +6,13 @@ use Rattle.std.proofs.lemmas.Bool.{and_parts, and_from}
 use Rattle.zr_lists.proofs.Each.{All-filter}
 use Rattle.zr_id.specs.declared.link.LinkNo.{LinkNo}
 use Rattle.zr_msg.specs.declared.content.Parts.{Parts}
-use Rattle.zr_pend.specs.declared.branch.Asker.{Asker}
-use Rattle.zr_pend.specs.declared.branch.Branch.{Branch}
-use Rattle.zr_pend.specs.Row.{RowState}
-use Rattle.zr_pend.specs.Pending.{IsSound, asked, begun, finished, final_to, dropped, finals_of_drop}
-use Rattle.zr_pend.specs.Held.{GatheringState, is_for, gathers_for, held_with, begun_if, regathered, gatherings_with, gatherings_without, gatherings_off, gatherings_left, gatherings_differ, after_final_to, AreGatherings}
-use Rattle.zr_pend.proofs.Gathered.{differ_begun, differ_kept}
-use Rattle.zr_pend.proofs.Askers.{none_gathered, begun_of_rows, held_of_rows, ended_of_rows, dropped_of_rows}
+use Rattle.zr_pend_spec.specs.declared.branch.Asker.{Asker}
+use Rattle.zr_pend_spec.specs.declared.branch.Branch.{Branch}
+use Rattle.zr_pend_spec.specs.Row.{RowState}
+use Rattle.zr_pend_spec.specs.Pending.{IsSound, asked, begun, finished, final_to, dropped, finals_of_drop}
+use Rattle.zr_pend_spec.specs.Held.{GatheringState, is_for, gathers_for, held_with, begun_if, regathered, gatherings_with, gatherings_without, gatherings_off, gatherings_left, gatherings_differ, after_final_to, AreGatherings}
+use Rattle.zr_pend_spec.proofs.Gathered.{differ_begun, differ_kept}
+use Rattle.zr_pend_spec.proofs.Askers.{none_gathered, begun_of_rows, held_of_rows, ended_of_rows, dropped_of_rows}
 
 abbrev Held : Type 0
 Held = List GatheringState

@@ -14,6 +14,7 @@ pub mod OfLinks
 pub mod DeedsOfUp
 pub mod Done
 pub mod Few
+pub mod Light
 pub mod Open
 pub mod Counted
 pub mod Taken

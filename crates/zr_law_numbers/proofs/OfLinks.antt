@@ -14,12 +14,12 @@ use Rattle.zr_msg.specs.declared.extras.Extras.{Extras}
 use Rattle.zr_msg.specs.declared.msg.Target.{Target}
 use Rattle.zr_msg.specs.declared.peer.LinkPeer.{LinkPeer}
 use Rattle.zr_msg.specs.Peer.{PeerState}
-use Rattle.zr_pend.specs.declared.branch.Asker.{Asker}
-use Rattle.zr_pend.specs.declared.branch.Branch.{Branch}
-use Rattle.zr_pend.specs.Row.{RowState}
-use Rattle.zr_pend.specs.Pending.{asked, branch, branches, differ, final_to, finals_of_drop}
-use Rattle.zr_pend.specs.Held.{GatheringState, is_for, gathering_begun, gatherings_with, after_final_to, AreGatherings}
-use Rattle.zr_pend.proofs.Sound.{begun_sound, finished_sound, dropped_sound}
+use Rattle.zr_pend_spec.specs.declared.branch.Asker.{Asker}
+use Rattle.zr_pend_spec.specs.declared.branch.Branch.{Branch}
+use Rattle.zr_pend_spec.specs.Row.{RowState}
+use Rattle.zr_pend_spec.specs.Pending.{asked, branch, branches, differ, final_to, finals_of_drop}
+use Rattle.zr_pend_spec.specs.Held.{GatheringState, is_for, gathering_begun, gatherings_with, after_final_to, AreGatherings}
+use Rattle.zr_pend_spec.proofs.Sound.{begun_sound, finished_sound, dropped_sound}
 use Rattle.zr_node_spec.specs.Tables.{TableState, AreNumbered, is_link, link_at, is_router, leads_to_client}
 use Rattle.zr_node_spec.specs.Samples.{tree_of}
 use Rattle.zr_node_spec.specs.Queries.{asker, link_no, is_asked, links_along, asked_links, asked_over, held_at, gathering_if}

@@ -4,15 +4,15 @@ use Rattle.std.specs.List.{list_any}
 use Rattle.std.specs.Option.{option_map}
 use Rattle.std.proofs.lemmas.Bool.{eqb-true, false≢true}
 use Rattle.zr_id.specs.declared.link.LinkNo.{LinkNo}
-use Rattle.zr_pend.specs.declared.branch.Asker.{Asker}
-use Rattle.zr_pend.specs.declared.branch.Branch.{Branch}
-use Rattle.zr_pend.specs.Row.{RowState, is_branch}
-use Rattle.zr_pend.specs.Pending.{branch, is_pending, free_number, opened, begun}
-use Rattle.zr_pend.specs.Readings.{back}
-use Rattle.zr_pend.proofs.Free.{free_is_free}
-use Rattle.zr_pend.proofs.Sound.{free_of_number}
-use Rattle.zr_pend.proofs.OneRow.{none_found}
-use Rattle.zr_pend.proofs.Readings.{begun_back}
+use Rattle.zr_pend_spec.specs.declared.branch.Asker.{Asker}
+use Rattle.zr_pend_spec.specs.declared.branch.Branch.{Branch}
+use Rattle.zr_pend_spec.specs.Row.{RowState, is_branch}
+use Rattle.zr_pend_spec.specs.Pending.{branch, is_pending, free_number, opened, begun}
+use Rattle.zr_pend_spec.specs.Readings.{back}
+use Rattle.zr_pend_spec.proofs.Free.{free_is_free}
+use Rattle.zr_pend_spec.proofs.Sound.{free_of_number}
+use Rattle.zr_pend_spec.proofs.OneRow.{none_found}
+use Rattle.zr_pend_spec.proofs.Readings.{begun_back}
 
 -- nothing that is not pending has a row
 pub not_back : (rows : List RowState) (b : Branch) → is_pending b rows ≡ false → back rows b ≡ None

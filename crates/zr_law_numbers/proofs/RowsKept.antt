@@ -3,17 +3,17 @@ use Rattle.std.proofs.Common.{◌≡◌, suc, length, arith, ◌==◌, ◌&&◌,
 use Rattle.std.specs.List.{list_any, find}
 use Rattle.std.specs.Option.{option_map, option_map_or, option_and_then}
 use Rattle.std.proofs.lemmas.Bool.{eqb-true, eq-eqb, false_from_ne_true, false≢true, and_from, or_left, or_right}
-use Rattle.zr_pend.specs.declared.branch.Asker.{Asker}
-use Rattle.zr_pend.specs.declared.branch.Branch.{Branch}
-use Rattle.zr_pend.specs.Row.{RowState, is_branch, has, is_asked_by}
-use Rattle.zr_pend.specs.Pending.{asked, are_distinct, branches, finished, final_to, IsSound}
-use Rattle.zr_pend.specs.Readings.{back, row_of, but_for, final_if_none}
-use Rattle.zr_pend.proofs.Parts.{and_left, and_right, left_false}
-use Rattle.zr_pend.proofs.Branches.{distinct_behind, distinct_apart}
-use Rattle.zr_pend.proofs.Sound.{any_branch}
-use Rattle.zr_pend.proofs.OneRow.{none_found}
-use Rattle.zr_pend.proofs.Readings.{in_row, finished_is}
-use Rattle.zr_pend.proofs.ReadingsOfDrop.{kept_is}
+use Rattle.zr_pend_spec.specs.declared.branch.Asker.{Asker}
+use Rattle.zr_pend_spec.specs.declared.branch.Branch.{Branch}
+use Rattle.zr_pend_spec.specs.Row.{RowState, is_branch, has, is_asked_by}
+use Rattle.zr_pend_spec.specs.Pending.{asked, are_distinct, branches, finished, final_to, IsSound}
+use Rattle.zr_pend_spec.specs.Readings.{back, row_of, but_for, final_if_none}
+use Rattle.zr_pend_spec.proofs.Parts.{and_left, and_right, left_false}
+use Rattle.zr_pend_spec.proofs.Branches.{distinct_behind, distinct_apart}
+use Rattle.zr_pend_spec.proofs.Sound.{any_branch}
+use Rattle.zr_pend_spec.proofs.OneRow.{none_found}
+use Rattle.zr_pend_spec.proofs.Readings.{in_row, finished_is}
+use Rattle.zr_pend_spec.proofs.ReadingsOfDrop.{kept_is}
 
 -- ---- askers
 

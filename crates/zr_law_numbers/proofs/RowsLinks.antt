@@ -5,14 +5,14 @@ use Rattle.std.specs.Option.{option_map, option_map_or, IfSome}
 use Rattle.std.proofs.lemmas.Bool.{eqb-true, eq-eqb, false_from_ne_true, false≢true, and_from}
 use Rattle.std.proofs.lemmas.Grind.{flat_map-append}
 use Rattle.zr_id.specs.declared.link.LinkNo.{LinkNo}
-use Rattle.zr_pend.specs.declared.branch.Asker.{Asker}
-use Rattle.zr_pend.specs.declared.branch.Branch.{Branch}
-use Rattle.zr_pend.specs.Row.{RowState, is_branch, has, is_asked_by, is_done, is_of, without}
-use Rattle.zr_pend.specs.Pending.{asked, is_pending, branch, branches, opened, begun, finished, all_finished, all_orphaned, branches_on, dropped}
-use Rattle.zr_pend.specs.Readings.{back}
-use Rattle.zr_pend.proofs.Parts.{and_left, left_false, right_false}
-use Rattle.zr_pend.proofs.Sound.{any_branch, finished_branches, all_orphaned_branches}
-use Rattle.zr_pend.proofs.Dropped.{gone}
+use Rattle.zr_pend_spec.specs.declared.branch.Asker.{Asker}
+use Rattle.zr_pend_spec.specs.declared.branch.Branch.{Branch}
+use Rattle.zr_pend_spec.specs.Row.{RowState, is_branch, has, is_asked_by, is_done, is_of, without}
+use Rattle.zr_pend_spec.specs.Pending.{asked, is_pending, branch, branches, opened, begun, finished, all_finished, all_orphaned, branches_on, dropped}
+use Rattle.zr_pend_spec.specs.Readings.{back}
+use Rattle.zr_pend_spec.proofs.Parts.{and_left, left_false, right_false}
+use Rattle.zr_pend_spec.proofs.Sound.{any_branch, finished_branches, all_orphaned_branches}
+use Rattle.zr_pend_spec.proofs.Dropped.{gone}
 use Rattle.zr_lists.proofs.Each.{All-append, All-kept}
 
 -- ---- the links of askers and of branches

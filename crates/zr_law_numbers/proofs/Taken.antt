@@ -17,9 +17,9 @@ use Rattle.zr_msg.specs.declared.error.NodeError.TheVariants as e
 use Rattle.zr_msg.specs.declared.msg.Msg.TheVariants.{Request}
 use Rattle.zr_msg.specs.declared.msg.Target.{Target}
 use Rattle.zr_msg.specs.declared.peer.LinkPeer.{LinkPeer}
-use Rattle.zr_pend.specs.declared.branch.Asker.{Asker}
-use Rattle.zr_pend.specs.Row.{RowState, is_of}
-use Rattle.zr_pend.specs.Pending.{asked, count, askers_differ, is_full, numbers_on}
+use Rattle.zr_pend_spec.specs.declared.branch.Asker.{Asker}
+use Rattle.zr_pend_spec.specs.Row.{RowState, is_of}
+use Rattle.zr_pend_spec.specs.Pending.{asked, count, askers_differ, is_full, numbers_on}
 use Rattle.zr_node_spec.specs.Tables.{is_router, link_at, link_to, leads_to_client}
 use Rattle.zr_node_spec.specs.Queries.{asker, asked_links, asks_most, has_no_number, most_pending}
 use Rattle.zr_node_spec.specs.State.{tables}

@@ -2,8 +2,8 @@
 use Rattle.std.specs.Prelude.{◌≡◌, ℕ, ◌≤◌, true, length, is_some, IfSome}
 use Rattle.std.specs.List.{AllByRecursion}
 use Rattle.zr_id.specs.declared.link.LinkNo.{LinkNo}
-use Rattle.zr_pend.specs.Pending.{IsSound, branches, numbers_on}
-use Rattle.zr_pend.specs.Held.{AreGatherings}
+use Rattle.zr_pend_spec.specs.Pending.{IsSound, branches, numbers_on}
+use Rattle.zr_pend_spec.specs.Held.{AreGatherings}
 use Rattle.zr_node_spec.specs.Tables.{AreNumbered, link_at, leads_to_client}
 use Rattle.zr_node_spec.specs.State.{NodeState}
 

@@ -6,14 +6,14 @@ use Rattle.std.specs.Option.{option_map, option_map_or, option_and_then, option_
 use Rattle.zr_id.specs.Zid.{is_named}
 use Rattle.zr_msg.specs.declared.msg.Msg.{Msg}
 use Rattle.zr_msg.specs.declared.msg.Msg.TheVariants.{Sub, Unsub, Token, Untoken, Able, Unable, Interest, EndInterest, ToldSub, ToldAble, ToldUnsub, ToldToken, ToldUntoken, ToldUnable, ToldEnd, Push, Request, Response, Final, State, Step, Snap}
-use Rattle.zr_pend.specs.declared.branch.Asker.{Asker}
-use Rattle.zr_pend.specs.Pending.{asked, branch}
+use Rattle.zr_pend_spec.specs.declared.branch.Asker.{Asker}
+use Rattle.zr_pend_spec.specs.Pending.{asked, branch}
 use Rattle.zr_node_spec.specs.Tables.{link_at, link_to}
 use Rattle.zr_world_spec.specs.World.{Tagged, End, Ends, RouterState, ClientState, WorldState, router_of, client_of, end_of, is_unbroken}
 use Rattle.zr_world_spec.specs.Acts.{has_number}
 use Rattle.zr_msg.specs.declared.content.Parts.{Parts}
 use Rattle.zr_msg.specs.declared.msg.Target.{Target}
-use Rattle.zr_pend.specs.Readings.{back}
+use Rattle.zr_pend_spec.specs.Readings.{back}
 use Rattle.zr_law_queries.specs.Link.{Ask, Answer, Link, ask, reply, final}
 
 -- what a request asks for, and the line of its query

@@ -8,11 +8,11 @@ use Rattle.std.proofs.lemmas.Option.{none-some}
 use Rattle.zr_id.specs.Zid.{is_named}
 use Rattle.zr_id.specs.declared.link.LinkNo.{LinkNo}
 use Rattle.zr_msg.specs.declared.peer.LinkPeer.{LinkPeer}
-use Rattle.zr_pend.specs.declared.branch.Asker.{Asker}
-use Rattle.zr_pend.specs.declared.branch.Branch.{Branch}
-use Rattle.zr_pend.specs.Row.{RowState, has}
-use Rattle.zr_pend.specs.Pending.{branch, asker_of}
-use Rattle.zr_pend.specs.Readings.{back}
+use Rattle.zr_pend_spec.specs.declared.branch.Asker.{Asker}
+use Rattle.zr_pend_spec.specs.declared.branch.Branch.{Branch}
+use Rattle.zr_pend_spec.specs.Row.{RowState, has}
+use Rattle.zr_pend_spec.specs.Pending.{branch, asker_of}
+use Rattle.zr_pend_spec.specs.Readings.{back}
 use Rattle.zr_node_spec.specs.Tables.{link_at, link_to}
 use Rattle.zr_world_spec.specs.World.{RouterState}
 use Rattle.zr_world_spec.specs.Sound.{AreUnique}

@@ -43,9 +43,9 @@ use Rattle.zr_law_replies.proofs.StandAnswered.{answered_by, gathered_by}
 use Rattle.zr_law_replies.proofs.StandStep.{Begins, Here}
 use Rattle.zr_law_replies.proofs.StandAtRest.{quiet_at_rest}
 use Rattle.zr_guarantee.specs.Latest.{asks_latest, said_if, all_replies, best, sent_in_turn, IsAnsweredLatest}
-use Rattle.zr_pend.specs.Held.{gathered}
-use Rattle.zr_pend.specs.Best.{key_body}
-use Rattle.zr_pend.proofs.Best.{law as best_law}
+use Rattle.zr_pend_spec.specs.Held.{gathered}
+use Rattle.zr_pend_spec.specs.Best.{key_body}
+use Rattle.zr_pend_spec.proofs.Best.{law as best_law}
 use Rattle.zr_world_spec.proofs.Names.{names}
 use Rattle.zr_law_queries.specs.Link.{Answer, answers_of, answers_with, asked_by}
 use Rattle.zr_law_replies.proofs.Links.{SaysTo}

@@ -5,12 +5,12 @@ use Rattle.std.specs.Option.{option_map, option_map_or, option_and_then}
 use Rattle.std.proofs.lemmas.Bool.{false≢true, eqb-true, false_from_ne_true}
 use Rattle.std.proofs.lemmas.Option.{none-some}
 use Rattle.zr_msg.specs.declared.peer.LinkPeer.{LinkPeer}
-use Rattle.zr_pend.specs.declared.branch.Asker.{Asker}
-use Rattle.zr_pend.specs.declared.branch.Branch.{Branch}
-use Rattle.zr_pend.specs.Row.{RowState, is_branch, is_asked_by}
-use Rattle.zr_pend.specs.Pending.{branch, branches, final_to}
-use Rattle.zr_pend.specs.Readings.{back, row_of, but_for, final_if_none}
-use Rattle.zr_pend.proofs.Readings.{finished_is}
+use Rattle.zr_pend_spec.specs.declared.branch.Asker.{Asker}
+use Rattle.zr_pend_spec.specs.declared.branch.Branch.{Branch}
+use Rattle.zr_pend_spec.specs.Row.{RowState, is_branch, is_asked_by}
+use Rattle.zr_pend_spec.specs.Pending.{branch, branches, final_to}
+use Rattle.zr_pend_spec.specs.Readings.{back, row_of, but_for, final_if_none}
+use Rattle.zr_pend_spec.proofs.Readings.{finished_is}
 use Rattle.zr_node_spec.specs.Tables.{link_at, link_to}
 use Rattle.zr_lists.proofs.Each.{All-front, All-back, All-kept}
 use Rattle.zr_world_spec.specs.World.{RouterState}

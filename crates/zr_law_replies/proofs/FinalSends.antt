@@ -12,12 +12,12 @@ use Rattle.zr_msg.specs.declared.event.Event.TheVariants.{From}
 use Rattle.zr_msg.specs.declared.msg.Msg.{Msg}
 use Rattle.zr_msg.specs.declared.msg.Msg.TheVariants.{Final}
 use Rattle.zr_msg.specs.declared.peer.LinkPeer.{LinkPeer}
-use Rattle.zr_pend.specs.declared.branch.Asker.{Asker}
-use Rattle.zr_pend.specs.declared.branch.Branch.{Branch}
-use Rattle.zr_pend.specs.Row.{is_branch}
-use Rattle.zr_pend.specs.Pending.{asked, branch, finished, final_to}
-use Rattle.zr_pend.specs.Readings.{back}
-use Rattle.zr_pend.proofs.Readings.{finished_back}
+use Rattle.zr_pend_spec.specs.declared.branch.Asker.{Asker}
+use Rattle.zr_pend_spec.specs.declared.branch.Branch.{Branch}
+use Rattle.zr_pend_spec.specs.Row.{is_branch}
+use Rattle.zr_pend_spec.specs.Pending.{asked, branch, finished, final_to}
+use Rattle.zr_pend_spec.specs.Readings.{back}
+use Rattle.zr_pend_spec.proofs.Readings.{finished_back}
 use Rattle.zr_node_spec.specs.Tables.{link_at, link_to}
 use Rattle.zr_node_spec.specs.Queries.{ending_for}
 use Rattle.zr_node_spec.specs.Table.{sends}

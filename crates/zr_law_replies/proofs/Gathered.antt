@@ -12,9 +12,9 @@ use Rattle.zr_msg.specs.declared.event.Event.{Event}
 use Rattle.zr_msg.specs.declared.event.Event.TheVariants.{Up, Down, From}
 use Rattle.zr_msg.specs.declared.peer.LinkPeer.{LinkPeer}
 use Rattle.zr_script_spec.specs.declared.report.ReportLine.{ReportLine}
-use Rattle.zr_pend.specs.declared.branch.Asker.{Asker}
-use Rattle.zr_pend.specs.Pending.{asked}
-use Rattle.zr_pend.specs.Held.{GatheringState, is_for, held_for}
+use Rattle.zr_pend_spec.specs.declared.branch.Asker.{Asker}
+use Rattle.zr_pend_spec.specs.Pending.{asked}
+use Rattle.zr_pend_spec.specs.Held.{GatheringState, is_for, held_for}
 use Rattle.zr_node_spec.specs.Tables.{is_router, link_at, link_to, leads_to_client}
 use Rattle.zr_node_spec.specs.State.{NodeState}
 use Rattle.zr_node_spec.specs.Table.{after}

@@ -18,10 +18,10 @@ use Rattle.zr_msg.specs.declared.event.Event.TheVariants.{Up, Down, From}
 use Rattle.zr_msg.specs.declared.msg.Msg.{Msg}
 use Rattle.zr_msg.specs.declared.msg.Msg.TheVariants.{Sub, Unsub, Token, Untoken, Able, Unable, Interest, EndInterest, ToldSub, ToldAble, ToldUnsub, ToldToken, ToldUntoken, ToldUnable, ToldEnd, Push, Request, Response, Final, State, Step, Snap}
 use Rattle.zr_msg.specs.declared.msg.Target.{Target}
-use Rattle.zr_pend.specs.declared.branch.Asker.{Asker}
-use Rattle.zr_pend.specs.Row.{RowState}
-use Rattle.zr_pend.specs.Pending.{asker_of, branch, final_to, finals_of_drop}
-use Rattle.zr_pend.specs.Held.{GatheringState, is_asker, is_for, gathers_for, held_for, held_with, put_reply, takes_place, has_room, gathering_begun, regathered, gatherings_with, gatherings_without, gatherings_left, gathers_at}
+use Rattle.zr_pend_spec.specs.declared.branch.Asker.{Asker}
+use Rattle.zr_pend_spec.specs.Row.{RowState}
+use Rattle.zr_pend_spec.specs.Pending.{asker_of, branch, final_to, finals_of_drop}
+use Rattle.zr_pend_spec.specs.Held.{GatheringState, is_asker, is_for, gathers_for, held_for, held_with, put_reply, takes_place, has_room, gathering_begun, regathered, gatherings_with, gatherings_without, gatherings_left, gathers_at}
 use Rattle.zr_node_spec.specs.Tables.{leads_to_client}
 use Rattle.zr_node_spec.specs.Queries.{link_no, asker, asked_links, gathering_if, held_at}
 use Rattle.zr_node_spec.specs.State.{NodeState, tables}

@@ -11,9 +11,9 @@ use Rattle.zr_msg.specs.declared.extras.Extras.{Extras}
 use Rattle.zr_msg.specs.declared.event.Event.TheVariants.{From}
 use Rattle.zr_msg.specs.declared.msg.Msg.TheVariants.{Final}
 use Rattle.zr_script_spec.specs.declared.command.Act.TheVariants as c
-use Rattle.zr_pend.specs.declared.branch.Asker.{Asker}
-use Rattle.zr_pend.specs.Pending.{branch, final_to}
-use Rattle.zr_pend.specs.Readings.{back, final_if_none}
+use Rattle.zr_pend_spec.specs.declared.branch.Asker.{Asker}
+use Rattle.zr_pend_spec.specs.Pending.{branch, final_to}
+use Rattle.zr_pend_spec.specs.Readings.{back, final_if_none}
 use Rattle.zr_world_spec.specs.World.{RouterState, WorldState, router_of}
 use Rattle.zr_world_spec.specs.Acts.{having_told}
 use Rattle.zr_world_spec.specs.Sound.{AreUnique}
@@ -52,7 +52,7 @@ use Rattle.zr_law_replies.proofs.AnswerOwner.{rows, below_parent, parent_hop, pa
 use Rattle.zr_law_replies.proofs.FinalRow.{left, final_said, final_by, row_left}
 use Rattle.zr_law_replies.proofs.FinalSends.{final_answering, hop_says, says_open}
 use Rattle.zr_msg.specs.declared.content.Parts.{Parts}
-use Rattle.zr_pend.specs.Held.{held_for}
+use Rattle.zr_pend_spec.specs.Held.{held_for}
 use Rattle.zr_law_numbers.proofs.DeedsDone.{released}
 use Rattle.zr_law_numbers.proofs.DeedLists.{says}
 use Rattle.zr_law_replies.proofs.Gathers.{held_list, list_held}

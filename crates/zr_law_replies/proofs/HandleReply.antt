@@ -11,9 +11,9 @@ use Rattle.zr_msg.specs.declared.msg.Msg.{Msg}
 use Rattle.zr_msg.specs.declared.msg.Msg.TheVariants.{Response}
 use Rattle.zr_msg.specs.declared.peer.LinkPeer.{LinkPeer}
 use Rattle.zr_script_spec.specs.declared.command.Act.TheVariants as c
-use Rattle.zr_pend.specs.declared.branch.Asker.{Asker}
-use Rattle.zr_pend.specs.Pending.{branch, asker_of}
-use Rattle.zr_pend.specs.Readings.{back}
+use Rattle.zr_pend_spec.specs.declared.branch.Asker.{Asker}
+use Rattle.zr_pend_spec.specs.Pending.{branch, asker_of}
+use Rattle.zr_pend_spec.specs.Readings.{back}
 use Rattle.zr_node_spec.specs.Tables.{link_to}
 use Rattle.zr_node_spec.specs.Queries.{link_no, reply_to, held_at, passes_reply}
 use Rattle.zr_node_spec.specs.Table.{sends}
@@ -57,7 +57,7 @@ use Rattle.std.proofs.lemmas.List.{map-append}
 use Rattle.std.proofs.lemmas.List.Sums.{fold-append}
 use Rattle.zr_lists.proofs.Elements.{passes_each}
 use Rattle.zr_body.specs.Latest.{is_reply}
-use Rattle.zr_pend.specs.Held.{gathered, gathers_for, gathers_at, has_room, held_with, gatherings_with}
+use Rattle.zr_pend_spec.specs.Held.{gathered, gathers_for, gathers_at, has_room, held_with, gatherings_with}
 use Rattle.zr_guarantee.specs.Latest.{asks_latest, reply_bodies, RepliesFit}
 use Rattle.zr_law_held.proofs.Acts.{replies_have_room}
 use Rattle.zr_law_replies.proofs.Lists.{get_in}

@@ -7,8 +7,8 @@ use Rattle.std.proofs.lemmas.Option.{none-some}
 use Rattle.zr_id.specs.declared.link.LinkNo.{LinkNo}
 use Rattle.zr_msg.specs.declared.content.Parts.{Parts}
 use Rattle.zr_msg.specs.declared.peer.LinkPeer.{LinkPeer}
-use Rattle.zr_pend.specs.declared.branch.Asker.{Asker}
-use Rattle.zr_pend.specs.Held.{GatheringState, is_asker, gathers_for, held_with, gathering_begun, gatherings_with, gatherings_without}
+use Rattle.zr_pend_spec.specs.declared.branch.Asker.{Asker}
+use Rattle.zr_pend_spec.specs.Held.{GatheringState, is_asker, gathers_for, held_with, gathering_begun, gatherings_with, gatherings_without}
 use Rattle.zr_node_spec.specs.Tables.{link_at, link_to}
 use Rattle.zr_node_spec.specs.Queries.{gathering_if}
 use Rattle.zr_world_spec.specs.World.{RouterState}

@@ -10,10 +10,10 @@ use Rattle.zr_graph.proofs.Names.{same_refl}
 use Rattle.zr_lists.proofs.Finds.{find_in}
 use Rattle.zr_lists.proofs.Elements.{each_in}
 use Rattle.zr_msg.specs.declared.peer.LinkPeer.{LinkPeer}
-use Rattle.zr_pend.specs.declared.branch.Asker.{Asker}
-use Rattle.zr_pend.specs.Row.{RowState, has}
-use Rattle.zr_pend.specs.Pending.{asked, branch}
-use Rattle.zr_pend.specs.Readings.{back}
+use Rattle.zr_pend_spec.specs.declared.branch.Asker.{Asker}
+use Rattle.zr_pend_spec.specs.Row.{RowState, has}
+use Rattle.zr_pend_spec.specs.Pending.{asked, branch}
+use Rattle.zr_pend_spec.specs.Readings.{back}
 use Rattle.zr_node_spec.specs.Tables.{is_link, link_at, link_to}
 use Rattle.zr_world_spec.specs.Acts.{has_number}
 use Rattle.zr_world_spec.specs.World.{RouterState, ClientState, WorldState, router_of, client_of}

@@ -26,7 +26,7 @@ use Rattle.zr_log.specs.Log.{Change}
 use Rattle.zr_log.specs.Known.{position, is_next, is_newer}
 use Rattle.zr_local.specs.declared.row.Row.{Row}
 use Rattle.zr_graph.specs.Base as records
-use Rattle.zr_pend.specs.Pending.{free_number}
+use Rattle.zr_pend_spec.specs.Pending.{free_number}
 use Rattle.zr_node_spec.specs.Tables.{TableState, link_at, is_router, is_to_child, leads_to_router}
 use Rattle.zr_node_spec.specs.Changes.{changes, steps}
 use Rattle.zr_node_spec.specs.Samples.{subscribes, leads_to_subscriber, tree_of, push_to, push_on, push_along, sends_push}

@@ -9,7 +9,7 @@ use Rattle.zr_msg.specs.declared.content.Parts.{Parts}
 use Rattle.zr_msg.specs.declared.msg.Msg.TheVariants.{Request}
 use Rattle.zr_msg.specs.declared.msg.Target.{Target}
 use Rattle.zr_msg.specs.declared.peer.LinkPeer.{LinkPeer}
-use Rattle.zr_pend.specs.Pending.{asked, free_number}
+use Rattle.zr_pend_spec.specs.Pending.{asked, free_number}
 use Rattle.zr_node_spec.specs.Tables.{link_to}
 use Rattle.zr_world_spec.specs.World.{RouterState, WorldState}
 use Rattle.zr_world_spec.specs.Moments.{Numbered, Moment}

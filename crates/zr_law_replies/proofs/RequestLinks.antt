@@ -17,9 +17,9 @@ use Rattle.zr_msg.specs.declared.msg.Target.{Target}
 use Rattle.zr_msg.specs.declared.event.Event.{Event}
 use Rattle.zr_msg.specs.declared.event.Event.TheVariants.{From}
 use Rattle.zr_msg.specs.declared.peer.LinkPeer.{LinkPeer}
-use Rattle.zr_pend.specs.declared.branch.Asker.{Asker}
-use Rattle.zr_pend.specs.Pending.{asked, branch, free_number}
-use Rattle.zr_pend.specs.Readings.{back}
+use Rattle.zr_pend_spec.specs.declared.branch.Asker.{Asker}
+use Rattle.zr_pend_spec.specs.Pending.{asked, branch, free_number}
+use Rattle.zr_pend_spec.specs.Readings.{back}
 use Rattle.zr_node_spec.specs.Tables.{link_at, link_to}
 use Rattle.zr_node_spec.specs.Queries.{asker, final_at_once}
 use Rattle.zr_node_spec.specs.State.{tables}

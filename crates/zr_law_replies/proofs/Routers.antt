@@ -19,10 +19,10 @@ use Rattle.zr_msg.specs.declared.msg.Target.{Target}
 use Rattle.zr_msg.specs.declared.peer.LinkPeer.{LinkPeer}
 use Rattle.zr_id.specs.declared.link.LinkNo.{LinkNo}
 use Rattle.zr_script_spec.specs.declared.report.ReportLine.{ReportLine}
-use Rattle.zr_pend.specs.declared.branch.Asker.{Asker}
-use Rattle.zr_pend.specs.Row.{RowState, has}
-use Rattle.zr_pend.specs.Pending.{branch}
-use Rattle.zr_pend.specs.Readings.{back}
+use Rattle.zr_pend_spec.specs.declared.branch.Asker.{Asker}
+use Rattle.zr_pend_spec.specs.Row.{RowState, has}
+use Rattle.zr_pend_spec.specs.Pending.{branch}
+use Rattle.zr_pend_spec.specs.Readings.{back}
 use Rattle.zr_node_spec.specs.Tables.{link_at, link_to, leads_to_client}
 use Rattle.zr_node_spec.specs.Tables.{is_router as is_node}
 use Rattle.zr_node_spec.specs.State.{NodeState}

@@ -14,9 +14,9 @@ use Rattle.zr_guarantee.specs.Latest.{reply_bodies, saying_weight, RepliesFit, s
 use Rattle.std.proofs.lemmas.List.Sums.{sum_by-append}
 use Rattle.std.proofs.lemmas.List.Elements.{filter_map-append}
 use Rattle.zr_lists.proofs.Tests.{all_parts}
-use Rattle.zr_pend.specs.Held.{most_held, gathered}
+use Rattle.zr_pend_spec.specs.Held.{most_held, gathered}
 use Rattle.std.specs.Option.{option_map_or}
-use Rattle.zr_pend.specs.Best.{key_body}
+use Rattle.zr_pend_spec.specs.Best.{key_body}
 
 module _ (before acts acts' : List Numbered) (m : Moment) (q : Asked) (asked : queries acts' ≡ queries acts) (said : sayings acts' ≡ sayings acts) where
   replies_are : (d : List ℕ) → replies acts' m.report q d ≡ replies acts m.report q d

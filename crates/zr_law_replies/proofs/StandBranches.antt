@@ -9,12 +9,12 @@ use Rattle.zr_id.specs.declared.link.LinkNo.{LinkNo}
 use Rattle.zr_lists.proofs.Finds.{find_in}
 use Rattle.zr_lists.proofs.Elements.{each_in}
 use Rattle.zr_msg.specs.declared.peer.LinkPeer.{LinkPeer}
-use Rattle.zr_pend.specs.declared.branch.Asker.{Asker}
-use Rattle.zr_pend.specs.Row.{RowState, is_asked_by}
-use Rattle.zr_pend.specs.Held.{is_for}
-use Rattle.zr_pend.specs.Pending.{asked, branch, askers_differ, free_number, opened, begun, finished}
-use Rattle.zr_pend.specs.Readings.{back, row_of, new_row}
-use Rattle.zr_pend.proofs.Readings.{in_row, finished_row, begun_row}
+use Rattle.zr_pend_spec.specs.declared.branch.Asker.{Asker}
+use Rattle.zr_pend_spec.specs.Row.{RowState, is_asked_by}
+use Rattle.zr_pend_spec.specs.Held.{is_for}
+use Rattle.zr_pend_spec.specs.Pending.{asked, branch, askers_differ, free_number, opened, begun, finished}
+use Rattle.zr_pend_spec.specs.Readings.{back, row_of, new_row}
+use Rattle.zr_pend_spec.proofs.Readings.{in_row, finished_row, begun_row}
 use Rattle.zr_node_spec.specs.Tables.{is_link, link_at, link_to}
 use Rattle.zr_world_spec.specs.World.{RouterState}
 use Rattle.zr_world_spec.specs.Sound.{AreUnique}

@@ -8,10 +8,10 @@ use Rattle.zr_id.specs.Zid.{is_named}
 use Rattle.zr_lists.proofs.Finds.{find_in}
 use Rattle.zr_lists.proofs.Elements.{each_in}
 use Rattle.zr_msg.specs.declared.peer.LinkPeer.{LinkPeer}
-use Rattle.zr_pend.specs.declared.branch.Branch.{Branch}
-use Rattle.zr_pend.specs.Row.{is_branch}
-use Rattle.zr_pend.specs.Pending.{branch}
-use Rattle.zr_pend.specs.Readings.{but_for}
+use Rattle.zr_pend_spec.specs.declared.branch.Branch.{Branch}
+use Rattle.zr_pend_spec.specs.Row.{is_branch}
+use Rattle.zr_pend_spec.specs.Pending.{branch}
+use Rattle.zr_pend_spec.specs.Readings.{but_for}
 use Rattle.zr_node_spec.specs.Tables.{is_link, link_at, link_to}
 use Rattle.zr_world_spec.specs.World.{RouterState}
 use Rattle.zr_world_spec.specs.Sound.{AreUnique}

@@ -5,9 +5,9 @@ use Rattle.std.specs.List.{find, list_any, flat_map, filter_map}
 use Rattle.std.specs.Option.{option_map, option_map_or, option_and_then}
 use Rattle.zr_id.specs.Zid.{is_named}
 use Rattle.zr_msg.specs.declared.content.Parts.{Parts}
-use Rattle.zr_pend.specs.declared.branch.Branch.{Branch}
-use Rattle.zr_pend.specs.Held.{is_for, gathered}
-use Rattle.zr_pend.specs.Readings.{row_of}
+use Rattle.zr_pend_spec.specs.declared.branch.Branch.{Branch}
+use Rattle.zr_pend_spec.specs.Held.{is_for, gathered}
+use Rattle.zr_pend_spec.specs.Readings.{row_of}
 use Rattle.zr_node_spec.specs.Tables.{TableState, link_at, link_to}
 use Rattle.zr_node_spec.specs.State.{NodeState}
 use Rattle.zr_world_spec.specs.World.{End, RouterState, ClientState, WorldState, router_of, client_of, is_up, is_unbroken}

@@ -19,6 +19,7 @@ use Rattle.zr_script_spec.specs.Words.{words, is_word, key_of_word, key_at, opti
 use Rattle.zr_script_spec.specs.Command.{command_of}
 use Rattle.zr_script_spec.specs.Step.{◌>>=◌}
 use Rattle.zr_world_spec.specs.World.{End, WorldState}
+use Rattle.zr_world_spec.specs.Fan.{most_fan_steps}
 use Rattle.zr_world_spec.specs.Acts.{outcome}
 use Rattle.zr_world_spec.specs.Next.{first_where, can_handle, can_take, step_at, world_after, with_more, run_steps, acts}
 use Rattle.zr_world_spec.specs.Run.{Run, start, on_line}
@@ -50,6 +51,7 @@ optional_text word o h = by (is_word word (codes "-")) (key_at word) refl h
 abbrev pub AsksKeyText : Command → Type 0
 AsksKeyText (command.Act act) = HasKeyText act
 AsksKeyText (command.Run steps) = Unit {0}
+AsksKeyText command.Fan = Unit {0}
 
 each_form : (ws : List (List ℕ)) → Forms AsksKeyText ws
 each_form ws = record {
@@ -75,6 +77,7 @@ each_form ws = record {
   handle = λ router from. tt;
   take = λ router to. tt;
   run = λ steps. tt;
+  fan = tt;
   mark = tt;
   show = λ router. tt;
 }
@@ -100,6 +103,7 @@ steps_text line (suc n) w = by (first_where can_handle w.ends) (first_where can_
 acts_text : (w : WorldState) (line : ℕ) (asked : Command) → AsksKeyText asked → Texts (map (λ a. (line, a)) (acts w line asked))
 acts_text w line (command.Act act) h = (h, tt)
 acts_text w line (command.Run steps) h = steps_text line steps w
+acts_text w line command.Fan h = steps_text line most_fan_steps w
 
 entries_text : (refusal : Option ScriptError) (n : ℕ) (w : WorldState) (asked : Result (Option Command) ScriptError) → IfOk asked (IfAsked AsksKeyText) → Texts (entries refusal n w asked)
 entries_text None n w (Ok (Some asked)) h = acts_text w n asked h

@@ -21,7 +21,7 @@ use Rattle.zr_msg.specs.declared.msg.Msg.{Msg}
 use Rattle.zr_msg.specs.declared.decl.Decl.{Decl}
 use Rattle.zr_msg.specs.declared.msg.Msg.TheVariants.{Push, Request, Final}
 use Rattle.zr_local.specs.declared.row.Row.{Row}
-use Rattle.zr_pend.specs.Pending.{free_number}
+use Rattle.zr_pend_spec.specs.Pending.{free_number}
 use Rattle.zr_msg.specs.declared.event.Event.TheVariants.{From}
 use Rattle.zr_msg.specs.declared.peer.LinkPeer.{LinkPeer}
 use Rattle.zr_msg.specs.declared.peer.Role.{Role}

@@ -14,10 +14,10 @@ use Rattle.zr_msg.specs.declared.msg.Msg.{Msg}
 use Rattle.zr_msg.specs.declared.msg.Msg.TheVariants.{Request, Response, Final}
 use Rattle.zr_msg.specs.declared.msg.Target.{Target}
 use Rattle.zr_msg.specs.declared.peer.LinkPeer.{LinkPeer}
-use Rattle.zr_pend.specs.declared.branch.Asker.{Asker}
-use Rattle.zr_pend.specs.Row.{RowState}
-use Rattle.zr_pend.specs.Held.{GatheringState, held_for}
-use Rattle.zr_pend.specs.Pending.{branch, asker_of, free_number, final_to, finals_of_drop}
+use Rattle.zr_pend_spec.specs.declared.branch.Asker.{Asker}
+use Rattle.zr_pend_spec.specs.Row.{RowState}
+use Rattle.zr_pend_spec.specs.Held.{GatheringState, held_for}
+use Rattle.zr_pend_spec.specs.Pending.{branch, asker_of, free_number, final_to, finals_of_drop}
 use Rattle.zr_node_spec.specs.Tables.{TableState, link_at}
 use Rattle.zr_node_spec.specs.Samples.{tree_of}
 use Rattle.zr_node_spec.specs.Queries.{is_asked, asked_links, link_no, tree_for, request_to, request_along, final_at_once, reply_to, final_for, held_at, passes_reply, held_to, ending_for, sends_request, sends_reply, sends_final, sends_ends}

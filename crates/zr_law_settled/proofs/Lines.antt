@@ -1,6 +1,6 @@
 -- What is bounded by how many lines were read: each router's own number (`lines_bounded`); and how many routers there are is bounded at all.
 use Rattle.std.proofs.Common.{◌≡◌, ◌≤◌, ◌<◌, ◌+◌, ℕ, suc, Bool, true, false, cond, List, [], ◌∷◌, ◌++◌, length, Option, Some, None, is_some, Result, Ok, Err, Ordering, Less, Equal, Greater, sym, ap, ◌∙◌, subst, arith}
-use Rattle.std.specs.Prelude.{nat_le, IfSome, IfOk, is_none, unwrap_or}
+use Rattle.std.specs.Prelude.{◌||◌, not, nat_le, IfSome, IfOk, is_none, unwrap_or}
 use Rattle.std.specs.List.{fold, list_all}
 use Rattle.std.specs.BTreeMap.{insert_entry}
 use Rattle.std.specs.Ordering.{nat_cmp, match_ordering}
@@ -16,7 +16,7 @@ use Rattle.zr_msg.specs.declared.event.Event.{Event}
 use Rattle.zr_msg.specs.declared.event.Event.TheVariants.{Down, From}
 use Rattle.zr_msg.specs.declared.peer.Role.TheVariants.{Client}
 use Rattle.zr_script_spec.specs.declared.error.ScriptError.{ScriptError}
-use Rattle.zr_script_spec.specs.declared.error.ScriptError.TheVariants.{Limit}
+use Rattle.zr_script_spec.specs.declared.error.ScriptError.TheVariants.{Limit, NotSamples, NotSettled}
 use Rattle.zr_script_spec.specs.declared.command.Act.{Act}
 use Rattle.zr_script_spec.specs.declared.command.Act.TheVariants as a
 use Rattle.zr_script_spec.specs.declared.command.Command.{Command}
@@ -26,9 +26,10 @@ use Rattle.zr_script_spec.specs.declared.report.ReportLine.TheVariants.{Ran}
 use Rattle.zr_script_spec.specs.Step.{◌>>=◌}
 use Rattle.zr_script_spec.specs.Command.{command_of}
 use Rattle.zr_node_spec.specs.Table.{able_kind, after}
-use Rattle.zr_world_spec.specs.World.{RouterState, Routers, WorldState, router_of, with_router, new_router, most_routers, most_steps}
-use Rattle.zr_world_spec.specs.Acts.{Outcome, outcome, hearing, weighing, up_event, peer_of}
-use Rattle.zr_world_spec.specs.Next.{Done, next, run_steps, all_done, booking, book_step, run_done, applied}
+use Rattle.zr_world_spec.specs.World.{RouterState, Routers, WorldState, router_of, with_router, new_router, most_routers, most_steps, is_settled}
+use Rattle.zr_world_spec.specs.Fan.{are_samples, are_many, are_long, most_fan_steps, fanned}
+use Rattle.zr_world_spec.specs.Acts.{Outcome, unless, outcome, hearing, weighing, up_event, peer_of}
+use Rattle.zr_world_spec.specs.Next.{Done, next, run_steps, all_done, booking, book_step, run_done, fan_steps, fan_done, fan_step, applied}
 use Rattle.zr_world_spec.specs.Moments.{Moment, is_step, went}
 use Rattle.zr_world_spec.specs.Run.{Run, start, stepped, commanded, on_line, run_lines}
 use Rattle.zr_world_spec.proofs.Names.{value_new, read_after}
@@ -193,6 +194,23 @@ run_of n w line steps h = by (all_done w line (run_steps line steps w)) (steps_o
     by (Err e) m = tt
     by (Ok y) m = m
 
+fan_of : (n : ℕ) (w : WorldState) (line : ℕ) → AreBounded n w.routers → IfOk (fan_step w line) (λ x. AreBounded n x.1.routers)
+unfolding fan_step fan_done
+fan_of n w line h = by (not (is_settled w)) (not (are_samples w)) (are_many w || are_long w)
+  where
+    tells : List ReportLine × WorldState → Done
+    tells x = Ok (fanned x.1.routers x.0 ∷ [], x.1)
+
+    done : (d : Done) → IfOk d (λ x. AreBounded n x.1.routers) → IfOk (d >>= tells) (λ x. AreBounded n x.1.routers)
+    done (Err e) m = tt
+    done (Ok y) m = m
+
+    by : (a b c : Bool) → IfOk (unless a NotSettled >>= (λ u. unless b NotSamples >>= (λ v. unless c Limit >>= (λ z. fan_done line w)))) (λ x. AreBounded n x.1.routers)
+    by true b c = tt
+    by false true c = tt
+    by false false true = tt
+    by false false false = done (all_done w line (fan_steps line w)) (steps_of n line (fan_steps line w) w (all_steps line most_fan_steps w) h)
+
 command_of_line : (n : ℕ) (w : WorldState) (line : ℕ) (command : Command) → AreBounded n w.routers → IfOk (applied w line command) (λ x. AreBounded (n + 1) x.1.routers)
 unfolding applied book_step
 command_of_line n w line (c.Act act) h = by (outcome w line act) (act_of n w line act h)
@@ -216,6 +234,11 @@ command_of_line n w line (c.Run steps) h = by (nat_le (w.booked + steps) most_st
     by : (b : Bool) → IfOk (cond b (Ok (booking w steps)) (Err Limit) >>= run_done line steps) (λ x. AreBounded (n + 1) x.1.routers)
     by true = end (run_done line steps (booking w steps)) (run_of n (booking w steps) line steps h)
     by false = tt
+command_of_line n w line c.Fan h = end (fan_step w line) (fan_of n w line h)
+  where
+    end : (d : Done) → IfOk d (λ x. AreBounded n x.1.routers) → IfOk d (λ x. AreBounded (n + 1) x.1.routers)
+    end (Err e) k = tt
+    end (Ok x) k = later n (n + 1) x.1.routers (omega arith) k
 
 -- ---- lines
 

@@ -12,7 +12,7 @@ use Rattle.zr_local.specs.Interests.{interest_id, interest_weight, interests_wei
 use Rattle.zr_local.specs.declared.interest.ClientInterests.{ClientInterests}
 use Rattle.zr_local.specs.declared.interest.Interest.{Interest}
 use Rattle.zr_local.proofs.Live.{put_weighs, kept_weighs}
-use Rattle.zr_pend.proofs.Sums.{filter_sum}
+use Rattle.zr_pend_spec.proofs.Sums.{filter_sum}
 use Rattle.zr_law_settled.proofs.Weights.{live_weight}
 
 -- a client leaves

@@ -26,7 +26,7 @@ use Rattle.zr_log.specs.declared.error.KnownError.{KnownError}
 use Rattle.zr_log.specs.declared.error.KnownError.TheVariants.{Gap, TextLimit}
 use Rattle.zr_log.proofs.Changes.{set_changed}
 use Rattle.zr_log.proofs.Logs.{source_of}
-use Rattle.zr_pend.proofs.Sums.{filter_sum}
+use Rattle.zr_pend_spec.proofs.Sums.{filter_sum}
 use Rattle.zr_node_spec.specs.Changes.{after_changes}
 use Rattle.zr_lists.proofs.Each.{All-each, All-filter}
 use Rattle.zr_lists.proofs.Elements.{each_in}

@@ -21,7 +21,7 @@ use Rattle.zr_local.specs.Rows.{row_key, key_cmp, declared, decls_of, declared_s
 use Rattle.zr_local.specs.declared.row.Row.{Row}
 use Rattle.zr_local.proofs.Rows.{key_order, weigh_rows}
 use Rattle.zr_log.specs.Log.{Change}
-use Rattle.zr_pend.proofs.Sums.{filter_sum, put_sum, put_sum_le}
+use Rattle.zr_pend_spec.proofs.Sums.{filter_sum, put_sum, put_sum_le}
 use Rattle.zr_node_spec.specs.Changes.{changes}
 use Rattle.zr_lists.proofs.Each.{All-append, All-filter}
 use Rattle.zr_lists.proofs.Finds.{In, in_any, map_in, filter_in}

@@ -15,7 +15,7 @@ use Rattle.zr_msg.specs.declared.peer.LinkPeer.{LinkPeer}
 use Rattle.zr_msg.specs.Peer.{PeerState}
 use Rattle.zr_msg.specs.declared.peer.Role.{Role}
 use Rattle.zr_msg.specs.declared.peer.Role.TheVariants.{Client, Router}
-use Rattle.zr_pend.specs.Pending.{dropped}
+use Rattle.zr_pend_spec.specs.Pending.{dropped}
 use Rattle.zr_node_spec.specs.Changes.{changes, after_changes}
 use Rattle.zr_node_spec.specs.Queries.{held_down, link_no, sends_ends}
 use Rattle.zr_node_spec.specs.Snapshots.{sends_snapshots}

@@ -24,7 +24,7 @@ use Rattle.zr_msg.specs.declared.msg.Msg.TheVariants as msg
 use Rattle.zr_msg.specs.declared.peer.LinkPeer.{LinkPeer}
 use Rattle.zr_msg.specs.declared.peer.Role.{Role}
 use Rattle.zr_msg.specs.declared.peer.Role.TheVariants.{Client, Router}
-use Rattle.zr_pend.specs.Pending.{asked}
+use Rattle.zr_pend_spec.specs.Pending.{asked}
 use Rattle.zr_node_spec.specs.Changes.{changes, have_no_room}
 use Rattle.zr_node_spec.specs.Queries.{link_no, asked_links, asker, asks_most, has_no_number, most_pending}
 use Rattle.zr_node_spec.specs.Tables.{link_at, leads_to_client, leads_to_router}

@@ -7,9 +7,9 @@ use Rattle.zr_msg.specs.declared.error.NodeError.{NodeError}
 use Rattle.zr_msg.specs.declared.error.NodeError.TheVariants.{NumberTaken, TooMany, Worn}
 use Rattle.zr_msg.specs.declared.msg.Msg.{Msg}
 use Rattle.zr_msg.specs.declared.msg.Target.{Target}
-use Rattle.zr_pend.specs.Pending.{asked}
-use Rattle.zr_pend.specs.Row.{RowState}
-use Rattle.zr_pend.specs.Held.{GatheringState, PendingState}
+use Rattle.zr_pend_spec.specs.Pending.{asked}
+use Rattle.zr_pend_spec.specs.Row.{RowState}
+use Rattle.zr_pend_spec.specs.Held.{GatheringState, PendingState}
 use Rattle.zr_body.specs.Latest.{is_latest}
 use Rattle.zr_push.specs.Route.{route_of}
 use Rattle.zr_push_sought.specs.Sought.{sought_by}

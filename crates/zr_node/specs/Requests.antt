@@ -2,9 +2,9 @@
 use Rattle.std.specs.Prelude.{◌&&◌, Bool, if◌then◌else◌, List, Option, Some, None}
 use Rattle.zr_msg.specs.declared.error.NodeError.{NodeError}
 use Rattle.zr_msg.specs.declared.error.NodeError.TheVariants.{NumberTaken, TooMany}
-use Rattle.zr_pend.specs.Pending.{asked}
-use Rattle.zr_pend.specs.Row.{RowState}
-use Rattle.zr_pend.specs.declared.branch.Asker.{Asker}
+use Rattle.zr_pend_spec.specs.Pending.{asked}
+use Rattle.zr_pend_spec.specs.Row.{RowState}
+use Rattle.zr_pend_spec.specs.declared.branch.Asker.{Asker}
 use Rattle.zr_node_spec.specs.Queries.{asks_most, most_pending}
 
 -- under its number one is pending, or the client has as many pending as it may

@@ -17,8 +17,8 @@ use Rattle.zr_msg.specs.Peer.{PeerState}
 use Rattle.zr_msg.specs.declared.peer.Role.{Role}
 use Rattle.zr_msg.specs.declared.peer.Role.TheVariants.{Router}
 use Rattle.zr_msg.specs.declared.peer.LinkPeer.{LinkPeer}
-use Rattle.zr_pend.specs.Held.{PendingState}
-use Rattle.zr_pend.specs.Pending.{dropped}
+use Rattle.zr_pend_spec.specs.Held.{PendingState}
+use Rattle.zr_pend_spec.specs.Pending.{dropped}
 use Rattle.zr_node_spec.specs.Queries.{link_no, asked_links, sends_request, sends_reply, sends_final, sends_ends, after_request, after_final, held_request, held_reply, held_final, held_down}
 use Rattle.zr_node_spec.specs.Samples.{sends_push}
 use Rattle.zr_node_spec.specs.Snapshots.{sends_step, sends_snap, sends_snapshots}

@@ -3,7 +3,7 @@
 ghost use Rattle.std.specs.Prelude.{◌≡◌, ℕ, List, Option, Some, None, false, true, OnOk, OnErr};
 ghost use Rattle.zr_node.specs.Requests.{refuses_asker};
 ghost use Rattle.zr_push.specs.Routes.{AreRoutes};
-ghost use Rattle.zr_pend.specs.Pending.{asked};
+ghost use Rattle.zr_pend_spec.specs.Pending.{asked};
 ghost use Rattle.zr_node_spec.specs.Queries.{after_request, asked_links, gathering_if, has_no_number, sends_request};
 ghost use Rattle.zr_node_spec.specs.Samples.{tree_of};
 ghost use Rattle.zr_node_spec.specs.Tables.{AreNumbered, link_at};
@@ -17,8 +17,8 @@ use zr_msg::error::NodeError;
 use zr_msg::msg::{Msg, Target};
 use zr_msg::peer::LinkPeer;
 use zr_node_spec::tables::TablesView;
-use zr_pend::branch::Asker;
 use zr_pend::pending::Pending;
+use zr_pend_spec::branch::Asker;
 use zr_push::push::tree_of;
 use zr_push::route::Route;
 use zr_push::routes::Routes;

@@ -22,10 +22,10 @@ use Rattle.zr_msg.specs.declared.peer.Role.{Role}
 use Rattle.zr_msg.specs.declared.peer.Role.TheVariants.{Client, Router}
 use Rattle.zr_local.specs.declared.row.Row.{Row}
 use Rattle.zr_log.specs.declared.log.Log.{Log}
-use Rattle.zr_pend.specs.declared.branch.Asker.{Asker}
-use Rattle.zr_pend.specs.Row.{RowState}
-use Rattle.zr_pend.specs.Pending.{count, asker_of, branch, free_number, is_full, begun, finished, final_to, finals_of_drop}
-use Rattle.zr_pend.specs.Held.{GatheringState, held_for, has_room, gathering_begun, gatherings_with, gatherings_without, gatherings_left, gathers_at}
+use Rattle.zr_pend_spec.specs.declared.branch.Asker.{Asker}
+use Rattle.zr_pend_spec.specs.Row.{RowState}
+use Rattle.zr_pend_spec.specs.Pending.{count, asker_of, branch, free_number, is_full, begun, finished, final_to, finals_of_drop}
+use Rattle.zr_pend_spec.specs.Held.{GatheringState, held_for, has_room, gathering_begun, gatherings_with, gatherings_without, gatherings_left, gathers_at}
 use Rattle.zr_node_spec.specs.Tables.{TableState, link_at, leads_to_client}
 use Rattle.zr_node_spec.specs.Samples.{leads_to_source, tree_of}
 

@@ -8,8 +8,8 @@ use Rattle.zr_local.specs.declared.interest.ClientInterests.{ClientInterests}
 use Rattle.zr_local.specs.declared.row.Row.{Row}
 use Rattle.zr_local.specs.State.{LocalState}
 use Rattle.zr_log.specs.Known.{KnownState, nothing_known}
-use Rattle.zr_pend.specs.Row.{RowState}
-use Rattle.zr_pend.specs.Held.{GatheringState}
+use Rattle.zr_pend_spec.specs.Row.{RowState}
+use Rattle.zr_pend_spec.specs.Held.{GatheringState}
 use Rattle.zr_node_spec.specs.Tables.{TableState}
 
 -- a router: its links in ascending order of their numbers, what it knows of the links of all routers, itself among them, what the clients of

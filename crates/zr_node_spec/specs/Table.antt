@@ -34,9 +34,9 @@ use Rattle.zr_log.specs.Log.{Change}
 use Rattle.zr_log.specs.Known.{KnownState, after_step, after_snap, refuses_step, refuses_snap}
 use Rattle.zr_log.specs.declared.error.KnownError.{KnownError}
 use Rattle.zr_log.specs.declared.error.KnownError.TheVariants as known
-use Rattle.zr_pend.specs.Row.{RowState}
-use Rattle.zr_pend.specs.Pending.{asked, dropped}
-use Rattle.zr_pend.specs.Held.{GatheringState}
+use Rattle.zr_pend_spec.specs.Row.{RowState}
+use Rattle.zr_pend_spec.specs.Pending.{asked, dropped}
+use Rattle.zr_pend_spec.specs.Held.{GatheringState}
 use Rattle.zr_node_spec.specs.Tables.{is_link, link_at, leads_to_router, leads_to_client}
 use Rattle.zr_node_spec.specs.Changes.{changes, after_changes, sends_changes, have_no_room}
 use Rattle.zr_node_spec.specs.Samples.{sends_push}

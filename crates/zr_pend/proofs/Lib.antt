@@ -1,15 +1,1 @@
-pub mod Loops
-pub mod Parts
-pub mod Free
-pub mod Branches
-pub mod Sound
-pub mod OneRow
-pub mod Dropped
-pub mod Readings
-pub mod ReadingsOfDrop
-pub mod Flags
-pub mod OneEnd
-pub mod Sums
-pub mod Gathered
-pub mod Askers
-pub mod Best
+pub mod Undone

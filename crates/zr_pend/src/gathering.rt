@@ -3,14 +3,14 @@
 ghost use Rattle.std.specs.Prelude.{◌≡◌, ◌==◌, ◌+◌, ◌≤◌, [], IfOk, OnOk, OnErr};
 ghost use Rattle.std.specs.List.{sum_by};
 ghost use Rattle.std.specs.Option.{option_copied};
-ghost use Rattle.zr_pend.specs.Held.{held_if, held_of, is_asker, is_for, most_held, regathered, reply_weight};
+ghost use Rattle.zr_pend_spec.specs.Held.{held_if, held_of, is_asker, is_for, most_held, regathered, reply_weight};
 
-use crate::branch::Asker;
 use crate::replies::{Held, Replies};
 use std::alloc::{AllocError, Global};
 use std::marker::Model;
 use zr_id::link::LinkNo;
 use zr_key::key::KeyExpr;
+use zr_pend_spec::branch::Asker;
 
 /// Who asked, and the replies that are held for it.
 #[derive(Drop)]
@@ -20,7 +20,7 @@ pub struct Gathering {
 }
 
 impl Model for Gathering {
-    ghost use Rattle.zr_pend.specs.Held.{GatheringState};
+    ghost use Rattle.zr_pend_spec.specs.Held.{GatheringState};
 
     ghost Value = { GatheringState };
 
@@ -35,7 +35,7 @@ pub struct Ended {
 }
 
 impl Model for Ended {
-    ghost use Rattle.zr_pend.specs.Held.{GatheringState};
+    ghost use Rattle.zr_pend_spec.specs.Held.{GatheringState};
 
     ghost Value = { GatheringState };
 

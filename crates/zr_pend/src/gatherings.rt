@@ -4,15 +4,15 @@ ghost use Rattle.std.specs.Prelude.{◌≡◌, ◌==◌, ◌+◌, ◌-◌, ◌�
 ghost use Rattle.std.specs.List.{fold, remove};
 ghost use Rattle.std.specs.Option.{option_and_then, option_copied, option_map, option_map_or};
 ghost use Rattle.std.specs.Vec.{vec_len, vec_capacity};
-ghost use Rattle.zr_pend.specs.Held.{GatheringState, after_final_to, are_apart, begun_if, ending, gatherer, gathering_begun, gatherings_at, gatherings_differ, gatherings_without, gathers_for, has_room, held_for, held_if, held_of, held_weight, is_for, most_held, gatherings_off, regathered, reply_weight};
+ghost use Rattle.zr_pend_spec.specs.Held.{GatheringState, after_final_to, are_apart, begun_if, ending, gatherer, gathering_begun, gatherings_at, gatherings_differ, gatherings_without, gathers_for, has_room, held_for, held_if, held_of, held_weight, is_for, most_held, gatherings_off, regathered, reply_weight};
 
-use crate::branch::Asker;
 use crate::gathering::{Ended, Gathering};
 use crate::replies::{Held, reply_weight};
 use std::alloc::{AllocError, Global};
 use std::marker::Model;
 use zr_id::link::LinkNo;
 use zr_key::key::KeyExpr;
+use zr_pend_spec::branch::Asker;
 
 /// The most that all replies that are held weigh together.
 const MOST_HELD: u64 = 67_108_864;
@@ -26,7 +26,7 @@ pub struct Gatherings {
 
 impl Model for Gatherings {
     ghost use Rattle.std.specs.Prelude.{◌≡◌, ◌≤◌, true, List};
-    ghost use Rattle.zr_pend.specs.Held.{GatheringState, gatherings_differ, held_weight, most_held};
+    ghost use Rattle.zr_pend_spec.specs.Held.{GatheringState, gatherings_differ, held_weight, most_held};
 
     ghost Value = { List GatheringState };
 

@@ -2,11 +2,7 @@
 //! For requests for the latest replies alone it holds these. Which of two replies is the later one isn't known here.
 #![tactic(auto)]
 
-pub mod branch;
 pub mod gathering;
 mod gatherings;
-pub mod laws;
 pub mod pending;
 pub mod replies;
-mod row;
-mod rows;

@@ -3,20 +3,19 @@
 ghost use Rattle.std.specs.Prelude.{◌≡◌, ◌↔◌, ◌<◌, [], true, false, map, length, is_some, None, IfOk, OnOk, OnErr};
 ghost use Rattle.std.specs.List.{list_any};
 ghost use Rattle.std.specs.Option.{option_and_then, option_copied, option_map};
-ghost use Rattle.zr_pend.specs.Held.{PendingState, after_final_to, after_reply, begun_if, ending, gatherings_differ, gatherings_left, held_at_branch, held_for, held_of};
-ghost use Rattle.zr_pend.specs.Pending.{asked, count, asker_of, is_full, branch, opened, begun, differ, finished, final_to, dropped, finals_of_drop, IsSound};
+ghost use Rattle.zr_pend_spec.specs.Held.{PendingState, after_final_to, after_reply, begun_if, ending, gatherings_differ, gatherings_left, held_at_branch, held_for, held_of};
+ghost use Rattle.zr_pend_spec.specs.Pending.{asked, count, asker_of, is_full, branch, opened, begun, differ, finished, final_to, dropped, finals_of_drop, IsSound};
 
-use crate::branch::{Asker, Branch};
 use crate::gathering::Ended;
 use crate::gatherings::Gatherings;
 use crate::replies::Held;
-use crate::row::{Row, copies_of};
-use crate::rows::{any_full, asker_of, drop_link, finish, numbers_of, numbers_on, open, put};
 use std::alloc::{AllocError, Global};
 use std::marker::Model;
 use thiserror::Error;
 use zr_id::link::LinkNo;
 use zr_key::key::KeyExpr;
+use zr_pend_rows::table::Table;
+use zr_pend_spec::branch::{Asker, Branch};
 
 /// Why a request doesn't begin. The table is then as before.
 #[derive(Clone, Copy, Debug, Drop, Error)]
@@ -33,21 +32,21 @@ pub enum PendError {
 /// latest replies alone.
 #[derive(Drop)]
 pub struct Pending {
-    rows: Vec<Row>,
+    rows: Table,
     gatherings: Gatherings,
 }
 
 impl Model for Pending {
     ghost use Rattle.std.specs.Prelude.{◌≡◌, true};
     ghost use Rattle.std.specs.List.{list_all};
-    ghost use Rattle.zr_pend.specs.Held.{PendingState};
-    ghost use Rattle.zr_pend.specs.Pending.{IsSound, asked};
+    ghost use Rattle.zr_pend_spec.specs.Held.{PendingState};
+    ghost use Rattle.zr_pend_spec.specs.Pending.{IsSound, asked};
 
     ghost Value = { PendingState };
 
-    ghost view = { λ p. record { rows = p.rows.items; held = p.gatherings } };
+    ghost view = { λ p. record { rows = p.rows; held = p.gatherings } };
 
-    ghost invariant = { λ p. IsSound p.rows.items × (list_all (λ g. asked g.asker p.rows.items) p.gatherings ≡ true) };
+    ghost invariant = { λ p. IsSound p.rows × (list_all (λ g. asked g.asker p.rows) p.gatherings ≡ true) };
 }
 
 impl Pending {
@@ -56,7 +55,7 @@ impl Pending {
         ensures { result ≡ record { rows = []; held = [] } }
     {
         Pending {
-            rows: Vec::new(alloc),
+            rows: Table::new(alloc),
             gatherings: Gatherings::new(alloc),
         }
     }
@@ -66,7 +65,7 @@ impl Pending {
         ensures { IfOk result (λ p. p ≡ self.now) }
     {
         Ok(Pending {
-            rows: copies_of(alloc, &self.rows)?,
+            rows: self.rows.copy(alloc)?,
             gatherings: self.gatherings.copy(alloc)?,
         })
     }
@@ -105,15 +104,14 @@ impl Pending {
     pub fn asked(&self, link: LinkNo, number: u32) -> bool
         ensures { result ≡ asked (record { link = link; number = number }) self.now.rows }
     {
-        let from = Asker { link, number };
-        self.rows.iter().any(|r| r.is_asked_by(from))
+        self.rows.asked(Asker { link, number })
     }
 
     /// How many pending requests this link has asked.
     pub fn count(&self, link: LinkNo) -> u64
         ensures { result ≡ count link self.now.rows }
     {
-        self.rows.iter().filter(|r| r.is_of(link)).count() as u64
+        self.rows.count(link)
     }
 
     /// Who asked the request that has this number on this link, where it is pending and its asker's link is up.
@@ -121,7 +119,7 @@ impl Pending {
         ensures value { result ≡ asker_of (branch link number) self.now.rows }
         ensures sound { IsSound self.now.rows }
     {
-        asker_of(self.rows.as_slice(), Branch { link, number })
+        self.rows.asker_of(Branch { link, number })
     }
 
     /// What is held under a key for who asked the request that has this number on this link. It takes no memory.
@@ -132,7 +130,7 @@ impl Pending {
         if self.gatherings.is_empty() {
             return None;
         }
-        let asker = asker_of(self.rows.as_slice(), Branch { link, number });
+        let asker = self.rows.asker_of(Branch { link, number });
         self.gatherings.get_for(asker, key)
     }
 
@@ -155,7 +153,7 @@ impl Pending {
         if self.gatherings.is_empty() {
             return Ok(false);
         }
-        let asker = asker_of(self.rows.as_slice(), Branch { link, number });
+        let asker = self.rows.asker_of(Branch { link, number });
         self.gatherings.hold_for(asker, reply, later)
     }
 
@@ -166,7 +164,7 @@ impl Pending {
         ensures rows { self.new.rows ≡ finished self.old.rows (branch link number) }
         ensures held { self.new.held ≡ after_final_to self.old.held (final_to self.old.rows (branch link number)) }
     {
-        let asker = finish(&mut self.rows, Branch { link, number });
+        let asker = self.rows.finish(Branch { link, number });
         self.gatherings.take_for(asker)
     }
 
@@ -181,11 +179,11 @@ impl Pending {
         ensures held { OnOk result (self.new.held ≡ gatherings_left self.old.held link (finals_of_drop link self.old.rows)) }
         ensures unchanged { OnErr result (self.new ≡ self.old) }
     {
-        let alloc = *self.rows.allocator();
-        let numbers = numbers_on(alloc, self.rows.as_slice(), link)?;
+        let alloc = self.rows.allocator();
+        let numbers = self.rows.numbers_on(link)?;
         let mut askers = Vec::with_capacity(alloc, numbers.len())?;
         let mut ended = Vec::with_capacity(alloc, numbers.len())?;
-        drop_link(&mut self.rows, link, numbers.as_slice(), &mut askers);
+        self.rows.drop_link(link, numbers.as_slice(), &mut askers);
         self.gatherings.forget(link);
         self.gatherings.take_all(askers.as_slice(), &mut ended);
         Ok(ended)
@@ -195,7 +193,7 @@ impl Pending {
     fn any_full(&self, to: &[LinkNo]) -> bool
         ensures { result ≡ list_any (λ l. is_full l self.now.rows) to.now }
     {
-        any_full(self.rows.as_slice(), to)
+        self.rows.any_full(to)
     }
 
     // A request goes to links of which none has every number pending.
@@ -209,12 +207,13 @@ impl Pending {
         ensures held { OnOk result (self.new.held ≡ begun_if latest self.old.held asker) }
         ensures unchanged { OnErr result (self.new ≡ self.old) }
     {
-        let alloc = *self.rows.allocator();
-        let branches = open(alloc, self.rows.as_slice(), to)?;
-        let numbers = numbers_of(alloc, branches.as_slice())?;
-        self.rows.reserve(1)?;
         self.gatherings.begin_if(latest, asker)?;
-        put(&mut self.rows, Row::new(asker, branches));
-        Ok(numbers)
+        match self.rows.begin(asker, to) {
+            Ok(numbers) => Ok(numbers),
+            Err(error) => {
+                drop(self.gatherings.take_for(Some(asker)));
+                Err(error)
+            }
+        }
     }
 }

@@ -6,7 +6,7 @@ ghost use Rattle.std.specs.List.{sum_by};
 ghost use Rattle.std.specs.Option.{option_copied};
 ghost use Rattle.std.specs.Ordering.{nat_cmp};
 ghost use Rattle.zr_lists.specs.Place.{IsAt, IsGap, IsPlace};
-ghost use Rattle.zr_pend.specs.Held.{AreByKey, held_if, held_of, most_held, put_reply, reply_weight};
+ghost use Rattle.zr_pend_spec.specs.Held.{AreByKey, held_if, held_of, most_held, put_reply, reply_weight};
 
 use std::alloc::{AllocError, Global};
 use std::marker::Model;
@@ -27,7 +27,7 @@ impl Model for Replies {
     ghost use Rattle.std.specs.Prelude.{◌≡◌, List};
     ghost use Rattle.std.specs.List.{sum_by};
     ghost use Rattle.zr_msg.specs.declared.content.Parts.{Parts};
-    ghost use Rattle.zr_pend.specs.Held.{AreByKey, reply_weight};
+    ghost use Rattle.zr_pend_spec.specs.Held.{AreByKey, reply_weight};
 
     ghost Value = { List Parts };
 

@@ -10,15 +10,15 @@ use Rattle.zr_msg.specs.declared.msg.Target.TheVariants.{Best, All, Complete}
 use Rattle.zr_msg.specs.declared.peer.LinkPeer.{LinkPeer}
 use Rattle.zr_msg.specs.declared.peer.Role.{Role}
 use Rattle.zr_msg.specs.declared.peer.Role.TheVariants.{Client, Router}
-use Rattle.zr_pend.specs.Pending.{begun, differ, free_number, is_full, opened}
-use Rattle.zr_pend.specs.Row.{RowState}
-use Rattle.zr_pend.specs.declared.branch.Asker.{Asker}
-use Rattle.zr_pend.specs.declared.branch.Branch.{Branch}
+use Rattle.zr_pend_spec.specs.Pending.{begun, differ, free_number, is_full, opened}
+use Rattle.zr_pend_spec.specs.Row.{RowState}
+use Rattle.zr_pend_spec.specs.declared.branch.Asker.{Asker}
+use Rattle.zr_pend_spec.specs.declared.branch.Branch.{Branch}
 use Rattle.zr_push.specs.declared.route.RouteLink.{RouteLink}
 use Rattle.zr_push.specs.Route.{stop_at, route_of, stops_from}
 use Rattle.zr_push_sought.specs.Sought.{sought_by}
 use Rattle.zr_push.proofs.Stops.{kept_same, is_told, told_stops, on_kept, told_each}
-use Rattle.zr_pend.specs.Held.{GatheringState}
+use Rattle.zr_pend_spec.specs.Held.{GatheringState}
 use Rattle.zr_node_spec.specs.Queries.{gathering_if, is_asked, links_along, asked_links, tree_for, request_along, final_at_once, has_no_number, sends_request, after_request, asked_over}
 use Rattle.zr_node_spec.specs.Tables.{TableState, AreNumbered, link_at}
 use Rattle.zr_node_spec.specs.Event.{on_link, Tells, TellsPrefix}

@@ -10,10 +10,10 @@ use Rattle.zr_msg.specs.declared.extras.Extras.{Extras}
 use Rattle.zr_msg.specs.declared.msg.Msg.{Msg}
 use Rattle.zr_msg.specs.declared.msg.Msg.TheVariants.{Response}
 use Rattle.zr_msg.specs.declared.msg.Target.{Target}
-use Rattle.zr_pend.specs.Row.{RowState}
-use Rattle.zr_pend.specs.Pending.{asker_of, branch, final_to, finals_of_drop}
-use Rattle.zr_pend.specs.declared.branch.Asker.{Asker}
-use Rattle.zr_pend.specs.Held.{GatheringState, ending, held_for}
+use Rattle.zr_pend_spec.specs.Row.{RowState}
+use Rattle.zr_pend_spec.specs.Pending.{asker_of, branch, final_to, finals_of_drop}
+use Rattle.zr_pend_spec.specs.declared.branch.Asker.{Asker}
+use Rattle.zr_pend_spec.specs.Held.{GatheringState, ending, held_for}
 use Rattle.zr_node_spec.specs.Queries.{reply_to, final_for, final_at_once, ending_for, held_at, held_to, link_no, links_along, passes_reply, request_along, sends_request, sends_reply, sends_final, sends_ends}
 use Rattle.zr_node_spec.specs.Samples.{tree_of}
 use Rattle.zr_node_spec.specs.Tables.{TableState, link_at}

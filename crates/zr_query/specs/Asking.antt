@@ -6,9 +6,9 @@ use Rattle.zr_msg.specs.declared.content.Parts.{Parts}
 use Rattle.zr_msg.specs.declared.msg.Msg.{Msg}
 use Rattle.zr_msg.specs.declared.msg.Msg.TheVariants.{Request}
 use Rattle.zr_msg.specs.declared.msg.Target.{Target}
-use Rattle.zr_pend.specs.Pending.{free_number}
-use Rattle.zr_pend.specs.Row.{RowState}
-use Rattle.zr_pend.specs.declared.branch.Asker.{Asker}
+use Rattle.zr_pend_spec.specs.Pending.{free_number}
+use Rattle.zr_pend_spec.specs.Row.{RowState}
+use Rattle.zr_pend_spec.specs.declared.branch.Asker.{Asker}
 use Rattle.zr_push.specs.declared.route.RouteLink.{RouteLink}
 use Rattle.zr_push.specs.Route.{route_of, stops_from}
 use Rattle.zr_push_sought.specs.Sought.{sought_by}

@@ -5,9 +5,9 @@ ghost use Rattle.std.specs.Prelude.{◌≡◌, ◌++◌, ◌∷◌, [], map, is_
 ghost use Rattle.zr_body.specs.Latest.{is_later};
 ghost use Rattle.zr_msg.specs.Extras.{no_extras};
 ghost use Rattle.zr_node_spec.specs.Queries.{after_final, held_at, held_down, held_final, held_reply, link_no, passes_reply, sends_ends, sends_final, sends_reply};
-ghost use Rattle.zr_pend.specs.declared.branch.Asker.{Asker};
-ghost use Rattle.zr_pend.specs.Held.{gatherings_differ, held_for, takes_place};
-ghost use Rattle.zr_pend.specs.Pending.{asker_of, branch, dropped};
+ghost use Rattle.zr_pend_spec.specs.declared.branch.Asker.{Asker};
+ghost use Rattle.zr_pend_spec.specs.Held.{gatherings_differ, held_for, takes_place};
+ghost use Rattle.zr_pend_spec.specs.Pending.{asker_of, branch, dropped};
 ghost use Rattle.zr_node_spec.specs.Event.{Tells, TellsPrefix};
 ghost use Rattle.zr_lists.specs.Prefix.{IsPrefixBehind};
 ghost use Rattle.zr_query.specs.Answering.{ending_sent, endings_sent, final_sent, reply_sent};
@@ -20,10 +20,10 @@ use zr_msg::extras::Extras;
 use zr_msg::msg::Msg;
 use zr_msg::shared::Shared;
 use zr_node_spec::tell::tell;
-use zr_pend::branch::Asker;
 use zr_pend::gathering::Ended;
 use zr_pend::pending::Pending;
 use zr_pend::replies::Held;
+use zr_pend_spec::branch::Asker;
 
 /// A reply has come under a number of a link: it is held where who asked wants the latest ones alone, and there is room for it. Else it goes
 /// to who asked, if the request is pending there and its asker's link is up.

@@ -2,9 +2,9 @@
 
 ghost use Rattle.std.specs.Prelude.{◌≡◌, ◌<◌, ◌++◌, ◌∷◌, [], ℕ, List, Option, None, true, false, length, map, IfOk, OnOk, OnErr};
 ghost use Rattle.std.specs.List.{list_any};
-ghost use Rattle.zr_pend.specs.Pending.{asked, begun, differ, is_full, opened};
-ghost use Rattle.zr_pend.specs.Held.{begun_if};
-ghost use Rattle.zr_pend.specs.Row.{RowState};
+ghost use Rattle.zr_pend_spec.specs.Pending.{asked, begun, differ, is_full, opened};
+ghost use Rattle.zr_pend_spec.specs.Held.{begun_if};
+ghost use Rattle.zr_pend_spec.specs.Row.{RowState};
 ghost use Rattle.zr_msg.specs.Extras.{no_extras};
 ghost use Rattle.zr_msg.specs.declared.content.Parts.{Parts};
 ghost use Rattle.zr_node_spec.specs.Queries.{after_request, asked_links, asked_over, gathering_if, has_no_number, sends_request};
@@ -25,8 +25,8 @@ use zr_msg::extras::Extras;
 use zr_msg::msg::{Msg, Target};
 use zr_msg::shared::Shared;
 use zr_node_spec::tell::tell;
-use zr_pend::branch::Asker;
 use zr_pend::pending::{PendError, Pending};
+use zr_pend_spec::branch::Asker;
 use zr_push::route::{Route, RouteLink};
 
 /// Why a request doesn't go on.

@@ -14,9 +14,9 @@ use Rattle.zr_msg.specs.declared.event.Event.{Event}
 use Rattle.zr_msg.specs.declared.event.Event.TheVariants.{Up, Down, From}
 use Rattle.zr_msg.specs.declared.msg.Msg.{Msg}
 use Rattle.zr_msg.specs.declared.msg.Msg.TheVariants.{Sub, Unsub, Token, Untoken, Able, Unable, Interest, EndInterest, ToldSub, ToldAble, ToldUnsub, ToldToken, ToldUntoken, ToldUnable, ToldEnd, Push, Request, Response, Final, State, Step, Snap}
-use Rattle.zr_pend.specs.declared.branch.Asker.{Asker}
-use Rattle.zr_pend.specs.Held.{GatheringState, gatherings_left, gatherings_off, gatherings_with, gatherings_without, held_for, held_with, is_for, put_reply, takes_place}
-use Rattle.zr_pend.specs.Pending.{branch, final_to, finals_of_drop}
+use Rattle.zr_pend_spec.specs.declared.branch.Asker.{Asker}
+use Rattle.zr_pend_spec.specs.Held.{GatheringState, gatherings_left, gatherings_off, gatherings_with, gatherings_without, held_for, held_with, is_for, put_reply, takes_place}
+use Rattle.zr_pend_spec.specs.Pending.{branch, final_to, finals_of_drop}
 use Rattle.zr_node_spec.specs.Queries.{asked_links, asker, gathering_if, held_at, held_down, held_final, held_reply, link_no}
 use Rattle.zr_node_spec.specs.State.{NodeState, tables}
 use Rattle.zr_node_spec.specs.Table.{after}

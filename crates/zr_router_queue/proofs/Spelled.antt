@@ -28,10 +28,10 @@ use Rattle.zr_msg.specs.declared.peer.Role.TheVariants.{Client, Router}
 use Rattle.zr_msg.specs.Extras.{no_extras}
 use Rattle.zr_msg.specs.declared.extras.Extras.{Extras}
 use Rattle.zr_msg.specs.declared.msg.Target.{Target}
-use Rattle.zr_pend.specs.declared.branch.Asker.{Asker}
-use Rattle.zr_pend.specs.Held.{GatheringState, held_for}
-use Rattle.zr_pend.specs.Row.{RowState}
-use Rattle.zr_pend.specs.Pending.{asker_of, branch, final_to, finals_of_drop, free_number}
+use Rattle.zr_pend_spec.specs.declared.branch.Asker.{Asker}
+use Rattle.zr_pend_spec.specs.Held.{GatheringState, held_for}
+use Rattle.zr_pend_spec.specs.Row.{RowState}
+use Rattle.zr_pend_spec.specs.Pending.{asker_of, branch, final_to, finals_of_drop, free_number}
 use Rattle.zr_node_spec.specs.Queries.{asked_links, ending_for, final_at_once, final_for, held_at, held_to, is_asked, link_no, passes_reply, reply_to, request_along, request_to, sends_ends, sends_final, sends_reply, sends_request, tree_for}
 use Rattle.zr_node_spec.specs.Changes.{changes, steps}
 use Rattle.zr_node_spec.specs.Samples.{leads_to_subscriber, push_along, push_on, push_to, tree_of}

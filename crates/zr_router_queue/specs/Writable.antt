@@ -5,7 +5,7 @@ use Rattle.zr_id.specs.Zid.{is_zid}
 use Rattle.zr_msg.specs.declared.msg.Msg.{Msg}
 use Rattle.zr_msg.specs.declared.msg.Msg.TheVariants.{Sub, Unsub, Token, Untoken, Able, Unable, Interest, EndInterest, ToldSub, ToldAble, ToldUnsub, ToldToken, ToldUntoken, ToldUnable, ToldEnd, Push, Request, Response, Final, State, Step, Snap}
 use Rattle.zr_msg.specs.declared.content.Parts.{Parts}
-use Rattle.zr_pend.specs.Held.{GatheringState}
+use Rattle.zr_pend_spec.specs.Held.{GatheringState}
 use Rattle.zr_log_set.specs.Decls.{IsSet, weight, most_weight}
 use Rattle.zr_wire.specs.Writing.{IsSpelled}
 

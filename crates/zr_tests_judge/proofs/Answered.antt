@@ -305,6 +305,7 @@ module _ (j : Judged) where
           own k = ap (λ b. b || (replies_hold j to && in_number to msg)) (sym (ap (is_router j.before) (sym (same_name d to e)) ∙ other)) ∙ k
       by (r.Handled router name msg tag) here ih (inl e) = absurd (false≢true e)
       by (r.Ran steps quiet) here ih (inl e) = absurd (false≢true e)
+      by (r.Fanned lines steps kinds) here ih (inl e) = absurd (false≢true e)
       by (r.Mark n) here ih (inl e) = absurd (false≢true e)
       by (r.Show router) here ih (inl e) = absurd (false≢true e)
       by (r.Record links) here ih (inl e) = absurd (false≢true e)
@@ -392,6 +393,7 @@ module _ (j : Judged) where
                     ∙ subst (λ (name : List ℕ). (is_router j.before name || (replies_hold j name && in_number name msg)) ≡ true) (sym (same_name d to e)) here
         by (r.Handled router name msg tag) here (inl none) = inl none
         by (r.Ran steps quiet) here (inl none) = inl none
+        by (r.Fanned lines steps kinds) here (inl none) = inl none
         by (r.Mark n) here (inl none) = inl none
         by (r.Show router) here (inl none) = inl none
         by (r.Record links) here (inl none) = inl none
@@ -457,6 +459,7 @@ module _ (j : Judged) where
           by false e = and_from (replies_hold j to) (in_number to msg) (may to e) (and_from (requests_hold j to msg) (finals_hold j to msg) (request to e msg) (final to e msg))
       line (r.Handled router name msg tag) = refl
       line (r.Ran steps quiet) = refl
+      line (r.Fanned lines steps kinds) = refl
       line (r.Mark n) = refl
       line (r.Show router) = refl
       line (r.Record links) = refl

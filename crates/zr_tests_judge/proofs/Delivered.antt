@@ -67,6 +67,7 @@ abbrev pub tells_of : List ℕ → ReportLine → Bool
 tells_of d (r.Handled router from msg tag) = false
 tells_of d (r.Taken router to msg tag) = is_named d to
 tells_of d (r.Ran steps quiet) = false
+tells_of d (r.Fanned lines steps kinds) = false
 tells_of d (r.Mark line) = false
 tells_of d (r.Show router) = false
 tells_of d (r.Record links) = false
@@ -83,6 +84,7 @@ none_told (x ∷ xs) d h =
     by (r.Handled router name msg tag) k = refl
     by (r.Taken router to msg tag) k = rw k refl
     by (r.Ran steps quiet) k = refl
+    by (r.Fanned lines steps kinds) k = refl
     by (r.Mark n) k = refl
     by (r.Show router) k = refl
     by (r.Record links) k = refl
@@ -143,6 +145,7 @@ module _ (j : Judged) where
       by (r.Taken router to msg tag) here ih (inl e) = subst (λ (name : List ℕ). pair_holds j a name ≡ true) (sym (same_name d to e)) here
       by (r.Handled router name msg tag) here ih (inl e) = absurd (false≢true e)
       by (r.Ran steps quiet) here ih (inl e) = absurd (false≢true e)
+      by (r.Fanned lines steps kinds) here ih (inl e) = absurd (false≢true e)
       by (r.Mark n) here ih (inl e) = absurd (false≢true e)
       by (r.Show router) here ih (inl e) = absurd (false≢true e)
       by (r.Record links) here ih (inl e) = absurd (false≢true e)
@@ -198,6 +201,7 @@ module _ (j : Judged) where
           at false = rest
           at true = all_both may_be (item_of msg tag) (sent_to xs d) (by_item (carried_by msg) tag k) rest
       by (r.Ran steps quiet) k rest = rest
+      by (r.Fanned lines steps kinds) k rest = rest
       by (r.Mark n) k rest = rest
       by (r.Show router) k rest = rest
       by (r.Record links) k rest = rest
@@ -216,6 +220,7 @@ module _ (j : Judged) where
           at false e = e
           at true e = (all_parts may_be (item_of msg tag) (sent_to xs d) e).1
       later (r.Ran steps quiet) d k = k
+      later (r.Fanned lines steps kinds) d k = k
       later (r.Mark n) d k = k
       later (r.Show router) d k = k
       later (r.Record links) d k = k
@@ -233,6 +238,7 @@ module _ (j : Judged) where
           by_item None e = refl
           by_item (Some carried) e = (and_parts (nat_lt tag j.mark || is_line j.phase tag) true e).0
       by (r.Ran steps quiet) k = refl
+      by (r.Fanned lines steps kinds) k = refl
       by (r.Mark n) k = refl
       by (r.Show router) k = refl
       by (r.Record links) k = refl
@@ -288,6 +294,7 @@ module _ (j : Judged) where
         receiver a (r.Taken router to msg tag) = pair a to
         receiver a (r.Handled router name msg tag) = refl
         receiver a (r.Ran steps quiet) = refl
+        receiver a (r.Fanned lines steps kinds) = refl
         receiver a (r.Mark n) = refl
         receiver a (r.Show router) = refl
         receiver a (r.Record links) = refl

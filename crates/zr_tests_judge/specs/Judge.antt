@@ -78,6 +78,7 @@ abbrev pub holds_for_receiver : Judged → List ℕ → ReportLine → Bool
 holds_for_receiver j publisher (r.Handled router from msg tag) = true
 holds_for_receiver j publisher (r.Taken router to msg tag) = pair_holds j publisher to
 holds_for_receiver j publisher (r.Ran steps quiet) = true
+holds_for_receiver j publisher (r.Fanned lines steps kinds) = true
 holds_for_receiver j publisher (r.Mark line) = true
 holds_for_receiver j publisher (r.Show router) = true
 holds_for_receiver j publisher (r.Record links) = true
@@ -109,6 +110,7 @@ abbrev pub may_be_sent : Judged → ReportLine → Bool
 may_be_sent j (r.Handled router from msg tag) = true
 may_be_sent j (r.Taken router to msg tag) = is_allowed j (carried_by msg) tag
 may_be_sent j (r.Ran steps quiet) = true
+may_be_sent j (r.Fanned lines steps kinds) = true
 may_be_sent j (r.Mark line) = true
 may_be_sent j (r.Show router) = true
 may_be_sent j (r.Record links) = true
@@ -242,6 +244,7 @@ abbrev pub answers_hold : Judged → ReportLine → Bool
 answers_hold j (r.Handled router from msg tag) = true
 answers_hold j (r.Taken router to msg tag) = is_router j.before to || (replies_hold j to && (requests_hold j to msg && finals_hold j to msg))
 answers_hold j (r.Ran steps quiet) = true
+answers_hold j (r.Fanned lines steps kinds) = true
 answers_hold j (r.Mark line) = true
 answers_hold j (r.Show router) = true
 answers_hold j (r.Record links) = true

@@ -5,10 +5,10 @@ use mathlib.Core.Logic.{◌⊎◌, inl, inr}
 use Rattle.std.proofs.lemmas.Bool.{cases_lt}
 use Rattle.std.proofs.Math.Bool.{or-false}
 use Rattle.zr_id.specs.declared.link.LinkNo.{LinkNo}
-use Rattle.zr_pend.specs.declared.branch.Branch.{Branch}
-use Rattle.zr_pend.specs.Row.{RowState}
-use Rattle.zr_pend.specs.Pending.{first_free, is_pending, branch, numbers_on, free_number}
-use Rattle.zr_pend.proofs.Free.{free_is_least}
+use Rattle.zr_pend_spec.specs.declared.branch.Branch.{Branch}
+use Rattle.zr_pend_spec.specs.Row.{RowState}
+use Rattle.zr_pend_spec.specs.Pending.{first_free, is_pending, branch, numbers_on, free_number}
+use Rattle.zr_pend_spec.proofs.Free.{free_is_least}
 use Rattle.zr_told_spec.specs.Ids.{IsLeast}
 use Rattle.zr_told_spec.specs.Told.{ToldMap, is_used, free_id}
 

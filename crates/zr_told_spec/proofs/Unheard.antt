@@ -23,12 +23,12 @@ use Rattle.zr_msg.specs.declared.peer.Role.{Role}
 use Rattle.zr_msg.specs.declared.peer.Role.TheVariants.{Client, Router}
 use Rattle.zr_local.specs.declared.row.Row.{Row}
 use Rattle.zr_log.specs.Log.{Change}
-use Rattle.zr_pend.specs.Row.{RowState}
-use Rattle.zr_pend.specs.declared.branch.Asker.{Asker}
+use Rattle.zr_pend_spec.specs.Row.{RowState}
+use Rattle.zr_pend_spec.specs.declared.branch.Asker.{Asker}
 use Rattle.zr_node_spec.specs.Tables.{TableState, link_at}
 use Rattle.zr_node_spec.specs.Changes.{steps, sends_changes}
 use Rattle.zr_node_spec.specs.Samples.{push_to, push_on, push_along, tree_of}
-use Rattle.zr_pend.specs.Held.{GatheringState, held_for}
+use Rattle.zr_pend_spec.specs.Held.{GatheringState, held_for}
 use Rattle.zr_node_spec.specs.Queries.{asked_links, final_at_once, final_for, held_to, ending_for, reply_to, request_along, request_to, sends_ends}
 use Rattle.zr_node_spec.specs.Snapshots.{sends_snapshots, snapshots_on}
 use Rattle.zr_node_spec.specs.State.{NodeState, tables}

@@ -6,7 +6,7 @@ use Rattle.std.specs.Option.{option_map_or}
 use Rattle.std.specs.BTreeMap.{insert_entry}
 use Rattle.zr_msg.specs.declared.msg.Msg.{Msg}
 use Rattle.zr_msg.specs.declared.msg.Msg.TheVariants.{Sub, Unsub, Token, Untoken, Able, Unable, Interest, EndInterest, ToldSub, ToldAble, ToldUnsub, ToldToken, ToldUntoken, ToldUnable, ToldEnd, Push, Request, Response, Final, State, Step, Snap}
-use Rattle.zr_pend.specs.Pending.{first_free}
+use Rattle.zr_pend_spec.specs.Pending.{first_free}
 use Rattle.zr_told_spec.specs.Place.{place_cmp, same}
 use Rattle.zr_told_spec.specs.Wanted.{Wanted}
 use Rattle.zr_told_spec.specs.declared.entry.Entry.{Entry}

@@ -19,7 +19,7 @@ use zr_msg::content::Content;
 use zr_msg::extras::Extras;
 use zr_msg::msg::{Msg, Target};
 use zr_msg::shared::Shared;
-use zr_pend::branch::Asker;
+use zr_pend_spec::branch::Asker;
 use zr_push::push::push;
 use zr_query::answering::{final_of, response};
 

@@ -1,6 +1,6 @@
 -- Nobody so far is the asker.
 use Rattle.std.proofs.Common.{◌≡◌, drop}
-use Rattle.zr_pend.specs.Held.{gathers_for}
+use Rattle.zr_pend_spec.specs.Held.{gathers_for}
 use Rattle.zr_pend.proofs.gatherings.place_of.Given as goal
 
 abbrev pub invariant-loop-i : goal.invariant-loop-i

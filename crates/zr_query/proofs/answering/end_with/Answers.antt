@@ -6,7 +6,7 @@ use Rattle.zr_lists.specs.Prefix.{IsPrefixBehind}
 use Rattle.zr_lists.proofs.Prefixes.{IsSoFar, so_far_more, so_far_stopped}
 use Rattle.zr_msg.specs.declared.extras.Extras.{Extras}
 use Rattle.zr_msg.specs.declared.msg.Msg.{Msg}
-use Rattle.zr_pend.specs.Held.{GatheringState}
+use Rattle.zr_pend_spec.specs.Held.{GatheringState}
 use Rattle.zr_query.specs.Answering.{ending_sent, endings_sent}
 use Rattle.zr_query.proofs.answering.end_with.Goals as goal
 

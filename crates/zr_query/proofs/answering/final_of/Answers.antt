@@ -1,6 +1,6 @@
 use Rattle.std.proofs.Common.{◌≡◌, ◌∙◌, ◌++◌, ap, sym, subst}
 use Rattle.std.proofs.lemmas.Result.{on_ok_weaker, on_err_weaker}
-use Rattle.zr_pend.specs.Pending.{branch, final_to}
+use Rattle.zr_pend_spec.specs.Pending.{branch, final_to}
 use Rattle.zr_node_spec.specs.Queries.{link_no}
 use Rattle.zr_lists.specs.Prefix.{IsPrefixBehind}
 use Rattle.zr_query.specs.Answering.{ending_sent}

@@ -2,10 +2,10 @@ use Rattle.std.proofs.Common.{◌≡◌, ◌∙◌, true, cond, Option, None, �
 use Rattle.std.specs.Option.{option_map_or}
 use Rattle.std.proofs.lemmas.Result.{on_ok_weaker}
 use Rattle.zr_body.specs.Latest.{is_reply}
-use Rattle.zr_pend.specs.declared.branch.Asker.{Asker}
-use Rattle.zr_pend.specs.Held.{after_reply, gatherings_with, gathers_at, has_room, held_at_branch}
-use Rattle.zr_pend.specs.Pending.{branch}
-use Rattle.zr_pend.proofs.Gathered.{reply_held}
+use Rattle.zr_pend_spec.specs.declared.branch.Asker.{Asker}
+use Rattle.zr_pend_spec.specs.Held.{after_reply, gatherings_with, gathers_at, has_room, held_at_branch}
+use Rattle.zr_pend_spec.specs.Pending.{branch}
+use Rattle.zr_pend_spec.proofs.Gathered.{reply_held}
 use Rattle.zr_node_spec.specs.Queries.{held_at, held_reply, link_no}
 use Rattle.zr_query.proofs.answering.hold.Goals as goal
 

@@ -2,7 +2,7 @@ use Rattle.std.proofs.Common.{◌≡◌, ℕ, true, false, List, [], ◌∷◌, 
 use Rattle.std.specs.Prelude.{Bool, ◌==◌}
 use Rattle.std.proofs.lemmas.Bool.{eq-eqb, ne_eqb}
 use Rattle.zr_guarantee.specs.Item.{Reply}
-use Rattle.zr_pend.specs.Best.{key_body}
+use Rattle.zr_pend_spec.specs.Best.{key_body}
 use Rattle.zr_tests_judge.proofs.Loops.{gathered_all, part_kept, part_passed}
 use Rattle.zr_tests_judge.proofs.latest.of_number.Goals.{then-r-number+in_ok-push, else-r-number}
 use Rattle.zr_tests_judge.proofs.latest.of_number.Goals as goal

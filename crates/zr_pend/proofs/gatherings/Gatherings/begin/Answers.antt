@@ -1,7 +1,7 @@
 use Rattle.std.proofs.Common.{◌≡◌, arith, false, []}
 use Rattle.std.proofs.lemmas.List.Sums.{sum_by_push}
-use Rattle.zr_pend.specs.Held.{GatheringState, gathering_weight, gathers_for}
-use Rattle.zr_pend.proofs.Gathered.{differ_begun}
+use Rattle.zr_pend_spec.specs.Held.{GatheringState, gathering_weight, gathers_for}
+use Rattle.zr_pend_spec.proofs.Gathered.{differ_begun}
 use Rattle.zr_pend.proofs.gatherings.Gatherings.begin.Goals as goal
 
 pub invariant_of-self-2 : goal.invariant_of-self-2

@@ -1,6 +1,6 @@
 use Rattle.std.proofs.Common.{◌==◌, ◌∙◌, not, ap, arith}
-use Rattle.zr_pend.specs.Held.{gatherings_off, held_weight}
-use Rattle.zr_pend.proofs.Gathered.{differ_kept, parts_weigh}
+use Rattle.zr_pend_spec.specs.Held.{gatherings_off, held_weight}
+use Rattle.zr_pend_spec.proofs.Gathered.{differ_kept, parts_weigh}
 use Rattle.zr_pend.proofs.gatherings.Gatherings.forget.Goals as goal
 
 pub invariant_of-self : goal.invariant_of-self

@@ -1,6 +1,6 @@
 use Rattle.std.proofs.Common.{◌≡◌, ◌<◌, ◌∙◌, ap, length, get_or, refl, sym, true, false}
-use Rattle.zr_pend.specs.Held.{gathers_for, held_for, held_of, is_for}
-use Rattle.zr_pend.proofs.Gathered.{held_absent, held_there}
+use Rattle.zr_pend_spec.specs.Held.{gathers_for, held_for, held_of, is_for}
+use Rattle.zr_pend_spec.proofs.Gathered.{held_absent, held_there}
 use Rattle.zr_pend.proofs.gatherings.Gatherings.get.Goals as goal
 
 pub returns-in-Some-clause-held : goal.returns-in-Some-clause-held

@@ -1,7 +1,7 @@
 use Rattle.std.proofs.Common.{◌≡◌, ◌<◌, ◌∙◌, [], List, length, get_or, refl, sym, true}
 use Rattle.zr_msg.specs.declared.content.Parts.{Parts}
-use Rattle.zr_pend.specs.Held.{GatheringState, gathers_for, has_room, held_if, is_for}
-use Rattle.zr_pend.proofs.Gathered.{changed_at, place_gathers}
+use Rattle.zr_pend_spec.specs.Held.{GatheringState, gathers_for, has_room, held_if, is_for}
+use Rattle.zr_pend_spec.proofs.Gathered.{changed_at, place_gathers}
 use Rattle.zr_pend.proofs.gatherings.Gatherings.hold.Goals as goal
 
 pub returns-clause-answer : goal.returns-clause-answer

@@ -1,8 +1,8 @@
 use Rattle.std.proofs.Common.{◌≡◌, ◌<◌, List, ap, sym, subst, length, set, get_or, arith, true}
 use Rattle.std.proofs.lemmas.List.Sums.{sum_by-set, get_or-le-sum_by}
 use Rattle.zr_msg.specs.declared.content.Parts.{Parts}
-use Rattle.zr_pend.specs.Held.{gathering_weight, gatherings_differ, has_room, held_if, regathered}
-use Rattle.zr_pend.proofs.Gathered.{differ_changed, room_is, weighs_if}
+use Rattle.zr_pend_spec.specs.Held.{gathering_weight, gatherings_differ, has_room, held_if, regathered}
+use Rattle.zr_pend_spec.proofs.Gathered.{differ_changed, room_is, weighs_if}
 use Rattle.zr_pend.proofs.gatherings.Gatherings.hold_at.Goals as goal
 
 pub overflow_add-self : goal.overflow_add-self

@@ -1,6 +1,6 @@
 use Rattle.std.proofs.Common.{◌≡◌, ◌<◌, ◌∙◌, [], length, get_or, refl, sym, true, false}
-use Rattle.zr_pend.specs.Held.{GatheringState, gathers_for, held_for, is_for}
-use Rattle.zr_pend.proofs.Gathered.{ending_there, held_absent, without_absent, without_at}
+use Rattle.zr_pend_spec.specs.Held.{GatheringState, gathers_for, held_for, is_for}
+use Rattle.zr_pend_spec.proofs.Gathered.{ending_there, held_absent, without_absent, without_at}
 use Rattle.zr_pend.proofs.gatherings.Gatherings.take.Goals as goal
 
 pub returns-in-Some-clause-ended : goal.returns-in-Some-clause-ended

@@ -1,5 +1,5 @@
 use Rattle.std.proofs.Common.{◌+◌, arith, length-drop}
-use Rattle.zr_pend.proofs.Gathered.{apart_more, endings_more, without_more}
+use Rattle.zr_pend_spec.proofs.Gathered.{apart_more, endings_more, without_more}
 use Rattle.zr_pend.proofs.gatherings.Gatherings.take_all.Goals as goal
 
 pub loop-asker-preserved : goal.loop-asker-preserved

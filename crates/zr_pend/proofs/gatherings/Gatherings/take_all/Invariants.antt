@@ -2,7 +2,7 @@
 use Rattle.std.proofs.Common.{◌≡◌, ◌≤◌, ◌+◌, ◌++◌, true, map, length, drop}
 use Rattle.std.specs.List.{fold}
 use Rattle.std.specs.Vec.{vec_len, vec_capacity}
-use Rattle.zr_pend.specs.Held.{are_apart, ending, gatherings_without}
+use Rattle.zr_pend_spec.specs.Held.{are_apart, ending, gatherings_without}
 use Rattle.zr_pend.proofs.gatherings.Gatherings.take_all.Given as goal
 
 abbrev pub invariant-loop-asker : goal.invariant-loop-asker

@@ -1,7 +1,7 @@
 use Rattle.std.proofs.Common.{◌<◌, ap, arith, length}
 use Rattle.std.proofs.lemmas.List.Sums.{sum_by-remove}
-use Rattle.zr_pend.specs.Held.{gathering_weight}
-use Rattle.zr_pend.proofs.Gathered.{differ_removed}
+use Rattle.zr_pend_spec.specs.Held.{gathering_weight}
+use Rattle.zr_pend_spec.proofs.Gathered.{differ_removed}
 use Rattle.zr_pend.proofs.gatherings.Gatherings.take_at.Goals as goal
 
 pub invariant_of-self : goal.invariant_of-self

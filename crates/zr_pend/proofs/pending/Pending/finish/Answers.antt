@@ -1,5 +1,5 @@
-use Rattle.zr_pend.proofs.Sound.{finished_sound}
-use Rattle.zr_pend.proofs.Askers.{ended_of_rows}
+use Rattle.zr_pend_spec.proofs.Sound.{finished_sound}
+use Rattle.zr_pend_spec.proofs.Askers.{ended_of_rows}
 use Rattle.zr_pend.proofs.pending.Pending.finish.Goals as goal
 
 pub invariant_of-self : goal.invariant_of-self

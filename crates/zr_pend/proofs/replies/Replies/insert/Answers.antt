@@ -5,8 +5,8 @@ use Rattle.std.proofs.lemmas.List.Sums.{sum_by-insert}
 use Rattle.zr_lists.proofs.Order.{name_order}
 use Rattle.zr_lists.proofs.Puts.{ascending_put, put_in}
 use Rattle.zr_lists.specs.Place.{IsGap}
-use Rattle.zr_pend.specs.Held.{AreByKey, reply_weight}
-use Rattle.zr_pend.proofs.Gathered.{key_of}
+use Rattle.zr_pend_spec.specs.Held.{AreByKey, reply_weight}
+use Rattle.zr_pend_spec.proofs.Gathered.{key_of}
 use Rattle.zr_pend.proofs.replies.Replies.insert.Goals as goal
 
 pub invariant_of-self-2 : goal.invariant_of-self-2

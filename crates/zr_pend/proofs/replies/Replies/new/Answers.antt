@@ -1,5 +1,5 @@
 use Rattle.std.proofs.Common.{refl}
-use Rattle.zr_pend.proofs.Gathered.{by_key_none}
+use Rattle.zr_pend_spec.proofs.Gathered.{by_key_none}
 use Rattle.zr_pend.proofs.replies.Replies.new.Goals as goal
 
 pub invariant_of-result : goal.invariant_of-result

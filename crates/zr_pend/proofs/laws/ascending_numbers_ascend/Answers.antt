@@ -1,5 +1,0 @@
-use Rattle.zr_pend.proofs.Dropped.{in_order}
-use Rattle.zr_pend.proofs.laws.ascending_numbers_ascend.Goals as goal
-
-pub returns : goal.returns
-returns c = in_order

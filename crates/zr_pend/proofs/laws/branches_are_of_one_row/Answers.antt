@@ -1,5 +1,0 @@
-use Rattle.zr_pend.proofs.OneRow.{of_one_row}
-use Rattle.zr_pend.proofs.laws.branches_are_of_one_row.Goals as goal
-
-pub returns : goal.returns
-returns c = of_one_row

@@ -1,5 +1,0 @@
-use Rattle.zr_pend.proofs.Readings.{in_row}
-use Rattle.zr_pend.proofs.laws.branches_stand_in_rows.Goals as goal
-
-pub returns : goal.returns
-returns c = in_row

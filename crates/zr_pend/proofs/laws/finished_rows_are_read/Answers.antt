@@ -1,5 +1,0 @@
-use Rattle.zr_pend.proofs.Readings.{finished_is}
-use Rattle.zr_pend.proofs.laws.finished_rows_are_read.Goals as goal
-
-pub returns : goal.returns
-returns c = finished_is

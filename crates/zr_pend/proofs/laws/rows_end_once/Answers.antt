@@ -1,5 +1,0 @@
-use Rattle.zr_pend.proofs.OneRow.{row_ends}
-use Rattle.zr_pend.proofs.laws.rows_end_once.Goals as goal
-
-pub returns : goal.returns
-returns c = row_ends

@@ -1,9 +1,0 @@
-use Rattle.zr_pend.specs.Pending.{is_full}
-use Rattle.zr_pend.proofs.Loops.{opened_more, none_more}
-use Rattle.zr_pend.proofs.rows.open.Goals as goal
-
-pub loop-link-preserved : goal.loop-link-preserved
-loop-link-preserved c = (
-  opened_more c.args.rows.now c.args.to.now c.loop-link.link-index _ c.loop-link.branches.items c.push.new.self.items c.in_ok-number.number c.loop-link-test.true c.in_ok-number.ensures c.in_ok-push.ensures.items c.loop-link.invariant.0,
-  none_more (λ l. is_full l c.args.rows.now) c.args.to.now c.loop-link.link-index (record { 0 = 0 }) c.loop-link-test.true c.loop-link.invariant.1,
-)

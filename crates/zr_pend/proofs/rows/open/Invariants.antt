@@ -1,9 +1,0 @@
--- The branches so far and those of the links that are left are all; no link that is left is full.
-use Rattle.std.proofs.Common.{◌≡◌, ◌++◌, false, drop}
-use Rattle.std.specs.List.{list_any}
-use Rattle.zr_pend.specs.Pending.{opened, is_full}
-use Rattle.zr_pend.proofs.rows.open.Given as goal
-
-abbrev pub invariant-loop-link : goal.invariant-loop-link
-invariant-loop-link l =
-    (l.branches.items ++ opened l.rows (drop l.link-index l.to) ≡ opened l.rows l.to) × (list_any (λ k. is_full k l.rows) (drop l.link-index l.to) ≡ false)
