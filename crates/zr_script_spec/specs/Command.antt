@@ -14,6 +14,7 @@
 --   NothingThere    nothing waits there
 --   NotAsked        the client was not sent that request, or has ended it
 --   NotSettled      the network is not settled
+--   NotSamples      not only samples are under way
 --   NotJoined       not each router is reached from each other
 --   Limit           a limit of the world would be passed
 --
@@ -29,7 +30,7 @@ use Rattle.zr_script_spec.specs.declared.error.ScriptError.{ScriptError}
 use Rattle.zr_script_spec.specs.declared.error.ScriptError.TheVariants.{UnknownCommand, BadWords, Limit}
 use Rattle.zr_script_spec.specs.declared.command.Act.TheVariants.{Router, Client, Link, Up, Break, Down, Show, Sub, Unsub, Token, Untoken, Able, Unable, Interest, Uninterest, Publish, Get, Reply, End, Handle, Take, Mark}
 use Rattle.zr_script_spec.specs.declared.command.Command.{Command}
-use Rattle.zr_script_spec.specs.declared.command.Command.TheVariants.{Act, Run}
+use Rattle.zr_script_spec.specs.declared.command.Command.TheVariants.{Act, Run, Fan}
 use Rattle.zr_script_spec.specs.Step.{◌>>=◌}
 use Rattle.zr_script_spec.specs.Lines.{most_line}
 use Rattle.zr_script_spec.specs.Words.{words, is_word, is_clean, one_of, two_of, some_two_of, three_of, four_of, five_of, zid_at, number_at, time_at, link_weight_at, target_at, latest_at, mode_at, kinds_at, aggregate_at, key_at, optional_key_at, payload_at}
@@ -251,6 +252,11 @@ run_line args = do
   steps ← number_at w
   Ok (Run steps)
 
+-- fan
+unfoldable pub fan_line : List (List ℕ) → Result Command ScriptError
+fan_line [] = Ok Fan
+fan_line (a ∷ more) = Err BadWords
+
 -- mark
 unfoldable pub mark_line : List (List ℕ) → Result Command ScriptError
 mark_line [] = Ok (Act Mark)
@@ -270,7 +276,7 @@ abbrev pub is_last_command : List ℕ → Bool
 is_last_command name =
     is_word name (codes "put") || is_word name (codes "del") || is_word name (codes "get") || is_word name (codes "reply")
     || is_word name (codes "end") || is_word name (codes "handle") || is_word name (codes "take")
-    || is_word name (codes "run") || is_word name (codes "mark") || is_word name (codes "show")
+    || is_word name (codes "run") || is_word name (codes "fan") || is_word name (codes "mark") || is_word name (codes "show")
 
 -- whether it names one of these, or one by which clients declare
 abbrev pub is_later_command : List ℕ → Bool
@@ -299,6 +305,7 @@ by_last_name name args =
     else if is_word name (codes "handle") then handle_line args
     else if is_word name (codes "take") then take_line args
     else if is_word name (codes "run") then run_line args
+    else if is_word name (codes "fan") then fan_line args
     else if is_word name (codes "mark") then mark_line args
     else if is_word name (codes "show") then show_line args
     else Err UnknownCommand

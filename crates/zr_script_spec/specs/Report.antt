@@ -16,7 +16,7 @@ use Rattle.zr_msg.specs.declared.msg.Target.TheVariants as t
 use Rattle.zr_msg.specs.declared.msg.Msg.{Msg}
 use Rattle.zr_msg.specs.declared.msg.Msg.TheVariants.{Sub, Unsub, Token, Untoken, Able, Unable, Interest, EndInterest, ToldSub, ToldAble, ToldUnsub, ToldToken, ToldUntoken, ToldUnable, ToldEnd, Push, Request, Response, Final, State, Step, Snap}
 use Rattle.zr_script_spec.specs.declared.report.ReportLine.{ReportLine}
-use Rattle.zr_script_spec.specs.declared.report.ReportLine.TheVariants.{Handled, Taken, Ran, Mark, Show, Record, Parent, Source}
+use Rattle.zr_script_spec.specs.declared.report.ReportLine.TheVariants.{Handled, Taken, Ran, Fanned, Mark, Show, Record, Parent, Source}
 use Rattle.zr_script_spec.specs.declared.error.ScriptError.{ScriptError}
 use Rattle.zr_script_spec.specs.declared.error.ScriptError.TheVariants as e
 
@@ -169,12 +169,13 @@ abbrev pub rest_text : Bool → List ℕ
 rest_text quiet = if quiet then codes " quiet" else codes " more"
 
 -- a report line: `ROUTER < NEIGHBOUR: MESSAGE #TAG` for a handled message, `ROUTER > NEIGHBOUR: MESSAGE #TAG` for a taken one,
--- `run STEPS quiet` or `run STEPS more` at the end of a run, `mark #LINE` where a phase begins, and `show ROUTER`, `record ID NUMBER LINKS`,
+-- `run STEPS quiet` or `run STEPS more` at the end of a run, the lines of its steps and `fan STEPS` for a fan, `mark #LINE` where a phase begins, and `show ROUTER`, `record ID NUMBER LINKS`,
 -- `parent ROOT PARENT` and `source ROUTER NUMBER DECLARATIONS` of a router's tables
 abbrev pub line_text : ReportLine → List ℕ
 line_text (Handled router from msg tag) = id_text router ++ codes " < " ++ id_text from ++ codes ": " ++ msg_text msg ++ codes " #" ++ decimal tag ++ line_end
 line_text (Taken router to msg tag) = id_text router ++ codes " > " ++ id_text to ++ codes ": " ++ msg_text msg ++ codes " #" ++ decimal tag ++ line_end
 line_text (Ran steps quiet) = codes "run " ++ decimal steps ++ rest_text quiet ++ line_end
+line_text (Fanned lines steps kinds) = lines ++ codes "fan " ++ decimal steps ++ line_end
 line_text (Mark line) = codes "mark #" ++ decimal line ++ line_end
 line_text (Show router) = codes "show " ++ id_text router ++ line_end
 line_text (Record links) = record_text links ++ line_end
@@ -197,6 +198,7 @@ refusal_text e.NotAsked = codes "9 NotAsked"
 refusal_text e.NotSettled = codes "10 NotSettled"
 refusal_text e.NotJoined = codes "11 NotJoined"
 refusal_text e.Limit = codes "12 Limit"
+refusal_text e.NotSamples = codes "13 NotSamples"
 refusal_text e.NoMemory = []
 
 -- `line N: NUMBER NAME`
@@ -210,4 +212,4 @@ too_long_text = codes "script too long" ++ line_end
 -- what is said where the program's words are not such as it takes
 abbrev pub usage_text : List ℕ
 usage_text =
-    codes "usage: zrd net [--summary] / serve --id ID --listen ADDRESS [DIAL]... / make --number N --routers R --clients C --messages M" ++ line_end
+    codes "usage: zrd net [--summary] [--threads N] / serve --id ID --listen ADDRESS [DIAL]... / make --number N --routers R --clients C --messages M" ++ line_end

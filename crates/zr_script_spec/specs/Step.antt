@@ -1,7 +1,7 @@
 -- Steps that may be refused, one after another, and what a call's answer has to do with what is said of it.
 use Rattle.std.specs.Prelude.{◌≡◌, Result, Ok, Err}
 use Rattle.zr_script_spec.specs.declared.error.ScriptError.{ScriptError}
-use Rattle.zr_script_spec.specs.declared.error.ScriptError.TheVariants.{UnknownCommand, BadWords, UnknownName, NameTaken, BadKey, NotLinked, AlreadyLinked, NothingThere, NotAsked, NotSettled, NotJoined, Limit, NoMemory}
+use Rattle.zr_script_spec.specs.declared.error.ScriptError.TheVariants.{UnknownCommand, BadWords, UnknownName, NameTaken, BadKey, NotLinked, AlreadyLinked, NothingThere, NotAsked, NotSettled, NotSamples, NotJoined, Limit, NoMemory}
 
 -- the second step, where the first was not refused
 infixl 10 ◌>>=◌
@@ -22,6 +22,7 @@ IsSaidBy view (Err AlreadyLinked) said = said ≡ Err AlreadyLinked
 IsSaidBy view (Err NothingThere) said = said ≡ Err NothingThere
 IsSaidBy view (Err NotAsked) said = said ≡ Err NotAsked
 IsSaidBy view (Err NotSettled) said = said ≡ Err NotSettled
+IsSaidBy view (Err NotSamples) said = said ≡ Err NotSamples
 IsSaidBy view (Err NotJoined) said = said ≡ Err NotJoined
 IsSaidBy view (Err Limit) said = said ≡ Err Limit
 IsSaidBy view (Err NoMemory) said = Unit {0}

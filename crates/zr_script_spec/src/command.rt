@@ -27,6 +27,8 @@ pub enum Command {
     Act { act: Act },
     /// The network moves on by itself, by at most so many steps.
     Run { steps: u32 },
+    /// All samples under way go to their ends, the routers being handled on several threads.
+    Fan,
 }
 
 /// One act on the network: one atomic step, or a mark.

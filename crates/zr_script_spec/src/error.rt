@@ -26,6 +26,8 @@ pub enum ScriptError {
     NotAsked,
     #[error("the network is not settled")]
     NotSettled,
+    #[error("not only samples are under way")]
+    NotSamples,
     #[error("not each router is reached from each other")]
     NotJoined,
     #[error("a limit would be passed")]

@@ -1,9 +1,21 @@
 //! The lines of a report, one variant a form.
 
+use zr_bytes::ByteString;
 use zr_id::record::LinkRecord;
 use zr_id::zid::Zid;
 use zr_msg::decl::Decls;
 use zr_msg::msg::Msg;
+
+/// How many steps of a fan were of each kind.
+#[derive(Clone, Copy, Debug, PartialEq, Eq)]
+pub struct FanSteps {
+    /// Messages that routers handled.
+    pub handled: u64,
+    /// Messages of routers that went onto the wire to a router.
+    pub taken: u64,
+    /// Messages of routers that were sent to a client.
+    pub sent: u64,
+}
 
 /// What was seen of one step, or of a whole run. A tag is the number of the script line that the message comes from.
 #[derive(Drop)]
@@ -26,6 +38,12 @@ pub enum ReportLine {
     Ran {
         steps: u32,
         quiet: bool,
+    },
+    /// A fan has ended: the lines of its steps, in the order of their bytes, and how many steps it had, of each kind.
+    Fanned {
+        lines: ByteString,
+        steps: u64,
+        kinds: FanSteps,
     },
     /// A phase has begun with this line.
     Mark {

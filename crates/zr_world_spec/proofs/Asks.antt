@@ -9,12 +9,12 @@ use Rattle.zr_script_spec.specs.declared.error.ScriptError.{ScriptError}
 use Rattle.zr_script_spec.specs.declared.error.ScriptError.TheVariants.{Limit}
 use Rattle.zr_script_spec.specs.declared.command.Act.TheVariants as a
 use Rattle.zr_script_spec.specs.declared.command.Command.{Command}
-use Rattle.zr_script_spec.specs.declared.command.Command.TheVariants.{Act, Run}
+use Rattle.zr_script_spec.specs.declared.command.Command.TheVariants.{Act, Run, Fan}
 use Rattle.zr_script_spec.specs.declared.command.Mode.{Mode}
 use Rattle.zr_script_spec.specs.Step.{◌>>=◌}
 use Rattle.zr_script_spec.specs.Lines.{most_line}
 use Rattle.zr_script_spec.specs.Words.{words, is_word, is_clean, one_of, two_of, some_two_of, three_of, four_of, five_of, zid_at, number_at, time_at, link_weight_at, target_at, latest_at, mode_at, kinds_at, aggregate_at, key_at, optional_key_at, payload_at}
-use Rattle.zr_script_spec.specs.Command.{router_line, client_line, link_line, up_line, break_line, down_line, sub_line, unsub_line, able_line, unable_line, token_line, untoken_line, interest_line, uninterest_line, plain, put_line, del_line, asking_body, answer_body, get_line, reply_line, end_line, handle_line, take_line, run_line, mark_line, show_line, is_command, by_last_name, by_later_name, by_name, by_words, is_silent, command_of}
+use Rattle.zr_script_spec.specs.Command.{router_line, client_line, link_line, up_line, break_line, down_line, sub_line, unsub_line, able_line, unable_line, token_line, untoken_line, interest_line, uninterest_line, plain, put_line, del_line, asking_body, answer_body, get_line, reply_line, end_line, handle_line, take_line, run_line, fan_line, mark_line, show_line, is_command, by_last_name, by_later_name, by_name, by_words, is_silent, command_of}
 
 -- ---- steps that may be refused
 
@@ -67,6 +67,7 @@ pub record Forms (P : Command → Type 0) (ws : List (List ℕ)) : Type 0 where
   pub handle : (router from : List ℕ) → P (Act (a.Handle router from))
   pub take : (router to : List ℕ) → P (Act (a.Take router to))
   pub run : (steps : ℕ) → P (Run steps)
+  pub fan : P Fan
   pub mark : P (Act a.Mark)
   pub show : (router : List ℕ) → P (Act (a.Show router))
 
@@ -168,6 +169,14 @@ module _ (P : Command → Type 0) (name : List ℕ) (args : List (List ℕ)) (f 
   unfolding run_line
   run_asks = step P (one_of args) _ (λ w e. step P (number_at w) _ (λ steps i. f.run steps))
 
+  fan_asks : Asks (fan_line args)
+  unfolding fan_line
+  fan_asks = by args
+    where
+      by : (more : List (List ℕ)) → Asks (fan_line more)
+      by [] = f.fan
+      by (x ∷ more) = tt
+
   mark_asks : Asks (mark_line args)
   unfolding mark_line
   mark_asks = by args
@@ -193,8 +202,9 @@ module _ (P : Command → Type 0) (name : List ℕ) (args : List (List ℕ)) (f 
       (either P (is_word name (codes "handle")) _ _ (λ e. handle_asks)
       (either P (is_word name (codes "take")) _ _ (λ e. take_asks)
       (either P (is_word name (codes "run")) _ _ (λ e. run_asks)
+      (either P (is_word name (codes "fan")) _ _ (λ e. fan_asks)
       (either P (is_word name (codes "mark")) _ _ (λ e. mark_asks)
-      (either P (is_word name (codes "show")) _ _ (λ e. show_asks) tt)))))))))
+      (either P (is_word name (codes "show")) _ _ (λ e. show_asks) tt))))))))))
 
   later_asks : Asks (by_later_name name args)
   unfolding by_later_name

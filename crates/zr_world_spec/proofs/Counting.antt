@@ -28,6 +28,7 @@ use Rattle.zr_script_spec.specs.declared.report.ReportLine.TheVariants as line
 use Rattle.zr_script_spec.specs.Step.{◌>>=◌}
 use Rattle.zr_node_spec.specs.Table.{able_kind}
 use Rattle.zr_world_spec.specs.World.{Tagged, RouterState, ClientState, EndState, WorldState, with_booked, with_ends, with_clients, new_client, sent, router_of, client_of, is_taken, end_of, with_end, put_end, lifted, new_end, with_wire, is_in_place, links_in_place, most_routers, most_clients, most_links, most_queries, is_settled}
+use Rattle.zr_world_spec.specs.Fan.{most_fan_steps}
 use Rattle.zr_world_spec.specs.Joined.{is_joined}
 use Rattle.zr_world_spec.specs.Acts.{Outcome, unless, router_at, client_at, end_at, up_at, unbroken_at, oldest, has_number, has_id, weighed, refuses_of, heard, heard_by, hears, peer_of, up_event, number_to, client_sends, router_step, client_step, link_step, up_step, break_step, down_step, declare_step, undeclare_step, keeps_interest, interest_step, uninterest_step, publish_step, get_step, reply_step, end_step, handle_step, take_step, mark_step, show_step, outcome}
 use Rattle.zr_world_spec.specs.Next.{Done, next, world_after, with_more, run_steps, acts, all_done}
@@ -180,6 +181,7 @@ steps_recounted n (suc steps) w booked = by (next w) (λ v. steps_recounted n st
 pub acts_recounted : (w : WorldState) (booked n : ℕ) (asked : Command) → acts (with_booked w booked) n asked ≡ acts w n asked
 acts_recounted w booked n (command.Act act) = refl
 acts_recounted w booked n (command.Run steps) = steps_recounted n steps w booked
+acts_recounted w booked n command.Fan = steps_recounted n most_fan_steps w booked
 
 pub done_recounted : (n : ℕ) (several : List Act) (w : WorldState) (booked : ℕ) → all_done (with_booked w booked) n several ≡ recounted booked (all_done w n several)
 done_recounted n [] w booked = refl

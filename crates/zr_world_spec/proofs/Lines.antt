@@ -2,11 +2,11 @@
 -- leaves the run as it was, but for its number and a refusal, or adds its acts and what its command does (`line_cases`), which is what these acts do, whatever runs asked for before (`is_led`). What they lead to is an
 -- induction over them (`acts_lead`), and so is each over lines.
 use Rattle.std.proofs.Common.{◌≡◌, ℕ, zero, suc, Bool, true, false, cond, not, List, [], ◌∷◌, ◌++◌, length, map, Option, Some, None, Result, Ok, Err, ◌≤◌, ◌<◌, ◌+◌, refl, sym, ap, ◌∙◌, subst, append_assoc, append-nil, arith, inl, inr}
-use Rattle.std.specs.Prelude.{◌&&◌, ◌⊎◌, nat_lt, nat_le, filter, flat_map, is_some, is_none, IfSome}
-use Rattle.std.specs.List.{fold, list_all}
+use Rattle.std.specs.Prelude.{◌&&◌, ◌||◌, ◌⊎◌, nat_lt, nat_le, filter, flat_map, is_some, is_none, IfSome}
+use Rattle.std.specs.List.{AllByRecursion, fold, list_all}
 use Rattle.std.proofs.lemmas.Bool.{false≢true, and_parts, and_from, or_left, or_right, or_cases, ltb-true, leb-true, lt-ltb, le-leb}
 use Rattle.std.proofs.lemmas.Grind.{flat_map-append}
-use Rattle.std.proofs.lemmas.List.Elements.{filter-append}
+use Rattle.std.proofs.lemmas.List.Concat.{flat_map-cons}
 use Rattle.std.proofs.lemmas.List.Sums.{fold-append}
 use Rattle.zr_id.specs.Zid.{is_named}
 use Rattle.zr_graph.specs.Record.{ids}
@@ -16,7 +16,7 @@ use Rattle.zr_msg.specs.declared.msg.Msg.TheVariants as m
 use Rattle.zr_node_spec.specs.Table.{able_kind}
 use Rattle.zr_node_spec.specs.State.{NodeState}
 use Rattle.zr_script_spec.specs.declared.error.ScriptError.{ScriptError}
-use Rattle.zr_script_spec.specs.declared.error.ScriptError.TheVariants.{Limit}
+use Rattle.zr_script_spec.specs.declared.error.ScriptError.TheVariants.{Limit, NotSamples, NotSettled}
 use Rattle.zr_script_spec.specs.declared.command.Act.{Act}
 use Rattle.zr_script_spec.specs.declared.command.Act.TheVariants as c
 use Rattle.zr_script_spec.specs.declared.command.Command.{Command}
@@ -27,14 +27,15 @@ use Rattle.zr_script_spec.specs.declared.report.ReportLine.TheVariants.{Ran}
 use Rattle.zr_script_spec.specs.Step.{◌>>=◌}
 use Rattle.zr_script_spec.specs.Command.{command_of}
 use Rattle.zr_script_spec.specs.Report.{line_text}
-use Rattle.zr_world_spec.specs.World.{End, WorldState, with_booked, most_steps}
-use Rattle.zr_world_spec.specs.Acts.{Outcome, parent_line, source_line, shown_base, shown, outcome}
-use Rattle.zr_world_spec.specs.Next.{step_at, can_handle, can_take, first_where, next, world_after, with_more, run_steps, acts, Done, all_done, book_step, run_done, applied}
+use Rattle.zr_world_spec.specs.World.{End, WorldState, with_booked, most_steps, is_settled}
+use Rattle.zr_world_spec.specs.Fan.{are_samples, are_many, are_long, most_fan_steps, fanned}
+use Rattle.zr_world_spec.specs.Acts.{Outcome, unless, parent_line, source_line, shown_base, shown, outcome}
+use Rattle.zr_world_spec.specs.Next.{step_at, can_handle, can_take, first_where, next, world_after, with_more, run_steps, fan_steps, acts, Done, all_done, book_step, run_done, fan_done, fan_step, applied}
 use Rattle.zr_world_spec.specs.Run.{Run, start, stepped, commanded, on_line}
 use Rattle.zr_world_spec.specs.Moments.{Numbered, is_step, is_later, ascends, Moment, beginning, went, onward, reached}
-use Rattle.zr_world_spec.specs.Accepted.{entries, accepted_from, accepted, is_of_act, IsTold, LinesAreMoments}
+use Rattle.zr_world_spec.specs.Accepted.{entries, accepted_from, accepted, is_of_act, Tells, Told, IsTold, LinesAreMoments}
 use Rattle.zr_world_spec.proofs.Cases.{for_router, for_client, for_link, for_up, for_break, for_down, for_declare, for_undeclare, interest_says, uninterest_says, publish_says, get_says, reply_says, end_says, for_handle, for_take, for_mark, for_show}
-use Rattle.zr_lists.proofs.Tests.{all_of_filter, all_both, all_parts, all_mapped, filter_keeps_all}
+use Rattle.zr_lists.proofs.Tests.{all_both, all_mapped}
 use Rattle.zr_world_spec.proofs.Counting.{recounted, outcome_recounted, steps_recounted, acts_recounted, done_recounted}
 
 -- ---- a line
@@ -112,6 +113,7 @@ steps_ascend last n (a ∷ more) rest le all h =
 -- the acts of a line
 acts_ascend : (w : WorldState) (last n : ℕ) (asked : Command) (rest : List Numbered) → last < n → ascends n rest ≡ true → ascends last (numbered n (acts w n asked) ++ rest) ≡ true
 acts_ascend w last n (command.Run steps) rest lt h = steps_ascend last n (run_steps n steps w) rest (omega arith) (all_steps n steps w) h
+acts_ascend w last n command.Fan rest lt h = steps_ascend last n (fan_steps n w) rest (omega arith) (all_steps n most_fan_steps w) h
 acts_ascend w last n (command.Act act) rest lt h = and_from (is_later last (n, act)) (ascends n rest) (or_left (nat_lt last n) (is_step act && nat_le last n) (lt-ltb last n lt)) h
 
 numbers_ascend : (ls : List (List ℕ)) (r : Run) (last : ℕ) → last ≤ r.number → ascends last (accepted_from r ls) ≡ true
@@ -145,7 +147,7 @@ made m (Ok x) = Some (record { world = x.1; report = m.report ++ x.0 })
 made m (Err e) = None
 
 -- what some acts of a line do is the moment that they lead to
-acts_lead : (more : List Act) (n : ℕ) (m : Moment) → fold onward (Some m) (numbered n more) ≡ made m (all_done m.world n more)
+pub acts_lead : (more : List Act) (n : ℕ) (m : Moment) → fold onward (Some m) (numbered n more) ≡ made m (all_done m.world n more)
 acts_lead [] n m = ap (λ z. Some (record { world = m.world; report = z })) (sym (append-nil m.report))
 acts_lead (a ∷ more) n m = by_act (outcome m.world n a) (acts_lead more n)
   where
@@ -212,15 +214,99 @@ acts_tell (x ∷ xs) o h = acts_tell xs (onward o x) (by o h)
     by None k = tt
     by (Some now) k = act_tells now k x.0 x.1
 
--- What the command of a line does is what its acts do, in a world with any count of steps, and then what is said of a run's end.
+-- ---- what is told
+
+-- a report line that tells itself
+abbrev itself : ReportLine → ReportLine × List ReportLine
+itself l = (l, l ∷ [])
+
+tells_itself : (l : ReportLine) → is_of_act l ≡ true → Tells l (l ∷ [])
+tells_itself (line.Handled router from msg tag) h = refl
+tells_itself (line.Taken router to msg tag) h = refl
+tells_itself (line.Ran steps quiet) h = absurd (false≢true h)
+tells_itself (line.Fanned lines steps kinds) h = absurd (false≢true h)
+tells_itself (line.Mark n) h = refl
+tells_itself (line.Show router) h = refl
+tells_itself (line.Record links) h = refl
+tells_itself (line.Parent root parent) h = refl
+tells_itself (line.Source source number decls) h = refl
+
+abbrev AllTell : Told → Type 0
+AllTell told = AllByRecursion (λ t. Tells t.0 t.1) told
+
+all_themselves : (xs : List ReportLine) → list_all is_of_act xs ≡ true → AllTell (map itself xs)
+all_themselves [] h = tt
+all_themselves (x ∷ xs) h = let parts = and_parts (is_of_act x) (list_all is_of_act xs) h in (tells_itself x parts.0, all_themselves xs parts.1)
+
+all_tell : (xs ys : Told) → AllTell xs → AllTell ys → AllTell (xs ++ ys)
+all_tell [] ys a b = b
+all_tell (x ∷ xs) ys a b = (a.0, all_tell xs ys a.1 b)
+
+abbrev texts : Told → List ℕ
+texts told = flat_map (λ t. line_text t.0) told
+
+abbrev sayings : Told → List ReportLine
+sayings told = flat_map (λ t. t.1) told
+
+texts_both : (xs ys : Told) → texts (xs ++ ys) ≡ texts xs ++ texts ys
+texts_both xs ys = flat_map-append (λ t. line_text t.0) xs ys
+
+sayings_both : (xs ys : Told) → sayings (xs ++ ys) ≡ sayings xs ++ sayings ys
+sayings_both xs ys = flat_map-append (λ t. t.1) xs ys
+
+texts_themselves : (xs : List ReportLine) → flat_map line_text xs ≡ texts (map itself xs)
+texts_themselves [] = refl
+texts_themselves (x ∷ xs) =
+    flat_map-cons line_text x xs ∙ ap (λ z. line_text x ++ z) (texts_themselves xs)
+    ∙ sym (flat_map-cons (λ (t : ReportLine × List ReportLine). line_text t.0) (itself x) (map itself xs))
+
+one_text : (l : ReportLine) (said : List ReportLine) → flat_map line_text (l ∷ []) ≡ texts ((l, said) ∷ [])
+one_text l said = flat_map-cons line_text l [] ∙ sym (flat_map-cons (λ (t : ReportLine × List ReportLine). line_text t.0) (l, said) [])
+
+one_saying : (l : ReportLine) (said : List ReportLine) → sayings ((l, said) ∷ []) ≡ said
+one_saying l said = flat_map-cons (λ (t : ReportLine × List ReportLine). t.1) (l, said) [] ∙ append-nil said
+
+sayings_themselves : (xs : List ReportLine) → sayings (map itself xs) ≡ xs
+sayings_themselves [] = refl
+sayings_themselves (x ∷ xs) = flat_map-cons (λ (t : ReportLine × List ReportLine). t.1) (itself x) (map itself xs) ∙ ap (λ z. x ∷ z) (sayings_themselves xs)
+
+-- what a fan does that is not refused, in a world with any count of steps, is what its steps do
+pub fan_led : (w : WorldState) (booked n : ℕ) (x : List ReportLine × WorldState) → fan_step (with_booked w booked) n ≡ Ok x →
+    (y : List ReportLine × WorldState) × (all_done w n (fan_steps n w) ≡ Ok y) × (x ≡ (fanned y.1.routers y.0 ∷ [], with_booked y.1 booked))
+unfolding fan_step fan_done
+fan_led w booked n x h = by (not (is_settled w)) (not (are_samples w)) (are_many w || are_long w) h
+  where
+    v : WorldState
+    v = with_booked w booked
+
+    tells : List ReportLine × WorldState → Done
+    tells y = Ok (fanned y.1.routers y.0 ∷ [], y.1)
+
+    steps_are : all_done v n (fan_steps n v) ≡ recounted booked (all_done w n (fan_steps n w))
+    steps_are = ap (all_done v n) (steps_recounted n most_fan_steps w booked) ∙ done_recounted n (fan_steps n w) w booked
+
+    by_steps : (d : Done) → all_done w n (fan_steps n w) ≡ d → (recounted booked d >>= tells) ≡ Ok x →
+        (y : List ReportLine × WorldState) × (all_done w n (fan_steps n w) ≡ Ok y) × (x ≡ (fanned y.1.routers y.0 ∷ [], with_booked y.1 booked))
+    by_steps (Err e) eq k = absurd (cc)
+    by_steps (Ok y) eq k = (y, eq, let same : (fanned y.1.routers y.0 ∷ [], with_booked y.1 booked) ≡ x = cc in sym same)
+
+    by : (a b c : Bool) → (unless a NotSettled >>= (λ s. unless b NotSamples >>= (λ t. unless c Limit >>= (λ u. fan_done n v)))) ≡ Ok x →
+        (y : List ReportLine × WorldState) × (all_done w n (fan_steps n w) ≡ Ok y) × (x ≡ (fanned y.1.routers y.0 ∷ [], with_booked y.1 booked))
+    by true b c k = absurd (cc)
+    by false true c k = absurd (cc)
+    by false false true k = absurd (cc)
+    by false false false k = by_steps (all_done w n (fan_steps n w)) refl (ap (λ (d : Done). d >>= tells) (sym steps_are) ∙ k)
+
+-- What the command of a line does is what its acts do, in a world with any count of steps; and its report lines tell what these reported.
 record IsLed (w : WorldState) (n : ℕ) (asked : Command) (x : List ReportLine × WorldState) : Type 0 where
   said : List ReportLine
   after : WorldState
   is_done : all_done w n (acts w n asked) ≡ Ok (said, after)
   world_is : x.1 ≡ with_booked after x.1.booked
-  ends : List ReportLine
-  lines_are : x.0 ≡ said ++ ends
-  left_out : filter is_of_act ends ≡ []
+  told : Told
+  each : list_all is_of_act said ≡ true → AllTell told
+  text_is : flat_map line_text x.0 ≡ texts told
+  said_is : sayings told ≡ said
 
 is_led : (w : WorldState) (booked n : ℕ) (asked : Command) (x : List ReportLine × WorldState) → applied (with_booked w booked) n asked ≡ Ok x → IsLed w n asked x
 unfolding applied run_done book_step
@@ -235,9 +321,10 @@ is_led w booked n (command.Act act) x h = by (outcome w n act) refl (sym (outcom
           after = y.1;
           is_done = ap (λ (o : Outcome). o >>= (λ z. all_done z.1 n [] >>= (λ t. Ok (z.0 ++ t.0, t.1)))) eq;
           world_is = refl;
-          ends = [];
-          lines_are = sym (append-nil (y.0 ++ []) ∙ append-nil y.0);
-          left_out = refl;
+          told = map itself y.0;
+          each = λ of. all_themselves y.0 (ap (list_all is_of_act) (sym (append-nil y.0)) ∙ of);
+          text_is = texts_themselves y.0;
+          said_is = sayings_themselves y.0 ∙ sym (append-nil y.0);
         })
 is_led w booked n (command.Run steps) x h = by_room (nat_le (booked + steps) most_steps) h
   where
@@ -263,24 +350,39 @@ is_led w booked n (command.Run steps) x h = by_room (nat_le (booked + steps) mos
               after = y.1;
               is_done = eq;
               world_is = refl;
-              ends = end (with_booked y.1 (booked + steps)) ∷ [];
-              lines_are = refl;
-              left_out = refl;
+              told = map itself y.0 ++ (end (with_booked y.1 (booked + steps)), []) ∷ [];
+              each = λ of. all_tell (map itself y.0) _ (all_themselves y.0 of) (refl, tt);
+              text_is =
+                  flat_map-append line_text y.0 (end (with_booked y.1 (booked + steps)) ∷ [])
+                  ∙ (λ i. texts_themselves y.0 i ++ one_text (end (with_booked y.1 (booked + steps))) [] i)
+                  ∙ sym (texts_both (map itself y.0) ((end (with_booked y.1 (booked + steps)), []) ∷ []));
+              said_is =
+                  sayings_both (map itself y.0) ((end (with_booked y.1 (booked + steps)), []) ∷ [])
+                  ∙ (λ i. sayings_themselves y.0 i ++ one_saying (end (with_booked y.1 (booked + steps))) [] i) ∙ append-nil y.0;
             })
+is_led w booked n command.Fan x h =
+    let led = fan_led w booked n x h in
+    subst (λ (z : List ReportLine × WorldState). IsLed w n command.Fan z) (sym led.2) (record {
+      said = led.0.0;
+      after = led.0.1;
+      is_done = led.1;
+      world_is = refl;
+      told = (fanned led.0.1.routers led.0.0, led.0.0) ∷ [];
+      each = λ of. ((refl, refl), tt);
+      text_is = one_text (fanned led.0.1.routers led.0.0) led.0.0;
+      said_is = one_saying (fanned led.0.1.routers led.0.0) led.0.0;
+    })
 
 -- the moment behind a line is told by the run behind it
 line_told : (r : Run) (m : Moment) (asked : Command) (x : List ReportLine × WorldState) → (h : IsTold r m) → (led : IsLed m.world (r.number + 1) asked x) →
     list_all is_of_act led.said ≡ true → IsTold (behind r x) (record { world = led.after; report = m.report ++ led.said })
 line_told r m asked x h led steps = record {
   world_is = led.world_is;
-  all = h.all ++ x.0;
-  text_is = ap (λ z. z ++ flat_map line_text x.0) h.text_is ∙ sym (flat_map-append line_text h.all x.0);
-  report_is = ap (λ z. z ++ led.said) h.report_is ∙ ap (λ z. filter is_of_act h.all ++ z) (sym said_is) ∙ sym (filter-append is_of_act h.all x.0);
+  told = h.told ++ led.told;
+  each = all_tell h.told led.told h.each (led.each steps);
+  text_is = ap (λ z. z ++ flat_map line_text x.0) h.text_is ∙ ap (λ z. texts h.told ++ z) led.text_is ∙ sym (texts_both h.told led.told);
+  report_is = ap (λ z. z ++ led.said) h.report_is ∙ ap (λ z. sayings h.told ++ z) (sym led.said_is) ∙ sym (sayings_both h.told led.told);
 }
-  where
-    said_is : filter is_of_act x.0 ≡ led.said
-    said_is = ap (filter is_of_act) led.lines_are ∙ filter-append is_of_act led.said led.ends ∙ ap (λ z. filter is_of_act led.said ++ z) led.left_out
-        ∙ append-nil (filter is_of_act led.said) ∙ filter_keeps_all is_of_act led.said steps
 
 -- from a moment that a run tells, the run of more lines tells the moment that their accepted acts lead to
 lines_lead : (ls : List (List ℕ)) (r : Run) (m : Moment) → IsTold r m →
@@ -288,7 +390,7 @@ lines_lead : (ls : List (List ℕ)) (r : Run) (m : Moment) → IsTold r m →
 lines_lead [] r m h = (m, refl, h)
 lines_lead (l ∷ ls) r m h =
     line_cases r l (λ r' xs. (m' : Moment) × (fold onward (Some m) (xs ++ accepted_from r' ls) ≡ Some m') × IsTold (fold on_line r' ls) m')
-    (λ r' ew et le. lines_lead ls r' m (record { world_is = ew ∙ h.world_is ∙ ap (λ w. with_booked m.world w.booked) (sym ew); all = h.all; text_is = et ∙ h.text_is; report_is = h.report_is }))
+    (λ r' ew et le. lines_lead ls r' m (record { world_is = ew ∙ h.world_is ∙ ap (λ w. with_booked m.world w.booked) (sym ew); told = h.told; each = h.each; text_is = et ∙ h.text_is; report_is = h.report_is }))
     (λ asked x e. by asked x e (lines_lead ls))
   where
     by : (asked : Command) (x : List ReportLine × WorldState) → applied r.world (r.number + 1) asked ≡ Ok x →
@@ -313,13 +415,21 @@ lines_lead (l ∷ ls) r m h =
             (ap (λ w. acts w (r.number + 1) asked) h.world_is ∙ acts_recounted m.world r.world.booked (r.number + 1) asked)
             ∙ acts_lead (acts m.world (r.number + 1) asked) (r.number + 1) m ∙ ap (made m) led.is_done
 
+        -- the same without what was reported before
+        bare : Moment
+        bare = record { world = m.world; report = [] }
+
+        leads_bare : fold onward (Some bare) its_acts ≡ Some (record { world = led.after; report = led.said })
+        leads_bare = ap (λ several. fold onward (Some bare) (numbered (r.number + 1) several))
+            (ap (λ w. acts w (r.number + 1) asked) h.world_is ∙ acts_recounted m.world r.world.booked (r.number + 1) asked)
+            ∙ acts_lead (acts m.world (r.number + 1) asked) (r.number + 1) bare ∙ ap (made bare) led.is_done
+
         steps : list_all is_of_act led.said ≡ true
-        steps = (all_parts is_of_act m.report led.said (at_some IsOfActs (fold onward (Some m) its_acts) after leads
-            (acts_tell its_acts (Some m) (ap (list_all is_of_act) h.report_is ∙ all_of_filter is_of_act h.all)))).1
+        steps = at_some IsOfActs (fold onward (Some bare) its_acts) (record { world = led.after; report = led.said }) leads_bare (acts_tell its_acts (Some bare) refl)
 
 pub lines_are_moments : LinesAreMoments
 lines_are_moments ls =
-    let leads = lines_lead ls start beginning (record { world_is = refl; all = []; text_is = refl; report_is = refl }) in
+    let leads = lines_lead ls start beginning (record { world_is = refl; told = []; each = tt; text_is = refl; report_is = refl }) in
     (numbers_ascend ls start 0 (omega arith), (leads.0, record { is_reached = leads.1; is_told = leads.2 }))
 
 -- the first of some lines' acts lead to a moment

@@ -12,12 +12,17 @@ use Rattle.zr_script_spec.specs.Step.{◌>>=◌}
 use Rattle.zr_lists.specs.Prefix.{IsPrefixOf}
 use Rattle.zr_world_spec.specs.World.{WorldState}
 use Rattle.zr_world_spec.specs.Acts.{Outcome, outcome}
-use Rattle.zr_world_spec.specs.Next.{Done, next, world_after, with_more, run_steps, all_done, book_step, run_done, applied}
+use Rattle.zr_world_spec.specs.Next.{Done, next, world_after, with_more, run_steps, all_done, book_step, run_done, fan_step, applied}
 
 -- a command that is one act
 pub one_act : (w : WorldState) (line : ℕ) (act : Act) → applied w line (c.Act act) ≡ outcome w line act
 unfolding applied
 one_act w line act = refl
+
+-- a command that is a fan
+pub one_fan : (w : WorldState) (line : ℕ) → applied w line c.Fan ≡ fan_step w line
+unfolding applied
+one_fan w line = refl
 
 -- ---- a run
 

@@ -26,7 +26,7 @@ use Rattle.zr_msg.specs.declared.event.Event.TheVariants.{Down, From}
 use Rattle.zr_msg.specs.Extras.{no_extras}
 use Rattle.zr_msg.specs.declared.peer.Role.TheVariants as role
 use Rattle.zr_script_spec.specs.declared.error.ScriptError.{ScriptError}
-use Rattle.zr_script_spec.specs.declared.error.ScriptError.TheVariants.{UnknownName, NotLinked, Limit}
+use Rattle.zr_script_spec.specs.declared.error.ScriptError.TheVariants.{UnknownName, NotLinked, Limit, NotSamples, NotSettled}
 use Rattle.zr_script_spec.specs.declared.command.Act.{Act}
 use Rattle.zr_script_spec.specs.declared.command.Act.TheVariants as a
 use Rattle.zr_script_spec.specs.Mode.{is_current, is_future}
@@ -38,9 +38,10 @@ use Rattle.zr_node_spec.specs.Tables.{is_router, link_at, link_to}
 use Rattle.zr_node_spec.specs.Table.{able_kind, after}
 use Rattle.zr_node_spec.specs.Event.{MayCome}
 use Rattle.zr_script_spec.specs.Step.{◌>>=◌}
-use Rattle.zr_world_spec.specs.World.{Tagged, ClientState, RouterState, EndState, End, Routers, Clients, Ends, WorldState, end_cmp, is_end, router_of, client_of, is_taken, end_of, is_up, is_unbroken, is_in_place, with_routers, with_clients, with_ends, with_router, with_client, with_end, put_end, new_end, new_router, new_client, lifted, changed, broken, lowered, sent, with_wire, with_queue, is_empty, most_steps}
+use Rattle.zr_world_spec.specs.World.{Tagged, ClientState, RouterState, EndState, End, Routers, Clients, Ends, WorldState, end_cmp, is_end, router_of, client_of, is_taken, end_of, is_up, is_unbroken, is_in_place, with_routers, with_clients, with_ends, with_router, with_client, with_end, put_end, new_end, new_router, new_client, lifted, changed, broken, lowered, sent, with_wire, with_queue, is_empty, most_steps, is_settled}
+use Rattle.zr_world_spec.specs.Fan.{are_samples, are_many, are_long, fanned}
 use Rattle.zr_world_spec.specs.Acts.{Outcome, unless, router_at, end_at, oldest, number_at, handle_step, take_step, having_told, refuses_of, heard, weighing, ids_of, with_ids, declaring, undeclaring, received, hears, heard_by, all_queued, all_told, up_event, peer_of, number_to, outcome}
-use Rattle.zr_world_spec.specs.Next.{Done, lesser, ends_where, first_where, can_handle, can_take, step_at, next, world_after, with_more, run_steps, all_done, booking, book_step, run_done, applied}
+use Rattle.zr_world_spec.specs.Next.{Done, lesser, ends_where, first_where, can_handle, can_take, step_at, next, world_after, with_more, run_steps, all_done, booking, book_step, run_done, fan_steps, fan_done, fan_step, applied}
 use Rattle.zr_world_spec.specs.Moments.{Moment, went}
 use Rattle.zr_world_spec.specs.Sound.{IsSound, AllAreTaken}
 use Rattle.zr_lists.proofs.Finds.{In, in_map, in_filter}
@@ -459,6 +460,23 @@ run_keeps w line steps h = by (all_done w line (run_steps line steps w)) (acts_k
     by (Err e) m = tt
     by (Ok y) m = m
 
+fan_keeps : (w : WorldState) (line : ℕ) → IsSound w → IfOk (fan_step w line) (λ x. IsSound x.1)
+unfolding fan_step fan_done
+fan_keeps w line h = by (not (is_settled w)) (not (are_samples w)) (are_many w || are_long w)
+  where
+    tells : List ReportLine × WorldState → Done
+    tells x = Ok (fanned x.1.routers x.0 ∷ [], x.1)
+
+    done : (d : Done) → IfOk d (λ x. IsSound x.1) → IfOk (d >>= tells) (λ x. IsSound x.1)
+    done (Err e) k = tt
+    done (Ok y) k = k
+
+    by : (a b c : Bool) → IfOk (unless a NotSettled >>= (λ u. unless b NotSamples >>= (λ v. unless c Limit >>= (λ z. fan_done line w)))) (λ x. IsSound x.1)
+    by true b c = tt
+    by false true c = tt
+    by false false true = tt
+    by false false false = done (all_done w line (fan_steps line w)) (acts_keep line (fan_steps line w) w h)
+
 pub applied_keeps : (w : WorldState) (line : ℕ) (command : Command) → IsSound w → IfOk (applied w line command) (λ x. IsSound x.1)
 unfolding applied
 applied_keeps w line (c.Act act) h = act_keeps w line act h
@@ -467,6 +485,7 @@ applied_keeps w line (c.Run steps) h = by (book_step w steps) (book_keeps w step
     by : (b : Result WorldState ScriptError) → IfOk b IsSound → IfOk (b >>= run_done line steps) (λ x. IsSound x.1)
     by (Ok counted) k = run_keeps counted line steps k
     by (Err e) k = tt
+applied_keeps w line c.Fan h = fan_keeps w line h
 
 -- ---- the next step is possible
 

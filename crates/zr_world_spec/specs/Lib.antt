@@ -1,4 +1,5 @@
 pub mod World
+pub mod Fan
 pub mod Joined
 pub mod Acts
 pub mod Next

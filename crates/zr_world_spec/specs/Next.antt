@@ -1,10 +1,10 @@
 -- The step that comes next in a network, and what a line's command does: one act, or a run, which is counted and then does its steps,
 -- each the next one.
-use Rattle.std.specs.Prelude.{ℕ, zero, suc, ◌+◌, nat_le, not, ◌&&◌, Bool, if◌then◌else◌, List, [], ◌∷◌, ◌++◌, length, map, filter, Option, Some, None, is_none, Result, Ok, Err}
+use Rattle.std.specs.Prelude.{ℕ, zero, suc, ◌+◌, nat_le, not, ◌&&◌, ◌||◌, Bool, if◌then◌else◌, List, [], ◌∷◌, ◌++◌, length, map, filter, Option, Some, None, is_none, Result, Ok, Err}
 use Rattle.std.specs.List.{reduce}
 use Rattle.std.specs.Ordering.{min_by_ordering}
 use Rattle.zr_script_spec.specs.declared.error.ScriptError.{ScriptError}
-use Rattle.zr_script_spec.specs.declared.error.ScriptError.TheVariants.{Limit}
+use Rattle.zr_script_spec.specs.declared.error.ScriptError.TheVariants.{Limit, NotSamples, NotSettled}
 use Rattle.zr_script_spec.specs.declared.command.Act.{Act}
 use Rattle.zr_script_spec.specs.declared.command.Act.TheVariants as a
 use Rattle.zr_script_spec.specs.declared.command.Command.{Command}
@@ -12,8 +12,9 @@ use Rattle.zr_script_spec.specs.declared.command.Command.TheVariants as c
 use Rattle.zr_script_spec.specs.declared.report.ReportLine.{ReportLine}
 use Rattle.zr_script_spec.specs.declared.report.ReportLine.TheVariants.{Ran}
 use Rattle.zr_script_spec.specs.Step.{◌>>=◌}
-use Rattle.zr_world_spec.specs.World.{EndState, End, Ends, end_cmp, WorldState, with_booked, most_steps, is_empty}
-use Rattle.zr_world_spec.specs.Acts.{Outcome, outcome}
+use Rattle.zr_world_spec.specs.World.{EndState, End, Ends, end_cmp, WorldState, with_booked, most_steps, is_empty, is_settled}
+use Rattle.zr_world_spec.specs.Acts.{Outcome, outcome, unless}
+use Rattle.zr_world_spec.specs.Fan.{are_samples, are_many, are_long, most_fan_steps, fanned}
 
 -- ---- the next step
 
@@ -65,10 +66,15 @@ unfoldable pub run_steps : ℕ → ℕ → WorldState → List Act
 run_steps line zero w = []
 run_steps line (suc n) w = with_more (next w) (λ step. run_steps line n (world_after w (outcome w line step)))
 
--- the acts of a line's command: of a run its steps, which are the same whether it was counted yet or not
+-- the steps of a fan: those of a run that goes on until none is possible
+abbrev pub fan_steps : ℕ → WorldState → List Act
+fan_steps line w = run_steps line most_fan_steps w
+
+-- the acts of a line's command: of a run and of a fan their steps; those of a run are the same whether it was counted yet or not
 abbrev pub acts : WorldState → ℕ → Command → List Act
 acts w line (c.Act act) = act ∷ []
 acts w line (c.Run steps) = run_steps line steps w
+acts w line c.Fan = fan_steps line w
 
 -- ---- whole commands
 
@@ -98,7 +104,22 @@ run_done line steps w = do
   x ← all_done w line (run_steps line steps w)
   Ok (x.0 ++ Ran (length (run_steps line steps w)) (is_none (next x.1)) ∷ [], x.1)
 
+-- the steps of a fan; at their end one line tells them
+unfoldable pub fan_done : ℕ → WorldState → Done
+fan_done line w = do
+  x ← all_done w line (fan_steps line w)
+  Ok (fanned x.1.routers x.0 ∷ [], x.1)
+
+-- all samples under way go to their ends, where the world is settled, nothing else is under way, and not too much
+unfoldable pub fan_step : WorldState → ℕ → Done
+fan_step w line = do
+  a ← unless (not (is_settled w)) NotSettled
+  b ← unless (not (are_samples w)) NotSamples
+  c ← unless (are_many w || are_long w) Limit
+  fan_done line w
+
 -- what the command of a line does
 unfoldable pub applied : WorldState → ℕ → Command → Done
 applied w line (c.Act act) = outcome w line act
 applied w line (c.Run steps) = book_step w steps >>= run_done line steps
+applied w line c.Fan = fan_step w line

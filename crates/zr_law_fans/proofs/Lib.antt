@@ -1,0 +1,11 @@
+pub mod Right
+pub mod Acts
+pub mod Calm
+pub mod Accepting
+pub mod Trees
+pub mod Worth
+pub mod Counting
+pub mod Bound
+pub mod Resting
+pub mod Ends
+pub mod Plain

@@ -1,0 +1,3 @@
+pub mod Bag
+pub mod Passes
+pub mod Ranked
