@@ -4,7 +4,7 @@ use Rattle.zr_msg.specs.declared.msg.Kinds.{Kinds}
 use Rattle.zr_script_spec.specs.declared.command.Command.{Command}
 use Rattle.zr_script_spec.specs.declared.command.Mode.{Mode}
 use Rattle.zr_script_spec.specs.declared.error.ScriptError.{ScriptError}
-use Rattle.zr_script_spec.specs.declared.error.ScriptError.TheVariants.{UnknownCommand, BadWords, UnknownName, NameTaken, BadKey, NotLinked, AlreadyLinked, NothingThere, NotAsked, NotSettled, NotJoined, Limit, NoMemory}
+use Rattle.zr_script_spec.specs.declared.error.ScriptError.TheVariants.{UnknownCommand, BadWords, UnknownName, NameTaken, BadKey, NotLinked, AlreadyLinked, NothingThere, NotAsked, NotSettled, NotSamples, NotJoined, Limit, NoMemory}
 use Rattle.zr_script_spec.specs.Step.{◌>>=◌, IsSaid}
 use Rattle.zr_script_spec.specs.Words.{two_of, some_two_of, three_of, zid_at, number_at, link_weight_at, key_at, mode_at, kinds_at, aggregate_at}
 use Rattle.zr_script.specs.Args.{LeadsOn, numbered_then, names_then, linked_then, pair_then, keyed_then, terms_then}
@@ -21,6 +21,7 @@ stays AlreadyLinked m k h = ap (λ x. x >>= k) h
 stays NothingThere m k h = ap (λ x. x >>= k) h
 stays NotAsked m k h = ap (λ x. x >>= k) h
 stays NotSettled m k h = ap (λ x. x >>= k) h
+stays NotSamples m k h = ap (λ x. x >>= k) h
 stays NotJoined m k h = ap (λ x. x >>= k) h
 stays Limit m k h = ap (λ x. x >>= k) h
 stays NoMemory m k h = tt

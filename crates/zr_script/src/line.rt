@@ -3,7 +3,7 @@
 ghost use Rattle.std.specs.Prelude.{◌≡◌, ◌≤◌, ◌<◌, ◌^◌, length, true, Ok};
 ghost use Rattle.zr_script_spec.specs.Lines.{most_line};
 ghost use Rattle.zr_script_spec.specs.Step.{IsSaid};
-ghost use Rattle.zr_script_spec.specs.Command.{command_of, by_words, by_name, by_later_name, by_last_name, is_command, is_later_command, is_last_command, is_silent, plain, asking_body, answer_body, router_line, client_line, link_line, up_line, break_line, down_line, sub_line, unsub_line, able_line, unable_line, token_line, untoken_line, interest_line, uninterest_line, put_line, del_line, get_line, reply_line, end_line, handle_line, take_line, run_line, mark_line, show_line};
+ghost use Rattle.zr_script_spec.specs.Command.{command_of, by_words, by_name, by_later_name, by_last_name, is_command, is_later_command, is_last_command, is_silent, plain, asking_body, answer_body, router_line, client_line, link_line, up_line, break_line, down_line, sub_line, unsub_line, able_line, unable_line, token_line, untoken_line, interest_line, uninterest_line, put_line, del_line, get_line, reply_line, end_line, handle_line, take_line, run_line, fan_line, mark_line, show_line};
 ghost use Rattle.zr_script_spec.specs.Words.{words, is_clean};
 ghost use Rattle.zr_script.specs.Args.{LeadsOn, names_then, linked_then, pair_then, numbered_then, keyed_then, terms_then};
 ghost use Rattle.zr_script.specs.Short.{are_short};
@@ -111,6 +111,7 @@ fn is_last_command(name: &[u8]) -> bool
         || is_word(name, b"handle")
         || is_word(name, b"take")
         || is_word(name, b"run")
+        || is_word(name, b"fan")
         || is_word(name, b"mark")
         || is_word(name, b"show")
 }
@@ -188,6 +189,8 @@ fn by_last_name(alloc: Global, name: &[u8], args: &[u8]) -> Result<Command, Scri
         take(args)
     } else if is_word(name, b"run") {
         run(args)
+    } else if is_word(name, b"fan") {
+        fan(args)
     } else if is_word(name, b"mark") {
         mark(args)
     } else if is_word(name, b"show") {
@@ -536,6 +539,14 @@ fn run(args: &[u8]) -> Result<Command, ScriptError>
 {
     let steps = number(one(args)?)?;
     Ok(Command::Run { steps })
+}
+
+#[tactic(auto, unfolding(zr_script_spec::specs::Command::fan_line))]
+fn fan(args: &[u8]) -> Result<Command, ScriptError>
+    ensures { IsSaid result (fan_line (words args.now)) }
+{
+    none(args)?;
+    Ok(Command::Fan)
 }
 
 #[tactic(auto, unfolding(zr_script_spec::specs::Command::mark_line))]

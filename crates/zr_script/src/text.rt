@@ -45,6 +45,32 @@ pub fn refused_text(number: u64, error: ScriptError, text: &mut Vec<u8>) -> Resu
     }
 }
 
+/// Appends the text of the line that tells that a router has handled a message of a neighbour.
+pub fn put_handled(
+    router: &Zid,
+    from: &Zid,
+    msg: &Msg,
+    tag: u64,
+    out: &mut Vec<u8>,
+) -> Result<(), AllocError>
+    ensures { OnOk result (out.new.items ≡ out.old.items ++ line_text (ReportLine.Handled router.now from.now msg.now tag)) }
+{
+    put_step(router, b" < ", from, msg, tag, out)
+}
+
+/// Appends the text of the line that tells that a router's message went to a neighbour.
+pub fn put_taken(
+    router: &Zid,
+    to: &Zid,
+    msg: &Msg,
+    tag: u64,
+    out: &mut Vec<u8>,
+) -> Result<(), AllocError>
+    ensures { OnOk result (out.new.items ≡ out.old.items ++ line_text (ReportLine.Taken router.now to.now msg.now tag)) }
+{
+    put_step(router, b" > ", to, msg, tag, out)
+}
+
 fn put_line(line: &ReportLine, out: &mut Vec<u8>) -> Result<(), AllocError>
     ensures { OnOk result (out.new.items ≡ out.old.items ++ line_text line.now) }
 {
@@ -54,14 +80,15 @@ fn put_line(line: &ReportLine, out: &mut Vec<u8>) -> Result<(), AllocError>
             from,
             msg,
             tag,
-        } => put_step(router, b" < ", from, msg, *tag, out),
+        } => put_handled(router, from, msg, *tag, out),
         ReportLine::Taken {
             router,
             to,
             msg,
             tag,
-        } => put_step(router, b" > ", to, msg, *tag, out),
+        } => put_taken(router, to, msg, *tag, out),
         ReportLine::Ran { steps, quiet } => put_ran(*steps, *quiet, out),
+        ReportLine::Fanned { lines, steps, .. } => put_fanned(lines.as_slice(), *steps, out),
         ReportLine::Mark { line } => put_mark(*line, out),
         ReportLine::Show { router } => put_show(router, out),
         ReportLine::Record { record } => put_record_line(record, out),
@@ -103,6 +130,14 @@ fn rest_text(quiet: bool) -> &'static [u8]
     ensures { result.now ≡ rest_text quiet }
 {
     if quiet { b" quiet" } else { b" more" }
+}
+
+fn put_fanned(lines: &[u8], steps: u64, out: &mut Vec<u8>) -> Result<(), AllocError>
+    ensures { OnOk result (out.new.items ≡ out.old.items ++ (lines.now ++ codes "fan " ++ decimal steps ++ line_end)) }
+{
+    out.extend_from_slice(lines)?;
+    put_numbered(b"fan ", steps, out)?;
+    out.extend_from_slice(b"\n")
 }
 
 fn put_mark(line: u64, out: &mut Vec<u8>) -> Result<(), AllocError>
@@ -172,6 +207,7 @@ fn refusal_text(error: ScriptError) -> &'static [u8]
         ScriptError::NothingThere => b"8 NothingThere",
         ScriptError::NotAsked => b"9 NotAsked",
         ScriptError::NotSettled => b"10 NotSettled",
+        ScriptError::NotSamples => b"13 NotSamples",
         ScriptError::NotJoined => b"11 NotJoined",
         ScriptError::Limit => b"12 Limit",
         ScriptError::NoMemory => b"",

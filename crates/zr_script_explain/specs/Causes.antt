@@ -7,7 +7,7 @@ use Rattle.zr_key.specs.Key.{read_key}
 use Rattle.zr_key.specs.declared.key.KeyError.{KeyError}
 use Rattle.zr_key.specs.declared.key.KeyError.TheVariants as k
 use Rattle.zr_script_spec.specs.declared.error.ScriptError.{ScriptError}
-use Rattle.zr_script_spec.specs.declared.error.ScriptError.TheVariants.{UnknownCommand, BadWords, BadKey, UnknownName, NameTaken, NotLinked, AlreadyLinked, NothingThere, NotAsked, NotSettled, NotJoined, Limit, NoMemory}
+use Rattle.zr_script_spec.specs.declared.error.ScriptError.TheVariants.{UnknownCommand, BadWords, BadKey, UnknownName, NameTaken, NotLinked, AlreadyLinked, NothingThere, NotAsked, NotSettled, NotSamples, NotJoined, Limit, NoMemory}
 use Rattle.zr_script_spec.specs.Lines.{most_line}
 use Rattle.zr_script_spec.specs.Words.{is_word, is_clean, is_printable, is_space}
 use Rattle.zr_script_explain.specs.Forms.{word_at, declares, undeclares, is_query, is_interest, ends_interest, is_of_client, is_numbered, key_number, form}
@@ -159,6 +159,7 @@ limit_cause long name =
     else if is_word name (codes "client") then codes "more than 1024 clients"
     else if is_word name (codes "link") then codes "more than 512 links between routers"
     else if is_word name (codes "run") then codes "more than 10000000 steps of all runs together"
+    else if is_word name (codes "fan") then codes "more than 2000 samples under way, or more than 1048576 bytes of keys and bodies"
     else if is_query name then codes "more than 4096 open queries of a client"
     else codes "declarations and interests of the clients of a router weigh more than 4194304"
 
@@ -176,6 +177,7 @@ cause line ws AlreadyLinked = already_cause ws
 cause line ws NothingThere = nothing_cause ws
 cause line ws NotAsked = asked_cause ws
 cause line ws NotSettled = codes "the network is not settled"
+cause line ws NotSamples = codes "not only samples are under way"
 cause line ws NotJoined = codes "the routers are not joined"
 cause line ws Limit = limit_cause (nat_lt most_line (length line)) (word_at 0 ws)
 cause line ws NoMemory = []

@@ -65,7 +65,7 @@ is_single name = is_word name (codes "router") || is_word name (codes "run") || 
 -- how many words a command takes behind its name, at least
 abbrev pub words_behind : List ℕ → ℕ
 words_behind name =
-    if is_word name (codes "mark") then 0
+    if is_word name (codes "mark") || is_word name (codes "fan") then 0
     else if is_single name then 1
     else if declares name || is_word name (codes "put") then 3
     else if is_query name || is_reply name then 4
@@ -91,6 +91,7 @@ last_form name =
     else if is_word name (codes "handle") then codes "handle ROUTER FROM"
     else if is_word name (codes "take") then codes "take ROUTER TO"
     else if is_word name (codes "run") then codes "run N"
+    else if is_word name (codes "fan") then codes "fan"
     else if is_word name (codes "show") then codes "show ROUTER"
     else codes "mark"
 

@@ -4,7 +4,7 @@ use Rattle.std.specs.List.{slice_get}
 use Rattle.zr_caret.specs.Shown.{place_of_word}
 use Rattle.zr_id.specs.Zid.{zid_of_hex}
 use Rattle.zr_script_spec.specs.declared.error.ScriptError.{ScriptError}
-use Rattle.zr_script_spec.specs.declared.error.ScriptError.TheVariants.{UnknownCommand, BadWords, BadKey, UnknownName, NameTaken, NotLinked, AlreadyLinked, NothingThere, NotAsked, NotSettled, NotJoined, Limit, NoMemory}
+use Rattle.zr_script_spec.specs.declared.error.ScriptError.TheVariants.{UnknownCommand, BadWords, BadKey, UnknownName, NameTaken, NotLinked, AlreadyLinked, NothingThere, NotAsked, NotSettled, NotSamples, NotJoined, Limit, NoMemory}
 use Rattle.zr_script_spec.specs.Lines.{most_line}
 use Rattle.zr_script_spec.specs.Words.{is_word, is_clean, is_printable, is_space, is_number, value_of}
 use Rattle.zr_script_explain.specs.Forms.{word_at, gives_number, is_query, is_reply, is_interest, links, is_of_client, key_number, words_behind, most_behind}
@@ -125,6 +125,7 @@ place line ws AlreadyLinked = place_of_word 2 line
 place line ws NothingThere = place_of_word 2 line
 place line ws NotAsked = place_of_word 2 line
 place line ws NotSettled = place_of_word 0 line
+place line ws NotSamples = place_of_word 0 line
 place line ws NotJoined = place_of_word 0 line
 place line ws Limit = place_of_limit line (word_at 0 ws)
 place line ws NoMemory = 0

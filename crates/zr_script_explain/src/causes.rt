@@ -43,6 +43,7 @@ pub(crate) fn put_cause(
         ScriptError::NothingThere => put_nothing_cause(words, text),
         ScriptError::NotAsked => put_asked_cause(words, text),
         ScriptError::NotSettled => text.extend_from_slice(b"the network is not settled"),
+        ScriptError::NotSamples => text.extend_from_slice(b"not only samples are under way"),
         ScriptError::NotJoined => text.extend_from_slice(b"the routers are not joined"),
         ScriptError::Limit => text.extend_from_slice(limit_cause(line.len() > MOST_LINE, name)),
         ScriptError::NoMemory => Ok(()),
@@ -437,6 +438,8 @@ fn limit_cause(long: bool, name: &[u8]) -> &'static [u8]
         b"more than 512 links between routers"
     } else if is_word(name, b"run") {
         b"more than 10000000 steps of all runs together"
+    } else if is_word(name, b"fan") {
+        b"more than 2000 samples under way, or more than 1048576 bytes of keys and bodies"
     } else if is_query(name) {
         b"more than 4096 open queries of a client"
     } else {

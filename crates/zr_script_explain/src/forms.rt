@@ -134,7 +134,7 @@ fn is_single(name: &[u8]) -> bool
 pub(crate) fn words_behind(name: &[u8]) -> usize
     ensures { result ≡ words_behind name.now }
 {
-    if is_word(name, b"mark") {
+    if is_word(name, b"mark") || is_word(name, b"fan") {
         0
     } else if is_single(name) {
         1
@@ -235,6 +235,8 @@ fn last_form(name: &[u8]) -> &'static [u8]
         b"take ROUTER TO"
     } else if is_word(name, b"run") {
         b"run N"
+    } else if is_word(name, b"fan") {
+        b"fan"
     } else if is_word(name, b"show") {
         b"show ROUTER"
     } else {

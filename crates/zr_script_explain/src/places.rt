@@ -30,6 +30,7 @@ pub(crate) fn place(line: &[u8], words: &[&[u8]], error: ScriptError) -> usize
         ScriptError::NothingThere => place_of_word(2, line),
         ScriptError::NotAsked => place_of_word(2, line),
         ScriptError::NotSettled => place_of_word(0, line),
+        ScriptError::NotSamples => place_of_word(0, line),
         ScriptError::NotJoined => place_of_word(0, line),
         ScriptError::Limit => place_of_limit(line, name),
         ScriptError::NoMemory => 0,

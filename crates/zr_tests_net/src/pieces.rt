@@ -2,11 +2,13 @@
 
 use std::alloc::{AllocError, Global};
 use std::test::Fail;
+use std::thread::Threads;
 use zr_netrun::netrun::run_script;
 use zr_netrun::options::NetOptions;
 use zr_netrun::status::Status;
 use zr_outside_mem::mem_sink::MemSink;
 use zr_outside_mem::mem_source::MemSource;
+use zr_world_gang::one_by_one::OneByOne;
 
 const SCRIPT: &[u8] =
     b"router 0a\nclient c1 0a\nclient c2 0a\nsub c2 1 a/b\nhandle 0a c2\nmark\nput c1 a/b hi\nhandle 0a c1\ntake 0a c2\n";
@@ -30,12 +32,18 @@ static ROWS: [Row; 5] = [
 ];
 
 // Runs the script, and tells its status alone.
-fn status(alloc: Global, input: &mut MemSource, out: &mut MemSink, err: &mut MemSink) -> Status {
+fn status<R: Threads + Sync>(
+    rt: &R,
+    alloc: Global,
+    input: &mut MemSource,
+    out: &mut MemSink,
+    err: &mut MemSink,
+) -> Status {
     let options = NetOptions {
         summary: false,
         explain: false,
     };
-    run_script(alloc, options, input, out, err)
+    run_script(rt, &mut OneByOne, alloc, options, input, out, err)
 }
 
 // The script, a byte a read.
@@ -47,12 +55,12 @@ fn bytewise(alloc: Global, failing: &[u64], quiet: &[u64]) -> Result<MemSource, 
 }
 
 // Whether the run ends with the row's status, has written just what the row says, and no word of an error.
-fn is_so(alloc: Global, row: &Row) -> Result<bool, AllocError> {
+fn is_so<R: Threads + Sync>(rt: &R, alloc: Global, row: &Row) -> Result<bool, AllocError> {
     let (failing, quiet, want, written) = *row;
     let mut input = bytewise(alloc, failing, quiet)?;
     let mut out = MemSink::new(alloc, Vec::new(alloc));
     let mut err = MemSink::new(alloc, Vec::new(alloc));
-    let status = status(alloc, &mut input, &mut out, &mut err);
+    let status = status(rt, alloc, &mut input, &mut out, &mut err);
     Ok(status == want && out.bytes() == written && err.bytes().is_empty())
 }
 
@@ -62,9 +70,13 @@ fn rows() -> &'static [Row] {
 }
 
 // The number of the first row that isn't so; that of all where there is none.
-fn first_wrong(alloc: Global, rows: &[Row]) -> Result<usize, AllocError> {
+fn first_wrong<R: Threads + Sync>(
+    rt: &R,
+    alloc: Global,
+    rows: &[Row],
+) -> Result<usize, AllocError> {
     for i in 0..rows.len() {
-        if !is_so(alloc, &rows[i])? {
+        if !is_so(rt, alloc, &rows[i])? {
             return Ok(i);
         }
     }
@@ -74,7 +86,7 @@ fn first_wrong(alloc: Global, rows: &[Row]) -> Result<usize, AllocError> {
 #[test]
 fn pieces_and_faults_of_reads(rt: HostRuntime) -> Result<(), Fail> {
     let rows = rows();
-    let wrong = first_wrong(rt.alloc(), rows)?;
+    let wrong = first_wrong(&rt, rt.alloc(), rows)?;
     assert!(rt; wrong == rows.len(), "row {wrong}");
     Ok(())
 }

@@ -20,7 +20,7 @@ pub fn name(byte: u8) -> Result<Zid, AllocError> {
 pub fn act_of(alloc: Global, line: &[u8]) -> Result<Option<Act>, AllocError> {
     match read_line(alloc, line) {
         Ok(Some(Command::Act { act })) => Ok(Some(act)),
-        Ok(Some(Command::Run { .. })) | Ok(None) => Ok(None),
+        Ok(Some(Command::Run { .. } | Command::Fan)) | Ok(None) => Ok(None),
         Err(_) => Err(AllocError),
     }
 }

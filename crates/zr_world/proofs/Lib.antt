@@ -2,6 +2,7 @@ pub mod Queued
 pub mod Events
 pub mod Searching
 pub mod Possible
+pub mod Fanning
 pub mod Hearing
 pub mod Moving
 pub mod Passing

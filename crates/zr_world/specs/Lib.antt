@@ -1,3 +1,4 @@
+pub mod Fanned
 pub mod Hearing
 pub mod Living
 pub mod Messages

@@ -5,6 +5,7 @@
 mod asked;
 mod client;
 mod declared;
+mod fan;
 mod interested;
 mod joined;
 mod marks;

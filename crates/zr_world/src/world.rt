@@ -2,7 +2,7 @@
 
 ghost use Rattle.std.specs.Prelude.{◌≡◌, true, false, is_some, IfSome};
 ghost use Rattle.zr_world_spec.specs.Acts.{outcome};
-ghost use Rattle.zr_world_spec.specs.Next.{next, book_step};
+ghost use Rattle.zr_world_spec.specs.Next.{next, book_step, fan_step};
 ghost use Rattle.zr_world_spec.specs.Sound.{IsSound, AllAreTaken};
 ghost use Rattle.zr_world_spec.specs.World.{router_of};
 ghost use Rattle.zr_world.specs.Living.{Applies, Books, IsPossible, new_world};
@@ -10,10 +10,12 @@ ghost use Rattle.zr_world.specs.Living.{Applies, Books, IsPossible, new_world};
 use crate::tables::WorldTables;
 use std::alloc::Global;
 use std::marker::Model;
+use std::thread::Threads;
 use zr_id::zid::Zid;
 use zr_script_spec::command::Act;
 use zr_script_spec::error::ScriptError;
 use zr_script_spec::report::ReportLine;
+use zr_world_gang::gang::Gang;
 
 /// The routers and clients of a script, and the ends of their links with what waits there.
 pub struct World {
@@ -103,6 +105,35 @@ impl World {
             return Err(ScriptError::NoMemory);
         }
         match self.tables.act(line, act, report) {
+            Ok(()) => Ok(()),
+            Err(ScriptError::NoMemory) => {
+                self.spent = true;
+                Err(ScriptError::NoMemory)
+            }
+            Err(refusal) => Err(refusal),
+        }
+    }
+
+    /// All samples under way go to their ends, and one line that tells their steps is appended. The gang is to handle the routers; so far each step is done
+    /// here, one after another.
+    ///
+    /// A refusal is the first that applies, and leaves the world as it was: `NotSettled`, `NotSamples` where not only samples are under way, and `Limit`
+    /// where they are too many or too long. After `NoMemory` the world is spent, and answers `NoMemory` from then on.
+    pub fn fan<R: Threads + Sync, G: Gang>(
+        &mut self,
+        line: u64,
+        _rt: &R,
+        _gang: &mut G,
+        report: &mut Vec<ReportLine>,
+    ) -> Result<(), ScriptError>
+        ensures applies { self.old.spent ≡ false → Applies result (fan_step self.old.state line) self.old self.new report.old.items report.new.items }
+        ensures sound { self.new.spent ≡ false → IsSound self.new.state }
+        ensures spent { self.old.spent ≡ true → (result ≡ Err ScriptError.NoMemory) × (self.new ≡ self.old) × (report.new.items ≡ report.old.items) }
+    {
+        if self.spent {
+            return Err(ScriptError::NoMemory);
+        }
+        match self.tables.fan(line, report) {
             Ok(()) => Ok(()),
             Err(ScriptError::NoMemory) => {
                 self.spent = true;

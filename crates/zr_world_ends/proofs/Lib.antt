@@ -4,3 +4,4 @@ mod Bits
 mod Standing
 pub mod Same
 pub mod Giving
+pub mod Sums

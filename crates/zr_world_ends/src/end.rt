@@ -1,14 +1,16 @@
 //! One end of a link, that of a router: what it has queued for the neighbour, and what the wire from the neighbour has for it.
 
-ghost use Rattle.std.specs.Prelude.{◌≡◌, ◌∷◌, [], not, IfNone, IfSome, OnOk, OnErr};
-ghost use Rattle.std.specs.List.{list_all};
+ghost use Rattle.std.specs.Prelude.{◌≡◌, ◌∷◌, ◌+◌, ◌-◌, ◌^◌, [], not, min, length, IfNone, IfSome, OnOk, OnErr};
+ghost use Rattle.std.specs.List.{list_all, sum_by};
 ghost use Rattle.zr_world_spec.specs.World.{new_end, sent, queued, with_wire, with_queue, broken, lifted, lowered, is_empty, unsettles, is_calm, is_calm_end};
+ghost use Rattle.zr_world_spec.specs.Fan.{is_sample, sample_bytes, waiting_at};
 ghost use Rattle.zr_world_spec.specs.Next.{can_handle, can_take};
 ghost use Rattle.zr_world_ends.specs.Steps.{returned};
 
 use std::alloc::{AllocError, Global};
 use std::collections::VecDeque;
 use std::marker::Model;
+use zr_msg::content::Content;
 use zr_msg::msg::Msg;
 use zr_msg::peer::Weight;
 
@@ -92,6 +94,28 @@ impl WorldEnd {
         ensures { result ≡ can_take self.now }
     {
         self.up && self.unbroken && are_waiting(&self.queue)
+    }
+
+    /// Whether only samples wait here.
+    pub fn has_samples(&self) -> bool
+        ensures { result ≡ list_all (λ m. is_sample m.msg) (waiting_at self.now) }
+    {
+        are_samples(&self.wire) && are_samples(&self.queue)
+    }
+
+    /// How many messages wait here: at most 2^64 - 1.
+    pub fn count(&self) -> u64
+        ensures { result ≡ min (length (waiting_at self.now)) (2 ^ 64 - 1) }
+    {
+        (self.wire.len() as u64).saturating_add(self.queue.len() as u64)
+    }
+
+    /// How many bytes the keys and the bodies of the samples have that wait here: at most 2^64 - 1.
+    #[tactic(auto, using(crate::proofs::Sums::capped_both))]
+    pub fn sample_bytes(&self) -> u64
+        ensures { result ≡ min (sum_by (λ m. sample_bytes m.msg) (waiting_at self.now)) (2 ^ 64 - 1) }
+    {
+        sample_bytes(&self.wire).saturating_add(sample_bytes(&self.queue))
     }
 
     /// Whether nothing under way here unsettles.
@@ -181,6 +205,95 @@ fn are_calm(waiting: &VecDeque<Tagged>) -> bool
     ensures { result ≡ list_all is_calm waiting.now.items }
 {
     waiting.iter().all(|x| is_calm(x))
+}
+
+fn are_samples(waiting: &VecDeque<Tagged>) -> bool
+    ensures { result ≡ list_all (λ m. is_sample m.msg) waiting.now.items }
+{
+    waiting.iter().all(|x| is_sample(&x.msg))
+}
+
+fn is_sample(msg: &Msg) -> bool
+    ensures { result ≡ is_sample msg.now }
+{
+    match msg {
+        Msg::Push { .. } => true,
+        Msg::Sub { .. }
+        | Msg::Unsub { .. }
+        | Msg::Token { .. }
+        | Msg::Untoken { .. }
+        | Msg::Able { .. }
+        | Msg::Unable { .. }
+        | Msg::Interest { .. }
+        | Msg::EndInterest { .. }
+        | Msg::ToldSub { .. }
+        | Msg::ToldAble { .. }
+        | Msg::ToldUnsub { .. }
+        | Msg::ToldToken { .. }
+        | Msg::ToldUntoken { .. }
+        | Msg::ToldUnable { .. }
+        | Msg::ToldEnd { .. }
+        | Msg::Request { .. }
+        | Msg::Response { .. }
+        | Msg::Final { .. }
+        | Msg::State { .. }
+        | Msg::Step { .. }
+        | Msg::Snap { .. } => false,
+    }
+}
+
+#[tactic(auto, using(crate::proofs::Sums::capped_both))]
+fn sample_bytes(waiting: &VecDeque<Tagged>) -> u64
+    ensures { result ≡ min (sum_by (λ m. sample_bytes m.msg) waiting.now.items) (2 ^ 64 - 1) }
+{
+    let (front, back) = waiting.as_slices();
+    bytes_of_all(front).saturating_add(bytes_of_all(back))
+}
+
+fn bytes_of_all(waiting: &[Tagged]) -> u64
+    ensures { result ≡ min (sum_by (λ m. sample_bytes m.msg) waiting.now) (2 ^ 64 - 1) }
+{
+    let mut sum: u64 = 0;
+    for x in waiting {
+        sum = sum.saturating_add(bytes_of(&x.msg));
+    }
+    sum
+}
+
+fn bytes_of(msg: &Msg) -> u64
+    ensures { result ≡ min (sample_bytes msg.now) (2 ^ 64 - 1) }
+{
+    match msg {
+        Msg::Push { content, .. } => content_bytes(content),
+        Msg::Sub { .. }
+        | Msg::Unsub { .. }
+        | Msg::Token { .. }
+        | Msg::Untoken { .. }
+        | Msg::Able { .. }
+        | Msg::Unable { .. }
+        | Msg::Interest { .. }
+        | Msg::EndInterest { .. }
+        | Msg::ToldSub { .. }
+        | Msg::ToldAble { .. }
+        | Msg::ToldUnsub { .. }
+        | Msg::ToldToken { .. }
+        | Msg::ToldUntoken { .. }
+        | Msg::ToldUnable { .. }
+        | Msg::ToldEnd { .. }
+        | Msg::Request { .. }
+        | Msg::Response { .. }
+        | Msg::Final { .. }
+        | Msg::State { .. }
+        | Msg::Step { .. }
+        | Msg::Snap { .. } => 0,
+    }
+}
+
+fn content_bytes(content: &Content) -> u64
+    ensures { result ≡ min (length content.now.key + length content.now.body) (2 ^ 64 - 1) }
+{
+    let key = content.key().text().len() as u64;
+    key.saturating_add(content.body().as_slice().len() as u64)
 }
 
 fn is_calm(x: &Tagged) -> bool

@@ -1,0 +1,148 @@
+//! `Threaded`: a gang of several threads.
+
+ghost use Rattle.std.specs.Prelude.{◌≡◌, ◌<◌, ◌≤◌, ℕ, IfOk, OnOk, length, slice_index_or};
+ghost use Rattle.zr_fan.specs.declared.threaded.Part.{Part};
+ghost use Rattle.zr_fan.specs.Parts.{AreDone, HasGiven, all_of, gathered};
+ghost use Rattle.zr_world_gang.specs.Turns.{AllHaveDone};
+
+use crate::watch::Watch;
+use std::alloc::{AllocError, Global};
+use std::thread;
+use std::thread::Threads;
+use zr_world_gang::gang::Gang;
+use zr_world_gang::share::{Share, Turn};
+
+/// Handles the shares of a round on so many threads. Routers move into the threads and back.
+#[derive(Drop)]
+pub struct Threaded {
+    threads: u32,
+    watch: Box<dyn Watch + Sync + Drop>,
+}
+
+// What one worker is to do.
+#[derive(Drop)]
+pub(crate) struct Part {
+    pub(crate) worker: u32,
+    pub(crate) shares: Vec<Share>,
+}
+
+impl Threaded {
+    /// A gang of so many threads, and who is told as they take shares.
+    pub fn new(threads: u32, watch: Box<dyn Watch + Sync + Drop>) -> Threaded
+        requires { (1 ≤ threads) × (threads ≤ 16) }
+    {
+        Threaded { threads, watch }
+    }
+}
+
+impl Gang for Threaded {
+    fn round<R: Threads + Sync>(
+        &mut self,
+        rt: &R,
+        alloc: Global,
+        turn: Turn,
+        shares: Vec<Share>,
+    ) -> Result<Vec<Share>, AllocError> {
+        let parts = split(alloc, shares, self.threads)?;
+        run(rt, alloc, turn, &*self.watch, parts)
+    }
+}
+
+// The parts of the workers, in order: each has as many shares as the others, or one less. The last has what is left.
+fn split(alloc: Global, shares: Vec<Share>, threads: u32) -> Result<Vec<Part>, AllocError>
+    ensures { IfOk result (λ v. all_of v.items ≡ shares.items) }
+{
+    let mut parts = Vec::new(alloc);
+    let mut rest = shares;
+    for worker in 1..threads {
+        let cut = rest.len().div_ceil((threads - worker + 1) as usize);
+        let more = rest.split_off(cut)?;
+        parts.push(Part {
+            worker: worker - 1,
+            shares: rest,
+        })?;
+        rest = more;
+    }
+    parts.push(Part {
+        worker: threads.saturating_sub(1),
+        shares: rest,
+    })?;
+    Ok(parts)
+}
+
+// Each part on a thread of its own, and their shares again in order.
+fn run<R: Threads + Sync>(
+    rt: &R,
+    alloc: Global,
+    turn: Turn,
+    watch: &(dyn Watch + Sync),
+    parts: Vec<Part>,
+) -> Result<Vec<Share>, AllocError>
+    ensures { IfOk result (λ v. AllHaveDone turn (all_of parts.items) v.items) }
+{
+    let done = run_parts(rt, alloc, turn, watch, parts)?;
+    gather(alloc, done)
+}
+
+// Each part on a thread of its own: what each worker gives.
+fn run_parts<R: Threads + Sync>(
+    rt: &R,
+    alloc: Global,
+    turn: Turn,
+    watch: &(dyn Watch + Sync),
+    parts: Vec<Part>,
+) -> Result<Vec<Result<Vec<Share>, AllocError>>, AllocError>
+    ensures len { IfOk result (λ v. length v.items ≡ length parts.items) }
+    ensures each { IfOk result (λ v. (i : ℕ) (d : _) (p : Part) → i < length parts.items → HasGiven turn (slice_index_or parts.items i p) (slice_index_or v.items i d)) }
+{
+    let worker = |part: Part| -> Result<Vec<Share>, AllocError>
+        ensures { HasGiven turn part result }
+    { work(alloc, turn, watch, part) };
+    let done = thread::map_vec(rt, parts, &worker)?;
+    Ok(done)
+}
+
+// What a worker does.
+fn work(
+    alloc: Global,
+    turn: Turn,
+    watch: &(dyn Watch + Sync),
+    part: Part,
+) -> Result<Vec<Share>, AllocError>
+    ensures { IfOk result (λ v. AllHaveDone turn part.shares.items v.items) }
+{
+    let Part { worker, mut shares } = part;
+    work_watched(alloc, turn, watch, worker, &mut shares)?;
+    Ok(shares)
+}
+
+fn work_watched(
+    alloc: Global,
+    turn: Turn,
+    watch: &(dyn Watch + Sync),
+    worker: u32,
+    shares: &mut [Share],
+) -> Result<(), AllocError>
+    ensures { OnOk result (AllHaveDone turn shares.old shares.new) }
+{
+    for share in shares.iter_mut() {
+        watch.enter(worker);
+        share.work(alloc, turn)?;
+    }
+    Ok(())
+}
+
+// The shares that all have given, in order, or that memory ran out for one of them.
+fn gather(
+    alloc: Global,
+    done: Vec<Result<Vec<Share>, AllocError>>,
+) -> Result<Vec<Share>, AllocError>
+    ensures { IfOk result (λ v. AreDone done.items × (v.items ≡ gathered done.items)) }
+{
+    let mut all = Vec::new(alloc);
+    for one in done {
+        let mut shares = one?;
+        all.append(&mut shares)?;
+    }
+    Ok(all)
+}
