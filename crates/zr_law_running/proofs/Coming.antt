@@ -1,12 +1,11 @@
 -- What an accepted act by which a router hears of an event comes to (`finish`), and a client that comes to a router (`client_comes`).
 use Rattle.std.proofs.Common.{◌≡◌, ℕ, Bool, true, false, cond, List, [], ◌++◌, length, Option, Some, None, Ok, refl, sym, ap, ◌∙◌, subst, arith, append-nil, ◌∷◌}
-use Rattle.std.specs.Prelude.{◌&&◌, ◌||◌, nat_le, is_some}
+use Rattle.std.specs.Prelude.{◌||◌, nat_le, is_some}
 use Rattle.std.specs.Ordering.{nat_cmp}
 use Rattle.std.specs.Cmp.Lexicographic.{slice_cmp}
 use Rattle.std.specs.BTreeMap.{insert_entry}
 use Rattle.std.proofs.lemmas.Bool.{false≢true, and_parts}
 use Rattle.std.specs.List.{cons_option}
-use Rattle.zr_id.specs.Record.{is_before}
 use Rattle.zr_id.specs.Zid.{is_named}
 use Rattle.zr_msg.specs.declared.event.Event.{Event}
 use Rattle.zr_msg.specs.declared.msg.Msg.{Msg}
@@ -30,10 +29,10 @@ use Rattle.zr_law_running.specs.Deeds.{deed_of}
 use Rattle.zr_law_running.specs.Allowed.{is_among}
 use Rattle.zr_law_running.specs.Laws.{wire_at}
 use Rattle.zr_law_running.proofs.Steps.{Span, Came, did, did_more, next_number, then_at, one_more, client_goes}
-use Rattle.zr_law_running.proofs.Holding.{read, router_in, IsHome, Homes, is_first, is_client, messages_to, Calm, Pending}
+use Rattle.zr_law_running.proofs.Holding.{read, router_in, IsHome, Homes, is_client, messages_to, Calm, Pending}
 use Rattle.zr_law_running.proofs.Hearing.{at_true, at_false, own_router_is, no_own_end, no_link_to, homes_kept, hears}
 use Rattle.zr_law_running.proofs.Draining.{sound_after, Standing, drained}
-use Rattle.zr_law_running.proofs.Counting.{under, one_if, length_inserted, count_put}
+use Rattle.zr_law_running.proofs.Counting.{under, length_inserted}
 
 -- an act is accepted, and what it leaves for the clients of a router is taken
 pub finish : (g : Span) (ids : List (List ℕ)) (m : Moment) (c : Came g m) → IsSound m.world → (act : Act) (x : List ReportLine × WorldState) → g.test act ≡ true → outcome m.world (next_number g m c) act ≡ Ok x →
@@ -68,7 +67,6 @@ same_report ids s w report more same h = record {
   rest = h.rest;
   told = λ c apart. same c ∙ h.told c apart;
   came = h.came;
-  linked = h.linked;
 }
 
 -- an end that is not there is not up
@@ -160,15 +158,11 @@ module _ (g : Span) (ids : List (List ℕ)) (s : Several) (m : Moment) (st : Sta
       rest = rest_then;
       told = st.holds.told;
       came = omega (arith, length_inserted (slice_cmp nat_cmp) w.clients c (new_client x), st.holds.came);
-      linked = omega (arith, count_put (is_first ids) w.ends (x, c) (lifted (new_end 1)), not_first, st.holds.linked);
     }
       where
         none : (b : Bool) (ts : List Tagged) → ts ≡ [] → cond b [] ts ≡ []
         none true ts i = refl
         none false ts i = i
-
-        not_first : one_if (is_first ids (x, c)) ≡ 0
-        not_first = ap (λ b. one_if (b && is_before x c)) apart
 
         apart_then : (q : List ℕ) → is_client v q ≡ true → is_among ids q ≡ false
         apart_then q i = by (is_named c q) refl

@@ -1,8 +1,8 @@
 -- What a router has queued for its clients is taken, message by message and client by client, until nothing waits for them (`drained`).
-use Rattle.std.proofs.Common.{◌≡◌, ℕ, ◌≤◌, Bool, true, false, cond, List, [], ◌∷◌, ◌++◌, map, filter, length, Option, Some, None, Ok, refl, sym, ap, ◌∙◌, subst, append-nil, append_assoc, IfOk}
+use Rattle.std.proofs.Common.{◌≡◌, ℕ, ◌≤◌, Bool, true, false, cond, List, [], ◌∷◌, ◌++◌, map, length, Option, Some, None, Ok, refl, sym, ap, ◌∙◌, subst, append-nil, append_assoc, IfOk}
 use Rattle.std.specs.Prelude.{◌&&◌, ◌||◌, is_some}
 use Rattle.std.specs.List.{fold, cons_option, filter_map}
-use Rattle.std.specs.Map.{keys_of, lookup}
+use Rattle.std.specs.Map.{lookup}
 use Rattle.std.specs.Option.{option_map, option_map_or}
 use Rattle.std.proofs.lemmas.Bool.{false≢true, or_right}
 use Rattle.std.proofs.lemmas.List.{map-append}
@@ -22,7 +22,7 @@ use Rattle.zr_world_spec.specs.Sound.{IsSound}
 use Rattle.zr_world_spec.proofs.Cases.{w_take}
 use Rattle.zr_world_spec.proofs.Clients.{idle_receiving}
 use Rattle.zr_world_spec.proofs.Fits.{up_is_there}
-use Rattle.zr_world_spec.proofs.Ends.{same_end, end_parts, end_turned, with_end_is, changed_is, keys_with_end, keys_changed}
+use Rattle.zr_world_spec.proofs.Ends.{same_end, end_parts, end_turned, with_end_is, changed_is}
 use Rattle.zr_world_spec.proofs.Keyed.{read_same}
 use Rattle.zr_world_spec.proofs.Names.{names, same_name, value_after}
 use Rattle.zr_world_spec.proofs.Sound.{Keeps, act_keeps}
@@ -31,7 +31,7 @@ use Rattle.zr_law_running.specs.Runs.{LinkState, Several, at_name, with_waits}
 use Rattle.zr_law_running.specs.Allowed.{is_among}
 use Rattle.zr_law_running.specs.Laws.{wire_at}
 use Rattle.zr_law_running.proofs.Steps.{Span, Came, did, did_more, next_number, then_at, one_more, take_goes}
-use Rattle.zr_law_running.proofs.Holding.{read, router_in, IsHome, Homes, is_first, is_client, messages_to, Calm, Pending, calm}
+use Rattle.zr_law_running.proofs.Holding.{read, router_in, IsHome, Homes, is_client, messages_to, Calm, Pending, calm}
 use Rattle.zr_law_running.proofs.Hearing.{at_true, at_false}
 
 -- ---- what is found
@@ -238,10 +238,6 @@ module _ (ids : List (List ℕ)) (s : Several) (x : List ℕ) (pend : List ℕ �
   came_then : length v.clients ≡ length w.clients
   came_then = ap (λ o. length (received w.clients c front.first.msg o)) ek ∙ length-set_value (is_named c) w.clients (receiving k front.first.msg)
 
-  keys_then : keys_of v.ends ≡ keys_of w.ends
-  keys_then = keys_changed (with_end w.ends (x, c) (with_queue front.end front.others)) (c, x) (λ e. sent e front.first.msg front.first.tag)
-      ∙ keys_with_end w.ends (x, c) (with_queue front.end front.others)
-
   pub taken : Pending ids s x left v (report ++ Taken x c front.first.msg front.first.tag ∷ [])
   taken = record {
     routers = h.routers;
@@ -254,7 +250,6 @@ module _ (ids : List (List ℕ)) (s : Several) (x : List ℕ) (pend : List ℕ �
     told = told_then;
     only = only_then;
     came = subst (λ z. z ≤ s.came) (sym came_then) h.came;
-    linked = subst (λ z. length (filter (is_first ids) z) ≤ s.linked) (sym keys_then) h.linked;
   }
 
 -- ---- all that waits for a client, and for all of them

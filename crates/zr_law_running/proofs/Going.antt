@@ -1,5 +1,5 @@
 -- A link goes down at one end, after it broke where this is the first of its ends (`goes_down`).
-use Rattle.std.proofs.Common.{◌≡◌, ℕ, ◌≤◌, Bool, true, false, cond, List, [], ◌++◌, filter, length, Option, Some, None, Ok, refl, sym, ap, ◌∙◌, subst, append-nil, eqb-true, ◌∷◌}
+use Rattle.std.proofs.Common.{◌≡◌, ℕ, Bool, true, false, cond, List, [], ◌++◌, Option, Some, None, Ok, refl, sym, ap, ◌∙◌, subst, append-nil, eqb-true, ◌∷◌}
 use Rattle.std.specs.Prelude.{◌&&◌, ◌||◌, is_some}
 use Rattle.std.specs.Option.{option_map, option_map_or}
 use Rattle.std.proofs.lemmas.Bool.{false≢true}
@@ -21,13 +21,13 @@ use Rattle.zr_world_spec.specs.Acts.{outcome, sends_to, told_to, number_at, numb
 use Rattle.zr_world_spec.specs.Moments.{Moment}
 use Rattle.zr_world_spec.specs.Sound.{AreUnique, IsSound}
 use Rattle.zr_world_spec.proofs.Cases.{w_break, w_down}
-use Rattle.zr_world_spec.proofs.Ends.{ends, same_end, changed_is, keys_changed}
+use Rattle.zr_world_spec.proofs.Ends.{ends, same_end, changed_is}
 use Rattle.zr_world_spec.proofs.Sound.{act_keeps}
 use Rattle.zr_law_running.specs.Runs.{Parting, LinkState, Several, with_waits, queued_for, heard, parted, without_link, parting, with_none}
 use Rattle.zr_law_running.specs.Allowed.{is_among}
 use Rattle.zr_law_running.specs.Laws.{wire_at}
 use Rattle.zr_law_running.proofs.Steps.{Span, did, did_more, Came, next_number, then_at, one_more, break_goes, down_goes}
-use Rattle.zr_law_running.proofs.Holding.{read, router_in, IsHome, Homes, is_first, is_client, messages_to, Calm, Pending, home_queued}
+use Rattle.zr_law_running.proofs.Holding.{read, router_in, IsHome, Homes, is_client, messages_to, Calm, Pending, home_queued}
 use Rattle.zr_law_running.proofs.Hearing.{at_true, at_false, no_own_end, hears, end_kept}
 use Rattle.zr_law_running.proofs.Draining.{sound_after, Standing}
 use Rattle.zr_law_running.proofs.Coming.{finish, same_report, not_up, reach_after}
@@ -69,7 +69,6 @@ module _ (ids : List (List ℕ)) (s : Several) (w : WorldState) (report : List R
     rest = λ z c i. quiet (is_end (x, y) (z, c) || is_end (y, x) (z, c)) (s.links (z, c)) (h.rest z c i);
     told = h.told;
     came = h.came;
-    linked = subst (λ z. length (filter (is_first ids) z) ≤ s.linked) (sym (keys_changed (changed w.ends (x, y) broken) (y, x) broken ∙ keys_changed w.ends (x, y) broken)) h.linked;
   }
     where
       reads : (b d : Bool) (o : Option EndState) (l : LinkState) → read o ≡ l →
@@ -196,7 +195,6 @@ module _ (g : Span) (all : (act : Act) → g.test act ≡ true) (ids : List (Lis
     told = pending.told;
     only = pending.only;
     came = pending.came;
-    linked = subst (λ z. length (filter (is_first ids) z) ≤ s.linked) (sym (keys_changed u.ends (x, y) lowered)) pending.linked;
   }
     where
       wires : (b : Bool) (o : Option EndState) → wire_at o ≡ [] → wire_at (cond b (option_map lowered o) o) ≡ []

@@ -1,8 +1,7 @@
 -- A router hears of an event: what holds between two events holds then, with what the router has queued for its clients yet to be sent (`hears`).
-use Rattle.std.proofs.Common.{◌≡◌, ℕ, ◌≤◌, Bool, true, false, cond, not, List, [], ◌++◌, filter, length, Option, Some, None, refl, sym, ap, ◌∙◌, subst}
+use Rattle.std.proofs.Common.{◌≡◌, ℕ, Bool, true, false, cond, not, List, [], ◌++◌, Option, Some, None, refl, sym, ap, ◌∙◌, subst}
 use Rattle.std.specs.Prelude.{◌&&◌, is_some}
 use Rattle.std.specs.List.{fold}
-use Rattle.std.specs.Map.{keys_of}
 use Rattle.std.specs.Option.{option_map, option_map_or}
 use Rattle.zr_id.specs.Zid.{is_named}
 use Rattle.zr_msg.specs.declared.event.Event.{Event}
@@ -19,11 +18,11 @@ use Rattle.zr_world_spec.specs.Acts.{receiving, sends_to, told_to, hub_of, heari
 use Rattle.zr_world_spec.specs.Sound.{IsSound}
 use Rattle.zr_lists.proofs.Options.{not_there}
 use Rattle.zr_world_spec.proofs.Names.{names, same_name, value_after}
-use Rattle.zr_world_spec.proofs.Ends.{waiting_is, keys_waiting}
+use Rattle.zr_world_spec.proofs.Ends.{waiting_is}
 use Rattle.zr_law_running.specs.Runs.{LinkState, Several, queued_for, with_waits, heard}
 use Rattle.zr_law_running.specs.Allowed.{is_among}
 use Rattle.zr_law_running.specs.Laws.{wire_at}
-use Rattle.zr_law_running.proofs.Holding.{read, router_in, IsHome, Homes, is_first, is_client, Calm, Pending, both_queued, read_queued, wire_queued, home_queued}
+use Rattle.zr_law_running.proofs.Holding.{read, router_in, IsHome, Homes, is_client, Calm, Pending, both_queued, read_queued, wire_queued, home_queued}
 
 -- what a router sends to a neighbour and then tells it is what the event queues for it
 all_for : (r : RouterState) (event : Event) (q : List ℕ) → sends_to r.node event q ++ told_to r event q ≡ queued_for (hub_of r) event q
@@ -83,9 +82,6 @@ module _ (v : WorldState) (x : List ℕ) (r : RouterState) (event : Event) (tag 
           let own : end_of after_it.ends e ≡ option_map (own_both e.1) (end_of v.ends e) =
           subst (λ z. end_of after_it.ends (z, e.1) ≡ option_map (own_both e.1) (end_of v.ends (z, e.1))) same (own_end_is e.1) in
           subst (P e) (sym own) (keeps e (end_of v.ends e) h)
-
-  pub keys_kept : keys_of after_it.ends ≡ keys_of v.ends
-  keys_kept = keys_waiting sent_only x (told_to r event) tag ∙ keys_waiting v.ends x (sends_to r.node event) tag
 
   -- clients' links are as before
   pub homes_kept : Homes v → (clients : Clients) → clients ≡ v.clients → (y c : List ℕ) (k : ClientState) → client_of clients c ≡ Some k → IsHome k y (end_of after_it.ends (y, c))
@@ -204,5 +200,4 @@ module _ (ids : List (List ℕ)) (s : Several) (v : WorldState) (report : List R
     told = λ c apart. ap (λ z. z ++ more c) (h.told c apart);
     only = λ c none. ap (λ o. option_map_or (λ l. hub_sends (s.hub x) event l.link) o []) (ap (λ (g : HubState). link_to g.node.links c) (sym own_hub) ∙ none);
     came = h.came;
-    linked = subst (λ z. length (filter (is_first ids) z) ≤ s.linked) (sym (keys_kept v x r event tag)) h.linked;
   }

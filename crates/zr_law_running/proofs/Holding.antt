@@ -1,12 +1,10 @@
 -- What holds of a world that is one of a run: between two events (`Calm`), and while the clients of a router are yet to be sent what it has queued for
 -- them (`Pending`).
-use Rattle.std.proofs.Common.{◌≡◌, ℕ, ◌≤◌, Bool, true, false, cond, List, [], ◌∷◌, ◌++◌, map, filter, length, Option, Some, None, refl, sym, ap, ◌∙◌, append-nil, append_assoc}
+use Rattle.std.proofs.Common.{◌≡◌, ℕ, ◌≤◌, Bool, true, false, cond, List, [], ◌∷◌, ◌++◌, map, length, Option, Some, None, refl, sym, ap, ◌∙◌, append-nil, append_assoc}
 use Rattle.std.specs.Prelude.{◌&&◌, is_some}
 use Rattle.std.specs.List.{fold}
-use Rattle.std.specs.Map.{keys_of}
-use Rattle.std.specs.Option.{option_map}
+use Rattle.std.specs.Option.{option_map, option_map_or}
 use Rattle.std.proofs.lemmas.List.{map-append}
-use Rattle.zr_id.specs.Record.{is_before}
 use Rattle.zr_id.specs.Zid.{is_named}
 use Rattle.zr_msg.specs.declared.msg.Msg.{Msg}
 use Rattle.zr_node_spec.specs.Tables.{link_to}
@@ -25,6 +23,10 @@ abbrev pub read : Option EndState → LinkState
 read None = no_link
 read (Some e) = record { whole = e.unbroken; waits = map (λ t. t.msg) e.queue; weight = e.weight }
 
+pub unbroken_is : (o : Option EndState) (l : LinkState) → read o ≡ l → option_map_or (λ s. s.unbroken) o false ≡ l.whole
+unbroken_is None l h = ap (λ z. z.whole) h
+unbroken_is (Some e) l h = ap (λ z. z.whole) h
+
 -- a router, as a run has it
 abbrev pub router_in : Several → List ℕ → RouterState
 router_in s x = record { node = (s.hub x).node; told = (s.hub x).told; weight = s.weight x }
@@ -36,10 +38,6 @@ IsHome k y (Some e) = (k.router ≡ y) × (e.up ≡ true → e.unbroken ≡ true
 
 abbrev pub Homes : WorldState → Type 0
 Homes w = (y c : List ℕ) (k : ClientState) → client_of w.clients c ≡ Some k → IsHome k y (end_of w.ends (y, c))
-
--- the first end of a link between routers
-abbrev pub is_first : List (List ℕ) → End → Bool
-is_first ids e = is_among ids e.1 && is_before e.0 e.1
 
 abbrev pub is_client : WorldState → List ℕ → Bool
 is_client w c = is_some (client_of w.clients c)
@@ -59,7 +57,6 @@ pub record Calm (ids : List (List ℕ)) (s : Several) (w : WorldState) (report :
   pub rest : (y c : List ℕ) → is_client w c ≡ true → (s.links (y, c)).waits ≡ []
   pub told : (c : List ℕ) → is_among ids c ≡ false → messages_to report c ≡ s.sent c
   pub came : length w.clients ≤ s.came
-  pub linked : length (filter (is_first ids) (keys_of w.ends)) ≤ s.linked
 
 -- ---- while clients are yet to be sent what waits for them at the router x
 
@@ -74,7 +71,6 @@ pub record Pending (ids : List (List ℕ)) (s : Several) (x : List ℕ) (pend : 
   pub told : (c : List ℕ) → is_among ids c ≡ false → messages_to report c ++ pend c ≡ s.sent c
   pub only : (c : List ℕ) → link_to (s.hub x).node.links c ≡ None → pend c ≡ []
   pub came : length w.clients ≤ s.came
-  pub linked : length (filter (is_first ids) (keys_of w.ends)) ≤ s.linked
 
 -- once nothing waits for a client any more, all is calm
 pub calm : (ids : List (List ℕ)) (s : Several) (x : List ℕ) (pend : List ℕ → List Msg) (w : WorldState) (report : List ReportLine) →
@@ -88,7 +84,6 @@ calm ids s x pend w report h none = record {
   rest = h.rest;
   told = λ c apart. sym (append-nil (messages_to report c)) ∙ ap (λ z. messages_to report c ++ z) (sym (none c apart)) ∙ h.told c apart;
   came = h.came;
-  linked = h.linked;
 }
   where
     by_client : (c : List ℕ) (o : Option ClientState) → client_of w.clients c ≡ o → client_of w.clients c ≡ s.clients c

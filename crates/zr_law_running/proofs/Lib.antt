@@ -3,6 +3,7 @@ pub mod Holding
 pub mod Hearing
 pub mod Draining
 pub mod Counting
+pub mod Placing
 pub mod Coming
 pub mod Linking
 pub mod Going

@@ -1,12 +1,8 @@
 -- A link between two routers comes up at one end, after it was made where this is the first of its ends (`router_comes`).
-use Rattle.std.proofs.Common.{◌≡◌, ℕ, ◌≤◌, Bool, true, false, cond, List, [], ◌++◌, filter, length, Option, Some, None, Ok, Ordering, Less, Equal, Greater, refl, sym, ap, ◌∙◌, subst, arith, append-nil}
-use Rattle.std.specs.Prelude.{◌+◌, ◌&&◌, ◌||◌, nat_le, is_some}
-use Rattle.std.specs.Map.{keys_of}
+use Rattle.std.proofs.Common.{◌≡◌, ℕ, Bool, true, false, cond, List, [], ◌++◌, length, Option, Some, None, Ok, refl, sym, ap, ◌∙◌, subst, append-nil}
+use Rattle.std.specs.Prelude.{◌||◌, nat_le, is_some}
 use Rattle.std.specs.Option.{option_map_or}
-use Rattle.std.specs.Ordering.{is_lt, nat_cmp, ordering_reverse}
-use Rattle.std.specs.Cmp.Lexicographic.{slice_cmp, nat_list_cmp_total}
-use Rattle.std.proofs.lemmas.Bool.{false≢true, and_parts, and_from, or_left}
-use Rattle.zr_id.specs.Record.{is_before}
+use Rattle.std.proofs.lemmas.Bool.{false≢true, or_left}
 use Rattle.zr_id.specs.Zid.{is_named}
 use Rattle.zr_msg.specs.declared.event.Event.{Event}
 use Rattle.zr_msg.specs.declared.peer.Role.TheVariants as role
@@ -14,21 +10,22 @@ use Rattle.zr_node_spec.specs.Tables.{link_to}
 use Rattle.zr_told_spec.specs.Hub.{hub_after, hub_refuses}
 use Rattle.zr_script_spec.specs.declared.command.Act.{Act}
 use Rattle.zr_script_spec.specs.declared.command.Act.TheVariants as a
-use Rattle.zr_world_spec.specs.World.{RouterState, EndState, End, Ends, WorldState, is_end, is_taken, is_up, is_in_place, is_first_end, links_in_place, router_of, end_of, with_end, put_end, with_ends, new_end, lifted, most_links}
+use Rattle.zr_world_spec.specs.World.{RouterState, EndState, End, Ends, WorldState, is_end, is_taken, is_up, is_in_place, links_in_place, router_of, end_of, with_end, put_end, with_ends, new_end, lifted, most_links}
 use Rattle.zr_world_spec.specs.Acts.{outcome, peer_of, up_event, heard as heard_in}
 use Rattle.zr_world_spec.specs.Moments.{Moment}
 use Rattle.zr_world_spec.specs.Sound.{IsSound}
 use Rattle.zr_world_spec.proofs.Cases.{w_link}
-use Rattle.zr_world_spec.proofs.Ends.{same_end, with_end_is, read_with_end, put_end_is, keys_with_end}
+use Rattle.zr_world_spec.proofs.Ends.{same_end, with_end_is, read_with_end, put_end_is}
 use Rattle.zr_world_spec.proofs.Sound.{act_keeps}
 use Rattle.zr_law_running.specs.Runs.{LinkState, Several, new_link, queued_for, heard, with_link}
-use Rattle.zr_law_running.specs.Allowed.{is_among}
+use Rattle.zr_law_running.specs.Allowed.{is_among, placed_links}
 use Rattle.zr_law_running.specs.Laws.{wire_at}
 use Rattle.zr_law_running.proofs.Steps.{Span, did, next_number, then_at, link_goes, up_goes}
-use Rattle.zr_law_running.proofs.Holding.{read, router_in, IsHome, Homes, is_first, is_client, messages_to, Calm}
+use Rattle.zr_law_running.proofs.Holding.{read, router_in, IsHome, Homes, unbroken_is, is_client, messages_to, Calm}
 use Rattle.zr_law_running.proofs.Hearing.{at_true, no_own_end, homes_kept, hears}
 use Rattle.zr_law_running.proofs.Draining.{sound_after, Standing}
-use Rattle.zr_law_running.proofs.Counting.{under, one_if, fewer, count_put}
+use Rattle.zr_law_running.proofs.Counting.{under}
+use Rattle.zr_law_running.proofs.Placing.{places_few}
 use Rattle.zr_law_running.proofs.Coming.{finish, stand, same_report, not_up, reach_after}
 
 -- an end that is whole is there
@@ -41,19 +38,6 @@ pub record WholeEnd (o : Option EndState) (l : LinkState) : Type 0 where
 pub whole_end : (o : Option EndState) (l : LinkState) → read o ≡ l → l.whole ≡ true → WholeEnd o l
 whole_end None l h whole = absurd (false≢true (ap (λ z. z.whole) h ∙ whole))
 whole_end (Some e) l h whole = record { end = e; is = refl; whole = ap (λ z. z.whole) h ∙ whole; weight = ap (λ z. z.weight) h }
-
-pub unbroken_is : (o : Option EndState) (l : LinkState) → read o ≡ l → option_map_or (λ s. s.unbroken) o false ≡ l.whole
-unbroken_is None l h = ap (λ z. z.whole) h
-unbroken_is (Some e) l h = ap (λ z. z.whole) h
-
--- of two identifiers one comes first at most
-one_first : (x y : List ℕ) → is_before x y ≡ true → is_before y x ≡ true → ⊥
-one_first x y h g = by (slice_cmp nat_cmp y x) g (sym (ap is_lt (nat_list_cmp_total.antisymm x y)) ∙ h)
-  where
-    by : (o : Ordering) → is_lt o ≡ true → is_lt (ordering_reverse o) ≡ true → ⊥
-    by Less p q = false≢true q
-    by Equal p q = false≢true p
-    by Greater p q = false≢true p
 
 module _ (g : Span) (all : (act : Act) → g.test act ≡ true) (ids : List (List ℕ)) (s : Several) (m : Moment) (st : Standing g ids s m) (x : List ℕ) (known : is_among ids x ≡ true) (y : List ℕ) (other : is_among ids y ≡ true) where
   abbrev w : WorldState
@@ -121,7 +105,6 @@ module _ (g : Span) (all : (act : Act) → g.test act ≡ true) (ids : List (Lis
       rest = st.holds.rest;
       told = st.holds.told;
       came = st.holds.came;
-      linked = subst (λ z. length (filter (is_first ids) z) ≤ s.linked) (sym (keys_with_end w.ends (x, y) (lifted at.end))) st.holds.linked;
     }
 
     event_is : up_event r (peer_of w y at.end.weight) ≡ event
@@ -145,7 +128,7 @@ module _ (g : Span) (all : (act : Act) → g.test act ≡ true) (ids : List (Lis
   -- ---- the first end
 
   module _ (weight : ℕ) (apart : is_named x y ≡ false) (anew : (s.links (x, y)).whole ≡ false) (once : link_to (s.hub x).node.links y ≡ None) (gone : link_to (s.hub y).node.links x ≡ None)
-      (room : nat_le most_links s.linked ≡ false) where
+      (room : nat_le most_links (length (placed_links ids s)) ≡ false) where
     abbrev u : WorldState
     u = w_link w x y weight
 
@@ -161,19 +144,8 @@ module _ (g : Span) (all : (act : Act) → g.test act ≡ true) (ids : List (Lis
         ∙ ap (λ b. b || is_up w.ends (y, x)) (sym (st.sound.links x y r (its_router x known)) ∙ ap is_some once)
         ∙ sym (st.sound.links y x (router_in s y) (its_router y other)) ∙ ap is_some gone
 
-    first_of : (e : End) → (is_first_end w.routers e && is_in_place w.ends e) ≡ true → is_first ids e ≡ true
-    first_of e h =
-        let both = and_parts (is_first_end w.routers e) (is_in_place w.ends e) h in
-        let parts = and_parts (is_some (router_of w.routers e.1)) (is_before e.0 e.1) both.0 in
-        and_from (is_among ids e.1) (is_before e.0 e.1) (by (is_among ids e.1) refl (ap is_some (sym (st.holds.routers e.1)) ∙ parts.0)) parts.1
-      where
-        by : (b : Bool) → is_among ids e.1 ≡ b → is_some (cond b (Some (router_in s e.1)) None) ≡ true → b ≡ true
-        by true i h = refl
-        by false i h = absurd (false≢true h)
-
     few : nat_le most_links (length (links_in_place w)) ≡ false
-    few = under most_links s.linked (length (links_in_place w)) room
-        (omega (arith, fewer (λ e. is_first_end w.routers e && is_in_place w.ends e) (is_first ids) first_of (keys_of w.ends), st.holds.linked))
+    few = under most_links (length (placed_links ids s)) (length (links_in_place w)) room (places_few ids s w m.report st.sound st.holds)
 
     end_made : (e : End) → end_of u.ends e ≡ cond (is_end (y, x) e) (Some (new_end weight)) (cond (is_end (x, y) e) (Some (new_end weight)) (end_of w.ends e))
     end_made e = put_end_is made (y, x) (new_end weight) e ∙ ap (cond (is_end (y, x) e) (Some (new_end weight))) (put_end_is w.ends (x, y) (new_end weight) e)
@@ -206,7 +178,6 @@ module _ (g : Span) (all : (act : Act) → g.test act ≡ true) (ids : List (Lis
       rest = λ z c i. quiet (is_end (y, x) (z, c)) (is_end (x, y) (z, c)) (s.links (z, c)) (st.holds.rest z c i);
       told = st.holds.told;
       came = st.holds.came;
-      linked = omega (arith, count_put (is_first ids) made (y, x) (new_end weight), count_put (is_first ids) w.ends (x, y) (new_end weight), one, st.holds.linked);
     }
       where
         none : (b d : Bool) (o : Option EndState) → wire_at o ≡ [] → wire_at (cond b (Some (new_end weight)) (cond d (Some (new_end weight)) o)) ≡ []
@@ -218,24 +189,6 @@ module _ (g : Span) (all : (act : Act) → g.test act ≡ true) (ids : List (Lis
         quiet true d l h = refl
         quiet false true l h = refl
         quiet false false l h = h
-
-        one : one_if (is_first ids (y, x)) + one_if (is_first ids (x, y)) ≤ 1
-        one = by (is_before y x) (is_before x y) refl refl (is_among ids x) (is_among ids y)
-          where
-            by : (b d : Bool) → is_before y x ≡ b → is_before x y ≡ d → (p q : Bool) → one_if (p && b) + one_if (q && d) ≤ 1
-            by true true n n' p q = absurd (one_first x y n' n)
-            by true false n n' true true = omega arith
-            by true false n n' true false = omega arith
-            by true false n n' false true = omega arith
-            by true false n n' false false = omega arith
-            by false true n n' true true = omega arith
-            by false true n n' true false = omega arith
-            by false true n n' false true = omega arith
-            by false true n n' false false = omega arith
-            by false false n n' true true = omega arith
-            by false false n n' true false = omega arith
-            by false false n n' false true = omega arith
-            by false false n n' false false = omega arith
 
     pub link_made : (then : Moment) × Standing g ids linked then
     link_made =

@@ -1,5 +1,5 @@
 -- A router hears of a message that another router has queued for it (`router_brings`).
-use Rattle.std.proofs.Common.{◌≡◌, ℕ, ◌≤◌, Bool, true, false, cond, List, [], ◌∷◌, ◌++◌, filter, length, Option, Some, None, Ok, refl, sym, ap, ◌∙◌, subst, append-nil}
+use Rattle.std.proofs.Common.{◌≡◌, ℕ, ◌≤◌, Bool, true, false, cond, List, [], ◌∷◌, ◌++◌, length, Option, Some, None, Ok, refl, sym, ap, ◌∙◌, subst, append-nil}
 use Rattle.std.specs.Prelude.{is_some}
 use Rattle.std.specs.Option.{option_map, option_map_or}
 use Rattle.std.proofs.lemmas.Bool.{false≢true, or_left}
@@ -16,14 +16,14 @@ use Rattle.zr_world_spec.specs.World.{Tagged, ClientState, EndState, End, Ends, 
 use Rattle.zr_world_spec.specs.Acts.{outcome, number_to, received}
 use Rattle.zr_world_spec.specs.Moments.{Moment}
 use Rattle.zr_world_spec.proofs.Cases.{w_take}
-use Rattle.zr_world_spec.proofs.Ends.{ends as ends_refl, same_end, end_turned, with_end_is, changed_is, keys_with_end, keys_changed}
+use Rattle.zr_world_spec.proofs.Ends.{ends as ends_refl, same_end, end_turned, with_end_is, changed_is}
 use Rattle.zr_world_spec.proofs.Names.{names, same_name}
 use Rattle.zr_world_spec.proofs.Sound.{act_keeps}
 use Rattle.zr_law_running.specs.Runs.{LinkState, Several, with_waits, heard, behind_first, taking}
 use Rattle.zr_law_running.specs.Allowed.{is_among}
 use Rattle.zr_law_running.specs.Laws.{wire_at}
 use Rattle.zr_law_running.proofs.Steps.{Span, did, did_more, next_number, then_at, one_more, take_goes}
-use Rattle.zr_law_running.proofs.Holding.{read, router_in, IsHome, Homes, is_first, is_client, messages_to, Calm}
+use Rattle.zr_law_running.proofs.Holding.{read, router_in, IsHome, Homes, is_client, messages_to, Calm}
 use Rattle.zr_law_running.proofs.Hearing.{at_true}
 use Rattle.zr_law_running.proofs.Draining.{Front, front_of, sound_after, told_more, Standing}
 use Rattle.zr_law_running.proofs.Going.{UpEnd, up_end}
@@ -169,8 +169,6 @@ module _ (g : Span) (ids : List (List ℕ)) (s : Several) (m : Moment) (st : Sta
     rest = λ z c i. rest_of z c (ap (λ cs. is_some (client_of cs c)) (sym same_clients) ∙ i) (is_end (y, x) (z, c)) refl;
     told = λ c alone. told_more m.report y x t.msg t.tag c ∙ ap (λ b. messages_to m.report c ++ cond b (t.msg ∷ []) []) (not_x c alone (is_named c x) refl) ∙ append-nil (messages_to m.report c) ∙ st.holds.told c alone;
     came = subst (λ cs. length cs ≤ s.came) (sym same_clients) st.holds.came;
-    linked = subst (λ z. length (filter (is_first ids) z) ≤ s.linked)
-        (sym (keys_with_end u.ends (x, y) (with_wire mine []) ∙ keys_changed taken_off (x, y) (λ e. sent e t.msg t.tag) ∙ keys_with_end w.ends (y, x) (with_queue front.end front.others))) st.holds.linked;
   }
     where
       not_x : (c : List ℕ) → is_among ids c ≡ false → (b : Bool) → is_named c x ≡ b → b ≡ false

@@ -1,8 +1,7 @@
 -- Each run of several routers is the run of a script's world (`runs_are_of_a_world`): it begins with the routers (`begins`), and each event goes on with it (`goes_on`).
-use Rattle.std.proofs.Common.{◌≡◌, ℕ, ◌≤◌, suc, Bool, true, false, cond, List, [], ◌∷◌, filter, length, Option, Some, None, Ok, refl, sym, ap, ◌∙◌, subst, arith, append-nil, leb-true}
+use Rattle.std.proofs.Common.{◌≡◌, ℕ, ◌≤◌, suc, Bool, true, false, cond, List, [], ◌∷◌, length, Option, Some, None, Ok, refl, sym, ap, ◌∙◌, subst, arith, append-nil, leb-true}
 use Rattle.std.specs.Prelude.{◌||◌, nat_le, is_some}
 use Rattle.std.specs.List.{fold}
-use Rattle.std.specs.Map.{keys_of}
 use Rattle.std.specs.Ordering.{nat_cmp}
 use Rattle.std.specs.Cmp.Lexicographic.{slice_cmp}
 use Rattle.std.specs.BTreeMap.{insert_entry}
@@ -27,16 +26,17 @@ use Rattle.zr_world_spec.proofs.Keyed.{there}
 use Rattle.zr_world_spec.proofs.Names.{names, same_name, value_new}
 use Rattle.zr_world_spec.proofs.Fits.{empty_sound}
 use Rattle.zr_guarantee.specs.Phase.{stays}
+use Rattle.zr_law_names.proofs.Names.{names_leave_no_trace}
 use Rattle.zr_law_running.specs.Runs.{Heard, LinkState, Several, new_link, at_first, part, heard, with_link, without_link, parting, coming, handed, spoken, brought, gone, happened, happened_at, outcome_from, outcome_of}
 use Rattle.zr_law_running.specs.Allowed.{is_among, AreApart, MayBringUp, MayBring, MayDeliver, MayOpen, MayHappen, IsRunFrom, IsRun}
 use Rattle.zr_law_running.specs.Laws.{queue_at, IsMomentOf, RunsAreOfAWorld}
 use Rattle.zr_law_running.proofs.Steps.{Span, did, next_number, then_at, router_goes}
-use Rattle.zr_law_running.proofs.Holding.{read, router_in, is_first, is_client, messages_to}
+use Rattle.zr_law_running.proofs.Holding.{read, unbroken_is, router_in, is_client, messages_to}
 use Rattle.zr_law_running.proofs.Hearing.{at_true, at_false}
 use Rattle.zr_law_running.proofs.Draining.{Standing}
 use Rattle.zr_law_running.proofs.Counting.{length_inserted}
 use Rattle.zr_law_running.proofs.Coming.{stand, client_comes}
-use Rattle.zr_law_running.proofs.Linking.{unbroken_is, second_up, link_made}
+use Rattle.zr_law_running.proofs.Linking.{second_up, link_made}
 use Rattle.zr_law_running.proofs.Going.{number_leads, goes_down}
 use Rattle.zr_law_running.proofs.Passing.{router_brings}
 use Rattle.zr_law_running.proofs.Speaking.{client_brings}
@@ -72,7 +72,6 @@ pub record Begun (ids : List (List ℕ)) (m : Moment) : Type 0 where
   pub state : Standing any_acts ids at_first m
   pub count : length m.world.routers ≤ length ids
   pub alone : (c : List ℕ) → client_of m.world.clients c ≡ None
-  pub none : m.world.ends ≡ []
 
 -- ---- one more event
 
@@ -175,11 +174,9 @@ one_begins id ids apart few m b = (
       rest = λ y c i. refl;
       told = λ c alone. ap (λ z. messages_to z c) (append-nil m.report) ∙ b.state.holds.told c (not_more c (is_named id c) (is_among ids c) alone);
       came = b.state.holds.came;
-      linked = subst (λ es. length (filter (is_first (id ∷ ids)) (keys_of es)) ≤ 0) (sym b.none) (omega arith);
     });
     count = omega (arith, length_inserted (slice_cmp nat_cmp) w.routers id (new_router id), b.count);
     alone = b.alone;
-    none = b.none;
   },
 )
   where
@@ -234,12 +231,10 @@ begins [] apart few = (
         rest = λ y c i. refl;
         told = λ c alone. refl;
         came = omega arith;
-        linked = omega arith;
       };
     };
     count = omega arith;
     alone = λ c. refl;
-    none = refl;
   },
 )
 begins (id ∷ ids) apart few =
@@ -311,7 +306,7 @@ moment_of ids run is g m st = record {
 }
 
 pub runs_are_of_a_world : RunsAreOfAWorld
-runs_are_of_a_world ids run routers is =
+runs_are_of_a_world ids heard run routers in_run is =
     let b = begins ids routers.apart (leb-true (length ids) most_routers routers.few) in
     let all = goes_on any_acts ids run at_first b.0 (all_allowed run) b.1.state is in
-    (all.1.came.acts, all.1.came.ascend, all.1.deeds, (all.0, all.1.came.is, moment_of ids run is any_acts all.0 all.1))
+    (all.1.came.acts, all.1.came.ascend, all.1.deeds, (all.0, all.1.came.is, moment_of ids run is any_acts all.0 all.1), λ x i. names_leave_no_trace x (heard x) (part run x) (in_run x i))

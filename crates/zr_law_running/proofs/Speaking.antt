@@ -1,7 +1,6 @@
 -- What a client says comes onto the wire to its router (`says`), and its router hears of it (`client_brings`).
-use Rattle.std.proofs.Common.{◌≡◌, ℕ, ◌≤◌, Bool, true, false, cond, List, [], ◌∷◌, ◌++◌, filter, length, Option, Some, None, Ok, Err, refl, sym, ap, ◌∙◌, subst, append-nil, add-zero}
+use Rattle.std.proofs.Common.{◌≡◌, ℕ, ◌≤◌, Bool, true, false, cond, List, [], ◌∷◌, ◌++◌, length, Option, Some, None, Ok, Err, refl, sym, ap, ◌∙◌, subst, append-nil, add-zero}
 use Rattle.std.specs.Prelude.{◌+◌, ◌||◌, nat_le, is_some, unwrap_or}
-use Rattle.std.specs.Map.{keys_of}
 use Rattle.std.proofs.lemmas.Bool.{false≢true}
 use Rattle.std.proofs.lemmas.Map.{length-set_value}
 use Rattle.std.specs.List.{cons_option}
@@ -26,7 +25,7 @@ use Rattle.zr_world_spec.specs.World.{Tagged, ClientState, RouterState, EndState
 use Rattle.zr_world_spec.specs.Acts.{outcome, client_at, has_number, has_id, weighing, weighed, declaring, undeclaring, wanting, unwanting, asking, ending, number_to, declare_step, undeclare_step, interest_step, uninterest_step, publish_step, get_step, reply_step, end_step}
 use Rattle.zr_world_spec.specs.Moments.{Moment}
 use Rattle.zr_world_spec.proofs.Cases.{w_sent}
-use Rattle.zr_world_spec.proofs.Ends.{ends as ends_refl, same_end, with_end_is, keys_with_end}
+use Rattle.zr_world_spec.proofs.Ends.{ends as ends_refl, same_end, with_end_is}
 use Rattle.zr_world_spec.proofs.Names.{same_name, value_after}
 use Rattle.zr_world_spec.proofs.Sound.{act_keeps}
 use Rattle.zr_guarantee.specs.Phase.{stays}
@@ -35,7 +34,7 @@ use Rattle.zr_law_running.specs.Deeds.{deed_of}
 use Rattle.zr_law_running.specs.Allowed.{is_among}
 use Rattle.zr_law_running.specs.Laws.{wire_at}
 use Rattle.zr_law_running.proofs.Steps.{Span, did, did_more, next_number, then_at, one_more, by_ok, by_test, by_pass, sends_goes}
-use Rattle.zr_law_running.proofs.Holding.{read, router_in, IsHome, Homes, is_first, is_client, messages_to, Calm}
+use Rattle.zr_law_running.proofs.Holding.{read, router_in, IsHome, Homes, is_client, messages_to, Calm}
 use Rattle.zr_law_running.proofs.Hearing.{at_true}
 use Rattle.zr_law_running.proofs.Draining.{sound_after, Standing}
 use Rattle.zr_law_running.proofs.Going.{UpEnd, up_end}
@@ -424,7 +423,6 @@ module _ (g : Span) (ids : List (List ℕ)) (s : Several) (m : Moment) (st : Sta
     rest = λ z q i. st.holds.rest z q (sym (client_same q) ∙ i);
     told = λ q alone. ap (λ z. messages_to z q) (append-nil m.report) ∙ st.holds.told q alone;
     came = subst (λ z. z ≤ s.came) (sym saying_it.count) st.holds.came;
-    linked = subst (λ z. length (filter (is_first ids) z) ≤ s.linked) (sym (keys_with_end u.ends (x, c) (with_wire mine []) ∙ ap keys_of ends_are ∙ keys_with_end w.ends (x, c) mine)) st.holds.linked;
   }
     where
       reads : (q : End) (b : Bool) → is_end (x, c) q ≡ b → read (cond b (Some (with_wire mine [])) (end_of w.ends q)) ≡ s.links q

@@ -1,6 +1,7 @@
 -- Which runs of several routers are spoken of: what the premises of the law are, each by itself.
-use Rattle.std.specs.Prelude.{◌≡◌, ℕ, ◌+◌, nat_le, Bool, true, false, List, [], ◌∷◌, length, Some, None, is_some}
-use Rattle.std.specs.List.{list_any}
+use Rattle.std.specs.Prelude.{◌≡◌, ℕ, ◌+◌, ◌&&◌, ◌||◌, nat_le, Bool, true, false, List, [], ◌∷◌, length, map, filter, Some, None, is_some}
+use Rattle.std.specs.List.{list_any, flat_map}
+use Rattle.zr_id.specs.Record.{is_before}
 use Rattle.zr_id.specs.Zid.{is_named}
 use Rattle.zr_id.specs.declared.link.LinkNo.{LinkNo}
 use Rattle.zr_msg.specs.declared.event.Event.{Event}
@@ -12,8 +13,8 @@ use Rattle.zr_msg.specs.declared.peer.Role.TheVariants as role
 use Rattle.zr_msg.specs.Peer.{PeerState}
 use Rattle.zr_node_spec.specs.Tables.{link_at, link_to, free_link}
 use Rattle.zr_told_spec.specs.Hub.{hub_refuses}
-use Rattle.zr_world_spec.specs.World.{ClientState, most_routers, most_clients, most_links, most_weight}
-use Rattle.zr_law_running.specs.Runs.{Heard, Several, at_first, happened, weighs, MaySay}
+use Rattle.zr_world_spec.specs.World.{ClientState, End, most_routers, most_clients, most_links, most_weight}
+use Rattle.zr_law_running.specs.Runs.{Heard, Several, at_first, has_link, happened, weighs, MaySay}
 
 -- ---- the routers
 
@@ -40,14 +41,25 @@ pub record MayCome (ids : List (List ℕ)) (s : Several) (peer : PeerState) : Ty
   pub weight : peer.weight ≡ 1
   pub room : nat_le most_clients s.came ≡ false
 
+-- A link between two routers is in place until it has gone down at an end and neither of them has it any more.
+abbrev pub is_placed : Several → List ℕ → List ℕ → Bool
+is_placed s x y = (s.links (x, y)).whole || has_link s x y || has_link s y x
+
+-- the links between routers that are in place, each by its first end
+abbrev pub placed_from : List (List ℕ) → Several → List ℕ → List End
+placed_from ids s x = map (λ y. (x, y)) (filter (λ y. is_before x y && is_placed s x y) ids)
+
+abbrev pub placed_links : List (List ℕ) → Several → List End
+placed_links ids s = flat_map (λ x. placed_from ids s x) ids
+
 -- A link to another router of the run comes up: the second end brings the weight that the first one brought; and it is the first end only where the
--- other router has no such link any more, and where there is room for the link.
+-- other router has no such link any more, and where there is room for one more in place.
 pub record MayLink (ids : List (List ℕ)) (s : Several) (x : List ℕ) (peer : PeerState) : Type 0 where
   pub router : is_among ids peer.id ≡ true
   pub other : is_named x peer.id ≡ false
   pub weight : (s.links (x, peer.id)).whole ≡ true → (s.links (x, peer.id)).weight ≡ peer.weight
   pub anew : (s.links (x, peer.id)).whole ≡ false → link_to (s.hub peer.id).node.links x ≡ None
-  pub room : (s.links (x, peer.id)).whole ≡ false → nat_le most_links s.linked ≡ false
+  pub room : (s.links (x, peer.id)).whole ≡ false → nat_le most_links (length (placed_links ids s)) ≡ false
 
 abbrev pub MayBringUp : List (List ℕ) → Several → List ℕ → PeerState → Role → Type 0
 MayBringUp ids s x peer role.Client = MayCome ids s peer

@@ -13,6 +13,8 @@ use Rattle.zr_guarantee.specs.Latest.{LatestFit}
 use Rattle.zr_guarantee.specs.Phase.{is_phase}
 use Rattle.zr_guarantee.specs.Refines.{Delivers, PhasesDeliver, Refines, PhasesRefine}
 use Rattle.zr_guarantee.specs.Sent.{told_to}
+use Rattle.zr_told_spec.specs.Hub.{new_hub}
+use Rattle.zr_law_names.specs.Names.{AreAs, DoTheSame}
 use Rattle.zr_law_running.specs.Runs.{Heard, part, hub_by, outcome_of}
 use Rattle.zr_law_running.specs.Deeds.{deeds}
 use Rattle.zr_law_running.specs.Allowed.{is_among, AreRouters, IsRun}
@@ -38,11 +40,17 @@ pub record IsMomentOf (ids : List (List ℕ)) (run : List Heard) (m : Moment) : 
   pub links : (x y : List ℕ) → is_unbroken m.world.ends (x, y) ≡ ((outcome_of run).links (x, y)).whole
   pub sent : (c : List ℕ) → is_among ids c ≡ false → map (λ t. t.msg) (told_to m.report c) ≡ (outcome_of run).sent c
 
--- Each run of several routers is the run of a script's world: there are acts, all accepted, that lead to its moment, and by them clients do just what
--- they have done in the run.
+-- What routers have heard of is a run, but for what they make nothing of: some events, the names of clients, and what the links of clients weigh. So each
+-- coming of a client may have a name of its own in the run.
+abbrev pub AreHeardIn : List (List ℕ) → (List ℕ → List Event) → List Heard → Type 0
+AreHeardIn ids heard run = (x : List ℕ) → is_among ids x ≡ true → AreAs (new_hub x) (heard x) (part run x)
+
+-- Where it is, it is the run of a script's world: there are acts, all accepted, that lead to the run's moment, and by them clients do just what they do in
+-- the run. And each router does by what it heard just what it does in the run.
 abbrev pub RunsAreOfAWorld : Type 0
-RunsAreOfAWorld = (ids : List (List ℕ)) (run : List Heard) → AreRouters ids → IsRun ids run →
+RunsAreOfAWorld = (ids : List (List ℕ)) (heard : List ℕ → List Event) (run : List Heard) → AreRouters ids → AreHeardIn ids heard run → IsRun ids run →
     (acts : List Numbered) × (ascends 0 acts ≡ true) × (deeds acts ≡ (outcome_of run).deeds) × ((m : Moment) × (reached acts ≡ Some m) × IsMomentOf ids run m)
+    × ((x : List ℕ) → is_among ids x ≡ true → DoTheSame x (heard x) (part run x))
 
 -- ---- phases
 

@@ -51,8 +51,7 @@ pub record LinkState : Type 0 where
   pub weight : ℕ
 
 -- By identifier, the tables of each router, what its clients' declarations and interests weigh together, each client that has come, and all that
--- was queued for it; by a router and its neighbour, their link; what clients have done, in order; and how many clients and links between routers have
--- come.
+-- was queued for it; by a router and its neighbour, their link; what clients have done, in order; and how many clients have come.
 pub record Several : Type 0 where
   pub hub : List ℕ → HubState
   pub weight : List ℕ → ℕ
@@ -61,7 +60,6 @@ pub record Several : Type 0 where
   pub links : End → LinkState
   pub deeds : List Deed
   pub came : ℕ
-  pub linked : ℕ
 
 abbrev pub no_link : LinkState
 no_link = record { whole = false; waits = []; weight = 0 }
@@ -71,7 +69,7 @@ new_link weight = record { whole = true; waits = []; weight = weight }
 
 -- no router has heard of anything
 abbrev pub at_first : Several
-at_first = record { hub = λ x. new_hub x; weight = λ x. 0; clients = λ c. None; sent = λ c. []; links = λ e. no_link; deeds = []; came = 0; linked = 0 }
+at_first = record { hub = λ x. new_hub x; weight = λ x. 0; clients = λ c. None; sent = λ c. []; links = λ e. no_link; deeds = []; came = 0 }
 
 -- another value under one name, or at one end
 abbrev pub at_name : {X : Type 0} → (List ℕ → X) → List ℕ → X → List ℕ → X
@@ -79,6 +77,10 @@ at_name f name v q = if is_named name q then v else f q
 
 abbrev pub at_end : (End → LinkState) → End → LinkState → End → LinkState
 at_end f e v q = if is_end e q then v else f q
+
+-- a router has a link to a neighbour
+abbrev pub has_link : Several → List ℕ → List ℕ → Bool
+has_link s x y = is_some (link_to (s.hub x).node.links y)
 
 -- ---- a router hears of an event
 
@@ -99,7 +101,6 @@ heard s x event = record {
   links = λ e. if is_named x e.0 && not (is_some (s.clients e.1)) then with_waits (s.links e) ((s.links e).waits ++ queued_for (s.hub x) event e.1) else s.links e;
   deeds = s.deeds;
   came = s.came;
-  linked = s.linked;
 }
 
 -- ---- links come up and go down
@@ -110,7 +111,7 @@ with_client s x c = record s { clients = at_name s.clients c (Some (new_client x
 
 -- a link between two routers comes up at the first of its ends
 abbrev pub with_link : Several → List ℕ → List ℕ → ℕ → Several
-with_link s x y weight = record s { links = at_end (at_end s.links (x, y) (new_link weight)) (y, x) (new_link weight); linked = s.linked + 1 }
+with_link s x y weight = record s { links = at_end (at_end s.links (x, y) (new_link weight)) (y, x) (new_link weight) }
 
 -- a link goes down at the first of its ends
 abbrev pub parted : LinkState → LinkState

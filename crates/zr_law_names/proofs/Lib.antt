@@ -1,0 +1,4 @@
+pub mod Links
+pub mod Sending
+pub mod Leaving
+pub mod Names
