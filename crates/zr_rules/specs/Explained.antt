@@ -26,7 +26,7 @@ shown_line number bytes = take (most_line + 1) (line_at number bytes)
 
 -- `default allow` and `default deny` have one word behind the first
 abbrev pub bad_default : List (List ℕ) → ℕ
-bad_default [] = 2
+bad_default [] = 1
 bad_default (verb ∷ []) = 1
 bad_default (verb ∷ word ∷ more) = 2
 
@@ -36,16 +36,16 @@ is_client word = is_word word (codes "*") || is_some (zid_of_hex word)
 
 -- a rule has three words behind the first: a client, an act and a key
 abbrev pub bad_rule : List (List ℕ) → ℕ
-bad_rule [] = 4
-bad_rule (client ∷ []) = 4
-bad_rule (client ∷ act ∷ []) = 4
+bad_rule [] = 1
+bad_rule (client ∷ []) = 2
+bad_rule (client ∷ act ∷ []) = 3
 bad_rule (client ∷ act ∷ key ∷ []) = if is_client client then 2 else 1
 bad_rule (client ∷ act ∷ key ∷ word ∷ more) = 4
 
 abbrev pub is_verb : List ℕ → Bool
 is_verb word = is_word word (codes "allow") || is_word word (codes "deny")
 
--- the number of the first word that fits no rule: one that is missing or too much comes before one that has not its form
+-- the number of the first word that fits no rule, from 0: one that is missing or too much comes before one that has not its form
 abbrev pub bad_word : List (List ℕ) → ℕ
 bad_word [] = 0
 bad_word (first ∷ more) = if is_word first (codes "default") then bad_default more else if is_verb first then bad_rule more else 0

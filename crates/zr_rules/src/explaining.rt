@@ -113,7 +113,7 @@ fn words_of(alloc: Global, line: &[u8]) -> Result<Vec<&[u8]>, AllocError>
         .collect(alloc)
 }
 
-// The number of the first word that fits no rule.
+// The number of the first word that fits no rule; one that is missing has a number behind the last one.
 fn bad_word(words: &[&[u8]]) -> usize
     ensures { result ≡ bad_word (map (λ w. w.now) words.now) }
 {
@@ -136,7 +136,7 @@ fn bad_default(more: &[&[u8]]) -> usize
     ensures { result ≡ bad_default (map (λ w. w.now) more.now) }
 {
     match more {
-        [_] => 1,
+        [] | [_] => 1,
         _ => 2,
     }
 }
@@ -146,6 +146,9 @@ fn bad_rule(more: &[&[u8]]) -> usize
     ensures { result ≡ bad_rule (map (λ w. w.now) more.now) }
 {
     match more {
+        [] => 1,
+        [_] => 2,
+        [_, _] => 3,
         [client, _, _] => { if is_client(client) { 2 } else { 1 } }
         _ => 4,
     }

@@ -2,9 +2,11 @@
 
 ghost use Rattle.std.specs.Prelude.{◌≡◌, ◌≤◌, ◌++◌, IfOk};
 ghost use Rattle.zr_outside.specs.Counts.{Rose};
+ghost use Rattle.zr_rules.specs.Carets.{CaretsAreUnderWrongKeys, CaretsAreUnderWrongWords};
 ghost use Rattle.zr_rules.specs.Given.{Complains, TellsRules, fault_text, refusal_text, refusal_told};
 
 use crate::explaining::put_explanation;
+use crate::laws::{carets_are_under_wrong_keys, carets_are_under_wrong_words};
 use crate::rules::RulesError;
 use itoa::Buffer;
 use std::alloc::{AllocError, Global};
@@ -25,7 +27,8 @@ pub enum RulesEnd {
 }
 
 /// Tells why an input gave no rules, where its text is the cause: `rules line N: NUMBER NAME` of the first faulty line, or `rules too long`. Where that is
-/// asked for, the faulty line follows with a caret under what is wrong, and what is expected. The end says whether it was told, or why it wasn't.
+/// asked for, the faulty line follows with a caret under what is wrong, and what is expected. The end says whether it was told, or why it wasn't. The clause
+/// `carets` says of the word under the caret that it makes the refusal true.
 pub fn tell_refusal<E: Sink>(
     alloc: Global,
     explain: bool,
@@ -37,7 +40,11 @@ pub fn tell_refusal<E: Sink>(
     ensures read { result ≡ RulesEnd.ReadFault → error ≡ RulesError.ReadFault }
     ensures quiet { result ≡ RulesEnd.Refused → E.faults err.new ≡ E.faults err.old }
     ensures later { E.faults err.old ≤ E.faults err.new }
+    ensures carets { CaretsAreUnderWrongWords × CaretsAreUnderWrongKeys }
 {
+    // laws of the caret, which do nothing
+    carets_are_under_wrong_words();
+    carets_are_under_wrong_keys();
     match error {
         RulesError::Refused { line, fault, shown } => {
             match refusal_told(alloc, explain, line, fault, shown.as_slice()) {

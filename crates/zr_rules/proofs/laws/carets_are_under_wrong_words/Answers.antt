@@ -1,0 +1,5 @@
+use Rattle.zr_rules.proofs.Carets.{under_wrong_words}
+use Rattle.zr_rules.proofs.laws.carets_are_under_wrong_words.Goals as goal
+
+pub returns : goal.returns
+returns c = under_wrong_words
