@@ -181,7 +181,7 @@ of_delivery_end P error e is closed spent = by (end_of_delivery error) is refl (
     by (Some end.Turns) is at k = absurd k
     by (Some end.NoMemory) is at k = let same : end.NoMemory ≡ e = cc in subst P same spent
 
--- only want of memory ends a reader so
+-- a reader ends so only where it is out of memory
 closed_told : (error : DeliverError) (reason : Reason) → end_of_delivery error ≡ Some (end.Closed reason) → error ≢ deliver.NoMemory
 closed_told error reason is none = let k : end_of_delivery deliver.NoMemory ≡ Some (end.Closed reason) = subst (λ z. end_of_delivery z ≡ Some (end.Closed reason)) none is in absurd cc
 

@@ -1,6 +1,6 @@
 //! A link that is up: what comes is delivered.
 
-ghost use Rattle.std.specs.Prelude.{◌≡◌, ◌≢◌, ◌<◌, ◌≤◌, ◌⊎◌, List, [], true, IfErr, IfOk, OnErr, OnOk, vec_capacity};
+ghost use Rattle.std.specs.Prelude.{◌≡◌, ◌≢◌, ◌<◌, ◌≤◌, ◌+◌, ◌⊎◌, List, [], true, IfErr, IfOk, OnErr, OnOk, vec_capacity};
 ghost use Rattle.std.specs.List.{AllByRecursion};
 ghost use mathlib.Core.List.{IsPrefix};
 ghost use Rattle.std.specs.Vec.Iter.{into_iter_items};
@@ -54,8 +54,9 @@ pub(crate) fn go_on<S: Source, P: Port, C: Clock, L: Log + Drop>(
     ensures fault { Counted (S.faults source.old) (S.faults source.new) (result ≡ end.ReadFault) }
     ensures ended { Counted (S.ends source.old) (S.ends source.new) (result ≡ end.PeerEnded) }
     ensures turns { result ≡ end.Turns → RoseBy turns (S.reads source.old) (S.reads source.new) }
+    ensures reads { S.reads source.new ≤ S.reads source.old + turns }
     ensures later { (S.quiets source.old ≤ S.quiets source.new) × (C.last clock.old ≤ C.last clock.new) }
-    ensures logged { TellsDenials (λ l. L.held l) log.old log.new }
+    ensures logged { TellsDenials (λ l. L.held l) (λ l. L.lost l) log.old log.new }
 {
     for _ in 0..turns {
         let fate = match intake.next(source, clock) {
@@ -88,7 +89,7 @@ pub(crate) fn settle<P: Port, L: Log + Drop>(
     ensures prefix { IsPrefix (seen pass.old) (seen pass.new) }
     ensures ok { OnOk result ((fate ≡ fates.Going) × Delivers link (λ h m x. P.refuses_message port.now h link m x) (into_iter_items messages) [] (sight pass.old) (sight pass.new)) }
     ensures err { IfErr result (λ e. (rest : List SessionEvent) × Delivers link (λ h m x. P.refuses_message port.now h link m x) (into_iter_items messages) rest (sight pass.old) (sight pass.new) × (Stops (λ m x. P.refuses_message port.now (seen pass.new) link m x) rest e ⊎ ((rest ≡ []) × EndIs fate e))) }
-    ensures logged { TellsDenials (λ l. L.held l) log.old log.new }
+    ensures logged { TellsDenials (λ l. L.held l) (λ l. L.lost l) log.old log.new }
 {
     match deliver_all(alloc, port, pass, link, messages, now, log) {
         Ok(()) => ended(fate),
@@ -112,7 +113,7 @@ fn deliver_all<P: Port, L: Log + Drop>(
     ensures prefix { IsPrefix (seen pass.old) (seen pass.new) }
     ensures all { OnOk result (Delivers link (λ h m x. P.refuses_message port.now h link m x) (into_iter_items events) [] (sight pass.old) (sight pass.new)) }
     ensures stopped { IfErr result (λ e. (rest : List SessionEvent) × Delivers link (λ h m x. P.refuses_message port.now h link m x) (into_iter_items events) rest (sight pass.old) (sight pass.new) × Stops (λ m x. P.refuses_message port.now (seen pass.new) link m x) rest e) }
-    ensures logged { TellsDenials (λ l. L.held l) log.old log.new }
+    ensures logged { TellsDenials (λ l. L.held l) (λ l. L.lost l) log.old log.new }
 {
     let Ok(messages) = messages_of(alloc, events) else {
         return Err(LinkEnd::NoMemory);

@@ -1,6 +1,6 @@
 //! `Reader`: the loop of a link's reader.
 
-ghost use Rattle.std.specs.Prelude.{◌≡◌, ◌≢◌, ◌<◌, ◌≤◌, ◌++◌, ℕ, true, List, [], Some, None, IfErr, OnOk, OnErr};
+ghost use Rattle.std.specs.Prelude.{◌≡◌, ◌≢◌, ◌<◌, ◌≤◌, ◌+◌, ◌++◌, ℕ, true, List, [], Some, None, IfErr, OnOk, OnErr};
 ghost use mathlib.Core.List.{IsPrefix};
 ghost use Rattle.std.specs.Arc.{arc_value};
 ghost use Rattle.std.specs.Vec.Iter.{into_iter_items};
@@ -23,7 +23,7 @@ ghost use Rattle.zr_link.specs.Complete.{IsComplete};
 ghost use Rattle.zr_link.specs.Run.{Follows, Enters, Runs, Starts, GoesDown};
 ghost use Rattle.zr_link.specs.declared.log.Stage.TheVariants as stages;
 ghost use Rattle.zr_link.specs.Log.{stage_of};
-ghost use Rattle.zr_link.specs.Logged.{IsLogged, TellsDenials};
+ghost use Rattle.zr_link.specs.Logged.{IsLogged, RefusesPeer, TellsDenials};
 ghost use Rattle.zr_link.specs.Failed.{MayHaveFailed};
 ghost use Rattle.zr_link.specs.Gone.{is_gone};
 ghost use Rattle.zr_link.specs.Ends.{IsEarly, IsStarted, IsCrewRefused, end_of_up};
@@ -103,10 +103,11 @@ impl Reader {
         ensures fault { Counted (S.faults source.old) (S.faults source.new) (result.0 ≡ end.ReadFault) }
         ensures ended { Counted (S.ends source.old) (S.ends source.new) (result.0 ≡ end.PeerEnded) }
         ensures turns { result.0 ≡ end.Turns → RoseBy out.turns (S.reads source.old) (S.reads source.new) }
+        ensures reads { S.reads source.new ≤ S.reads source.old + out.turns }
         ensures unwritten { result.0 ≡ end.WriteFault → (sink : K) × (result.1 ≡ Some sink) × Rose (K.faults out.sink) (K.faults sink) }
         ensures refused { Counted (crew_faults crew.old) (crew_faults crew.new) (result.0 ≡ end.CrewRefused) }
         ensures writer { Starts result.1 (crew_told crew.old) (crew_told crew.new) (mine pass.old) (mine pass.new) }
-        ensures logged { IsLogged (λ l. L.held l) (mine pass.old) (mine pass.new) log.old log.new }
+        ensures logged { IsLogged (λ l. L.held l) (λ l. L.lost l) (RefusesPeer (λ peer e. P.refuses_up (arc_value out.port) (seen pass.new) peer e)) (mine pass.old) (mine pass.new) log.old log.new }
         ensures told { (sink : K) → result.1 ≡ Some sink → K.faults out.sink < K.faults sink → MayHaveFailed result.0 }
     {
         let mut out = out;
@@ -173,10 +174,11 @@ where
     ensures fault { Counted (S.faults source.old) (S.faults source.new) (result.0 ≡ end.ReadFault) }
     ensures ended { Counted (S.ends source.old) (S.ends source.new) (result.0 ≡ end.PeerEnded) }
     ensures turns { result.0 ≡ end.Turns → RoseBy opened.left (S.reads source.old) (S.reads source.new) }
+    ensures reads { S.reads source.new ≤ S.reads source.old + opened.left }
     ensures unwritten { result.0 ≡ end.WriteFault → (sink : K) × (result.1 ≡ Some sink) × Rose (K.faults out.sink) (K.faults sink) }
     ensures refused { Counted (crew_faults crew.old) (crew_faults crew.new) (result.0 ≡ end.CrewRefused) }
     ensures writer { Starts result.1 (crew_told crew.old) (crew_told crew.new) (mine pass.old) (mine pass.new) }
-    ensures logged { IsLogged (λ l. L.held l) (mine pass.old) (mine pass.new) log.old log.new }
+    ensures logged { IsLogged (λ l. L.held l) (λ l. L.lost l) (RefusesPeer (λ peer e. P.refuses_up port.now (seen pass.new) peer e)) (mine pass.old) (mine pass.new) log.old log.new }
     ensures later { (S.quiets source.old ≤ S.quiets source.new) × (C.last clock.old ≤ C.last clock.new) }
     ensures told { (sink : K) → result.1 ≡ Some sink → K.faults out.sink < K.faults sink → MayHaveFailed result.0 }
 {
@@ -271,8 +273,9 @@ fn follow<S: Source, P: Port, C: Clock, L: Log + Drop>(
     ensures fault { Counted (S.faults source.old) (S.faults source.new) (result ≡ end.ReadFault) }
     ensures ended { Counted (S.ends source.old) (S.ends source.new) (result ≡ end.PeerEnded) }
     ensures turns { result ≡ end.Turns → RoseBy turns (S.reads source.old) (S.reads source.new) }
+    ensures reads { S.reads source.new ≤ S.reads source.old + turns }
     ensures later { (S.quiets source.old ≤ S.quiets source.new) × (C.last clock.old ≤ C.last clock.new) }
-    ensures logged { TellsDenials (λ l. L.held l) log.old log.new }
+    ensures logged { TellsDenials (λ l. L.held l) (λ l. L.lost l) log.old log.new }
 {
     let now = intake.moment;
     match settle(alloc, port, pass, link, waiting, fate, now, log) {

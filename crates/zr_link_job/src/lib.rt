@@ -6,4 +6,4 @@ mod job;
 mod reading;
 
 pub use job::{LinkJob, LinkStart, ServeJob, Side};
-pub use reading::{Reading, hand_over, turn_away};
+pub use reading::{Reading, TurnedAway, hand_over, turn_away};

@@ -1,17 +1,20 @@
 //! What the thread of a link's reader owns, and does.
 
-ghost use Rattle.std.specs.Prelude.{◌≡◌, ◌≤◌, ◌⊎◌, ◌++◌, ℕ, Option, [], ◌∷◌, IfErr, IfOk, IfSome, is_err, is_some, true};
+ghost use Rattle.std.specs.Prelude.{◌≡◌, ◌≤◌, ◌+◌, ◌⊎◌, ◌++◌, ℕ, None, Option, [], ◌∷◌, IfErr, IfOk, IfSome, is_err, is_some, true};
 ghost use Rattle.std.specs.Arc.{arc_value};
 ghost use Rattle.std.proofs.Props.{props};
 ghost use Rattle.zr_outside_crew.specs.Crew.{crew_faults, crew_told};
-ghost use Rattle.zr_hist.specs.Words.{pass_name};
+ghost use Rattle.zr_hist.specs.Words.{mine, pass_name, seen};
 ghost use Rattle.zr_link_job.specs.Begins.{expects, greets, opening_of};
 ghost use Rattle.zr_link_job.specs.Starts.{Starts};
 ghost use Rattle.zr_link_job.specs.declared.job.ServeJob.TheVariants.{Link};
 ghost use Rattle.zr_open.specs.declared.error.Reason.TheVariants.{Generic};
 ghost use Rattle.zr_outside.specs.Counts.{Counted, Rose, RoseBy};
+ghost use Rattle.zr_outside.specs.Told.{Tells};
 ghost use Rattle.zr_link.specs.Heard.{IsLate};
-ghost use Rattle.zr_link.specs.Log.{stage_of};
+ghost use Rattle.zr_link.specs.Log as texts;
+ghost use Rattle.zr_link.specs.Log.{held_in, lost_in, stage_of};
+ghost use Rattle.zr_link.specs.Logged.{IsLogged, RefusesPeer, TellsLink};
 ghost use Rattle.zr_link.specs.Run.{Runs};
 ghost use Rattle.zr_link.specs.Written.{Puts, Wrote};
 ghost use Rattle.zr_link.specs.declared.end.LinkEnd.TheVariants as end;
@@ -92,8 +95,15 @@ struct Hearing<
     ghost ruled: { IfSome rules (λ p. p ≡ P.policy (arc_value port)) } by { Prim.hlevel props },
 }
 
+/// What comes back of a reader that could not be started: where the bytes of its link go, and its log, if it has one.
+#[derive(Drop)]
+pub struct TurnedAway<K: Sink + Drop, L: Log + Drop> {
+    pub sink: K,
+    pub log: Option<L>,
+}
+
 /// Starts the reader of a link by the crew, which tells its job. A reader that the crew hands back is let go: its peer is told so by a CLOSE, where it
-/// still reads, and its log. Its sink comes back then, and the count of the crew's failed starts says that there was one.
+/// still reads, and its log, where it has one. Its sink and its log come back then, and the count of the crew's failed starts says that there was one.
 #[tactic(auto, using(crate::proofs::Starting::starts_one))]
 pub fn hand_over<
     S: Source + Send + Drop + 'static,
@@ -102,12 +112,13 @@ pub fn hand_over<
     L: Log + Send + Drop + 'static,
     P: Port + Send + Sync + Drop + 'static,
     R: Threads + Copy + Send + Sync + Drop + 'static,
->(crew: &mut Crew<R, ServeJob>, reading: Reading<S, K, C, L, P, R>) -> Result<(), K>
+>(crew: &mut Crew<R, ServeJob>, reading: Reading<S, K, C, L, P, R>) -> Result<(), TurnedAway<K, L>>
 where
     P::Note: Send + 'static,
     ensures started { Starts (Link reading.job ∷ []) (crew_told crew.old) (crew_told crew.new) (crew_faults crew.old) (crew_faults crew.new) }
     ensures failed { Counted (crew_faults crew.old) (crew_faults crew.new) (is_err result ≡ true) }
-    ensures closed { IfErr result (λ k. Puts (close_of (how.Closed Generic)) (K.held reading.sink) (K.held k) (Rose (K.faults reading.sink) (K.faults k))) }
+    ensures closed { IfErr result (λ t. Puts (close_of (how.Closed Generic)) (K.held reading.sink) (K.held t.sink) (Rose (K.faults reading.sink) (K.faults t.sink))) }
+    ensures logged { IfErr result (λ t. Tells (texts.end_line stages.Unopened end.CrewRefused None) (held_in (λ l. L.held l) reading.log) (held_in (λ l. L.held l) t.log) (lost_in (λ l. L.lost l) reading.log) (lost_in (λ l. L.lost l) t.log)) }
 {
     let Reading {
         alloc,
@@ -154,6 +165,16 @@ fn told_rules(job: &LinkJob) -> Option<Shared<Policy>>
     job.policy.copy().ok()
 }
 
+// What the thread of a link's reader leaves, and how it ended.
+#[derive(Drop)]
+struct Outcome<S: Source + Drop, C: Clock + Drop, L: Log + Drop> {
+    source: S,
+    clock: C,
+    log: LinkLog<L>,
+    pass: Pass<Entry>,
+    end: LinkEnd,
+}
+
 // Runs the reader of a link. How it ended is seen by the peer and the log alone.
 fn read<
     S: Source + Drop,
@@ -165,6 +186,24 @@ fn read<
 >(hearing: Hearing<S, K, C, L, P, R>)
 where
     P::Note: Send + 'static,
+{
+    drop(heard(hearing));
+}
+
+// Hears the link to its end, in as many reads as its job has; its log is told of it.
+fn heard<
+    S: Source + Drop,
+    K: Sink + Send + Drop + 'static,
+    C: Clock + Send + Drop + 'static,
+    L: Log + Send + Drop + 'static,
+    P: Port + Send + Sync + Drop + 'static,
+    R: Threads + Drop,
+>(hearing: Hearing<S, K, C, L, P, R>) -> Outcome<S, C, L>
+where
+    P::Note: Send + 'static,
+    ensures heard { (result.end ≡ end.NoMemory) ⊎ ((now : ℕ) × (back : Option K) × Runs (begun (expects hearing.start.side) (opening_of hearing.start) now) result.end (S.left hearing.source) (S.left result.source) (IsLate (S.quiets hearing.source) (S.quiets result.source) now now (C.last result.clock)) (λ answers. Wrote (λ k. K.held k) (λ k. K.faults k) result.end (greets hearing.start.side (opening_of hearing.start) ++ answers) hearing.sink back) (P.refuses_up (arc_value hearing.port)) (P.refuses_message (arc_value hearing.port)) (P.refuses_down (arc_value hearing.port)) hearing.pass result.pass) }
+    ensures reads { (S.reads result.source ≤ S.reads hearing.source + hearing.start.turns) × (result.end ≡ end.Turns → RoseBy hearing.start.turns (S.reads hearing.source) (S.reads result.source)) }
+    ensures logged { TellsLink (λ l. L.held l) (λ l. L.lost l) (RefusesPeer (λ peer e. P.refuses_up (arc_value hearing.port) (seen result.pass) peer e)) hearing.rules (mine hearing.pass) (mine result.pass) result.end hearing.log result.log }
 {
     let Hearing {
         alloc,
@@ -200,6 +239,13 @@ where
         &mut log,
     );
     log.read(end);
+    Outcome {
+        source,
+        clock,
+        log,
+        pass,
+        end,
+    }
 }
 
 // Opens the session of a link that begins so, and runs the link's reader.
@@ -228,6 +274,8 @@ where
     requires unopened { stage_of log.old ≡ stages.Unopened }
     ensures heard { (result ≡ end.NoMemory) ⊎ ((now : ℕ) × (back : Option K) × Runs (begun (expects start.now.side) (opening_of start.now) now) result (S.left source.old) (S.left source.new) (IsLate (S.quiets source.old) (S.quiets source.new) now now (C.last clock.new)) (λ answers. Wrote (λ k. K.held k) (λ k. K.faults k) result (greets start.now.side (opening_of start.now) ++ answers) out.sink back) (P.refuses_up (arc_value out.port)) (P.refuses_message (arc_value out.port)) (P.refuses_down (arc_value out.port)) pass.old pass.new) }
     ensures turns { result ≡ end.Turns → RoseBy start.now.turns (S.reads source.old) (S.reads source.new) }
+    ensures reads { S.reads source.new ≤ S.reads source.old + start.now.turns }
+    ensures logged { IsLogged (λ l. L.held l) (λ l. L.lost l) (RefusesPeer (λ peer e. P.refuses_up (arc_value out.port) (seen pass.new) peer e)) (mine pass.old) (mine pass.new) log.old log.new }
 {
     let Ok((session, first)) = begin(alloc, start, clock.now()) else {
         return LinkEnd::NoMemory;
@@ -277,7 +325,7 @@ pub fn turn_away<K: Sink>(sink: &mut K)
     let _ = write_all(sink, &close_batch(Reason::Generic.byte()));
 }
 
-// The link's reader could not be started: its peer is told so, and its log. The sink comes back.
+// The link's reader could not be started: its peer is told so, and its log. Both come back.
 fn give_up<
     S: Source + Drop,
     K: Sink + Drop,
@@ -285,8 +333,9 @@ fn give_up<
     L: Log + Drop,
     P: Port + Drop,
     R: Threads + Drop,
->(hearing: Hearing<S, K, C, L, P, R>) -> K
-    ensures puts { Puts (close_of (how.Closed Generic)) (K.held hearing.sink) (K.held result) (Rose (K.faults hearing.sink) (K.faults result)) }
+>(hearing: Hearing<S, K, C, L, P, R>) -> TurnedAway<K, L>
+    ensures puts { Puts (close_of (how.Closed Generic)) (K.held hearing.sink) (K.held result.sink) (Rose (K.faults hearing.sink) (K.faults result.sink)) }
+    ensures logged { Tells (texts.end_line stages.Unopened end.CrewRefused None) (held_in (λ l. L.held l) hearing.log) (held_in (λ l. L.held l) result.log) (lost_in (λ l. L.lost l) hearing.log) (lost_in (λ l. L.lost l) result.log) }
 {
     let Hearing {
         alloc,
@@ -295,6 +344,10 @@ fn give_up<
         ..
     } = hearing;
     turn_away(&mut sink);
-    LinkLog::new(alloc, log, Stage::Unopened).read(LinkEnd::CrewRefused);
-    sink
+    let mut log = LinkLog::new(alloc, log, Stage::Unopened);
+    log.read(LinkEnd::CrewRefused);
+    TurnedAway {
+        sink,
+        log: log.into_log(),
+    }
 }

@@ -34,6 +34,7 @@ impl Writer {
         ensures whole { (reason : Option ℕ) → result ≡ Done reason → Writes (taken taker.old) (taken taker.new) (C.last clock.old) (C.last clock.new) (close_bytes (end_of (taken taker.new))) (λ text. Appends text (K.held sink.old) (K.held sink.new)) }
         ensures done { (reason : Option ℕ) → result ≡ Done reason → end_of (taken taker.new) ≡ Some reason }
         ensures turns { result ≡ Turns → take_calls taker.new ≡ take_calls taker.old + turns }
+        ensures takes { take_calls taker.new ≤ take_calls taker.old + turns }
         ensures no_end { result ≡ Turns → end_of (taken taker.new) ≡ end_of (taken taker.old) }
         ensures so_far { result ≡ Turns → Writes (taken taker.old) (taken taker.new) (C.last clock.old) (C.last clock.new) [] (λ text. Appends text (K.held sink.old) (K.held sink.new)) }
         ensures fault { result ≡ WriteFault → Rose (K.faults sink.old) (K.faults sink.new) }

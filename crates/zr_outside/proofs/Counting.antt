@@ -4,6 +4,10 @@ use Rattle.std.specs.Result.{IsErrAnd}
 use Rattle.std.proofs.lemmas.Bool.{ltb-true, ltb-false}
 use Rattle.zr_outside.specs.Counts.{Counted, RoseOnlyBy}
 
+-- a count that stands as it was has not risen
+pub rose_not : {P : Type 0} (a b : ℕ) → b ≡ a → a < b → P
+rose_not a b same rose = absurd (omega (arith, same, rose))
+
 -- a count whose event didn't come stands as it was
 pub counted_same : (a b : ℕ) (E : Type 0) → Counted a b E → (E → ⊥) → b ≡ a
 counted_same a b E h never = by (ltb a b) refl

@@ -1,5 +1,6 @@
 -- What is told of the bytes that a source has left or that a sink holds. Where nothing is told before a call, nothing is owed after it.
 use Rattle.std.specs.Prelude.{◌≡◌, ◌⊎◌, ℕ, List, ◌++◌, drop, take, Option, Some, None}
+use Rattle.zr_outside.specs.Counts.{Counted}
 
 -- what is told stays as it was
 abbrev pub IsAsBefore : Option (List ℕ) → Option (List ℕ) → Type 0
@@ -16,9 +17,13 @@ abbrev pub AppendsPrefix : List ℕ → Option (List ℕ) → Option (List ℕ) 
 AppendsPrefix bytes None after = Unit {0}
 AppendsPrefix bytes (Some held) after = (prefix : List ℕ) × (rest : List ℕ) × (bytes ≡ prefix ++ rest) × (after ≡ Some (held ++ prefix))
 
--- all of the bytes stand at the end now, or none of them
-abbrev pub AppendsOrNot : List ℕ → Option (List ℕ) → Option (List ℕ) → Type 0
-AppendsOrNot bytes before after = Appends bytes before after ⊎ IsAsBefore before after
+-- a line was lost, and counts so
+abbrev pub Loses : Option (List ℕ) → Option (List ℕ) → ℕ → ℕ → Type 0
+Loses before after lost lost' = IsAsBefore before after × Counted lost lost' (Unit {0})
+
+-- a line stands at the end now, and else it was lost
+abbrev pub Tells : List ℕ → Option (List ℕ) → Option (List ℕ) → ℕ → ℕ → Type 0
+Tells line before after lost lost' = (Appends line before after × (lost' ≡ lost)) ⊎ Loses before after lost lost'
 
 -- the next n bytes of what was left are the first of the buffer now
 abbrev pub Consumes : ℕ → List ℕ → Option (List ℕ) → Option (List ℕ) → Type 0

@@ -5,7 +5,8 @@ ghost use Rattle.std.specs.declared.option.Option.{Option};
 ghost use Rattle.zr_outside.specs.Counts.{Counted};
 ghost use Rattle.zr_outside.specs.declared.host.Call.{Call};
 ghost use Rattle.zr_outside.specs.declared.host.Call.TheVariants as call;
-ghost use Rattle.zr_outside.specs.Host.{Records, IsLost, IsIdle, IsOver, answer_of};
+ghost use Rattle.rand_core.specs.Stream.{Stream};
+ghost use Rattle.zr_outside.specs.Host.{Draws, Records, IsLost, IsIdle, IsOver, answer_of};
 
 use crate::clock::Clock;
 use crate::log::Log;
@@ -109,11 +110,15 @@ pub trait Host {
     // its calls of `listen`, `dial` and `accept`, where it tells them
     ghost calls: { Self → Option (List Call) };
 
+    // the generators that it has left, by their streams, where it tells them
+    ghost generators: { Self → Option (List Stream) };
+
     /// Begins to listen at an address; false where that can't be.
     fn listen(&mut self, address: &str) -> bool
         ensures failed { Counted (faults self.old) (faults self.new) (result ≡ false) }
         ensures others { (quiets self.new ≡ quiets self.old) × (ends self.new ≡ ends self.old) × (lost_dials self.new ≡ lost_dials self.old) }
-        ensures told { Records (call.Listen address.now result) (calls self.old) (calls self.new) };
+        ensures told { Records (call.Listen address.now result) (calls self.old) (calls self.new) }
+        ensures undrawn { generators self.new ≡ generators self.old };
 
     /// The next link that comes.
     fn accept(&mut self) -> Accepted<Self::In, Self::Out>
@@ -121,27 +126,32 @@ pub trait Host {
         ensures quiet { Counted (quiets self.old) (quiets self.new) (IsIdle result) }
         ensures ended { Counted (ends self.old) (ends self.new) (IsOver result) }
         ensures others { lost_dials self.new ≡ lost_dials self.old }
-        ensures told { Records (call.Accept (answer_of result)) (calls self.old) (calls self.new) };
+        ensures told { Records (call.Accept (answer_of result)) (calls self.old) (calls self.new) }
+        ensures undrawn { generators self.new ≡ generators self.old };
 
     /// A link to an address; none where that can't be.
     fn dial(&mut self, address: &str) -> Option<(Self::In, Self::Out)>
         ensures lost { Counted (lost_dials self.old) (lost_dials self.new) (is_none result ≡ true) }
         ensures others { (faults self.new ≡ faults self.old) × (quiets self.new ≡ quiets self.old) × (ends self.new ≡ ends self.old) }
-        ensures told { Records (call.Dial address.now (is_some result)) (calls self.old) (calls self.new) };
+        ensures told { Records (call.Dial address.now (is_some result)) (calls self.old) (calls self.new) }
+        ensures undrawn { generators self.new ≡ generators self.old };
 
     /// A clock for one more thread.
     fn time(&mut self) -> Self::Time
         ensures counts { (faults self.new ≡ faults self.old) × (quiets self.new ≡ quiets self.old) × (ends self.new ≡ ends self.old) × (lost_dials self.new ≡ lost_dials self.old) }
-        ensures told { calls self.new ≡ calls self.old };
+        ensures told { calls self.new ≡ calls self.old }
+        ensures undrawn { generators self.new ≡ generators self.old };
 
     /// A log for one more thread of a link, by the link's reading end.
     fn log(&mut self, alloc: Global, link: &Self::In) -> Self::Log
         ensures counts { (faults self.new ≡ faults self.old) × (quiets self.new ≡ quiets self.old) × (ends self.new ≡ ends self.old) × (lost_dials self.new ≡ lost_dials self.old) }
-        ensures told { calls self.new ≡ calls self.old };
+        ensures told { calls self.new ≡ calls self.old }
+        ensures undrawn { generators self.new ≡ generators self.old };
 
     /// A generator of random words, to be asked for once; none where the system gives none.
     fn words(&mut self) -> Option<Self::Words>
         ensures failed { Counted (faults self.old) (faults self.new) (is_none result ≡ true) }
         ensures others { (quiets self.new ≡ quiets self.old) × (ends self.new ≡ ends self.old) × (lost_dials self.new ≡ lost_dials self.old) }
-        ensures told { calls self.new ≡ calls self.old };
+        ensures told { calls self.new ≡ calls self.old }
+        ensures drawn { Draws (λ w. Self.Words.stream w) result (generators self.old) (generators self.new) };
 }

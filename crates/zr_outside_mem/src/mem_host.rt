@@ -1,6 +1,7 @@
 //! A host in memory.
 
-ghost use Rattle.std.specs.Prelude.{◌≡◌};
+ghost use Rattle.std.specs.Prelude.{◌≡◌, Some};
+ghost use Rattle.zr_outside_mem.specs.Calls.{streams_of};
 
 use crate::mem_calls::Calls;
 use crate::mem_clock::MemClock;
@@ -110,6 +111,8 @@ impl<S: Source + Send + Drop, K: Sink + Send + Drop, W: Rng + Drop> Host for Mem
     ghost lost_dials = { λ h. h.lost_dials };
 
     ghost calls = { λ h. h.calls };
+
+    ghost generators = { λ h. Some (streams_of (λ w. W.stream w) h.words) };
 
     fn listen(&mut self, address: &str) -> bool {
         let is_listening = self.can_listen;

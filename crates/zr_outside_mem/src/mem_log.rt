@@ -5,10 +5,11 @@ ghost use Rattle.std.specs.Prelude.{◌≡◌, ℕ, List, Some, []};
 use std::alloc::Global;
 use zr_outside::log::Log;
 
-/// Keeps the lines that it is told, as long as it has memory for them.
+/// Keeps the lines that it is told, as long as it has memory for them, and counts those that it lost.
 #[derive(Drop)]
 pub struct MemLog {
     bytes: Vec<u8>,
+    lost: u64,
 }
 
 impl MemLog {
@@ -20,6 +21,7 @@ impl MemLog {
     {
         MemLog {
             bytes: Vec::new(alloc),
+            lost: 0,
         }
     }
 
@@ -34,7 +36,15 @@ impl MemLog {
 impl Log for MemLog {
     ghost held = { λ l. Some l.bytes.items };
 
+    ghost lost = { λ l. l.lost };
+
     fn tell(&mut self, line: &str) {
-        let _ = self.bytes.extend_from_slice(line.as_bytes());
+        if self.bytes.extend_from_slice(line.as_bytes()).is_err() {
+            self.lose();
+        }
+    }
+
+    fn lose(&mut self) {
+        self.lost = self.lost.saturating_add(1);
     }
 }

@@ -3,7 +3,7 @@ use Rattle.std.specs.Prelude.{Bool, true, false}
 use Rattle.zr_port.specs.declared.error.DeliverError.{DeliverError}
 use Rattle.zr_port.specs.declared.error.DeliverError.TheVariants as deliver
 
--- all but those by the router itself: none of them may turn into want of memory
+-- all but those by the router itself: none of them may turn into out of memory
 abbrev pub is_judged : DeliverError → Bool
 is_judged (deliver.NotUp link) = true
 is_judged (deliver.Misplaced role) = true

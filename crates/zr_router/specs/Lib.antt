@@ -9,3 +9,4 @@ pub mod Words
 pub mod Failures
 pub mod Runs
 pub mod Glance
+pub mod Former

@@ -223,13 +223,23 @@ impl<B: Naming, R: Wait + Drop> Port for Router<B, R> {
 
 impl<B: Naming, R: Wait + Drop> Glancing for Router<B, R> {
     ghost use Rattle.zr_router_queue.specs.Tables as tables;
+    ghost use Rattle.zr_router.specs.Former as former;
     ghost use Rattle.zr_router.specs.Glance as glances;
 
     ghost glance_of = { λ _ h. glances.glance (tables.replay B.me h).hub.node };
 
+    ghost was_used = { λ _ h. former.was_used B.me h };
+
     fn glance(&self, pass: &mut Pass<Entry>) -> Result<Glance, AllocError> {
         let mut tables = self.tables.lock(&self.rt);
         let result = tables.glance(self.alloc, &self.history, pass);
+        drop(tables);
+        result
+    }
+
+    fn was_used_before(&self, pass: &mut Pass<Entry>) -> bool {
+        let mut tables = self.tables.lock(&self.rt);
+        let result = tables.was_used_before(&self.history, pass);
         drop(tables);
         result
     }

@@ -24,6 +24,7 @@ ghost use Rattle.zr_router_queue.specs.History.{is_legal};
 ghost use Rattle.zr_router_queue.specs.Tables.{is_up, new_queue, replay};
 ghost use Rattle.zr_router.specs.Allowed.{are_allowed, is_allowed};
 ghost use Rattle.zr_router.specs.Failures.{HasFailed};
+ghost use Rattle.zr_router.specs.Former.{brings_former, was_used};
 ghost use Rattle.zr_router.specs.Glance.{glance};
 ghost use Rattle.zr_router.specs.Handled.{IsHandled};
 ghost use Rattle.zr_router.specs.Ended.{HasEnded};
@@ -36,6 +37,7 @@ ghost use Rattle.zr_router.specs.Refusals.{RefusesDown, RefusesMessage, RefusesU
 use crate::admit::{MOST_SESSIONS, node_refusal, refuses_down, refuses_message, refuses_peer};
 use crate::ends::{closing_of, taken_out};
 use crate::failure::Failure;
+use crate::former::tells_former;
 use std::alloc::{AllocError, Global};
 use std::marker::PhantomData;
 use std::vec;
@@ -79,6 +81,8 @@ pub struct Tables<B: Naming> {
     rest_ms: u64,
     // whether a writer is to be woken at once, since the last event leaves its ring half full
     presses: bool,
+    // whether the router has heard that its identifier was in use before
+    used_before: bool,
     is_spent: bool,
     of: PhantomData<B>,
     ghost named: { kept_name kept ≡ B.history },
@@ -86,6 +90,7 @@ pub struct Tables<B: Naming> {
     ghost ruled: { policy ≡ B.policy },
     ghost legal: { is_legal B.me (list_of kept) ≡ true },
     ghost allowed: { are_allowed B.policy B.me (list_of kept) ≡ true },
+    ghost used: { used_before ≡ was_used B.me (list_of kept) },
     ghost replayed: { is_spent ≡ false → IsReplay B.me (list_of kept) hub ends.items } by { IsReplay-prop is_spent B.me (list_of kept) hub ends.items },
     ghost spelled: { is_spent ≡ false → HoldsSpelled hub.node.held } by { HoldsSpelled-prop is_spent hub.node.held },
 }
@@ -102,6 +107,7 @@ impl<B: Naming> Drop for Tables<B> {
             due: _due,
             rest_ms: _rest_ms,
             presses: _presses,
+            used_before: _used_before,
             is_spent: _is_spent,
             of: _of,
         } = self;
@@ -122,6 +128,8 @@ struct Arrival {
     event: Event,
     outbox: Option<Outbox>,
     reason: Option<u8>,
+    // whether it tells that the router's identifier was in use before
+    is_former: bool,
 }
 
 impl<B: Naming> Tables<B> {
@@ -149,6 +157,7 @@ impl<B: Naming> Tables<B> {
             due: 0,
             rest_ms: 0,
             presses: false,
+            used_before: false,
             is_spent: false,
             of: PhantomData,
         })
@@ -190,6 +199,7 @@ impl<B: Naming> Tables<B> {
             drop(msg);
             return Err(refused);
         }
+        let is_former = tells_former(self.hub.base(), &msg);
         let event = Event::From { link, msg };
         let sent = match self.handle(alloc, &event) {
             Ok(sent) => sent,
@@ -206,6 +216,7 @@ impl<B: Naming> Tables<B> {
             event,
             outbox: None,
             reason: None,
+            is_former,
         };
         match self.enter(alloc, history, pass, arrival, sent.as_slice()) {
             Ok(()) => {
@@ -368,6 +379,7 @@ impl<B: Naming> Tables<B> {
             event,
             outbox: Some(outbox),
             reason: None,
+            is_former: false,
         };
         match self.enter(alloc, history, pass, arrival, sent.as_slice()) {
             Ok(()) => {
@@ -434,6 +446,7 @@ impl<B: Naming> Tables<B> {
             event,
             outbox: None,
             reason,
+            is_former: false,
         };
         let Ok(()) = self.enter(alloc, history, pass, arrival, sent.as_slice()) else {
             drop(sent);
@@ -485,6 +498,22 @@ impl<B: Naming> Tables<B> {
             return Err(AllocError);
         };
         glance_of(alloc, &self.hub)
+    }
+
+    /// Whether the router has heard, by all that has happened, that its identifier was in use before. Nothing changes.
+    pub fn was_used_before(&mut self, history: &History<Entry>, pass: &mut Pass<Entry>) -> bool
+        requires history { name history.now ≡ B.history }
+        requires pass { pass_name pass.old ≡ B.history }
+        ensures same { IsSamePass pass.old pass.new × (mine pass.new ≡ mine pass.old) }
+        ensures prefix { IsPrefix (seen pass.old) (seen pass.new) }
+        ensures seen { seen pass.new ≡ entries self.new }
+        ensures legal { is_legal B.me (seen pass.new) ≡ true }
+        ensures allowed { are_allowed B.policy B.me (seen pass.new) ≡ true }
+        ensures unchanged { (entries self.new ≡ entries self.old) × (is_spent self.new ≡ is_spent self.old) × (open_links self.new ≡ open_links self.old) }
+        ensures told { result ≡ was_used B.me (seen pass.new) }
+    {
+        let _ = self.look(history, pass); // what was heard before memory ran out was heard
+        self.used_before
     }
 
     // The end of a link that has come up is the last one.
@@ -566,6 +595,7 @@ impl<B: Naming> Tables<B> {
         requires pass { pass_name pass.old ≡ B.history }
         requires spent { self.old.is_spent ≡ true }
         requires allowed { is_allowed B.policy (replay B.me (list_of self.old.kept)).hub.node arrival.event ≡ true }
+        requires former { arrival.is_former ≡ brings_former (replay B.me (list_of self.old.kept)).hub.node arrival.event }
         requires handled { IsHandled B.me (list_of self.old.kept) self.old.hub self.old.ends.items arrival.event arrival.outbox arrival.reason sent.now }
         ensures same { IsSamePass pass.old pass.new }
         ensures added { OnOk result ((e : Entry) × IsEntryOf arrival.event arrival.outbox arrival.reason e × (list_of self.new.kept ≡ list_of self.old.kept ++ e ∷ []) × (mine pass.new ≡ mine pass.old ++ e ∷ []) × (seen pass.new ≡ list_of self.new.kept) × GoesByRings B.me (list_of self.old.kept) e self.old.ends.items self.new.ends.items) }
@@ -577,12 +607,14 @@ impl<B: Naming> Tables<B> {
             event,
             outbox,
             reason,
+            is_former,
         } = arrival;
         let entry = prepare(alloc, ends, sent, event, outbox, reason)?;
         let rest_ms = rest_for(ends);
         let presses = ends.iter().any(|end| end.is_half_full());
         enter(history, &mut self.kept, pass, self.me, ends, &entry);
         drop(entry);
+        self.used_before = self.used_before || is_former;
         self.is_spent = false;
         self.due |= due_of(sent);
         self.rest_ms = rest_ms;

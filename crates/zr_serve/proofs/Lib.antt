@@ -3,3 +3,4 @@ pub mod Stepping
 pub mod Reaching
 pub mod Served
 pub mod Opening
+pub mod Former

@@ -21,6 +21,10 @@ use Rattle.zr_serve.specs.Jobs.{LinksState, next_job, with_next}
 use Rattle.zr_serve.specs.Lines.{dial_text, serving_text, accept_text}
 use Rattle.zr_serve.specs.Moments.{Moment, moment, Serves, BreaksOff}
 use Rattle.zr_serve.specs.Serving.{Goes, Stops, Accepts, Dials, Outputs, CutsOff, Comes, Says, listening}
+use Rattle.zr_serve.specs.Former.{Uses}
+use Rattle.zr_serve.specs.Unsaid.{end_of_unsaid}
+use Rattle.zr_serve.specs.declared.lines.Unsaid.{Unsaid}
+use Rattle.zr_serve.specs.declared.lines.Unsaid.TheVariants.{Fault, NoMemory}
 use Rattle.zr_serve.specs.declared.end.ServeEnd.{ServeEnd}
 use Rattle.zr_serve.specs.declared.end.ServeEnd.TheVariants as e
 use Rattle.zr_serve.proofs.Stepping.{records_one, starts_none, serves_none, serves_both, breaks_both, whole_is_part}
@@ -181,6 +185,16 @@ goes_on_to a b c e.WriteFault p q = absurd q
 pub goes_spent : (a b c : Moment) → Goes a b → (answer : Answer) × IsGoing answer × Serves (accepts (answer ∷ [])) b c → Accepts e.NoMemory a c
 goes_spent a b c p q = let r = goes_more a b c p q in (r.answers, r.going, r.serves)
 
+-- what the next links begin with is the same
+pub goes_same : (a : Moment) (calls : Option (List Call)) (told : Option (List ServeJob)) (faults : ℕ) (held : Option (List ℕ)) (l l' : LinksState) → l' ≡ l
+    → Goes a (moment calls told faults held l) → Goes a (moment calls told faults held l')
+goes_same a calls told faults held l l' same p = subst (λ z. Goes a (moment calls told faults held z)) (sym same) p
+
+-- a line could not be written between two accepts
+pub goes_unsaid : (a b : Moment) (u : Unsaid) → Goes a b → Accepts (end_of_unsaid u) a b
+goes_unsaid a b Fault p = (p.answers, p.going, p.serves)
+goes_unsaid a b NoMemory p = (p.answers, p.going, p.serves)
+
 -- ---- dialling goes on
 
 -- an element of a list, between those before it and those behind it
@@ -243,60 +257,76 @@ listened address is calls mid told faults held l recorded = record {
 }
 
 module _ (id address : List ℕ) (texts : List DialState) (a m n : Moment) (o p : Outputs) (listens : Serves (listen_call address true ∷ []) a m) where
-  pub cut_off_dialling : (gave : List Bool) × BreaksOff (dials texts gave) m n → AppendsPrefix (serving_text id) o.out p.out → CutsOff id address texts a n o p
-  cut_off_dialling q said = record {
-    made = listen_call address true ∷ dials texts q.0;
-    ends = record {
-      gave = q.0;
-      answers = [];
-      going = All-nil IsGoing;
-      order = inl refl;
-      calls_are = ap (λ z. listen_call address true ∷ z) (sym (append-nil (dials texts q.0)));
-    };
-    breaks = breaks_both (listen_call address true ∷ []) (dials texts q.0) a m n listens q.1;
-    said = said;
-  }
+  pub cut_off_dialling : (gave : List Bool) × BreaksOff (dials texts gave) m n → AppendsPrefix (serving_text id) o.out p.out → (c : CutsOff id address texts a n o p) × (c.ends.answers ≡ [])
+  cut_off_dialling q said = (
+    record {
+      made = listen_call address true ∷ dials texts q.0;
+      ends = record {
+        gave = q.0;
+        answers = [];
+        going = All-nil IsGoing;
+        order = inl refl;
+        calls_are = ap (λ z. listen_call address true ∷ z) (sym (append-nil (dials texts q.0)));
+      };
+      breaks = breaks_both (listen_call address true ∷ []) (dials texts q.0) a m n listens q.1;
+      said = said;
+    },
+    refl,
+  )
 
   module _ (b : Moment) (dialled : (gave : List Bool) × (length gave ≡ length texts) × Serves (dials texts gave) m n) where
     over : (answers : List Answer) → Serves (accepts answers) n b → Serves (listening address texts dialled.0 answers) a b
     over answers q = serves_both (listen_call address true ∷ []) _ a m b listens (serves_both (dials texts dialled.0) (accepts answers) m n b dialled.2 q)
 
-    pub comes : (end : ServeEnd) → Accepts end n b → Appends (serving_text id) o.out p.out → (end ≡ e.HostFault → Says accept_text b.held p.err o.faults p.faults)
-        → ((end ≡ e.HostFault → ⊥) → b.held ≡ p.err) → Comes end id address texts a b o p
-    comes e.Done q said last same = (
+    -- `held` is what the error output held once it accepted no more
+    pub comes : (Heard : Bool → Type 0) (held : Option (List ℕ)) (end : ServeEnd) → Accepts end n b → Uses end Heard id b.held held → Appends (serving_text id) o.out p.out
+        → (end ≡ e.HostFault → Says accept_text held p.err o.faults p.faults) → ((end ≡ e.HostFault → ⊥) → held ≡ p.err) → Comes end Heard id address texts a b o p
+    comes Heard held e.Done q told said last same = (
       record {
         made = listening address texts dialled.0 (q.0 ++ answer.End ∷ []);
         ends = record { gave = dialled.0; answers = q.0; all = dialled.1; going = q.1; calls_are = refl };
         serves = over (q.0 ++ answer.End ∷ []) q.2;
         said = said;
       },
-      same no_fault,
+      subst (λ z. Uses e.Done Heard id b.held z) (same no_fault) told,
     )
       where
         no_fault : e.Done ≡ e.HostFault → ⊥
         no_fault same_end = cc same_end
-    comes e.HostFault q said last same = record {
+    comes Heard held e.HostFault q told said last same = record {
       made = listening address texts dialled.0 (q.0 ++ answer.Failed ∷ []);
       text = serving_text id;
+      held = held;
       line = accept_text;
-      fails = inr (record { gave = dialled.0; answers = q.0; all = dialled.1; going = q.1; calls_are = refl }, refl, refl);
+      fails = inr (record { gave = dialled.0; answers = q.0; all = dialled.1; going = q.1; calls_are = refl }, refl, told, refl);
       serves = over (q.0 ++ answer.Failed ∷ []) q.2;
       said = said;
       told = last refl;
     }
-    comes e.NoMemory q said last same = (
+    comes Heard held e.NoMemory q told said last same = (
       record {
         made = listening address texts dialled.0 q.0;
         ends = record { gave = dialled.0; answers = q.0; going = q.1; order = inr dialled.1; calls_are = refl };
         breaks = whole_is_part _ a b (over q.0 q.2);
         said = prefix_whole (serving_text id) o.out p.out said;
       },
-      same no_fault,
+      inr (subst (λ z. Uses e.NoMemory Heard id b.held z) (same no_fault) told),
     )
       where
         no_fault : e.NoMemory ≡ e.HostFault → ⊥
         no_fault same_end = cc same_end
-    comes e.WriteFault q said last same = absurd q
+    comes Heard held e.WriteFault q told said last same = (
+      record {
+        made = listening address texts dialled.0 q.0;
+        ends = record { gave = dialled.0; answers = q.0; going = q.1; order = inr dialled.1; calls_are = refl };
+        breaks = whole_is_part _ a b (over q.0 q.2);
+        said = prefix_whole (serving_text id) o.out p.out said;
+      },
+      inr (subst (λ z. Uses e.WriteFault Heard id b.held z) (same no_fault) told),
+    )
+      where
+        no_fault : e.WriteFault ≡ e.HostFault → ⊥
+        no_fault same_end = cc same_end
 
 -- ---- the same over a list of other things, each with its text
 

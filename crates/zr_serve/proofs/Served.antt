@@ -1,9 +1,10 @@
 -- Serving as a whole, return by return.
-use Rattle.std.proofs.Common.{arith, le_refl, ◌≡◌, ◌⊎◌, ℕ, ◌<◌, ◌≤◌, Bool, true, false, List, [], ◌∷◌, ◌++◌, length, Option, refl, sym, ap, subst, inl, inr}
+use Rattle.std.proofs.Common.{arith, le_refl, ◌≡◌, ◌⊎◌, ℕ, ◌<◌, ◌≤◌, Bool, true, false, List, [], ◌∷◌, ◌++◌, length, Option, Some, None, refl, sym, ap, ◌∙◌, subst, inl, inr}
 use Rattle.std.proofs.lemmas.Bool.{false≢true, true≢false}
 use Rattle.std.proofs.lemmas.List.Elements.{All-nil}
 use Rattle.rand_core.specs.Stream.{Stream}
 use Rattle.zr_access.specs.Rules.{PolicyState}
+use Rattle.zr_outside.proofs.Counting.{rose_not}
 use Rattle.zr_outside.specs.Counts.{Rose}
 use Rattle.zr_outside.specs.Host as host
 use Rattle.zr_outside.specs.Told.{Appends, AppendsPrefix}
@@ -17,10 +18,11 @@ use Rattle.zr_serve.specs.declared.lines.Unsaid.{Unsaid}
 use Rattle.zr_serve.specs.declared.lines.Unsaid.TheVariants.{Fault, NoMemory}
 use Rattle.zr_serve.specs.Calls.{listen_call, dials, IsGoing}
 use Rattle.zr_dial.specs.Dial.{DialState}
+use Rattle.zr_serve.specs.Former.{Uses}
 use Rattle.zr_serve.specs.Jobs.{LinksState, first_links}
 use Rattle.zr_serve.specs.Lines.{serving_text, no_words_text, listen_text, accept_text}
 use Rattle.zr_serve.specs.Moments.{Moment, moment, Serves, BreaksOff}
-use Rattle.zr_serve.specs.Serving.{Says, Outputs, outputs, CutsOff, Comes, IsServed, IsServedFrom, EndsBefore, Accepts}
+use Rattle.zr_serve.specs.Serving.{Says, Outputs, outputs, CutsOff, Comes, Drew, DrewNone, IsServed, IsServedFrom, EndsBefore, Accepts}
 use Rattle.zr_serve.specs.Space.{Space, Begins}
 use Rattle.zr_serve.specs.Unsaid.{end_of_unsaid}
 use Rattle.zr_serve.proofs.Reaching.{listened, rose_later, cut_off_dialling, comes}
@@ -51,20 +53,23 @@ pub rose_either : (a b c f g : ℕ) → f ≤ g → Rose a b ⊎ Rose g c → Ro
 rose_either a b c f g le (inl out) = inl out
 rose_either a b c f g le (inr err) = inr (rose_later f g c le err)
 
--- a count that stood still didn't rise
-pub rose_not : (a b : ℕ) → b ≡ a → a < b → ⊥
-rose_not a b same rose = omega arith
-
 -- where neither count has changed
 pub none_rose : {A B : Type 0} (a b : ℕ) → (a < a → A) × (b < b → B)
-none_rose a b = (λ rose. absurd (rose_not a a refl rose), λ rose. absurd (rose_not b b refl rose))
+none_rose a b = (λ rose. rose_not a a refl rose, λ rose. rose_not b b refl rose)
 
--- where a count rose that stands still but for one end, that is the end
-pub ends_by_writes : (end : ServeEnd) (a b : ℕ) → ((end ≡ e.HostFault → ⊥) → b ≡ a) → a < b → end ≡ e.HostFault
-ends_by_writes e.HostFault a b still rose = refl
-ends_by_writes e.Done a b still rose = absurd (rose_not a b (still (λ it. cc it)) rose)
-ends_by_writes e.NoMemory a b still rose = absurd (rose_not a b (still (λ it. cc it)) rose)
-ends_by_writes e.WriteFault a b still rose = absurd (rose_not a b (still (λ it. cc it)) rose)
+-- a count that never fell, rose and never fell
+pub rose_on : (a b c d : ℕ) → a ≤ b → Rose b c → c ≤ d → Rose a d
+rose_on a b c d le rose le_too = omega arith
+
+risen : (a b c d : ℕ) → b ≡ a → d ≡ c → a < d → b < c
+risen a b c d same still rose = omega arith
+
+-- where a count rose that rises by one end while links are accepted and by another one behind that, it is one of the two
+pub ends_by_either : (end : ServeEnd) (a b c d : ℕ) → b ≡ a → (b < c → end ≡ e.WriteFault) → ((end ≡ e.HostFault → ⊥) → d ≡ c) → a < d → (end ≡ e.WriteFault) ⊎ (end ≡ e.HostFault)
+ends_by_either e.HostFault a b c d same only still rose = inr refl
+ends_by_either e.WriteFault a b c d same only still rose = inl refl
+ends_by_either e.Done a b c d same only still rose = inl (only (risen a b c d same (still (λ it. cc it)) rose))
+ends_by_either e.NoMemory a b c d same only still rose = inl (only (risen a b c d same (still (λ it. cc it)) rose))
 
 no_stream : Stream
 no_stream = record { u32_after = λ calls. 0; u64_after = λ calls. 0; bytes_after = λ calls n. [] }
@@ -74,23 +79,24 @@ no_dials [] = refl
 no_dials (x ∷ texts) = refl
 
 -- what was said and failed before doesn't matter for how serving goes
-comes_later : (end : ServeEnd) (id address : List ℕ) (texts : List DialState) (a b : Moment) (o q p : Outputs) → q.out ≡ o.out → o.faults ≤ q.faults
-    → Comes end id address texts a b q p → Comes end id address texts a b o p
-comes_later e.Done id address texts a b o q p same later (done, held) =
-    (record { made = done.made; ends = done.ends; serves = done.serves; said = subst (λ z. Appends (serving_text id) z p.out) same done.said }, held)
-comes_later e.HostFault id address texts a b o q p same later fails = record {
+comes_later : (end : ServeEnd) (Heard : Bool → Type 0) (id address : List ℕ) (texts : List DialState) (a b : Moment) (o q p : Outputs) → q.out ≡ o.out → o.faults ≤ q.faults
+    → Comes end Heard id address texts a b q p → Comes end Heard id address texts a b o p
+comes_later e.Done Heard id address texts a b o q p same later (done, told) =
+    (record { made = done.made; ends = done.ends; serves = done.serves; said = subst (λ z. Appends (serving_text id) z p.out) same done.said }, told)
+comes_later e.HostFault Heard id address texts a b o q p same later fails = record {
   made = fails.made;
   text = fails.text;
+  held = fails.held;
   line = fails.line;
   fails = fails.fails;
   serves = fails.serves;
   said = subst (λ z. Appends fails.text z p.out) same fails.said;
-  told = says_later fails.line b.held p.err o.faults q.faults p.faults later fails.told;
+  told = says_later fails.line fails.held p.err o.faults q.faults p.faults later fails.told;
 }
-comes_later e.NoMemory id address texts a b o q p same later (cut, held) =
-    (record { made = cut.made; ends = cut.ends; breaks = cut.breaks; said = subst (λ z. AppendsPrefix (serving_text id) z p.out) same cut.said }, held)
-comes_later e.WriteFault id address texts a b o q p same later (cut, held) =
-    (record { made = cut.made; ends = cut.ends; breaks = cut.breaks; said = subst (λ z. AppendsPrefix (serving_text id) z p.out) same cut.said }, held)
+comes_later e.NoMemory Heard id address texts a b o q p same later (cut, told) =
+    (record { made = cut.made; ends = cut.ends; breaks = cut.breaks; said = subst (λ z. AppendsPrefix (serving_text id) z p.out) same cut.said }, told)
+comes_later e.WriteFault Heard id address texts a b o q p same later (cut, told) =
+    (record { made = cut.made; ends = cut.ends; breaks = cut.breaks; said = subst (λ z. AppendsPrefix (serving_text id) z p.out) same cut.said }, told)
 
 -- ---- before it listens
 
@@ -101,40 +107,60 @@ pub without_words : (admin : Bool) (calls calls' : Option (List Call)) (told : O
 without_words admin calls calls' told faults out err err' errs errs' same says =
     record { recorded = same; started = refl; counted = le_refl _; unsaid = refl; tells = says }
 
-module _ (end : ServeEnd) (id : List ℕ) (policy : PolicyState) (log admin : Bool) (Opened Refused : ℕ → Type 0) (address : List ℕ) (texts : List DialState)
-    (calls calls' : Option (List Call)) (told told' : Option (List ServeJob)) (faults faults' : ℕ) (o p : Outputs) where
-  pub ended_before : EndsBefore end admin calls calls' told told' faults faults' o p → IsServed end id policy log admin Opened Refused address texts calls calls' told told' faults faults' o p
-  ended_before before = record { words = no_stream; goes = inr before }
+-- what a host that was asked gave: none, or a generator, and nothing more since
+none_drawn : {W : Type 0} (stream : W → Stream) (left left' : Option (List Stream)) → host.Draws stream None left left' → DrewNone left left'
+none_drawn stream None left' drawn = tt
+none_drawn stream (Some left) left' (none, after) = after ∙ ap Some (sym none)
+
+one_drawn : {W : Type 0} (stream : W → Stream) (w : W) (left mid left' : Option (List Stream)) → host.Draws stream (Some w) left mid → left' ≡ mid → Drew (stream w) left left'
+one_drawn stream w None mid left' drawn same = tt
+one_drawn stream w (Some left) mid left' (rest, is, after) same = (rest, is, same ∙ after)
+
+kept_drawn : (left : Option (List Stream)) → DrewNone left left
+kept_drawn None = tt
+kept_drawn (Some left) = refl
+
+module _ (end : ServeEnd) (id : List ℕ) (policy : PolicyState) (log admin : Bool) (Opened Refused : ℕ → Type 0) (Heard : Bool → Type 0) (address : List ℕ) (texts : List DialState)
+    (left left' : Option (List Stream)) (calls calls' : Option (List Call)) (told told' : Option (List ServeJob)) (faults faults' : ℕ) (o p : Outputs) where
+  pub ended_before : {W : Type 0} (stream : W → Stream) → host.Draws stream None left left' → EndsBefore end admin calls calls' told told' faults faults' o p
+      → IsServed end id policy log admin Opened Refused Heard address texts left left' calls calls' told told' faults faults' o p
+  ended_before stream drawn before = record { words = no_stream; goes = inr (inr (none_drawn stream left left' drawn), before) }
 
   -- it ended while it dealt with its administration space, once it had random words
-  pub ended_within : (mid : Option (List Call)) → mid ≡ calls → EndsBefore end admin mid calls' told told' faults faults' o p
-      → IsServed end id policy log admin Opened Refused address texts calls calls' told told' faults faults' o p
-  ended_within mid same before = ended_before (subst (λ z. EndsBefore end admin z calls' told told' faults faults' o p) same before)
+  pub ended_within : {W : Type 0} (stream : W → Stream) (w : W) (drew : Option (List Stream)) (mid : Option (List Call)) → host.Draws stream (Some w) left drew → left' ≡ drew → mid ≡ calls
+      → EndsBefore end admin mid calls' told told' faults faults' o p
+      → IsServed end id policy log admin Opened Refused Heard address texts left left' calls calls' told told' faults faults' o p
+  ended_within stream w drew mid drawn undrawn same before =
+      record { words = stream w; goes = inr (inl (one_drawn stream w left drew left' drawn undrawn), subst (λ z. EndsBefore end admin z calls' told told' faults faults' o p) same before) }
 
   -- something became of its administration space, and it was served from there
-  pub passed : (s : Stream) (l m : LinksState) (mid between : Option (List Call)) (started : Option (List ServeJob)) (lost : ℕ) (held : Option (List ℕ)) (q : Outputs)
-      → l ≡ first_links id policy log s → mid ≡ calls
+  pub passed : {W : Type 0} (stream : W → Stream) (w : W) (drew : Option (List Stream)) → host.Draws stream (Some w) left drew → left' ≡ drew → (l m : LinksState) (mid between : Option (List Call)) (started : Option (List ServeJob)) (lost : ℕ) (held : Option (List ℕ)) (q : Outputs)
+      → l ≡ first_links id policy log (stream w) → mid ≡ calls
       → (space : Space) × Begins admin Opened Refused space (moment mid told faults o.err l) (moment between started lost held m)
       → q.out ≡ o.out → o.faults ≤ q.faults
-      → IsServedFrom end id address texts (moment between started lost held m) calls' told' faults' q p
-      → IsServed end id policy log admin Opened Refused address texts calls calls' told told' faults faults' o p
-  passed s l m mid between started lost held q links same begun unsaid later served = record {
-    words = s;
-    goes = inl (record {
-      space = begun.0;
-      between = moment between started lost held m;
-      begins = subst (λ z. Begins admin Opened Refused begun.0 (moment z told faults o.err (first_links id policy log s)) (moment between started lost held m)) same
-          (subst (λ z. Begins admin Opened Refused begun.0 (moment mid told faults o.err z) (moment between started lost held m)) links begun.1);
-      served = record { held = served.held; links = served.links; comes = comes_later end id address texts _ _ o q p unsaid later served.comes };
-    });
+      → IsServedFrom end Heard id address texts (moment between started lost held m) calls' told' faults' q p
+      → IsServed end id policy log admin Opened Refused Heard address texts left left' calls calls' told told' faults faults' o p
+  passed stream w drew drawn undrawn l m mid between started lost held q links same begun unsaid later served = record {
+    words = stream w;
+    goes = inl (
+      one_drawn stream w left drew left' drawn undrawn,
+      record {
+        space = begun.0;
+        between = moment between started lost held m;
+        begins = subst (λ z. Begins admin Opened Refused begun.0 (moment z told faults o.err (first_links id policy log (stream w))) (moment between started lost held m)) same
+            (subst (λ z. Begins admin Opened Refused begun.0 (moment mid told faults o.err z) (moment between started lost held m)) links begun.1);
+        served = record { held = served.held; links = served.links; comes = comes_later end Heard id address texts _ _ o q p unsaid later served.comes };
+      },
+    );
   }
 
 -- ---- from the moment on at which it comes to listen
 
-module _ (id : List ℕ) (l : LinksState) (address : List ℕ) (texts : List DialState) (calls calls' : Option (List Call)) (told : Option (List ServeJob)) (faults : ℕ) (out : Option (List ℕ)) where
+module _ (Heard : Bool → Type 0) (id : List ℕ) (l : LinksState) (address : List ℕ) (texts : List DialState) (calls calls' : Option (List Call)) (told : Option (List ServeJob)) (faults : ℕ)
+    (out : Option (List ℕ)) where
   pub deaf : (is : Bool) (err err' : Option (List ℕ)) (errs errs' : ℕ) → host.Records (Listen address is) calls calls' → is ≡ false
       → Says (listen_text address) err err' errs errs'
-      → IsServedFrom e.HostFault id address texts (moment calls told faults err l) calls' told faults (outputs out err errs) (outputs out err' errs')
+      → IsServedFrom e.HostFault Heard id address texts (moment calls told faults err l) calls' told faults (outputs out err errs) (outputs out err' errs')
   deaf true err err' errs errs' recorded no_link says = absurd (true≢false no_link)
   deaf false err err' errs errs' recorded no_link says = record {
     held = err;
@@ -142,8 +168,9 @@ module _ (id : List ℕ) (l : LinksState) (address : List ℕ) (texts : List Dia
     comes = record {
       made = listen_call address false ∷ [];
       text = [];
+      held = err;
       line = listen_text address;
-      fails = inl (refl, refl, refl);
+      fails = inl (refl, refl, refl, refl);
       serves = listened address false calls calls' told faults err l recorded;
       said = appends_none out;
       told = says;
@@ -157,10 +184,10 @@ hears : (address : List ℕ) (is : Bool) (calls calls' : Option (List Call)) (to
 hears address false calls calls' told faults err l recorded is = absurd (false≢true is)
 hears address true calls calls' told faults err l recorded is = listened address true calls calls' told faults err l recorded
 
-pub unsaid_serves : (u : Unsaid) (id : List ℕ) (l : LinksState) (address : List ℕ) (texts : List DialState) (is : Bool) (calls calls' : Option (List Call)) (told : Option (List ServeJob)) (faults : ℕ)
+pub unsaid_serves : (Heard : Bool → Type 0) (u : Unsaid) (id : List ℕ) (l : LinksState) (address : List ℕ) (texts : List DialState) (is : Bool) (calls calls' : Option (List Call)) (told : Option (List ServeJob)) (faults : ℕ)
     (out out' err : Option (List ℕ)) (errs : ℕ) → host.Records (Listen address is) calls calls' → is ≡ true → AppendsPrefix (serving_text id) out out'
-    → IsServedFrom (end_of_unsaid u) id address texts (moment calls told faults err l) calls' told faults (outputs out err errs) (outputs out' err errs)
-unsaid_serves u id l address texts is calls calls' told faults out out' err errs recorded listens part = record { held = err; links = l; comes = by u }
+    → IsServedFrom (end_of_unsaid u) Heard id address texts (moment calls told faults err l) calls' told faults (outputs out err errs) (outputs out' err errs)
+unsaid_serves Heard u id l address texts is calls calls' told faults out out' err errs recorded listens part = record { held = err; links = l; comes = by u }
   where
     a : Moment
     a = moment calls told faults err l
@@ -168,53 +195,56 @@ unsaid_serves u id l address texts is calls calls' told faults out out' err errs
     b : Moment
     b = moment calls' told faults err l
 
-    cut : CutsOff id address texts a b (outputs out err errs) (outputs out' err errs)
-    cut = record {
-      made = listen_call address true ∷ [];
-      ends = record {
-        gave = [];
-        answers = [];
-        going = All-nil IsGoing;
-        order = inl refl;
-        calls_are = ap (λ z. listen_call address true ∷ (z ++ [])) (sym (no_dials texts));
-      };
-      breaks = whole_is_part (listen_call address true ∷ []) a b (hears address is calls calls' told faults err l recorded listens);
-      said = part;
-    }
+    cut : (c : CutsOff id address texts a b (outputs out err errs) (outputs out' err errs)) × (c.ends.answers ≡ [])
+    cut = (
+      record {
+        made = listen_call address true ∷ [];
+        ends = record {
+          gave = [];
+          answers = [];
+          going = All-nil IsGoing;
+          order = inl refl;
+          calls_are = ap (λ z. listen_call address true ∷ (z ++ [])) (sym (no_dials texts));
+        };
+        breaks = whole_is_part (listen_call address true ∷ []) a b (hears address is calls calls' told faults err l recorded listens);
+        said = part;
+      },
+      refl,
+    )
 
-    by : (u : Unsaid) → Comes (end_of_unsaid u) id address texts a b (outputs out err errs) (outputs out' err errs)
-    by Fault = (cut, refl)
-    by NoMemory = (cut, refl)
+    by : (u : Unsaid) → Comes (end_of_unsaid u) Heard id address texts a b (outputs out err errs) (outputs out' err errs)
+    by Fault = (cut.0, inl (cut.1, refl))
+    by NoMemory = (cut.0, inl (cut.1, refl))
 
-cut_serves : (end : ServeEnd) (id address : List ℕ) (texts : List DialState) (is : Bool) (calls heard calls' : Option (List Call)) (told told' : Option (List ServeJob)) (faults faults' : ℕ)
+cut_serves : (Heard : Bool → Type 0) (end : ServeEnd) (id address : List ℕ) (texts : List DialState) (is : Bool) (calls heard calls' : Option (List Call)) (told told' : Option (List ServeJob)) (faults faults' : ℕ)
     (l l' : LinksState) (o p : Outputs) → host.Records (Listen address is) calls heard → is ≡ true
     → (gave : List Bool) × BreaksOff (dials texts gave) (moment heard told faults o.err l) (moment calls' told' faults' p.err l')
     → Appends (serving_text id) o.out p.out → (end ≡ e.Done → ⊥) → (end ≡ e.HostFault → ⊥)
-    → IsServedFrom end id address texts (moment calls told faults o.err l) calls' told' faults' o p
-cut_serves end id address texts is calls heard calls' told told' faults faults' l l' o p recorded listens broken said not_done not_host =
+    → IsServedFrom end Heard id address texts (moment calls told faults o.err l) calls' told' faults' o p
+cut_serves Heard end id address texts is calls heard calls' told told' faults faults' l l' o p recorded listens broken said not_done not_host =
     record { held = p.err; links = l'; comes = by end not_done not_host }
   where
-    cut : CutsOff id address texts (moment calls told faults o.err l) (moment calls' told' faults' p.err l') o p
+    cut : (c : CutsOff id address texts (moment calls told faults o.err l) (moment calls' told' faults' p.err l') o p) × (c.ends.answers ≡ [])
     cut = cut_off_dialling id address texts _ (moment heard told faults o.err l) _ o p (hears address is calls heard told faults o.err l recorded listens) broken (prefix_whole _ o.out p.out said)
 
     by : (end : ServeEnd) → (end ≡ e.Done → ⊥) → (end ≡ e.HostFault → ⊥)
-        → Comes end id address texts (moment calls told faults o.err l) (moment calls' told' faults' p.err l') o p
+        → Comes end Heard id address texts (moment calls told faults o.err l) (moment calls' told' faults' p.err l') o p
     by e.Done d h = absurd (d refl)
     by e.HostFault d h = absurd (h refl)
-    by e.NoMemory d h = (cut, refl)
-    by e.WriteFault d h = (cut, refl)
+    by e.NoMemory d h = (cut.0, inl (cut.1, refl))
+    by e.WriteFault d h = (cut.0, inl (cut.1, refl))
 
-whole_serves : (end : ServeEnd) (id address : List ℕ) (texts : List DialState) (is : Bool) (calls heard dialled calls' : Option (List Call)) (told told' told'' : Option (List ServeJob))
-    (faults faults' faults'' : ℕ) (held : Option (List ℕ)) (errs : ℕ) (l l' l'' : LinksState) (o p : Outputs) → host.Records (Listen address is) calls heard → is ≡ true
+whole_serves : (Heard : Bool → Type 0) (end : ServeEnd) (id address : List ℕ) (texts : List DialState) (is : Bool) (calls heard dialled calls' : Option (List Call)) (told told' told'' : Option (List ServeJob))
+    (faults faults' faults'' : ℕ) (held held' : Option (List ℕ)) (errs : ℕ) (l l' l'' : LinksState) (o p : Outputs) → host.Records (Listen address is) calls heard → is ≡ true
     → (gave : List Bool) × (length gave ≡ length texts) × Serves (dials texts gave) (moment heard told faults o.err l) (moment dialled told' faults' held l')
-    → Accepts end (moment dialled told' faults' held l') (moment calls' told'' faults'' held l'')
-    → Appends (serving_text id) o.out p.out → o.faults ≤ errs → (end ≡ e.HostFault → Says accept_text held p.err errs p.faults) → ((end ≡ e.HostFault → ⊥) → p.err ≡ held)
-    → IsServedFrom end id address texts (moment calls told faults o.err l) calls' told'' faults'' o p
-whole_serves end id address texts is calls heard dialled calls' told told' told'' faults faults' faults'' held errs l l' l'' o p recorded listens gave accepted said later last quiet = record {
+    → Accepts end (moment dialled told' faults' held l') (moment calls' told'' faults'' held l'') → Uses end Heard id held held'
+    → Appends (serving_text id) o.out p.out → o.faults ≤ errs → (end ≡ e.HostFault → Says accept_text held' p.err errs p.faults) → ((end ≡ e.HostFault → ⊥) → p.err ≡ held')
+    → IsServedFrom end Heard id address texts (moment calls told faults o.err l) calls' told'' faults'' o p
+whole_serves Heard end id address texts is calls heard dialled calls' told told' told'' faults faults' faults'' held held' errs l l' l'' o p recorded listens gave accepted used said later last quiet = record {
   held = held;
   links = l'';
-  comes = comes id address texts _ (moment heard told faults o.err l) _ o p (hears address is calls heard told faults o.err l recorded listens) (moment calls' told'' faults'' held l'') gave end accepted said
-      (λ it. says_later _ _ _ o.faults errs p.faults later (last it)) (λ not. sym (quiet not));
+  comes = comes id address texts _ (moment heard told faults o.err l) _ o p (hears address is calls heard told faults o.err l recorded listens) (moment calls' told'' faults'' held l'') gave
+      Heard held' end accepted used said (λ it. says_later _ _ _ o.faults errs p.faults later (last it)) (λ not. sym (quiet not));
 }
 
 -- ---- the same, where the address is at hand under another name, and what is dialled too
@@ -222,36 +252,30 @@ whole_serves end id address texts is calls heard dialled calls' told told' told'
 named_listen : (shown address : List ℕ) (is : Bool) (a b : Option (List Call)) → shown ≡ address → host.Records (Listen shown is) a b → host.Records (Listen address is) a b
 named_listen shown address is a b e recorded = subst (λ z. host.Records (Listen z is) a b) e recorded
 
-pub cut_serves_at : (named xs : List DialState) (shown address : List ℕ) (end : ServeEnd) (id : List ℕ) (is : Bool) (calls heard calls' : Option (List Call))
+pub cut_serves_at : (Heard : Bool → Type 0) (named xs : List DialState) (shown address : List ℕ) (end : ServeEnd) (id : List ℕ) (is : Bool) (calls heard calls' : Option (List Call))
     (told told' : Option (List ServeJob)) (faults faults' : ℕ) (l l' : LinksState) (o p : Outputs) → named ≡ xs → shown ≡ address → host.Records (Listen shown is) calls heard → is ≡ true
     → (gave : List Bool) × BreaksOff (dials named gave) (moment heard told faults o.err l) (moment calls' told' faults' p.err l')
     → Appends (serving_text id) o.out p.out → (end ≡ e.Done → ⊥) → (end ≡ e.HostFault → ⊥)
-    → IsServedFrom end id address xs (moment calls told faults o.err l) calls' told' faults' o p
-cut_serves_at named xs shown address end id is calls heard calls' told told' faults faults' l l' o p names as_shown recorded listens broken said not_done not_host =
-    cut_serves end id address xs is calls heard calls' told told' faults faults' l l' o p (named_listen shown address is calls heard as_shown recorded) listens
+    → IsServedFrom end Heard id address xs (moment calls told faults o.err l) calls' told' faults' o p
+cut_serves_at Heard named xs shown address end id is calls heard calls' told told' faults faults' l l' o p names as_shown recorded listens broken said not_done not_host =
+    cut_serves Heard end id address xs is calls heard calls' told told' faults faults' l l' o p (named_listen shown address is calls heard as_shown recorded) listens
     (subst (λ z. (gave : List Bool) × BreaksOff (dials z gave) (moment heard told faults o.err l) (moment calls' told' faults' p.err l')) names broken) said not_done not_host
 
-pub whole_serves_at : (named xs : List DialState) (shown address : List ℕ) (end : ServeEnd) (id : List ℕ) (is : Bool) (calls heard dialled calls' : Option (List Call))
-    (told told' told'' : Option (List ServeJob)) (faults faults' faults'' : ℕ) (held : Option (List ℕ)) (errs : ℕ) (l l' l'' : LinksState) (o p : Outputs) → named ≡ xs → shown ≡ address
+pub whole_serves_at : (Heard : Bool → Type 0) (named xs : List DialState) (shown address : List ℕ) (end : ServeEnd) (id : List ℕ) (is : Bool) (calls heard dialled calls' : Option (List Call))
+    (told told' told'' : Option (List ServeJob)) (faults faults' faults'' : ℕ) (held held' : Option (List ℕ)) (errs : ℕ) (l l' l'' : LinksState) (o p : Outputs) → named ≡ xs → shown ≡ address
     → host.Records (Listen shown is) calls heard → is ≡ true
     → (gave : List Bool) × (length gave ≡ length named) × Serves (dials named gave) (moment heard told faults o.err l) (moment dialled told' faults' held l')
-    → ((h : Option (List ℕ)) → Accepts end (moment dialled told' faults' h l') (moment calls' told'' faults'' h l''))
-    → Appends (serving_text id) o.out p.out → o.faults ≤ errs → (end ≡ e.HostFault → Says accept_text held p.err errs p.faults) → ((end ≡ e.HostFault → ⊥) → p.err ≡ held)
-    → IsServedFrom end id address xs (moment calls told faults o.err l) calls' told'' faults'' o p
-whole_serves_at named xs shown address end id is calls heard dialled calls' told told' told'' faults faults' faults'' held errs l l' l'' o p names as_shown recorded listens gave accepted said later last quiet =
-    whole_serves end id address xs is calls heard dialled calls' told told' told'' faults faults' faults'' held errs l l' l'' o p (named_listen shown address is calls heard as_shown recorded) listens
-    (subst (λ z. (gave : List Bool) × (length gave ≡ length z) × Serves (dials z gave) (moment heard told faults o.err l) (moment dialled told' faults' held l')) names gave) (accepted held) said later last quiet
-
-pub no_write_fault : (end : ServeEnd) (a b : Moment) → Accepts end a b → end ≡ e.WriteFault → ⊥
-no_write_fault e.WriteFault a b h it = h
-no_write_fault e.Done a b h it = cc it
-no_write_fault e.HostFault a b h it = cc it
-no_write_fault e.NoMemory a b h it = cc it
+    → ((h : Option (List ℕ)) → Accepts end (moment dialled told' faults' h l') (moment calls' told'' faults'' h l'')) → Uses end Heard id held held'
+    → Appends (serving_text id) o.out p.out → o.faults ≤ errs → (end ≡ e.HostFault → Says accept_text held' p.err errs p.faults) → ((end ≡ e.HostFault → ⊥) → p.err ≡ held')
+    → IsServedFrom end Heard id address xs (moment calls told faults o.err l) calls' told'' faults'' o p
+whole_serves_at Heard named xs shown address end id is calls heard dialled calls' told told' told'' faults faults' faults'' held held' errs l l' l'' o p names as_shown recorded listens gave accepted used said later last quiet =
+    whole_serves Heard end id address xs is calls heard dialled calls' told told' told'' faults faults' faults'' held held' errs l l' l'' o p (named_listen shown address is calls heard as_shown recorded) listens
+    (subst (λ z. (gave : List Bool) × (length gave ≡ length z) × Serves (dials z gave) (moment heard told faults o.err l) (moment dialled told' faults' held l')) names gave) (accepted held) used said later last quiet
 
 -- memory ran out before anything was called
-pub not_begun : (id : List ℕ) (policy : PolicyState) (log admin : Bool) (Opened Refused : ℕ → Type 0) (address : List ℕ) (texts : List DialState) (calls : Option (List Call)) (told : Option (List ServeJob)) (faults : ℕ) (o : Outputs)
-    → IsServed e.NoMemory id policy log admin Opened Refused address texts calls calls told told faults faults o o
-not_begun id policy log admin Opened Refused address texts calls told faults o = record {
+pub not_begun : (id : List ℕ) (policy : PolicyState) (log admin : Bool) (Opened Refused : ℕ → Type 0) (Heard : Bool → Type 0) (address : List ℕ) (texts : List DialState) (left : Option (List Stream)) (calls : Option (List Call)) (told : Option (List ServeJob)) (faults : ℕ) (o : Outputs)
+    → IsServed e.NoMemory id policy log admin Opened Refused Heard address texts left left calls calls told told faults faults o o
+not_begun id policy log admin Opened Refused Heard address texts left calls told faults o = record {
   words = no_stream;
-  goes = inr (record { recorded = refl; started = refl; counted = le_refl _; unsaid = refl; tells = refl });
+  goes = inr (inr (kept_drawn left), record { recorded = refl; started = refl; counted = le_refl _; unsaid = refl; tells = refl });
 }

@@ -6,3 +6,4 @@ pub mod Serving
 pub mod Unsaid
 pub mod Links
 pub mod Space
+pub mod Former

@@ -29,6 +29,10 @@ accept_text = codes "accept failed\n"
 abbrev pub refused_text : List ℕ
 refused_text = codes "admin refused\n"
 
+-- the router's identifier was in use before
+abbrev pub used_text : List ℕ → List ℕ
+used_text id = codes "identifier " ++ (encode_lower id ++ codes " was in use before: start with a fresh one\n")
+
 -- what is told of a call while serving goes on: the dials that gave no link
 abbrev pub complaint : Call → List ℕ
 complaint (Listen address is_listening) = []

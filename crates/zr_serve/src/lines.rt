@@ -4,7 +4,7 @@ ghost use Rattle.std.specs.Prelude.{◌≡◌, ◌≤◌, Err, IfErr, IfOk, OnEr
 ghost use Rattle.std.specs.String.{string_bytes};
 ghost use Rattle.zr_outside.specs.Counts.{Rose, RoseOnlyBy};
 ghost use Rattle.zr_outside.specs.Told.{Appends, AppendsPrefix};
-ghost use Rattle.zr_serve.specs.Lines.{dial_text, failed_text, listen_text, refused_text, serving_text};
+ghost use Rattle.zr_serve.specs.Lines.{dial_text, failed_text, listen_text, refused_text, serving_text, used_text};
 ghost use Rattle.zr_serve.specs.Serving.{Says};
 ghost use Rattle.zr_serve.specs.Unsaid.{end_of_unsaid};
 ghost use Rattle.zr_serve.specs.declared.lines.Unsaid.TheVariants.{Fault};
@@ -61,6 +61,21 @@ pub(crate) fn say_not_dialled<K: Sink>(
     ensures later { K.faults out.old ≤ K.faults out.new }
 {
     match dial_line(alloc, address) {
+        Ok(line) => say(line.as_bytes(), out),
+        Err(_) => Err(Unsaid::NoMemory),
+    }
+}
+
+/// The line that the router's identifier was in use before. It is one write, since links may have logs.
+#[tactic(auto, using(zr_link_writer::proofs::Carrying::prefix_none))]
+pub(crate) fn say_used<K: Sink>(alloc: Global, id: &Zid, out: &mut K) -> Result<(), Unsaid>
+    ensures said { OnOk result (Appends (used_text id.now) (K.held out.old) (K.held out.new)) }
+    ensures part { OnErr result (AppendsPrefix (used_text id.now) (K.held out.old) (K.held out.new)) }
+    ensures fault { result ≡ Err Fault → Rose (K.faults out.old) (K.faults out.new) }
+    ensures only { RoseOnlyBy Fault result (K.faults out.old) (K.faults out.new) }
+    ensures later { K.faults out.old ≤ K.faults out.new }
+{
+    match used_line(alloc, id) {
         Ok(line) => say(line.as_bytes(), out),
         Err(_) => Err(Unsaid::NoMemory),
     }
@@ -132,6 +147,15 @@ fn serving_line(alloc: Global, id: &Zid) -> Result<String, AllocError>
     let mut line = String::from_str(alloc, "serving ")?;
     line.push_str(id.text(alloc)?.as_str())?;
     line.push_str("\n")?;
+    Ok(line)
+}
+
+fn used_line(alloc: Global, id: &Zid) -> Result<String, AllocError>
+    ensures { IfOk result (λ s. string_bytes s ≡ used_text id.now) }
+{
+    let mut line = String::from_str(alloc, "identifier ")?;
+    line.push_str(id.text(alloc)?.as_str())?;
+    line.push_str(" was in use before: start with a fresh one\n")?;
     Ok(line)
 }
 

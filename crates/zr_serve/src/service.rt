@@ -1,24 +1,27 @@
 //! `serve`: the loop that listens, dials and accepts.
 
-ghost use Rattle.std.specs.Prelude.{◌≡◌, ◌<◌, ◌≤◌, ℕ, Option, ◌⊎◌, [], ◌∷◌, Bool, Err, IfErr, IfOk, List, OnErr, OnOk, false, is_some, length, true};
+ghost use Rattle.std.specs.Prelude.{◌≡◌, ◌<◌, ◌≤◌, ℕ, Option, ◌⊎◌, [], ◌∷◌, Bool, Err, IfErr, IfOk, List, Ok, OnErr, OnOk, false, is_some, length, true};
 ghost use Rattle.std.specs.Arc.{arc_value};
 ghost use Rattle.std.specs.String.{string_bytes};
 ghost use Rattle.zr_outside_crew.specs.Crew.{crew_faults, crew_told};
 ghost use Rattle.zr_hist.specs.Words.{pass_name, seen};
 ghost use Rattle.zr_link_job.specs.Starts.{Starts};
 ghost use Rattle.zr_outside.specs.Counts.{Rose, RoseOnlyBy};
-ghost use Rattle.zr_outside.specs.Told.{AppendsPrefix};
+ghost use Rattle.zr_outside.specs.Told.{Appends, AppendsPrefix};
 ghost use Rattle.zr_outside.specs.declared.host.Answer.{Answer};
 ghost use Rattle.zr_serve.specs.Calls.{IsGoing, accepts, dial_call, dials};
+ghost use Rattle.zr_serve.specs.Former.{Hears, Uses, told_text};
 ghost use Rattle.zr_serve.specs.Jobs.{next_job, with_next};
-ghost use Rattle.zr_serve.specs.Lines.{accept_text, refused_text};
+ghost use Rattle.zr_serve.specs.Lines.{accept_text, refused_text, used_text};
 ghost use Rattle.zr_serve.specs.Links.{links_of};
 ghost use Rattle.zr_serve.specs.Moments.{BreaksOff, Serves, moment};
 ghost use Rattle.zr_serve.specs.Serving.{Accepts, EndsBefore, IsServed, IsServedFrom, Says, Stops, outputs};
 ghost use Rattle.zr_serve.specs.Space.{Begins, IsToldOf, OpensSpace, RefusesSpace, Space, handed, is_spent};
 
 use crate::end::ServeEnd;
-use crate::lines::{say_last, say_not_dialled, say_not_listening, say_refused, say_serving};
+use crate::lines::{
+    Unsaid, say_last, say_not_dialled, say_not_listening, say_refused, say_serving, say_used,
+};
 use crate::links::Links;
 use crate::plan::ServePlan;
 use std::alloc::{AllocError, Global};
@@ -58,7 +61,8 @@ pub struct Serving<P: Glancing + Drop, R: Threads + Wait + Copy + Drop> {
 /// its reader, which opens the session, brings the link up at the port, and starts its writer; a link whose reader can't be started is told so by a
 /// CLOSE. Where the plan says so each link has a log, and the router an administration space: its inner client is opened before the router listens, and
 /// started once by the crew. Where that is refused `err` has first the line `admin refused`, and serving goes on without it. `out` has the line `serving ID` once the router listens, `err` a line `dial ADDRESS failed` for
-/// each dial that gave no link, and a line that says why where the host fails. Once memory has run out in the router it ends, behind the next accept. It
+/// each dial that gave no link, and a line that says why where the host fails. Before each accept the router is asked whether it has heard that its
+/// identifier was in use before; once it has, `err` has a line that says so. Once memory has run out in the router it ends, behind the next accept. It
 /// waits for no session as it ends.
 pub fn serve<
     H: Host,
@@ -80,7 +84,7 @@ where
     H::Time: 'static,
     H::Log: 'static,
     P::Note: Send + 'static,
-    ensures served { IsServed result plan.now.id serving.old.policy plan.now.log plan.now.admin (OpensSpace (P.refuses_up (arc_value serving.old.port)) (P.refuses_message (arc_value serving.old.port)) (seen serving.old.pass) plan.now.id) (RefusesSpace (P.refuses_up (arc_value serving.old.port)) (P.refuses_message (arc_value serving.old.port)) (P.refuses_down (arc_value serving.old.port)) (seen serving.old.pass) plan.now.id) (string_bytes plan.now.listen) plan.now.dials.items (H.calls host.old) (H.calls host.new) (crew_told crew.old) (crew_told crew.new) (crew_faults crew.old) (crew_faults crew.new) (outputs (K.held out.old) (E.held err.old) (E.faults err.old)) (outputs (K.held out.new) (E.held err.new) (E.faults err.new)) }
+    ensures served { IsServed result plan.now.id serving.old.policy plan.now.log plan.now.admin (OpensSpace (P.refuses_up (arc_value serving.old.port)) (P.refuses_message (arc_value serving.old.port)) (seen serving.old.pass) plan.now.id) (RefusesSpace (P.refuses_up (arc_value serving.old.port)) (P.refuses_message (arc_value serving.old.port)) (P.refuses_down (arc_value serving.old.port)) (seen serving.old.pass) plan.now.id) (λ b. Hears (P.is_legal (arc_value serving.old.port)) (P.was_used (arc_value serving.old.port)) (seen serving.new.pass) b) (string_bytes plan.now.listen) plan.now.dials.items (H.generators host.old) (H.generators host.new) (H.calls host.old) (H.calls host.new) (crew_told crew.old) (crew_told crew.new) (crew_faults crew.old) (crew_faults crew.new) (outputs (K.held out.old) (E.held err.old) (E.faults err.old)) (outputs (K.held out.new) (E.held err.new) (E.faults err.new)) }
     ensures done { result ≡ ServeEnd.Done → Rose (H.ends host.old) (H.ends host.new) }
     ensures host { result ≡ ServeEnd.HostFault → Rose (H.faults host.old) (H.faults host.new) }
     ensures write { result ≡ ServeEnd.WriteFault → Rose (K.faults out.old) (K.faults out.new) ⊎ Rose (E.faults err.old) (E.faults err.new) }
@@ -123,6 +127,7 @@ where
     ensures only { RoseOnlyBy ServeEnd.WriteFault result (E.faults err.old) (E.faults err.new) }
     ensures later { E.faults err.old ≤ E.faults err.new }
     ensures counts { (H.faults host.new ≡ H.faults host.old) × (H.ends host.new ≡ H.ends host.old) }
+    ensures undrawn { H.generators host.new ≡ H.generators host.old }
 {
     if !plan.admin {
         return Ok(());
@@ -225,12 +230,13 @@ where
     H::Time: 'static,
     H::Log: 'static,
     P::Note: Send + 'static,
-    ensures served { IsServedFrom result plan.now.id (string_bytes plan.now.listen) plan.now.dials.items (moment (H.calls host.old) (crew_told crew.old) (crew_faults crew.old) (E.held err.old) (links_of (λ w. H.Words.stream w) serving.old.policy links.old)) (H.calls host.new) (crew_told crew.new) (crew_faults crew.new) (outputs (K.held out.old) (E.held err.old) (E.faults err.old)) (outputs (K.held out.new) (E.held err.new) (E.faults err.new)) }
+    ensures served { IsServedFrom result (λ b. Hears (P.is_legal (arc_value serving.old.port)) (P.was_used (arc_value serving.old.port)) (seen serving.new.pass) b) plan.now.id (string_bytes plan.now.listen) plan.now.dials.items (moment (H.calls host.old) (crew_told crew.old) (crew_faults crew.old) (E.held err.old) (links_of (λ w. H.Words.stream w) serving.old.policy links.old)) (H.calls host.new) (crew_told crew.new) (crew_faults crew.new) (outputs (K.held out.old) (E.held err.old) (E.faults err.old)) (outputs (K.held out.new) (E.held err.new) (E.faults err.new)) }
     ensures done { result ≡ ServeEnd.Done → Rose (H.ends host.old) (H.ends host.new) }
     ensures host { result ≡ ServeEnd.HostFault → Rose (H.faults host.old) (H.faults host.new) }
     ensures write { result ≡ ServeEnd.WriteFault → Rose (K.faults out.old) (K.faults out.new) ⊎ Rose (E.faults err.old) (E.faults err.new) }
     ensures only { (K.faults out.old < K.faults out.new → result ≡ ServeEnd.WriteFault) × (E.faults err.old < E.faults err.new → (result ≡ ServeEnd.WriteFault) ⊎ (result ≡ ServeEnd.HostFault)) }
     ensures later { (K.faults out.old ≤ K.faults out.new) × (E.faults err.old ≤ E.faults err.new) }
+    ensures undrawn { H.generators host.new ≡ H.generators host.old }
 {
     if !host.listen(plan.listen.as_str()) {
         say_not_listening(plan.listen.as_str(), err);
@@ -242,7 +248,7 @@ where
     if let Err(end) = dial_all(serving, plan.dials.as_slice(), err, host, crew, links) {
         return end;
     }
-    let end = accept_all(serving, host, crew, links);
+    let end = accept_all(serving, &plan.id, err, host, crew, links);
     tell_end(end, err);
     end
 }
@@ -286,6 +292,8 @@ where
     ensures cause { (result ≡ Err ServeEnd.Done → ⊥) × (result ≡ Err ServeEnd.HostFault → ⊥) × (result ≡ Err ServeEnd.WriteFault → Rose (E.faults err.old) (E.faults err.new)) }
     ensures only { RoseOnlyBy ServeEnd.WriteFault result (E.faults err.old) (E.faults err.new) }
     ensures later { (E.faults err.old ≤ E.faults err.new) × (H.faults host.old ≤ H.faults host.new) × (H.ends host.old ≤ H.ends host.new) }
+    ensures same { serving.new.port ≡ serving.old.port }
+    ensures undrawn { H.generators host.new ≡ H.generators host.old }
 {
     for target in targets {
         if let Err(end) = dial(serving, target, err, host, crew, links) {
@@ -321,6 +329,8 @@ where
     ensures cause { (result ≡ Err ServeEnd.Done → ⊥) × (result ≡ Err ServeEnd.HostFault → ⊥) × (result ≡ Err ServeEnd.WriteFault → Rose (E.faults err.old) (E.faults err.new)) }
     ensures only { RoseOnlyBy ServeEnd.WriteFault result (E.faults err.old) (E.faults err.new) }
     ensures later { (E.faults err.old ≤ E.faults err.new) × (H.faults host.old ≤ H.faults host.new) × (H.ends host.old ≤ H.ends host.new) }
+    ensures same { serving.new.port ≡ serving.old.port }
+    ensures undrawn { H.generators host.new ≡ H.generators host.old }
 {
     let address = target.address();
     match host.dial(address) {
@@ -345,14 +355,18 @@ where
     }
 }
 
-// Accepts, and starts the reader of each link that comes, until no more come, or memory ran out in the router.
+// Accepts, and starts the reader of each link that comes, until no more come, or memory ran out in the router. Before each accept it tells that the
+// router's identifier was in use before, if the router has heard so and it wasn't told yet.
 #[tactic(auto, using(crate::proofs::Reaching::goes_none, crate::proofs::Reaching::goes_more, crate::proofs::Reaching::goes_on_to, crate::proofs::Reaching::goes_spent))]
 fn accept_all<
     H: Host,
+    E: Sink,
     P: Glancing + Send + Sync + Drop + 'static,
     R: Threads + Wait + Copy + Send + Sync + Drop + 'static,
 >(
     serving: &mut Serving<P, R>,
+    id: &Zid,
+    err: &mut E,
     host: &mut H,
     crew: &mut Crew<R, ServeJob>,
     links: &mut Links<H::Words>,
@@ -364,10 +378,19 @@ where
     H::Log: 'static,
     P::Note: Send + 'static,
     ensures ended { (held : Option (List ℕ)) → Accepts result (moment (H.calls host.old) (crew_told crew.old) (crew_faults crew.old) held (links_of (λ w. H.Words.stream w) serving.old.policy links.old)) (moment (H.calls host.new) (crew_told crew.new) (crew_faults crew.new) held (links_of (λ w. H.Words.stream w) serving.new.policy links.new)) }
-    ensures cause { (result ≡ ServeEnd.Done → Rose (H.ends host.old) (H.ends host.new)) × (result ≡ ServeEnd.HostFault → Rose (H.faults host.old) (H.faults host.new)) }
+    ensures told { Uses result (λ b. Hears (P.is_legal (arc_value serving.old.port)) (P.was_used (arc_value serving.old.port)) (seen serving.new.pass) b) id.now (E.held err.old) (E.held err.new) }
+    ensures cause { (result ≡ ServeEnd.Done → Rose (H.ends host.old) (H.ends host.new)) × (result ≡ ServeEnd.HostFault → Rose (H.faults host.old) (H.faults host.new)) × (result ≡ ServeEnd.WriteFault → Rose (E.faults err.old) (E.faults err.new)) }
+    ensures only { E.faults err.old < E.faults err.new → result ≡ ServeEnd.WriteFault }
+    ensures later { E.faults err.old ≤ E.faults err.new }
+    ensures undrawn { H.generators host.new ≡ H.generators host.old }
 {
     let rt = serving.rt;
+    let mut is_told = false;
     for _ in rt.forever() {
+        match tell_used(serving, id, is_told, err) {
+            Ok(told) => is_told = told,
+            Err(unsaid) => return unsaid.end(),
+        }
         if let Err(end) = accept(serving, host, crew, links) {
             return end;
         }
@@ -376,6 +399,35 @@ where
         }
     }
     unreachable!()
+}
+
+// Tells that the router's identifier was in use before, if the router has heard so and it wasn't told yet. The answer is whether it is told now.
+#[tactic(auto, using(zr_link_writer::proofs::Carrying::appends_none))]
+fn tell_used<
+    E: Sink,
+    P: Glancing + Send + Sync + Drop + 'static,
+    R: Threads + Wait + Copy + Send + Sync + Drop + 'static,
+>(serving: &mut Serving<P, R>, id: &Zid, was_told: bool, err: &mut E) -> Result<bool, Unsaid>
+where
+    P::Note: Send + 'static,
+    ensures same { (serving.new.port ≡ serving.old.port) × (serving.new.policy ≡ serving.old.policy) }
+    ensures told { IfOk result (λ told. was_told ≡ false → Hears (P.is_legal (arc_value serving.old.port)) (P.was_used (arc_value serving.old.port)) (seen serving.new.pass) told × Appends (told_text id.now told) (E.held err.old) (E.held err.new)) }
+    ensures skips { was_told ≡ true → (result ≡ Ok true) × (seen serving.new.pass ≡ seen serving.old.pass) × (E.held err.new ≡ E.held err.old) }
+    ensures part { OnErr result (Hears (P.is_legal (arc_value serving.old.port)) (P.was_used (arc_value serving.old.port)) (seen serving.new.pass) true × AppendsPrefix (used_text id.now) (E.held err.old) (E.held err.new)) }
+    ensures fault { result ≡ Err Unsaid.Fault → Rose (E.faults err.old) (E.faults err.new) }
+    ensures only { RoseOnlyBy Unsaid.Fault result (E.faults err.old) (E.faults err.new) }
+    ensures later { E.faults err.old ≤ E.faults err.new }
+{
+    if was_told {
+        return Ok(true);
+    }
+    if !serving.port.was_used_before(&mut serving.pass) {
+        return Ok(false);
+    }
+    match say_used(serving.alloc, id, err) {
+        Ok(()) => Ok(true),
+        Err(unsaid) => Err(unsaid),
+    }
 }
 
 // Accepts once, and starts the reader of the link that this gives.
@@ -401,6 +453,8 @@ where
     ensures done { result ≡ Err ServeEnd.Done → Rose (H.ends host.old) (H.ends host.new) }
     ensures host { result ≡ Err ServeEnd.HostFault → Rose (H.faults host.old) (H.faults host.new) }
     ensures later { (H.faults host.old ≤ H.faults host.new) × (H.ends host.old ≤ H.ends host.new) }
+    ensures same { (serving.new.port ≡ serving.old.port) × (seen serving.new.pass ≡ seen serving.old.pass) }
+    ensures undrawn { H.generators host.new ≡ H.generators host.old }
 {
     match host.accept() {
         Accepted::Link(source, sink) => {
@@ -449,6 +503,8 @@ where
     ensures links { links_of (λ w. H.Words.stream w) serving.new.policy links.new ≡ with_next (links_of (λ w. H.Words.stream w) serving.old.policy links.old) }
     ensures told { H.calls host.new ≡ H.calls host.old }
     ensures counts { (H.faults host.new ≡ H.faults host.old) × (H.ends host.new ≡ H.ends host.old) }
+    ensures same { (serving.new.port ≡ serving.old.port) × (seen serving.new.pass ≡ seen serving.old.pass) }
+    ensures undrawn { H.generators host.new ≡ H.generators host.old }
 {
     let begins = links.next(side, weight);
     // what may fail comes first, while there is little to be let go
@@ -498,6 +554,7 @@ fn log_of<H: Host>(alloc: Global, host: &mut H, has_log: bool, source: &H::In) -
     ensures asked { is_some result ≡ has_log }
     ensures told { H.calls host.new ≡ H.calls host.old }
     ensures counts { (H.faults host.new ≡ H.faults host.old) × (H.ends host.new ≡ H.ends host.old) }
+    ensures undrawn { H.generators host.new ≡ H.generators host.old }
 {
     if has_log {
         Some(host.log(alloc, source))

@@ -6,6 +6,7 @@ ghost use Rattle.zr_outside_crew.specs.Crew.{crew_faults, crew_told};
 ghost use Rattle.zr_hist.specs.Words.{kept_name, list_of, name, pass_name, seen};
 ghost use Rattle.zr_outside.specs.Counts.{Rose};
 ghost use Rattle.zr_serve.specs.Serving.{IsServed, outputs};
+ghost use Rattle.zr_serve_router.specs.Former.{Heard};
 ghost use Rattle.zr_serve_router.specs.Space.{Opened, Refused};
 
 use std::alloc::Global;
@@ -45,7 +46,7 @@ where
     H::Out: 'static,
     H::Time: 'static,
     H::Log: 'static,
-    ensures served { IsServed result plan.now.id policy plan.now.log plan.now.admin (Opened policy plan.now.id) (Refused policy plan.now.id) (string_bytes plan.now.listen) plan.now.dials.items (H.calls host.old) (H.calls host.new) (crew_told crew.old) (crew_told crew.new) (crew_faults crew.old) (crew_faults crew.new) (outputs (K.held out.old) (E.held err.old) (E.faults err.old)) (outputs (K.held out.new) (E.held err.new) (E.faults err.new)) }
+    ensures served { IsServed result plan.now.id policy plan.now.log plan.now.admin (Opened policy plan.now.id) (Refused policy plan.now.id) (Heard policy plan.now.id) (string_bytes plan.now.listen) plan.now.dials.items (H.generators host.old) (H.generators host.new) (H.calls host.old) (H.calls host.new) (crew_told crew.old) (crew_told crew.new) (crew_faults crew.old) (crew_faults crew.new) (outputs (K.held out.old) (E.held err.old) (E.faults err.old)) (outputs (K.held out.new) (E.held err.new) (E.faults err.new)) }
     ensures done { result ≡ ServeEnd.Done → Rose (H.ends host.old) (H.ends host.new) }
     ensures host { result ≡ ServeEnd.HostFault → Rose (H.faults host.old) (H.faults host.new) }
     ensures write { result ≡ ServeEnd.WriteFault → Rose (K.faults out.old) (K.faults out.new) ⊎ Rose (E.faults err.old) (E.faults err.new) }
@@ -66,7 +67,7 @@ where
 }
 
 // The same under a name, which is that of the history, of the plan's identifier and of the rules.
-#[tactic(auto, using(zr_serve::proofs::Served::not_begun, zr_serve::proofs::Served::none_rose))]
+#[tactic(auto, using(zr_serve::proofs::Served::none_rose))]
 fn serve_named<
     K: Sink,
     E: Sink,
@@ -96,7 +97,7 @@ where
     requires pass { (pass_name pass ≡ B.history) × (seen pass ≡ []) }
     requires own { plan.now.id ≡ B.me }
     requires ruled { policy ≡ B.policy }
-    ensures served { IsServed result plan.now.id policy plan.now.log plan.now.admin (Opened policy plan.now.id) (Refused policy plan.now.id) (string_bytes plan.now.listen) plan.now.dials.items (H.calls host.old) (H.calls host.new) (crew_told crew.old) (crew_told crew.new) (crew_faults crew.old) (crew_faults crew.new) (outputs (K.held out.old) (E.held err.old) (E.faults err.old)) (outputs (K.held out.new) (E.held err.new) (E.faults err.new)) }
+    ensures served { IsServed result plan.now.id policy plan.now.log plan.now.admin (Opened policy plan.now.id) (Refused policy plan.now.id) (Heard policy plan.now.id) (string_bytes plan.now.listen) plan.now.dials.items (H.generators host.old) (H.generators host.new) (H.calls host.old) (H.calls host.new) (crew_told crew.old) (crew_told crew.new) (crew_faults crew.old) (crew_faults crew.new) (outputs (K.held out.old) (E.held err.old) (E.faults err.old)) (outputs (K.held out.new) (E.held err.new) (E.faults err.new)) }
     ensures done { result ≡ ServeEnd.Done → Rose (H.ends host.old) (H.ends host.new) }
     ensures host { result ≡ ServeEnd.HostFault → Rose (H.faults host.old) (H.faults host.new) }
     ensures write { result ≡ ServeEnd.WriteFault → Rose (K.faults out.old) (K.faults out.new) ⊎ Rose (E.faults err.old) (E.faults err.new) }

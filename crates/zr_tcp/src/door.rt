@@ -12,7 +12,7 @@ use crate::refusals::{Refusals, Seldom};
 use crate::stream::{TcpSink, TcpSource, ends_of};
 use std::alloc::{AllocError, Global};
 use std::io::{ErrorKind, Stderr, Write};
-use std::net::{Net, TcpListener, TcpStream};
+use std::net::{Net, SocketAddr, TcpListener, TcpStream};
 use std::sync::{Arc, Wait};
 use std::thread::Threads;
 use std::time::Duration;
@@ -158,9 +158,10 @@ impl<R: Net<Listener = TcpListener, Stream = TcpStream> + Wait + time::Clock + C
         if !self.is_listening {
             return Came::Fault;
         }
+        self.tell_refused();
         match self.accepted() {
             // a peer that went at once, one too many, or a system out of descriptors or memory, is no fault of the listener
-            Some(Ok(stream)) => match self.ends(stream) {
+            Some(Ok(stream)) => match self.ends(stream, None) {
                 Ok((source, sink)) => Came::Link(source, sink),
                 Err(reason) => {
                     self.tell_closed(reason);
@@ -195,8 +196,12 @@ impl<R: Net<Listener = TcpListener, Stream = TcpStream> + Wait + time::Clock + C
     }
 
     // Both ends of a stream, if there may be one more.
-    fn ends(&mut self, stream: TcpStream) -> Result<(TcpSource, TcpSink<R>), Reason> {
-        let place = self.places.take(self.alloc, self.clock.now())?;
+    fn ends(
+        &mut self,
+        stream: TcpStream,
+        dialled: Option<SocketAddr>,
+    ) -> Result<(TcpSource, TcpSink<R>), Reason> {
+        let place = self.places.take(self.alloc, self.clock.now(), dialled)?;
         match ends_of(self.rt, stream, &place, &self.refusals) {
             Ok(ends) => Ok(ends),
             Err(reason) => {
@@ -209,7 +214,10 @@ impl<R: Net<Listener = TcpListener, Stream = TcpStream> + Wait + time::Clock + C
 
     fn connected(&mut self, address: &str) -> Result<(TcpSource, TcpSink<R>), Reason> {
         match self.stream_to(address) {
-            Ok(stream) => self.ends(stream),
+            Ok(stream) => {
+                let dialled = stream.peer_addr().ok();
+                self.ends(stream, dialled)
+            }
             Err(reason) => Err(reason),
         }
     }
@@ -249,6 +257,17 @@ impl<R: Net<Listener = TcpListener, Stream = TcpStream> + Wait + time::Clock + C
         if let Ok(address) = listener.local_addr() {
             if let Ok(text) = format!(in self.alloc; "listening on {address}\n") {
                 self.put(Severity::Info, text.as_str());
+            }
+        }
+    }
+
+    // Tells, with a log and without, where this router has dialled and was refused as one that is up already: a former life of it may be up there still.
+    fn tell_refused(&self) {
+        if let Some(address) = self.places.next_refused() {
+            if let Ok(text) = format!(in self.alloc;
+                "dial {address}: refused, this identifier is up there: start with a fresh one if it was in use before\n"
+            ) {
+                self.put(Severity::Warn, text.as_str());
             }
         }
     }

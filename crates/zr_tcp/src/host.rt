@@ -102,6 +102,8 @@ impl<
 
     ghost calls = { λ _. None };
 
+    ghost generators = { λ _. None };
+
     fn listen(&mut self, address: &str) -> bool {
         if self.door.listen(address) {
             return true;

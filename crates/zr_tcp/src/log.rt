@@ -26,6 +26,8 @@ pub struct ErrorLog<R: Wait + Clock + Drop> {
     alloc: Global,
     queue: Option<Arc<LogQueue>>,
     address: Option<SocketAddr>,
+    // how many lines there was no memory for; the queue counts those for which it had no room
+    lost: u64,
 }
 
 impl<R: Wait + Clock + Drop> ErrorLog<R> {
@@ -41,6 +43,7 @@ impl<R: Wait + Clock + Drop> ErrorLog<R> {
             alloc,
             queue: Arc::try_clone(queue).ok(),
             address,
+            lost: 0,
         }
     }
 
@@ -51,16 +54,34 @@ impl<R: Wait + Clock + Drop> ErrorLog<R> {
         };
         stamped(&self.rt, self.alloc, severity(line), text.as_str())
     }
+
+    // A line, or one more that the queue is to count as left out.
+    fn put(&self, line: Option<String>) {
+        if let Some(queue) = &self.queue {
+            queue.put(&self.rt, line);
+        }
+    }
 }
 
 impl<R: Wait + Clock + Drop> Log for ErrorLog<R> {
     ghost held = { λ _. None };
 
+    ghost lost = { λ l. l.lost };
+
     fn tell(&mut self, line: &str) {
-        let text = self.addressed(line).ok();
-        if let Some(queue) = &self.queue {
-            queue.put(&self.rt, text);
+        if self.queue.is_none() {
+            self.lose();
+            return;
         }
+        match self.addressed(line) {
+            Ok(text) => self.put(Some(text)),
+            Err(_) => self.lose(),
+        }
+    }
+
+    fn lose(&mut self) {
+        self.lost = self.lost.saturating_add(1);
+        self.put(None);
     }
 }
 

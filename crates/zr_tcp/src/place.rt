@@ -2,6 +2,7 @@
 
 use crate::reason::Reason;
 use std::alloc::{AllocError, Global};
+use std::net::SocketAddr;
 use std::sync::Arc;
 use std::sync::atomic::{AtomicBool, Ordering};
 
@@ -18,10 +19,13 @@ pub(crate) struct Places {
     taken: Vec<Arc<Place>>,
 }
 
-/// What the two ends of a stream share: when it came, which end is gone, whether a session has opened, and whether it is to give way to another stream.
+/// What the two ends of a stream share: when it came, where it was dialled if it was, which end is gone, whether a session has opened, whether its peer has
+/// refused this router as one that is up already, and whether it is to give way to another stream.
 #[derive(Drop)]
 pub(crate) struct Place {
     came: u64,
+    dialled: Option<SocketAddr>,
+    is_refused: AtomicBool,
     is_unread: AtomicBool,
     is_unwritten: AtomicBool,
     has_opened: AtomicBool,
@@ -37,22 +41,42 @@ impl Places {
     }
 
     /// A place for a stream that comes now. Where all are taken, the first one on which no session opens in time gives its place up.
-    pub(crate) fn take(&mut self, alloc: Global, now: u64) -> Result<Arc<Place>, Reason> {
+    pub(crate) fn take(
+        &mut self,
+        alloc: Global,
+        now: u64,
+        dialled: Option<SocketAddr>,
+    ) -> Result<Arc<Place>, Reason> {
         self.taken.retain(|place| !place.is_free());
         if self.taken.len() >= MOST_STREAMS && !self.make_way(now) {
             return Err(Reason::TooMany);
         }
-        match self.take_next(alloc, now) {
+        match self.take_next(alloc, now, dialled) {
             Ok(place) => Ok(place),
             Err(_) => Err(Reason::NoMemory),
         }
     }
 
-    fn take_next(&mut self, alloc: Global, now: u64) -> Result<Arc<Place>, AllocError> {
-        let place = Arc::new(alloc, Place::new(now))?;
+    fn take_next(
+        &mut self,
+        alloc: Global,
+        now: u64,
+        dialled: Option<SocketAddr>,
+    ) -> Result<Arc<Place>, AllocError> {
+        let place = Arc::new(alloc, Place::new(now, dialled))?;
         let theirs = Arc::try_clone(&place)?;
         self.taken.push(place)?;
         Ok(theirs)
+    }
+
+    /// Where this router has dialled and was refused as one that is up already, if so and this wasn't answered before.
+    pub(crate) fn next_refused(&self) -> Option<SocketAddr> {
+        for place in &self.taken {
+            if let Some(address) = place.take_refused() {
+                return Some(address);
+            }
+        }
+        None
     }
 
     fn make_way(&mut self, now: u64) -> bool {
@@ -67,9 +91,11 @@ impl Places {
 }
 
 impl Place {
-    fn new(now: u64) -> Place {
+    fn new(now: u64, dialled: Option<SocketAddr>) -> Place {
         Place {
             came: now,
+            dialled,
+            is_refused: AtomicBool::new(false),
             is_unread: AtomicBool::new(false),
             is_unwritten: AtomicBool::new(false),
             has_opened: AtomicBool::new(false),
@@ -100,6 +126,19 @@ impl Place {
     /// Whether the stream is to end, as another one has its place.
     pub(crate) fn gives_way(&self) -> bool {
         self.gives_way.load(Ordering::SeqCst)
+    }
+
+    /// The peer has refused this router as one that is up already.
+    pub(crate) fn refuse(&self) {
+        self.is_refused.store(true, Ordering::SeqCst);
+    }
+
+    fn take_refused(&self) -> Option<SocketAddr> {
+        if self.dialled.is_some() && self.is_refused.swap(false, Ordering::SeqCst) {
+            self.dialled
+        } else {
+            None
+        }
     }
 
     fn give_way(&self) {

@@ -15,6 +15,9 @@ const QUIET_MS: u64 = 1_000;
 /// The batch of a CLOSE of the whole session, behind its length, up to its reason.
 const CLOSE: [u8; 3] = [2, 0, 0x23];
 
+/// The reason of a peer whose identifier is up already.
+const TWICE: u8 = 4;
+
 /// Counts what a line may tell of, a line a second at most.
 #[derive(Drop)]
 pub(crate) struct Seldom<R: time::Clock + Drop> {
@@ -105,7 +108,15 @@ fn refusal(bytes: &[u8]) -> Option<&'static str> {
     match bytes.strip_prefix(&CLOSE) {
         Some([1]) => Some("its version or its role is not spoken"),
         Some([3]) => Some("there are as many sessions as may be"),
-        Some([4]) => Some("its identifier is up already"),
+        Some([TWICE]) => Some("its identifier is up already"),
         _ => None,
+    }
+}
+
+/// Whether bytes that a peer has written refuse this router as one that is up already.
+pub(crate) fn refuses_twice(bytes: &[u8]) -> bool {
+    match bytes.strip_prefix(&CLOSE) {
+        Some([TWICE]) => true,
+        _ => false,
     }
 }

@@ -6,7 +6,7 @@ use crate::clock::SystemClock;
 use crate::grace::Grace;
 use crate::place::Place;
 use crate::reason::Reason;
-use crate::refusals::Refusals;
+use crate::refusals::{Refusals, refuses_twice};
 use std::io::{ErrorKind, Read, Write};
 use std::net::{Shutdown, SocketAddr, TcpStream};
 use std::sync::{Arc, Wait};
@@ -87,6 +87,15 @@ impl TcpSource {
     pub(crate) fn peer(&self) -> Option<SocketAddr> {
         self.stream.peer_addr().ok()
     }
+
+    // So many bytes were read: a router that was dialled may refuse this one by them.
+    fn note(&self, read: &[u8], count: usize) {
+        if let Some(bytes) = read.get(..count) {
+            if refuses_twice(bytes) {
+                self.place.refuse();
+            }
+        }
+    }
 }
 
 impl<R: Clock + Drop> TcpSink<R> {
@@ -159,7 +168,10 @@ impl Source for TcpSource {
                 self.ends = self.ends.saturating_add(1);
                 Got::End
             }
-            Ok(count) => Got::Bytes(count),
+            Ok(count) => {
+                self.note(into, count);
+                Got::Bytes(count)
+            }
             Err(e) => match e.kind() {
                 ErrorKind::WouldBlock | ErrorKind::Interrupted => {
                     self.quiets = self.quiets.saturating_add(1);

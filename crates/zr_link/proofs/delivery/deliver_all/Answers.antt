@@ -32,12 +32,12 @@ returns-clause-all g c =
 
 -- the log is told of no denial, or of one
 pub returns-in_default-clause-logged : goal.returns-in_default-clause-logged
-returns-in_default-clause-logged g c = tells_none (λ x. g.L.Log.held x) c.args.log.now
+returns-in_default-clause-logged g c = tells_none (λ x. g.L.Log.held x) (λ x. g.L.Log.lost x) c.args.log.now
 
 pub returns-in-Err-clause-logged : goal.returns-in-Err-clause-logged
 returns-in-Err-clause-logged g c =
-    tells_then (λ x. g.L.Log.held x) c.args.log.now c.denial-denial.new.self c.refused.new.self c.denial-denial.ensures.tells c.refused.ensures.tells
+    tells_then (λ x. g.L.Log.held x) (λ x. g.L.Log.lost x) c.args.log.now c.denial-denial.new.self c.refused.new.self c.denial-denial.ensures.tells c.refused.ensures.tells
 
 pub returns-clause-logged : goal.returns-clause-logged
 returns-clause-logged g c =
-    tells_then (λ x. g.L.Log.held x) c.args.log.now c.denial-denial.new.self c.denied.new.self c.denial-denial.ensures.tells c.denied.ensures
+    tells_then (λ x. g.L.Log.held x) (λ x. g.L.Log.lost x) c.args.log.now c.denial-denial.new.self c.denied.new.self c.denial-denial.ensures.tells c.denied.ensures

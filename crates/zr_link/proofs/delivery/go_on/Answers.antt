@@ -24,7 +24,7 @@ loop-init g c = record {
   counts = (refl, refl);
   reads = rose_none _;
   later = (le_refl _, le_refl _);
-  logged = tells_none (λ x. g.L.Log.held x) c.args.log.now;
+  logged = tells_none (λ x. g.L.Log.held x) (λ x. g.L.Log.lost x) c.args.log.now;
   moment = moment_none _ _;
 }
 
@@ -71,7 +71,7 @@ loop-preserved g c =
       counts = (counted_none _ _ _ _ heard.fault ∙ inv.counts.0, counted_none _ _ _ _ heard.ended ∙ inv.counts.1);
       reads = reads;
       later = (le_trans inv.later.0 heard.later.0, le_trans inv.later.1 heard.later.1);
-      logged = tells_then (λ x. g.L.Log.held x) c.args.log.now c.loop.log c.settle.new.log inv.logged done.logged;
+      logged = tells_then (λ x. g.L.Log.held x) (λ x. g.L.Log.lost x) c.args.log.now c.loop.log c.settle.new.log inv.logged done.logged;
       moment = subst (λ (z : SessionState). min c.args.intake.now.session.heard (g.C.Clock.last c.args.clock.now) ≤ z.heard) kept (moment_more _ _ _ _ _ inv.moment inv.later.1 heard.moment);
     }
 
@@ -120,4 +120,4 @@ pub returns-clause-later : goal.returns-clause-later
 returns-clause-later g c = c.loop.invariant.later
 
 pub returns-in-Err-settle-clause-logged : goal.returns-in-Err-settle-clause-logged
-returns-in-Err-settle-clause-logged g c = tells_then (λ x. g.L.Log.held x) c.args.log.now c.loop.log c.settle.new.log c.loop.invariant.logged c.in-Err-settle.ensures.logged
+returns-in-Err-settle-clause-logged g c = tells_then (λ x. g.L.Log.held x) (λ x. g.L.Log.lost x) c.args.log.now c.loop.log c.settle.new.log c.loop.invariant.logged c.in-Err-settle.ensures.logged

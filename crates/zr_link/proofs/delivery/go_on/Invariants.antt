@@ -19,6 +19,6 @@ invariant-loop g l = record {
   counts : (g.S.Source.faults l.source ≡ g.S.Source.faults l.fn.source) × (g.S.Source.ends l.source ≡ g.S.Source.ends l.fn.source);
   reads : RoseBy l.counter (g.S.Source.reads l.fn.source) (g.S.Source.reads l.source);
   later : (g.S.Source.quiets l.fn.source ≤ g.S.Source.quiets l.source) × (g.C.Clock.last l.fn.clock ≤ g.C.Clock.last l.clock);
-  logged : TellsDenials (λ x. g.L.Log.held x) l.fn.log l.log;
+  logged : TellsDenials (λ x. g.L.Log.held x) (λ x. g.L.Log.lost x) l.fn.log l.log;
   moment : min l.fn.intake.session.heard (g.C.Clock.last l.fn.clock) ≤ l.intake.session.heard;
 }

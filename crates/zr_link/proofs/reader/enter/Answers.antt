@@ -5,7 +5,7 @@ use Rattle.std.proofs.lemmas.List.{append-nil}
 use Rattle.std.specs.Prelude.{Some, None}
 use Rattle.std.specs.Vec.Iter.{into_iter_items}
 use Rattle.zr_msg.specs.declared.event.Event.TheVariants as event
-use Rattle.zr_hist.specs.Words.{mine}
+use Rattle.zr_hist.specs.Words.{mine, seen}
 use Rattle.zr_session.specs.Session.{SessionState, with_confirmed}
 use Rattle.zr_link.specs.Heard.{IsLate}
 use Rattle.zr_link.specs.Acts.{up, froms}
@@ -15,6 +15,7 @@ use Rattle.zr_port.proofs.Coming.{adds_one}
 use Rattle.zr_link.proofs.Failed.{told_by}
 use Rattle.zr_link.proofs.Going.{Followed, through_does, does_entry, does_then}
 use Rattle.zr_link.specs.Log.{IsNotUp}
+use Rattle.zr_link.specs.Logged.{RefusesPeer}
 use Rattle.zr_link.proofs.Logged.{logged_up, tells_none, tells_same, tells_then}
 use Rattle.zr_link.proofs.Running.{enters_followed, enters_early}
 use Rattle.zr_link.proofs.reader.enter.Goals as goal
@@ -89,7 +90,9 @@ returns-in-Err-begin-clause-entered g c =
     upon c.leave-in-Err-begin.ensures.prefix c.in-Err-begin.ensures.early down.0 down.1 down.2 c.without_close.ensures.without wrote
 
 pub returns-in-Err-clause-logged : goal.returns-in-Err-clause-logged
-returns-in-Err-clause-logged g c = inl (c.in-Err.ensures.unchanged, subst IsNotUp (sym c.opened.ensures.stage) tt, c.opened.ensures.held)
+returns-in-Err-clause-logged g c =
+    let Refused = RefusesPeer (λ peer e. g.P.Port.refuses_up c.args.port.now (seen c.up.new.pass) peer e) in
+    inl (c.in-Err.ensures.unchanged, subst (IsNotUp Refused) (sym c.opened.ensures.stage) (subst Refused (sym c.same_peer-known.ensures) (c.in-Err.e, c.in-Err.ensures.refused)), c.opened.ensures.held.0, c.opened.ensures.held.1)
 
 pub returns-in-Ok-begin-clause-logged : goal.returns-in-Ok-begin-clause-logged
 returns-in-Ok-begin-clause-logged g c =
@@ -99,11 +102,11 @@ returns-in-Ok-begin-clause-logged g c =
     let on = c.follow-end.ensures.followed in
     let down = c.leave.ensures.left in
     let rest = does_then (froms link (delivered on.0)) down.0 (mine c.up.new.pass) (mine c.follow-end.new.pass) (mine c.leave.new.pass) (through_does link (λ h m x. g.P.Port.refuses_message c.args.port.now h link m x) on.0 (sight c.up.new.pass) (sight c.follow-end.new.pass) on.1) down.2 in
-    logged_up (λ l. g.L.Log.held l) link c.args.opened.peer _ c.args.opened.outbox (froms link (delivered on.0) ++ down.0) _ _ c.args.log.now c.opened.new.self c.up-2.new.self c.because.new.self c.same_peer-known.ensures
+    logged_up (λ l. g.L.Log.held l) (λ l. g.L.Log.lost l) (RefusesPeer (λ peer e. g.P.Port.refuses_up c.args.port.now (seen c.leave.new.pass) peer e)) link c.args.opened.peer _ c.args.opened.outbox (froms link (delivered on.0) ++ down.0) _ _ c.args.log.now c.opened.new.self c.up-2.new.self c.because.new.self c.same_peer-known.ensures
     (does_then (up link c.args.opened.peer c.args.opened.outbox ∷ []) (froms link (delivered on.0) ++ down.0) (mine c.args.pass.now) (mine c.up.new.pass) (mine c.leave.new.pass) first rest)
     c.opened.ensures.held c.opened.ensures.rules c.up-2.ensures.stage c.up-2.ensures.rules c.up-2.ensures.told
-    (tells_then (λ l. g.L.Log.held l) c.up-2.new.self c.follow-end.new.log c.because.new.self c.follow-end.ensures.logged
-    (tells_same (λ l. g.L.Log.held l) c.follow-end.new.log c.because.new.self c.because.ensures.stage c.because.ensures.rules c.because.ensures.held))
+    (tells_then (λ l. g.L.Log.held l) (λ l. g.L.Log.lost l) c.up-2.new.self c.follow-end.new.log c.because.new.self c.follow-end.ensures.logged
+    (tells_same (λ l. g.L.Log.held l) (λ l. g.L.Log.lost l) c.follow-end.new.log c.because.new.self c.because.ensures.stage c.because.ensures.rules c.because.ensures.held))
 
 pub returns-in-Err-begin-clause-logged : goal.returns-in-Err-begin-clause-logged
 returns-in-Err-begin-clause-logged g c =
@@ -111,9 +114,9 @@ returns-in-Err-begin-clause-logged g c =
     let added = c.in-Ok.ensures.added in
     let first = does_entry (mine c.args.pass.now) (mine c.up.new.pass) added.entry (event.Up link c.args.opened.peer) (Some c.args.opened.outbox) None added.own added.says.0 in
     let down = c.leave-in-Err-begin.ensures.left in
-    logged_up (λ l. g.L.Log.held l) link c.args.opened.peer _ c.args.opened.outbox down.0 _ _ c.args.log.now c.opened.new.self c.up-2.new.self c.up-2.new.self c.same_peer-known.ensures
+    logged_up (λ l. g.L.Log.held l) (λ l. g.L.Log.lost l) (RefusesPeer (λ peer e. g.P.Port.refuses_up c.args.port.now (seen c.leave-in-Err-begin.new.pass) peer e)) link c.args.opened.peer _ c.args.opened.outbox down.0 _ _ c.args.log.now c.opened.new.self c.up-2.new.self c.up-2.new.self c.same_peer-known.ensures
     (does_then (up link c.args.opened.peer c.args.opened.outbox ∷ []) down.0 (mine c.args.pass.now) (mine c.up.new.pass) (mine c.leave-in-Err-begin.new.pass) first down.2)
-    c.opened.ensures.held c.opened.ensures.rules c.up-2.ensures.stage c.up-2.ensures.rules c.up-2.ensures.told (tells_none (λ l. g.L.Log.held l) c.up-2.new.self)
+    c.opened.ensures.held c.opened.ensures.rules c.up-2.ensures.stage c.up-2.ensures.rules c.up-2.ensures.told (tells_none (λ l. g.L.Log.held l) (λ l. g.L.Log.lost l) c.up-2.new.self)
 
 pub returns-in-Err-clause-told : goal.returns-in-Err-clause-told
 returns-in-Err-clause-told g c sink is rose = told_by (λ k. g.K.Sink.faults k) _ _ sink _ c.refuse-end.ensures.told is rose

@@ -15,6 +15,8 @@ loop-target-preserved g c = (
   le_trans c.loop-target.invariant.2 c.in_default.ensures.later.1,
   le_trans c.loop-target.invariant.3 c.in_default.ensures.later.2,
   c.in_default.ensures.only ∙ c.loop-target.invariant.4,
+  c.in_default.ensures.undrawn ∙ c.loop-target.invariant.5,
+  c.in_default.ensures.same ∙ c.loop-target.invariant.6,
 )
 
 pub returns-in-Err-clause-cause : goal.returns-in-Err-clause-cause
@@ -32,6 +34,12 @@ returns-clause-dialled g c =
     let all : c.loop-target.target-index ≡ length c.args.targets.now = omega arith in
     dials_all_at c.args.targets.now _ _ _ all c.loop-target.invariant.0
 
+pub returns-in-Err-clause-undrawn : goal.returns-in-Err-clause-undrawn
+returns-in-Err-clause-undrawn g c = c.in-Err.ensures.undrawn ∙ c.loop-target.invariant.5
+
+pub returns-clause-undrawn : goal.returns-clause-undrawn
+returns-clause-undrawn g c = c.loop-target.invariant.5
+
 pub returns-clause-later : goal.returns-clause-later
 returns-clause-later g c = (c.loop-target.invariant.1, c.loop-target.invariant.2, c.loop-target.invariant.3)
 
@@ -41,3 +49,9 @@ returns-in-Err-clause-only g c =
 
 pub returns-clause-only : goal.returns-clause-only
 returns-clause-only g c = c.loop-target.invariant.4
+
+pub returns-in-Err-clause-same : goal.returns-in-Err-clause-same
+returns-in-Err-clause-same g c = c.in-Err.ensures.same ∙ c.loop-target.invariant.6
+
+pub returns-clause-same : goal.returns-clause-same
+returns-clause-same g c = c.loop-target.invariant.6

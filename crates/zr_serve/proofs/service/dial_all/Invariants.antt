@@ -14,3 +14,5 @@ invariant-loop-target g l =
     × (g.H.Host.faults l.fn.host ≤ g.H.Host.faults l.host)
     × (g.H.Host.ends l.fn.host ≤ g.H.Host.ends l.host)
     × (g.E.Sink.faults l.err ≡ g.E.Sink.faults l.fn.err)
+    × (g.H.Host.generators l.host ≡ g.H.Host.generators l.fn.host)
+    × (l.serving.port ≡ l.fn.serving.port)

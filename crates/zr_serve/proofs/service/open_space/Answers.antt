@@ -1,10 +1,10 @@
 -- What opening it answers, and what starting its inner client does.
 use Rattle.std.proofs.Common.{◌≡◌, true, Err, ap, le_refl, refl, sym, subst, rules}
 use Rattle.zr_access.specs.Rules.{PolicyState}
+use Rattle.zr_outside.proofs.Counting.{rose_not}
 use Rattle.zr_serve.specs.Jobs.{drawn}
 use Rattle.zr_serve.specs.Links.{links_of}
 use Rattle.zr_serve.proofs.Opening.{begins_handed, begins_refused, cause_by, ends_by, ends_spent, ok_by, unsaid_by}
-use Rattle.zr_serve.proofs.Served.{rose_not}
 use Rattle.zr_serve.proofs.service.open_space.Goals as goal
 
 pub returns-in-Ok-clause-begun : goal.returns-in-Ok-clause-begun
@@ -49,4 +49,4 @@ pub returns-in-Err-Refused-clause-only : goal.returns-in-Err-Refused-clause-only
 returns-in-Err-Refused-clause-only g c = c.say_refused.ensures.only
 
 pub returns-in-Err-NoMemory-clause-only : goal.returns-in-Err-NoMemory-clause-only
-returns-in-Err-NoMemory-clause-only g c = λ rose. absurd (rose_not _ _ refl rose)
+returns-in-Err-NoMemory-clause-only g c = λ rose. rose_not _ _ refl rose

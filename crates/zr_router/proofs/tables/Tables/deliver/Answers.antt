@@ -7,6 +7,7 @@ use Rattle.zr_router_queue.specs.Ends.{EndState, GoesByRings, IsReplay}
 use Rattle.zr_router_queue.specs.Tables.{replay}
 use Rattle.zr_router.specs.Allowed.{is_allowed}
 use Rattle.zr_router.specs.Before.{message_refusal}
+use Rattle.zr_router.specs.Former.{tells_former}
 use Rattle.zr_told_spec.specs.Hub.{hub_refuses}
 use Rattle.zr_router.specs.Failures.{HasFailed}
 use Rattle.zr_router.specs.declared.failure.Failure.{Failure}
@@ -72,6 +73,15 @@ enter-requires-clause-handled g c =
     (l.spelled open_now) c.requires.spelled refl q.queues
     (subst (λ x. length x < most_entries) (sym kept)
     (c.in-Ok.ensures.room (sym w ∙ message_room pol me h l.hub l.ends.items r c.args.link c.args.msg p k at shut none)))
+
+pub enter-requires-clause-former : goal.enter-requires-clause-former
+enter-requires-clause-former g c =
+    let me = g.B.Naming.me in
+    let l = c.look.new.self in
+    let open_now : l.is_spent ≡ false = c.look.ensures.same.2 ∙ sym c.in-Ok.ensures.spent in
+    let r : IsReplay me (list_of l.kept) l.hub l.ends.items = l.replayed open_now in
+    c.tells_former-is_former.ensures ∙ ap (λ b. tells_former b c.args.msg) (c.base.ensures ∙ ap (λ h. h.node.base) r.hub_is)
+    ∙ ap (λ h. tells_former (replay me h).hub.node.base c.args.msg) (sym c.handle.ensures.kept)
 
 pub enter-requires-clause-allowed : goal.enter-requires-clause-allowed
 enter-requires-clause-allowed g c =

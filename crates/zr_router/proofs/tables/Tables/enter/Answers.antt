@@ -1,4 +1,5 @@
 use Rattle.std.proofs.Common.{◌≡◌, true, List, map, sym, subst, ◌∙◌, arith}
+use Rattle.std.specs.Prelude.{◌||◌}
 use Rattle.std.specs.List.{AllZip}
 use Rattle.zr_hist.specs.Words.{list_of}
 use Rattle.zr_node_spec.specs.Event.{on_link}
@@ -9,7 +10,9 @@ use Rattle.zr_router_queue.proofs.Rings.{goes_by_rings}
 use Rattle.zr_router_queue.proofs.Stepped.{zip_so}
 use Rattle.zr_router.specs.Allowed.{are_allowed, is_allowed}
 use Rattle.zr_router.proofs.Refused.{allowed_more}
+use Rattle.zr_router.proofs.Heard.{or_first, or_second, used_more}
 use Rattle.zr_router.proofs.Entered.{entered, may_enter, written_over}
+use Rattle.zr_router.proofs.tables.Tables.enter.Goals.{then-self, else-self}
 use Rattle.zr_router.proofs.tables.Tables.enter.Goals as goal
 
 pub enter-requires-clause-may : goal.enter-requires-clause-may
@@ -25,6 +28,10 @@ enter-requires-clause-may g c =
 pub invariant_of-self-2 : goal.invariant_of-self-2
 invariant_of-self-2 g c =
     let t = c.args.self.now in
+    let either : c.if-self.self ≡ (t.used_before || c.args.arrival.is_former) = elim c.if-self.branch [
+      | then-self w ↦ w.self-is ∙ or_first t.used_before c.args.arrival.is_former w.if-self.true
+      | else-self w ↦ w.self-is ∙ or_second t.used_before c.args.arrival.is_former w.if-self.false
+    ] in
     record {
       named = c.enter.ensures.same.0 ∙ t.named;
       own = t.own;
@@ -32,6 +39,8 @@ invariant_of-self-2 g c =
       allowed = subst (λ z. are_allowed g.B.Naming.policy g.B.Naming.me z ≡ true) (sym c.enter.ensures.list)
           (allowed_more g.B.Naming.policy g.B.Naming.me (list_of t.kept) c.in_ok-entry.entry t.allowed
           (subst (λ z. is_allowed g.B.Naming.policy (replay g.B.Naming.me (list_of t.kept)).hub.node z ≡ true) (sym c.in_ok-entry.ensures.entry.event_is) c.requires.allowed));
+      used = either ∙ used_more g.B.Naming.me (list_of t.kept) (list_of c.enter.new.kept) c.args.arrival.event c.in_ok-entry.entry t.used_before c.args.arrival.is_former t.used
+          c.requires.former c.in_ok-entry.ensures.entry.event_is c.enter.ensures.list;
       legal = subst (λ m. is_legal m (list_of c.enter.new.kept) ≡ true) t.own c.enter.ensures.legal;
       replayed = λ _. subst (λ (xs : List EndState). IsReplay g.B.Naming.me (list_of c.enter.new.kept) t.hub xs)
           (sym (written_over t.ends.len c.enter.new.ends _ (omega (arith, c.enter.auto.ends, c.prepare.auto.ends, c.as_mut_slice-ends.ensures.len))))
