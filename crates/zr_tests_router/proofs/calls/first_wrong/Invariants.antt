@@ -1,5 +1,5 @@
 use Rattle.zr_hist.specs.Words.{name}
-use Rattle.zr_tests_serve.proofs.calls.first_wrong.Given as goal
+use Rattle.zr_tests_router.proofs.calls.first_wrong.Given as goal
 
 -- the router's name is that of its history, its identifier and its rules
 abbrev pub ghosts-wrong_at : goal.ghosts-wrong_at

@@ -1,6 +1,6 @@
 use Rattle.std.proofs.Common.{◌≡◌, ◌-◌, ◌≤◌, length}
 use Rattle.zr_ring.specs.Items.{GoOnFrom}
-use Rattle.zr_tests_serve.proofs.note.parcels.Given as goal
+use Rattle.zr_tests_router.proofs.note.parcels.Given as goal
 
 abbrev pub invariant-each : goal.invariant-each
 invariant-each l = GoOnFrom l.fn.from l.all.items × (length l.all.items ≤ l.fn.count)

@@ -23,7 +23,7 @@ pub trait Named {
 }
 
 impl Named for Brand {
-    ghost use Rattle.zr_tests_serve.specs.Queue.{no_table};
+    ghost use Rattle.zr_tests_router.specs.Queue.{no_table};
 
     ghost table = { no_table };
 }

@@ -1,5 +1,5 @@
 use Rattle.zr_hist.specs.Words.{name}
-use Rattle.zr_tests_serve.proofs.sharing.shared.Given as goal
+use Rattle.zr_tests_router.proofs.sharing.shared.Given as goal
 
 -- the router's name is that of its history, its identifier and its rules
 abbrev pub ghosts-share : goal.ghosts-share

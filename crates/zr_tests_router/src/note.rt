@@ -25,7 +25,7 @@ pub struct Link(pub u32);
 
 impl Queue<u64> for Link {
     ghost use Rattle.std.specs.Prelude.{false};
-    ghost use Rattle.zr_tests_serve.specs.Queue.{queued, queued-grows};
+    ghost use Rattle.zr_tests_router.specs.Queue.{queued, queued-grows};
 
     ghost legal = { λ _ _. Unit {0} };
 
