@@ -7,10 +7,6 @@ use Rattle.zr_netrun.specs.declared.status.Status.{Status}
 use Rattle.zr_netrun.specs.declared.status.Status.TheVariants as s
 use Rattle.zr_netrun.specs.Ended.{TellsFailedWrites}
 
--- a count that stands as it was has not risen
-pub rose_not : {P : Type 0} (a b : ℕ) → b ≡ a → a < b → P
-rose_not a b same rose = absurd (omega (arith, same, rose))
-
 -- A run has stopped, and told why. The counts before the call that stopped stood as at the beginning, and a count that rose in it made it stop.
 pub stop_told : (stop : RunStop) (status : Status) (out before stopped after err still told : ℕ) → before ≡ out → before ≤ stopped → (before < stopped → stop ≡ r.WriteFault) → still ≡ err
     → (stop ≡ r.WriteFault → status ≡ s.WriteFault) → TellsFailedWrites status stopped after still told → TellsFailedWrites status out after err told

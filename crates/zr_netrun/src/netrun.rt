@@ -15,6 +15,7 @@ ghost use Rattle.zr_netrun.specs.Counted.{CountsFromNone, IsRun, TellsSummary};
 use crate::options::NetOptions;
 use crate::status::Status;
 use std::alloc::{AllocError, Global};
+use std::thread::Threads;
 use zr_law_numbers::steps_are_possible;
 use zr_netrun_lines::runner::{RunStop, Runner};
 use zr_netrun_report::counts::Counts;
@@ -25,6 +26,7 @@ use zr_outside::source::Source;
 use zr_script::text::refused_text;
 use zr_script_explain::explain;
 use zr_script_spec::error::ScriptError;
+use zr_world_gang::gang::Gang;
 
 /// How many bytes a script has at most.
 pub const MOST_BYTES: usize = 67_108_864;
@@ -40,9 +42,12 @@ const MOST_A_READ: usize = 65_536;
 ///
 /// A refused line ends the run: `err` then has `line N: NUMBER NAME`, and its explanation behind it where that is asked for. So does a
 /// script of more than 67,108,864 bytes, none of whose lines within them is refused: `err` has `script too long`. A status of fault comes
-/// only where that count rose in this call, and a read or a write that fails ends the run by that status.
+/// only where that count rose in this call, and a read or a write that fails ends the run by that status. A line `fan` is given the gang and
+/// what starts its threads; neither changes what is written.
 #[tactic(auto, using(crate::proofs::Starting::from_start, crate::proofs::Asked::writes_report, crate::proofs::Asked::writes_summary))]
-pub fn run_script<S: Source, K: Sink, E: Sink>(
+pub fn run_script<R: Threads + Sync, G: Gang, S: Source, K: Sink, E: Sink>(
+    rt: &R,
+    gang: &mut G,
     alloc: Global,
     options: NetOptions,
     input: &mut S,
@@ -55,16 +60,18 @@ pub fn run_script<S: Source, K: Sink, E: Sink>(
     ensures only_write { TellsFailedWrites result (K.faults out.old) (K.faults out.new) (E.faults err.old) (E.faults err.new) }
 {
     if options.summary {
-        return sum_up(alloc, options, input, out, err);
+        return sum_up(rt, gang, alloc, options, input, out, err);
     }
     steps_are_possible();
     let mut runner = Runner::new(alloc, None);
-    run_lines(alloc, options, &mut runner, input, out, err)
+    run_lines(rt, gang, alloc, options, &mut runner, input, out, err)
 }
 
 // The report is counted and goes nowhere; at the script's end the summary is written.
 #[tactic(auto, using(crate::proofs::Starting::from_start))]
-fn sum_up<S: Source, K: Sink, E: Sink>(
+fn sum_up<R: Threads + Sync, G: Gang, S: Source, K: Sink, E: Sink>(
+    rt: &R,
+    gang: &mut G,
     alloc: Global,
     options: NetOptions,
     input: &mut S,
@@ -78,7 +85,16 @@ fn sum_up<S: Source, K: Sink, E: Sink>(
 {
     steps_are_possible();
     let mut runner = Runner::new(alloc, Some(Counts::new()));
-    match run_lines(alloc, options, &mut runner, input, &mut Nowhere, err) {
+    match run_lines(
+        rt,
+        gang,
+        alloc,
+        options,
+        &mut runner,
+        input,
+        &mut Nowhere,
+        err,
+    ) {
         Status::Done => tell_summary(alloc, runner.counts(), out),
         status => status,
     }
@@ -104,7 +120,9 @@ fn tell_summary<K: Sink>(alloc: Global, counts: Option<Counts>, out: &mut K) -> 
 }
 
 // Reads a script to its end, and applies its lines as they come, by a runner to which none has come yet.
-fn run_lines<S: Source, K: Sink, E: Sink>(
+fn run_lines<R: Threads + Sync, G: Gang, S: Source, K: Sink, E: Sink>(
+    rt: &R,
+    gang: &mut G,
     alloc: Global,
     options: NetOptions,
     runner: &mut Runner,
@@ -128,7 +146,7 @@ fn run_lines<S: Source, K: Sink, E: Sink>(
             Piece::Bytes(count) => {
                 let used = count.min(MOST_BYTES - total);
                 total += used;
-                match runner.feed(&piece[..used], out) {
+                match runner.feed(rt, gang, &piece[..used], out) {
                     Ok(()) => {}
                     Err(stop) => return tell(alloc, options, runner, stop, out, err),
                 }
@@ -140,7 +158,7 @@ fn run_lines<S: Source, K: Sink, E: Sink>(
             Piece::Failed => return Status::ReadFault,
         }
     }
-    match runner.finish(out) {
+    match runner.finish(rt, gang, out) {
         Ok(()) => Status::Done,
         Err(stop) => tell(alloc, options, runner, stop, out, err),
     }

@@ -10,6 +10,7 @@ use Rattle.zr_script_spec.specs.declared.report.ReportLine.{ReportLine}
 use Rattle.zr_script_spec.specs.Report.{line_text}
 use Rattle.zr_script_spec.specs.Step.{IsSaid}
 use Rattle.zr_world_spec.specs.Acts.{Outcome, outcome}
+use Rattle.zr_world_spec.specs.Next.{Done}
 use Rattle.zr_world_spec.specs.Run.{Run}
 use Rattle.zr_outside.specs.Told.{AppendsPrefix}
 use Rattle.zr_world.specs.Living.{Living, alive, Applies}
@@ -44,6 +45,8 @@ stops_by e.NotAsked run earlier new a b prefix (inl h) = absurd (cc)
 stops_by e.NotAsked run earlier new a b prefix (inr h) = h
 stops_by e.NotSettled run earlier new a b prefix (inl h) = absurd (cc)
 stops_by e.NotSettled run earlier new a b prefix (inr h) = h
+stops_by e.NotSamples run earlier new a b prefix (inl h) = absurd (cc)
+stops_by e.NotSamples run earlier new a b prefix (inr h) = h
 stops_by e.NotJoined run earlier new a b prefix (inl h) = absurd (cc)
 stops_by e.NotJoined run earlier new a b prefix (inr h) = h
 stops_by e.Limit run earlier new a b prefix (inl h) = absurd (cc)
@@ -62,6 +65,7 @@ error_is_said e.AlreadyLinked said h = inr h
 error_is_said e.NothingThere said h = inr h
 error_is_said e.NotAsked said h = inr h
 error_is_said e.NotSettled said h = inr h
+error_is_said e.NotSamples said h = inr h
 error_is_said e.NotJoined said h = inr h
 error_is_said e.Limit said h = inr h
 error_is_said e.NoMemory said h = inl refl
@@ -79,31 +83,32 @@ error_of_act e.AlreadyLinked said old new before after h = inr h.0
 error_of_act e.NothingThere said old new before after h = inr h.0
 error_of_act e.NotAsked said old new before after h = inr h.0
 error_of_act e.NotSettled said old new before after h = inr h.0
+error_of_act e.NotSamples said old new before after h = inr h.0
 error_of_act e.NotJoined said old new before after h = inr h.0
 error_of_act e.Limit said old new before after h = inr h.0
 error_of_act e.NoMemory said old new before after h = inl refl
 
--- ---- one act
+-- ---- what was done, of an act or of a fan
 
--- an act that was refused, or memory ran out at it
-pub act_stops : (k m : Kept) (act : Act) (world : Living) (before after : List ReportLine) (a : Option (List ℕ)) (error : ScriptError) →
-    Applies (Err error) (outcome k.world.state k.number act) k.world world before after → m.number ≡ k.number → m.pending ≡ k.pending →
-    Stopped (stop_of error) (run_by k act) k.pending m a a
-act_stops k m act world before after a error applies number pending =
-    stops_by error (run_by k act) k.pending m a a (prefix_none (k.pending ++ (run_by k act).text) a) (by (error_of_act error (outcome k.world.state k.number act) k.world world before after applies))
+-- it was refused, or memory ran out at it
+pub done_stops : (k m : Kept) (said : Done) (world : Living) (before after : List ReportLine) (a : Option (List ℕ)) (error : ScriptError) →
+    Applies (Err error) said k.world world before after → m.number ≡ k.number → m.pending ≡ k.pending →
+    Stopped (stop_of error) (run_behind k said) k.pending m a a
+done_stops k m said world before after a error applies number pending =
+    stops_by error (run_behind k said) k.pending m a a (prefix_none (k.pending ++ (run_behind k said).text) a) (by (error_of_act error said k.world world before after applies))
   where
-    by : (error ≡ e.NoMemory) ⊎ (outcome k.world.state k.number act ≡ Err error) →
-        (error ≡ e.NoMemory) ⊎ (((run_by k act).refusal ≡ Some error) × (m.number ≡ (run_by k act).number) × Written (k.pending ++ (run_by k act).text) m.pending a a)
+    by : (error ≡ e.NoMemory) ⊎ (said ≡ Err error) →
+        (error ≡ e.NoMemory) ⊎ (((run_behind k said).refusal ≡ Some error) × (m.number ≡ (run_behind k said).number) × Written (k.pending ++ (run_behind k said).text) m.pending a a)
     by (inl h) = inl h
     by (inr h) =
-        let run : run_by k act ≡ run_behind k (Err error) = ap (λ o. run_behind k o) h in
+        let run : run_behind k said ≡ run_behind k (Err error) = ap (λ o. run_behind k o) h in
         inr (subst (λ (r : Run). (r.refusal ≡ Some error) × (m.number ≡ r.number) × Written (k.pending ++ r.text) m.pending a a) (sym run)
         (refl, number, subst (λ (z : List ℕ). Written (k.pending ++ []) z a a) (sym pending) (nothing_said k.pending a)))
 
 -- an act that was done: its run has the world and the text of the report lines that came
-pub act_is_done : (k : Kept) (act : Act) (world : Living) (report : List ReportLine) (u : Unit {0}) → Applies (Ok u) (outcome k.world.state k.number act) k.world world [] report →
-    (run_by k act ≡ record { world = world.state; number = k.number; text = flat_map line_text report; refusal = None }) × (world ≡ alive world.state)
-act_is_done k act world report u applies = by (outcome k.world.state k.number act) applies
+done_is : (k : Kept) (said : Done) (world : Living) (report : List ReportLine) (u : Unit {0}) → Applies (Ok u) said k.world world [] report →
+    (run_behind k said ≡ record { world = world.state; number = k.number; text = flat_map line_text report; refusal = None }) × (world ≡ alive world.state)
+done_is k said world report u applies = by said applies
   where
     by : (o : Outcome) → Applies (Ok u) o k.world world [] report →
         (run_behind k o ≡ record { world = world.state; number = k.number; text = flat_map line_text report; refusal = None }) × (world ≡ alive world.state)
@@ -115,17 +120,32 @@ act_is_done k act world report u applies = by (outcome k.world.state k.number ac
     by (Err error) h = absurd (false≢true h.1)
 
 -- what was done is a turn, where its text was written as far as it doesn't wait
-pub act_turns : (k m : Kept) (act : Act) (report : List ReportLine) (a b : Option (List ℕ)) (u : Unit {0}) → Applies (Ok u) (outcome k.world.state k.number act) k.world m.world [] report →
-    m.number ≡ k.number → m.line ≡ k.line → Written (k.pending ++ flat_map line_text report) m.pending a b → IsAt (run_by k act) k.line k.pending m a b
-act_turns k m act report a b u applies number line written =
-    let done = act_is_done k act m.world report u applies in
+pub done_turns : (k m : Kept) (said : Done) (report : List ReportLine) (a b : Option (List ℕ)) (u : Unit {0}) → Applies (Ok u) said k.world m.world [] report →
+    m.number ≡ k.number → m.line ≡ k.line → Written (k.pending ++ flat_map line_text report) m.pending a b → IsAt (run_behind k said) k.line k.pending m a b
+done_turns k m said report a b u applies number line written =
+    let done = done_is k said m.world report u applies in
     subst (λ (r : Run). IsAt r k.line k.pending m a b) (sym done.0) (record { world = done.1; number = number; line_is = line; refusal = refl; text = written })
 
 -- a write failed behind it
+pub done_fails : (k : Kept) (said : Done) (world : Living) (report : List ReportLine) (a b : Option (List ℕ)) (u : Unit {0}) → Applies (Ok u) said k.world world [] report →
+    AppendsPrefix (k.pending ++ flat_map line_text report) a b → AppendsPrefix (k.pending ++ (run_behind k said).text) a b
+done_fails k said world report a b u applies out =
+    subst (λ (r : Run). AppendsPrefix (k.pending ++ r.text) a b) (sym (done_is k said world report u applies).0) out
+
+-- ---- one act
+
+pub act_stops : (k m : Kept) (act : Act) (world : Living) (before after : List ReportLine) (a : Option (List ℕ)) (error : ScriptError) →
+    Applies (Err error) (outcome k.world.state k.number act) k.world world before after → m.number ≡ k.number → m.pending ≡ k.pending →
+    Stopped (stop_of error) (run_by k act) k.pending m a a
+act_stops k m act = done_stops k m (outcome k.world.state k.number act)
+
+pub act_turns : (k m : Kept) (act : Act) (report : List ReportLine) (a b : Option (List ℕ)) (u : Unit {0}) → Applies (Ok u) (outcome k.world.state k.number act) k.world m.world [] report →
+    m.number ≡ k.number → m.line ≡ k.line → Written (k.pending ++ flat_map line_text report) m.pending a b → IsAt (run_by k act) k.line k.pending m a b
+act_turns k m act = done_turns k m (outcome k.world.state k.number act)
+
 pub act_fails : (k : Kept) (act : Act) (world : Living) (report : List ReportLine) (a b : Option (List ℕ)) (u : Unit {0}) → Applies (Ok u) (outcome k.world.state k.number act) k.world world [] report →
     AppendsPrefix (k.pending ++ flat_map line_text report) a b → AppendsPrefix (k.pending ++ (run_by k act).text) a b
-act_fails k act world report a b u applies out =
-    subst (λ (r : Run). AppendsPrefix (k.pending ++ r.text) a b) (sym (act_is_done k act world report u applies).0) out
+act_fails k act = done_fails k (outcome k.world.state k.number act)
 
 -- ---- texts that wait only where the report is written
 

@@ -18,6 +18,7 @@ use Rattle.zr_script_spec.specs.Step.{◌>>=◌}
 use Rattle.zr_script_spec.specs.Lines.{most_bytes, parts, all_but_last, ended_lines, open_line, unless_empty, lines}
 use Rattle.zr_script_spec.specs.Command.{command_of}
 use Rattle.zr_world_spec.specs.World.{WorldState, Routers, most_steps}
+use Rattle.zr_world_spec.specs.Fan.{most_fan_steps}
 use Rattle.zr_world_spec.specs.Acts.{outcome}
 use Rattle.zr_world_spec.specs.Next.{Done, next, world_after, with_more, run_steps, acts, booking, book_step, run_done, applied}
 use Rattle.zr_world_spec.specs.Run.{Run, start, stepped, commanded, on_line}
@@ -54,10 +55,15 @@ steps_short n (suc steps) w = by (next w) (λ v. steps_short n steps v)
     by None ih = omega arith
     by (Some step) ih = let rest = ih (world_after w (outcome w n step)) in omega arith
 
+most_fanned_steps : most_fan_steps ≤ most_steps
+unfolding most_fan_steps
+most_fanned_steps = omega arith
+
 -- a command that is done has no more acts than a run may ask for steps
 few_acts : (w : WorldState) (n : ℕ) (asked : Command) (x : List ReportLine × WorldState) → applied w n asked ≡ Ok x → length (acts w n asked) ≤ most_steps
 unfolding applied book_step
 few_acts w n (c.Act act) x h = omega arith
+few_acts w n c.Fan x h = let few = steps_short n most_fan_steps w in let most = most_fanned_steps in omega (arith, few, most)
 few_acts w n (c.Run steps) x h = by (nat_le (w.booked + steps) most_steps) refl h
   where
     by : (b : Bool) → nat_le (w.booked + steps) most_steps ≡ b → (cond b (Ok (booking w steps)) (Err Limit) >>= run_done n steps) ≡ Ok x → length (run_steps n steps w) ≤ most_steps
@@ -165,6 +171,7 @@ counts_less rs ls n few room = λ i. record {
     h (line.Handled router from msg tag) e = e
     h (line.Taken router to msg tag) e = refl
     h (line.Ran steps quiet) e = refl
+    h (line.Fanned text steps kinds) e = refl
     h (line.Mark n) e = refl
     h (line.Show router) e = refl
     h (line.Record links) e = refl
@@ -175,6 +182,7 @@ counts_less rs ls n few room = λ i. record {
     t (line.Handled router from msg tag) e = refl
     t (line.Taken router to msg tag) e = absurd (false≢true (sym e))
     t (line.Ran steps quiet) e = refl
+    t (line.Fanned text steps kinds) e = refl
     t (line.Mark n) e = refl
     t (line.Show router) e = refl
     t (line.Record links) e = refl
@@ -185,6 +193,7 @@ counts_less rs ls n few room = λ i. record {
     s (line.Handled router from msg tag) e = refl
     s (line.Taken router to msg tag) e = absurd (false≢true (sym e))
     s (line.Ran steps quiet) e = refl
+    s (line.Fanned text steps kinds) e = refl
     s (line.Mark n) e = refl
     s (line.Show router) e = refl
     s (line.Record links) e = refl
@@ -195,6 +204,7 @@ counts_less rs ls n few room = λ i. record {
     k (line.Handled router from msg tag) e = refl
     k (line.Taken router to msg tag) e = refl
     k (line.Ran steps quiet) e = refl
+    k (line.Fanned text steps kinds) e = refl
     k (line.Mark n) e = e
     k (line.Show router) e = refl
     k (line.Record links) e = refl

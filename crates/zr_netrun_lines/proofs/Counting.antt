@@ -1,14 +1,16 @@
 -- Counting goes on act by act (`act_counts`), with what was said of a moment's report. What is ahead is a list of accepted acts: of a
 -- line, of a run, of a piece; each part that is done leaves the rest (`ahead_more`), until none is left.
-use Rattle.std.proofs.Common.{◌≡◌, ℕ, suc, ◌+◌, ◌-◌, ◌<◌, Bool, true, false, cond, not, List, [], ◌∷◌, ◌++◌, Option, Some, None, Result, Ok, Err, refl, sym, ap, ◌∙◌, ◌⊎◌, inl, append-nil, arith, subst}
-use Rattle.std.specs.Prelude.{nat_le, is_some, is_none, IfSome, OnOk, map}
-use Rattle.std.specs.List.{fold}
+use Rattle.std.proofs.Common.{◌≡◌, ℕ, suc, ◌+◌, ◌-◌, ◌<◌, Bool, true, false, cond, not, List, [], ◌∷◌, ◌++◌, Option, Some, None, Result, Ok, Err, refl, sym, ap, ◌∙◌, ◌⊎◌, inl, append-nil, append_assoc, arith, subst}
+use Rattle.std.specs.Prelude.{nat_le, is_some, is_none, IfOk, IfSome, OnOk, map}
+use Rattle.std.specs.List.{count_by, fold, list_all}
 use Rattle.std.specs.Option.{option_map}
-use Rattle.std.proofs.lemmas.Bool.{false≢true, true≢false}
+use Rattle.std.proofs.lemmas.Bool.{false≢true, true≢false, and_parts}
 use Rattle.std.proofs.lemmas.List.Sums.{fold-append, sum_by-append}
 use Rattle.zr_script_spec.specs.declared.error.ScriptError.{ScriptError}
 use Rattle.zr_script_spec.specs.declared.error.ScriptError.TheVariants.{Limit}
 use Rattle.zr_script_spec.specs.declared.command.Act.{Act}
+use Rattle.zr_script_spec.specs.declared.command.Act.TheVariants as a
+use Rattle.zr_script_spec.specs.Step.{◌>>=◌}
 use Rattle.zr_script_spec.specs.declared.command.Command.{Command}
 use Rattle.zr_script_spec.specs.declared.command.Command.TheVariants as c
 use Rattle.zr_script_spec.specs.declared.report.ReportLine.{ReportLine}
@@ -16,20 +18,24 @@ use Rattle.zr_script_spec.specs.declared.report.ReportLine.TheVariants as line
 use Rattle.zr_script_spec.specs.Command.{command_of}
 use Rattle.zr_world_spec.specs.World.{WorldState, Routers, with_booked, router_of, most_steps}
 use Rattle.zr_world_spec.specs.Acts.{Outcome, outcome}
-use Rattle.zr_world_spec.specs.Next.{next, world_after, with_more, run_steps, booking, book_step}
+use Rattle.zr_world_spec.specs.Fan.{kinds_of, most_fan_steps, fanned}
+use Rattle.zr_world_spec.specs.Next.{Done, next, world_after, with_more, run_steps, all_done, fan_steps, fan_step, booking, book_step}
 use Rattle.zr_world_spec.specs.Run.{on_line}
-use Rattle.zr_world_spec.specs.Moments.{Numbered, Moment, went, onward}
+use Rattle.zr_world_spec.specs.Moments.{Numbered, Moment, is_step, went, onward}
 use Rattle.zr_world_spec.specs.Accepted.{entries, accepted_from}
 use Rattle.zr_world_spec.proofs.Counting.{recounted, outcome_recounted, steps_recounted}
 use Rattle.zr_world_spec.proofs.Next.{none_left}
+use Rattle.zr_world_spec.proofs.Cases.{for_handle, for_take}
+use Rattle.zr_world_spec.proofs.Lines.{all_steps, made, acts_lead, fan_led}
 use Rattle.zr_world.specs.Living.{Living, Applies, Books}
 use Rattle.zr_netrun_report.specs.declared.counts.Counts.{Counts}
 use Rattle.zr_netrun_report.specs.Summary.{tells_handled, tells_taken, tells_sent, tells_mark, counts_in, counts_of}
-use Rattle.zr_netrun_report.specs.Counted.{all_capped, with_taken, with_line, with_lines}
+use Rattle.zr_netrun_report.specs.Counted.{all_capped, with_kinds, with_taken, with_line, with_lines}
 use Rattle.zr_netrun_lines.specs.declared.runner.RunStop.{RunStop}
 use Rattle.zr_netrun_lines.specs.Kept.{Kept, fresh, Turns, StepsOn, run_behind}
-use Rattle.zr_netrun_lines.specs.Counted.{IsCounted, CountsAhead, CountsOn, acts_by, step_by}
-use Rattle.zr_netrun_lines.proofs.Known.{Goes, act_keeps, known_stay, counts_stay}
+use Rattle.zr_lists.proofs.Tests.{all_parts}
+use Rattle.zr_netrun_lines.specs.Counted.{is_known, IsCounted, CountsAhead, CountsOn, acts_by, step_by}
+use Rattle.zr_netrun_lines.proofs.Known.{KeepsNames, same_names, Goes, act_keeps, known_stay, counts_stay}
 use Rattle.zr_netrun_lines.proofs.Stepping.{counted, IsRunning, IsStep, one_left, the_step}
 
 -- ---- counts
@@ -41,19 +47,20 @@ same_counts : (a b : Counts) → a.handled ≡ b.handled → a.taken ≡ b.taken
 same_counts a b h t s k = λ i. record { handled = h i; taken = t i; sent = s i; marks = k i }
 
 -- one line
-line_counted : (routers : Routers) (l : ReportLine) (t : Counts) → with_line routers (all_capped t) l ≡ all_capped (plus t (counts_in routers (l ∷ [])))
-line_counted routers (line.Handled router from msg tag) t = same_counts _ _ (omega arith) (omega arith) (omega arith) (omega arith)
-line_counted routers (line.Taken router to msg tag) t = by (is_some (router_of routers to))
+line_counted : (w : WorldState) (routers : Routers) (l : ReportLine) (t : Counts) → is_known w l ≡ true → with_line routers (all_capped t) l ≡ all_capped (plus t (counts_in routers (l ∷ [])))
+line_counted w routers (line.Handled router from msg tag) t e = same_counts _ _ (omega arith) (omega arith) (omega arith) (omega arith)
+line_counted w routers (line.Taken router to msg tag) t e = by (is_some (router_of routers to))
   where
     by : (b : Bool) → with_taken b (all_capped t) ≡ all_capped (plus t (record { handled = 0; taken = 0 + cond b 1 0; sent = 0 + cond (not b) 1 0; marks = 0 }))
     by true = same_counts _ _ (omega arith) (omega arith) (omega arith) (omega arith)
     by false = same_counts _ _ (omega arith) (omega arith) (omega arith) (omega arith)
-line_counted routers (line.Ran steps quiet) t = same_counts _ _ (omega arith) (omega arith) (omega arith) (omega arith)
-line_counted routers (line.Mark n) t = same_counts _ _ (omega arith) (omega arith) (omega arith) (omega arith)
-line_counted routers (line.Show router) t = same_counts _ _ (omega arith) (omega arith) (omega arith) (omega arith)
-line_counted routers (line.Record links) t = same_counts _ _ (omega arith) (omega arith) (omega arith) (omega arith)
-line_counted routers (line.Parent root parent) t = same_counts _ _ (omega arith) (omega arith) (omega arith) (omega arith)
-line_counted routers (line.Source source number decls) t = same_counts _ _ (omega arith) (omega arith) (omega arith) (omega arith)
+line_counted w routers (line.Ran steps quiet) t e = same_counts _ _ (omega arith) (omega arith) (omega arith) (omega arith)
+line_counted w routers (line.Fanned text steps kinds) t e = absurd (false≢true e)
+line_counted w routers (line.Mark n) t e = same_counts _ _ (omega arith) (omega arith) (omega arith) (omega arith)
+line_counted w routers (line.Show router) t e = same_counts _ _ (omega arith) (omega arith) (omega arith) (omega arith)
+line_counted w routers (line.Record links) t e = same_counts _ _ (omega arith) (omega arith) (omega arith) (omega arith)
+line_counted w routers (line.Parent root parent) t e = same_counts _ _ (omega arith) (omega arith) (omega arith) (omega arith)
+line_counted w routers (line.Source source number decls) t e = same_counts _ _ (omega arith) (omega arith) (omega arith) (omega arith)
 
 -- what is counted of two reports together
 counts_append : (routers : Routers) (xs ys : List ReportLine) → counts_in routers (xs ++ ys) ≡ plus (counts_in routers xs) (counts_in routers ys)
@@ -65,10 +72,12 @@ plus_assoc : (a b c : Counts) → plus (plus a b) c ≡ plus a (plus b c)
 plus_assoc a b c = same_counts _ _ (omega arith) (omega arith) (omega arith) (omega arith)
 
 -- lines that are counted one after another are all counted
-lines_counted : (routers : Routers) (lines : List ReportLine) (t : Counts) → with_lines routers (all_capped t) lines ≡ all_capped (plus t (counts_in routers lines))
-lines_counted routers [] t = same_counts _ _ (omega arith) (omega arith) (omega arith) (omega arith)
-lines_counted routers (l ∷ ls) t =
-    ap (λ c. with_lines routers c ls) (line_counted routers l t) ∙ lines_counted routers ls (plus t (counts_in routers (l ∷ [])))
+lines_counted : (w : WorldState) (routers : Routers) (lines : List ReportLine) (t : Counts) → list_all (is_known w) lines ≡ true →
+    with_lines routers (all_capped t) lines ≡ all_capped (plus t (counts_in routers lines))
+lines_counted w routers [] t known = same_counts _ _ (omega arith) (omega arith) (omega arith) (omega arith)
+lines_counted w routers (l ∷ ls) t known =
+    let parts = and_parts (is_known w l) (list_all (is_known w) ls) known in
+    ap (λ c. with_lines routers c ls) (line_counted w routers l t parts.0) ∙ lines_counted w routers ls (plus t (counts_in routers (l ∷ []))) parts.1
     ∙ ap all_capped (plus_assoc t (counts_in routers (l ∷ [])) (counts_in routers ls) ∙ ap (plus t) (sym (counts_append routers (l ∷ []) ls)))
 
 -- ---- what is ahead
@@ -187,7 +196,7 @@ act_counts k m act report u applies counts = record {
         all None h = tt
         all (Some x) h =
             ap (λ (w : WorldState). with_lines w.routers x report) state ∙ ap (with_lines y.1.routers x) lines ∙ ap (λ z. with_lines y.1.routers z y.0) h
-            ∙ lines_counted y.1.routers y.0 (counts_of n) ∙ ap all_capped together
+            ∙ lines_counted n.world y.1.routers y.0 (counts_of n) (all_parts (is_known n.world) n.report y.0 (goes.known is.known)).1 ∙ ap all_capped together
 
     by : (n : Moment) → IsCounted k n → (o : Outcome) → outcome n.world k.number act ≡ o → Applies (Ok u) (recounted k.world.state.booked o) k.world m.world [] report →
         (n' : Moment) × (fold onward (Some n) (acts_by k (c.Act act)) ≡ Some n') × IsCounted m n'
@@ -195,6 +204,131 @@ act_counts k m act report u applies counts = record {
     by n is (Ok y) eq h =
         let goes = subst (λ (o : Outcome). IfSome (went n o) (Goes n)) eq (act_keeps n k.number act) in
         (record { world = y.1; report = n.report ++ y.0 }, ap (went n) eq, at_done n is y goes (ap (λ (z : Living). z.state) h.0.0) h.0.1)
+
+-- ---- a fan
+
+-- what steps report tells of no mark
+no_marks_both : (xs ys : List ReportLine) → count_by tells_mark xs ≡ 0 → count_by tells_mark ys ≡ 0 → count_by tells_mark (xs ++ ys) ≡ 0
+no_marks_both xs ys a b = sum_by-append (λ x. cond (tells_mark x) 1 0) xs ys ∙ (λ i. a i + b i)
+
+abbrev NoMarks : Moment → Type 0
+NoMarks m = count_by tells_mark m.report ≡ 0
+
+step_marks_none : (now : Moment) → NoMarks now → (n : ℕ) (act : Act) → is_step act ≡ true → IfSome (went now (outcome now.world n act)) NoMarks
+unfolding outcome
+step_marks_none now h n (a.Handle router from) ok = for_handle now NoMarks router from (λ r er there s es up msg tag xs front l el taken. no_marks_both now.report _ h refl)
+step_marks_none now h n (a.Take router to) ok = for_take now NoMarks router to (λ r er there s es up unbroken msg tag xs front. no_marks_both now.report _ h refl)
+step_marks_none now h n other ok = absurd (false≢true ok)
+
+-- steps keep names, tell neighbours that are there, and tell of no mark
+record Steps (m n : Moment) : Type 0 where
+  names : KeepsNames m.world n.world
+  known : list_all (is_known m.world) m.report ≡ true → list_all (is_known n.world) n.report ≡ true
+  marks : NoMarks m → NoMarks n
+
+keeps_twice : (w v u : WorldState) → KeepsNames w v → KeepsNames v u → KeepsNames w u
+keeps_twice w v u a b = record {
+  routers = λ q there. b.routers q (a.taken q there) ∙ a.routers q there;
+  taken = λ q there. b.taken q (a.taken q there);
+}
+
+abbrev moved_to : Moment → List ReportLine × WorldState → Moment
+moved_to m x = record { world = x.1; report = m.report ++ x.0 }
+
+-- what was said first, and then the rest
+abbrev said_first : List ReportLine → List ReportLine × WorldState → Done
+said_first said y = Ok (said ++ y.0, y.1)
+
+one_step : (line : ℕ) (act : Act) (m : Moment) → is_step act ≡ true → IfSome (went m (outcome m.world line act)) (Steps m)
+one_step line act m ok = by (outcome m.world line act) (act_keeps m line act) (λ h. step_marks_none m h line act ok)
+  where
+    by : (o : Outcome) → IfSome (went m o) (Goes m) → (NoMarks m → IfSome (went m o) NoMarks) → IfSome (went m o) (Steps m)
+    by (Err e) g k = tt
+    by (Ok x) g k = record { names = g.names; known = λ h. known_stay m.world x.1 g.names (m.report ++ x.0) (g.known h); marks = k }
+
+after_steps : (line : ℕ) (several : List Act) (m : Moment) → list_all is_step several ≡ true → IfOk (all_done m.world line several) (λ x. Steps m (moved_to m x))
+after_steps line [] m ok = record {
+  names = same_names m.world m.world (λ q. refl) (λ q. refl);
+  known = λ h. ap (list_all (is_known m.world)) (append-nil m.report) ∙ h;
+  marks = λ h. ap (count_by tells_mark) (append-nil m.report) ∙ h;
+}
+after_steps line (act ∷ more) m ok =
+    let parts = and_parts (is_step act) (list_all is_step more) ok in
+    by (outcome m.world line act) (one_step line act m parts.0) (λ n. after_steps line more n parts.1)
+  where
+    by : (o : Outcome) → IfSome (went m o) (Steps m) → ((n : Moment) → IfOk (all_done n.world line more) (λ x. Steps n (moved_to n x))) →
+        IfOk (o >>= (λ x. all_done x.1 line more >>= (said_first x.0))) (λ x. Steps m (moved_to m x))
+    by (Err e) g ih = tt
+    by (Ok x) g ih = at (all_done x.1 line more) (ih (moved_to m x))
+      where
+        at : (d : Done) → IfOk d (λ y. Steps (moved_to m x) (moved_to (moved_to m x) y)) → IfOk (d >>= (said_first x.0)) (λ y. Steps m (moved_to m y))
+        at (Err e) k = tt
+        at (Ok y) k = subst (λ (r : List ReportLine). Steps m (record { world = y.1; report = r })) (append_assoc m.report x.0 y.0)
+            (record { names = keeps_twice m.world x.1 y.1 g.names k.names; known = λ h. k.known (g.known h); marks = λ h. k.marks (g.marks h) })
+
+-- the steps of a fan are counted by their kinds
+kinds_counted : (routers : Routers) (said : List ReportLine) (t : Counts) → count_by tells_mark said ≡ 0 →
+    with_kinds (all_capped t) (kinds_of routers said) ≡ all_capped (plus t (counts_in routers said))
+kinds_counted routers said t none = same_counts _ _ (omega arith) (omega arith) (omega arith) (omega (arith, none))
+
+pub fan_counts : (k m : Kept) (report : List ReportLine) (u : Unit {0}) → Applies (Ok u) (fan_step k.world.state k.number) k.world m.world [] report →
+    m.counts ≡ option_map (λ x. with_lines m.world.state.routers x report) k.counts → CountsOn (acts_by k c.Fan) k m
+fan_counts k m report u applies counts = record {
+  mode = ap is_none counts ∙ same k.counts;
+  goes = λ n is. by n is (fan_step (with_booked n.world k.world.state.booked) k.number) refl
+      (subst (λ (o : Done). Applies (Ok u) o k.world m.world [] report) (ap (λ w. fan_step w k.number) is.world_is) applies);
+}
+  where
+    same : (o : Option Counts) → is_none (option_map (λ x. with_lines m.world.state.routers x report) o) ≡ is_none o
+    same None = refl
+    same (Some x) = refl
+
+    at_done : (n : Moment) → IsCounted k n → (y : List ReportLine × WorldState) → all_done n.world k.number (fan_steps k.number n.world) ≡ Ok y →
+        m.world.state ≡ with_booked y.1 k.world.state.booked → report ≡ fanned y.1.routers y.0 ∷ [] → IsCounted m (moved_to n y)
+    at_done n is y done state lines = record {
+      world_is = state ∙ ap (with_booked y.1) (sym (ap (λ (z : WorldState). z.booked) state));
+      counts_are = subst (λ (o : Option Counts). IfSome o (λ x. x ≡ all_capped (counts_of after))) (sym counts) (all k.counts is.counts_are);
+      known = steps.known is.known;
+    }
+      where
+        after : Moment
+        after = moved_to n y
+
+        acts_are : list_all is_step (fan_steps k.number n.world) ≡ true
+        acts_are = all_steps k.number most_fan_steps n.world
+
+        steps : Steps n after
+        steps = subst (λ (d : Done). IfOk d (λ x. Steps n (moved_to n x))) done (after_steps k.number (fan_steps k.number n.world) n acts_are)
+
+        bare : Moment
+        bare = record { world = n.world; report = [] }
+
+        none : count_by tells_mark y.0 ≡ 0
+        none = (subst (λ (d : Done). IfOk d (λ x. Steps bare (moved_to bare x))) done (after_steps k.number (fan_steps k.number n.world) bare acts_are)).marks refl
+
+        together : plus (counts_of n) (counts_in y.1.routers y.0) ≡ counts_of after
+        together = ap (λ z. plus z (counts_in y.1.routers y.0)) (sym (counts_stay n.world y.1 steps.names n.report is.known)) ∙ sym (counts_append y.1.routers n.report y.0)
+
+        all : (o : Option Counts) → IfSome o (λ x. x ≡ all_capped (counts_of n)) →
+            IfSome (option_map (λ x. with_lines m.world.state.routers x report) o) (λ x. x ≡ all_capped (counts_of after))
+        all None h = tt
+        all (Some x) h =
+            ap (λ (w : WorldState). with_lines w.routers x report) state ∙ ap (with_lines y.1.routers x) lines ∙ ap (λ z. with_kinds z (kinds_of y.1.routers y.0)) h
+            ∙ kinds_counted y.1.routers y.0 (counts_of n) none ∙ ap all_capped together
+
+    by : (n : Moment) → IsCounted k n → (o : Done) → fan_step (with_booked n.world k.world.state.booked) k.number ≡ o → Applies (Ok u) o k.world m.world [] report →
+        (n' : Moment) × (fold onward (Some n) (acts_by k c.Fan) ≡ Some n') × IsCounted m n'
+    by n is (Err e) eq h = absurd (false≢true h.1)
+    by n is (Ok x) eq h =
+        let led = fan_led n.world k.world.state.booked k.number x eq in
+        let acts_are = ap (λ w. fold onward (Some n) (map (λ a. (k.number, a)) (fan_steps k.number w))) is.world_is
+        ∙ ap (λ several. fold onward (Some n) (map (λ a. (k.number, a)) several)) (steps_recounted k.number most_fan_steps n.world k.world.state.booked)
+        ∙ acts_lead (fan_steps k.number n.world) k.number n ∙ ap (made n) led.1 in (
+          moved_to n led.0,
+          acts_are,
+          at_done n is led.0 led.1
+              (ap (λ (z : Living). z.state) h.0.0 ∙ ap (λ (z : List ReportLine × WorldState). z.1) led.2) (h.0.1 ∙ ap (λ (z : List ReportLine × WorldState). z.0) led.2),
+        )
 
 -- ---- a run
 

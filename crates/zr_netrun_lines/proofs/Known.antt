@@ -45,7 +45,7 @@ pub record KeepsNames (w v : WorldState) : Type 0 where
   pub taken : (q : List ℕ) → is_taken w q ≡ true → is_taken v q ≡ true
 
 -- where no name comes
-same_names : (w v : WorldState) → ((q : List ℕ) → is_some (router_of v.routers q) ≡ is_some (router_of w.routers q)) →
+pub same_names : (w v : WorldState) → ((q : List ℕ) → is_some (router_of v.routers q) ≡ is_some (router_of w.routers q)) →
     ((q : List ℕ) → is_some (client_of v.clients q) ≡ is_some (client_of w.clients q)) → KeepsNames w v
 same_names w v routers clients = record {
   routers = λ q there. routers q;
@@ -94,6 +94,7 @@ abbrev pub is_counted : ReportLine → Bool
 is_counted (line.Handled router from msg tag) = true
 is_counted (line.Taken router to msg tag) = true
 is_counted (line.Ran steps quiet) = false
+is_counted (line.Fanned text steps kinds) = false
 is_counted (line.Mark n) = true
 is_counted (line.Show router) = false
 is_counted (line.Record links) = false
@@ -231,6 +232,7 @@ known_stay w v keeps lines h = weaker (is_known w) (is_known v) by lines h
     by (line.Handled router from msg tag) e = refl
     by (line.Taken router to msg tag) e = keeps.taken to e
     by (line.Ran steps quiet) e = refl
+    by (line.Fanned text steps kinds) e = e
     by (line.Mark n) e = refl
     by (line.Show router) e = refl
     by (line.Record links) e = refl
@@ -257,6 +259,7 @@ counts_stay w v keeps lines h = λ i. record {
     takes (line.Handled router from msg tag) e = refl
     takes (line.Taken router to msg tag) e = keeps.routers to e
     takes (line.Ran steps quiet) e = refl
+    takes (line.Fanned text steps kinds) e = refl
     takes (line.Mark n) e = refl
     takes (line.Show router) e = refl
     takes (line.Record links) e = refl
@@ -267,6 +270,7 @@ counts_stay w v keeps lines h = λ i. record {
     sends (line.Handled router from msg tag) e = refl
     sends (line.Taken router to msg tag) e = ap not (keeps.routers to e)
     sends (line.Ran steps quiet) e = refl
+    sends (line.Fanned text steps kinds) e = refl
     sends (line.Mark n) e = refl
     sends (line.Show router) e = refl
     sends (line.Record links) e = refl

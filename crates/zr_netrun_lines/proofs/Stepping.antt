@@ -19,10 +19,10 @@ use Rattle.zr_script_spec.specs.Command.{command_of}
 use Rattle.zr_script_spec.specs.Report.{line_text}
 use Rattle.zr_world_spec.specs.World.{WorldState, most_steps}
 use Rattle.zr_world_spec.specs.Acts.{Outcome, outcome}
-use Rattle.zr_world_spec.specs.Next.{Done, next, world_after, with_more, run_steps, all_done, booking, book_step, applied}
+use Rattle.zr_world_spec.specs.Next.{Done, next, world_after, with_more, run_steps, all_done, booking, book_step, fan_step, applied}
 use Rattle.zr_world_spec.specs.Run.{Run, stepped, commanded, on_line}
 use Rattle.zr_world_spec.proofs.Counting.{recounted, steps_recounted, done_recounted}
-use Rattle.zr_world_spec.proofs.Next.{one_act, behind, IsAhead, ahead_at_start, ahead_by_step, closes, ran, applied_run, run_ends, run_prefix, run_refused}
+use Rattle.zr_world_spec.proofs.Next.{one_act, one_fan, behind, IsAhead, ahead_at_start, ahead_by_step, closes, ran, applied_run, run_ends, run_prefix, run_refused}
 use Rattle.zr_outside.specs.Told.{AppendsPrefix}
 use Rattle.zr_world.specs.Living.{Living, alive, Books}
 use Rattle.zr_netrun_report.specs.Waiting.{Written}
@@ -87,6 +87,14 @@ pub act_line_turns : (k n m : Kept) (line : List ℕ) (act : Act) (a b : Option 
 act_line_turns k n m line act a b result asks same turn =
     line_turns k n m line (c.Act act) a b result asks same
     (subst (λ (d : Done). Turns result (run_behind n d) n.line n.pending m (seen (writes n) a) (seen (writes n) b)) (sym (one_act n.world.state n.number act)) turn)
+
+-- so did its fan
+pub fan_line_turns : (k n m : Kept) (line : List ℕ) (a b : Option (List ℕ)) (result : Result (Unit {0}) RunStop) → command_of line ≡ Ok (Some c.Fan) → n ≡ counted k →
+    Turns result (run_behind n (fan_step n.world.state n.number)) n.line n.pending m (seen (writes n) a) (seen (writes n) b) →
+    Turns result (on_line (fresh k) line) k.line k.pending m (seen (writes k) a) (seen (writes k) b)
+fan_line_turns k n m line a b result asks same turn =
+    line_turns k n m line c.Fan a b result asks same
+    (subst (λ (d : Done). Turns result (run_behind n d) n.line n.pending m (seen (writes n) a) (seen (writes n) b)) (sym (one_fan n.world.state n.number)) turn)
 
 -- ---- a run's last line
 

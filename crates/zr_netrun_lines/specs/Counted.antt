@@ -1,10 +1,10 @@
 -- How far the counting of a report has come, where a summary is asked for: what is kept, and a moment.
-use Rattle.std.specs.Prelude.{◌≡◌, ℕ, Bool, true, List, [], ◌∷◌, map, Option, Some, None, is_none, IfSome}
+use Rattle.std.specs.Prelude.{◌≡◌, ℕ, Bool, false, true, List, [], ◌∷◌, map, Option, Some, None, is_none, IfSome}
 use Rattle.std.specs.List.{fold, list_all}
 use Rattle.zr_script_spec.specs.declared.command.Act.{Act}
 use Rattle.zr_script_spec.specs.declared.command.Command.{Command}
 use Rattle.zr_script_spec.specs.declared.report.ReportLine.{ReportLine}
-use Rattle.zr_script_spec.specs.declared.report.ReportLine.TheVariants.{Handled, Taken, Ran, Mark, Show, Record, Parent, Source}
+use Rattle.zr_script_spec.specs.declared.report.ReportLine.TheVariants.{Handled, Taken, Ran, Fanned, Mark, Show, Record, Parent, Source}
 use Rattle.zr_world_spec.specs.World.{WorldState, with_booked, is_taken}
 use Rattle.zr_world_spec.specs.Next.{acts}
 use Rattle.zr_script_spec.specs.Lines.{lines}
@@ -14,11 +14,12 @@ use Rattle.zr_netrun_report.specs.Summary.{counts_of}
 use Rattle.zr_netrun_report.specs.Counted.{all_capped}
 use Rattle.zr_netrun_lines.specs.Kept.{Kept}
 
--- the neighbour that a report line names is there
+-- the neighbour that a report line names is there; a fan is told by one line, and what its steps report is asked
 abbrev pub is_known : WorldState → ReportLine → Bool
 is_known w (Handled router from msg tag) = true
 is_known w (Taken router to msg tag) = is_taken w to
 is_known w (Ran steps quiet) = true
+is_known w (Fanned lines steps kinds) = false
 is_known w (Mark line) = true
 is_known w (Show router) = true
 is_known w (Record links) = true

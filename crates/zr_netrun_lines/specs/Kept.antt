@@ -115,6 +115,7 @@ stop_of e.AlreadyLinked = Refused e.AlreadyLinked
 stop_of e.NothingThere = Refused e.NothingThere
 stop_of e.NotAsked = Refused e.NotAsked
 stop_of e.NotSettled = Refused e.NotSettled
+stop_of e.NotSamples = Refused e.NotSamples
 stop_of e.NotJoined = Refused e.NotJoined
 stop_of e.Limit = Refused e.Limit
 stop_of e.NoMemory = NoMemory

@@ -5,7 +5,7 @@ ghost use Rattle.std.specs.List.{fold};
 ghost use Rattle.zr_script_spec.specs.Lines.{most_bytes, most_kept, ended_lines, open_line, parts, unless_empty};
 ghost use Rattle.zr_script_spec.specs.Report.{line_text};
 ghost use Rattle.zr_world_spec.specs.Accepted.{accepted_from};
-ghost use Rattle.zr_world_spec.specs.Next.{applied, book_step, next};
+ghost use Rattle.zr_world_spec.specs.Next.{applied, book_step, fan_step, next};
 ghost use Rattle.zr_world_spec.specs.Run.{on_line};
 ghost use Rattle.zr_outside.specs.Counts.{Rose, RoseOnlyBy};
 ghost use Rattle.zr_outside.specs.Told.{Appends, AppendsPrefix};
@@ -18,6 +18,7 @@ ghost use Rattle.zr_netrun_lines.specs.Possible.{RunsGo, StepsGo};
 use std::alloc::{AllocError, Global};
 use std::marker::Model;
 use std::mem;
+use std::thread::Threads;
 use zr_netrun_report::counts::Counts;
 use zr_netrun_report::waiting::{put_line, tell_lines, write_if_enough, write_out};
 use zr_outside::sink::{Sink, WriteFailed};
@@ -26,6 +27,7 @@ use zr_script_spec::command::{Act, Command};
 use zr_script_spec::error::ScriptError;
 use zr_script_spec::report::ReportLine;
 use zr_world::world::World;
+use zr_world_gang::gang::Gang;
 
 /// How much of a line that has not ended is kept: one byte more than a line may have, which tells that it has too many.
 const MOST_KEPT: usize = MOST_LINE + 1;
@@ -123,7 +125,13 @@ impl Runner {
 
     /// A piece of the script has come: the lines that end in it are applied, their report is written, and the rest is kept. Between two
     /// acts less than 64 KiB of the report wait.
-    pub fn feed<K: Sink>(&mut self, piece: &[u8], out: &mut K) -> Result<(), RunStop>
+    pub fn feed<R: Threads + Sync, G: Gang, K: Sink>(
+        &mut self,
+        rt: &R,
+        gang: &mut G,
+        piece: &[u8],
+        out: &mut K,
+    ) -> Result<(), RunStop>
         requires alive { self.old.world.spent ≡ false }
         requires goes { StepsGo (fresh self.old) }
         requires room { self.old.number + length piece.now ≤ most_bytes }
@@ -136,12 +144,17 @@ impl Runner {
         ensures count { self.new.number ≤ self.old.number + length piece.now }
         ensures later { K.faults out.old ≤ K.faults out.new }
     {
-        self.feed_lines(piece, out)?;
+        self.feed_lines(rt, gang, piece, out)?;
         self.flush(out)
     }
 
     /// The script has ended: what was kept is its last line, unless that has no bytes.
-    pub fn finish<K: Sink>(&mut self, out: &mut K) -> Result<(), RunStop>
+    pub fn finish<R: Threads + Sync, G: Gang, K: Sink>(
+        &mut self,
+        rt: &R,
+        gang: &mut G,
+        out: &mut K,
+    ) -> Result<(), RunStop>
         requires alive { self.old.world.spent ≡ false }
         requires goes { StepsGo (fresh self.old) }
         requires room { self.old.number ≤ most_bytes }
@@ -153,7 +166,7 @@ impl Runner {
         ensures only { RoseOnlyBy RunStop.WriteFault result (K.faults out.old) (K.faults out.new) }
         ensures later { K.faults out.old ≤ K.faults out.new }
     {
-        self.end_last_line(out)?;
+        self.end_last_line(rt, gang, out)?;
         self.flush(out)
     }
 
@@ -171,7 +184,13 @@ impl Runner {
     }
 
     // The lines that end in a piece are applied, and the rest is kept.
-    fn feed_lines<K: Sink>(&mut self, piece: &[u8], out: &mut K) -> Result<(), RunStop>
+    fn feed_lines<R: Threads + Sync, G: Gang, K: Sink>(
+        &mut self,
+        rt: &R,
+        gang: &mut G,
+        piece: &[u8],
+        out: &mut K,
+    ) -> Result<(), RunStop>
         requires alive { self.old.world.spent ≡ false }
         requires goes { StepsGo (fresh self.old) }
         requires room { self.old.number + length piece.now ≤ most_bytes }
@@ -187,14 +206,19 @@ impl Runner {
         let _open = &self.line;
         let mut rest = piece;
         while let Some(place) = line_end(rest) {
-            self.end_line(&rest[..place], out)?;
+            self.end_line(rt, gang, &rest[..place], out)?;
             rest = &rest[place + 1..];
         }
         self.keep_part(rest)
     }
 
     // What was kept is the last line, unless it has no bytes.
-    fn end_last_line<K: Sink>(&mut self, out: &mut K) -> Result<(), RunStop>
+    fn end_last_line<R: Threads + Sync, G: Gang, K: Sink>(
+        &mut self,
+        rt: &R,
+        gang: &mut G,
+        out: &mut K,
+    ) -> Result<(), RunStop>
         requires alive { self.old.world.spent ≡ false }
         requires goes { StepsGo (fresh self.old) }
         requires room { self.old.number ≤ most_bytes }
@@ -209,12 +233,18 @@ impl Runner {
             return Ok(());
         }
         let line = mem::replace(&mut self.line, Vec::new(self.alloc));
-        self.apply_line(&line, out)
+        self.apply_line(rt, gang, &line, out)
     }
 
     // A line has ended, of which this is the last part.
     #[tactic(auto, using(crate::proofs::Runs::command_kept))]
-    fn end_line<K: Sink>(&mut self, part: &[u8], out: &mut K) -> Result<(), RunStop>
+    fn end_line<R: Threads + Sync, G: Gang, K: Sink>(
+        &mut self,
+        rt: &R,
+        gang: &mut G,
+        part: &[u8],
+        out: &mut K,
+    ) -> Result<(), RunStop>
         requires alive { self.old.world.spent ≡ false }
         requires goes { StepsGo (fresh self.old) }
         requires room { self.old.number ≤ most_bytes }
@@ -228,16 +258,22 @@ impl Runner {
         ensures later { K.faults out.old ≤ K.faults out.new }
     {
         if self.line.is_empty() {
-            return self.apply_line(part, out);
+            return self.apply_line(rt, gang, part, out);
         }
         self.keep_part(part)?;
         let line = mem::replace(&mut self.line, Vec::new(self.alloc));
-        self.apply_line(&line, out)
+        self.apply_line(rt, gang, &line, out)
     }
 
     // A line has ended. What it asks is done; where it is refused it is kept, as far as it matters. `on_line` stands apart from this, so that
     // whatever refuses a line there leads here.
-    fn apply_line<K: Sink>(&mut self, line: &[u8], out: &mut K) -> Result<(), RunStop>
+    fn apply_line<R: Threads + Sync, G: Gang, K: Sink>(
+        &mut self,
+        rt: &R,
+        gang: &mut G,
+        line: &[u8],
+        out: &mut K,
+    ) -> Result<(), RunStop>
         requires alive { self.old.world.spent ≡ false }
         requires goes { StepsGo (fresh self.old) }
         requires room { self.old.number ≤ most_bytes }
@@ -250,12 +286,18 @@ impl Runner {
         ensures count { self.new.number ≤ self.old.number + 1 }
         ensures later { K.faults out.old ≤ K.faults out.new }
     {
-        let done = self.on_line(line, out);
+        let done = self.on_line(rt, gang, line, out);
         self.keep_refused(line, done)
     }
 
     // A line has ended: it is counted, and what it asks is done.
-    fn on_line<K: Sink>(&mut self, line: &[u8], out: &mut K) -> Result<(), RunStop>
+    fn on_line<R: Threads + Sync, G: Gang, K: Sink>(
+        &mut self,
+        rt: &R,
+        gang: &mut G,
+        line: &[u8],
+        out: &mut K,
+    ) -> Result<(), RunStop>
         requires alive { self.old.world.spent ≡ false }
         requires goes { StepsGo (fresh self.old) }
         requires room { self.old.number ≤ most_bytes }
@@ -271,6 +313,7 @@ impl Runner {
             None => Ok(()),
             Some(Command::Act { act }) => self.do_act(act, out),
             Some(Command::Run { steps }) => self.run(steps, out),
+            Some(Command::Fan) => self.fan(rt, gang, out),
         }
     }
 
@@ -295,6 +338,34 @@ impl Runner {
     {
         self.report.clear();
         self.world.apply(self.number, act, &mut self.report)?;
+        tell_lines(
+            &mut self.counts,
+            &self.world,
+            &self.report,
+            &mut self.text,
+            &mut self.pending,
+        )?;
+        write_if_enough(&mut self.pending, out)?;
+        Ok(())
+    }
+
+    // All samples under way go to their ends; the one line that tells it is counted, or waits, and is written once enough waits.
+    fn fan<R: Threads + Sync, G: Gang, K: Sink>(
+        &mut self,
+        rt: &R,
+        gang: &mut G,
+        out: &mut K,
+    ) -> Result<(), RunStop>
+        requires alive { self.old.world.spent ≡ false }
+        ensures turn { Turns result (run_behind self.old (fan_step self.old.world.state self.old.number)) self.old.line self.old.pending self.new (seen (writes self.old) (K.held out.old)) (seen (writes self.old) (K.held out.new)) }
+        ensures counts { OnOk result (CountsOn (acts_by self.old Command.Fan) self.old self.new) }
+        ensures fault { result ≡ Err RunStop.WriteFault → Rose (K.faults out.old) (K.faults out.new) }
+        ensures only { RoseOnlyBy RunStop.WriteFault result (K.faults out.old) (K.faults out.new) }
+        ensures count { self.new.number ≡ self.old.number }
+        ensures later { K.faults out.old ≤ K.faults out.new }
+    {
+        self.report.clear();
+        self.world.fan(self.number, rt, gang, &mut self.report)?;
         tell_lines(
             &mut self.counts,
             &self.world,

@@ -4,50 +4,31 @@ use Rattle.std.specs.Prelude.{ℕ, not, Bool, true, false, List, ◌++◌, codes
 use Rattle.std.specs.Fmt.{decimal}
 use Rattle.std.specs.List.{count_by}
 use Rattle.zr_script_spec.specs.declared.report.ReportLine.{ReportLine}
-use Rattle.zr_script_spec.specs.declared.report.ReportLine.TheVariants.{Handled, Taken, Ran, Mark, Show, Record, Parent, Source}
+use Rattle.zr_script_spec.specs.declared.report.ReportLine.TheVariants.{Handled, Taken, Ran, Fanned, Mark, Show, Record, Parent, Source}
 use Rattle.zr_script_spec.specs.Report.{line_end}
 use Rattle.zr_world_spec.specs.World.{Routers, router_of}
+use Rattle.zr_world_spec.specs.Fan.{is_handled, is_taken_to}
 use Rattle.zr_world_spec.specs.Moments.{Moment}
 use Rattle.zr_netrun_report.specs.declared.counts.Counts.{Counts}
 
 -- whether a report line tells of a handled message
 abbrev pub tells_handled : ReportLine → Bool
-tells_handled (Handled router from msg tag) = true
-tells_handled (Taken router to msg tag) = false
-tells_handled (Ran steps quiet) = false
-tells_handled (Mark line) = false
-tells_handled (Show router) = false
-tells_handled (Record links) = false
-tells_handled (Parent root parent) = false
-tells_handled (Source source number decls) = false
+tells_handled line = is_handled line
 
 -- whether it tells of a message that went onto the wire to a router
 abbrev pub tells_taken : Routers → ReportLine → Bool
-tells_taken routers (Handled router from msg tag) = false
-tells_taken routers (Taken router to msg tag) = is_some (router_of routers to)
-tells_taken routers (Ran steps quiet) = false
-tells_taken routers (Mark line) = false
-tells_taken routers (Show router) = false
-tells_taken routers (Record links) = false
-tells_taken routers (Parent root parent) = false
-tells_taken routers (Source source number decls) = false
+tells_taken routers line = is_taken_to (λ to. is_some (router_of routers to)) line
 
 -- whether it tells of a message that was sent to a client: a neighbour that is no router
 abbrev pub tells_sent : Routers → ReportLine → Bool
-tells_sent routers (Handled router from msg tag) = false
-tells_sent routers (Taken router to msg tag) = not (is_some (router_of routers to))
-tells_sent routers (Ran steps quiet) = false
-tells_sent routers (Mark line) = false
-tells_sent routers (Show router) = false
-tells_sent routers (Record links) = false
-tells_sent routers (Parent root parent) = false
-tells_sent routers (Source source number decls) = false
+tells_sent routers line = is_taken_to (λ to. not (is_some (router_of routers to))) line
 
 -- whether it tells that a phase has begun
 abbrev pub tells_mark : ReportLine → Bool
 tells_mark (Handled router from msg tag) = false
 tells_mark (Taken router to msg tag) = false
 tells_mark (Ran steps quiet) = false
+tells_mark (Fanned lines steps kinds) = false
 tells_mark (Mark line) = true
 tells_mark (Show router) = false
 tells_mark (Record links) = false

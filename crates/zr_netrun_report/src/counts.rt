@@ -1,12 +1,12 @@
 //! `Counts`: what a summary tells of a report.
 
 ghost use Rattle.std.specs.Prelude.{◌≡◌, ◌++◌, OnOk};
-ghost use Rattle.zr_netrun_report.specs.Counted.{no_counts, with_line, with_lines, with_taken};
+ghost use Rattle.zr_netrun_report.specs.Counted.{no_counts, with_kinds, with_line, with_lines, with_taken};
 ghost use Rattle.zr_netrun_report.specs.Summary.{count_text, summary_text};
 
 use itoa::Buffer;
 use std::alloc::AllocError;
-use zr_script_spec::report::ReportLine;
+use zr_script_spec::report::{FanSteps, ReportLine};
 use zr_world::world::World;
 
 /// How many lines of a report are of each kind that a summary tells. A count stands still at 2^64 - 1.
@@ -50,6 +50,7 @@ impl Counts {
         match line {
             ReportLine::Handled { .. } => self.handled = self.handled.saturating_add(1),
             ReportLine::Taken { to, .. } => self.add_taken(world.is_router(to)),
+            ReportLine::Fanned { kinds, .. } => self.add_fan(kinds),
             ReportLine::Mark { .. } => self.marks = self.marks.saturating_add(1),
             ReportLine::Ran { .. }
             | ReportLine::Show { .. }
@@ -57,6 +58,14 @@ impl Counts {
             | ReportLine::Parent { .. }
             | ReportLine::Source { .. } => {}
         }
+    }
+
+    fn add_fan(&mut self, kinds: &FanSteps)
+        ensures { self.new ≡ with_kinds self.old kinds.now }
+    {
+        self.handled = self.handled.saturating_add(kinds.handled);
+        self.taken = self.taken.saturating_add(kinds.taken);
+        self.sent = self.sent.saturating_add(kinds.sent);
     }
 
     fn add_taken(&mut self, by_router: bool)

@@ -14,7 +14,8 @@ use Rattle.zr_netrun.specs.Told.{Tells, Complains}
 use Rattle.zr_netrun.specs.Judged.{refusal_told}
 use Rattle.zr_netrun.proofs.Reading.{after_nothing, reads_piece, seen_tells}
 use Rattle.zr_netrun.proofs.Telling.{stops_reading, passes_limit, still_after, fails_reading, ended_later, ends_done, ends_reading, stops_at_end, not_done, fault_not_done}
-use Rattle.zr_netrun.proofs.Failing.{rose_not, stop_told}
+use Rattle.zr_outside.proofs.Counting.{rose_not}
+use Rattle.zr_netrun.proofs.Failing.{stop_told}
 use Rattle.zr_netrun.proofs.netrun.run_lines.Goals as goal
 
 pub reading-init : goal.reading-init

@@ -3,7 +3,7 @@ use Rattle.zr_netrun_report.specs.declared.counts.Counts.{Counts}
 use Rattle.zr_netrun_lines.specs.Kept.{Kept, writes}
 use Rattle.zr_netrun.specs.Counted.{TellsSummary}
 use Rattle.zr_netrun.proofs.Summing.{summed, not_summed}
-use Rattle.zr_netrun.proofs.Failing.{rose_not}
+use Rattle.zr_outside.proofs.Counting.{rose_not}
 use Rattle.zr_netrun.proofs.netrun.sum_up.Goals as goal
 
 pub returns-in-Done-clause-summed_up : goal.returns-in-Done-clause-summed_up

@@ -30,7 +30,7 @@ loop-place-init g c = record {
 }
 
 pub end_line-requires-clause-open : goal.end_line-requires-clause-open
-end_line-requires-clause-open g c = open_front (λ b. b == 10) c.loop-place.rest.now c.in-Some.place 0 (sym c.in-Some.ensures)
+end_line-requires-clause-open g c κs lives = open_front (λ b. b == 10) c.loop-place.rest.now c.in-Some.place 0 (sym c.in-Some.ensures)
 
 pub returns-in_err-end_line-clause-turn : goal.returns-in_err-end_line-clause-turn
 returns-in_err-end_line-clause-turn g c =

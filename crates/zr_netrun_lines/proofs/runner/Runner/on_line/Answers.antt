@@ -5,7 +5,7 @@ use Rattle.zr_script_spec.specs.Command.{command_of}
 use Rattle.zr_script_spec.specs.Lines.{most_bytes}
 use Rattle.zr_netrun_lines.specs.Kept.{Kept}
 use Rattle.zr_netrun_lines.specs.Possible.{RunsGo}
-use Rattle.zr_netrun_lines.proofs.Stepping.{reading_stops, act_line_turns, line_turns}
+use Rattle.zr_netrun_lines.proofs.Stepping.{reading_stops, act_line_turns, fan_line_turns, line_turns}
 use Rattle.zr_netrun_lines.proofs.Counting.{silent_counts, line_counts_if}
 use Rattle.zr_outside.proofs.Counting.{only_still}
 use Rattle.zr_netrun_lines.specs.declared.runner.RunStop.TheVariants as stop
@@ -52,3 +52,15 @@ returns-in-Some-Run-clause-counts g c =
 
 pub returns-in_err-read_line-clause-only : goal.returns-in_err-read_line-clause-only
 returns-in_err-read_line-clause-only g c = only_still stop.WriteFault c.from_residual.result _ _ refl
+
+pub returns-in-Some-Fan-clause-turn : goal.returns-in-Some-Fan-clause-turn
+returns-in-Some-Fan-clause-turn g c =
+    let asks : command_of c.args.line.now ≡ Ok (Some k.Fan) = search rules in
+    fan_line_turns c.args.self.now c.count_line.new.self c.fan.new.self c.args.line.now _ _ c.fan.result asks c.count_line.ensures c.fan.ensures.turn
+
+pub returns-in-Some-Fan-clause-counts : goal.returns-in-Some-Fan-clause-counts
+returns-in-Some-Fan-clause-counts g c =
+    let asks : command_of c.args.line.now ≡ Ok (Some k.Fan) = search rules in
+    line_counts_if c.args.self.now c.count_line.new.self c.fan.new.self c.args.line.now _ _ k.Fan _ _ c.fan.result asks c.count_line.ensures
+    (fan_line_turns c.args.self.now c.count_line.new.self c.fan.new.self c.args.line.now (g.K.Sink.held c.args.out.now) (g.K.Sink.held c.fan.new.out) c.fan.result asks c.count_line.ensures c.fan.ensures.turn)
+    c.fan.ensures.counts
