@@ -3,6 +3,7 @@ use Rattle.std.proofs.Common.{◌≡◌, ◌∙◌, ◌⊎◌, ◌||◌, ℕ, Bo
 use Rattle.std.specs.Prelude.{IfSome, is_some}
 use Rattle.std.specs.List.{list_any}
 use Rattle.std.specs.Option.{option_map_or}
+use Rattle.rand_core.specs.Stream.{Stream}
 use Rattle.zr_access.specs.Rules.{PolicyState, open_policy}
 use Rattle.clap.specs.Kinds.{Kinds}
 use Rattle.zr_netrun.specs.declared.options.NetOptions.{NetOptions}
@@ -14,6 +15,7 @@ use Rattle.zr_netrun.specs.Judged.{judged}
 use Rattle.zr_netrun.proofs.Reading.{as_before}
 use Rattle.zr_netrun_lines.proofs.Writing.{prefix_none}
 use Rattle.zr_link_job.specs.declared.job.ServeJob.{ServeJob}
+use Rattle.zr_serve_router.specs.Former.{Heard}
 use Rattle.zr_serve_router.specs.Space.{Opened, Refused}
 use Rattle.zr_outside.specs.declared.host.Call.{Call}
 use Rattle.zr_serve.proofs.Served.{not_begun}
@@ -85,17 +87,17 @@ no_bytes None = ([], tt, tt)
 no_bytes (Some all) = ([], (all, refl, refl), tt)
 
 -- no router was served, and no rules were read
-asked_none : (rules : Bool) (s : Served) (left : Option (List ℕ)) (Ended : Type 0) (calls : Option (List Call)) (told : Option (List ServeJob)) (faults : ℕ) (o : Outputs)
-    → (given : Result PolicyState RulesError) × HasRules rules left left Ended given × Answers given s NoMemory calls calls told told faults faults o o
-asked_none false s left Ended calls told faults o =
-    (Ok open_policy, (refl, refl), record { how = end.NoMemory; end_is = refl; served = not_begun s.id open_policy s.log s.admin (Opened open_policy s.id) (Refused open_policy s.id) s.listen s.dials calls told faults o })
-asked_none true s left Ended calls told faults o =
+asked_none : (rules : Bool) (s : Served) (left : Option (List ℕ)) (Ended : Type 0) (generators : Option (List Stream)) (calls : Option (List Call)) (told : Option (List ServeJob)) (faults : ℕ) (o : Outputs)
+    → (given : Result PolicyState RulesError) × HasRules rules left left Ended given × Answers given s NoMemory generators generators calls calls told told faults faults o o
+asked_none false s left Ended generators calls told faults o =
+    (Ok open_policy, (refl, refl), record { how = end.NoMemory; end_is = refl; served = not_begun s.id open_policy s.log s.admin (Opened open_policy s.id) (Refused open_policy s.id) (Heard open_policy s.id) s.listen s.dials generators calls told faults o })
+asked_none true s left Ended generators calls told faults o =
     (Err rules_error.NoMemory, no_bytes left, (refl, refl, refl, refl, (rules_end.NoMemory, refl, (refl, refl))))
 
-pub no_router : (s : Served) (left : Option (List ℕ)) (Ended : Type 0) (calls : Option (List Call)) (told : Option (List ServeJob)) (faults : ℕ) (o : Outputs)
-    → IsServingBy s NoMemory left left Ended calls calls told told faults faults o o
-no_router s left Ended calls told faults o =
-    let none = asked_none s.rules s left Ended calls told faults o in
+pub no_router : (s : Served) (left : Option (List ℕ)) (Ended : Type 0) (generators : Option (List Stream)) (calls : Option (List Call)) (told : Option (List ServeJob)) (faults : ℕ) (o : Outputs)
+    → IsServingBy s NoMemory left left Ended generators generators calls calls told told faults faults o o
+no_router s left Ended generators calls told faults o =
+    let none = asked_none s.rules s left Ended generators calls told faults o in
     record { given = none.0; rules = none.1; answers = none.2 }
 
 -- ---- a read of the rules failed

@@ -26,7 +26,7 @@ IsTold status out out' faults faults' = (text : List ℕ) × IsWritten status te
 -- the line that shows the forms of words that are taken
 abbrev pub usage_text : List ℕ
 usage_text =
-    codes "usage: zrd net [--summary] / serve --id ID --listen ADDRESS [--rules] [--admin] [DIAL]... / make --number N --routers R --clients C --messages M\n"
+    codes "usage: zrd net [--summary] [--threads N] / serve --id ID --listen ADDRESS [--rules] [--admin] [DIAL]... / make --number N --routers R --clients C --messages M\n"
 
 -- the usage line was written, or a prefix of it and a write has failed
 abbrev pub TellsUsage : Option (List ℕ) → Option (List ℕ) → ℕ → ℕ → Type 0

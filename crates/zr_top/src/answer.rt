@@ -8,7 +8,7 @@ use zr_outside::sink::{Sink, write_all};
 
 /// The forms of the program's words.
 const USAGE: &str =
-    "usage: zrd net [--summary] / serve --id ID --listen ADDRESS [--rules] [--admin] [DIAL]... / make --number N --routers R --clients C --messages M\n";
+    "usage: zrd net [--summary] [--threads N] / serve --id ID --listen ADDRESS [--rules] [--admin] [DIAL]... / make --number N --routers R --clients C --messages M\n";
 
 /// Tells a text that the words ask for.
 pub fn tell<K: Sink>(text: &str, out: &mut K) -> Status

@@ -6,6 +6,7 @@ ghost use Rattle.zr_outside_crew.specs.Crew.{crew_faults, crew_told};
 ghost use Rattle.zr_make.specs.Plan.{is_in_range};
 ghost use Rattle.zr_make.specs.Script.{script, text_of};
 ghost use Rattle.zr_netrun.specs.Clauses.{OfRead, WritesAsAsked};
+ghost use Rattle.zr_netrun.specs.Ended.{IsEnded, TellsFailedWrites};
 ghost use Rattle.zr_outside.specs.Counts.{Rose};
 ghost use Rattle.zr_outside.specs.Piece.{IsReadToEnd};
 ghost use Rattle.zr_serve.specs.Serving.{outputs};
@@ -13,13 +14,15 @@ ghost use Rattle.zr_top.specs.Asked.{status_of, status_of_rules, HasRules, IsSer
 ghost use Rattle.zr_top.specs.Told.{IsTold, IsWritten, TellsUsage};
 ghost use Rattle.zr_top.specs.Words.{is_net, options_by, reads_input};
 ghost use Rattle.zr_top_words.specs.Asked.{made_of, net_of, served_of};
-ghost use Rattle.zr_top_words.specs.Read.{may_answer, served_as, IsRefused, IsWrong};
+ghost use Rattle.zr_top_words.specs.Read.{may_answer, served_as, AreThreads, IsRefused, IsWrong};
 
 use crate::answer::{tell, usage};
 use std::alloc::Global;
 use std::sync::Wait;
 use std::thread::Threads;
 use zr_access::Policy;
+use zr_fan::threaded::Threaded;
+use zr_fan::watch::Unwatched;
 use zr_link_job::ServeJob;
 use zr_make::{MakeError, MakePlan, make};
 use zr_netrun::netrun::run_script;
@@ -60,7 +63,7 @@ where
     H::Log: 'static,
     ensures report { IfSome (net_of (map string_bytes words.now)) (λ plan. WritesAsAsked (options_by plan) (S.left input.old) (S.left input.new) (IsReadToEnd (S.ends input.old) (S.ends input.new) (S.quiets input.old) (S.quiets input.new)) result (K.held out.old) (K.held out.new) (E.held err.old) (E.held err.new)) }
     ensures read_part { is_net (map string_bytes words.now) ≡ true → OfRead (S.left input.old) (S.left input.new) (λ read. Unit {0}) }
-    ensures served { IfSome (served_of (map string_bytes words.now)) (λ s. IsServingBy s result (S.left input.old) (S.left input.new) (IsReadToEnd (S.ends input.old) (S.ends input.new) (S.quiets input.old) (S.quiets input.new)) (H.calls host.old) (H.calls host.new) (crew_told crew.old) (crew_told crew.new) (crew_faults crew.old) (crew_faults crew.new) (outputs (K.held out.old) (E.held err.old) (E.faults err.old)) (outputs (K.held out.new) (E.held err.new) (E.faults err.new))) }
+    ensures served { IfSome (served_of (map string_bytes words.now)) (λ s. IsServingBy s result (S.left input.old) (S.left input.new) (IsReadToEnd (S.ends input.old) (S.ends input.new) (S.quiets input.old) (S.quiets input.new)) (H.generators host.old) (H.generators host.new) (H.calls host.old) (H.calls host.new) (crew_told crew.old) (crew_told crew.new) (crew_faults crew.old) (crew_faults crew.new) (outputs (K.held out.old) (E.held err.old) (E.faults err.old)) (outputs (K.held out.new) (E.held err.new) (E.faults err.new))) }
     ensures unserved { is_some (served_of (map string_bytes words.now)) ≡ false → (host.new ≡ host.old) × (crew.new ≡ crew.old) }
     ensures unread { reads_input (map string_bytes words.now) ≡ false → input.new ≡ input.old }
     ensures whole { is_net (map string_bytes words.now) ≡ true → result ≡ Status.Done → IsReadToEnd (S.ends input.old) (S.ends input.new) (S.quiets input.old) (S.quiets input.new) }
@@ -82,13 +85,35 @@ where
     ensures usage { result ≡ Status.Words → TellsUsage (E.held err.old) (E.held err.new) (E.faults err.old) (E.faults err.new) × (K.held out.new ≡ K.held out.old) × (S.left input.new ≡ S.left input.old) }
 {
     match read_words(alloc, words) {
-        Ok(Plan::Net(plan)) => run_script(alloc, options_by(plan), input, out, err),
+        Ok(Plan::Net(plan)) => read_script(&rt, alloc, plan, input, out, err),
         Ok(Plan::Serve(plan)) => serve(rt, alloc, plan, input, out, err, host, crew),
         Ok(Plan::Make(plan)) => make_script(alloc, &plan, out),
         Err(WordsError::Told(text)) => tell(text.as_str(), out),
         Err(WordsError::Wrong) => usage(err),
         Err(WordsError::NoMemory) => Status::NoMemory,
     }
+}
+
+// A script is read, with a gang of as many threads as the words ask for.
+fn read_script<R: Threads + Sync, S: Source, K: Sink, E: Sink>(
+    rt: &R,
+    alloc: Global,
+    plan: NetPlan,
+    input: &mut S,
+    out: &mut K,
+    err: &mut E,
+) -> Status
+    requires threads { AreThreads plan.threads }
+    ensures writes { WritesAsAsked (options_by plan) (S.left input.old) (S.left input.new) (IsReadToEnd (S.ends input.old) (S.ends input.new) (S.quiets input.old) (S.quiets input.new)) result (K.held out.old) (K.held out.new) (E.held err.old) (E.held err.new) }
+    ensures ends { IsEnded (IsReadToEnd (S.ends input.old) (S.ends input.new) (S.quiets input.old) (S.quiets input.new)) result (S.faults input.old) (S.faults input.new) (K.faults out.old) (K.faults out.new) (E.faults err.old) (E.faults err.new) }
+    ensures only { S.faults input.old < S.faults input.new → result ≡ Status.ReadFault }
+    ensures only_write { TellsFailedWrites result (K.faults out.old) (K.faults out.new) (E.faults err.old) (E.faults err.new) }
+{
+    let Ok(watch) = Box::new(alloc, Unwatched) else {
+        return Status::NoMemory;
+    };
+    let mut gang = Threaded::new(plan.threads, watch);
+    run_script(rt, &mut gang, alloc, options_by(plan), input, out, err)
 }
 
 fn options_by(plan: NetPlan) -> NetOptions
@@ -122,7 +147,7 @@ where
     H::Out: 'static,
     H::Time: 'static,
     H::Log: 'static,
-    ensures served { IsServingBy (served_as words) result (S.left input.old) (S.left input.new) (IsReadToEnd (S.ends input.old) (S.ends input.new) (S.quiets input.old) (S.quiets input.new)) (H.calls host.old) (H.calls host.new) (crew_told crew.old) (crew_told crew.new) (crew_faults crew.old) (crew_faults crew.new) (outputs (K.held out.old) (E.held err.old) (E.faults err.old)) (outputs (K.held out.new) (E.held err.new) (E.faults err.new)) }
+    ensures served { IsServingBy (served_as words) result (S.left input.old) (S.left input.new) (IsReadToEnd (S.ends input.old) (S.ends input.new) (S.quiets input.old) (S.quiets input.new)) (H.generators host.old) (H.generators host.new) (H.calls host.old) (H.calls host.new) (crew_told crew.old) (crew_told crew.new) (crew_faults crew.old) (crew_faults crew.new) (outputs (K.held out.old) (E.held err.old) (E.faults err.old)) (outputs (K.held out.new) (E.held err.new) (E.faults err.new)) }
     ensures ended { result ≡ Status.Done → Rose (H.ends host.old) (H.ends host.new) }
     ensures host { result ≡ Status.HostFault → Rose (H.faults host.old) (H.faults host.new) }
     ensures read { result ≡ Status.ReadFault → Rose (S.faults input.old) (S.faults input.new) }
@@ -172,7 +197,7 @@ where
     H::Out: 'static,
     H::Time: 'static,
     H::Log: 'static,
-    ensures served { IsServing (served_as words) policy result (H.calls host.old) (H.calls host.new) (crew_told crew.old) (crew_told crew.new) (crew_faults crew.old) (crew_faults crew.new) (outputs (K.held out.old) (E.held err.old) (E.faults err.old)) (outputs (K.held out.new) (E.held err.new) (E.faults err.new)) }
+    ensures served { IsServing (served_as words) policy result (H.generators host.old) (H.generators host.new) (H.calls host.old) (H.calls host.new) (crew_told crew.old) (crew_told crew.new) (crew_faults crew.old) (crew_faults crew.new) (outputs (K.held out.old) (E.held err.old) (E.faults err.old)) (outputs (K.held out.new) (E.held err.new) (E.faults err.new)) }
     ensures ended { result ≡ Status.Done → Rose (H.ends host.old) (H.ends host.new) }
     ensures host { result ≡ Status.HostFault → Rose (H.faults host.old) (H.faults host.new) }
     ensures write { result ≡ Status.WriteFault → Rose (K.faults out.old) (K.faults out.new) ⊎ Rose (E.faults err.old) (E.faults err.new) }

@@ -14,15 +14,19 @@ ghost use Rattle.zr_law_declared.specs.Logs.{SettledLogsAreKnown};
 ghost use Rattle.zr_law_declared.specs.Rows.{SettledRowsAreDeclared};
 ghost use Rattle.zr_law_declared.specs.Sets.{SettledSetsAreDeclared};
 ghost use Rattle.zr_law_replies.specs.Answers.{AnswersAlwaysHold};
+ghost use Rattle.zr_law_fans.specs.Scripts.{FansArePlain, FansEnd};
 ghost use Rattle.zr_law_histories.specs.Histories.{RunningRoutersAreAWorld};
 ghost use Rattle.zr_law_histories.specs.Packing.{QueuesArePacked};
 ghost use Rattle.zr_law_keys.specs.Laws.{MatchingIsOfCharacters, MeetingIsOfCharacters};
+ghost use Rattle.zr_law_names.specs.Names.{NamesLeaveNoTrace, RoutersKnowNoNames};
 ghost use Rattle.zr_law_numbers.specs.Numbers.{NumbersAlwaysHold};
-ghost use Rattle.zr_law_running.specs.Laws.{RunsAreOfAWorld, RunsHavePhases};
+ghost use Rattle.zr_law_joined.specs.Laws.{RunsSettleAsWorlds, SettledRunsHavePhases};
+ghost use Rattle.zr_law_running.specs.Laws.{RunsAreOfAWorld};
 ghost use Rattle.zr_law_settled.specs.Events.{NoEventIsRefused};
 ghost use Rattle.zr_law_settled.specs.Tables.{AgreeWhereSettled, SettledLogsAgree};
 ghost use Rattle.zr_netrun.specs.Clauses.{OfLines, OfScriptLines, WritesAsAsked};
-ghost use Rattle.zr_pend.specs.Best.{GatheredIsBest};
+ghost use Rattle.zr_pend_spec.specs.Best.{GatheredIsBest};
+ghost use Rattle.zr_rules.specs.Carets.{CaretsAreUnderWrongKeys, CaretsAreUnderWrongWords};
 ghost use Rattle.zr_top.specs.Means.{HaveKeyTexts, LeadToTheirReport};
 ghost use Rattle.zr_outside_crew.specs.Crew.{crew_faults, crew_told};
 ghost use Rattle.zr_serve.specs.Serving.{outputs};
@@ -42,12 +46,15 @@ use zr_key::laws::{each_expression_is_read, reading_is_canonical, reading_keeps_
 use zr_law_declared::{
     settled_logs_are_known, settled_rows_are_declared, settled_sets_are_declared,
 };
+use zr_law_fans::{fans_are_plain, fans_end};
 use zr_law_held::{lines_are_within, lines_fit};
 use zr_law_histories::{queues_are_packed, running_routers_are_a_world};
+use zr_law_joined::{runs_settle_as_worlds, settled_runs_have_phases};
 use zr_law_keys::{matching_is_of_characters, meeting_is_of_characters};
+use zr_law_names::{names_leave_no_trace, routers_know_no_names};
 use zr_law_numbers::{no_event_is_refused, numbers_always_hold};
 use zr_law_replies::{answers_always_hold, lines_refine, phases_refine};
-use zr_law_running::{runs_are_of_a_world, runs_have_phases};
+use zr_law_running::runs_are_of_a_world;
 use zr_law_samples::keys::{
     answering_is_covering, answering_is_meeting, asking_is_meeting, keys_are_texts,
 };
@@ -61,7 +68,8 @@ use zr_outside::host::Host;
 use zr_outside::sink::Sink;
 use zr_outside::source::Source;
 use zr_outside_crew::Crew;
-use zr_pend::laws::gathered_is_best;
+use zr_pend_spec::laws::gathered_is_best;
+use zr_rules::{carets_are_under_wrong_keys, carets_are_under_wrong_words};
 use zr_top_words::forms::forms_are_taken;
 use zr_tree::laws::{distances_are_of_shortest_walks, records_make_graphs};
 
@@ -83,6 +91,7 @@ use zr_tree::laws::{distances_are_of_shortest_walks, records_make_graphs};
 /// of a script are texts of expressions (`keys`), the one broker sends to a subscription exactly where some key is matched by both
 /// expressions (`meeting`), and asks a queryable exactly there (`answering`) or where a complete one covers the key (`covering`), of each key it sends for a query
 /// of the latest the reply than which none is later (`best`), and in a phase nothing is under way exactly where no step is possible, which a run tells by `quiet` (`rest`).
+/// Where a `fan` is accepted, nothing is under way behind it, and any order of steps until then tells its lines, and leaves its world (`fans`).
 /// What is read of a key's text is the canonical form of what it spells, each text that spells one is read (`readings`), and it matches the same keys
 /// (`kept`). Byte by byte expressions match and meet as their characters do (`characters`). Along trees distances are those of shortest walks (`walks`).
 ///
@@ -99,12 +108,14 @@ use zr_tree::laws::{distances_are_of_shortest_walks, records_make_graphs};
 /// is that of its query of that turn (`answers`).
 ///
 /// Of several routers that run, each on its own, the clause `running` says that what they do is the run of a script's world, as long as their links keep order
-/// and lose nothing, and their histories leave nothing out and close no link. There each router's tables are the replay of its own history. From a moment
-/// at which that world is settled and its routers are joined, what was queued for each client is, publisher by publisher, a prefix of what one broker
-/// sends it (`phases`). The parcels of a link are those of these messages (`packed`). The premises stand in `zr_law_running` (`specs/Allowed`).
+/// and lose nothing, and their histories leave nothing out and close no link. There each router's tables are the replay of its own history, but for the names
+/// of its clients. From a moment at which they are settled and joined, by what they have and have queued for one another, what was queued for each client
+/// is, publisher by publisher, a prefix of what one broker
+/// sends it (`phases`). The parcels of a link are those of these messages (`packed`). What a router does depends neither on its clients' identifiers nor
+/// on what their links weigh (`names`). The premises stand in `zr_law_running` (`specs/Allowed`).
 ///
 /// The clause `served` says which rules were read, and where a router was served under them, what was called of the host, which jobs the crew started, and what
-/// was written. Where the rules are refused, or can't be read, the host and the crew are as they were (`untouched`). The clause
+/// was written. Where a line of the rules is wrong, the caret that is told is under what is wrong there (`carets`). Where the rules are refused, or can't be read, the host and the crew are as they were (`untouched`). The clause
 /// `made` says which text was written, where a script was made: all of it at `Done`, and else a prefix. Where `clap` may answer with help or the version,
 /// that is told whole, or else in part, or the words are wrong (`helped`).
 /// With all other words than those of `serve` the host and the crew are as they were (`unserved`), and with all other words than those of `net` and of `serve` with `--rules` the input is (`unread`).
@@ -151,14 +162,17 @@ where
     ensures covering { AnsweringIsCovering }
     ensures best { GatheredIsBest }
     ensures rest { RestIsQuiet }
+    ensures fans { FansArePlain × FansEnd }
     ensures readings { IsReading × ReadsEach }
     ensures kept { ReadingKeepsKeys }
     ensures characters { MatchingIsOfCharacters × MeetingIsOfCharacters }
     ensures walks { RecordsMakeGraphs × DistancesAreOfShortestWalks }
     ensures running { RunsAreOfAWorld × RunningRoutersAreAWorld }
-    ensures phases { RunsHavePhases × PhasesDeliver × PhasesRefine }
+    ensures phases { SettledRunsHavePhases × RunsSettleAsWorlds × PhasesDeliver × PhasesRefine }
     ensures packed { QueuesArePacked }
-    ensures served { IfSome (served_of (map string_bytes words.now)) (λ s. IsServingBy s result (S.left input.old) (S.left input.new) (IsReadToEnd (S.ends input.old) (S.ends input.new) (S.quiets input.old) (S.quiets input.new)) (H.calls host.old) (H.calls host.new) (crew_told crew.old) (crew_told crew.new) (crew_faults crew.old) (crew_faults crew.new) (outputs (K.held out.old) (E.held err.old) (E.faults err.old)) (outputs (K.held out.new) (E.held err.new) (E.faults err.new))) }
+    ensures names { RoutersKnowNoNames × NamesLeaveNoTrace }
+    ensures carets { CaretsAreUnderWrongWords × CaretsAreUnderWrongKeys }
+    ensures served { IfSome (served_of (map string_bytes words.now)) (λ s. IsServingBy s result (S.left input.old) (S.left input.new) (IsReadToEnd (S.ends input.old) (S.ends input.new) (S.quiets input.old) (S.quiets input.new)) (H.generators host.old) (H.generators host.new) (H.calls host.old) (H.calls host.new) (crew_told crew.old) (crew_told crew.new) (crew_faults crew.old) (crew_faults crew.new) (outputs (K.held out.old) (E.held err.old) (E.faults err.old)) (outputs (K.held out.new) (E.held err.new) (E.faults err.new))) }
     ensures unserved { is_some (served_of (map string_bytes words.now)) ≡ false → (host.new ≡ host.old) × (crew.new ≡ crew.old) }
     ensures unread { reads_input (map string_bytes words.now) ≡ false → input.new ≡ input.old }
     ensures whole { is_net (map string_bytes words.now) ≡ true → result ≡ Status.Done → IsReadToEnd (S.ends input.old) (S.ends input.new) (S.quiets input.old) (S.quiets input.new) }
@@ -187,6 +201,8 @@ where
     answering_is_covering();
     gathered_is_best();
     rest_is_quiet();
+    fans_are_plain();
+    fans_end();
     matching_is_of_characters();
     meeting_is_of_characters();
     reading_is_canonical();
@@ -202,10 +218,15 @@ where
     numbers_always_hold();
     runs_are_of_a_world();
     running_routers_are_a_world();
-    runs_have_phases();
+    settled_runs_have_phases();
+    runs_settle_as_worlds();
     phases_deliver();
     phases_refine();
     queues_are_packed();
+    routers_know_no_names();
+    names_leave_no_trace();
+    carets_are_under_wrong_words();
+    carets_are_under_wrong_keys();
     answers_always_hold();
     lines_refine();
     lines_fit();

@@ -12,7 +12,7 @@ use Rattle.clap.specs.declared.parser.matches.ArgMatches.{ArgMatches}
 use Rattle.clap.specs.declared.parser.matches.ArgMatches.TheViews.{out-ArgMatches}
 use Rattle.zr_dial.specs.Dial.{DialState, dial_of}
 use Rattle.zr_id.specs.Zid.{zid_of_hex}
-use Rattle.zr_top_words.specs.Asked.{dials_of, served_as_named, served_by}
+use Rattle.zr_top_words.specs.Asked.{Served, dials_of, if_it_explains, served_as_named, served_by}
 
 -- ---- the builder
 
@@ -58,20 +58,24 @@ none_met m h = none_is (out-ArgMatches m).subcommand _ _ h
 
 -- ---- the values of `serve`
 
+-- what is asked for, unless it explains rules that aren't read
+abbrev explained : Option Served → Option Served
+explained o = option_and_then if_it_explains o
+
 pub served_is : (rows : List Row) (listen id : Text) → Some listen ≡ first_of (codes "listen") rows → Some id ≡ first_of (codes "id") rows
-    → served_by rows ≡ option_and_then (served_as_named rows listen) (zid_of_hex id)
+    → served_by rows ≡ option_and_then if_it_explains (option_and_then (served_as_named rows listen) (zid_of_hex id))
 served_is rows listen id h k =
-    ap (option_and_then (λ (l : Text). option_and_then (served_as_named rows l) (option_and_then zid_of_hex (first_of (codes "id") rows)))) (sym h)
-    ∙ ap (λ (o : Option Text). option_and_then (served_as_named rows listen) (option_and_then zid_of_hex o)) (sym k)
+    ap (λ (o : Option Text). explained (option_and_then (λ (l : Text). option_and_then (served_as_named rows l) (option_and_then zid_of_hex (first_of (codes "id") rows))) o)) (sym h)
+    ∙ ap (λ (o : Option Text). explained (option_and_then (served_as_named rows listen) (option_and_then zid_of_hex o))) (sym k)
 
 pub not_listening : (rows : List Row) → None ≡ first_of (codes "listen") rows → served_by rows ≡ None
 not_listening rows h =
-    ap (option_and_then (λ (l : Text). option_and_then (served_as_named rows l) (option_and_then zid_of_hex (first_of (codes "id") rows)))) (sym h)
+    ap (λ (o : Option Text). explained (option_and_then (λ (l : Text). option_and_then (served_as_named rows l) (option_and_then zid_of_hex (first_of (codes "id") rows))) o)) (sym h)
 
 pub not_named : (rows : List Row) (listen : Text) → Some listen ≡ first_of (codes "listen") rows → None ≡ first_of (codes "id") rows → served_by rows ≡ None
 not_named rows listen h k =
-    ap (option_and_then (λ (l : Text). option_and_then (served_as_named rows l) (option_and_then zid_of_hex (first_of (codes "id") rows)))) (sym h)
-    ∙ ap (λ (o : Option Text). option_and_then (served_as_named rows listen) (option_and_then zid_of_hex o)) (sym k)
+    ap (λ (o : Option Text). explained (option_and_then (λ (l : Text). option_and_then (served_as_named rows l) (option_and_then zid_of_hex (first_of (codes "id") rows))) o)) (sym h)
+    ∙ ap (λ (o : Option Text). explained (option_and_then (served_as_named rows listen) (option_and_then zid_of_hex o))) (sym k)
 
 -- ---- what is dialled
 

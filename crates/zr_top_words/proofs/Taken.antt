@@ -15,17 +15,11 @@ use Rattle.zr_make.specs.declared.plan.MakePlan.{MakePlan}
 use Rattle.zr_dial.specs.Dial.{DialState}
 use Rattle.zr_id.specs.Zid.{is_lower_hex, valid_zid, zid_of_hex}
 use Rattle.zr_script_spec.specs.Words.{is_digit, is_number}
-use Rattle.zr_top_words.specs.App.{app, make, serve, top}
-use Rattle.zr_top_words.specs.Asked.{Served, asked_by, asked_of, faults, found, make as asks_make, plan_in_range, serve as asks_serve, served_at, served_as_named, dials_of, number_below}
-use Rattle.zr_top_words.specs.Forms.{flag_words, is_plain, FormsAreTaken, MakeIsTaken, NetIsTaken, ServeIsTaken}
+use Rattle.zr_top_words.specs.App.{app, make, net, serve, top}
+use Rattle.zr_top_words.specs.Asked.{Served, as_threads, asked_by, asked_of, faults, found, make as asks_make, net as asks_net, net_with, plan_in_range, if_it_explains, serve as asks_serve, served_at, served_as_named, dials_of, number_below, threads_of}
+use Rattle.zr_top_words.specs.Forms.{flag_words, is_plain, FormsAreTaken, MakeIsTaken, NetIsTaken, ServeIsTaken, ThreadsAreTaken}
 use Rattle.zr_top_words.proofs.Steps.{Goes, between, fault_behind, goes_on, idle_fault, idle_walked, more_fault, more_walked, stays, value_passes, value_walked}
 use Rattle.zr_top_words.proofs.Entering.{Enters, asked_is}
-
--- ---- `net`
-
-net_taken : NetIsTaken
-unfolding clap_on_literals app faults found asked_of
-net_taken = (refl, refl)
 
 -- ---- words that are no options
 
@@ -171,6 +165,83 @@ make_taken nw rw cw mw n r c m hn hr hc hm range =
     ∙ ap (λ (x : Option ℕ). made (Some n) (Some r) x (number_below (2 ^ 32) mw)) hc
     ∙ ap (λ (x : Option ℕ). made (Some n) (Some r) (Some c) x) hm
     ∙ ap (λ (b : Bool). cond b (Some plan) None) range)
+
+-- ---- `net`
+
+abbrev net_built : Shape
+net_built = as_built net
+
+net_enters : Enters (codes "net") (codes "net") net_built
+unfolding clap_on_literals app
+net_enters = record { halts = refl; passes = refl; names_it = refl }
+
+-- what was found of `--summary`, where it stands, and the walk behind it
+abbrev net_found : Bool → List Row
+net_found true = given (codes "summary") (codes "true" ∷ []) ∷ []
+net_found false = []
+
+abbrev net_behind : Bool → Held
+net_behind true = record { rows = net_found true; pending = None; skip = 0 }
+net_behind false = nothing_held
+
+module _ (n : Text) (pn : is_plain n ≡ true) where
+  abbrev net_end : Bool → Walk
+  net_end s = between (holding (net_found s) (codes "threads") (n ∷ [])) idle
+
+  summary_named : walked net_built.rules [] (between nothing_held idle) (codes "--summary") ≡ between (net_behind true) idle
+  unfolding clap_on_literals
+  summary_named = refl
+
+  summary_fine : turn_fault net_built [] (between nothing_held idle) (codes "--summary") ≡ []
+  unfolding clap_on_literals
+  summary_fine = refl
+
+  threads_named : (s : Bool) → walked net_built.rules [] (between (net_behind s) idle) (codes "--threads")
+      ≡ between (holding (net_found s) (codes "threads") []) (option (codes "threads"))
+  unfolding clap_on_literals
+  threads_named true = refl
+  threads_named false = refl
+
+  threads_fine : (s : Bool) → turn_fault net_built [] (between (net_behind s) idle) (codes "--threads") ≡ []
+  unfolding clap_on_literals
+  threads_fine true = refl
+  threads_fine false = refl
+
+  threads_go : (s : Bool) → Goes net_built (between (net_behind s) idle) (codes "--threads" ∷ n ∷ []) (net_end s)
+  threads_go s =
+      valued net_built (net_behind s) (net_found s) _ (codes "threads") n _ (net_end s) (threads_named s) (threads_fine s)
+      (value_walked net_built (holding (net_found s) (codes "threads") []) (codes "threads") n pn) pn (stays net_built (net_end s))
+
+  net_goes : (s : Bool) → Goes net_built (walk_from nothing_held) (flag_words (codes "--summary") s ++ codes "--threads" ∷ n ∷ []) (net_end s)
+  net_goes true =
+      goes_on net_built (between nothing_held idle) (between (net_behind true) idle) (codes "--summary") _ (net_end true) summary_named summary_fine (threads_go true)
+  net_goes false = threads_go false
+
+  net_fine : (s : Bool) → fault_behind net_built (net_end s) ≡ []
+  unfolding clap_on_literals
+  net_fine true = refl
+  net_fine false = refl
+
+  net_asks : (s : Bool) (k : ℕ) → threads_of (Some n) ≡ Some k
+      → asked_by (net_built.name, finished net_built.rules (net_end s).held) ≡ Some (asks_net (record { summary = s; explain = false; threads = k }))
+  net_asks true k is = ap (λ (t : Option ℕ). option_map asks_net (option_map (net_with (finished net_built.rules (net_end true).held)) t)) is
+  net_asks false k is = ap (λ (t : Option ℕ). option_map asks_net (option_map (net_with (finished net_built.rules (net_end false).held)) t)) is
+
+chosen_then : {A B : Type 0} (b : Bool) (x : Option A) (f : A → Option B) (y : B) → option_and_then f (cond b x None) ≡ Some y → b ≡ true
+chosen_then true x f y h = refl
+chosen_then false x f y h = absurd (cc)
+
+threads_plain : (word : Text) (n : ℕ) → threads_of (Some word) ≡ Some n → is_plain word ≡ true
+threads_plain word n h = number_plain word (chosen_then (is_number word) _ as_threads n h)
+
+threads_taken : ThreadsAreTaken
+threads_taken s word n is =
+    let p = threads_plain word n is in
+    asked_is (codes "net") (codes "net") net_built _ net_enters (net_end word p s) (net_goes word p s) (net_fine word p s) ∙ net_asks word p s n is
+
+net_taken : NetIsTaken
+unfolding clap_on_literals app faults found asked_of
+net_taken = (refl, refl, threads_taken)
 
 -- ---- `serve`
 
@@ -351,17 +422,18 @@ module _ (id listen : Text) (pid : is_plain id ≡ true) (plisten : is_plain lis
   -- what is asked for at those ends
   asks_none : (rules admin : Bool) (zid : Text) → zid_of_hex id ≡ Some zid
       → asked_by (serve_built.name, finished serve_built.rules (listening rules admin).held) ≡ Some (asks_serve (asked_with rules admin zid []))
-  asks_none true true zid is = ap (λ (z : Option Text). option_map asks_serve (option_and_then (served_as_named (finished serve_built.rules (listening true true).held) listen) z)) is
-  asks_none true false zid is = ap (λ (z : Option Text). option_map asks_serve (option_and_then (served_as_named (finished serve_built.rules (listening true false).held) listen) z)) is
-  asks_none false true zid is = ap (λ (z : Option Text). option_map asks_serve (option_and_then (served_as_named (finished serve_built.rules (listening false true).held) listen) z)) is
-  asks_none false false zid is = ap (λ (z : Option Text). option_map asks_serve (option_and_then (served_as_named (finished serve_built.rules (listening false false).held) listen) z)) is
+  asks_none true true zid is = ap (λ (z : Option Text). option_map asks_serve (option_and_then if_it_explains (option_and_then (served_as_named (finished serve_built.rules (listening true true).held) listen) z))) is
+  asks_none true false zid is = ap (λ (z : Option Text). option_map asks_serve (option_and_then if_it_explains (option_and_then (served_as_named (finished serve_built.rules (listening true false).held) listen) z))) is
+  asks_none false true zid is = ap (λ (z : Option Text). option_map asks_serve (option_and_then if_it_explains (option_and_then (served_as_named (finished serve_built.rules (listening false true).held) listen) z))) is
+  asks_none false false zid is = ap (λ (z : Option Text). option_map asks_serve (option_and_then if_it_explains (option_and_then (served_as_named (finished serve_built.rules (listening false false).held) listen) z))) is
 
   -- with some words to dial: those that were found come to these dials
   asks_found : (rows : List Row) (rules admin : Bool) (zid : Text) (ds : List DialState) → zid_of_hex id ≡ Some zid
       → served_as_named rows listen zid ≡ Some (asked_with rules admin zid ds)
-      → option_map asks_serve (option_and_then (served_as_named rows listen) (zid_of_hex id)) ≡ Some (asks_serve (asked_with rules admin zid ds))
+      → option_map asks_serve (option_and_then if_it_explains (option_and_then (served_as_named rows listen) (zid_of_hex id))) ≡ Some (asks_serve (asked_with rules admin zid ds))
   asks_found rows rules admin zid ds is named =
-      ap (λ (z : Option Text). option_map asks_serve (option_and_then (served_as_named rows listen) z)) is ∙ ap (λ (z : Option Served). option_map asks_serve z) named
+      ap (λ (z : Option Text). option_map asks_serve (option_and_then if_it_explains (option_and_then (served_as_named rows listen) z))) is
+      ∙ ap (λ (z : Option Served). option_map asks_serve (option_and_then if_it_explains z)) named
 
   asks_dials : (rules admin : Bool) (vs : List Text) (last zid : Text) (ds : List DialState) → zid_of_hex id ≡ Some zid → dials_of (vs ++ last ∷ []) ≡ Some ds
       → asked_by (serve_built.name, finished serve_built.rules (dialling rules admin vs last).held) ≡ Some (asks_serve (asked_with rules admin zid ds))

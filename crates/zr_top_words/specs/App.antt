@@ -24,7 +24,7 @@ abbrev pub command : List ℕ → List Rule → Shape
 command name rules = record (new_app name).top { rules = rules }
 
 abbrev pub net : Shape
-net = command (codes "net") (flag (codes "summary") ∷ flag (codes "explain") ∷ [])
+net = command (codes "net") (flag (codes "summary") ∷ flag (codes "explain") ∷ optional (codes "threads") ∷ [])
 
 abbrev pub serve : Shape
 serve = command (codes "serve")

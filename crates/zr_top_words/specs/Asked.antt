@@ -1,5 +1,5 @@
 -- What the words ask for: the values of `clap`'s matches, where they are in range.
-use Rattle.std.specs.Prelude.{ℕ, ◌^◌, nat_lt, Bool, false, if◌then◌else◌, List, [], ◌∷◌, Option, Some, None, codes, option_and_then, unwrap_or}
+use Rattle.std.specs.Prelude.{ℕ, ◌^◌, nat_lt, nat_le, ◌&&◌, not, Bool, false, if◌then◌else◌, List, [], ◌∷◌, Option, Some, None, codes, option_and_then, unwrap_or}
 use Rattle.std.specs.Option.{option_map, option_map_or}
 use Rattle.std.specs.Str.{bytes_eq}
 use Rattle.clap.specs.Words.{Kinds, Row, all_of, fault_of, first_of, subcommand_of, takes}
@@ -47,8 +47,28 @@ pub record Served : Type 0 where
   pub admin : Bool
   pub dials : List DialState
 
-abbrev pub net_by : List Row → NetPlan
-net_by rows = record { summary = is_given (codes "summary") rows; explain = is_given (codes "explain") rows }
+-- the number below a limit that a word spells, in decimal digits without leading zeros
+abbrev pub number_below : ℕ → List ℕ → Option ℕ
+number_below limit word = if is_number word then (if nat_lt (value_of word) limit then Some (value_of word) else None) else None
+
+-- on how many threads routers are handled at most
+abbrev pub most_threads : ℕ
+most_threads = 16
+
+-- a number of threads that is in range
+abbrev pub as_threads : ℕ → Option ℕ
+as_threads n = if nat_le 1 n && nat_le n most_threads then Some n else None
+
+-- on how many threads routers are handled: the number that the word spells, in decimal digits without leading zeros, or one where there is no word
+abbrev pub threads_of : Option (List ℕ) → Option ℕ
+threads_of None = Some 1
+threads_of (Some word) = option_and_then as_threads (number_below (2 ^ 32) word)
+
+abbrev pub net_with : List Row → ℕ → NetPlan
+net_with rows threads = record { summary = is_given (codes "summary") rows; explain = is_given (codes "explain") rows; threads = threads }
+
+abbrev pub net_by : List Row → Option NetPlan
+net_by rows = option_map (net_with rows) (threads_of (first_of (codes "threads") rows))
 
 abbrev pub dials_at : List Row → Option (List DialState)
 dials_at rows = dials_of (unwrap_or (all_of (codes "dial") rows) [])
@@ -68,15 +88,15 @@ served_at rows listen id dials = record {
 abbrev pub served_as_named : List Row → List ℕ → List ℕ → Option Served
 served_as_named rows listen id = option_map (served_at rows listen id) (dials_at rows)
 
--- the identifier has to be one
-abbrev pub served_by : List Row → Option Served
-served_by rows =
-    option_and_then (λ listen. option_and_then (served_as_named rows listen) (option_and_then zid_of_hex (first_of (codes "id") rows)))
-    (first_of (codes "listen") rows)
+-- a faulty line of rules is explained where rules are read
+abbrev pub if_it_explains : Served → Option Served
+if_it_explains s = if s.explain && not s.rules then None else Some s
 
--- the number below a limit that a word spells, in decimal digits without leading zeros
-abbrev pub number_below : ℕ → List ℕ → Option ℕ
-number_below limit word = if is_number word then (if nat_lt (value_of word) limit then Some (value_of word) else None) else None
+-- the identifier has to be one, and rules are read where they are explained
+abbrev pub served_by : List Row → Option Served
+served_by rows = option_and_then if_it_explains
+    (option_and_then (λ listen. option_and_then (served_as_named rows listen) (option_and_then zid_of_hex (first_of (codes "id") rows)))
+    (first_of (codes "listen") rows))
 
 abbrev pub number_at : ℕ → List ℕ → List Row → Option ℕ
 number_at limit name rows = option_and_then (number_below limit) (first_of name rows)
@@ -102,7 +122,7 @@ pub data Asked : Type 0 where
 
 abbrev pub asked_by : List ℕ × List Row → Option Asked
 asked_by (name, rows) =
-    if bytes_eq name (codes "net") then Some (net (net_by rows))
+    if bytes_eq name (codes "net") then option_map net (net_by rows)
     else (if bytes_eq name (codes "serve") then option_map serve (served_by rows)
     else (if bytes_eq name (codes "make") then option_map make (made_by rows) else None))
 

@@ -4,22 +4,29 @@ use Rattle.std.specs.List.{list_all}
 use Rattle.zr_id.specs.Zid.{zid_of_hex}
 use Rattle.zr_dial.specs.Dial.{DialState}
 use Rattle.zr_make.specs.Plan.{is_in_range}
-use Rattle.zr_top_words.specs.Asked.{asked_of, dials_of, net, serve, make, number_below}
+use Rattle.zr_top_words.specs.Asked.{asked_of, dials_of, net, serve, make, number_below, threads_of}
 
 -- a word that doesn't begin with a hyphen, as options do
 abbrev pub is_plain : List ℕ → Bool
 is_plain [] = true
 is_plain (first ∷ rest) = not (first == 45)
 
--- `net` and `net --summary`
-abbrev pub NetIsTaken : Type 0
-NetIsTaken = (asked_of (codes "net" ∷ []) ≡ Some (net (record { summary = false; explain = false })))
-    × (asked_of (codes "net" ∷ codes "--summary" ∷ []) ≡ Some (net (record { summary = true; explain = false })))
-
 -- the words of an option without a value, where it stands
 abbrev pub flag_words : List ℕ → Bool → List (List ℕ)
 flag_words word true = word ∷ []
 flag_words word false = []
+
+-- `net [--summary] --threads N`: N is a number from 1 to 16, without leading zeros
+abbrev pub ThreadsAreTaken : Type 0
+ThreadsAreTaken = (summary : Bool) (word : List ℕ) (n : ℕ) → threads_of (Some word) ≡ Some n
+    → asked_of (codes "net" ∷ (flag_words (codes "--summary") summary ++ codes "--threads" ∷ word ∷ []))
+    ≡ Some (net (record { summary = summary; explain = false; threads = n }))
+
+-- `net` and `net --summary`, which say one thread, and both with `--threads N`
+abbrev pub NetIsTaken : Type 0
+NetIsTaken = (asked_of (codes "net" ∷ []) ≡ Some (net (record { summary = false; explain = false; threads = 1 })))
+    × (asked_of (codes "net" ∷ codes "--summary" ∷ []) ≡ Some (net (record { summary = true; explain = false; threads = 1 })))
+    × ThreadsAreTaken
 
 -- `serve --id ID --listen ADDRESS [--rules] [--admin] [DIAL]...`: ID spells an identifier, no address begins with a hyphen, and each DIAL is `ADDRESS` or
 -- `ADDRESS,W`

@@ -1,5 +1,5 @@
 -- How the words were read.
-use Rattle.std.specs.Prelude.{◌≡◌, ◌⊎◌, ℕ, Bool, true, false, not, List, [], Option, Some, None, Result, Ok, Err, option_and_then}
+use Rattle.std.specs.Prelude.{◌≡◌, ◌≤◌, ◌⊎◌, ℕ, Bool, true, false, not, List, [], Option, Some, None, Result, Ok, Err, option_and_then}
 use Rattle.std.specs.List.{list_any}
 use Rattle.std.specs.String.{string_bytes}
 use Rattle.clap.specs.Words.{Row}
@@ -11,7 +11,7 @@ use Rattle.zr_top_words.specs.declared.plan.Plan.TheVariants as plan
 use Rattle.zr_top_words.specs.declared.plan.ServeWords.{ServeWords}
 use Rattle.zr_top_words.specs.declared.plan.WordsError.{WordsError}
 use Rattle.zr_top_words.specs.declared.plan.WordsError.TheVariants as error
-use Rattle.zr_top_words.specs.Asked.{Asked, Served, net, serve, make, asked_by, asked_of, faults, is_promised, made_of, net_of, served_of}
+use Rattle.zr_top_words.specs.Asked.{Asked, Served, net, serve, make, asked_by, asked_of, faults, is_promised, made_of, most_threads, net_of, served_of}
 
 -- what a plan asks for
 abbrev pub served_as : ServeWords → Served
@@ -72,8 +72,13 @@ Refuses kind (error.Told text) = is_answer kind ≡ true
 Refuses kind error.Wrong = (is_answer kind ≡ false) × ((kind ≡ OutOfMemory) → ⊥)
 Refuses kind error.NoMemory = Unit {0}
 
--- a script can be made of the plan
+-- routers can be handled on so many threads
+abbrev pub AreThreads : ℕ → Type 0
+AreThreads n = (1 ≤ n) × (n ≤ most_threads)
+
+-- a script can be made of the plan, or read with so many threads
 abbrev pub CanBeMade : Plan → Type 0
+CanBeMade (plan.Net p) = AreThreads p.threads
 CanBeMade (plan.Make p) = is_in_range p.routers p.clients p.messages ≡ true
 CanBeMade other = Unit {0}
 

@@ -41,6 +41,12 @@ fn net<'a>(alloc: Global) -> Result<Command<'a>, AllocError>
             alloc,
             "explain",
             "Shows a refused line, where it is wrong and why",
+        ))?
+        .arg(optional(
+            alloc,
+            "threads",
+            "N",
+            "On how many threads `fan` may handle routers: 1 to 16, and 1 where it is left out",
         ))
 }
 

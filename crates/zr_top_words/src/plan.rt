@@ -22,6 +22,8 @@ pub struct NetPlan {
     pub summary: bool,
     /// A refused line with its explanation.
     pub explain: bool,
+    /// On how many threads routers may be handled: 1 to 16.
+    pub threads: u32,
 }
 
 /// The router that `serve` asks for.

@@ -5,8 +5,8 @@ ghost use Rattle.std.specs.String.{string_bytes};
 ghost use Rattle.clap.specs.Words.{app_of, first_of, found_of, kind_of, rows_of, subcommand_rows_of};
 ghost use Rattle.zr_make.specs.Plan.{is_in_range};
 ghost use Rattle.zr_top_words.specs.App.{app};
-ghost use Rattle.zr_top_words.specs.Asked.{asked_by, dials_at, dials_of, is_given, made_by, made_of, make_part, net_by, net_of, net_part, number_at, serve_part, served_by, served_of};
-ghost use Rattle.zr_top_words.specs.Read.{asked_as, served_as, AsksNone, CanBeMade, PlansBy, PlansOf, Reads, Refuses};
+ghost use Rattle.zr_top_words.specs.Asked.{as_threads, asked_by, dials_at, dials_of, if_it_explains, is_given, made_by, made_of, make_part, net_by, net_of, net_part, number_at, serve_part, served_by, served_of, threads_of};
+ghost use Rattle.zr_top_words.specs.Read.{asked_as, served_as, AreThreads, AsksNone, CanBeMade, PlansBy, PlansOf, Reads, Refuses};
 
 use crate::commands::program;
 use crate::number::{count, number};
@@ -17,6 +17,9 @@ use std::alloc::{AllocError, Global};
 use zr_dial::{Dial, read_dial};
 use zr_id::zid::Zid;
 use zr_make::MakePlan;
+
+/// On how many threads routers are handled at most.
+const MOST_THREADS: u32 = 16;
 
 /// What the words ask for. They stand without the program's name.
 pub fn read_words(alloc: Global, words: &[String]) -> Result<Plan, WordsError>
@@ -80,7 +83,10 @@ fn plan_by(alloc: Global, name: &str, options: &ArgMatches<'_>) -> Result<Plan, 
     ensures made { IfOk result CanBeMade }
 {
     if name == "net" {
-        Ok(Plan::Net(net_by(options)))
+        match net_by(options) {
+            Some(plan) => Ok(Plan::Net(plan)),
+            None => Err(WordsError::Wrong),
+        }
     } else if name == "serve" {
         match serve_by(alloc, options) {
             Ok(Some(plan)) => Ok(Plan::Serve(plan)),
@@ -97,12 +103,46 @@ fn plan_by(alloc: Global, name: &str, options: &ArgMatches<'_>) -> Result<Plan, 
     }
 }
 
-fn net_by(options: &ArgMatches<'_>) -> NetPlan
-    ensures { result ≡ net_by (rows_of (found_of options.now)) }
+fn net_by(options: &ArgMatches<'_>) -> Option<NetPlan>
+    ensures plan { result ≡ net_by (rows_of (found_of options.now)) }
+    ensures range { IfSome result (λ plan. AreThreads plan.threads) }
 {
-    NetPlan {
+    Some(NetPlan {
         summary: is_given(options, "summary"),
         explain: is_given(options, "explain"),
+        threads: threads_at(options)?,
+    })
+}
+
+// On how many threads routers are handled: one where the words don't say it.
+fn threads_at(options: &ArgMatches<'_>) -> Option<u32>
+    ensures number { result ≡ threads_of (first_of (codes "threads") (rows_of (found_of options.now))) }
+    ensures range { IfSome result AreThreads }
+{
+    match text_of(options, "threads") {
+        None => Some(1),
+        Some(text) => threads(text.as_bytes()),
+    }
+}
+
+fn threads(word: &[u8]) -> Option<u32>
+    ensures number { result ≡ threads_of (Some word.now) }
+    ensures range { IfSome result AreThreads }
+{
+    match count(word) {
+        Some(number) => as_threads(number),
+        None => None,
+    }
+}
+
+fn as_threads(number: u32) -> Option<u32>
+    ensures number { result ≡ as_threads number }
+    ensures range { IfSome result AreThreads }
+{
+    if number >= 1 && number <= MOST_THREADS {
+        Some(number)
+    } else {
+        None
     }
 }
 
@@ -122,7 +162,7 @@ fn serve_by(alloc: Global, options: &ArgMatches<'_>) -> Result<Option<ServeWords
     let Some(dials) = dials_at(alloc, options)? else {
         return Ok(None);
     };
-    Ok(Some(ServeWords {
+    Ok(if_it_explains(ServeWords {
         id,
         listen: String::from_str(alloc, listen)?,
         dials,
@@ -131,6 +171,16 @@ fn serve_by(alloc: Global, options: &ArgMatches<'_>) -> Result<Option<ServeWords
         explain: is_given(options, "explain"),
         admin: is_given(options, "admin"),
     }))
+}
+
+// What `serve` asks for, unless it is to explain rules that it doesn't read.
+fn if_it_explains(words: ServeWords) -> Option<ServeWords>
+    ensures { option_map served_as result ≡ if_it_explains (served_as words) }
+{
+    if words.explain && !words.rules {
+        return None;
+    }
+    Some(words)
 }
 
 fn made_by(options: &ArgMatches<'_>) -> Option<MakePlan>
@@ -153,8 +203,8 @@ fn text_of<'a>(options: &ArgMatches<'a>, name: &str) -> Option<&'a str>
     options.get_str(name)
 }
 
-// Whether an option without a value stands: `clap` gives it a text, which is `true` where it does.
-fn is_given(options: &ArgMatches<'_>, name: &str) -> bool
+/// Whether an option without a value stands: `clap` gives it a text, which is `true` where it does.
+pub(crate) fn is_given(options: &ArgMatches<'_>, name: &str) -> bool
     ensures { result ≡ is_given name.now (rows_of (found_of options.now)) }
 {
     match text_of(options, name) {

@@ -3,7 +3,7 @@
 use crate::commands::program;
 use crate::number::{count, number};
 use crate::plan::WordsError;
-use crate::reading::plan_of;
+use crate::reading::{is_given, plan_of};
 use clap::error::ErrorKind;
 use clap::{ArgMatches, Error};
 use std::alloc::{AllocError, Global};
@@ -102,7 +102,17 @@ fn out_of_range(alloc: Global, matches: &ArgMatches<'_>) -> Result<String, Alloc
     if command == "serve" && options.get_str("id").is_none() {
         put_missing("--id", &mut told)?;
     }
-    for option in ["--id", "--number", "--routers", "--clients", "--messages"] {
+    if command == "serve" && is_given(options, "explain") && !is_given(options, "rules") {
+        told.push_str("--explain wants --rules\n")?;
+    }
+    for option in [
+        "--threads",
+        "--id",
+        "--number",
+        "--routers",
+        "--clients",
+        "--messages",
+    ] {
         if let Some(text) = options.get_str(option.trim_start_matches('-')) {
             if !is_in_range(option, text) {
                 let value = value_of(option);
@@ -134,6 +144,7 @@ fn is_dial(alloc: Global, word: &str) -> Result<bool, AllocError> {
 // Whether the value of an option is in range, whatever the others are.
 fn is_in_range(option: &str, text: &str) -> bool {
     match option {
+        "--threads" => matches!(count(text.as_bytes()), Some(1..=16)),
         "--id" => Zid::from_text(text).is_ok(),
         "--number" => number(text.as_bytes()).is_some(),
         "--routers" => can_be_made(count(text.as_bytes()), Some(0), Some(0)),
@@ -163,6 +174,7 @@ fn value_of(option: &str) -> &'static str {
             "an identifier (2 to 32 lower-case hexadecimal digits, an even number, not all 0)"
         },
         "--listen" => "an address",
+        "--threads" => "a number from 1 to 16",
         "--number" => "a number of 64 bits",
         "--routers" => "a number from 1 to 64",
         "--clients" => "a number from 0 to 1024",

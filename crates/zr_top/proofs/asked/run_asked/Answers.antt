@@ -38,7 +38,7 @@ returns-in-Ok-Serve-clause-refused g c it =
 
 -- a write that failed is told as that, or beside wrong words as these
 pub returns-in-Ok-Net-clause-write_told : goal.returns-in-Ok-Net-clause-write_told
-returns-in-Ok-Net-clause-write_told g c other = (c.run_script.ensures.only_write.0, λ rose. inl (c.run_script.ensures.only_write.1 rose))
+returns-in-Ok-Net-clause-write_told g c other = (c.read_script.ensures.only_write.0, λ rose. inl (c.read_script.ensures.only_write.1 rose))
 
 pub returns-in-Ok-Serve-clause-write_told : goal.returns-in-Ok-Serve-clause-write_told
 returns-in-Ok-Serve-clause-write_told g c other = absurd (true≢false (sym (serve_plan_asked _ _ _ c.in-Ok-Serve.ensures.serve c.in-Ok-Serve.field-0-is) ∙ other))
