@@ -1,4 +1,5 @@
 """Whether what linked routers did is what the definition says: `zrd net` replays it step by step. `tests/replay` has the runs."""
+import bisect
 import collections
 import itertools
 import pathlib
@@ -8,7 +9,7 @@ import typing
 
 from driven import Wrong, must
 from links_order import DOWN, NOTHING_LEFT, UP, LinksOrder
-from ordering import Account, Message, plain
+from ordering import Account, Learnt, Message, plain
 
 MOST_REPORT = 300  # seconds for the report of a script: the machine may be busy
 STEPS_LEFT = 1_000_000  # at the end of a script, more than there can be
@@ -24,6 +25,19 @@ class Report(typing.NamedTuple):
     status: int
     error: str
     last: str
+
+
+class Difference(typing.NamedTuple):
+    """What was seen at a place of a link's messages, and what the definition sends there; None stands for nothing."""
+
+    way: tuple
+    place: int
+    seen: tuple | None
+    sent: tuple | None
+
+    def __str__(self):
+        seen, sent = ("nothing" if it is None else f"`{' '.join(it)}`" for it in (self.seen, self.sent))
+        return f"{self.way[0]} > {self.way[1]}, message {self.place + 1}: {seen} was seen, and {sent} is sent by the definition"
 
 
 def text_of(lines):
@@ -51,19 +65,59 @@ class Judge:
 
     def judge(self, keep=None):
         """Raises Wrong where there is none, and else gives what was handled in turn."""
-        ordered = Account(self.history, self.names).ordered()
-        lines = self.script(ordered)
-        if keep:
-            pathlib.Path(keep).write_text(text_of(lines))
-        report = self.report(lines)
-        for way in {way for way in self.history.ways if way[0] in self.names} | set(report.sent):
-            seen = [it.plain() for it in self.history.ways[way] if it.words not in (UP, DOWN)]
-            self.compare(way, seen, report.sent[way], report.refused is not None)
+        learnt = {}
+        while True:
+            ordered = Account(self.history, self.names, learnt.values()).ordered()
+            lines = self.script(ordered)
+            if keep:
+                pathlib.Path(keep).write_text(text_of(lines))
+            report = self.report(lines)
+            wrong = self.first_wrong(report)
+            if wrong is None:
+                break
+            one, other, learned = self.learn(wrong, lines)
+            if (one, other) in learnt:
+                raise Wrong(str(wrong))
+            learnt[one, other] = learned
         if report.refused is not None:
             line, message = lines[report.refused]
             raise Wrong(f"{message} was seen, and isn't sent by the definition: `{line}` is refused, {report.error}")
         must((report.status, report.error, report.last), (0, "", NOTHING_LEFT), "the end of net")
         return [handled for handled, _ in ordered]
+
+    def first_wrong(self, report):
+        """The first difference that is found, if there is one."""
+        for way in sorted({way for way in self.history.ways if way[0] in self.names} | set(report.sent)):
+            seen = [it.plain() for it in self.history.ways[way] if it.words not in (UP, DOWN)]
+            if found := self.compare(way, seen, report.sent[way], report.refused is not None):
+                return found
+        return None
+
+    def learn(self, wrong, lines):
+        """What a difference tells of the order: both messages that it is about, and that. Raises Wrong where nothing explains it."""
+        seen = [it for it in self.history.ways[wrong.way] if it.words not in (UP, DOWN)]
+        if wrong.seen is None or wrong.sent is None:
+            raise Wrong(str(wrong))
+        one, last = seen[wrong.place], seen[-1]
+        for other in seen[wrong.place :]:
+            if other.plain() == wrong.sent and set(one.causes) & set(other.causes):
+                return one, other, Learnt(one, lambda: other.causes, "of one event the definition sends the other first")
+        cause = self.cause_of(wrong, lines)
+        if not self.has_left(wrong.way[1]) or cause is None or any(cause.event in it.causes for it in seen):
+            raise Wrong(str(wrong))
+        return last, cause, Learnt(last, lambda: (cause.event,), f"{wrong.way[1]} has left, and what this causes wasn't seen there")
+
+    def has_left(self, client):
+        """Then the last messages on its link may be lost, and no others: what causes them comes behind what was seen."""
+        return any(it.words == ("leave",) for it in self.history.ways.get((client, self.homes.get(client)), ()))
+
+    def cause_of(self, wrong, lines):
+        """The message that is handled in the first line after which the definition has sent so many over the way of the difference."""
+        take = [(f"take {wrong.way[0]} {wrong.way[1]}", None)] * (wrong.place + 1)
+        has_sent = lambda end: len(self.report([*lines[:end], *take]).sent[wrong.way]) > wrong.place
+        ends = [i + 1 for i, (line, _) in enumerate(lines) if line.startswith(("handle ", "down "))]
+        first = bisect.bisect_left(ends, True, key=has_sent)
+        return lines[ends[first] - 1][1] if first < len(ends) else None
 
     def report(self, lines):
         ran = subprocess.run([*self.program, "net"], input=text_of(lines), capture_output=True, text=True, timeout=MOST_REPORT)
@@ -108,8 +162,8 @@ class Judge:
         """Message by message; the report ends early where a line was refused."""
         for i, (one, other) in enumerate((zip if is_cut else itertools.zip_longest)(seen, sent)):
             if one != other:
-                one, other = ("nothing" if it is None else f"`{' '.join(it)}`" for it in (one, other))
-                raise Wrong(f"{way[0]} > {way[1]}, message {i + 1}: {one} was seen, and {other} is sent by the definition")
+                return Difference(way, i, one, other)
+        return None
 
     def tell(self, handled):
         """How much was judged, and how much of it was handled in another order than it was sent."""
@@ -151,7 +205,10 @@ def place_of_number(message):
 
 
 def sees_what_is_wrong(judge, rng):
-    """Wrong runs, each with one message on the way from a router that is otherwise, must be judged to be that."""
+    """Wrong runs, each with one message on the way from a router that is otherwise, must be judged to be that.
+
+    The way isn't one to a client that has left: of a message that it lacks one can't tell whether it came behind its leaving.
+    """
     ways = judge.history.ways
     said = [(way[0], it.words) for way, messages in ways.items() if way[0] in judge.homes for it in messages]
     publishers = {words[2:]: publisher for publisher, words in said if words[0] in ("put", "del")}
@@ -166,7 +223,7 @@ def sees_what_is_wrong(judge, rng):
         *((swapped, is_one_of_two), (renumbered, lambda messages, i: place_of_number(messages[i]))),
     ]
     for change, fits in changes:
-        of_routers = [(way, messages) for way, messages in ways.items() if way[0] in judge.names]
+        of_routers = [(way, messages) for way, messages in ways.items() if way[0] in judge.names and not judge.has_left(way[1])]
         way, i = rng.choice([(way, i) for way, messages in of_routers for i in range(len(messages)) if fits(messages, i)])
         right = ways[way]
         ways[way] = right[:i] + change(right[i:])

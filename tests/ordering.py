@@ -7,6 +7,7 @@ something of that order, and so does each link into it. The numbers of requests 
 import collections
 import heapq
 import re
+import typing
 
 from driven import Wrong
 
@@ -143,10 +144,18 @@ def request_of(words):
     return words[3].rpartition("/")[2]
 
 
-class Account:
-    """The events of a history, what caused each message, and what that tells of the order."""
+class Learnt(typing.NamedTuple):
+    """All that caused a message comes before the last one of some events, which the function gives once there are any."""
 
-    def __init__(self, history, routers):
+    sent: Message
+    behind: typing.Callable
+    why: str
+
+
+class Account:
+    """The events of a history, what caused each message, and what that tells of the order. `learnt` was found to hold of it too."""
+
+    def __init__(self, history, routers, learnt=()):
         self.history, self.order = history, Order()
         self.routers = {name: Handled(name) for name in routers}
         self.messages = []  # by event: the message that is handled
@@ -170,6 +179,8 @@ class Account:
             self.constrain_out(self.judged(messages))
         self.constrain_moments()
         self.constrain_stages()
+        for learned in learnt:
+            self.constrain_learnt(learned)
 
     def judged(self, messages):
         """Those in whose stages no link between routers comes up or goes down; of the others `links_order.py` finds the order."""
@@ -372,6 +383,14 @@ class Account:
             last = self.order.event(max(self.order.moments[event] for event in of[stage]))
             for event in of[stage]:
                 self.order.before(event, (last,), "its stage is earlier")
+
+    def constrain_learnt(self, learned):
+        """Nothing comes before itself: an event that alone would have to come behind itself is Wrong."""
+        for cause in learned.sent.causes:
+            others = tuple(event for event in learned.behind() if event != cause)
+            if not others:
+                raise Wrong(f"{learned.sent}: {learned.why}, and no other event can have caused it")
+            self.order.before(cause, others, learned.why)
 
     # ---- an order
 
