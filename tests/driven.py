@@ -22,6 +22,7 @@ Session, Ended, Reader, Sample, Answer, Told = pubsub.Session, pubsub.Ended, pub
 
 MOST_WAIT = 10  # seconds
 MOST_LATE = 60  # seconds between a line of the log and its reading
+MOST_PORTS = 5  # that are tried: another process may take one before the router listens
 MOST_AHEAD = 128  # samples that a publisher is ahead of the slowest subscriber: a ring has twice as many slots
 SILENCE = 0.3  # seconds for which nothing comes
 PROBE_LEASE = 120  # seconds: on a busy machine a probe may be late
@@ -64,23 +65,31 @@ class Router:
     program = []
 
     def __init__(self, ident, *dials, weights=(), options=(), port=None, rules=None):
-        self.port = port or free_port()
-        self.address = ("127.0.0.1", self.port)
         named = ["--id", ident] if ident else []
-        words = ["serve", *named, "--listen", f"127.0.0.1:{self.port}", *options, *(["--rules"] if rules else [])]
         dialled = [d if isinstance(d, str) else f"127.0.0.1:{d.port if isinstance(d, Router) else d}" for d in dials]
-        words += [f"{it},{weight}" if weight else it for it, weight in itertools.zip_longest(dialled, weights)]
+        dialled = [f"{it},{weight}" if weight else it for it, weight in itertools.zip_longest(dialled, weights)]
+        for left in reversed(range(1 if port else MOST_PORTS)):
+            self.port = port or free_port()
+            self.address = ("127.0.0.1", self.port)
+            self.start([*named, "--listen", f"127.0.0.1:{self.port}", *options, *(["--rules"] if rules else []), *dialled], rules)
+            line = self.process.stdout.readline()
+            if found := re.fullmatch(r"serving ((?:[0-9a-f]{2}){1,16})\n", line):
+                break
+            self.process.kill()
+            told = self.process.stderr.read()
+            self.__exit__()
+            if not (left and ": address in use\n" in told):
+                raise Wrong(f"the router wrote {line!r}, not 'serving {ident}'; on standard error: {told!r}")
+        self.ident = found[1]
+        must(self.ident, ident or self.ident, "the identifier that the router tells")
+
+    def start(self, words, rules):
         given = subprocess.PIPE if rules else subprocess.DEVNULL
-        self.process = subprocess.Popen(self.program + words, stdin=given, stdout=subprocess.PIPE, stderr=subprocess.PIPE, text=True)
+        words = [*self.program, "serve", *words]
+        self.process = subprocess.Popen(words, stdin=given, stdout=subprocess.PIPE, stderr=subprocess.PIPE, text=True)
         if rules:
             self.process.stdin.write(rules)
             self.process.stdin.close()
-        line = self.process.stdout.readline()
-        found = re.fullmatch(r"serving ((?:[0-9a-f]{2}){1,16})\n", line)
-        if not found or ident not in (None, found[1]):
-            self.process.kill()
-            raise Wrong(f"the router wrote {line!r}, not 'serving {ident}'; on standard error: {self.process.stderr.read()!r}")
-        self.ident = found[1]
 
     def __enter__(self):
         return self
@@ -98,6 +107,14 @@ class Router:
         """Lets it run before other work of a busy machine, where that is allowed."""
         with contextlib.suppress(OSError):
             os.setpriority(os.PRIO_PROCESS, self.process.pid, -10)
+
+    def is_at_rest(self):
+        """Whether none of its threads has something to do. On a busy machine one that has may wait long for a processor."""
+        try:
+            states = [task.read_text().rpartition(")")[2].split()[0] for task in pathlib.Path(f"/proc/{self.process.pid}/task").glob("*/stat")]
+        except OSError:
+            return False  # a thread has just ended
+        return set(states) == {"S"}
 
     def status(self):
         """What the system tells of the process in numbers: threads, and memory in KiB."""
@@ -312,6 +329,17 @@ def takes(router, ident):
     except Ended:
         return False
     return True
+
+
+def comes_again(router, ident):
+    """A client under an identifier that was up just now: it is taken once the former link has gone."""
+    end = time.monotonic() + MOST_WAIT
+    while True:
+        try:
+            return router.client(ident)
+        except Ended:
+            must(time.monotonic() < end, True, "the identifier can come again")
+            time.sleep(0.01)
 
 
 def settle_across(client, router, seconds=MOST_WAIT):

@@ -14,7 +14,7 @@ from driven import PROBE_LEASE, Reader, Router, Session, Wrong, pubsub, send_at_
 from ordering import History
 from reading import Stream, message
 
-MOST_WAIT = 60  # seconds for what has to come
+MOST_WAIT = 120  # seconds for what has to come, on a busy machine too
 QUIET, QUIET_BEFORE = 0.5, 0.1  # seconds in which nothing comes, once links have come up or gone down and before they go down
 MOST_OF_TURN = 0.02  # seconds of rest that a turn counts for
 HELD, MOST_HELD = 0.2, 0.004  # how often a relay holds back what it has read, and for how many seconds at most
@@ -204,7 +204,7 @@ class Network:
         self.stack, self.dials = stack, dials
         self.routers, self.relays, self.clients = {}, [], []
         self.homes, self.numbers = {}, itertools.count()
-        self.idle = 0  # seconds
+        self.idle = 0  # seconds in which nothing came and no router had anything to do
 
     def start(self, name):
         """Starts a router, and waits until its links are up."""
@@ -239,6 +239,9 @@ class Network:
         a, b = relay.names
         return all(any(it.words[:2] == ("record", way[0]) for it in self.history.ways[way]) for way in ((a, b), (b, a)))
 
+    def is_at_rest(self):
+        return all(router.is_at_rest() for router in self.routers.values())
+
     def is_quiet(self, seconds):
         return self.idle > seconds and not any(any(relay.held.values()) for relay in self.relays)
 
@@ -252,10 +255,10 @@ class Network:
         return noted
 
     def turn(self, seconds=0.001):
-        """Reads and passes on what is there. Turns in which nothing comes sum to the time of rest; one that was late counts little."""
+        """Reads and passes on what is there. Turns in which nobody has anything to do sum to the idle time; a late one counts little."""
         began = time.monotonic()
         ready = self.selector.select(seconds)
-        if not ready:
+        if not ready and self.is_at_rest():
             self.idle += min(time.monotonic() - began, MOST_OF_TURN)
         for key, _ in ready:
             key.data()
