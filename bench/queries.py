@@ -8,22 +8,10 @@ the network moves until nothing is under way.
 With `--pending P` one client asks all of them and one answers, the oldest first, once P are pending: so from then on P are pending at each query.
 """
 import argparse
+import sys
 
-
-def name(number, letter):
-    return f"{letter}{number:05x}"
-
-
-def network(routers, clients):
-    for router in range(1, routers + 1):
-        yield f"router {name(router, 'a')}"
-    for router in range(2, routers + 1):
-        above = router // 2
-        yield f"link {name(above, 'a')} {name(router, 'a')}"
-        yield f"up {name(above, 'a')} {name(router, 'a')}"
-        yield f"up {name(router, 'a')} {name(above, 'a')}"
-    for client in range(clients):
-        yield f"client {name(client, 'c')} {name(1 + client % routers, 'a')}"
+sys.dont_write_bytecode = True
+from networks import name, network
 
 
 def queries(clients, count):

@@ -121,7 +121,8 @@ def admin_by_rules():
         client = router.client("0a")
         must(pages(client, "@/01/router/record/*"), [("@/01/router/record/01", "0 -")], "a page that no rule denies")
         must(pages(client, "@/01/router/link/*"), [], "pages that a rule denies")
-        must(pages(client, "@/01/router/record/*"), [("@/01/router/record/01", "0 -")], "a page that no rule denies, afterwards")
+        # the inner client may be coming again
+        until(lambda: pages(client, "@/01/router/record/*") == [("@/01/router/record/01", "0 -")], "a page that no rule denies, afterwards")
     opened = "allow 0a get @/01/router/**\nallow * able @/01/router/**\nallow * reply @/01/router/**\ndefault deny\n"
     with Router("01", options=ADMIN, rules=opened) as router:
         must(pages(router.client("0a"), "@/01/router/record/*"), [("@/01/router/record/01", "0 -")], "the space by rules that open it alone")

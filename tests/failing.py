@@ -59,10 +59,10 @@ def malformed_bytes():
         subscriber = router.client("0b", 60)
         subscriber.subscribe("a")
         settle(subscriber)
-        for text, state, why, samples in MALFORMED:
+        for ident, (text, state, why, samples) in enumerate(MALFORMED, 0x10):  # each of its own, since the last one may still be up
             with socket.create_connection(router.address, timeout=MOST_WAIT) as link:
                 if state != NEW:
-                    cookie = ask_to_open(link)
+                    cookie = ask_to_open(link, ident)
                 if state == OPEN:
                     open_with(link, cookie)
                 link.sendall(bytes.fromhex(text))
@@ -71,7 +71,7 @@ def malformed_bytes():
                     link.sendall(bytes([1, 0, 7]))  # a JOIN, which shows that it went on
                 must(link.recv(16), bytes([2, 0, pubsub.CLOSE | pubsub.WHOLE_SESSION, why or INVALID]), f"the answer to {text}")
                 must(link.recv(16), b"", f"what comes behind it, for {text}")
-            until(lambda: takes(router, "0a"), "the identifier can come again")
+            until(lambda ident=ident: takes(router, f"{ident:02x}"), "the identifier can come again")
         with socket.create_connection(router.address, timeout=MOST_WAIT) as link:
             link.sendall(bytes.fromhex(SIZED))
             must(link.recv(64)[:10], bytes.fromhex("28 00 61 09 00 01 0A 40 00 20"), f"the answer to {SIZED}, up to the cookie")
@@ -144,9 +144,9 @@ def read(link):
     return link.recv(int.from_bytes(link.recv(2), "little"))
 
 
-def ask_to_open(link):
-    """Sends the INIT of client 0A, and gives the cookie that comes."""
-    send(link, bytes([pubsub.INIT, pubsub.VERSION, pubsub.CLIENT, 0x0A]))
+def ask_to_open(link, ident=0x0A):
+    """Sends the INIT of a client, and gives the cookie that comes."""
+    send(link, bytes([pubsub.INIT, pubsub.VERSION, pubsub.CLIENT, ident]))
     return read(link)[5:]  # behind the header, the version, the identifier's length, the identifier 01, and the cookie's length
 
 

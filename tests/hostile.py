@@ -1,7 +1,7 @@
 """Cases of hostile or unlucky use that a router doesn't stand yet, by `tests/serve --known`; each says what is to hold.
 
-One that has come to pass moves to the cases of `tests/serve`. `unlinked_records`, `steady_reader`, `slow_reader_across` and `out_of_memory` are among
-those already.
+One that has come to pass moves to the cases of `tests/serve`. `unlinked_records`, `steady_reader`, `slow_reader_across`, `out_of_memory` and
+`restarted_under_its_identifier` are among those already.
 """
 import contextlib
 import multiprocessing
@@ -11,29 +11,66 @@ import socket
 import threading
 import time
 
-from driven import Answer, Ended, Router, Sample, Watcher, Wrong
-from driven import MOST_WAIT, RECORD, SILENCE, answered, must, pubsub, received, send_at_once, settle, settle_across, sure_put, takes, until
+from driven import Answer, Ended, Router, Sample, Told, Watcher, Wrong
+from driven import MOST_WAIT, RECORD, SILENCE, answered, handed, must, pubsub, received, reply_to, send_at_once, settle, settle_across, sure_put, takes
+from driven import told, until
 
 CHANGES = 200
 RECORDS, BYTES_EACH = 3_000, 2_048  # records that nobody links, and the memory that each may take
-ORPHANS, ASKED_AT_ONCE, STANDSTILL = 20_000, 200, 0.25  # queries whose asker has gone; seconds for which a router may stand still
+ORPHANS, ASKED_AT_ONCE = 20_000, 200  # queries whose asker has gone
+STANDSTILL = 1  # second without an answer; where rows are searched one by one it is many
 PACE, STEADY = 1 / 300, 15  # seconds between two samples that are read, and for which it goes on
 AHEAD = 400_000  # bytes that are published in one write
 SMALL_BUFFER = 16_384  # bytes of a socket; the system doubles it
+FILLING, FILLINGS, AT_ONCE = b"." * 16_000, 1_000, 1  # a sample, and how many are more than a ring and the buffers of sockets hold; seconds
+MOST_ASKED = 1.5  # seconds within which a router asks what it has heard
 SPARE, PRESSED = 48 << 20, 1  # bytes that a router has left, and seconds for which clients ask for more
 
 
 def restarted_under_its_identifier():
-    """A router that comes back under its old identifier says so, for its neighbours may not hear it."""
+    """A router that comes back under its old identifier says so once, for its neighbours may not hear it; one with a fresh identifier says nothing."""
     with Router("01") as first:
         with Router("02", first) as second:
             subscriber = second.client()
             for _ in range(CHANGES):
                 subscriber.unsubscribe(subscriber.subscribe("other"))
             settle_across(subscriber, first)
-        with Router("02", first) as second:
-            must(bool(select.select([second.process.stderr], [], [], MOST_WAIT)[0]), True, "something is told on standard error")
-            must(second.process.stderr.readline(), "identifier 02 was in use before: start with a fresh one\n", "what is told")
+            is_quiet(second)
+        for options, fresh in ([], "03"), (["--log"], "04"):
+            with Router("02", first, options=options) as second:
+                must(told_of(second, "identifier "), "identifier 02 was in use before: start with a fresh one\n", "what is told")
+                with Router(fresh, second) as third:
+                    settle_across(second.client(), third)
+                    if not options:
+                        is_quiet(first, second, third)
+
+
+def taken_identifier():
+    """A router whose identifier is up where it dials says so, with its log and without."""
+    with Router("01") as first:
+        holder = first.client("02")
+        for options in ([], ["--log"]):
+            with Router("02", first, options=options) as second:
+                line = told_of(second, f"dial 127.0.0.1:{first.port}: ")
+                must(line.split(": ", 1)[1], "refused, this identifier is up there: start with a fresh one if it was in use before\n", "what is told")
+                holder.keep_alive()
+        holder.close()
+
+
+def told_of(router, words):
+    """The next line on standard error in which these words stand."""
+    while select.select([router.process.stderr], [], [], MOST_WAIT)[0]:
+        line = router.process.stderr.readline()
+        if words in line or not line:
+            return line
+    raise Wrong(f"no line with {words!r}")
+
+
+def is_quiet(*routers):
+    """They write nothing on standard error for longer than each takes to ask what it has heard."""
+    streams = {router.process.stderr: router.ident for router in routers}
+    for stream in select.select(list(streams), [], [], MOST_ASKED)[0]:
+        raise Wrong(f"router {streams[stream]} wrote {stream.readline()!r}")
 
 
 class Forger(Watcher):
@@ -230,7 +267,69 @@ def slow_reader_across():
 
 
 def reply_behind_samples():
-    """A client whose ring is full of samples that may be dropped isn't closed by a reply or a final: who sends them waits for it."""
+    """A reply and a final meet a ring that is full of samples that may be dropped: who sends them waits until the asker reads, and nobody else does."""
+    with Router("01") as router:
+        asker, replier = small(router), router.client()
+        replier.declare_queryable("plan")
+        settle(replier)
+        with full_ring(router, asker):
+            number = asker.ask("plan")
+            asked = handed(replier, "plan")
+            replier.reply(asked, "plan", b"north")
+            replier.end(asked)
+        answers = [asker.receive_answer(MOST_WAIT) for _ in range(2)]
+        must(answers, [reply_to(number, "plan", b"north"), Answer(number)], "the answers")
+
+
+def told_behind_samples():
+    """What a client is told of others meets a ring that is full of samples that may be dropped: it waits until the client reads, and nobody else does."""
+    with Router("01") as router:
+        watcher, robot = small(router), router.client()
+        interest = watcher.declare_interest("fleet/**", kinds=pubsub.TOKENS)
+        told(watcher, Told(pubsub.ALL_TOLD, interest=interest))
+        with full_ring(router, watcher):
+            robot.declare_token("fleet/0b")
+        must(watcher.receive_told(MOST_WAIT), Told(pubsub.TOKEN, 1, "fleet/0b"), "what is told")
+
+
+def sure_behind_samples():
+    """A sample that may not be dropped meets a ring that is full of others: it waits until the subscriber reads, and nobody else does."""
+    with Router("01") as router:
+        slow, sender = small(router), router.client()
+        with full_ring(router, slow):
+            sender.send(sure_put("a", b"sure"))
+        while (sample := slow.receive(MOST_WAIT)) != Sample("a", b"sure"):
+            must(sample and sample.payload == FILLING, True, "a sample before it")
+
+
+@contextlib.contextmanager
+def full_ring(router, slow):
+    """A client reads nothing, and its ring is full of samples. Something is done, and then two others send a sample, which must come at once."""
+    publisher, subscriber = router.client(), router.client()
+    slow.subscribe("a")
+    subscriber.subscribe("b")
+    settle(slow, subscriber)
+    for count in (FILLINGS, FILLINGS // 4, FILLINGS // 4):  # the buffers of sockets grow
+        for _ in range(count):
+            publisher.put("a", FILLING)
+        comes_at_once(publisher, subscriber)
+    yield
+    for _ in range(10):
+        comes_at_once(publisher, subscriber)
+        time.sleep(0.05)
+
+
+def comes_at_once(publisher, subscriber):
+    began = time.monotonic()
+    publisher.send(sure_put("b", b"on"))
+    must(subscriber.receive(MOST_WAIT), Sample("b", b"on"), "the sample of another client")
+    passed = time.monotonic() - began
+    if passed > AT_ONCE:
+        raise Wrong(f"a sample of another client took {passed:.1f} s")
+
+
+def replies_in_a_flood():
+    """A client that reads 300 samples a second, of a flood of them that may be dropped, gets replies and finals, and isn't closed."""
     with Router("01") as router:
         asker, replier = small(router, ident="0a"), router.client()
         replier.declare_queryable("plan")
@@ -259,4 +358,6 @@ def answer_until(replier, end):
                 replier.end(query)
 
 
-KNOWN = [restarted_under_its_identifier, orphan_queries, reply_behind_samples]
+KNOWN = [
+    *(reply_behind_samples, told_behind_samples, sure_behind_samples, replies_in_a_flood),
+]

@@ -7,7 +7,7 @@ import tempfile
 import time
 
 from driven import MOST_AHEAD, MOST_WAIT, Router, Session, Watcher, Wrong
-from driven import clients_hear_each_other, ending, free_port, must, pubsub, reason, send_at_once, settle, takes, until
+from driven import clients_hear_each_other, comes_again, ending, free_port, must, pubsub, reason, send_at_once, settle, until
 
 CONNECTED_ALREADY = 4
 INVALID = "closed here, it sent what may not come"  # what the log tells with reason 2
@@ -83,11 +83,10 @@ def broken_rules():
         answering.declare_queryable("a")
         settle(answering)
         for act, cause in BREAKS:
-            client = router.client("0a")
+            client = comes_again(router, "0a")
             act(client)
             until(lambda: router.logged()[1].endswith(f"end, client 0a: {cause}"), cause)
             client.link.close()
-            until(lambda: takes(router, "0a"), "the identifier can come again")
 
 
 def denials():
