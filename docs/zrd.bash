@@ -7,14 +7,14 @@ _zrd() {
     read -ra before <<<"${line% *}"
     case ${before[1]-} in
     '') words=' net serve make help --help --version ' ;;
-    net) words=' --summary --explain --help ' ;;
+    net) words=' --summary --explain --threads --help ' ;;
     serve) words=' --id --listen --log --rules --explain --admin --help ' ;;
     make) words=' --number --routers --clients --messages --help ' ;;
     help) words=' net serve make ' ;;
     *) words= ;;
     esac
     case ${before[-1]-} in
-    --id | --listen | --number | --routers | --clients | --messages) words= ;;
+    --id | --listen | --threads | --number | --routers | --clients | --messages) words= ;;
     esac
     for word in "${before[@]:2}"; do
         words=${words/ ${word%%=*} / }

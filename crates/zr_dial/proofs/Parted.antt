@@ -9,7 +9,7 @@ use Rattle.std.proofs.lemmas.Str.Pattern.{NoCharPasses-char}
 use Rattle.std.specs.Result.{result_ok}
 use Rattle.std.specs.Path.{rfind_below, rsplit_once}
 use Rattle.zr_script_spec.specs.declared.error.ScriptError.{ScriptError}
-use Rattle.zr_script_spec.specs.declared.error.ScriptError.TheVariants.{UnknownCommand, BadWords, UnknownName, NameTaken, BadKey, NotLinked, AlreadyLinked, NothingThere, NotAsked, NotSettled, NotJoined, Limit, NoMemory}
+use Rattle.zr_script_spec.specs.declared.error.ScriptError.TheVariants.{UnknownCommand, BadWords, UnknownName, NameTaken, BadKey, NotLinked, AlreadyLinked, NothingThere, NotAsked, NotSettled, NotSamples, NotJoined, Limit, NoMemory}
 use Rattle.zr_script_spec.specs.Step.{IsSaid}
 use Rattle.zr_script_spec.specs.Words.{weight_at}
 use Rattle.zr_dial.specs.Dial.{DialState, parted_dial, dial_of}
@@ -75,6 +75,7 @@ none_of AlreadyLinked m h has = ap result_ok h
 none_of NothingThere m h has = ap result_ok h
 none_of NotAsked m h has = ap result_ok h
 none_of NotSettled m h has = ap result_ok h
+none_of NotSamples m h has = ap result_ok h
 none_of NotJoined m h has = ap result_ok h
 none_of Limit m h has = ap result_ok h
 none_of NoMemory m h has = absurd (has refl)

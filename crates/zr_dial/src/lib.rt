@@ -76,6 +76,7 @@ fn undialled(error: ScriptError) -> Result<Option<Dial>, AllocError>
         | ScriptError::NothingThere
         | ScriptError::NotAsked
         | ScriptError::NotSettled
+        | ScriptError::NotSamples
         | ScriptError::NotJoined
         | ScriptError::Limit => Ok(None),
     }
