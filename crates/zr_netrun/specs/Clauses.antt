@@ -1,5 +1,5 @@
 -- What the run of a script promises, status by status, over the bytes that were read.
-use Rattle.std.specs.Prelude.{◌≡◌, ℕ, ◌≤◌, Bool, true, false, List, ◌++◌, length, Option, Some, None, ◌⊎◌}
+use Rattle.std.specs.Prelude.{◌≡◌, ℕ, ◌<◌, ◌≤◌, Bool, true, false, List, ◌++◌, length, Option, Some, None, ◌⊎◌}
 use Rattle.zr_script_spec.specs.Lines.{most_bytes}
 use Rattle.zr_outside.specs.Told.{IsAsBefore, Appends, AppendsPrefix}
 use Rattle.zr_world_spec.specs.Moments.{Moment}
@@ -83,3 +83,10 @@ pub record WritesAsAsked (options : NetOptions) (left left' : Option (List ℕ))
   pub read : OfRead left left' (λ read. Unit {0})
   pub report : options.summary ≡ false → OfRead left left' (IsReported options.explain InputEnded status out out' err err')
   pub summed_up : options.summary ≡ true → OfRead left left' (IsSummedUp options.explain InputEnded status out out' err err')
+
+-- Where a read failed no write did, and out gained the report of all lines that had ended, unless a summary is asked for. Any read may fail, and
+-- any write: what is kept back over a read is written behind it, and where that write fails too the run can't end as this says.
+-- So before each read what has ended is reported.
+abbrev pub ReportsBeforeReads : NetOptions → Option (List ℕ) → Option (List ℕ) → Option (List ℕ) → Option (List ℕ) → ℕ → ℕ → ℕ → ℕ → Type 0
+ReportsBeforeReads options left left' out out' reads reads' writes writes' =
+    reads < reads' → (writes' ≡ writes) × (options.summary ≡ false → OfRead left left' (λ read. Appends (judged false read).text out out'))

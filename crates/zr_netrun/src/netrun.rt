@@ -7,7 +7,7 @@ ghost use Rattle.zr_world_spec.specs.Run.{start};
 ghost use Rattle.zr_netrun_lines.specs.Possible.{StepsGo};
 ghost use Rattle.zr_netrun_lines.specs.Kept.{begun, seen, writes};
 ghost use Rattle.zr_netrun.specs.Told.{Tells, Complains};
-ghost use Rattle.zr_netrun.specs.Clauses.{OfRead, IsSummedUp, WritesAsAsked};
+ghost use Rattle.zr_netrun.specs.Clauses.{OfRead, IsSummedUp, ReportsBeforeReads, WritesAsAsked};
 ghost use Rattle.zr_netrun.specs.Ended.{IsEnded, TellsFailedWrites};
 ghost use Rattle.zr_netrun.specs.Judged.{refusal_told};
 ghost use Rattle.zr_netrun.specs.Counted.{CountsFromNone, IsRun, TellsSummary};
@@ -42,8 +42,8 @@ const MOST_A_READ: usize = 65_536;
 ///
 /// A refused line ends the run: `err` then has `line N: NUMBER NAME`, and its explanation behind it where that is asked for. So does a
 /// script of more than 67,108,864 bytes, none of whose lines within them is refused: `err` has `script too long`. A status of fault comes
-/// only where that count rose in this call, and a read or a write that fails ends the run by that status. A line `fan` is given the gang and
-/// what starts its threads; neither changes what is written.
+/// only where that count rose in this call, and a read or a write that fails ends the run by that status. Where a read fails no write has, and
+/// what had ended is reported (`prompt`). A line `fan` is given the gang and what starts its threads; neither changes what is written.
 #[tactic(auto, using(crate::proofs::Starting::from_start, crate::proofs::Asked::writes_report, crate::proofs::Asked::writes_summary))]
 pub fn run_script<R: Threads + Sync, G: Gang, S: Source, K: Sink, E: Sink>(
     rt: &R,
@@ -58,6 +58,7 @@ pub fn run_script<R: Threads + Sync, G: Gang, S: Source, K: Sink, E: Sink>(
     ensures ends { IsEnded (IsReadToEnd (S.ends input.old) (S.ends input.new) (S.quiets input.old) (S.quiets input.new)) result (S.faults input.old) (S.faults input.new) (K.faults out.old) (K.faults out.new) (E.faults err.old) (E.faults err.new) }
     ensures only { S.faults input.old < S.faults input.new → result ≡ Status.ReadFault }
     ensures only_write { TellsFailedWrites result (K.faults out.old) (K.faults out.new) (E.faults err.old) (E.faults err.new) }
+    ensures prompt { ReportsBeforeReads options (S.left input.old) (S.left input.new) (K.held out.old) (K.held out.new) (S.faults input.old) (S.faults input.new) (K.faults out.old) (K.faults out.new) }
 {
     if options.summary {
         return sum_up(rt, gang, alloc, options, input, out, err);

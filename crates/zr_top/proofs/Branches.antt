@@ -1,6 +1,6 @@
 -- What holds of a run by what its words ask for.
-use Rattle.std.proofs.Common.{◌≡◌, ◌∙◌, ◌⊎◌, ◌||◌, ℕ, Bool, false, refl, sym, ap, subst, List, [], Option, Some, None, Result, Ok, Err, inl, inr, true≢false, true}
-use Rattle.std.specs.Prelude.{IfSome, is_some}
+use Rattle.std.proofs.Common.{◌≡◌, ◌<◌, ◌≤◌, ◌∙◌, ◌⊎◌, ◌||◌, ℕ, Bool, false, refl, sym, ap, subst, List, [], Option, Some, None, Result, Ok, Err, inl, inr, true≢false, true}
+use Rattle.std.specs.Prelude.{IfSome, is_some, option_and_then}
 use Rattle.std.specs.List.{list_any}
 use Rattle.std.specs.Option.{option_map_or}
 use Rattle.rand_core.specs.Stream.{Stream}
@@ -10,8 +10,9 @@ use Rattle.zr_netrun.specs.declared.options.NetOptions.{NetOptions}
 use Rattle.zr_netrun.specs.declared.status.Status.{Status}
 use Rattle.zr_netrun.specs.declared.status.Status.TheVariants as status
 use Rattle.zr_netrun.specs.declared.status.Status.TheVariants.{NoMemory}
-use Rattle.zr_netrun.specs.Clauses.{IsReported, IsSummedUp, OfRead, WritesAsAsked}
+use Rattle.zr_netrun.specs.Clauses.{IsReported, IsSummedUp, OfRead, ReportsBeforeReads, WritesAsAsked}
 use Rattle.zr_netrun.specs.Judged.{judged}
+use Rattle.zr_netrun.proofs.Asked.{reports_before_reads}
 use Rattle.zr_netrun.proofs.Reading.{as_before}
 use Rattle.zr_netrun_lines.proofs.Writing.{prefix_none}
 use Rattle.zr_link_job.specs.declared.job.ServeJob.{ServeJob}
@@ -28,7 +29,8 @@ use Rattle.zr_rules.specs.declared.rules.RulesError.{RulesError}
 use Rattle.zr_rules.specs.declared.rules.RulesError.TheVariants as rules_error
 use Rattle.zr_top.specs.Asked.{Answers, HasRules, IsServingBy}
 use Rattle.zr_top.specs.Told.{IsUnhindered}
-use Rattle.zr_top.specs.Words.{asks_rules, reads_input}
+use Rattle.zr_top.specs.Words.{asks_rules, options_by, reads_input}
+use Rattle.zr_top_words.specs.Asked as words_asked
 use Rattle.zr_top_words.specs.Asked.{Asked, Served, asked_of, net_of, net_part, serve_part, served_of}
 use Rattle.zr_top_words.specs.declared.plan.NetPlan.{NetPlan}
 use Rattle.zr_top_words.specs.declared.plan.Plan.{Plan}
@@ -120,6 +122,25 @@ unhindered status.WriteFault P Q R H read write host no_read no_out no_err no_ho
     by (inl q) = no_out q
     by (inr r) = no_err r
 unhindered status.HostFault P Q R H read write host no_read no_out no_err no_host = no_host (host refl)
+
+-- ---- words of `net`
+
+-- they ask for no router
+net_serves_none : (asked : Option Asked) (plan : NetPlan) → option_and_then net_part asked ≡ Some plan → is_some (option_and_then serve_part asked) ≡ false
+net_serves_none None plan is = refl
+net_serves_none (Some (words_asked.net p)) plan is = refl
+net_serves_none (Some (words_asked.serve p)) plan is = absurd (some≢none plan (sym is))
+net_serves_none (Some (words_asked.make p)) plan is = absurd (some≢none plan (sym is))
+
+-- what has ended was reported before each read
+pub net_reports_before_reads : (words : List (List ℕ)) (left next : Option (List ℕ)) (InputEnded : Type 0) (e : Status) (a b c d : Option (List ℕ)) (r r' w w' : ℕ) (Other : Type 0) →
+    IfSome (net_of words) (λ plan. WritesAsAsked (options_by plan) left next InputEnded e a b c d) → (r < r' → e ≡ status.ReadFault) →
+    (is_some (served_of words) ≡ false → (w < w' → e ≡ status.WriteFault) × Other) → w ≤ w' → IfSome (net_of words) (λ plan. ReportsBeforeReads (options_by plan) left next a b r r' w w')
+net_reports_before_reads words left next InputEnded e a b c d r r' w w' Other writes read write later = by (net_of words) refl writes
+  where
+    by : (found : Option NetPlan) → net_of words ≡ found → IfSome found (λ plan. WritesAsAsked (options_by plan) left next InputEnded e a b c d) → IfSome found (λ plan. ReportsBeforeReads (options_by plan) left next a b r r' w w')
+    by None is h = tt
+    by (Some plan) is h = reports_before_reads (options_by plan) left next InputEnded e a b c d r r' w w' h read (write (net_serves_none (asked_of words) plan is)).0 later
 
 -- ---- whether the input is read
 

@@ -24,7 +24,7 @@ ghost use Rattle.zr_law_joined.specs.Laws.{RunsSettleAsWorlds, SettledRunsHavePh
 ghost use Rattle.zr_law_running.specs.Laws.{RunsAreOfAWorld};
 ghost use Rattle.zr_law_settled.specs.Events.{NoEventIsRefused};
 ghost use Rattle.zr_law_settled.specs.Tables.{AgreeWhereSettled, SettledLogsAgree};
-ghost use Rattle.zr_netrun.specs.Clauses.{OfLines, OfScriptLines, WritesAsAsked};
+ghost use Rattle.zr_netrun.specs.Clauses.{OfLines, OfScriptLines, ReportsBeforeReads, WritesAsAsked};
 ghost use Rattle.zr_pend_spec.specs.Best.{GatheredIsBest};
 ghost use Rattle.zr_rules.specs.Carets.{CaretsAreUnderWrongKeys, CaretsAreUnderWrongWords};
 ghost use Rattle.zr_top.specs.Means.{HaveKeyTexts, LeadToTheirReport};
@@ -120,6 +120,7 @@ use zr_tree::laws::{distances_are_of_shortest_walks, records_make_graphs};
 /// that is told whole, or else in part, or the words are wrong (`helped`).
 /// With all other words than those of `serve` the host and the crew are as they were (`unserved`), and with all other words than those of `net` and of `serve` with `--rules` the input is (`unread`).
 /// Where nothing outside fails, all was done, a line or the words were refused, or memory ran out (`complete`).
+/// Where a read of a script failed no write did, and the report of all lines that had ended was written, so none is kept back over a read (`prompt`).
 /// Where a read of the input failed the status says so (`read_told`), and with all other words than those of `serve` where a write failed (`write_told`):
 /// but the usage line tells wrong words, and where it can't be written they are wrong all the same.
 pub fn run<
@@ -144,6 +145,7 @@ where
     H::Time: 'static,
     H::Log: 'static,
     ensures report { IfSome (net_of (map string_bytes words.now)) (λ plan. WritesAsAsked (options_by plan) (S.left input.old) (S.left input.new) (IsReadToEnd (S.ends input.old) (S.ends input.new) (S.quiets input.old) (S.quiets input.new)) result (K.held out.old) (K.held out.new) (E.held err.old) (E.held err.new)) }
+    ensures prompt { IfSome (net_of (map string_bytes words.now)) (λ plan. ReportsBeforeReads (options_by plan) (S.left input.old) (S.left input.new) (K.held out.old) (K.held out.new) (S.faults input.old) (S.faults input.new) (K.faults out.old) (K.faults out.new)) }
     ensures headline { is_net (map string_bytes words.now) ≡ true → OfScriptLines (S.left input.old) (S.left input.new) IsRefined }
     ensures interests { is_net (map string_bytes words.now) ≡ true → OfLines (S.left input.old) (S.left input.new) TellsClients }
     ensures tokens { is_net (map string_bytes words.now) ≡ true → OfLines (S.left input.old) (S.left input.new) TellsTokens }

@@ -1,7 +1,7 @@
 use Rattle.zr_netrun.specs.Judged.{judged_lines}
 use Rattle.zr_netrun.proofs.Telling.{of_read}
 use Rattle.zr_top.proofs.Lines.{lines_refined}
-use Rattle.zr_top.proofs.Branches.{unhindered}
+use Rattle.zr_top.proofs.Branches.{net_reports_before_reads, unhindered}
 use Rattle.zr_top.proofs.run.run.Goals as goal
 
 -- what the lines that count have sent refines the one broker: their replies fit
@@ -18,3 +18,9 @@ pub returns-clause-complete : goal.returns-clause-complete
 returns-clause-complete g c no_read no_out no_err no_host =
     let asked = c.run_asked.ensures in
     unhindered c.run_asked.result _ _ _ _ asked.read asked.write asked.host no_read no_out no_err no_host
+
+-- what has ended was reported before each read
+pub returns-clause-prompt : goal.returns-clause-prompt
+returns-clause-prompt g c =
+    let asked = c.run_asked.ensures in
+    net_reports_before_reads _ _ _ _ c.run_asked.result _ _ _ _ _ _ _ _ _ asked.report asked.read_told asked.write_told asked.out_later
