@@ -9,7 +9,7 @@ use Rattle.zr_router_queue.specs.Tables.{replay}
 use Rattle.zr_world_spec.specs.World.{RouterState, router_of}
 use Rattle.zr_world_spec.specs.Acts.{hub_of}
 use Rattle.zr_world_spec.specs.Moments.{Numbered, ascends, Moment, reached}
-use Rattle.zr_law_names.specs.Names.{DoTheSame}
+use Rattle.zr_law_names.specs.Alike.{DoTheSame}
 use Rattle.zr_law_running.specs.Runs.{Heard, part, hub_by, outcome_of}
 use Rattle.zr_law_running.specs.Deeds.{deeds}
 use Rattle.zr_law_running.specs.Allowed.{is_among, AreRouters, IsRun}
@@ -23,8 +23,8 @@ events_of history = map (λ e. e.event) history
 abbrev pub LeavesNothingOut : Entry → Type 0
 LeavesNothingOut e = (e.dropped ≡ []) × (e.closed ≡ [])
 
--- The histories of several running routers make a run, which has their events in an order that a clock at the wall could have had: but for events of which
--- a router makes nothing, and under what names clients come.
+-- The histories of several running routers make a run, which has their events in an order of real time: but for events without effect, under what names
+-- clients come, and which trees they name.
 pub record MakeARun (ids : List (List ℕ)) (history : List ℕ → List Entry) (run : List Heard) : Type 0 where
   pub legal : (x : List ℕ) → is_among ids x ≡ true → is_legal x (history x) ≡ true
   pub whole : (x : List ℕ) → is_among ids x ≡ true → AllByRecursion LeavesNothingOut (history x)

@@ -1,6 +1,5 @@
--- A router makes nothing of the names of its clients (`routers_know_no_names`), whatever the events (`names_leave_no_trace`).
-use Rattle.std.proofs.Common.{◌≡◌, ℕ, cond, List, [], ◌∷◌, ◌++◌, Option, Some, None, inl, inr, refl, sym, ap, ◌∙◌, subst}
-use Rattle.std.specs.List.{fold}
+-- What a router does doesn't depend on the names of its clients (`names_change_nothing`).
+use Rattle.std.proofs.Common.{◌≡◌, ℕ, cond, [], ◌++◌, Option, Some, None, refl, ap, ◌∙◌}
 use Rattle.std.specs.Option.{option_or}
 use Rattle.zr_id.specs.declared.link.LinkNo.{LinkNo}
 use Rattle.zr_msg.specs.declared.error.NodeError.TheVariants as e
@@ -10,10 +9,10 @@ use Rattle.zr_node_spec.specs.State.{NodeState, tables}
 use Rattle.zr_node_spec.specs.Tables.{leads_to_client}
 use Rattle.zr_node_spec.specs.Snapshots.{sends_snapshots}
 use Rattle.zr_node_spec.specs.Table.{sends_first, sends, after, refuses}
-use Rattle.zr_told_spec.specs.Hub.{HubState, Asking, asking_on, by_link, tells_with, told_with, sends_told, told_after, new_hub, hub_sends, hub_after, hub_refuses}
+use Rattle.zr_told_spec.specs.Hub.{HubState, Asking, asking_on, by_link, tells_with, told_with, sends_told, told_after, hub_sends, hub_after, hub_refuses}
 use Rattle.zr_told_spec.specs.Rows.{map_on, one_lacks_ids}
 use Rattle.zr_told_spec.specs.Told.{ToldMap}
-use Rattle.zr_law_names.specs.Names.{nameless_event, nameless_node, nameless_hub, RoutersKnowNoNames, AreAs, all_sent, NamesLeaveNoTrace, EventsAreAsTheyAre}
+use Rattle.zr_law_names.specs.Names.{nameless_event, nameless_node, nameless_hub, NamesChangeNothing}
 use Rattle.zr_law_names.proofs.Links.{leads_client, maps_same}
 use Rattle.zr_law_names.proofs.Sending.{first_sent, snapshots_sent}
 use Rattle.zr_law_names.proofs.Leaving.{left_same, refused_same}
@@ -66,37 +65,5 @@ module _ (h : HubState) (event : Event) where
       ap (λ (m : NodeState). option_or (refuses (nameless_node h.node) (nameless_event event)) (cond (one_lacks_ids (tables m) m.clients) (Some e.Worn) None)) (left_same h.node event)
       ∙ ap (λ o. option_or o (cond (one_lacks_ids (tables then) then.clients) (Some e.Worn) None)) (refused_same h.node event)
 
-pub routers_know_no_names : RoutersKnowNoNames
-routers_know_no_names h event = record { after = hub_left h event; sends = hub_sent h event; refuses = hub_refused h event }
-
--- ---- many events
-
--- what two routers do that are one but for names
-record Same (h g : HubState) (events others : List Event) : Type 0 where
-  after : nameless_hub (fold hub_after h events) ≡ nameless_hub (fold hub_after g others)
-  sends : (link : LinkNo) → all_sent h events link ≡ all_sent g others link
-
-same_all : (events : List Event) (h g : HubState) → nameless_hub h ≡ nameless_hub g → (others : List Event) → AreAs h events others → Same h g events others
-same_all [] h g same others is = record { after = same ∙ ap (λ es. nameless_hub (fold hub_after g es)) (sym is); sends = λ link. ap (λ es. all_sent g es link) (sym is) }
-same_all (event ∷ events) h g same others (inl nothing) =
-    let kept : nameless_hub (hub_after h event) ≡ nameless_hub g = ap nameless_hub nothing.0.keeps ∙ same in
-    let ih = same_all events (hub_after h event) g kept others (subst (λ z. AreAs z events others) (sym nothing.0.keeps) nothing.1) in
-    record { after = ih.after; sends = λ link. ap (λ z. z ++ all_sent (hub_after h event) events link) (nothing.0.sends link) ∙ ih.sends link }
-same_all (event ∷ events) h g same others (inr is) =
-    let other : Event = is.0 in
-    let then : nameless_hub (hub_after h event) ≡ nameless_hub (hub_after g other) =
-    sym (hub_left h event) ∙ ap (λ z. hub_after z (nameless_event event)) same ∙ ap (hub_after (nameless_hub g)) is.3 ∙ hub_left g other in
-    let now : (link : LinkNo) → hub_sends h event link ≡ hub_sends g other link =
-    λ link. sym (hub_sent h event link) ∙ ap (λ z. hub_sends z (nameless_event event) link) same ∙ ap (λ e. hub_sends (nameless_hub g) e link) is.3 ∙ hub_sent g other link in
-    let ih = same_all events (hub_after h event) (hub_after g other) then is.1 is.4 in
-    subst (Same h g (event ∷ events)) (sym is.2) (record {
-      after = ih.after;
-      sends = λ link. ap (λ z. z ++ all_sent (hub_after h event) events link) (now link) ∙ ap (λ z. hub_sends g other link ++ z) (ih.sends link);
-    })
-
-pub names_leave_no_trace : NamesLeaveNoTrace
-names_leave_no_trace me events others is = let all = same_all events (new_hub me) (new_hub me) refl others is in record { after = all.after; sends = all.sends }
-
-pub events_are_as_they_are : EventsAreAsTheyAre
-events_are_as_they_are h [] = refl
-events_are_as_they_are h (event ∷ events) = inr (event, events, refl, refl, events_are_as_they_are (hub_after h event) events)
+pub names_change_nothing : NamesChangeNothing
+names_change_nothing h event = record { after = hub_left h event; sends = hub_sent h event; refuses = hub_refused h event }

@@ -26,7 +26,7 @@ use Rattle.zr_world_spec.proofs.Keyed.{there}
 use Rattle.zr_world_spec.proofs.Names.{names, same_name, value_new}
 use Rattle.zr_world_spec.proofs.Fits.{empty_sound}
 use Rattle.zr_guarantee.specs.Phase.{stays}
-use Rattle.zr_law_names.proofs.Names.{names_leave_no_trace}
+use Rattle.zr_law_names.proofs.Alike.{steps_are_alike}
 use Rattle.zr_law_running.specs.Runs.{Heard, LinkState, Several, new_link, at_first, part, heard, with_link, without_link, parting, coming, handed, spoken, brought, gone, happened, happened_at, outcome_from, outcome_of}
 use Rattle.zr_law_running.specs.Allowed.{is_among, AreApart, MayBringUp, MayBring, MayDeliver, MayOpen, MayHappen, IsRunFrom, IsRun}
 use Rattle.zr_law_running.specs.Laws.{queue_at, IsMomentOf, RunsAreOfAWorld}
@@ -309,4 +309,4 @@ pub runs_are_of_a_world : RunsAreOfAWorld
 runs_are_of_a_world ids heard run routers in_run is =
     let b = begins ids routers.apart (leb-true (length ids) most_routers routers.few) in
     let all = goes_on any_acts ids run at_first b.0 (all_allowed run) b.1.state is in
-    (all.1.came.acts, all.1.came.ascend, all.1.deeds, (all.0, all.1.came.is, moment_of ids run is any_acts all.0 all.1), λ x i. names_leave_no_trace x (heard x) (part run x) (in_run x i))
+    (all.1.came.acts, all.1.came.ascend, all.1.deeds, (all.0, all.1.came.is, moment_of ids run is any_acts all.0 all.1), λ x i. steps_are_alike x (heard x) (part run x) (in_run x i))

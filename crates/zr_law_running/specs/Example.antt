@@ -1,5 +1,5 @@
 -- A small run: two routers link up and hear of each other, and at one of them a client subscribes and another one publishes.
-use Rattle.std.specs.Prelude.{◌≡◌, ℕ, List, [], ◌∷◌, ◌++◌, codes, None}
+use Rattle.std.specs.Prelude.{◌≡◌, ℕ, List, [], ◌∷◌, ◌++◌, codes, Option, Some, None}
 use Rattle.zr_msg.specs.declared.content.Parts.{Parts}
 use Rattle.zr_msg.specs.declared.event.Event.TheVariants.{Up, From}
 use Rattle.zr_msg.specs.declared.msg.Msg.{Msg}
@@ -7,8 +7,9 @@ use Rattle.zr_msg.specs.declared.msg.Msg.TheVariants.{Sub, Unsub, Push}
 use Rattle.zr_msg.specs.declared.peer.Role.{Role}
 use Rattle.zr_msg.specs.declared.peer.Role.TheVariants as role
 use Rattle.zr_msg.specs.Extras.{no_extras}
-use Rattle.zr_law_running.specs.Runs.{Heard, outcome_of}
+use Rattle.zr_law_running.specs.Runs.{Heard, part, outcome_of}
 use Rattle.zr_law_running.specs.Allowed.{AreRouters, IsRun}
+use Rattle.zr_law_running.specs.Laws.{AreHeardIn}
 
 abbrev pub one : List ℕ
 one = 1 ∷ []
@@ -46,13 +47,20 @@ linked = up one 0 two role.Router ∷ up two 0 one role.Router ∷ []
 abbrev pub met : List Heard
 met = linked ++ from one 0 (oldest ((outcome_of linked).links (two, one)).waits) ∷ []
 
--- two clients come to the second router, and what one of them publishes is for the other
+-- two clients come to the second router, and one of them subscribes
+abbrev pub subscribed : List Heard
+subscribed = met ++ up two 1 publisher role.Client ∷ up two 2 subscriber role.Client ∷ from two 2 (Sub 0 (codes "k")) ∷ []
+
+-- what the other one publishes is for it, whatever tree it names
+abbrev pub published : Option (List ℕ) → List Heard
+published tree = subscribed ++ from two 1 (Push tree sample) ∷ []
+
 abbrev pub example : List Heard
-example = met ++ up two 1 publisher role.Client ∷ up two 2 subscriber role.Client ∷ from two 2 (Sub 0 (codes "k")) ∷ from two 1 (Push None sample) ∷ []
+example = published None
 
 abbrev pub ids : List (List ℕ)
 ids = one ∷ two ∷ []
 
--- it is a run, and the sample was queued for the subscriber
+-- It is a run, and the sample was queued for the subscriber. The routers' events are this run also where the publisher has named a tree.
 abbrev pub ExampleIsARun : Type 0
-ExampleIsARun = AreRouters ids × IsRun ids example × ((outcome_of example).sent subscriber ≡ Push None sample ∷ [])
+ExampleIsARun = AreRouters ids × IsRun ids example × ((outcome_of example).sent subscriber ≡ Push None sample ∷ []) × AreHeardIn ids (part (published (Some one))) example

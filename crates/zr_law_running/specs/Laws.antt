@@ -14,7 +14,7 @@ use Rattle.zr_guarantee.specs.Phase.{is_phase}
 use Rattle.zr_guarantee.specs.Refines.{Delivers, PhasesDeliver, Refines, PhasesRefine}
 use Rattle.zr_guarantee.specs.Sent.{told_to}
 use Rattle.zr_told_spec.specs.Hub.{new_hub}
-use Rattle.zr_law_names.specs.Names.{AreAs, DoTheSame}
+use Rattle.zr_law_names.specs.Alike.{AreAs, DoTheSame}
 use Rattle.zr_law_running.specs.Runs.{Heard, part, hub_by, outcome_of}
 use Rattle.zr_law_running.specs.Deeds.{deeds}
 use Rattle.zr_law_running.specs.Allowed.{is_among, AreRouters, IsRun}
@@ -40,13 +40,13 @@ pub record IsMomentOf (ids : List (List ℕ)) (run : List Heard) (m : Moment) : 
   pub links : (x y : List ℕ) → is_unbroken m.world.ends (x, y) ≡ ((outcome_of run).links (x, y)).whole
   pub sent : (c : List ℕ) → is_among ids c ≡ false → map (λ t. t.msg) (told_to m.report c) ≡ (outcome_of run).sent c
 
--- What routers have heard of is a run, but for what they make nothing of: some events, the names of clients, and what the links of clients weigh. So each
--- coming of a client may have a name of its own in the run.
+-- What routers have heard of is a run, but for events without effect, the names of clients, what their links weigh, and the trees that they name. So each
+-- coming of a client may have a name of its own in the run, and a sample or a query that names a tree counts as the one that names none.
 abbrev pub AreHeardIn : List (List ℕ) → (List ℕ → List Event) → List Heard → Type 0
 AreHeardIn ids heard run = (x : List ℕ) → is_among ids x ≡ true → AreAs (new_hub x) (heard x) (part run x)
 
 -- Where it is, it is the run of a script's world: there are acts, all accepted, that lead to the run's moment, and by them clients do just what they do in
--- the run. And each router does by what it heard just what it does in the run.
+-- the run. And each router does by what it heard just what it does in the run, event by event.
 abbrev pub RunsAreOfAWorld : Type 0
 RunsAreOfAWorld = (ids : List (List ℕ)) (heard : List ℕ → List Event) (run : List Heard) → AreRouters ids → AreHeardIn ids heard run → IsRun ids run →
     (acts : List Numbered) × (ascends 0 acts ≡ true) × (deeds acts ≡ (outcome_of run).deeds) × ((m : Moment) × (reached acts ≡ Some m) × IsMomentOf ids run m)

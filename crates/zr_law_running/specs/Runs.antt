@@ -1,4 +1,4 @@
--- Several routers that run each on its own: what they hear of, one after another as a clock at the wall could have it, and what has come of it.
+-- Several routers that run each on its own: what they hear of, one after another in an order of real time, and what has come of it.
 -- Their links keep order and lose nothing. A client says what a client of a script may say.
 use Rattle.std.specs.Prelude.{◌≡◌, ℕ, ◌+◌, ◌&&◌, ◌||◌, not, nat_le, Bool, true, false, if◌then◌else◌, List, [], ◌∷◌, ◌++◌, length, Option, Some, None, is_some, unwrap_or}
 use Rattle.std.specs.List.{fold}
@@ -160,7 +160,8 @@ weighs (Step source number added decl) = 0
 weighs (Snap source number decls) = 0
 
 -- What a client may say: what it declares, is interested in or asks has an id that is free; what it takes back stands; what it answers it was asked.
--- A client names no tree, an interest is in what is declared now or later, and of open queries there are no more than a script's client has.
+-- An interest is in what is declared now or later, and of open queries there are no more than a script's client has. In a run a client names no tree:
+-- where it named one, the run has the message without it (`AreHeardIn`).
 abbrev pub MaySay : ClientState → Msg → Type 0
 MaySay s (Sub id key) = has_id s k.Sub id ≡ false
 MaySay s (Unsub id) = has_id s k.Sub id ≡ true
