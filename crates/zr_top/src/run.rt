@@ -18,7 +18,9 @@ ghost use Rattle.zr_law_fans.specs.Scripts.{FansArePlain, FansEnd};
 ghost use Rattle.zr_law_histories.specs.Histories.{RunningRoutersAreAWorld};
 ghost use Rattle.zr_law_histories.specs.Packing.{QueuesArePacked};
 ghost use Rattle.zr_law_keys.specs.Laws.{MatchingIsOfCharacters, MeetingIsOfCharacters};
-ghost use Rattle.zr_law_names.specs.Names.{NamesLeaveNoTrace, RoutersKnowNoNames};
+ghost use Rattle.zr_law_names.specs.Alike.{StepsAreAlike};
+ghost use Rattle.zr_law_names.specs.Names.{NamesChangeNothing};
+ghost use Rattle.zr_law_names.specs.Trees.{TreesChangeNothing};
 ghost use Rattle.zr_law_numbers.specs.Numbers.{NumbersAlwaysHold};
 ghost use Rattle.zr_law_joined.specs.Laws.{RunsSettleAsWorlds, SettledRunsHavePhases};
 ghost use Rattle.zr_law_running.specs.Laws.{RunsAreOfAWorld};
@@ -51,7 +53,7 @@ use zr_law_held::{lines_are_within, lines_fit};
 use zr_law_histories::{queues_are_packed, running_routers_are_a_world};
 use zr_law_joined::{runs_settle_as_worlds, settled_runs_have_phases};
 use zr_law_keys::{matching_is_of_characters, meeting_is_of_characters};
-use zr_law_names::{names_leave_no_trace, routers_know_no_names};
+use zr_law_names::{names_change_nothing, steps_are_alike, trees_change_nothing};
 use zr_law_numbers::{no_event_is_refused, numbers_always_hold};
 use zr_law_replies::{answers_always_hold, lines_refine, phases_refine};
 use zr_law_running::runs_are_of_a_world;
@@ -111,8 +113,8 @@ use zr_tree::laws::{distances_are_of_shortest_walks, records_make_graphs};
 /// and lose nothing, and their histories leave nothing out and close no link. There each router's tables are the replay of its own history, but for the names
 /// of its clients. From a moment at which they are settled and joined, by what they have and have queued for one another, what was queued for each client
 /// is, publisher by publisher, a prefix of what one broker
-/// sends it (`phases`). The parcels of a link are those of these messages (`packed`). What a router does depends neither on its clients' identifiers nor
-/// on what their links weigh (`names`). The premises stand in `zr_law_running` (`specs/Allowed`).
+/// sends it (`phases`). The parcels of a link are those of these messages (`packed`). What a router does depends neither on its clients' identifiers, nor
+/// on what their links weigh, nor on the trees that they name (`names`). The premises stand in `zr_law_running` (`specs/Allowed`).
 ///
 /// The clause `served` says which rules were read, and where a router was served under them, what was called of the host, which jobs the crew started, and what
 /// was written. Where a line of the rules is wrong, the caret that is told is under what is wrong there (`carets`). Where the rules are refused, or can't be read, the host and the crew are as they were (`untouched`). The clause
@@ -172,7 +174,7 @@ where
     ensures running { RunsAreOfAWorld × RunningRoutersAreAWorld }
     ensures phases { SettledRunsHavePhases × RunsSettleAsWorlds × PhasesDeliver × PhasesRefine }
     ensures packed { QueuesArePacked }
-    ensures names { RoutersKnowNoNames × NamesLeaveNoTrace }
+    ensures names { NamesChangeNothing × TreesChangeNothing × StepsAreAlike }
     ensures carets { CaretsAreUnderWrongWords × CaretsAreUnderWrongKeys }
     ensures served { IfSome (served_of (map string_bytes words.now)) (λ s. IsServingBy s result (S.left input.old) (S.left input.new) (IsReadToEnd (S.ends input.old) (S.ends input.new) (S.quiets input.old) (S.quiets input.new)) (H.generators host.old) (H.generators host.new) (H.calls host.old) (H.calls host.new) (crew_told crew.old) (crew_told crew.new) (crew_faults crew.old) (crew_faults crew.new) (outputs (K.held out.old) (E.held err.old) (E.faults err.old)) (outputs (K.held out.new) (E.held err.new) (E.faults err.new))) }
     ensures unserved { is_some (served_of (map string_bytes words.now)) ≡ false → (host.new ≡ host.old) × (crew.new ≡ crew.old) }
@@ -225,8 +227,9 @@ where
     phases_deliver();
     phases_refine();
     queues_are_packed();
-    routers_know_no_names();
-    names_leave_no_trace();
+    names_change_nothing();
+    trees_change_nothing();
+    steps_are_alike();
     carets_are_under_wrong_words();
     carets_are_under_wrong_keys();
     answers_always_hold();
